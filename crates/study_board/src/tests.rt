@@ -52,32 +52,117 @@ fn faults_in_order(rt: HostRuntime) {
     use Side::{Black, White};
     let table: [(&[(char, u8)], Side, Option<u8>, PositionFault); 24] = [
         // Each fault alone.
-        (&[('K', 0), ('k', 63), ('R', 9), ('R', 18), ('N', 27)], White, None, TooManyMen),
-        (&[('K', 0), ('k', 63), ('R', 9), ('B', 9)], White, None, SquareTwice),
+        (
+            &[('K', 0), ('k', 63), ('R', 9), ('R', 18), ('N', 27)],
+            White,
+            None,
+            TooManyMen,
+        ),
+        (
+            &[('K', 0), ('k', 63), ('R', 9), ('B', 9)],
+            White,
+            None,
+            SquareTwice,
+        ),
         (&[('K', 0), ('R', 9)], White, None, KingCount),
-        (&[('K', 0), ('k', 63), ('P', 60)], White, None, PawnOnEndRank),
+        (
+            &[('K', 0), ('k', 63), ('P', 60)],
+            White,
+            None,
+            PawnOnEndRank,
+        ),
         (&[('K', 0), ('k', 63), ('p', 3)], White, None, PawnOnEndRank),
-        (&[('K', 0), ('k', 63), ('R', 7)], White, None, OpponentInCheck),
+        (
+            &[('K', 0), ('k', 63), ('R', 7)],
+            White,
+            None,
+            OpponentInCheck,
+        ),
         (&[('K', 48), ('k', 56)], White, None, OpponentInCheck),
         (&[('K', 0), ('k', 63)], White, Some(44), EnPassantImpossible),
         // Each two together: the earlier is told.
-        (&[('K', 0), ('k', 63), ('R', 9), ('R', 9), ('N', 27)], White, None, TooManyMen),
-        (&[('K', 0), ('K', 63), ('R', 9), ('R', 8), ('N', 27)], White, None, TooManyMen),
-        (&[('K', 0), ('k', 63), ('R', 9), ('R', 8), ('P', 60)], White, None, TooManyMen),
-        (&[('K', 0), ('k', 63), ('R', 7), ('R', 8), ('N', 27)], White, None, TooManyMen),
-        (&[('K', 0), ('k', 63), ('R', 9), ('R', 8), ('N', 27)], White, Some(44), TooManyMen),
+        (
+            &[('K', 0), ('k', 63), ('R', 9), ('R', 9), ('N', 27)],
+            White,
+            None,
+            TooManyMen,
+        ),
+        (
+            &[('K', 0), ('K', 63), ('R', 9), ('R', 8), ('N', 27)],
+            White,
+            None,
+            TooManyMen,
+        ),
+        (
+            &[('K', 0), ('k', 63), ('R', 9), ('R', 8), ('P', 60)],
+            White,
+            None,
+            TooManyMen,
+        ),
+        (
+            &[('K', 0), ('k', 63), ('R', 7), ('R', 8), ('N', 27)],
+            White,
+            None,
+            TooManyMen,
+        ),
+        (
+            &[('K', 0), ('k', 63), ('R', 9), ('R', 8), ('N', 27)],
+            White,
+            Some(44),
+            TooManyMen,
+        ),
         (&[('K', 0), ('K', 0)], White, None, SquareTwice),
-        (&[('K', 0), ('k', 63), ('P', 60), ('P', 60)], White, None, SquareTwice),
-        (&[('K', 0), ('k', 63), ('R', 7), ('R', 7)], White, None, SquareTwice),
-        (&[('K', 0), ('k', 63), ('R', 9), ('B', 9)], White, Some(44), SquareTwice),
+        (
+            &[('K', 0), ('k', 63), ('P', 60), ('P', 60)],
+            White,
+            None,
+            SquareTwice,
+        ),
+        (
+            &[('K', 0), ('k', 63), ('R', 7), ('R', 7)],
+            White,
+            None,
+            SquareTwice,
+        ),
+        (
+            &[('K', 0), ('k', 63), ('R', 9), ('B', 9)],
+            White,
+            Some(44),
+            SquareTwice,
+        ),
         (&[('K', 0), ('P', 60)], White, None, KingCount),
-        (&[('K', 0), ('k', 63), ('k', 56), ('R', 7)], White, None, KingCount),
+        (
+            &[('K', 0), ('k', 63), ('k', 56), ('R', 7)],
+            White,
+            None,
+            KingCount,
+        ),
         (&[('K', 0)], White, Some(44), KingCount),
-        (&[('K', 0), ('k', 63), ('R', 7), ('P', 60)], White, None, PawnOnEndRank),
-        (&[('K', 0), ('k', 63), ('P', 60)], White, Some(44), PawnOnEndRank),
-        (&[('K', 0), ('k', 63), ('R', 7)], White, Some(44), OpponentInCheck),
+        (
+            &[('K', 0), ('k', 63), ('R', 7), ('P', 60)],
+            White,
+            None,
+            PawnOnEndRank,
+        ),
+        (
+            &[('K', 0), ('k', 63), ('P', 60)],
+            White,
+            Some(44),
+            PawnOnEndRank,
+        ),
+        (
+            &[('K', 0), ('k', 63), ('R', 7)],
+            White,
+            Some(44),
+            OpponentInCheck,
+        ),
         // A man stands behind the passed square.
-        (&[('K', 4), ('k', 24), ('P', 27), ('R', 11)], Black, Some(19), EnPassantImpossible),
+        (
+            &[('K', 4), ('k', 24), ('P', 27), ('R', 11)],
+            Black,
+            Some(19),
+            EnPassantImpossible,
+        ),
     ];
     for (letters, to_move, passed, fault) in table {
         match position(&rt, letters, to_move, passed) {
@@ -92,7 +177,11 @@ fn accepted_positions(rt: HostRuntime) {
     use Side::{Black, White};
     let table: [(&[(char, u8)], Side, Option<u8>); 5] = [
         (&[('k', 56), ('P', 50), ('K', 41)], White, None),
-        (&[('k', 24), ('P', 27), ('p', 28), ('K', 4)], Black, Some(19)),
+        (
+            &[('k', 24), ('P', 27), ('p', 28), ('K', 4)],
+            Black,
+            Some(19),
+        ),
         (&[('K', 0), ('k', 63), ('p', 36)], White, Some(44)),
         (&[('k', 56), ('K', 41), ('R', 7)], White, None),
         (&[('K', 0), ('k', 17), ('r', 63)], Black, None),
@@ -128,8 +217,16 @@ fn attacked_squares(rt: HostRuntime) {
         Ok(p) => {
             for number in 0..64 {
                 let x = Square::new(number).expect(&rt, "a square");
-                assert_eq!(rt; p.attacked(x, Side::White), white.contains(&number), "{number}");
-                assert_eq!(rt; p.attacked(x, Side::Black), black.contains(&number), "{number}");
+                assert_eq!(rt;
+                    p.attacked(x, Side::White),
+                    white.contains(&number),
+                    "{number}"
+                );
+                assert_eq!(rt;
+                    p.attacked(x, Side::Black),
+                    black.contains(&number),
+                    "{number}"
+                );
             }
         }
     }
@@ -182,7 +279,12 @@ fn images_with_pawns(rt: HostRuntime) {
     let men = [('k', 24), ('P', 27), ('p', 28), ('K', 4)];
     let table = [
         (true, false, [('k', 31), ('P', 28), ('p', 27), ('K', 3)], 20),
-        (false, true, [('K', 32), ('p', 35), ('P', 36), ('k', 60)], 43),
+        (
+            false,
+            true,
+            [('K', 32), ('p', 35), ('P', 36), ('k', 60)],
+            43,
+        ),
         (true, true, [('K', 39), ('p', 36), ('P', 35), ('k', 59)], 44),
     ];
     match position(&rt, &men, Side::Black, Some(19)) {

@@ -1,16 +1,15 @@
 -- Moves and mates are kept along positions that are alike.
-use Rattle.std.proofs.Common.{◌≡◌, ℕ, ◌<◌, ◌==◌, nat_lt, Bool, true, false, not, cond, ◌&&◌, ◌||◌, List, [], ◌∷◌, Option, Some, None, refl, sym, ◌∙◌, ap, subst}
+use Rattle.std.proofs.Common.{◌≡◌, Bool, true, false, not, cond, ◌||◌, List, [], ◌∷◌, refl, sym, ◌∙◌, ap, subst}
 use Rattle.std.specs.List.{list_any, filter}
 use Rattle.std.proofs.lemmas.Bool.{false≢true}
 use Rattle.study_board.specs.declared.men.Man.{Man}
 use Rattle.study_board.specs.declared.symmetry.Symmetry.{Symmetry}
-use Rattle.study_board.specs.Position.{Position, IsValid, man_at, placed}
+use Rattle.study_board.specs.Position.{Position, IsValid}
 use Rattle.study_board.specs.Symmetry.{image, admits, is_pawn, keeps_pawns}
-use Rattle.study_board.specs.Images.{IsImage}
 use Rattle.study_board.proofs.Turned.{list_any-placed}
 use Rattle.study_board.proofs.Images.{IsTurnable-from_valid, IsImage-sym}
 use Rattle.study_moves.specs.declared.moves.Move.{Move}
-use Rattle.study_moves.specs.Rules.{is_legal, after, after_by, men_after, stays, moved, reaches_end}
+use Rattle.study_moves.specs.Rules.{is_legal, after, men_after, stays, moved, reaches_end}
 use Rattle.study_moves.specs.Symmetry.{image_move}
 use Rattle.study_moves.specs.Game.{IsLegal, IsMate}
 use Rattle.study_moves.specs.Bare.{is_live, without_passed, bare}

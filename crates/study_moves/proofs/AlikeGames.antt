@@ -1,7 +1,6 @@
 -- Positions that are alike have one game.
-use Rattle.std.proofs.Common.{◌≡◌, sym, subst}
+use Rattle.std.proofs.Common.{sym, subst}
 use Rattle.study_board.specs.Position.{Position}
-use Rattle.study_board.specs.Symmetry.{image}
 use Rattle.study_board.proofs.Images.{IsTurnable-from_valid}
 use Rattle.study_moves.specs.Bare.{bare}
 use Rattle.study_moves.specs.Alike.{AreAlike}

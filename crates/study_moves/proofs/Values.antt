@@ -1,10 +1,7 @@
 -- What has one game has one value, and so have positions that are alike.
-use Rattle.std.proofs.Common.{◌≡◌, ℕ, ◌<◌, ◌↔◌, true, sym, subst, ap}
-use Rattle.study_board.specs.Position.{Position, IsValid}
-use Rattle.study_board.proofs.Images.{IsTurnable-from_valid}
-use Rattle.study_moves.specs.declared.moves.Move.{Move}
-use Rattle.study_moves.specs.Rules.{is_legal, after}
-use Rattle.study_moves.specs.Game.{MatesWithin, IsMatedWithin, IsWon, IsLost, IsDrawn}
+use Rattle.std.proofs.Common.{ℕ}
+use Rattle.study_board.specs.Position.{Position}
+use Rattle.study_moves.specs.Game.{IsWon, IsLost, IsDrawn}
 use Rattle.study_moves.specs.Laws.{HasSameGame, HasSameValue}
 
 same_won : (p q : Position) → HasSameGame p q → (n : ℕ) → IsWon p n → IsWon q n

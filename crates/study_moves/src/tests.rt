@@ -5,7 +5,12 @@ use std::process::Abort;
 use study_board::{Kind, Man, Position, Side, Square};
 
 /// The position of at most four men, given by FEN letter and square.
-fn position(rt: &impl Abort, letters: &[(char, u8)], to_move: Side, passed: Option<u8>) -> Position {
+fn position(
+    rt: &impl Abort,
+    letters: &[(char, u8)],
+    to_move: Side,
+    passed: Option<u8>,
+) -> Position {
     let mut men: ArrayVec<Man, 4> = ArrayVec::new();
     for (letter, number) in letters {
         let side = if letter.is_ascii_uppercase() {
@@ -59,28 +64,68 @@ fn move_lists(rt: HostRuntime) {
             White,
             None,
             &[
-                (7, 0), (7, 1), (7, 2), (7, 3), (7, 4), (7, 5), (7, 6), (7, 15), (7, 23), (7, 31),
-                (7, 39), (7, 47), (7, 55), (7, 63), (41, 32), (41, 33), (41, 34), (41, 40), (41, 42),
+                (7, 0),
+                (7, 1),
+                (7, 2),
+                (7, 3),
+                (7, 4),
+                (7, 5),
+                (7, 6),
+                (7, 15),
+                (7, 23),
+                (7, 31),
+                (7, 39),
+                (7, 47),
+                (7, 55),
+                (7, 63),
+                (41, 32),
+                (41, 33),
+                (41, 34),
+                (41, 40),
+                (41, 42),
                 (41, 50),
             ],
         ),
         // Stalemate by the queen.
         (&[('K', 0), ('k', 56), ('Q', 41)], Black, None, &[]),
         // The pawn is blocked by its own king.
-        (&[('K', 40), ('P', 32), ('k', 56)], White, None, &[(40, 33), (40, 41)]),
+        (
+            &[('K', 40), ('P', 32), ('k', 56)],
+            White,
+            None,
+            &[(40, 33), (40, 41)],
+        ),
         // A promotion counts four times.
         (
             &[('K', 41), ('P', 50), ('k', 56)],
             White,
             None,
-            &[(41, 32), (41, 33), (41, 34), (41, 40), (41, 42), (50, 58), (50, 58), (50, 58), (50, 58)],
+            &[
+                (41, 32),
+                (41, 33),
+                (41, 34),
+                (41, 40),
+                (41, 42),
+                (50, 58),
+                (50, 58),
+                (50, 58),
+                (50, 58),
+            ],
         ),
         // A capture in passing comes before the step.
         (
             &[('k', 24), ('P', 27), ('p', 28), ('K', 4)],
             Black,
             Some(19),
-            &[(24, 16), (24, 17), (24, 25), (24, 32), (24, 33), (28, 19), (28, 20)],
+            &[
+                (24, 16),
+                (24, 17),
+                (24, 25),
+                (24, 32),
+                (24, 33),
+                (28, 19),
+                (28, 20),
+            ],
         ),
         // A passed square that no pawn can take changes nothing.
         (

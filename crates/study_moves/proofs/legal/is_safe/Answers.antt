@@ -1,4 +1,4 @@
-use Rattle.std.proofs.Common.{◌≡◌, ◌∙◌, sym, ap, true, false, not}
+use Rattle.std.proofs.Common.{◌≡◌, ◌∙◌, ap, false, not}
 use Rattle.study_board.specs.Sets.{has}
 use Rattle.study_moves.specs.Safety.{is_unsafe}
 use Rattle.study_moves.proofs.Sure.{safe_where}
