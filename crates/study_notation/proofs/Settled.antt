@@ -1,0 +1,158 @@
+-- What is read of a FEN text is a start of a valid position, with counts that are written and read again.
+use Rattle.std.proofs.Common.{◌≡◌, ℕ, ◌+◌, ◌*◌, ◌^◌, ◌<◌, ◌≤◌, ◌==◌, Bool, true, false, not, cond, ◌&&◌, leb, List, [], ◌∷◌, length, reverse, Option, Some, None, refl, sym, ap, ◌∙◌, subst, arith, inl, inr}
+use Rattle.std.specs.Prelude.{Result, Ok, Err}
+use Rattle.std.specs.List.{All, flat_map, slice_split, list_all}
+use Rattle.std.specs.Char.{digit_value}
+use Rattle.std.specs.Str.Parse.{digits_value, AllDigits}
+use Rattle.std.proofs.Common.{length-append}
+use Rattle.std.proofs.lemmas.Bool.{and_parts, eqb-true, eqb-false, leb-true, cases_Bool}
+use Rattle.std.proofs.lemmas.Int.Digits.{digits_value-lt}
+use Rattle.std.proofs.lemmas.List.Concat.{length-flat_map, flat_map-cons}
+use Rattle.std.proofs.lemmas.List.Elements.{All-nil, All-cons}
+use Rattle.std.proofs.lemmas.List.Sorted.{sum_by-IsPermutation, IsPermutation-reverse}
+use Rattle.study_board.specs.declared.men.Man.{Man}
+use Rattle.study_board.specs.declared.men.Side.{Side}
+use Rattle.study_board.specs.Men.{other_side}
+use Rattle.study_board.specs.Position.{Position, IsValid, IsAscending, in_check, passed_possible, first_fault}
+use Rattle.study_notation.specs.declared.start.Start.{Start}
+use Rattle.study_notation.specs.declared.fault.FenFault.{FenFault}
+use Rattle.study_notation.specs.declared.placement.Piece.{Piece}
+use Rattle.study_notation.specs.Fen.{◌>>=◌, refuse, refuse_any, needed, words, fields_of, is_rank, squares, men_from, placement, placement_fault, side_of, is_dash, passed_of, position_of, is_digit, count_of, start_of}
+use Rattle.study_notation.specs.FenSpelling.{fen_text}
+use Rattle.study_notation.proofs.Ranks.{rank_len}
+use Rattle.study_notation.proofs.Counts.{digit_is}
+use Rattle.study_notation.proofs.Faults.{IsAscending-placement, faultless_but_passed}
+use Rattle.study_notation.proofs.FenAgain.{start_again}
+
+bind_ok : {A B : Type 0} (r : Result A FenFault) (f : A → Result B FenFault) (y : B) → (r >>= f) ≡ Ok y → (x : A) × (r ≡ Ok x) × (f x ≡ Ok y)
+bind_ok (Ok x) f y e = (x, refl, e)
+bind_ok (Err k) f y e = absurd (let bad : ⊥ = cc in bad)
+
+needed_ok : {A : Type 0} (o : Option A) (k : FenFault) (x : A) → needed o k ≡ Ok x → o ≡ Some x
+needed_ok None k x e = absurd (let bad : ⊥ = cc in bad)
+needed_ok (Some y) k x e = cc
+
+refuse_ok : (b : Bool) (k : FenFault) (x : Unit {0}) → refuse b k ≡ Ok x → b ≡ false
+refuse_ok true k x e = absurd (let bad : ⊥ = cc in bad)
+refuse_ok false k x e = refl
+
+refuse_any_ok : (o : Option FenFault) (x : Unit {0}) → refuse_any o ≡ Ok x → o ≡ None
+refuse_any_ok None x e = refl
+refuse_any_ok (Some k) x e = absurd (let bad : ⊥ = cc in bad)
+
+-- ---- the men are on the board
+
+ranks_length : (parts : List (List ℕ)) → list_all is_rank parts ≡ true → length (flat_map squares parts) ≡ 8 * length parts
+ranks_length [] e = refl
+ranks_length (part ∷ parts) e =
+    let h = and_parts (is_rank part) (list_all is_rank parts) e in
+    omega (arith, length-append (squares part) (flat_map squares parts), ap length (flat_map-cons squares part parts), rank_len part h.0, ranks_length parts h.1)
+
+length-reversed : (parts : List (List ℕ)) → length (flat_map squares (reverse parts)) ≡ length (flat_map squares parts)
+length-reversed parts =
+    length-flat_map squares (reverse parts) ∙ sum_by-IsPermutation (λ part. length (squares part)) parts (reverse parts) (IsPermutation-reverse parts) ∙ sym (length-flat_map squares parts)
+
+All-men_from : (n : ℕ) (cells : List (Option Piece)) (end : ℕ) → n + length cells ≤ end → All (λ m. m.at < end) (men_from n cells)
+All-men_from n [] end le = All-nil (λ m. m.at < end)
+All-men_from n (None ∷ cells) end le = All-men_from (n + 1) cells end (omega arith)
+All-men_from n (Some p ∷ cells) end le = All-cons (λ m. m.at < end) (record { side = p.side; kind = p.kind; at = n }) (men_from (n + 1) cells) (omega arith) (All-men_from (n + 1) cells end (omega arith))
+
+where_true : {A : Type 0} (b : Bool) (x y : A) → cond b (Some x) None ≡ Some y → (b ≡ true) × (x ≡ y)
+where_true true x y e = (refl, cc)
+where_true false x y e = absurd (let bad : ⊥ = cc in bad)
+
+on_board : (text : List ℕ) (men : List Man) → placement text ≡ Some men → All (λ m. m.at < 64) men
+unfolding placement
+on_board text men e =
+    let parts = slice_split (λ b. b == 47) text in
+    let made = where_true (length parts == 8 && list_all is_rank parts) (men_from 0 (flat_map squares (reverse parts))) men e in
+    let tests = and_parts (length parts == 8) (list_all is_rank parts) made.0 in
+    let eight = eqb-true (length parts) 8 tests.0 in
+    subst (λ (ms : List Man). All (λ m. m.at < 64) ms) made.1
+    (All-men_from 0 (flat_map squares (reverse parts)) 64 (omega (arith, length-reversed parts, ranks_length parts tests.1, eight)))
+
+-- ---- the counts
+
+digit_low : (c : ℕ) → is_digit c ≡ true → digit_value c < 10
+digit_low c e =
+    let t = and_parts (leb 48 c) (leb c 57) e in
+    let low = leb-true 48 c t.0 in
+    let high = leb-true c 57 t.1 in
+    omega (arith, digit_is c low high)
+
+digits_low : (ds : List ℕ) → list_all is_digit ds ≡ true → AllDigits 10 ds
+digits_low [] e = tt
+digits_low (c ∷ ds) e = let t = and_parts (is_digit c) (list_all is_digit ds) e in (digit_low c t.0, digits_low ds t.1)
+
+four_digits : (ds : List ℕ) → length ds ≤ 4 → 10 ^ length ds ≤ 10000
+four_digits [] le = omega arith
+four_digits (a ∷ []) le = omega arith
+four_digits (a ∷ b ∷ []) le = omega arith
+four_digits (a ∷ b ∷ c ∷ []) le = omega arith
+four_digits (a ∷ b ∷ c ∷ d ∷ []) le = omega arith
+four_digits (a ∷ b ∷ c ∷ d ∷ e ∷ ds) le = absurd (omega arith)
+
+count_low : (ds : List ℕ) (n : ℕ) → count_of ds ≡ Some n → n ≤ 9999
+unfolding count_of
+count_low ds n e =
+    let made = where_true ((leb 1 (length ds) && leb (length ds) 4) && list_all is_digit ds) (digits_value 10 ds) n e in
+    let tests = and_parts (leb 1 (length ds) && leb (length ds) 4) (list_all is_digit ds) made.0 in
+    let short = leb-true (length ds) 4 (and_parts (leb 1 (length ds)) (leb (length ds) 4) tests.0).1 in
+    omega (arith, made.1, digits_value-lt 10 ds (digits_low ds tests.1), four_digits ds short)
+
+one_or_more : (n : ℕ) → n ≤ 9999 → (1 ≤ cond (n == 0) 1 n) × (cond (n == 0) 1 n ≤ 9999)
+one_or_more n le = elim (cases_Bool (n == 0)) [
+  | inl hit ↦ rw hit (omega arith, omega arith)
+  | inr miss ↦ rw miss (let ne = eqb-false n 0 miss in omega arith, le)
+]
+
+-- ---- the position
+
+valid_position : (men : List Man) (side : Side) (passed : Option ℕ) (p : Position) → IsAscending men → All (λ m. m.at < 64) men → placement_fault men ≡ None → in_check men (other_side side) ≡ false → position_of men side passed ≡ Some p → IsValid p
+unfolding position_of
+valid_position men side passed p ordered board none safe e =
+    let made = where_true (passed_possible men side passed) (record { men = men; to_move = side; passed = passed }) p e in
+    let faultless : first_fault men side passed ≡ None = faultless_but_passed men side passed ordered none safe ∙ rw made.0 refl in
+    subst (λ (q : Position). IsValid q) made.1 (record { ordered = ordered; on_board = board; faultless = faultless })
+
+pub record IsRead (s : Start) : Type 0 where
+  pub valid : IsValid s.position
+  pub clock : s.clock ≤ 9999
+  pub positive : 1 ≤ s.number
+  pub number : s.number ≤ 9999
+
+abbrev made_ok : Start → Result Start FenFault
+made_ok s = Ok s
+
+ok_is : (x y : Start) → made_ok x ≡ made_ok y → x ≡ y
+ok_is x y e = cc
+
+pub read_is : (text : List ℕ) (s : Start) → start_of text ≡ Ok s → IsRead s
+unfolding start_of
+read_is text s e =
+    let fields = bind_ok (needed (fields_of (words text)) _) _ s e in
+    let f = fields.0 in
+    let placed = bind_ok (needed (placement f.placement) _) _ s fields.2 in
+    let men = placed.0 in
+    let is_placement = needed_ok _ _ men placed.1 in
+    let whole = bind_ok (refuse_any (placement_fault men)) _ s placed.2 in
+    let sided = bind_ok (needed (side_of f.side) _) _ s whole.2 in
+    let side = sided.0 in
+    let safe = bind_ok (refuse (in_check men (other_side side)) _) _ s sided.2 in
+    let castling = bind_ok (refuse (not (is_dash f.castling)) _) _ s safe.2 in
+    let jumped = bind_ok (needed (passed_of f.passed) _) _ s castling.2 in
+    let made = bind_ok (needed (position_of men side jumped.0) _) _ s jumped.2 in
+    let clock = bind_ok (needed (count_of f.clock) _) _ s made.2 in
+    let number = bind_ok (needed (count_of f.number) _) _ s clock.2 in
+    let n = number.0 in
+    let start : Start = record { position = made.0; clock = clock.0; number = cond (n == 0) 1 n } in
+    let counted = one_or_more n (count_low f.number n (needed_ok _ _ n number.1)) in
+    subst (λ (z : Start). IsRead z) (ok_is start s number.2) (record {
+      valid = valid_position men side jumped.0 made.0 (IsAscending-placement f.placement men is_placement) (on_board f.placement men is_placement) (refuse_any_ok _ _ whole.1) (refuse_ok _ _ _ safe.1) (needed_ok _ _ made.0 made.1);
+      clock = count_low f.clock clock.0 (needed_ok _ _ clock.0 clock.1);
+      positive = counted.0;
+      number = counted.1;
+    })
+
+pub settled : (text : List ℕ) (s : Start) → start_of text ≡ Ok s → start_of (fen_text s) ≡ Ok s
+settled text s e = let r = read_is text s e in start_again s r.valid r.clock r.positive r.number

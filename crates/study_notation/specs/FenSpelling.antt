@@ -1,0 +1,71 @@
+-- The one FEN text that is written for a start.
+use Rattle.std.specs.Prelude.{ℕ, zero, suc, ◌+◌, ◌*◌, ◌/◌, ◌%◌, List, [], ◌∷◌, ◌++◌, Option, Some, None, ◌==◌, if◌then◌else◌, decimal}
+use Rattle.std.specs.List.{join_with_byte}
+use Rattle.study_board.specs.declared.men.Side.{Side}
+use Rattle.study_board.specs.declared.men.Side.TheVariants.{White, Black}
+use Rattle.study_board.specs.declared.men.Kind.{Kind}
+use Rattle.study_board.specs.declared.men.Kind.TheVariants.{King, Queen, Rook, Bishop, Knight, Pawn}
+use Rattle.study_board.specs.declared.men.Man.{Man}
+use Rattle.study_notation.specs.declared.placement.Piece.{Piece}
+use Rattle.study_notation.specs.declared.start.Start.{Start}
+
+abbrev pub letter : Side → Kind → ℕ
+letter White King = 75
+letter White Queen = 81
+letter White Rook = 82
+letter White Bishop = 66
+letter White Knight = 78
+letter White Pawn = 80
+letter Black King = 107
+letter Black Queen = 113
+letter Black Rook = 114
+letter Black Bishop = 98
+letter Black Knight = 110
+letter Black Pawn = 112
+
+-- what stands on a square
+abbrev pub piece_on : List Man → ℕ → Option Piece
+piece_on [] at = None
+piece_on (m ∷ men) at = if m.at == at then Some (record { side = m.side; kind = m.kind }) else piece_on men at
+
+-- n squares from one on
+abbrev pub row : List Man → ℕ → ℕ → List (Option Piece)
+row men at zero = []
+row men at (suc n) = piece_on men at ∷ row men (at + 1) n
+
+-- one digit for a run of empty squares
+abbrev pub run : ℕ → List ℕ
+run n = if n == 0 then [] else (48 + n) ∷ []
+
+-- squares, with n empty ones before them
+abbrev pub spelled : ℕ → List (Option Piece) → List ℕ
+spelled n [] = run n
+spelled n (None ∷ cells) = spelled (n + 1) cells
+spelled n (Some p ∷ cells) = run n ++ (letter p.side p.kind ∷ spelled 0 cells)
+
+unfoldable pub rank_text : List Man → ℕ → List ℕ
+rank_text men rank = spelled 0 (row men (8 * rank) 8)
+
+-- this rank, and behind a stroke those below it
+unfoldable pub ranks_text : List Man → ℕ → List ℕ
+ranks_text men zero = rank_text men 0
+ranks_text men (suc k) = rank_text men (suc k) ++ (47 ∷ ranks_text men k)
+
+unfoldable pub placement_text : List Man → List ℕ
+placement_text men = ranks_text men 7
+
+abbrev pub side_text : Side → List ℕ
+side_text White = 119 ∷ []
+side_text Black = 98 ∷ []
+
+-- file and rank
+abbrev pub square_text : ℕ → List ℕ
+square_text at = (97 + at % 8) ∷ (49 + at / 8) ∷ []
+
+abbrev pub passed_text : Option ℕ → List ℕ
+passed_text None = 45 ∷ []
+passed_text (Some at) = square_text at
+
+-- six fields, and no castling
+unfoldable pub fen_text : Start → List ℕ
+fen_text s = join_with_byte 32 (placement_text s.position.men ∷ side_text s.position.to_move ∷ (45 ∷ []) ∷ passed_text s.position.passed ∷ decimal s.clock ∷ decimal s.number ∷ [])

@@ -1,0 +1,11 @@
+pub mod Fen
+pub mod FieldsView
+pub mod FenSpelling
+pub mod San
+pub mod SanParts
+pub mod SquaresView
+pub mod LegalList
+pub mod Matching
+pub mod Meaning
+pub mod Written
+pub mod Played

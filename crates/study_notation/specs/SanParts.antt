@@ -1,0 +1,90 @@
+-- The parts of a SAN text, from the left. A part is what it says and the bytes behind it.
+use Rattle.std.specs.Prelude.{ℕ, ◌+◌, ◌-◌, ◌*◌, Bool, true, false, ◌&&◌, ◌||◌, ◌==◌, nat_le, if◌then◌else◌, List, [], ◌∷◌, Option, Some, None}
+use Rattle.study_board.specs.declared.men.Kind.{Kind}
+use Rattle.study_board.specs.declared.men.Kind.TheVariants.{King, Queen, Rook, Bishop, Knight, Pawn}
+use Rattle.study_notation.specs.declared.san.San.{San}
+use Rattle.study_notation.specs.San.{is_ending}
+
+infixl 10 ◌>>=◌
+abbrev pub ◌>>=◌ : {A B : Type 0} → Option A → (A → Option B) → Option B
+(Some x) >>= f = f x
+None >>= f = None
+
+unfoldable pub officer_of : ℕ → Option Kind
+officer_of b = if b == 81 then Some Queen else (if b == 82 then Some Rook else (if b == 66 then Some Bishop else (if b == 78 then Some Knight else None)))
+
+unfoldable pub kind_at : List ℕ → Kind × List ℕ
+kind_at [] = (Pawn, [])
+kind_at (b ∷ bs) = if b == 75 then (King, bs) else (if b == 81 then (Queen, bs) else (if b == 82 then (Rook, bs) else (if b == 66 then (Bishop, bs) else (if b == 78 then (Knight, bs) else (Pawn, b ∷ bs)))))
+
+unfoldable pub file_at : List ℕ → Option ℕ × List ℕ
+file_at [] = (None, [])
+file_at (b ∷ bs) = if nat_le 97 b && nat_le b 104 then (Some (b - 97), bs) else (None, b ∷ bs)
+
+unfoldable pub rank_at : List ℕ → Option ℕ × List ℕ
+rank_at [] = (None, [])
+rank_at (b ∷ bs) = if nat_le 49 b && nat_le b 56 then (Some (b - 49), bs) else (None, b ∷ bs)
+
+unfoldable pub takes_at : List ℕ → Bool × List ℕ
+takes_at [] = (false, [])
+takes_at (b ∷ bs) = if b == 120 then (true, bs) else (false, b ∷ bs)
+
+abbrev pub given : Option Kind → ℕ → List ℕ → Option Kind × List ℕ
+given None b bs = (None, b ∷ bs)
+given (Some k) b bs = (Some k, bs)
+
+unfoldable pub officer_at : List ℕ → Option Kind × List ℕ
+officer_at [] = (None, [])
+officer_at (b ∷ bs) = given (officer_of b) b bs
+
+-- `=` wants a kind behind it
+abbrev pub wanted : Option Kind × List ℕ → Option (Option Kind × List ℕ)
+wanted x = elim x.0 [ None ↦ None | Some k ↦ Some (Some k, x.1) ]
+
+unfoldable pub promotion_at : List ℕ → Option (Option Kind × List ℕ)
+promotion_at [] = Some (None, [])
+promotion_at (b ∷ bs) = if b == 61 then wanted (officer_at bs) else Some (officer_at (b ∷ bs))
+
+-- the coordinates of origin and target
+pub record Squares : Type 0 where
+  pub file : Option ℕ
+  pub rank : Option ℕ
+  pub takes : Bool
+  pub target : ℕ
+
+-- behind the origin a target follows, or what was read as the origin is the target
+abbrev pub squares_from : Option ℕ → Option ℕ → Bool → Option ℕ → Option ℕ → Option Squares
+squares_from f r x (Some tf) (Some tr) = Some (record { file = f; rank = r; takes = x; target = 8 * tr + tf })
+squares_from f r x (Some tf) None = None
+squares_from (Some tf) (Some tr) false None tr' = Some (record { file = None; rank = None; takes = false; target = 8 * tr + tf })
+squares_from _ _ _ _ _ = None
+
+-- the rank of a target is looked for behind its file only
+abbrev pub rank_behind : Option ℕ × List ℕ → Option ℕ × List ℕ
+rank_behind x = elim x.0 [ None ↦ (None, x.1) | Some f ↦ rank_at x.1 ]
+
+unfoldable pub squares_at : List ℕ → Option (Squares × List ℕ)
+squares_at text =
+    let f = file_at text in
+    let r = rank_at f.1 in
+    let x = takes_at r.1 in
+    let tf = file_at x.1 in
+    let tr = rank_behind tf in
+    squares_from f.0 r.0 x.0 tf.0 tr.0 >>= λ s. Some (s, tr.1)
+
+-- the parts of a text, where it has them
+unfoldable pub san_of : List ℕ → Option San
+san_of text = do
+  let k = kind_at text
+  s ← squares_at k.1
+  p ← promotion_at s.1
+  if is_ending p.1 then Some (record { kind = k.0; file = s.0.file; rank = s.0.rank; takes = s.0.takes; target = s.0.target; promoted = p.0 }) else None
+
+-- `O-O` or `O-O-O`, with letters or digits, and an ending
+abbrev pub is_castling_with : ℕ → List ℕ → Bool
+is_castling_with o (a ∷ b ∷ c ∷ d ∷ e ∷ rest) = (a == o && b == 45 && c == o) && ((d == 45 && e == o && is_ending rest) || is_ending (d ∷ e ∷ rest))
+is_castling_with o (a ∷ b ∷ c ∷ rest) = (a == o && b == 45 && c == o) && is_ending rest
+is_castling_with o _ = false
+
+abbrev pub is_castling : List ℕ → Bool
+is_castling text = is_castling_with 79 text || is_castling_with 48 text

@@ -1,0 +1,162 @@
+//! Writing a FEN text.
+ghost use Rattle.std.specs.Prelude.{◌≡◌, ◌<◌, ◌≤◌, ◌+◌, ◌*◌, ◌++◌, ◌∷◌, [], length, decimal, IfSome};
+ghost use Rattle.arrayvec.specs.ArrayString.{array_string_len};
+ghost use Rattle.study_notation.specs.FenSpelling.{letter, piece_on, run, rank_text, placement_text, side_text, square_text, passed_text, fen_text};
+
+use crate::Start;
+use crate::placement::Piece;
+use arrayvec::ArrayString;
+use itoa::Buffer;
+use study_board::{Kind, Man, Side, Square};
+
+// The letter of a man.
+fn letter_of(piece: Piece) -> u8
+    ensures value { result ≡ letter piece.side piece.kind }
+    ensures ascii { result < 128 }
+{
+    match (piece.side, piece.kind) {
+        (Side::White, Kind::King) => b'K',
+        (Side::White, Kind::Queen) => b'Q',
+        (Side::White, Kind::Rook) => b'R',
+        (Side::White, Kind::Bishop) => b'B',
+        (Side::White, Kind::Knight) => b'N',
+        (Side::White, Kind::Pawn) => b'P',
+        (Side::Black, Kind::King) => b'k',
+        (Side::Black, Kind::Queen) => b'q',
+        (Side::Black, Kind::Rook) => b'r',
+        (Side::Black, Kind::Bishop) => b'b',
+        (Side::Black, Kind::Knight) => b'n',
+        (Side::Black, Kind::Pawn) => b'p',
+    }
+}
+
+// What stands on a square.
+fn find_piece(men: &[Man], at: u8) -> Option<Piece>
+    ensures { result ≡ piece_on men.now at }
+{
+    for man in men {
+        if man.at.number() == at {
+            return Some(Piece {
+                side: man.side,
+                kind: man.kind,
+            });
+        }
+    }
+    None
+}
+
+fn push_byte(out: &mut ArrayString<64>, b: u8)
+    requires ascii { b < 128 }
+    requires room { array_string_len out.old < 64 }
+    ensures bytes { out.new.bytes ≡ out.old.bytes ++ b ∷ [] }
+    ensures len { array_string_len out.new ≡ array_string_len out.old + 1 }
+{
+    out.push(char::from(b));
+}
+
+// One digit for a run of empty squares.
+fn push_run(out: &mut ArrayString<64>, n: u8)
+    requires small { n ≤ 8 }
+    requires room { array_string_len out.old + length (run n) ≤ 64 }
+    ensures { out.new.bytes ≡ out.old.bytes ++ run n }
+{
+    if n > 0 {
+        push_byte(out, b'0' + n);
+    }
+}
+
+// The squares of a rank.
+fn write_rank(out: &mut ArrayString<64>, men: &[Man], rank: u8)
+    requires low { rank < 8 }
+    requires room { array_string_len out.old + length (rank_text men.now rank) ≤ 64 }
+    ensures { out.new.bytes ≡ out.old.bytes ++ rank_text men.now rank }
+{
+    let mut empty = 0u8;
+    for file in 0..8u8 {
+        match find_piece(men, 8 * rank + file) {
+            None => empty += 1,
+            Some(piece) => {
+                push_run(out, empty);
+                push_byte(out, letter_of(piece));
+                empty = 0;
+            }
+        }
+    }
+    push_run(out, empty);
+}
+
+fn push_number(out: &mut ArrayString<64>, n: u16)
+    requires { array_string_len out.old + 5 ≤ 64 }
+    ensures bytes { out.new.bytes ≡ out.old.bytes ++ decimal n }
+    ensures len { array_string_len out.new ≤ array_string_len out.old + 5 }
+{
+    let mut buffer = Buffer::new();
+    out.push_str(buffer.format(n));
+}
+
+fn push_square(out: &mut ArrayString<64>, at: Square)
+    requires room { array_string_len out.old + 2 ≤ 64 }
+    ensures bytes { out.new.bytes ≡ out.old.bytes ++ square_text at }
+    ensures len { array_string_len out.new ≤ array_string_len out.old + 2 }
+{
+    push_byte(out, b'a' + at.file());
+    push_byte(out, b'1' + at.rank());
+}
+
+fn push_passed(out: &mut ArrayString<64>, passed: Option<Square>)
+    requires room { array_string_len out.old + 2 ≤ 64 }
+    ensures bytes { out.new.bytes ≡ out.old.bytes ++ passed_text passed }
+    ensures len { array_string_len out.new ≤ array_string_len out.old + 2 }
+{
+    match passed {
+        None => push_byte(out, b'-'),
+        Some(at) => push_square(out, at),
+    }
+}
+
+// The ranks, the eighth first, with a stroke between two.
+fn write_placement(out: &mut ArrayString<64>, men: &[Man])
+    requires few { length men.now ≤ 4 }
+    requires empty { out.old.bytes ≡ [] }
+    ensures bytes { out.new.bytes ≡ placement_text men.now }
+    ensures len { array_string_len out.new ≤ 23 }
+{
+    write_rank(out, men, 7);
+    for down in 1..8u8 {
+        push_byte(out, b'/');
+        write_rank(out, men, 7 - down);
+    }
+}
+
+fn side_letter(side: Side) -> u8
+    ensures value { result ∷ [] ≡ side_text side }
+    ensures ascii { result < 128 }
+{
+    match side {
+        Side::White => b'w',
+        Side::Black => b'b',
+    }
+}
+
+/// The FEN text of a start.
+///
+/// Six fields with one space between them, `-` for castling, one digit for each run of empty
+/// squares, the passed square wherever the position has one, and numbers without leading zeros.
+#[tactic(auto, unfolding(crate::specs::FenSpelling::fen_text))]
+pub fn write_fen(start: &Start) -> ArrayString<64>
+    ensures { result.bytes ≡ fen_text start.now }
+{
+    let mut out = ArrayString::new();
+    write_placement(&mut out, start.position.men());
+    push_byte(&mut out, b' ');
+    push_byte(&mut out, side_letter(start.position.to_move()));
+    push_byte(&mut out, b' ');
+    push_byte(&mut out, b'-');
+    push_byte(&mut out, b' ');
+    push_passed(&mut out, start.position.passed());
+    push_byte(&mut out, b' ');
+    push_number(&mut out, start.clock);
+    push_byte(&mut out, b' ');
+    push_number(&mut out, start.number);
+    out
+}

@@ -1,0 +1,134 @@
+//! The fields of a FEN text.
+ghost use Rattle.std.specs.Prelude.{◌≡◌, ◌<◌, ◌≤◌, ◌+◌, ◌++◌, ◌∷◌, [], ◌==◌, length, IfSome, IfNone};
+ghost use Rattle.std.specs.Option.{option_map};
+ghost use Rattle.std.specs.List.{position_or_len};
+ghost use Rattle.study_notation.specs.Fen.{words, fields_of, side_of, passed_of, count_of, is_dash};
+ghost use Rattle.study_notation.specs.FieldsView.{fields_view};
+
+use study_board::{Side, Square};
+
+/// The six fields of a FEN text.
+#[derive(Clone, Copy)]
+pub struct FieldTexts<'a> {
+    pub placement: &'a [u8],
+    pub side: &'a [u8],
+    pub castling: &'a [u8],
+    pub passed: &'a [u8],
+    pub clock: &'a [u8],
+    pub number: &'a [u8],
+}
+
+// Where the first space stands, or the length of a text with none.
+fn first_space(text: &[u8]) -> usize
+    ensures value { result ≡ position_or_len (λ b. b == 32) text.now }
+    ensures within { result ≤ length text.now }
+{
+    for (i, b) in text.iter().enumerate() {
+        if *b == b' ' {
+            return i;
+        }
+    }
+    text.len()
+}
+
+// The first word, and what follows it.
+fn next_word(text: &[u8]) -> Option<(&[u8], &[u8])>
+    ensures some { IfSome result (λ x. words text.now ≡ x.0.now ∷ words x.1.now) }
+    ensures none { IfNone result (words text.now ≡ []) }
+{
+    let mut rest = text;
+    loop {
+        let i = first_space(rest);
+        if i > 0 {
+            return Some(rest.split_at(i));
+        }
+        if rest.is_empty() {
+            return None;
+        }
+        let (_, after) = rest.split_at(1);
+        rest = after;
+    }
+}
+
+/// The fields of a text that has six of them, or four.
+#[tactic(auto, unfolding(crate::specs::Fen::fields_of))]
+pub fn split_fields(text: &[u8]) -> Option<FieldTexts<'_>>
+    ensures { option_map fields_view result ≡ fields_of (words text.now) }
+{
+    let (placement, rest) = next_word(text)?;
+    let (side, rest) = next_word(rest)?;
+    let (castling, rest) = next_word(rest)?;
+    let (passed, rest) = next_word(rest)?;
+    let Some((clock, rest)) = next_word(rest) else {
+        return Some(FieldTexts {
+            placement,
+            side,
+            castling,
+            passed,
+            clock: b"0",
+            number: b"1",
+        });
+    };
+    let (number, rest) = next_word(rest)?;
+    if next_word(rest).is_some() {
+        return None;
+    }
+    Some(FieldTexts {
+        placement,
+        side,
+        castling,
+        passed,
+        clock,
+        number,
+    })
+}
+
+/// The side to move.
+pub fn read_side(text: &[u8]) -> Option<Side>
+    ensures { result ≡ side_of text.now }
+{
+    match text {
+        [b'w'] => Some(Side::White),
+        [b'b'] => Some(Side::Black),
+        _ => None,
+    }
+}
+
+/// Whether a field is left empty by `-`.
+pub fn is_dash(text: &[u8]) -> bool
+    ensures { result ≡ is_dash text.now }
+{
+    matches!(text, [b'-'])
+}
+
+/// The passed square, where the field is `-` or a square.
+pub fn read_passed(text: &[u8]) -> Option<Option<Square>>
+    ensures { result ≡ passed_of text.now }
+{
+    match text {
+        [b'-'] => Some(None),
+        [file @ b'a'..=b'h', rank @ b'1'..=b'8'] => {
+            Some(Some(Square::at(8 * (*rank - b'1') + (*file - b'a'))))
+        }
+        _ => None,
+    }
+}
+
+/// The number that one to four digits spell.
+#[tactic(auto, unfolding(crate::specs::Fen::count_of))]
+pub fn read_count(text: &[u8]) -> Option<u16>
+    ensures { result ≡ count_of text.now }
+{
+    if text.is_empty() || text.len() > 4 {
+        return None;
+    }
+    let mut n = 0u16;
+    for d in text {
+        let d = *d;
+        if d < b'0' || d > b'9' {
+            return None;
+        }
+        n = 10 * n + (d - b'0') as u16;
+    }
+    Some(n)
+}

@@ -1,0 +1,70 @@
+//! What is written is read again, and what the definitions of texts mean in the words of chess.
+ghost use Rattle.std.specs.Prelude.{◌≡◌, ◌≤◌, ◌↔◌, ℕ, List, true, false, Ok, Err, Some};
+ghost use Rattle.std.specs.List.{Contains};
+ghost use Rattle.study_board.specs.Position.{Position as APosition, IsValid};
+ghost use Rattle.study_moves.specs.declared.moves.Move.{Move as AMove};
+ghost use Rattle.study_moves.specs.Rules.{is_legal};
+ghost use Rattle.study_moves.specs.Game.{IsMate};
+ghost use Rattle.study_notation.specs.declared.start.Start.{Start as AStart};
+ghost use Rattle.study_notation.specs.declared.san.San.{San as ASan};
+ghost use Rattle.study_notation.specs.Fen.{start_of};
+ghost use Rattle.study_notation.specs.FenSpelling.{fen_text};
+ghost use Rattle.study_notation.specs.San.{Says};
+ghost use Rattle.study_notation.specs.SanParts.{san_of, is_castling};
+ghost use Rattle.study_notation.specs.LegalList.{legal_list, is_mate};
+ghost use Rattle.study_notation.specs.Matching.{move_of};
+ghost use Rattle.study_notation.specs.Meaning.{IsSan, MatchesAlone, MatchesNone, MatchesTwo};
+ghost use Rattle.study_notation.specs.Written.{move_text};
+ghost use Rattle.study_notation.specs.declared.fault.SanFault.TheVariants.{NotSan, CastlingLeftOut, NoSuchMove, Ambiguous};
+
+/// What `write_fen` gives for a start is read as that start by `read_fen`, where the clock and the
+/// number have at most four digits and the number is not 0.
+pub fn fen_is_read_again()
+    ensures { (s : AStart) → IsValid s.position → s.clock ≤ 9999 → 1 ≤ s.number → s.number ≤ 9999
+        → start_of (fen_text s) ≡ Ok s }
+{}
+
+/// What `read_fen` reads is a valid position; written, it is read as the same start.
+pub fn fen_is_settled()
+    ensures valid { (text : List ℕ) (s : AStart) → start_of text ≡ Ok s → IsValid s.position }
+    ensures again { (text : List ℕ) (s : AStart) → start_of text ≡ Ok s
+        → start_of (fen_text s) ≡ Ok s }
+{}
+
+/// What `write_san` gives for a legal move, `read_san` reads as that move.
+pub fn san_is_read_again()
+    ensures { (p : APosition) (m : AMove) → IsValid p → is_legal p m ≡ true
+        → move_of p (move_text p m) ≡ Ok m }
+{}
+
+/// The list from which a text's move is picked has exactly the legal moves.
+pub fn legal_list_is_exact()
+    ensures { (p : APosition) (m : AMove) → IsValid p
+        → Contains (legal_list p) m ↔ (is_legal p m ≡ true) }
+{}
+
+/// What is written with `#` is checkmate.
+pub fn mate_is_checkmate()
+    ensures { (p : APosition) → IsValid p → (is_mate p ≡ true) ↔ IsMate p }
+{}
+
+/// The parts that are read from the left are those with which the text is spelled; so a text is
+/// spelled in one way at most.
+pub fn san_parts_are_spelled()
+    ensures { (text : List ℕ) (s : ASan) → (san_of text ≡ Some s) ↔ Says text s }
+{}
+
+/// What `read_san` answers, in the words of the game: the move that alone matches the text, or that
+/// none or several do; and by the text alone that it is castling, or no move at all.
+pub fn san_is_read_exactly()
+    ensures one { (p : APosition) (text : List ℕ) (m : AMove) → IsValid p
+        → (move_of p text ≡ Ok m) ↔ MatchesAlone p text m }
+    ensures none { (p : APosition) (text : List ℕ) → IsValid p
+        → (move_of p text ≡ Err NoSuchMove) ↔ (IsSan text × MatchesNone p text) }
+    ensures several { (p : APosition) (text : List ℕ) → IsValid p
+        → (move_of p text ≡ Err Ambiguous) ↔ MatchesTwo p text }
+    ensures castling { (p : APosition) (text : List ℕ) → IsValid p
+        → (move_of p text ≡ Err CastlingLeftOut) ↔ (¬ (IsSan text) × (is_castling text ≡ true)) }
+    ensures no_san { (p : APosition) (text : List ℕ) → IsValid p
+        → (move_of p text ≡ Err NotSan) ↔ (¬ (IsSan text) × (is_castling text ≡ false)) }
+{}

@@ -1,0 +1,30 @@
+//! Positions as FEN and moves as SAN, both ways and to the letter.
+//!
+//! `read_fen` answers the start that a text spells, or the first fault of the text; `read_san` the
+//! one legal move that a text means, or why there is none. `write_fen` and `write_san` give the one
+//! text for each. What is written is read again: `fen_is_read_again` and `san_is_read_again` in
+//! `laws` are these theorems. No call takes memory.
+#![tactic(auto)]
+
+mod captures;
+mod fault;
+mod fen_reader;
+mod fen_writer;
+mod fields;
+pub mod laws;
+mod placement;
+mod san;
+mod san_parser;
+mod san_parts;
+mod san_reader;
+mod san_writer;
+mod start;
+#[cfg(test)]
+mod tests;
+
+pub use fault::{FenFault, SanFault};
+pub use fen_reader::read_fen;
+pub use fen_writer::write_fen;
+pub use san_reader::read_san;
+pub use san_writer::write_san;
+pub use start::Start;

@@ -1,0 +1,14 @@
+//! What a SAN text says of a move.
+
+use study_board::{Kind, Square};
+
+/// The parts of a SAN text. A file and a rank are numbers below 8, counted from a and from 1.
+#[derive(Clone, Copy, Debug, PartialEq, Eq)]
+pub struct San {
+    pub kind: Kind,
+    pub file: Option<u8>,
+    pub rank: Option<u8>,
+    pub takes: bool,
+    pub target: Square,
+    pub promoted: Option<Kind>,
+}
