@@ -22,7 +22,13 @@ fn position(ours: Kind, theirs: Kind, side: Side, squares: [u8; 4]) -> Option<Po
 }
 
 /// Every position with the fourth man on one square.
-fn positions(rt: HostRuntime, ours: Kind, theirs: Kind, side: Side, fixed: u8) -> io::Result<Vec<Position>> {
+fn positions(
+    rt: HostRuntime,
+    ours: Kind,
+    theirs: Kind,
+    side: Side,
+    fixed: u8,
+) -> io::Result<Vec<Position>> {
     let mut list = Vec::new(rt.alloc());
     for a in 0..64u8 {
         for b in 0..64u8 {
@@ -85,11 +91,22 @@ fn test_moves(list: &[Position]) -> u64 {
 
 /// Prints a line: the name, and picoseconds a call.
 fn show(rt: HostRuntime, name: &str, label: &str, nanoseconds: u128, calls: u64) -> io::Result<()> {
-    let each = if calls == 0 { 0 } else { nanoseconds.saturating_mul(1000) / calls as u128 };
+    let each = if calls == 0 {
+        0
+    } else {
+        nanoseconds.saturating_mul(1000) / calls as u128
+    };
     println!(rt; "{name} {label} {each} {calls}")
 }
 
-fn measure(rt: HostRuntime, label: &str, ours: Kind, theirs: Kind, side: Side, fixed: u8) -> io::Result<()> {
+fn measure(
+    rt: HostRuntime,
+    label: &str,
+    ours: Kind,
+    theirs: Kind,
+    side: Side,
+    fixed: u8,
+) -> io::Result<()> {
     let list = positions(rt, ours, theirs, side, fixed)?;
     let count = list.len() as u64;
     let start = Instant::now(&rt)?;
@@ -105,9 +122,21 @@ fn measure(rt: HostRuntime, label: &str, ours: Kind, theirs: Kind, side: Side, f
     let playing = done.duration_since(checked).as_nanos();
     let testing = tested.duration_since(done).as_nanos();
     show(rt, "legal_moves", label, listing, count)?;
-    show(rt, "in_check", label, checked.duration_since(listed).as_nanos(), count)?;
+    show(
+        rt,
+        "in_check",
+        label,
+        checked.duration_since(listed).as_nanos(),
+        count,
+    )?;
     show(rt, "played", label, playing.saturating_sub(listing), moves)?;
-    show(rt, "is_legal", label, testing.saturating_sub(listing), legal)?;
+    show(
+        rt,
+        "is_legal",
+        label,
+        testing.saturating_sub(listing),
+        legal,
+    )?;
     println!(rt; "counts {label} {moves} {checks} {men}")
 }
 
