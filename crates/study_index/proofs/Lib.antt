@@ -1,0 +1,15 @@
+pub mod Fillings
+pub mod Slots
+pub mod Symmetries
+pub mod TurnedBits
+pub mod Leasts
+pub mod Numbers
+pub mod Order
+pub mod ReadOff
+pub mod ClassSlots
+pub mod ImageNumbers
+pub mod ListOrder
+pub mod Live
+pub mod Decodes
+pub mod Bridge
+pub mod Functions

@@ -1,0 +1,114 @@
+-- The position read off a number of a class.
+use Rattle.std.specs.Prelude.{◌≡◌, ℕ, ◌+◌, ◌*◌, ◌/◌, ◌%◌, ◌<◌, ◌≤◌, Bool, true, false, ◌==◌, nat_lt, List, [], ◌∷◌, ◌++◌, map, Some, None, if◌then◌else◌}
+use Rattle.std.specs.List.{list_any}
+use Rattle.study_board.specs.declared.men.Side.{Side}
+use Rattle.study_board.specs.declared.men.Side.TheVariants.{White, Black}
+use Rattle.study_board.specs.declared.men.Kind.{Kind}
+use Rattle.study_board.specs.declared.men.Kind.TheVariants.{King, Pawn}
+use Rattle.study_board.specs.declared.men.Man.{Man}
+use Rattle.study_board.specs.Men.{same_kind}
+use Rattle.std.specs.List.Sorted.{IsPermutation}
+use Rattle.study_board.specs.declared.fault.PositionFault.{PositionFault}
+use Rattle.study_board.specs.Position.{Position, IsValid, first_fault}
+use Rattle.study_material.specs.declared.class.Class.{Class}
+use Rattle.study_material.specs.Class.{lists_of}
+use Rattle.study_index.specs.declared.reading.Slot.{Slot}
+use Rattle.study_index.specs.Chosen.{least_of}
+use Rattle.study_index.specs.Filling.{IsFilling, slot_of}
+use Rattle.study_index.specs.Number.{number, places, has_pawn, IsIndex}
+
+-- what slot a man fills
+abbrev pub filled : Man → Slot
+filled m = record { side = m.side; kind = m.kind }
+
+abbrev pub slot_for : Side → Kind → Slot
+slot_for side kind = record { side = side; kind = kind }
+
+-- the slots of a class: the kings, White's men in list order, Black's men in list order
+abbrev pub slots_of : Class → List Slot
+slots_of c = slot_for White King ∷ slot_for Black King ∷ map (slot_for White) (lists_of c).white ++ map (slot_for Black) (lists_of c).black
+
+-- the position whose men fill these slots so that n is their number; no square is passed
+pub record IsReadOff (slots : List Slot) (n : ℕ) (q : Position) : Type 0 where
+  pub filling : List Man
+  pub fills : IsFilling false q.men filling
+  pub slots_are : map filled filling ≡ slots
+  pub is : number (has_pawn q.men) q.to_move filling ≡ Some n
+  pub none_passed : q.passed ≡ None
+
+-- a valid position that is read off the number, which is its index
+pub record IsDecodedAt (slots : List Slot) (n : ℕ) (q : Position) : Type 0 where
+  pub valid : IsValid q
+  pub read_off : IsReadOff slots n q
+  pub index : IsIndex q n
+
+-- the same with the slots of the class
+abbrev pub IsDecoded : Class → ℕ → Position → Type 0
+IsDecoded c n q = IsDecodedAt (slots_of c) n q
+
+-- slots in order, two to four, the kings first
+abbrev pub number_of : Slot → ℕ
+number_of s = slot_of s.side s.kind
+
+abbrev pub AreSlots : List Slot → Type 0
+AreSlots (k ∷ b ∷ []) = (number_of k ≡ 0) × (number_of b ≡ 1)
+AreSlots (k ∷ b ∷ x ∷ []) = (number_of k ≡ 0) × (number_of b ≡ 1) × (1 < number_of x)
+AreSlots (k ∷ b ∷ x ∷ y ∷ []) = (number_of k ≡ 0) × (number_of b ≡ 1) × (1 < number_of x) × (number_of x ≤ number_of y)
+AreSlots slots = ⊥
+
+-- the listed square of a place
+unfoldable pub listed : Bool → ℕ → ℕ
+listed true q = 8 * (q / 4) + q % 4
+listed false q = if nat_lt q 4 then q else (if nat_lt q 7 then q + 5 else (if nat_lt q 9 then q + 11 else 27))
+
+abbrev pub slots_have_pawn : List Slot → Bool
+slots_have_pawn slots = list_any (λ s. same_kind s.kind Pawn) slots
+
+abbrev pub man : Slot → ℕ → Man
+man s x = record { side = s.side; kind = s.kind; at = x }
+
+-- the number without the squares of the slots after the first
+abbrev pub head : List Slot → ℕ → ℕ
+head (k ∷ b ∷ []) n = n / 64
+head (k ∷ b ∷ x ∷ []) n = n / 64 / 64
+head (k ∷ b ∷ x ∷ y ∷ []) n = n / 64 / 64 / 64
+head slots n = n
+
+-- the men on the squares that the number tells
+abbrev pub men_of : Bool → List Slot → ℕ → List Man
+men_of pawns (k ∷ b ∷ []) n = man k (listed pawns (n / 64 % places pawns)) ∷ man b (n % 64) ∷ []
+men_of pawns (k ∷ b ∷ x ∷ []) n =
+    man k (listed pawns (n / 64 / 64 % places pawns)) ∷ man b (n / 64 % 64) ∷ man x (n % 64) ∷ []
+men_of pawns (k ∷ b ∷ x ∷ y ∷ []) n =
+    man k (listed pawns (n / 64 / 64 / 64 % places pawns)) ∷ man b (n / 64 / 64 % 64) ∷ man x (n / 64 % 64) ∷ man y (n % 64) ∷ []
+men_of pawns slots n = []
+
+abbrev pub side_of : ℕ → Side
+side_of n = if n == 0 then White else Black
+
+-- the number is below the cells of the class
+abbrev pub is_cell : List Slot → ℕ → Bool
+is_cell slots n = nat_lt (head slots n / places (slots_have_pawn slots)) 2
+
+-- the men and the side to move that a number tells
+abbrev pub told_men : List Slot → ℕ → List Man
+told_men slots n = men_of (slots_have_pawn slots) slots n
+
+abbrev pub told_side : List Slot → ℕ → Side
+told_side slots n = side_of (head slots n / places (slots_have_pawn slots))
+
+-- the least number of men who stand in the order of their slots
+abbrev pub HasLeast : Bool → Side → ℕ → List Man → Type 0
+HasLeast pawns to_move n men = least_of pawns to_move false men ≡ Some n
+
+-- the position of these men, in some order
+pub record IsPlaced (men : List Man) (to_move : Side) (q : Position) : Type 0 where
+  pub valid : IsValid q
+  pub same_men : IsPermutation men q.men
+  pub same_side : q.to_move ≡ to_move
+  pub none_passed : q.passed ≡ None
+
+-- these men are no position
+pub record IsFaulty (men : List Man) (to_move : Side) : Type 0 where
+  pub fault : PositionFault
+  pub is : first_fault men to_move None ≡ Some fault

@@ -1,0 +1,43 @@
+-- The slots of a position, and the ways to fill them with its men.
+use Rattle.std.specs.Prelude.{ℕ, ◌≤◌, Bool, List, [], ◌∷◌}
+use Rattle.std.specs.List.Sorted.{IsPermutation}
+use Rattle.study_board.specs.declared.men.Side.{Side}
+use Rattle.study_board.specs.declared.men.Side.TheVariants.{White, Black}
+use Rattle.study_board.specs.declared.men.Kind.{Kind}
+use Rattle.study_board.specs.declared.men.Kind.TheVariants.{King, Queen, Rook, Bishop, Knight, Pawn}
+use Rattle.study_board.specs.declared.men.Man.{Man}
+use Rattle.study_board.specs.Symmetry.{turned_side}
+
+-- the order of the slots: both kings, White's men in list order, Black's men in list order
+abbrev pub slot_of : Side → Kind → ℕ
+slot_of White King = 0
+slot_of Black King = 1
+slot_of White Queen = 2
+slot_of White Rook = 3
+slot_of White Bishop = 4
+slot_of White Knight = 5
+slot_of White Pawn = 6
+slot_of Black Queen = 7
+slot_of Black Rook = 8
+slot_of Black Bishop = 9
+slot_of Black Knight = 10
+slot_of Black Pawn = 11
+
+-- the slot of a man, the colours swapped or not
+unfoldable pub slot : Bool → Man → ℕ
+slot colours m = slot_of (turned_side colours m.side) m.kind
+
+-- no man of the list is of a slot before n
+abbrev pub NoneBefore : Bool → ℕ → List Man → Type 0
+NoneBefore colours n [] = Unit {0}
+NoneBefore colours n (x ∷ xs) = (n ≤ slot colours x) × NoneBefore colours n xs
+
+-- the men stand in the order of their slots; like men stand in either order
+abbrev pub IsInSlots : Bool → List Man → Type 0
+IsInSlots colours [] = Unit {0}
+IsInSlots colours (x ∷ xs) = NoneBefore colours (slot colours x) xs × IsInSlots colours xs
+
+-- the men, each once, in the order of the slots
+pub record IsFilling (colours : Bool) (men filling : List Man) : Type 0 where
+  pub each_once : IsPermutation men filling
+  pub in_slots : IsInSlots colours filling

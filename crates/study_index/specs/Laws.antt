@@ -1,0 +1,61 @@
+-- What tables rest on: each position of a class has a number, and the position read off it has the same game.
+use Rattle.std.specs.Prelude.{◌≡◌, ◌↔◌, ℕ, ◌<◌, false, Some, None}
+use Rattle.study_board.specs.Position.{Position, IsValid}
+use Rattle.study_moves.specs.Game.{IsMate}
+use Rattle.study_moves.specs.Laws.{HasSameGame}
+use Rattle.study_moves.specs.Alike.{AreAlike, Leads}
+use Rattle.study_material.specs.declared.class.Class.{Class}
+use Rattle.study_material.specs.Lists.{is_swapped}
+use Rattle.study_material.specs.Class.{lists_of, is_left_out, IsOf}
+use Rattle.study_material.specs.Needs.{LeadsOn}
+use Rattle.study_index.specs.Number.{IsIndex, cells_of}
+use Rattle.study_index.specs.Decoded.{IsDecoded}
+use Rattle.study_index.specs.Found.{index_of, position_at}
+
+-- positions that are alike, the colours kept where the lists of the class are equal
+pub record AreAlikeIn (c : Class) (p q : Position) : Type 0 where
+  pub alike : AreAlike p q
+  pub kept : (lists_of c).white ≡ (lists_of c).black → alike.images.by.colours ≡ false
+
+-- what a number reads as: a position of the class in list order, without a passed square, whose index is the number
+pub record IsEntry (c : Class) (n : ℕ) (q : Position) : Type 0 where
+  pub valid : IsValid q
+  pub of_class : IsOf c q
+  pub in_order : is_swapped q.men ≡ false
+  pub none_passed : q.passed ≡ None
+  pub index : index_of q ≡ n
+
+-- the index as a function
+pub record HasIndex (p : Position) : Type 0 where
+  pub is : IsIndex p (index_of p)
+  pub only : (n : ℕ) → IsIndex p n → n ≡ index_of p
+
+abbrev pub PositionsHaveAnIndex : Type 0
+PositionsHaveAnIndex = (p : Position) → IsValid p → HasIndex p
+
+-- the position of a number as a function
+abbrev pub NumbersAreRead : Type 0
+NumbersAreRead = (c : Class) (n : ℕ) (q : Position) → (position_at c n ≡ Some q) ↔ IsDecoded c n q
+
+-- the laws of a class
+pub record IsNumbered (c : Class) : Type 0 where
+  pub below : (n : ℕ) (q : Position) → position_at c n ≡ Some q → n < cells_of c
+  pub decoded : (n : ℕ) (q : Position) → position_at c n ≡ Some q → IsEntry c n q
+  pub numbered : (p : Position) → IsValid p → IsOf c p → (q : Position) × (position_at c (index_of p) ≡ Some q) × AreAlikeIn c q p
+  pub back : (p q : Position) → AreAlikeIn c p q → AreAlikeIn c q p
+  pub move : (p q r : Position) → AreAlikeIn c p q → Leads p r → (s : Position) × Leads q s × AreAlikeIn c r s
+  pub mated : (p q : Position) → AreAlikeIn c p q → IsMate p → IsMate q
+  pub same_home : (p q : Position) → AreAlikeIn c p q → IsOf c p → IsOf c q
+  pub same_index : (p q : Position) → AreAlikeIn c p q → IsOf c p → index_of p ≡ index_of q
+  pub closed : (p q : Position) → IsValid p → IsOf c p → Leads p q → LeadsOn c q
+
+abbrev pub ClassesAreNumbered : Type 0
+ClassesAreNumbered = (c : Class) → is_left_out c ≡ false → IsNumbered c
+
+-- positions that are alike are of one class and have one game
+pub record AgreeAlike (p q : Position) : Type 0 where
+  pub same_home : (c : Class) → IsOf c p → IsOf c q
+  pub same_game : HasSameGame p q
+
+abbrev pub AlikeAgree : Type 0
+AlikeAgree = (p q : Position) → AreAlike p q → AgreeAlike p q

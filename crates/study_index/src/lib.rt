@@ -1,0 +1,22 @@
+//! The numbers of positions in the tables of their class, which are kept in files: one number for a position and all
+//! its mirror images, the least of theirs, and the position in list order that a number reads as.
+//!
+//! `index` and `decode` take no memory. `classes_are_numbered` proves what tables rest on: the number of a position
+//! reads as a position that is alike, and positions that are alike have one number, like moves and one game.
+#![tactic(auto)]
+
+mod filling;
+mod laws;
+mod least;
+mod number;
+mod reading;
+mod turn;
+
+pub use laws::{alike_agree, classes_are_numbered, numbers_are_read, positions_have_an_index};
+pub use least::index;
+pub use reading::{cells, decode};
+
+#[cfg(test)]
+mod samples;
+#[cfg(test)]
+mod tests;

@@ -1,0 +1,117 @@
+//! The number of a filling.
+ghost use Rattle.std.specs.Prelude.{◌≡◌, ◌+◌, ◌*◌, ◌^◌, ◌≤◌, ◌<◌, length, IfSome};
+ghost use Rattle.study_board.specs.Symmetry.{turned_square, turned_man};
+ghost use Rattle.study_index.specs.Number.{place, places, side_number, counted_on, number, has_pawn, places_before};
+ghost use Rattle.study_index.specs.Chosen.{turned_number};
+ghost use Rattle.std.specs.Prelude.{map};
+
+use crate::turn::turned;
+use study_board::{Kind, Man, Side, Square, Symmetry};
+
+// The places of the ranks below, in the triangle a1, d1, d4.
+#[inline]
+fn places_before(rank: u8) -> u8
+    ensures value { result ≡ places_before rank }
+    ensures small { result ≤ 6 }
+{
+    match rank {
+        0 => 0,
+        1 => 3,
+        2 => 5,
+        _ => 6,
+    }
+}
+
+/// The place of a square, if it is listed.
+#[inline]
+#[tactic(auto, unfolding(crate::specs::Number::place))]
+pub fn place(pawns: bool, s: Square) -> Option<u8>
+    ensures value { result ≡ place pawns s }
+    ensures small { IfSome result (λ q. q < places pawns) }
+{
+    let (file, rank) = (s.file(), s.rank());
+    if pawns {
+        if file < 4 {
+            Some(4 * rank + file)
+        } else {
+            None
+        }
+    } else if file < 4 && !(file < rank) {
+        Some(places_before(rank) + file)
+    } else {
+        None
+    }
+}
+
+/// Whether some man is a pawn.
+#[inline]
+pub fn has_pawn(men: &[Man]) -> bool
+    ensures { result ≡ has_pawn men.now }
+{
+    men.iter().any(|m| m.kind.is(Kind::Pawn))
+}
+
+// The square of one more man, counted on.
+#[inline]
+fn more(t: Symmetry, n: u32, m: &Man) -> u32
+    requires { n < 2 ^ 18 }
+    ensures value { result ≡ n * 64 + turned_square t m.now.at }
+    ensures small { result < n * 64 + 64 }
+{
+    n * 64 + u32::from(turned(t, m.at).number())
+}
+
+/// The squares of further men, each 64 times less than what comes before.
+#[inline]
+fn counted_on(t: Symmetry, n: u32, men: &[Man]) -> u32
+    requires small { n < 64 }
+    requires few { length men.now ≤ 3 }
+    ensures { result ≡ counted_on n (map (turned_man t) men.now) }
+{
+    match men {
+        [] => n,
+        [a] => more(t, n, a),
+        [a, b] => more(t, more(t, n, a), b),
+        [a, b, c] => more(t, more(t, more(t, n, a), b), c),
+        _ => unreachable!(),
+    }
+}
+
+#[inline]
+fn side_number(side: Side) -> u32
+    ensures value { result ≡ side_number side }
+    ensures small { result < 2 }
+{
+    match side {
+        Side::White => 0,
+        Side::Black => 1,
+    }
+}
+
+#[inline]
+fn places(pawns: bool) -> u32
+    ensures value { result ≡ places pawns }
+    ensures small { result ≤ 32 }
+{
+    if pawns { 32 } else { 10 }
+}
+
+/// The number of a filling whose men are turned, if the white king comes to a listed square.
+#[inline]
+#[tactic(auto, unfolding(crate::specs::Number::number, crate::specs::Chosen::turned_number))]
+pub fn number(pawns: bool, to_move: Side, t: Symmetry, men: &[Man]) -> Option<u32>
+    requires { length men.now ≤ 4 }
+    ensures { result ≡ turned_number pawns to_move t men.now }
+{
+    match men {
+        [] => None,
+        [king, rest @ ..] => match place(pawns, turned(t, king.at)) {
+            None => None,
+            Some(q) => Some(counted_on(
+                t,
+                side_number(to_move) * places(pawns) + u32::from(q),
+                rest,
+            )),
+        },
+    }
+}

@@ -1,0 +1,299 @@
+//! The positions of numbers.
+ghost use Rattle.std.specs.Prelude.{◌≡◌, ◌+◌, ◌*◌, ◌/◌, ◌%◌, ◌≤◌, ◌<◌, ◌↔◌, ◌⊎◌, IsTrue, length, IfSome, IfNone, List, None, false};
+ghost use Rattle.study_board.specs.Position.{Position as Seen};
+ghost use Rattle.study_material.specs.Class.{is_left_out};
+ghost use Rattle.study_index.specs.Number.{places, cells_of};
+ghost use Rattle.study_index.specs.Found.{position_at};
+ghost use Rattle.study_index.specs.Decoded.{IsDecoded, AreSlots, slots_of, listed, slots_have_pawn, man, head, side_of, told_men, told_side, IsPlaced, IsFaulty, HasLeast};
+
+use crate::least::least_of;
+use study_board::{Kind, Man, Position, Side, Square};
+use study_material::Class;
+
+/// What man fills a place in the order of a class.
+#[derive(Clone, Copy)]
+pub struct Slot {
+    pub side: Side,
+    pub kind: Kind,
+}
+
+#[inline]
+fn has_pawn(slots: &[Slot]) -> bool
+    ensures { result ≡ slots_have_pawn slots.now }
+{
+    slots.iter().any(|s| s.kind.is(Kind::Pawn))
+}
+
+#[inline]
+#[tactic(auto, unfolding(crate::specs::Decoded::listed))]
+fn listed(pawns: bool, place: u32) -> Square
+    requires { place < places pawns }
+    ensures value { result ≡ listed pawns place }
+{
+    let number = if pawns {
+        8 * (place / 4) + place % 4
+    } else if place < 4 {
+        place
+    } else if place < 7 {
+        place + 5
+    } else if place < 9 {
+        place + 11
+    } else {
+        27
+    };
+    Square::at(number as u8)
+}
+
+#[inline]
+fn places(pawns: bool) -> u32
+    ensures value { result ≡ places pawns }
+    ensures some { 0 < result }
+{
+    if pawns { 32 } else { 10 }
+}
+
+#[inline]
+fn man(slot: &Slot, square: u32) -> Man
+    requires { square < 64 }
+    ensures { result ≡ man slot.now square }
+{
+    Man {
+        side: slot.side,
+        kind: slot.kind,
+        at: Square::at(square as u8),
+    }
+}
+
+#[inline]
+fn king(pawns: bool, slot: &Slot, head: u32) -> Man
+    ensures { result ≡ man slot.now (listed pawns (head % places pawns)) }
+{
+    Man {
+        side: slot.side,
+        kind: slot.kind,
+        at: listed(pawns, head % places(pawns)),
+    }
+}
+
+/// The number without the squares of the slots after the first.
+#[inline]
+fn head(slots: &[Slot], n: u32) -> u32
+    ensures { result ≡ head slots.now n }
+{
+    match slots {
+        [_, _] => n / 64,
+        [_, _, _] => n / 64 / 64,
+        [_, _, _, _] => n / 64 / 64 / 64,
+        _ => n,
+    }
+}
+
+#[inline]
+fn side_of(n: u32) -> Side
+    ensures { result ≡ side_of n }
+{
+    if n == 0 { Side::White } else { Side::Black }
+}
+
+/// The position of these men, read off `n`, if they are one.
+fn placed(men: &[Man], to_move: Side) -> Option<Position>
+    ensures some { IfSome result (λ q. IsPlaced men.now to_move q) }
+    ensures none { IfNone result (IsFaulty men.now to_move) }
+{
+    match Position::new(men, to_move, None) {
+        Ok(q) => Some(q),
+        Err(_) => None,
+    }
+}
+
+// Whether `n` is the least number of these men, who stand in the order of their slots.
+#[inline]
+fn is_least(pawns: bool, to_move: Side, n: u32, men: &[Man]) -> bool
+    requires { length men.now ≤ 4 }
+    ensures { IsTrue result ↔ HasLeast pawns to_move n men.now }
+{
+    match least_of(pawns, to_move, false, men) {
+        Some(least) => least == n,
+        None => false,
+    }
+}
+
+/// The position of these men, if they are one and `n` is their least number.
+#[inline]
+fn numbered(pawns: bool, to_move: Side, n: u32, men: &[Man]) -> Option<Position>
+    requires { length men.now ≤ 4 }
+    ensures some { IfSome result (λ q. IsPlaced men.now to_move q × HasLeast pawns to_move n men.now) }
+    ensures none { IfNone result (IsFaulty men.now to_move ⊎ (HasLeast pawns to_move n men.now → ⊥)) }
+{
+    if is_least(pawns, to_move, n, men) {
+        placed(men, to_move)
+    } else {
+        None
+    }
+}
+
+/// The position of the men and the side that the number tells, if they are one and the number is their least.
+fn read_off(slots: &[Slot], n: u32) -> Option<Position>
+    requires { AreSlots slots.now }
+    ensures some { IfSome result (λ q. IsPlaced (told_men slots.now n) (told_side slots.now n) q × HasLeast (slots_have_pawn slots.now) (told_side slots.now n) n (told_men slots.now n)) }
+    ensures none { IfNone result (IsFaulty (told_men slots.now n) (told_side slots.now n) ⊎ (HasLeast (slots_have_pawn slots.now) (told_side slots.now n) n (told_men slots.now n) → ⊥)) }
+{
+    let pawns = has_pawn(slots);
+    let side = side_of(head(slots, n) / places(pawns));
+    match slots {
+        [k, b] => {
+            let men = [king(pawns, k, n / 64), man(b, n % 64)];
+            numbered(pawns, side, n, &men)
+        }
+        [k, b, x] => {
+            let black = man(b, n / 64 % 64);
+            let men = [king(pawns, k, n / 64 / 64), black, man(x, n % 64)];
+            numbered(pawns, side, n, &men)
+        }
+        [k, b, x, y] => {
+            let black = man(b, n / 64 / 64 % 64);
+            let further = man(x, n / 64 % 64);
+            let men = [
+                king(pawns, k, n / 64 / 64 / 64),
+                black,
+                further,
+                man(y, n % 64),
+            ];
+            numbered(pawns, side, n, &men)
+        }
+        _ => unreachable!(),
+    }
+}
+
+/// How many numbers there are for positions of the class.
+pub fn cells(class: Class) -> u32
+    requires { is_left_out class ≡ false }
+    ensures { result ≡ cells_of class }
+{
+    use Class::*;
+    match class {
+        KK => 1_280,
+        KQK | KRK | KBK | KNK => 81_920,
+        KPK => 262_144,
+        KQPK | KRPK | KBPK | KNPK | KPPK | KQKP | KRKP | KBKP | KNKP | KPKP => 16_777_216,
+        _ => 5_242_880,
+    }
+}
+
+/// The position of the class that has this number, in list order and without a passed square, if there is one.
+pub fn decode(class: Class, n: u32) -> Option<Position>
+    requires { is_left_out class ≡ false }
+    ensures some { IfSome result (IsDecoded class n) }
+    ensures none { IfNone result ((q : Seen) → IsDecoded class n q → ⊥) }
+    ensures value { result ≡ position_at class n }
+{
+    if n >= cells(class) {
+        return None;
+    }
+    read_off(slots(class), n)
+}
+
+const WHITE_KING: Slot = Slot {
+    side: Side::White,
+    kind: Kind::King,
+};
+
+const BLACK_KING: Slot = Slot {
+    side: Side::Black,
+    kind: Kind::King,
+};
+
+const WHITE_QUEEN: Slot = Slot {
+    side: Side::White,
+    kind: Kind::Queen,
+};
+
+const BLACK_QUEEN: Slot = Slot {
+    side: Side::Black,
+    kind: Kind::Queen,
+};
+
+const WHITE_ROOK: Slot = Slot {
+    side: Side::White,
+    kind: Kind::Rook,
+};
+
+const BLACK_ROOK: Slot = Slot {
+    side: Side::Black,
+    kind: Kind::Rook,
+};
+
+const WHITE_BISHOP: Slot = Slot {
+    side: Side::White,
+    kind: Kind::Bishop,
+};
+
+const BLACK_BISHOP: Slot = Slot {
+    side: Side::Black,
+    kind: Kind::Bishop,
+};
+
+const WHITE_KNIGHT: Slot = Slot {
+    side: Side::White,
+    kind: Kind::Knight,
+};
+
+const BLACK_KNIGHT: Slot = Slot {
+    side: Side::Black,
+    kind: Kind::Knight,
+};
+
+const WHITE_PAWN: Slot = Slot {
+    side: Side::White,
+    kind: Kind::Pawn,
+};
+
+const BLACK_PAWN: Slot = Slot {
+    side: Side::Black,
+    kind: Kind::Pawn,
+};
+
+// The slots of the class: the kings, White's men in list order, Black's men in list order.
+fn slots(class: Class) -> &'static [Slot]
+    ensures { result.now ≡ slots_of class }
+{
+    use Class::*;
+    match class {
+        KK => &[WHITE_KING, BLACK_KING],
+        KQK => &[WHITE_KING, BLACK_KING, WHITE_QUEEN],
+        KRK => &[WHITE_KING, BLACK_KING, WHITE_ROOK],
+        KBK => &[WHITE_KING, BLACK_KING, WHITE_BISHOP],
+        KNK => &[WHITE_KING, BLACK_KING, WHITE_KNIGHT],
+        KPK => &[WHITE_KING, BLACK_KING, WHITE_PAWN],
+        KQQK => &[WHITE_KING, BLACK_KING, WHITE_QUEEN, WHITE_QUEEN],
+        KQRK => &[WHITE_KING, BLACK_KING, WHITE_QUEEN, WHITE_ROOK],
+        KQBK => &[WHITE_KING, BLACK_KING, WHITE_QUEEN, WHITE_BISHOP],
+        KQNK => &[WHITE_KING, BLACK_KING, WHITE_QUEEN, WHITE_KNIGHT],
+        KQPK => &[WHITE_KING, BLACK_KING, WHITE_QUEEN, WHITE_PAWN],
+        KRRK => &[WHITE_KING, BLACK_KING, WHITE_ROOK, WHITE_ROOK],
+        KRBK => &[WHITE_KING, BLACK_KING, WHITE_ROOK, WHITE_BISHOP],
+        KRNK => &[WHITE_KING, BLACK_KING, WHITE_ROOK, WHITE_KNIGHT],
+        KRPK => &[WHITE_KING, BLACK_KING, WHITE_ROOK, WHITE_PAWN],
+        KBBK => &[WHITE_KING, BLACK_KING, WHITE_BISHOP, WHITE_BISHOP],
+        KBNK => &[WHITE_KING, BLACK_KING, WHITE_BISHOP, WHITE_KNIGHT],
+        KBPK => &[WHITE_KING, BLACK_KING, WHITE_BISHOP, WHITE_PAWN],
+        KNNK => &[WHITE_KING, BLACK_KING, WHITE_KNIGHT, WHITE_KNIGHT],
+        KNPK => &[WHITE_KING, BLACK_KING, WHITE_KNIGHT, WHITE_PAWN],
+        KPPK => &[WHITE_KING, BLACK_KING, WHITE_PAWN, WHITE_PAWN],
+        KQKQ => &[WHITE_KING, BLACK_KING, WHITE_QUEEN, BLACK_QUEEN],
+        KQKR => &[WHITE_KING, BLACK_KING, WHITE_QUEEN, BLACK_ROOK],
+        KQKB => &[WHITE_KING, BLACK_KING, WHITE_QUEEN, BLACK_BISHOP],
+        KQKN => &[WHITE_KING, BLACK_KING, WHITE_QUEEN, BLACK_KNIGHT],
+        KQKP => &[WHITE_KING, BLACK_KING, WHITE_QUEEN, BLACK_PAWN],
+        KRKR => &[WHITE_KING, BLACK_KING, WHITE_ROOK, BLACK_ROOK],
+        KRKB => &[WHITE_KING, BLACK_KING, WHITE_ROOK, BLACK_BISHOP],
+        KRKN => &[WHITE_KING, BLACK_KING, WHITE_ROOK, BLACK_KNIGHT],
+        KRKP => &[WHITE_KING, BLACK_KING, WHITE_ROOK, BLACK_PAWN],
+        KBKB => &[WHITE_KING, BLACK_KING, WHITE_BISHOP, BLACK_BISHOP],
+        KBKN => &[WHITE_KING, BLACK_KING, WHITE_BISHOP, BLACK_KNIGHT],
+        KBKP => &[WHITE_KING, BLACK_KING, WHITE_BISHOP, BLACK_PAWN],
+        KNKN => &[WHITE_KING, BLACK_KING, WHITE_KNIGHT, BLACK_KNIGHT],
+        KNKP => &[WHITE_KING, BLACK_KING, WHITE_KNIGHT, BLACK_PAWN],
+        KPKP => &[WHITE_KING, BLACK_KING, WHITE_PAWN, BLACK_PAWN],
+    }
+}

@@ -1,0 +1,12 @@
+pub mod Names
+pub mod Classes
+pub mod NeedsTables
+pub mod Orders
+pub mod Others
+pub mod Exists
+pub mod Counts
+pub mod Images
+pub mod InSize
+pub mod Steps
+pub mod ReachedLists
+pub mod MovesOn

@@ -1,0 +1,93 @@
+-- The classes of material, by the kinds of each side's men beside its king.
+use Rattle.std.specs.Prelude.{◌≡◌, ℕ, Bool, true, false, ◌&&◌, List, [], ◌∷◌, ◌++◌, map}
+use Rattle.study_board.specs.declared.men.Kind.{Kind}
+use Rattle.study_board.specs.declared.men.Kind.TheVariants.{King, Queen, Rook, Bishop, Knight, Pawn}
+use Rattle.study_board.specs.Men.{same_kind}
+use Rattle.study_board.specs.Position.{Position, IsValid}
+use Rattle.study_material.specs.Lists.{Lists, of, lists, ordered}
+use Rattle.study_material.specs.declared.class.Class.{Class}
+use Rattle.study_material.specs.declared.class.Class.TheVariants.{KK, KQK, KRK, KBK, KNK, KPK, KQQK, KQRK, KQBK, KQNK, KQPK, KRRK, KRBK, KRNK, KRPK, KBBK, KBNK, KBPK, KNNK, KNPK, KPPK, KQKQ, KQKR, KQKB, KQKN, KQKP, KRKR, KRKB, KRKN, KRKP, KBKB, KBKN, KBKP, KNKN, KNKP, KPKP}
+
+abbrev pub lists_of : Class → Lists
+lists_of KK = of [] []
+lists_of KQK = of (Queen ∷ []) []
+lists_of KRK = of (Rook ∷ []) []
+lists_of KBK = of (Bishop ∷ []) []
+lists_of KNK = of (Knight ∷ []) []
+lists_of KPK = of (Pawn ∷ []) []
+lists_of KQQK = of (Queen ∷ Queen ∷ []) []
+lists_of KQRK = of (Queen ∷ Rook ∷ []) []
+lists_of KQBK = of (Queen ∷ Bishop ∷ []) []
+lists_of KQNK = of (Queen ∷ Knight ∷ []) []
+lists_of KQPK = of (Queen ∷ Pawn ∷ []) []
+lists_of KRRK = of (Rook ∷ Rook ∷ []) []
+lists_of KRBK = of (Rook ∷ Bishop ∷ []) []
+lists_of KRNK = of (Rook ∷ Knight ∷ []) []
+lists_of KRPK = of (Rook ∷ Pawn ∷ []) []
+lists_of KBBK = of (Bishop ∷ Bishop ∷ []) []
+lists_of KBNK = of (Bishop ∷ Knight ∷ []) []
+lists_of KBPK = of (Bishop ∷ Pawn ∷ []) []
+lists_of KNNK = of (Knight ∷ Knight ∷ []) []
+lists_of KNPK = of (Knight ∷ Pawn ∷ []) []
+lists_of KPPK = of (Pawn ∷ Pawn ∷ []) []
+lists_of KQKQ = of (Queen ∷ []) (Queen ∷ [])
+lists_of KQKR = of (Queen ∷ []) (Rook ∷ [])
+lists_of KQKB = of (Queen ∷ []) (Bishop ∷ [])
+lists_of KQKN = of (Queen ∷ []) (Knight ∷ [])
+lists_of KQKP = of (Queen ∷ []) (Pawn ∷ [])
+lists_of KRKR = of (Rook ∷ []) (Rook ∷ [])
+lists_of KRKB = of (Rook ∷ []) (Bishop ∷ [])
+lists_of KRKN = of (Rook ∷ []) (Knight ∷ [])
+lists_of KRKP = of (Rook ∷ []) (Pawn ∷ [])
+lists_of KBKB = of (Bishop ∷ []) (Bishop ∷ [])
+lists_of KBKN = of (Bishop ∷ []) (Knight ∷ [])
+lists_of KBKP = of (Bishop ∷ []) (Pawn ∷ [])
+lists_of KNKN = of (Knight ∷ []) (Knight ∷ [])
+lists_of KNKP = of (Knight ∷ []) (Pawn ∷ [])
+lists_of KPKP = of (Pawn ∷ []) (Pawn ∷ [])
+
+-- all classes, in the order of the class list
+abbrev pub class_list : List Class
+class_list = KK ∷ KQK ∷ KRK ∷ KBK ∷ KNK ∷ KPK ∷ KQQK ∷ KQRK ∷ KQBK ∷ KQNK ∷ KQPK ∷ KRRK ∷ KRBK ∷ KRNK ∷ KRPK ∷ KBBK ∷ KBNK ∷ KBPK ∷ KNNK ∷ KNPK ∷ KPPK ∷ KQKQ ∷ KQKR ∷ KQKB ∷ KQKN ∷ KQKP ∷ KRKR ∷ KRKB ∷ KRKN ∷ KRKP ∷ KBKB ∷ KBKN ∷ KBKP ∷ KNKN ∷ KNKP ∷ KPKP ∷ []
+
+-- the letter of a kind
+abbrev pub letter : Kind → ℕ
+letter King = 75
+letter Queen = 81
+letter Rook = 82
+letter Bishop = 66
+letter Knight = 78
+letter Pawn = 80
+
+-- K, White's list, K, Black's list
+unfoldable pub name_of : Class → List ℕ
+name_of c = letter King ∷ map letter (lists_of c).white ++ letter King ∷ map letter (lists_of c).black
+
+abbrev pub IsNameOf : List ℕ → Class → Type 0
+IsNameOf text c = text ≡ name_of c
+
+abbrev pub same_kinds : List Kind → List Kind → Bool
+same_kinds [] [] = true
+same_kinds [] (y ∷ ys) = false
+same_kinds (x ∷ xs) [] = false
+same_kinds (x ∷ xs) (y ∷ ys) = same_kind x y && same_kinds xs ys
+
+abbrev pub same_lists : Lists → Lists → Bool
+same_lists l m = same_kinds l.white m.white && same_kinds l.black m.black
+
+-- the class of a pawn against a pawn has no numbers yet
+abbrev pub is_left_out : Class → Bool
+is_left_out c = same_lists (lists_of c) (of (Pawn ∷ []) (Pawn ∷ []))
+
+-- the position is of the class: its lists, exchanged where Black's comes first, are those of the class
+abbrev pub IsOf : Class → Position → Type 0
+IsOf c p = lists_of c ≡ ordered (lists p.men)
+
+-- the position is of one class
+pub record HasOneClass (p : Position) : Type 0 where
+  pub class : Class
+  pub is : IsOf class p
+  pub one : (d : Class) → IsOf d p → d ≡ class
+
+abbrev pub PositionsHaveOneClass : Type 0
+PositionsHaveOneClass = (p : Position) → IsValid p → HasOneClass p

@@ -1,0 +1,162 @@
+//! The classes of material, their names, and what each needs.
+ghost use Rattle.std.specs.Prelude.{◌≡◌, true, false, IfOk, IsErrOf, ◌↔◌};
+ghost use Rattle.study_material.specs.Class.{name_of, is_left_out, IsNameOf};
+
+use crate::ClassFault;
+
+/// A class of material: the king and the men of White, then those of Black, each side's men in the order Q, R, B, N, P.
+#[derive(Clone, Copy, Debug, Default, PartialEq, Eq)]
+pub enum Class {
+    #[default]
+    KK,
+    KQK,
+    KRK,
+    KBK,
+    KNK,
+    KPK,
+    KQQK,
+    KQRK,
+    KQBK,
+    KQNK,
+    KQPK,
+    KRRK,
+    KRBK,
+    KRNK,
+    KRPK,
+    KBBK,
+    KBNK,
+    KBPK,
+    KNNK,
+    KNPK,
+    KPPK,
+    KQKQ,
+    KQKR,
+    KQKB,
+    KQKN,
+    KQKP,
+    KRKR,
+    KRKB,
+    KRKN,
+    KRKP,
+    KBKB,
+    KBKN,
+    KBKP,
+    KNKN,
+    KNKP,
+    KPKP,
+}
+
+/// All classes, in the order of the class list.
+static ALL: [Class; 36] = [
+    Class::KK,
+    Class::KQK,
+    Class::KRK,
+    Class::KBK,
+    Class::KNK,
+    Class::KPK,
+    Class::KQQK,
+    Class::KQRK,
+    Class::KQBK,
+    Class::KQNK,
+    Class::KQPK,
+    Class::KRRK,
+    Class::KRBK,
+    Class::KRNK,
+    Class::KRPK,
+    Class::KBBK,
+    Class::KBNK,
+    Class::KBPK,
+    Class::KNNK,
+    Class::KNPK,
+    Class::KPPK,
+    Class::KQKQ,
+    Class::KQKR,
+    Class::KQKB,
+    Class::KQKN,
+    Class::KQKP,
+    Class::KRKR,
+    Class::KRKB,
+    Class::KRKN,
+    Class::KRKP,
+    Class::KBKB,
+    Class::KBKN,
+    Class::KBKP,
+    Class::KNKN,
+    Class::KNKP,
+    Class::KPKP,
+];
+
+impl Class {
+    /// The class of this name, as `KQKR`.
+    pub fn parse(text: &str) -> Result<Class, ClassFault>
+        ensures ok { IfOk result (λ c. IsNameOf text.now c × (is_left_out c ≡ false)) }
+        ensures left_out { IsErrOf result ClassFault.MaterialLeftOut ↔ ((c : Class) × IsNameOf text.now c × (is_left_out c ≡ true)) }
+        ensures none { IsErrOf result ClassFault.NotAClass ↔ ((c : Class) → ¬ (IsNameOf text.now c)) }
+    {
+        for class in &ALL {
+            if class.name() == text {
+                return if class.left_out() {
+                    Err(ClassFault::MaterialLeftOut)
+                } else {
+                    Ok(*class)
+                };
+            }
+        }
+        Err(ClassFault::NotAClass)
+    }
+
+    /// Whether positions of the class have no number and no table.
+    pub fn left_out(self) -> bool
+        ensures { result ≡ is_left_out self }
+    {
+        match self {
+            Class::KPKP => true,
+            _ => false,
+        }
+    }
+
+    /// The name, as `KQKR`.
+    #[tactic(auto, unfolding(crate::specs::Class::name_of))]
+    pub fn name(self) -> &'static str
+        ensures { result.now ≡ name_of self }
+    {
+        match self {
+            Class::KK => "KK",
+            Class::KQK => "KQK",
+            Class::KRK => "KRK",
+            Class::KBK => "KBK",
+            Class::KNK => "KNK",
+            Class::KPK => "KPK",
+            Class::KQQK => "KQQK",
+            Class::KQRK => "KQRK",
+            Class::KQBK => "KQBK",
+            Class::KQNK => "KQNK",
+            Class::KQPK => "KQPK",
+            Class::KRRK => "KRRK",
+            Class::KRBK => "KRBK",
+            Class::KRNK => "KRNK",
+            Class::KRPK => "KRPK",
+            Class::KBBK => "KBBK",
+            Class::KBNK => "KBNK",
+            Class::KBPK => "KBPK",
+            Class::KNNK => "KNNK",
+            Class::KNPK => "KNPK",
+            Class::KPPK => "KPPK",
+            Class::KQKQ => "KQKQ",
+            Class::KQKR => "KQKR",
+            Class::KQKB => "KQKB",
+            Class::KQKN => "KQKN",
+            Class::KQKP => "KQKP",
+            Class::KRKR => "KRKR",
+            Class::KRKB => "KRKB",
+            Class::KRKN => "KRKN",
+            Class::KRKP => "KRKP",
+            Class::KBKB => "KBKB",
+            Class::KBKN => "KBKN",
+            Class::KBKP => "KBKP",
+            Class::KNKN => "KNKN",
+            Class::KNKP => "KNKP",
+            Class::KPKP => "KPKP",
+        }
+    }
+}

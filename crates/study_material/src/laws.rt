@@ -1,0 +1,13 @@
+//! Laws over the definitions, which tables rest on: functions that do nothing.
+ghost use Rattle.study_material.specs.Needs.{MovesLeadOn};
+ghost use Rattle.study_material.specs.Class.{PositionsHaveOneClass};
+
+/// Every valid position is of one class.
+pub fn positions_have_one_class()
+    ensures { PositionsHaveOneClass }
+{}
+
+/// Every legal move from a valid position of a class leads to a valid position of the class or of one that it needs.
+pub fn moves_lead_into_needs()
+    ensures { MovesLeadOn }
+{}

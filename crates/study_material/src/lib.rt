@@ -1,0 +1,20 @@
+//! The classes of material of positions with two to four men, and which classes a class needs.
+//!
+//! A class is a side's men beside its king, White's list before Black's. Each legal move from a position leads to a
+//! position of the same class or of one of `needs` of the class: `moves_lead_into_needs` proves it.
+#![tactic(auto)]
+
+mod class;
+mod fault;
+mod laws;
+mod material;
+mod reached;
+
+pub use class::Class;
+pub use fault::ClassFault;
+pub use laws::{moves_lead_into_needs, positions_have_one_class};
+pub use material::class_of;
+pub use reached::{needs, order};
+
+#[cfg(test)]
+mod tests;

@@ -1,0 +1,128 @@
+//! Which classes a class needs: those that one move can lead to.
+ghost use Rattle.std.specs.Prelude.{◌≡◌, ◌≤◌, length};
+ghost use Rattle.study_material.specs.Needs.{needs_of, IsOrder};
+
+use crate::Class;
+use arrayvec::ArrayVec;
+
+/// The classes that one capture, one promotion, or one promotion that captures a man other than a pawn leads to.
+pub fn needs(class: Class) -> ArrayVec<Class, 36>
+    ensures { result.items ≡ needs_of class }
+{
+    listed(needed(class))
+}
+
+/// The class and all classes that it needs, directly or through others, each after those that it needs.
+pub fn order(class: Class) -> ArrayVec<Class, 36>
+    ensures { IsOrder class result.items }
+{
+    listed(ordered(class))
+}
+
+fn listed(classes: &[Class]) -> ArrayVec<Class, 36>
+    requires { length classes.now ≤ 36 }
+    ensures { result.items ≡ classes.now }
+{
+    let mut list = ArrayVec::new();
+    for class in classes {
+        list.push(*class);
+    }
+    list
+}
+
+#[tactic(auto, using(crate::proofs::NeedsTables::needs_is))]
+fn needed(class: Class) -> &'static [Class]
+    ensures value { result.now ≡ needs_of class }
+    ensures few { length result.now ≤ 36 }
+{
+    use Class::*;
+    match class {
+        KK => &[],
+        KQK => &[KK],
+        KRK => &[KK],
+        KBK => &[KK],
+        KNK => &[KK],
+        KPK => &[KK, KQK, KRK, KBK, KNK],
+        KQQK => &[KQK],
+        KQRK => &[KQK, KRK],
+        KQBK => &[KQK, KBK],
+        KQNK => &[KQK, KNK],
+        KQPK => &[KQK, KPK, KQQK, KQRK, KQBK, KQNK],
+        KRRK => &[KRK],
+        KRBK => &[KRK, KBK],
+        KRNK => &[KRK, KNK],
+        KRPK => &[KRK, KPK, KQRK, KRRK, KRBK, KRNK],
+        KBBK => &[KBK],
+        KBNK => &[KBK, KNK],
+        KBPK => &[KBK, KPK, KQBK, KRBK, KBBK, KBNK],
+        KNNK => &[KNK],
+        KNPK => &[KNK, KPK, KQNK, KRNK, KBNK, KNNK],
+        KPPK => &[KPK, KQPK, KRPK, KBPK, KNPK],
+        KQKQ => &[KQK],
+        KQKR => &[KQK, KRK],
+        KQKB => &[KQK, KBK],
+        KQKN => &[KQK, KNK],
+        KQKP => &[KQK, KRK, KBK, KNK, KPK, KQKQ, KQKR, KQKB, KQKN],
+        KRKR => &[KRK],
+        KRKB => &[KRK, KBK],
+        KRKN => &[KRK, KNK],
+        KRKP => &[KQK, KRK, KBK, KNK, KPK, KQKR, KRKR, KRKB, KRKN],
+        KBKB => &[KBK],
+        KBKN => &[KBK, KNK],
+        KBKP => &[KQK, KRK, KBK, KNK, KPK, KQKB, KRKB, KBKB, KBKN],
+        KNKN => &[KNK],
+        KNKP => &[KQK, KRK, KBK, KNK, KPK, KQKN, KRKN, KBKN, KNKN],
+        KPKP => &[KPK, KQKP, KRKP, KBKP, KNKP],
+    }
+}
+
+fn ordered(class: Class) -> &'static [Class]
+    ensures order { IsOrder class result.now }
+    ensures few { length result.now ≤ 36 }
+{
+    use Class::*;
+    match class {
+        KK => &[KK],
+        KQK => &[KK, KQK],
+        KRK => &[KK, KRK],
+        KBK => &[KK, KBK],
+        KNK => &[KK, KNK],
+        KPK => &[KK, KQK, KRK, KBK, KNK, KPK],
+        KQQK => &[KK, KQK, KQQK],
+        KQRK => &[KK, KQK, KRK, KQRK],
+        KQBK => &[KK, KQK, KBK, KQBK],
+        KQNK => &[KK, KQK, KNK, KQNK],
+        KQPK => &[KK, KQK, KRK, KBK, KNK, KPK, KQQK, KQRK, KQBK, KQNK, KQPK],
+        KRRK => &[KK, KRK, KRRK],
+        KRBK => &[KK, KRK, KBK, KRBK],
+        KRNK => &[KK, KRK, KNK, KRNK],
+        KRPK => &[KK, KQK, KRK, KBK, KNK, KPK, KQRK, KRRK, KRBK, KRNK, KRPK],
+        KBBK => &[KK, KBK, KBBK],
+        KBNK => &[KK, KBK, KNK, KBNK],
+        KBPK => &[KK, KQK, KRK, KBK, KNK, KPK, KQBK, KRBK, KBBK, KBNK, KBPK],
+        KNNK => &[KK, KNK, KNNK],
+        KNPK => &[KK, KQK, KRK, KBK, KNK, KPK, KQNK, KRNK, KBNK, KNNK, KNPK],
+        KPPK => &[
+            KK, KQK, KRK, KBK, KNK, KPK, KQQK, KQRK, KQBK, KQNK, KRRK, KRBK, KRNK, KBBK, KBNK,
+            KNNK, KQPK, KRPK, KBPK, KNPK, KPPK,
+        ],
+        KQKQ => &[KK, KQK, KQKQ],
+        KQKR => &[KK, KQK, KRK, KQKR],
+        KQKB => &[KK, KQK, KBK, KQKB],
+        KQKN => &[KK, KQK, KNK, KQKN],
+        KQKP => &[KK, KQK, KRK, KBK, KNK, KPK, KQKQ, KQKR, KQKB, KQKN, KQKP],
+        KRKR => &[KK, KRK, KRKR],
+        KRKB => &[KK, KRK, KBK, KRKB],
+        KRKN => &[KK, KRK, KNK, KRKN],
+        KRKP => &[KK, KQK, KRK, KBK, KNK, KPK, KQKR, KRKR, KRKB, KRKN, KRKP],
+        KBKB => &[KK, KBK, KBKB],
+        KBKN => &[KK, KBK, KNK, KBKN],
+        KBKP => &[KK, KQK, KRK, KBK, KNK, KPK, KQKB, KRKB, KBKB, KBKN, KBKP],
+        KNKN => &[KK, KNK, KNKN],
+        KNKP => &[KK, KQK, KRK, KBK, KNK, KPK, KQKN, KRKN, KBKN, KNKN, KNKP],
+        KPKP => &[
+            KK, KQK, KRK, KBK, KNK, KPK, KQKQ, KQKR, KQKB, KQKN, KRKR, KRKB, KRKN, KBKB, KBKN,
+            KNKN, KQKP, KRKP, KBKP, KNKP, KPKP,
+        ],
+    }
+}

@@ -1,0 +1,30 @@
+-- What the table of a position's class says of it, and when there is none.
+use Rattle.std.proofs.Common.{◌≡◌, false, List, Option, Some, None, Ok, Err, sym, ◌∙◌, subst, ap}
+use Rattle.std.specs.Prelude.{is_some, IsErrOf}
+use Rattle.std.proofs.lemmas.Bool.{false≢true}
+use Rattle.study_board.specs.Position.{Position}
+use Rattle.study_material.specs.declared.class.Class.{Class}
+use Rattle.study_material.specs.Class.{IsOf}
+use Rattle.study_material.proofs.Classes.{lists_of-injective}
+use Rattle.study_retro.specs.declared.value.Value.{Value}
+use Rattle.study_retro.specs.Table.{Table, table_of, IsClosed}
+use Rattle.study_prober.specs.declared.values.ProbeFault.{ProbeFault}
+use Rattle.study_prober.specs.declared.values.ProbeFault.TheVariants.{NoTable}
+
+pub one_class : (c d : Class) (p : Position) → IsOf c p → IsOf d p → c ≡ d
+one_class c d p h k = lists_of-injective c d (h ∙ sym k)
+
+pub table_class : (held : List (Option Table)) (d : Class) (p : Position) (t : Table) → IsClosed held → IsOf d p → Some t ≡ table_of held d → IsOf t.class p
+table_class held d p t closed is e = subst (λ (k : Class). IsOf k p) (sym (closed.class d t (sym e))) is
+
+-- no table is held for the class of the position
+pub none_held : (held : List (Option Table)) (d c : Class) (p : Position) → IsOf d p → None ≡ table_of held d
+    → (IsErrOf {T = Value} (Err (NoTable d)) (NoTable c) → IsOf c p × (is_some (table_of held c) ≡ false)) × (IsOf c p × (is_some (table_of held c) ≡ false) → IsErrOf {T = Value} (Err (NoTable d)) (NoTable c))
+none_held held d c p is none = (
+  λ e. (let same : d ≡ c = cc in (subst (λ (k : Class). IsOf k p) same is, sym (ap (λ (o : Option Table). is_some o) (none ∙ ap (λ (k : Class). table_of held k) same)))),
+  λ h. (let same : d ≡ c = one_class d c p is h.0 in ap (λ (k : Class). Err (NoTable k)) same),
+)
+
+pub some_held : (held : List (Option Table)) (d c : Class) (p : Position) (t : Table) (v : Value) → IsOf d p → Some t ≡ table_of held d
+    → (IsErrOf {E = ProbeFault} (Ok v) (NoTable c) → IsOf c p × (is_some (table_of held c) ≡ false)) × (IsOf c p × (is_some (table_of held c) ≡ false) → IsErrOf {E = ProbeFault} (Ok v) (NoTable c))
+some_held held d c p t v is some = (λ e. absurd (let no : ⊥ = cc in no), λ h. absurd (false≢true (sym h.1 ∙ ap (λ (o : Option Table). is_some o) (ap (λ (k : Class). table_of held k) (one_class c d p h.0 is) ∙ sym some))))

@@ -1,0 +1,20 @@
+use Rattle.std.proofs.Common.{◌≡◌, sym, ap, subst, List, Option, Some}
+use Rattle.study_retro.specs.Table.{Table, table_of}
+use Rattle.study_prober.specs.Whole.{Whole}
+use Rattle.study_prober.proofs.Tables.{table_class, some_held}
+use Rattle.study_prober.proofs.whole.WholeTablesValues.value.Goals as goal
+
+pub at-requires : goal.at-requires
+at-requires g c = table_class c.self.inside.tables c.class_of-class.result.0 c.args.p.now c.in-Some.table.now c.in-Some.ensures.closed c.class_of-class.ensures.class c.in-Some.ensures.value
+
+pub returns-clause-game : goal.returns-clause-game
+returns-clause-game g c = λ right.
+    let same = ap (λ (w : Whole). w.tables) c.self.view_is in
+    let found = subst (λ (held : List (Option Table)). Some c.in-Some.table.now ≡ table_of held c.class_of-class.result.0) same c.in-Some.ensures.value in
+    c.at.ensures.right (right.right c.class_of-class.result.0 c.in-Some.table.now (sym found))
+
+pub returns-clause-no_table : goal.returns-clause-no_table
+returns-clause-no_table g c = λ d.
+    let same = ap (λ (w : Whole). w.tables) c.self.view_is in
+    let found = subst (λ (held : List (Option Table)). Some c.in-Some.table.now ≡ table_of held c.class_of-class.result.0) same c.in-Some.ensures.value in
+    some_held c.args.self.now.tables c.class_of-class.result.0 d c.args.p.now c.in-Some.table.now c.at.result c.class_of-class.ensures.class found

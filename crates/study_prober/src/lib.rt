@@ -1,0 +1,12 @@
+//! Values of positions, from whichever tables are held.
+//!
+//! `Values` is what the marks of a study ask: a value, and how often it was asked. Its clauses say when an answer is the
+//! game's value, when a class has no table, and that a device's fault is counted. `WholeTables` answers from tables in
+//! memory: it is honest where its tables are right, and has no fault but `NoTable`.
+#![tactic(auto)]
+
+mod values;
+mod whole;
+
+pub use values::{ProbeFault, Values};
+pub use whole::WholeTables;

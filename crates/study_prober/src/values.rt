@@ -1,0 +1,57 @@
+//! What answers the values of positions.
+ghost use Rattle.std.specs.Prelude.{◌≡◌, ◌↔◌, ℕ, Bool, false, IfOk, IsErrOf, if◌then◌else◌};
+ghost use Rattle.study_material.specs.declared.class.Class.{Class as AClass};
+ghost use Rattle.study_material.specs.Class.{IsOf};
+ghost use Rattle.study_retro.specs.Game.{IsValueOf};
+ghost use Rattle.study_prober.specs.Values.{counted, is_device_fault};
+
+use study_board::Position;
+use study_material::Class;
+use study_retro::Value;
+use study_tablefile::SourceFault;
+use thiserror::Error;
+
+/// Why a value is not told.
+#[derive(Clone, Copy, Debug, PartialEq, Eq, Error)]
+pub enum ProbeFault {
+    #[error("no table of {0:?} is held")]
+    NoTable(Class),
+    #[error("a table is not read: {0}")]
+    TableRead(SourceFault),
+    #[error("page {1} of {0:?} is damaged")]
+    PageDamaged(Class, u32),
+}
+
+/// Tells the values of positions, and counts how often it is asked and how often a device or a page failed. Both counts
+/// stay at the last value of their type.
+pub trait Values: Drop {
+    /// Each value that is told, now and after any calls, is the game's.
+    ghost is_honest: { Self → Type 0 };
+    /// A table of the class is held.
+    ghost held: { Self → AClass → Bool };
+
+    ghost asked_of: { Self → ℕ };
+
+    ghost failed_of: { Self → ℕ };
+
+    /// The value of a position.
+    fn value(&mut self, p: &Position) -> Result<Value, ProbeFault>
+        ensures game { is_honest self.old → IfOk result (IsValueOf p.now) }
+        ensures stays_honest { is_honest self.old → is_honest self.new }
+        ensures no_table { (c : AClass) → IsErrOf result (ProbeFault.NoTable c) ↔ (IsOf c p.now × (held self.old c ≡ false)) }
+        ensures same_tables { (c : AClass) → held self.new c ≡ held self.old c }
+        ensures asked { asked_of self.new ≡ counted (asked_of self.old) }
+        ensures failures { failed_of self.new ≡ (if is_device_fault result then counted (failed_of self.old) else failed_of self.old) };
+
+    /// Whether a table of the class is held.
+    fn holds(&self, class: Class) -> bool
+        ensures { result ≡ held self.now class };
+
+    /// How often a value was asked.
+    fn asked(&self) -> u64
+        ensures { result ≡ asked_of self.now };
+
+    /// How often a device or a page failed.
+    fn failures(&self) -> u64
+        ensures { result ≡ failed_of self.now };
+}

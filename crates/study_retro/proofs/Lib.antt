@@ -1,0 +1,13 @@
+pub mod ForcedLemmas
+pub mod TallyLemmas
+pub mod AlongLemmas
+pub mod ClassLemmas
+pub mod ParityLemmas
+pub mod LevelLemmas
+pub mod SetLemmas
+pub mod SweepLemmas
+pub mod Bridge
+pub mod ChessClass
+pub mod SoundLemmas
+pub mod PlaceLemmas
+pub mod ReportLemmas

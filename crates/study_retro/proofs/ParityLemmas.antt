@@ -1,0 +1,72 @@
+-- A win is in an odd number of plies and a loss in an even one, so a cell's byte tells which it is.
+use Rattle.std.proofs.Common.{◌≡◌, ◌≢◌, ℕ, zero, suc, ◌+◌, ◌-◌, ◌*◌, ◌%◌, ◌≤◌, ◌⊎◌, inl, inr, arith, ap, subst, refl}
+use Rattle.std.proofs.lemmas.Bool.Decides.{nat_tests}
+use Rattle.study_retro.specs.declared.value.Value.{Value}
+use Rattle.study_retro.specs.declared.value.Value.TheVariants.{Win, Loss, Draw}
+use Rattle.study_retro.specs.Forced.{Mated, Mates, IsWin, IsLoss, IsGame, distance_of}
+use Rattle.study_retro.specs.Cells.{value_of}
+
+double : ℕ → ℕ
+double zero = zero
+double (suc n) = suc (suc (double n))
+
+double_is : (n : ℕ) → double n ≡ 2 * n
+unfolding double
+double_is zero = refl
+double_is (suc n) = let h = double_is n in omega arith
+
+even_or_odd : (n : ℕ) → ((j : ℕ) × (n ≡ double j)) ⊎ ((j : ℕ) × (n ≡ suc (double j)))
+unfolding double
+even_or_odd zero = inl (zero, refl)
+even_or_odd (suc n) = elim (even_or_odd n) [ inl h ↦ inr (h.0, ap (λ (m : ℕ). suc m) h.1) | inr h ↦ inl (suc h.0, ap (λ (m : ℕ). suc m) h.1) ]
+
+module _ {P : Type 0} (leads : P → P → Type 0) (mate : P → Type 0) where
+  -- the mated side does not last an odd number of plies
+  drop-Mated : (j : ℕ) (p : P) → Mated leads mate p (suc (double j)) → Mated leads mate p (double j)
+  unfolding double
+  drop-Mated zero p (inl h) = h
+  drop-Mated zero p (inr h) = absurd (h.1 h.0.0 h.0.1)
+  drop-Mated (suc j) p (inl h) = inl h
+  drop-Mated (suc j) p (inr h) = inr (h.0, λ q l. let x = h.1 q l in (x.0, x.1, drop-Mated j x.0 x.2))
+
+  even-not_win : (j : ℕ) (p : P) → IsWin leads mate p (double j) → ⊥
+  unfolding double
+  even-not_win zero p h = h.forced
+  even-not_win (suc j) p h =
+      let x = h.forced in
+      let y : Mates leads mate p (suc (double j)) = (x.0, x.1, drop-Mated j x.0 x.2) in
+      let le : suc (suc (double j)) ≤ suc (double j) = h.least (suc (double j)) y in omega arith
+
+  odd-not_loss : (j : ℕ) (p : P) → IsLoss leads mate p (suc (double j)) → ⊥
+  odd-not_loss j p h = let le : suc (double j) ≤ double j = h.least (double j) (drop-Mated j p h.forced) in omega arith
+
+  pub odd-win : (n : ℕ) (p : P) → IsWin leads mate p n → n % 2 ≡ 1
+  odd-win n p h = elim (even_or_odd n) [
+    | inl e ↦ absurd (even-not_win e.0 p (subst (IsWin leads mate p) e.1 h))
+    | inr e ↦ let d = double_is e.0 in let is : n ≡ suc (double e.0) = e.1 in omega arith
+  ]
+
+  pub even-loss : (n : ℕ) (p : P) → IsLoss leads mate p n → n % 2 ≡ 0
+  even-loss n p h = elim (even_or_odd n) [
+    | inl e ↦ let d = double_is e.0 in let is : n ≡ double e.0 = e.1 in omega arith
+    | inr e ↦ absurd (odd-not_loss e.0 p (subst (IsLoss leads mate p) e.1 h))
+  ]
+
+value_of-win : (n : ℕ) → n % 2 ≡ 1 → value_of (n + 1) ≡ Win n
+value_of-win n h = grind (arith, nat_tests)
+
+value_of-loss : (n : ℕ) → n % 2 ≡ 0 → value_of (n + 1) ≡ Loss n
+value_of-loss n h = grind (arith, nat_tests)
+
+-- the cell of a mate tells it
+pub value_of-mate : {P : Type 0} (leads : P → P → Type 0) (mate : P → Type 0) (p : P) (v : Value) → v ≢ Draw → IsGame leads mate p v → value_of (distance_of v + 1) ≡ v
+value_of-mate leads mate p (Win n) d h = value_of-win n (odd-win leads mate n p h)
+value_of-mate leads mate p (Loss n) d h = value_of-loss n (even-loss leads mate n p h)
+value_of-mate leads mate p Draw d h = absurd (d refl)
+
+-- a cell other than 0 tells of a mate, in one ply less than its number
+pub value_of-not_draw : (c : ℕ) → c ≢ 0 → value_of c ≢ Draw
+value_of-not_draw c h = grind (arith, nat_tests)
+
+pub distance_of-value_of : (c : ℕ) → c ≢ 0 → distance_of (value_of c) ≡ c - 1
+distance_of-value_of c h = grind (arith, nat_tests)

@@ -1,0 +1,24 @@
+use Rattle.std.proofs.Common.{◌≡◌, ◌∙◌, sym, ap, subst, false}
+use Rattle.study_material.specs.declared.class.Class.{Class}
+use Rattle.study_material.specs.Class.{is_left_out}
+use Rattle.study_retro.specs.Table.{IsReady}
+use Rattle.study_retro.specs.Sound.{NeedsAreRight}
+use Rattle.study_retro.proofs.ChessClass.{chess_class}
+use Rattle.study_retro.proofs.SoundLemmas.{outside_right, table_right, right_cells}
+use Rattle.study_retro.proofs.builder.verify.Goals as goal
+
+pub are_right-requires-clause-laws : goal.are_right-requires-clause-laws
+are_right-requires-clause-laws g c =
+    let admitted : is_left_out c.class-class.result ≡ false = ap is_left_out c.class-class.ensures.value ∙ c.class-class.ensures.complete.admitted in
+    chess_class c.class-class.result c.args.tables.now admitted c.table-held.ensures.closed
+
+pub returns : goal.returns
+returns g c = λ needs.
+    let class = c.class-class.result in
+    let t = c.args.table.now in
+    let same = c.class-class.ensures.value in
+    let held = c.args.tables.now in
+    let ready = subst (λ (d : Class). IsReady held d) (sym same) c.requires in
+    let right = subst (λ (d : Class). NeedsAreRight held d) (sym same) needs in
+    let told = c.are_right.ensures (outside_right held class c.table-held.ensures.closed ready right) in
+    (λ e. table_right t class c.cells.result.now same c.cells.ensures.value (told.0 e), λ h. told.1 (right_cells t class c.cells.result.now same c.cells.ensures.value h))

@@ -1,0 +1,11 @@
+pub mod Table
+pub mod Game
+pub mod Report
+pub mod Set
+pub mod Sound
+pub mod Forced
+pub mod Cells
+pub mod Tally
+pub mod Places
+pub mod Right
+pub mod Class

@@ -1,0 +1,140 @@
+//! Building and verifying the table of a class.
+ghost use Rattle.std.specs.Prelude.{◌≡◌, ◌↔◌, ◌<◌, ◌^◌, false, Some, Err, IfOk, IsErrOf, IsTrue, length, take};
+ghost use Rattle.study_material.specs.declared.class.Class.{Class as AClass};
+ghost use Rattle.study_material.specs.Class.{is_left_out};
+ghost use Rattle.study_material.specs.Needs.{needs_of};
+ghost use Rattle.study_index.specs.Number.{cells_of};
+ghost use Rattle.study_retro.specs.Set.{first_missing};
+ghost use Rattle.study_retro.specs.Table.{IsReady};
+ghost use Rattle.study_retro.specs.Sound.{IsRight, NeedsAreRight, HasFarPosition};
+ghost use Rattle.study_retro.specs.Report.{IsGreatest, greater, win_of, loss_of};
+
+use crate::check::are_right;
+use crate::class_game::ClassGame;
+use crate::levels::fill;
+use crate::room::BuildRoom;
+use crate::set::TableSet;
+use crate::table::Table;
+use crate::value::{Value, value_at};
+use std::alloc::Allocator;
+use study_material::Class;
+use thiserror::Error;
+
+/// Why a table is not built.
+#[derive(Clone, Copy, Debug, PartialEq, Eq, Error)]
+pub enum BuildFault {
+    #[error("no table of {0:?} is held")]
+    MissingTable(Class),
+    #[error("some distance is above 254 plies")]
+    DistanceTooLarge,
+}
+
+/// What a build came to. Distances are in plies, for either side to move; None where no position is won, or lost.
+#[derive(Clone, Copy, Debug, PartialEq, Eq)]
+pub struct BuildReport {
+    /// How many cells the table has.
+    pub cells: u32,
+    /// How many cell numbers were decoded, and not more than the last number of its type.
+    pub examined: u64,
+    pub deepest_win: Option<u8>,
+    pub deepest_loss: Option<u8>,
+}
+
+/// Builds the table of a class from the tables of the classes that it needs. It takes no memory but the room's.
+pub fn build<'a, A: Allocator>(
+    class: Class,
+    tables: &TableSet<'a, A>,
+    room: BuildRoom<'a, A>,
+) -> Result<(Table<'a, A>, BuildReport), BuildFault>
+    requires admitted { is_left_out class ≡ false }
+    requires room { room ≡ cells_of class }
+    ensures missing { (d : AClass) → IsErrOf result (BuildFault.MissingTable d) ↔ (first_missing tables.now (needs_of class) ≡ Some d) }
+    ensures class { IfOk result (λ r. r.0.class ≡ class) }
+    ensures right { NeedsAreRight tables.now class → IfOk result (λ r. IsRight r.0) }
+    ensures far { NeedsAreRight tables.now class → IsErrOf result BuildFault.DistanceTooLarge → HasFarPosition class }
+
+    // The report follows from the table, but for `examined`.
+    ensures cells { IfOk result (λ r. r.1.cells ≡ cells_of class) }
+    ensures deepest_win { IfOk result (λ r. IsGreatest win_of r.0.cells r.1.deepest_win) }
+    ensures deepest_loss { IfOk result (λ r. IsGreatest loss_of r.0.cells r.1.deepest_loss) }
+{
+    if let Some(need) = tables.first_missing(class) {
+        return Err(BuildFault::MissingTable(need));
+    }
+    let _held = tables.table(class);
+    let game = ClassGame { class, tables };
+    let mut cells = room.into_cells();
+    let filled = fill(&game, cells.as_mut_slice());
+    if !filled.fits {
+        return Err(BuildFault::DistanceTooLarge);
+    }
+    let deepest = greatest_distances(cells.as_slice());
+    let report = BuildReport {
+        cells: study_index::cells(class),
+        examined: filled.decoded,
+        deepest_win: deepest.win,
+        deepest_loss: deepest.loss,
+    };
+    Ok((Table::from_cells(class, cells), report))
+}
+
+/// Whether the table is right, whatever its cells say, where the held tables that its class needs are.
+pub fn verify<'a, A: Allocator>(table: &Table<'a, A>, tables: &TableSet<'a, A>) -> bool
+    requires { IsReady tables.now table.now.class }
+    ensures { NeedsAreRight tables.now table.now.class → IsTrue result ↔ IsRight table.now }
+{
+    let class = table.class();
+    let _held = tables.table(class);
+    let game = ClassGame { class, tables };
+    are_right(&game, table.cells())
+}
+
+/// The greatest distances seen so far.
+#[derive(Clone, Copy)]
+struct Deepest {
+    win: Option<u8>,
+    loss: Option<u8>,
+}
+
+impl Deepest {
+    fn with(self, value: Value) -> Deepest
+        ensures win { result.win ≡ greater self.win (win_of value) }
+        ensures loss { result.loss ≡ greater self.loss (loss_of value) }
+    {
+        match value {
+            Value::Win(n) => Deepest {
+                win: Some(at_least(self.win, n)),
+                loss: self.loss,
+            },
+            Value::Loss(n) => Deepest {
+                win: self.win,
+                loss: Some(at_least(self.loss, n)),
+            },
+            Value::Draw => self,
+        }
+    }
+}
+
+fn at_least(known: Option<u8>, n: u8) -> u8
+    ensures { Some result ≡ greater known (Some n) }
+{
+    match known {
+        None => n,
+        Some(m) => m.max(n),
+    }
+}
+
+/// The greatest distances that the cells tell.
+fn greatest_distances(cells: &[u8]) -> Deepest
+    ensures win { IsGreatest win_of cells.now result.win }
+    ensures loss { IsGreatest loss_of cells.now result.loss }
+{
+    let mut deepest = Deepest {
+        win: None,
+        loss: None,
+    };
+    for cell in cells {
+        deepest = deepest.with(value_at(*cell));
+    }
+    deepest
+}

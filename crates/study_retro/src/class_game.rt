@@ -1,0 +1,88 @@
+//! Chess, as the builder sees it: the positions of a class by their numbers, and the values of those that it leads to.
+ghost use Rattle.std.specs.Prelude.{◌≡◌, false};
+ghost use Rattle.study_material.specs.Class.{is_left_out};
+ghost use Rattle.study_retro.specs.Table.{IsReady, IsClosed};
+
+use crate::game::{Game, Place};
+use crate::set::TableSet;
+use crate::table::place_of;
+use arrayvec::ArrayVec;
+use std::alloc::Allocator;
+use study_board::Position;
+use study_index::{cells, decode, index};
+use study_material::{Class, class_of};
+use study_moves::{Move, is_mate, legal_moves, played};
+
+/// A class whose needs are held.
+#[derive(Drop)]
+pub struct ClassGame<'t, 'a, A: Allocator> {
+    pub class: Class,
+    pub tables: &'t TableSet<'a, A>,
+    ghost admitted: { is_left_out class ≡ false },
+    ghost ready: { IsReady tables.now class },
+    ghost closed: { IsClosed tables.now },
+}
+
+impl<'t, 'a, A: Allocator> Game for ClassGame<'t, 'a, A> {
+    ghost use Rattle.std.specs.Prelude.{◌≡◌, true};
+    ghost use Rattle.study_moves.specs.Rules.{is_legal, after};
+    ghost use Rattle.study_moves.specs.Game.{IsMate};
+    ghost use Rattle.study_material.specs.Needs.{LeadsOn};
+    ghost use Rattle.study_index.specs.Number.{cells_of};
+    ghost use Rattle.study_index.specs.Found.{index_of, position_at};
+    ghost use Rattle.study_index.specs.Laws.{AreAlikeIn};
+    ghost use Rattle.study_retro.specs.Game.{is_of, value_in};
+
+    type Position = Position;
+
+    ghost legal = { λ p m. is_legal p m ≡ true };
+
+    ghost after = { after };
+
+    ghost mate = { IsMate };
+
+    ghost size = { λ g. cells_of g.class };
+
+    ghost home = { λ g p. is_of g.class p };
+
+    ghost known = { λ g p. LeadsOn g.class p };
+
+    ghost index = { λ g p. index_of p };
+
+    ghost outside = { λ g p. value_in g.tables.now p };
+
+    ghost position = { λ g n. position_at g.class n };
+
+    ghost image = { λ g p q. AreAlikeIn g.class p q };
+
+    fn cells(&self) -> u32 {
+        cells(self.class)
+    }
+
+    fn decode(&self, number: u32) -> Option<Position> {
+        decode(self.class, number)
+    }
+
+    fn moves(&self, at: &Position) -> ArrayVec<Move, 256> {
+        legal_moves(at)
+    }
+
+    fn played(&self, at: &Position, by: Move) -> Position {
+        played(at, by)
+    }
+
+    fn is_mate(&self, at: &Position) -> bool {
+        is_mate(at)
+    }
+
+    fn place(&self, at: &Position) -> Place {
+        let (class, _) = class_of(at);
+        if place_of(class) == place_of(self.class) {
+            return Place::Cell(index(at));
+        }
+        match self.tables.table(class) {
+            Some(table) => Place::Outside(table.at(at)),
+            None => unreachable!(),
+        }
+    }
+}

@@ -1,0 +1,38 @@
+ghost use Rattle.std.specs.Prelude.{◌≡◌, ◌≢◌, ◌<◌, MatchOption};
+ghost use Rattle.study_retro.specs.Cells.{value_of};
+
+/// A value, seen from the side to move.
+#[derive(Clone, Copy, PartialEq, Eq, Debug)]
+pub enum Value {
+    Win(u8),
+    Loss(u8),
+    Draw,
+}
+
+/// The value that a cell tells.
+pub fn value_at(cell: u8) -> Value
+    ensures { result ≡ value_of cell }
+{
+    if cell == 0 {
+        Value::Draw
+    } else if cell % 2 == 1 {
+        Value::Loss(cell - 1)
+    } else {
+        Value::Win(cell - 1)
+    }
+}
+
+impl Value {
+    ghost use Rattle.study_retro.specs.Forced.{distance_of};
+
+    /// The plies to the mate.
+    pub fn distance(self) -> Option<u8>
+        ensures { MatchOption result (self ≡ Value.Draw) (λ n. (self ≢ Value.Draw) × (distance_of self ≡ n)) }
+    {
+        match self {
+            Value::Draw => None,
+            Value::Win(n) => Some(n),
+            Value::Loss(n) => Some(n),
+        }
+    }
+}

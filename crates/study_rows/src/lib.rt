@@ -1,0 +1,5 @@
+//! Worked examples that cross crates. There is nothing here but tests: what they expect comes from outside of this program.
+#![tactic(auto)]
+
+#[cfg(test)]
+mod tables;

@@ -1,0 +1,166 @@
+//! The tables of up to three men, against those of an independent builder.
+use sha2::{Digest, Sha256};
+use std::alloc::Allocator;
+use std::process::Abort;
+use study_index::cells;
+use study_material::Class;
+use study_retro::{AddFault, BuildFault, BuildReport, BuildRoom, Table, TableSet, build, verify};
+
+/// Builds a table and adds it to the set; answers the report.
+fn built<'a, A: Allocator>(
+    rt: &impl Abort,
+    alloc: &'a A,
+    tables: &mut TableSet<'a, A>,
+    class: Class,
+) -> BuildReport {
+    let (table, report) = table_of(rt, alloc, tables, class);
+    assert!(rt; tables.add(table).is_ok());
+    report
+}
+
+fn table_of<'a, A: Allocator>(
+    rt: &impl Abort,
+    alloc: &'a A,
+    tables: &TableSet<'a, A>,
+    class: Class,
+) -> (Table<'a, A>, BuildReport) {
+    assert!(rt; !class.left_out());
+    let room = BuildRoom::new(alloc, cells(class))
+        .ok()
+        .expect(rt, "room");
+    build(class, tables, room).ok().expect(rt, "a table")
+}
+
+/// A digest in hexadecimal digits.
+fn is_digest(cells: &[u8], wanted: &str) -> bool {
+    let mut hasher = Sha256::new();
+    hasher.update(cells);
+    let digest = hasher.finalize();
+    let digits = wanted.as_bytes();
+    let mut same = digits.len() == 64;
+    for (byte, pair) in digest.as_slice().iter().zip(digits.chunks(2)) {
+        let value = match pair {
+            [high, low] => hex(*high).saturating_mul(16).saturating_add(hex(*low)),
+            _ => 0,
+        };
+        same = same && *byte == value;
+    }
+    same
+}
+
+fn hex(digit: u8) -> u8 {
+    match digit {
+        b'0'..=b'9' => digit - b'0',
+        b'a'..=b'f' => digit - b'a' + 10,
+        _ => 0,
+    }
+}
+
+/// Cells, deepest distances and digests of the cells, from a builder of another kind that was compared with Gaviota's tables.
+#[test]
+fn tables_of_up_to_three_men(rt: HostRuntime) {
+    let alloc = rt.alloc();
+    let mut tables = TableSet::new(&alloc).ok().expect(&rt, "a set");
+    let rows = [
+        (Class::KK, 1_280, None, None, "bfe492baf731a0dbf6e1e050f5bc3fe8c1b049383194dcdf82f023bfa409f462"),
+        (Class::KQK, 81_920, Some(19), Some(20), "9e23e4707fb87fc86cd619e4f11e27584156c99755bf56bd75beb08a2529a694"),
+        (Class::KRK, 81_920, Some(31), Some(32), "c44ba016cdd825eddc9b922d55db18a9147c60cb9978c9a8b62eb20a44c0f5ba"),
+        (Class::KBK, 81_920, None, None, "fa569e2360c540e6280e34a4627516770f1a5f34d81d35689334a99cc1013357"),
+        (Class::KNK, 81_920, None, None, "fa569e2360c540e6280e34a4627516770f1a5f34d81d35689334a99cc1013357"),
+        (Class::KPK, 262_144, Some(55), Some(56), "31f08f445b1142f1498bb03d4257b8142e27cd53763635385fc85788e8edc067"),
+    ];
+    for (class, count, win, loss, digest) in rows {
+        assert!(rt; !tables.ready(Class::KPK) || class == Class::KPK);
+        if class == Class::KQK {
+            let room = BuildRoom::new(&alloc, 262_144).ok().expect(&rt, "room");
+            match build(Class::KPK, &tables, room) {
+                Err(fault) => assert_eq!(rt; fault, BuildFault::MissingTable(Class::KQK)),
+                Ok(_) => assert!(rt; false, "a table without its needs"),
+            }
+        }
+        let report = built(&rt, &alloc, &mut tables, class);
+        assert_eq!(rt; report.cells, count);
+        assert_eq!(rt; report.deepest_win, win);
+        assert_eq!(rt; report.deepest_loss, loss);
+        assert!(rt; report.examined >= u64::from(count));
+        match tables.table(class) {
+            None => assert!(rt; false, "not held"),
+            Some(table) => {
+                assert!(rt; table.class() == class);
+                assert!(rt; is_digest(table.cells(), digest), "{class:?}");
+            }
+        }
+    }
+    let (again, _) = table_of(&rt, &alloc, &tables, Class::KQK);
+    match tables.add(again) {
+        Ok(()) => assert!(rt; false, "two tables of one class"),
+        Err(refused) => {
+            assert_eq!(rt; refused.fault, AddFault::AlreadyHeld);
+            assert!(rt; refused.table.class() == Class::KQK);
+        }
+    }
+}
+
+/// The cell of a number in the held table of a class.
+fn cell_of<A: Allocator>(rt: &impl Abort, tables: &TableSet<'_, A>, class: Class, number: usize) -> u8 {
+    let table = tables.table(class).expect(rt, "held");
+    *table.cells().get(number).expect(rt, "a cell")
+}
+
+/// A copy of the held table with one cell changed.
+fn changed<'a, A: Allocator>(
+    rt: &impl Abort,
+    alloc: &'a A,
+    tables: &TableSet<'a, A>,
+    class: Class,
+    number: usize,
+    cell: u8,
+) -> Table<'a, A> {
+    let table = tables.table(class).expect(rt, "held");
+    let mut cells = table.cells().to_vec(alloc).ok().expect(rt, "memory");
+    assert!(rt; number < cells.len());
+    cells[number] = cell;
+    assert!(rt; !class.left_out() && cells.len() == study_index::cells(class) as usize);
+    Table::from_cells(class, cells)
+}
+
+/// A built table is verified; one with a slower mate, a false draw, a stalemate as a mate or a byte where no position is, is not.
+#[test]
+fn verified_and_not(rt: HostRuntime) {
+    let alloc = rt.alloc();
+    let mut tables = TableSet::new(&alloc).ok().expect(&rt, "a set");
+    for class in [Class::KK, Class::KQK, Class::KRK] {
+        let _report = built(&rt, &alloc, &mut tables, class);
+    }
+    for class in [Class::KQK, Class::KRK] {
+        match tables.table(class) {
+            None => assert!(rt; false, "not held"),
+            Some(table) => {
+                assert!(rt; tables.ready(table.class()));
+                assert!(rt; verify(table, &tables), "{class:?}");
+            }
+        }
+    }
+    let rows = [
+        (Class::KRK, 20_543, 2, 4),
+        (Class::KRK, 20_543, 2, 0),
+        (Class::KQK, 41_421, 0, 1),
+        (Class::KQK, 44_585, 0, 1),
+    ];
+    for (class, number, is, lie) in rows {
+        assert_eq!(rt; cell_of(&rt, &tables, class, number), is);
+        let liar = changed(&rt, &alloc, &tables, class, number, lie);
+        assert!(rt; tables.ready(liar.class()));
+        assert!(rt; !verify(&liar, &tables), "{class:?} {number} {lie}");
+    }
+}
+
+/// Room for the tables of each size.
+#[test]
+fn rooms(rt: HostRuntime) {
+    let alloc = rt.alloc();
+    for count in [1_280, 81_920, 262_144, 5_242_880, 16_777_216] {
+        let room = BuildRoom::new(&alloc, count).ok().expect(&rt, "room");
+        assert_eq!(rt; room.cells(), count);
+    }
+}

@@ -1,0 +1,139 @@
+//! A reader and a writer in memory that go byte by byte and fail where a test wants it.
+ghost use Rattle.std.specs.Prelude.{◌≡◌, ◌<◌, ◌↔◌, [], Some, length, drop, vec_len, ◌≤◌, ◌⊎◌, IsOk, IsErr, IfOk, IfErr};
+ghost use Rattle.std.specs.Io.{ReadsAtMost, WritesAtMost};
+ghost use Rattle.std.specs.Io.KnownBytes.{Keeps, ReadConsumes, WriteAppends};
+ghost use Rattle.std.specs.IoError.{error_kind};
+
+use std::alloc::Allocator;
+use std::io;
+use std::io::{ErrorKind, Read, Write};
+
+/// A reader of bytes in memory that gives one byte a call.
+#[derive(Drop)]
+pub struct MemoryReader<'a> {
+    pub text: &'a [u8],
+    /// How many bytes it gave.
+    pub given: usize,
+    /// Where it fails: reads answer an error once so many bytes were given.
+    pub fails_after: Option<usize>,
+}
+
+impl<'a> MemoryReader<'a> {
+    /// A reader that gives the whole text.
+    pub fn new(text: &'a [u8]) -> Self
+        ensures text { result.text.now ≡ text.now }
+        ensures given { result.given ≡ 0 }
+    {
+        MemoryReader {
+            text,
+            given: 0,
+            fails_after: None,
+        }
+    }
+
+    /// A reader that gives so many bytes of the text and then fails.
+    pub fn failing_after(text: &'a [u8], count: usize) -> Self
+        ensures text { result.text.now ≡ text.now }
+        ensures given { result.given ≡ 0 }
+        ensures fails { result.fails_after ≡ Some count }
+    {
+        MemoryReader {
+            text,
+            given: 0,
+            fails_after: Some(count),
+        }
+    }
+}
+
+impl<'a> Read for MemoryReader<'a> {
+    ghost remaining = { λ r. Some (drop r.given r.text.now) };
+
+    fn read(&mut self, buf: &mut [u8]) -> io::Result<usize>
+        ensures bound { ReadsAtMost result buf.new }
+        ensures bytes { ReadConsumes (Some (drop self.old.given self.old.text.now)) (Some (drop self.new.given self.new.text.now)) result buf.new }
+        ensures fails { IsErr result ↔ (self.old.fails_after ≡ Some self.old.given) }
+    {
+        if self.fails_after == Some(self.given) {
+            return Err(io::Error::from(ErrorKind::Other));
+        }
+        if buf.is_empty() || self.given >= self.text.len() {
+            return Ok(0);
+        }
+        buf[0] = self.text[self.given];
+        self.given += 1;
+        Ok(1)
+    }
+}
+
+/// What a writer in memory does once it is full.
+#[derive(Clone, Copy, Debug, PartialEq, Eq)]
+pub enum WhenFull {
+    Fail,
+    TakeNothing,
+}
+
+/// A writer into memory that takes one byte a call.
+#[derive(Drop)]
+pub struct MemoryWriter<'a, A: Allocator> {
+    pub taken: Vec<u8, &'a A>,
+    /// How many bytes it takes at most.
+    pub room: usize,
+    pub when_full: WhenFull,
+}
+
+impl<'a, A: Allocator> MemoryWriter<'a, A> {
+    /// A writer that takes all bytes for which there is memory.
+    pub fn new(alloc: &'a A) -> Self
+        ensures { result.taken.items ≡ [] }
+    {
+        MemoryWriter {
+            taken: Vec::new(alloc),
+            room: usize::MAX,
+            when_full: WhenFull::Fail,
+        }
+    }
+
+    /// A writer that takes so many bytes, and then fails or takes nothing.
+    pub fn with_room(alloc: &'a A, room: usize, when_full: WhenFull) -> Self
+        ensures taken { result.taken.items ≡ [] }
+        ensures room { result.room ≡ room }
+        ensures when_full { result.when_full ≡ when_full }
+    {
+        MemoryWriter {
+            taken: Vec::new(alloc),
+            room,
+            when_full,
+        }
+    }
+}
+
+impl<'a, A: Allocator> Write for MemoryWriter<'a, A> {
+    ghost contents = { λ w. Some w.taken.items };
+
+    fn write(&mut self, buf: &[u8]) -> io::Result<usize>
+        ensures bound { WritesAtMost result buf.now }
+        ensures bytes { WriteAppends (Some self.old.taken.items) (Some self.new.taken.items) result buf.now }
+        ensures takes { 0 < length buf.now → vec_len self.old.taken < self.old.room → IfOk result (λ n. n ≡ 1) }
+        ensures full { self.old.room ≤ vec_len self.old.taken → IfOk result (λ n. n ≡ 0) }
+        ensures fails { IfErr result (λ e. (error_kind e ≡ ErrorKind.OutOfMemory) ⊎ ((self.old.room ≤ vec_len self.old.taken) × (self.old.when_full ≡ WhenFull.Fail))) }
+    {
+        if buf.is_empty() {
+            return Ok(0);
+        }
+        if self.taken.len() >= self.room {
+            return match self.when_full {
+                WhenFull::Fail => Err(io::Error::from(ErrorKind::Other)),
+                WhenFull::TakeNothing => Ok(0),
+            };
+        }
+        self.taken.push(buf[0])?;
+        Ok(1)
+    }
+
+    fn flush(&mut self) -> io::Result<()>
+        ensures bytes { Keeps (Some self.old.taken.items) (Some self.new.taken.items) }
+        ensures succeeds { IsOk result }
+    {
+        Ok(())
+    }
+}

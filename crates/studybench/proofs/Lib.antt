@@ -1,0 +1,7 @@
+pub mod Taken
+pub mod FirstWord
+pub mod Printable
+pub mod Replied
+pub mod Ran
+pub mod OneReply
+mod Examples

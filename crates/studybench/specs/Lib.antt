@@ -1,0 +1,7 @@
+pub mod Lines
+pub mod Words
+pub mod Asking
+pub mod Names
+pub mod Replies
+pub mod Outcome
+pub mod Unique
