@@ -1,4 +1,5 @@
 pub mod Fillings
+pub mod Examples
 pub mod Slots
 pub mod Symmetries
 pub mod TurnedBits

@@ -7,8 +7,9 @@ use Rattle.study_board.specs.declared.men.Kind.TheVariants.{King, Queen, Rook, B
 use Rattle.study_board.specs.Men.{same_kind}
 use Rattle.study_material.specs.declared.class.Class.{Class}
 use Rattle.study_material.specs.declared.class.Class.TheVariants.{KK, KQK, KRK, KBK, KNK, KPK, KQQK, KQRK, KQBK, KQNK, KQPK, KRRK, KRBK, KRNK, KRPK, KBBK, KBNK, KBPK, KNNK, KNPK, KPPK, KQKQ, KQKR, KQKB, KQKN, KQKP, KRKR, KRKB, KRKN, KRKP, KBKB, KBKN, KBKP, KNKN, KNKP, KPKP}
-use Rattle.study_material.specs.Lists.{Lists, of}
-use Rattle.study_material.specs.Class.{lists_of, class_list, same_kinds, same_lists}
+use Rattle.study_board.specs.Position.{Position}
+use Rattle.study_material.specs.Lists.{Lists, of, lists, ordered}
+use Rattle.study_material.specs.Class.{lists_of, class_list, same_kinds, same_lists, IsOf, is_of}
 use Rattle.study_material.specs.Needs.{is_in}
 
 kind_self : (k : Kind) → same_kind k k ≡ true
@@ -116,3 +117,10 @@ Contains-is_in ds d k = go ds k.0 k.1 k.2
     go [] i l s = absurd (omega arith)
     go (x ∷ xs) zero l s = rw (subst (λ z. same_lists (lists_of z) (lists_of d) ≡ true) (sym s) (same_lists-self (lists_of d)))
     go (x ∷ xs) (suc i) l s = rw (go xs i (omega arith) s) (or_true (same_lists (lists_of x) (lists_of d)))
+
+-- the test tells whether the position is of the class
+pub IsOf-is_of : (c : Class) (p : Position) → is_of c p ≡ true → IsOf c p
+IsOf-is_of c p e = same_lists-equal (lists_of c) (ordered (lists p.men)) e
+
+pub is_of-IsOf : (c : Class) (p : Position) → IsOf c p → is_of c p ≡ true
+is_of-IsOf c p o = subst (λ (l : Lists). same_lists (lists_of c) l ≡ true) o (same_lists-self (lists_of c))

@@ -1,4 +1,5 @@
 pub mod Names
+pub mod Examples
 pub mod Classes
 pub mod NeedsTables
 pub mod Orders

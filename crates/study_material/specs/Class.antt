@@ -83,6 +83,10 @@ is_left_out c = same_lists (lists_of c) (of (Pawn ∷ []) (Pawn ∷ []))
 abbrev pub IsOf : Class → Position → Type 0
 IsOf c p = lists_of c ≡ ordered (lists p.men)
 
+-- the same as a test
+abbrev pub is_of : Class → Position → Bool
+is_of c p = same_lists (lists_of c) (ordered (lists p.men))
+
 -- the position is of one class
 pub record HasOneClass (p : Position) : Type 0 where
   pub class : Class

@@ -2,9 +2,12 @@
 //! With no argument it prints nothing, since times are no test.
 #![tactic(auto)]
 
+mod building;
+
 use std::io;
 use std::process::ExitCode;
 use std::time::Instant;
+use study_material::Class;
 use study_board::{Kind, Man, Position, Side, Square};
 use study_moves::{in_check, is_legal, legal_moves, played};
 
@@ -141,7 +144,13 @@ fn measure(
 }
 
 fn main(rt: HostRuntime) -> io::Result<ExitCode> {
-    if std::env::args(&rt)?.count() < 2 {
+    let words = std::env::args(&rt)?.count();
+    if words < 2 {
+        return Ok(ExitCode::from(0));
+    }
+    if words > 2 {
+        building::measure(rt, Class::KPK)?;
+        building::measure(rt, Class::KRKN)?;
         return Ok(ExitCode::from(0));
     }
     measure(rt, "KRKQ_white", Kind::Rook, Kind::Queen, Side::White, 20)?;

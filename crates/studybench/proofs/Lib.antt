@@ -4,4 +4,5 @@ pub mod Printable
 pub mod Replied
 pub mod Ran
 pub mod OneReply
+pub mod LinesAgain
 mod Examples

@@ -7,7 +7,7 @@ use Rattle.study_notation.specs.declared.start.Start.{Start}
 use Rattle.studybench.specs.declared.refusal.Refusal.{Refusal}
 use Rattle.studybench.specs.Asking.{Asked, position, moves, solve, Asks, command_of}
 use Rattle.studybench.specs.Replies.{Reply, accepted, solve_text, start_at, IsSolution, IsSolveReply, IsReplyTo, IsReplyWhere, AreReplies}
-use Rattle.studybench.specs.Unique.{AreUnique}
+use Rattle.studybench.specs.Laws.{AreUnique}
 
 -- the least number of plies is one number
 won_once : (p : Position) (n m : ℕ) → IsWon p n → IsWon p m → n ≡ m

@@ -4,4 +4,4 @@ pub mod Asking
 pub mod Names
 pub mod Replies
 pub mod Outcome
-pub mod Unique
+pub mod Laws

@@ -1,0 +1,60 @@
+-- The definitions on small examples.
+use Rattle.std.proofs.Common.{◌≡◌, ℕ, true, false, [], ◌∷◌, Some, None, refl}
+use Rattle.study_board.specs.declared.men.Man.{Man}
+use Rattle.study_board.specs.declared.men.Side.{Side}
+use Rattle.study_board.specs.declared.men.Side.TheVariants.{White, Black}
+use Rattle.study_board.specs.declared.men.Kind.{Kind}
+use Rattle.study_board.specs.declared.men.Kind.TheVariants.{King, Rook, Pawn}
+use Rattle.study_material.specs.declared.class.Class.TheVariants.{KK, KRK, KPK, KQKR, KRKP}
+use Rattle.study_index.specs.Number.{place, number, cells_of}
+use Rattle.study_index.specs.Decoded.{slot_for, slots_of, listed, told_men}
+
+abbrev man : Side → Kind → ℕ → Man
+man s k a = record { side = s; kind = k; at = a }
+
+-- c3 is the eighth listed square, e1 is none
+triangle : place false 18 ≡ Some 7
+unfolding place
+triangle = refl
+
+not_listed : place false 4 ≡ None
+unfolding place
+not_listed = refl
+
+-- with a pawn d8 is the last listed square
+half_board : place true 59 ≡ Some 31
+unfolding place
+half_board = refl
+
+-- kings on c2 and a1, a white rook on h8, White to move
+rook : number false White (man White King 10 ∷ man Black King 0 ∷ man White Rook 63 ∷ []) ≡ Some 20543
+unfolding number place
+rook = refl
+
+-- kings on b1 and a1, a white rook on a2, Black to move; the place of b1 is the second
+black_to_move : number false Black (man White King 1 ∷ man Black King 0 ∷ man White Rook 8 ∷ []) ≡ Some 45064
+unfolding number place
+black_to_move = refl
+
+two_kings : cells_of KK ≡ 1280
+two_kings = refl
+
+three_men : cells_of KRK ≡ 81920
+three_men = refl
+
+a_pawn : cells_of KPK ≡ 262144
+a_pawn = refl
+
+four_men : cells_of KQKR ≡ 5242880
+four_men = refl
+
+a_pawn_of_four : cells_of KRKP ≡ 16777216
+a_pawn_of_four = refl
+
+-- what 20,543 tells of a king and a rook against a king
+told : told_men (slots_of KRK) 20543 ≡ man White King 10 ∷ man Black King 0 ∷ man White Rook 63 ∷ []
+unfolding listed
+told = refl
+
+slots : slots_of KRKP ≡ slot_for White King ∷ slot_for Black King ∷ slot_for White Rook ∷ slot_for Black Pawn ∷ []
+slots = refl
