@@ -25,9 +25,7 @@ fn table_of<'a, A: Allocator>(
     class: Class,
 ) -> (Table<'a, A>, BuildReport) {
     assert!(rt; !class.left_out());
-    let room = BuildRoom::new(alloc, cells(class))
-        .ok()
-        .expect(rt, "room");
+    let room = BuildRoom::new(alloc, cells(class)).ok().expect(rt, "room");
     build(class, tables, room).ok().expect(rt, "a table")
 }
 
@@ -62,12 +60,48 @@ fn tables_of_up_to_three_men(rt: HostRuntime) {
     let alloc = rt.alloc();
     let mut tables = TableSet::new(&alloc).ok().expect(&rt, "a set");
     let rows = [
-        (Class::KK, 1_280, None, None, "bfe492baf731a0dbf6e1e050f5bc3fe8c1b049383194dcdf82f023bfa409f462"),
-        (Class::KQK, 81_920, Some(19), Some(20), "9e23e4707fb87fc86cd619e4f11e27584156c99755bf56bd75beb08a2529a694"),
-        (Class::KRK, 81_920, Some(31), Some(32), "c44ba016cdd825eddc9b922d55db18a9147c60cb9978c9a8b62eb20a44c0f5ba"),
-        (Class::KBK, 81_920, None, None, "fa569e2360c540e6280e34a4627516770f1a5f34d81d35689334a99cc1013357"),
-        (Class::KNK, 81_920, None, None, "fa569e2360c540e6280e34a4627516770f1a5f34d81d35689334a99cc1013357"),
-        (Class::KPK, 262_144, Some(55), Some(56), "31f08f445b1142f1498bb03d4257b8142e27cd53763635385fc85788e8edc067"),
+        (
+            Class::KK,
+            1_280,
+            None,
+            None,
+            "bfe492baf731a0dbf6e1e050f5bc3fe8c1b049383194dcdf82f023bfa409f462",
+        ),
+        (
+            Class::KQK,
+            81_920,
+            Some(19),
+            Some(20),
+            "9e23e4707fb87fc86cd619e4f11e27584156c99755bf56bd75beb08a2529a694",
+        ),
+        (
+            Class::KRK,
+            81_920,
+            Some(31),
+            Some(32),
+            "c44ba016cdd825eddc9b922d55db18a9147c60cb9978c9a8b62eb20a44c0f5ba",
+        ),
+        (
+            Class::KBK,
+            81_920,
+            None,
+            None,
+            "fa569e2360c540e6280e34a4627516770f1a5f34d81d35689334a99cc1013357",
+        ),
+        (
+            Class::KNK,
+            81_920,
+            None,
+            None,
+            "fa569e2360c540e6280e34a4627516770f1a5f34d81d35689334a99cc1013357",
+        ),
+        (
+            Class::KPK,
+            262_144,
+            Some(55),
+            Some(56),
+            "31f08f445b1142f1498bb03d4257b8142e27cd53763635385fc85788e8edc067",
+        ),
     ];
     for (class, count, win, loss, digest) in rows {
         assert!(rt; !tables.ready(Class::KPK) || class == Class::KPK);
@@ -102,7 +136,12 @@ fn tables_of_up_to_three_men(rt: HostRuntime) {
 }
 
 /// The cell of a number in the held table of a class.
-fn cell_of<A: Allocator>(rt: &impl Abort, tables: &TableSet<'_, A>, class: Class, number: usize) -> u8 {
+fn cell_of<A: Allocator>(
+    rt: &impl Abort,
+    tables: &TableSet<'_, A>,
+    class: Class,
+    number: usize,
+) -> u8 {
     let table = tables.table(class).expect(rt, "held");
     *table.cells().get(number).expect(rt, "a cell")
 }

@@ -29,7 +29,10 @@ fn build_one<'a, A: Allocator>(
     if tables.add(table).is_err() {
         return println!(rt; "{class:?} not added");
     }
-    println!(rt; "{class:?} {building} ms, verified {right} in {verifying} ms, {} cells decoded", report.examined)
+    println!(rt;
+        "{class:?} {building} ms, verified {right} in {verifying} ms, {} cells decoded",
+        report.examined
+    )
 }
 
 /// Builds all tables that a class needs, and its own.

@@ -7,8 +7,8 @@ mod building;
 use std::io;
 use std::process::ExitCode;
 use std::time::Instant;
-use study_material::Class;
 use study_board::{Kind, Man, Position, Side, Square};
+use study_material::Class;
 use study_moves::{in_check, is_legal, legal_moves, played};
 
 fn man(side: Side, kind: Kind, number: u8) -> Option<Man> {
