@@ -1,0 +1,5 @@
+pub mod Forest
+pub mod Edits
+pub mod Tree
+pub mod Rows
+pub mod Laws

@@ -1,0 +1,32 @@
+//! Refusals of a tree.
+ghost use Rattle.std.specs.Prelude.{◌≡◌};
+
+use std::alloc::AllocError;
+use thiserror::Error;
+
+/// Why a tree refused a call, in the order in which the reasons are looked for.
+#[derive(Clone, Copy, Debug, PartialEq, Eq, Error)]
+pub enum TreeFault {
+    #[error("the path leads to no node")]
+    NoSuchNode,
+    #[error("the root cannot be removed or moved")]
+    Root,
+    #[error("the node is the first among its siblings")]
+    AlreadyFirst,
+    #[error("the node is at the greatest depth that a tree has")]
+    TooDeep,
+    #[error("the tree has as many nodes as a tree may have")]
+    TreeFull,
+    #[error("no memory is left")]
+    OutOfMemory,
+}
+
+impl From<AllocError> for TreeFault {
+    ghost use Rattle.study_tree.specs.declared.fault.TreeFault.TheVariants.{OutOfMemory};
+
+    ghost from_gives = { λ _ e. e ≡ OutOfMemory };
+
+    fn from(_error: AllocError) -> TreeFault {
+        TreeFault::OutOfMemory
+    }
+}

@@ -1,0 +1,20 @@
+//! Laws over the definitions, stated by functions that do nothing.
+ghost use Rattle.std.specs.Prelude.{◌≡◌, ℕ, List, ◌∷◌};
+ghost use Rattle.study_tree.specs.Laws.{EditsAreOfRows, NodesAreOfRows, RowsAreWritten};
+
+/// An edit of a tree is an edit of its rows in written order: add last puts a row after the parent's block, remove
+/// drops the block, move up lets the block change places with that of the sibling before it, and relabel changes
+/// the block's first row.
+pub fn edits_in_rows<L>()
+    ensures { EditsAreOfRows L }
+{}
+
+/// What a node shows is what the first row of its block shows, and a tree has as many nodes as rows.
+pub fn nodes_in_rows<L>()
+    ensures { NodesAreOfRows L }
+{}
+
+/// The rows of a tree are rows in written order, and each list of such rows is that of one tree.
+pub fn rows_are_written<L>()
+    ensures { RowsAreWritten L }
+{}

@@ -1,0 +1,18 @@
+//! The tree of a study: at each node the move that led to it and a label, and its children in order.
+//! Each call is proved to be that call on a plain tree, and a refused call leaves the tree and its counts as they were.
+//! The same is said of the tree's rows in written order (a node, all below its first child, then all below its
+//! second) by `edits_in_rows`, `nodes_in_rows` and `rows_are_written`: a plain tree is its list of rows.
+#![tactic(auto)]
+
+mod fault;
+mod laws;
+mod node;
+mod path;
+#[cfg(test)]
+mod tests;
+mod tree;
+
+pub use fault::TreeFault;
+pub use laws::{edits_in_rows, nodes_in_rows, rows_are_written};
+pub use path::Path;
+pub use tree::{MAX_DEPTH, MAX_NODES, NodeRef, Tree};
