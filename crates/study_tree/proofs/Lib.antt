@@ -5,3 +5,4 @@ pub mod Written
 pub mod RowEdits
 pub mod RowReads
 pub mod RowTrees
+pub mod Examples

@@ -73,13 +73,14 @@ impl<'a, L, A: Allocator> Tree<'a, L, A> {
         self.size
     }
 
-    /// How many labels `add_last` and `relabel` have written.
+    /// How many labels `add_last` and `relabel` have written; stays at the last value of u64.
     pub fn relabelled(&self) -> u64
         ensures { result ≡ self.now.relabelled }
     {
         self.relabelled
     }
 
+    /// Whether there is a node at the path.
     fn has(&self, steps: &[u16]) -> bool
         ensures { result ≡ has_spot (plain_tree self.now) steps.now }
     {
