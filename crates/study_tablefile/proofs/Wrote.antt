@@ -71,3 +71,19 @@ TakesPrefix-same old new x y e h = subst (λ (t : List ℕ). TakesPrefix old new
 pub OnErr-known : {A E : Type 0} (r : Result A E) (P : Type 0) → P → OnErr r P
 OnErr-known (Ok x) P h = tt
 OnErr-known (Err e) P h = h
+
+pub OnErr-more : {A E : Type 0} (r : Result A E) (P Q : Type 0) → (P → Q) → OnErr r P → OnErr r Q
+OnErr-more (Ok x) P Q f h = tt
+OnErr-more (Err e) P Q f h = f h
+
+-- ---- a text of two parts
+
+pub stops_first : (old new : Option (List ℕ)) (text x a b : List ℕ) → text ≡ a ++ b → x ≡ a → TakesPrefix old new x → TakesPrefix old new text
+stops_first old new text x a b e f h = TakesPrefix-same old new (x ++ b) text (e ∙ ap (λ (t : List ℕ). t ++ b) (sym f)) (TakesPrefix-first old new x b h)
+
+pub stops_second : (old mid new : Option (List ℕ)) (text x y a b : List ℕ) → text ≡ a ++ b → x ≡ a → y ≡ b → Appends old mid x → TakesPrefix mid new y → TakesPrefix old new text
+stops_second old mid new text x y a b e f g u h =
+    TakesPrefix-same old new (x ++ y) text (e ∙ ap (λ (t : List ℕ). t ++ b) (sym f) ∙ ap (λ (t : List ℕ). x ++ t) (sym g)) (TakesPrefix-second old mid new x y u h)
+
+pub Wrote-first : (old new : Option (List ℕ)) (text x a b : List ℕ) → text ≡ a ++ b → x ≡ a → Appends old new x → Wrote old new text b
+Wrote-first old new text x a b e f h = record { done = x; parts = e ∙ ap (λ (t : List ℕ). t ++ b) (sym f); taken = h }

@@ -1,1 +1,4 @@
 pub mod Taken
+pub mod File
+pub mod Reading
+pub mod Source

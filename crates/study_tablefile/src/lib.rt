@@ -1,13 +1,25 @@
-//! What table files, scripts and games in PGN need of the devices that they are read from and written to.
+//! Files of tables: their text, which `write_table` writes and `read_table` reads, and devices that fail in tests.
 //!
-//! `put` hands a text to any writer. Its contract is the theorem of this crate: the writer took the whole
-//! text, or the answer is a fault, and then it took a front of the text that leaves at least one byte out.
-//! `memory` has a reader and a writer in memory that fail where a test wants it.
+//! A table is kept as one text of bytes, `table_text`. `write_table` writes exactly it, or a front of it. `read_table`
+//! answers what the bytes read as, from front to back: a table, or the first fault. `tables_are_read_again` proves that
+//! the text of a table reads as that table. `PageSource` gives a file page by page, `put` hands a text to any writer,
+//! and `memory` has a reader and a writer that fail where a test wants it.
 #![tactic(auto)]
 
 mod fault;
+mod laws;
 pub mod memory;
+mod reading;
+mod source;
+mod text;
 mod writing;
 
-pub use fault::{DeviceFailed, SourceFault};
+pub use fault::{DeviceFailed, FileFault, SourceFault};
+pub use laws::{pages_are_whole, tables_are_read_again};
+pub use reading::read_table;
+pub use source::{Header, PageSource, page_cells, read_header};
+pub use text::{file_bytes, write_table};
 pub use writing::put;
+
+#[cfg(test)]
+mod tests;

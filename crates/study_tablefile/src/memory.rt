@@ -1,9 +1,12 @@
 //! A reader and a writer in memory that go byte by byte and fail where a test wants it.
-ghost use Rattle.std.specs.Prelude.{◌≡◌, ◌<◌, ◌↔◌, [], Some, length, drop, vec_len, ◌≤◌, ◌⊎◌, IsOk, IsErr, IfOk, IfErr};
+ghost use Rattle.std.specs.Prelude.{◌≡◌, ◌<◌, ◌↔◌, [], Some, length, take, drop, vec_len, ◌≤◌, ◌⊎◌, IsOk, IsErr, IfOk, IfErr, OnOk, OnErr};
+ghost use Rattle.study_tablefile.specs.Source.{counted};
 ghost use Rattle.std.specs.Io.{ReadsAtMost, WritesAtMost};
 ghost use Rattle.std.specs.Io.KnownBytes.{Keeps, ReadConsumes, WriteAppends};
 ghost use Rattle.std.specs.IoError.{error_kind};
 
+use crate::fault::SourceFault;
+use crate::source::PageSource;
 use std::alloc::Allocator;
 use std::io;
 use std::io::{ErrorKind, Read, Write};
@@ -135,5 +138,62 @@ impl<'a, A: Allocator> Write for MemoryWriter<'a, A> {
         ensures succeeds { IsOk result }
     {
         Ok(())
+    }
+}
+
+/// The pages of a text in memory, which fail where a test wants it.
+#[derive(Drop)]
+pub struct MemorySource<'a> {
+    pub text: &'a [u8],
+    /// How many headers and pages were asked.
+    pub asked: u64,
+    /// Which of the questions fails, counted from 0.
+    pub fails_at: Option<u64>,
+    pub failures: u64,
+}
+
+impl<'a> MemorySource<'a> {
+    /// The file's bytes from a place on, or a fault that is counted.
+    fn bytes(&mut self, start: usize, into: &mut [u8]) -> Result<(), SourceFault>
+        ensures len { length into.new ≡ length into.old }
+        ensures text { self.new.text.now ≡ self.old.text.now }
+        ensures ok { OnOk result (into.new ≡ take (length into.old) (drop start self.old.text.now)) }
+        ensures no_failure { OnOk result (self.new.failures ≡ self.old.failures) }
+        ensures failure { OnErr result (self.new.failures ≡ counted self.old.failures) }
+    {
+        let number = self.asked;
+        self.asked = self.asked.saturating_add(1);
+        if self.fails_at == Some(number) {
+            self.failures = self.failures.saturating_add(1);
+            return Err(SourceFault::Device);
+        }
+        if self.text.len() < start || self.text.len() - start < into.len() {
+            self.failures = self.failures.saturating_add(1);
+            return Err(SourceFault::Short);
+        }
+        let (_, rest) = self.text.split_at(start);
+        let (bytes, _) = rest.split_at(into.len());
+        into.copy_from_slice(bytes);
+        Ok(())
+    }
+}
+
+impl<'a> PageSource for MemorySource<'a> {
+    ghost use Rattle.study_tablefile.specs.File.{table_text};
+
+    ghost honest = { λ s t. s.text.now ≡ table_text t };
+
+    ghost failed = { λ s. s.failures };
+
+    fn header(&mut self, into: &mut [u8; 64]) -> Result<(), SourceFault> {
+        self.bytes(0, into)
+    }
+
+    fn page(&mut self, n: u32, into: &mut [u8; 4128]) -> Result<(), SourceFault> {
+        self.bytes(64 + 4128 * n as usize, into)
+    }
+
+    fn failures(&self) -> u64 {
+        self.failures
     }
 }

@@ -1,0 +1,5 @@
+use Rattle.study_tablefile.proofs.Again.{read_again}
+use Rattle.study_tablefile.proofs.laws.tables_are_read_again.Goals as goal
+
+pub returns : goal.returns
+returns c = read_again

@@ -1,0 +1,26 @@
+use Rattle.std.proofs.Common.{◌≡◌, suc, ◌+◌, ◌-◌, rules, arith, inl, inr, ◌∙◌}
+use Rattle.study_tablefile.specs.File.{pages_of}
+use Rattle.study_tablefile.proofs.Known.{pages_stop, pages_step, IfErr-given}
+use Rattle.study_tablefile.proofs.reading.read_pages.Goals as goal
+
+pub returns-in_err-read_page-clause-fault : goal.returns-in_err-read_page-clause-fault
+returns-in_err-read_page-clause-fault g c bytes e =
+    let (rest, now, same) = c.loop-number.invariant.read bytes e in
+    let more : pages_of c.args.class - c.loop-number.number ≡ suc (pages_of c.args.class - (c.loop-number.number + 1)) = omega (arith, c.pages-count.ensures, c.loop-number-test.true) in
+    IfErr-given c.from_residual.result c.in_err-read_page.field-0.0 _ (search rules) (elim (c.in_err-read_page.ensures.fault rest now) [
+      | inl device ↦ inl device
+      | inr fault ↦ inr (same ∙ pages_stop c.args.class c.loop-number.number _ _ _ _ rest _ c.fields-fields.ensures more fault)
+    ])
+
+pub loop-number-preserved : goal.loop-number-preserved
+loop-number-preserved g c =
+    let more : pages_of c.args.class - c.loop-number.number ≡ suc (pages_of c.args.class - (c.loop-number.number + 1)) = omega (arith, c.pages-count.ensures, c.loop-number-test.true) in
+    record {
+      counted = omega (arith, c.pages-count.ensures, c.loop-number-test.true);
+      len = omega (arith, c.in_ok-read_page.ensures.len, c.loop-number.invariant.len);
+      room = omega (arith, c.read_page.ensures.capacity, c.loop-number.invariant.room);
+      read = λ bytes e.
+          let (rest, now, same) = c.loop-number.invariant.read bytes e in
+          let page = c.in_ok-read_page.ensures.ok rest now in
+          (_, page.0, same ∙ pages_step c.args.class c.loop-number.number _ _ _ _ _ rest c.fields-fields.ensures more page.2 page.1);
+    }

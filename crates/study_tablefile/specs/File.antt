@@ -1,0 +1,46 @@
+-- The text of a table file, byte by byte.
+use Rattle.std.specs.Prelude.{ℕ, zero, suc, ◌+◌, ◌-◌, ◌/◌, List, [], ◌++◌, length, take, drop, replicate, codes}
+use Rattle.byteorder.specs.Endian.{little_bytes}
+use Rattle.sha2.specs.Sha256.{sha256}
+use Rattle.study_material.specs.declared.class.Class.{Class}
+use Rattle.study_material.specs.Class.{name_of}
+use Rattle.study_index.specs.Number.{cells_of}
+use Rattle.study_retro.specs.Table.{Table}
+
+-- the name of a class in 8 bytes
+unfoldable pub class_field : Class → List ℕ
+class_field c = name_of c ++ replicate (8 - length (name_of c)) 0
+
+-- the 32 fields of a header: the mark, version 1, the cells of a page, the cells of the class, its name, 8 zero bytes
+unfoldable pub fields_text : Class → List ℕ
+fields_text c =
+    codes "STUDYDTM" ++ little_bytes 2 1 ++ little_bytes 2 4096 ++ little_bytes 4 (cells_of c) ++ class_field c ++ replicate 8 0
+
+-- a header: its fields and their digest
+unfoldable pub header_text : Class → List ℕ
+header_text c = fields_text c ++ sha256 (fields_text c)
+
+-- the cells of a page, with zero bytes after the last cell
+unfoldable pub page_cells_of : List ℕ → List ℕ
+page_cells_of cells = take 4096 cells ++ replicate (4096 - length cells) 0
+
+-- the digest of a page: over the fields, the number of the page and its cells
+unfoldable pub page_digest : List ℕ → ℕ → List ℕ → List ℕ
+page_digest fields n cells = sha256 (fields ++ little_bytes 4 n ++ cells)
+
+-- a page: its cells and their digest
+unfoldable pub page_text : List ℕ → ℕ → List ℕ → List ℕ
+page_text fields n cells = cells ++ page_digest fields n cells
+
+-- so many pages from page n on, over the cells from there on
+abbrev pub pages_text : List ℕ → ℕ → ℕ → List ℕ → List ℕ
+pages_text fields n zero cells = []
+pages_text fields n (suc k) cells = page_text fields n (page_cells_of cells) ++ pages_text fields (n + 1) k (drop 4096 cells)
+
+-- how many pages a class has
+unfoldable pub pages_of : Class → ℕ
+pages_of c = (cells_of c + 4095) / 4096
+
+-- the text of a table: a header, and then all pages
+unfoldable pub table_text : Table → List ℕ
+table_text t = header_text t.class ++ pages_text (fields_text t.class) 0 (pages_of t.class) t.cells

@@ -1,0 +1,23 @@
+-- Pages of a table's file, one by one, and what gives them.
+use Rattle.std.specs.Prelude.{ℕ, ◌+◌, ◌-◌, ◌*◌, ◌^◌, min, Bool, ◌&&◌, List, length, take, drop, replicate}
+use Rattle.std.specs.Str.{bytes_eq}
+use Rattle.study_retro.specs.Table.{Table}
+use Rattle.study_tablefile.specs.File.{fields_text, page_cells_of, page_digest, page_text}
+
+-- the places of a page behind the last cell
+abbrev pub places_behind : ℕ → ℕ → List ℕ → List ℕ
+places_behind cells n page = drop (min (cells - n * 4096) 4096) (take 4096 page)
+
+-- a page with the digest of its cells, and zero bytes behind the last cell
+abbrev pub is_whole_page : List ℕ → ℕ → ℕ → List ℕ → Bool
+is_whole_page fields cells n page =
+    bytes_eq (take 32 (drop 4096 page)) (page_digest fields n (take 4096 page))
+    && bytes_eq (places_behind cells n page) (replicate (length (places_behind cells n page)) 0)
+
+-- page n of the file of a table
+abbrev pub page_of : Table → ℕ → List ℕ
+page_of t n = page_text (fields_text t.class) n (page_cells_of (drop (4096 * n) t.cells))
+
+-- one more, up to the last value of a count
+abbrev pub counted : ℕ → ℕ
+counted n = min (n + 1) (2 ^ 64 - 1)

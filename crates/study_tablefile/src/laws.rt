@@ -1,0 +1,17 @@
+//! What is written is read again, and the pages of a table are whole.
+ghost use Rattle.std.specs.Prelude.{◌≡◌, ℕ, true, Ok};
+ghost use Rattle.study_index.specs.Number.{cells_of};
+ghost use Rattle.study_retro.specs.Table.{Table as Seen, IsComplete};
+ghost use Rattle.study_tablefile.specs.File.{fields_text, table_text};
+ghost use Rattle.study_tablefile.specs.Reading.{table_read};
+ghost use Rattle.study_tablefile.specs.Source.{is_whole_page, page_of};
+
+/// The text that `write_table` writes for a table, `read_table` reads as that table.
+pub fn tables_are_read_again()
+    ensures { (t : Seen) → IsComplete t → table_read (table_text t) ≡ Ok t }
+{}
+
+/// Of the pages of a table each has the digest of its cells and zero bytes behind the last cell, as `page_cells` asks.
+pub fn pages_are_whole()
+    ensures { (t : Seen) (n : ℕ) → IsComplete t → is_whole_page (fields_text t.class) (cells_of t.class) n (page_of t n) ≡ true }
+{}

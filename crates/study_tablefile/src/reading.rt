@@ -1,0 +1,257 @@
+//! Table files read from front to back.
+ghost use Rattle.std.specs.Prelude.{◌≡◌, ◌<◌, ◌≤◌, ◌⊎◌, ◌&&◌, ◌+◌, ◌*◌, ℕ, List, [], ◌++◌, false, Some, None, Ok, Err, length, take, drop, replicate, OnOk, IfOk, IfErr, vec_len, vec_capacity};
+ghost use Rattle.sha2.specs.Sha256.{sha256};
+ghost use Rattle.std.specs.Str.{bytes_eq};
+ghost use Rattle.std.specs.Io.KnownBytes.{Consumes};
+ghost use Rattle.study_material.specs.Class.{is_left_out};
+ghost use Rattle.study_index.specs.Number.{cells_of};
+ghost use Rattle.study_tablefile.specs.File.{class_field, fields_text, page_digest, pages_of};
+ghost use Rattle.study_tablefile.specs.Reading.{class_named, class_read, page_fault, table_end, pages_read, table_read, IsShort, HasHeader};
+ghost use Rattle.study_tablefile.specs.declared.fault.FileFault.TheVariants.{Cut, Device, OutOfMemory, TrailingBytes};
+
+use crate::fault::FileFault;
+use crate::text::{class_field, digest, fields, page_digest, pages};
+use byteorder::{ByteOrder, LittleEndian};
+use std::alloc::Allocator;
+use std::io::Read;
+use study_index::cells;
+use study_material::Class;
+use study_retro::Table;
+
+/// Fills a buffer from a reader; each of its errors is `Device`.
+fn fill<R: Read>(input: &mut R, buf: &mut [u8]) -> Result<(), FileFault>
+    ensures len { length buf.new ≡ length buf.old }
+    ensures ok { OnOk result (Consumes (R.remaining input.old) (R.remaining input.new) buf.new) }
+    ensures fault { IfErr result (λ e. (e ≡ Device) ⊎ ((e ≡ Cut) × IsShort (R.remaining input.old) (length buf.old))) }
+{
+    let mut filled = 0usize;
+    while filled < buf.len() {
+        match input.read(&mut buf[filled..]) {
+            Ok(0) => return Err(FileFault::Cut),
+            Ok(n) => filled += n,
+            Err(_) => return Err(FileFault::Device),
+        }
+    }
+    Ok(())
+}
+
+/// The classes that have tables.
+static CLASSES: [Class; 35] = [
+    Class::KK,
+    Class::KQK,
+    Class::KRK,
+    Class::KBK,
+    Class::KNK,
+    Class::KPK,
+    Class::KQQK,
+    Class::KQRK,
+    Class::KQBK,
+    Class::KQNK,
+    Class::KQPK,
+    Class::KRRK,
+    Class::KRBK,
+    Class::KRNK,
+    Class::KRPK,
+    Class::KBBK,
+    Class::KBNK,
+    Class::KBPK,
+    Class::KNNK,
+    Class::KNPK,
+    Class::KPPK,
+    Class::KQKQ,
+    Class::KQKR,
+    Class::KQKB,
+    Class::KQKN,
+    Class::KQKP,
+    Class::KRKR,
+    Class::KRKB,
+    Class::KRKN,
+    Class::KRKP,
+    Class::KBKB,
+    Class::KBKN,
+    Class::KBKP,
+    Class::KNKN,
+    Class::KNKP,
+];
+
+/// The class that is written in the field of a header.
+#[tactic(auto, unfolding(crate::specs::Reading::class_named))]
+fn class_of_field(field: &[u8]) -> Option<Class>
+    ensures { result ≡ class_named field.now }
+{
+    for class in &CLASSES {
+        let name = class_field(*class);
+        if field == name.as_slice() {
+            return Some(*class);
+        }
+    }
+    None
+}
+
+/// Whether the bytes are the fields of a class and their digest.
+fn is_header(bytes: &[u8; 64], class: Class) -> bool
+    requires { is_left_out class ≡ false }
+    ensures { result ≡ (bytes_eq (take 32 bytes.now) (fields_text class) && bytes_eq (take 32 (drop 32 bytes.now)) (sha256 (fields_text class))) }
+{
+    let fields = fields(class);
+    let digest = digest(fields.as_slice());
+    let front = &bytes[..32];
+    let back = &bytes[32..];
+    front == fields.as_slice() && back == digest.as_slice()
+}
+
+/// The class of a header.
+#[tactic(auto, unfolding(crate::specs::Reading::class_read))]
+pub fn read_class(header: &[u8; 64]) -> Result<Class, FileFault>
+    ensures read { result ≡ class_read header.now }
+    ensures admitted { IfOk result (λ c. is_left_out c ≡ false) }
+{
+    let mark = &header[..8];
+    if mark != b"STUDYDTM".as_slice() {
+        return Err(FileFault::NotATable);
+    }
+    let version = LittleEndian::read_u16(&header[8..]);
+    if version != 1 {
+        return Err(FileFault::Version(version));
+    }
+    match class_of_field(&header[16..24]) {
+        None => Err(FileFault::ClassUnknown),
+        Some(class) => {
+            if is_header(header, class) {
+                Ok(class)
+            } else {
+                Err(FileFault::HeaderDamaged)
+            }
+        }
+    }
+}
+
+/// Whether a page has the digest of its cells.
+pub fn is_page(fields: &[u8; 32], number: u32, page: &[u8; 4128]) -> bool
+    ensures { result ≡ bytes_eq (take 32 (drop 4096 page.now)) (page_digest fields.now number (take 4096 page.now)) }
+{
+    let digest = page_digest(fields, number, &page[..4096]);
+    let tail = &page[4096..];
+    tail == digest.as_slice()
+}
+
+/// The cells of a page.
+pub fn cells_of_page(page: &[u8; 4128]) -> &[u8]
+    ensures value { result.now ≡ take 4096 page.now }
+    ensures len { length result.now ≡ 4096 }
+{
+    &page[..4096]
+}
+
+/// Reads a page and appends its cells.
+#[tactic(auto, unfolding(crate::specs::Reading::page_fault))]
+fn read_page<'a, A: Allocator, R: Read>(
+    input: &mut R,
+    fields: &[u8; 32],
+    number: u32,
+    cells: &mut Vec<u8, &'a A>,
+) -> Result<(), FileFault>
+    requires { vec_len cells.old + 4096 ≤ vec_capacity cells.old }
+    ensures capacity { vec_capacity cells.old ≤ vec_capacity cells.new }
+    ensures len { OnOk result (vec_len cells.new ≡ vec_len cells.old + 4096) }
+    ensures ok { (bytes : List ℕ) → R.remaining input.old ≡ Some bytes → OnOk result ((R.remaining input.new ≡ Some (drop 4128 bytes)) × (cells.new.items ≡ cells.old.items ++ take 4096 bytes) × (page_fault fields.now number bytes ≡ None)) }
+    ensures fault { (bytes : List ℕ) → R.remaining input.old ≡ Some bytes → IfErr result (λ e. (e ≡ Device) ⊎ (page_fault fields.now number bytes ≡ Some e)) }
+{
+    let mut page = [0u8; 4128];
+    fill(input, &mut page)?;
+    if !is_page(fields, number, &page) {
+        return Err(FileFault::PageDamaged(number));
+    }
+    let _ = cells.extend_from_slice(cells_of_page(&page));
+    Ok(())
+}
+
+/// Reads all pages of a class.
+fn read_pages<'a, A: Allocator, R: Read>(
+    input: &mut R,
+    class: Class,
+    cells: &mut Vec<u8, &'a A>,
+) -> Result<(), FileFault>
+    requires admitted { is_left_out class ≡ false }
+    requires empty { vec_len cells.old ≡ 0 }
+    requires room { 4096 * pages_of class ≤ vec_capacity cells.old }
+    ensures len { OnOk result (vec_len cells.new ≡ 4096 * pages_of class) }
+    ensures ok { (bytes : List ℕ) → R.remaining input.old ≡ Some bytes → OnOk result ((rest : List ℕ) × (R.remaining input.new ≡ Some rest) × (pages_read class 0 (pages_of class) [] bytes ≡ table_end class cells.new.items rest)) }
+    ensures fault { (bytes : List ℕ) → R.remaining input.old ≡ Some bytes → IfErr result (λ e. (e ≡ Device) ⊎ (pages_read class 0 (pages_of class) [] bytes ≡ Err e)) }
+{
+    let fields = fields(class);
+    let count = pages(class);
+    let mut number = 0u32;
+    while number < count {
+        read_page(input, &fields, number, cells)?;
+        number += 1;
+    }
+    Ok(())
+}
+
+/// Whether the bytes are all zero.
+pub fn is_padding(bytes: &[u8]) -> bool
+    requires { length bytes.now ≤ 4096 }
+    ensures { result ≡ bytes_eq bytes.now (replicate (length bytes.now) 0) }
+{
+    let zeros = [0u8; 4096];
+    let front = &zeros[..bytes.len()];
+    bytes == front
+}
+
+/// Whether nothing is left to read.
+fn at_end<R: Read>(input: &mut R) -> Result<(), FileFault>
+    ensures ok { (bytes : List ℕ) → R.remaining input.old ≡ Some bytes → OnOk result (length bytes ≡ 0) }
+    ensures fault { (bytes : List ℕ) → R.remaining input.old ≡ Some bytes → IfErr result (λ e. (e ≡ Device) ⊎ ((e ≡ TrailingBytes) × (0 < length bytes))) }
+{
+    let mut next = [0u8; 1];
+    match input.read(&mut next) {
+        Ok(0) => Ok(()),
+        Ok(_) => Err(FileFault::TrailingBytes),
+        Err(_) => Err(FileFault::Device),
+    }
+}
+
+/// The table of the cells of all pages, where the last page is filled with zero bytes and nothing is left to read.
+#[tactic(auto, unfolding(crate::specs::Reading::table_end))]
+fn finish<'a, A: Allocator, R: Read>(
+    input: &mut R,
+    class: Class,
+    mut all: Vec<u8, &'a A>,
+) -> Result<Table<'a, A>, FileFault>
+    requires admitted { is_left_out class ≡ false }
+    requires enough { cells_of class ≤ vec_len all }
+    requires full { vec_len all < cells_of class + 4096 }
+    ensures ok { (bytes : List ℕ) → R.remaining input.old ≡ Some bytes → IfOk result (λ t. table_end class all.entry.items bytes ≡ Ok t) }
+    ensures fault { (bytes : List ℕ) → R.remaining input.old ≡ Some bytes → IfErr result (λ e. (e ≡ Device) ⊎ (table_end class all.entry.items bytes ≡ Err e)) }
+{
+    let count = cells(class) as usize;
+    let (_, padding) = all.as_slice().split_at(count);
+    if !is_padding(padding) {
+        return Err(FileFault::Padding);
+    }
+    at_end(input)?;
+    all.truncate(count);
+    Ok(Table::from_cells(class, all))
+}
+
+/// Reads a table from its file, and answers the first fault, going from front to back.
+#[tactic(auto, unfolding(crate::specs::Reading::table_read))]
+pub fn read_table<'a, A: Allocator, R: Read>(
+    alloc: &'a A,
+    input: &mut R,
+) -> Result<Table<'a, A>, FileFault>
+    ensures ok { (bytes : List ℕ) → R.remaining input.old ≡ Some bytes → IfOk result (λ t. table_read bytes ≡ Ok t) }
+    ensures fault { (bytes : List ℕ) → R.remaining input.old ≡ Some bytes → IfErr result (λ e. (e ≡ Device) ⊎ ((e ≡ OutOfMemory) × HasHeader bytes) ⊎ (table_read bytes ≡ Err e)) }
+{
+    let mut header = [0; 64];
+    fill(input, &mut header)?;
+    let class = read_class(&header)?;
+    let room = pages(class) as usize * 4096;
+    let mut all = match Vec::with_capacity(alloc, room) {
+        Ok(all) => all,
+        Err(_) => return Err(FileFault::OutOfMemory),
+    };
+    read_pages(input, class, &mut all)?;
+    finish(input, class, all)
+}

@@ -1,0 +1,82 @@
+//! Pages of tables, read one by one.
+ghost use Rattle.std.specs.Prelude.{◌≡◌, ◌<◌, ℕ, false, OnOk, OnErr, IfOk, IfErr, Ok, Err};
+ghost use Rattle.study_material.specs.Class.{is_left_out};
+ghost use Rattle.study_index.specs.Number.{cells_of};
+ghost use Rattle.study_retro.specs.Table.{Table as Seen};
+ghost use Rattle.study_tablefile.specs.File.{fields_text, header_text, pages_of};
+ghost use Rattle.study_tablefile.specs.Reading.{class_read};
+ghost use Rattle.study_tablefile.specs.Source.{counted, is_whole_page, page_of};
+
+use crate::fault::{FileFault, SourceFault};
+use crate::reading::{cells_of_page, is_padding, is_page, read_class};
+use crate::text::fields;
+use study_index::cells;
+use study_material::Class;
+
+/// What the header of a table file says.
+#[derive(Clone, Copy, Debug, PartialEq, Eq)]
+pub struct Header {
+    pub class: Class,
+    /// The version of the file.
+    pub version: u16,
+    /// How many cells the class has.
+    pub cells: u32,
+    /// The first 32 bytes of the file, which each page's digest covers.
+    pub fields: [u8; 32],
+}
+
+/// The header that the bytes are, or its first fault.
+pub fn read_header(bytes: &[u8; 64]) -> Result<Header, FileFault>
+    ensures class { IfOk result (λ h. class_read bytes.now ≡ Ok h.class) }
+    ensures admitted { IfOk result (λ h. is_left_out h.class ≡ false) }
+    ensures version { IfOk result (λ h. h.version ≡ 1) }
+    ensures cells { IfOk result (λ h. h.cells ≡ cells_of h.class) }
+    ensures fields { IfOk result (λ h. h.fields ≡ fields_text h.class) }
+    ensures fault { IfErr result (λ e. class_read bytes.now ≡ Err e) }
+{
+    let class = read_class(bytes)?;
+    Ok(Header {
+        class,
+        version: 1,
+        cells: cells(class),
+        fields: fields(class),
+    })
+}
+
+/// Whether a page has the digest of its cells, and zero bytes behind the last cell.
+pub fn page_cells(header: &Header, number: u32, page: &[u8; 4128]) -> bool
+    ensures { result ≡ is_whole_page header.now.fields header.now.cells number page.now }
+{
+    let before = number as u64 * 4096;
+    let left = (header.cells as u64).saturating_sub(before).min(4096) as usize;
+    let (_, behind) = cells_of_page(page).split_at(left);
+    is_page(&header.fields, number, page) && is_padding(behind)
+}
+
+/// Where the pages of a table come from.
+pub trait PageSource: Drop {
+    /// Each answer, now and after any calls, gives the bytes of the file of this table.
+    ghost honest: { Self → Seen → Type 0 };
+
+    ghost failed: { Self → ℕ };
+
+    /// The header of the file.
+    fn header(&mut self, into: &mut [u8; 64]) -> Result<(), SourceFault>
+        ensures ok { (t : Seen) → honest self.old t → OnOk result (into.new ≡ header_text t.class) }
+        ensures stays { (t : Seen) → honest self.old t → honest self.new t }
+        ensures back { (t : Seen) → honest self.new t → honest self.old t }
+        ensures no_failure { OnOk result (failed self.new ≡ failed self.old) }
+        ensures failure { OnErr result (failed self.new ≡ counted (failed self.old)) };
+
+    /// A page of the file, counted from 0.
+    fn page(&mut self, n: u32, into: &mut [u8; 4128]) -> Result<(), SourceFault>
+        ensures ok { (t : Seen) → honest self.old t → n < pages_of t.class → OnOk result (into.new ≡ page_of t n) }
+        ensures stays { (t : Seen) → honest self.old t → honest self.new t }
+        ensures back { (t : Seen) → honest self.new t → honest self.old t }
+        ensures no_failure { OnOk result (failed self.new ≡ failed self.old) }
+        ensures failure { OnErr result (failed self.new ≡ counted (failed self.old)) };
+
+    /// How often it failed. The count stays at the last value of its type.
+    fn failures(&self) -> u64
+        ensures { result ≡ failed self.now };
+}

@@ -1,0 +1,157 @@
+//! The text of a table file, and the tables that are written as one.
+ghost use Rattle.std.specs.Prelude.{◌≡◌, ◌<◌, ◌≤◌, false, OnOk, OnErr, IfErr, length};
+ghost use Rattle.std.specs.Prelude.{◌+◌, ◌*◌};
+ghost use Rattle.sha2.specs.Sha256.{sha256};
+ghost use Rattle.std.specs.Io.KnownBytes.{Appends};
+ghost use Rattle.study_material.specs.Class.{is_left_out};
+ghost use Rattle.study_retro.specs.Table.{Table as Seen};
+ghost use Rattle.study_tablefile.specs.Taken.{TakesPrefix};
+ghost use Rattle.study_tablefile.specs.File.{class_field, fields_text, header_text, page_cells_of, page_digest, page_text, pages_of, table_text};
+ghost use Rattle.study_tablefile.specs.declared.fault.FileFault.TheVariants.{Device};
+
+use crate::fault::{DeviceFailed, FileFault};
+use crate::writing::put;
+use byteorder::{ByteOrder, LittleEndian};
+use sha2::{Digest, Sha256};
+use std::alloc::Allocator;
+use std::io::Write;
+use study_index::cells;
+use study_material::Class;
+use study_retro::Table;
+
+/// Cells of a page.
+pub const PAGE_CELLS: usize = 4096;
+
+/// The name of a class in 8 bytes, with zero bytes behind it.
+#[tactic(auto, using(crate::proofs::Bounds::short_name, crate::proofs::Lists::field_filled), unfolding(crate::specs::File::class_field))]
+pub fn class_field(class: Class) -> [u8; 8]
+    ensures { result ≡ class_field class }
+{
+    let mut out = [0; 8];
+    let name = class.name().as_bytes();
+    out[..name.len()].copy_from_slice(name);
+    out
+}
+
+/// The first 32 bytes of the file of a class.
+#[tactic(auto, unfolding(crate::specs::File::fields_text))]
+pub fn fields(class: Class) -> [u8; 32]
+    requires { is_left_out class ≡ false }
+    ensures { result ≡ fields_text class }
+{
+    let mut out = [0; 32];
+    out[..8].copy_from_slice(b"STUDYDTM");
+    LittleEndian::write_u16(&mut out[8..], 1);
+    LittleEndian::write_u16(&mut out[10..], 4096);
+    LittleEndian::write_u32(&mut out[12..], cells(class));
+    out[16..24].copy_from_slice(class_field(class).as_slice());
+    out
+}
+
+/// The SHA-256 of some bytes.
+pub fn digest(bytes: &[u8]) -> [u8; 32]
+    ensures { result ≡ sha256 bytes.now }
+{
+    let mut hasher = Sha256::new();
+    hasher.update(bytes);
+    hasher.finalize()
+}
+
+/// The digest of a page: over the fields of the header, the page's number and its cells.
+#[tactic(auto, unfolding(crate::specs::File::page_digest))]
+pub fn page_digest(fields: &[u8; 32], number: u32, cells: &[u8]) -> [u8; 32]
+    ensures { result ≡ page_digest fields.now number cells.now }
+{
+    let mut bytes = [0; 4];
+    LittleEndian::write_u32(&mut bytes, number);
+    let mut hasher = Sha256::new();
+    hasher.update(fields.as_slice());
+    hasher.update(bytes.as_slice());
+    hasher.update(cells);
+    hasher.finalize()
+}
+
+/// The cells of a page, with zero bytes behind the last one.
+#[tactic(auto, using(crate::proofs::Lists::padded_front), unfolding(crate::specs::File::page_cells_of))]
+fn page_cells(cells: &[u8]) -> [u8; 4096]
+    requires { length cells.now ≤ 4096 }
+    ensures { result ≡ page_cells_of cells.now }
+{
+    let mut out = [0; 4096];
+    out[..cells.len()].copy_from_slice(cells);
+    out
+}
+
+/// Writes a header: the fields of the class and their digest.
+#[tactic(auto, unfolding(crate::specs::File::header_text))]
+fn put_header<W: Write>(out: &mut W, class: Class) -> Result<(), DeviceFailed>
+    requires { is_left_out class ≡ false }
+    ensures ok { OnOk result (Appends (W.contents out.old) (W.contents out.new) (header_text class)) }
+    ensures err { OnErr result (TakesPrefix (W.contents out.old) (W.contents out.new) (header_text class)) }
+{
+    let fields = fields(class);
+    put(out, fields.as_slice())?;
+    put(out, digest(fields.as_slice()).as_slice())
+}
+
+/// Writes a page: its cells and their digest.
+#[tactic(auto, unfolding(crate::specs::File::page_text))]
+fn put_page<W: Write>(
+    out: &mut W,
+    fields: &[u8; 32],
+    number: u32,
+    cells: &[u8],
+) -> Result<(), DeviceFailed>
+    requires { length cells.now ≤ 4096 }
+    ensures ok { OnOk result (Appends (W.contents out.old) (W.contents out.new) (page_text fields.now number (page_cells_of cells.now))) }
+    ensures err { OnErr result (TakesPrefix (W.contents out.old) (W.contents out.new) (page_text fields.now number (page_cells_of cells.now))) }
+{
+    let cells = page_cells(cells);
+    put(out, cells.as_slice())?;
+    put(
+        out,
+        page_digest(fields, number, cells.as_slice()).as_slice(),
+    )
+}
+
+/// How many pages a class has.
+#[tactic(auto, using(crate::proofs::Bounds::few_cells), unfolding(crate::specs::File::pages_of))]
+pub fn pages(class: Class) -> u32
+    requires { is_left_out class ≡ false }
+    ensures { result ≡ pages_of class }
+{
+    (cells(class) + 4095) / 4096
+}
+
+/// How many bytes the file of a class has.
+#[tactic(auto, using(crate::proofs::Bounds::few_cells), unfolding(crate::specs::File::pages_of))]
+pub fn file_bytes(class: Class) -> u32
+    requires { is_left_out class ≡ false }
+    ensures value { result ≡ 64 + 4128 * pages_of class }
+    ensures text { (t : Seen) → t.class ≡ class → length (table_text t) ≡ result }
+{
+    64 + 4128 * pages(class)
+}
+
+/// Writes a table, or stops where the writer fails or takes nothing; it took a front of the text then.
+pub fn write_table<'a, A: Allocator, W: Write>(
+    table: &Table<'a, A>,
+    out: &mut W,
+) -> Result<(), FileFault>
+    ensures ok { OnOk result (Appends (W.contents out.old) (W.contents out.new) (table_text table.now)) }
+    ensures err { OnErr result (TakesPrefix (W.contents out.old) (W.contents out.new) (table_text table.now)) }
+    ensures fault { IfErr result (λ e. e ≡ Device) }
+{
+    let class = table.class();
+    put_header(out, class)?;
+    let fields = fields(class);
+    let mut rest = table.cells();
+    let mut number = 0u32;
+    while !rest.is_empty() {
+        let (cells, after) = rest.split_at(rest.len().min(PAGE_CELLS));
+        put_page(out, &fields, number, cells)?;
+        rest = after;
+        number += 1;
+    }
+    Ok(())
+}
