@@ -1,5 +1,7 @@
 //! The text of a table, read back and damaged.
 use crate::memory::{MemoryReader, MemorySource, MemoryWriter, WhenFull};
+use crate::text::{digest, fields, page_digest};
+use crate::writing::put;
 use crate::{
     FileFault, PageSource, SourceFault, file_bytes, page_cells, read_header, read_table,
     write_table,
@@ -116,4 +118,26 @@ fn pages_one_by_one(rt: HostRuntime) -> Result<(), Fail> {
     assert_eq!(rt; source.page(1, &mut page), Err(SourceFault::Short));
     assert_eq!(rt; source.failures(), 2);
     Ok(())
+}
+
+/// A cell behind the last one that is not zero, under the digest that it asks for.
+#[test]
+fn padding_is_looked_at(rt: HostRuntime) {
+    let alloc = rt.alloc();
+    let mut page = [0u8; 4096];
+    page[4095] = 1;
+    let fields = fields(Class::KK);
+    let mut writer = MemoryWriter::new(&alloc);
+    for part in [
+        fields.as_slice(),
+        digest(fields.as_slice()).as_slice(),
+        page.as_slice(),
+        page_digest(&fields, 0, page.as_slice()).as_slice(),
+    ] {
+        assert!(rt; put(&mut writer, part).is_ok());
+    }
+    assert_eq!(rt;
+        fault(&alloc, writer.taken.as_slice()),
+        Some(FileFault::Padding)
+    );
 }
