@@ -7,7 +7,7 @@ use study_material::Class;
 use study_retro::{AddFault, BuildFault, BuildReport, BuildRoom, Table, TableSet, build, verify};
 
 /// Builds a table and adds it to the set; answers the report.
-fn built<'a, A: Allocator>(
+pub fn built<'a, A: Allocator>(
     rt: &impl Abort,
     alloc: &'a A,
     tables: &mut TableSet<'a, A>,

@@ -41,42 +41,60 @@ fn fields_of_krk(rt: HostRuntime) {
     assert_eq!(rt; file_bytes(Class::KRK), 82_624);
 }
 
-/// The text of KK: a front of it is cut off, and a turned bit is found and named by its place.
+/// The text of the table of KK with zero cells.
+fn text_of_kk<'a, A: Allocator>(rt: &impl Abort, alloc: &'a A) -> Vec<u8, &'a A> {
+    let table = zero_table(rt, alloc, Class::KK);
+    let mut writer = MemoryWriter::new(alloc);
+    assert!(rt; write_table(&table, &mut writer).is_ok());
+    assert!(rt; writer.taken.len() == 4192 && file_bytes(Class::KK) == 4192);
+    writer.taken
+}
+
+/// A text with one bit turned.
+fn turn(text: &mut [u8], place: usize, bit: u8) {
+    if let Some(byte) = text.get_mut(place) {
+        *byte ^= bit;
+    }
+}
+
+/// What a turned bit is, by its place and the version that is read then.
+fn fault_of_place(place: usize, version: u16) -> FileFault {
+    match place {
+        0..=7 => FileFault::NotATable,
+        8..=9 => FileFault::Version(version),
+        16..=23 => FileFault::ClassUnknown,
+        10..=63 => FileFault::HeaderDamaged,
+        _ => FileFault::PageDamaged(0),
+    }
+}
+
+/// Each front of a text is cut off.
 #[test]
-fn damage_is_named(rt: HostRuntime) -> Result<(), Fail> {
+fn fronts_are_cut_off(rt: HostRuntime) {
     let alloc = rt.alloc();
-    let table = zero_table(&rt, &alloc, Class::KK);
-    let mut writer = MemoryWriter::new(&alloc);
-    assert_eq!(rt; write_table(&table, &mut writer), Ok(()));
-    let mut text = writer.taken;
-    assert_eq!(rt; text.len(), 4192);
-    assert_eq!(rt; file_bytes(Class::KK), 4192);
+    let text = text_of_kk(&rt, &alloc);
     assert_eq!(rt; fault(&alloc, text.as_slice()), None);
-    for length in [0usize, 1, 31, 63, 64, 65, 4159, 4160, 4191] {
+    for length in 0..4192usize {
         let (front, _) = text.as_slice().split_at(length.min(text.len()));
         assert_eq!(rt; fault(&alloc, front), Some(FileFault::Cut), "{length}");
     }
-    for (place, want) in [
-        (0usize, FileFault::NotATable),
-        (7, FileFault::NotATable),
-        (8, FileFault::Version(0)),
-        (9, FileFault::Version(257)),
-        (10, FileFault::HeaderDamaged),
-        (15, FileFault::HeaderDamaged),
-        (16, FileFault::ClassUnknown),
-        (23, FileFault::ClassUnknown),
-        (24, FileFault::HeaderDamaged),
-        (63, FileFault::HeaderDamaged),
-        (64, FileFault::PageDamaged(0)),
-        (4159, FileFault::PageDamaged(0)),
-        (4191, FileFault::PageDamaged(0)),
-    ] {
-        if let Some(byte) = text.as_mut_slice().get_mut(place) {
-            *byte ^= 1;
-        }
-        assert_eq!(rt; fault(&alloc, text.as_slice()), Some(want), "{place}");
-        if let Some(byte) = text.as_mut_slice().get_mut(place) {
-            *byte ^= 1;
+}
+
+/// Each turned bit is found and named by its place.
+#[test]
+fn damage_is_named(rt: HostRuntime) -> Result<(), Fail> {
+    let alloc = rt.alloc();
+    let mut text = text_of_kk(&rt, &alloc);
+    for place in 0..4192usize {
+        for bit in [1u8, 2, 4, 8, 16, 32, 64, 128] {
+            let version = match place {
+                8 => 1 ^ bit as u16,
+                _ => 1 + 256 * bit as u16,
+            };
+            turn(text.as_mut_slice(), place, bit);
+            let want = fault_of_place(place, version);
+            assert_eq!(rt; fault(&alloc, text.as_slice()), Some(want), "{place}");
+            turn(text.as_mut_slice(), place, bit);
         }
     }
     text.push(0)?;
@@ -90,6 +108,22 @@ fn damage_is_named(rt: HostRuntime) -> Result<(), Fail> {
         Some(FileFault::Device)
     );
     Ok(())
+}
+
+/// A writer that is full before the end has taken a front of the text, whatever it answers then.
+#[test]
+fn writers_stop(rt: HostRuntime) {
+    let alloc = rt.alloc();
+    let text = text_of_kk(&rt, &alloc);
+    let table = zero_table(&rt, &alloc, Class::KK);
+    for room in 0..4192usize {
+        for when_full in [WhenFull::Fail, WhenFull::TakeNothing] {
+            let mut writer = MemoryWriter::with_room(&alloc, room, when_full);
+            assert_eq!(rt; write_table(&table, &mut writer), Err(FileFault::Device));
+            let (front, _) = text.as_slice().split_at(room.min(text.len()));
+            assert!(rt; writer.taken.as_slice() == front, "{room}");
+        }
+    }
 }
 
 /// The pages of a text, one by one, from a source that fails when it is told.

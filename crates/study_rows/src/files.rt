@@ -1,0 +1,68 @@
+//! A built table, written to a file, read back and damaged.
+use crate::tables::built;
+use std::alloc::{AllocError, Allocator};
+use std::process::Abort;
+use std::test::Fail;
+use study_material::Class;
+use study_retro::TableSet;
+use study_tablefile::memory::{MemoryReader, MemoryWriter};
+use study_tablefile::{FileFault, read_table, write_table};
+
+/// The fault of a text.
+fn fault<A: Allocator>(alloc: &A, text: &[u8]) -> Option<FileFault> {
+    read_table(alloc, &mut MemoryReader::new(text)).err()
+}
+
+/// A text whose first two pages have changed places.
+fn exchanged<'a, A: Allocator>(
+    rt: &impl Abort,
+    alloc: &'a A,
+    text: &[u8],
+) -> Result<Vec<u8, &'a A>, AllocError> {
+    assert!(rt; text.len() == 82_624);
+    let (header, pages) = text.split_at(64);
+    let (first, behind) = pages.split_at(4128);
+    let (second, rest) = behind.split_at(4128);
+    let mut copy = Vec::new(alloc);
+    for part in [header, second, first, rest] {
+        copy.extend_from_slice(part)?;
+    }
+    Ok(copy)
+}
+
+/// The table of king and rook against king, through a writer that takes a byte a call and a reader that gives one.
+#[test]
+fn king_and_rook(rt: HostRuntime) -> Result<(), Fail> {
+    let alloc = rt.alloc();
+    let mut tables = TableSet::new(&alloc).ok().expect(&rt, "a set");
+    for class in [Class::KK, Class::KRK] {
+        let _report = built(&rt, &alloc, &mut tables, class);
+    }
+    let table = tables.table(Class::KRK).expect(&rt, "held");
+    let mut writer = MemoryWriter::new(&alloc);
+    assert_eq!(rt; write_table(table, &mut writer), Ok(()));
+    let mut text = writer.taken;
+    assert_eq!(rt; text.len(), 82_624);
+    let again = read_table(&alloc, &mut MemoryReader::new(text.as_slice()))
+        .ok()
+        .expect(&rt, "read");
+    assert!(rt; again.class() == Class::KRK);
+    assert!(rt; again.cells() == table.cells());
+    let wrong = exchanged(&rt, &alloc, text.as_slice())?;
+    assert_eq!(rt;
+        fault(&alloc, wrong.as_slice()),
+        Some(FileFault::PageDamaged(0))
+    );
+    let (front, _) = text.as_slice().split_at(text.len().min(82_623));
+    assert_eq!(rt; fault(&alloc, front), Some(FileFault::Cut));
+    text.push(0)?;
+    assert_eq!(rt;
+        fault(&alloc, text.as_slice()),
+        Some(FileFault::TrailingBytes)
+    );
+    if let Some(version) = text.as_mut_slice().get_mut(8) {
+        *version = 9;
+    }
+    assert_eq!(rt; fault(&alloc, text.as_slice()), Some(FileFault::Version(9)));
+    Ok(())
+}
