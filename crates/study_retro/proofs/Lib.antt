@@ -11,3 +11,7 @@ pub mod ChessClass
 pub mod SoundLemmas
 pub mod PlaceLemmas
 pub mod ReportLemmas
+pub mod CountLemmas
+pub mod WakeLemmas
+pub mod RisingLemmas
+pub mod FillLemmas

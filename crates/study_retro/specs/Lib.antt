@@ -1,6 +1,7 @@
 pub mod Table
 pub mod Game
 pub mod Report
+pub mod Levels
 pub mod Set
 pub mod Sound
 pub mod Forced

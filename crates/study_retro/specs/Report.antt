@@ -1,5 +1,6 @@
 -- What a report tells of a table's cells.
-use Rattle.std.specs.Prelude.{◌≡◌, ℕ, ◌<◌, ◌≤◌, max, List, length, slice_index, Option, Some, None}
+use Rattle.std.specs.Prelude.{◌≡◌, ℕ, zero, suc, ◌+◌, ◌<◌, ◌≤◌, ◌==◌, nat_lt, ◌||◌, max, if◌then◌else◌, Bool, List, [], ◌∷◌, length, slice_index, Option, Some, None}
+use Rattle.std.specs.List.{count_by}
 use Rattle.study_retro.specs.declared.value.Value.{Value}
 use Rattle.study_retro.specs.declared.value.Value.TheVariants.{Win, Loss, Draw}
 use Rattle.study_retro.specs.Cells.{value_of}
@@ -30,3 +31,26 @@ abbrev pub greater : Option ℕ → Option ℕ → Option ℕ
 greater None b = b
 greater (Some m) None = Some m
 greater (Some m) (Some n) = Some (max m n)
+
+-- the greatest cell: one more than the plies of the longest mate, 0 where there is none
+abbrev pub greatest_cell : List ℕ → ℕ
+greatest_cell [] = 0
+greatest_cell (c ∷ cells) = max c (greatest_cell cells)
+
+-- a cell tells no mate in fewer than k plies
+abbrev pub is_untold : ℕ → ℕ → Bool
+is_untold k c = c == 0 || nat_lt k c
+
+-- how many cells tell no mate in fewer than k plies
+abbrev pub untold : ℕ → List ℕ → ℕ
+untold k cells = count_by (λ c. is_untold k c) cells
+
+-- how many such cells each of the levels below k finds, all together
+abbrev pub untold_below : ℕ → List ℕ → ℕ
+untold_below zero cells = 0
+untold_below (suc k) cells = untold_below k cells + untold k cells
+
+-- how many numbers are decoded until these cells stand: each level decodes the numbers of the cells that tell nothing yet, and the
+-- first level after the longest mate is the last one; where a mate takes all 254 plies, each number is decoded once more instead
+unfoldable pub numbers_decoded : List ℕ → ℕ
+numbers_decoded cells = if greatest_cell cells == 255 then untold_below 255 cells + length cells else untold_below (greatest_cell cells + 1) cells

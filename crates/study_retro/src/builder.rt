@@ -7,7 +7,7 @@ ghost use Rattle.study_index.specs.Number.{cells_of};
 ghost use Rattle.study_retro.specs.Set.{first_missing};
 ghost use Rattle.study_retro.specs.Table.{IsReady};
 ghost use Rattle.study_retro.specs.Sound.{IsRight, NeedsAreRight, HasFarPosition};
-ghost use Rattle.study_retro.specs.Report.{IsGreatest, greater, win_of, loss_of};
+ghost use Rattle.study_retro.specs.Report.{IsGreatest, greater, win_of, loss_of, numbers_decoded};
 
 use crate::check::are_right;
 use crate::class_game::ClassGame;
@@ -53,8 +53,9 @@ pub fn build<'a, A: Allocator>(
     ensures right { NeedsAreRight tables.now class → IfOk result (λ r. IsRight r.0) }
     ensures far { NeedsAreRight tables.now class → IsErrOf result BuildFault.DistanceTooLarge → HasFarPosition class }
 
-    // The report follows from the table, but for `examined`.
+    // The report follows from the table.
     ensures cells { IfOk result (λ r. r.1.cells ≡ cells_of class) }
+    ensures examined { IfOk result (λ r. r.1.examined ≡ numbers_decoded r.0.cells) }
     ensures deepest_win { IfOk result (λ r. IsGreatest win_of r.0.cells r.1.deepest_win) }
     ensures deepest_loss { IfOk result (λ r. IsGreatest loss_of r.0.cells r.1.deepest_loss) }
 {

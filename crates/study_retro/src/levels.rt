@@ -1,5 +1,7 @@
 //! Filling the cells of a class level by level.
-ghost use Rattle.std.specs.Prelude.{◌≡◌, ◌+◌, ◌<◌, ◌≤◌, ◌⊎◌, true, false, length, slice_index, IsTrue, All};
+ghost use Rattle.std.specs.Prelude.{◌≡◌, ◌≢◌, ◌↔◌, ◌+◌, ◌<◌, ◌≤◌, ◌^◌, ◌⊎◌, ℕ, true, false, length, slice_index, IsTrue, All};
+ghost use Rattle.study_retro.specs.Levels.{unset, IsRisen, Rests, GivesMate, Wakes};
+ghost use Rattle.study_retro.specs.Report.{numbers_decoded};
 ghost use Rattle.study_retro.specs.Right.{AreRight, AreRightBelow, IsRightBelowCell, IsSettledCell, IsRightOutside, IsSound, HasFar};
 ghost use Rattle.study_retro.specs.Cells.{label_of};
 ghost use Rattle.study_retro.specs.Class.{IsClass};
@@ -24,6 +26,9 @@ pub fn revise<G: Game>(game: &G, cells: &[u8], number: u32, level: u8) -> Revise
     requires cells { length cells.now ≡ G.size game.now }
     ensures exact { (result.cell ≡ slice_index cells.now number) ⊎ (result.cell ≡ level + 1) }
     ensures same { IsTrue result.settled → result.cell ≡ slice_index cells.now number }
+    ensures decoded { IsTrue result.decoded ↔ (slice_index cells.now number ≡ 0) }
+    ensures rests { IsTrue result.settled → Rests (Leads G.legal G.after) G.mate (label_of (G.home game.now) (G.index game.now) (G.outside game.now) cells.now) (G.position game.now number) (slice_index cells.now number) }
+    ensures waits { result.settled ≡ false → (slice_index cells.now number ≡ 0) × GivesMate (Leads G.legal G.after) G.mate (label_of (G.home game.now) (G.index game.now) (G.outside game.now) cells.now) (G.position game.now number) }
     ensures below { IsRightOutside (Leads G.legal G.after) G.mate (G.known game.now) (G.home game.now) (G.outside game.now) → AreRightBelow (Leads G.legal G.after) G.mate level (G.position game.now) (G.size game.now) cells.now → slice_index cells.now number ≤ level → IsRightBelowCell (Leads G.legal G.after) G.mate (level + 1) (G.position game.now number) result.cell }
     ensures settled { IsRightOutside (Leads G.legal G.after) G.mate (G.known game.now) (G.home game.now) (G.outside game.now) → AreRightBelow (Leads G.legal G.after) G.mate level (G.position game.now) (G.size game.now) cells.now → slice_index cells.now number ≤ level → IsTrue result.settled → IsSettledCell (Leads G.legal G.after) G.mate (label_of (G.home game.now) (G.index game.now) (G.outside game.now) cells.now) (G.position game.now number) (slice_index cells.now number) }
 {
@@ -73,6 +78,12 @@ pub fn sweep<G: Game>(game: &G, cells: &mut [u8], level: u8) -> Swept
     requires level { level < 255 }
     requires cells { length cells.old ≡ G.size game.now }
     ensures sound { IsSound (Leads G.legal G.after) G.mate (G.known game.now) (G.home game.now) (G.outside game.now) (G.position game.now) (G.size game.now) level cells.old → IsSound (Leads G.legal G.after) G.mate (G.known game.now) (G.home game.now) (G.outside game.now) (G.position game.now) (G.size game.now) (level + 1) cells.new }
+    ensures decoded { result.decoded ≡ unset cells.old }
+    ensures few { result.decoded < 2 ^ 32 }
+    ensures risen { IsRisen (level + 1) cells.old cells.new }
+    ensures still { IsTrue result.quiet → cells.new ≡ cells.old }
+    ensures rests { IsTrue result.quiet → (n : ℕ) → n < G.size game.now → Rests (Leads G.legal G.after) G.mate (label_of (G.home game.now) (G.index game.now) (G.outside game.now) cells.new) (G.position game.now n) (slice_index cells.new n) }
+    ensures wakes { result.quiet ≡ false → Wakes (Leads G.legal G.after) G.mate (G.home game.now) (G.index game.now) (G.outside game.now) (G.position game.now) (G.size game.now) cells.old cells.new }
     ensures quiet { IsSound (Leads G.legal G.after) G.mate (G.known game.now) (G.home game.now) (G.outside game.now) (G.position game.now) (G.size game.now) level cells.old → IsTrue result.quiet → AreRight (Leads G.legal G.after) G.mate (G.position game.now) (G.size game.now) cells.new }
 {
     let mut quiet = true;
@@ -102,6 +113,7 @@ pub fn fill<G: Game>(game: &G, cells: &mut [u8]) -> Filled
     requires laws { IsClass (Leads G.legal G.after) G.mate (G.known game.now) (G.home game.now) (G.index game.now) (G.outside game.now) (G.position game.now) (G.size game.now) (G.image game.now) }
     requires cells { length cells.old ≡ G.size game.now }
     ensures right { IsRightOutside (Leads G.legal G.after) G.mate (G.known game.now) (G.home game.now) (G.outside game.now) → All (λ c. c ≡ 0) cells.old → IsTrue result.fits → AreRight (Leads G.legal G.after) G.mate (G.position game.now) (G.size game.now) cells.new }
+    ensures decoded { All (λ c. c ≡ 0) cells.old → IsTrue result.fits → result.decoded ≡ numbers_decoded cells.new }
     ensures far { IsRightOutside (Leads G.legal G.after) G.mate (G.known game.now) (G.home game.now) (G.outside game.now) → All (λ c. c ≡ 0) cells.old → result.fits ≡ false → HasFar (Leads G.legal G.after) G.mate (G.known game.now) (G.home game.now) }
 {
     let mut decoded = 0u64;

@@ -2,7 +2,7 @@ use Rattle.std.proofs.Common.{◌≡◌, ◌∙◌, ℕ, Bool, true, false, not,
 use Rattle.std.proofs.Math.Seq.{take-append_seam}
 use Rattle.std.specs.List.{All}
 use Rattle.study_retro.specs.Table.{Table}
-use Rattle.study_retro.specs.Report.{IsGreatest, win_of, loss_of}
+use Rattle.study_retro.specs.Report.{IsGreatest, win_of, loss_of, numbers_decoded}
 use Rattle.study_retro.proofs.ChessClass.{chess_class}
 use Rattle.study_retro.proofs.SetLemmas.{first_missing-none}
 use Rattle.study_retro.proofs.SoundLemmas.{outside_right, table_right, far-from}
@@ -57,3 +57,9 @@ pub returns-clause-deepest_loss : goal.returns-clause-deepest_loss
 returns-clause-deepest_loss g c =
     let same = c.as_slice.ensures.value ∙ sym (ap (λ (t : Table). t.cells) c.from_cells.ensures) in
     subst (λ (xs : List ℕ). IsGreatest loss_of xs c.greatest_distances-deepest.result.loss) same c.greatest_distances-deepest.ensures.loss
+
+pub returns-clause-examined : goal.returns-clause-examined
+returns-clause-examined g c =
+    let zero = subst (λ (xs : List ℕ). All (λ n. n ≡ 0) xs) (sym c.as_mut_slice.ensures.value) c.into_cells-cells.ensures.zero in
+    let same = ap (λ (t : Table). t.cells) c.from_cells.ensures ∙ written _ c.fill-filled.new.cells _ (c.fill-filled.auto.cells ∙ c.as_mut_slice.ensures.len) in
+    c.fill-filled.ensures.decoded zero (fits_where c.fill-filled.result.fits c.if-not-filled.false) ∙ sym (ap numbers_decoded same)
