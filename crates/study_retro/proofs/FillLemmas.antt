@@ -4,10 +4,10 @@ use Rattle.std.specs.Prelude.{All}
 use Rattle.study_retro.specs.declared.value.Value.{Value}
 use Rattle.study_retro.specs.Cells.{label_of}
 use Rattle.study_retro.specs.Right.{IsGivenCell}
-use Rattle.study_retro.specs.Report.{greatest_cell, untold_below, numbers_decoded}
+use Rattle.study_retro.specs.Report.{greatest_cell, numbers_decoded}
 use Rattle.study_retro.specs.Levels.{unset, IsRisen, Grows, Rests, Wakes}
 use Rattle.study_retro.proofs.WakeLemmas.{Grows-self}
-use Rattle.study_retro.proofs.CountLemmas.{unset-untold, untold-risen, untold_below-risen, untold_below-next, greatest_is, decoded-quiet, decoded-full}
+use Rattle.study_retro.proofs.CountLemmas.{untold_below, unset-untold, untold-risen, untold_below-risen, untold_below-next, greatest_is, decoded-quiet, decoded-full}
 
 module _ {P : Type 0} (leads : P → P → Type 0) (mate : P → Type 0) (home : P → Bool) (index : P → ℕ) (outside : P → Value) (position : ℕ → Option P) (size : ℕ) where
   -- some cell is 0 or has just been set to this, and cannot stay 0 for good
@@ -71,7 +71,7 @@ module _ {P : Type 0} (leads : P → P → Type 0) (mate : P → Type 0) (home :
       (λ n b z. elim (subst (λ (xs : List ℕ). Rests leads mate (label_of home index outside xs) (position n) (slice_index xs n)) same (rests n b)) [ inl set ↦ absurd (set z) | inr g ↦ g ]) in
       let found = unset-untold level cells (λ n b. s.near n (omega (arith, e))) in
       let told = s.counted in
-      let whole = decoded-quiet cells level l (top_is level decoded cells e s given) in
+      let whole = decoded-quiet cells level l (λ n b. s.near n (omega (arith, e))) (top_is level decoded cells e s given) in
       rw same (omega arith)
 
   -- no level was quiet, and each cell is given
@@ -81,5 +81,5 @@ module _ {P : Type 0} (leads : P → P → Type 0) (mate : P → Type 0) (home :
       let zero_given : (n : ℕ) → n < size → slice_index cells n ≡ 0 → IsGivenCell leads mate (label_of home index outside cells) (position n) 0 =
       (λ n b z. subst (λ (c : ℕ). IsGivenCell leads mate (label_of home index outside cells) (position n) c) z (given n b)) in
       let told = s.counted in
-      let whole = decoded-full cells level last (top_is level decoded cells e s zero_given) in
+      let whole = decoded-full cells level last (λ n b. s.near n (omega (arith, e))) (top_is level decoded cells e s zero_given) in
       omega arith

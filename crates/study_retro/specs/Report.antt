@@ -1,6 +1,5 @@
 -- What a report tells of a table's cells.
-use Rattle.std.specs.Prelude.{◌≡◌, ℕ, zero, suc, ◌+◌, ◌<◌, ◌≤◌, ◌==◌, nat_lt, ◌||◌, max, if◌then◌else◌, Bool, List, [], ◌∷◌, length, slice_index, Option, Some, None}
-use Rattle.std.specs.List.{count_by}
+use Rattle.std.specs.Prelude.{◌≡◌, ℕ, ◌+◌, ◌<◌, ◌≤◌, ◌==◌, max, sum_by, if◌then◌else◌, List, [], ◌∷◌, length, slice_index, Option, Some, None}
 use Rattle.study_retro.specs.declared.value.Value.{Value}
 use Rattle.study_retro.specs.declared.value.Value.TheVariants.{Win, Loss, Draw}
 use Rattle.study_retro.specs.Cells.{value_of}
@@ -37,20 +36,11 @@ abbrev pub greatest_cell : List ℕ → ℕ
 greatest_cell [] = 0
 greatest_cell (c ∷ cells) = max c (greatest_cell cells)
 
--- a cell tells no mate in fewer than k plies
-abbrev pub is_untold : ℕ → ℕ → Bool
-is_untold k c = c == 0 || nat_lt k c
+-- how often the number of a cell is decoded: at each level until the cell is set, which for a cell of 0 is at each level up to the
+-- first that adds nothing; and once more where a mate takes all 254 plies, after which no level is tried
+abbrev pub times_decoded : ℕ → ℕ → ℕ
+times_decoded top c = if c == 0 then top + 1 else if top == 255 then c + 1 else c
 
--- how many cells tell no mate in fewer than k plies
-abbrev pub untold : ℕ → List ℕ → ℕ
-untold k cells = count_by (λ c. is_untold k c) cells
-
--- how many such cells each of the levels below k finds, all together
-abbrev pub untold_below : ℕ → List ℕ → ℕ
-untold_below zero cells = 0
-untold_below (suc k) cells = untold_below k cells + untold k cells
-
--- how many numbers are decoded until these cells stand: each level decodes the numbers of the cells that tell nothing yet, and the
--- first level after the longest mate is the last one; where a mate takes all 254 plies, each number is decoded once more instead
+-- how many numbers are decoded until these cells stand
 unfoldable pub numbers_decoded : List ℕ → ℕ
-numbers_decoded cells = if greatest_cell cells == 255 then untold_below 255 cells + length cells else untold_below (greatest_cell cells + 1) cells
+numbers_decoded cells = sum_by (λ c. times_decoded (greatest_cell cells) c) cells

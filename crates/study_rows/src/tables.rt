@@ -54,6 +54,16 @@ fn hex(digit: u8) -> u8 {
     }
 }
 
+/// How many numbers are decoded by a builder that goes over all numbers whose cell is still 0 once a ply, and ends with the first
+/// ply after the longest mate: the cell of a mate in n plies is set when it has been decoded n + 1 times.
+fn times_decoded(cells: &[u8]) -> u64 {
+    let plies = cells.iter().copied().max().unwrap_or(0);
+    cells
+        .iter()
+        .map(|cell| if *cell == 0 { u64::from(plies) + 1 } else { u64::from(*cell) })
+        .fold(0, u64::saturating_add)
+}
+
 /// Cells, deepest distances and digests of the cells, from a builder of another kind that was compared with Gaviota's tables.
 #[test]
 fn tables_of_up_to_three_men(rt: HostRuntime) {
@@ -116,10 +126,10 @@ fn tables_of_up_to_three_men(rt: HostRuntime) {
         assert_eq!(rt; report.cells, count);
         assert_eq!(rt; report.deepest_win, win);
         assert_eq!(rt; report.deepest_loss, loss);
-        assert!(rt; report.examined >= u64::from(count));
         match tables.table(class) {
             None => assert!(rt; false, "not held"),
             Some(table) => {
+                assert_eq!(rt; report.examined, times_decoded(table.cells()));
                 assert!(rt; table.class() == class);
                 assert!(rt; is_digest(table.cells(), digest), "{class:?}");
             }
