@@ -16,14 +16,15 @@ use Rattle.study_board.specs.declared.men.Kind.{Kind}
 use Rattle.study_board.specs.declared.men.Kind.TheVariants.{King, Queen, Rook, Bishop, Knight, Pawn}
 use Rattle.study_notation.specs.declared.placement.Piece.{Piece}
 use Rattle.study_board.specs.declared.men.Man.{Man}
-use Rattle.study_notation.specs.Fen.{placement_fault, position_of, is_run, is_known, is_rank, is_digit, squares, squares_of, men_from, placement, side_of, passed_of, count_of, words, fields_of, start_of}
+use Rattle.study_notation.specs.Fen.{placement_fault, position_of, is_run, is_known, is_rank, is_digit, squares, squares_of, men_from, placement, side_of, passed_of, count_of, fields_of, start_of}
 use Rattle.study_notation.specs.FenSpelling.{letter, piece_on, row, run, spelled, rank_text, ranks_text, placement_text, side_text, passed_text, fen_text}
 use Rattle.std.specs.List.{All}
 use Rattle.std.proofs.lemmas.List.Elements.{All-head, All-tail}
 use Rattle.study_board.specs.Position.{IsValid, AllAbove, IsAscending, could_be_passed, passed_possible}
 use Rattle.study_board.proofs.Valid.{IsFaultless, IsFaultless-from_first}
 use Rattle.study_notation.specs.declared.start.Start.{Start}
-use Rattle.study_notation.proofs.Words.{is_space, is_word, words_cons}
+use Rattle.study_notation.specs.Words.{is_space, words}
+use Rattle.study_notation.proofs.FirstWord.{is_word, words_cons}
 use Rattle.study_notation.proofs.Ranks.{is_stroke}
 
 -- ---- cutting a text at a byte

@@ -1,4 +1,4 @@
-pub mod Words
+pub mod FirstWord
 pub mod Ranks
 pub mod Counts
 pub mod Sorted

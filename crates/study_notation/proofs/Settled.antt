@@ -17,7 +17,8 @@ use Rattle.study_board.specs.Position.{Position, IsValid, IsAscending, in_check,
 use Rattle.study_notation.specs.declared.start.Start.{Start}
 use Rattle.study_notation.specs.declared.fault.FenFault.{FenFault}
 use Rattle.study_notation.specs.declared.placement.Piece.{Piece}
-use Rattle.study_notation.specs.Fen.{◌>>=◌, refuse, refuse_any, needed, words, fields_of, is_rank, squares, men_from, placement, placement_fault, side_of, is_dash, passed_of, position_of, is_digit, count_of, start_of}
+use Rattle.study_notation.specs.Fen.{◌>>=◌, refuse, refuse_any, needed, fields_of, is_rank, squares, men_from, placement, placement_fault, side_of, is_dash, passed_of, position_of, is_digit, count_of, start_of}
+use Rattle.study_notation.specs.Words.{words}
 use Rattle.study_notation.specs.FenSpelling.{fen_text}
 use Rattle.study_notation.proofs.Ranks.{rank_len}
 use Rattle.study_notation.proofs.Counts.{digit_is}

@@ -1,5 +1,6 @@
 -- What a FEN text says: the start, or the first fault.
-use Rattle.std.specs.Prelude.{ℕ, ◌+◌, ◌-◌, ◌*◌, Bool, true, false, not, ◌&&◌, ◌||◌, List, [], ◌∷◌, length, reverse, replicate, Option, Some, None, Result, Ok, Err, filter, nat_le, nat_lt, ◌==◌, if◌then◌else◌, is_some}
+use Rattle.study_notation.specs.Words.{words}
+use Rattle.std.specs.Prelude.{ℕ, ◌+◌, ◌-◌, ◌*◌, Bool, true, false, not, ◌&&◌, ◌||◌, List, [], ◌∷◌, length, reverse, replicate, Option, Some, None, Result, Ok, Err, nat_le, nat_lt, ◌==◌, if◌then◌else◌, is_some}
 use Rattle.std.specs.List.{slice_split, flat_map, list_all}
 use Rattle.std.specs.Str.Parse.{digits_value}
 use Rattle.study_board.specs.declared.men.Side.{Side}
@@ -17,10 +18,6 @@ use Rattle.study_notation.specs.declared.fault.FenFault.{FenFault}
 use Rattle.study_notation.specs.declared.fault.FenFault.TheVariants.{FieldCount, Placement, TooManyMen, KingCount, PawnOnEndRank, SideField, OpponentInCheck, Castling, EnPassantField, EnPassantImpossible, Clock, MoveNumber}
 
 -- ---- the fields
-
--- what stands between spaces
-unfoldable pub words : List ℕ → List (List ℕ)
-words text = filter (λ word. not (length word == 0)) (slice_split (λ b. b == 32) text)
 
 pub record Fields : Type 0 where
   pub placement : List ℕ

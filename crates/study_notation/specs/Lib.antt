@@ -1,3 +1,4 @@
+pub mod Words
 pub mod Fen
 pub mod FieldsView
 pub mod FenSpelling

@@ -2,9 +2,11 @@
 ghost use Rattle.std.specs.Prelude.{◌≡◌, ◌<◌, ◌≤◌, ◌+◌, ◌++◌, ◌∷◌, [], ◌==◌, length, IfSome, IfNone};
 ghost use Rattle.std.specs.Option.{option_map};
 ghost use Rattle.std.specs.List.{position_or_len};
-ghost use Rattle.study_notation.specs.Fen.{words, fields_of, side_of, passed_of, count_of, is_dash};
+ghost use Rattle.study_notation.specs.Fen.{fields_of, side_of, passed_of, count_of, is_dash};
 ghost use Rattle.study_notation.specs.FieldsView.{fields_view};
+ghost use Rattle.study_notation.specs.Words.{words};
 
+use crate::words::next_word;
 use study_board::{Side, Square};
 
 /// The six fields of a FEN text.
@@ -16,38 +18,6 @@ pub struct FieldTexts<'a> {
     pub passed: &'a [u8],
     pub clock: &'a [u8],
     pub number: &'a [u8],
-}
-
-// Where the first space stands, or the length of a text with none.
-fn first_space(text: &[u8]) -> usize
-    ensures value { result ≡ position_or_len (λ b. b == 32) text.now }
-    ensures within { result ≤ length text.now }
-{
-    for (i, b) in text.iter().enumerate() {
-        if *b == b' ' {
-            return i;
-        }
-    }
-    text.len()
-}
-
-// The first word, and what follows it.
-fn next_word(text: &[u8]) -> Option<(&[u8], &[u8])>
-    ensures some { IfSome result (λ x. words text.now ≡ x.0.now ∷ words x.1.now) }
-    ensures none { IfNone result (words text.now ≡ []) }
-{
-    let mut rest = text;
-    loop {
-        let i = first_space(rest);
-        if i > 0 {
-            return Some(rest.split_at(i));
-        }
-        if rest.is_empty() {
-            return None;
-        }
-        let (_, after) = rest.split_at(1);
-        rest = after;
-    }
 }
 
 /// The fields of a text that has six of them, or four.

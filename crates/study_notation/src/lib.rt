@@ -21,6 +21,7 @@ mod san_writer;
 mod start;
 #[cfg(test)]
 mod tests;
+pub mod words;
 
 pub use fault::{FenFault, SanFault};
 pub use fen_reader::read_fen;

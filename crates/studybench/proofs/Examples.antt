@@ -4,7 +4,7 @@ use Rattle.std.specs.Prelude.{codes}
 use Rattle.studybench.specs.declared.command.Node.TheVariants.{Below}
 use Rattle.studybench.specs.declared.refusal.Refusal.TheVariants.{BadByte, UnknownCommand, BadArguments}
 use Rattle.studybench.specs.Lines.{lines_of}
-use Rattle.studybench.specs.Words.{words, behind_word}
+use Rattle.study_notation.specs.Words.{words, behind_word}
 use Rattle.studybench.specs.Asking.{position, solve, Asks, is_path, node_of, command_of}
 
 -- a line feed that ends the script begins no line

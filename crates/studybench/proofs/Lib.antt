@@ -1,5 +1,4 @@
 pub mod Taken
-pub mod FirstWord
 pub mod Printable
 pub mod Replied
 pub mod Ran

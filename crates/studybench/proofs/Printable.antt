@@ -4,7 +4,7 @@ use Rattle.std.specs.Prelude.{not, ◌&&◌, nat_le}
 use Rattle.std.specs.List.{list_all, prefix_len}
 use Rattle.std.specs.Str.{IsAscii}
 use Rattle.std.proofs.lemmas.Bool.{leb-true}
-use Rattle.studybench.specs.Words.{is_space, begun_word, behind_word}
+use Rattle.study_notation.specs.Words.{is_space, begun_word, behind_word}
 use Rattle.studybench.specs.Asking.{is_printable}
 
 both : (x y : Bool) → (x && y) ≡ true → (x ≡ true) × (y ≡ true)

@@ -2,7 +2,7 @@
 use Rattle.std.specs.Prelude.{ℕ, ◌-◌, Bool, false, not, ◌&&◌, ◌==◌, nat_le, List, [], ◌∷◌, length, Option, Some, None, Result, Ok, Err, if◌then◌else◌, codes}
 use Rattle.std.specs.List.{list_all, slice_split}
 use Rattle.std.specs.Str.{bytes_eq}
-use Rattle.studybench.specs.Words.{words, behind_word}
+use Rattle.study_notation.specs.Words.{words, behind_word}
 use Rattle.studybench.specs.declared.command.Node.{Node}
 use Rattle.studybench.specs.declared.command.Node.TheVariants.{Root, Below}
 use Rattle.studybench.specs.declared.command.MoveCount.{MoveCount}

@@ -1,5 +1,4 @@
 pub mod Lines
-pub mod Words
 pub mod Asking
 pub mod Names
 pub mod Replies

@@ -2,13 +2,13 @@
 ghost use Rattle.std.specs.Prelude.{◌≡◌, true};
 ghost use Rattle.std.specs.Option.{option_map};
 ghost use Rattle.std.specs.List.{list_all, slice_split};
-ghost use Rattle.studybench.specs.Words.{words};
+ghost use Rattle.study_notation.specs.Words.{words};
 ghost use Rattle.studybench.specs.Asking.{is_printable, is_digit, is_place, is_path, node_of, count_of, begins_comment, position_asked, moves_asked, solve_asked, command_of, seen, count_seen};
 
 use crate::command::{Command, MoveCount, Node};
 use crate::refusal::Refusal;
-use crate::words::next_word;
 use std::str;
+use study_notation::words::next_word;
 
 /// What the line asks for: nothing in a comment or between words, else a command, or the first fault of form.
 #[tactic(auto, unfolding(crate::specs::Asking::command_of))]

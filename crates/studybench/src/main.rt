@@ -10,27 +10,46 @@ mod asking;
 mod command;
 pub mod laws;
 mod lines;
+mod options;
 mod refusal;
 mod reply;
 mod run;
-mod words;
 
+use options::read_words;
 use run::{RunFault, Summary, run};
 use std::io::{BufReader, LineWriter, Write};
 use std::process::ExitCode;
+use std::{env, io};
 
 /// Reads the script from standard input and writes each reply to standard output as soon as its line is answered.
 ///
-/// The exit status is 0 where no line was refused, 1 where some line was, and 3 where the run stopped at a fault,
-/// whose name then goes to standard error.
+/// The exit status is 0 where no line was refused, 1 where some line was, 2 where the command line was refused, and 3
+/// where the run stopped at a fault, whose name then goes to standard error.
 fn main(rt: HostRuntime) -> ExitCode {
+    let Ok(words) = words_of(&rt) else {
+        return stopped(&rt, RunFault::OutOfMemory);
+    };
+    if let Err(error) = read_words(rt.alloc(), words.as_slice()) {
+        let printed = error.print(&rt).is_ok();
+        return ExitCode::from(match error.exit_code() {
+            0 if printed => 0,
+            0 => 3,
+            _ => 2,
+        });
+    }
     match run_on_streams(&rt) {
         Ok(summary) => ExitCode::from(u8::from(summary.refused > 0)),
-        Err(fault) => {
-            let _ = eprintln!(rt; "studybench: {fault}");
-            ExitCode::from(3)
-        }
+        Err(fault) => stopped(&rt, fault),
     }
+}
+
+fn words_of(rt: &HostRuntime) -> io::Result<Vec<String>> {
+    Ok(env::args(rt)?.collect(rt.alloc())?)
+}
+
+fn stopped(rt: &HostRuntime, fault: RunFault) -> ExitCode {
+    let _ = eprintln!(rt; "studybench: {fault}");
+    ExitCode::from(3)
 }
 
 fn run_on_streams(rt: &HostRuntime) -> Result<Summary, RunFault> {

@@ -1,4 +1,4 @@
--- The words of a line.
+-- The words of a text.
 use Rattle.std.specs.Prelude.{ℕ, Bool, not, ◌==◌, List, length, filter, drop}
 use Rattle.std.specs.List.{slice_split, prefix_len}
 

@@ -1,7 +1,7 @@
 use Rattle.std.proofs.Common.{length, drop, sym, ap, ◌∙◌, arith}
 use Rattle.std.proofs.lemmas.Bool.{eqb-true, eqb-false}
-use Rattle.studybench.proofs.FirstWord.{words-cut, words_none}
-use Rattle.studybench.proofs.words.next_word.Goals as goal
+use Rattle.study_notation.proofs.FirstWord.{words-cut, words_none}
+use Rattle.study_notation.proofs.words.next_word.Goals as goal
 
 pub returns-then-is_empty-clause-none : goal.returns-then-is_empty-clause-none
 returns-then-is_empty-clause-none c = words_none c.args.line.now (ap (λ n. length (drop n c.args.line.now)) (sym c.space_len.ensures.value) ∙ ap length (sym c.split_at.ensures.back) ∙ eqb-true _ _ (sym c.is_empty.ensures ∙ c.if-is_empty.true))

@@ -5,7 +5,7 @@ use Rattle.std.specs.List.{slice_split, onto_first, prefix_len}
 use Rattle.std.proofs.lemmas.Bool.{cases_Bool, ne_eqb}
 use Rattle.std.proofs.lemmas.List.Folds.{length-prefix_len}
 use Rattle.std.proofs.lemmas.List.{nil_from_length}
-use Rattle.studybench.specs.Words.{is_space, words, begun_word, behind_word}
+use Rattle.study_notation.specs.Words.{is_space, words, begun_word, behind_word}
 
 abbrev pub is_letter : ℕ → Bool
 is_letter b = not (is_space b)
@@ -48,14 +48,14 @@ words_behind (b ∷ text) =
       | inr letter ↦ rw letter (ap (λ k. words (drop k (b ∷ text))) (sym (one_more (word_len text))) ∙ words_behind text ∙ ap (λ k. filter is_word (parts_behind (drop k (b ∷ text)))) (one_more (word_len text)))
     ]
 
-filter-word : (w : List ℕ) (ws : List (List ℕ)) → 0 < length w → filter is_word (w ∷ ws) ≡ w ∷ filter is_word ws
-filter-word w ws h = rw (ne_eqb (length w) 0 (λ e. omega arith)) refl
+pub words_cons : (w : List ℕ) (ws : List (List ℕ)) → 0 < length w → filter is_word (w ∷ ws) ≡ w ∷ filter is_word ws
+words_cons w ws h = rw (ne_eqb (length w) 0 (λ e. omega arith)) refl
 
 words_first : (text : List ℕ) → 0 < word_len text → words text ≡ take (word_len text) text ∷ words (drop (word_len text) text)
 unfolding words
 words_first text h =
     let long : 0 < length (take (word_len text) text) = omega (arith, length-prefix_len is_letter text) in
-    ap (filter is_word) (split_word text) ∙ filter-word (take (word_len text) text) (parts_behind (drop (word_len text) text)) long ∙ ap (λ (ws : List (List ℕ)). take (word_len text) text ∷ ws) (sym (words_behind text))
+    ap (filter is_word) (split_word text) ∙ words_cons (take (word_len text) text) (parts_behind (drop (word_len text) text)) long ∙ ap (λ (ws : List (List ℕ)). take (word_len text) text ∷ ws) (sym (words_behind text))
 
 begun_long : (line : List ℕ) → 0 < length (begun_word line) → 0 < word_len (begun_word line)
 begun_long [] h = absurd (omega arith)

@@ -1,9 +1,9 @@
-//! The words of a line.
+//! The words of a text.
 ghost use Rattle.std.specs.Prelude.{◌≡◌, ◌≤◌, ◌∷◌, [], length, not, IfSome, IfNone};
 ghost use Rattle.std.specs.List.{prefix_len, list_all, slice_split};
-ghost use Rattle.studybench.specs.Words.{is_space, words, behind_word};
+ghost use Rattle.study_notation.specs.Words.{is_space, words, behind_word};
 
-/// The first word of a line, and what stands behind it.
+/// The first word of a text, and what stands behind it. Words stand between spaces.
 pub fn next_word(line: &[u8]) -> Option<(&[u8], &[u8])>
     ensures some { IfSome result (λ found. words line.now ≡ found.0.now ∷ words found.1.now) }
     ensures behind { IfSome result (λ found. found.1.now ≡ behind_word line.now) }
