@@ -44,127 +44,155 @@ fn position(
     Position::new(men.as_slice(), to_move, square)
 }
 
+/// Letters of men on squares, the side to move, the passed square, and the fault of them.
+const FAULTS: [(&[(char, u8)], Side, Option<u8>, PositionFault); 24] = [
+    // Each fault alone.
+    (
+        &[('K', 0), ('k', 63), ('R', 9), ('R', 18), ('N', 27)],
+        Side::White,
+        None,
+        PositionFault::TooManyMen,
+    ),
+    (
+        &[('K', 0), ('k', 63), ('R', 9), ('B', 9)],
+        Side::White,
+        None,
+        PositionFault::SquareTwice,
+    ),
+    (
+        &[('K', 0), ('R', 9)],
+        Side::White,
+        None,
+        PositionFault::KingCount,
+    ),
+    (
+        &[('K', 0), ('k', 63), ('P', 60)],
+        Side::White,
+        None,
+        PositionFault::PawnOnEndRank,
+    ),
+    (
+        &[('K', 0), ('k', 63), ('p', 3)],
+        Side::White,
+        None,
+        PositionFault::PawnOnEndRank,
+    ),
+    (
+        &[('K', 0), ('k', 63), ('R', 7)],
+        Side::White,
+        None,
+        PositionFault::OpponentInCheck,
+    ),
+    (
+        &[('K', 48), ('k', 56)],
+        Side::White,
+        None,
+        PositionFault::OpponentInCheck,
+    ),
+    (
+        &[('K', 0), ('k', 63)],
+        Side::White,
+        Some(44),
+        PositionFault::EnPassantImpossible,
+    ),
+    // Each two together: the earlier is told.
+    (
+        &[('K', 0), ('k', 63), ('R', 9), ('R', 9), ('N', 27)],
+        Side::White,
+        None,
+        PositionFault::TooManyMen,
+    ),
+    (
+        &[('K', 0), ('K', 63), ('R', 9), ('R', 8), ('N', 27)],
+        Side::White,
+        None,
+        PositionFault::TooManyMen,
+    ),
+    (
+        &[('K', 0), ('k', 63), ('R', 9), ('R', 8), ('P', 60)],
+        Side::White,
+        None,
+        PositionFault::TooManyMen,
+    ),
+    (
+        &[('K', 0), ('k', 63), ('R', 7), ('R', 8), ('N', 27)],
+        Side::White,
+        None,
+        PositionFault::TooManyMen,
+    ),
+    (
+        &[('K', 0), ('k', 63), ('R', 9), ('R', 8), ('N', 27)],
+        Side::White,
+        Some(44),
+        PositionFault::TooManyMen,
+    ),
+    (
+        &[('K', 0), ('K', 0)],
+        Side::White,
+        None,
+        PositionFault::SquareTwice,
+    ),
+    (
+        &[('K', 0), ('k', 63), ('P', 60), ('P', 60)],
+        Side::White,
+        None,
+        PositionFault::SquareTwice,
+    ),
+    (
+        &[('K', 0), ('k', 63), ('R', 7), ('R', 7)],
+        Side::White,
+        None,
+        PositionFault::SquareTwice,
+    ),
+    (
+        &[('K', 0), ('k', 63), ('R', 9), ('B', 9)],
+        Side::White,
+        Some(44),
+        PositionFault::SquareTwice,
+    ),
+    (
+        &[('K', 0), ('P', 60)],
+        Side::White,
+        None,
+        PositionFault::KingCount,
+    ),
+    (
+        &[('K', 0), ('k', 63), ('k', 56), ('R', 7)],
+        Side::White,
+        None,
+        PositionFault::KingCount,
+    ),
+    (&[('K', 0)], Side::White, Some(44), PositionFault::KingCount),
+    (
+        &[('K', 0), ('k', 63), ('R', 7), ('P', 60)],
+        Side::White,
+        None,
+        PositionFault::PawnOnEndRank,
+    ),
+    (
+        &[('K', 0), ('k', 63), ('P', 60)],
+        Side::White,
+        Some(44),
+        PositionFault::PawnOnEndRank,
+    ),
+    (
+        &[('K', 0), ('k', 63), ('R', 7)],
+        Side::White,
+        Some(44),
+        PositionFault::OpponentInCheck,
+    ),
+    // A man stands behind the passed square.
+    (
+        &[('K', 4), ('k', 24), ('P', 27), ('R', 11)],
+        Side::Black,
+        Some(19),
+        PositionFault::EnPassantImpossible,
+    ),
+];
+
 #[test]
 fn faults_in_order(rt: HostRuntime) {
-    use PositionFault::{
-        EnPassantImpossible, KingCount, OpponentInCheck, PawnOnEndRank, SquareTwice, TooManyMen,
-    };
-    use Side::{Black, White};
-    let table: [(&[(char, u8)], Side, Option<u8>, PositionFault); 24] = [
-        // Each fault alone.
-        (
-            &[('K', 0), ('k', 63), ('R', 9), ('R', 18), ('N', 27)],
-            White,
-            None,
-            TooManyMen,
-        ),
-        (
-            &[('K', 0), ('k', 63), ('R', 9), ('B', 9)],
-            White,
-            None,
-            SquareTwice,
-        ),
-        (&[('K', 0), ('R', 9)], White, None, KingCount),
-        (
-            &[('K', 0), ('k', 63), ('P', 60)],
-            White,
-            None,
-            PawnOnEndRank,
-        ),
-        (&[('K', 0), ('k', 63), ('p', 3)], White, None, PawnOnEndRank),
-        (
-            &[('K', 0), ('k', 63), ('R', 7)],
-            White,
-            None,
-            OpponentInCheck,
-        ),
-        (&[('K', 48), ('k', 56)], White, None, OpponentInCheck),
-        (&[('K', 0), ('k', 63)], White, Some(44), EnPassantImpossible),
-        // Each two together: the earlier is told.
-        (
-            &[('K', 0), ('k', 63), ('R', 9), ('R', 9), ('N', 27)],
-            White,
-            None,
-            TooManyMen,
-        ),
-        (
-            &[('K', 0), ('K', 63), ('R', 9), ('R', 8), ('N', 27)],
-            White,
-            None,
-            TooManyMen,
-        ),
-        (
-            &[('K', 0), ('k', 63), ('R', 9), ('R', 8), ('P', 60)],
-            White,
-            None,
-            TooManyMen,
-        ),
-        (
-            &[('K', 0), ('k', 63), ('R', 7), ('R', 8), ('N', 27)],
-            White,
-            None,
-            TooManyMen,
-        ),
-        (
-            &[('K', 0), ('k', 63), ('R', 9), ('R', 8), ('N', 27)],
-            White,
-            Some(44),
-            TooManyMen,
-        ),
-        (&[('K', 0), ('K', 0)], White, None, SquareTwice),
-        (
-            &[('K', 0), ('k', 63), ('P', 60), ('P', 60)],
-            White,
-            None,
-            SquareTwice,
-        ),
-        (
-            &[('K', 0), ('k', 63), ('R', 7), ('R', 7)],
-            White,
-            None,
-            SquareTwice,
-        ),
-        (
-            &[('K', 0), ('k', 63), ('R', 9), ('B', 9)],
-            White,
-            Some(44),
-            SquareTwice,
-        ),
-        (&[('K', 0), ('P', 60)], White, None, KingCount),
-        (
-            &[('K', 0), ('k', 63), ('k', 56), ('R', 7)],
-            White,
-            None,
-            KingCount,
-        ),
-        (&[('K', 0)], White, Some(44), KingCount),
-        (
-            &[('K', 0), ('k', 63), ('R', 7), ('P', 60)],
-            White,
-            None,
-            PawnOnEndRank,
-        ),
-        (
-            &[('K', 0), ('k', 63), ('P', 60)],
-            White,
-            Some(44),
-            PawnOnEndRank,
-        ),
-        (
-            &[('K', 0), ('k', 63), ('R', 7)],
-            White,
-            Some(44),
-            OpponentInCheck,
-        ),
-        // A man stands behind the passed square.
-        (
-            &[('K', 4), ('k', 24), ('P', 27), ('R', 11)],
-            Black,
-            Some(19),
-            EnPassantImpossible,
-        ),
-    ];
-    for (letters, to_move, passed, fault) in table {
+    for (letters, to_move, passed, fault) in FAULTS {
         match position(&rt, letters, to_move, passed) {
             Ok(_) => assert!(rt; false, "no fault, and not {fault}"),
             Err(found) => assert_eq!(rt; found, fault),

@@ -60,68 +60,66 @@ fn times_decoded(cells: &[u8]) -> u64 {
     let plies = cells.iter().copied().max().unwrap_or(0);
     cells
         .iter()
-        .map(|cell| if *cell == 0 { u64::from(plies) + 1 } else { u64::from(*cell) })
+        .map(|cell| if *cell == 0 {
+            u64::from(plies) + 1
+        } else {
+            u64::from(*cell)
+        })
         .fold(0, u64::saturating_add)
 }
 
 /// Cells, deepest distances and digests of the cells, from a builder of another kind that was compared with Gaviota's tables.
+const ROWS: [(Class, u32, Option<u8>, Option<u8>, &str); 6] = [
+    (
+        Class::KK,
+        1_280,
+        None,
+        None,
+        "bfe492baf731a0dbf6e1e050f5bc3fe8c1b049383194dcdf82f023bfa409f462",
+    ),
+    (
+        Class::KQK,
+        81_920,
+        Some(19),
+        Some(20),
+        "9e23e4707fb87fc86cd619e4f11e27584156c99755bf56bd75beb08a2529a694",
+    ),
+    (
+        Class::KRK,
+        81_920,
+        Some(31),
+        Some(32),
+        "c44ba016cdd825eddc9b922d55db18a9147c60cb9978c9a8b62eb20a44c0f5ba",
+    ),
+    (
+        Class::KBK,
+        81_920,
+        None,
+        None,
+        "fa569e2360c540e6280e34a4627516770f1a5f34d81d35689334a99cc1013357",
+    ),
+    (
+        Class::KNK,
+        81_920,
+        None,
+        None,
+        "fa569e2360c540e6280e34a4627516770f1a5f34d81d35689334a99cc1013357",
+    ),
+    (
+        Class::KPK,
+        262_144,
+        Some(55),
+        Some(56),
+        "31f08f445b1142f1498bb03d4257b8142e27cd53763635385fc85788e8edc067",
+    ),
+];
+
 #[test]
 fn tables_of_up_to_three_men(rt: HostRuntime) {
     let alloc = rt.alloc();
     let mut tables = TableSet::new(&alloc).ok().expect(&rt, "a set");
-    let rows = [
-        (
-            Class::KK,
-            1_280,
-            None,
-            None,
-            "bfe492baf731a0dbf6e1e050f5bc3fe8c1b049383194dcdf82f023bfa409f462",
-        ),
-        (
-            Class::KQK,
-            81_920,
-            Some(19),
-            Some(20),
-            "9e23e4707fb87fc86cd619e4f11e27584156c99755bf56bd75beb08a2529a694",
-        ),
-        (
-            Class::KRK,
-            81_920,
-            Some(31),
-            Some(32),
-            "c44ba016cdd825eddc9b922d55db18a9147c60cb9978c9a8b62eb20a44c0f5ba",
-        ),
-        (
-            Class::KBK,
-            81_920,
-            None,
-            None,
-            "fa569e2360c540e6280e34a4627516770f1a5f34d81d35689334a99cc1013357",
-        ),
-        (
-            Class::KNK,
-            81_920,
-            None,
-            None,
-            "fa569e2360c540e6280e34a4627516770f1a5f34d81d35689334a99cc1013357",
-        ),
-        (
-            Class::KPK,
-            262_144,
-            Some(55),
-            Some(56),
-            "31f08f445b1142f1498bb03d4257b8142e27cd53763635385fc85788e8edc067",
-        ),
-    ];
-    for (class, count, win, loss, digest) in rows {
+    for (class, count, win, loss, digest) in ROWS {
         assert!(rt; !tables.ready(Class::KPK) || class == Class::KPK);
-        if class == Class::KQK {
-            let room = BuildRoom::new(&alloc, 262_144).ok().expect(&rt, "room");
-            match build(Class::KPK, &tables, room) {
-                Err(fault) => assert_eq!(rt; fault, BuildFault::MissingTable(Class::KQK)),
-                Ok(_) => assert!(rt; false, "a table without its needs"),
-            }
-        }
         let report = built(&rt, &alloc, &mut tables, class);
         assert_eq!(rt; report.cells, count);
         assert_eq!(rt; report.deepest_win, win);
@@ -135,12 +133,34 @@ fn tables_of_up_to_three_men(rt: HostRuntime) {
             }
         }
     }
-    let (again, _) = table_of(&rt, &alloc, &tables, Class::KQK);
-    match tables.add(again) {
-        Ok(()) => assert!(rt; false, "two tables of one class"),
-        Err(refused) => {
-            assert_eq!(rt; refused.fault, AddFault::AlreadyHeld);
-            assert!(rt; refused.table.class() == Class::KQK);
+}
+
+/// A table is refused where its needs are not held, or where it is held already; it is handed back, and the set is as it was.
+#[test]
+fn needs_come_first(rt: HostRuntime) {
+    let alloc = rt.alloc();
+    let mut tables = TableSet::new(&alloc).ok().expect(&rt, "a set");
+    let _report = built(&rt, &alloc, &mut tables, Class::KK);
+    let room = BuildRoom::new(&alloc, 262_144).ok().expect(&rt, "room");
+    match build(Class::KPK, &tables, room) {
+        Err(fault) => assert_eq!(rt; fault, BuildFault::MissingTable(Class::KQK)),
+        Ok(_) => assert!(rt; false, "a table without its needs"),
+    }
+    for fault in [AddFault::MissingTable(Class::KK), AddFault::AlreadyHeld] {
+        let (table, _) = table_of(&rt, &alloc, &tables, Class::KQK);
+        let mut others = TableSet::new(&alloc).ok().expect(&rt, "a set");
+        let held = fault == AddFault::AlreadyHeld;
+        if held {
+            let _report = built(&rt, &alloc, &mut others, Class::KK);
+            let _report = built(&rt, &alloc, &mut others, Class::KQK);
+        }
+        match others.add(table) {
+            Ok(()) => assert!(rt; false, "no fault, and not {fault}"),
+            Err(refused) => {
+                assert_eq!(rt; refused.fault, fault);
+                assert!(rt; refused.table.class() == Class::KQK);
+                assert!(rt; others.has(Class::KQK) == held);
+            }
         }
     }
 }

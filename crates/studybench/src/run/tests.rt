@@ -30,164 +30,153 @@ fn expect(
     assert_eq!(rt; writer.taken.as_slice(), replies, "after {}", script.len());
 }
 
+/// A script, the replies to it, its lines and the refused ones among them.
+const ANSWERS: [(&str, &str, u32, u32); 10] = [
+    (SCRIPT, REPLIES, 3, 0),
+    (
+        "position k7/8/2K5/8/8/8/8/7R w - -\nsolve 1 root\nsolve 2 root\nsolve 4 root\n",
+        "position k7/8/2K5/8/8/8/8/7R w - - 0 1\nsolve none\nsolve plies 3\nerror BadArguments\n",
+        4,
+        1,
+    ),
+    (
+        "position k7/8/1Q6/8/8/8/8/K7 b - - 0 1\nmoves root\nsolve 3 root\n",
+        "position k7/8/1Q6/8/8/8/8/K7 b - - 0 1\nmoves 0 stalemate\nsolve none\n",
+        3,
+        0,
+    ),
+    (
+        "position k6R/8/1K6/8/8/8/8/8 b - - 1 1\nmoves root\n",
+        "position k6R/8/1K6/8/8/8/8/8 b - - 1 1\nmoves 0 mate\n",
+        2,
+        0,
+    ),
+    (
+        "position k7/8/K7/P7/8/8/8/8 w - - 0 1\nmoves root\n",
+        "position k7/8/K7/P7/8/8/8/8 w - - 0 1\nmoves 2 Kb5 Kb6\n",
+        2,
+        0,
+    ),
+    (
+        "position k7/2P5/1K6/8/8/8/8/8 w - - 0 1\nmoves root\n",
+        "position k7/2P5/1K6/8/8/8/8/8 w - - 0 1\nmoves 9 Ka5 Kb5 Kc5 Ka6 Kc6 c8=Q# c8=R# c8=B c8=N\n",
+        2,
+        0,
+    ),
+    (
+        "position 8/8/8/8/k2Pp3/8/8/4K3 b - d3 0 1\nmoves root\n",
+        "position 8/8/8/8/k2Pp3/8/8/4K3 b - d3 0 1\nmoves 7 Ka3 Kb3 Kb4 Ka5 Kb5 exd3 e3\n",
+        2,
+        0,
+    ),
+    (
+        "position 8/8/8/8/4P3/k7/8/4K3 b - e3 0 1\nmoves root\nposition 8/8/8/8/4P3/k7/8/4K3 b - - 0 1\nmoves root\n",
+        "position 8/8/8/8/4P3/k7/8/4K3 b - e3 0 1\nmoves 5 Ka2 Kb2 Kb3 Ka4 Kb4\nposition 8/8/8/8/4P3/k7/8/4K3 b - - 0 1\nmoves 5 Ka2 Kb2 Kb3 Ka4 Kb4\n",
+        4,
+        0,
+    ),
+    (
+        "position   k7/44/1K6/8/8/8/8/7R  w - - 3 0  \n",
+        "position k7/8/1K6/8/8/8/8/7R w - - 3 1\n",
+        1,
+        0,
+    ),
+    // A refused position keeps the one before it.
+    (
+        "position k7/8/1K6/8/8/8/8/7R w - - 0 1\nposition k7/8/8/8/8/8/8/8 x K - 0 1\nsolve 1 root\n",
+        "position k7/8/1K6/8/8/8/8/7R w - - 0 1\nerror KingCount\nsolve plies 1\n",
+        3,
+        1,
+    ),
+];
+
 #[test]
 fn answers_each_line(rt: HostRuntime) {
-    for (script, replies, lines, refused) in [
-        (SCRIPT, REPLIES, 3, 0),
-        (
-            "position k7/8/2K5/8/8/8/8/7R w - -\nsolve 1 root\nsolve 2 root\nsolve 4 root\n",
-            "position k7/8/2K5/8/8/8/8/7R w - - 0 1\nsolve none\nsolve plies 3\nerror BadArguments\n",
-            4,
-            1,
-        ),
-        (
-            "position k7/8/1Q6/8/8/8/8/K7 b - - 0 1\nmoves root\nsolve 3 root\n",
-            "position k7/8/1Q6/8/8/8/8/K7 b - - 0 1\nmoves 0 stalemate\nsolve none\n",
-            3,
-            0,
-        ),
-        (
-            "position k6R/8/1K6/8/8/8/8/8 b - - 1 1\nmoves root\n",
-            "position k6R/8/1K6/8/8/8/8/8 b - - 1 1\nmoves 0 mate\n",
-            2,
-            0,
-        ),
-        (
-            "position k7/8/K7/P7/8/8/8/8 w - - 0 1\nmoves root\n",
-            "position k7/8/K7/P7/8/8/8/8 w - - 0 1\nmoves 2 Kb5 Kb6\n",
-            2,
-            0,
-        ),
-        (
-            "position k7/2P5/1K6/8/8/8/8/8 w - - 0 1\nmoves root\n",
-            "position k7/2P5/1K6/8/8/8/8/8 w - - 0 1\nmoves 9 Ka5 Kb5 Kc5 Ka6 Kc6 c8=Q# c8=R# c8=B c8=N\n",
-            2,
-            0,
-        ),
-        (
-            "position 8/8/8/8/k2Pp3/8/8/4K3 b - d3 0 1\nmoves root\n",
-            "position 8/8/8/8/k2Pp3/8/8/4K3 b - d3 0 1\nmoves 7 Ka3 Kb3 Kb4 Ka5 Kb5 exd3 e3\n",
-            2,
-            0,
-        ),
-        (
-            "position 8/8/8/8/4P3/k7/8/4K3 b - e3 0 1\nmoves root\nposition 8/8/8/8/4P3/k7/8/4K3 b - - 0 1\nmoves root\n",
-            "position 8/8/8/8/4P3/k7/8/4K3 b - e3 0 1\nmoves 5 Ka2 Kb2 Kb3 Ka4 Kb4\nposition 8/8/8/8/4P3/k7/8/4K3 b - - 0 1\nmoves 5 Ka2 Kb2 Kb3 Ka4 Kb4\n",
-            4,
-            0,
-        ),
-        (
-            "position   k7/44/1K6/8/8/8/8/7R  w - - 3 0  \n",
-            "position k7/8/1K6/8/8/8/8/7R w - - 3 1\n",
-            1,
-            0,
-        ),
-        // A refused position keeps the one before it.
-        (
-            "position k7/8/1K6/8/8/8/8/7R w - - 0 1\nposition k7/8/8/8/8/8/8/8 x K - 0 1\nsolve 1 root\n",
-            "position k7/8/1K6/8/8/8/8/7R w - - 0 1\nerror KingCount\nsolve plies 1\n",
-            3,
-            1,
-        ),
-    ] {
+    for (script, replies, lines, refused) in ANSWERS {
         let want = Ok(Summary { lines, refused });
         expect(&rt, rt.alloc(), script.as_bytes(), replies.as_bytes(), want);
     }
 }
 
-/// Lines that are refused for their form, or for a FEN, whatever is held.
+/// Why a line is refused, and lines that are refused so for their form or for a FEN, whatever is held.
+const REFUSALS: [(&str, &[&str]); 18] = [
+    (
+        "BadByte",
+        &["\t# x", "build KK\u{e9}", "moves \rroot", "solve \u{7f}"],
+    ),
+    (
+        "UnknownCommand",
+        &["build KK", "Moves root", "tag Event", "x#", "positions k7"],
+    ),
+    (
+        "BadArguments",
+        &[
+            "position",
+            "  position  ",
+            "moves",
+            "moves root root",
+            "moves ROOT",
+        ],
+    ),
+    (
+        "BadArguments",
+        &[
+            "moves 0.",
+            "moves .0",
+            "moves 0..1",
+            "moves 0000",
+            "moves -1",
+        ],
+    ),
+    (
+        "BadArguments",
+        &["solve 1", "solve 0 root", "solve 4 root", "solve 01 root"],
+    ),
+    (
+        "BadArguments",
+        &["solve root 1", "solve 1 root x", "solve x root"],
+    ),
+    ("FieldCount", &["position a", "position a b c d e"]),
+    ("Placement", &["position 9 w - -"]),
+    (
+        "TooManyMen",
+        &["position rnbqkbnr/pppppppp/8/8/8/8/PPPPPPPP/RNBQKBNR w KQkq - 0 1"],
+    ),
+    ("KingCount", &["position k7/8/8/8/8/8/8/8 x K - 0 1"]),
+    ("PawnOnEndRank", &["position k6P/8/8/8/8/8/8/K7 x - -"]),
+    ("SideField", &["position k7/K7/8/8/8/8/8/8 x - -"]),
+    (
+        "OpponentInCheck",
+        &[
+            "position k7/K7/8/8/8/8/8/8 w K -",
+            "position k7/K7/8/8/8/8/8/8 w - - 0 1",
+        ],
+    ),
+    (
+        "Castling",
+        &[
+            "position 4k3/8/8/8/8/8/8/4K2R w K x 0 1",
+            "position 4k3/8/8/8/8/8/8/4K2R w K - 0 1",
+        ],
+    ),
+    (
+        "EnPassantField",
+        &["position 4k3/8/8/8/8/8/8/4K2R w - e9 x 1"],
+    ),
+    (
+        "EnPassantImpossible",
+        &["position 4k3/8/8/8/8/8/8/4K2R w - e6 x 1"],
+    ),
+    ("Clock", &["position 4k3/8/8/8/8/8/8/4K2R w - - x x"]),
+    (
+        "MoveNumber",
+        &["position 4k3/8/8/8/8/8/8/4K2R w - - 0 10000"],
+    ),
+];
+
 #[test]
 fn refuses_each_fault_in_order(rt: HostRuntime) -> Result<(), Fail> {
-    for (name, lines) in [
-        (
-            "BadByte",
-            ["\t# x", "build KK\u{e9}", "moves \rroot", "solve \u{7f}"].as_slice(),
-        ),
-        (
-            "UnknownCommand",
-            ["build KK", "Moves root", "tag Event", "x#", "positions k7"].as_slice(),
-        ),
-        (
-            "BadArguments",
-            [
-                "position",
-                "  position  ",
-                "moves",
-                "moves root root",
-                "moves ROOT",
-            ]
-            .as_slice(),
-        ),
-        (
-            "BadArguments",
-            [
-                "moves 0.",
-                "moves .0",
-                "moves 0..1",
-                "moves 0000",
-                "moves -1",
-            ]
-            .as_slice(),
-        ),
-        (
-            "BadArguments",
-            ["solve 1", "solve 0 root", "solve 4 root", "solve 01 root"].as_slice(),
-        ),
-        (
-            "BadArguments",
-            ["solve root 1", "solve 1 root x", "solve x root"].as_slice(),
-        ),
-        (
-            "FieldCount",
-            ["position a", "position a b c d e"].as_slice(),
-        ),
-        ("Placement", ["position 9 w - -"].as_slice()),
-        (
-            "TooManyMen",
-            ["position rnbqkbnr/pppppppp/8/8/8/8/PPPPPPPP/RNBQKBNR w KQkq - 0 1"].as_slice(),
-        ),
-        (
-            "KingCount",
-            ["position k7/8/8/8/8/8/8/8 x K - 0 1"].as_slice(),
-        ),
-        (
-            "PawnOnEndRank",
-            ["position k6P/8/8/8/8/8/8/K7 x - -"].as_slice(),
-        ),
-        ("SideField", ["position k7/K7/8/8/8/8/8/8 x - -"].as_slice()),
-        (
-            "OpponentInCheck",
-            [
-                "position k7/K7/8/8/8/8/8/8 w K -",
-                "position k7/K7/8/8/8/8/8/8 w - - 0 1",
-            ]
-            .as_slice(),
-        ),
-        (
-            "Castling",
-            [
-                "position 4k3/8/8/8/8/8/8/4K2R w K x 0 1",
-                "position 4k3/8/8/8/8/8/8/4K2R w K - 0 1",
-            ]
-            .as_slice(),
-        ),
-        (
-            "EnPassantField",
-            ["position 4k3/8/8/8/8/8/8/4K2R w - e9 x 1"].as_slice(),
-        ),
-        (
-            "EnPassantImpossible",
-            ["position 4k3/8/8/8/8/8/8/4K2R w - e6 x 1"].as_slice(),
-        ),
-        (
-            "Clock",
-            ["position 4k3/8/8/8/8/8/8/4K2R w - - x x"].as_slice(),
-        ),
-        (
-            "MoveNumber",
-            ["position 4k3/8/8/8/8/8/8/4K2R w - - 0 10000"].as_slice(),
-        ),
-    ] {
+    for (name, lines) in REFUSALS {
         for line in lines {
             let script = format!(in rt.alloc(); "{line}\n{HERE}{line}\nsolve 1 root\n")?;
             let replies = format!(in rt.alloc();
@@ -252,7 +241,7 @@ fn repeated(alloc: Global, count: usize, byte: u8, end: &[u8]) -> Result<Vec<u8>
 }
 
 #[test]
-fn counts_and_measures_lines(rt: HostRuntime) -> Result<(), Fail> {
+fn counts_lines(rt: HostRuntime) -> Result<(), Fail> {
     for (script, replies, lines, refused) in [
         ("", "", 0, 0),
         ("\n", "", 1, 0),
@@ -269,6 +258,11 @@ fn counts_and_measures_lines(rt: HostRuntime) -> Result<(), Fail> {
         let want = Ok(Summary { lines, refused });
         expect(&rt, rt.alloc(), script.as_bytes(), replies.as_bytes(), want);
     }
+    Ok(())
+}
+
+#[test]
+fn measures_lines(rt: HostRuntime) -> Result<(), Fail> {
     for (count, end, want) in [
         (1024usize, "", Ok(1)),
         (1024, "\n", Ok(1)),
@@ -286,6 +280,11 @@ fn counts_and_measures_lines(rt: HostRuntime) -> Result<(), Fail> {
             expect(&rt, rt.alloc(), script.as_slice(), b"", want);
         }
     }
+    Ok(())
+}
+
+#[test]
+fn stops_at_long_lines_and_long_scripts(rt: HostRuntime) -> Result<(), Fail> {
     let mut script = Vec::from_slice(rt.alloc(), b"x\n")?;
     let long = repeated(rt.alloc(), 1025, b'#', b"\n")?;
     script.extend_from_slice(long.as_slice())?;
