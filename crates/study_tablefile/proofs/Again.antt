@@ -64,7 +64,7 @@ pub header_length : (c : Class) → length (header_text c) ≡ 64
 unfolding header_text
 header_length c = length-append (fields_text c) (sha256 (fields_text c)) ∙ omega (arith, fields_length c, length-sha256 (fields_text c))
 
-cells_length : (cells : List ℕ) → length (page_cells_of cells) ≡ 4096
+pub cells_length : (cells : List ℕ) → length (page_cells_of cells) ≡ 4096
 unfolding page_cells_of
 cells_length cells = length-append (take 4096 cells) (replicate (4096 - length cells) 0) ∙ omega (arith, length-take 4096 cells, length-replicate {A = ℕ} (4096 - length cells) 0)
 
@@ -163,7 +163,7 @@ cells_again fields rest cells n =
     ap (λ (l : List ℕ). take 4096 l) (append_assoc full digest rest) ∙ take_front full (digest ++ rest) 4096 (cells_length cells)
 
 -- the cells of a page, and those behind it with their zero bytes
-padded_cells : (k : ℕ) (cells : List ℕ) → length cells ≤ 4096 * suc k → 4096 * suc k < length cells + 4096
+pub padded_cells : (k : ℕ) (cells : List ℕ) → length cells ≤ 4096 * suc k → 4096 * suc k < length cells + 4096
     → page_cells_of cells ++ (drop 4096 cells ++ replicate (4096 * k - length (drop 4096 cells)) 0) ≡ cells ++ replicate (4096 * suc k - length cells) 0
 unfolding page_cells_of
 padded_cells k cells hold full = elim (cases_lt 4096 (length cells)) [
@@ -219,7 +219,7 @@ read_again t complete =
 
 -- ---- one page of a text
 
-drop_more : (a b : ℕ) (xs : List ℕ) → drop (a + b) xs ≡ drop b (drop a xs)
+pub drop_more : (a b : ℕ) (xs : List ℕ) → drop (a + b) xs ≡ drop b (drop a xs)
 drop_more zero b xs = let same : zero + b ≡ b = omega arith in ap (λ (n : ℕ). drop n xs) same
 drop_more (suc a) b [] = let same : suc a + b ≡ suc (a + b) = omega arith in ap (λ (n : ℕ). drop {A = ℕ} n []) same ∙ sym (drop_whole b [] (omega arith))
 drop_more (suc a) b (x ∷ xs) = let same : suc a + b ≡ suc (a + b) = omega arith in ap (λ (n : ℕ). drop n (x ∷ xs)) same ∙ drop_more a b xs

@@ -4,3 +4,4 @@ pub mod Lists
 pub mod Pages
 pub mod Known
 pub mod Again
+pub mod Only

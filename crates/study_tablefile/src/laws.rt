@@ -1,5 +1,5 @@
-//! What is written is read again, and the pages of a table are whole.
-ghost use Rattle.std.specs.Prelude.{◌≡◌, ℕ, true, Ok};
+//! What is written is read again, what is read was written so, and the pages of a table are whole.
+ghost use Rattle.std.specs.Prelude.{◌≡◌, ◌<◌, ℕ, List, true, Ok, All};
 ghost use Rattle.study_index.specs.Number.{cells_of};
 ghost use Rattle.study_retro.specs.Table.{Table as Seen, IsComplete};
 ghost use Rattle.study_tablefile.specs.File.{fields_text, table_text};
@@ -9,6 +9,13 @@ ghost use Rattle.study_tablefile.specs.Source.{is_whole_page, page_of};
 /// The text that `write_table` writes for a table, `read_table` reads as that table.
 pub fn tables_are_read_again()
     ensures { (t : Seen) → IsComplete t → table_read (table_text t) ≡ Ok t }
+{}
+
+/// Bytes that `read_table` reads as a table are the text that `write_table` writes for it. The table has a cell for each
+/// number of its class.
+pub fn only_texts_are_read()
+    ensures text { (bytes : List ℕ) (t : Seen) → table_read bytes ≡ Ok t → bytes ≡ table_text t }
+    ensures complete { (bytes : List ℕ) (t : Seen) → All (λ b. b < 256) bytes → table_read bytes ≡ Ok t → IsComplete t }
 {}
 
 /// Of the pages of a table each has the digest of its cells and zero bytes behind the last cell, as `page_cells` asks.

@@ -2,7 +2,7 @@
 //!
 //! A table is kept as one text of bytes, `table_text`. `write_table` writes exactly it, or a front of it. `read_table`
 //! answers what the bytes read as, from front to back: a table, or the first fault. `tables_are_read_again` proves that
-//! the text of a table reads as that table. `PageSource` gives a file page by page, `put` hands a text to any writer,
+//! the text of a table reads as that table, and `only_texts_are_read` that nothing else reads as a table. `PageSource` gives a file page by page, `put` hands a text to any writer,
 //! and `memory` has a reader and a writer that fail where a test wants it.
 #![tactic(auto)]
 
@@ -15,7 +15,7 @@ mod text;
 mod writing;
 
 pub use fault::{DeviceFailed, FileFault, SourceFault};
-pub use laws::{pages_are_whole, tables_are_read_again};
+pub use laws::{only_texts_are_read, pages_are_whole, tables_are_read_again};
 pub use reading::read_table;
 pub use source::{Header, PageSource, page_cells, read_header};
 pub use text::{file_bytes, write_table};

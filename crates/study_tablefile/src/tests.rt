@@ -1,4 +1,7 @@
 //! The text of a table, read back and damaged.
+mod devices;
+mod sizes;
+
 use crate::memory::{MemoryReader, MemorySource, MemoryWriter, WhenFull};
 use crate::text::{digest, fields, page_digest};
 use crate::writing::put;
@@ -38,16 +41,36 @@ fn fields_of_krk(rt: HostRuntime) {
         writer.taken.as_slice(),
         b"STUDYDTM\x01\x00\x00\x10\x00\x40\x01\x00KRK\x00\x00\x00\x00\x00\x00\x00\x00\x00\x00\x00\x00\x00".as_slice()
     );
-    assert_eq!(rt; file_bytes(Class::KRK), 82_624);
+}
+
+/// The text of a table with zero cells.
+fn text_of<'a, A: Allocator>(rt: &impl Abort, alloc: &'a A, class: Class) -> Vec<u8, &'a A> {
+    let table = zero_table(rt, alloc, class);
+    let mut writer = MemoryWriter::new(alloc);
+    assert!(rt; write_table(&table, &mut writer).is_ok());
+    writer.taken
 }
 
 /// The text of the table of KK with zero cells.
 fn text_of_kk<'a, A: Allocator>(rt: &impl Abort, alloc: &'a A) -> Vec<u8, &'a A> {
-    let table = zero_table(rt, alloc, Class::KK);
-    let mut writer = MemoryWriter::new(alloc);
-    assert!(rt; write_table(&table, &mut writer).is_ok());
-    assert!(rt; writer.taken.len() == 4192 && file_bytes(Class::KK) == 4192);
-    writer.taken
+    let text = text_of(rt, alloc, Class::KK);
+    assert!(rt; text.len() == 4192);
+    text
+}
+
+/// The number of bytes of a file of each size.
+#[test]
+fn bytes_of_files(rt: HostRuntime) {
+    for (class, bytes) in [
+        (Class::KK, 4_192u32),
+        (Class::KRK, 82_624),
+        (Class::KPK, 264_256),
+        (Class::KBBK, 5_283_904),
+        (Class::KQKP, 16_908_352),
+    ] {
+        assert!(rt; !class.left_out());
+        assert_eq!(rt; file_bytes(class), bytes);
+    }
 }
 
 /// A text with one bit turned.
@@ -173,5 +196,50 @@ fn padding_is_looked_at(rt: HostRuntime) {
     assert_eq!(rt;
         fault(&alloc, writer.taken.as_slice()),
         Some(FileFault::Padding)
+    );
+}
+
+/// A header with some fields changed and the digest made anew has the first fault in the order of the fields.
+#[test]
+fn headers_are_looked_at_in_order(rt: HostRuntime) {
+    for (changes, want) in [
+        ([(7usize, 0u8), (8, 2)], FileFault::NotATable),
+        ([(8, 2), (16, 0)], FileFault::Version(2)),
+        ([(9, 1), (10, 1)], FileFault::Version(257)),
+        ([(17, b'P'), (19, b'P')], FileFault::ClassUnknown),
+        ([(16, b'k'), (12, 1)], FileFault::ClassUnknown),
+        ([(10, 1), (10, 1)], FileFault::HeaderDamaged),
+        ([(12, 1), (13, 0x40)], FileFault::HeaderDamaged),
+        ([(24, 1), (31, 0)], FileFault::HeaderDamaged),
+    ] {
+        let mut fields = fields(Class::KRK);
+        for (place, byte) in changes {
+            if let Some(field) = fields.as_mut_slice().get_mut(place) {
+                *field = byte;
+            }
+        }
+        let mut header = [0u8; 64];
+        header[..32].copy_from_slice(fields.as_slice());
+        header[32..].copy_from_slice(digest(fields.as_slice()).as_slice());
+        assert_eq!(rt; read_header(&header).err(), Some(want), "{want:?}");
+    }
+}
+
+/// Two pages that have changed places: the first of them is told.
+#[test]
+fn exchanged_pages_are_found(rt: HostRuntime) {
+    let alloc = rt.alloc();
+    let text = text_of(&rt, &alloc, Class::KRK);
+    assert!(rt; text.len() == 82_624);
+    let (front, pages) = text.as_slice().split_at(64 + 3 * 4128);
+    let (third, behind) = pages.split_at(4128);
+    let (fourth, rest) = behind.split_at(4128);
+    let mut writer = MemoryWriter::new(&alloc);
+    for part in [front, fourth, third, rest] {
+        assert!(rt; put(&mut writer, part).is_ok());
+    }
+    assert_eq!(rt;
+        fault(&alloc, writer.taken.as_slice()),
+        Some(FileFault::PageDamaged(3))
     );
 }

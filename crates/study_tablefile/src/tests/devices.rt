@@ -1,0 +1,93 @@
+//! Devices that fail once, and heaps that are too small.
+use super::{text_of, text_of_kk};
+use crate::memory::{MemoryReader, MemorySource};
+use crate::{FileFault, PageSource, SourceFault, page_cells, read_header, read_table};
+use linked_list_allocator::LocalHeap;
+use std::process::Abort;
+use std::test::Fail;
+use study_material::Class;
+
+/// A reader that fails after so many bytes, at the end too.
+#[test]
+fn readers_fail(rt: HostRuntime) {
+    let alloc = rt.alloc();
+    let text = text_of_kk(&rt, &alloc);
+    for count in 0..=4192usize {
+        let mut reader = MemoryReader::failing_after(text.as_slice(), count);
+        let answer = read_table(&alloc, &mut reader).err();
+        assert_eq!(rt; answer, Some(FileFault::Device), "{count}");
+        assert_eq!(rt; reader.given, count);
+    }
+    let mut reader = MemoryReader::failing_after(text.as_slice(), 4193);
+    assert!(rt; read_table(&alloc, &mut reader).is_ok());
+}
+
+/// Asks for the header and then for the pages in turn. One of the questions fails: it is told and counted, and the
+/// same question asked again is answered.
+fn ask_all<S: PageSource>(rt: &impl Abort, source: &mut S, fails_at: u64) {
+    let mut bytes = [0u8; 64];
+    let mut failures = 0u64;
+    if fails_at == 0 {
+        assert_eq!(rt; source.header(&mut bytes), Err(SourceFault::Device));
+        failures = 1;
+        assert_eq!(rt; source.failures(), failures);
+    }
+    assert_eq!(rt; source.header(&mut bytes), Ok(()));
+    let header = read_header(&bytes).ok().expect(rt, "a header");
+    assert_eq!(rt; (header.class, header.version, header.cells), (Class::KRK, 1, 81_920));
+    let mut page = [0u8; 4128];
+    for number in 0..20u32 {
+        if fails_at == number as u64 + 1 {
+            assert_eq!(rt; source.page(number, &mut page), Err(SourceFault::Device), "{number}");
+            failures = 1;
+        }
+        assert_eq!(rt; source.failures(), failures, "{number}");
+        assert_eq!(rt; source.page(number, &mut page), Ok(()), "{number}");
+        assert!(rt; page_cells(&header, number, &page), "{number}");
+    }
+    assert_eq!(rt; source.page(20, &mut page), Err(SourceFault::Short));
+    assert_eq!(rt; source.failures(), failures + 1);
+}
+
+/// Each question in turn fails, and then none.
+#[test]
+fn sources_fail_once(rt: HostRuntime) {
+    let alloc = rt.alloc();
+    let text = text_of(&rt, &alloc, Class::KRK);
+    for fails_at in 0..=21u64 {
+        let mut source = MemorySource {
+            text: text.as_slice(),
+            asked: 0,
+            fails_at: Some(fails_at),
+            failures: 0,
+        };
+        ask_all(&rt, &mut source, fails_at);
+    }
+}
+
+/// Heaps that grow step by step: there is no memory for the table, until there is.
+#[test]
+fn growths_are_refused(rt: HostRuntime) -> Result<(), Fail> {
+    let alloc = rt.alloc();
+    for (class, step) in [(Class::KK, 16usize), (Class::KRK, 512)] {
+        let text = text_of(&rt, &alloc, class);
+        let (mut refused, mut read) = (0u32, false);
+        for turn in 0..400usize {
+            let heap = LocalHeap::new(rt.alloc(), 64 + turn * step)?;
+            match read_table(&heap, &mut MemoryReader::new(text.as_slice())) {
+                Ok(table) => {
+                    assert!(rt; table.class() == class);
+                    assert!(rt; table.cells().iter().all(|cell| *cell == 0));
+                    read = true;
+                    break;
+                }
+                Err(fault) => {
+                    assert_eq!(rt; fault, FileFault::OutOfMemory, "{turn}");
+                    refused = refused.saturating_add(1);
+                }
+            }
+        }
+        assert!(rt; read && refused > 0);
+    }
+    Ok(())
+}
