@@ -99,7 +99,7 @@ page_is fields bytes n h =
     let after : drop 4128 bytes ≡ drop 32 tail = drop_more 4096 32 bytes in (
       length-take-le 4096 bytes (omega arith),
       sym (take-append-drop 4096 bytes) ∙ ap (λ (l : List ℕ). cells ++ l) (sym (take-append-drop 32 tail)) ∙ sym (append_assoc cells (take 32 tail) (drop 32 tail))
-      ∙ ap (λ (l : List ℕ). (cells ++ l) ++ drop 32 tail) digest ∙ ap (λ (l : List ℕ). (cells ++ page_digest fields n cells) ++ l) (sym after),
+          ∙ ap (λ (l : List ℕ). (cells ++ l) ++ drop 32 tail) digest ∙ ap (λ (l : List ℕ). (cells ++ page_digest fields n cells) ++ l) (sym after),
     )
 
 end_is : (c : Class) (all rest : List ℕ) (t : Table) → table_end c all rest ≡ Ok t
@@ -108,8 +108,7 @@ unfolding table_end
 end_is c all rest t h =
     let padding = drop (cells_of c) all in
     let zeros = admitted (bytes_eq padding (replicate (length padding) 0)) Padding _ t h in
-    let none = admitted (length rest == 0) TrailingBytes _ t zeros.1 in
-    (
+    let none = admitted (length rest == 0) TrailingBytes _ t zeros.1 in (
       (bytes_eq-Decides padding (replicate (length padding) 0)).0 zeros.0,
       empty rest (eqb-true (length rest) 0 none.0),
       same_answer (record { class = c; cells = take (cells_of c) all }) t _ refl none.1,
@@ -147,8 +146,8 @@ pages_are c n (suc k) before bytes t h =
       cells = front ++ rest.cells;
       size = length-append front rest.cells ∙ omega (arith, full, rest.size);
       text = page ∙ ap (λ (l : List ℕ). page_text fields n front ++ l) rest.text
-      ∙ ap (λ (l : List ℕ). page_text fields n l ++ pages_text fields (n + 1) k rest.cells) (sym (page_full front rest.cells full))
-      ∙ ap (λ (l : List ℕ). page_text fields n (page_cells_of (front ++ rest.cells)) ++ pages_text fields (n + 1) k l) (sym (drop_front front rest.cells 4096 full));
+          ∙ ap (λ (l : List ℕ). page_text fields n l ++ pages_text fields (n + 1) k rest.cells) (sym (page_full front rest.cells full))
+          ∙ ap (λ (l : List ℕ). page_text fields n (page_cells_of (front ++ rest.cells)) ++ pages_text fields (n + 1) k l) (sym (drop_front front rest.cells 4096 full));
       end = ap (λ (l : List ℕ). table_end c l []) (sym (append_assoc before front rest.cells)) ∙ rest.end;
       small = λ all. All-append (λ b. b < 256) front rest.cells (All-take (λ b. b < 256) 4096 bytes all) (rest.small (All-drop (λ b. b < 256) 4128 bytes all));
     }
@@ -163,9 +162,9 @@ pages_padded fields n (suc k) cells hold full =
     let zeros = replicate {A = ℕ} (4096 * k - length rest) 0 in
     let size : length rest ≡ length cells - 4096 = length-drop 4096 cells in
     rw (sym (padded_cells k cells hold full)) (
-      ap (λ (l : List ℕ). page_text fields n l ++ pages_text fields (n + 1) k (drop 4096 (front ++ (rest ++ zeros)))) (page_full front (rest ++ zeros) (cells_length cells))
-      ∙ ap (λ (l : List ℕ). page_text fields n front ++ pages_text fields (n + 1) k l) (drop_front front (rest ++ zeros) 4096 (cells_length cells))
-      ∙ ap (λ (l : List ℕ). page_text fields n front ++ l) (pages_padded fields (n + 1) k (drop 4096 cells) (omega (arith, size, hold)) (omega (arith, size, full)))
+    ap (λ (l : List ℕ). page_text fields n l ++ pages_text fields (n + 1) k (drop 4096 (front ++ (rest ++ zeros)))) (page_full front (rest ++ zeros) (cells_length cells))
+    ∙ ap (λ (l : List ℕ). page_text fields n front ++ pages_text fields (n + 1) k l) (drop_front front (rest ++ zeros) 4096 (cells_length cells))
+    ∙ ap (λ (l : List ℕ). page_text fields n front ++ l) (pages_padded fields (n + 1) k (drop 4096 cells) (omega (arith, size, hold)) (omega (arith, size, full)))
     )
 
 -- ---- a table
@@ -194,13 +193,13 @@ behind_is bytes (Ok c) t same front h =
     sym (take-append-drop m pages.cells) ∙ ap (λ (l : List ℕ). take m pages.cells ++ l) (zeros ∙ ap (λ (j : ℕ). replicate {A = ℕ} j 0) left) in
     let padded = pages_padded (fields_text c) 0 (pages_of c) (take m pages.cells) (omega arith) (omega arith) in
     rw table (
-      record {
-        text = sym (take-append-drop 64 bytes) ∙ ap (λ (l : List ℕ). l ++ drop 64 bytes) header
-        ∙ ap (λ (l : List ℕ). header_text c ++ l) (pages.text ∙ ap (λ (l : List ℕ). pages_text (fields_text c) 0 (pages_of c) l) split ∙ padded);
-        admitted = left_out;
-        size = count;
-        small = λ all. All-take (λ b. b < 256) m pages.cells (pages.small (All-drop (λ b. b < 256) 64 bytes all));
-      }
+    record {
+      text = sym (take-append-drop 64 bytes) ∙ ap (λ (l : List ℕ). l ++ drop 64 bytes) header
+          ∙ ap (λ (l : List ℕ). header_text c ++ l) (pages.text ∙ ap (λ (l : List ℕ). pages_text (fields_text c) 0 (pages_of c) l) split ∙ padded);
+      admitted = left_out;
+      size = count;
+      small = λ all. All-take (λ b. b < 256) m pages.cells (pages.small (All-drop (λ b. b < 256) 64 bytes all));
+    }
     )
 
 pub text_is : (bytes : List ℕ) (t : Table) → table_read bytes ≡ Ok t → Text bytes t

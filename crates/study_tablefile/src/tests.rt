@@ -202,6 +202,7 @@ fn padding_is_looked_at(rt: HostRuntime) {
 /// A header with some fields changed and the digest made anew has the first fault in the order of the fields.
 #[test]
 fn headers_are_looked_at_in_order(rt: HostRuntime) {
+    let alloc = rt.alloc();
     for (changes, want) in [
         ([(7usize, 0u8), (8, 2)], FileFault::NotATable),
         ([(8, 2), (16, 0)], FileFault::Version(2)),
@@ -218,28 +219,35 @@ fn headers_are_looked_at_in_order(rt: HostRuntime) {
                 *field = byte;
             }
         }
-        let mut header = [0u8; 64];
-        header[..32].copy_from_slice(fields.as_slice());
-        header[32..].copy_from_slice(digest(fields.as_slice()).as_slice());
-        assert_eq!(rt; read_header(&header).err(), Some(want), "{want:?}");
+        let mut writer = MemoryWriter::new(&alloc);
+        for part in [fields.as_slice(), digest(fields.as_slice()).as_slice()] {
+            assert!(rt; put(&mut writer, part).is_ok());
+        }
+        assert_eq!(rt; fault(&alloc, writer.taken.as_slice()), Some(want));
     }
 }
 
-/// Two pages that have changed places: the first of them is told.
+/// A text of 20 pages whose pages 3 and 4 have changed places.
+fn exchanged<'a, A: Allocator>(rt: &impl Abort, alloc: &'a A, text: &[u8]) -> Vec<u8, &'a A> {
+    assert!(rt; text.len() == 82_624);
+    let (front, pages) = text.split_at(64 + 3 * 4128);
+    let (third, behind) = pages.split_at(4128);
+    let (fourth, rest) = behind.split_at(4128);
+    let mut writer = MemoryWriter::new(alloc);
+    for part in [front, fourth, third, rest] {
+        assert!(rt; put(&mut writer, part).is_ok());
+    }
+    writer.taken
+}
+
+/// Of two pages that have changed places the first is told.
 #[test]
 fn exchanged_pages_are_found(rt: HostRuntime) {
     let alloc = rt.alloc();
     let text = text_of(&rt, &alloc, Class::KRK);
-    assert!(rt; text.len() == 82_624);
-    let (front, pages) = text.as_slice().split_at(64 + 3 * 4128);
-    let (third, behind) = pages.split_at(4128);
-    let (fourth, rest) = behind.split_at(4128);
-    let mut writer = MemoryWriter::new(&alloc);
-    for part in [front, fourth, third, rest] {
-        assert!(rt; put(&mut writer, part).is_ok());
-    }
+    let wrong = exchanged(&rt, &alloc, text.as_slice());
     assert_eq!(rt;
-        fault(&alloc, writer.taken.as_slice()),
+        fault(&alloc, wrong.as_slice()),
         Some(FileFault::PageDamaged(3))
     );
 }

@@ -22,43 +22,55 @@ fn readers_fail(rt: HostRuntime) {
     assert!(rt; read_table(&alloc, &mut reader).is_ok());
 }
 
-/// Asks for the header and then for the pages in turn. One of the questions fails: it is told and counted, and the
-/// same question asked again is answered.
-fn ask_all<S: PageSource>(rt: &impl Abort, source: &mut S, fails_at: u64) {
-    let mut bytes = [0u8; 64];
-    let mut failures = 0u64;
-    if fails_at == 0 {
-        assert_eq!(rt; source.header(&mut bytes), Err(SourceFault::Device));
-        failures = 1;
-        assert_eq!(rt; source.failures(), failures);
+/// Question 0 asks for the header, and the others ask for the pages in turn.
+fn ask<S: PageSource>(
+    source: &mut S,
+    question: u32,
+    header: &mut [u8; 64],
+    page: &mut [u8; 4128],
+) -> Result<(), SourceFault> {
+    match question {
+        0 => source.header(header),
+        number => source.page(number - 1, page),
     }
-    assert_eq!(rt; source.header(&mut bytes), Ok(()));
-    let header = read_header(&bytes).ok().expect(rt, "a header");
-    assert_eq!(rt; (header.class, header.version, header.cells), (Class::KRK, 1, 81_920));
-    let mut page = [0u8; 4128];
-    for number in 0..20u32 {
-        if fails_at == number as u64 + 1 {
-            assert_eq!(rt; source.page(number, &mut page), Err(SourceFault::Device), "{number}");
-            failures = 1;
-        }
-        assert_eq!(rt; source.failures(), failures, "{number}");
-        assert_eq!(rt; source.page(number, &mut page), Ok(()), "{number}");
-        assert!(rt; page_cells(&header, number, &page), "{number}");
-    }
-    assert_eq!(rt; source.page(20, &mut page), Err(SourceFault::Short));
-    assert_eq!(rt; source.failures(), failures + 1);
 }
 
-/// Each question in turn fails, and then none.
+/// Asks all questions. One of them fails: it is told and counted, and the same question asked again is answered.
+fn ask_all<S: PageSource>(rt: &impl Abort, source: &mut S, fails_at: u32) {
+    let mut bytes = [0u8; 64];
+    let mut page = [0u8; 4128];
+    for question in 0..21u32 {
+        if question == fails_at {
+            let answer = ask(source, question, &mut bytes, &mut page);
+            assert_eq!(rt; answer, Err(SourceFault::Device), "{question}");
+        }
+        let failures = (fails_at <= question) as u64;
+        assert_eq!(rt; source.failures(), failures, "{question}");
+        let answer = ask(source, question, &mut bytes, &mut page);
+        assert_eq!(rt; answer, Ok(()), "{question}");
+        assert_eq!(rt; source.failures(), failures, "{question}");
+        let header = read_header(&bytes).ok().expect(rt, "a header");
+        assert!(rt; header.class == Class::KRK && header.version == 1 && header.cells == 81_920);
+        assert!(rt;
+            question == 0 || page_cells(&header, question - 1, &page),
+            "{question}"
+        );
+    }
+    let answer = ask(source, 21, &mut bytes, &mut page);
+    assert_eq!(rt; answer, Err(SourceFault::Short));
+    assert_eq!(rt; source.failures(), (fails_at <= 20) as u64 + 1);
+}
+
+/// Each question in turn fails.
 #[test]
 fn sources_fail_once(rt: HostRuntime) {
     let alloc = rt.alloc();
     let text = text_of(&rt, &alloc, Class::KRK);
-    for fails_at in 0..=21u64 {
+    for fails_at in 0..=20u32 {
         let mut source = MemorySource {
             text: text.as_slice(),
             asked: 0,
-            fails_at: Some(fails_at),
+            fails_at: Some(fails_at as u64),
             failures: 0,
         };
         ask_all(&rt, &mut source, fails_at);
