@@ -5,7 +5,7 @@ ghost use Rattle.std.specs.Str.{bytes_eq};
 ghost use Rattle.std.specs.Io.KnownBytes.{Consumes};
 ghost use Rattle.study_material.specs.Class.{is_left_out};
 ghost use Rattle.study_index.specs.Number.{cells_of};
-ghost use Rattle.study_tablefile.specs.File.{class_field, fields_text, page_digest, pages_of};
+ghost use Rattle.study_tablefile.specs.File.{class_field, fields_text, page_digest, pages_of, table_text};
 ghost use Rattle.study_tablefile.specs.Reading.{class_named, class_read, page_fault, table_end, pages_read, table_read, IsShort, HasHeader};
 ghost use Rattle.study_tablefile.specs.declared.fault.FileFault.TheVariants.{Cut, Device, OutOfMemory, TrailingBytes};
 
@@ -241,6 +241,7 @@ pub fn read_table<'a, A: Allocator, R: Read>(
     alloc: &'a A,
     input: &mut R,
 ) -> Result<Table<'a, A>, FileFault>
+    ensures text { (bytes : List ℕ) → R.remaining input.old ≡ Some bytes → IfOk result (λ t. bytes ≡ table_text t) }
     ensures ok { (bytes : List ℕ) → R.remaining input.old ≡ Some bytes → IfOk result (λ t. table_read bytes ≡ Ok t) }
     ensures fault { (bytes : List ℕ) → R.remaining input.old ≡ Some bytes → IfErr result (λ e. (e ≡ Device) ⊎ ((e ≡ OutOfMemory) × HasHeader bytes) ⊎ (table_read bytes ≡ Err e)) }
 {
