@@ -1,7 +1,7 @@
 -- What is written is read again.
 use Rattle.std.proofs.Common.{◌≡◌, ℕ, zero, suc, ◌+◌, ◌-◌, ◌*◌, ◌<◌, ◌≤◌, inl, inr, min, true, false, List, [], ◌∷◌, ◌++◌, length, take, drop, replicate, Option, Some, None, Ok, refl, sym, ap, ◌∙◌, arith, append_assoc, append-nil, length-append, length-drop, length-take, take-append-drop}
 use Rattle.std.specs.Str.{bytes_eq}
-use Rattle.std.proofs.lemmas.List.{length-replicate}
+use Rattle.std.proofs.lemmas.List.{length-replicate, take_all, take_at, drop_all, drop_at, drop-drop}
 use Rattle.std.proofs.lemmas.Bool.{cases_lt, false≢true}
 use Rattle.std.proofs.lemmas.Slice.Eq.{bytes_eq-Decides}
 use Rattle.sha2.specs.Sha256.{sha256}
@@ -16,8 +16,7 @@ use Rattle.study_tablefile.specs.File.{class_field, fields_text, header_text, pa
 use Rattle.study_tablefile.specs.Reading.{class_named, class_checked, class_read, page_fault, pages_read, table_end, table_read, unless}
 use Rattle.study_tablefile.specs.Source.{is_whole_page, page_of}
 use Rattle.study_tablefile.proofs.Bounds.{pages_hold, pages_full}
-use Rattle.study_tablefile.proofs.Lists.{take_whole, drop_whole}
-use Rattle.study_tablefile.proofs.Known.{drop_front, take_front, long_enough, page_told}
+use Rattle.study_tablefile.proofs.Known.{long_enough, page_told}
 
 -- ---- lengths
 
@@ -135,9 +134,9 @@ class_again KPKP h = absurd (false≢true (sym h))
 checked_again : (c : Class) → class_checked (header_text c) (Some c) ≡ Ok c
 unfolding header_text
 checked_again c =
-    let front : take 32 (fields_text c ++ sha256 (fields_text c)) ≡ fields_text c = take_front (fields_text c) (sha256 (fields_text c)) 32 (fields_length c) in
+    let front : take 32 (fields_text c ++ sha256 (fields_text c)) ≡ fields_text c = take_at (fields_text c) (sha256 (fields_text c)) 32 (fields_length c) in
     let back : take 32 (drop 32 (fields_text c ++ sha256 (fields_text c))) ≡ sha256 (fields_text c) =
-    ap (λ (l : List ℕ). take 32 l) (drop_front (fields_text c) (sha256 (fields_text c)) 32 (fields_length c)) ∙ take_whole 32 (sha256 (fields_text c)) (omega (arith, length-sha256 (fields_text c))) in
+    ap (λ (l : List ℕ). take 32 l) (drop_at (fields_text c) (sha256 (fields_text c)) 32 (fields_length c)) ∙ take_all 32 (sha256 (fields_text c)) (omega (arith, length-sha256 (fields_text c))) in
     rw (same_bytes _ _ front) (rw (same_bytes _ _ back) refl)
 
 header_again : (c : Class) → is_left_out c ≡ false → class_read (header_text c) ≡ Ok c
@@ -150,9 +149,9 @@ unfolding page_text
 page_again fields rest cells n =
     let full = page_cells_of cells in
     let digest = page_digest fields n full in
-    let front : take 4096 (full ++ digest) ≡ full = take_front full digest 4096 (cells_length cells) in
+    let front : take 4096 (full ++ digest) ≡ full = take_at full digest 4096 (cells_length cells) in
     let back : take 32 (drop 4096 (full ++ digest)) ≡ digest =
-    ap (λ (l : List ℕ). take 32 l) (drop_front full digest 4096 (cells_length cells)) ∙ take_whole 32 digest (omega (arith, digest_length fields n full)) in
+    ap (λ (l : List ℕ). take 32 l) (drop_at full digest 4096 (cells_length cells)) ∙ take_all 32 digest (omega (arith, digest_length fields n full)) in
     page_told fields (full ++ digest) rest n (page_length fields n cells) ∙ rw front (rw (same_bytes _ _ back) refl)
 
 cells_again : (fields rest cells : List ℕ) (n : ℕ) → take 4096 (page_text fields n (page_cells_of cells) ++ rest) ≡ page_cells_of cells
@@ -160,7 +159,7 @@ unfolding page_text
 cells_again fields rest cells n =
     let full = page_cells_of cells in
     let digest = page_digest fields n full in
-    ap (λ (l : List ℕ). take 4096 l) (append_assoc full digest rest) ∙ take_front full (digest ++ rest) 4096 (cells_length cells)
+    ap (λ (l : List ℕ). take 4096 l) (append_assoc full digest rest) ∙ take_at full (digest ++ rest) 4096 (cells_length cells)
 
 -- the cells of a page, and those behind it with their zero bytes
 pub padded_cells : (k : ℕ) (cells : List ℕ) → length cells ≤ 4096 * suc k → 4096 * suc k < length cells + 4096
@@ -175,8 +174,8 @@ padded_cells k cells hold full = elim (cases_lt 4096 (length cells)) [
       ∙ sym (append_assoc (take 4096 cells) (drop 4096 cells) (replicate (4096 * suc k - length cells) 0)) ∙ ap (λ (l : List ℕ). l ++ replicate (4096 * suc k - length cells) 0) (take-append-drop 4096 cells)))
   | inr all ↦
       let last : k ≡ 0 = omega arith in
-      let front : take 4096 cells ≡ cells = take_whole 4096 cells all in
-      let back : drop 4096 cells ≡ [] = drop_whole 4096 cells all in
+      let front : take 4096 cells ≡ cells = take_all 4096 cells all in
+      let back : drop 4096 cells ≡ [] = drop_all 4096 cells all in
       let zeros : 4096 - length cells ≡ 4096 * suc k - length cells = omega arith in
       let none : 4096 * k - 0 ≡ 0 = omega arith in
       rw front (rw back (rw none (rw zeros (append-nil _))))
@@ -193,15 +192,15 @@ pages_again c n (suc k) before cells hold full =
     let size = length-drop 4096 cells in
     ap (λ (o : Option FileFault). unless o (pages_read c (n + 1) k (before ++ take 4096 (page ++ rest)) (drop 4128 (page ++ rest)))) (page_again fields rest cells n)
     ∙ ap (λ (l : List ℕ). pages_read c (n + 1) k (before ++ l) (drop 4128 (page ++ rest))) (cells_again fields rest cells n)
-    ∙ ap (λ (l : List ℕ). pages_read c (n + 1) k (before ++ page_cells_of cells) l) (drop_front page rest 4128 (page_length fields n cells))
+    ∙ ap (λ (l : List ℕ). pages_read c (n + 1) k (before ++ page_cells_of cells) l) (drop_at page rest 4128 (page_length fields n cells))
     ∙ pages_again c (n + 1) k (before ++ page_cells_of cells) (drop 4096 cells) (omega arith) (omega arith)
     ∙ ap (λ (l : List ℕ). table_end c l []) (append_assoc before (page_cells_of cells) (drop 4096 cells ++ replicate (4096 * k - length (drop 4096 cells)) 0) ∙ ap (λ (l : List ℕ). before ++ l) (padded_cells k cells hold full))
 
 end_again : (c : Class) (cells : List ℕ) (m : ℕ) → length cells ≡ cells_of c → table_end c (cells ++ replicate m 0) [] ≡ Ok (record { class = c; cells = cells })
 unfolding table_end
 end_again c cells m e =
-    let back : drop (cells_of c) (cells ++ replicate m 0) ≡ replicate m 0 = drop_front cells (replicate m 0) (cells_of c) e in
-    let front : take (cells_of c) (cells ++ replicate m 0) ≡ cells = take_front cells (replicate m 0) (cells_of c) e in
+    let back : drop (cells_of c) (cells ++ replicate m 0) ≡ replicate m 0 = drop_at cells (replicate m 0) (cells_of c) e in
+    let front : take (cells_of c) (cells ++ replicate m 0) ≡ cells = take_at cells (replicate m 0) (cells_of c) e in
     let zeros : bytes_eq (replicate m 0) (replicate (length (replicate {A = ℕ} m 0)) 0) ≡ true = same_bytes _ _ (ap (λ (j : ℕ). replicate {A = ℕ} j 0) (sym (length-replicate {A = ℕ} m 0))) in
     rw back (rw zeros (rw front refl))
 
@@ -214,20 +213,15 @@ read_again t complete =
     let hold = pages_hold c in
     let full = pages_full c in
     let size = complete.size in
-    rw (long_enough header pages 64 (header_length c)) (rw (take_front header pages 64 (header_length c)) (rw (drop_front header pages 64 (header_length c)) (rw (header_again c complete.admitted)
+    rw (long_enough header pages 64 (header_length c)) (rw (take_at header pages 64 (header_length c)) (rw (drop_at header pages 64 (header_length c)) (rw (header_again c complete.admitted)
     (pages_again c 0 (pages_of c) [] t.cells (omega arith) (omega arith) ∙ end_again c t.cells (4096 * pages_of c - length t.cells) size))))
 
 -- ---- one page of a text
 
-pub drop_more : (a b : ℕ) (xs : List ℕ) → drop (a + b) xs ≡ drop b (drop a xs)
-drop_more zero b xs = let same : zero + b ≡ b = omega arith in ap (λ (n : ℕ). drop n xs) same
-drop_more (suc a) b [] = let same : suc a + b ≡ suc (a + b) = omega arith in ap (λ (n : ℕ). drop {A = ℕ} n []) same ∙ sym (drop_whole b [] (omega arith))
-drop_more (suc a) b (x ∷ xs) = let same : suc a + b ≡ suc (a + b) = omega arith in ap (λ (n : ℕ). drop n (x ∷ xs)) same ∙ drop_more a b xs
-
 page_at : (fields : List ℕ) (n k i : ℕ) (cells : List ℕ) → i < k → take 4128 (drop (4128 * i) (pages_text fields n k cells)) ≡ page_text fields (n + i) (page_cells_of (drop (4096 * i) cells))
 page_at fields n zero i cells h = absurd (omega arith)
 page_at fields n (suc k) zero cells h =
-    take_front (page_text fields n (page_cells_of cells)) (pages_text fields (n + 1) k (drop 4096 cells)) 4128 (page_length fields n cells)
+    take_at (page_text fields n (page_cells_of cells)) (pages_text fields (n + 1) k (drop 4096 cells)) 4128 (page_length fields n cells)
     ∙ ap (λ (m : ℕ). page_text fields m (page_cells_of cells)) (let same : n ≡ n + 0 = omega arith in same)
 page_at fields n (suc k) (suc i) cells h =
     let page = page_text fields n (page_cells_of cells) in
@@ -236,14 +230,14 @@ page_at fields n (suc k) (suc i) cells h =
     let near : 4096 + 4096 * i ≡ 4096 * suc i = omega arith in
     let next : (n + 1) + i ≡ n + suc i = omega arith in
     ap (λ (m : ℕ). take 4128 (drop m (page ++ rest))) far
-    ∙ ap (λ (l : List ℕ). take 4128 l) (drop_more 4128 (4128 * i) (page ++ rest) ∙ ap (λ (l : List ℕ). drop (4128 * i) l) (drop_front page rest 4128 (page_length fields n cells)))
+    ∙ ap (λ (l : List ℕ). take 4128 l) (sym (drop-drop (4128 * i) 4128 (page ++ rest)) ∙ ap (λ (l : List ℕ). drop (4128 * i) l) (drop_at page rest 4128 (page_length fields n cells)))
     ∙ page_at fields (n + 1) k i (drop 4096 cells) (omega arith)
     ∙ ap (λ (m : ℕ). page_text fields m (page_cells_of (drop (4096 * i) (drop 4096 cells)))) next
-    ∙ ap (λ (l : List ℕ). page_text fields (n + suc i) (page_cells_of l)) (sym (drop_more 4096 (4096 * i) cells) ∙ ap (λ (m : ℕ). drop m cells) near)
+    ∙ ap (λ (l : List ℕ). page_text fields (n + suc i) (page_cells_of l)) (drop-drop (4096 * i) 4096 cells ∙ ap (λ (m : ℕ). drop m cells) near)
 
 pub text_header : (t : Table) (text : List ℕ) → text ≡ table_text t → take 64 text ≡ header_text t.class
 unfolding table_text
-text_header t text e = ap (λ (l : List ℕ). take 64 l) e ∙ take_front (header_text t.class) (pages_text (fields_text t.class) 0 (pages_of t.class) t.cells) 64 (header_length t.class)
+text_header t text e = ap (λ (l : List ℕ). take 64 l) e ∙ take_at (header_text t.class) (pages_text (fields_text t.class) 0 (pages_of t.class) t.cells) 64 (header_length t.class)
 
 pub text_page : (t : Table) (text : List ℕ) (n : ℕ) → text ≡ table_text t → n < pages_of t.class → take 4128 (drop (64 + 4128 * n) text) ≡ page_of t n
 unfolding table_text
@@ -251,7 +245,7 @@ text_page t text n e h =
     let pages = pages_text (fields_text t.class) 0 (pages_of t.class) t.cells in
     let same : 0 + n ≡ n = omega arith in
     ap (λ (l : List ℕ). take 4128 (drop (64 + 4128 * n) l)) e
-    ∙ ap (λ (l : List ℕ). take 4128 l) (drop_more 64 (4128 * n) (header_text t.class ++ pages) ∙ ap (λ (l : List ℕ). drop (4128 * n) l) (drop_front (header_text t.class) pages 64 (header_length t.class)))
+    ∙ ap (λ (l : List ℕ). take 4128 l) (sym (drop-drop (4128 * n) 64 (header_text t.class ++ pages)) ∙ ap (λ (l : List ℕ). drop (4128 * n) l) (drop_at (header_text t.class) pages 64 (header_length t.class)))
     ∙ page_at (fields_text t.class) 0 (pages_of t.class) n t.cells h ∙ ap (λ (m : ℕ). page_text (fields_text t.class) m (page_cells_of (drop (4096 * n) t.cells))) same
 
 pub header_given : (t : Table) (text given : List ℕ) (size : ℕ) → text ≡ table_text t → size ≡ 64 → given ≡ take size (drop 0 text) → given ≡ header_text t.class
@@ -264,7 +258,7 @@ page_given t text given n size e h s g = g ∙ ap (λ (m : ℕ). take m (drop (6
 
 zeros_behind : (cells : List ℕ) (m : ℕ) → m ≡ min (length cells) 4096 → drop m (page_cells_of cells) ≡ replicate (4096 - length cells) 0
 unfolding page_cells_of
-zeros_behind cells m e = drop_front (take 4096 cells) (replicate (4096 - length cells) 0) m (omega (arith, e, length-take 4096 cells))
+zeros_behind cells m e = drop_at (take 4096 cells) (replicate (4096 - length cells) 0) m (omega (arith, e, length-take 4096 cells))
 
 pub whole_again : (t : Table) (n : ℕ) → IsComplete t → is_whole_page (fields_text t.class) (cells_of t.class) n (page_of t n) ≡ true
 unfolding page_text
@@ -273,9 +267,9 @@ whole_again t n complete =
     let cells = drop (4096 * n) t.cells in
     let full = page_cells_of cells in
     let digest = page_digest fields n full in
-    let front : take 4096 (full ++ digest) ≡ full = take_front full digest 4096 (cells_length cells) in
+    let front : take 4096 (full ++ digest) ≡ full = take_at full digest 4096 (cells_length cells) in
     let back : take 32 (drop 4096 (full ++ digest)) ≡ digest =
-    ap (λ (l : List ℕ). take 32 l) (drop_front full digest 4096 (cells_length cells)) ∙ take_whole 32 digest (omega (arith, digest_length fields n full)) in
+    ap (λ (l : List ℕ). take 32 l) (drop_at full digest 4096 (cells_length cells)) ∙ take_all 32 digest (omega (arith, digest_length fields n full)) in
     let count : min (cells_of t.class - n * 4096) 4096 ≡ min (length cells) 4096 = omega (arith, complete.size, length-drop (4096 * n) t.cells) in
     let zeros : drop (min (cells_of t.class - n * 4096) 4096) full ≡ replicate (4096 - length cells) 0 = zeros_behind cells (min (cells_of t.class - n * 4096) 4096) count in
     rw front (rw (same_bytes _ _ back) (rw zeros (same_bytes _ _ (ap (λ (j : ℕ). replicate {A = ℕ} j 0) (sym (length-replicate {A = ℕ} (4096 - length cells) 0))))))

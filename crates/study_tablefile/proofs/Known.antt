@@ -1,9 +1,9 @@
 -- What a reader that tells its bytes has given.
-use Rattle.std.proofs.Common.{◌≡◌, ℕ, zero, suc, ◌+◌, ◌<◌, ◌≤◌, Bool, true, false, not, nat_lt, List, [], ◌∷◌, ◌++◌, length, take, drop, find, filter, slice_index_or, Option, Some, None, Result, Ok, Err, IfOk, IfErr, OnOk, if◌then◌else◌, refl, sym, ap, subst, ◌∙◌, arith, length-drop}
+use Rattle.std.proofs.Common.{◌≡◌, ℕ, zero, suc, ◌+◌, ◌<◌, ◌≤◌, Bool, true, false, not, nat_lt, List, [], ◌∷◌, ◌++◌, length, take, drop, find, filter, slice_index_or, Option, Some, None, Result, Ok, Err, IfOk, IfErr, OnOk, if◌then◌else◌, refl, sym, ap, subst, ◌∙◌, arith, length-append, length-drop}
 use Rattle.std.specs.Io.KnownBytes.{Consumes}
 use Rattle.std.specs.Str.{bytes_eq}
 use Rattle.std.proofs.lemmas.Bool.{le-ltb}
-use Rattle.std.proofs.Math.Seq.{take-append-le, drop-append-le}
+use Rattle.std.proofs.lemmas.List.{take_at, drop_at, take-append-le, drop-append-le}
 use Rattle.study_material.specs.declared.class.Class.{Class}
 use Rattle.study_material.specs.Class.{class_list, is_left_out}
 use Rattle.study_tablefile.specs.declared.fault.FileFault.{FileFault}
@@ -52,29 +52,12 @@ consumed None b front bytes n e h k = cc
 consumed (Some xs) None front bytes n e h k = absurd h
 consumed (Some xs) (Some ys) front bytes n e h k = let same : xs ≡ bytes = cc in (ys, refl, sym same ∙ h)
 
-pub drop_front : (front rest : List ℕ) (n : ℕ) → length front ≡ n → drop n (front ++ rest) ≡ rest
-drop_front [] rest zero e = refl
-drop_front [] rest (suc n) e = absurd (omega arith)
-drop_front (x ∷ front) rest zero e = absurd (omega arith)
-drop_front (x ∷ front) rest (suc n) e = drop_front front rest n (omega arith)
-
-pub take_front : (front rest : List ℕ) (n : ℕ) → length front ≡ n → take n (front ++ rest) ≡ front
-take_front [] rest zero e = refl
-take_front [] rest (suc n) e = absurd (omega arith)
-take_front (x ∷ front) rest zero e = absurd (omega arith)
-take_front (x ∷ front) rest (suc n) e = ap (λ (l : List ℕ). x ∷ l) (take_front front rest n (omega arith))
-
 pub short_bytes : (a : Option (List ℕ)) (bytes : List ℕ) (n : ℕ) → IsShort a n → a ≡ Some bytes → length bytes < n
 short_bytes None bytes n h e = cc
 short_bytes (Some xs) bytes n h e = let same : xs ≡ bytes = cc in subst (λ (l : List ℕ). length l < n) same h
 
 pub long_enough : (front rest : List ℕ) (n : ℕ) → length front ≡ n → nat_lt (length (front ++ rest)) n ≡ false
-long_enough front rest n e = le-ltb (length (front ++ rest)) n (long front rest n e)
-  where
-    long : (front rest : List ℕ) (n : ℕ) → length front ≡ n → n ≤ length (front ++ rest)
-    long [] rest n e = omega arith
-    long (x ∷ front) rest zero e = omega arith
-    long (x ∷ front) rest (suc n) e = let h = long front rest n (omega arith) in omega arith
+long_enough front rest n e = le-ltb (length (front ++ rest)) n (omega (arith, length-append front rest, e))
 
 -- ---- pages
 
@@ -98,7 +81,7 @@ pub page_good : (a b : Option (List ℕ)) (fields page bytes cells old new : Lis
     → (b ≡ Some (drop 4128 bytes)) × (new ≡ old ++ take 4096 bytes) × (page_fault fields n bytes ≡ None)
 page_good a b fields page bytes cells old new n t size h e told f g more =
     let (rest, next, whole) = consumed a b page bytes 4128 size h e in
-    let after : rest ≡ drop 4128 bytes = sym (ap (λ (l : List ℕ). drop 4128 l) whole ∙ drop_front page rest 4128 size) in
+    let after : rest ≡ drop 4128 bytes = sym (ap (λ (l : List ℕ). drop 4128 l) whole ∙ drop_at page rest 4128 size) in
     let front : cells ≡ take 4096 bytes = g ∙ sym (ap (λ (l : List ℕ). take 4096 l) whole ∙ take-append-le 4096 page rest (omega arith)) in
     (next ∙ ap (λ (l : List ℕ). Some l) after, more ∙ ap (λ (l : List ℕ). old ++ l) front, ap (page_fault fields n) whole ∙ page_told fields page rest n size ∙ rw (sym told ∙ f) refl)
 
@@ -119,8 +102,8 @@ pub header_known : (a b : Option (List ℕ)) (header bytes : List ℕ) → lengt
 unfolding table_read
 header_known a b header bytes size h e =
     let (rest, next, whole) = consumed a b header bytes 64 size h e in
-    let front : take 64 bytes ≡ header = ap (λ (l : List ℕ). take 64 l) whole ∙ take_front header rest 64 size in
-    let after : drop 64 bytes ≡ rest = ap (λ (l : List ℕ). drop 64 l) whole ∙ drop_front header rest 64 size in
+    let front : take 64 bytes ≡ header = ap (λ (l : List ℕ). take 64 l) whole ∙ take_at header rest 64 size in
+    let after : drop 64 bytes ≡ rest = ap (λ (l : List ℕ). drop 64 l) whole ∙ drop_at header rest 64 size in
     let enough : nat_lt (length bytes) 64 ≡ false = ap (λ (l : List ℕ). nat_lt (length l) 64) whole ∙ long_enough header rest 64 size in
     (rest, next, rw enough (rw front (rw after refl)), front)
 

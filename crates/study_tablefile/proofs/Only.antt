@@ -16,9 +16,9 @@ use Rattle.study_tablefile.specs.declared.fault.FileFault.TheVariants.{Cut, NotA
 use Rattle.study_tablefile.specs.File.{fields_text, header_text, page_cells_of, page_digest, page_text, pages_of, pages_text, table_text}
 use Rattle.study_tablefile.specs.Reading.{class_named, class_checked, class_read, page_fault, pages_read, table_behind, table_end, table_read, unless}
 use Rattle.study_tablefile.proofs.Bounds.{pages_hold, pages_full}
-use Rattle.study_tablefile.proofs.Lists.{take_whole}
-use Rattle.study_tablefile.proofs.Known.{drop_front, take_front, named_admitted}
-use Rattle.study_tablefile.proofs.Again.{cells_length, padded_cells, drop_more}
+use Rattle.std.proofs.lemmas.List.{take_all, take_at, drop_at, drop-drop}
+use Rattle.study_tablefile.proofs.Known.{named_admitted}
+use Rattle.study_tablefile.proofs.Again.{cells_length, padded_cells}
 
 -- ---- tests on the way to an answer
 
@@ -72,7 +72,7 @@ header_is header c size h =
     let mark = admitted (bytes_eq (take 8 header) (codes "STUDYDTM")) NotATable _ c h in
     let version = admitted (little_number 2 (drop 8 header) == 1) (Version (little_number 2 (drop 8 header))) _ c mark.1 in
     let (named, front, back) = checked_is header (class_named (take 8 (drop 16 header))) c version.1 in
-    let whole : take 32 (drop 32 header) ≡ drop 32 header = take_whole 32 (drop 32 header) (omega (arith, length-drop 32 header, size)) in (
+    let whole : take 32 (drop 32 header) ≡ drop 32 header = take_all 32 (drop 32 header) (omega (arith, length-drop 32 header, size)) in (
       sym (take-append-drop 32 header) ∙ ap (λ (l : List ℕ). take 32 header ++ l) (sym whole ∙ back) ∙ ap (λ (l : List ℕ). l ++ sha256 (fields_text c)) front,
       named_admitted (take 8 (drop 16 header)) c named,
     )
@@ -85,7 +85,7 @@ unfolding page_cells_of
 page_full front more e =
     let size = length-append front more in
     let none : 4096 - length (front ++ more) ≡ 0 = omega (arith, size, e) in
-    rw none (rw (take_front front more 4096 e) (append-nil front))
+    rw none (rw (take_at front more 4096 e) (append-nil front))
 
 page_is : (fields bytes : List ℕ) (n : ℕ) → page_fault fields n bytes ≡ None
     → (length (take 4096 bytes) ≡ 4096) × (bytes ≡ page_text fields n (take 4096 bytes) ++ drop 4128 bytes)
@@ -96,7 +96,7 @@ page_is fields bytes n h =
     let tests = no_fault (nat_lt (length bytes) 4128) (bytes_eq (take 32 tail) (page_digest fields n cells)) Cut (PageDamaged n) h in
     let long : 4128 ≤ length bytes = ltb-false (length bytes) 4128 tests.0 in
     let digest : take 32 tail ≡ page_digest fields n cells = (bytes_eq-Decides (take 32 tail) (page_digest fields n cells)).0 tests.1 in
-    let after : drop 4128 bytes ≡ drop 32 tail = drop_more 4096 32 bytes in (
+    let after : drop 4128 bytes ≡ drop 32 tail = sym (drop-drop 32 4096 bytes) in (
       length-take-le 4096 bytes (omega arith),
       sym (take-append-drop 4096 bytes) ∙ ap (λ (l : List ℕ). cells ++ l) (sym (take-append-drop 32 tail)) ∙ sym (append_assoc cells (take 32 tail) (drop 32 tail))
           ∙ ap (λ (l : List ℕ). (cells ++ l) ++ drop 32 tail) digest ∙ ap (λ (l : List ℕ). (cells ++ page_digest fields n cells) ++ l) (sym after),
@@ -147,7 +147,7 @@ pages_are c n (suc k) before bytes t h =
       size = length-append front rest.cells ∙ omega (arith, full, rest.size);
       text = page ∙ ap (λ (l : List ℕ). page_text fields n front ++ l) rest.text
           ∙ ap (λ (l : List ℕ). page_text fields n l ++ pages_text fields (n + 1) k rest.cells) (sym (page_full front rest.cells full))
-          ∙ ap (λ (l : List ℕ). page_text fields n (page_cells_of (front ++ rest.cells)) ++ pages_text fields (n + 1) k l) (sym (drop_front front rest.cells 4096 full));
+          ∙ ap (λ (l : List ℕ). page_text fields n (page_cells_of (front ++ rest.cells)) ++ pages_text fields (n + 1) k l) (sym (drop_at front rest.cells 4096 full));
       end = ap (λ (l : List ℕ). table_end c l []) (sym (append_assoc before front rest.cells)) ∙ rest.end;
       small = λ all. All-append (λ b. b < 256) front rest.cells (All-take (λ b. b < 256) 4096 bytes all) (rest.small (All-drop (λ b. b < 256) 4128 bytes all));
     }
@@ -163,7 +163,7 @@ pages_padded fields n (suc k) cells hold full =
     let size : length rest ≡ length cells - 4096 = length-drop 4096 cells in
     rw (sym (padded_cells k cells hold full)) (
     ap (λ (l : List ℕ). page_text fields n l ++ pages_text fields (n + 1) k (drop 4096 (front ++ (rest ++ zeros)))) (page_full front (rest ++ zeros) (cells_length cells))
-    ∙ ap (λ (l : List ℕ). page_text fields n front ++ pages_text fields (n + 1) k l) (drop_front front (rest ++ zeros) 4096 (cells_length cells))
+    ∙ ap (λ (l : List ℕ). page_text fields n front ++ pages_text fields (n + 1) k l) (drop_at front (rest ++ zeros) 4096 (cells_length cells))
     ∙ ap (λ (l : List ℕ). page_text fields n front ++ l) (pages_padded fields (n + 1) k (drop 4096 cells) (omega (arith, size, hold)) (omega (arith, size, full)))
     )
 
