@@ -1,6 +1,8 @@
 //! A reader and a writer in memory that go byte by byte and fail where a test wants it.
-ghost use Rattle.std.specs.Prelude.{◌≡◌, ◌<◌, ◌↔◌, [], Some, length, take, drop, vec_len, ◌≤◌, ◌⊎◌, IsOk, IsErr, IfOk, IfErr, OnOk, OnErr};
-ghost use Rattle.study_tablefile.specs.Source.{counted};
+ghost use Rattle.std.specs.Prelude.{◌≡◌, ◌<◌, ◌↔◌, [], Some, length, take, drop, vec_len, ◌≤◌, ◌⊎◌, IsOk, IsErr, IsErrOf, IfOk, IfErr, OnOk, OnErr, ◌≢◌, ◌+◌, ◌*◌};
+ghost use Rattle.study_tablefile.specs.Source.{counted, page_of};
+ghost use Rattle.study_tablefile.specs.File.{header_text, pages_of, table_text};
+ghost use Rattle.study_retro.specs.Table.{Table as Seen};
 ghost use Rattle.std.specs.Io.{ReadsAtMost, WritesAtMost};
 ghost use Rattle.std.specs.Io.KnownBytes.{Keeps, ReadConsumes, WriteAppends};
 ghost use Rattle.std.specs.IoError.{error_kind};
@@ -54,6 +56,7 @@ impl<'a> Read for MemoryReader<'a> {
     fn read(&mut self, buf: &mut [u8]) -> io::Result<usize>
         ensures bound { ReadsAtMost result buf.new }
         ensures bytes { ReadConsumes (Some (drop self.old.given self.old.text.now)) (Some (drop self.new.given self.new.text.now)) result buf.new }
+        ensures few { IfOk result (λ n. n ≤ 1) }
         ensures fails { IsErr result ↔ (self.old.fails_after ≡ Some self.old.given) }
     {
         if self.fails_after == Some(self.given) {
@@ -157,7 +160,11 @@ impl<'a> MemorySource<'a> {
     fn bytes(&mut self, start: usize, into: &mut [u8]) -> Result<(), SourceFault>
         ensures len { length into.new ≡ length into.old }
         ensures text { self.new.text.now ≡ self.old.text.now }
+        ensures plan { self.new.fails_at ≡ self.old.fails_at }
+        ensures asked { self.new.asked ≡ counted self.old.asked }
         ensures ok { OnOk result (into.new ≡ take (length into.old) (drop start self.old.text.now)) }
+        ensures device { IsErrOf result SourceFault.Device ↔ (self.old.fails_at ≡ Some self.old.asked) }
+        ensures short { IsErrOf result SourceFault.Short ↔ ((self.old.fails_at ≢ Some self.old.asked) × (length self.old.text.now < start + length into.old)) }
         ensures no_failure { OnOk result (self.new.failures ≡ self.old.failures) }
         ensures failure { OnErr result (self.new.failures ≡ counted self.old.failures) }
     {
@@ -179,17 +186,33 @@ impl<'a> MemorySource<'a> {
 }
 
 impl<'a> PageSource for MemorySource<'a> {
-    ghost use Rattle.study_tablefile.specs.File.{table_text};
-
     ghost honest = { λ s t. s.text.now ≡ table_text t };
 
     ghost failed = { λ s. s.failures };
 
-    fn header(&mut self, into: &mut [u8; 64]) -> Result<(), SourceFault> {
+    fn header(&mut self, into: &mut [u8; 64]) -> Result<(), SourceFault>
+        ensures ok { (t : Seen) → self.old.text.now ≡ table_text t → OnOk result (into.new ≡ header_text t.class) }
+        ensures text { self.new.text.now ≡ self.old.text.now }
+        ensures plan { self.new.fails_at ≡ self.old.fails_at }
+        ensures asked { self.new.asked ≡ counted self.old.asked }
+        ensures device { IsErrOf result SourceFault.Device ↔ (self.old.fails_at ≡ Some self.old.asked) }
+        ensures short { IsErrOf result SourceFault.Short ↔ ((self.old.fails_at ≢ Some self.old.asked) × (length self.old.text.now < 64)) }
+        ensures no_failure { OnOk result (self.new.failures ≡ self.old.failures) }
+        ensures failure { OnErr result (self.new.failures ≡ counted self.old.failures) }
+    {
         self.bytes(0, into)
     }
 
-    fn page(&mut self, n: u32, into: &mut [u8; 4128]) -> Result<(), SourceFault> {
+    fn page(&mut self, n: u32, into: &mut [u8; 4128]) -> Result<(), SourceFault>
+        ensures ok { (t : Seen) → self.old.text.now ≡ table_text t → n < pages_of t.class → OnOk result (into.new ≡ page_of t n) }
+        ensures text { self.new.text.now ≡ self.old.text.now }
+        ensures plan { self.new.fails_at ≡ self.old.fails_at }
+        ensures asked { self.new.asked ≡ counted self.old.asked }
+        ensures device { IsErrOf result SourceFault.Device ↔ (self.old.fails_at ≡ Some self.old.asked) }
+        ensures short { IsErrOf result SourceFault.Short ↔ ((self.old.fails_at ≢ Some self.old.asked) × (length self.old.text.now < 4192 + 4128 * n)) }
+        ensures no_failure { OnOk result (self.new.failures ≡ self.old.failures) }
+        ensures failure { OnErr result (self.new.failures ≡ counted self.old.failures) }
+    {
         self.bytes(64 + 4128 * n as usize, into)
     }
 
