@@ -3,7 +3,7 @@ use Rattle.std.proofs.Common.{◌≡◌, ℕ, zero, suc, ◌+◌, ◌<◌, ◌�
 use Rattle.std.specs.Io.KnownBytes.{Consumes}
 use Rattle.std.specs.Str.{bytes_eq}
 use Rattle.std.proofs.lemmas.Bool.{le-ltb}
-use Rattle.std.proofs.lemmas.List.{take_at, drop_at, take-append-le, drop-append-le}
+use Rattle.std.proofs.lemmas.List.{take_at, drop_at, drop_more, take-append-le, drop-append-le}
 use Rattle.study_material.specs.declared.class.Class.{Class}
 use Rattle.study_material.specs.Class.{class_list, is_left_out}
 use Rattle.study_tablefile.specs.declared.fault.FileFault.{FileFault}
@@ -14,17 +14,10 @@ use Rattle.study_tablefile.specs.Reading.{class_named, class_read, page_fault, p
 -- ---- lists
 
 pub find_here : {X : Type 0} (test : X → Bool) (xs : List X) (i : ℕ) (d : X) → i < length xs → test (slice_index_or xs i d) ≡ true → find test (drop i xs) ≡ Some (slice_index_or xs i d)
-find_here test [] i d h e = absurd (omega arith)
-find_here test (x ∷ xs) zero d h e = rw e refl
-find_here test (x ∷ xs) (suc i) d h e = find_here test xs i d (omega arith) e
-
-find_next : {X : Type 0} (test : X → Bool) (xs : List X) (i : ℕ) (d : X) → i < length xs → test (slice_index_or xs i d) ≡ false → find test (drop i xs) ≡ find test (drop (suc i) xs)
-find_next test [] i d h e = absurd (omega arith)
-find_next test (x ∷ xs) zero d h e = rw e refl
-find_next test (x ∷ xs) (suc i) d h e = find_next test xs i d (omega arith) e
+find_here test xs i d h e = ap (find test) (drop_more xs i d h) ∙ rw e refl
 
 pub find_later : {X : Type 0} (test : X → Bool) (xs : List X) (i : ℕ) (d : X) → i < length xs → test (slice_index_or xs i d) ≡ false → find test (drop i xs) ≡ find test (drop (i + 1) xs)
-find_later test xs i d h e = let same : suc i ≡ i + 1 = omega arith in find_next test xs i d h e ∙ ap (λ (n : ℕ). find test (drop n xs)) same
+find_later test xs i d h e = ap (find test) (drop_more xs i d h) ∙ rw e refl
 
 found_one : (test : Class → Bool) (x c : Class) (xs : List Class) (b : Bool) → is_left_out x ≡ b
     → (find test (filter (λ d. not (is_left_out d)) xs) ≡ Some c → is_left_out c ≡ false)
@@ -111,15 +104,3 @@ header_known a b header bytes size h e =
 
 pub IfErr-given : {A E : Type 0} (r : Result A E) (e : E) (P : E → Type 0) → r ≡ Err e → P e → IfErr r P
 IfErr-given r e P h p = rw h p
-
-pub IfOk-more : {A E : Type 0} (r : Result A E) (P Q : A → Type 0) → ((x : A) → P x → Q x) → IfOk r P → IfOk r Q
-IfOk-more (Ok x) P Q f h = f x h
-IfOk-more (Err e) P Q f h = tt
-
-pub IfErr-more : {A E : Type 0} (r : Result A E) (P Q : E → Type 0) → ((e : E) → P e → Q e) → IfErr r P → IfErr r Q
-IfErr-more (Ok x) P Q f h = tt
-IfErr-more (Err e) P Q f h = f e h
-
-pub OnOk-more : {A E : Type 0} (r : Result A E) (P Q : Type 0) → (P → Q) → OnOk r P → OnOk r Q
-OnOk-more (Ok x) P Q f h = f h
-OnOk-more (Err e) P Q f h = tt

@@ -72,10 +72,6 @@ pub OnErr-known : {A E : Type 0} (r : Result A E) (P : Type 0) → P → OnErr r
 OnErr-known (Ok x) P h = tt
 OnErr-known (Err e) P h = h
 
-pub OnErr-more : {A E : Type 0} (r : Result A E) (P Q : Type 0) → (P → Q) → OnErr r P → OnErr r Q
-OnErr-more (Ok x) P Q f h = tt
-OnErr-more (Err e) P Q f h = f h
-
 -- ---- a text of two parts
 
 pub stops_first : (old new : Option (List ℕ)) (text x a b : List ℕ) → text ≡ a ++ b → x ≡ a → TakesPrefix old new x → TakesPrefix old new text

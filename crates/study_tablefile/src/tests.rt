@@ -6,8 +6,8 @@ use crate::memory::{MemoryReader, MemorySource, MemoryWriter, WhenFull};
 use crate::text::{digest, fields, page_digest};
 use crate::writing::put;
 use crate::{
-    FileFault, PageSource, SourceFault, file_bytes, page_cells, read_header, read_table,
-    write_table,
+    DeviceFailed, FileFault, PageSource, SourceFault, file_bytes, page_cells, read_header,
+    read_table, write_table,
 };
 use std::alloc::Allocator;
 use std::process::Abort;
@@ -238,6 +238,25 @@ fn exchanged<'a, A: Allocator>(rt: &impl Abort, alloc: &'a A, text: &[u8]) -> Ve
         assert!(rt; put(&mut writer, part).is_ok());
     }
     writer.taken
+}
+
+/// The texts of faults.
+#[test]
+fn faults_are_told(rt: HostRuntime) -> Result<(), Fail> {
+    for (fault, want) in [
+        (FileFault::Version(9), "version 9 of the file is not known"),
+        (FileFault::PageDamaged(3), "page 3 of the file is damaged"),
+    ] {
+        let text = format!(in rt.alloc(); "{fault}")?;
+        assert_eq!(rt; text.as_str(), want);
+    }
+    let short = SourceFault::Short;
+    let text = format!(in rt.alloc(); "{short}: {DeviceFailed}")?;
+    assert_eq!(rt;
+        text.as_str(),
+        "the file of a table is too short: a device failed"
+    );
+    Ok(())
 }
 
 /// Of two pages that have changed places the first is told.

@@ -51,6 +51,7 @@ mod tests {
         }
         let mut full = MemoryWriter::with_room(&alloc, 0, WhenFull::Fail);
         assert_eq!(rt; put(&mut full, b""), Ok(()));
+        assert!(rt; full.flush().is_ok());
 
         let mut text = Vec::new(alloc);
         assert_eq!(rt; MemoryReader::new(b"abc").read_to_end(&mut text)?, 3);

@@ -1,8 +1,9 @@
 use Rattle.std.proofs.Common.{rules, arith, refl, sym, ap, inl, inr, ◌∙◌}
+use Rattle.std.proofs.lemmas.Result.{IfOk-weaker, IfErr-weaker}
 use Rattle.study_tablefile.specs.Reading.{class_read, table_behind}
 use Rattle.study_tablefile.proofs.Bounds.{pages_hold, pages_full}
 use Rattle.study_tablefile.proofs.Only.{text_of_read}
-use Rattle.study_tablefile.proofs.Known.{header_known, IfErr-given, IfOk-more, IfErr-more}
+use Rattle.study_tablefile.proofs.Known.{header_known, IfErr-given}
 use Rattle.study_tablefile.proofs.reading.read_table.Goals as goal
 
 pub returns-in_err-class-clause-fault : goal.returns-in_err-class-clause-fault
@@ -33,19 +34,19 @@ pub returns-clause-text : goal.returns-clause-text
 returns-clause-text g c bytes e =
     let (rest, now, read, front) = header_known _ _ c.fill.new.buf bytes c.fill.ensures.len c.in_ok-fill.ensures.ok e in
     let (last, after, all) = c.in_ok-read_pages.ensures.ok rest now in
-    IfOk-more c.finish.result _ _ (λ t h. text_of_read bytes t (read ∙ ap (λ r. table_behind r rest) (sym c.in_ok-class.ensures.read) ∙ all ∙ h)) (c.finish.ensures.ok last after)
+    IfOk-weaker c.finish.result _ _ (λ t h. text_of_read bytes t (read ∙ ap (λ r. table_behind r rest) (sym c.in_ok-class.ensures.read) ∙ all ∙ h)) (c.finish.ensures.ok last after)
 
 pub returns-clause-ok : goal.returns-clause-ok
 returns-clause-ok g c bytes e =
     let (rest, now, read, front) = header_known _ _ c.fill.new.buf bytes c.fill.ensures.len c.in_ok-fill.ensures.ok e in
     let (last, after, all) = c.in_ok-read_pages.ensures.ok rest now in
-    IfOk-more c.finish.result _ _ (λ t h. read ∙ ap (λ r. table_behind r rest) (sym c.in_ok-class.ensures.read) ∙ all ∙ h) (c.finish.ensures.ok last after)
+    IfOk-weaker c.finish.result _ _ (λ t h. read ∙ ap (λ r. table_behind r rest) (sym c.in_ok-class.ensures.read) ∙ all ∙ h) (c.finish.ensures.ok last after)
 
 pub returns-clause-fault : goal.returns-clause-fault
 returns-clause-fault g c bytes e =
     let (rest, now, read, front) = header_known _ _ c.fill.new.buf bytes c.fill.ensures.len c.in_ok-fill.ensures.ok e in
     let (last, after, all) = c.in_ok-read_pages.ensures.ok rest now in
-    IfErr-more c.finish.result _ _ (λ f h. elim h [
+    IfErr-weaker c.finish.result _ _ (λ f h. elim h [
       | inl device ↦ inl device
       | inr fault ↦ inr (inr (read ∙ ap (λ r. table_behind r rest) (sym c.in_ok-class.ensures.read) ∙ all ∙ fault))
     ]) (c.finish.ensures.fault last after)
