@@ -1,7 +1,8 @@
 -- A writer that has taken a part of a text.
-use Rattle.std.proofs.Common.{◌≡◌, ℕ, ◌<◌, List, [], ◌∷◌, ◌++◌, length, Option, Some, None, refl, sym, ap, subst, ◌∙◌, append_assoc, arith}
+use Rattle.std.proofs.Common.{◌≡◌, ℕ, ◌<◌, ◌==◌, false, List, [], ◌∷◌, ◌++◌, length, take, drop, Option, Some, None, refl, sym, ap, subst, ◌∙◌, append_assoc, arith}
 use Rattle.std.specs.Prelude.{Result, Ok, Err, OnErr}
-use Rattle.std.proofs.lemmas.List.{append-nil}
+use Rattle.std.proofs.lemmas.List.{append-nil, take-append-drop}
+use Rattle.std.proofs.lemmas.Bool.{eqb-false}
 use Rattle.std.specs.Io.KnownBytes.{Appends, Keeps}
 use Rattle.std.proofs.KnownBytes.{Appends-nil, Appends-trans, Appends-kept}
 use Rattle.study_tablefile.specs.Taken.{TakesPrefix}
@@ -22,6 +23,10 @@ Wrote-more old mid new text chunk rest w h = record { done = w.done ++ chunk; pa
 -- the rest begins with a chunk, which is taken
 pub Wrote-cut : (old mid new : Option (List ℕ)) (text rest chunk after : List ℕ) → Wrote old mid text rest → rest ≡ chunk ++ after → Appends mid new chunk → Wrote old new text after
 Wrote-cut old mid new text rest chunk after w e h = Wrote-more old mid new text chunk after (subst (λ (r : List ℕ). Wrote old mid text r) e w) h
+
+-- of the rest n bytes are taken
+pub taken_on : (old mid new : Option (List ℕ)) (text rest after : List ℕ) (n : ℕ) → Wrote old mid text rest → Appends mid new (take n rest) → after ≡ drop n rest → Wrote old new text after
+taken_on old mid new text rest after n w h e = rw e (Wrote-cut old mid new text rest (take n rest) (drop n rest) w (sym (take-append-drop n rest)) h)
 
 pub Wrote-all : (old new : Option (List ℕ)) (text : List ℕ) → Wrote old new text [] → Appends old new text
 Wrote-all old new text w = let e : text ≡ w.done = w.parts ∙ append-nil w.done in rw e w.taken
@@ -52,6 +57,16 @@ pub Keeps-nothing : (c d : Option (List ℕ)) → Appends c d [] → Keeps c d
 Keeps-nothing None d h = tt
 Keeps-nothing (Some xs) None h = h
 Keeps-nothing (Some xs) (Some ys) h = h ∙ append-nil xs
+
+-- a rest that is not empty is left
+pub none_taken : (old mid new : Option (List ℕ)) (text rest : List ℕ) (n : ℕ) → Wrote old mid text rest → false ≡ (length rest == 0) → Appends mid new (take n rest) → n ≡ 0 → TakesPrefix old new text
+none_taken old mid new text rest n w some h none =
+    let nothing : Appends mid new [] = subst (λ (m : ℕ). Appends mid new (take m rest)) none h in
+    let ne = eqb-false (length rest) 0 (sym some) in
+    Wrote-fails old mid new text rest w (omega arith) (Keeps-nothing mid new nothing)
+
+pub stopped : (old mid new : Option (List ℕ)) (text rest : List ℕ) → Wrote old mid text rest → false ≡ (length rest == 0) → Keeps mid new → TakesPrefix old new text
+stopped old mid new text rest w some h = let ne = eqb-false (length rest) 0 (sym some) in Wrote-fails old mid new text rest w (omega arith) h
 
 -- ---- one text behind another
 
