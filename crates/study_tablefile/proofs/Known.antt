@@ -1,5 +1,5 @@
 -- What a reader that tells its bytes has given.
-use Rattle.std.proofs.Common.{◌≡◌, ℕ, zero, suc, ◌+◌, ◌<◌, ◌≤◌, Bool, true, false, not, nat_lt, List, [], ◌∷◌, ◌++◌, length, take, drop, find, filter, slice_index_or, Option, Some, None, Result, Ok, Err, IfOk, IfErr, OnOk, if◌then◌else◌, refl, sym, ap, subst, ◌∙◌, arith, length-append, length-drop}
+use Rattle.std.proofs.Common.{◌≡◌, ℕ, zero, suc, ◌+◌, ◌<◌, ◌≤◌, Bool, true, false, not, nat_lt, List, [], ◌∷◌, ◌++◌, length, take, drop, find, filter, slice_index_or, slice_set, Option, Some, None, Result, Ok, Err, IfOk, IfErr, OnOk, if◌then◌else◌, refl, sym, ap, subst, ◌∙◌, arith, length-append, length-drop}
 use Rattle.std.specs.Io.KnownBytes.{Consumes}
 use Rattle.std.specs.Str.{bytes_eq}
 use Rattle.std.proofs.lemmas.Bool.{le-ltb}
@@ -51,6 +51,11 @@ short_bytes (Some xs) bytes n h e = let same : xs ≡ bytes = cc in subst (λ (l
 
 pub long_enough : (front rest : List ℕ) (n : ℕ) → length front ≡ n → nat_lt (length (front ++ rest)) n ≡ false
 long_enough front rest n e = le-ltb (length (front ++ rest)) n (omega (arith, length-append front rest, e))
+
+-- one byte is given: the first of what is left
+pub byte_given : (text buf : List ℕ) (i d : ℕ) → i < length text → 0 < length buf → drop i text ≡ take 1 (slice_set buf 0 (slice_index_or text i d)) ++ drop (i + 1) text
+byte_given text [] i d within some = absurd (omega arith)
+byte_given text (x ∷ xs) i d within some = drop_more text i d within
 
 -- ---- pages
 

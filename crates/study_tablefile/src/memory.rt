@@ -53,6 +53,7 @@ impl<'a> MemoryReader<'a> {
 impl<'a> Read for MemoryReader<'a> {
     ghost remaining = { λ r. Some (drop r.given r.text.now) };
 
+    #[tactic(auto, using(crate::proofs::Known::byte_given))]
     fn read(&mut self, buf: &mut [u8]) -> io::Result<usize>
         ensures bound { ReadsAtMost result buf.new }
         ensures bytes { ReadConsumes (Some (drop self.old.given self.old.text.now)) (Some (drop self.new.given self.new.text.now)) result buf.new }
