@@ -1,6 +1,7 @@
 -- What is written is read again.
-use Rattle.std.proofs.Common.{◌≡◌, ℕ, zero, suc, ◌+◌, ◌-◌, ◌*◌, ◌<◌, ◌≤◌, inl, inr, min, true, false, List, [], ◌∷◌, ◌++◌, length, take, drop, replicate, Option, Some, None, Ok, refl, sym, ap, ◌∙◌, arith, append_assoc, append-nil, length-append, length-drop, length-take, take-append-drop}
+use Rattle.std.proofs.Common.{◌≡◌, ℕ, zero, suc, ◌+◌, ◌-◌, ◌*◌, ◌<◌, ◌≤◌, inl, inr, min, true, false, List, [], ◌∷◌, ◌++◌, length, take, drop, replicate, Option, Some, None, Result, Ok, OnOk, refl, sym, ap, ◌∙◌, arith, append_assoc, append-nil, length-append, length-drop, length-take, take-append-drop}
 use Rattle.std.specs.Str.{bytes_eq}
+use Rattle.std.proofs.lemmas.Result.{on_ok_weaker}
 use Rattle.std.proofs.lemmas.List.{length-replicate, take_all, take_at, drop_all, drop_at, drop-drop}
 use Rattle.std.proofs.lemmas.Bool.{cases_lt, false≢true}
 use Rattle.std.proofs.lemmas.Slice.Eq.{bytes_eq-Decides}
@@ -248,11 +249,12 @@ text_page t text n e h =
     ∙ ap (λ (l : List ℕ). take 4128 l) (sym (drop-drop (4128 * n) 64 (header_text t.class ++ pages)) ∙ ap (λ (l : List ℕ). drop (4128 * n) l) (drop_at (header_text t.class) pages 64 (header_length t.class)))
     ∙ page_at (fields_text t.class) 0 (pages_of t.class) n t.cells h ∙ ap (λ (m : ℕ). page_text (fields_text t.class) m (page_cells_of (drop (4096 * n) t.cells))) same
 
-pub header_given : (t : Table) (text given : List ℕ) (size : ℕ) → text ≡ table_text t → size ≡ 64 → given ≡ take size (drop 0 text) → given ≡ header_text t.class
-header_given t text given size e s g = g ∙ ap (λ (n : ℕ). take n text) s ∙ text_header t text e
+pub header_given : {A E : Type 0} (t : Table) (text given : List ℕ) (size : ℕ) (r : Result A E) → text ≡ table_text t → size ≡ 64 → OnOk r (given ≡ take size (drop 0 text)) → OnOk r (given ≡ header_text t.class)
+header_given t text given size r e s h = on_ok_weaker r (λ g. g ∙ ap (λ (n : ℕ). take n text) s ∙ text_header t text e) h
 
-pub page_given : (t : Table) (text given : List ℕ) (n size : ℕ) → text ≡ table_text t → n < pages_of t.class → size ≡ 4128 → given ≡ take size (drop (64 + 4128 * n) text) → given ≡ page_of t n
-page_given t text given n size e h s g = g ∙ ap (λ (m : ℕ). take m (drop (64 + 4128 * n) text)) s ∙ text_page t text n e h
+pub page_given : {A E : Type 0} (t : Table) (text given : List ℕ) (n size start : ℕ) (r : Result A E) → text ≡ table_text t → n < pages_of t.class → OnOk r (given ≡ take size (drop start text))
+    → size ≡ 4128 → start ≡ 64 + 4128 * n → OnOk r (given ≡ page_of t n)
+page_given t text given n size start r e h o s p = on_ok_weaker r (λ g. g ∙ ap (λ (m : ℕ). take m (drop start text)) s ∙ ap (λ (m : ℕ). take 4128 (drop m text)) p ∙ text_page t text n e h) o
 
 -- ---- a page of a table is whole
 

@@ -186,11 +186,19 @@ impl<'a> MemorySource<'a> {
     }
 }
 
+/// Where a page of a file begins.
+fn page_start(n: u32) -> usize
+    ensures { result ≡ 64 + 4128 * n }
+{
+    64 + 4128 * n as usize
+}
+
 impl<'a> PageSource for MemorySource<'a> {
     ghost honest = { λ s t. s.text.now ≡ table_text t };
 
     ghost failed = { λ s. s.failures };
 
+    #[tactic(auto, using(crate::proofs::Again::header_given))]
     fn header(&mut self, into: &mut [u8; 64]) -> Result<(), SourceFault>
         ensures ok { (t : Seen) → self.old.text.now ≡ table_text t → OnOk result (into.new ≡ header_text t.class) }
         ensures text { self.new.text.now ≡ self.old.text.now }
@@ -214,7 +222,7 @@ impl<'a> PageSource for MemorySource<'a> {
         ensures no_failure { OnOk result (self.new.failures ≡ self.old.failures) }
         ensures failure { OnErr result (self.new.failures ≡ counted self.old.failures) }
     {
-        self.bytes(64 + 4128 * n as usize, into)
+        self.bytes(page_start(n), into)
     }
 
     fn failures(&self) -> u64 {
