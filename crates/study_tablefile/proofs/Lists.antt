@@ -1,5 +1,5 @@
 -- Fronts and backs of lists.
-use Rattle.std.proofs.Common.{◌≡◌, ℕ, zero, suc, inl, inr, ◌-◌, ◌≤◌, min, List, [], ◌∷◌, ◌++◌, length, take, drop, replicate, refl, sym, ap, ◌∙◌, arith}
+use Rattle.std.proofs.Common.{◌≡◌, ℕ, inl, inr, ◌-◌, ◌≤◌, min, List, ◌++◌, length, take, drop, replicate, refl, sym, ap, ◌∙◌, arith}
 use Rattle.std.proofs.lemmas.List.{take_all, drop_all, length-take-le, drop-replicate}
 use Rattle.std.proofs.lemmas.Bool.{cases_lt}
 use Rattle.study_tablefile.specs.File.{page_cells_of}
