@@ -1,13 +1,53 @@
 #!/bin/sh
-# Times the inner loop beside plain Rust of the same algorithm, in one run on one machine: nanoseconds a call, and the ratio.
+# Times the inner loop and the building of tables beside plain Rust of the same algorithm, in one run on one machine.
+#
+#   tools/speed.sh           the calls, the tables up to KPK, the files
+#   tools/speed.sh tables    KRKN and what it needs as well, which takes minutes
+#
+# Both programs print 'NAME LABEL PICOSECONDS SUM' for the same positions and numbers; a line is marked where the sums
+# differ. Each takes the fastest of five goes, and is run three times, in turns with the other; tables are built once.
 set -e
 top=$(cd "$(dirname "$0")/.." && pwd)
 work=$(mktemp -d)
 trap 'rm -rf "$work"' EXIT
-rustc -O -A warnings "$top/tools/speed/plain.rs" -o "$work/plain"
-(cd "$top/crates/study_speed" && rt run -- all) > "$work/ours" 2> "$work/log" || { cat "$work/log"; exit 1; }
-"$work/plain" > "$work/theirs"
-awk 'NR == FNR { theirs[$1 " " $2] = $3; next }
-     $1 == "counts" { next }
-     { key = $1 " " $2; printf "%-12s %-11s %8.1f ns   plain Rust %8.1f ns   ratio %.2f\n", $1, $2, $3 / 1000, theirs[key] / 1000, $3 / theirs[key] }' \
-    "$work/theirs" "$work/ours"
+plain="$work/plain"
+ours="$top/crates/study_speed/out/study_speed"
+
+rustc --edition 2024 -C opt-level=3 -C target-cpu=x86-64-v2 -C panic=abort "$top/tools/speed/plain.rs" -o "$plain"
+(cd "$top/crates/study_speed" && rt run) > "$work/log" 2>&1 || { cat "$work/log"; exit 1; }
+
+for _ in 1 2 3; do
+    for what in calls numbers; do
+        "$ours" "$what" >> "$work/ours"
+        "$plain" "$what" >> "$work/theirs"
+    done
+done
+"$ours" tables KPK >> "$work/ours"
+"$plain" tables >> "$work/theirs"
+if [ "$1" = tables ]; then
+    "$ours" tables KRKN >> "$work/ours"
+    "$plain" krkn >> "$work/theirs"
+fi
+"$ours" files > "$work/files"
+
+# The best time of each name and label, and the sum of the last.
+awk 'FILENAME == ARGV[1] { if (!($1 " " $2 in theirs) || $3 < theirs[$1 " " $2]) theirs[$1 " " $2] = $3; sum[$1 " " $2] = $4; next }
+     { key = $1 " " $2; if (!(key in best)) order[++count] = key; if (!(key in best) || $3 < best[key]) best[key] = $3; own[key] = $4 }
+     END {
+         print "Rattle beside plain Rust of the same algorithm, by rustc at opt-level 3 for the same processor:"
+         for (i = 1; i <= count; i++) {
+             key = order[i]; split(key, word, " ")
+             whole = word[1] == "build" || word[1] == "verify"
+             unit = whole ? "s " : "ns"; scale = whole ? 1e12 : 1e3
+             printf "%-12s %-11s %9.3f %s   plain Rust %9.3f %s   ratio %.2f%s\n", word[1], word[2], best[key] / scale, unit,
+                 theirs[key] / scale, unit, best[key] / theirs[key], own[key] == sum[key] ? "" : "   SUMS DIFFER"
+         }
+     }' "$work/theirs" "$work/ours"
+awk '{ each[$1] = $3 }
+     END {
+         print "A file of KRKN in memory beside SHA-256 alone over its bytes, both of the kit, a byte:"
+         for (name in each)
+             if (name != "sha256")
+                 printf "%-12s %9.3f ns   SHA-256 %9.3f ns   ratio %.2f\n", name, each[name] / 1e3, each["sha256"] / 1e3, each[name] / each["sha256"]
+     }' "$work/files"
+# The probes of a table file through a cache of pages belong here, once there is such a cache.

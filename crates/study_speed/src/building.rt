@@ -1,48 +1,72 @@
-//! How long tables take to build and to verify, in milliseconds.
+//! How long tables take to build and to verify.
+ghost use Rattle.std.specs.Prelude.{◌≡◌, false};
+ghost use Rattle.study_material.specs.Class.{is_left_out};
+
+use crate::timed::tell;
 use std::alloc::Allocator;
 use std::io;
 use std::time::Instant;
 use study_index::cells;
 use study_material::{Class, order};
-use study_retro::{BuildRoom, TableSet, build, verify};
+use study_retro::{BuildRoom, Table, TableSet, build, verify};
 
-/// Builds and verifies one table, adds it to the set, and prints a line.
+/// The sum of a table's cells.
+fn add_cells<A: Allocator>(table: &Table<A>) -> u64 {
+    let mut sum = 0u64;
+    for cell in table.cells() {
+        sum = sum.saturating_add(u64::from(*cell));
+    }
+    sum
+}
+
+/// Times the check of a table.
+fn verify_one<'a, A: Allocator>(
+    rt: HostRuntime,
+    tables: &TableSet<'a, A>,
+    table: &Table<'a, A>,
+) -> io::Result<()> {
+    if !tables.ready(table.class()) {
+        return println!(rt; "a needed table is missing");
+    }
+    let label = table.class().name();
+    let start = Instant::now(&rt)?;
+    let right = u64::from(verify(table, tables));
+    let nanoseconds = start.elapsed(&rt)?.as_nanos();
+    tell(rt, "verify", label, 1, nanoseconds, right)
+}
+
+/// Builds and verifies one table, and adds it to the set.
 fn build_one<'a, A: Allocator>(
     rt: HostRuntime,
     alloc: &'a A,
     tables: &mut TableSet<'a, A>,
     class: Class,
-) -> io::Result<()> {
-    if class.left_out() {
-        return Ok(());
-    }
+) -> io::Result<()>
+    requires { is_left_out class ≡ false }
+{
+    let label = class.name();
     let start = Instant::now(&rt)?;
     let room = BuildRoom::new(alloc, cells(class))?;
-    let Ok((table, report)) = build(class, tables, room) else {
-        return println!(rt; "{class:?} not built");
+    let Ok((table, _)) = build(class, tables, room) else {
+        return println!(rt; "{label} is not built");
     };
-    let built = Instant::now(&rt)?;
-    let right = tables.ready(class) && table.class() == class && verify(&table, tables);
-    let verified = Instant::now(&rt)?;
-    let building = built.duration_since(start).as_millis();
-    let verifying = verified.duration_since(built).as_millis();
+    let nanoseconds = start.elapsed(&rt)?.as_nanos();
+    tell(rt, "build", label, 1, nanoseconds, add_cells(&table))?;
+    verify_one(rt, tables, &table)?;
     if tables.add(table).is_err() {
-        return println!(rt; "{class:?} not added");
+        return println!(rt; "{label} is not added");
     }
-    println!(rt;
-        "{class:?} {building} ms, verified {right} in {verifying} ms, {} cells decoded",
-        report.examined
-    )
+    Ok(())
 }
 
 /// Builds all tables that a class needs, and its own.
 pub fn measure(rt: HostRuntime, class: Class) -> io::Result<()> {
     let alloc = rt.alloc();
-    let Ok(mut tables) = TableSet::new(&alloc) else {
-        return println!(rt; "no memory");
-    };
+    let mut tables = TableSet::new(&alloc)?;
     for each in order(class) {
-        build_one(rt, &alloc, &mut tables, each)?;
+        if !each.left_out() {
+            build_one(rt, &alloc, &mut tables, each)?;
+        }
     }
     Ok(())
 }

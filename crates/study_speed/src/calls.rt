@@ -1,0 +1,119 @@
+//! How long the calls of the inner loop take.
+use crate::samples::{Setting, Turn, turns};
+use crate::timed::show;
+use std::io;
+use study_board::{Kind, Position, Side, Square};
+use study_index::index;
+use study_moves::{in_check, is_legal, legal_moves, played};
+
+fn count_moves(positions: &[Position]) -> u64 {
+    let mut sum = 0u64;
+    for position in positions {
+        sum = sum.saturating_add(legal_moves(position).len() as u64);
+    }
+    sum
+}
+
+fn count_men_after(turns: &[Turn]) -> u64 {
+    let mut sum = 0u64;
+    for turn in turns {
+        let next = played(&turn.position, turn.by);
+        sum = sum.saturating_add(next.men().len() as u64);
+    }
+    sum
+}
+
+fn count_legal(turns: &[Turn]) -> u64 {
+    let mut sum = 0u64;
+    for turn in turns {
+        if is_legal(&turn.position, turn.by) {
+            sum = sum.saturating_add(1);
+        }
+    }
+    sum
+}
+
+fn count_checks(positions: &[Position]) -> u64 {
+    let mut sum = 0u64;
+    for position in positions {
+        if in_check(position) {
+            sum = sum.saturating_add(1);
+        }
+    }
+    sum
+}
+
+/// How many of eight squares each side attacks.
+fn count_attacks(positions: &[Position], squares: &[Square]) -> u64 {
+    let mut sum = 0u64;
+    for position in positions {
+        for square in squares {
+            for side in [Side::White, Side::Black] {
+                if position.attacked(*square, side) {
+                    sum = sum.saturating_add(1);
+                }
+            }
+        }
+    }
+    sum
+}
+
+fn add_indexes(positions: &[Position]) -> u64 {
+    let mut sum = 0u64;
+    for position in positions {
+        sum = sum.saturating_add(u64::from(index(position)));
+    }
+    sum
+}
+
+/// The squares of the long diagonal.
+fn diagonal(rt: HostRuntime) -> io::Result<Vec<Square>> {
+    let mut list = Vec::new(rt.alloc());
+    for step in 0..8u8 {
+        list.push(Square::at(9 * step))?;
+    }
+    Ok(list)
+}
+
+fn measure_at(rt: HostRuntime, setting: Setting) -> io::Result<()> {
+    let label = setting.label;
+    let list = setting.positions(rt)?;
+    let positions = list.as_slice();
+    let count = positions.len() as u64;
+    show(rt, "legal_moves", label, count, || count_moves(positions))?;
+    show(rt, "in_check", label, count, || count_checks(positions))?;
+    show(rt, "index", label, count, || add_indexes(positions))?;
+    let squares = diagonal(rt)?;
+    let squares = squares.as_slice();
+    let questions = count.saturating_mul(16);
+    show(rt, "attacked", label, questions, || {
+        count_attacks(positions, squares)
+    })?;
+    let list = turns(rt, positions)?;
+    let turns = list.as_slice();
+    let count = turns.len() as u64;
+    show(rt, "played", label, count, || count_men_after(turns))?;
+    show(rt, "is_legal", label, count, || count_legal(turns))
+}
+
+/// Times the calls on six sets of positions.
+pub fn measure(rt: HostRuntime) -> io::Result<()> {
+    for (label, ours, theirs, to_move, fixed) in [
+        ("KRKQ_white", Kind::Rook, Kind::Queen, Side::White, 20),
+        ("KRKQ_black", Kind::Rook, Kind::Queen, Side::Black, 20),
+        ("KPKP_white", Kind::Pawn, Kind::Pawn, Side::White, 51),
+        ("KPKP_black", Kind::Pawn, Kind::Pawn, Side::Black, 51),
+        ("KQKB_white", Kind::Queen, Kind::Bishop, Side::White, 20),
+        ("KQKB_black", Kind::Queen, Kind::Bishop, Side::Black, 20),
+    ] {
+        let setting = Setting {
+            label,
+            ours,
+            theirs,
+            to_move,
+            fixed,
+        };
+        measure_at(rt, setting)?;
+    }
+    Ok(())
+}

@@ -1,0 +1,37 @@
+//! How long it takes to read a number as a position.
+ghost use Rattle.std.specs.Prelude.{◌≡◌, false};
+ghost use Rattle.study_material.specs.Class.{is_left_out};
+
+use crate::timed::show;
+use std::io;
+use study_index::{cells, decode};
+use study_material::Class;
+
+/// The men of all positions of a class.
+fn count_men(class: Class) -> u64
+    requires { is_left_out class ≡ false }
+{
+    let mut sum = 0u64;
+    for number in 0..cells(class) {
+        if let Some(position) = decode(class, number) {
+            sum = sum.saturating_add(position.men().len() as u64);
+        }
+    }
+    sum
+}
+
+/// Times the reading of all numbers of some classes.
+pub fn measure(rt: HostRuntime) -> io::Result<()> {
+    for (class, label) in [
+        (Class::KRK, "KRK"),
+        (Class::KPK, "KPK"),
+        (Class::KRKN, "KRKN"),
+        (Class::KQQK, "KQQK"),
+    ] {
+        if !class.left_out() {
+            let count = u64::from(cells(class));
+            show(rt, "decode", label, count, || count_men(class))?;
+        }
+    }
+    Ok(())
+}
