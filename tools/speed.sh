@@ -23,10 +23,10 @@ for _ in 1 2 3; do
     done
 done
 "$ours" tables KPK >> "$work/ours"
-"$plain" tables >> "$work/theirs"
+"$plain" tables KPK >> "$work/theirs"
 if [ "$1" = tables ]; then
     "$ours" tables KRKN >> "$work/ours"
-    "$plain" krkn >> "$work/theirs"
+    "$plain" tables KRKN >> "$work/theirs"
 fi
 "$ours" files > "$work/files"
 

@@ -14,3 +14,4 @@ pub mod Live
 pub mod Decodes
 pub mod Bridge
 pub mod Functions
+pub mod BySquares

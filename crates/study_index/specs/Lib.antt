@@ -5,3 +5,4 @@ pub mod Chosen
 pub mod Decoded
 pub mod Found
 pub mod Laws
+pub mod Squares

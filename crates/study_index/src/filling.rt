@@ -1,11 +1,10 @@
 //! The men of a position in the order of their slots.
-ghost use Rattle.std.specs.Prelude.{◌≡◌, nat_le, [], ◌∷◌};
+ghost use Rattle.std.specs.Prelude.{◌≡◌, ◌<◌, ◌/◌, ◌%◌, ◌==◌, nat_le, [], ◌∷◌, if◌then◌else◌};
 ghost use Rattle.study_index.specs.Filling.{slot, slot_of};
-ghost use Rattle.study_index.specs.Found.{put};
+ghost use Rattle.study_index.specs.Squares.{key, put_key};
 ghost use Rattle.study_board.specs.Symmetry.{turned_side};
-ghost use Rattle.study_index.specs.Chosen.{are_like};
 
-use study_board::{Kind, Man, Side};
+use study_board::{Kind, Man, Side, Square};
 
 #[inline]
 fn slot_of(side: Side, kind: Kind) -> u8
@@ -43,66 +42,96 @@ pub fn slot(colours: bool, m: &Man) -> u8
     slot_of(coloured(colours, m.side), m.kind)
 }
 
-// Whether the slot of `x` is not after that of `m`.
+/// The square of a man.
 #[inline]
-fn comes_first(colours: bool, x: &Man, m: &Man) -> bool
-    ensures { result ≡ nat_le (slot colours x.now) (slot colours m.now) }
+pub fn standing(m: Man) -> Square
+    ensures value { result ≡ m.at }
+    ensures on_board { m.at < 64 }
 {
-    slot(colours, x) <= slot(colours, m)
+    let _number = m.at.number();
+    m.at
 }
 
-/// A man put after another of no later slot, or before it.
+/// The slot and the square of a man in one number.
 #[inline]
-#[tactic(auto, unfolding(crate::specs::Found::put))]
-pub fn with_one(colours: bool, m: Man, x: Man) -> (Man, Man)
-    ensures { result.0 ∷ result.1 ∷ [] ≡ put colours m (x ∷ []) }
+#[tactic(auto, unfolding(crate::specs::Squares::key))]
+pub fn key(colours: bool, m: &Man) -> u16
+    ensures value { result ≡ key colours m.now }
+    ensures on_board { m.now.at < 64 }
 {
-    if comes_first(colours, &x, &m) {
-        (x, m)
-    } else {
-        (m, x)
-    }
+    u16::from(slot(colours, m)) * 64 + u16::from(m.at.number())
 }
 
-/// A man put at its place in the order of slots.
+/// The square of a key.
 #[inline]
-#[tactic(auto, unfolding(crate::specs::Found::put))]
-pub fn with_two(colours: bool, m: Man, x: Man, y: Man) -> (Man, Man, Man)
-    ensures { result.0 ∷ result.1 ∷ result.2 ∷ [] ≡ put colours m (x ∷ y ∷ []) }
+pub fn square_of(key: u16) -> Square
+    ensures { result ≡ key % 64 }
 {
-    if !comes_first(colours, &x, &m) {
-        (m, x, y)
-    } else if comes_first(colours, &y, &m) {
-        (x, y, m)
-    } else {
-        (x, m, y)
-    }
+    Square::at((key % 64) as u8)
 }
 
-/// A man put at its place in the order of slots.
+/// Whether two keys are of one slot.
 #[inline]
-#[tactic(auto, unfolding(crate::specs::Found::put))]
-pub fn with_three(colours: bool, m: Man, x: Man, y: Man, z: Man) -> (Man, Man, Man, Man)
-    ensures { result.0 ∷ result.1 ∷ result.2 ∷ result.3 ∷ [] ≡ put colours m (x ∷ y ∷ z ∷ []) }
+pub fn is_like(x: u16, y: u16) -> bool
+    ensures { result ≡ (x / 64 == y / 64) }
 {
-    if !comes_first(colours, &x, &m) {
-        (m, x, y, z)
-    } else if !comes_first(colours, &y, &m) {
-        (x, m, y, z)
-    } else if comes_first(colours, &z, &m) {
-        (x, y, z, m)
-    } else {
-        (x, y, m, z)
-    }
+    x / 64 == y / 64
 }
 
-/// Whether the last two of four men are of one slot.
+// Whether the slot of `x` is not after that of `k`.
 #[inline]
-pub fn are_like(colours: bool, men: &[Man]) -> bool
-    ensures { result ≡ are_like colours men.now }
+fn comes_first(x: u16, k: u16) -> bool
+    ensures { result ≡ nat_le (x / 64) (k / 64) }
 {
-    match men {
-        [_, _, x, y] => slot(colours, x) == slot(colours, y),
-        _ => false,
-    }
+    x / 64 <= k / 64
+}
+
+// One of two keys: no branch is taken where both are known.
+#[inline]
+fn chosen(flag: bool, x: u16, y: u16) -> u16
+    ensures { result ≡ (if flag then x else y) }
+{
+    if flag { x } else { y }
+}
+
+/// A key put after another of no later slot, or before it.
+#[inline]
+#[tactic(auto, unfolding(crate::specs::Squares::put_key))]
+pub fn with_one(k: u16, x: u16) -> (u16, u16)
+    ensures { result.0 ∷ result.1 ∷ [] ≡ put_key k (x ∷ []) }
+{
+    let first = comes_first(x, k);
+    (chosen(first, x, k), chosen(first, k, x))
+}
+
+/// A key put at its place in the order of slots.
+#[inline]
+#[tactic(auto, unfolding(crate::specs::Squares::put_key))]
+pub fn with_two(k: u16, x: u16, y: u16) -> (u16, u16, u16)
+    ensures { result.0 ∷ result.1 ∷ result.2 ∷ [] ≡ put_key k (x ∷ y ∷ []) }
+{
+    let first = comes_first(x, k);
+    let second = first & comes_first(y, k);
+    (
+        chosen(first, x, k),
+        chosen(second, y, chosen(first, k, x)),
+        chosen(second, k, y),
+    )
+}
+
+/// A key put at its place in the order of slots.
+#[inline]
+#[tactic(auto, unfolding(crate::specs::Squares::put_key))]
+pub fn with_three(k: u16, x: u16, y: u16, z: u16) -> (u16, u16, u16, u16)
+    ensures { result.0 ∷ result.1 ∷ result.2 ∷ result.3 ∷ [] ≡ put_key k (x ∷ y ∷ z ∷ []) }
+{
+    let first = comes_first(x, k);
+    let second = first & comes_first(y, k);
+    let third = second & comes_first(z, k);
+    (
+        chosen(first, x, k),
+        chosen(second, y, chosen(first, k, x)),
+        chosen(third, z, chosen(second, k, y)),
+        chosen(third, k, z),
+    )
 }

@@ -2,50 +2,39 @@
 ghost use Rattle.std.specs.Prelude.{◌≡◌, ◌≤◌, length, [], ◌∷◌};
 ghost use Rattle.study_index.specs.Number.{IsIndex};
 ghost use Rattle.study_index.specs.Found.{index_of, sorted};
-ghost use Rattle.study_board.specs.Images.{differ};
-ghost use Rattle.study_index.specs.Chosen.{chosen, exchanged, falls, turned_number, least, least_by, least_of};
+ghost use Rattle.study_board.specs.Symmetry.{turned_square};
+ghost use Rattle.study_index.specs.Chosen.{least, least_of};
+ghost use Rattle.study_index.specs.Squares.{brought, exchanged_at, falls_at, number_at, least_turned, least_at};
 
-use crate::filling::{are_like, coloured, with_one, with_three, with_two};
+use crate::filling::{
+    coloured, is_like, key, slot, square_of, standing, with_one, with_three, with_two,
+};
 use crate::number::{has_pawn, number};
 use crate::turn::turned;
 use study_board::{Man, Position, Side, Square, Symmetry};
 use study_material::class_of;
 
-// One of two flags, not both.
+/// The symmetry that brings the square to a listed one, if any does, the swap of colours left out: of the two
+/// mirrorings of the ranks that it takes beside them, both or none is done where there is no pawn.
 #[inline]
-fn differ(a: bool, b: bool) -> bool
-    ensures { result ≡ differ a b }
-{
-    if a { !b } else { b }
-}
-
-/// The symmetry that brings the square to a listed one, if any does.
-#[inline]
-#[tactic(auto, unfolding(crate::specs::Chosen::chosen))]
-fn chosen(pawns: bool, diagonal: bool, colours: bool, s: Square) -> Symmetry
-    ensures { result ≡ chosen pawns diagonal colours s }
+#[tactic(auto, unfolding(crate::specs::Squares::brought))]
+fn brought(pawns: bool, diagonal: bool, colours: bool, s: Square) -> Symmetry
+    ensures { result ≡ brought pawns diagonal colours s }
 {
     let (right, top) = (s.file() > 3, s.rank() > 3);
     if pawns {
         Symmetry {
             files: right,
-            ranks: false,
+            ranks: colours,
             diagonal: false,
-            colours,
-        }
-    } else if diagonal {
-        Symmetry {
-            files: differ(colours, right),
-            ranks: top,
-            diagonal: true,
-            colours,
+            colours: false,
         }
     } else {
         Symmetry {
             files: right,
-            ranks: differ(colours, top),
-            diagonal: false,
-            colours,
+            ranks: top,
+            diagonal,
+            colours: false,
         }
     }
 }
@@ -62,64 +51,132 @@ fn least(a: Option<u32>, b: Option<u32>) -> Option<u32>
     }
 }
 
-/// The least number by one symmetry, where like men can be exchanged.
+/// The least number by one symmetry, where the last two of four squares can be exchanged.
 #[inline]
-#[tactic(auto, unfolding(crate::specs::Chosen::least_by))]
-fn least_by(pawns: bool, to_move: Side, t: Symmetry, men: &[Man]) -> Option<u32>
-    requires { length men.now ≤ 4 }
-    ensures { result ≡ least_by pawns to_move t men.now }
+#[tactic(auto, unfolding(crate::specs::Squares::least_turned))]
+fn least_by(
+    pawns: bool,
+    to_move: Side,
+    t: Symmetry,
+    like: bool,
+    squares: &[Square],
+) -> Option<u32>
+    requires { length squares.now ≤ 4 }
+    ensures { result ≡ least_turned pawns to_move (turned_square t) like squares.now }
 {
-    if are_like(t.colours, men) && falls(t, men) {
-        exchanged_number(pawns, to_move, t, men)
+    if like && falls(t, squares) {
+        exchanged_number(pawns, to_move, t, squares)
     } else {
-        number(pawns, to_move, t, men)
+        number(pawns, to_move, t, squares)
     }
 }
 
-// Whether the last of four men comes to a lower square than the one before it.
+// Whether the last of four squares comes to a lower one than that before it.
 #[inline]
-fn falls(t: Symmetry, men: &[Man]) -> bool
-    ensures { result ≡ falls t men.now }
+fn falls(t: Symmetry, squares: &[Square]) -> bool
+    ensures { result ≡ falls_at (turned_square t) squares.now }
 {
-    match men {
-        [_, _, x, y] => turned(t, y.at).number() < turned(t, x.at).number(),
+    match squares {
+        [_, _, x, y] => turned(t, *y).number() < turned(t, *x).number(),
         _ => false,
     }
 }
 
-/// The number with the last two of four men exchanged.
+/// The number with the last two of four squares exchanged.
 #[inline]
-fn exchanged_number(pawns: bool, to_move: Side, t: Symmetry, men: &[Man]) -> Option<u32>
-    requires { length men.now ≤ 4 }
-    ensures { result ≡ turned_number pawns to_move t (exchanged men.now) }
+fn exchanged_number(pawns: bool, to_move: Side, t: Symmetry, squares: &[Square]) -> Option<u32>
+    requires { length squares.now ≤ 4 }
+    ensures { result ≡ number_at pawns to_move (turned_square t) (exchanged_at squares.now) }
 {
-    match men {
+    match squares {
         [a, b, x, y] => number(pawns, to_move, t, &[*a, *b, *y, *x]),
-        _ => number(pawns, to_move, t, men),
+        _ => number(pawns, to_move, t, squares),
     }
 }
 
-/// The least number by the symmetries that bring the first man, the white king, to a listed square.
+/// The least number by the symmetries that bring the first square, the white king's, to a listed one.
 #[inline]
-#[tactic(auto, unfolding(crate::specs::Chosen::least_of))]
+#[tactic(auto, unfolding(crate::specs::Squares::least_at))]
+fn least_at(
+    pawns: bool,
+    to_move: Side,
+    colours: bool,
+    like: bool,
+    squares: &[Square],
+) -> Option<u32>
+    requires { length squares.now ≤ 4 }
+    ensures { result ≡ least_at pawns to_move colours like squares.now }
+{
+    match squares {
+        [] => None,
+        [king, ..] => {
+            let t = brought(pawns, false, colours, *king);
+            let straight = least_by(pawns, to_move, t, like, squares);
+            if pawns {
+                straight
+            } else {
+                let t = brought(pawns, true, colours, *king);
+                least(straight, least_by(pawns, to_move, t, like, squares))
+            }
+        }
+    }
+}
+
+/// The least number of men who stand in the order of their slots.
+#[inline]
+#[tactic(auto, unfolding(crate::specs::Squares::least_at, crate::specs::Chosen::least_of))]
 pub fn least_of(pawns: bool, to_move: Side, colours: bool, men: &[Man]) -> Option<u32>
     requires { length men.now ≤ 4 }
     ensures { result ≡ least_of pawns to_move colours men.now }
 {
     match men {
         [] => None,
-        [king, ..] => {
-            let straight = least_by(pawns, to_move, chosen(pawns, false, colours, king.at), men);
-            if pawns {
-                straight
-            } else {
-                least(
-                    straight,
-                    least_by(pawns, to_move, chosen(pawns, true, colours, king.at), men),
-                )
-            }
-        }
+        [a] => least_of_king(pawns, to_move, colours, *a),
+        [a, b] => least_of_kings(pawns, to_move, colours, *a, *b),
+        [a, b, c] => least_with_one(pawns, to_move, colours, *a, *b, *c),
+        [a, b, c, d] => least_with_two(pawns, to_move, colours, *a, *b, *c, *d),
+        _ => unreachable!(),
     }
+}
+
+#[inline]
+fn least_of_king(pawns: bool, to_move: Side, colours: bool, a: Man) -> Option<u32>
+    ensures { result ≡ least_of pawns to_move colours (a ∷ []) }
+{
+    least_at(pawns, to_move, colours, false, &[standing(a)])
+}
+
+#[inline]
+fn least_of_kings(pawns: bool, to_move: Side, colours: bool, a: Man, b: Man) -> Option<u32>
+    ensures { result ≡ least_of pawns to_move colours (a ∷ b ∷ []) }
+{
+    let squares = [standing(a), standing(b)];
+    least_at(pawns, to_move, colours, false, &squares)
+}
+
+#[inline]
+fn least_with_one(pawns: bool, to_move: Side, colours: bool, a: Man, b: Man, c: Man) -> Option<u32>
+    ensures { result ≡ least_of pawns to_move colours (a ∷ b ∷ c ∷ []) }
+{
+    let squares = [standing(a), standing(b), standing(c)];
+    least_at(pawns, to_move, colours, false, &squares)
+}
+
+#[inline]
+fn least_with_two(
+    pawns: bool,
+    to_move: Side,
+    colours: bool,
+    a: Man,
+    b: Man,
+    c: Man,
+    d: Man,
+) -> Option<u32>
+    ensures { result ≡ least_of pawns to_move colours (a ∷ b ∷ c ∷ d ∷ []) }
+{
+    let like = slot(colours, &c) == slot(colours, &d);
+    let squares = [standing(a), standing(b), standing(c), standing(d)];
+    least_at(pawns, to_move, colours, like, &squares)
 }
 
 /// The least number of the men, put in the order of their slots.
@@ -143,17 +200,24 @@ fn least_in_slots(pawns: bool, to_move: Side, colours: bool, men: &[Man]) -> Opt
 fn least_of_two(pawns: bool, to_move: Side, colours: bool, a: Man, b: Man) -> Option<u32>
     ensures { result ≡ least_of pawns to_move colours (sorted colours (a ∷ b ∷ [])) }
 {
-    let (a, b) = with_one(colours, a, b);
-    least_of(pawns, to_move, colours, &[a, b])
+    let (a, b) = with_one(key(colours, &a), key(colours, &b));
+    least_at(
+        pawns,
+        to_move,
+        colours,
+        false,
+        &[square_of(a), square_of(b)],
+    )
 }
 
 #[inline]
 fn least_of_three(pawns: bool, to_move: Side, colours: bool, a: Man, b: Man, c: Man) -> Option<u32>
     ensures { result ≡ least_of pawns to_move colours (sorted colours (a ∷ b ∷ c ∷ [])) }
 {
-    let (b, c) = with_one(colours, b, c);
-    let (a, b, c) = with_two(colours, a, b, c);
-    least_of(pawns, to_move, colours, &[a, b, c])
+    let (b, c) = with_one(key(colours, &b), key(colours, &c));
+    let (a, b, c) = with_two(key(colours, &a), b, c);
+    let squares = [square_of(a), square_of(b), square_of(c)];
+    least_at(pawns, to_move, colours, false, &squares)
 }
 
 #[inline]
@@ -168,10 +232,11 @@ fn least_of_four(
 ) -> Option<u32>
     ensures { result ≡ least_of pawns to_move colours (sorted colours (a ∷ b ∷ c ∷ d ∷ [])) }
 {
-    let (c, d) = with_one(colours, c, d);
-    let (b, c, d) = with_two(colours, b, c, d);
-    let (a, b, c, d) = with_three(colours, a, b, c, d);
-    least_of(pawns, to_move, colours, &[a, b, c, d])
+    let (c, d) = with_one(key(colours, &c), key(colours, &d));
+    let (b, c, d) = with_two(key(colours, &b), c, d);
+    let (a, b, c, d) = with_three(key(colours, &a), b, c, d);
+    let squares = [square_of(a), square_of(b), square_of(c), square_of(d)];
+    least_at(pawns, to_move, colours, is_like(c, d), &squares)
 }
 
 /// The number of a position in the tables of its class: the least number of its images. The passed square is not looked at.

@@ -1,9 +1,8 @@
 //! The number of a filling.
 ghost use Rattle.std.specs.Prelude.{◌≡◌, ◌+◌, ◌*◌, ◌^◌, ◌≤◌, ◌<◌, length, IfSome};
-ghost use Rattle.study_board.specs.Symmetry.{turned_square, turned_man};
-ghost use Rattle.study_index.specs.Number.{place, places, side_number, counted_on, number, has_pawn, places_before};
-ghost use Rattle.study_index.specs.Chosen.{turned_number};
-ghost use Rattle.std.specs.Prelude.{map};
+ghost use Rattle.study_board.specs.Symmetry.{turned_square};
+ghost use Rattle.study_index.specs.Number.{place, places, side_number, has_pawn, places_before};
+ghost use Rattle.study_index.specs.Squares.{counted_at, number_at};
 
 use crate::turn::turned;
 use study_board::{Kind, Man, Side, Square, Symmetry};
@@ -51,28 +50,28 @@ pub fn has_pawn(men: &[Man]) -> bool
     men.iter().any(|m| m.kind.is(Kind::Pawn))
 }
 
-// The square of one more man, counted on.
+// One more square, counted on.
 #[inline]
-fn more(t: Symmetry, n: u32, m: &Man) -> u32
+fn more(t: Symmetry, n: u32, x: Square) -> u32
     requires { n < 2 ^ 18 }
-    ensures value { result ≡ n * 64 + turned_square t m.now.at }
+    ensures value { result ≡ n * 64 + turned_square t x }
     ensures small { result < n * 64 + 64 }
 {
-    n * 64 + u32::from(turned(t, m.at).number())
+    n * 64 + u32::from(turned(t, x).number())
 }
 
-/// The squares of further men, each 64 times less than what comes before.
+/// Further squares, each 64 times less than what comes before.
 #[inline]
-fn counted_on(t: Symmetry, n: u32, men: &[Man]) -> u32
+fn counted_on(t: Symmetry, n: u32, squares: &[Square]) -> u32
     requires small { n < 64 }
-    requires few { length men.now ≤ 3 }
-    ensures { result ≡ counted_on n (map (turned_man t) men.now) }
+    requires few { length squares.now ≤ 3 }
+    ensures { result ≡ counted_at (turned_square t) n squares.now }
 {
-    match men {
+    match squares {
         [] => n,
-        [a] => more(t, n, a),
-        [a, b] => more(t, more(t, n, a), b),
-        [a, b, c] => more(t, more(t, more(t, n, a), b), c),
+        [a] => more(t, n, *a),
+        [a, b] => more(t, more(t, n, *a), *b),
+        [a, b, c] => more(t, more(t, more(t, n, *a), *b), *c),
         _ => unreachable!(),
     }
 }
@@ -96,16 +95,16 @@ fn places(pawns: bool) -> u32
     if pawns { 32 } else { 10 }
 }
 
-/// The number of a filling whose men are turned, if the white king comes to a listed square.
+/// The number of squares in the order of their slots, turned, if the white king comes to a listed square.
 #[inline]
-#[tactic(auto, unfolding(crate::specs::Number::number, crate::specs::Chosen::turned_number))]
-pub fn number(pawns: bool, to_move: Side, t: Symmetry, men: &[Man]) -> Option<u32>
-    requires { length men.now ≤ 4 }
-    ensures { result ≡ turned_number pawns to_move t men.now }
+#[tactic(auto, unfolding(crate::specs::Squares::number_at))]
+pub fn number(pawns: bool, to_move: Side, t: Symmetry, squares: &[Square]) -> Option<u32>
+    requires { length squares.now ≤ 4 }
+    ensures { result ≡ number_at pawns to_move (turned_square t) squares.now }
 {
-    match men {
+    match squares {
         [] => None,
-        [king, rest @ ..] => match place(pawns, turned(t, king.at)) {
+        [king, rest @ ..] => match place(pawns, turned(t, *king)) {
             None => None,
             Some(q) => Some(counted_on(
                 t,

@@ -1,0 +1,67 @@
+-- The index as it is computed: the men in the order of their slots as numbers, then as squares alone.
+use Rattle.std.specs.Prelude.{ℕ, ◌+◌, ◌*◌, ◌/◌, ◌%◌, Bool, true, false, ◌==◌, nat_lt, nat_le, List, [], ◌∷◌, map, Option, Some, None, if◌then◌else◌}
+use Rattle.std.specs.Option.{option_map}
+use Rattle.study_board.specs.declared.men.Side.{Side}
+use Rattle.study_board.specs.declared.men.Man.{Man}
+use Rattle.study_board.specs.declared.symmetry.Symmetry.{Symmetry}
+use Rattle.study_board.specs.Geometry.{file_of, rank_of}
+use Rattle.study_board.specs.Symmetry.{turned_square}
+use Rattle.study_index.specs.Filling.{slot}
+use Rattle.study_index.specs.Number.{place, places, side_number}
+use Rattle.study_index.specs.Chosen.{least}
+
+-- the slot and the square of a man in one number
+unfoldable pub key : Bool → Man → ℕ
+key c m = slot c m * 64 + m.at
+
+-- a key put after those of no later slot
+unfoldable pub put_key : ℕ → List ℕ → List ℕ
+put_key k [] = k ∷ []
+put_key k (x ∷ xs) = if nat_le (x / 64) (k / 64) then x ∷ put_key k xs else k ∷ x ∷ xs
+
+-- the last two of four keys are of one slot
+abbrev pub like_keys : List ℕ → Bool
+like_keys (a ∷ b ∷ x ∷ y ∷ []) = x / 64 == y / 64
+like_keys ks = false
+
+-- the squares of keys
+abbrev pub squares_of : List ℕ → List ℕ
+squares_of ks = map (λ k. k % 64) ks
+
+-- the symmetry that leaves the colours alone and takes squares where the chosen one takes them
+unfoldable pub brought : Bool → Bool → Bool → ℕ → Symmetry
+brought true diagonal colours s = record { files = nat_lt 3 (file_of s); ranks = colours; diagonal = false; colours = false }
+brought false diagonal colours s = record { files = nat_lt 3 (file_of s); ranks = nat_lt 3 (rank_of s); diagonal = diagonal; colours = false }
+
+-- further squares turned, each 64 times less than what comes before
+abbrev pub counted_at : (ℕ → ℕ) → ℕ → List ℕ → ℕ
+counted_at turn n [] = n
+counted_at turn n (x ∷ xs) = counted_at turn (n * 64 + turn x) xs
+
+-- the number of squares that are turned
+unfoldable pub number_at : Bool → Side → (ℕ → ℕ) → List ℕ → Option ℕ
+number_at pawns to_move turn [] = None
+number_at pawns to_move turn (k ∷ rest) =
+    option_map (λ q. counted_at turn (side_number to_move * places pawns + q) rest) (place pawns (turn k))
+
+abbrev pub exchanged_at : List ℕ → List ℕ
+exchanged_at (a ∷ b ∷ x ∷ y ∷ []) = a ∷ b ∷ y ∷ x ∷ []
+exchanged_at xs = xs
+
+abbrev pub falls_at : (ℕ → ℕ) → List ℕ → Bool
+falls_at turn (a ∷ b ∷ x ∷ y ∷ []) = nat_lt (turn y) (turn x)
+falls_at turn xs = false
+
+-- the least number by one symmetry, where the last two of four squares can be exchanged
+unfoldable pub least_turned : Bool → Side → (ℕ → ℕ) → Bool → List ℕ → Option ℕ
+least_turned pawns to_move turn like xs =
+    if like then (if falls_at turn xs then number_at pawns to_move turn (exchanged_at xs) else number_at pawns to_move turn xs)
+    else number_at pawns to_move turn xs
+
+-- the least number by the symmetries that bring the first square to a listed one
+unfoldable pub least_at : Bool → Side → Bool → Bool → List ℕ → Option ℕ
+least_at pawns to_move colours like [] = None
+least_at pawns to_move colours like (k ∷ rest) =
+    if pawns then least_turned pawns to_move (turned_square (brought pawns false colours k)) like (k ∷ rest)
+    else least (least_turned pawns to_move (turned_square (brought pawns false colours k)) like (k ∷ rest))
+      (least_turned pawns to_move (turned_square (brought pawns true colours k)) like (k ∷ rest))
