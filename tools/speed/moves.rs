@@ -2,7 +2,7 @@
 
 use crate::board::{Kind, Man, Side, Square, in_check};
 use crate::list::List;
-use crate::position::{Position, place};
+use crate::position::Position;
 use crate::sets::{between, has, pawn_captures_of, reach, reach_past, single};
 
 #[derive(Clone, Copy, Debug, Default)]
@@ -178,7 +178,7 @@ fn is_choice(end: bool, promoted: Option<Kind>) -> bool {
     }
 }
 
-/// The men after a move that brings the man to where `moved` stands.
+/// The men after a move that brings the man to where `moved` stands: it is carried up to there.
 #[inline]
 fn men_after(position: &Position, man: &Man, moved: Man) -> List<Man, 4> {
     let target = moved.at;
@@ -190,12 +190,19 @@ fn men_after(position: &Position, man: &Man, moved: Man) -> List<Man, 4> {
         target
     };
     let mut men = List::new();
+    let mut carried = moved;
     for other in position.men() {
         if other.at != man.at && other.at != target && other.at != gone {
-            men.push(*other);
+            let (lower, higher) = if other.at < carried.at {
+                (*other, carried)
+            } else {
+                (carried, *other)
+            };
+            men.push(lower);
+            carried = higher;
         }
     }
-    place(&mut men, moved);
+    men.push(carried);
     men
 }
 

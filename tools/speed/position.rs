@@ -48,7 +48,7 @@ impl Position {
 
 /// Puts a man at its place in the order of squares.
 #[inline]
-pub fn place(men: &mut List<Man, 4>, man: Man) {
+fn place(men: &mut List<Man, 4>, man: Man) {
     let index = men.as_slice().iter().take_while(|x| x.at < man.at).count();
     men.insert(index, man);
 }

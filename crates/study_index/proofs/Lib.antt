@@ -15,3 +15,4 @@ pub mod Decodes
 pub mod Bridge
 pub mod Functions
 pub mod BySquares
+pub mod Weighing

@@ -6,3 +6,4 @@ pub mod Decoded
 pub mod Found
 pub mod Laws
 pub mod Squares
+pub mod Weights

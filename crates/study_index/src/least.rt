@@ -10,9 +10,9 @@ use crate::filling::{
     coloured, is_like, key, slot, square_of, standing, with_one, with_three, with_two,
 };
 use crate::number::{has_pawn, number};
+use crate::swap::is_swapped;
 use crate::turn::turned;
 use study_board::{Man, Position, Side, Square, Symmetry};
-use study_material::class_of;
 
 /// The symmetry that brings the square to a listed one, if any does, the swap of colours left out: of the two
 /// mirrorings of the ranks that it takes beside them, both or none is done where there is no pawn.
@@ -245,7 +245,7 @@ pub fn index(p: &Position) -> u32
     ensures value { result ≡ index_of p.now }
 {
     let men = p.men();
-    let (_, colours) = class_of(p);
+    let colours = is_swapped(p);
     match least_in_slots(has_pawn(men), coloured(colours, p.to_move()), colours, men) {
         Some(n) => n,
         None => unreachable!(),

@@ -10,6 +10,7 @@ mod laws;
 mod least;
 mod number;
 mod reading;
+mod swap;
 mod turn;
 
 pub use laws::{alike_agree, classes_are_numbered, numbers_are_read, positions_have_an_index};

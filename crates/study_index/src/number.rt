@@ -1,6 +1,6 @@
 //! The number of a filling.
 ghost use Rattle.std.specs.Prelude.{◌≡◌, ◌+◌, ◌*◌, ◌^◌, ◌≤◌, ◌<◌, length, IfSome};
-ghost use Rattle.study_board.specs.Symmetry.{turned_square};
+ghost use Rattle.study_board.specs.Symmetry.{turned_square, is_pawn};
 ghost use Rattle.study_index.specs.Number.{place, places, side_number, has_pawn, places_before};
 ghost use Rattle.study_index.specs.Squares.{counted_at, number_at};
 
@@ -42,12 +42,27 @@ pub fn place(pawns: bool, s: Square) -> Option<u8>
     }
 }
 
+#[inline]
+fn is_pawn(m: &Man) -> bool
+    ensures { result ≡ is_pawn m.now }
+{
+    m.kind.is(Kind::Pawn)
+}
+
 /// Whether some man is a pawn.
 #[inline]
 pub fn has_pawn(men: &[Man]) -> bool
+    requires { length men.now ≤ 4 }
     ensures { result ≡ has_pawn men.now }
 {
-    men.iter().any(|m| m.kind.is(Kind::Pawn))
+    match men {
+        [] => false,
+        [a] => is_pawn(a),
+        [a, b] => is_pawn(a) | is_pawn(b),
+        [a, b, c] => is_pawn(a) | is_pawn(b) | is_pawn(c),
+        [a, b, c, d] => is_pawn(a) | is_pawn(b) | is_pawn(c) | is_pawn(d),
+        _ => unreachable!(),
+    }
 }
 
 // One more square, counted on.

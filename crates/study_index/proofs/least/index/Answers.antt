@@ -5,16 +5,16 @@ use Rattle.study_index.proofs.least.index.Goals as goal
 
 pub unreachable-requires : goal.unreachable-requires
 unreachable-requires c =
-    no_none {P = IsIndex c.args.p.now} (index_found c.args.p.now _ _ _ _ _ _ c.men-men.ensures.value c.men-men.ensures.valid c.class_of-colours.ensures.swapped
+    no_none {P = IsIndex c.args.p.now} (index_found c.args.p.now _ _ _ _ _ _ c.men-men.ensures.value c.men-men.ensures.valid c.is_swapped-colours.ensures
     c.has_pawn.ensures c.to_move.ensures c.coloured.ensures c.in-None.ensures)
 
 pub returns-clause-least : goal.returns-clause-least
 returns-clause-least c =
-    the_some {P = IsIndex c.args.p.now} c.in-Some.n (index_found c.args.p.now _ _ _ _ _ _ c.men-men.ensures.value c.men-men.ensures.valid c.class_of-colours.ensures.swapped
+    the_some {P = IsIndex c.args.p.now} c.in-Some.n (index_found c.args.p.now _ _ _ _ _ _ c.men-men.ensures.value c.men-men.ensures.valid c.is_swapped-colours.ensures
     c.has_pawn.ensures c.to_move.ensures c.coloured.ensures c.in-Some.ensures)
 
 pub returns-clause-value : goal.returns-clause-value
 returns-clause-value c =
     index_of-only c.args.p.now c.in-Some.n c.men-men.ensures.valid
-    (the_some {P = IsIndex c.args.p.now} c.in-Some.n (index_found c.args.p.now _ _ _ _ _ _ c.men-men.ensures.value c.men-men.ensures.valid c.class_of-colours.ensures.swapped
+    (the_some {P = IsIndex c.args.p.now} c.in-Some.n (index_found c.args.p.now _ _ _ _ _ _ c.men-men.ensures.value c.men-men.ensures.valid c.is_swapped-colours.ensures
     c.has_pawn.ensures c.to_move.ensures c.coloured.ensures c.in-Some.ensures))
