@@ -1,5 +1,5 @@
 -- The least number of men is that of their squares, and keys sort men by their slots.
-use Rattle.std.proofs.Common.{◌≡◌, ℕ, ◌+◌, ◌-◌, ◌*◌, ◌/◌, ◌%◌, ◌<◌, ◌==◌, Bool, true, false, cond, nat_lt, nat_le, List, [], ◌∷◌, map, Option, Some, None, refl, sym, ◌∙◌, ap, arith}
+use Rattle.std.proofs.Common.{◌≡◌, ℕ, ◌+◌, ◌-◌, ◌*◌, ◌/◌, ◌%◌, ◌<◌, Bool, true, false, cond, nat_lt, nat_le, List, [], ◌∷◌, map, Option, Some, None, refl, sym, ◌∙◌, ap, arith}
 use Rattle.std.specs.Option.{option_map}
 use Rattle.study_board.specs.declared.men.Side.{Side}
 use Rattle.study_board.specs.declared.men.Man.{Man}
@@ -112,7 +112,7 @@ least_by_squares pawns to_move t u same ms h =
     let n = number_men pawns to_move t u same ms h in
     let e = ap (λ xs. number_at pawns to_move (turned_square t) xs) (exchanged_men ms) ∙ number_men pawns to_move t u same (exchanged ms) (AreOnBoard-exchanged ms h) in
     ap (λ f. cond (are_like u.colours ms) (cond f (number_at pawns to_move (turned_square t) (exchanged_at (map square ms))) (number_at pawns to_move (turned_square t) (map square ms))) (number_at pawns to_move (turned_square t) (map square ms)))
-      (falls_men pawns to_move t u same ms h)
+    (falls_men pawns to_move t u same ms h)
     ∙ one_of_three (are_like u.colours ms) (falls u ms) _ _ _ _ e n
 
 two_least : (x y v w : Option ℕ) → x ≡ v → y ≡ w → least x y ≡ least v w
@@ -153,11 +153,11 @@ unfolding put put_key
 keys-put c m [] l h = refl
 keys-put c m (x ∷ xs) l h =
     rw (key-slot c x h.0, key-slot c m l)
-      elim (nat_le (slot c x) (slot c m))
-      as (λ b. cond b (key c x ∷ put_key (key c m) (map (key c) xs)) (key c m ∷ key c x ∷ map (key c) xs) ≡ map (key c) (cond b (x ∷ put c m xs) (m ∷ x ∷ xs))) [
-        | true ↦ ap (λ ks. key c x ∷ ks) (keys-put c m xs l h.1)
-        | false ↦ refl
-      ]
+    elim (nat_le (slot c x) (slot c m))
+    as (λ b. cond b (key c x ∷ put_key (key c m) (map (key c) xs)) (key c m ∷ key c x ∷ map (key c) xs) ≡ map (key c) (cond b (x ∷ put c m xs) (m ∷ x ∷ xs))) [
+      | true ↦ ap (λ ks. key c x ∷ ks) (keys-put c m xs l h.1)
+      | false ↦ refl
+    ]
 
 pub one_key : (c : Bool) (m : Man) (k : ℕ) → k ≡ key c m → k ∷ [] ≡ map (key c) (sorted c (m ∷ []))
 unfolding put

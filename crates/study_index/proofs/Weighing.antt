@@ -1,12 +1,12 @@
 -- The side whose men weigh more comes first.
-use Rattle.std.proofs.Common.{◌≡◌, ℕ, ◌+◌, ◌*◌, ◌<◌, ◌≤◌, Bool, true, false, cond, not, ◌&&◌, List, [], ◌∷◌, length, refl, sym, ◌∙◌, ap, nat_lt, arith, filter}
+use Rattle.std.proofs.Common.{◌≡◌, ℕ, ◌+◌, ◌*◌, ◌≤◌, Bool, true, false, cond, ◌&&◌, List, [], ◌∷◌, length, refl, ◌∙◌, nat_lt, arith, filter}
 use Rattle.std.proofs.lemmas.Bool.Decides.{nat_tests}
 use Rattle.study_board.specs.declared.men.Side.{Side}
 use Rattle.study_board.specs.declared.men.Side.TheVariants.{White, Black}
 use Rattle.study_board.specs.declared.men.Kind.{Kind}
 use Rattle.study_board.specs.declared.men.Kind.TheVariants.{King, Queen, Rook, Bishop, Knight, Pawn}
 use Rattle.study_board.specs.declared.men.Man.{Man}
-use Rattle.study_board.specs.Men.{same_side, same_kind}
+use Rattle.study_board.specs.Men.{same_side}
 use Rattle.study_material.specs.Lists.{kind_place, put_kind, is_other, kinds_of, comes_before, is_swapped}
 use Rattle.study_index.specs.Weights.{weight, balanced, balance, balance_of}
 
@@ -50,7 +50,7 @@ weighed (m ∷ ms) = by_side m.side (is_other m) (weighed ms)
   where
     by_side : (s : Side) (b : Bool) → IsWeighed (balance_of ms) (weights (kinds_of White ms)) (length ms) (weights (kinds_of Black ms))
         → IsWeighed (cond b (balanced s (weight m.kind)) 10 + balance_of ms) (weights (cond (same_side s White && b) (put_kind m.kind (kinds_of White ms)) (kinds_of White ms)))
-          (length (m ∷ ms)) (weights (cond (same_side s Black && b) (put_kind m.kind (kinds_of Black ms)) (kinds_of Black ms)))
+        (length (m ∷ ms)) (weights (cond (same_side s Black && b) (put_kind m.kind (kinds_of Black ms)) (kinds_of Black ms)))
     by_side White true h = omega (arith, h, weights-put m.kind (kinds_of White ms), weight_small m.kind)
     by_side White false h = omega (arith, h)
     by_side Black true h = omega (arith, h, weights-put m.kind (kinds_of Black ms))

@@ -1,5 +1,5 @@
 -- The index as it is computed: the men in the order of their slots as numbers, then as squares alone.
-use Rattle.std.specs.Prelude.{ℕ, ◌+◌, ◌*◌, ◌/◌, ◌%◌, Bool, true, false, ◌==◌, nat_lt, nat_le, List, [], ◌∷◌, map, Option, Some, None, if◌then◌else◌}
+use Rattle.std.specs.Prelude.{ℕ, ◌+◌, ◌*◌, ◌/◌, ◌%◌, Bool, true, false, ◌==◌, nat_lt, nat_le, List, [], ◌∷◌, map, Option, None, if◌then◌else◌}
 use Rattle.std.specs.Option.{option_map}
 use Rattle.study_board.specs.declared.men.Side.{Side}
 use Rattle.study_board.specs.declared.men.Man.{Man}
@@ -64,4 +64,4 @@ least_at pawns to_move colours like [] = None
 least_at pawns to_move colours like (k ∷ rest) =
     if pawns then least_turned pawns to_move (turned_square (brought pawns false colours k)) like (k ∷ rest)
     else least (least_turned pawns to_move (turned_square (brought pawns false colours k)) like (k ∷ rest))
-      (least_turned pawns to_move (turned_square (brought pawns true colours k)) like (k ∷ rest))
+    (least_turned pawns to_move (turned_square (brought pawns true colours k)) like (k ∷ rest))

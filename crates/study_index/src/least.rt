@@ -54,13 +54,7 @@ fn least(a: Option<u32>, b: Option<u32>) -> Option<u32>
 /// The least number by one symmetry, where the last two of four squares can be exchanged.
 #[inline]
 #[tactic(auto, unfolding(crate::specs::Squares::least_turned))]
-fn least_by(
-    pawns: bool,
-    to_move: Side,
-    t: Symmetry,
-    like: bool,
-    squares: &[Square],
-) -> Option<u32>
+fn least_by(pawns: bool, to_move: Side, t: Symmetry, like: bool, squares: &[Square]) -> Option<u32>
     requires { length squares.now ≤ 4 }
     ensures { result ≡ least_turned pawns to_move (turned_square t) like squares.now }
 {

@@ -1,5 +1,5 @@
 -- A man carried up through men in order comes to its place.
-use Rattle.std.proofs.Common.{◌≡◌, ℕ, ◌+◌, ◌<◌, ◌≤◌, Bool, true, false, cond, List, [], ◌∷◌, ◌++◌, length, drop, refl, ap, ◌∙◌, nat_lt, arith, get_or, append-nil}
+use Rattle.std.proofs.Common.{◌≡◌, ℕ, ◌+◌, ◌<◌, Bool, true, false, cond, List, [], ◌∷◌, length, refl, ap, nat_lt, arith}
 use Rattle.std.specs.List.{filter}
 use Rattle.std.proofs.lemmas.Bool.Decides.{nat_tests}
 use Rattle.study_board.specs.declared.men.Man.{Man}
@@ -23,9 +23,9 @@ carried-placed q z [] a = refl
 carried-placed q z (x ∷ xs) a =
     elim (q x) as (λ b. cond b (lower z x ∷ carried_into q (higher z x) xs) (carried_into q z xs) ≡ placed z (cond b (x ∷ filter q xs) (filter q xs))) [
       | true ↦ elim (nat_lt x.at z.at) as (λ b. cond b x z ∷ carried_into q (cond b z x) xs ≡ cond b (x ∷ placed z (filter q xs)) (z ∷ x ∷ filter q xs)) [
-          | true ↦ ap (λ ys. x ∷ ys) (carried-placed q z xs a.1)
-          | false ↦ ap (λ ys. z ∷ ys) (through q x xs a.0 a.1)
-        ]
+        | true ↦ ap (λ ys. x ∷ ys) (carried-placed q z xs a.1)
+        | false ↦ ap (λ ys. z ∷ ys) (through q x xs a.0 a.1)
+      ]
       | false ↦ carried-placed q z xs a.1
     ]
 

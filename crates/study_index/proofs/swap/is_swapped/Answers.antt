@@ -1,4 +1,4 @@
-use Rattle.std.proofs.Common.{◌≡◌, ◌≤◌, ◌*◌, Bool, ℕ, List, length, filter, nat_lt, ◌∙◌}
+use Rattle.std.proofs.Common.{◌≡◌, ◌≤◌, ◌*◌, ℕ, List, length, filter, nat_lt}
 use Rattle.study_board.specs.declared.men.Man.{Man}
 use Rattle.study_material.specs.Lists.{is_other, is_swapped}
 use Rattle.study_material.proofs.Others.{few_others}

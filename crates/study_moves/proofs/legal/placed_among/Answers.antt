@@ -1,5 +1,4 @@
-use Rattle.std.proofs.Common.{◌≡◌, Bool, ℕ, ◌+◌, ◌≤◌, length, [], ◌∷◌, ◌++◌, drop, sym, ap, ◌∙◌, arith, List}
-use Rattle.std.specs.List.{filter}
+use Rattle.std.proofs.Common.{◌≡◌, Bool, ℕ, ◌≤◌, length, [], ◌∷◌, ◌++◌, drop, sym, ap, ◌∙◌, arith, List}
 use Rattle.std.proofs.lemmas.List.{drop_all, length-append}
 use Rattle.study_board.specs.declared.men.Man.{Man}
 use Rattle.study_moves.specs.Rules.{stays}
