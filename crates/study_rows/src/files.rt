@@ -1,10 +1,10 @@
 //! A built table, written to a file, read back and damaged.
-use crate::tables::built;
+use crate::tables::{built, changed};
 use std::alloc::{AllocError, Allocator};
 use std::process::Abort;
 use std::test::Fail;
 use study_material::Class;
-use study_retro::TableSet;
+use study_retro::{TableSet, verify};
 use study_tablefile::memory::{MemoryReader, MemoryWriter};
 use study_tablefile::{FileFault, read_table, write_table};
 
@@ -13,18 +13,18 @@ fn fault<A: Allocator>(alloc: &A, text: &[u8]) -> Option<FileFault> {
     read_table(alloc, &mut MemoryReader::new(text)).err()
 }
 
-/// A text whose first two pages have changed places.
+/// A text whose pages 3 and 4 have changed places.
 fn exchanged<'a, A: Allocator>(
     rt: &impl Abort,
     alloc: &'a A,
     text: &[u8],
 ) -> Result<Vec<u8, &'a A>, AllocError> {
     assert!(rt; text.len() == 82_624);
-    let (header, pages) = text.split_at(64);
-    let (first, behind) = pages.split_at(4128);
-    let (second, rest) = behind.split_at(4128);
+    let (front, pages) = text.split_at(64 + 3 * 4128);
+    let (third, behind) = pages.split_at(4128);
+    let (fourth, rest) = behind.split_at(4128);
     let mut copy = Vec::new(alloc);
-    for part in [header, second, first, rest] {
+    for part in [front, fourth, third, rest] {
         copy.extend_from_slice(part)?;
     }
     Ok(copy)
@@ -51,7 +51,7 @@ fn king_and_rook(rt: HostRuntime) -> Result<(), Fail> {
     let wrong = exchanged(&rt, &alloc, text.as_slice())?;
     assert_eq!(rt;
         fault(&alloc, wrong.as_slice()),
-        Some(FileFault::PageDamaged(0))
+        Some(FileFault::PageDamaged(3))
     );
     let (front, _) = text.as_slice().split_at(text.len().min(82_623));
     assert_eq!(rt; fault(&alloc, front), Some(FileFault::Cut));
@@ -65,4 +65,24 @@ fn king_and_rook(rt: HostRuntime) -> Result<(), Fail> {
     }
     assert_eq!(rt; fault(&alloc, text.as_slice()), Some(FileFault::Version(9)));
     Ok(())
+}
+
+/// A table that lies in one cell has a file of its own, which is read: only `verify` finds the lie.
+#[test]
+fn lies_are_read(rt: HostRuntime) {
+    let alloc = rt.alloc();
+    let mut tables = TableSet::new(&alloc).ok().expect(&rt, "a set");
+    for class in [Class::KK, Class::KRK] {
+        let _report = built(&rt, &alloc, &mut tables, class);
+    }
+    for (cell, right) in [(2, true), (4, false)] {
+        let table = changed(&rt, &alloc, &tables, Class::KRK, 20_543, cell);
+        let mut writer = MemoryWriter::new(&alloc);
+        assert_eq!(rt; write_table(&table, &mut writer), Ok(()));
+        let read = read_table(&alloc, &mut MemoryReader::new(writer.taken.as_slice()))
+            .ok()
+            .expect(&rt, "read");
+        assert!(rt; tables.ready(read.class()));
+        assert!(rt; verify(&read, &tables) == right, "{cell}");
+    }
 }

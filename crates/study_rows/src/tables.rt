@@ -177,7 +177,7 @@ fn cell_of<A: Allocator>(
 }
 
 /// A copy of the held table with one cell changed.
-fn changed<'a, A: Allocator>(
+pub fn changed<'a, A: Allocator>(
     rt: &impl Abort,
     alloc: &'a A,
     tables: &TableSet<'a, A>,
