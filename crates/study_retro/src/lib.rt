@@ -21,4 +21,4 @@ pub use builder::{BuildFault, BuildReport, build, verify};
 pub use room::BuildRoom;
 pub use set::{AddFault, AddRefused, TableSet};
 pub use table::Table;
-pub use value::Value;
+pub use value::{Value, value_at};

@@ -9,7 +9,7 @@ pub enum Value {
     Draw,
 }
 
-/// The value that a cell tells.
+/// The value that a cell of a table tells: 0 a draw, an odd cell c a loss in c - 1 plies, an even one a win in c - 1.
 pub fn value_at(cell: u8) -> Value
     ensures { result ≡ value_of cell }
 {
