@@ -14,8 +14,8 @@ use crate::swap::is_swapped;
 use crate::turn::turned;
 use study_board::{Man, Position, Side, Square, Symmetry};
 
-/// The symmetry that brings the square to a listed one, if any does, the swap of colours left out: of the two
-/// mirrorings of the ranks that it takes beside them, both or none is done where there is no pawn.
+/// The symmetry that brings the square to a listed one, if any does, written without a swap of colours: the ranks that
+/// a swap mirrors are mirrored back where there is no pawn.
 #[inline]
 #[tactic(auto, unfolding(crate::specs::Squares::brought))]
 fn brought(pawns: bool, diagonal: bool, colours: bool, s: Square) -> Symmetry
