@@ -1,2 +1,5 @@
 pub mod Values
 pub mod Whole
+pub mod Sources
+pub mod Paged
+pub mod Told

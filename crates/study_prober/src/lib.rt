@@ -5,8 +5,14 @@
 //! memory: it is honest where its tables are right, and has no fault but `NoTable`.
 #![tactic(auto)]
 
+mod cache;
+mod fault;
+mod held;
+mod paged;
 mod values;
 mod whole;
 
+pub use fault::PagedFault;
+pub use paged::PagedTables;
 pub use values::{ProbeFault, Values};
 pub use whole::WholeTables;

@@ -22,6 +22,27 @@ pub enum ProbeFault {
     PageDamaged(Class, u32),
 }
 
+impl From<SourceFault> for ProbeFault {
+    ghost use Rattle.std.specs.Prelude.{◌≡◌};
+    ghost use Rattle.study_prober.specs.declared.values.ProbeFault.TheVariants.{TableRead};
+
+    ghost from_gives = { λ source fault. fault ≡ TableRead source };
+
+    fn from(fault: SourceFault) -> ProbeFault {
+        ProbeFault::TableRead(fault)
+    }
+}
+
+/// Whether an answer tells that a device or a page failed.
+pub fn is_device_fault(answer: &Result<Value, ProbeFault>) -> bool
+    ensures { result ≡ is_device_fault answer.now }
+{
+    match answer {
+        Err(ProbeFault::TableRead(_) | ProbeFault::PageDamaged(_, _)) => true,
+        _ => false,
+    }
+}
+
 /// Tells the values of positions, and counts how often it is asked and how often a device or a page failed. Both counts
 /// stay at the last value of their type.
 pub trait Values: Drop {

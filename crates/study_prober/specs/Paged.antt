@@ -1,0 +1,44 @@
+-- Paged tables as a contract sees them.
+use Rattle.std.specs.Prelude.{◌≡◌, ◌≢◌, ℕ, List, length, slice_index_or, replicate, Contains, Bool, true, is_some, Option, Some, None, [], ◌∷◌, ⊤, Result, Ok, Err}
+use Rattle.study_material.specs.declared.class.Class.{Class}
+use Rattle.study_retro.specs.Table.{Table, place_of}
+use Rattle.study_tablefile.specs.Source.{counted}
+use Rattle.study_prober.specs.declared.cache.PageKey.{PageKey}
+use Rattle.study_prober.specs.declared.held.Held.{Held}
+use Rattle.study_prober.specs.declared.values.ProbeFault.{ProbeFault}
+use Rattle.study_prober.specs.Sources.{IsHeaderOf, AreOf, GivesRight, AreHonestAlike, is_read_fault}
+
+-- the sources, each at the place of its class, the pages that are kept, the last used first, and how many there may be
+pub record Paged (S : Type 0) : Type 0 where
+  pub sources : List (Option (Held S))
+  pub kept : List (PageKey × List ℕ)
+  pub room : ℕ
+  pub asked : ℕ
+  pub failed : ℕ
+
+-- what is held for a class, if anything is
+abbrev pub held_of : {S : Type 0} → List (Option (Held S)) → Class → Option (Held S)
+held_of sources c = slice_index_or sources (place_of c) None
+
+-- a place for each class, from the first source on
+abbrev pub places : {S : Type 0} → List (Option (Held S)) → List (Option (Held S))
+places [] = replicate 36 None
+places (o ∷ os) = o ∷ os
+
+-- each source has the header of its class, and for whatever table it is honest, its pages that are kept are the table's
+pub record IsKept {S V : Type 0} (honest : S → Table → Type 0) (cells : V → List ℕ) (sources : List (Option (Held S))) (kept : List (PageKey × V)) : Type 0 where
+  pub some : length sources ≢ 0 → length sources ≡ 36
+  pub header : (c : Class) (h : Held S) → held_of sources c ≡ Some h → IsHeaderOf h.header c
+  pub held : (e : PageKey × V) (c : Class) → Contains kept e → e.0.class ≡ place_of c → is_some (held_of sources c) ≡ true
+  pub right : (c : Class) (h : Held S) (t : Table) → held_of sources c ≡ Some h → honest h.source t → t.class ≡ c → AreOf cells kept t
+
+-- each source gives the file of a right table of its class
+pub record AreRight {S : Type 0} (honest : S → Table → Type 0) (sources : List (Option (Held S))) : Type 0 where
+  pub right : (c : Class) (h : Held S) → held_of sources c ≡ Some h → GivesRight honest h.source c
+
+-- what is held for a class before and after a call: the same source
+abbrev pub IsSameSource : {S : Type 0} → (S → Table → Type 0) → Option (Held S) → Option (Held S) → Type 0
+IsSameSource honest None None = ⊤
+IsSameSource honest None (Some new) = ⊥
+IsSameSource honest (Some old) None = ⊥
+IsSameSource honest (Some old) (Some new) = (new.header ≡ old.header) × AreHonestAlike honest old.source new.source

@@ -1,0 +1,48 @@
+-- Sources of pages, and the cells of their tables' pages.
+use Rattle.std.specs.Prelude.{◌≡◌, ℕ, List, take, Contains, Bool, true, false, ⊤, Option, Some, None, Result, Ok, Err}
+use Rattle.study_material.specs.declared.class.Class.{Class}
+use Rattle.study_material.specs.Class.{is_left_out}
+use Rattle.study_index.specs.Number.{cells_of}
+use Rattle.study_retro.specs.Table.{Table, IsComplete, place_of}
+use Rattle.study_retro.specs.Sound.{IsRight}
+use Rattle.study_tablefile.specs.declared.source.Header.{Header}
+use Rattle.study_tablefile.specs.File.{fields_text}
+use Rattle.study_tablefile.specs.Source.{page_of}
+use Rattle.study_prober.specs.declared.cache.PageKey.{PageKey}
+use Rattle.study_prober.specs.declared.values.ProbeFault.{ProbeFault}
+use Rattle.study_prober.specs.declared.values.ProbeFault.TheVariants.{NoTable, TableRead, PageDamaged}
+
+-- the header of a class
+pub record IsHeaderOf (h : Header) (c : Class) : Type 0 where
+  pub class : h.class ≡ c
+  pub admitted : is_left_out c ≡ false
+  pub cells : h.cells ≡ cells_of c
+  pub fields : h.fields ≡ fields_text c
+
+-- the cells of page n of a table's file
+abbrev pub page_cells_of : Table → ℕ → List ℕ
+page_cells_of t n = take 4096 (page_of t n)
+
+-- the pages of a table's class that are kept are the table's
+pub record AreOf {V : Type 0} (cells : V → List ℕ) (kept : List (PageKey × V)) (t : Table) : Type 0 where
+  pub is : (e : PageKey × V) → Contains kept e → e.0.class ≡ place_of t.class → cells e.1 ≡ page_cells_of t e.0.number
+
+-- the source gives the file of a right table of the class
+pub record GivesRight {S : Type 0} (honest : S → Table → Type 0) (source : S) (c : Class) : Type 0 where
+  pub table : Table
+  pub of_class : table.class ≡ c
+  pub complete : IsComplete table
+  pub right : IsRight table
+  pub is_honest : honest source table
+
+-- two states of one source: honest for the same tables
+pub record AreHonestAlike {S : Type 0} (honest : S → Table → Type 0) (old new : S) : Type 0 where
+  pub stays : (t : Table) → honest old t → honest new t
+  pub back : (t : Table) → honest new t → honest old t
+
+-- the answer tells that a source gave no page
+abbrev pub is_read_fault : {T : Type 0} → Result T ProbeFault → Bool
+is_read_fault (Ok v) = false
+is_read_fault (Err (NoTable c)) = false
+is_read_fault (Err (TableRead f)) = true
+is_read_fault (Err (PageDamaged c n)) = false

@@ -1,0 +1,34 @@
+-- Why a source is not held.
+use Rattle.std.specs.Prelude.{◌≡◌, ℕ, ◌==◌, List, Bool, ⊤, Option, Some, None, Result, Ok, Err, if◌then◌else◌}
+use Rattle.study_material.specs.declared.class.Class.{Class}
+use Rattle.study_retro.specs.Table.{Table, place_of}
+use Rattle.study_tablefile.specs.declared.fault.SourceFault.{SourceFault}
+use Rattle.study_tablefile.specs.declared.fault.FileFault.{FileFault}
+use Rattle.study_tablefile.specs.declared.source.Header.{Header}
+use Rattle.study_tablefile.specs.File.{header_text}
+use Rattle.study_tablefile.specs.Reading.{class_read}
+use Rattle.study_prober.specs.declared.fault.PagedFault.{PagedFault}
+use Rattle.study_prober.specs.declared.fault.PagedFault.TheVariants.{AlreadyHeld, TableRead, Header as BadHeader, OtherClass}
+
+-- what a source may tell when it is asked for its header: a fault, or bytes, those of the header of each table for which it is honest
+abbrev pub MayTell : {S : Type 0} → (S → Table → Type 0) → S → Result (List ℕ) SourceFault → Type 0
+MayTell honest source (Err fault) = ⊤
+MayTell honest source (Ok bytes) = (t : Table) → honest source t → bytes ≡ header_text t.class
+
+abbrev pub class_fault : Class → Result Class FileFault → Option PagedFault
+class_fault c (Err fault) = Some (BadHeader fault)
+class_fault c (Ok d) = if place_of d == place_of c then None else Some (OtherClass d)
+
+abbrev pub header_fault : Class → Result (List ℕ) SourceFault → Option PagedFault
+header_fault c (Err fault) = Some (TableRead fault)
+header_fault c (Ok bytes) = class_fault c (class_read bytes)
+
+-- the first fault of a source for a class, by whether the class is held already and what the source told
+abbrev pub paged_fault : Bool → Class → Result (List ℕ) SourceFault → Option PagedFault
+paged_fault held c told = if held then Some (AlreadyHeld c) else header_fault c told
+
+-- an answer to the question for a header, by what the source told
+abbrev pub IsTold : Result (List ℕ) SourceFault → Result Header PagedFault → Type 0
+IsTold (Err fault) answer = answer ≡ Err (TableRead fault)
+IsTold (Ok bytes) (Ok h) = class_read bytes ≡ Ok h.class
+IsTold (Ok bytes) (Err fault) = (e : FileFault) × (fault ≡ BadHeader e) × (class_read bytes ≡ Err e)

@@ -1,0 +1,115 @@
+//! Sources of pages, each with what its header says, and the cells of their tables.
+ghost use Rattle.std.specs.Prelude.{◌≡◌, ◌<◌, ◌/◌, ◌⊎◌, ℕ, List, Result, Ok, Err, true, IfOk, IfErr, OnOk, OnErr, IsErrOf, MatchResult, Contains, slice_index, length, if◌then◌else◌};
+ghost use Rattle.study_material.specs.declared.class.Class.{Class as AClass};
+ghost use Rattle.study_retro.specs.Table.{Table as Seen, IsComplete, place_of};
+ghost use Rattle.study_index.specs.Number.{cells_of};
+ghost use Rattle.study_tablefile.specs.declared.fault.SourceFault.{SourceFault as ASourceFault};
+ghost use Rattle.study_tablefile.specs.File.{pages_of};
+ghost use Rattle.study_tablefile.specs.Reading.{class_read};
+ghost use Rattle.study_tablefile.specs.Source.{counted, page_of};
+ghost use Rattle.study_prober.specs.Sources.{AreHonestAlike, AreOf, IsHeaderOf, is_read_fault, page_cells_of};
+ghost use Rattle.study_prober.specs.Told.{MayTell, IsTold};
+
+use crate::cache::{PageKey, Pages, keep, kept_byte, place};
+use crate::fault::PagedFault;
+use crate::values::ProbeFault;
+use std::alloc::Allocator;
+use study_tablefile::{Header, PageSource, page_cells, read_header};
+
+/// A source of pages, and what its header says.
+#[derive(Drop)]
+pub struct Held<S> {
+    pub header: Header,
+    pub source: S,
+}
+
+/// Asks a source for its header.
+pub fn header_of<S: PageSource>(source: &mut S) -> Result<Header, PagedFault>
+    ensures same { AreHonestAlike S.honest source.old source.new }
+    ensures count { OnOk result (S.failed source.new ≡ S.failed source.old) }
+    ensures told { (told : Result (List ℕ) ASourceFault) × MayTell S.honest source.old told × IsTold told result }
+    ensures header { IfOk result (λ h. IsHeaderOf h h.class) }
+{
+    let mut bytes = [0; 64];
+    source.header(&mut bytes)?;
+    Ok(read_header(&bytes)?)
+}
+
+impl<S: PageSource> Held<S> {
+    /// Reads a page and looks whether it is whole.
+    fn page(&mut self, number: u32, into: &mut [u8; 4128]) -> Result<(), ProbeFault>
+        requires header { IsHeaderOf self.old.header self.old.header.class }
+        requires number { number < pages_of self.old.header.class }
+        ensures header { self.new.header ≡ self.old.header }
+        ensures same { AreHonestAlike S.honest self.old.source self.new.source }
+        ensures ok { (t : Seen) → S.honest self.old.source t → t.class ≡ self.old.header.class → OnOk result (into.new ≡ page_of t number) }
+        ensures whole { (t : Seen) → S.honest self.old.source t → t.class ≡ self.old.header.class → IsComplete t → (c : AClass) (n : ℕ) → IsErrOf result (ProbeFault.PageDamaged c n) → ⊥ }
+        ensures damaged { (c : AClass) (n : ℕ) → IsErrOf result (ProbeFault.PageDamaged c n) → (c ≡ self.old.header.class) × (n ≡ number) }
+        ensures no_table { (c : AClass) → IsErrOf result (ProbeFault.NoTable c) → ⊥ }
+        ensures failed { S.failed self.new.source ≡ (if is_read_fault result then counted (S.failed self.old.source) else S.failed self.old.source) }
+    {
+        self.source.page(number, into)?;
+        if page_cells(&self.header, number, into) {
+            Ok(())
+        } else {
+            Err(ProbeFault::PageDamaged(self.header.class, number))
+        }
+    }
+}
+
+/// A cell of a page that is read now. A page that finds no room is used and forgotten.
+fn read_cell<'a, S: PageSource, A: Allocator>(
+    held: &mut Held<S>,
+    pages: &mut Pages<'a, A>,
+    alloc: &'a A,
+    key: PageKey,
+    at: usize,
+) -> Result<u8, ProbeFault>
+    requires at { at < 4096 }
+    requires header { IsHeaderOf held.old.header held.old.header.class }
+    requires number { key.number < pages_of held.old.header.class }
+    ensures room { pages.new.cap ≡ pages.old.cap }
+    ensures header { held.new.header ≡ held.old.header }
+    ensures same { AreHonestAlike S.honest held.old.source held.new.source }
+    ensures ok { (t : Seen) → S.honest held.old.source t → t.class ≡ held.old.header.class → IfOk result (λ cell. cell ≡ slice_index (page_cells_of t key.number) at) }
+    ensures whole { (t : Seen) → S.honest held.old.source t → t.class ≡ held.old.header.class → IsComplete t → (c : AClass) (n : ℕ) → IsErrOf result (ProbeFault.PageDamaged c n) → ⊥ }
+    ensures damaged { (c : AClass) (n : ℕ) → IsErrOf result (ProbeFault.PageDamaged c n) → (c ≡ held.old.header.class) × (n ≡ key.number) }
+    ensures no_table { (c : AClass) → IsErrOf result (ProbeFault.NoTable c) → ⊥ }
+    ensures failed { S.failed held.new.source ≡ (if is_read_fault result then counted (S.failed held.old.source) else S.failed held.old.source) }
+    ensures more { (e : _) → Contains pages.new.entries e → Contains pages.old.entries e ⊎ ((e.0 ≡ key) × ((t : Seen) → S.honest held.old.source t → t.class ≡ held.old.header.class → e.1.items ≡ page_cells_of t key.number)) }
+{
+    let mut page = [0; 4128];
+    held.page(key.number, &mut page)?;
+    let _ = keep(pages, alloc, key, &page);
+    Ok(page[at])
+}
+
+/// A cell of a table, from a page that is kept, or else from its source.
+pub fn cell<'a, S: PageSource, A: Allocator>(
+    held: &mut Held<S>,
+    pages: &mut Pages<'a, A>,
+    alloc: &'a A,
+    number: u32,
+) -> Result<u8, ProbeFault>
+    requires header { IsHeaderOf held.old.header held.old.header.class }
+    requires number { number < cells_of held.old.header.class }
+    ensures room { pages.new.cap ≡ pages.old.cap }
+    ensures header { held.new.header ≡ held.old.header }
+    ensures same { AreHonestAlike S.honest held.old.source held.new.source }
+    ensures ok { (t : Seen) → S.honest held.old.source t → t.class ≡ held.old.header.class → AreOf (λ v. v.items) pages.old.entries t → IfOk result (λ cell. cell ≡ slice_index t.cells number) }
+    ensures whole { (t : Seen) → S.honest held.old.source t → t.class ≡ held.old.header.class → IsComplete t → (c : AClass) (n : ℕ) → IsErrOf result (ProbeFault.PageDamaged c n) → ⊥ }
+    ensures damaged { (c : AClass) (n : ℕ) → IsErrOf result (ProbeFault.PageDamaged c n) → (c ≡ held.old.header.class) × (n ≡ number / 4096) }
+    ensures no_table { (c : AClass) → IsErrOf result (ProbeFault.NoTable c) → ⊥ }
+    ensures failed { S.failed held.new.source ≡ (if is_read_fault result then counted (S.failed held.old.source) else S.failed held.old.source) }
+    ensures more { (e : _) → Contains pages.new.entries e → Contains pages.old.entries e ⊎ ((e.0.class ≡ place_of held.old.header.class) × ((t : Seen) → S.honest held.old.source t → t.class ≡ held.old.header.class → e.1.items ≡ page_cells_of t e.0.number)) }
+{
+    let key = PageKey {
+        class: place(held.header.class),
+        number: number / 4096,
+    };
+    let at = (number % 4096) as usize;
+    match kept_byte(pages, key, at) {
+        Some(byte) => Ok(byte),
+        None => read_cell(held, pages, alloc, key, at),
+    }
+}

@@ -1,0 +1,177 @@
+//! Values from pages of tables, read as they are asked and kept as far as there is room.
+ghost use Rattle.std.specs.Prelude.{◌≡◌, ◌≢◌, ◌≤◌, ◌<◌, ◌/◌, ◌↔◌, ⊤, ℕ, List, Option, Result, [], Some, None, Ok, Err, true, is_some, IfOk, IfErr, OnOk, OnErr, IsErrOf, MatchOption, length, slice_index, slice_set, replicate, vec_len, Contains, if◌then◌else◌};
+ghost use Rattle.study_board.specs.Position.{IsValid};
+ghost use Rattle.study_material.specs.declared.class.Class.{Class as AClass};
+ghost use Rattle.study_material.specs.Class.{IsOf};
+ghost use Rattle.study_index.specs.Found.{index_of};
+ghost use Rattle.study_retro.specs.Cells.{value_of};
+ghost use Rattle.study_retro.specs.Game.{IsValueOf};
+ghost use Rattle.study_retro.specs.Table.{Table as Seen, IsComplete, place_of};
+ghost use Rattle.study_tablefile.specs.Source.{counted};
+ghost use Rattle.study_tablefile.specs.declared.fault.SourceFault.{SourceFault as ASourceFault};
+ghost use Rattle.study_prober.specs.declared.held.Held.{Held as AHeld};
+ghost use Rattle.study_prober.specs.Sources.{AreHonestAlike, AreOf, GivesRight, IsHeaderOf, is_read_fault};
+ghost use Rattle.study_prober.specs.Paged.{AreRight, IsKept, IsSameSource, held_of, places};
+ghost use Rattle.study_prober.specs.Told.{MayTell, paged_fault};
+
+use crate::cache::{Pages, place};
+use crate::fault::PagedFault;
+use crate::held::{Held, cell, header_of};
+use crate::values::{ProbeFault, Values, is_device_fault};
+use lru::LruCache;
+use std::alloc::{AllocError, Allocator};
+use std::marker::Model;
+use std::num::NonZeroUsize;
+use study_board::Position;
+use study_index::index;
+use study_material::{Class, class_of};
+use study_retro::Value;
+use study_tablefile::PageSource;
+
+/// Tables whose pages are read as they are asked, and the pages that were used last.
+#[derive(Drop)]
+pub struct PagedTables<'a, S: PageSource, A: Allocator> {
+    alloc: &'a A,
+    /// A place for each class, once there is a source.
+    sources: Vec<Option<Held<S>>, &'a A>,
+    kept: Pages<'a, A>,
+    asked: u64,
+    failed: u64,
+}
+
+impl<'a, S: PageSource, A: Allocator> Model for PagedTables<'a, S, A> {
+    ghost use Rattle.std.specs.Prelude.{map};
+    ghost use Rattle.study_prober.specs.Paged.{Paged, IsKept};
+
+    ghost Value = { Paged S };
+
+    ghost view = { λ w. record { sources = w.sources.items; kept = map (λ e. (e.0, e.1.items)) w.kept.entries; room = w.kept.cap; asked = w.asked; failed = w.failed } };
+
+    ghost invariant = { λ w. IsKept S.honest (λ v. v.items) w.sources.items w.kept.entries };
+}
+
+impl<'a, S: PageSource, A: Allocator> PagedTables<'a, S, A> {
+    /// No table yet, and room for so many pages, from 1 to 4,096.
+    pub fn new(alloc: &'a A, pages: u16) -> Result<Self, AllocError>
+        requires some { 1 ≤ pages }
+        requires few { pages ≤ 4096 }
+        ensures { IfOk result (λ w. w ≡ record { sources = []; kept = []; room = pages; asked = 0; failed = 0 }) }
+    {
+        let Some(room) = NonZeroUsize::new(pages as usize) else {
+            unreachable!()
+        };
+        Ok(PagedTables {
+            alloc,
+            sources: Vec::new(alloc),
+            kept: LruCache::new(alloc, room)?,
+            asked: 0,
+            failed: 0,
+        })
+    }
+
+    /// Holds a source of the table of a class, whose needs are not asked for. A source that is refused is dropped.
+    pub fn add(&mut self, class: Class, mut source: S) -> Result<(), PagedFault>
+        ensures fault { (told : Result (List ℕ) ASourceFault) × MayTell S.honest source.entry told × MatchOption (paged_fault (is_some (held_of self.old.sources class)) class told) (IfErr result (λ e. e ≡ PagedFault.OutOfMemory)) (λ fault. IsErrOf result fault) }
+        ensures added { OnOk result ((h : AHeld S) × IsHeaderOf h.header class × AreHonestAlike S.honest source.entry h.source × (S.failed h.source ≡ S.failed source.entry) × (self.new ≡ record self.old { sources = slice_set (places self.old.sources) (place_of class) (Some h) })) }
+        ensures same { OnErr result (self.new ≡ self.old) }
+        ensures honest { AreRight S.honest self.old.sources → GivesRight S.honest source.entry class → OnOk result (AreRight S.honest self.new.sources) }
+    {
+        if self.holds(class) {
+            return Err(PagedFault::AlreadyHeld(class));
+        }
+        let header = header_of(&mut source)?;
+        if header.class != class {
+            return Err(PagedFault::OtherClass(header.class));
+        }
+        if self.sources.is_empty() {
+            self.sources = places(self.alloc)?;
+        }
+        self.sources[place(class) as usize] = Some(Held { header, source });
+        Ok(())
+    }
+}
+
+/// A place for each class.
+fn places<'a, S, A: Allocator>(alloc: &'a A) -> Result<Vec<Option<Held<S>>, &'a A>, AllocError>
+    ensures { IfOk result (λ v. v.items ≡ replicate 36 None) }
+{
+    let mut places = Vec::with_capacity(alloc, 36)?;
+    while places.len() < 36 {
+        places.push_reserved(None);
+    }
+    Ok(places)
+}
+
+/// The value of a position, from a page that is kept or from a source.
+fn probe<'a, S: PageSource, A: Allocator>(
+    sources: &mut [Option<Held<S>>],
+    pages: &mut Pages<'a, A>,
+    alloc: &'a A,
+    p: &Position,
+) -> Result<Value, ProbeFault>
+    requires { IsKept S.honest (λ v. v.items) sources.old pages.old.entries }
+    ensures kept { IsKept S.honest (λ v. v.items) sources.new pages.new.entries }
+    ensures room { pages.new.cap ≡ pages.old.cap }
+    ensures sources { (c : AClass) → IsSameSource S.honest (held_of sources.old c) (held_of sources.new c) }
+    ensures no_table { (c : AClass) → IsErrOf result (ProbeFault.NoTable c) ↔ (IsOf c p.now × (held_of sources.old c ≡ None)) }
+    ensures told { (c : AClass) (h : AHeld S) (t : Seen) → IsOf c p.now → held_of sources.old c ≡ Some h → S.honest h.source t → t.class ≡ c → IfOk result (λ v. v ≡ value_of (slice_index t.cells (index_of p.now))) }
+    ensures whole { (c : AClass) (h : AHeld S) (t : Seen) (n : ℕ) → IsOf c p.now → held_of sources.old c ≡ Some h → S.honest h.source t → t.class ≡ c → IsComplete t → IsErrOf result (ProbeFault.PageDamaged c n) → ⊥ }
+    ensures damaged { (c : AClass) (n : ℕ) → IsErrOf result (ProbeFault.PageDamaged c n) → IsOf c p.now × (n ≡ index_of p.now / 4096) }
+    ensures failed { (c : AClass) (h k : AHeld S) → IsOf c p.now → held_of sources.old c ≡ Some h → held_of sources.new c ≡ Some k → S.failed k.source ≡ (if is_read_fault result then counted (S.failed h.source) else S.failed h.source) }
+    ensures others { (c : AClass) → (IsOf c p.now → ⊥) → held_of sources.new c ≡ held_of sources.old c }
+    ensures valid { IsValid p.now }
+{
+    let _men = p.men();
+    let (class, _) = class_of(p);
+    let Some(Some(held)) = sources.get_mut(place(class) as usize) else {
+        return Err(ProbeFault::NoTable(class));
+    };
+    Ok(value_at(cell(held, pages, alloc, index(p))?))
+}
+
+/// The value that a cell tells.
+fn value_at(cell: u8) -> Value
+    ensures { result ≡ value_of cell }
+{
+    if cell == 0 {
+        Value::Draw
+    } else if cell % 2 == 1 {
+        Value::Loss(cell - 1)
+    } else {
+        Value::Win(cell - 1)
+    }
+}
+
+impl<'a, S: PageSource, A: Allocator> Values for PagedTables<'a, S, A> {
+    ghost is_honest = { λ w. AreRight S.honest w.sources };
+
+    ghost held = { λ w c. is_some (held_of w.sources c) };
+
+    ghost asked_of = { λ w. w.asked };
+
+    ghost failed_of = { λ w. w.failed };
+
+    fn value(&mut self, p: &Position) -> Result<Value, ProbeFault> {
+        self.asked = self.asked.saturating_add(1);
+        let answer = probe(self.sources.as_mut_slice(), &mut self.kept, self.alloc, p);
+        if is_device_fault(&answer) {
+            self.failed = self.failed.saturating_add(1);
+        }
+        answer
+    }
+
+    fn holds(&self, class: Class) -> bool {
+        match self.sources.as_slice().get(place(class) as usize) {
+            Some(Some(_)) => true,
+            _ => false,
+        }
+    }
+
+    fn asked(&self) -> u64 {
+        self.asked
+    }
+
+    fn failures(&self) -> u64 {
+        self.failed
+    }
+}
