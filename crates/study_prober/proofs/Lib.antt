@@ -1,2 +1,5 @@
 pub mod Tables
 pub mod Keys
+pub mod Cells
+pub mod Faults
+pub mod Kept

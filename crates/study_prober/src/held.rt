@@ -1,6 +1,7 @@
 //! Sources of pages, each with what its header says, and the cells of their tables.
 ghost use Rattle.std.specs.Prelude.{◌≡◌, ◌<◌, ◌/◌, ◌⊎◌, ℕ, List, Result, Ok, Err, true, IfOk, IfErr, OnOk, OnErr, IsErrOf, MatchResult, Contains, slice_index, length, if◌then◌else◌};
 ghost use Rattle.study_material.specs.declared.class.Class.{Class as AClass};
+ghost use Rattle.study_retro.specs.Cells.{value_of};
 ghost use Rattle.study_retro.specs.Table.{Table as Seen, IsComplete, place_of};
 ghost use Rattle.study_index.specs.Number.{cells_of};
 ghost use Rattle.study_tablefile.specs.declared.fault.SourceFault.{SourceFault as ASourceFault};
@@ -14,6 +15,7 @@ use crate::cache::{PageKey, Pages, keep, kept_byte, place};
 use crate::fault::PagedFault;
 use crate::values::ProbeFault;
 use std::alloc::Allocator;
+use study_retro::Value;
 use study_tablefile::{Header, PageSource, page_cells, read_header};
 
 /// A source of pages, and what its header says.
@@ -57,21 +59,34 @@ impl<S: PageSource> Held<S> {
     }
 }
 
-/// A cell of a page that is read now. A page that finds no room is used and forgotten.
-fn read_cell<'a, S: PageSource, A: Allocator>(
+/// The value that a cell tells.
+fn value_at(cell: u8) -> Value
+    ensures { result ≡ value_of cell }
+{
+    if cell == 0 {
+        Value::Draw
+    } else if cell % 2 == 1 {
+        Value::Loss(cell - 1)
+    } else {
+        Value::Win(cell - 1)
+    }
+}
+
+/// The value that a cell of a page tells, which is read now. A page that finds no room is used and forgotten.
+fn read_value<'a, S: PageSource, A: Allocator>(
     held: &mut Held<S>,
     pages: &mut Pages<'a, A>,
     alloc: &'a A,
     key: PageKey,
     at: usize,
-) -> Result<u8, ProbeFault>
+) -> Result<Value, ProbeFault>
     requires at { at < 4096 }
     requires header { IsHeaderOf held.old.header held.old.header.class }
     requires number { key.number < pages_of held.old.header.class }
     ensures room { pages.new.cap ≡ pages.old.cap }
     ensures header { held.new.header ≡ held.old.header }
     ensures same { AreHonestAlike S.honest held.old.source held.new.source }
-    ensures ok { (t : Seen) → S.honest held.old.source t → t.class ≡ held.old.header.class → IfOk result (λ cell. cell ≡ slice_index (page_cells_of t key.number) at) }
+    ensures ok { (t : Seen) → S.honest held.old.source t → t.class ≡ held.old.header.class → IfOk result (λ v. v ≡ value_of (slice_index (page_cells_of t key.number) at)) }
     ensures whole { (t : Seen) → S.honest held.old.source t → t.class ≡ held.old.header.class → IsComplete t → (c : AClass) (n : ℕ) → IsErrOf result (ProbeFault.PageDamaged c n) → ⊥ }
     ensures damaged { (c : AClass) (n : ℕ) → IsErrOf result (ProbeFault.PageDamaged c n) → (c ≡ held.old.header.class) × (n ≡ key.number) }
     ensures no_table { (c : AClass) → IsErrOf result (ProbeFault.NoTable c) → ⊥ }
@@ -81,22 +96,22 @@ fn read_cell<'a, S: PageSource, A: Allocator>(
     let mut page = [0; 4128];
     held.page(key.number, &mut page)?;
     let _ = keep(pages, alloc, key, &page);
-    Ok(page[at])
+    Ok(value_at(page[at]))
 }
 
-/// A cell of a table, from a page that is kept, or else from its source.
-pub fn cell<'a, S: PageSource, A: Allocator>(
+/// The value that the cell of a number tells, from a page that is kept, or else from its source.
+pub fn value_in<'a, S: PageSource, A: Allocator>(
     held: &mut Held<S>,
     pages: &mut Pages<'a, A>,
     alloc: &'a A,
     number: u32,
-) -> Result<u8, ProbeFault>
+) -> Result<Value, ProbeFault>
     requires header { IsHeaderOf held.old.header held.old.header.class }
     requires number { number < cells_of held.old.header.class }
     ensures room { pages.new.cap ≡ pages.old.cap }
     ensures header { held.new.header ≡ held.old.header }
     ensures same { AreHonestAlike S.honest held.old.source held.new.source }
-    ensures ok { (t : Seen) → S.honest held.old.source t → t.class ≡ held.old.header.class → AreOf (λ v. v.items) pages.old.entries t → IfOk result (λ cell. cell ≡ slice_index t.cells number) }
+    ensures ok { (t : Seen) → S.honest held.old.source t → t.class ≡ held.old.header.class → AreOf (λ v. v.items) pages.old.entries t → IfOk result (λ v. v ≡ value_of (slice_index t.cells number)) }
     ensures whole { (t : Seen) → S.honest held.old.source t → t.class ≡ held.old.header.class → IsComplete t → (c : AClass) (n : ℕ) → IsErrOf result (ProbeFault.PageDamaged c n) → ⊥ }
     ensures damaged { (c : AClass) (n : ℕ) → IsErrOf result (ProbeFault.PageDamaged c n) → (c ≡ held.old.header.class) × (n ≡ number / 4096) }
     ensures no_table { (c : AClass) → IsErrOf result (ProbeFault.NoTable c) → ⊥ }
@@ -109,7 +124,7 @@ pub fn cell<'a, S: PageSource, A: Allocator>(
     };
     let at = (number % 4096) as usize;
     match kept_byte(pages, key, at) {
-        Some(byte) => Ok(byte),
-        None => read_cell(held, pages, alloc, key, at),
+        Some(cell) => Ok(value_at(cell)),
+        None => read_value(held, pages, alloc, key, at),
     }
 }

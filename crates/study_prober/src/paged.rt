@@ -16,7 +16,7 @@ ghost use Rattle.study_prober.specs.Told.{MayTell, paged_fault};
 
 use crate::cache::{Pages, place};
 use crate::fault::PagedFault;
-use crate::held::{Held, cell, header_of};
+use crate::held::{Held, header_of, value_in};
 use crate::values::{ProbeFault, Values, is_device_fault};
 use lru::LruCache;
 use std::alloc::{AllocError, Allocator};
@@ -71,10 +71,10 @@ impl<'a, S: PageSource, A: Allocator> PagedTables<'a, S, A> {
 
     /// Holds a source of the table of a class, whose needs are not asked for. A source that is refused is dropped.
     pub fn add(&mut self, class: Class, mut source: S) -> Result<(), PagedFault>
-        ensures fault { (told : Result (List ℕ) ASourceFault) × MayTell S.honest source.entry told × MatchOption (paged_fault (is_some (held_of self.old.sources class)) class told) (IfErr result (λ e. e ≡ PagedFault.OutOfMemory)) (λ fault. IsErrOf result fault) }
-        ensures added { OnOk result ((h : AHeld S) × IsHeaderOf h.header class × AreHonestAlike S.honest source.entry h.source × (S.failed h.source ≡ S.failed source.entry) × (self.new ≡ record self.old { sources = slice_set (places self.old.sources) (place_of class) (Some h) })) }
+        ensures fault { (told : Result (List ℕ) ASourceFault) × MayTell S.honest source told × MatchOption (paged_fault (is_some (held_of self.old.sources class)) class told) (IfErr result (λ e. e ≡ PagedFault.OutOfMemory)) (λ fault. IsErrOf result fault) }
+        ensures added { OnOk result ((h : AHeld S) × IsHeaderOf h.header class × AreHonestAlike S.honest source h.source × (S.failed h.source ≡ S.failed source) × (self.new ≡ record self.old { sources = slice_set (places self.old.sources) (place_of class) (Some h) })) }
         ensures same { OnErr result (self.new ≡ self.old) }
-        ensures honest { AreRight S.honest self.old.sources → GivesRight S.honest source.entry class → OnOk result (AreRight S.honest self.new.sources) }
+        ensures honest { AreRight S.honest self.old.sources → GivesRight S.honest source class → OnOk result (AreRight S.honest self.new.sources) }
     {
         if self.holds(class) {
             return Err(PagedFault::AlreadyHeld(class));
@@ -83,16 +83,16 @@ impl<'a, S: PageSource, A: Allocator> PagedTables<'a, S, A> {
         if header.class != class {
             return Err(PagedFault::OtherClass(header.class));
         }
-        if self.sources.is_empty() {
-            self.sources = places(self.alloc)?;
-        }
+        make_places(&mut self.sources, self.alloc)?;
         self.sources[place(class) as usize] = Some(Held { header, source });
         Ok(())
     }
 }
 
-/// A place for each class.
-fn places<'a, S, A: Allocator>(alloc: &'a A) -> Result<Vec<Option<Held<S>>, &'a A>, AllocError>
+/// So many places without a source as there are classes.
+fn no_sources<'a, S, A: Allocator>(
+    alloc: &'a A,
+) -> Result<Vec<Option<Held<S>>, &'a A>, AllocError>
     ensures { IfOk result (λ v. v.items ≡ replicate 36 None) }
 {
     let mut places = Vec::with_capacity(alloc, 36)?;
@@ -102,43 +102,48 @@ fn places<'a, S, A: Allocator>(alloc: &'a A) -> Result<Vec<Option<Held<S>>, &'a 
     Ok(places)
 }
 
+/// Makes a place for each class, where there is none.
+fn make_places<'a, S: Drop, A: Allocator>(
+    sources: &mut Vec<Option<Held<S>>, &'a A>,
+    alloc: &'a A,
+) -> Result<(), AllocError>
+    ensures made { OnOk result (sources.new.items ≡ places sources.old.items) }
+    ensures same { OnErr result (sources.new ≡ sources.old) }
+{
+    if sources.is_empty() {
+        *sources = no_sources(alloc)?;
+    }
+    Ok(())
+}
+
 /// The value of a position, from a page that is kept or from a source.
 fn probe<'a, S: PageSource, A: Allocator>(
-    sources: &mut [Option<Held<S>>],
+    sources: &mut Vec<Option<Held<S>>, &'a A>,
     pages: &mut Pages<'a, A>,
     alloc: &'a A,
     p: &Position,
 ) -> Result<Value, ProbeFault>
-    requires { IsKept S.honest (λ v. v.items) sources.old pages.old.entries }
-    ensures kept { IsKept S.honest (λ v. v.items) sources.new pages.new.entries }
+    requires { IsKept S.honest (λ v. v.items) sources.old.items pages.old.entries }
+    ensures kept { IsKept S.honest (λ v. v.items) sources.new.items pages.new.entries }
     ensures room { pages.new.cap ≡ pages.old.cap }
-    ensures sources { (c : AClass) → IsSameSource S.honest (held_of sources.old c) (held_of sources.new c) }
-    ensures no_table { (c : AClass) → IsErrOf result (ProbeFault.NoTable c) ↔ (IsOf c p.now × (held_of sources.old c ≡ None)) }
-    ensures told { (c : AClass) (h : AHeld S) (t : Seen) → IsOf c p.now → held_of sources.old c ≡ Some h → S.honest h.source t → t.class ≡ c → IfOk result (λ v. v ≡ value_of (slice_index t.cells (index_of p.now))) }
-    ensures whole { (c : AClass) (h : AHeld S) (t : Seen) (n : ℕ) → IsOf c p.now → held_of sources.old c ≡ Some h → S.honest h.source t → t.class ≡ c → IsComplete t → IsErrOf result (ProbeFault.PageDamaged c n) → ⊥ }
+    ensures sources { (c : AClass) → IsSameSource S.honest (held_of sources.old.items c) (held_of sources.new.items c) }
+    ensures no_table { (c : AClass) → IsErrOf result (ProbeFault.NoTable c) ↔ (IsOf c p.now × (held_of sources.old.items c ≡ None)) }
+    ensures told { (c : AClass) (h : AHeld S) (t : Seen) → IsOf c p.now → held_of sources.old.items c ≡ Some h → S.honest h.source t → t.class ≡ c → IfOk result (λ v. v ≡ value_of (slice_index t.cells (index_of p.now))) }
+    ensures whole { (c : AClass) (h : AHeld S) (t : Seen) (n : ℕ) → IsOf c p.now → held_of sources.old.items c ≡ Some h → S.honest h.source t → t.class ≡ c → IsComplete t → IsErrOf result (ProbeFault.PageDamaged c n) → ⊥ }
     ensures damaged { (c : AClass) (n : ℕ) → IsErrOf result (ProbeFault.PageDamaged c n) → IsOf c p.now × (n ≡ index_of p.now / 4096) }
-    ensures failed { (c : AClass) (h k : AHeld S) → IsOf c p.now → held_of sources.old c ≡ Some h → held_of sources.new c ≡ Some k → S.failed k.source ≡ (if is_read_fault result then counted (S.failed h.source) else S.failed h.source) }
-    ensures others { (c : AClass) → (IsOf c p.now → ⊥) → held_of sources.new c ≡ held_of sources.old c }
+    ensures failed { (c : AClass) (h k : AHeld S) → IsOf c p.now → held_of sources.old.items c ≡ Some h → held_of sources.new.items c ≡ Some k → S.failed k.source ≡ (if is_read_fault result then counted (S.failed h.source) else S.failed h.source) }
+    ensures others { (c : AClass) → (IsOf c p.now → ⊥) → held_of sources.new.items c ≡ held_of sources.old.items c }
     ensures valid { IsValid p.now }
 {
     let _men = p.men();
     let (class, _) = class_of(p);
-    let Some(Some(held)) = sources.get_mut(place(class) as usize) else {
+    let at = place(class) as usize;
+    if sources.len() <= at {
         return Err(ProbeFault::NoTable(class));
-    };
-    Ok(value_at(cell(held, pages, alloc, index(p))?))
-}
-
-/// The value that a cell tells.
-fn value_at(cell: u8) -> Value
-    ensures { result ≡ value_of cell }
-{
-    if cell == 0 {
-        Value::Draw
-    } else if cell % 2 == 1 {
-        Value::Loss(cell - 1)
-    } else {
-        Value::Win(cell - 1)
+    }
+    match &mut sources[at] {
+        None => Err(ProbeFault::NoTable(class)),
+        Some(held) => value_in(held, pages, alloc, index(p)),
     }
 }
 
@@ -153,7 +158,7 @@ impl<'a, S: PageSource, A: Allocator> Values for PagedTables<'a, S, A> {
 
     fn value(&mut self, p: &Position) -> Result<Value, ProbeFault> {
         self.asked = self.asked.saturating_add(1);
-        let answer = probe(self.sources.as_mut_slice(), &mut self.kept, self.alloc, p);
+        let answer = probe(&mut self.sources, &mut self.kept, self.alloc, p);
         if is_device_fault(&answer) {
             self.failed = self.failed.saturating_add(1);
         }

@@ -1,0 +1,12 @@
+use Rattle.std.proofs.Common.{◌≡◌, rules, refl, Ok, Err}
+use Rattle.study_prober.proofs.Faults.{bad_header}
+use Rattle.study_prober.proofs.held.header_of.Goals as goal
+
+pub returns-in_err-header-clause-told : goal.returns-in_err-header-clause-told
+returns-in_err-header-clause-told g c = (Err c.in_err-header.field-0.0, tt, search rules)
+
+pub returns-in_err-read_header-clause-told : goal.returns-in_err-read_header-clause-told
+returns-in_err-read_header-clause-told g c = (Ok c.header.new.into, c.in_ok-header.ensures.ok, bad_header c.header.new.into c.in_err-read_header.field-0.0 c.from_residual-in_err-read_header.result c.from_residual-in_err-read_header.ensures.1 c.in_err-read_header.ensures.fault)
+
+pub returns-clause-told : goal.returns-clause-told
+returns-clause-told g c = (Ok c.header.new.into, c.in_ok-header.ensures.ok, c.in_ok-read_header.ensures.class)

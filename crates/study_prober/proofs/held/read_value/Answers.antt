@@ -1,0 +1,16 @@
+use Rattle.std.proofs.Common.{◌≡◌, ℕ, List, take, get_or, rules, inl, inr, sym, ◌∙◌, ap, arith}
+use Rattle.std.proofs.lemmas.List.{get_or-take}
+use Rattle.study_retro.specs.Cells.{value_of}
+use Rattle.study_prober.proofs.held.read_value.Goals as goal
+
+pub returns-clause-ok : goal.returns-clause-ok
+returns-clause-ok g c = λ t honest same.
+    let page = c.in_ok-page.ensures.ok t honest same in
+    c.value_at.ensures ∙ ap value_of (ap (λ (bytes : List ℕ). get_or bytes c.args.at 0) page ∙ sym (get_or-take 4096 _ c.args.at 0 c.requires.at))
+
+pub returns-clause-more : goal.returns-clause-more
+returns-clause-more g c = λ e h.
+    elim (c.keep.ensures.more e h) [
+      | inl was ↦ inl was
+      | inr new ↦ inr (new.0, λ t honest same. new.1 ∙ ap (λ (bytes : List ℕ). take 4096 bytes) (c.in_ok-page.ensures.ok t honest same))
+    ]
