@@ -3,3 +3,4 @@ pub mod Keys
 pub mod Cells
 pub mod Faults
 pub mod Kept
+pub mod Probed

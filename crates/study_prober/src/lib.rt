@@ -8,6 +8,7 @@
 mod cache;
 mod fault;
 mod held;
+pub mod memory;
 mod paged;
 mod values;
 mod whole;

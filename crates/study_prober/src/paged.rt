@@ -1,6 +1,5 @@
 //! Values from pages of tables, read as they are asked and kept as far as there is room.
-ghost use Rattle.std.specs.Prelude.{◌≡◌, ◌≢◌, ◌≤◌, ◌<◌, ◌/◌, ◌↔◌, ⊤, ℕ, List, Option, Result, [], Some, None, Ok, Err, true, is_some, IfOk, IfErr, OnOk, OnErr, IsErrOf, MatchOption, length, slice_index, slice_set, replicate, vec_len, Contains, if◌then◌else◌};
-ghost use Rattle.study_board.specs.Position.{IsValid};
+ghost use Rattle.std.specs.Prelude.{◌≡◌, false, ◌≤◌, ◌<◌, ◌/◌, ◌↔◌, ⊤, ℕ, List, Option, Result, [], Some, None, Ok, Err, true, is_some, IfOk, IfErr, OnOk, OnErr, IsErrOf, MatchOption, length, slice_index, slice_set, replicate, vec_len, Contains, if◌then◌else◌};
 ghost use Rattle.study_material.specs.declared.class.Class.{Class as AClass};
 ghost use Rattle.study_material.specs.Class.{IsOf};
 ghost use Rattle.study_index.specs.Found.{index_of};
@@ -12,12 +11,13 @@ ghost use Rattle.study_tablefile.specs.declared.fault.SourceFault.{SourceFault a
 ghost use Rattle.study_prober.specs.declared.held.Held.{Held as AHeld};
 ghost use Rattle.study_prober.specs.Sources.{AreHonestAlike, AreOf, GivesRight, IsHeaderOf, is_read_fault};
 ghost use Rattle.study_prober.specs.Paged.{AreRight, IsKept, IsSameSource, held_of, places};
+ghost use Rattle.study_prober.specs.Values.{is_device_fault};
 ghost use Rattle.study_prober.specs.Told.{MayTell, paged_fault};
 
 use crate::cache::{Pages, place};
 use crate::fault::PagedFault;
 use crate::held::{Held, header_of, value_in};
-use crate::values::{ProbeFault, Values, is_device_fault};
+use crate::values::{ProbeFault, Values, counted_fault};
 use lru::LruCache;
 use std::alloc::{AllocError, Allocator};
 use std::marker::Model;
@@ -133,7 +133,7 @@ fn probe<'a, S: PageSource, A: Allocator>(
     ensures damaged { (c : AClass) (n : ℕ) → IsErrOf result (ProbeFault.PageDamaged c n) → IsOf c p.now × (n ≡ index_of p.now / 4096) }
     ensures failed { (c : AClass) (h k : AHeld S) → IsOf c p.now → held_of sources.old.items c ≡ Some h → held_of sources.new.items c ≡ Some k → S.failed k.source ≡ (if is_read_fault result then counted (S.failed h.source) else S.failed h.source) }
     ensures others { (c : AClass) → (IsOf c p.now → ⊥) → held_of sources.new.items c ≡ held_of sources.old.items c }
-    ensures valid { IsValid p.now }
+    ensures game { AreRight S.honest sources.old.items → IfOk result (IsValueOf p.now) }
 {
     let _men = p.men();
     let (class, _) = class_of(p);
@@ -156,12 +156,28 @@ impl<'a, S: PageSource, A: Allocator> Values for PagedTables<'a, S, A> {
 
     ghost failed_of = { λ w. w.failed };
 
-    fn value(&mut self, p: &Position) -> Result<Value, ProbeFault> {
+    fn value(&mut self, p: &Position) -> Result<Value, ProbeFault>
+        ensures game { AreRight S.honest self.old.sources → IfOk result (IsValueOf p.now) }
+        ensures stays_honest { AreRight S.honest self.old.sources → AreRight S.honest self.new.sources }
+        ensures no_table { (c : AClass) → IsErrOf result (ProbeFault.NoTable c) ↔ (IsOf c p.now × (is_some (held_of self.old.sources c) ≡ false)) }
+        ensures same_tables { (c : AClass) → is_some (held_of self.new.sources c) ≡ is_some (held_of self.old.sources c) }
+        ensures asked { self.new.asked ≡ counted self.old.asked }
+        ensures failures { self.new.failed ≡ (if is_device_fault result then counted self.old.failed else self.old.failed) }
+
+        // Of a source that is honest for whatever table of the class, an answer is the table's, and no page is damaged.
+        ensures told { (c : AClass) (h : AHeld S) (t : Seen) → IsOf c p.now → held_of self.old.sources c ≡ Some h → S.honest h.source t → t.class ≡ c → IfOk result (λ v. v ≡ value_of (slice_index t.cells (index_of p.now))) }
+        ensures whole { (c : AClass) (h : AHeld S) (t : Seen) (n : ℕ) → IsOf c p.now → held_of self.old.sources c ≡ Some h → S.honest h.source t → t.class ≡ c → IsComplete t → IsErrOf result (ProbeFault.PageDamaged c n) → ⊥ }
+        ensures damaged { (c : AClass) (n : ℕ) → IsErrOf result (ProbeFault.PageDamaged c n) → IsOf c p.now × (n ≡ index_of p.now / 4096) }
+
+        // The sources stay; that of the class fails once more where a table is not read, and only there.
+        ensures sources { (c : AClass) → IsSameSource S.honest (held_of self.old.sources c) (held_of self.new.sources c) }
+        ensures failed { (c : AClass) (h k : AHeld S) → IsOf c p.now → held_of self.old.sources c ≡ Some h → held_of self.new.sources c ≡ Some k → S.failed k.source ≡ (if is_read_fault result then counted (S.failed h.source) else S.failed h.source) }
+        ensures others { (c : AClass) → (IsOf c p.now → ⊥) → held_of self.new.sources c ≡ held_of self.old.sources c }
+        ensures room { self.new.room ≡ self.old.room }
+    {
         self.asked = self.asked.saturating_add(1);
         let answer = probe(&mut self.sources, &mut self.kept, self.alloc, p);
-        if is_device_fault(&answer) {
-            self.failed = self.failed.saturating_add(1);
-        }
+        self.failed = counted_fault(self.failed, &answer);
         answer
     }
 

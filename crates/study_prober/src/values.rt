@@ -33,13 +33,13 @@ impl From<SourceFault> for ProbeFault {
     }
 }
 
-/// Whether an answer tells that a device or a page failed.
-pub fn is_device_fault(answer: &Result<Value, ProbeFault>) -> bool
-    ensures { result ≡ is_device_fault answer.now }
+/// A count of faults after an answer.
+pub fn counted_fault(count: u64, answer: &Result<Value, ProbeFault>) -> u64
+    ensures { result ≡ (if is_device_fault answer.now then counted count else count) }
 {
     match answer {
-        Err(ProbeFault::TableRead(_) | ProbeFault::PageDamaged(_, _)) => true,
-        _ => false,
+        Err(ProbeFault::TableRead(_) | ProbeFault::PageDamaged(_, _)) => count.saturating_add(1),
+        _ => count,
     }
 }
 

@@ -1,0 +1,54 @@
+use Rattle.std.proofs.Common.{◌≡◌, ◌/◌, ◌<◌, ℕ, Some, rules, sym, ◌∙◌, ap, subst, List, Option}
+use Rattle.study_material.specs.declared.class.Class.{Class}
+use Rattle.study_material.specs.Class.{IsOf}
+use Rattle.study_prober.proofs.Kept.{header_own, kept_after, same_after, held_at}
+use Rattle.study_prober.proofs.Tables.{one_class}
+use Rattle.study_prober.proofs.Probed.{number_in, told_at, whole_at, failed_at, game_at}
+use Rattle.study_prober.proofs.paged.probe.Goals as goal
+
+pub value_in-requires-clause-header : goal.value_in-requires-clause-header
+value_in-requires-clause-header g c =
+    let is = held_at c.args.sources.now.items c.class_of-class.result.0 c.place-at.result c.index_mut.result.now c.in-Some.held c.place-at.ensures.value (search rules) c.index_mut.ensures.value c.in-Some.is in
+    header_own g.S.PageSource.honest (λ v. v.items) c.args.sources.now.items c.args.pages.now.entries c.class_of-class.result.0 c.in-Some.held c.requires is.1
+
+pub value_in-requires-clause-number : goal.value_in-requires-clause-number
+value_in-requires-clause-number g c =
+    let is = held_at c.args.sources.now.items c.class_of-class.result.0 c.place-at.result c.index_mut.result.now c.in-Some.held c.place-at.ensures.value (search rules) c.index_mut.ensures.value c.in-Some.is in
+    number_in c.in-Some.held.header c.class_of-class.result.0 c.args.p.now c.index.result (c.requires.header c.class_of-class.result.0 c.in-Some.held is.1) c.men-men.ensures.valid c.class_of-class.ensures.class c.index.ensures.least
+
+pub returns-in-Some-clause-kept : goal.returns-in-Some-clause-kept
+returns-in-Some-clause-kept g c =
+    let is = held_at c.args.sources.now.items c.class_of-class.result.0 c.place-at.result c.index_mut.result.now c.in-Some.held c.place-at.ensures.value (search rules) c.index_mut.ensures.value c.in-Some.is in
+    rw c.place-at.ensures.value (kept_after g.S.PageSource.honest (λ v. v.items) c.args.sources.now.items c.args.pages.now.entries c.value_in.new.pages.entries c.class_of-class.result.0 c.in-Some.held c.value_in.new.held c.requires is.0 is.1 c.value_in.ensures.header c.value_in.ensures.same c.value_in.ensures.more)
+
+pub returns-in-Some-clause-sources : goal.returns-in-Some-clause-sources
+returns-in-Some-clause-sources g c = λ d.
+    let is = held_at c.args.sources.now.items c.class_of-class.result.0 c.place-at.result c.index_mut.result.now c.in-Some.held c.place-at.ensures.value (search rules) c.index_mut.ensures.value c.in-Some.is in
+    rw c.place-at.ensures.value (same_after g.S.PageSource.honest c.args.sources.now.items c.class_of-class.result.0 d c.in-Some.held c.value_in.new.held is.0 is.1 c.value_in.ensures.header c.value_in.ensures.same)
+
+pub returns-in-Some-clause-told : goal.returns-in-Some-clause-told
+returns-in-Some-clause-told g c = λ d h t of held honest same.
+    let is = held_at c.args.sources.now.items c.class_of-class.result.0 c.place-at.result c.index_mut.result.now c.in-Some.held c.place-at.ensures.value (search rules) c.index_mut.ensures.value c.in-Some.is in
+    told_at g.S.PageSource.honest (λ v. v.items) c.args.sources.now.items c.args.pages.now.entries c.class_of-class.result.0 d c.args.p.now c.in-Some.held h t c.index.result c.value_in.result c.requires is.1 (one_class d c.class_of-class.result.0 c.args.p.now of c.class_of-class.ensures.class) held honest same c.index.ensures.value c.value_in.ensures.ok
+
+pub returns-in-Some-clause-whole : goal.returns-in-Some-clause-whole
+returns-in-Some-clause-whole g c = λ d h t n of held honest same complete.
+    let is = held_at c.args.sources.now.items c.class_of-class.result.0 c.place-at.result c.index_mut.result.now c.in-Some.held c.place-at.ensures.value (search rules) c.index_mut.ensures.value c.in-Some.is in
+    whole_at g.S.PageSource.honest (λ v. v.items) c.args.sources.now.items c.args.pages.now.entries c.class_of-class.result.0 d c.in-Some.held h t n c.value_in.result c.requires is.1 (one_class d c.class_of-class.result.0 c.args.p.now of c.class_of-class.ensures.class) held honest same complete c.value_in.ensures.whole
+
+pub returns-in-Some-clause-damaged : goal.returns-in-Some-clause-damaged
+returns-in-Some-clause-damaged g c = λ d n told.
+    let is = held_at c.args.sources.now.items c.class_of-class.result.0 c.place-at.result c.index_mut.result.now c.in-Some.held c.place-at.ensures.value (search rules) c.index_mut.ensures.value c.in-Some.is in
+    let at = c.value_in.ensures.damaged d n told in
+    let own : d ≡ c.class_of-class.result.0 = at.0 ∙ (c.requires.header c.class_of-class.result.0 c.in-Some.held is.1).class in
+    (subst (λ (x : Class). IsOf x c.args.p.now) (sym own) c.class_of-class.ensures.class, at.1 ∙ ap (λ (m : ℕ). m / 4096) c.index.ensures.value)
+
+pub returns-in-Some-clause-failed : goal.returns-in-Some-clause-failed
+returns-in-Some-clause-failed g c = λ d h k of before after.
+    let is = held_at c.args.sources.now.items c.class_of-class.result.0 c.place-at.result c.index_mut.result.now c.in-Some.held c.place-at.ensures.value (search rules) c.index_mut.ensures.value c.in-Some.is in
+    failed_at g.S.PageSource.failed c.args.sources.now.items c.class_of-class.result.0 d c.place-at.result c.in-Some.held h c.value_in.new.held k c.value_in.result c.place-at.ensures.value is.0 is.1 (one_class d c.class_of-class.result.0 c.args.p.now of c.class_of-class.ensures.class) before after c.value_in.ensures.failed
+
+pub returns-in-Some-clause-game : goal.returns-in-Some-clause-game
+returns-in-Some-clause-game g c =
+    let is = held_at c.args.sources.now.items c.class_of-class.result.0 c.place-at.result c.index_mut.result.now c.in-Some.held c.place-at.ensures.value (search rules) c.index_mut.ensures.value c.in-Some.is in
+    game_at g.S.PageSource.honest (λ v. v.items) c.args.sources.now.items c.args.pages.now.entries c.class_of-class.result.0 c.args.p.now c.in-Some.held c.index.result c.value_in.result c.requires is.1 c.men-men.ensures.valid c.class_of-class.ensures.class c.index.ensures.value c.value_in.ensures.ok

@@ -1,0 +1,82 @@
+//! Values that fail where a test wants it.
+ghost use Rattle.std.specs.Prelude.{◌≡◌, ◌↔◌, Some, Err, true, false, IfOk, IsErrOf, if◌then◌else◌};
+ghost use Rattle.study_material.specs.declared.class.Class.{Class as AClass};
+ghost use Rattle.study_material.specs.Class.{IsOf};
+ghost use Rattle.study_retro.specs.Game.{IsValueOf};
+ghost use Rattle.study_prober.specs.Values.{counted, is_device_fault};
+
+use crate::values::{ProbeFault, Values, counted_fault};
+use study_board::Position;
+use study_material::{Class, class_of};
+use study_retro::Value;
+use study_tablefile::SourceFault;
+
+/// The values of another source, but for one question, at which the device of the table fails.
+#[derive(Drop)]
+pub struct FailingValues<V: Values> {
+    pub values: V,
+    /// How often a value was asked.
+    pub asked: u64,
+    /// Which of the questions fails, counted from 0. A position whose class has no table has the answer of `values` there.
+    pub fails_at: Option<u64>,
+    /// How often a device or a page failed.
+    pub failures: u64,
+}
+
+impl<V: Values> FailingValues<V> {
+    /// Values of which one question fails, counted from 0. Nothing was asked yet.
+    pub fn new(values: V, fails_at: u64) -> Self
+        ensures { result ≡ record { values = values; asked = 0; fails_at = Some fails_at; failures = 0 } }
+    {
+        FailingValues {
+            values,
+            asked: 0,
+            fails_at: Some(fails_at),
+            failures: 0,
+        }
+    }
+}
+
+impl<V: Values> Values for FailingValues<V> {
+    ghost is_honest = { λ w. V.is_honest w.values };
+
+    ghost held = { λ w c. V.held w.values c };
+
+    ghost asked_of = { λ w. w.asked };
+
+    ghost failed_of = { λ w. w.failures };
+
+    fn value(&mut self, p: &Position) -> Result<Value, ProbeFault>
+        ensures game { V.is_honest self.old.values → IfOk result (IsValueOf p.now) }
+        ensures stays_honest { V.is_honest self.old.values → V.is_honest self.new.values }
+        ensures no_table { (c : AClass) → IsErrOf result (ProbeFault.NoTable c) ↔ (IsOf c p.now × (V.held self.old.values c ≡ false)) }
+        ensures same_tables { (c : AClass) → V.held self.new.values c ≡ V.held self.old.values c }
+        ensures asked { self.new.asked ≡ counted self.old.asked }
+        ensures failures { self.new.failures ≡ (if is_device_fault result then counted self.old.failures else self.old.failures) }
+        ensures fails { self.old.fails_at ≡ Some self.old.asked → (c : AClass) → IsOf c p.now → V.held self.old.values c ≡ true → result ≡ Err (ProbeFault.TableRead SourceFault.Device) }
+        ensures same { self.new.fails_at ≡ self.old.fails_at }
+    {
+        let number = self.asked;
+        self.asked = self.asked.saturating_add(1);
+        let (class, _) = class_of(p);
+        let answer = if self.fails_at == Some(number) && self.values.holds(class) {
+            Err(ProbeFault::TableRead(SourceFault::Device))
+        } else {
+            self.values.value(p)
+        };
+        self.failures = counted_fault(self.failures, &answer);
+        answer
+    }
+
+    fn holds(&self, class: Class) -> bool {
+        self.values.holds(class)
+    }
+
+    fn asked(&self) -> u64 {
+        self.asked
+    }
+
+    fn failures(&self) -> u64 {
+        self.failures
+    }
+}
