@@ -17,3 +17,6 @@ pub use fault::PagedFault;
 pub use paged::PagedTables;
 pub use values::{ProbeFault, Values};
 pub use whole::WholeTables;
+
+#[cfg(test)]
+mod tests;
