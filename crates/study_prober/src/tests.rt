@@ -1,10 +1,11 @@
 //! Values through pages that are kept, read, damaged and refused.
+ghost use Rattle.std.specs.Prelude.{◌≡◌};
+
 use crate::memory::FailingValues;
 use crate::{PagedFault, PagedTables, ProbeFault, Values, WholeTables};
 use linked_list_allocator::LocalHeap;
-use std::alloc::Allocator;
+use std::alloc::{Allocator, Global};
 use std::process::Abort;
-use std::test::Fail;
 use study_board::Position;
 use study_index::{cells, decode};
 use study_material::Class;
@@ -12,12 +13,12 @@ use study_retro::{BuildRoom, Table, TableSet, build};
 use study_tablefile::memory::{MemorySource, MemoryWriter};
 use study_tablefile::{FileFault, PageSource, SourceFault, write_table};
 
-/// A table whose cells tell their numbers apart, also those of two pages, and in some other way for each seed.
+/// A table whose cells differ at the same place of two pages, and for two seeds.
 fn table_of<'a, A: Allocator>(
     rt: &impl Abort,
     alloc: &'a A,
     class: Class,
-    seed: u32,
+    seed: u8,
 ) -> Table<'a, A> {
     assert!(rt; !class.left_out());
     let mut bytes = vec![in alloc; 0u8; cells(class) as usize]
@@ -25,27 +26,89 @@ fn table_of<'a, A: Allocator>(
         .expect(rt, "cells");
     let mut number = 0u32;
     for byte in &mut bytes {
-        *byte = ((number / 4096 + number % 4096 + seed) % 251) as u8;
-        number = number.saturating_add(1) % 100_000;
+        *byte = (number % 251) as u8 ^ seed;
+        number = number.wrapping_add(1);
     }
     assert!(rt; bytes.len() == cells(class) as usize);
     Table::from_cells(class, bytes)
 }
 
-/// The file of a table.
-fn text_of<'a, A: Allocator>(rt: &impl Abort, alloc: &'a A, table: &Table<'a, A>) -> Vec<u8, &'a A> {
-    let mut writer = MemoryWriter::new(alloc);
-    assert!(rt; write_table(table, &mut writer).is_ok());
-    writer.taken
+/// A file in memory.
+#[derive(Drop)]
+struct File {
+    text: Vec<u8>,
+    asked: u64,
+    /// Which question fails, counted from 0.
+    fails_at: Option<u64>,
+    failures: u64,
+    /// Which byte is turned, once a page was given.
+    turns: Option<usize>,
 }
 
-/// A source of a text, of which one question fails, if any.
-fn source(text: &[u8], fails_at: Option<u64>) -> MemorySource<'_> {
-    MemorySource {
-        text,
+impl File {
+    fn turn(&mut self, place: usize)
+        ensures { self.new.failures ≡ self.old.failures }
+    {
+        if let Some(byte) = self.text.as_mut_slice().get_mut(place) {
+            *byte ^= 1;
+        }
+    }
+
+    fn memory(&self) -> MemorySource<'_>
+        ensures { result.failures ≡ self.now.failures }
+    {
+        MemorySource {
+            text: self.text.as_slice(),
+            asked: self.asked,
+            fails_at: self.fails_at,
+            failures: self.failures,
+        }
+    }
+}
+
+impl PageSource for File {
+    ghost honest = { λ _ _. ⊥ };
+
+    ghost failed = { λ s. s.failures };
+
+    fn header(&mut self, into: &mut [u8; 64]) -> Result<(), SourceFault> {
+        let mut source = self.memory();
+        let answer = source.header(into);
+        let (asked, failures) = (source.asked, source.failures);
+        self.asked = asked;
+        self.failures = failures;
+        answer
+    }
+
+    fn page(&mut self, n: u32, into: &mut [u8; 4128]) -> Result<(), SourceFault> {
+        let mut source = self.memory();
+        let answer = source.page(n, into);
+        let (asked, failures) = (source.asked, source.failures);
+        self.asked = asked;
+        self.failures = failures;
+        if let Some(place) = self.turns {
+            self.turns = None;
+            self.turn(place);
+        }
+        answer
+    }
+
+    fn failures(&self) -> u64 {
+        self.failures
+    }
+}
+
+/// The file of a table.
+fn file_of<A: Allocator>(rt: &impl Abort, alloc: Global, table: &Table<'_, A>) -> File {
+    let mut writer = MemoryWriter::new(&alloc);
+    assert!(rt; write_table(table, &mut writer).is_ok());
+    let text = writer.taken.as_slice().to_vec(alloc);
+    File {
+        text: text.ok().expect(rt, "a text"),
         asked: 0,
-        fails_at,
+        fails_at: None,
         failures: 0,
+        turns: None,
     }
 }
 
@@ -62,16 +125,16 @@ fn position_on(rt: &impl Abort, class: Class, page: u32) -> Position {
 }
 
 /// A held table whose file is in memory.
-fn paged<'a, 't, A: Allocator>(
+fn paged<'a, A: Allocator>(
     rt: &impl Abort,
     alloc: &'a A,
     pages: u16,
     class: Class,
-    from: MemorySource<'t>,
-) -> PagedTables<'a, MemorySource<'t>, A> {
+    file: File,
+) -> PagedTables<'a, File, A> {
     assert!(rt; 1 <= pages && pages <= 4096);
     let mut tables = PagedTables::new(alloc, pages).ok().expect(rt, "a cache");
-    assert!(rt; tables.add(class, from).is_ok());
+    assert!(rt; tables.add(class, file).is_ok());
     tables
 }
 
@@ -85,8 +148,8 @@ fn king_and_rook_by_one_page(rt: HostRuntime) {
         let (table, _) = build(class, &set, room).ok().expect(&rt, "a table");
         assert!(rt; set.add(table).is_ok());
     }
-    let text = text_of(&rt, &alloc, set.table(Class::KRK).expect(&rt, "held"));
-    let mut tables = paged(&rt, &alloc, 1, Class::KRK, source(text.as_slice(), None));
+    let file = file_of(&rt, alloc, set.table(Class::KRK).expect(&rt, "held"));
+    let mut tables = paged(&rt, &alloc, 1, Class::KRK, file);
     let mut whole = WholeTables::new(set);
     let mut count = 0u64;
     for number in 0..81_920u32 {
@@ -106,8 +169,8 @@ fn king_and_rook_by_one_page(rt: HostRuntime) {
 fn no_table(rt: HostRuntime) {
     let alloc = rt.alloc();
     let table = table_of(&rt, &alloc, Class::KK, 0);
-    let text = text_of(&rt, &alloc, &table);
-    let mut tables = paged(&rt, &alloc, 3, Class::KK, source(text.as_slice(), None));
+    let file = file_of(&rt, alloc, &table);
+    let mut tables = paged(&rt, &alloc, 3, Class::KK, file);
     let mut whole = WholeTables::new(TableSet::new(&alloc).ok().expect(&rt, "a set"));
     assert!(rt; whole.add(table).is_ok());
     assert!(rt; whole.tables().has(Class::KK));
@@ -125,17 +188,14 @@ fn two_classes(rt: HostRuntime) {
     let alloc = rt.alloc();
     let rook = table_of(&rt, &alloc, Class::KRK, 0);
     let queen = table_of(&rt, &alloc, Class::KQK, 100);
-    let (rooks, queens) = (text_of(&rt, &alloc, &rook), text_of(&rt, &alloc, &queen));
     for room in [1, 2, 40] {
-        let first = source(rooks.as_slice(), None);
-        let mut tables = paged(&rt, &alloc, room, Class::KRK, first);
-        assert_eq!(rt; tables.add(Class::KQK, source(queens.as_slice(), None)), Ok(()));
+        let mut tables = paged(&rt, &alloc, room, Class::KRK, file_of(&rt, alloc, &rook));
+        assert_eq!(rt; tables.add(Class::KQK, file_of(&rt, alloc, &queen)), Ok(()));
         for page in [0, 7, 19, 7, 0] {
-            for (class, table) in [(Class::KRK, &rook), (Class::KQK, &queen)] {
-                let p = position_on(&rt, class, page);
-                assert!(rt; table.class() == class);
-                assert!(rt; is_value(&mut tables, table, &p), "{page} {class:?}");
-            }
+            let p = position_on(&rt, Class::KRK, page);
+            assert!(rt; is_value(&mut tables, &rook, &p), "{page}");
+            let q = position_on(&rt, Class::KQK, page);
+            assert!(rt; is_value(&mut tables, &queen, &q), "{page}");
         }
     }
 }
@@ -150,29 +210,38 @@ fn is_value<'a, A: Allocator, V: Values>(
     class == table.class() && values.value(p) == Ok(table.at(p))
 }
 
-/// Where memory is refused, it is the cache, then the source that find no room; each value is right all the same.
+/// Whether the values at some pages are right, the last of them again and again.
+fn are_values<'a, 'h, A: Allocator, H: Allocator>(
+    rt: &impl Abort,
+    tables: &mut PagedTables<'h, File, H>,
+    table: &Table<'a, A>,
+) -> bool {
+    let mut are_right = true;
+    for page in [0, 1, 2, 3, 4, 5, 0, 5, 19, 3] {
+        let p = position_on(rt, Class::KRK, page);
+        are_right = are_right && is_value(tables, table, &p);
+    }
+    are_right && tables.asked() == 10 && tables.failures() == 0
+}
+
+/// Where memory is refused, it is the cache, then the source that finds no room; each value is right all the same.
 #[test]
 fn refused_growths(rt: HostRuntime) {
     let alloc = rt.alloc();
     let table = table_of(&rt, &alloc, Class::KRK, 0);
-    let text = text_of(&rt, &alloc, &table);
     let (mut made, mut held) = (0u32, 0u32);
     for step in 0..120usize {
         let heap = LocalHeap::new(alloc, 64 + step * 256).ok().expect(&rt, "a heap");
         if let Ok(mut tables) = PagedTables::new(&heap, 4) {
             made = made.saturating_add(1);
-            match tables.add(Class::KRK, source(text.as_slice(), None)) {
+            match tables.add(Class::KRK, file_of(&rt, alloc, &table)) {
                 Err(fault) => {
                     assert_eq!(rt; fault, PagedFault::OutOfMemory);
                     assert!(rt; !tables.holds(Class::KRK));
                 }
                 Ok(()) => {
                     held = held.saturating_add(1);
-                    for page in [0, 1, 2, 3, 4, 5, 0, 5, 19, 3] {
-                        let p = position_on(&rt, Class::KRK, page);
-                        assert!(rt; is_value(&mut tables, &table, &p), "{step} {page}");
-                    }
-                    assert!(rt; tables.asked() == 10 && tables.failures() == 0);
+                    assert!(rt; are_values(&rt, &mut tables, &table), "{step}");
                 }
             }
         }
@@ -185,10 +254,10 @@ fn refused_growths(rt: HostRuntime) {
 fn a_page_is_not_read(rt: HostRuntime) {
     let alloc = rt.alloc();
     let table = table_of(&rt, &alloc, Class::KRK, 0);
-    let text = text_of(&rt, &alloc, &table);
     for bad in 0..20u32 {
-        let fails = source(text.as_slice(), Some(1 + u64::from(bad)));
-        let mut tables = paged(&rt, &alloc, 1, Class::KRK, fails);
+        let mut file = file_of(&rt, alloc, &table);
+        file.fails_at = Some(1 + u64::from(bad));
+        let mut tables = paged(&rt, &alloc, 1, Class::KRK, file);
         for page in 0..20u32 {
             let p = position_on(&rt, Class::KRK, page);
             if page == bad {
@@ -207,12 +276,10 @@ fn a_page_is_not_read(rt: HostRuntime) {
 fn a_page_is_damaged(rt: HostRuntime) {
     let alloc = rt.alloc();
     let table = table_of(&rt, &alloc, Class::KRK, 0);
-    let mut text = text_of(&rt, &alloc, &table);
-    if let Some(byte) = text.as_mut_slice().get_mut(64 + 4128 * 5 + 7) {
-        *byte ^= 1;
-    }
-    let (front, _) = text.as_slice().split_at(text.len().min(82_623));
-    let mut tables = paged(&rt, &alloc, 8, Class::KRK, source(front, None));
+    let mut file = file_of(&rt, alloc, &table);
+    file.turn(64 + 4128 * 5 + 7);
+    assert!(rt; file.text.pop().is_some());
+    let mut tables = paged(&rt, &alloc, 8, Class::KRK, file);
     for _ in 0..2u8 {
         for page in 0..20u32 {
             let p = position_on(&rt, Class::KRK, page);
@@ -226,48 +293,15 @@ fn a_page_is_damaged(rt: HostRuntime) {
     assert!(rt; tables.asked() == 40 && tables.failures() == 4);
 }
 
-/// A source that damages the first page that it gives.
-#[derive(Drop)]
-struct Mended<'t> {
-    source: MemorySource<'t>,
-    is_mended: bool,
-}
-
-impl<'t> PageSource for Mended<'t> {
-    ghost honest = { λ _ _. ⊥ };
-
-    ghost failed = { λ s. s.source.failures };
-
-    fn header(&mut self, into: &mut [u8; 64]) -> Result<(), SourceFault> {
-        self.source.header(into)
-    }
-
-    fn page(&mut self, n: u32, into: &mut [u8; 4128]) -> Result<(), SourceFault> {
-        self.source.page(n, into)?;
-        if !self.is_mended {
-            self.is_mended = true;
-            into[9] ^= 1;
-        }
-        Ok(())
-    }
-
-    fn failures(&self) -> u64 {
-        self.source.failures()
-    }
-}
-
 /// A damaged page is not kept: once its source gives it whole, its values are told.
 #[test]
 fn a_damaged_page_is_read_again(rt: HostRuntime) {
     let alloc = rt.alloc();
     let table = table_of(&rt, &alloc, Class::KK, 0);
-    let text = text_of(&rt, &alloc, &table);
-    let mut tables = PagedTables::new(&alloc, 2).ok().expect(&rt, "a cache");
-    let source = Mended {
-        source: source(text.as_slice(), None),
-        is_mended: false,
-    };
-    assert_eq!(rt; tables.add(Class::KK, source), Ok(()));
+    let mut file = file_of(&rt, alloc, &table);
+    file.turn(73);
+    file.turns = Some(73);
+    let mut tables = paged(&rt, &alloc, 2, Class::KK, file);
     let p = position_on(&rt, Class::KK, 0);
     assert_eq!(rt; tables.value(&p), Err(ProbeFault::PageDamaged(Class::KK, 0)));
     assert!(rt; is_value(&mut tables, &table, &p));
@@ -277,31 +311,32 @@ fn a_damaged_page_is_read_again(rt: HostRuntime) {
 
 /// The faults of a source in their order, each over a source that has those behind it too.
 #[test]
-fn sources_are_refused(rt: HostRuntime) -> Result<(), Fail> {
+fn sources_are_refused(rt: HostRuntime) {
     let alloc = rt.alloc();
-    let text = text_of(&rt, &alloc, &table_of(&rt, &alloc, Class::KRK, 0));
-    let mut wrong = text.as_slice().to_vec(&alloc)?;
-    if let Some(byte) = wrong.as_mut_slice().get_mut(3) {
-        *byte = 0;
-    }
-    let (good, wrong) = (text.as_slice(), wrong.as_slice());
-    let mut tables = paged(&rt, &alloc, 1, Class::KRK, source(good, None));
-    let (short, _) = good.split_at(good.len().min(63));
+    let table = table_of(&rt, &alloc, Class::KRK, 0);
+    let mut tables = paged(&rt, &alloc, 1, Class::KRK, file_of(&rt, alloc, &table));
     let device = PagedFault::TableRead(SourceFault::Device);
+    let not_a_table = PagedFault::Header(FileFault::NotATable);
     let rows = [
-        (Class::KRK, wrong, Some(0), PagedFault::AlreadyHeld(Class::KRK)),
-        (Class::KQK, wrong, Some(0), device),
-        (Class::KQK, short, None, PagedFault::TableRead(SourceFault::Short)),
-        (Class::KQK, wrong, None, PagedFault::Header(FileFault::NotATable)),
-        (Class::KQK, good, None, PagedFault::OtherClass(Class::KRK)),
-        (Class::KPKP, good, None, PagedFault::OtherClass(Class::KRK)),
+        (Class::KRK, true, Some(0), PagedFault::AlreadyHeld(Class::KRK)),
+        (Class::KQK, true, Some(0), device),
+        (Class::KQK, true, None, not_a_table),
+        (Class::KQK, false, None, PagedFault::OtherClass(Class::KRK)),
+        (Class::KPKP, false, None, PagedFault::OtherClass(Class::KRK)),
     ];
-    for (class, text, fails_at, fault) in rows {
-        assert_eq!(rt; tables.add(class, source(text, fails_at)), Err(fault));
+    for (class, is_wrong, fails_at, fault) in rows {
+        let mut file = file_of(&rt, alloc, &table);
+        file.fails_at = fails_at;
+        if is_wrong {
+            file.turn(3);
+        }
+        assert_eq!(rt; tables.add(class, file), Err(fault));
         assert!(rt; tables.holds(Class::KRK) && !tables.holds(Class::KQK));
     }
+    let mut short = file_of(&rt, alloc, &table);
+    short.text.truncate(63);
+    assert_eq!(rt; tables.add(Class::KQK, short), Err(PagedFault::TableRead(SourceFault::Short)));
     assert!(rt; tables.asked() == 0 && tables.failures() == 0);
-    Ok(())
 }
 
 /// Values that fail at their second question, and answer it when it is put again.
@@ -309,8 +344,7 @@ fn sources_are_refused(rt: HostRuntime) -> Result<(), Fail> {
 fn one_question_fails(rt: HostRuntime) {
     let alloc = rt.alloc();
     let table = table_of(&rt, &alloc, Class::KK, 0);
-    let text = text_of(&rt, &alloc, &table);
-    let tables = paged(&rt, &alloc, 1, Class::KK, source(text.as_slice(), None));
+    let tables = paged(&rt, &alloc, 1, Class::KK, file_of(&rt, alloc, &table));
     let mut values = FailingValues::new(tables, 1);
     let p = position_on(&rt, Class::KK, 0);
     assert!(rt; values.holds(Class::KK));
