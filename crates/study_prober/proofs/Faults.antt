@@ -60,3 +60,8 @@ fault_none honest source held c h r free same is told = fault_told honest source
 pub only_memory : {T : Type 0} (r : Result T PagedFault) → IsErrAnd r (λ fault. fault ≡ OutOfMemory) → IfErr r (λ fault. fault ≡ OutOfMemory)
 only_memory (Ok x) h = absurd h
 only_memory (Err fault) h = h
+
+-- a fault that was passed on
+pub passed_on : {T U E : Type 0} (r : Result T E) (e f : E) → IsErrAnd r (λ fault. fault ≡ e) → IsErrOf r f → IsErrOf {T = U} (Err e) f
+passed_on (Ok x) e f is told = absurd is
+passed_on {T} {U} {E} (Err fault) e f is told = let same : fault ≡ f = cc in let err : E → Result U E = λ x. Err x in ap err (sym is ∙ same)

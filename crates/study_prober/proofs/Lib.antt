@@ -4,3 +4,4 @@ pub mod Cells
 pub mod Faults
 pub mod Kept
 pub mod Probed
+pub mod Headers

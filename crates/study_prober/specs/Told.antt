@@ -32,3 +32,8 @@ abbrev pub IsTold : Result (List ℕ) SourceFault → Result Header PagedFault �
 IsTold (Err fault) answer = answer ≡ Err (TableRead fault)
 IsTold (Ok bytes) (Ok h) = class_read bytes ≡ Ok h.class
 IsTold (Ok bytes) (Err fault) = (e : FileFault) × (fault ≡ BadHeader e) × (class_read bytes ≡ Err e)
+
+-- what the question for a header comes to, of a source that is honest for a table of the class: its header, or a device's fault
+abbrev pub IsReadOf : Result Header PagedFault → Class → Type 0
+IsReadOf (Ok h) c = h.class ≡ c
+IsReadOf (Err fault) c = (f : SourceFault) × (fault ≡ TableRead f)

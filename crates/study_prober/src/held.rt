@@ -1,5 +1,5 @@
 //! Sources of pages, each with what its header says, and the cells of their tables.
-ghost use Rattle.std.specs.Prelude.{◌≡◌, ◌<◌, ◌/◌, ◌⊎◌, ℕ, List, Result, Ok, Err, true, IfOk, IfErr, OnOk, OnErr, IsErrOf, MatchResult, Contains, slice_index, length, if◌then◌else◌};
+ghost use Rattle.std.specs.Prelude.{◌≡◌, ◌<◌, ◌/◌, ◌⊎◌, ℕ, List, Result, Ok, Err, true, false, IfOk, IfErr, OnOk, OnErr, IsErrOf, MatchResult, Contains, slice_index, length, if◌then◌else◌};
 ghost use Rattle.study_material.specs.declared.class.Class.{Class as AClass};
 ghost use Rattle.study_retro.specs.Cells.{value_of};
 ghost use Rattle.study_retro.specs.Table.{Table as Seen, IsComplete, place_of};
@@ -7,9 +7,9 @@ ghost use Rattle.study_index.specs.Number.{cells_of};
 ghost use Rattle.study_tablefile.specs.declared.fault.SourceFault.{SourceFault as ASourceFault};
 ghost use Rattle.study_tablefile.specs.File.{pages_of};
 ghost use Rattle.study_tablefile.specs.Reading.{class_read};
-ghost use Rattle.study_tablefile.specs.Source.{counted, page_of};
+ghost use Rattle.study_tablefile.specs.Source.{counted, is_whole_page, page_of};
 ghost use Rattle.study_prober.specs.Sources.{AreHonestAlike, AreOf, IsHeaderOf, is_read_fault, page_cells_of};
-ghost use Rattle.study_prober.specs.Told.{MayTell, IsTold};
+ghost use Rattle.study_prober.specs.Told.{MayTell, IsReadOf, IsTold};
 
 use crate::cache::{PageKey, Pages, keep, kept_byte, place};
 use crate::fault::PagedFault;
@@ -31,6 +31,7 @@ pub fn header_of<S: PageSource>(source: &mut S) -> Result<Header, PagedFault>
     ensures count { OnOk result (S.failed source.new ≡ S.failed source.old) }
     ensures told { (told : Result (List ℕ) ASourceFault) × MayTell S.honest source.old told × IsTold told result }
     ensures header { IfOk result (λ h. IsHeaderOf h h.class) }
+    ensures reads { (t : Seen) → IsComplete t → S.honest source.old t → IsReadOf result t.class }
 {
     let mut bytes = [0; 64];
     source.header(&mut bytes)?;
@@ -46,7 +47,9 @@ impl<S: PageSource> Held<S> {
         ensures same { AreHonestAlike S.honest self.old.source self.new.source }
         ensures ok { (t : Seen) → S.honest self.old.source t → t.class ≡ self.old.header.class → OnOk result (into.new ≡ page_of t number) }
         ensures whole { (t : Seen) → S.honest self.old.source t → t.class ≡ self.old.header.class → IsComplete t → (c : AClass) (n : ℕ) → IsErrOf result (ProbeFault.PageDamaged c n) → ⊥ }
+        ensures checked { OnOk result (is_whole_page self.old.header.fields self.old.header.cells number into.new ≡ true) }
         ensures damaged { (c : AClass) (n : ℕ) → IsErrOf result (ProbeFault.PageDamaged c n) → (c ≡ self.old.header.class) × (n ≡ number) }
+        ensures not_whole { (c : AClass) (n : ℕ) → IsErrOf result (ProbeFault.PageDamaged c n) → is_whole_page self.old.header.fields self.old.header.cells number into.new ≡ false }
         ensures no_table { (c : AClass) → IsErrOf result (ProbeFault.NoTable c) → ⊥ }
         ensures failed { S.failed self.new.source ≡ (if is_read_fault result then counted (S.failed self.old.source) else S.failed self.old.source) }
     {

@@ -7,6 +7,7 @@ ghost use Rattle.study_retro.specs.Cells.{value_of};
 ghost use Rattle.study_retro.specs.Game.{IsValueOf};
 ghost use Rattle.study_retro.specs.Table.{Table as Seen, IsComplete, place_of};
 ghost use Rattle.study_tablefile.specs.Source.{counted};
+ghost use Rattle.study_tablefile.specs.declared.fault.FileFault.{FileFault as AFileFault};
 ghost use Rattle.study_tablefile.specs.declared.fault.SourceFault.{SourceFault as ASourceFault};
 ghost use Rattle.study_prober.specs.declared.held.Held.{Held as AHeld};
 ghost use Rattle.study_prober.specs.Sources.{AreHonestAlike, AreOf, GivesRight, IsHeaderOf, is_read_fault};
@@ -74,6 +75,11 @@ impl<'a, S: PageSource, A: Allocator> PagedTables<'a, S, A> {
         ensures fault { (told : Result (List ℕ) ASourceFault) × MayTell S.honest source told × MatchOption (paged_fault (is_some (held_of self.old.sources class)) class told) (IfErr result (λ e. e ≡ PagedFault.OutOfMemory)) (λ fault. IsErrOf result fault) }
         ensures added { OnOk result ((h : AHeld S) × IsHeaderOf h.header class × AreHonestAlike S.honest source h.source × (S.failed h.source ≡ S.failed source) × (self.new ≡ record self.old { sources = slice_set (places self.old.sources) (place_of class) (Some h) })) }
         ensures same { OnErr result (self.new ≡ self.old) }
+
+        // Of a source that is honest for a table the header is never refused, and a class is the table's.
+        ensures header { (t : Seen) (e : AFileFault) → IsComplete t → S.honest source t → IsErrOf result (PagedFault.Header e) → ⊥ }
+        ensures other { (t : Seen) (d : AClass) → IsComplete t → S.honest source t → IsErrOf result (PagedFault.OtherClass d) → d ≡ t.class }
+        ensures own { (t : Seen) → IsComplete t → S.honest source t → OnOk result (t.class ≡ class) }
         ensures honest { AreRight S.honest self.old.sources → GivesRight S.honest source class → OnOk result (AreRight S.honest self.new.sources) }
     {
         if self.holds(class) {

@@ -1,6 +1,7 @@
 use Rattle.std.proofs.Common.{◌≡◌, ℕ, List, take, get_or, rules, inl, inr, sym, ◌∙◌, ap, arith}
 use Rattle.std.proofs.lemmas.List.{get_or-take}
 use Rattle.study_retro.specs.Cells.{value_of}
+use Rattle.study_prober.proofs.Faults.{passed_on}
 use Rattle.study_prober.proofs.held.read_value.Goals as goal
 
 pub returns-clause-ok : goal.returns-clause-ok
@@ -14,3 +15,6 @@ returns-clause-more g c = λ e h.
       | inl was ↦ inl was
       | inr new ↦ inr (new.0, λ t honest same. new.1 ∙ ap (λ (bytes : List ℕ). take 4096 bytes) (c.in_ok-page.ensures.ok t honest same))
     ]
+
+pub returns-in_err-page-clause-whole : goal.returns-in_err-page-clause-whole
+returns-in_err-page-clause-whole g c = λ t honest same complete d n told. c.in_err-page.ensures.whole t honest same complete d n (passed_on c.from_residual.result _ _ c.from_residual.ensures.1 told)
