@@ -1,6 +1,6 @@
 -- Sources that are held, and the pages that are kept of them.
-use Rattle.std.proofs.Common.{◌≡◌, ◌≢◌, ℕ, zero, suc, ◌<◌, ◌≤◌, ◌⊎◌, inl, inr, Bool, true, false, List, [], ◌∷◌, length, get_or, set, replicate, refl, sym, ap, ◌∙◌, subst, arith, Contains}
-use Rattle.std.specs.Prelude.{Option, Some, None, is_some, ⊤}
+use Rattle.std.proofs.Common.{◌≡◌, ◌≢◌, ℕ, ◌<◌, ◌≤◌, ◌⊎◌, inl, inr, true, false, List, [], ◌∷◌, length, get_or, set, replicate, refl, sym, ap, ◌∙◌, subst, arith, Contains}
+use Rattle.std.specs.Prelude.{Option, Some, None, is_some}
 use Rattle.std.proofs.lemmas.List.{get_or-set_same, get_or-set_other, length-set, length-replicate, get_or-replicate, get_or_past, get_or_default}
 use Rattle.std.proofs.lemmas.Bool.{cases_lt, false≢true}
 use Rattle.study_material.specs.declared.class.Class.{Class}
@@ -8,7 +8,7 @@ use Rattle.study_retro.specs.Table.{Table, place_of}
 use Rattle.study_retro.proofs.SetLemmas.{place_of-injective}
 use Rattle.study_prober.specs.declared.cache.PageKey.{PageKey}
 use Rattle.study_prober.specs.declared.held.Held.{Held}
-use Rattle.study_prober.specs.Sources.{IsHeaderOf, AreOf, GivesRight, AreHonestAlike, page_cells_of}
+use Rattle.study_prober.specs.Sources.{IsHeaderOf, GivesRight, AreHonestAlike, page_cells_of}
 use Rattle.study_prober.specs.Paged.{held_of, places, IsKept, AreRight, IsSameSource}
 
 pub same_class : (c d : Class) → (c ≡ d) ⊎ (place_of c ≢ place_of d)
@@ -207,15 +207,19 @@ module _ {S : Type 0} where
             | inr far ↦ was.header d j far.1
           ];
           held = λ e d i at. is_held_after (places xs) c d k room (ap (λ (o : Option (Held S)). is_some o) (held_placed xs d) ∙ was.held e d i at);
-          right = λ d j t e gives of. record { is = λ page i at. elim (either d j e) [
-            | inl same ↦ absurd (false≢true (sym none ∙ was.held page c i (at ∙ ap place_of (of ∙ sym same.0))))
-            | inr far ↦ (was.right d j t far.1 gives of).is page i at
-          ] };
+          right = λ d j t e gives of. record {
+            is = λ page i at. elim (either d j e) [
+              | inl same ↦ absurd (false≢true (sym none ∙ was.held page c i (at ∙ ap place_of (of ∙ sym same.0))))
+              | inr far ↦ (was.right d j t far.1 gives of).is page i at
+            ];
+          };
         }
 
         pub right_with : AreRight honest xs → GivesRight honest k.source c → AreRight honest (set (places xs) (place_of c) (Some k))
         unfolding zs
-        right_with all right = record { right = λ d j e. elim (either d j e) [
-          | inl same ↦ subst (λ (x : Held S). GivesRight honest x.source d) same.1 (subst (λ (x : Class). GivesRight honest k.source x) same.0 right)
-          | inr far ↦ all.right d j far.1
-        ] }
+        right_with all right = record {
+          right = λ d j e. elim (either d j e) [
+            | inl same ↦ subst (λ (x : Held S). GivesRight honest x.source d) same.1 (subst (λ (x : Class). GivesRight honest k.source x) same.0 right)
+            | inr far ↦ all.right d j far.1
+          ];
+        }

@@ -1,6 +1,6 @@
 -- What a probe tells of the source that it asked.
-use Rattle.std.proofs.Common.{◌≡◌, ℕ, ◌<◌, ◌%◌, ◌/◌, Bool, List, length, set, get_or, refl, sym, ap, ◌∙◌, subst}
-use Rattle.std.specs.Prelude.{Option, Some, None, Result, Ok, Err, IfOk, IsErrOf, if◌then◌else◌}
+use Rattle.std.proofs.Common.{◌≡◌, ℕ, ◌<◌, List, length, set, get_or, refl, sym, ap, ◌∙◌, subst}
+use Rattle.std.specs.Prelude.{Option, Some, Result, Ok, Err, IfOk, IsErrOf, if◌then◌else◌}
 use Rattle.study_board.specs.Position.{Position, IsValid}
 use Rattle.study_material.specs.declared.class.Class.{Class}
 use Rattle.study_material.specs.Class.{IsOf}
@@ -18,8 +18,8 @@ use Rattle.study_tablefile.specs.Source.{counted}
 use Rattle.study_prober.specs.declared.cache.PageKey.{PageKey}
 use Rattle.study_prober.specs.declared.held.Held.{Held}
 use Rattle.study_prober.specs.declared.values.ProbeFault.{ProbeFault}
-use Rattle.study_prober.specs.declared.values.ProbeFault.TheVariants.{NoTable, PageDamaged}
-use Rattle.study_prober.specs.Sources.{IsHeaderOf, AreOf, GivesRight, is_read_fault}
+use Rattle.study_prober.specs.declared.values.ProbeFault.TheVariants.{PageDamaged}
+use Rattle.study_prober.specs.Sources.{IsHeaderOf, AreOf, is_read_fault}
 use Rattle.study_prober.specs.Paged.{held_of, IsKept, AreRight}
 use Rattle.study_prober.proofs.Kept.{held_same, some_same}
 

@@ -1,12 +1,10 @@
 -- Paged tables as a contract sees them.
-use Rattle.std.specs.Prelude.{◌≡◌, ◌≢◌, ℕ, List, length, slice_index_or, replicate, Contains, Bool, true, is_some, Option, Some, None, [], ◌∷◌, ⊤, Result, Ok, Err}
+use Rattle.std.specs.Prelude.{◌≡◌, ◌≢◌, ℕ, List, length, slice_index_or, replicate, Contains, true, is_some, Option, Some, None, [], ◌∷◌, ⊤}
 use Rattle.study_material.specs.declared.class.Class.{Class}
 use Rattle.study_retro.specs.Table.{Table, place_of}
-use Rattle.study_tablefile.specs.Source.{counted}
 use Rattle.study_prober.specs.declared.cache.PageKey.{PageKey}
 use Rattle.study_prober.specs.declared.held.Held.{Held}
-use Rattle.study_prober.specs.declared.values.ProbeFault.{ProbeFault}
-use Rattle.study_prober.specs.Sources.{IsHeaderOf, AreOf, GivesRight, AreHonestAlike, is_read_fault}
+use Rattle.study_prober.specs.Sources.{IsHeaderOf, AreOf, GivesRight, AreHonestAlike}
 
 -- the sources, each at the place of its class, the pages that are kept, the last used first, and how many there may be
 pub record Paged (S : Type 0) : Type 0 where

@@ -1,5 +1,5 @@
 -- Sources of pages, and the cells of their tables' pages.
-use Rattle.std.specs.Prelude.{◌≡◌, ℕ, List, take, Contains, Bool, true, false, ⊤, Option, Some, None, Result, Ok, Err}
+use Rattle.std.specs.Prelude.{◌≡◌, ℕ, List, take, Contains, Bool, true, false, Result, Ok, Err}
 use Rattle.study_material.specs.declared.class.Class.{Class}
 use Rattle.study_material.specs.Class.{is_left_out}
 use Rattle.study_index.specs.Number.{cells_of}

@@ -26,11 +26,7 @@ pub fn place(class: Class) -> u8
 }
 
 /// A cell of a page that is kept.
-pub fn kept_byte<'a, A: Allocator>(
-    pages: &mut Pages<'a, A>,
-    key: PageKey,
-    at: usize,
-) -> Option<u8>
+pub fn kept_byte<'a, A: Allocator>(pages: &mut Pages<'a, A>, key: PageKey, at: usize) -> Option<u8>
     ensures found { IfSome result (λ x. (v : _) × Contains pages.old.entries (key, v) × (x ≡ slice_index v.items at)) }
     ensures fewer { (e : _) → Contains pages.new.entries e → Contains pages.old.entries e }
     ensures room { pages.new.cap ≡ pages.old.cap }

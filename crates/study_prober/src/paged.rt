@@ -96,9 +96,7 @@ impl<'a, S: PageSource, A: Allocator> PagedTables<'a, S, A> {
 }
 
 /// So many places without a source as there are classes.
-fn no_sources<'a, S, A: Allocator>(
-    alloc: &'a A,
-) -> Result<Vec<Option<Held<S>>, &'a A>, AllocError>
+fn no_sources<'a, S, A: Allocator>(alloc: &'a A) -> Result<Vec<Option<Held<S>>, &'a A>, AllocError>
     ensures { IfOk result (λ v. v.items ≡ replicate 36 None) }
 {
     let mut places = Vec::with_capacity(alloc, 36)?;

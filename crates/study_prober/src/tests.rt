@@ -144,7 +144,9 @@ fn king_and_rook_by_one_page(rt: HostRuntime) {
     let alloc = rt.alloc();
     let mut set = TableSet::new(&alloc).ok().expect(&rt, "a set");
     for class in [Class::KK, Class::KRK] {
-        let room = BuildRoom::new(&alloc, cells(class)).ok().expect(&rt, "room");
+        let room = BuildRoom::new(&alloc, cells(class))
+            .ok()
+            .expect(&rt, "room");
         let (table, _) = build(class, &set, room).ok().expect(&rt, "a table");
         assert!(rt; set.add(table).is_ok());
     }
@@ -231,7 +233,9 @@ fn refused_growths(rt: HostRuntime) {
     let table = table_of(&rt, &alloc, Class::KRK, 0);
     let (mut made, mut held) = (0u32, 0u32);
     for step in 0..120usize {
-        let heap = LocalHeap::new(alloc, 64 + step * 256).ok().expect(&rt, "a heap");
+        let heap = LocalHeap::new(alloc, 64 + step * 256)
+            .ok()
+            .expect(&rt, "a heap");
         if let Ok(mut tables) = PagedTables::new(&heap, 4) {
             made = made.saturating_add(1);
             match tables.add(Class::KRK, file_of(&rt, alloc, &table)) {
@@ -246,7 +250,10 @@ fn refused_growths(rt: HostRuntime) {
             }
         }
     }
-    assert!(rt; 0 < held && held < made && made < 120, "{made} made, {held} held");
+    assert!(rt;
+        0 < held && held < made && made < 120,
+        "{made} made, {held} held"
+    );
 }
 
 /// A source that fails at one page: the fault is told and counted, and the same question is answered next.
@@ -284,8 +291,14 @@ fn a_page_is_damaged(rt: HostRuntime) {
         for page in 0..20u32 {
             let p = position_on(&rt, Class::KRK, page);
             match page {
-                5 => assert_eq!(rt; tables.value(&p), Err(ProbeFault::PageDamaged(Class::KRK, 5))),
-                19 => assert_eq!(rt; tables.value(&p), Err(ProbeFault::TableRead(SourceFault::Short))),
+                5 => assert_eq!(rt;
+                    tables.value(&p),
+                    Err(ProbeFault::PageDamaged(Class::KRK, 5))
+                ),
+                19 => assert_eq!(rt;
+                    tables.value(&p),
+                    Err(ProbeFault::TableRead(SourceFault::Short))
+                ),
                 _ => assert!(rt; is_value(&mut tables, &table, &p), "{page}"),
             }
         }
@@ -303,7 +316,10 @@ fn a_damaged_page_is_read_again(rt: HostRuntime) {
     file.turns = Some(73);
     let mut tables = paged(&rt, &alloc, 2, Class::KK, file);
     let p = position_on(&rt, Class::KK, 0);
-    assert_eq!(rt; tables.value(&p), Err(ProbeFault::PageDamaged(Class::KK, 0)));
+    assert_eq!(rt;
+        tables.value(&p),
+        Err(ProbeFault::PageDamaged(Class::KK, 0))
+    );
     assert!(rt; is_value(&mut tables, &table, &p));
     assert!(rt; is_value(&mut tables, &table, &p));
     assert!(rt; tables.asked() == 3 && tables.failures() == 1);
@@ -318,7 +334,12 @@ fn sources_are_refused(rt: HostRuntime) {
     let device = PagedFault::TableRead(SourceFault::Device);
     let not_a_table = PagedFault::Header(FileFault::NotATable);
     let rows = [
-        (Class::KRK, true, Some(0), PagedFault::AlreadyHeld(Class::KRK)),
+        (
+            Class::KRK,
+            true,
+            Some(0),
+            PagedFault::AlreadyHeld(Class::KRK),
+        ),
         (Class::KQK, true, Some(0), device),
         (Class::KQK, true, None, not_a_table),
         (Class::KQK, false, None, PagedFault::OtherClass(Class::KRK)),
@@ -335,7 +356,10 @@ fn sources_are_refused(rt: HostRuntime) {
     }
     let mut short = file_of(&rt, alloc, &table);
     short.text.truncate(63);
-    assert_eq!(rt; tables.add(Class::KQK, short), Err(PagedFault::TableRead(SourceFault::Short)));
+    assert_eq!(rt;
+        tables.add(Class::KQK, short),
+        Err(PagedFault::TableRead(SourceFault::Short))
+    );
     assert!(rt; tables.asked() == 0 && tables.failures() == 0);
 }
 

@@ -1,4 +1,4 @@
-use Rattle.std.proofs.Common.{◌≡◌, rules, refl, inl, inr, sym, ◌∙◌, Contains, ◌⊎◌, ap, subst, arith}
+use Rattle.std.proofs.Common.{inl, inr, sym, ◌∙◌, Contains, ap, subst}
 use Rattle.lru.proofs.CallerLemmas.{Contains-put_entries}
 use Rattle.study_prober.specs.contracts.cache.PageKeyPartialEq.TheImpl.{eq-value}
 use Rattle.study_prober.proofs.Keys.{same_key-is}

@@ -1,5 +1,4 @@
-use Rattle.std.proofs.Common.{◌≡◌, rules, refl, inl, inr, sym, ◌∙◌, Contains, ◌⊎◌, ap, subst, arith, Some}
-use Rattle.std.proofs.lemmas.Grind.{common_steps}
+use Rattle.std.proofs.Common.{◌≡◌, rules, sym, Contains, subst, Some}
 use Rattle.std.specs.Map.{lookup}
 use Rattle.lru.proofs.CallerLemmas.{Contains-promoted, Contains-lookup}
 use Rattle.study_prober.specs.contracts.cache.PageKeyPartialEq.TheImpl.{eq-value}

@@ -1,4 +1,4 @@
-use Rattle.std.proofs.Common.{◌≡◌, rules, refl, Ok, Err}
+use Rattle.std.proofs.Common.{rules, Ok, Err}
 use Rattle.study_prober.proofs.Faults.{bad_header}
 use Rattle.study_prober.proofs.Headers.{fault_read, never_bad, read_of}
 use Rattle.study_prober.proofs.held.header_of.Goals as goal

@@ -1,4 +1,4 @@
-use Rattle.std.proofs.Common.{◌≡◌, ℕ, List, take, get_or, rules, inl, inr, sym, ◌∙◌, ap, arith}
+use Rattle.std.proofs.Common.{ℕ, List, take, get_or, inl, inr, sym, ◌∙◌, ap}
 use Rattle.std.proofs.lemmas.List.{get_or-take}
 use Rattle.study_retro.specs.Cells.{value_of}
 use Rattle.study_prober.proofs.Faults.{passed_on}

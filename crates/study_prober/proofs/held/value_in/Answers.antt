@@ -1,4 +1,4 @@
-use Rattle.std.proofs.Common.{◌≡◌, ℕ, List, get_or, rules, inl, inr, sym, ◌∙◌, ap, subst, ◌/◌, ◌%◌}
+use Rattle.std.proofs.Common.{ℕ, List, get_or, inl, inr, sym, ◌∙◌, ap, ◌%◌}
 use Rattle.study_retro.specs.Cells.{value_of}
 use Rattle.study_retro.specs.Table.{place_of}
 use Rattle.study_prober.specs.Sources.{page_cells_of}

@@ -1,4 +1,4 @@
-use Rattle.std.proofs.Common.{◌≡◌, ◌/◌, ◌<◌, ℕ, Some, rules, sym, ◌∙◌, ap, subst, List, Option}
+use Rattle.std.proofs.Common.{◌≡◌, ◌/◌, ℕ, rules, sym, ◌∙◌, ap, subst}
 use Rattle.study_material.specs.declared.class.Class.{Class}
 use Rattle.study_material.specs.Class.{IsOf}
 use Rattle.study_prober.proofs.Kept.{header_own, kept_after, same_after, held_at}

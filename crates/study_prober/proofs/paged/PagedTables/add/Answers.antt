@@ -1,12 +1,10 @@
-use Rattle.std.proofs.Common.{◌≡◌, rules, refl, sym, ◌∙◌, ap, subst, false, ◌<◌, ℕ, List, Option, Some}
+use Rattle.std.proofs.Common.{rules, refl, sym, ◌∙◌, ap, subst, ◌<◌, ℕ}
 use Rattle.std.specs.Prelude.{is_some, Ok}
-use Rattle.std.specs.Prelude.{slice_set}
 use Rattle.study_material.specs.declared.class.Class.{Class}
 use denote.Enum.Bare.{differs_true, differs_false}
 use Rattle.study_material.specs.contracts.class.Class.{the_type}
-use Rattle.study_prober.specs.declared.held.Held.{Held}
-use Rattle.study_prober.specs.Sources.{IsHeaderOf, GivesRight}
-use Rattle.study_prober.specs.Paged.{Paged, held_of, places, AreRight, IsKept}
+use Rattle.study_prober.specs.Sources.{IsHeaderOf}
+use Rattle.study_prober.specs.Paged.{Paged, held_of, AreRight}
 use Rattle.study_prober.proofs.Faults.{fault_held, fault_other, fault_none, only_memory}
 use Rattle.study_prober.proofs.Kept.{kept_with, right_with, gives_more}
 use Rattle.study_prober.proofs.paged.PagedTables.add.Goals as goal
@@ -38,8 +36,7 @@ returns-clause-fault g c =
 
 pub returns-clause-added : goal.returns-clause-added
 returns-clause-added g c =
-    let of_class = differs_false the_type (search rules) c.in_ok-header.header.class c.args.class (sym c.ne.ensures ∙ c.if-ne.false) in
-    (
+    let of_class = differs_false the_type (search rules) c.in_ok-header.header.class c.args.class (sym c.ne.ensures ∙ c.if-ne.false) in (
       record { header = c.in_ok-header.header; source = c.header_of.new.source },
       subst (λ (x : Class). IsHeaderOf c.in_ok-header.header x) of_class c.in_ok-header.ensures.header,
       c.in_ok-header.ensures.same,

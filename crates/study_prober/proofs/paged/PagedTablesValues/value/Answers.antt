@@ -1,4 +1,4 @@
-use Rattle.std.proofs.Common.{◌≡◌, rules, sym, ◌∙◌, ap, subst, List, Option}
+use Rattle.std.proofs.Common.{◌∙◌, ap}
 use Rattle.study_prober.specs.Paged.{Paged, held_of}
 use Rattle.study_prober.proofs.Kept.{no_table_by, stays_right_at}
 use Rattle.study_prober.proofs.paged.PagedTablesValues.value.Goals as goal
