@@ -29,6 +29,7 @@ if [ "$1" = tables ]; then
     "$plain" tables KRKN >> "$work/theirs"
 fi
 "$ours" files > "$work/files"
+"$ours" probes > "$work/probes"
 
 # The best time of each name and label, and the sum of the last.
 awk 'FILENAME == ARGV[1] { if (!($1 " " $2 in theirs) || $3 < theirs[$1 " " $2]) theirs[$1 " " $2] = $3; sum[$1 " " $2] = $4; next }
@@ -50,4 +51,9 @@ awk '{ each[$1] = $3 }
              if (name != "sha256")
                  printf "%-12s %9.3f ns   SHA-256 %9.3f ns   ratio %.2f\n", name, each[name] / 1e3, each["sha256"] / 1e3, each[name] / each["sha256"]
      }' "$work/files"
-# The probes of a table file through a cache of pages belong here, once there is such a cache.
+awk '{ each[$1] = $3; sum[$1] = $4 }
+     END {
+         print "A probe of KRK through a cache that keeps each page, beside one of the whole table:"
+         printf "%-12s %9.3f ns   whole table %9.3f ns   ratio %.2f%s\n", "paged", each["paged"] / 1e3, each["whole"] / 1e3,
+             each["paged"] / each["whole"], sum["paged"] == sum["whole"] ? "" : "   SUMS DIFFER"
+     }' "$work/probes"

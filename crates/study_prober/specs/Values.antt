@@ -1,12 +1,8 @@
--- Counts, and which answers tell of a device's fault.
-use Rattle.std.specs.Prelude.{ℕ, ◌+◌, ◌-◌, ◌^◌, min, Bool, true, false, Result, Ok, Err}
+-- Which answers tell of a device's fault.
+use Rattle.std.specs.Prelude.{Bool, true, false, Result, Ok, Err}
 use Rattle.study_retro.specs.declared.value.Value.{Value}
 use Rattle.study_prober.specs.declared.values.ProbeFault.{ProbeFault}
 use Rattle.study_prober.specs.declared.values.ProbeFault.TheVariants.{NoTable, TableRead, PageDamaged}
-
--- one more, up to the last value of a count
-abbrev pub counted : ℕ → ℕ
-counted n = min (n + 1) (2 ^ 64 - 1)
 
 -- a page was not read, or was damaged
 abbrev pub is_device_fault : Result Value ProbeFault → Bool

@@ -15,7 +15,7 @@ use crate::cache::{PageKey, Pages, keep, kept_byte, place};
 use crate::fault::PagedFault;
 use crate::values::ProbeFault;
 use std::alloc::Allocator;
-use study_retro::Value;
+use study_retro::{Value, value_at};
 use study_tablefile::{Header, PageSource, page_cells, read_header};
 
 /// A source of pages, and what its header says.
@@ -59,19 +59,6 @@ impl<S: PageSource> Held<S> {
         } else {
             Err(ProbeFault::PageDamaged(self.header.class, number))
         }
-    }
-}
-
-/// The value that a cell tells.
-fn value_at(cell: u8) -> Value
-    ensures { result ≡ value_of cell }
-{
-    if cell == 0 {
-        Value::Draw
-    } else if cell % 2 == 1 {
-        Value::Loss(cell - 1)
-    } else {
-        Value::Win(cell - 1)
     }
 }
 

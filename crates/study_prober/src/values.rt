@@ -3,7 +3,8 @@ ghost use Rattle.std.specs.Prelude.{◌≡◌, ◌↔◌, ℕ, Bool, false, IfOk
 ghost use Rattle.study_material.specs.declared.class.Class.{Class as AClass};
 ghost use Rattle.study_material.specs.Class.{IsOf};
 ghost use Rattle.study_retro.specs.Game.{IsValueOf};
-ghost use Rattle.study_prober.specs.Values.{counted, is_device_fault};
+ghost use Rattle.study_tablefile.specs.Source.{counted};
+ghost use Rattle.study_prober.specs.Values.{is_device_fault};
 
 use study_board::Position;
 use study_material::Class;

@@ -9,6 +9,7 @@ mod building;
 mod calls;
 mod files;
 mod numbers;
+mod probes;
 mod samples;
 mod timed;
 
@@ -30,8 +31,9 @@ fn measure(rt: HostRuntime, what: &str, name: &str) -> io::Result<()> {
         "calls" => calls::measure(rt),
         "numbers" => numbers::measure(rt),
         "files" => files::measure(rt),
+        "probes" => probes::measure(rt),
         "tables" => measure_tables(rt, name),
-        _ => println!(rt; "calls, numbers, files, or tables and a class"),
+        _ => println!(rt; "calls, numbers, files, probes, or tables and a class"),
     }
 }
 

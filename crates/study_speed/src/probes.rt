@@ -12,7 +12,7 @@ use study_material::{Class, order};
 use study_prober::{PagedTables, Values, WholeTables};
 use study_retro::{BuildRoom, TableSet, build};
 use study_tablefile::memory::MemorySource;
-use study_tablefile::{file_bytes, write_table};
+use study_tablefile::{PageSource, file_bytes, write_table};
 
 /// The plies to mate of all positions.
 fn probe<V: Values>(values: &mut V, positions: &[Position]) -> u64 {
@@ -69,6 +69,21 @@ fn tables_of<'a, A: Allocator>(alloc: &'a A, class: Class) -> io::Result<TableSe
     Ok(tables)
 }
 
+/// Times probes through pages that are all kept.
+fn time_pages<S: PageSource, A: Allocator>(
+    rt: HostRuntime,
+    alloc: &A,
+    class: Class,
+    source: S,
+    positions: &[Position],
+) -> io::Result<()> {
+    let mut paged = PagedTables::new(alloc, 64)?;
+    if paged.add(class, source).is_err() {
+        return println!(rt; "no source");
+    }
+    time(rt, "paged", &mut paged, positions)
+}
+
 /// Times probes of all positions of a class: of the whole table, and through pages that are all kept.
 pub fn measure(rt: HostRuntime) -> io::Result<()> {
     let alloc = rt.alloc();
@@ -80,16 +95,17 @@ pub fn measure(rt: HostRuntime) -> io::Result<()> {
     };
     let _written = write_table(table, &mut file);
     let positions = positions_of(&alloc, class)?;
-    time(rt, "whole", &mut WholeTables::new(tables), positions.as_slice())?;
-    let mut paged = PagedTables::new(&alloc, 64)?;
+    time(
+        rt,
+        "whole",
+        &mut WholeTables::new(tables),
+        positions.as_slice(),
+    )?;
     let source = MemorySource {
         text: file.as_slice(),
         asked: 0,
         fails_at: None,
         failures: 0,
     };
-    if paged.add(class, source).is_err() {
-        return println!(rt; "no source");
-    }
-    time(rt, "paged", &mut paged, positions.as_slice())
+    time_pages(rt, &alloc, class, source, positions.as_slice())
 }
