@@ -1,13 +1,15 @@
 -- Sources of pages, and the cells of their tables' pages.
-use Rattle.std.specs.Prelude.{◌≡◌, ℕ, List, take, Contains, Bool, true, false, Result, Ok, Err}
+use Rattle.std.specs.Prelude.{◌≡◌, ℕ, ◌/◌, ◌%◌, List, ◌++◌, slice_index, take, Contains, Bool, true, false, Result, Ok, Err}
 use Rattle.study_material.specs.declared.class.Class.{Class}
 use Rattle.study_material.specs.Class.{is_left_out}
 use Rattle.study_index.specs.Number.{cells_of}
 use Rattle.study_retro.specs.Table.{Table, IsComplete, place_of}
 use Rattle.study_retro.specs.Sound.{IsRight}
+use Rattle.study_retro.specs.Cells.{value_of}
+use Rattle.study_retro.specs.declared.value.Value.{Value}
 use Rattle.study_tablefile.specs.declared.source.Header.{Header}
 use Rattle.study_tablefile.specs.File.{fields_text}
-use Rattle.study_tablefile.specs.Source.{page_of}
+use Rattle.study_tablefile.specs.Source.{page_of, is_whole_page}
 use Rattle.study_prober.specs.declared.cache.PageKey.{PageKey}
 use Rattle.study_prober.specs.declared.values.ProbeFault.{ProbeFault}
 use Rattle.study_prober.specs.declared.values.ProbeFault.TheVariants.{NoTable, TableRead, PageDamaged}
@@ -22,6 +24,14 @@ pub record IsHeaderOf (h : Header) (c : Class) : Type 0 where
 -- the cells of page n of a table's file
 abbrev pub page_cells_of : Table → ℕ → List ℕ
 page_cells_of t n = take 4096 (page_of t n)
+
+-- the cells stand in a page n that passes the check of the class's file
+abbrev pub AreChecked : Class → ℕ → List ℕ → Type 0
+AreChecked c n cells = (digest : List ℕ) × (is_whole_page (fields_text c) (cells_of c) n (cells ++ digest) ≡ true)
+
+-- the value stands at a number of the class, in a page that passes the check
+abbrev pub IsReadOff : Class → ℕ → Value → Type 0
+IsReadOff c n v = (cells : List ℕ) × AreChecked c (n / 4096) cells × (v ≡ value_of (slice_index cells (n % 4096)))
 
 -- the pages of a table's class that are kept are the table's
 pub record AreOf {V : Type 0} (cells : V → List ℕ) (kept : List (PageKey × V)) (t : Table) : Type 0 where

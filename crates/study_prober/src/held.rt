@@ -8,7 +8,7 @@ ghost use Rattle.study_tablefile.specs.declared.fault.SourceFault.{SourceFault a
 ghost use Rattle.study_tablefile.specs.File.{pages_of};
 ghost use Rattle.study_tablefile.specs.Reading.{class_read};
 ghost use Rattle.study_tablefile.specs.Source.{counted, is_whole_page, page_of};
-ghost use Rattle.study_prober.specs.Sources.{AreHonestAlike, AreOf, IsHeaderOf, is_read_fault, page_cells_of};
+ghost use Rattle.study_prober.specs.Sources.{AreChecked, IsReadOff, AreHonestAlike, AreOf, IsHeaderOf, is_read_fault, page_cells_of};
 ghost use Rattle.study_prober.specs.Told.{MayTell, IsReadOf, IsTold};
 
 use crate::cache::{PageKey, Pages, keep, kept_byte, place};
@@ -81,7 +81,8 @@ fn read_value<'a, S: PageSource, A: Allocator>(
     ensures damaged { (c : AClass) (n : ℕ) → IsErrOf result (ProbeFault.PageDamaged c n) → (c ≡ held.old.header.class) × (n ≡ key.number) }
     ensures no_table { (c : AClass) → IsErrOf result (ProbeFault.NoTable c) → ⊥ }
     ensures failed { S.failed held.new.source ≡ (if is_read_fault result then counted (S.failed held.old.source) else S.failed held.old.source) }
-    ensures more { (e : _) → Contains pages.new.entries e → Contains pages.old.entries e ⊎ ((e.0 ≡ key) × ((t : Seen) → S.honest held.old.source t → t.class ≡ held.old.header.class → e.1.items ≡ page_cells_of t key.number)) }
+    ensures more { (e : _) → Contains pages.new.entries e → Contains pages.old.entries e ⊎ ((e.0 ≡ key) × ((t : Seen) → S.honest held.old.source t → t.class ≡ held.old.header.class → e.1.items ≡ page_cells_of t key.number) × AreChecked held.old.header.class key.number e.1.items) }
+    ensures read { IfOk result (λ v. (cells : List ℕ) × AreChecked held.old.header.class key.number cells × (v ≡ value_of (slice_index cells at))) }
 {
     let mut page = [0; 4128];
     held.page(key.number, &mut page)?;
@@ -106,7 +107,8 @@ pub fn value_in<'a, S: PageSource, A: Allocator>(
     ensures damaged { (c : AClass) (n : ℕ) → IsErrOf result (ProbeFault.PageDamaged c n) → (c ≡ held.old.header.class) × (n ≡ number / 4096) }
     ensures no_table { (c : AClass) → IsErrOf result (ProbeFault.NoTable c) → ⊥ }
     ensures failed { S.failed held.new.source ≡ (if is_read_fault result then counted (S.failed held.old.source) else S.failed held.old.source) }
-    ensures more { (e : _) → Contains pages.new.entries e → Contains pages.old.entries e ⊎ ((e.0.class ≡ place_of held.old.header.class) × ((t : Seen) → S.honest held.old.source t → t.class ≡ held.old.header.class → e.1.items ≡ page_cells_of t e.0.number)) }
+    ensures more { (e : _) → Contains pages.new.entries e → Contains pages.old.entries e ⊎ ((e.0.class ≡ place_of held.old.header.class) × ((t : Seen) → S.honest held.old.source t → t.class ≡ held.old.header.class → e.1.items ≡ page_cells_of t e.0.number) × AreChecked held.old.header.class e.0.number e.1.items) }
+    ensures read { ((e : _) → Contains pages.old.entries e → e.0.class ≡ place_of held.old.header.class → AreChecked held.old.header.class e.0.number e.1.items) → IfOk result (IsReadOff held.old.header.class number) }
 {
     let key = PageKey {
         class: place(held.header.class),

@@ -10,7 +10,7 @@ ghost use Rattle.study_tablefile.specs.Source.{counted};
 ghost use Rattle.study_tablefile.specs.declared.fault.FileFault.{FileFault as AFileFault};
 ghost use Rattle.study_tablefile.specs.declared.fault.SourceFault.{SourceFault as ASourceFault};
 ghost use Rattle.study_prober.specs.declared.held.Held.{Held as AHeld};
-ghost use Rattle.study_prober.specs.Sources.{AreHonestAlike, AreOf, GivesRight, IsHeaderOf, is_read_fault};
+ghost use Rattle.study_prober.specs.Sources.{AreHonestAlike, AreOf, IsReadOff, GivesRight, IsHeaderOf, is_read_fault};
 ghost use Rattle.study_prober.specs.Paged.{AreRight, IsKept, IsSameSource, held_of, places};
 ghost use Rattle.study_prober.specs.Values.{is_device_fault};
 ghost use Rattle.study_prober.specs.Told.{MayTell, paged_fault};
@@ -135,6 +135,7 @@ fn probe<'a, S: PageSource, A: Allocator>(
     ensures told { (c : AClass) (h : AHeld S) (t : Seen) → IsOf c p.now → held_of sources.old.items c ≡ Some h → S.honest h.source t → t.class ≡ c → IfOk result (λ v. v ≡ value_of (slice_index t.cells (index_of p.now))) }
     ensures whole { (c : AClass) (h : AHeld S) (t : Seen) (n : ℕ) → IsOf c p.now → held_of sources.old.items c ≡ Some h → S.honest h.source t → t.class ≡ c → IsComplete t → IsErrOf result (ProbeFault.PageDamaged c n) → ⊥ }
     ensures damaged { (c : AClass) (n : ℕ) → IsErrOf result (ProbeFault.PageDamaged c n) → IsOf c p.now × (n ≡ index_of p.now / 4096) }
+    ensures read { (c : AClass) → IsOf c p.now → IfOk result (IsReadOff c (index_of p.now)) }
     ensures failed { (c : AClass) (h k : AHeld S) → IsOf c p.now → held_of sources.old.items c ≡ Some h → held_of sources.new.items c ≡ Some k → S.failed k.source ≡ (if is_read_fault result then counted (S.failed h.source) else S.failed h.source) }
     ensures others { (c : AClass) → (IsOf c p.now → ⊥) → held_of sources.new.items c ≡ held_of sources.old.items c }
     ensures game { AreRight S.honest sources.old.items → IfOk result (IsValueOf p.now) }
@@ -172,6 +173,9 @@ impl<'a, S: PageSource, A: Allocator> Values for PagedTables<'a, S, A> {
         ensures told { (c : AClass) (h : AHeld S) (t : Seen) → IsOf c p.now → held_of self.old.sources c ≡ Some h → S.honest h.source t → t.class ≡ c → IfOk result (λ v. v ≡ value_of (slice_index t.cells (index_of p.now))) }
         ensures whole { (c : AClass) (h : AHeld S) (t : Seen) (n : ℕ) → IsOf c p.now → held_of self.old.sources c ≡ Some h → S.honest h.source t → t.class ≡ c → IsComplete t → IsErrOf result (ProbeFault.PageDamaged c n) → ⊥ }
         ensures damaged { (c : AClass) (n : ℕ) → IsErrOf result (ProbeFault.PageDamaged c n) → IsOf c p.now × (n ≡ index_of p.now / 4096) }
+
+        // Of any source, an answer stands in a page that passes its check.
+        ensures read { (c : AClass) → IsOf c p.now → IfOk result (IsReadOff c (index_of p.now)) }
 
         // The sources stay; that of the class fails once more where a table is not read, and only there.
         ensures sources { (c : AClass) → IsSameSource S.honest (held_of self.old.sources c) (held_of self.new.sources c) }

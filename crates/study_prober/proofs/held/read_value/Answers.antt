@@ -1,6 +1,8 @@
-use Rattle.std.proofs.Common.{ℕ, List, take, get_or, inl, inr, sym, ◌∙◌, ap}
+use Rattle.std.proofs.Common.{ℕ, List, take, get_or, inl, inr, sym, ◌∙◌, ap, subst}
 use Rattle.std.proofs.lemmas.List.{get_or-take}
 use Rattle.study_retro.specs.Cells.{value_of}
+use Rattle.study_prober.specs.Sources.{AreChecked}
+use Rattle.study_prober.proofs.Checked.{checked_page}
 use Rattle.study_prober.proofs.Faults.{passed_on}
 use Rattle.study_prober.proofs.held.read_value.Goals as goal
 
@@ -13,8 +15,19 @@ pub returns-clause-more : goal.returns-clause-more
 returns-clause-more g c = λ e h.
     elim (c.keep.ensures.more e h) [
       | inl was ↦ inl was
-      | inr new ↦ inr (new.0, λ t honest same. new.1 ∙ ap (λ (bytes : List ℕ). take 4096 bytes) (c.in_ok-page.ensures.ok t honest same))
+      | inr new ↦ inr (
+        new.0,
+        λ t honest same. new.1 ∙ ap (λ (bytes : List ℕ). take 4096 bytes) (c.in_ok-page.ensures.ok t honest same),
+        subst (λ (xs : List ℕ). AreChecked c.args.held.now.header.class c.args.key.number xs) (sym new.1) (checked_page c.args.held.now.header c.args.key.number c.page.new.into c.requires.header c.in_ok-page.ensures.checked),
+      )
     ]
 
 pub returns-in_err-page-clause-whole : goal.returns-in_err-page-clause-whole
 returns-in_err-page-clause-whole g c = λ t honest same complete d n told. c.in_err-page.ensures.whole t honest same complete d n (passed_on c.from_residual.result _ _ c.from_residual.ensures.1 told)
+
+pub returns-clause-read : goal.returns-clause-read
+returns-clause-read g c = (
+  take 4096 c.page.new.into,
+  checked_page c.args.held.now.header c.args.key.number c.page.new.into c.requires.header c.in_ok-page.ensures.checked,
+  c.value_at.ensures ∙ ap value_of (sym (get_or-take 4096 c.page.new.into c.args.at 0 c.requires.at)),
+)

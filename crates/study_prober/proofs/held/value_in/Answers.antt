@@ -1,7 +1,7 @@
-use Rattle.std.proofs.Common.{ℕ, List, get_or, inl, inr, sym, ◌∙◌, ap, ◌%◌}
+use Rattle.std.proofs.Common.{ℕ, List, get_or, inl, inr, sym, ◌∙◌, ap, subst, ◌%◌}
 use Rattle.study_retro.specs.Cells.{value_of}
 use Rattle.study_retro.specs.Table.{place_of}
-use Rattle.study_prober.specs.Sources.{page_cells_of}
+use Rattle.study_prober.specs.Sources.{AreChecked, page_cells_of}
 use Rattle.study_prober.specs.declared.cache.PageKey.{PageKey}
 use Rattle.study_prober.proofs.Cells.{page_of_cell, cell_of_page, told_cell}
 use Rattle.study_prober.proofs.held.value_in.Goals as goal
@@ -21,5 +21,11 @@ pub returns-in-None-clause-more : goal.returns-in-None-clause-more
 returns-in-None-clause-more g c = λ e h.
     elim (c.read_value.ensures.more e h) [
       | inl was ↦ inl (c.in-None.ensures.fewer e was)
-      | inr new ↦ inr (ap (λ (k : PageKey). k.class) new.0 ∙ c.place.ensures.value, λ t honest same. new.1 t honest same ∙ ap (λ (k : PageKey). page_cells_of t k.number) (sym new.0))
+      | inr new ↦ inr (ap (λ (k : PageKey). k.class) new.0 ∙ c.place.ensures.value, λ t honest same. new.1 t honest same ∙ ap (λ (k : PageKey). page_cells_of t k.number) (sym new.0), subst (λ (k : PageKey). AreChecked c.args.held.now.header.class k.number e.1.items) (sym new.0) new.2)
     ]
+
+pub returns-in-Some-clause-read : goal.returns-in-Some-clause-read
+returns-in-Some-clause-read g c = λ kept. let found = c.in-Some.ensures.found in (found.0.items, kept (_, found.0) found.1 c.place.ensures.value, c.value_at.ensures ∙ ap value_of found.2)
+
+pub returns-in-None-clause-read : goal.returns-in-None-clause-read
+returns-in-None-clause-read g c = λ kept. c.read_value.ensures.read

@@ -3,6 +3,7 @@ use Rattle.study_material.specs.declared.class.Class.{Class}
 use Rattle.study_material.specs.Class.{IsOf}
 use Rattle.study_prober.proofs.Kept.{header_own, kept_after, same_after, held_at}
 use Rattle.study_prober.proofs.Tables.{one_class}
+use Rattle.study_prober.proofs.Checked.{read_at}
 use Rattle.study_prober.proofs.Probed.{number_in, told_at, whole_at, failed_at, game_at}
 use Rattle.study_prober.proofs.paged.probe.Goals as goal
 
@@ -52,3 +53,9 @@ pub returns-in-Some-clause-game : goal.returns-in-Some-clause-game
 returns-in-Some-clause-game g c =
     let is = held_at c.args.sources.now.items c.class_of-class.result.0 c.place-at.result c.index_mut.result.now c.in-Some.held c.place-at.ensures.value (search rules) c.index_mut.ensures.value c.in-Some.is in
     game_at g.S.PageSource.honest (λ v. v.items) c.args.sources.now.items c.args.pages.now.entries c.class_of-class.result.0 c.args.p.now c.in-Some.held c.index.result c.value_in.result c.requires is.1 c.men-men.ensures.valid c.class_of-class.ensures.class c.index.ensures.value c.value_in.ensures.ok
+
+pub returns-in-Some-clause-read : goal.returns-in-Some-clause-read
+returns-in-Some-clause-read g c = λ d of.
+    let is = held_at c.args.sources.now.items c.class_of-class.result.0 c.place-at.result c.index_mut.result.now c.in-Some.held c.place-at.ensures.value (search rules) c.index_mut.ensures.value c.in-Some.is in
+    let own = (c.requires.header c.class_of-class.result.0 c.in-Some.held is.1).class in
+    read_at c.in-Some.held.header.class d c.index.result _ c.value_in.result (own ∙ sym (one_class d c.class_of-class.result.0 c.args.p.now of c.class_of-class.ensures.class)) c.index.ensures.value (c.value_in.ensures.read (λ e i at. c.requires.checked e c.in-Some.held.header.class i at))
