@@ -1,5 +1,5 @@
 -- The least number of men is that of their squares, and keys sort men by their slots.
-use Rattle.std.proofs.Common.{◌≡◌, ℕ, ◌+◌, ◌-◌, ◌*◌, ◌/◌, ◌%◌, ◌<◌, Bool, true, false, cond, nat_lt, nat_le, List, [], ◌∷◌, map, Option, Some, None, refl, sym, ◌∙◌, ap, arith}
+use Rattle.std.proofs.Common.{◌≡◌, ℕ, ◌+◌, ◌-◌, ◌*◌, ◌/◌, ◌%◌, ◌<◌, ◌==◌, Bool, true, false, cond, nat_lt, nat_le, List, [], ◌∷◌, map, Option, Some, None, refl, sym, ◌∙◌, ap, arith}
 use Rattle.std.specs.Option.{option_map}
 use Rattle.study_board.specs.declared.men.Side.{Side}
 use Rattle.study_board.specs.declared.men.Man.{Man}
@@ -11,7 +11,7 @@ use Rattle.study_index.specs.Filling.{slot}
 use Rattle.study_index.specs.Found.{put, sorted}
 use Rattle.study_index.specs.Number.{place, places, side_number, counted_on, number}
 use Rattle.study_index.specs.Chosen.{chosen, exchanged, are_like, falls, turned_number, least, least_by, least_of}
-use Rattle.study_index.specs.Squares.{key, put_key, like_keys, squares_of, brought, counted_at, number_at, exchanged_at, falls_at, least_turned, least_at}
+use Rattle.study_index.specs.Squares.{key, put_key, squares_of, brought, counted_at, number_at, exchanged_at, falls_at, least_turned, least_at}
 
 abbrev pub AreOnBoard : List Man → Type 0
 AreOnBoard [] = Unit {0}
@@ -170,6 +170,11 @@ more_keys c m ms k ks xs d l h e f = e ∙ ap (λ n. put_key n xs) d ∙ ap (λ 
 squares-keys : (c : Bool) (ms : List Man) → AreOnBoard ms → squares_of (map (key c) ms) ≡ map square ms
 squares-keys c [] h = refl
 squares-keys c (m ∷ ms) h = rw (key-square c m h.0) (ap (λ xs. m.at ∷ xs) (squares-keys c ms h.1))
+
+-- the last two of four keys are of one slot
+abbrev pub like_keys : List ℕ → Bool
+like_keys (a ∷ b ∷ x ∷ y ∷ []) = x / 64 == y / 64
+like_keys ks = false
 
 like-keys : (c : Bool) (ms : List Man) → AreOnBoard ms → like_keys (map (key c) ms) ≡ are_like c ms
 like-keys c [] h = refl

@@ -1,5 +1,5 @@
 -- The index as it is computed: the men in the order of their slots as numbers, then as squares alone.
-use Rattle.std.specs.Prelude.{ℕ, ◌+◌, ◌*◌, ◌/◌, ◌%◌, Bool, true, false, ◌==◌, nat_lt, nat_le, List, [], ◌∷◌, map, Option, None, if◌then◌else◌}
+use Rattle.std.specs.Prelude.{ℕ, ◌+◌, ◌*◌, ◌/◌, ◌%◌, Bool, true, false, nat_lt, nat_le, List, [], ◌∷◌, map, Option, None, if◌then◌else◌}
 use Rattle.std.specs.Option.{option_map}
 use Rattle.study_board.specs.declared.men.Side.{Side}
 use Rattle.study_board.specs.declared.men.Man.{Man}
@@ -18,11 +18,6 @@ key c m = slot c m * 64 + m.at
 unfoldable pub put_key : ℕ → List ℕ → List ℕ
 put_key k [] = k ∷ []
 put_key k (x ∷ xs) = if nat_le (x / 64) (k / 64) then x ∷ put_key k xs else k ∷ x ∷ xs
-
--- the last two of four keys are of one slot
-abbrev pub like_keys : List ℕ → Bool
-like_keys (a ∷ b ∷ x ∷ y ∷ []) = x / 64 == y / 64
-like_keys ks = false
 
 -- the squares of keys
 abbrev pub squares_of : List ℕ → List ℕ

@@ -1,10 +1,16 @@
 -- A man carried up through men in order comes to its place.
-use Rattle.std.proofs.Common.{◌≡◌, ℕ, ◌+◌, ◌<◌, Bool, true, false, cond, List, [], ◌∷◌, length, refl, ap, nat_lt, arith}
+use Rattle.std.proofs.Common.{◌≡◌, ℕ, ◌+◌, ◌<◌, Bool, true, false, cond, List, [], ◌∷◌, length, refl, ap, nat_lt, if◌then◌else◌, arith}
 use Rattle.std.specs.List.{filter}
 use Rattle.std.proofs.lemmas.Bool.Decides.{nat_tests}
 use Rattle.study_board.specs.declared.men.Man.{Man}
 use Rattle.study_board.specs.Position.{AllAbove, IsAscending, placed}
-use Rattle.study_moves.specs.Carried.{lower, higher, carried_into}
+use Rattle.study_moves.specs.Carried.{lower, higher}
+
+-- the men that pass the test, a man being carried through them and left below the first that stands above it,
+-- which is carried on then
+abbrev pub carried_into : (Man → Bool) → Man → List Man → List Man
+carried_into q c [] = c ∷ []
+carried_into q c (x ∷ xs) = if q x then lower c x ∷ carried_into q (higher c x) xs else carried_into q c xs
 
 not_below : (a b : ℕ) → a < b → nat_lt b a ≡ false
 not_below a b l = grind (arith, nat_tests)

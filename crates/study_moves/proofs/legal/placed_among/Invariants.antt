@@ -1,6 +1,6 @@
 use Rattle.std.proofs.Common.{◌≡◌, ◌≤◌, ◌++◌, length, drop}
 use Rattle.study_moves.specs.Rules.{stays}
-use Rattle.study_moves.specs.Carried.{carried_into}
+use Rattle.study_moves.proofs.CarriedUp.{carried_into}
 use Rattle.study_moves.proofs.legal.placed_among.Given as goal
 
 abbrev pub invariant-loop-m : goal.invariant-loop-m
