@@ -152,26 +152,13 @@ fn small_tree<'a, A: Allocator>(rt: &impl Abort, alloc: &'a A) -> Tree<'a, u32, 
     tree
 }
 
-/// The tree has these rows, as many nodes, and so many labels were written.
-fn expect_rows<A: Allocator>(
-    rt: &impl Abort,
-    alloc: Global,
-    tree: &Tree<'_, u32, A>,
-    want: &[Row],
-    relabelled: u64,
-) -> Result<(), AllocError> {
-    assert!(rt; rows_of(alloc, tree)?.as_slice() == want, "{relabelled}");
-    assert!(rt; tree.size() as usize == want.len() && tree.relabelled() == relabelled);
-    Ok(())
-}
-
 /// The rows as they are built, after nodes were moved up and relabelled, and after one was removed.
 #[test]
 fn edits_in_written_order(rt: HostRuntime) -> Result<(), Fail> {
     let alloc = rt.alloc();
     let [a, b, c, d] = [king_move(0), king_move(1), king_move(2), king_move(3)];
     let mut tree = small_tree(&rt, &alloc);
-    let built: [Row; 6] = [
+    let want: [Row; 6] = [
         (0, None, 10),
         (1, Some(a), 11),
         (2, Some(b), 13),
@@ -179,30 +166,41 @@ fn edits_in_written_order(rt: HostRuntime) -> Result<(), Fail> {
         (2, Some(d), 14),
         (1, Some(c), 12),
     ];
-    expect_rows(&rt, alloc, &tree, built.as_slice(), 5)?;
+    assert!(rt;
+        rows_of(alloc, &tree)?.as_slice() == want.as_slice(),
+        "built"
+    );
+    assert_eq!(rt; (tree.size(), tree.relabelled()), (6, 5));
 
     assert_eq!(rt; tree.move_up(&[1]), Ok(()));
     assert_eq!(rt; tree.relabel(&[1, 0], 17), Ok(()));
     assert_eq!(rt; tree.relabel(&[], 18), Ok(()));
-    let [root, first, second, last] = [
+    let want: [Row; 6] = [
+        (0, None, 18),
+        (1, Some(c), 12),
+        (1, Some(a), 11),
+        (2, Some(b), 17),
+        (3, Some(a), 15),
+        (2, Some(d), 14),
+    ];
+    assert!(rt;
+        rows_of(alloc, &tree)?.as_slice() == want.as_slice(),
+        "moved up"
+    );
+    assert_eq!(rt; (tree.size(), tree.relabelled()), (6, 7));
+
+    assert_eq!(rt; tree.remove(&[1, 0]), Ok(()));
+    let want: [Row; 4] = [
         (0, None, 18),
         (1, Some(c), 12),
         (1, Some(a), 11),
         (2, Some(d), 14),
     ];
-    let moved: [Row; 6] = [
-        root,
-        first,
-        second,
-        (2, Some(b), 17),
-        (3, Some(a), 15),
-        last,
-    ];
-    expect_rows(&rt, alloc, &tree, moved.as_slice(), 7)?;
-
-    assert_eq!(rt; tree.remove(&[1, 0]), Ok(()));
-    let removed: [Row; 4] = [root, first, second, last];
-    expect_rows(&rt, alloc, &tree, removed.as_slice(), 7)?;
+    assert!(rt;
+        rows_of(alloc, &tree)?.as_slice() == want.as_slice(),
+        "removed"
+    );
+    assert_eq!(rt; (tree.size(), tree.relabelled()), (4, 7));
     Ok(())
 }
 
