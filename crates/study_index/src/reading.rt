@@ -1,7 +1,7 @@
 //! The positions of numbers.
 ghost use Rattle.std.specs.Prelude.{◌≡◌, ◌+◌, ◌*◌, ◌/◌, ◌%◌, ◌≤◌, ◌<◌, ◌↔◌, ◌⊎◌, IsTrue, length, IfSome, IfNone, List, None, false};
 ghost use Rattle.study_board.specs.Position.{Position as Seen};
-ghost use Rattle.study_material.specs.Class.{is_left_out};
+ghost use Rattle.study_material.specs.Class.{is_left_out, lists_of};
 ghost use Rattle.study_index.specs.Number.{places, cells_of};
 ghost use Rattle.study_index.specs.Found.{position_at};
 ghost use Rattle.study_index.specs.Decoded.{IsDecoded, AreSlots, slots_of, listed, slots_have_pawn, man, head, side_of, told_men, told_side, IsPlaced, IsFaulty, HasLeast};
@@ -280,7 +280,17 @@ fn slots(class: Class) -> &'static [Slot]
         KNNK => &[WHITE_KING, BLACK_KING, WHITE_KNIGHT, WHITE_KNIGHT],
         KNPK => &[WHITE_KING, BLACK_KING, WHITE_KNIGHT, WHITE_PAWN],
         KPPK => &[WHITE_KING, BLACK_KING, WHITE_PAWN, WHITE_PAWN],
-        KQKQ => &[WHITE_KING, BLACK_KING, WHITE_QUEEN, BLACK_QUEEN],
+        _ => slots_of_both(class),
+    }
+}
+
+// The same where each side has a man beside its king.
+fn slots_of_both(class: Class) -> &'static [Slot]
+    requires { length (lists_of class).black ≡ 1 }
+    ensures { result.now ≡ slots_of class }
+{
+    use Class::*;
+    match class {        KQKQ => &[WHITE_KING, BLACK_KING, WHITE_QUEEN, BLACK_QUEEN],
         KQKR => &[WHITE_KING, BLACK_KING, WHITE_QUEEN, BLACK_ROOK],
         KQKB => &[WHITE_KING, BLACK_KING, WHITE_QUEEN, BLACK_BISHOP],
         KQKN => &[WHITE_KING, BLACK_KING, WHITE_QUEEN, BLACK_KNIGHT],
@@ -295,5 +305,6 @@ fn slots(class: Class) -> &'static [Slot]
         KNKN => &[WHITE_KING, BLACK_KING, WHITE_KNIGHT, BLACK_KNIGHT],
         KNKP => &[WHITE_KING, BLACK_KING, WHITE_KNIGHT, BLACK_PAWN],
         KPKP => &[WHITE_KING, BLACK_KING, WHITE_PAWN, BLACK_PAWN],
+        _ => unreachable!(),
     }
 }

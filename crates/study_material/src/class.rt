@@ -1,6 +1,6 @@
 //! The classes of material, their names, and what each needs.
 ghost use Rattle.std.specs.Prelude.{◌≡◌, true, false, IfOk, IsErrOf, ◌↔◌};
-ghost use Rattle.study_material.specs.Class.{name_of, is_left_out, IsNameOf};
+ghost use Rattle.study_material.specs.Class.{name_of, is_left_out, class_list, IsNameOf};
 
 use crate::ClassFault;
 
@@ -87,6 +87,13 @@ static ALL: [Class; 36] = [
 ];
 
 impl Class {
+    /// All classes: those where Black has a king alone, then those where each side has a man beside its king.
+    pub fn all() -> &'static [Class; 36]
+        ensures { result.now ≡ class_list }
+    {
+        &ALL
+    }
+
     /// The class of this name, as `KQKR`.
     pub fn parse(text: &str) -> Result<Class, ClassFault>
         ensures ok { IfOk result (λ c. IsNameOf text.now c × (is_left_out c ≡ false)) }

@@ -1,5 +1,6 @@
 //! Which classes a class needs: those that one move can lead to.
 ghost use Rattle.std.specs.Prelude.{◌≡◌, ◌≤◌, length};
+ghost use Rattle.study_material.specs.Class.{lists_of};
 ghost use Rattle.study_material.specs.Needs.{needs_of, IsOrder};
 
 use crate::Class;
@@ -30,6 +31,7 @@ fn listed(classes: &[Class]) -> ArrayVec<Class, 36>
     list
 }
 
+/// The classes that a class needs.
 #[tactic(auto, using(crate::proofs::NeedsTables::needs_is))]
 fn needed(class: Class) -> &'static [Class]
     ensures value { result.now ≡ needs_of class }
@@ -58,7 +60,19 @@ fn needed(class: Class) -> &'static [Class]
         KNNK => &[KNK],
         KNPK => &[KNK, KPK, KQNK, KRNK, KBNK, KNNK],
         KPPK => &[KPK, KQPK, KRPK, KBPK, KNPK],
-        KQKQ => &[KQK],
+        _ => needed_by_both(class),
+    }
+}
+
+/// The same where each side has a man beside its king.
+#[tactic(auto, using(crate::proofs::NeedsTables::needs_is))]
+fn needed_by_both(class: Class) -> &'static [Class]
+    requires { length (lists_of class).black ≡ 1 }
+    ensures value { result.now ≡ needs_of class }
+    ensures few { length result.now ≤ 36 }
+{
+    use Class::*;
+    match class {        KQKQ => &[KQK],
         KQKR => &[KQK, KRK],
         KQKB => &[KQK, KBK],
         KQKN => &[KQK, KNK],
@@ -73,9 +87,11 @@ fn needed(class: Class) -> &'static [Class]
         KNKN => &[KNK],
         KNKP => &[KQK, KRK, KBK, KNK, KPK, KQKN, KRKN, KBKN, KNKN],
         KPKP => &[KPK, KQKP, KRKP, KBKP, KNKP],
+        _ => unreachable!(),
     }
 }
 
+/// A class and all that it needs, in order.
 fn ordered(class: Class) -> &'static [Class]
     ensures order { IsOrder class result.now }
     ensures few { length result.now ≤ 36 }
@@ -106,7 +122,18 @@ fn ordered(class: Class) -> &'static [Class]
             KK, KQK, KRK, KBK, KNK, KPK, KQQK, KQRK, KQBK, KQNK, KRRK, KRBK, KRNK, KBBK, KBNK,
             KNNK, KQPK, KRPK, KBPK, KNPK, KPPK,
         ],
-        KQKQ => &[KK, KQK, KQKQ],
+        _ => ordered_of_both(class),
+    }
+}
+
+/// The same where each side has a man beside its king.
+fn ordered_of_both(class: Class) -> &'static [Class]
+    requires { length (lists_of class).black ≡ 1 }
+    ensures order { IsOrder class result.now }
+    ensures few { length result.now ≤ 36 }
+{
+    use Class::*;
+    match class {        KQKQ => &[KK, KQK, KQKQ],
         KQKR => &[KK, KQK, KRK, KQKR],
         KQKB => &[KK, KQK, KBK, KQKB],
         KQKN => &[KK, KQK, KNK, KQKN],
@@ -124,5 +151,6 @@ fn ordered(class: Class) -> &'static [Class]
             KK, KQK, KRK, KBK, KNK, KPK, KQKQ, KQKR, KQKB, KQKN, KRKR, KRKB, KRKN, KBKB, KBKN,
             KNKN, KQKP, KRKP, KBKP, KNKP, KPKP,
         ],
+        _ => unreachable!(),
     }
 }

@@ -6,14 +6,16 @@ static NAMES: &str =
 
 #[test]
 fn names_of_classes(rt: HostRuntime) {
-    let mut parsed = 0u32;
+    let mut parsed = 0usize;
     for name in NAMES.split(' ') {
         let class = Class::parse(name).expect(&rt, "a class");
         assert_eq!(rt; class.name(), name);
         assert!(rt; !class.left_out());
+        assert_eq!(rt; Class::all().get(parsed), Some(&class));
         parsed = parsed.saturating_add(1);
     }
     assert_eq!(rt; parsed, 35);
+    assert_eq!(rt; Class::all().get(35), Some(&Class::KPKP));
     assert_eq!(rt; Class::KPKP.name(), "KPKP");
     assert!(rt; Class::KPKP.left_out());
     for (text, want) in [

@@ -54,89 +54,91 @@ fn expect_moves(rt: &impl Abort, p: &Position, wanted: &[(u8, u8)]) {
     }
 }
 
+/// Positions, by their men, the side to move and the passed square, and the squares that the legal moves go between.
+static MOVE_LISTS: [(&[(char, u8)], Side, Option<u8>, &[(u8, u8)]); 6] = [
+    // Rook and king: twenty moves, by origin and target.
+    (
+        &[('K', 41), ('k', 56), ('R', 7)],
+        Side::White,
+        None,
+        &[
+            (7, 0),
+            (7, 1),
+            (7, 2),
+            (7, 3),
+            (7, 4),
+            (7, 5),
+            (7, 6),
+            (7, 15),
+            (7, 23),
+            (7, 31),
+            (7, 39),
+            (7, 47),
+            (7, 55),
+            (7, 63),
+            (41, 32),
+            (41, 33),
+            (41, 34),
+            (41, 40),
+            (41, 42),
+            (41, 50),
+        ],
+    ),
+    // Stalemate by the queen.
+    (&[('K', 0), ('k', 56), ('Q', 41)], Side::Black, None, &[]),
+    // The pawn is blocked by its own king.
+    (
+        &[('K', 40), ('P', 32), ('k', 56)],
+        Side::White,
+        None,
+        &[(40, 33), (40, 41)],
+    ),
+    // A promotion counts four times.
+    (
+        &[('K', 41), ('P', 50), ('k', 56)],
+        Side::White,
+        None,
+        &[
+            (41, 32),
+            (41, 33),
+            (41, 34),
+            (41, 40),
+            (41, 42),
+            (50, 58),
+            (50, 58),
+            (50, 58),
+            (50, 58),
+        ],
+    ),
+    // A capture in passing comes before the step.
+    (
+        &[('k', 24), ('P', 27), ('p', 28), ('K', 4)],
+        Side::Black,
+        Some(19),
+        &[
+            (24, 16),
+            (24, 17),
+            (24, 25),
+            (24, 32),
+            (24, 33),
+            (28, 19),
+            (28, 20),
+        ],
+    ),
+    // A passed square that no pawn can take changes nothing.
+    (
+        &[('k', 16), ('P', 28), ('K', 4)],
+        Side::Black,
+        Some(20),
+        &[(16, 8), (16, 9), (16, 17), (16, 24), (16, 25)],
+    ),
+];
+
 #[test]
 fn move_lists(rt: HostRuntime) {
-    use Side::{Black, White};
-    let table: [(&[(char, u8)], Side, Option<u8>, &[(u8, u8)]); 6] = [
-        // Rook and king: twenty moves, by origin and target.
-        (
-            &[('K', 41), ('k', 56), ('R', 7)],
-            White,
-            None,
-            &[
-                (7, 0),
-                (7, 1),
-                (7, 2),
-                (7, 3),
-                (7, 4),
-                (7, 5),
-                (7, 6),
-                (7, 15),
-                (7, 23),
-                (7, 31),
-                (7, 39),
-                (7, 47),
-                (7, 55),
-                (7, 63),
-                (41, 32),
-                (41, 33),
-                (41, 34),
-                (41, 40),
-                (41, 42),
-                (41, 50),
-            ],
-        ),
-        // Stalemate by the queen.
-        (&[('K', 0), ('k', 56), ('Q', 41)], Black, None, &[]),
-        // The pawn is blocked by its own king.
-        (
-            &[('K', 40), ('P', 32), ('k', 56)],
-            White,
-            None,
-            &[(40, 33), (40, 41)],
-        ),
-        // A promotion counts four times.
-        (
-            &[('K', 41), ('P', 50), ('k', 56)],
-            White,
-            None,
-            &[
-                (41, 32),
-                (41, 33),
-                (41, 34),
-                (41, 40),
-                (41, 42),
-                (50, 58),
-                (50, 58),
-                (50, 58),
-                (50, 58),
-            ],
-        ),
-        // A capture in passing comes before the step.
-        (
-            &[('k', 24), ('P', 27), ('p', 28), ('K', 4)],
-            Black,
-            Some(19),
-            &[
-                (24, 16),
-                (24, 17),
-                (24, 25),
-                (24, 32),
-                (24, 33),
-                (28, 19),
-                (28, 20),
-            ],
-        ),
-        // A passed square that no pawn can take changes nothing.
-        (
-            &[('k', 16), ('P', 28), ('K', 4)],
-            Black,
-            Some(20),
-            &[(16, 8), (16, 9), (16, 17), (16, 24), (16, 25)],
-        ),
-    ];
-    for (letters, to_move, passed, wanted) in table {
-        expect_moves(&rt, &position(&rt, letters, to_move, passed), wanted);
+    for (letters, to_move, passed, wanted) in &MOVE_LISTS {
+        let p = position(&rt, letters, *to_move, *passed);
+        expect_moves(&rt, &p, wanted);
     }
 }
 

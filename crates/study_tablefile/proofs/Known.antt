@@ -1,5 +1,5 @@
 -- What a reader that tells its bytes has given.
-use Rattle.std.proofs.Common.{◌≡◌, ℕ, suc, ◌+◌, ◌<◌, Bool, true, false, not, nat_lt, List, [], ◌∷◌, ◌++◌, length, take, drop, find, filter, slice_index_or, slice_set, Option, Some, None, Result, Err, IfErr, if◌then◌else◌, refl, sym, ap, subst, ◌∙◌, arith, length-append, length-drop}
+use Rattle.std.proofs.Common.{◌≡◌, ℕ, suc, ◌+◌, ◌<◌, Bool, true, false, not, ◌&&◌, nat_lt, List, [], ◌∷◌, ◌++◌, length, take, drop, find, slice_index_or, slice_set, Option, Some, None, Result, Err, IfErr, if◌then◌else◌, refl, sym, ap, subst, ◌∙◌, arith, length-append, length-drop}
 use Rattle.std.specs.Io.KnownBytes.{Consumes}
 use Rattle.std.specs.Str.{bytes_eq}
 use Rattle.std.proofs.lemmas.Bool.{le-ltb}
@@ -19,19 +19,18 @@ find_here test xs i d h e = ap (find test) (drop_more xs i d h) ∙ rw e refl
 pub find_later : {X : Type 0} (test : X → Bool) (xs : List X) (i : ℕ) (d : X) → i < length xs → test (slice_index_or xs i d) ≡ false → find test (drop i xs) ≡ find test (drop (i + 1) xs)
 find_later test xs i d h e = ap (find test) (drop_more xs i d h) ∙ rw e refl
 
-found_one : (test : Class → Bool) (x c : Class) (xs : List Class) (b : Bool) → is_left_out x ≡ b
-    → (find test (filter (λ d. not (is_left_out d)) xs) ≡ Some c → is_left_out c ≡ false)
-    → find test (if not b then x ∷ filter (λ d. not (is_left_out d)) xs else filter (λ d. not (is_left_out d)) xs) ≡ Some c → is_left_out c ≡ false
-found_one test x c xs true e more h = more h
-found_one test x c xs false e more h = found_first (test x) refl h
+found_one : (test : Class → Bool) (x c : Class) (rest : Option Class) (b : Bool) → is_left_out x ≡ b → (rest ≡ Some c → is_left_out c ≡ false)
+    → (if not b && test x then Some x else rest) ≡ Some c → is_left_out c ≡ false
+found_one test x c rest true e more h = more h
+found_one test x c rest false e more h = found_first (test x) refl h
   where
-    found_first : (b : Bool) → test x ≡ b → (if b then Some x else find test (filter (λ d. not (is_left_out d)) xs)) ≡ Some c → is_left_out c ≡ false
+    found_first : (b : Bool) → test x ≡ b → (if b then Some x else rest) ≡ Some c → is_left_out c ≡ false
     found_first true f g = cc
     found_first false f g = more g
 
-pub found_admitted : (test : Class → Bool) (c : Class) (xs : List Class) → find test (filter (λ d. not (is_left_out d)) xs) ≡ Some c → is_left_out c ≡ false
+pub found_admitted : (test : Class → Bool) (c : Class) (xs : List Class) → find (λ d. not (is_left_out d) && test d) xs ≡ Some c → is_left_out c ≡ false
 found_admitted test c [] h = cc
-found_admitted test c (x ∷ xs) h = found_one test x c xs (is_left_out x) refl (found_admitted test c xs) h
+found_admitted test c (x ∷ xs) h = found_one test x c (find (λ d. not (is_left_out d) && test d) xs) (is_left_out x) refl (found_admitted test c xs) h
 
 pub named_admitted : (field : List ℕ) (c : Class) → class_named field ≡ Some c → is_left_out c ≡ false
 unfolding class_named

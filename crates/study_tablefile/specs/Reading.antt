@@ -1,5 +1,5 @@
 -- How bytes read as a table: from front to back, up to the first fault.
-use Rattle.std.specs.Prelude.{◌≡◌, ℕ, zero, suc, ◌+◌, ◌<◌, ◌==◌, nat_lt, not, ◌&&◌, List, [], ◌++◌, length, take, drop, replicate, codes, filter, find, Option, Some, None, Result, Ok, Err, if◌then◌else◌, ⊤}
+use Rattle.std.specs.Prelude.{◌≡◌, ℕ, zero, suc, ◌+◌, ◌<◌, ◌==◌, nat_lt, not, ◌&&◌, List, [], ◌++◌, length, take, drop, replicate, codes, find, Option, Some, None, Result, Ok, Err, if◌then◌else◌, ⊤}
 use Rattle.std.specs.Str.{bytes_eq}
 use Rattle.sha2.specs.Sha256.{sha256}
 use Rattle.byteorder.specs.Endian.{little_number}
@@ -11,9 +11,9 @@ use Rattle.study_tablefile.specs.declared.fault.FileFault.{FileFault}
 use Rattle.study_tablefile.specs.declared.fault.FileFault.TheVariants.{Cut, NotATable, Version, ClassUnknown, HeaderDamaged, PageDamaged, Padding, TrailingBytes}
 use Rattle.study_tablefile.specs.File.{class_field, fields_text, page_digest, pages_of}
 
--- the class that is written in 8 bytes, if there is one
+-- the class with tables that is written in 8 bytes, if there is one
 unfoldable pub class_named : List ℕ → Option Class
-class_named field = find (λ c. bytes_eq field (class_field c)) (filter (λ c. not (is_left_out c)) class_list)
+class_named field = find (λ c. not (is_left_out c) && bytes_eq field (class_field c)) class_list
 
 -- the header against that of its class: the fields, and their digest
 abbrev pub class_checked : List ℕ → Option Class → Result Class FileFault

@@ -1,5 +1,5 @@
 //! Table files read from front to back.
-ghost use Rattle.std.specs.Prelude.{◌≡◌, ◌<◌, ◌≤◌, ◌⊎◌, ◌&&◌, ◌+◌, ◌*◌, ℕ, List, [], ◌++◌, false, Some, None, Ok, Err, length, take, drop, replicate, OnOk, IfOk, IfErr, vec_len, vec_capacity};
+ghost use Rattle.std.specs.Prelude.{◌≡◌, ◌<◌, ◌≤◌, ◌⊎◌, ◌&&◌, not, ◌+◌, ◌*◌, ℕ, List, [], ◌++◌, false, Some, None, Ok, Err, length, take, drop, replicate, OnOk, IfOk, IfErr, vec_len, vec_capacity};
 ghost use Rattle.sha2.specs.Sha256.{sha256};
 ghost use Rattle.std.specs.Str.{bytes_eq};
 ghost use Rattle.std.specs.Io.KnownBytes.{Consumes};
@@ -35,53 +35,21 @@ fn fill<R: Read>(input: &mut R, buf: &mut [u8]) -> Result<(), FileFault>
     Ok(())
 }
 
-/// The classes that have tables.
-static CLASSES: [Class; 35] = [
-    Class::KK,
-    Class::KQK,
-    Class::KRK,
-    Class::KBK,
-    Class::KNK,
-    Class::KPK,
-    Class::KQQK,
-    Class::KQRK,
-    Class::KQBK,
-    Class::KQNK,
-    Class::KQPK,
-    Class::KRRK,
-    Class::KRBK,
-    Class::KRNK,
-    Class::KRPK,
-    Class::KBBK,
-    Class::KBNK,
-    Class::KBPK,
-    Class::KNNK,
-    Class::KNPK,
-    Class::KPPK,
-    Class::KQKQ,
-    Class::KQKR,
-    Class::KQKB,
-    Class::KQKN,
-    Class::KQKP,
-    Class::KRKR,
-    Class::KRKB,
-    Class::KRKN,
-    Class::KRKP,
-    Class::KBKB,
-    Class::KBKN,
-    Class::KBKP,
-    Class::KNKN,
-    Class::KNKP,
-];
+/// Whether the class has tables, and this is its name in the field of a header.
+fn is_named(field: &[u8], class: Class) -> bool
+    ensures { result ≡ (not (is_left_out class) && bytes_eq field.now (class_field class)) }
+{
+    let name = class_field(class);
+    !class.left_out() && field == name.as_slice()
+}
 
 /// The class that is written in the field of a header.
 #[tactic(auto, unfolding(crate::specs::Reading::class_named))]
 fn class_of_field(field: &[u8]) -> Option<Class>
     ensures { result ≡ class_named field.now }
 {
-    for class in &CLASSES {
-        let name = class_field(*class);
-        if field == name.as_slice() {
+    for class in Class::all() {
+        if is_named(field, *class) {
             return Some(*class);
         }
     }

@@ -182,7 +182,7 @@ fn pages_one_by_one(rt: HostRuntime) -> Result<(), Fail> {
 fn padding_is_looked_at(rt: HostRuntime) {
     let alloc = rt.alloc();
     let mut page = [0u8; 4096];
-    page[4095] = 1;
+    page[2000] = 1;
     let fields = fields(Class::KK);
     let mut writer = MemoryWriter::new(&alloc);
     for part in [

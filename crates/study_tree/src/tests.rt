@@ -58,6 +58,15 @@ fn rows_of<A: Allocator>(alloc: Global, tree: &Tree<'_, u32, A>) -> Result<Vec<R
     Ok(rows)
 }
 
+/// Whether the rows of the tree are these.
+fn has_rows<A: Allocator>(
+    alloc: Global,
+    tree: &Tree<'_, u32, A>,
+    want: &[Row],
+) -> Result<bool, AllocError> {
+    Ok(rows_of(alloc, tree)?.as_slice() == want)
+}
+
 /// A line of 256 moves below the root, each with room made for it first, and the path to its end.
 fn long_line<'a, A: Allocator>(
     rt: &impl Abort,
@@ -166,10 +175,7 @@ fn edits_in_written_order(rt: HostRuntime) -> Result<(), Fail> {
         (2, Some(d), 14),
         (1, Some(c), 12),
     ];
-    assert!(rt;
-        rows_of(alloc, &tree)?.as_slice() == want.as_slice(),
-        "built"
-    );
+    assert!(rt; has_rows(alloc, &tree, want.as_slice())?, "built");
     assert_eq!(rt; (tree.size(), tree.relabelled()), (6, 5));
 
     assert_eq!(rt; tree.move_up(&[1]), Ok(()));
@@ -183,10 +189,7 @@ fn edits_in_written_order(rt: HostRuntime) -> Result<(), Fail> {
         (3, Some(a), 15),
         (2, Some(d), 14),
     ];
-    assert!(rt;
-        rows_of(alloc, &tree)?.as_slice() == want.as_slice(),
-        "moved up"
-    );
+    assert!(rt; has_rows(alloc, &tree, want.as_slice())?, "moved up");
     assert_eq!(rt; (tree.size(), tree.relabelled()), (6, 7));
 
     assert_eq!(rt; tree.remove(&[1, 0]), Ok(()));
@@ -196,10 +199,7 @@ fn edits_in_written_order(rt: HostRuntime) -> Result<(), Fail> {
         (1, Some(a), 11),
         (2, Some(d), 14),
     ];
-    assert!(rt;
-        rows_of(alloc, &tree)?.as_slice() == want.as_slice(),
-        "removed"
-    );
+    assert!(rt; has_rows(alloc, &tree, want.as_slice())?, "removed");
     assert_eq!(rt; (tree.size(), tree.relabelled()), (4, 7));
     Ok(())
 }
