@@ -1,9 +1,9 @@
 //! Tables of distances to mate: built, verified and read.
 //!
-//! `build` answers a right table where the tables that its class needs are right: each cell tells the least forced mate of its
-//! position, and a draw only where neither side forces mate in any number of plies. `verify` answers yes exactly to right
-//! tables, whatever their bytes. `Table::at` reads the game's value off a right table. The builder (`levels`) is proved over any
-//! game whose positions have numbers (`game`); `class_game` is chess as such a game.
+//! `build` answers a right table where the tables that its class needs are right: each cell tells the least forced mate
+//! of its position, and a draw only where neither side forces mate in any number of plies. `verify` answers yes exactly
+//! to right tables, whatever their bytes. `Table::at` reads the game's value off a right table. The builder (`levels`)
+//! is proved over any game whose positions have numbers (`game`); `class_game` is chess as such a game.
 #![tactic(auto)]
 
 mod builder;

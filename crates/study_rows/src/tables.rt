@@ -54,8 +54,8 @@ fn hex(digit: u8) -> u8 {
     }
 }
 
-/// How many numbers are decoded by a builder that goes over all numbers whose cell is still 0 once a ply, and ends with the first
-/// ply after the longest mate: the cell of a mate in n plies is set when it has been decoded n + 1 times.
+/// How many numbers are decoded by a builder that goes over all numbers whose cell is still 0 once a ply, and ends with
+/// the first ply after the longest mate: the cell of a mate in n plies is set when it has been decoded n + 1 times.
 fn times_decoded(cells: &[u8]) -> u64 {
     let plies = cells.iter().copied().max().unwrap_or(0);
     cells
@@ -193,7 +193,8 @@ pub fn changed<'a, A: Allocator>(
     Table::from_cells(class, cells)
 }
 
-/// A built table is verified; one with a slower mate, a false draw, a stalemate as a mate or a byte where no position is, is not.
+/// A built table is verified; one with a slower mate, a false draw, a stalemate as a mate, or a byte where no position
+/// is, is not.
 #[test]
 fn verified_and_not(rt: HostRuntime) {
     let alloc = rt.alloc();
