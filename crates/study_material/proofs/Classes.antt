@@ -3,31 +3,14 @@ use Rattle.std.proofs.Common.{◌≡◌, ℕ, ◌<◌, zero, suc, Bool, true, fa
 use Rattle.std.specs.List.{Contains}
 use Rattle.std.proofs.lemmas.Bool.{false≢true, and_parts, and_from}
 use Rattle.study_board.specs.declared.men.Kind.{Kind}
-use Rattle.study_board.specs.declared.men.Kind.TheVariants.{King, Queen, Rook, Bishop, Knight, Pawn}
 use Rattle.study_board.specs.Men.{same_kind}
+use Rattle.study_board.specs.EqualLaws.{kind_self, kinds_equal}
 use Rattle.study_material.specs.declared.class.Class.{Class}
 use Rattle.study_material.specs.declared.class.Class.TheVariants.{KK, KQK, KRK, KBK, KNK, KPK, KQQK, KQRK, KQBK, KQNK, KQPK, KRRK, KRBK, KRNK, KRPK, KBBK, KBNK, KBPK, KNNK, KNPK, KPPK, KQKQ, KQKR, KQKB, KQKN, KQKP, KRKR, KRKB, KRKN, KRKP, KBKB, KBKN, KBKP, KNKN, KNKP, KPKP}
 use Rattle.study_board.specs.Position.{Position}
 use Rattle.study_material.specs.Lists.{Lists, of, lists, ordered}
 use Rattle.study_material.specs.Class.{lists_of, class_list, same_kinds, same_lists, IsOf, is_of}
 use Rattle.study_material.specs.Needs.{is_in}
-
-kind_self : (k : Kind) → same_kind k k ≡ true
-kind_self King = refl
-kind_self Queen = refl
-kind_self Rook = refl
-kind_self Bishop = refl
-kind_self Knight = refl
-kind_self Pawn = refl
-
-pub kinds_equal : (k l : Kind) → same_kind k l ≡ true → k ≡ l
-kinds_equal King King e = refl
-kinds_equal Queen Queen e = refl
-kinds_equal Rook Rook e = refl
-kinds_equal Bishop Bishop e = refl
-kinds_equal Knight Knight e = refl
-kinds_equal Pawn Pawn e = refl
-kinds_equal _ _ e = absurd (false≢true e)
 
 same_kinds-self : (xs : List Kind) → same_kinds xs xs ≡ true
 same_kinds-self [] = refl

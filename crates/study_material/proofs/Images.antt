@@ -11,6 +11,7 @@ use Rattle.study_board.specs.declared.men.Kind.{Kind}
 use Rattle.study_board.specs.declared.men.Kind.TheVariants.{King, Queen, Rook, Bishop, Knight, Pawn}
 use Rattle.study_board.specs.declared.symmetry.Symmetry.{Symmetry}
 use Rattle.study_board.specs.Men.{same_kind}
+use Rattle.study_board.specs.EqualLaws.{kind_self}
 use Rattle.study_board.specs.Symmetry.{turned_side, turned_man, turned_men}
 use Rattle.study_board.specs.Images.{differ}
 use Rattle.study_board.proofs.Coordinates.{same_side-turned}
@@ -127,14 +128,6 @@ neither_earlier (x ∷ xs) (y ∷ ys) l e f = by_heads (compared x y) e f (λ h 
     by_heads (inr (inl h)) e f rest = absurd (false≢true (sym f ∙ rw h.0))
     by_heads (inr (inr h)) e f rest = same x y h e f
       where
-        kind_self : (k : Kind) → same_kind k k ≡ true
-        kind_self King = refl
-        kind_self Queen = refl
-        kind_self Rook = refl
-        kind_self Bishop = refl
-        kind_self Knight = refl
-        kind_self Pawn = refl
-
         same : (x y : Kind) → x ≡ y → step x y (is_earlier xs ys) ≡ false → step y x (is_earlier ys xs) ≡ false → x ∷ xs ≡ y ∷ ys
         same x y h e f =
             let e' : is_earlier xs ys ≡ false = rw (← h, not_below (kind_place x), kind_self x) at e in

@@ -26,7 +26,7 @@ use Rattle.study_material.specs.declared.class.Class.{Class}
 use Rattle.study_material.specs.Lists.{Lists, of, put_kind, kinds_of, lists, ordered}
 use Rattle.study_material.specs.Class.{IsOf}
 use Rattle.study_material.specs.Needs.{officers, reached, LeadsOn}
-use Rattle.study_material.proofs.Classes.{kinds_equal}
+use Rattle.study_board.specs.EqualLaws.{kinds_equal}
 use Rattle.study_material.proofs.Counts.{many, many-count, many-IsPermutation, lists-IsPermutation}
 use Rattle.study_material.proofs.Exists.{class_exists}
 use Rattle.study_material.proofs.Images.{ordered-exchanged}

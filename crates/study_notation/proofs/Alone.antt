@@ -4,11 +4,11 @@ use Rattle.std.proofs.lemmas.Bool.{false≢true, and_parts, and_from, cases_Bool
 use Rattle.std.specs.List.{filter}
 use Rattle.study_board.specs.declared.men.Man.{Man}
 use Rattle.study_board.specs.declared.men.Side.{Side}
-use Rattle.study_board.specs.declared.men.Side.TheVariants.{White, Black}
 use Rattle.study_board.specs.declared.men.Kind.{Kind}
-use Rattle.study_board.specs.declared.men.Kind.TheVariants.{King, Queen, Rook, Bishop, Knight, Pawn}
+use Rattle.study_board.specs.declared.men.Kind.TheVariants.{Pawn}
 use Rattle.study_board.specs.Geometry.{file_of, rank_of}
 use Rattle.study_board.specs.Men.{same_side, same_kind, is_man}
+use Rattle.study_board.specs.EqualLaws.{side_self, sides_equal, kind_self, kinds_equal}
 use Rattle.study_board.specs.Position.{Position, IsValid, man_at}
 use Rattle.study_moves.specs.declared.moves.Move.{Move}
 use Rattle.study_moves.specs.Rules.{is_legal, is_pawn, is_choice, reaches_end}
@@ -24,33 +24,6 @@ use Rattle.study_notation.proofs.Sorted.{alone}
 use Rattle.study_notation.proofs.Listed.{in_legal, is_legal-in, AscendsFrom-legal_list}
 use Rattle.study_notation.proofs.Three.{not_three}
 use Rattle.study_notation.proofs.Pawns.{Advances, advances_or_captures, same_advance, same_capture}
-
-side_self : (s : Side) → same_side s s ≡ true
-side_self White = refl
-side_self Black = refl
-
-sides_equal : (s t : Side) → same_side s t ≡ true → s ≡ t
-sides_equal White White e = refl
-sides_equal White Black e = absurd (false≢true e)
-sides_equal Black White e = absurd (false≢true e)
-sides_equal Black Black e = refl
-
-kind_self : (k : Kind) → same_kind k k ≡ true
-kind_self King = refl
-kind_self Queen = refl
-kind_self Rook = refl
-kind_self Bishop = refl
-kind_self Knight = refl
-kind_self Pawn = refl
-
-kinds_equal : (k l : Kind) → same_kind k l ≡ true → k ≡ l
-kinds_equal King King e = refl
-kinds_equal Queen Queen e = refl
-kinds_equal Rook Rook e = refl
-kinds_equal Bishop Bishop e = refl
-kinds_equal Knight Knight e = refl
-kinds_equal Pawn Pawn e = refl
-kinds_equal _ _ e = absurd (false≢true e)
 
 promotion_self : (q : Option Kind) → same_promotion q q ≡ true
 promotion_self None = refl
