@@ -75,12 +75,9 @@ fn long_line<'a, A: Allocator>(
 ) -> Result<Path<'a, A>, AllocError> {
     let mut path = Path::root(alloc);
     for turn in 0..MAX_DEPTH {
-        assert_eq!(rt; tree.reserve(path.steps()), Ok(()), "at {turn}");
-        assert_eq!(rt;
-            tree.add_last(path.steps(), king_move(turn), 7),
-            Ok(0),
-            "at {turn}"
-        );
+        assert!(rt; tree.reserve(path.steps()).is_ok());
+        let place = tree.add_last(path.steps(), king_move(turn), 7);
+        assert!(rt; place == Ok(0));
         path.push(0)?;
     }
     Ok(path)
@@ -153,11 +150,16 @@ fn limits(rt: HostRuntime) -> Result<(), Fail> {
 /// A tree of six nodes: below the root two moves, below the first of them two, and below the first of those one.
 fn small_tree<'a, A: Allocator>(rt: &impl Abort, alloc: &'a A) -> Tree<'a, u32, A> {
     let mut tree = Tree::new(alloc, 10);
-    assert_eq!(rt; tree.add_last(&[], king_move(0), 11), Ok(0));
-    assert_eq!(rt; tree.add_last(&[], king_move(2), 12), Ok(1));
-    assert_eq!(rt; tree.add_last(&[0], king_move(1), 13), Ok(0));
-    assert_eq!(rt; tree.add_last(&[0], king_move(3), 14), Ok(1));
-    assert_eq!(rt; tree.add_last(&[0, 0], king_move(0), 15), Ok(0));
+    for (steps, turn, label, place) in [
+        (&[][..], 0, 11, 0),
+        (&[], 2, 12, 1),
+        (&[0], 1, 13, 0),
+        (&[0], 3, 14, 1),
+        (&[0, 0], 0, 15, 0),
+    ] {
+        let added = tree.add_last(steps, king_move(turn), label);
+        assert!(rt; added == Ok(place));
+    }
     tree
 }
 
@@ -204,30 +206,37 @@ fn edits_in_written_order(rt: HostRuntime) -> Result<(), Fail> {
     Ok(())
 }
 
+/// That no call finds a node at the path.
+fn expect_no_node<A: Allocator>(rt: &impl Abort, tree: &mut Tree<'_, u32, A>, steps: &[u16]) {
+    use TreeFault::NoSuchNode;
+    assert!(rt; shown(tree, steps).is_none(), "{steps:?}");
+    assert_eq!(rt; tree.remove(steps), Err(NoSuchNode), "{steps:?}");
+    assert_eq!(rt; tree.move_up(steps), Err(NoSuchNode), "{steps:?}");
+    assert_eq!(rt; tree.relabel(steps, 16), Err(NoSuchNode), "{steps:?}");
+    assert_eq!(rt; tree.reserve(steps), Err(NoSuchNode), "{steps:?}");
+    let added = tree.add_last(steps, king_move(0), 16);
+    assert_eq!(rt; added, Err(NoSuchNode), "{steps:?}");
+}
+
 /// Each fault of a small tree; where two hold, the first is told.
 #[test]
 fn faults(rt: HostRuntime) -> Result<(), Fail> {
-    use TreeFault::{AlreadyFirst, NoSuchNode, Root};
+    use TreeFault::{AlreadyFirst, Root};
     let alloc = rt.alloc();
     let mut tree = small_tree(&rt, &alloc);
     let rows = rows_of(alloc, &tree)?;
     for steps in [&[2][..], &[1, 0], &[5, 0], &[0, 0, 0, 0]] {
-        assert!(rt; shown(&tree, steps).is_none(), "{steps:?}");
-        assert_eq!(rt; tree.remove(steps), Err(NoSuchNode), "{steps:?}");
-        assert_eq!(rt; tree.move_up(steps), Err(NoSuchNode), "{steps:?}");
-        assert_eq!(rt; tree.relabel(steps, 16), Err(NoSuchNode), "{steps:?}");
-        assert_eq!(rt; tree.reserve(steps), Err(NoSuchNode), "{steps:?}");
-        assert_eq!(rt;
-            tree.add_last(steps, king_move(0), 16),
-            Err(NoSuchNode),
-            "{steps:?}"
-        );
+        expect_no_node(&rt, &mut tree, steps);
     }
     assert_eq!(rt; tree.remove(&[]), Err(Root));
-    assert_eq!(rt; tree.move_up(&[]), Err(Root));
-    assert_eq!(rt; tree.move_up(&[0]), Err(AlreadyFirst));
-    assert_eq!(rt; tree.move_up(&[0, 0]), Err(AlreadyFirst));
-    assert!(rt; rows_of(alloc, &tree)? == rows, "unchanged");
+    for (steps, want) in [
+        (&[][..], Root),
+        (&[0], AlreadyFirst),
+        (&[0, 0], AlreadyFirst),
+    ] {
+        assert_eq!(rt; tree.move_up(steps), Err(want), "{steps:?}");
+    }
+    assert!(rt; has_rows(alloc, &tree, rows.as_slice())?, "unchanged");
     assert_eq!(rt; (tree.size(), tree.relabelled()), (6, 5));
     Ok(())
 }
