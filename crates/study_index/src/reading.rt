@@ -290,7 +290,8 @@ fn slots_of_both(class: Class) -> &'static [Slot]
     ensures { result.now ≡ slots_of class }
 {
     use Class::*;
-    match class {        KQKQ => &[WHITE_KING, BLACK_KING, WHITE_QUEEN, BLACK_QUEEN],
+    match class {
+        KQKQ => &[WHITE_KING, BLACK_KING, WHITE_QUEEN, BLACK_QUEEN],
         KQKR => &[WHITE_KING, BLACK_KING, WHITE_QUEEN, BLACK_ROOK],
         KQKB => &[WHITE_KING, BLACK_KING, WHITE_QUEEN, BLACK_BISHOP],
         KQKN => &[WHITE_KING, BLACK_KING, WHITE_QUEEN, BLACK_KNIGHT],

@@ -72,7 +72,8 @@ fn needed_by_both(class: Class) -> &'static [Class]
     ensures few { length result.now ≤ 36 }
 {
     use Class::*;
-    match class {        KQKQ => &[KQK],
+    match class {
+        KQKQ => &[KQK],
         KQKR => &[KQK, KRK],
         KQKB => &[KQK, KBK],
         KQKN => &[KQK, KNK],
@@ -133,7 +134,8 @@ fn ordered_of_both(class: Class) -> &'static [Class]
     ensures few { length result.now ≤ 36 }
 {
     use Class::*;
-    match class {        KQKQ => &[KK, KQK, KQKQ],
+    match class {
+        KQKQ => &[KK, KQK, KQKQ],
         KQKR => &[KK, KQK, KRK, KQKR],
         KQKB => &[KK, KQK, KBK, KQKB],
         KQKN => &[KK, KQK, KNK, KQKN],
