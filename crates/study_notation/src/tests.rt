@@ -160,38 +160,41 @@ fn reads_moves_and_tells_why_not(rt: HostRuntime) -> Result<(), Fail> {
     Ok(())
 }
 
+/// Starts, moves, and the starts after them.
+static PLAYED: [(&str, &str, &str); 5] = [
+    (
+        "8/8/8/8/k2Pp3/8/8/4K3 b - d3 0 1",
+        "exd3",
+        "8/8/8/8/k7/3p4/8/4K3 w - - 0 2",
+    ),
+    (
+        "8/8/8/8/k2Pp3/8/8/4K3 b - d3 7 9",
+        "Ka3",
+        "8/8/8/8/3Pp3/k7/8/4K3 w - - 8 10",
+    ),
+    (
+        "8/8/8/8/k3p3/8/3P4/4K3 w - - 7 9",
+        "d4",
+        "8/8/8/8/k2Pp3/8/8/4K3 b - d3 0 9",
+    ),
+    (
+        "8/8/8/8/8/8/1R1K4/k7 b - - 5 41",
+        "Kxb2",
+        "8/8/8/8/8/8/1k1K4/8 w - - 0 42",
+    ),
+    (
+        "k7/8/1K6/8/8/8/8/7R w - - 9999 9999",
+        "Ra1",
+        "k7/8/1K6/8/8/8/8/R7 b - - 10000 9999",
+    ),
+];
+
 #[test]
 fn counts_as_moves_are_played(rt: HostRuntime) -> Result<(), Fail> {
-    for (fen, san, want) in [
-        (
-            "8/8/8/8/k2Pp3/8/8/4K3 b - d3 0 1",
-            "exd3",
-            "8/8/8/8/k7/3p4/8/4K3 w - - 0 2",
-        ),
-        (
-            "8/8/8/8/k2Pp3/8/8/4K3 b - d3 7 9",
-            "Ka3",
-            "8/8/8/8/3Pp3/k7/8/4K3 w - - 8 10",
-        ),
-        (
-            "8/8/8/8/k3p3/8/3P4/4K3 w - - 7 9",
-            "d4",
-            "8/8/8/8/k2Pp3/8/8/4K3 b - d3 0 9",
-        ),
-        (
-            "8/8/8/8/8/8/1R1K4/k7 b - - 5 41",
-            "Kxb2",
-            "8/8/8/8/8/8/1k1K4/8 w - - 0 42",
-        ),
-        (
-            "k7/8/1K6/8/8/8/8/7R w - - 9999 9999",
-            "Ra1",
-            "k7/8/1K6/8/8/8/8/R7 b - - 10000 9999",
-        ),
-    ] {
+    for (fen, san, want) in &PLAYED {
         let start = read_fen(fen)?;
         let m = read_san(&start.position, san)?;
-        assert_eq!(rt; write_fen(&start.played(m)).as_str(), want);
+        assert_eq!(rt; write_fen(&start.played(m)).as_str(), *want);
     }
     let most = Start {
         position: read_fen("k7/8/8/8/8/8/8/K7 b - -")?.position,
