@@ -3,3 +3,4 @@ pub mod Whole
 pub mod Sources
 pub mod Paged
 pub mod Told
+pub mod Cache

@@ -1,5 +1,5 @@
 -- Why a source is not held.
-use Rattle.std.specs.Prelude.{◌≡◌, ℕ, ◌==◌, List, Bool, ⊤, Option, Some, None, Result, Ok, Err, if◌then◌else◌}
+use Rattle.std.specs.Prelude.{◌≡◌, ℕ, ◌==◌, List, Bool, true, false, ⊤, Option, Some, None, Result, Ok, Err, if◌then◌else◌}
 use Rattle.study_material.specs.declared.class.Class.{Class}
 use Rattle.study_retro.specs.Table.{Table, place_of}
 use Rattle.study_tablefile.specs.declared.fault.SourceFault.{SourceFault}
@@ -8,7 +8,7 @@ use Rattle.study_tablefile.specs.declared.source.Header.{Header}
 use Rattle.study_tablefile.specs.File.{header_text}
 use Rattle.study_tablefile.specs.Reading.{class_read}
 use Rattle.study_prober.specs.declared.fault.PagedFault.{PagedFault}
-use Rattle.study_prober.specs.declared.fault.PagedFault.TheVariants.{AlreadyHeld, TableRead, Header as BadHeader, OtherClass}
+use Rattle.study_prober.specs.declared.fault.PagedFault.TheVariants.{AlreadyHeld, TableRead, Header as BadHeader, OtherClass, OutOfMemory}
 
 -- what a source may tell when it is asked for its header: a fault, or bytes, those of the header of each table for which it is honest
 abbrev pub MayTell : {S : Type 0} → (S → Table → Type 0) → S → Result (List ℕ) SourceFault → Type 0
@@ -37,3 +37,12 @@ IsTold (Ok bytes) (Err fault) = (e : FileFault) × (fault ≡ BadHeader e) × (c
 abbrev pub IsReadOf : Result Header PagedFault → Class → Type 0
 IsReadOf (Ok h) c = h.class ≡ c
 IsReadOf (Err fault) c = (f : SourceFault) × (fault ≡ TableRead f)
+
+-- the answer tells that a source gave no header
+abbrev pub is_unread : {T : Type 0} → Result T PagedFault → Bool
+is_unread (Ok x) = false
+is_unread (Err (AlreadyHeld c)) = false
+is_unread (Err (TableRead f)) = true
+is_unread (Err (BadHeader f)) = false
+is_unread (Err (OtherClass c)) = false
+is_unread (Err OutOfMemory) = false

@@ -1,6 +1,9 @@
 //! Pages that are kept, the last used first.
-ghost use Rattle.std.specs.Prelude.{◌≡◌, ◌<◌, ◌⊎◌, length, take, Contains, IfSome, slice_index};
+ghost use Rattle.std.specs.Prelude.{◌≡◌, ◌<◌, ◌⊎◌, length, take, Contains, IfSome, OnOk, OnErr, slice_index};
+ghost use Rattle.std.specs.Map.{lookup};
+ghost use Rattle.lru.specs.LruCache.{promoted, put_entries};
 ghost use Rattle.study_retro.specs.Table.{place_of};
+ghost use Rattle.study_prober.specs.Cache.{same_key, key_at, cell_at};
 
 use lru::{DefaultHasher, LruCache};
 use std::alloc::{AllocError, Allocator};
@@ -25,11 +28,23 @@ pub fn place(class: Class) -> u8
     class as u8
 }
 
+/// The page of a class in which a cell stands.
+pub fn key_of(class: Class, cell: u32) -> PageKey
+    ensures { result ≡ key_at class cell }
+{
+    PageKey {
+        class: place(class),
+        number: cell / 4096,
+    }
+}
+
 /// A cell of a page that is kept.
 pub fn kept_byte<'a, A: Allocator>(pages: &mut Pages<'a, A>, key: PageKey, at: usize) -> Option<u8>
     ensures found { IfSome result (λ x. (v : _) × Contains pages.old.entries (key, v) × (x ≡ slice_index v.items at)) }
     ensures fewer { (e : _) → Contains pages.new.entries e → Contains pages.old.entries e }
     ensures room { pages.new.cap ≡ pages.old.cap }
+    ensures value { result ≡ cell_at (λ v. v.items) at (lookup (same_key key) pages.old.entries) }
+    ensures used { pages.new.entries ≡ promoted (same_key key) pages.old.entries }
 {
     let page = pages.get(&key)?;
     let cells = page.as_slice();
@@ -49,6 +64,8 @@ pub fn keep<'a, A: Allocator>(
 ) -> Result<(), AllocError>
     ensures more { (e : _) → Contains pages.new.entries e → Contains pages.old.entries e ⊎ ((e.0 ≡ key) × (e.1.items ≡ take 4096 page.now)) }
     ensures room { pages.new.cap ≡ pages.old.cap }
+    ensures kept { OnOk result ((v : _) × (v.items ≡ take 4096 page.now) × (pages.new.entries ≡ put_entries same_key pages.old key v)) }
+    ensures same { OnErr result (pages.new.entries ≡ pages.old.entries) }
 {
     let copy = Vec::from_slice(alloc, &page[..4096])?;
     pages.put(key, copy)?;

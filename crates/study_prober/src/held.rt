@@ -1,5 +1,5 @@
 //! Sources of pages, each with what its header says, and the cells of their tables.
-ghost use Rattle.std.specs.Prelude.{◌≡◌, ◌<◌, ◌/◌, ◌⊎◌, ℕ, List, Result, Ok, Err, true, false, IfOk, IfErr, OnOk, OnErr, IsErrOf, MatchResult, Contains, slice_index, length, if◌then◌else◌};
+ghost use Rattle.std.specs.Prelude.{◌≡◌, ◌<◌, ◌/◌, ◌⊎◌, ℕ, List, Result, Ok, Err, true, false, IfOk, IfErr, IfSome, OnOk, OnErr, IsErrOf, MatchResult, Contains, slice_index, length, if◌then◌else◌};
 ghost use Rattle.study_material.specs.declared.class.Class.{Class as AClass};
 ghost use Rattle.study_retro.specs.Cells.{value_of};
 ghost use Rattle.study_retro.specs.Table.{Table as Seen, IsComplete, place_of};
@@ -8,10 +8,12 @@ ghost use Rattle.study_tablefile.specs.declared.fault.SourceFault.{SourceFault a
 ghost use Rattle.study_tablefile.specs.File.{pages_of};
 ghost use Rattle.study_tablefile.specs.Reading.{class_read};
 ghost use Rattle.study_tablefile.specs.Source.{counted, is_whole_page, page_of};
+ghost use Rattle.lru.specs.LruCache.{promoted};
+ghost use Rattle.study_prober.specs.Cache.{same_key, key_at, kept_cell};
 ghost use Rattle.study_prober.specs.Sources.{AreChecked, IsReadOff, AreHonestAlike, AreOf, IsHeaderOf, is_read_fault, page_cells_of};
-ghost use Rattle.study_prober.specs.Told.{MayTell, IsReadOf, IsTold};
+ghost use Rattle.study_prober.specs.Told.{MayTell, IsReadOf, IsTold, is_unread};
 
-use crate::cache::{PageKey, Pages, keep, kept_byte, place};
+use crate::cache::{PageKey, Pages, keep, kept_byte, key_of};
 use crate::fault::PagedFault;
 use crate::values::ProbeFault;
 use std::alloc::Allocator;
@@ -28,7 +30,7 @@ pub struct Held<S> {
 /// Asks a source for its header.
 pub fn header_of<S: PageSource>(source: &mut S) -> Result<Header, PagedFault>
     ensures same { AreHonestAlike S.honest source.old source.new }
-    ensures count { OnOk result (S.failed source.new ≡ S.failed source.old) }
+    ensures count { S.failed source.new ≡ (if is_unread result then counted (S.failed source.old) else S.failed source.old) }
     ensures told { (told : Result (List ℕ) ASourceFault) × MayTell S.honest source.old told × IsTold told result }
     ensures header { IfOk result (λ h. IsHeaderOf h h.class) }
     ensures reads { (t : Seen) → IsComplete t → S.honest source.old t → IsReadOf result t.class }
@@ -108,12 +110,10 @@ pub fn value_in<'a, S: PageSource, A: Allocator>(
     ensures no_table { (c : AClass) → IsErrOf result (ProbeFault.NoTable c) → ⊥ }
     ensures failed { S.failed held.new.source ≡ (if is_read_fault result then counted (S.failed held.old.source) else S.failed held.old.source) }
     ensures more { (e : _) → Contains pages.new.entries e → Contains pages.old.entries e ⊎ ((e.0.class ≡ place_of held.old.header.class) × ((t : Seen) → S.honest held.old.source t → t.class ≡ held.old.header.class → e.1.items ≡ page_cells_of t e.0.number) × AreChecked held.old.header.class e.0.number e.1.items) }
+    ensures again { IfSome (kept_cell (λ v. v.items) pages.old.entries held.old.header.class number) (λ x. (result ≡ Ok (value_of x)) × (held.new ≡ held.old) × (pages.new.entries ≡ promoted (same_key (key_at held.old.header.class number)) pages.old.entries)) }
     ensures read { ((e : _) → Contains pages.old.entries e → e.0.class ≡ place_of held.old.header.class → AreChecked held.old.header.class e.0.number e.1.items) → IfOk result (IsReadOff held.old.header.class number) }
 {
-    let key = PageKey {
-        class: place(held.header.class),
-        number: number / 4096,
-    };
+    let key = key_of(held.header.class, number);
     let at = (number % 4096) as usize;
     match kept_byte(pages, key, at) {
         Some(cell) => Ok(value_at(cell)),

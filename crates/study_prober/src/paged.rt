@@ -13,7 +13,7 @@ ghost use Rattle.study_prober.specs.declared.held.Held.{Held as AHeld};
 ghost use Rattle.study_prober.specs.Sources.{AreHonestAlike, AreOf, IsReadOff, GivesRight, IsHeaderOf, is_read_fault};
 ghost use Rattle.study_prober.specs.Paged.{AreRight, IsKept, IsSameSource, held_of, places};
 ghost use Rattle.study_prober.specs.Values.{is_device_fault};
-ghost use Rattle.study_prober.specs.Told.{MayTell, paged_fault};
+ghost use Rattle.study_prober.specs.Told.{MayTell, paged_fault, is_unread};
 
 use crate::cache::{Pages, place};
 use crate::fault::PagedFault;
@@ -75,6 +75,9 @@ impl<'a, S: PageSource, A: Allocator> PagedTables<'a, S, A> {
         ensures fault { (told : Result (List ℕ) ASourceFault) × MayTell S.honest source told × MatchOption (paged_fault (is_some (held_of self.old.sources class)) class told) (IfErr result (λ e. e ≡ PagedFault.OutOfMemory)) (λ fault. IsErrOf result fault) }
         ensures added { OnOk result ((h : AHeld S) × IsHeaderOf h.header class × AreHonestAlike S.honest source h.source × (S.failed h.source ≡ S.failed source) × (self.new ≡ record self.old { sources = slice_set (places self.old.sources) (place_of class) (Some h) })) }
         ensures same { OnErr result (self.new ≡ self.old) }
+
+        // The source as it was left: it fails once more where its header is not read, and only there.
+        ensures last { (last : S) × AreHonestAlike S.honest source last × (S.failed last ≡ (if is_unread result then counted (S.failed source) else S.failed source)) }
 
         // Of a source that is honest for a table the header is never refused, and a class is the table's.
         ensures header { (t : Seen) (e : AFileFault) → IsComplete t → S.honest source t → IsErrOf result (PagedFault.Header e) → ⊥ }

@@ -10,3 +10,6 @@ returns-clause-more g c = λ e h.
       | inl was ↦ inl was
       | inr new ↦ inr (elim new.1 [ inl k ↦ k | inr k ↦ sym (same_key-is _ _ k.2) ], ap (λ v. v.items) new.0 ∙ c.in_ok-copy.ensures.items)
     ]
+
+pub returns-clause-kept : goal.returns-clause-kept
+returns-clause-kept g c = (c.in_ok-copy.copy, c.in_ok-copy.ensures.items, ap (λ q. q.entries) c.in_ok-put.ensures.entries)

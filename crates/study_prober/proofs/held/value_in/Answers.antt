@@ -7,25 +7,33 @@ use Rattle.study_prober.proofs.Cells.{page_of_cell, cell_of_page, told_cell}
 use Rattle.study_prober.proofs.held.value_in.Goals as goal
 
 pub read_value-requires-clause-number : goal.read_value-requires-clause-number
-read_value-requires-clause-number g c = page_of_cell c.args.held.now.header.class c.args.number c.requires.number
+read_value-requires-clause-number g c = rw c.key_of-key.ensures (page_of_cell c.args.held.now.header.class c.args.number c.requires.number)
 
 pub returns-in-Some-clause-ok : goal.returns-in-Some-clause-ok
 returns-in-Some-clause-ok g c = λ t honest same kept.
     let found = c.in-Some.ensures.found in
-    c.value_at.ensures ∙ ap value_of (found.2 ∙ ap (λ (cells : List ℕ). get_or cells (c.args.number % 4096) 0) (kept.is (_, found.0) found.1 (c.place.ensures.value ∙ ap place_of (sym same))) ∙ cell_of_page t c.args.number)
+    let own = kept.is (_, found.0) found.1 (ap (λ (k : PageKey). k.class) c.key_of-key.ensures ∙ ap place_of (sym same)) ∙ ap (λ (k : PageKey). page_cells_of t k.number) c.key_of-key.ensures in
+    c.value_at.ensures ∙ ap value_of (found.2 ∙ ap (λ (cells : List ℕ). get_or cells (c.args.number % 4096) 0) own ∙ cell_of_page t c.args.number)
 
 pub returns-in-None-clause-ok : goal.returns-in-None-clause-ok
-returns-in-None-clause-ok g c = λ t honest same kept. told_cell t c.args.number c.read_value.result (c.read_value.ensures.ok t honest same)
+returns-in-None-clause-ok g c = λ t honest same kept. told_cell t c.args.number c.read_value.result (rw c.key_of-key.ensures at (c.read_value.ensures.ok t honest same))
 
 pub returns-in-None-clause-more : goal.returns-in-None-clause-more
 returns-in-None-clause-more g c = λ e h.
     elim (c.read_value.ensures.more e h) [
       | inl was ↦ inl (c.in-None.ensures.fewer e was)
-      | inr new ↦ inr (ap (λ (k : PageKey). k.class) new.0 ∙ c.place.ensures.value, λ t honest same. new.1 t honest same ∙ ap (λ (k : PageKey). page_cells_of t k.number) (sym new.0), subst (λ (k : PageKey). AreChecked c.args.held.now.header.class k.number e.1.items) (sym new.0) new.2)
+      | inr new ↦ inr (
+        ap (λ (k : PageKey). k.class) (new.0 ∙ c.key_of-key.ensures),
+        λ t honest same. new.1 t honest same ∙ ap (λ (k : PageKey). page_cells_of t k.number) (sym new.0),
+        subst (λ (k : PageKey). AreChecked c.args.held.now.header.class k.number e.1.items) (sym new.0) new.2,
+      )
     ]
 
 pub returns-in-Some-clause-read : goal.returns-in-Some-clause-read
-returns-in-Some-clause-read g c = λ kept. let found = c.in-Some.ensures.found in (found.0.items, kept (_, found.0) found.1 c.place.ensures.value, c.value_at.ensures ∙ ap value_of found.2)
+returns-in-Some-clause-read g c = λ kept.
+    let found = c.in-Some.ensures.found in
+    let checked = kept (_, found.0) found.1 (ap (λ (k : PageKey). k.class) c.key_of-key.ensures) in
+    (found.0.items, subst (λ (k : PageKey). AreChecked c.args.held.now.header.class k.number found.0.items) c.key_of-key.ensures checked, c.value_at.ensures ∙ ap value_of found.2)
 
 pub returns-in-None-clause-read : goal.returns-in-None-clause-read
-returns-in-None-clause-read g c = λ kept. c.read_value.ensures.read
+returns-in-None-clause-read g c = λ kept. rw c.key_of-key.ensures at c.read_value.ensures.read

@@ -1,7 +1,8 @@
 use Rattle.std.proofs.Common.{◌≡◌, ◌/◌, ℕ, rules, sym, ◌∙◌, ap, subst}
 use Rattle.study_material.specs.declared.class.Class.{Class}
 use Rattle.study_material.specs.Class.{IsOf}
-use Rattle.study_prober.proofs.Kept.{header_own, kept_after, same_after, held_at}
+use Rattle.study_retro.proofs.SetLemmas.{place_of-injective}
+use Rattle.study_prober.proofs.Kept.{header_own, held_other, kept_after, same_after, held_at}
 use Rattle.study_prober.proofs.Tables.{one_class}
 use Rattle.study_prober.proofs.Checked.{read_at}
 use Rattle.study_prober.proofs.Probed.{number_in, told_at, whole_at, failed_at, game_at}
@@ -59,3 +60,7 @@ returns-in-Some-clause-read g c = λ d of.
     let is = held_at c.args.sources.now.items c.class_of-class.result.0 c.place-at.result c.index_mut.result.now c.in-Some.held c.place-at.ensures.value (search rules) c.index_mut.ensures.value c.in-Some.is in
     let own = (c.requires.header c.class_of-class.result.0 c.in-Some.held is.1).class in
     read_at c.in-Some.held.header.class d c.index.result _ c.value_in.result (own ∙ sym (one_class d c.class_of-class.result.0 c.args.p.now of c.class_of-class.ensures.class)) c.index.ensures.value (c.value_in.ensures.read (λ e i at. c.requires.checked e c.in-Some.held.header.class i at))
+
+pub returns-in-Some-clause-others : goal.returns-in-Some-clause-others
+returns-in-Some-clause-others g c = λ d far.
+    rw c.place-at.ensures.value (held_other c.args.sources.now.items c.class_of-class.result.0 d _ (λ e. far (subst (λ (x : Class). IsOf x c.args.p.now) (place_of-injective c.class_of-class.result.0 d e) c.class_of-class.ensures.class)))

@@ -6,11 +6,14 @@ use Rattle.study_material.specs.contracts.class.Class.{the_type}
 use Rattle.study_prober.specs.Sources.{IsHeaderOf}
 use Rattle.study_prober.specs.Paged.{Paged, held_of, AreRight}
 use Rattle.study_prober.proofs.Faults.{fault_held, fault_other, fault_none, only_memory}
-use Rattle.study_prober.proofs.Kept.{kept_with, right_with, gives_more}
+use Rattle.study_prober.proofs.Kept.{alike_refl, kept_with, right_with, gives_more}
 use Rattle.study_prober.proofs.paged.PagedTables.add.Goals as goal
 
 pub returns-then-holds-clause-fault : goal.returns-then-holds-clause-fault
 returns-then-holds-clause-fault g c = fault_held g.S.PageSource.honest c.args.source (is_some (held_of c.args.self.now.sources c.args.class)) c.args.class (sym c.holds.ensures ∙ c.if-holds.true)
+
+pub returns-then-holds-clause-last : goal.returns-then-holds-clause-last
+returns-then-holds-clause-last g c = (c.args.source, alike_refl g.S.PageSource.honest c.args.source, refl)
 
 pub returns-then-ne-clause-fault : goal.returns-then-ne-clause-fault
 returns-then-ne-clause-fault g c =
