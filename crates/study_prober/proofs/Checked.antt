@@ -1,7 +1,7 @@
 -- The cells of a page that passes its check.
-use Rattle.std.proofs.Common.{◌≡◌, ℕ, true, List, ◌++◌, take, drop, sym, subst}
+use Rattle.std.proofs.Common.{◌≡◌, ℕ, true, List, take, drop, sym, subst}
 use Rattle.std.proofs.lemmas.List.{take-append-drop}
-use Rattle.std.specs.Prelude.{Result, Ok, Err, IfOk}
+use Rattle.std.specs.Prelude.{Result, IfOk}
 use Rattle.study_material.specs.declared.class.Class.{Class}
 use Rattle.study_index.specs.Number.{cells_of}
 use Rattle.study_retro.specs.declared.value.Value.{Value}

@@ -6,3 +6,4 @@ pub mod Kept
 pub mod Checked
 pub mod Probed
 pub mod Headers
+pub mod Again
