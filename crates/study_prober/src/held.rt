@@ -8,8 +8,8 @@ ghost use Rattle.study_tablefile.specs.declared.fault.SourceFault.{SourceFault a
 ghost use Rattle.study_tablefile.specs.File.{pages_of};
 ghost use Rattle.study_tablefile.specs.Reading.{class_read};
 ghost use Rattle.study_tablefile.specs.Source.{counted, is_whole_page, page_of};
-ghost use Rattle.lru.specs.LruCache.{promoted};
-ghost use Rattle.study_prober.specs.Cache.{same_key, key_at, kept_cell};
+ghost use Rattle.lru.specs.LruCache.{promoted, put_entries};
+ghost use Rattle.study_prober.specs.Cache.{same_key, key_at, kept_cell, IsUsed};
 ghost use Rattle.study_prober.specs.Sources.{AreChecked, IsReadOff, AreHonestAlike, AreOf, IsHeaderOf, is_read_fault, page_cells_of};
 ghost use Rattle.study_prober.specs.Told.{MayTell, IsReadOf, IsTold, is_unread};
 
@@ -84,6 +84,7 @@ fn read_value<'a, S: PageSource, A: Allocator>(
     ensures no_table { (c : AClass) → IsErrOf result (ProbeFault.NoTable c) → ⊥ }
     ensures failed { S.failed held.new.source ≡ (if is_read_fault result then counted (S.failed held.old.source) else S.failed held.old.source) }
     ensures more { (e : _) → Contains pages.new.entries e → Contains pages.old.entries e ⊎ ((e.0 ≡ key) × ((t : Seen) → S.honest held.old.source t → t.class ≡ held.old.header.class → e.1.items ≡ page_cells_of t key.number) × AreChecked held.old.header.class key.number e.1.items) }
+    ensures kept { (pages.new.entries ≡ pages.old.entries) ⊎ ((v : _) × (pages.new.entries ≡ put_entries same_key pages.old key v)) }
     ensures read { IfOk result (λ v. (cells : List ℕ) × AreChecked held.old.header.class key.number cells × (v ≡ value_of (slice_index cells at))) }
 {
     let mut page = [0; 4128];
@@ -110,6 +111,7 @@ pub fn value_in<'a, S: PageSource, A: Allocator>(
     ensures no_table { (c : AClass) → IsErrOf result (ProbeFault.NoTable c) → ⊥ }
     ensures failed { S.failed held.new.source ≡ (if is_read_fault result then counted (S.failed held.old.source) else S.failed held.old.source) }
     ensures more { (e : _) → Contains pages.new.entries e → Contains pages.old.entries e ⊎ ((e.0.class ≡ place_of held.old.header.class) × ((t : Seen) → S.honest held.old.source t → t.class ≡ held.old.header.class → e.1.items ≡ page_cells_of t e.0.number) × AreChecked held.old.header.class e.0.number e.1.items) }
+    ensures kept { IsUsed (key_at held.old.header.class number) pages.old.cap pages.old.entries pages.new.entries }
     ensures again { IfSome (kept_cell (λ v. v.items) pages.old.entries held.old.header.class number) (λ x. (result ≡ Ok (value_of x)) × (held.new ≡ held.old) × (pages.new.entries ≡ promoted (same_key (key_at held.old.header.class number)) pages.old.entries)) }
     ensures read { ((e : _) → Contains pages.old.entries e → e.0.class ≡ place_of held.old.header.class → AreChecked held.old.header.class e.0.number e.1.items) → IfOk result (IsReadOff held.old.header.class number) }
 {

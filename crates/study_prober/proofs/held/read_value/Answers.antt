@@ -2,6 +2,7 @@ use Rattle.std.proofs.Common.{ℕ, List, take, get_or, inl, inr, sym, ◌∙◌,
 use Rattle.std.proofs.lemmas.List.{get_or-take}
 use Rattle.study_retro.specs.Cells.{value_of}
 use Rattle.study_prober.specs.Sources.{AreChecked}
+use Rattle.study_prober.proofs.Again.{put_or_not}
 use Rattle.study_prober.proofs.Checked.{checked_page}
 use Rattle.study_prober.proofs.Faults.{passed_on}
 use Rattle.study_prober.proofs.held.read_value.Goals as goal
@@ -31,3 +32,6 @@ returns-clause-read g c = (
   checked_page c.args.held.now.header c.args.key.number c.page.new.into c.requires.header c.in_ok-page.ensures.checked,
   c.value_at.ensures ∙ ap value_of (sym (get_or-take 4096 c.page.new.into c.args.at 0 c.requires.at)),
 )
+
+pub returns-clause-kept : goal.returns-clause-kept
+returns-clause-kept g c = elim (put_or_not c.keep.result c.keep.ensures.kept c.keep.ensures.same) [ inl same ↦ inl same | inr put ↦ inr (put.0, put.2) ]
