@@ -17,6 +17,10 @@ one_class c d p h k = lists_of-injective c d (h ∙ sym k)
 pub table_class : (held : List (Option Table)) (d : Class) (p : Position) (t : Table) → IsClosed held → IsOf d p → Some t ≡ table_of held d → IsOf t.class p
 table_class held d p t closed is e = subst (λ (k : Class). IsOf k p) (sym (closed.class d t (sym e))) is
 
+-- one class has one table
+pub same_table : (held : List (Option Table)) (c d : Class) (t u : Table) → c ≡ d → Some u ≡ table_of held d → table_of held c ≡ Some t → u ≡ t
+same_table held c d t u same found is = let one : ◌≡◌ {A = Option Table} (Some u) (Some t) = found ∙ ap (λ (k : Class). table_of held k) (sym same) ∙ is in cc
+
 -- no table is held for the class of the position
 pub none_held : (held : List (Option Table)) (d c : Class) (p : Position) → IsOf d p → None ≡ table_of held d
     → (IsErrOf {T = Value} (Err (NoTable d)) (NoTable c) → IsOf c p × (is_some (table_of held c) ≡ false)) × (IsOf c p × (is_some (table_of held c) ≡ false) → IsErrOf {T = Value} (Err (NoTable d)) (NoTable c))

@@ -55,7 +55,11 @@ impl<V: Values> Values for FailingValues<V> {
         ensures asked { self.new.asked ≡ counted self.old.asked }
         ensures failures { self.new.failures ≡ (if is_device_fault result then counted self.old.failures else self.old.failures) }
         ensures fails { self.old.fails_at ≡ Some self.old.asked → (c : AClass) → IsOf c p.now → V.held self.old.values c ≡ true → result ≡ Err (ProbeFault.TableRead SourceFault.Device) }
+        ensures not_asked { self.old.fails_at ≡ Some self.old.asked → (c : AClass) → IsOf c p.now → V.held self.old.values c ≡ true → self.new.values ≡ self.old.values }
         ensures same { self.new.fails_at ≡ self.old.fails_at }
+
+        // Any other question goes to the values, once, and a fault of theirs is told as a fault.
+        ensures passed { (self.old.fails_at ≡ Some self.old.asked → ⊥) → (V.asked_of self.new.values ≡ counted (V.asked_of self.old.values)) × (V.failed_of self.new.values ≡ (if is_device_fault result then counted (V.failed_of self.old.values) else V.failed_of self.old.values)) }
     {
         let number = self.asked;
         self.asked = self.asked.saturating_add(1);
