@@ -78,7 +78,7 @@ impl<'a, S: PageSource, A: Allocator> PagedTables<'a, S, A> {
         ensures added { OnOk result ((h : AHeld S) × IsHeaderOf h.header class × AreHonestAlike S.honest source h.source × (S.failed h.source ≡ S.failed source) × (self.new ≡ record self.old { sources = slice_set (places self.old.sources) (place_of class) (Some h) })) }
         ensures same { OnErr result (self.new ≡ self.old) }
 
-        // The source as it was left: it fails once more where its header is not read, and only there.
+        // There is a last state of the source, which has failed once more where its header is not read, and only there.
         ensures last { (last : S) × AreHonestAlike S.honest source last × (S.failed last ≡ (if is_unread result then counted (S.failed source) else S.failed source)) }
 
         // Of a source that is honest for a table the header is never refused, and a class is the table's.
@@ -190,7 +190,7 @@ impl<'a, S: PageSource, A: Allocator> Values for PagedTables<'a, S, A> {
         ensures others { (c : AClass) → (IsOf c p.now → ⊥) → held_of self.new.sources c ≡ held_of self.old.sources c }
         ensures room { self.new.room ≡ self.old.room }
 
-        // The page is then the last used, or there is no room for it. A cell of a page that is kept is told without its source.
+        // The page goes first where it is kept; else it may be put in. A cell of a kept page is told without its source.
         ensures used { (c : AClass) → IsOf c p.now → IsUsed (key_at c (index_of p.now)) self.old.room self.old.kept self.new.kept }
         ensures again { (c : AClass) → IsOf c p.now → IfSome (kept_cell (λ cells. cells) self.old.kept c (index_of p.now)) (λ x. (result ≡ Ok (value_of x)) × (self.new.sources ≡ self.old.sources) × (self.new.kept ≡ promoted (same_key (key_at c (index_of p.now))) self.old.kept)) }
     {
