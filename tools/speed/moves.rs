@@ -227,3 +227,104 @@ pub fn played(position: &Position, by: Move) -> Position {
 pub fn is_mate(position: &Position) -> bool {
     position.in_check() && legal_moves(position).as_slice().is_empty()
 }
+
+#[inline]
+fn pawn_origins(free: u64, man: &Man) -> u64 {
+    let at = single(man.at);
+    match man.side {
+        Side::White => {
+            let one = at >> 8 & free & !0xff;
+            one | (one & 0xff_0000) >> 8 & free
+        }
+        Side::Black => {
+            let one = at << 8 & free & !(0xff << 56);
+            one | (one & 0xff00_0000_0000) << 8 & free
+        }
+    }
+}
+
+/// The squares from which the man cannot have come, since a king of the side to move was attacked then.
+#[inline]
+fn checks_back(men: &[Man], side: Side, man: &Man) -> u64 {
+    let mut set = 0;
+    for king in men {
+        if king.is(side, Kind::King) {
+            let mirrored = Man {
+                side: man.side.other(),
+                kind: man.kind,
+                at: king.at,
+            };
+            set |= reach_past(men, man.at, &mirrored);
+            for other in men {
+                if other.side != side
+                    && other.at != man.at
+                    && has(reach_past(men, man.at, other), king.at)
+                {
+                    set |= no_shields(other, king.at);
+                }
+            }
+        }
+    }
+    set
+}
+
+/// The squares from which the man can have come by a quiet move.
+#[inline]
+fn origins(position: &Position, man: &Man) -> u64 {
+    let men = position.men();
+    let free = !men.iter().fold(0, |set, man| set | single(man.at));
+    let ways = if man.kind == Kind::Pawn {
+        pawn_origins(free, man)
+    } else {
+        reach(men, man) & free
+    };
+    ways & !checks_back(men, position.to_move, man)
+}
+
+/// Each quiet move that can have led to the position.
+pub fn last_moves(position: &Position) -> List<Move, 192> {
+    let mut list = List::new();
+    for man in position.men() {
+        if man.side != position.to_move {
+            let mut rest = origins(position, man);
+            while rest != 0 {
+                list.push(Move {
+                    origin: Square(rest.trailing_zeros() as u8),
+                    target: man.at,
+                    promoted: None,
+                });
+                rest &= rest - 1;
+            }
+        }
+    }
+    list
+}
+
+/// The position before a quiet move.
+pub fn taken_back(position: &Position, by: Move) -> Position {
+    let man = position
+        .man_at(by.target)
+        .expect("a man stands on the target");
+    let back = Man {
+        at: by.origin,
+        ..man
+    };
+    let unpassed = Position {
+        passed: None,
+        ..*position
+    };
+    Position {
+        men: men_after(&unpassed, &man, back),
+        to_move: position.to_move.other(),
+        passed: None,
+    }
+}
+
+/// Each position from which a quiet move leads to the position.
+pub fn earlier(position: &Position) -> List<Position, 192> {
+    let mut list = List::new();
+    for by in last_moves(position).as_slice() {
+        list.push(taken_back(position, *by));
+    }
+    list
+}

@@ -3,7 +3,7 @@
 use crate::board::{Kind, Man, Side, Square, in_check, is_attacked};
 use crate::list::List;
 
-#[derive(Clone, Copy)]
+#[derive(Clone, Copy, Default)]
 pub struct Position {
     pub men: List<Man, 4>,
     pub to_move: Side,

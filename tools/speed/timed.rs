@@ -4,7 +4,7 @@ use crate::board::{Kind, Man, Side, Square};
 use crate::decode::{cells, decode};
 use crate::index::index;
 use crate::material::Class;
-use crate::moves::{Move, is_legal, legal_moves, played};
+use crate::moves::{Move, earlier, is_legal, last_moves, legal_moves, played, taken_back};
 use crate::position::Position;
 use crate::retro::{ClassGame, Tables};
 use std::hint::black_box;
@@ -108,6 +108,19 @@ fn attacks(positions: &[Position]) -> u64 {
     sum
 }
 
+/// The squares of the men of a position, added up.
+fn squares(position: &Position) -> u64 {
+    position.men().iter().map(|man| u64::from(man.at.0)).sum()
+}
+
+fn taken_back_from(position: &Position) -> u64 {
+    last_moves(position)
+        .as_slice()
+        .iter()
+        .map(|by| squares(&taken_back(position, *by)))
+        .sum()
+}
+
 pub fn calls() {
     for each in SAMPLES {
         let sample = sample(each);
@@ -118,6 +131,21 @@ pub fn calls() {
                 .iter()
                 .map(|position| legal_moves(position).as_slice().len() as u64)
                 .sum()
+        });
+        show("earlier", sample.label, count, || {
+            positions
+                .iter()
+                .map(|position| earlier(position).as_slice().iter().map(squares).sum::<u64>())
+                .sum()
+        });
+        show("last_moves", sample.label, count, || {
+            positions
+                .iter()
+                .map(|position| last_moves(position).as_slice().len() as u64)
+                .sum()
+        });
+        show("taken_back", sample.label, count, || {
+            positions.iter().map(taken_back_from).sum()
         });
         show("played", sample.label, turns.len(), || men_after(turns));
         show("is_legal", sample.label, turns.len(), || legal_by(turns));

@@ -1,9 +1,10 @@
 -- The laws of classes: what tables rest on.
-use Rattle.std.proofs.Common.{◌≡◌, ℕ, ◌<◌, Bool, true, false, cond, List, Option, Some, None, refl, sym, ◌∙◌, ap, subst}
+use Rattle.std.proofs.Common.{◌≡◌, ℕ, ◌+◌, ◌*◌, ◌^◌, ◌<◌, Bool, true, false, cond, ◌||◌, List, [], ◌∷◌, length, Option, Some, None, refl, sym, ◌∙◌, ap, subst, arith}
 use Rattle.std.proofs.lemmas.Bool.{false≢true}
 use borrow.Author.Tests.{ltb-true}
 use Rattle.study_board.specs.declared.men.Man.{Man}
 use Rattle.study_board.specs.declared.men.Side.{Side}
+use Rattle.study_board.specs.declared.men.Kind.TheVariants.{Pawn}
 use Rattle.study_board.specs.Position.{Position, IsValid}
 use Rattle.study_board.specs.Symmetry.{turned_men, image, admits}
 use Rattle.study_board.specs.Images.{IsImage, differ, back}
@@ -22,27 +23,60 @@ use Rattle.study_moves.proofs.BareImages.{bare_image}
 use Rattle.study_moves.proofs.After.{IsValid-after}
 use Rattle.study_moves.proofs.Alike.{admits_after, admits_bare}
 use Rattle.study_material.specs.declared.class.Class.{Class}
-use Rattle.study_material.specs.Lists.{Lists, exchanged, lists, ordered, is_exchanged, is_swapped}
-use Rattle.study_material.specs.Class.{lists_of, is_left_out, IsOf}
+use Rattle.study_material.specs.Lists.{Lists, of, exchanged, lists, ordered, is_exchanged, is_swapped}
+use Rattle.study_material.specs.Class.{lists_of, IsOf}
 use Rattle.study_material.proofs.Images.{ordered-image, swapped-image, compare_lists, black_first, white_first, equal}
-use Rattle.study_index.specs.Number.{number, IsIndex, cells_of}
-use Rattle.study_index.specs.Decoded.{slots_of, IsDecoded}
+use Rattle.study_index.specs.Filling.{IsFilling}
+use Rattle.study_index.specs.Number.{number, places, kinds_have_pawn, has_both_pawns, numbers_of, cells_of, with_bit, has_bit, without_bit, IsLeastNumber, IsIndex}
+use Rattle.study_index.specs.Decoded.{slots_of, passed_behind, IsDecoded}
 use Rattle.study_index.specs.Laws.{AreAlikeIn}
 use Rattle.study_index.proofs.ClassSlots.{AreSlots-class, is_cell-below, class_in_order}
-use Rattle.study_index.proofs.ImageNumbers.{Keeps, has_pawn-image, IsIndex-image, IsIndex-passed, bare_men, bare_to_move}
+use Rattle.study_index.proofs.ImageNumbers.{Keeps, has_pawn-image, IsLeastNumber-image, IsLeastNumber-passed, bare_men, bare_to_move}
 use Rattle.study_index.proofs.ListOrder.{lists-filled, filled_in_order, slots_for}
-use Rattle.study_index.proofs.Live.{not_live}
-use Rattle.study_index.proofs.ReadOff.{IsOfMen-decoded}
+use Rattle.study_index.proofs.Live.{live_class, live_behind, live_along, live_bare, bare_twice, not_live_passed}
+use Rattle.study_index.proofs.ReadOff.{IsLeastNumber-unique, IsOfMen-decoded}
+use Rattle.study_index.proofs.WithBit.{HasParts-from}
+
+-- twice the numbers of a pawn against a pawn
+live_cells : (c : Class) → lists_of c ≡ of (Pawn ∷ []) (Pawn ∷ []) → cells_of c ≡ 33554432
+live_cells c e = ap cells_for e
+  where
+    numbers_for : Lists → ℕ
+    numbers_for l = 2 * places (kinds_have_pawn l.white || kinds_have_pawn l.black) * 64 ^ (1 + length l.white + length l.black)
+
+    cells_for : Lists → ℕ
+    cells_for l = cond (has_both_pawns l) (2 * numbers_for l) (numbers_for l)
 
 pub below : (c : Class) (n : ℕ) (q : Position) → IsDecoded c n q → n < cells_of c
-below c n q d = ltb-true n (cells_of c) (sym (is_cell-below c n) ∙ (IsOfMen-decoded (slots_of c) n q (AreSlots-class c) d).cell)
+below c n q d =
+    let o = IsOfMen-decoded (slots_of c) n q (AreSlots-class c) d in
+    let small = ltb-true (without_bit n) (numbers_of c) (sym (is_cell-below c (without_bit n)) ∙ o.cell) in
+    let parts = HasParts-from q n d.valid d.index in
+    by_live (is_live q) refl parts.is parts.small small
+  where
+    same : lists q.men ≡ lists_of c
+    same = lists-filled c q.men d.read_off.filling d.read_off.fills.each_once d.read_off.slots_are
+
+    of_class : IsOf c q
+    of_class = sym same ∙ unchanged (lists q.men) (ap (λ l. is_exchanged l) same ∙ class_in_order c)
+      where
+        unchanged : (l : Lists) → is_exchanged l ≡ false → l ≡ ordered l
+        unchanged l e = rw e refl
+
+    doubled : (b : Bool) (k m : ℕ) → k < m → k < cond b (2 * m) m
+    doubled true k m l = omega arith
+    doubled false k m l = l
+
+    by_live : (b : Bool) → is_live q ≡ b → n ≡ with_bit b (without_bit n) → without_bit n < 16777216 → without_bit n < numbers_of c → n < cells_of c
+    by_live true e is l small = subst (λ m. n < m) (sym (live_cells c (live_class c q d.valid of_class e))) (let h : n < 33554432 = omega arith in h)
+    by_live false e is l small = doubled (has_both_pawns (lists_of c)) n (numbers_of c) (subst (λ m. m < numbers_of c) (sym is) small)
 
 -- what is read off a number
 pub record IsRead (c : Class) (n : ℕ) (q : Position) : Type 0 where
   pub valid : IsValid q
   pub of_class : IsOf c q
   pub in_order : is_swapped q.men ≡ false
-  pub none_passed : q.passed ≡ None
+  pub is_bare : bare q ≡ q
   pub index : IsIndex q n
 
 pub entry : (c : Class) (n : ℕ) (q : Position) → IsDecoded c n q → IsRead c n q
@@ -53,10 +87,23 @@ entry c n q d =
       valid = d.valid;
       of_class = sym same ∙ unchanged (lists q.men) in_order;
       in_order = in_order;
-      none_passed = d.read_off.none_passed;
+      is_bare = by_live (is_live q) refl;
       index = d.index;
     }
   where
+    none : (b : Bool) (s : Side) (xs : List Man) → b ≡ false → passed_behind b s xs ≡ None
+    none true s xs e = absurd (false≢true (sym e))
+    none false s xs e = refl
+
+    without : (men : List Man) (side : Side) (o : Option ℕ) → o ≡ None → (let r : Position = record { men = men; to_move = side; passed = o } in without_passed r ≡ r)
+    without men side None e = refl
+    without men side (Some x) e = cc
+
+    by_live : (b : Bool) → is_live q ≡ b → cond b q (without_passed q) ≡ q
+    by_live true e = refl
+    by_live false e =
+        without q.men q.to_move q.passed (d.read_off.passed ∙ none (has_bit n) q.to_move d.read_off.filling ((HasParts-from q n d.valid d.index).bit ∙ e))
+
     unchanged : (l : Lists) → is_exchanged l ≡ false → l ≡ ordered l
     unchanged l e = rw e refl
 
@@ -84,13 +131,20 @@ same_class p q c h o =
     let men : q.men ≡ turned_men s p.men = sym (bare_men q) ∙ ap (λ r. r.men) h.images.is ∙ ap (λ xs. turned_men s xs) (bare_men p) in
     o ∙ sym (ap (λ xs. ordered (lists xs)) men ∙ ordered-image s p.men)
 
-pub same_index : (c : Class) (p q : Position) (n : ℕ) → AreAlikeIn c p q → IsOf c p → IsIndex p n → IsIndex q n
-same_index c p q n h o i =
+same_least : (c : Class) (p q : Position) (n : ℕ) → AreAlikeIn c p q → IsOf c p → IsLeastNumber p n → IsLeastNumber q n
+same_least c p q n h o i =
     let s = h.alike.images.by in
     let v = (AgreesWithBare-from_valid p h.alike.left).valid in
     let keeps : Keeps s (bare p) = λ e. h.kept (equal_lists c p o (subst (λ xs. (lists xs).white ≡ (lists xs).black) (bare_men p) e)) in
-    let j : IsIndex (image s (bare p)) n = IsIndex-image s (bare p) n v h.alike.images.admitted keeps (IsIndex-passed p (bare p) n (sym (bare_men p)) (sym (bare_to_move p)) i) in
-    IsIndex-passed (bare q) q n (bare_men q) (bare_to_move q) (subst (λ (r : Position). IsIndex r n) (sym h.alike.images.is) j)
+    let j : IsLeastNumber (image s (bare p)) n = IsLeastNumber-image s (bare p) n v h.alike.images.admitted keeps (IsLeastNumber-passed p (bare p) n (sym (bare_men p)) (sym (bare_to_move p)) i) in
+    IsLeastNumber-passed (bare q) q n (bare_men q) (bare_to_move q) (subst (λ (r : Position). IsLeastNumber r n) (sym h.alike.images.is) j)
+
+pub same_index : (c : Class) (p q : Position) (n : ℕ) → AreAlikeIn c p q → IsOf c p → IsIndex p n → IsIndex q n
+same_index c p q n h o i = record {
+  number = i.number;
+  least = same_least c p q i.number h o i.least;
+  is = i.is ∙ ap (λ b. with_bit b i.number) (sym (live_along h.alike.images.by p q h.alike.images.is));
+}
 
 pub alike_back : (c : Class) (p q : Position) → AreAlikeIn c p q → AreAlikeIn c q p
 alike_back c p q h =
@@ -167,37 +221,55 @@ same_game p q h =
       mated = λ n. ((h.mated n).1, (h.mated n).0);
     }
 
--- the image of the position by the symmetry of its index is read off the index
-pub numbered : (c : Class) (p : Position) (n : ℕ) → is_left_out c ≡ false → IsValid p → IsOf c p → IsIndex p n → (q : Position) × IsDecoded c n q × AreAlikeIn c q p
-numbered c p n kept v o i =
-    let t = i.number.by in
-    let b : Position = without_passed p in
-    let plain : bare p ≡ b = bare_dead (is_live p) (not_live c p v o kept) in
-    let w : IsValid b = subst IsValid plain (AgreesWithBare-from_valid p v).valid in
-    let a : admits b t ≡ true = i.number.admitted in
+HasParts-number : (p : Position) (n : ℕ) (v : IsValid p) (i : IsIndex p n) → without_bit n ≡ i.number
+HasParts-number p n v i = IsLeastNumber-unique p (without_bit n) i.number (HasParts-from p n v i).least i.least
+
+-- the passed square of a position that is its own bare form is the one that the bit tells
+told_passed : (q : Position) (xs : List Man) (b : Bool) → IsValid q → bare q ≡ q → IsFilling false q.men xs → is_live q ≡ b → q.passed ≡ passed_behind b q.to_move xs
+told_passed q xs true v own f e = live_behind q xs v f.each_once e
+told_passed q xs false v own f e = not_live_passed q own e
+
+-- where the lists of the class are equal, so are those of its positions
+equal_back : (c : Class) (p : Position) → IsOf c p → (lists_of c).white ≡ (lists_of c).black → (lists p.men).white ≡ (lists p.men).black
+equal_back c p o e = by_test (is_exchanged (lists p.men)) (subst (λ (l : Lists). l.white ≡ l.black) o e)
+  where
+    by_test : (b : Bool) → (let l : Lists = cond b (exchanged (lists p.men)) (lists p.men) in l.white ≡ l.black) → (lists p.men).white ≡ (lists p.men).black
+    by_test true e = sym e
+    by_test false e = e
+
+-- the image of the bare form by the symmetry of its index is read off the index
+numbered_bare : (c : Class) (p b : Position) (n : ℕ) → IsValid p → IsValid b → bare p ≡ b → bare b ≡ b → IsOf c b → IsIndex b n → (q : Position) × IsDecoded c n q × AreAlikeIn c q p
+numbered_bare c p b n v w plain own o i =
+    let t = i.least.number.by in
+    let a : admits b t ≡ true = i.least.number.admitted in
+    let filling = i.least.number.filling in
     let q : Position = image t b in
+    let turn = IsTurnable-from_valid t b w a in
     let u : IsValid q = valid_image t b w a in
-    let keeps : Keeps t b = λ e. i.number.colours ∙ keeps_swapped p e in
-    let of_class : IsOf c q = o ∙ sym (ordered-image t p.men) in
-    let in_order : is_exchanged (lists q.men) ≡ false = swapped-image t p.men keeps ∙ ap (λ s. differ s (is_swapped p.men)) i.number.colours ∙ differ_same (is_swapped p.men) in
+    let keeps : Keeps t b = λ e. i.least.number.colours ∙ keeps_swapped b e in
+    let of_class : IsOf c q = o ∙ sym (ordered-image t b.men) in
+    let in_order : is_exchanged (lists q.men) ≡ false = swapped-image t b.men keeps ∙ ap (λ s. differ s (is_swapped b.men)) i.least.number.colours ∙ differ_same (is_swapped b.men) in
     let same : lists q.men ≡ lists_of c = sym (of_class ∙ unchanged (lists q.men) in_order) in
-    let bare_image : q ≡ bare q = bare_none q refl in
-    let back_to : IsImage q (bare p) = record {
-      by = back t;
-      admitted = admits_image t (back t) b w a ∙ admits_back t b a;
-      is = plain ∙ sym (image_back t b (IsTurnable-from_valid t b w a));
-    } in (
+    let own_image : bare q ≡ q = bare_image t b turn ∙ ap (image t) own in
+    let live : is_live q ≡ is_live b = live_along t b q (own_image ∙ sym (ap (image t) own)) in
+    let index : IsIndex q n = record {
+      number = i.number;
+      least = IsLeastNumber-image t b i.number w a keeps i.least;
+      is = i.is ∙ ap (λ l. with_bit l i.number) (sym live);
+    } in
+    let parts = HasParts-from q n u index in
+    let same_number : without_bit n ≡ i.number = HasParts-number b n w i in (
       q,
       record {
         valid = u;
         read_off = record {
-          filling = i.number.filling;
-          fills = i.number.fills;
-          slots_are = filled_in_order q i.number.filling u i.number.fills ∙ ap (λ l. slots_for l) same;
-          is = subst (λ h. number h q.to_move i.number.filling ≡ Some n) (sym (has_pawn-image t b w a)) i.number.is;
-          none_passed = refl;
+          filling = filling;
+          fills = i.least.number.fills;
+          slots_are = filled_in_order q filling u i.least.number.fills ∙ ap (λ l. slots_for l) same;
+          is = subst (λ h. number h q.to_move filling ≡ Some (without_bit n)) (sym (has_pawn-image t b w a)) (i.least.number.is ∙ ap (λ k. Some k) (sym same_number));
+          passed = told_passed q filling (has_bit n) u own_image i.least.number.fills (sym parts.bit);
         };
-        index = IsIndex-image t b n w a keeps (IsIndex-passed p b n refl refl i);
+        index = index;
       },
       record {
         alike = record {
@@ -205,25 +277,14 @@ numbered c p n kept v o i =
           right = v;
           images = record {
             by = back t;
-            admitted = subst (λ (x : Position). admits x (back t) ≡ true) bare_image back_to.admitted;
-            is = subst (λ (x : Position). bare p ≡ image (back t) x) bare_image back_to.is;
+            admitted = subst (λ (x : Position). admits x (back t) ≡ true) (sym own_image) (admits_image t (back t) b w a ∙ admits_back t b a);
+            is = plain ∙ sym (image_back t b turn) ∙ ap (image (back t)) (sym own_image);
           };
         };
-        kept = λ e. i.number.colours ∙ keeps_class e;
+        kept = λ e. i.least.number.colours ∙ keeps_swapped b (equal_back c b o e);
       },
     )
   where
-    bare_dead : (l : Bool) → l ≡ false → cond l p (without_passed p) ≡ without_passed p
-    bare_dead true e = absurd (false≢true (sym e))
-    bare_dead false e = refl
-
-    bare_none : (q : Position) → q.passed ≡ None → q ≡ bare q
-    bare_none q e = at q.men q.to_move q.passed e
-      where
-        at : (men : List Man) (side : Side) (o : Option ℕ) → o ≡ None → (let q : Position = record { men = men; to_move = side; passed = o } in q ≡ bare q)
-        at men side None e = refl
-        at men side (Some x) e = cc
-
     differ_same : (s : Bool) → differ s s ≡ false
     differ_same true = refl
     differ_same false = refl
@@ -231,9 +292,12 @@ numbered c p n kept v o i =
     unchanged : (l : Lists) → is_exchanged l ≡ false → ordered l ≡ l
     unchanged l e = rw e refl
 
-    keeps_class : (lists_of c).white ≡ (lists_of c).black → is_swapped p.men ≡ false
-    keeps_class e = keeps_swapped p (by_test (is_exchanged (lists p.men)) (subst (λ (l : Lists). l.white ≡ l.black) o e))
-      where
-        by_test : (b : Bool) → (let l : Lists = cond b (exchanged (lists p.men)) (lists p.men) in l.white ≡ l.black) → (lists p.men).white ≡ (lists p.men).black
-        by_test true e = sym e
-        by_test false e = e
+-- each position has a number that reads as a position that is alike
+pub numbered : (c : Class) (p : Position) (n : ℕ) → IsValid p → IsOf c p → IsIndex p n → (q : Position) × IsDecoded c n q × AreAlikeIn c q p
+numbered c p n v o i =
+    numbered_bare c p (bare p) n v (AgreesWithBare-from_valid p v).valid refl (bare_twice p) (o ∙ ap (λ xs. ordered (lists xs)) (sym (bare_men p)))
+    (record {
+      number = i.number;
+      least = IsLeastNumber-passed p (bare p) i.number (sym (bare_men p)) (sym (bare_to_move p)) i.least;
+      is = i.is ∙ ap (λ l. with_bit l i.number) (sym (live_bare p));
+    })

@@ -1,5 +1,5 @@
 -- The slots and the numbers of each class.
-use Rattle.std.proofs.Common.{◌≡◌, ℕ, ◌/◌, ◌<◌, true, false, cond, not, ◌&&◌, [], ◌∷◌, nat_lt, List, refl, arith, lit<, lit≤}
+use Rattle.std.proofs.Common.{◌≡◌, ℕ, ◌/◌, ◌%◌, ◌<◌, true, false, cond, not, ◌&&◌, [], ◌∷◌, nat_lt, List, refl, arith, lit<, lit≤}
 use Rattle.std.proofs.lemmas.Bool.Decides.{nat_tests}
 use Rattle.study_board.specs.declared.men.Side.{Side}
 use Rattle.study_board.specs.declared.men.Side.TheVariants.{White, Black}
@@ -13,7 +13,7 @@ use Rattle.study_material.specs.declared.class.Class.{Class}
 use Rattle.study_material.specs.declared.class.Class.TheVariants.{KK, KQK, KRK, KBK, KNK, KPK, KQQK, KQRK, KQBK, KQNK, KQPK, KRRK, KRBK, KRNK, KRPK, KBBK, KBNK, KBPK, KNNK, KNPK, KPPK, KQKQ, KQKR, KQKB, KQKN, KQKP, KRKR, KRKB, KRKN, KRKP, KBKB, KBKN, KBKP, KNKN, KNKP, KPKP}
 use Rattle.study_board.proofs.Coordinates.{bool_same}
 use borrow.Author.Tests.{ltb-true}
-use Rattle.study_index.specs.Number.{cells_of}
+use Rattle.study_index.specs.Number.{numbers_of, cells_of, without_bit}
 use Rattle.study_index.specs.Decoded.{AreSlots, slots_of, is_cell}
 
 pub AreSlots-class : (c : Class) → AreSlots (slots_of c)
@@ -60,8 +60,8 @@ below n m l = grind (arith, nat_tests)
 same_test : (a b m n : ℕ) → (a < m → b < n) → (b < n → a < m) → nat_lt a m ≡ nat_lt b n
 same_test a b m n to from = bool_same (nat_lt a m) (nat_lt b n) (λ e. below b n (to (ltb-true a m e))) (λ e. below a m (from (ltb-true b n e)))
 
--- the numbers below the cells are those of a side to move
-pub is_cell-below : (c : Class) (n : ℕ) → is_cell (slots_of c) n ≡ nat_lt n (cells_of c)
+-- the numbers of a class are those of a side to move
+pub is_cell-below : (c : Class) (n : ℕ) → is_cell (slots_of c) n ≡ nat_lt n (numbers_of c)
 is_cell-below KK n = same_test (n / 64 / 10) n 2 1280 (λ l. omega arith) (λ l. omega arith)
 is_cell-below KQK n = same_test (n / 64 / 64 / 10) n 2 81920 (λ l. omega arith) (λ l. omega arith)
 is_cell-below KRK n = same_test (n / 64 / 64 / 10) n 2 81920 (λ l. omega arith) (λ l. omega arith)
@@ -98,6 +98,83 @@ is_cell-below KBKP n = same_test (n / 64 / 64 / 64 / 32) n 2 16777216 (λ l. ome
 is_cell-below KNKN n = same_test (n / 64 / 64 / 64 / 10) n 2 5242880 (λ l. omega arith) (λ l. omega arith)
 is_cell-below KNKP n = same_test (n / 64 / 64 / 64 / 32) n 2 16777216 (λ l. omega arith) (λ l. omega arith)
 is_cell-below KPKP n = same_test (n / 64 / 64 / 64 / 32) n 2 16777216 (λ l. omega arith) (λ l. omega arith)
+
+-- a cell without its bit is a number
+pub number_below : (c : Class) (n : ℕ) → n < cells_of c → without_bit n < numbers_of c
+number_below KK n l = omega arith
+number_below KQK n l = omega arith
+number_below KRK n l = omega arith
+number_below KBK n l = omega arith
+number_below KNK n l = omega arith
+number_below KPK n l = omega arith
+number_below KQQK n l = omega arith
+number_below KQRK n l = omega arith
+number_below KQBK n l = omega arith
+number_below KQNK n l = omega arith
+number_below KQPK n l = omega arith
+number_below KRRK n l = omega arith
+number_below KRBK n l = omega arith
+number_below KRNK n l = omega arith
+number_below KRPK n l = omega arith
+number_below KBBK n l = omega arith
+number_below KBNK n l = omega arith
+number_below KBPK n l = omega arith
+number_below KNNK n l = omega arith
+number_below KNPK n l = omega arith
+number_below KPPK n l = omega arith
+number_below KQKQ n l = omega arith
+number_below KQKR n l = omega arith
+number_below KQKB n l = omega arith
+number_below KQKN n l = omega arith
+number_below KQKP n l = omega arith
+number_below KRKR n l = omega arith
+number_below KRKB n l = omega arith
+number_below KRKN n l = omega arith
+number_below KRKP n l = omega arith
+number_below KBKB n l = omega arith
+number_below KBKN n l = omega arith
+number_below KBKP n l = omega arith
+number_below KNKN n l = omega arith
+number_below KNKP n l = omega arith
+number_below KPKP n l = omega arith
+
+pub few_cells : (c : Class) (n : ℕ) → n < cells_of c → n < 33554432
+few_cells KK n l = omega arith
+few_cells KQK n l = omega arith
+few_cells KRK n l = omega arith
+few_cells KBK n l = omega arith
+few_cells KNK n l = omega arith
+few_cells KPK n l = omega arith
+few_cells KQQK n l = omega arith
+few_cells KQRK n l = omega arith
+few_cells KQBK n l = omega arith
+few_cells KQNK n l = omega arith
+few_cells KQPK n l = omega arith
+few_cells KRRK n l = omega arith
+few_cells KRBK n l = omega arith
+few_cells KRNK n l = omega arith
+few_cells KRPK n l = omega arith
+few_cells KBBK n l = omega arith
+few_cells KBNK n l = omega arith
+few_cells KBPK n l = omega arith
+few_cells KNNK n l = omega arith
+few_cells KNPK n l = omega arith
+few_cells KPPK n l = omega arith
+few_cells KQKQ n l = omega arith
+few_cells KQKR n l = omega arith
+few_cells KQKB n l = omega arith
+few_cells KQKN n l = omega arith
+few_cells KQKP n l = omega arith
+few_cells KRKR n l = omega arith
+few_cells KRKB n l = omega arith
+few_cells KRKN n l = omega arith
+few_cells KRKP n l = omega arith
+few_cells KBKB n l = omega arith
+few_cells KBKN n l = omega arith
+few_cells KBKP n l = omega arith
+few_cells KNKN n l = omega arith
+few_cells KNKP n l = omega arith
+few_cells KPKP n l = omega arith
 
 -- the kinds of a side's slots but the king's, in list order
 abbrev pub kinds_in : Side → List Slot → List Kind

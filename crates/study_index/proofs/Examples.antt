@@ -5,9 +5,9 @@ use Rattle.study_board.specs.declared.men.Side.{Side}
 use Rattle.study_board.specs.declared.men.Side.TheVariants.{White, Black}
 use Rattle.study_board.specs.declared.men.Kind.{Kind}
 use Rattle.study_board.specs.declared.men.Kind.TheVariants.{King, Rook, Pawn}
-use Rattle.study_material.specs.declared.class.Class.TheVariants.{KK, KRK, KPK, KQKR, KRKP}
-use Rattle.study_index.specs.Number.{place, number, cells_of}
-use Rattle.study_index.specs.Decoded.{slot_for, slots_of, listed, told_men}
+use Rattle.study_material.specs.declared.class.Class.TheVariants.{KK, KRK, KPK, KQKR, KRKP, KPKP}
+use Rattle.study_index.specs.Number.{place, number, with_bit, has_bit, without_bit, numbers_of, cells_of}
+use Rattle.study_index.specs.Decoded.{slot_for, slots_of, listed, told_men, passed_behind}
 
 abbrev man : Side → Kind → ℕ → Man
 man s k a = record { side = s; kind = k; at = a }
@@ -58,3 +58,25 @@ told = refl
 
 slots : slots_of KRKP ≡ slot_for White King ∷ slot_for Black King ∷ slot_for White Rook ∷ slot_for Black Pawn ∷ []
 slots = refl
+
+a_pawn_each : cells_of KPKP ≡ 33554432
+a_pawn_each = refl
+
+-- kings on d1 and h4, pawns on e4 and d4, Black to move
+pawns : number true Black (man White King 3 ∷ man Black King 31 ∷ man White Pawn 28 ∷ man Black Pawn 27 ∷ []) ≡ Some 9303835
+unfolding number place
+pawns = refl
+
+-- the same with a capture on e3
+in_passing : with_bit true 9303835 ≡ 26081051
+in_passing = refl
+
+the_bit : has_bit 26081051 ≡ true
+the_bit = refl
+
+the_number : without_bit 26081051 ≡ 9303835
+the_number = refl
+
+the_square : passed_behind true Black (told_men (slots_of KPKP) 9303835) ≡ Some 20
+unfolding listed
+the_square = refl

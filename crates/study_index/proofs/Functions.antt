@@ -17,20 +17,28 @@ use Rattle.study_board.proofs.Valid.{IsFaultless-from_first, IsAscending-from_so
 use Rattle.study_material.specs.declared.class.Class.{Class}
 use Rattle.study_material.specs.Lists.{is_swapped}
 use Rattle.study_index.specs.declared.reading.Slot.{Slot}
-use Rattle.study_index.specs.Number.{IsIndex, places, cells_of}
-use Rattle.study_index.specs.Decoded.{IsDecoded, AreSlots, slots_of, slots_have_pawn, men_of, listed, man}
-use Rattle.study_index.specs.Found.{index_of, told, is_entry, position_at}
+use Rattle.study_index.specs.Number.{IsLeastNumber, IsIndex, places, numbers_of, cells_of, without_bit}
+use Rattle.study_index.specs.Decoded.{IsDecoded, AreSlots, slots_of, slots_have_pawn, men_of, told_men, listed, man}
+use borrow.Author.Tests.{ltb-true}
+use Rattle.study_index.specs.Found.{least_number, index_of, told, is_entry, position_at}
 use Rattle.study_index.proofs.Bridge.{below}
-use Rattle.study_index.proofs.ClassSlots.{AreSlots-class, is_cell-below}
-use Rattle.study_index.proofs.Numbers.{index_is}
-use Rattle.study_index.proofs.ReadOff.{IsIndex-unique, IsOfMen-decoded, decoded, same_position}
+use Rattle.study_index.proofs.ClassSlots.{AreSlots-class, is_cell-below, number_below}
+use Rattle.study_index.proofs.Numbers.{least_is}
+use Rattle.study_index.proofs.ReadOff.{IsLeastNumber-unique, IsIndex-unique, IsOfMen-decoded, decoded, told_fault, same_position}
 use Rattle.study_index.proofs.Slots.{IsFilling-sorted}
+
+pub IsLeastNumber-least_number : (p : Position) → IsValid p → IsLeastNumber p (least_number p)
+unfolding least_number
+IsLeastNumber-least_number p v =
+    let h = least_is p _ _ v (IsFilling-sorted (is_swapped p.men) p.men) refl in
+    subst (λ n. IsLeastNumber p n) (sym (ap (λ o. unwrap_or o 0) h.1)) h.2
+
+pub least_number-only : (p : Position) (n : ℕ) → IsValid p → IsLeastNumber p n → n ≡ least_number p
+least_number-only p n v i = IsLeastNumber-unique p n (least_number p) i (IsLeastNumber-least_number p v)
 
 pub IsIndex-index_of : (p : Position) → IsValid p → IsIndex p (index_of p)
 unfolding index_of
-IsIndex-index_of p v =
-    let h = index_is p _ _ v (IsFilling-sorted (is_swapped p.men) p.men) refl in
-    subst (λ n. IsIndex p n) (sym (ap (λ o. unwrap_or o 0) h.1)) h.2
+IsIndex-index_of p v = record { number = least_number p; least = IsLeastNumber-least_number p v; is = refl }
 
 pub index_of-only : (p : Position) (n : ℕ) → IsValid p → IsIndex p n → n ≡ index_of p
 index_of-only p n v i = IsIndex-unique p n (index_of p) i (IsIndex-index_of p v)
@@ -79,37 +87,33 @@ on_board pawns (k ∷ []) n a = absurd a
 on_board pawns (k ∷ b ∷ x ∷ y ∷ z ∷ fs) n a = absurd a
 
 -- men in order that have no fault are a position
-valid_told : (c : Class) (n : ℕ) → first_fault (told c n).men (told c n).to_move None ≡ None → IsValid (told c n)
+valid_told : (c : Class) (n : ℕ) → first_fault (told c n).men (told c n).to_move (told c n).passed ≡ None → IsValid (told c n)
 valid_told c n e =
-    let men = men_of (slots_have_pawn (slots_of c)) (slots_of c) n in
+    let men = told_men (slots_of c) (without_bit n) in
     record {
-      ordered = IsAscending-from_sorted (in_order men) (IsSortedByAt-in_order men) (IsFaultless-from_first (in_order men) (told c n).to_move None e).once;
-      on_board = All-permutation OnBoard men (in_order men) (IsPermutation-in_order men) (on_board (slots_have_pawn (slots_of c)) (slots_of c) n (AreSlots-class c));
+      ordered = IsAscending-from_sorted (in_order men) (IsSortedByAt-in_order men) (IsFaultless-from_first (in_order men) (told c n).to_move (told c n).passed e).once;
+      on_board = All-permutation OnBoard men (in_order men) (IsPermutation-in_order men) (on_board (slots_have_pawn (slots_of c)) (slots_of c) (without_bit n) (AreSlots-class c));
       faultless = e;
     }
 
 -- what is decoded is what is told
 one_told : (c : Class) (n : ℕ) (q : Position) → IsDecoded c n q → told c n ≡ q
 one_told c n q d =
-    let men = men_of (slots_have_pawn (slots_of c)) (slots_of c) n in
+    let men = told_men (slots_of c) (without_bit n) in
     let o = IsOfMen-decoded (slots_of c) n q (AreSlots-class c) d in
     let same : IsPermutation q.men (in_order men) = IsPermutation-trans q.men men (in_order men) (IsPermutation-sym men q.men o.same) (IsPermutation-in_order men) in
-    let none : first_fault (in_order men) (told c n).to_move None ≡ None =
-    sym (first_fault_same q.men (in_order men) same (told c n).to_move None) ∙ faultless q.to_move q.passed o.move d.read_off.none_passed d.valid.faultless in
-    same_position (told c n) q (valid_told c n none) d.valid (IsPermutation-sym q.men (in_order men) same) (sym o.move) refl d.read_off.none_passed
-  where
-    faultless : (s : Side) (o : Option ℕ) → s ≡ (told c n).to_move → o ≡ None → first_fault q.men s o ≡ None → first_fault q.men (told c n).to_move None ≡ None
-    faultless s o e f h = subst (λ t. first_fault q.men t None ≡ None) e (subst (λ r. first_fault q.men s r ≡ None) f h)
+    let none : first_fault (in_order men) (told c n).to_move (told c n).passed ≡ None =
+    sym (first_fault_same men (in_order men) (IsPermutation-in_order men) (told c n).to_move (told c n).passed) ∙ told_fault (slots_of c) n q o ∙ d.valid.faultless in
+    same_position (told c n) q (valid_told c n none) d.valid (IsPermutation-sym q.men (in_order men) same) (sym o.move) (sym o.passed)
 
 abbrev test : Class → ℕ → Position → Bool
-test c n r = nat_lt n (cells_of c) && is_none (first_fault r.men r.to_move None) && (index_of r == n)
+test c n r = nat_lt n (cells_of c) && is_none (first_fault r.men r.to_move r.passed) && (index_of r == n)
 
 pub decoded_told : (c : Class) (n : ℕ) (q : Position) → IsDecoded c n q → position_at c n ≡ Some q
 unfolding position_at
 decoded_told c n q d =
     let lt : nat_lt n (cells_of c) ≡ true = small n (cells_of c) (below c n q d) in
-    let none : is_none (first_fault q.men q.to_move None) ≡ true =
-    ap (λ o. is_none o) (subst (λ r. first_fault q.men q.to_move r ≡ None) d.read_off.none_passed d.valid.faultless) in
+    let none : is_none (first_fault q.men q.to_move q.passed) ≡ true = ap (λ o. is_none o) d.valid.faultless in
     let at_q : test c n q ≡ true = and_from _ _ (and_from _ _ lt none) (eq-eqb (index_of q) n (sym (index_of-only q n d.valid d.index))) in
     subst (λ (r : Position). cond (test c n r) (Some r) None ≡ Some q) (sym (one_told c n q d)) (at_test (test c n q) at_q)
   where
@@ -132,12 +136,15 @@ told_decoded c n q e = by_test (is_entry c n) refl e
     by_test false f e = absurd (let no : None ≡ Some q = e in cc)
     by_test true f e =
         let r = told c n in
-        let men = men_of (slots_have_pawn (slots_of c)) (slots_of c) n in
-        let a = and_parts (nat_lt n (cells_of c) && is_none (first_fault r.men r.to_move None)) (index_of r == n) f in
-        let b = and_parts (nat_lt n (cells_of c)) (is_none (first_fault r.men r.to_move None)) a.0 in
-        let v : IsValid r = valid_told c n (no_fault (first_fault r.men r.to_move None) b.1) in
+        let men = told_men (slots_of c) (without_bit n) in
+        let a = and_parts (nat_lt n (cells_of c) && is_none (first_fault r.men r.to_move r.passed)) (index_of r == n) f in
+        let b = and_parts (nat_lt n (cells_of c)) (is_none (first_fault r.men r.to_move r.passed)) a.0 in
+        let v : IsValid r = valid_told c n (no_fault (first_fault r.men r.to_move r.passed) b.1) in
         let same : r ≡ q = (let s : Some r ≡ Some q = e in cc) in
         subst (λ (z : Position). IsDecoded c n z) same
-        (decoded (slots_of c) n r (AreSlots-class c) (is_cell-below c n ∙ b.0)
-        (record { valid = v; same_men = IsPermutation-in_order men; same_side = refl; none_passed = refl })
+        (decoded (slots_of c) n r (AreSlots-class c) (is_cell-below c (without_bit n) ∙ below_test (without_bit n) (numbers_of c) (number_below c n (ltb-true n (cells_of c) b.0)))
+        (record { valid = v; same_men = IsPermutation-in_order men; same_side = refl; same_passed = refl })
         (subst (λ k. IsIndex r k) (eqb-true (index_of r) n a.1) (IsIndex-index_of r v)))
+      where
+        below_test : (m k : ℕ) → m < k → nat_lt m k ≡ true
+        below_test m k l = grind (arith, nat_tests)

@@ -10,7 +10,7 @@ use Rattle.study_moves.specs.Bare.{is_live, without_passed, bare}
 use Rattle.study_material.specs.Lists.{Lists, lists, is_swapped}
 use Rattle.study_material.proofs.Images.{turned_lists, lists-image, swapped-image}
 use Rattle.study_index.specs.Filling.{IsFilling}
-use Rattle.study_index.specs.Number.{has_pawn, number, IsNumber, IsIndex}
+use Rattle.study_index.specs.Number.{has_pawn, number, IsNumber, IsLeastNumber}
 
 -- where the two lists are equal the colours are kept
 abbrev pub Keeps : Symmetry → Position → Type 0
@@ -47,8 +47,8 @@ Keeps-back u p k e = k (by_colours u.colours (lists p.men) (subst (λ (l : Lists
     by_colours true l e = sym e
     by_colours false l e = e
 
-pub IsIndex-image : (u : Symmetry) (p : Position) (n : ℕ) → IsValid p → admits p u ≡ true → Keeps u p → IsIndex p n → IsIndex (image u p) n
-IsIndex-image u p n v au k h =
+pub IsLeastNumber-image : (u : Symmetry) (p : Position) (n : ℕ) → IsValid p → admits p u ≡ true → Keeps u p → IsLeastNumber p n → IsLeastNumber (image u p) n
+IsLeastNumber-image u p n v au k h =
     let w = valid_image u p v au in
     let ab : admits (image u p) (back u) ≡ true = admits_image u (back u) p v au ∙ admits_back u p au in
     let again : image (back u) (image u p) ≡ p = image_back u p (IsTurnable-from_valid u p v au) in
@@ -70,8 +70,8 @@ IsNumber-passed p q n e f h =
       is = rw (← e, ← f) h.is;
     }
 
-pub IsIndex-passed : (p q : Position) (n : ℕ) → p.men ≡ q.men → p.to_move ≡ q.to_move → IsIndex p n → IsIndex q n
-IsIndex-passed p q n e f h = record { number = IsNumber-passed p q n e f h.number; least = λ m k. h.least m (IsNumber-passed q p m (sym e) (sym f) k) }
+pub IsLeastNumber-passed : (p q : Position) (n : ℕ) → p.men ≡ q.men → p.to_move ≡ q.to_move → IsLeastNumber p n → IsLeastNumber q n
+IsLeastNumber-passed p q n e f h = record { number = IsNumber-passed p q n e f h.number; least = λ m k. h.least m (IsNumber-passed q p m (sym e) (sym f) k) }
 
 pub bare_men : (p : Position) → (bare p).men ≡ p.men
 bare_men p = by_live (is_live p)

@@ -7,11 +7,13 @@ pub mod Leasts
 pub mod Numbers
 pub mod Order
 pub mod ReadOff
+pub mod WithBit
 pub mod ClassSlots
 pub mod ImageNumbers
 pub mod ListOrder
 pub mod Live
 pub mod Decodes
+pub mod ReadCells
 pub mod Bridge
 pub mod Functions
 pub mod BySquares

@@ -1,6 +1,12 @@
--- In a class that is not left out no pawn captures on a passed square.
-use Rattle.std.proofs.Common.{◌≡◌, ℕ, ◌+◌, ◌-◌, ◌≤◌, ◌==◌, suc, Bool, true, false, cond, not, ◌&&◌, inl, inr, List, [], ◌∷◌, Option, Some, None, refl, sym, ◌∙◌, ap, subst, arith}
-use Rattle.std.proofs.lemmas.Bool.{false≢true, and_parts, and_from}
+-- Positions in which a capture in passing is legal: their class, and the square that is passed.
+use Rattle.std.proofs.Common.{◌≡◌, ℕ, ◌+◌, ◌-◌, ◌≤◌, ◌==◌, suc, Bool, true, false, cond, not, ◌&&◌, inl, inr, List, [], ◌∷◌, Option, Some, None, refl, sym, ◌∙◌, ap, subst, arith, find}
+use Rattle.std.proofs.lemmas.Bool.{false≢true, and_parts, and_from, eqb-true}
+use Rattle.std.specs.List.{list_any}
+use Rattle.std.specs.List.Sorted.{IsPermutation}
+use Rattle.std.specs.Option.{option_map, is_some}
+use Rattle.std.proofs.lemmas.List.Sorted.{list_any-IsPermutation}
+use Rattle.study_board.specs.declared.symmetry.Symmetry.{Symmetry}
+use Rattle.study_board.specs.Symmetry.{turned_passed, image}
 use Rattle.study_board.specs.declared.men.Man.{Man}
 use Rattle.study_board.specs.declared.men.Side.{Side}
 use Rattle.study_board.specs.declared.men.Side.TheVariants.{White, Black}
@@ -12,13 +18,14 @@ use Rattle.study_board.specs.Position.{Position, IsValid, could_be_passed, has_m
 use Rattle.study_board.proofs.Valid.{IsFaultless-from_first}
 use Rattle.study_moves.specs.declared.moves.Move.{Move}
 use Rattle.study_moves.specs.Rules.{is_pawn, is_en_passant, is_square, is_legal}
-use Rattle.study_moves.specs.Bare.{is_taken, is_live}
+use Rattle.study_moves.specs.Bare.{is_taken, is_live, without_passed, bare}
+use Rattle.study_index.specs.Decoded.{square_behind, behind}
 use Rattle.study_moves.proofs.Among.{IsAmong, some_among, same_square, found_among}
 use Rattle.study_moves.proofs.Gaps.{HasMover-from_is_legal}
 use Rattle.study_material.specs.declared.class.Class.{Class}
 use Rattle.study_material.specs.Lists.{of, ordered}
-use Rattle.study_material.specs.Class.{lists_of, same_lists, is_left_out, IsOf}
-use Rattle.study_material.proofs.Counts.{many, two_pawns}
+use Rattle.study_material.specs.Class.{lists_of, IsOf}
+use Rattle.study_material.proofs.Counts.{many, many-IsPermutation, many_others, two_pawns}
 use Rattle.study_material.proofs.Others.{few_others}
 
 -- a man of a side and a kind is counted
@@ -68,21 +75,108 @@ both_pawns : (men : List Man) (side : Side) → 1 ≤ many side Pawn men → 1 �
 both_pawns men White a b = (a, b)
 both_pawns men Black a b = (b, a)
 
-pub not_live : (c : Class) (p : Position) → IsValid p → IsOf c p → is_left_out c ≡ false → is_live p ≡ false
-not_live c p v o kept = by_passed p.passed refl
+-- where a capture in passing is legal each side has a pawn, and that is all
+pub live_pawns : (p : Position) → IsValid p → is_live p ≡ true
+    → (x : ℕ) × (p.passed ≡ Some x) × (could_be_passed p.men p.to_move x ≡ true) × (1 ≤ many White Pawn p.men) × (1 ≤ many Black Pawn p.men)
+live_pawns p v taken = by_passed p.passed refl taken
   where
-    no_pawns : (x : ℕ) → passed_possible p.men p.to_move (Some x) ≡ true → is_taken p (Some x) ≡ true → ⊥
-    no_pawns x possible taken =
+    at_square : (x : ℕ) → p.passed ≡ Some x → passed_possible p.men p.to_move (Some x) ≡ true → is_taken p (Some x) ≡ true
+        → (y : ℕ) × (p.passed ≡ Some y) × (could_be_passed p.men p.to_move y ≡ true) × (1 ≤ many White Pawn p.men) × (1 ≤ many Black Pawn p.men)
+    at_square x e possible taken =
         let both = both_pawns p.men p.to_move (capturing_pawn p x v taken) (jumped_pawn p.men p.to_move x possible) in
-        let only = two_pawns p.men (few_others p v) both.0 both.1 in
-        let is : lists_of c ≡ of (Pawn ∷ []) (Pawn ∷ []) = o ∙ ap (λ l. ordered l) only in
-        false≢true (sym kept ∙ ap (λ l. same_lists l (of (Pawn ∷ []) (Pawn ∷ []))) is)
+        (x, e, possible, both.0, both.1)
 
-    by_taken : (x : ℕ) (b : Bool) → passed_possible p.men p.to_move (Some x) ≡ true → is_taken p (Some x) ≡ b → b ≡ false
-    by_taken x true possible e = absurd (no_pawns x possible e)
-    by_taken x false possible e = refl
+    by_passed : (q : Option ℕ) → p.passed ≡ q → is_taken p q ≡ true
+        → (y : ℕ) × (p.passed ≡ Some y) × (could_be_passed p.men p.to_move y ≡ true) × (1 ≤ many White Pawn p.men) × (1 ≤ many Black Pawn p.men)
+    by_passed None e t = absurd (false≢true t)
+    by_passed (Some x) e t =
+        at_square x e (subst (λ q. passed_possible p.men p.to_move q ≡ true) e (IsFaultless-from_first p.men p.to_move p.passed v.faultless).possible) t
 
-    by_passed : (q : Option ℕ) → p.passed ≡ q → is_taken p q ≡ false
-    by_passed None e = refl
-    by_passed (Some x) e =
-        by_taken x (is_taken p (Some x)) (subst (λ q. passed_possible p.men p.to_move q ≡ true) e (IsFaultless-from_first p.men p.to_move p.passed v.faultless).possible) refl
+-- the class is that of a pawn against a pawn
+pub live_class : (c : Class) (p : Position) → IsValid p → IsOf c p → is_live p ≡ true → lists_of c ≡ of (Pawn ∷ []) (Pawn ∷ [])
+live_class c p v o taken =
+    let r = live_pawns p v taken in
+    o ∙ ap (λ l. ordered l) (two_pawns p.men (few_others p v) (r.3) (r.4))
+
+-- the first pawn of a side is its one pawn
+behind-one : (side : Side) (xs : List Man) (m : Man) → IsAmong m xs → is_man side Pawn m ≡ true → many side Pawn xs ≤ 1 → behind side xs ≡ Some (square_behind side m.at)
+behind-one side [] m i e few = absurd i
+behind-one side (x ∷ xs) m (inl s) e few = found (is_man side Pawn x) (ap (λ z. is_man side Pawn z) s ∙ e)
+  where
+    found : (b : Bool) → b ≡ true → option_map (λ y. square_behind side y.at) (cond b (Some x) (find (λ y. is_man side Pawn y) xs)) ≡ Some (square_behind side m.at)
+    found true h = ap (λ y. Some (square_behind side y.at)) s
+    found false h = absurd (false≢true h)
+behind-one side (x ∷ xs) m (inr i) e few = further (is_man side Pawn x) few (λ l. behind-one side xs m i e l)
+  where
+    further : (b : Bool) → cond b (suc (many side Pawn xs)) (many side Pawn xs) ≤ 1 → (many side Pawn xs ≤ 1 → behind side xs ≡ Some (square_behind side m.at))
+        → option_map (λ y. square_behind side y.at) (cond b (Some x) (find (λ y. is_man side Pawn y) xs)) ≡ Some (square_behind side m.at)
+    further true l rest = absurd (let n = many-among side Pawn xs m i e in omega arith)
+    further false l rest = rest l
+
+-- a live passed square is the one behind the pawn of the side that is not to move
+pub live_behind : (p : Position) (xs : List Man) → IsValid p → IsPermutation p.men xs → is_live p ≡ true → p.passed ≡ behind (other_side p.to_move) xs
+unfolding has_man could_be_passed
+live_behind p xs v same taken =
+    let r = live_pawns p v taken in
+    let white : many White Pawn xs ≤ 1 = (let a = many_others p.men in let f = few_others p v in let b = r.4 in omega (arith, a, f, b, many-IsPermutation White Pawn p.men xs same)) in
+    let black : many Black Pawn xs ≤ 1 = (let a = many_others p.men in let f = few_others p v in let b = r.3 in omega (arith, a, f, b, many-IsPermutation Black Pawn p.men xs same)) in
+    r.1 ∙ by_side p.to_move r.0 r.2 white black
+  where
+    among : (side : Side) (y : ℕ) → has_man p.men side Pawn y ≡ true → many side Pawn xs ≤ 1 → behind side xs ≡ Some (square_behind side y)
+    among side y e few =
+        let f : list_any (λ m. is_man side Pawn m && (m.at == y)) xs ≡ true = sym (list_any-IsPermutation (λ m. is_man side Pawn m && (m.at == y)) p.men xs same) ∙ e in
+        let s = some_among (λ m. is_man side Pawn m && (m.at == y)) xs f in
+        let both = and_parts (is_man side Pawn s.0) (s.0.at == y) s.2 in
+        behind-one side xs s.0 s.1 both.0 few ∙ ap (λ z. Some (square_behind side z)) (eqb-true s.0.at y both.1)
+
+    by_side : (side : Side) (x : ℕ) → could_be_passed p.men side x ≡ true → many White Pawn xs ≤ 1 → many Black Pawn xs ≤ 1 → Some x ≡ behind (other_side side) xs
+    by_side White x e white black =
+        let front = (rank_of x == 5) && is_empty p.men x && is_empty p.men (x + 8) in
+        let parts = and_parts front (has_man p.men Black Pawn (x - 8)) e in
+        let rank : rank_of x ≡ 5 = eqb-true (rank_of x) 5 (and_parts (rank_of x == 5) (is_empty p.men x) (and_parts (rank_of x == 5 && is_empty p.men x) (is_empty p.men (x + 8)) parts.0).0).0 in
+        let back : x ≡ x - 8 + 8 = omega (arith, rank) in
+        ap (λ z. Some z) back ∙ sym (among Black (x - 8) parts.1 black)
+    by_side Black x e white black =
+        let front = (rank_of x == 2) && is_empty p.men x && is_empty p.men (x - 8) in
+        let parts = and_parts front (has_man p.men White Pawn (x + 8)) e in
+        let back : x ≡ x + 8 - 8 = omega arith in
+        ap (λ z. Some z) back ∙ sym (among White (x + 8) parts.1 white)
+
+-- whether a position is live is told by its bare form
+live-bare : (p : Position) → is_live p ≡ is_some (bare p).passed
+live-bare p = by_live (is_live p) refl
+  where
+    some_passed : (q : Option ℕ) → is_taken p q ≡ true → is_some q ≡ true
+    some_passed None e = absurd (false≢true e)
+    some_passed (Some x) e = refl
+
+    by_live : (b : Bool) → is_live p ≡ b → b ≡ is_some (cond b p (without_passed p)).passed
+    by_live true e = sym (some_passed p.passed e)
+    by_live false e = refl
+
+-- what has an image as its bare form is live where it is
+pub live_along : (s : Symmetry) (p q : Position) → bare q ≡ image s (bare p) → is_live q ≡ is_live p
+live_along s p q e = live-bare q ∙ ap (λ (r : Position). is_some r.passed) e ∙ turned s (bare p).passed ∙ sym (live-bare p)
+  where
+    turned : (s : Symmetry) (o : Option ℕ) → is_some (turned_passed s o) ≡ is_some o
+    turned s None = refl
+    turned s (Some x) = refl
+
+-- the bare form is its own
+pub bare_twice : (p : Position) → bare (bare p) ≡ bare p
+bare_twice p = by_live (is_live p) refl
+  where
+    by_live : (b : Bool) → is_live p ≡ b → (let q : Position = cond b p (without_passed p) in bare q ≡ q)
+    by_live true e = rw e refl
+    by_live false e = refl
+
+pub live_bare : (p : Position) → is_live (bare p) ≡ is_live p
+live_bare p = live-bare (bare p) ∙ ap (λ (r : Position). is_some r.passed) (bare_twice p) ∙ sym (live-bare p)
+
+-- a position that is its own bare form and is not live has no passed square
+pub not_live_passed : (p : Position) → bare p ≡ p → is_live p ≡ false → p.passed ≡ None
+not_live_passed p e f = sym (ap (λ (r : Position). r.passed) e) ∙ by_live (is_live p) f
+  where
+    by_live : (b : Bool) → b ≡ false → (cond b p (without_passed p)).passed ≡ None
+    by_live true h = absurd (false≢true (sym h))
+    by_live false h = refl

@@ -13,7 +13,7 @@ use Rattle.study_board.specs.Symmetry.{turned_side, turned_man}
 use Rattle.study_material.specs.Lists.{is_swapped}
 use Rattle.study_material.proofs.Images.{IsPermutation-turned}
 use Rattle.study_index.specs.Filling.{slot, NoneBefore, IsInSlots, IsFilling}
-use Rattle.study_index.specs.Number.{has_pawn, number, IsNumber, IsIndex}
+use Rattle.study_index.specs.Number.{has_pawn, number, IsNumber, IsLeastNumber}
 use Rattle.study_index.specs.Chosen.{turned_number, least_of}
 use Rattle.study_index.specs.Found.{sorted}
 use Rattle.study_index.proofs.Slots.{IsFilling-sorted}
@@ -97,17 +97,17 @@ IsNumber-from p n h =
       is = subst (λ b. number (has_pawn p.men) (turned_side b p.to_move) (map (turned_man t) fs) ≡ Some n) (sym h.coloured_so) h.by.is;
     }
 
-pub IsIndex-from : (p : Position) (n : ℕ) → IsIndexOf (is_swapped p.men) p n → IsIndex p n
-IsIndex-from p n h = record { number = IsNumber-from p n h.0; least = λ m k. h.1 m (IsNumberOf-from p m k) }
+pub IsLeastNumber-from : (p : Position) (n : ℕ) → IsIndexOf (is_swapped p.men) p n → IsLeastNumber p n
+IsLeastNumber-from p n h = record { number = IsNumber-from p n h.0; least = λ m k. h.1 m (IsNumberOf-from p m k) }
 
 -- the least number of a position that has one
-pub index_is : (p : Position) (xs : List Man) (r : Option ℕ) → IsValid p → IsFilling (is_swapped p.men) p.men xs → r ≡ least_of (has_pawn p.men) (turned_side (is_swapped p.men) p.to_move) (is_swapped p.men) xs → (n : ℕ) × (r ≡ Some n) × IsIndex p n
-index_is p xs r v f e = let h = IsIndex-least_of (is_swapped p.men) p xs r v f e in (h.0, h.1, IsIndex-from p h.0 h.2)
+pub least_is : (p : Position) (xs : List Man) (r : Option ℕ) → IsValid p → IsFilling (is_swapped p.men) p.men xs → r ≡ least_of (has_pawn p.men) (turned_side (is_swapped p.men) p.to_move) (is_swapped p.men) xs → (n : ℕ) × (r ≡ Some n) × IsLeastNumber p n
+least_is p xs r v f e = let h = IsIndex-least_of (is_swapped p.men) p xs r v f e in (h.0, h.1, IsLeastNumber-from p h.0 h.2)
 
 -- the same, of what the code computes
-pub index_found : (p : Position) (men : List Man) (c pawns : Bool) (to_move side : Side) (r : Option ℕ) → men ≡ p.men → IsValid p → c ≡ is_swapped p.men → pawns ≡ has_pawn men → to_move ≡ p.to_move → side ≡ turned_side c to_move → r ≡ least_of pawns side c (sorted c men) → (n : ℕ) × (r ≡ Some n) × IsIndex p n
-index_found p men c pawns to_move side r m v b h t s e =
-    index_is p (sorted (is_swapped p.men) p.men) r v (IsFilling-sorted (is_swapped p.men) p.men) (e ∙ rw (h, s, t, m, b) refl)
+pub least_found : (p : Position) (men : List Man) (c pawns : Bool) (to_move side : Side) (r : Option ℕ) → men ≡ p.men → IsValid p → c ≡ is_swapped p.men → pawns ≡ has_pawn men → to_move ≡ p.to_move → side ≡ turned_side c to_move → r ≡ least_of pawns side c (sorted c men) → (n : ℕ) × (r ≡ Some n) × IsLeastNumber p n
+least_found p men c pawns to_move side r m v b h t s e =
+    least_is p (sorted (is_swapped p.men) p.men) r v (IsFilling-sorted (is_swapped p.men) p.men) (e ∙ rw (h, s, t, m, b) refl)
 
 pub no_none : {P : ℕ → Type 0} → (n : ℕ) × (None ≡ Some n) × P n → ⊥
 no_none h = (let e = h.1 in cc)

@@ -16,10 +16,11 @@ use Rattle.study_board.specs.Men.{same_kind}
 use Rattle.study_board.specs.Position.{Position, IsValid, first_fault}
 use Rattle.study_index.proofs.Order.{ascending_same}
 use Rattle.study_board.proofs.Faults.{first_fault_same}
+use Rattle.study_moves.specs.Bare.{is_live}
 use Rattle.study_index.specs.declared.reading.Slot.{Slot}
 use Rattle.study_index.specs.Filling.{IsInSlots, slot}
-use Rattle.study_index.specs.Number.{place, places, number, has_pawn, counted_on, side_number, IsIndex}
-use Rattle.study_index.specs.Decoded.{filled, IsDecodedAt, AreSlots, listed, slots_have_pawn, man, head, men_of, side_of, is_cell, IsPlaced, IsFaulty}
+use Rattle.study_index.specs.Number.{place, places, number, has_pawn, counted_on, side_number, with_bit, has_bit, without_bit, IsLeastNumber, IsIndex}
+use Rattle.study_index.specs.Decoded.{filled, IsDecodedAt, AreSlots, listed, slots_have_pawn, man, head, men_of, side_of, told_men, told_side, passed_behind, is_cell, IsPlaced, IsFaulty}
 use Rattle.study_index.proofs.Symmetries.{all_below, at_below}
 
 -- an option is this number
@@ -195,63 +196,78 @@ pawn_in_slots (x ∷ xs) = rw (pawn_in_slots xs) refl
 pub has_pawn-slots : (men fs : List Man) (slots : List Slot) → IsPermutation men fs → map filled fs ≡ slots → has_pawn men ≡ slots_have_pawn slots
 has_pawn-slots men fs slots p e = list_any-IsPermutation (λ m. same_kind m.kind Pawn) men fs p ∙ pawn_in_slots fs ∙ ap (λ s. slots_have_pawn s) e
 
+pub IsLeastNumber-unique : (p : Position) (m n : ℕ) → IsLeastNumber p m → IsLeastNumber p n → m ≡ n
+IsLeastNumber-unique p m n h k = omega (arith, h.least n k.number, k.least m h.number)
+
 pub IsIndex-unique : (p : Position) (m n : ℕ) → IsIndex p m → IsIndex p n → m ≡ n
-IsIndex-unique p m n h k = omega (arith, h.least n k.number, k.least m h.number)
+IsIndex-unique p m n h k = h.is ∙ ap (λ l. with_bit (is_live p) l) (IsLeastNumber-unique p h.number k.number h.least k.least) ∙ sym k.is
 
 -- a decoded position is that of the men that are read off
 pub record IsOfMen (slots : List Slot) (n : ℕ) (q : Position) : Type 0 where
-  pub same : IsPermutation (men_of (slots_have_pawn slots) slots n) q.men
-  pub move : q.to_move ≡ side_of (head slots n / places (slots_have_pawn slots))
-  pub cell : is_cell slots n ≡ true
+  pub same : IsPermutation (told_men slots (without_bit n)) q.men
+  pub move : q.to_move ≡ told_side slots (without_bit n)
+  pub passed : q.passed ≡ passed_behind (has_bit n) (told_side slots (without_bit n)) (told_men slots (without_bit n))
+  pub cell : is_cell slots (without_bit n) ≡ true
 
 pub IsOfMen-decoded : (slots : List Slot) (n : ℕ) (q : Position) → AreSlots slots → IsDecodedAt slots n q → IsOfMen slots n q
 IsOfMen-decoded slots n q a d =
     let f = d.read_off.filling in
+    let b = without_bit n in
     let p = has_pawn-slots q.men f slots d.read_off.fills.each_once d.read_off.slots_are in
     let a' : AreSlots (map filled f) = subst (λ s. AreSlots s) (sym d.read_off.slots_are) a in
-    let r = IsRead-number (slots_have_pawn slots) q.to_move f n a' (All-permutation (λ m. m.at < 64) q.men f d.read_off.fills.each_once d.valid.on_board) (subst (λ b. number b q.to_move f ≡ Some n) p d.read_off.is) in
-    let men : f ≡ men_of (slots_have_pawn slots) slots n = subst (λ s. f ≡ men_of (slots_have_pawn slots) s n) d.read_off.slots_are r.men in
+    let r = IsRead-number (slots_have_pawn slots) q.to_move f b a' (All-permutation (λ m. m.at < 64) q.men f d.read_off.fills.each_once d.valid.on_board) (subst (λ h. number h q.to_move f ≡ Some b) p d.read_off.is) in
+    let men : f ≡ told_men slots b = subst (λ s. f ≡ men_of (slots_have_pawn slots) s b) d.read_off.slots_are r.men in
+    let move : q.to_move ≡ told_side slots b = subst (λ s. q.to_move ≡ side_of (head s b / places (slots_have_pawn slots))) d.read_off.slots_are r.side_is in
     record {
       same = subst (λ l. IsPermutation l q.men) men (IsPermutation-sym q.men f d.read_off.fills.each_once);
-      move = subst (λ s. q.to_move ≡ side_of (head s n / places (slots_have_pawn slots))) d.read_off.slots_are r.side_is;
-      cell = subst (λ s. nat_lt (head s n / places (slots_have_pawn slots)) 2 ≡ true) d.read_off.slots_are r.cell;
+      move = move;
+      passed = d.read_off.passed ∙ ap (λ s. passed_behind (has_bit n) s f) move ∙ ap (λ l. passed_behind (has_bit n) (told_side slots b) l) men;
+      cell = subst (λ s. nat_lt (head s b / places (slots_have_pawn slots)) 2 ≡ true) d.read_off.slots_are r.cell;
     }
 
 -- at a number that is no cell nothing is decoded
-pub no_cell : (slots : List Slot) (n : ℕ) → AreSlots slots → is_cell slots n ≡ false → (q : Position) → IsDecodedAt slots n q → ⊥
+pub no_cell : (slots : List Slot) (n : ℕ) → AreSlots slots → is_cell slots (without_bit n) ≡ false → (q : Position) → IsDecodedAt slots n q → ⊥
 no_cell slots n a e q d = false≢true (sym e ∙ (IsOfMen-decoded slots n q a d).cell)
 
 some_fault : (o : Option PositionFault) (f : PositionFault) → o ≡ None → o ≡ Some f → ⊥
 some_fault o f e d = (let no : None ≡ Some f = sym e ∙ d in cc)
 
--- where the men are faulty nothing is decoded
-pub no_position : (slots : List Slot) (n : ℕ) → AreSlots slots → IsFaulty (men_of (slots_have_pawn slots) slots n) (side_of (head slots n / places (slots_have_pawn slots))) → (q : Position) → IsDecodedAt slots n q → ⊥
-no_position slots n a f q d =
-    let o = IsOfMen-decoded slots n q a d in
-    let e : first_fault q.men q.to_move None ≡ Some f.fault = sym (first_fault_same (men_of (slots_have_pawn slots) slots n) q.men o.same q.to_move None) ∙ rw o.move f.is in
-    some_fault _ f.fault (rw (← d.read_off.none_passed) d.valid.faultless) e
+-- the men and the passed square that a number tells, and the same of a decoded position, have one fault
+pub told_fault : (slots : List Slot) (n : ℕ) (q : Position) → IsOfMen slots n q
+    → first_fault (told_men slots (without_bit n)) (told_side slots (without_bit n)) (passed_behind (has_bit n) (told_side slots (without_bit n)) (told_men slots (without_bit n))) ≡ first_fault q.men q.to_move q.passed
+told_fault slots n q o =
+    first_fault_same (told_men slots (without_bit n)) q.men o.same (told_side slots (without_bit n)) (passed_behind (has_bit n) (told_side slots (without_bit n)) (told_men slots (without_bit n)))
+    ∙ ap (λ s. first_fault q.men s (passed_behind (has_bit n) (told_side slots (without_bit n)) (told_men slots (without_bit n)))) (sym o.move)
+    ∙ ap (λ r. first_fault q.men q.to_move r) (sym o.passed)
 
--- valid positions with the same men, the same side to move and no passed square are one
-pub same_position : (p q : Position) → IsValid p → IsValid q → IsPermutation p.men q.men → p.to_move ≡ q.to_move → p.passed ≡ None → q.passed ≡ None → p ≡ q
-same_position p q v w same move e f = one p.men q.men p.to_move q.to_move p.passed q.passed (ascending_same p.men q.men same v.ordered w.ordered) move (e ∙ sym f)
+-- where the men are faulty nothing is decoded
+pub no_position : (slots : List Slot) (n : ℕ) → AreSlots slots
+    → IsFaulty (told_men slots (without_bit n)) (told_side slots (without_bit n)) (passed_behind (has_bit n) (told_side slots (without_bit n)) (told_men slots (without_bit n))) → (q : Position) → IsDecodedAt slots n q → ⊥
+no_position slots n a f q d = some_fault _ f.fault d.valid.faultless (sym (told_fault slots n q (IsOfMen-decoded slots n q a d)) ∙ f.is)
+
+-- valid positions with the same men, the same side to move and the same passed square are one
+pub same_position : (p q : Position) → IsValid p → IsValid q → IsPermutation p.men q.men → p.to_move ≡ q.to_move → p.passed ≡ q.passed → p ≡ q
+same_position p q v w same move passed = one p.men q.men p.to_move q.to_move p.passed q.passed (ascending_same p.men q.men same v.ordered w.ordered) move passed
   where
     one : (xs ys : List Man) (s t : Side) (a b : Option ℕ) → xs ≡ ys → s ≡ t → a ≡ b → (let p : Position = record { men = xs; to_move = s; passed = a } in let q : Position = record { men = ys; to_move = t; passed = b } in p ≡ q)
     one xs ys s t a b e f g = rw (e, f, g) refl
 
 -- where it has this index it is decoded
-pub decoded : (slots : List Slot) (n : ℕ) (p : Position) → AreSlots slots → is_cell slots n ≡ true → IsPlaced (men_of (slots_have_pawn slots) slots n) (side_of (head slots n / places (slots_have_pawn slots))) p → IsIndex p n → IsDecodedAt slots n p
+pub decoded : (slots : List Slot) (n : ℕ) (p : Position) → AreSlots slots → is_cell slots (without_bit n) ≡ true
+    → IsPlaced (told_men slots (without_bit n)) (told_side slots (without_bit n)) (passed_behind (has_bit n) (told_side slots (without_bit n)) (told_men slots (without_bit n))) p → IsIndex p n → IsDecodedAt slots n p
 decoded slots n p a cell l i =
-    let men = men_of (slots_have_pawn slots) slots n in
+    let b = without_bit n in
+    let men = told_men slots b in
     let back : IsPermutation p.men men = IsPermutation-sym men p.men l.same_men in
-    let h : has_pawn p.men ≡ slots_have_pawn slots = has_pawn-slots p.men men slots back (filled-men_of (slots_have_pawn slots) slots n a) in
+    let h : has_pawn p.men ≡ slots_have_pawn slots = has_pawn-slots p.men men slots back (filled-men_of (slots_have_pawn slots) slots b a) in
     record {
       valid = l.valid;
       read_off = record {
         filling = men;
-        fills = record { each_once = back; in_slots = IsInSlots-men_of (slots_have_pawn slots) slots n a };
-        slots_are = filled-men_of (slots_have_pawn slots) slots n a;
-        is = rw (h, l.same_side) (number-men_of (slots_have_pawn slots) slots n a cell);
-        none_passed = l.none_passed;
+        fills = record { each_once = back; in_slots = IsInSlots-men_of (slots_have_pawn slots) slots b a };
+        slots_are = filled-men_of (slots_have_pawn slots) slots b a;
+        is = rw (h, l.same_side) (number-men_of (slots_have_pawn slots) slots b a cell);
+        passed = l.same_passed ∙ ap (λ s. passed_behind (has_bit n) s men) (sym l.same_side);
       };
       index = i;
     }

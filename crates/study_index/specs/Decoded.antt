@@ -1,12 +1,13 @@
 -- The position read off a number of a class.
-use Rattle.std.specs.Prelude.{◌≡◌, ℕ, ◌+◌, ◌*◌, ◌/◌, ◌%◌, ◌<◌, ◌≤◌, Bool, true, false, ◌==◌, nat_lt, List, [], ◌∷◌, ◌++◌, map, Some, None, if◌then◌else◌}
+use Rattle.std.specs.Prelude.{◌≡◌, ℕ, ◌+◌, ◌-◌, ◌*◌, ◌/◌, ◌%◌, ◌<◌, ◌≤◌, Bool, true, false, ◌==◌, nat_lt, List, [], ◌∷◌, ◌++◌, map, find, Option, Some, None, if◌then◌else◌}
 use Rattle.std.specs.List.{list_any}
+use Rattle.std.specs.Option.{option_map}
 use Rattle.study_board.specs.declared.men.Side.{Side}
 use Rattle.study_board.specs.declared.men.Side.TheVariants.{White, Black}
 use Rattle.study_board.specs.declared.men.Kind.{Kind}
 use Rattle.study_board.specs.declared.men.Kind.TheVariants.{King, Pawn}
 use Rattle.study_board.specs.declared.men.Man.{Man}
-use Rattle.study_board.specs.Men.{same_kind}
+use Rattle.study_board.specs.Men.{same_kind, is_man, other_side}
 use Rattle.std.specs.List.Sorted.{IsPermutation}
 use Rattle.study_board.specs.declared.fault.PositionFault.{PositionFault}
 use Rattle.study_board.specs.Position.{Position, IsValid, first_fault}
@@ -15,7 +16,7 @@ use Rattle.study_material.specs.Class.{lists_of}
 use Rattle.study_index.specs.declared.reading.Slot.{Slot}
 use Rattle.study_index.specs.Chosen.{least_of}
 use Rattle.study_index.specs.Filling.{IsFilling, slot_of}
-use Rattle.study_index.specs.Number.{number, places, has_pawn, IsIndex}
+use Rattle.study_index.specs.Number.{number, places, has_pawn, has_bit, without_bit, IsIndex}
 
 -- what slot a man fills
 abbrev pub filled : Man → Slot
@@ -28,13 +29,26 @@ slot_for side kind = record { side = side; kind = kind }
 abbrev pub slots_of : Class → List Slot
 slots_of c = slot_for White King ∷ slot_for Black King ∷ map (slot_for White) (lists_of c).white ++ map (slot_for Black) (lists_of c).black
 
--- the position whose men fill these slots so that n is their number; no square is passed
+-- the square behind a pawn of the side, over which it jumped if it made a double step
+abbrev pub square_behind : Side → ℕ → ℕ
+square_behind White x = x - 8
+square_behind Black x = x + 8
+
+abbrev pub behind : Side → List Man → Option ℕ
+behind side men = option_map (λ m. square_behind side m.at) (find (λ m. is_man side Pawn m) men)
+
+-- where the bit is set the square behind the pawn of the side that is not to move is passed
+abbrev pub passed_behind : Bool → Side → List Man → Option ℕ
+passed_behind true to_move men = behind (other_side to_move) men
+passed_behind false to_move men = None
+
+-- the position whose men fill these slots so that n is their number, with the passed square that its bit tells
 pub record IsReadOff (slots : List Slot) (n : ℕ) (q : Position) : Type 0 where
   pub filling : List Man
   pub fills : IsFilling false q.men filling
   pub slots_are : map filled filling ≡ slots
-  pub is : number (has_pawn q.men) q.to_move filling ≡ Some n
-  pub none_passed : q.passed ≡ None
+  pub is : number (has_pawn q.men) q.to_move filling ≡ Some (without_bit n)
+  pub passed : q.passed ≡ passed_behind (has_bit n) q.to_move filling
 
 -- a valid position that is read off the number, which is its index
 pub record IsDecodedAt (slots : List Slot) (n : ℕ) (q : Position) : Type 0 where
@@ -86,7 +100,7 @@ men_of pawns slots n = []
 abbrev pub side_of : ℕ → Side
 side_of n = if n == 0 then White else Black
 
--- the number is below the cells of the class
+-- the number is below the numbers of the class
 abbrev pub is_cell : List Slot → ℕ → Bool
 is_cell slots n = nat_lt (head slots n / places (slots_have_pawn slots)) 2
 
@@ -102,13 +116,13 @@ abbrev pub HasLeast : Bool → Side → ℕ → List Man → Type 0
 HasLeast pawns to_move n men = least_of pawns to_move false men ≡ Some n
 
 -- the position of these men, in some order
-pub record IsPlaced (men : List Man) (to_move : Side) (q : Position) : Type 0 where
+pub record IsPlaced (men : List Man) (to_move : Side) (passed : Option ℕ) (q : Position) : Type 0 where
   pub valid : IsValid q
   pub same_men : IsPermutation men q.men
   pub same_side : q.to_move ≡ to_move
-  pub none_passed : q.passed ≡ None
+  pub same_passed : q.passed ≡ passed
 
 -- these men are no position
-pub record IsFaulty (men : List Man) (to_move : Side) : Type 0 where
+pub record IsFaulty (men : List Man) (to_move : Side) (passed : Option ℕ) : Type 0 where
   pub fault : PositionFault
-  pub is : first_fault men to_move None ≡ Some fault
+  pub is : first_fault men to_move passed ≡ Some fault

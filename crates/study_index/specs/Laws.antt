@@ -1,12 +1,13 @@
 -- What tables rest on: each position of a class has a number, and the position read off it has the same game.
 use Rattle.std.specs.Prelude.{◌≡◌, ◌↔◌, ℕ, ◌<◌, false, Some, None}
 use Rattle.study_board.specs.Position.{Position, IsValid}
+use Rattle.study_moves.specs.Bare.{bare}
 use Rattle.study_moves.specs.Game.{IsMate}
 use Rattle.study_moves.specs.Laws.{HasSameGame}
 use Rattle.study_moves.specs.Alike.{AreAlike, Leads}
 use Rattle.study_material.specs.declared.class.Class.{Class}
 use Rattle.study_material.specs.Lists.{is_swapped}
-use Rattle.study_material.specs.Class.{lists_of, is_left_out, IsOf}
+use Rattle.study_material.specs.Class.{lists_of, IsOf}
 use Rattle.study_material.specs.Needs.{LeadsOn}
 use Rattle.study_index.specs.Number.{IsIndex, cells_of}
 use Rattle.study_index.specs.Decoded.{IsDecoded}
@@ -17,12 +18,13 @@ pub record AreAlikeIn (c : Class) (p q : Position) : Type 0 where
   pub alike : AreAlike p q
   pub kept : (lists_of c).white ≡ (lists_of c).black → alike.images.by.colours ≡ false
 
--- what a number reads as: a position of the class in list order, without a passed square, whose index is the number
+-- what a number reads as: a position of the class in list order, without a passed square that is not live, whose
+-- index is the number
 pub record IsEntry (c : Class) (n : ℕ) (q : Position) : Type 0 where
   pub valid : IsValid q
   pub of_class : IsOf c q
   pub in_order : is_swapped q.men ≡ false
-  pub none_passed : q.passed ≡ None
+  pub is_bare : bare q ≡ q
   pub index : index_of q ≡ n
 
 -- the index as a function
@@ -50,7 +52,7 @@ pub record IsNumbered (c : Class) : Type 0 where
   pub closed : (p q : Position) → IsValid p → IsOf c p → Leads p q → LeadsOn c q
 
 abbrev pub ClassesAreNumbered : Type 0
-ClassesAreNumbered = (c : Class) → is_left_out c ≡ false → IsNumbered c
+ClassesAreNumbered = (c : Class) → IsNumbered c
 
 -- positions that are alike are of one class and have one game
 pub record AgreeAlike (p q : Position) : Type 0 where

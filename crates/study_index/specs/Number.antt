@@ -1,5 +1,5 @@
 -- The numbers of a position, and its index, the least of them.
-use Rattle.std.specs.Prelude.{◌≡◌, ℕ, ◌+◌, ◌*◌, ◌^◌, ◌≤◌, Bool, true, false, not, ◌&&◌, ◌||◌, ◌==◌, nat_lt, List, [], ◌∷◌, length, Option, Some, None, if◌then◌else◌}
+use Rattle.std.specs.Prelude.{◌≡◌, ℕ, ◌+◌, ◌*◌, ◌%◌, ◌^◌, ◌≤◌, Bool, true, false, not, ◌&&◌, ◌||◌, ◌==◌, nat_lt, nat_le, List, [], ◌∷◌, length, Option, Some, None, if◌then◌else◌}
 use Rattle.std.specs.List.{list_any}
 use Rattle.std.specs.Option.{option_map}
 use Rattle.study_board.specs.declared.men.Side.{Side}
@@ -13,7 +13,8 @@ use Rattle.study_board.specs.Men.{same_kind}
 use Rattle.study_board.specs.Position.{Position}
 use Rattle.study_board.specs.Symmetry.{is_pawn, image, admits}
 use Rattle.study_material.specs.declared.class.Class.{Class}
-use Rattle.study_material.specs.Lists.{is_swapped}
+use Rattle.study_moves.specs.Bare.{is_live}
+use Rattle.study_material.specs.Lists.{Lists, is_swapped}
 use Rattle.study_material.specs.Class.{lists_of}
 use Rattle.study_index.specs.Filling.{IsFilling}
 
@@ -59,10 +60,27 @@ pub record IsNumber (p : Position) (n : ℕ) : Type 0 where
   pub fills : IsFilling false (image by p).men filling
   pub is : number (has_pawn p.men) (image by p).to_move filling ≡ Some n
 
--- the index: the least number of the position
-pub record IsIndex (p : Position) (n : ℕ) : Type 0 where
+-- the least number of the position, whatever square is passed
+pub record IsLeastNumber (p : Position) (n : ℕ) : Type 0 where
   pub number : IsNumber p n
   pub least : (m : ℕ) → IsNumber p m → n ≤ m
+
+-- 16,777,216 more where the bit is set
+abbrev pub with_bit : Bool → ℕ → ℕ
+with_bit true n = 16777216 + n
+with_bit false n = n
+
+abbrev pub has_bit : ℕ → Bool
+has_bit n = nat_le 16777216 n
+
+abbrev pub without_bit : ℕ → ℕ
+without_bit n = n % 16777216
+
+-- the index: the least number of the position, the bit set where a capture in passing is legal
+pub record IsIndex (p : Position) (n : ℕ) : Type 0 where
+  pub number : ℕ
+  pub least : IsLeastNumber p number
+  pub is : n ≡ with_bit (is_live p) number
 
 abbrev pub kinds_have_pawn : List Kind → Bool
 kinds_have_pawn kinds = list_any (λ k. same_kind k Pawn) kinds
@@ -70,6 +88,14 @@ kinds_have_pawn kinds = list_any (λ k. same_kind k Pawn) kinds
 abbrev pub class_has_pawn : Class → Bool
 class_has_pawn c = kinds_have_pawn (lists_of c).white || kinds_have_pawn (lists_of c).black
 
+-- both sides have a pawn, so that one can capture the other in passing
+abbrev pub has_both_pawns : Lists → Bool
+has_both_pawns l = kinds_have_pawn l.white && kinds_have_pawn l.black
+
 -- two sides to move, the white king's places, 64 squares for each further man
+abbrev pub numbers_of : Class → ℕ
+numbers_of c = 2 * places (class_has_pawn c) * 64 ^ (1 + length (lists_of c).white + length (lists_of c).black)
+
+-- how many cells the table of a class has: those of the numbers, twice where the bit can be set
 abbrev pub cells_of : Class → ℕ
-cells_of c = 2 * places (class_has_pawn c) * 64 ^ (1 + length (lists_of c).white + length (lists_of c).black)
+cells_of c = if has_both_pawns (lists_of c) then 2 * numbers_of c else numbers_of c

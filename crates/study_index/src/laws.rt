@@ -11,8 +11,8 @@ pub fn numbers_are_read()
     ensures { NumbersAreRead }
 {}
 
-/// In a class that is not left out the number of a position reads as a position that is alike, and what is alike has
-/// one number, moves that lead to what is alike, and the same mates.
+/// The number of a position of a class reads as a position that is alike, and what is alike has one number, moves that
+/// lead to what is alike, and the same mates.
 pub fn classes_are_numbered()
     ensures { ClassesAreNumbered }
 {}

@@ -1,7 +1,7 @@
 //! The index of a position.
-ghost use Rattle.std.specs.Prelude.{◌≡◌, ◌≤◌, length, [], ◌∷◌};
-ghost use Rattle.study_index.specs.Number.{IsIndex};
-ghost use Rattle.study_index.specs.Found.{index_of, sorted};
+ghost use Rattle.std.specs.Prelude.{◌≡◌, ◌≤◌, ◌<◌, length, [], ◌∷◌};
+ghost use Rattle.study_index.specs.Number.{IsLeastNumber, IsIndex};
+ghost use Rattle.study_index.specs.Found.{least_number, index_of, sorted};
 ghost use Rattle.study_board.specs.Symmetry.{turned_square};
 ghost use Rattle.study_index.specs.Chosen.{least, least_of};
 ghost use Rattle.study_index.specs.Squares.{brought, exchanged_at, falls_at, number_at, least_turned, least_at};
@@ -10,6 +10,7 @@ use crate::filling::{
     coloured, is_like, key, slot, square_of, standing, with_one, with_three, with_two,
 };
 use crate::number::{has_pawn, number};
+use crate::passing::is_live;
 use crate::swap::is_swapped;
 use crate::turn::turned;
 use study_board::{Man, Position, Side, Square, Symmetry};
@@ -233,10 +234,11 @@ fn least_of_four(
     least_at(pawns, to_move, colours, is_like(c, d), &squares)
 }
 
-/// The number of a position in the tables of its class: the least number of its images. The passed square is not looked at.
-pub fn index(p: &Position) -> u32
-    ensures least { IsIndex p.now result }
-    ensures value { result ≡ index_of p.now }
+/// The least number of the images of a position. The passed square is not looked at.
+fn least_number(p: &Position) -> u32
+    ensures least { IsLeastNumber p.now result }
+    ensures value { result ≡ least_number p.now }
+    ensures small { result < 16777216 }
 {
     let men = p.men();
     let colours = is_swapped(p);
@@ -244,4 +246,15 @@ pub fn index(p: &Position) -> u32
         Some(n) => n,
         None => unreachable!(),
     }
+}
+
+/// The number of a position in the tables of its class: the least number of its images, and 16,777,216 more where a
+/// capture in passing is legal.
+#[tactic(auto, unfolding(crate::specs::Found::index_of))]
+pub fn index(p: &Position) -> u32
+    ensures least { IsIndex p.now result }
+    ensures value { result ≡ index_of p.now }
+{
+    let least = least_number(p);
+    if is_live(p) { 16_777_216 + least } else { least }
 }

@@ -9,6 +9,7 @@ mod filling;
 mod laws;
 mod least;
 mod number;
+mod passing;
 mod reading;
 mod swap;
 mod turn;

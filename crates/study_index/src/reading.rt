@@ -1,12 +1,14 @@
 //! The positions of numbers.
-ghost use Rattle.std.specs.Prelude.{◌≡◌, ◌+◌, ◌*◌, ◌/◌, ◌%◌, ◌≤◌, ◌<◌, ◌↔◌, ◌⊎◌, IsTrue, length, IfSome, IfNone, List, None, false};
+ghost use Rattle.std.specs.Prelude.{◌≡◌, ◌+◌, ◌*◌, ◌/◌, ◌%◌, ◌≤◌, ◌<◌, ◌↔◌, ◌⊎◌, IsTrue, length, IfSome, IfNone, List, None};
 ghost use Rattle.study_board.specs.Position.{Position as Seen};
-ghost use Rattle.study_material.specs.Class.{is_left_out, lists_of};
+ghost use Rattle.study_material.specs.Class.{lists_of};
 ghost use Rattle.study_index.specs.Number.{places, cells_of};
 ghost use Rattle.study_index.specs.Found.{position_at};
-ghost use Rattle.study_index.specs.Decoded.{IsDecoded, AreSlots, slots_of, listed, slots_have_pawn, man, head, side_of, told_men, told_side, IsPlaced, IsFaulty, HasLeast};
+ghost use Rattle.study_index.specs.Decoded.{IsDecoded, AreSlots, slots_of, listed, slots_have_pawn, man, head, side_of, told_men, told_side, behind, passed_behind, IsPlaced, IsFaulty, HasLeast};
+ghost use Rattle.study_board.specs.Men.{other_side};
 
 use crate::least::least_of;
+use crate::passing::{behind, is_live};
 use study_board::{Kind, Man, Position, Side, Square};
 use study_material::Class;
 
@@ -95,14 +97,28 @@ fn side_of(n: u32) -> Side
     if n == 0 { Side::White } else { Side::Black }
 }
 
-/// The position of these men, read off `n`, if they are one.
-fn placed(men: &[Man], to_move: Side) -> Option<Position>
-    ensures some { IfSome result (λ q. IsPlaced men.now to_move q) }
-    ensures none { IfNone result (IsFaulty men.now to_move) }
+/// The position of these men, if they are one.
+fn placed(men: &[Man], to_move: Side, passed: Option<Square>) -> Option<Position>
+    ensures some { IfSome result (λ q. IsPlaced men.now to_move passed q) }
+    ensures none { IfNone result (IsFaulty men.now to_move passed) }
 {
-    match Position::new(men, to_move, None) {
+    match Position::new(men, to_move, passed) {
         Ok(q) => Some(q),
         Err(_) => None,
+    }
+}
+
+/// The position of these men, if they are one, the square behind the pawn of the side that is not to move being passed.
+fn placed_behind(men: &[Man], to_move: Side) -> Option<Position>
+    ensures some { IfSome result (λ q. IsPlaced men.now to_move (behind (other_side to_move) men.now) q) }
+    ensures none { IfNone result (IsFaulty men.now to_move (behind (other_side to_move) men.now)) }
+{
+    match behind(to_move.other(), men) {
+        None => placed(men, to_move, None),
+        Some(number) => match Square::new(number) {
+            None => None,
+            Some(x) => placed(men, to_move, Some(x)),
+        },
     }
 }
 
@@ -120,35 +136,44 @@ fn is_least(pawns: bool, to_move: Side, n: u32, men: &[Man]) -> bool
 
 /// The position of these men, if they are one and `n` is their least number.
 #[inline]
-fn numbered(pawns: bool, to_move: Side, n: u32, men: &[Man]) -> Option<Position>
+fn numbered(
+    pawns: bool,
+    to_move: Side,
+    n: u32,
+    passed: bool,
+    men: &[Man],
+) -> Option<Position>
     requires { length men.now ≤ 4 }
-    ensures some { IfSome result (λ q. IsPlaced men.now to_move q × HasLeast pawns to_move n men.now) }
-    ensures none { IfNone result (IsFaulty men.now to_move ⊎ (HasLeast pawns to_move n men.now → ⊥)) }
+    ensures some { IfSome result (λ q. IsPlaced men.now to_move (passed_behind passed to_move men.now) q × HasLeast pawns to_move n men.now) }
+    ensures none { IfNone result (IsFaulty men.now to_move (passed_behind passed to_move men.now) ⊎ (HasLeast pawns to_move n men.now → ⊥)) }
 {
-    if is_least(pawns, to_move, n, men) {
-        placed(men, to_move)
-    } else {
+    if !is_least(pawns, to_move, n, men) {
         None
+    } else if passed {
+        placed_behind(men, to_move)
+    } else {
+        placed(men, to_move, None)
     }
 }
 
-/// The position of the men and the side that the number tells, if they are one and the number is their least.
-fn read_off(slots: &[Slot], n: u32) -> Option<Position>
+/// The position of the men and the side that the number tells, if they are one and the number is their least, with a
+/// passed square or without.
+fn read_off(slots: &[Slot], n: u32, passed: bool) -> Option<Position>
     requires { AreSlots slots.now }
-    ensures some { IfSome result (λ q. IsPlaced (told_men slots.now n) (told_side slots.now n) q × HasLeast (slots_have_pawn slots.now) (told_side slots.now n) n (told_men slots.now n)) }
-    ensures none { IfNone result (IsFaulty (told_men slots.now n) (told_side slots.now n) ⊎ (HasLeast (slots_have_pawn slots.now) (told_side slots.now n) n (told_men slots.now n) → ⊥)) }
+    ensures some { IfSome result (λ q. IsPlaced (told_men slots.now n) (told_side slots.now n) (passed_behind passed (told_side slots.now n) (told_men slots.now n)) q × HasLeast (slots_have_pawn slots.now) (told_side slots.now n) n (told_men slots.now n)) }
+    ensures none { IfNone result (IsFaulty (told_men slots.now n) (told_side slots.now n) (passed_behind passed (told_side slots.now n) (told_men slots.now n)) ⊎ (HasLeast (slots_have_pawn slots.now) (told_side slots.now n) n (told_men slots.now n) → ⊥)) }
 {
     let pawns = has_pawn(slots);
     let side = side_of(head(slots, n) / places(pawns));
     match slots {
         [k, b] => {
             let men = [king(pawns, k, n / 64), man(b, n % 64)];
-            numbered(pawns, side, n, &men)
+            numbered(pawns, side, n, passed, &men)
         }
         [k, b, x] => {
             let black = man(b, n / 64 % 64);
             let men = [king(pawns, k, n / 64 / 64), black, man(x, n % 64)];
-            numbered(pawns, side, n, &men)
+            numbered(pawns, side, n, passed, &men)
         }
         [k, b, x, y] => {
             let black = man(b, n / 64 / 64 % 64);
@@ -159,15 +184,14 @@ fn read_off(slots: &[Slot], n: u32) -> Option<Position>
                 further,
                 man(y, n % 64),
             ];
-            numbered(pawns, side, n, &men)
+            numbered(pawns, side, n, passed, &men)
         }
         _ => unreachable!(),
     }
 }
 
-/// How many numbers there are for positions of the class.
+/// How many cells there are for positions of the class.
 pub fn cells(class: Class) -> u32
-    requires { is_left_out class ≡ false }
     ensures { result ≡ cells_of class }
 {
     use Class::*;
@@ -175,22 +199,50 @@ pub fn cells(class: Class) -> u32
         KK => 1_280,
         KQK | KRK | KBK | KNK => 81_920,
         KPK => 262_144,
-        KQPK | KRPK | KBPK | KNPK | KPPK | KQKP | KRKP | KBKP | KNKP | KPKP => 16_777_216,
+        KQPK | KRPK | KBPK | KNPK | KPPK | KQKP | KRKP | KBKP | KNKP => 16_777_216,
+        KPKP => 33_554_432,
         _ => 5_242_880,
     }
 }
 
-/// The position of the class that has this number, in list order and without a passed square, if there is one.
+/// The position of a number without the bit.
+#[inline]
+fn read_plain(class: Class, n: u32) -> Option<Position>
+    requires cell { n < cells_of class }
+    requires plain { n < 16777216 }
+    ensures some { IfSome result (IsDecoded class n) }
+    ensures none { IfNone result ((q : Seen) → IsDecoded class n q → ⊥) }
+{
+    read_off(slots(class), n, false)
+}
+
+/// The position of a number with the bit: one in which a capture in passing is legal.
+fn read_passing(class: Class, n: u32) -> Option<Position>
+    requires cell { n < cells_of class }
+    requires passing { 16777216 ≤ n }
+    ensures some { IfSome result (IsDecoded class n) }
+    ensures none { IfNone result ((q : Seen) → IsDecoded class n q → ⊥) }
+{
+    match read_off(slots(class), n - 16_777_216, true) {
+        None => None,
+        Some(q) => if is_live(&q) { Some(q) } else { None },
+    }
+}
+
+/// The position of the class that has this number, in list order, if there is one. It has a passed square where the
+/// number has the bit.
 pub fn decode(class: Class, n: u32) -> Option<Position>
-    requires { is_left_out class ≡ false }
     ensures some { IfSome result (IsDecoded class n) }
     ensures none { IfNone result ((q : Seen) → IsDecoded class n q → ⊥) }
     ensures value { result ≡ position_at class n }
 {
     if n >= cells(class) {
-        return None;
+        None
+    } else if n < 16_777_216 {
+        read_plain(class, n)
+    } else {
+        read_passing(class, n)
     }
-    read_off(slots(class), n)
 }
 
 const WHITE_KING: Slot = Slot {

@@ -1,7 +1,4 @@
 //! Worked positions, and whole classes.
-ghost use Rattle.std.specs.Prelude.{◌≡◌, false};
-ghost use Rattle.study_material.specs.Class.{is_left_out};
-
 use crate::samples::SAMPLES;
 use crate::{cells, decode, index};
 use arrayvec::ArrayVec;
@@ -96,6 +93,43 @@ fn worked_positions(rt: HostRuntime) {
 }
 
 #[test]
+fn captures_in_passing(rt: HostRuntime) {
+    for (placement, passed, number) in [
+        ("8/8/8/8/k2Pp3/8/8/4K3", 19, 26_081_051),
+        ("8/8/8/8/k2Pp3/8/8/4K3", 64, 9_303_835),
+        ("8/8/8/8/k2P3p/8/8/4K3", 19, 9_303_832),
+        ("8/8/8/8/k2P3p/8/8/4K3", 64, 9_303_832),
+    ] {
+        let p = position(placement, Side::Black, passed).expect(&rt, "a position");
+        assert_eq!(rt; index(&p), number, "{placement}");
+    }
+    let want = position("8/8/8/8/3pP2k/8/8/3K4", Side::Black, 20).expect(&rt, "a position");
+    let read = decode(Class::KPKP, 26_081_051).expect(&rt, "a position");
+    assert!(rt; read == want);
+    assert!(rt; decode(Class::KPKP, 26_081_048).is_none());
+    assert!(rt; decode(Class::KPKP, 33_554_432).is_none());
+}
+
+// How many numbers of KPKP read as positions with a passed square, and how many of these have another index.
+fn counted_passing() -> (u32, u32) {
+    let (mut found, mut others) = (0u32, 0u32);
+    for n in 16_777_216..33_554_432u32 {
+        if let Some(q) = decode(Class::KPKP, n) {
+            found = found.saturating_add(1);
+            if q.passed().is_none() || index(&q) != n {
+                others = others.saturating_add(1);
+            }
+        }
+    }
+    (found, others)
+}
+
+#[test]
+fn all_captures_in_passing(rt: HostRuntime) {
+    assert_eq!(rt; counted_passing(), (43_786, 0));
+}
+
+#[test]
 fn cells_of_classes(rt: HostRuntime) {
     for (name, want) in [
         ("KK", 1_280),
@@ -110,6 +144,7 @@ fn cells_of_classes(rt: HostRuntime) {
             5_242_880,
         ),
         ("KQPK KRPK KBPK KNPK KPPK KQKP KRKP KBKP KNKP", 16_777_216),
+        ("KPKP", 33_554_432),
     ] {
         for word in name.split(' ') {
             let class = Class::parse(word).expect(&rt, "a class");
@@ -120,7 +155,6 @@ fn cells_of_classes(rt: HostRuntime) {
 
 // How many numbers of the class read as positions, and how many of these have another index.
 fn counted(class: Class) -> (u32, u32)
-    requires { is_left_out class ≡ false }
 {
     let (mut found, mut others) = (0u32, 0u32);
     for n in 0..cells(class) {
@@ -144,7 +178,6 @@ fn whole_classes(rt: HostRuntime) {
         (Class::KNK, 53_806),
         (Class::KPK, 165_676),
     ] {
-        assert!(rt; !class.left_out());
         assert_eq!(rt; counted(class), (want, 0), "{}", class.name());
     }
 }

@@ -7,7 +7,7 @@ use Rattle.study_board.specs.declared.men.Kind.{Kind}
 use Rattle.study_board.specs.declared.men.Kind.TheVariants.{King, Queen, Rook, Bishop, Knight, Pawn}
 use Rattle.study_material.specs.declared.class.Class.TheVariants.{KPK, KQPK, KQKR, KPKP}
 use Rattle.study_material.specs.Lists.{of, lists, comes_before, is_swapped, ordered}
-use Rattle.study_material.specs.Class.{lists_of, is_left_out}
+use Rattle.study_material.specs.Class.{lists_of}
 use Rattle.study_material.specs.Needs.{promoted, reached}
 
 abbrev man : Side → Kind → ℕ → Man
@@ -38,9 +38,3 @@ pawn = refl
 -- one of two pawns is promoted
 one_promoted : promoted (Rook ∷ Pawn ∷ []) ≡ (Queen ∷ Rook ∷ []) ∷ (Rook ∷ Rook ∷ []) ∷ (Rook ∷ Bishop ∷ []) ∷ (Rook ∷ Knight ∷ []) ∷ []
 one_promoted = refl
-
-left_out : is_left_out KPKP ≡ true
-left_out = refl
-
-kept : is_left_out KPK ≡ false
-kept = refl

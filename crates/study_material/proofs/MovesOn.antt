@@ -82,7 +82,7 @@ promotes_taking White White k j a b d xs e h f g = absurd (false≢true (sym h))
 promotes_taking Black Black k j a b d xs e h f g = absurd (false≢true (sym h))
 
 -- where a pawn captures on the passed square, it is the passed square
-passed_there : (p : Position) (m : Man) (x : ℕ) → IsValid p → is_en_passant p.passed m x ≡ true → could_be_passed p.men p.to_move x ≡ true
+pub passed_there : (p : Position) (m : Man) (x : ℕ) → IsValid p → is_en_passant p.passed m x ≡ true → could_be_passed p.men p.to_move x ≡ true
 unfolding is_en_passant
 passed_there p m x v e =
     by_passed p.passed (and_parts (is_pawn m && not (file_of m.at == file_of x)) (is_square p.passed x) e).1 (IsFaultless-from_first p.men p.to_move p.passed v.faultless).possible
@@ -91,7 +91,7 @@ passed_there p m x v e =
     by_passed None e h = absurd (false≢true e)
     by_passed (Some s) e h = subst (λ y. could_be_passed p.men p.to_move y ≡ true) (eqb-true s x e) h
 
-passed_empty : (men : List Man) (side : Side) (x : ℕ) → could_be_passed men side x ≡ true → list_any (λ y. y.at == x) men ≡ false
+pub passed_empty : (men : List Man) (side : Side) (x : ℕ) → could_be_passed men side x ≡ true → list_any (λ y. y.at == x) men ≡ false
 unfolding could_be_passed is_occupied
 passed_empty men White x e =
     let a = and_parts (rank_of x == 5 && is_empty men x && is_empty men (x + 8)) (has_man men Black Pawn (x - 8)) e in

@@ -7,53 +7,7 @@ use Rattle.std.proofs.lemmas.Slice.Eq.{bytes_eq-Decides}
 use Rattle.std.proofs.lemmas.Bool.{false≢true}
 use Rattle.study_material.specs.declared.class.Class.{Class}
 use Rattle.study_material.specs.declared.class.Class.TheVariants.{KK, KQK, KRK, KBK, KNK, KPK, KQQK, KQRK, KQBK, KQNK, KQPK, KRRK, KRBK, KRNK, KRPK, KBBK, KBNK, KBPK, KNNK, KNPK, KPPK, KQKQ, KQKR, KQKB, KQKN, KQKP, KRKR, KRKB, KRKN, KRKP, KBKB, KBKN, KBKP, KNKN, KNKP, KPKP}
-use Rattle.study_material.specs.Class.{name_of, is_left_out, class_list, IsNameOf}
-
--- the one class that is left out is KPKP
-is_named : (c : Class) → bytes_eq (name_of c) (name_of KPKP) ≡ is_left_out c
-unfolding name_of
-is_named KK = refl
-is_named KQK = refl
-is_named KRK = refl
-is_named KBK = refl
-is_named KNK = refl
-is_named KPK = refl
-is_named KQQK = refl
-is_named KQRK = refl
-is_named KQBK = refl
-is_named KQNK = refl
-is_named KQPK = refl
-is_named KRRK = refl
-is_named KRBK = refl
-is_named KRNK = refl
-is_named KRPK = refl
-is_named KBBK = refl
-is_named KBNK = refl
-is_named KBPK = refl
-is_named KNNK = refl
-is_named KNPK = refl
-is_named KPPK = refl
-is_named KQKQ = refl
-is_named KQKR = refl
-is_named KQKB = refl
-is_named KQKN = refl
-is_named KQKP = refl
-is_named KRKR = refl
-is_named KRKB = refl
-is_named KRKN = refl
-is_named KRKP = refl
-is_named KBKB = refl
-is_named KBKN = refl
-is_named KBKP = refl
-is_named KNKN = refl
-is_named KNKP = refl
-is_named KPKP = refl
-
-pub left_out-is : (c : Class) → is_left_out c ≡ true → name_of c ≡ name_of KPKP
-left_out-is c e = (bytes_eq-Decides (name_of c) (name_of KPKP)).0 (is_named c ∙ e)
-
-pub not_left_out : (c : Class) → is_left_out c ≡ false → name_of c ≡ name_of KPKP → ⊥
-not_left_out c e d = false≢true (sym e ∙ sym (is_named c) ∙ (bytes_eq-Decides (name_of c) (name_of KPKP)).1 d)
+use Rattle.study_material.specs.Class.{name_of, class_list, IsNameOf}
 
 -- every class is in the list
 place_of : Class → ℕ
@@ -148,7 +102,3 @@ no_class text i le all c =
   where
     all_contain : (P : Class → Type 0) (xs : List Class) → All P xs → (c : Class) → Contains xs c → P c
     all_contain P xs h c i = subst P i.2 (h i.0 c i.1)
-
--- a text that names a class that is not left out names none that is
-pub only_one : (text : List ℕ) (c d : Class) → IsNameOf text c → is_left_out c ≡ false → IsNameOf text d → is_left_out d ≡ true → ⊥
-only_one text c d h e k f = not_left_out c e (sym h ∙ k ∙ left_out-is d f)

@@ -75,10 +75,6 @@ same_kinds (x ∷ xs) (y ∷ ys) = same_kind x y && same_kinds xs ys
 abbrev pub same_lists : Lists → Lists → Bool
 same_lists l m = same_kinds l.white m.white && same_kinds l.black m.black
 
--- the class of a pawn against a pawn has no numbers yet
-abbrev pub is_left_out : Class → Bool
-is_left_out c = same_lists (lists_of c) (of (Pawn ∷ []) (Pawn ∷ []))
-
 -- the position is of the class: its lists, exchanged where Black's comes first, are those of the class
 abbrev pub IsOf : Class → Position → Type 0
 IsOf c p = lists_of c ≡ ordered (lists p.men)

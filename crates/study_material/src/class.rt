@@ -1,6 +1,6 @@
 //! The classes of material, their names, and what each needs.
-ghost use Rattle.std.specs.Prelude.{◌≡◌, true, false, IfOk, IsErrOf, ◌↔◌};
-ghost use Rattle.study_material.specs.Class.{name_of, is_left_out, class_list, IsNameOf};
+ghost use Rattle.std.specs.Prelude.{◌≡◌, false, IfOk, IsErrOf, ◌↔◌};
+ghost use Rattle.study_material.specs.Class.{name_of, class_list, IsNameOf};
 
 use crate::ClassFault;
 
@@ -94,32 +94,25 @@ impl Class {
         &ALL
     }
 
-    /// The class of this name, as `KQKR`.
+    /// The class of this name, as `KQKR`. No class is left out: `MaterialLeftOut` never comes.
     pub fn parse(text: &str) -> Result<Class, ClassFault>
-        ensures ok { IfOk result (λ c. IsNameOf text.now c × (is_left_out c ≡ false)) }
-        ensures left_out { IsErrOf result ClassFault.MaterialLeftOut ↔ ((c : Class) × IsNameOf text.now c × (is_left_out c ≡ true)) }
+        ensures ok { IfOk result (λ c. IsNameOf text.now c) }
+        ensures left_out { ¬ (IsErrOf result ClassFault.MaterialLeftOut) }
         ensures none { IsErrOf result ClassFault.NotAClass ↔ ((c : Class) → ¬ (IsNameOf text.now c)) }
     {
         for class in &ALL {
             if class.name() == text {
-                return if class.left_out() {
-                    Err(ClassFault::MaterialLeftOut)
-                } else {
-                    Ok(*class)
-                };
+                return Ok(*class);
             }
         }
         Err(ClassFault::NotAClass)
     }
 
-    /// Whether positions of the class have no number and no table.
+    /// Whether positions of the class have no number and no table: those of every class have.
     pub fn left_out(self) -> bool
-        ensures { result ≡ is_left_out self }
+        ensures { result ≡ false }
     {
-        match self {
-            Class::KPKP => true,
-            _ => false,
-        }
+        false
     }
 
     /// The name, as `KQKR`.

@@ -5,6 +5,6 @@ use thiserror::Error;
 pub enum ClassFault {
     #[error("no class has this name")]
     NotAClass,
-    #[error("positions of this class have no number yet")]
+    #[error("positions of this class have no number")]
     MaterialLeftOut,
 }

@@ -2,7 +2,7 @@
 use crate::{Class, ClassFault, needs, order};
 
 static NAMES: &str =
-    "KK KQK KRK KBK KNK KPK KQQK KQRK KQBK KQNK KQPK KRRK KRBK KRNK KRPK KBBK KBNK KBPK KNNK KNPK KPPK KQKQ KQKR KQKB KQKN KQKP KRKR KRKB KRKN KRKP KBKB KBKN KBKP KNKN KNKP";
+    "KK KQK KRK KBK KNK KPK KQQK KQRK KQBK KQNK KQPK KRRK KRBK KRNK KRPK KBBK KBNK KBPK KNNK KNPK KPPK KQKQ KQKR KQKB KQKN KQKP KRKR KRKB KRKN KRKP KBKB KBKN KBKP KNKN KNKP KPKP";
 
 #[test]
 fn names_of_classes(rt: HostRuntime) {
@@ -14,12 +14,9 @@ fn names_of_classes(rt: HostRuntime) {
         assert_eq!(rt; Class::all().get(parsed), Some(&class));
         parsed = parsed.saturating_add(1);
     }
-    assert_eq!(rt; parsed, 35);
-    assert_eq!(rt; Class::all().get(35), Some(&Class::KPKP));
-    assert_eq!(rt; Class::KPKP.name(), "KPKP");
-    assert!(rt; Class::KPKP.left_out());
+    assert_eq!(rt; parsed, 36);
     for (text, want) in [
-        ("KPKP", ClassFault::MaterialLeftOut),
+        ("KPPKP", ClassFault::NotAClass),
         ("KRKQ", ClassFault::NotAClass),
         ("", ClassFault::NotAClass),
         ("kqk", ClassFault::NotAClass),
@@ -36,6 +33,9 @@ fn lists_of_classes(rt: HostRuntime) {
     assert_eq!(rt; needs(KPK).as_slice(), [KK, KQK, KRK, KBK, KNK].as_slice());
     let all = [KQK, KRK, KBK, KNK, KPK, KQKQ, KQKR, KQKB, KQKN];
     assert_eq!(rt; needs(KQKP).as_slice(), all.as_slice());
+    let all = [KPK, KQKP, KRKP, KBKP, KNKP];
+    assert_eq!(rt; needs(KPKP).as_slice(), all.as_slice());
+    assert_eq!(rt; order(KPKP).len(), 21);
     assert_eq!(rt; order(KK).as_slice(), [KK].as_slice());
     assert_eq!(rt;
         order(KPK).as_slice(),

@@ -44,7 +44,7 @@ then_some P Q (Some x) f h = f x h
 abbrev pub IsAgain : {S V : Type 0} → (V → List ℕ) → List S → List S → List (PageKey × V) → List (PageKey × V) → Result Value ProbeFault → Class → ℕ → Type 0
 IsAgain cells xs ys kept kept' r c n = IfSome (kept_cell cells kept c n) (λ x. (r ≡ Ok (value_of x)) × (ys ≡ xs) × (kept' ≡ promoted (same_key (key_at c n)) kept))
 
-module _ {S V : Type 0} (honest : S → Table → Type 0) (cells : V → List ℕ) (xs : List (Option (Held S))) (kept : List (PageKey × V)) (c : Class) where
+module _ {S V : Type 0} (honest : S → Table → ℕ → Type 0) (cells : V → List ℕ) (xs : List (Option (Held S))) (kept : List (PageKey × V)) (c : Class) where
   -- no page is kept of a class without a source
   no_page : IsKept honest cells xs kept → held_of xs c ≡ None → (n : ℕ) (o : Option V) → lookup (same_key (key_at c n)) kept ≡ o → o ≡ None
   no_page was none n None e = refl

@@ -1,7 +1,7 @@
 -- A cell of a table is a byte of its page.
 use Rattle.std.specs.Prelude.{Result, Ok, Err, IfOk}
 use Rattle.std.proofs.Common.{true, ◌≡◌, ℕ, ◌+◌, ◌-◌, ◌*◌, ◌/◌, ◌%◌, ◌<◌, inl, inr, List, ◌++◌, length, take, drop, replicate, get_or, refl, sym, ap, ◌∙◌, arith, length-append, length-take}
-use Rattle.std.proofs.lemmas.List.{length-replicate, get_or-replicate, get_or_append_left, get_or-append_right, get_or-take, get_or-drop, get_or_past}
+use Rattle.std.proofs.lemmas.List.{take_at, length-replicate, get_or-replicate, get_or_append_left, get_or-append_right, get_or-take, get_or-drop, get_or_past}
 use Rattle.std.proofs.lemmas.Bool.{cases_lt}
 use Rattle.study_material.specs.declared.class.Class.{Class}
 use Rattle.study_index.specs.Number.{cells_of}
@@ -37,13 +37,14 @@ unfolding page_cells_of
 cells_length xs = length-append (take 4096 xs) (replicate (4096 - length xs) 0) ∙ omega (arith, length-take 4096 xs, length-replicate {A = ℕ} (4096 - length xs) 0)
 
 page_reads_cells : (t : Table) (n k : ℕ) → k < 4096 → get_or (cells_of_page t n) k 0 ≡ get_or t.cells (4096 * n + k) 0
+page_reads_cells t n k small = page_reads (drop (4096 * n) t.cells) k small ∙ get_or-drop (4096 * n) t.cells k 0
+
+-- the cells of a page's text
+pub cells_of_text : (t : Table) (v n : ℕ) → take 4096 (page_of t v n) ≡ cells_of_page t n
 unfolding page_text
-page_reads_cells t n k small =
-    let xs = drop (4096 * n) t.cells in
-    let digest = page_digest (fields_text t.class) n (page_cells_of xs) in
-    get_or-take 4096 (page_cells_of xs ++ digest) k 0 small
-    ∙ get_or_append_left (page_cells_of xs) digest 0 k (omega (arith, cells_length xs))
-    ∙ page_reads xs k small ∙ get_or-drop (4096 * n) t.cells k 0
+cells_of_text t v n =
+    let cells = page_cells_of (drop (4096 * n) t.cells) in
+    take_at cells (page_digest (fields_text t.class v) n cells) 4096 (cells_length (drop (4096 * n) t.cells))
 
 -- cell i of a table is byte i mod 4,096 of its page i / 4,096
 pub cell_of_page : (t : Table) (i : ℕ) → get_or (cells_of_page t (i / 4096)) (i % 4096) 0 ≡ get_or t.cells i 0
@@ -58,11 +59,11 @@ unfolding pages_of
 page_of_cell c i small = omega arith
 
 -- a page of a complete table is whole by the header of its class
-pub whole_read : (t : Table) (h : Header) (n : ℕ) (page : List ℕ) → IsHeaderOf h h.class → t.class ≡ h.class → IsComplete t → page ≡ page_of t n → is_whole_page h.fields h.cells n page ≡ true
+pub whole_read : (t : Table) (h : Header) (n : ℕ) (page : List ℕ) → IsHeaderOf h h.class → t.class ≡ h.class → IsComplete t → page ≡ page_of t h.version n → is_whole_page h.fields h.cells n page ≡ true
 whole_read t h n page header same complete e =
-    let fields : h.fields ≡ fields_text t.class = header.fields ∙ ap fields_text (sym same) in
+    let fields : h.fields ≡ fields_text t.class h.version = header.fields ∙ ap (λ c. fields_text c h.version) (sym same) in
     let cells : h.cells ≡ cells_of t.class = header.cells ∙ ap cells_of (sym same) in
-    rw fields (rw cells (rw e (whole_again t n complete)))
+    rw fields (rw cells (rw e (whole_again t h.version n complete)))
 
 pub told_cell : (t : Table) (i : ℕ) (r : Result Value ProbeFault) → IfOk r (λ v. v ≡ value_of (get_or (cells_of_page t (i / 4096)) (i % 4096) 0)) → IfOk r (λ v. v ≡ value_of (get_or t.cells i 0))
 told_cell t i (Ok v) told = told ∙ ap value_of (cell_of_page t i)

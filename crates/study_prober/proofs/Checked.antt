@@ -15,7 +15,7 @@ pub checked_page : (h : Header) (n : ℕ) (page : List ℕ) → IsHeaderOf h h.c
 checked_page h n page is whole =
     let sized = subst (λ (m : ℕ). is_whole_page h.fields m n page ≡ true) is.cells whole in
     let known = subst (λ (f : List ℕ). is_whole_page f (cells_of h.class) n page ≡ true) is.fields sized in
-    (drop 4096 page, subst (λ (bytes : List ℕ). is_whole_page (fields_text h.class) (cells_of h.class) n bytes ≡ true) (sym (take-append-drop 4096 page)) known)
+    (h.version, drop 4096 page, is.version, subst (λ (bytes : List ℕ). is_whole_page (fields_text h.class h.version) (cells_of h.class) n bytes ≡ true) (sym (take-append-drop 4096 page)) known)
 
 pub read_at : (c d : Class) (m n : ℕ) (r : Result Value ProbeFault) → c ≡ d → m ≡ n → IfOk r (IsReadOff c m) → IfOk r (IsReadOff d n)
 read_at c d m n r e f h = subst (λ (x : Class). IfOk r (IsReadOff x n)) e (subst (λ (k : ℕ). IfOk r (IsReadOff c k)) f h)

@@ -19,7 +19,7 @@ bad_header bytes f (Ok h) is e = absurd is
 bad_header bytes f (Err fault) is e = (f, is, e)
 
 -- a source for a class whose table is held already
-pub fault_held : {S : Type 0} (honest : S → Table → Type 0) (source : S) (held : Bool) (c : Class) → held ≡ true
+pub fault_held : {S : Type 0} (honest : S → Table → ℕ → Type 0) (source : S) (held : Bool) (c : Class) → held ≡ true
     → (told : Result (List ℕ) SourceFault) × MayTell honest source told × MatchOption (paged_fault held c told) (IfErr {T = Unit {0}} (Err (AlreadyHeld c)) (λ e. e ≡ OutOfMemory)) (λ fault. IsErrOf {T = Unit {0}} (Err (AlreadyHeld c)) fault)
 fault_held honest source held c is_held = (Err Device, tt, rw is_held refl)
 
@@ -39,20 +39,20 @@ no_fault : (c d : Class) → d ≡ c → class_fault c (Ok d) ≡ None
 no_fault c d e = rw (alike (place_of d) (place_of c) (ap place_of e)) refl
 
 -- a header was told: the fault is the class's
-pub fault_told : {S : Type 0} (honest : S → Table → Type 0) (source : S) (held : Bool) (c : Class) (h : Header) (r : Result (Unit {0}) PagedFault) → held ≡ false
+pub fault_told : {S : Type 0} (honest : S → Table → ℕ → Type 0) (source : S) (held : Bool) (c : Class) (h : Header) (r : Result (Unit {0}) PagedFault) → held ≡ false
     → ((told : Result (List ℕ) SourceFault) × MayTell honest source told × IsTold told (Ok h))
     → MatchOption (class_fault c (Ok h.class)) (IfErr r (λ e. e ≡ OutOfMemory)) (λ fault. IsErrOf r fault)
     → (told : Result (List ℕ) SourceFault) × MayTell honest source told × MatchOption (paged_fault held c told) (IfErr r (λ e. e ≡ OutOfMemory)) (λ fault. IsErrOf r fault)
 fault_told honest source held c h r free (Ok bytes, may, is) then =
-    (Ok bytes, may, rw free (subst (λ (read : Result Class FileFault). MatchOption (class_fault c read) (IfErr r (λ e. e ≡ OutOfMemory)) (λ fault. IsErrOf r fault)) (sym is) then))
+    (Ok bytes, may, rw free (subst (λ (read : Result Class FileFault). MatchOption (class_fault c read) (IfErr r (λ e. e ≡ OutOfMemory)) (λ fault. IsErrOf r fault)) (sym is.0) then))
 fault_told honest source held c h r free (Err fault, may, is) then = absurd (let contrary : ⊥ = cc in contrary)
 
-pub fault_other : {S : Type 0} (honest : S → Table → Type 0) (source : S) (held : Bool) (c : Class) (h : Header) → held ≡ false → (h.class ≡ c → ⊥)
+pub fault_other : {S : Type 0} (honest : S → Table → ℕ → Type 0) (source : S) (held : Bool) (c : Class) (h : Header) → held ≡ false → (h.class ≡ c → ⊥)
     → ((told : Result (List ℕ) SourceFault) × MayTell honest source told × IsTold told (Ok h))
     → (told : Result (List ℕ) SourceFault) × MayTell honest source told × MatchOption (paged_fault held c told) (IfErr {T = Unit {0}} (Err (OtherClass h.class)) (λ e. e ≡ OutOfMemory)) (λ fault. IsErrOf {T = Unit {0}} (Err (OtherClass h.class)) fault)
 fault_other honest source held c h free far told = fault_told honest source held c h (Err (OtherClass h.class)) free told (rw (other_fault c h.class far) refl)
 
-pub fault_none : {S : Type 0} (honest : S → Table → Type 0) (source : S) (held : Bool) (c : Class) (h : Header) (r : Result (Unit {0}) PagedFault) → held ≡ false → h.class ≡ c → IfErr r (λ e. e ≡ OutOfMemory)
+pub fault_none : {S : Type 0} (honest : S → Table → ℕ → Type 0) (source : S) (held : Bool) (c : Class) (h : Header) (r : Result (Unit {0}) PagedFault) → held ≡ false → h.class ≡ c → IfErr r (λ e. e ≡ OutOfMemory)
     → ((told : Result (List ℕ) SourceFault) × MayTell honest source told × IsTold told (Ok h))
     → (told : Result (List ℕ) SourceFault) × MayTell honest source told × MatchOption (paged_fault held c told) (IfErr r (λ e. e ≡ OutOfMemory)) (λ fault. IsErrOf r fault)
 fault_none honest source held c h r free same is told = fault_told honest source held c h r free told (rw (no_fault c h.class same) is)

@@ -7,6 +7,7 @@ use Rattle.study_material.specs.declared.class.Class.{Class}
 use Rattle.study_retro.specs.Table.{Table, place_of}
 use Rattle.study_retro.proofs.SetLemmas.{place_of-injective}
 use Rattle.study_prober.specs.declared.cache.PageKey.{PageKey}
+use Rattle.study_tablefile.specs.declared.source.Header.{Header}
 use Rattle.study_prober.specs.declared.held.Held.{Held}
 use Rattle.study_prober.specs.Sources.{IsHeaderOf, AreChecked, GivesRight, AreHonestAlike, page_cells_of}
 use Rattle.study_prober.specs.Paged.{held_of, places, IsKept, AreRight, IsSameSource}
@@ -74,9 +75,9 @@ module _ {S : Type 0} where
     | inr far ↦ ap (λ (o : Option (Held S)). is_some o) (held_other xs c d (Some k) far) ∙ was
   ]
 
-  module _ (honest : S → Table → Type 0) where
+  module _ (honest : S → Table → ℕ → Type 0) where
     pub alike_refl : (s : S) → AreHonestAlike honest s s
-    alike_refl s = record { stays = λ t h. h; back = λ t h. h }
+    alike_refl s = record { stays = λ t v h. h; back = λ t v h. h }
 
     pub same_refl : (o : Option (Held S)) → IsSameSource honest o o
     same_refl None = tt
@@ -105,14 +106,14 @@ module _ {S : Type 0} where
     pub same_tables : (xs ys : List (Option (Held S))) (c : Class) → IsSameSource honest (held_of xs c) (held_of ys c) → is_some (held_of ys c) ≡ is_some (held_of xs c)
     same_tables xs ys c h = same_some (held_of xs c) (held_of ys c) h
 
-    pub gives_more : (s r : S) (c : Class) → AreHonestAlike honest s r → GivesRight honest s c → GivesRight honest r c
-    gives_more s r c alike right = record { table = right.table; of_class = right.of_class; complete = right.complete; right = right.right; is_honest = alike.stays right.table right.is_honest }
+    pub gives_more : (s r : S) (v : ℕ) (c : Class) → AreHonestAlike honest s r → GivesRight honest s v c → GivesRight honest r v c
+    gives_more s r v c alike right = record { table = right.table; of_class = right.of_class; complete = right.complete; right = right.right; is_honest = alike.stays right.table v right.is_honest }
 
-    right_by : (o p : Option (Held S)) (c : Class) (k : Held S) → IsSameSource honest o p → p ≡ Some k → ((h : Held S) → o ≡ Some h → GivesRight honest h.source c) → GivesRight honest k.source c
+    right_by : (o p : Option (Held S)) (c : Class) (k : Held S) → IsSameSource honest o p → p ≡ Some k → ((h : Held S) → o ≡ Some h → GivesRight honest h.source h.header.version c) → GivesRight honest k.source k.header.version c
     right_by None None c k same e all = absurd (some_none k e)
     right_by None (Some j) c k same e all = absurd same
     right_by (Some h) None c k same e all = absurd same
-    right_by (Some h) (Some j) c k same e all = subst (λ (x : Held S). GivesRight honest x.source c) (some_same j k e) (gives_more h.source j.source c same.1 (all h refl))
+    right_by (Some h) (Some j) c k same e all = subst (λ (x : Held S). GivesRight honest x.source x.header.version c) (some_same j k e) (subst (λ (x : Header). GivesRight honest j.source x.version c) (sym same.0) (gives_more h.source j.source h.header.version c same.1 (all h refl)))
 
     -- the same sources are right
     pub stays_right : (xs ys : List (Option (Held S))) → ((c : Class) → IsSameSource honest (held_of xs c) (held_of ys c)) → AreRight honest xs → AreRight honest ys
@@ -124,7 +125,7 @@ module _ {S : Type 0} where
     module _ {V : Type 0} (cells : V → List ℕ) where
       -- a page after a call: one that was kept before, or one of the source that was asked
       abbrev pub IsPageOf : List (PageKey × V) → Held S → PageKey × V → Type 0
-      IsPageOf kept h e = Contains kept e ⊎ ((e.0.class ≡ place_of h.header.class) × ((t : Table) → honest h.source t → t.class ≡ h.header.class → cells e.1 ≡ page_cells_of t e.0.number) × AreChecked h.header.class e.0.number (cells e.1))
+      IsPageOf kept h e = Contains kept e ⊎ ((e.0.class ≡ place_of h.header.class) × ((t : Table) → honest h.source t h.header.version → t.class ≡ h.header.class → cells e.1 ≡ page_cells_of t e.0.number) × AreChecked h.header.class e.0.number (cells e.1))
 
       pub header_own : (xs : List (Option (Held S))) (kept : List (PageKey × V)) (c : Class) (h : Held S) → IsKept honest cells xs kept → held_of xs c ≡ Some h → IsHeaderOf h.header h.header.class
       header_own xs kept c h was is = let of_class = was.header c h is in subst (λ (x : Class). IsHeaderOf h.header x) (sym of_class.class) of_class
@@ -138,10 +139,10 @@ module _ {S : Type 0} where
         ys : List (Option (Held S))
         ys = set xs (place_of c) (Some k)
 
-        from_old : (d : Class) (j : Held S) (t : Table) → held_of ys d ≡ Some j → honest j.source t → (i : Held S) × (held_of xs d ≡ Some i) × honest i.source t
+        from_old : (d : Class) (j : Held S) (t : Table) → held_of ys d ≡ Some j → honest j.source t j.header.version → (i : Held S) × (held_of xs d ≡ Some i) × honest i.source t i.header.version
         unfolding ys
         from_old d j t e gives = elim (held_either xs c d k j small e) [
-          | inl same ↦ (h, subst (λ (x : Class). held_of xs x ≡ Some h) same.0 is, alike.back t (subst (λ (x : Held S). honest x.source t) (sym same.1) gives))
+          | inl same ↦ (h, subst (λ (x : Class). held_of xs x ≡ Some h) same.0 is, alike.back t h.header.version (subst (λ (x : Header). honest k.source t x.version) header (subst (λ (x : Held S). honest x.source t x.header.version) (sym same.1) gives)))
           | inr far ↦ (j, far.1, gives)
         ]
 
@@ -159,7 +160,7 @@ module _ {S : Type 0} where
           | inr new ↦ is_some-is (held_of xs d) h (subst (λ (x : Class). held_of xs x ≡ Some h) (place_of-injective c d (ap place_of (sym of_class) ∙ sym new.0 ∙ at)) is)
         ])
 
-        right_after : (d : Class) (j : Held S) (t : Table) → held_of ys d ≡ Some j → honest j.source t → t.class ≡ d → (e : PageKey × V) → Contains kept' e → e.0.class ≡ place_of t.class → cells e.1 ≡ page_cells_of t e.0.number
+        right_after : (d : Class) (j : Held S) (t : Table) → held_of ys d ≡ Some j → honest j.source t j.header.version → t.class ≡ d → (e : PageKey × V) → Contains kept' e → e.0.class ≡ place_of t.class → cells e.1 ≡ page_cells_of t e.0.number
         right_after d j t e gives of page i at =
             let old = from_old d j t e gives in
             elim (more page i) [
@@ -168,7 +169,7 @@ module _ {S : Type 0} where
                   let same : t.class ≡ h.header.class = place_of-injective t.class h.header.class (sym at ∙ new.0) in
                   let here : c ≡ d = sym of_class ∙ sym same ∙ of in
                   let one : h ≡ old.0 = some_same h old.0 (sym is ∙ ap (λ (x : Class). held_of xs x) here ∙ old.1) in
-                  new.1 t (subst (λ (x : Held S). honest x.source t) (sym one) old.2) same
+                  new.1 t (subst (λ (x : Held S). honest x.source t x.header.version) (sym one) old.2) same
             ]
 
         pub kept_after : IsKept honest cells (set xs (place_of c) (Some k)) kept'
@@ -220,11 +221,11 @@ module _ {S : Type 0} where
           };
         }
 
-        pub right_with : AreRight honest xs → GivesRight honest k.source c → AreRight honest (set (places xs) (place_of c) (Some k))
+        pub right_with : AreRight honest xs → GivesRight honest k.source k.header.version c → AreRight honest (set (places xs) (place_of c) (Some k))
         unfolding zs
         right_with all right = record {
           right = λ d j e. elim (either d j e) [
-            | inl same ↦ subst (λ (x : Held S). GivesRight honest x.source d) same.1 (subst (λ (x : Class). GivesRight honest k.source x) same.0 right)
+            | inl same ↦ subst (λ (x : Held S). GivesRight honest x.source x.header.version d) same.1 (subst (λ (x : Class). GivesRight honest k.source k.header.version x) same.0 right)
             | inr far ↦ all.right d j far.1
           ];
         }

@@ -26,7 +26,7 @@ use Rattle.study_prober.proofs.Kept.{held_same, some_same}
 -- the index of a position is below the cells of its class
 pub number_in : (h : Header) (c : Class) (p : Position) (n : ℕ) → IsHeaderOf h c → IsValid p → IsOf c p → IsIndex p n → n < cells_of h.class
 number_in h c p n header valid of is =
-    let r = numbered c p n header.admitted valid of is in
+    let r = numbered c p n valid of is in
     rw header.class (below c n r.0 r.1)
 
 module _ {S : Type 0} where
@@ -34,18 +34,18 @@ module _ {S : Type 0} where
   same_held : (xs : List (Option (Held S))) (c d : Class) (h k : Held S) → held_of xs c ≡ Some h → d ≡ c → held_of xs d ≡ Some k → k ≡ h
   same_held xs c d h k is same held = some_same k h (sym held ∙ ap (λ (x : Class). held_of xs x) same ∙ is)
 
-  module _ (honest : S → Table → Type 0) {V : Type 0} (cells : V → List ℕ) (xs : List (Option (Held S))) (kept : List (PageKey × V)) (c d : Class) where
-    pub told_at : (p : Position) (h k : Held S) (t : Table) (n : ℕ) (r : Result Value ProbeFault) → IsKept honest cells xs kept → held_of xs c ≡ Some h → d ≡ c → held_of xs d ≡ Some k → honest k.source t → t.class ≡ d
-        → n ≡ index_of p → ((u : Table) → honest h.source u → u.class ≡ h.header.class → AreOf cells kept u → IfOk r (λ v. v ≡ value_of (get_or u.cells n 0))) → IfOk r (λ v. v ≡ value_of (get_or t.cells (index_of p) 0))
+  module _ (honest : S → Table → ℕ → Type 0) {V : Type 0} (cells : V → List ℕ) (xs : List (Option (Held S))) (kept : List (PageKey × V)) (c d : Class) where
+    pub told_at : (p : Position) (h k : Held S) (t : Table) (n : ℕ) (r : Result Value ProbeFault) → IsKept honest cells xs kept → held_of xs c ≡ Some h → d ≡ c → held_of xs d ≡ Some k → honest k.source t k.header.version → t.class ≡ d
+        → n ≡ index_of p → ((u : Table) → honest h.source u h.header.version → u.class ≡ h.header.class → AreOf cells kept u → IfOk r (λ v. v ≡ value_of (get_or u.cells n 0))) → IfOk r (λ v. v ≡ value_of (get_or t.cells (index_of p) 0))
     told_at p h k t n r was is same held gives of e ok =
-        let gives_h : honest h.source t = subst (λ (x : Held S). honest x.source t) (same_held xs c d h k is same held) gives in
+        let gives_h : honest h.source t h.header.version = subst (λ (x : Held S). honest x.source t x.header.version) (same_held xs c d h k is same held) gives in
         let of_c : t.class ≡ c = of ∙ same in
         subst (λ (m : ℕ). IfOk r (λ v. v ≡ value_of (get_or t.cells m 0))) e (ok t gives_h (of_c ∙ sym (was.header c h is).class) (was.right c h t is gives_h of_c))
 
-    pub whole_at : (h k : Held S) (t : Table) (n : ℕ) (r : Result Value ProbeFault) → IsKept honest cells xs kept → held_of xs c ≡ Some h → d ≡ c → held_of xs d ≡ Some k → honest k.source t → t.class ≡ d → IsComplete t
-        → ((u : Table) → honest h.source u → u.class ≡ h.header.class → IsComplete u → (b : Class) (m : ℕ) → IsErrOf r (PageDamaged b m) → ⊥) → IsErrOf r (PageDamaged d n) → ⊥
+    pub whole_at : (h k : Held S) (t : Table) (n : ℕ) (r : Result Value ProbeFault) → IsKept honest cells xs kept → held_of xs c ≡ Some h → d ≡ c → held_of xs d ≡ Some k → honest k.source t k.header.version → t.class ≡ d → IsComplete t
+        → ((u : Table) → honest h.source u h.header.version → u.class ≡ h.header.class → IsComplete u → (b : Class) (m : ℕ) → IsErrOf r (PageDamaged b m) → ⊥) → IsErrOf r (PageDamaged d n) → ⊥
     whole_at h k t n r was is same held gives of complete whole told =
-        whole t (subst (λ (x : Held S). honest x.source t) (same_held xs c d h k is same held) gives) (of ∙ same ∙ sym (was.header c h is).class) complete d n told
+        whole t (subst (λ (x : Held S). honest x.source t x.header.version) (same_held xs c d h k is same held) gives) (of ∙ same ∙ sym (was.header c h is).class) complete d n told
 
   pub failed_at : (failed : S → ℕ) (xs : List (Option (Held S))) (c d : Class) (i : ℕ) (h before k after : Held S) (r : Result Value ProbeFault) → i ≡ place_of c → place_of c < length xs → held_of xs c ≡ Some h → d ≡ c
       → held_of xs d ≡ Some before → held_of (set xs i (Some k)) d ≡ Some after → failed k.source ≡ (if is_read_fault r then counted (failed h.source) else failed h.source)
@@ -61,8 +61,8 @@ value_right t c p (Ok v) of complete right valid is told = at_value t p v comple
 value_right t c p (Err fault) of complete right valid is told = told
 
 -- where all sources are right, a value is the game's
-pub game_at : {S V : Type 0} (honest : S → Table → Type 0) (cells : V → List ℕ) (xs : List (Option (Held S))) (kept : List (PageKey × V)) (c : Class) (p : Position) (h : Held S) (n : ℕ) (r : Result Value ProbeFault)
-    → IsKept honest cells xs kept → held_of xs c ≡ Some h → IsValid p → IsOf c p → n ≡ index_of p → ((u : Table) → honest h.source u → u.class ≡ h.header.class → AreOf cells kept u → IfOk r (λ v. v ≡ value_of (get_or u.cells n 0))) → AreRight honest xs → IfOk r (IsValueOf p)
+pub game_at : {S V : Type 0} (honest : S → Table → ℕ → Type 0) (cells : V → List ℕ) (xs : List (Option (Held S))) (kept : List (PageKey × V)) (c : Class) (p : Position) (h : Held S) (n : ℕ) (r : Result Value ProbeFault)
+    → IsKept honest cells xs kept → held_of xs c ≡ Some h → IsValid p → IsOf c p → n ≡ index_of p → ((u : Table) → honest h.source u h.header.version → u.class ≡ h.header.class → AreOf cells kept u → IfOk r (λ v. v ≡ value_of (get_or u.cells n 0))) → AreRight honest xs → IfOk r (IsValueOf p)
 game_at honest cells xs kept c p h n r was is valid of e ok right =
     let gives = right.right c h is in
     value_right gives.table c p r gives.of_class gives.complete gives.right valid of (told_at honest cells xs kept c c p h h gives.table n r was is refl is gives.is_honest gives.of_class e ok)

@@ -23,21 +23,21 @@ abbrev pub places : {S : Type 0} → List (Option (Held S)) → List (Option (He
 places [] = replicate 36 None
 places (o ∷ os) = o ∷ os
 
--- each source has the header of its class, each page that is kept has passed its check, and for whatever table a source is honest,
--- its pages that are kept are the table's
-pub record IsKept {S V : Type 0} (honest : S → Table → Type 0) (cells : V → List ℕ) (sources : List (Option (Held S))) (kept : List (PageKey × V)) : Type 0 where
+-- each source has the header of its class, each page that is kept has passed its check, and for whatever table a source is honest
+-- in the version of its header, its pages that are kept are the table's
+pub record IsKept {S V : Type 0} (honest : S → Table → ℕ → Type 0) (cells : V → List ℕ) (sources : List (Option (Held S))) (kept : List (PageKey × V)) : Type 0 where
   pub some : length sources ≢ 0 → length sources ≡ 36
   pub header : (c : Class) (h : Held S) → held_of sources c ≡ Some h → IsHeaderOf h.header c
   pub held : (e : PageKey × V) (c : Class) → Contains kept e → e.0.class ≡ place_of c → is_some (held_of sources c) ≡ true
   pub checked : (e : PageKey × V) (c : Class) → Contains kept e → e.0.class ≡ place_of c → AreChecked c e.0.number (cells e.1)
-  pub right : (c : Class) (h : Held S) (t : Table) → held_of sources c ≡ Some h → honest h.source t → t.class ≡ c → AreOf cells kept t
+  pub right : (c : Class) (h : Held S) (t : Table) → held_of sources c ≡ Some h → honest h.source t h.header.version → t.class ≡ c → AreOf cells kept t
 
 -- each source gives the file of a right table of its class
-pub record AreRight {S : Type 0} (honest : S → Table → Type 0) (sources : List (Option (Held S))) : Type 0 where
-  pub right : (c : Class) (h : Held S) → held_of sources c ≡ Some h → GivesRight honest h.source c
+pub record AreRight {S : Type 0} (honest : S → Table → ℕ → Type 0) (sources : List (Option (Held S))) : Type 0 where
+  pub right : (c : Class) (h : Held S) → held_of sources c ≡ Some h → GivesRight honest h.source h.header.version c
 
 -- what is held for a class before and after a call: the same source
-abbrev pub IsSameSource : {S : Type 0} → (S → Table → Type 0) → Option (Held S) → Option (Held S) → Type 0
+abbrev pub IsSameSource : {S : Type 0} → (S → Table → ℕ → Type 0) → Option (Held S) → Option (Held S) → Type 0
 IsSameSource honest None None = ⊤
 IsSameSource honest None (Some new) = ⊥
 IsSameSource honest (Some old) None = ⊥

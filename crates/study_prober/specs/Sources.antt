@@ -1,15 +1,14 @@
 -- Sources of pages, and the cells of their tables' pages.
-use Rattle.std.specs.Prelude.{◌≡◌, ℕ, ◌/◌, ◌%◌, List, ◌++◌, slice_index, take, Contains, Bool, true, false, Result, Ok, Err}
+use Rattle.std.specs.Prelude.{◌≡◌, ℕ, ◌*◌, ◌/◌, ◌%◌, List, ◌++◌, slice_index, drop, Contains, Bool, true, false, Result, Ok, Err}
 use Rattle.study_material.specs.declared.class.Class.{Class}
-use Rattle.study_material.specs.Class.{is_left_out}
 use Rattle.study_index.specs.Number.{cells_of}
 use Rattle.study_retro.specs.Table.{Table, IsComplete, place_of}
 use Rattle.study_retro.specs.Sound.{IsRight}
 use Rattle.study_retro.specs.Cells.{value_of}
 use Rattle.study_retro.specs.declared.value.Value.{Value}
 use Rattle.study_tablefile.specs.declared.source.Header.{Header}
-use Rattle.study_tablefile.specs.File.{fields_text}
-use Rattle.study_tablefile.specs.Source.{page_of, is_whole_page}
+use Rattle.study_tablefile.specs.File.{IsVersionOf, fields_text, page_cells_of as cells_from}
+use Rattle.study_tablefile.specs.Source.{is_whole_page}
 use Rattle.study_prober.specs.declared.cache.PageKey.{PageKey}
 use Rattle.study_prober.specs.declared.values.ProbeFault.{ProbeFault}
 use Rattle.study_prober.specs.declared.values.ProbeFault.TheVariants.{NoTable, TableRead, PageDamaged}
@@ -17,17 +16,17 @@ use Rattle.study_prober.specs.declared.values.ProbeFault.TheVariants.{NoTable, T
 -- the header of a class
 pub record IsHeaderOf (h : Header) (c : Class) : Type 0 where
   pub class : h.class ≡ c
-  pub admitted : is_left_out c ≡ false
+  pub version : IsVersionOf c h.version
   pub cells : h.cells ≡ cells_of c
-  pub fields : h.fields ≡ fields_text c
+  pub fields : h.fields ≡ fields_text c h.version
 
--- the cells of page n of a table's file
+-- the cells of page n of a table's file, in whatever version
 abbrev pub page_cells_of : Table → ℕ → List ℕ
-page_cells_of t n = take 4096 (page_of t n)
+page_cells_of t n = cells_from (drop (4096 * n) t.cells)
 
--- the cells stand in a page n that passes the check of the class's file
+-- the cells stand in a page n that passes the check of the class's file in a version that it can have
 abbrev pub AreChecked : Class → ℕ → List ℕ → Type 0
-AreChecked c n cells = (digest : List ℕ) × (is_whole_page (fields_text c) (cells_of c) n (cells ++ digest) ≡ true)
+AreChecked c n cells = (v : ℕ) × (digest : List ℕ) × IsVersionOf c v × (is_whole_page (fields_text c v) (cells_of c) n (cells ++ digest) ≡ true)
 
 -- the value stands at a number of the class, in a page that passes the check
 abbrev pub IsReadOff : Class → ℕ → Value → Type 0
@@ -37,18 +36,18 @@ IsReadOff c n v = (cells : List ℕ) × AreChecked c (n / 4096) cells × (v ≡ 
 pub record AreOf {V : Type 0} (cells : V → List ℕ) (kept : List (PageKey × V)) (t : Table) : Type 0 where
   pub is : (e : PageKey × V) → Contains kept e → e.0.class ≡ place_of t.class → cells e.1 ≡ page_cells_of t e.0.number
 
--- the source gives the file of a right table of the class
-pub record GivesRight {S : Type 0} (honest : S → Table → Type 0) (source : S) (c : Class) : Type 0 where
+-- the source gives the file of a right table of the class, in this version
+pub record GivesRight {S : Type 0} (honest : S → Table → ℕ → Type 0) (source : S) (version : ℕ) (c : Class) : Type 0 where
   pub table : Table
   pub of_class : table.class ≡ c
   pub complete : IsComplete table
   pub right : IsRight table
-  pub is_honest : honest source table
+  pub is_honest : honest source table version
 
--- two states of one source: honest for the same tables
-pub record AreHonestAlike {S : Type 0} (honest : S → Table → Type 0) (old new : S) : Type 0 where
-  pub stays : (t : Table) → honest old t → honest new t
-  pub back : (t : Table) → honest new t → honest old t
+-- two states of one source: honest for the same tables in the same versions
+pub record AreHonestAlike {S : Type 0} (honest : S → Table → ℕ → Type 0) (old new : S) : Type 0 where
+  pub stays : (t : Table) (v : ℕ) → honest old t v → honest new t v
+  pub back : (t : Table) (v : ℕ) → honest new t v → honest old t v
 
 -- the answer tells that a source gave no page
 abbrev pub is_read_fault : {T : Type 0} → Result T ProbeFault → Bool

@@ -6,14 +6,14 @@ use Rattle.study_tablefile.specs.declared.fault.SourceFault.{SourceFault}
 use Rattle.study_tablefile.specs.declared.fault.FileFault.{FileFault}
 use Rattle.study_tablefile.specs.declared.source.Header.{Header}
 use Rattle.study_tablefile.specs.File.{header_text}
-use Rattle.study_tablefile.specs.Reading.{class_read}
+use Rattle.study_tablefile.specs.Reading.{version_of, class_read}
 use Rattle.study_prober.specs.declared.fault.PagedFault.{PagedFault}
 use Rattle.study_prober.specs.declared.fault.PagedFault.TheVariants.{AlreadyHeld, TableRead, Header as BadHeader, OtherClass, OutOfMemory}
 
 -- what a source may tell when it is asked for its header: a fault, or bytes, those of the header of each table for which it is honest
-abbrev pub MayTell : {S : Type 0} → (S → Table → Type 0) → S → Result (List ℕ) SourceFault → Type 0
+abbrev pub MayTell : {S : Type 0} → (S → Table → ℕ → Type 0) → S → Result (List ℕ) SourceFault → Type 0
 MayTell honest source (Err fault) = ⊤
-MayTell honest source (Ok bytes) = (t : Table) → honest source t → bytes ≡ header_text t.class
+MayTell honest source (Ok bytes) = (t : Table) (v : ℕ) → honest source t v → bytes ≡ header_text t.class v
 
 abbrev pub class_fault : Class → Result Class FileFault → Option PagedFault
 class_fault c (Err fault) = Some (BadHeader fault)
@@ -30,13 +30,14 @@ paged_fault held c told = if held then Some (AlreadyHeld c) else header_fault c 
 -- an answer to the question for a header, by what the source told
 abbrev pub IsTold : Result (List ℕ) SourceFault → Result Header PagedFault → Type 0
 IsTold (Err fault) answer = answer ≡ Err (TableRead fault)
-IsTold (Ok bytes) (Ok h) = class_read bytes ≡ Ok h.class
+IsTold (Ok bytes) (Ok h) = (class_read bytes ≡ Ok h.class) × (version_of bytes ≡ h.version)
 IsTold (Ok bytes) (Err fault) = (e : FileFault) × (fault ≡ BadHeader e) × (class_read bytes ≡ Err e)
 
--- what the question for a header comes to, of a source that is honest for a table of the class: its header, or a device's fault
-abbrev pub IsReadOf : Result Header PagedFault → Class → Type 0
-IsReadOf (Ok h) c = h.class ≡ c
-IsReadOf (Err fault) c = (f : SourceFault) × (fault ≡ TableRead f)
+-- what the question for a header comes to, of a source that is honest for a table of the class in this version: its header, or
+-- a device's fault
+abbrev pub IsReadOf : Result Header PagedFault → Class → ℕ → Type 0
+IsReadOf (Ok h) c v = (h.class ≡ c) × (h.version ≡ v)
+IsReadOf (Err fault) c v = (f : SourceFault) × (fault ≡ TableRead f)
 
 -- the answer tells that a source gave no header
 abbrev pub is_unread : {T : Type 0} → Result T PagedFault → Bool

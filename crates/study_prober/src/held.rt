@@ -5,7 +5,7 @@ ghost use Rattle.study_retro.specs.Cells.{value_of};
 ghost use Rattle.study_retro.specs.Table.{Table as Seen, IsComplete, place_of};
 ghost use Rattle.study_index.specs.Number.{cells_of};
 ghost use Rattle.study_tablefile.specs.declared.fault.SourceFault.{SourceFault as ASourceFault};
-ghost use Rattle.study_tablefile.specs.File.{pages_of};
+ghost use Rattle.study_tablefile.specs.File.{IsVersionOf, pages_of};
 ghost use Rattle.study_tablefile.specs.Reading.{class_read};
 ghost use Rattle.study_tablefile.specs.Source.{counted, is_whole_page, page_of};
 ghost use Rattle.lru.specs.LruCache.{promoted, put_entries};
@@ -33,7 +33,7 @@ pub fn header_of<S: PageSource>(source: &mut S) -> Result<Header, PagedFault>
     ensures count { S.failed source.new ≡ (if is_unread result then counted (S.failed source.old) else S.failed source.old) }
     ensures told { (told : Result (List ℕ) ASourceFault) × MayTell S.honest source.old told × IsTold told result }
     ensures header { IfOk result (λ h. IsHeaderOf h h.class) }
-    ensures reads { (t : Seen) → IsComplete t → S.honest source.old t → IsReadOf result t.class }
+    ensures reads { (t : Seen) (v : ℕ) → IsVersionOf t.class v → S.honest source.old t v → IsReadOf result t.class v }
 {
     let mut bytes = [0; 64];
     source.header(&mut bytes)?;
@@ -47,8 +47,8 @@ impl<S: PageSource> Held<S> {
         requires number { number < pages_of self.old.header.class }
         ensures header { self.new.header ≡ self.old.header }
         ensures same { AreHonestAlike S.honest self.old.source self.new.source }
-        ensures ok { (t : Seen) → S.honest self.old.source t → t.class ≡ self.old.header.class → OnOk result (into.new ≡ page_of t number) }
-        ensures whole { (t : Seen) → S.honest self.old.source t → t.class ≡ self.old.header.class → IsComplete t → (c : AClass) (n : ℕ) → IsErrOf result (ProbeFault.PageDamaged c n) → ⊥ }
+        ensures ok { (t : Seen) → S.honest self.old.source t self.old.header.version → t.class ≡ self.old.header.class → OnOk result (into.new ≡ page_of t self.old.header.version number) }
+        ensures whole { (t : Seen) → S.honest self.old.source t self.old.header.version → t.class ≡ self.old.header.class → IsComplete t → (c : AClass) (n : ℕ) → IsErrOf result (ProbeFault.PageDamaged c n) → ⊥ }
         ensures checked { OnOk result (is_whole_page self.old.header.fields self.old.header.cells number into.new ≡ true) }
         ensures damaged { (c : AClass) (n : ℕ) → IsErrOf result (ProbeFault.PageDamaged c n) → (c ≡ self.old.header.class) × (n ≡ number) }
         ensures not_whole { (c : AClass) (n : ℕ) → IsErrOf result (ProbeFault.PageDamaged c n) → is_whole_page self.old.header.fields self.old.header.cells number into.new ≡ false }
@@ -78,12 +78,12 @@ fn read_value<'a, S: PageSource, A: Allocator>(
     ensures room { pages.new.cap ≡ pages.old.cap }
     ensures header { held.new.header ≡ held.old.header }
     ensures same { AreHonestAlike S.honest held.old.source held.new.source }
-    ensures ok { (t : Seen) → S.honest held.old.source t → t.class ≡ held.old.header.class → IfOk result (λ v. v ≡ value_of (slice_index (page_cells_of t key.number) at)) }
-    ensures whole { (t : Seen) → S.honest held.old.source t → t.class ≡ held.old.header.class → IsComplete t → (c : AClass) (n : ℕ) → IsErrOf result (ProbeFault.PageDamaged c n) → ⊥ }
+    ensures ok { (t : Seen) → S.honest held.old.source t held.old.header.version → t.class ≡ held.old.header.class → IfOk result (λ v. v ≡ value_of (slice_index (page_cells_of t key.number) at)) }
+    ensures whole { (t : Seen) → S.honest held.old.source t held.old.header.version → t.class ≡ held.old.header.class → IsComplete t → (c : AClass) (n : ℕ) → IsErrOf result (ProbeFault.PageDamaged c n) → ⊥ }
     ensures damaged { (c : AClass) (n : ℕ) → IsErrOf result (ProbeFault.PageDamaged c n) → (c ≡ held.old.header.class) × (n ≡ key.number) }
     ensures no_table { (c : AClass) → IsErrOf result (ProbeFault.NoTable c) → ⊥ }
     ensures failed { S.failed held.new.source ≡ (if is_read_fault result then counted (S.failed held.old.source) else S.failed held.old.source) }
-    ensures more { (e : _) → Contains pages.new.entries e → Contains pages.old.entries e ⊎ ((e.0 ≡ key) × ((t : Seen) → S.honest held.old.source t → t.class ≡ held.old.header.class → e.1.items ≡ page_cells_of t key.number) × AreChecked held.old.header.class key.number e.1.items) }
+    ensures more { (e : _) → Contains pages.new.entries e → Contains pages.old.entries e ⊎ ((e.0 ≡ key) × ((t : Seen) → S.honest held.old.source t held.old.header.version → t.class ≡ held.old.header.class → e.1.items ≡ page_cells_of t key.number) × AreChecked held.old.header.class key.number e.1.items) }
     ensures kept { (pages.new.entries ≡ pages.old.entries) ⊎ ((v : _) × (pages.new.entries ≡ put_entries same_key pages.old key v)) }
     ensures read { IfOk result (λ v. (cells : List ℕ) × AreChecked held.old.header.class key.number cells × (v ≡ value_of (slice_index cells at))) }
 {
@@ -105,12 +105,12 @@ pub fn value_in<'a, S: PageSource, A: Allocator>(
     ensures room { pages.new.cap ≡ pages.old.cap }
     ensures header { held.new.header ≡ held.old.header }
     ensures same { AreHonestAlike S.honest held.old.source held.new.source }
-    ensures ok { (t : Seen) → S.honest held.old.source t → t.class ≡ held.old.header.class → AreOf (λ v. v.items) pages.old.entries t → IfOk result (λ v. v ≡ value_of (slice_index t.cells number)) }
-    ensures whole { (t : Seen) → S.honest held.old.source t → t.class ≡ held.old.header.class → IsComplete t → (c : AClass) (n : ℕ) → IsErrOf result (ProbeFault.PageDamaged c n) → ⊥ }
+    ensures ok { (t : Seen) → S.honest held.old.source t held.old.header.version → t.class ≡ held.old.header.class → AreOf (λ v. v.items) pages.old.entries t → IfOk result (λ v. v ≡ value_of (slice_index t.cells number)) }
+    ensures whole { (t : Seen) → S.honest held.old.source t held.old.header.version → t.class ≡ held.old.header.class → IsComplete t → (c : AClass) (n : ℕ) → IsErrOf result (ProbeFault.PageDamaged c n) → ⊥ }
     ensures damaged { (c : AClass) (n : ℕ) → IsErrOf result (ProbeFault.PageDamaged c n) → (c ≡ held.old.header.class) × (n ≡ number / 4096) }
     ensures no_table { (c : AClass) → IsErrOf result (ProbeFault.NoTable c) → ⊥ }
     ensures failed { S.failed held.new.source ≡ (if is_read_fault result then counted (S.failed held.old.source) else S.failed held.old.source) }
-    ensures more { (e : _) → Contains pages.new.entries e → Contains pages.old.entries e ⊎ ((e.0.class ≡ place_of held.old.header.class) × ((t : Seen) → S.honest held.old.source t → t.class ≡ held.old.header.class → e.1.items ≡ page_cells_of t e.0.number) × AreChecked held.old.header.class e.0.number e.1.items) }
+    ensures more { (e : _) → Contains pages.new.entries e → Contains pages.old.entries e ⊎ ((e.0.class ≡ place_of held.old.header.class) × ((t : Seen) → S.honest held.old.source t held.old.header.version → t.class ≡ held.old.header.class → e.1.items ≡ page_cells_of t e.0.number) × AreChecked held.old.header.class e.0.number e.1.items) }
     ensures kept { IsUsed (key_at held.old.header.class number) pages.old.cap pages.old.entries pages.new.entries }
     ensures again { IfSome (kept_cell (λ v. v.items) pages.old.entries held.old.header.class number) (λ x. (result ≡ Ok (value_of x)) × (held.new ≡ held.old) × (pages.new.entries ≡ promoted (same_key (key_at held.old.header.class number)) pages.old.entries)) }
     ensures read { ((e : _) → Contains pages.old.entries e → e.0.class ≡ place_of held.old.header.class → AreChecked held.old.header.class e.0.number e.1.items) → IfOk result (IsReadOff held.old.header.class number) }

@@ -7,6 +7,7 @@ ghost use Rattle.study_retro.specs.Cells.{value_of};
 ghost use Rattle.study_retro.specs.Game.{IsValueOf};
 ghost use Rattle.study_retro.specs.Table.{Table as Seen, IsComplete, place_of};
 ghost use Rattle.study_tablefile.specs.Source.{counted};
+ghost use Rattle.study_tablefile.specs.File.{IsVersionOf};
 ghost use Rattle.study_tablefile.specs.declared.fault.FileFault.{FileFault as AFileFault};
 ghost use Rattle.study_tablefile.specs.declared.fault.SourceFault.{SourceFault as ASourceFault};
 ghost use Rattle.lru.specs.LruCache.{promoted};
@@ -75,17 +76,17 @@ impl<'a, S: PageSource, A: Allocator> PagedTables<'a, S, A> {
     /// Holds a source of the table of a class, whose needs are not asked for. A source that is refused is dropped.
     pub fn add(&mut self, class: Class, mut source: S) -> Result<(), PagedFault>
         ensures fault { (told : Result (List ℕ) ASourceFault) × MayTell S.honest source told × MatchOption (paged_fault (is_some (held_of self.old.sources class)) class told) (IfErr result (λ e. e ≡ PagedFault.OutOfMemory)) (λ fault. IsErrOf result fault) }
-        ensures added { OnOk result ((h : AHeld S) × IsHeaderOf h.header class × AreHonestAlike S.honest source h.source × (S.failed h.source ≡ S.failed source) × (self.new ≡ record self.old { sources = slice_set (places self.old.sources) (place_of class) (Some h) })) }
+        ensures added { OnOk result ((h : AHeld S) × IsHeaderOf h.header class × ((t : Seen) (v : ℕ) → IsVersionOf t.class v → S.honest source t v → h.header.version ≡ v) × AreHonestAlike S.honest source h.source × (S.failed h.source ≡ S.failed source) × (self.new ≡ record self.old { sources = slice_set (places self.old.sources) (place_of class) (Some h) })) }
         ensures same { OnErr result (self.new ≡ self.old) }
 
         // There is a last state of the source, which has failed once more where its header is not read, and only there.
         ensures last { (last : S) × AreHonestAlike S.honest source last × (S.failed last ≡ (if is_unread result then counted (S.failed source) else S.failed source)) }
 
         // Of a source that is honest for a table the header is never refused, and a class is the table's.
-        ensures header { (t : Seen) (e : AFileFault) → IsComplete t → S.honest source t → IsErrOf result (PagedFault.Header e) → ⊥ }
-        ensures other { (t : Seen) (d : AClass) → IsComplete t → S.honest source t → IsErrOf result (PagedFault.OtherClass d) → d ≡ t.class }
-        ensures own { (t : Seen) → IsComplete t → S.honest source t → OnOk result (t.class ≡ class) }
-        ensures honest { AreRight S.honest self.old.sources → GivesRight S.honest source class → OnOk result (AreRight S.honest self.new.sources) }
+        ensures header { (t : Seen) (v : ℕ) (e : AFileFault) → IsVersionOf t.class v → S.honest source t v → IsErrOf result (PagedFault.Header e) → ⊥ }
+        ensures other { (t : Seen) (v : ℕ) (d : AClass) → IsVersionOf t.class v → S.honest source t v → IsErrOf result (PagedFault.OtherClass d) → d ≡ t.class }
+        ensures own { (t : Seen) (v : ℕ) → IsVersionOf t.class v → S.honest source t v → OnOk result (t.class ≡ class) }
+        ensures honest { (v : ℕ) → IsVersionOf class v → AreRight S.honest self.old.sources → GivesRight S.honest source v class → OnOk result (AreRight S.honest self.new.sources) }
     {
         if self.holds(class) {
             return Err(PagedFault::AlreadyHeld(class));
@@ -137,8 +138,8 @@ fn probe<'a, S: PageSource, A: Allocator>(
     ensures room { pages.new.cap ≡ pages.old.cap }
     ensures sources { (c : AClass) → IsSameSource S.honest (held_of sources.old.items c) (held_of sources.new.items c) }
     ensures no_table { (c : AClass) → IsErrOf result (ProbeFault.NoTable c) ↔ (IsOf c p.now × (held_of sources.old.items c ≡ None)) }
-    ensures told { (c : AClass) (h : AHeld S) (t : Seen) → IsOf c p.now → held_of sources.old.items c ≡ Some h → S.honest h.source t → t.class ≡ c → IfOk result (λ v. v ≡ value_of (slice_index t.cells (index_of p.now))) }
-    ensures whole { (c : AClass) (h : AHeld S) (t : Seen) (n : ℕ) → IsOf c p.now → held_of sources.old.items c ≡ Some h → S.honest h.source t → t.class ≡ c → IsComplete t → IsErrOf result (ProbeFault.PageDamaged c n) → ⊥ }
+    ensures told { (c : AClass) (h : AHeld S) (t : Seen) → IsOf c p.now → held_of sources.old.items c ≡ Some h → S.honest h.source t h.header.version → t.class ≡ c → IfOk result (λ v. v ≡ value_of (slice_index t.cells (index_of p.now))) }
+    ensures whole { (c : AClass) (h : AHeld S) (t : Seen) (n : ℕ) → IsOf c p.now → held_of sources.old.items c ≡ Some h → S.honest h.source t h.header.version → t.class ≡ c → IsComplete t → IsErrOf result (ProbeFault.PageDamaged c n) → ⊥ }
     ensures damaged { (c : AClass) (n : ℕ) → IsErrOf result (ProbeFault.PageDamaged c n) → IsOf c p.now × (n ≡ index_of p.now / 4096) }
     ensures read { (c : AClass) → IsOf c p.now → IfOk result (IsReadOff c (index_of p.now)) }
     ensures failed { (c : AClass) (h k : AHeld S) → IsOf c p.now → held_of sources.old.items c ≡ Some h → held_of sources.new.items c ≡ Some k → S.failed k.source ≡ (if is_read_fault result then counted (S.failed h.source) else S.failed h.source) }
@@ -177,8 +178,8 @@ impl<'a, S: PageSource, A: Allocator> Values for PagedTables<'a, S, A> {
         ensures failures { self.new.failed ≡ (if is_device_fault result then counted self.old.failed else self.old.failed) }
 
         // Of a source that is honest for whatever table of the class, an answer is the table's, and no page is damaged.
-        ensures told { (c : AClass) (h : AHeld S) (t : Seen) → IsOf c p.now → held_of self.old.sources c ≡ Some h → S.honest h.source t → t.class ≡ c → IfOk result (λ v. v ≡ value_of (slice_index t.cells (index_of p.now))) }
-        ensures whole { (c : AClass) (h : AHeld S) (t : Seen) (n : ℕ) → IsOf c p.now → held_of self.old.sources c ≡ Some h → S.honest h.source t → t.class ≡ c → IsComplete t → IsErrOf result (ProbeFault.PageDamaged c n) → ⊥ }
+        ensures told { (c : AClass) (h : AHeld S) (t : Seen) → IsOf c p.now → held_of self.old.sources c ≡ Some h → S.honest h.source t h.header.version → t.class ≡ c → IfOk result (λ v. v ≡ value_of (slice_index t.cells (index_of p.now))) }
+        ensures whole { (c : AClass) (h : AHeld S) (t : Seen) (n : ℕ) → IsOf c p.now → held_of self.old.sources c ≡ Some h → S.honest h.source t h.header.version → t.class ≡ c → IsComplete t → IsErrOf result (ProbeFault.PageDamaged c n) → ⊥ }
         ensures damaged { (c : AClass) (n : ℕ) → IsErrOf result (ProbeFault.PageDamaged c n) → IsOf c p.now × (n ≡ index_of p.now / 4096) }
 
         // Of any source, an answer stands in a page that passes its check.

@@ -20,7 +20,6 @@ fn table_of<'a, A: Allocator>(
     class: Class,
     seed: u8,
 ) -> Table<'a, A> {
-    assert!(rt; !class.left_out());
     let mut bytes = vec![in alloc; 0u8; cells(class) as usize]
         .ok()
         .expect(rt, "cells");
@@ -67,7 +66,7 @@ impl File {
 }
 
 impl PageSource for File {
-    ghost honest = { λ _ _. ⊥ };
+    ghost honest = { λ _ _ _. ⊥ };
 
     ghost failed = { λ s. s.failures };
 
@@ -114,7 +113,6 @@ fn file_of<A: Allocator>(rt: &impl Abort, alloc: Global, table: &Table<'_, A>) -
 
 /// The first position of a class whose number stands on a page.
 fn position_on(rt: &impl Abort, class: Class, page: u32) -> Position {
-    assert!(rt; !class.left_out());
     let mut found = None;
     for offset in 0..4096u32 {
         if found.is_none() {

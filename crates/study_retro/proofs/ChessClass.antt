@@ -7,7 +7,7 @@ use Rattle.study_moves.specs.Game.{IsMate}
 use Rattle.study_moves.specs.Alike.{AreAlike, Leads}
 use Rattle.study_material.specs.declared.class.Class.{Class}
 use Rattle.study_material.specs.Lists.{Lists, lists, ordered}
-use Rattle.study_material.specs.Class.{lists_of, same_lists, class_list, is_left_out, IsOf}
+use Rattle.study_material.specs.Class.{lists_of, same_lists, class_list, IsOf}
 use Rattle.study_material.specs.Needs.{LeadsOn, needs_of}
 use Rattle.study_material.proofs.Classes.{same_lists-self, same_lists-equal, lists_of-injective}
 use Rattle.study_material.proofs.Names.{Contains-class}
@@ -77,15 +77,15 @@ of_class_after : (c : Class) (p q : Position) → AreAlike p q → IsOf c p ⊎ 
 of_class_after c p q h (inl k) = inl (same_class p q c h k)
 of_class_after c p q h (inr k) = inr (k.0, k.1, same_class p q k.0 h k.2)
 
-pub chess_class : (c : Class) (held : List (Option Table)) → is_left_out c ≡ false → IsClosed held
+pub chess_class : (c : Class) (held : List (Option Table)) → IsClosed held
     → IsClass Leads IsMate (λ p. LeadsOn c p) (is_of c) index_of (value_in held) (position_at c) (cells_of c) (AreAlikeIn c)
-chess_class c held admitted closed = record {
+chess_class c held closed = record {
   stuck = λ p q m l. m.1 l.0 l.1;
   below = λ n p e. below c n p (told_decoded c n p e);
   decoded = λ n p e. (
       let h = entry c n p (told_decoded c n p e) in
       (record { valid = h.valid; of_class = inl h.of_class }, IsOf-is_of c p h.of_class, sym (index_of-only p n h.valid h.index)));
-  numbered = λ p k e. (let h = numbered c p (index_of p) admitted k.valid (is_of-IsOf c p e) (IsIndex-index_of p k.valid) in (h.0, decoded_told c (index_of p) h.0 h.1, h.2));
+  numbered = λ p k e. (let h = numbered c p (index_of p) k.valid (is_of-IsOf c p e) (IsIndex-index_of p k.valid) in (h.0, decoded_told c (index_of p) h.0 h.1, h.2));
   closed = λ p q k e l. moves_lead_on c p q k.valid (is_of-IsOf c p e) l;
   back = alike_back c;
   move = alike_move c;

@@ -1,5 +1,5 @@
 -- A win is in an odd number of plies and a loss in an even one, so a cell's byte tells which it is.
-use Rattle.std.proofs.Common.{◌≡◌, ◌≢◌, ℕ, zero, suc, ◌+◌, ◌-◌, ◌*◌, ◌%◌, ◌≤◌, ◌⊎◌, inl, inr, arith, ap, subst, refl}
+use Rattle.std.proofs.Common.{◌≡◌, ◌≢◌, ℕ, zero, suc, ◌+◌, ◌-◌, ◌*◌, ◌%◌, ◌≤◌, ◌⊎◌, inl, inr, arith, ap, subst, refl, sym}
 use Rattle.std.proofs.lemmas.Bool.Decides.{nat_tests}
 use Rattle.study_retro.specs.declared.value.Value.{Value}
 use Rattle.study_retro.specs.declared.value.Value.TheVariants.{Win, Loss, Draw}
@@ -28,6 +28,24 @@ module _ {P : Type 0} (leads : P → P → Type 0) (mate : P → Type 0) where
   drop-Mated zero p (inr h) = absurd (h.1 h.0.0 h.0.1)
   drop-Mated (suc j) p (inl h) = inl h
   drop-Mated (suc j) p (inr h) = inr (h.0, λ q l. let x = h.1 q l in (x.0, x.1, drop-Mated j x.0 x.2))
+
+  drop-Mates : (j : ℕ) (p : P) → Mates leads mate p (suc (suc (double j))) → Mates leads mate p (suc (double j))
+  unfolding double
+  drop-Mates j p h = (h.0, h.1, drop-Mated j h.0 h.2)
+
+  -- the mated side does not last an odd number of plies
+  pub Mated-odd : (k : ℕ) (p : P) → k % 2 ≡ 0 → Mated leads mate p (suc k) → Mated leads mate p k
+  Mated-odd k p e h = elim (even_or_odd k) [
+    | inl d ↦ subst (Mated leads mate p) (sym d.1) (drop-Mated d.0 p (subst (λ (n : ℕ). Mated leads mate p (suc n)) d.1 h))
+    | inr d ↦ absurd (let t = double_is d.0 in let is : k ≡ suc (double d.0) = d.1 in omega arith)
+  ]
+
+  -- nor does the mating side need an even one
+  pub Mates-even : (k : ℕ) (p : P) → k % 2 ≡ 1 → Mates leads mate p (suc k) → Mates leads mate p k
+  Mates-even k p e h = elim (even_or_odd k) [
+    | inl d ↦ absurd (let t = double_is d.0 in let is : k ≡ double d.0 = d.1 in omega arith)
+    | inr d ↦ subst (Mates leads mate p) (sym d.1) (drop-Mates d.0 p (subst (λ (n : ℕ). Mates leads mate p (suc n)) d.1 h))
+  ]
 
   even-not_win : (j : ℕ) (p : P) → IsWin leads mate p (double j) → ⊥
   unfolding double

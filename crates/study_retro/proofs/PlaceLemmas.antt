@@ -4,7 +4,7 @@ use Rattle.std.specs.Prelude.{IfSome, IfNone, IsSome, is_some}
 use Rattle.std.proofs.lemmas.Bool.{false≢true, false_from_ne_true}
 use Rattle.study_board.specs.Position.{Position, IsValid}
 use Rattle.study_material.specs.declared.class.Class.{Class}
-use Rattle.study_material.specs.Class.{is_left_out, IsOf}
+use Rattle.study_material.specs.Class.{IsOf}
 use Rattle.study_material.specs.Needs.{LeadsOn}
 use Rattle.study_material.proofs.Classes.{lists_of-injective}
 use Rattle.study_index.specs.Number.{IsIndex, cells_of}
@@ -27,11 +27,11 @@ one_class : (c d : Class) (p : Position) → IsOf c p → IsOf d p → c ≡ d
 one_class c d p h k = lists_of-injective c d (h ∙ sym k)
 
 module _ (held : List (Option Table)) (c d : Class) (p : Position) (closed : IsClosed held) (is : IsOf d p) where
-  pub place_home : (i j n : ℕ) → is_left_out c ≡ false → IsValid p → i ≡ place_of d → j ≡ place_of c → i ≡ j → IsIndex p n → (is_of c p ≡ true) × (index_of p ≡ n) × (n < cells_of c)
-  place_home i j n admitted valid e f g x =
+  pub place_home : (i j n : ℕ) → IsValid p → i ≡ place_of d → j ≡ place_of c → i ≡ j → IsIndex p n → (is_of c p ≡ true) × (index_of p ≡ n) × (n < cells_of c)
+  place_home i j n valid e f g x =
       let same : d ≡ c = place_of-injective d c (sym e ∙ g ∙ f) in
       let home : IsOf c p = subst (λ (k : Class). IsOf k p) same is in
-      let laws = chess_class c held admitted closed in
+      let laws = chess_class c held closed in
       let q = laws.numbered p (record { valid = valid; of_class = inl home }) (IsOf-is_of c p home) in
       let small = laws.below (index_of p) q.0 q.1 in
       let number : index_of p ≡ n = sym (index_of-only p n valid x) in

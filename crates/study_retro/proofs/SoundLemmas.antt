@@ -44,7 +44,7 @@ IsRight-from t r = record { tells = λ n l. value-from_cell (position_at t.class
 pub at_right : (t : Table) → IsComplete t → IsRight t → (p : Position) → IsValid p → IsOf t.class p → IsValueOf p (value_of (slice_index t.cells (index_of p)))
 at_right t complete right p valid of_class =
     let c = t.class in
-    let laws = chess_class c (replicate 36 None) complete.admitted empty-closed in
+    let laws = chess_class c (replicate 36 None) empty-closed in
     let v = value_of (slice_index t.cells (index_of p)) in
     let n = laws.numbered p (record { valid = valid; of_class = inl of_class }) (IsOf-is_of c p of_class) in
     let small = laws.below (index_of p) n.0 n.1 in
@@ -71,7 +71,7 @@ far-from c h = (h.0, (h.3.0, record { valid = h.1.valid; of_class = is_of-IsOf c
 -- the index of a position is below the number of its table's cells
 pub cell_in_bounds : (t : Table) (p : Position) (n : ℕ) → IsComplete t → IsValid p → IsOf t.class p → IsIndex p n → n < length t.cells
 cell_in_bounds t p n complete valid of_class is =
-    let laws = chess_class t.class (replicate 36 None) complete.admitted empty-closed in
+    let laws = chess_class t.class (replicate 36 None) empty-closed in
     let h = laws.numbered p (record { valid = valid; of_class = inl of_class }) (IsOf-is_of t.class p of_class) in
     let small = laws.below (index_of p) h.0 h.1 in
     let same : n ≡ index_of p = index_of-only p n valid is in

@@ -1,5 +1,5 @@
 -- Forced mate over any positions `P`, given by which positions a move leads to and which are mates.
-use Rattle.std.specs.Prelude.{◌≡◌, ℕ, zero, suc, ◌<◌, ◌≤◌, ◌⊎◌}
+use Rattle.std.specs.Prelude.{◌≡◌, ℕ, zero, suc, ◌<◌, ◌≤◌, ◌⊎◌, Bool, false}
 use Rattle.study_retro.specs.declared.value.Value.{Value}
 use Rattle.study_retro.specs.declared.value.Value.TheVariants.{Win, Loss, Draw}
 
@@ -78,3 +78,7 @@ distance_of Draw = 0
 -- a legal move leads from p to q
 abbrev pub Leads : {P M : Type 0} → (P → M → Type 0) → (P → M → P) → P → P → Type 0
 Leads {P} {M} legal after p q = (m : M) × legal p m × (after p m ≡ q)
+
+-- what the labels after p's moves out of the class give alone
+abbrev pub GivesOutside : {P : Type 0} → (P → P → Type 0) → (P → Bool) → (P → Value) → P → Value → Type 0
+GivesOutside leads home labels p v = Gives (λ a b. leads a b × (home b ≡ false)) (λ a. ⊥) labels p v

@@ -1,7 +1,6 @@
 pub mod Table
 pub mod Game
 pub mod Report
-pub mod Levels
 pub mod Set
 pub mod Sound
 pub mod Forced
@@ -10,3 +9,5 @@ pub mod Tally
 pub mod Places
 pub mod Right
 pub mod Class
+pub mod Back
+pub mod Before

@@ -1,9 +1,8 @@
 -- Tables as a contract sees them, and sets of tables.
-use Rattle.std.specs.Prelude.{◌≡◌, ℕ, ◌<◌, false, List, length, slice_index_or, Option, Some, None, IsSome}
+use Rattle.std.specs.Prelude.{◌≡◌, ℕ, ◌<◌, List, length, slice_index_or, Option, Some, None, IsSome}
 use Rattle.std.specs.List.{All, Contains}
 use Rattle.study_material.specs.declared.class.Class.{Class}
 use Rattle.study_material.specs.declared.class.Class.TheVariants.{KK, KQK, KRK, KBK, KNK, KPK, KQQK, KQRK, KQBK, KQNK, KQPK, KRRK, KRBK, KRNK, KRPK, KBBK, KBNK, KBPK, KNNK, KNPK, KPPK, KQKQ, KQKR, KQKB, KQKN, KQKP, KRKR, KRKB, KRKN, KRKP, KBKB, KBKN, KBKP, KNKN, KNKP, KPKP}
-use Rattle.study_material.specs.Class.{is_left_out}
 use Rattle.study_material.specs.Needs.{needs_of}
 use Rattle.study_index.specs.Number.{cells_of}
 
@@ -13,7 +12,6 @@ pub record Table : Type 0 where
 
 -- a byte for each number of the class
 pub record IsComplete (t : Table) : Type 0 where
-  pub admitted : is_left_out t.class ≡ false
   pub size : length t.cells ≡ cells_of t.class
   pub bytes : All (λ c. c < 256) t.cells
 

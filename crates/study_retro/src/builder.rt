@@ -1,13 +1,12 @@
 //! Building and verifying the table of a class.
 ghost use Rattle.std.specs.Prelude.{◌≡◌, ◌↔◌, ◌<◌, ◌^◌, false, Some, Err, IfOk, IsErrOf, IsTrue, length, take};
 ghost use Rattle.study_material.specs.declared.class.Class.{Class as AClass};
-ghost use Rattle.study_material.specs.Class.{is_left_out};
 ghost use Rattle.study_material.specs.Needs.{needs_of};
 ghost use Rattle.study_index.specs.Number.{cells_of};
 ghost use Rattle.study_retro.specs.Set.{first_missing};
 ghost use Rattle.study_retro.specs.Table.{IsReady};
 ghost use Rattle.study_retro.specs.Sound.{IsRight, NeedsAreRight, HasFarPosition};
-ghost use Rattle.study_retro.specs.Report.{IsGreatest, greater, win_of, loss_of, numbers_decoded};
+ghost use Rattle.study_retro.specs.Report.{IsGreatest, greater, win_of, loss_of};
 
 use crate::check::are_right;
 use crate::class_game::ClassGame;
@@ -34,7 +33,7 @@ pub enum BuildFault {
 pub struct BuildReport {
     /// How many cells the table has.
     pub cells: u32,
-    /// How many cell numbers were decoded, and not more than the last number of its type.
+    /// How many cell numbers were decoded and positions gone back to, and not more than the last number of its type.
     pub examined: u64,
     pub deepest_win: Option<u8>,
     pub deepest_loss: Option<u8>,
@@ -46,8 +45,7 @@ pub fn build<'a, A: Allocator>(
     tables: &TableSet<'a, A>,
     room: BuildRoom<'a, A>,
 ) -> Result<(Table<'a, A>, BuildReport), BuildFault>
-    requires admitted { is_left_out class ≡ false }
-    requires room { room ≡ cells_of class }
+    requires { room ≡ cells_of class }
     ensures missing { (d : AClass) → IsErrOf result (BuildFault.MissingTable d) ↔ (first_missing tables.now (needs_of class) ≡ Some d) }
     ensures class { IfOk result (λ r. r.0.class ≡ class) }
     ensures right { NeedsAreRight tables.now class → IfOk result (λ r. IsRight r.0) }
@@ -55,7 +53,6 @@ pub fn build<'a, A: Allocator>(
 
     // The report follows from the table.
     ensures cells { IfOk result (λ r. r.1.cells ≡ cells_of class) }
-    ensures examined { IfOk result (λ r. r.1.examined ≡ numbers_decoded r.0.cells) }
     ensures deepest_win { IfOk result (λ r. IsGreatest win_of r.0.cells r.1.deepest_win) }
     ensures deepest_loss { IfOk result (λ r. IsGreatest loss_of r.0.cells r.1.deepest_loss) }
 {
@@ -72,7 +69,7 @@ pub fn build<'a, A: Allocator>(
     let deepest = greatest_distances(cells.as_slice());
     let report = BuildReport {
         cells: study_index::cells(class),
-        examined: filled.decoded,
+        examined: filled.examined,
         deepest_win: deepest.win,
         deepest_loss: deepest.loss,
     };

@@ -1,8 +1,7 @@
 //! Chess, as the builder sees it: the positions of a class by their numbers, and the values of those that it leads to.
-ghost use Rattle.std.specs.Prelude.{◌≡◌, false};
-ghost use Rattle.study_material.specs.Class.{is_left_out};
 ghost use Rattle.study_retro.specs.Table.{IsReady, IsClosed};
 
+use crate::earlier::numbers_before;
 use crate::game::{Game, Place};
 use crate::set::TableSet;
 use crate::table::place_of;
@@ -18,7 +17,6 @@ use study_moves::{Move, is_mate, legal_moves, played};
 pub struct ClassGame<'t, 'a, A: Allocator> {
     pub class: Class,
     pub tables: &'t TableSet<'a, A>,
-    ghost admitted: { is_left_out class ≡ false },
     ghost ready: { IsReady tables.now class },
     ghost closed: { IsClosed tables.now },
 }
@@ -69,6 +67,17 @@ impl<'t, 'a, A: Allocator> Game for ClassGame<'t, 'a, A> {
 
     fn played(&self, at: &Position, by: Move) -> Position {
         played(at, by)
+    }
+
+    fn leaves(&self, at: &Position, by: Move) -> bool {
+        by.promoted.is_some() || at.passed().is_some() || at.man_at(by.target).is_some()
+    }
+
+    fn earlier(&self, number: u32) -> ArrayVec<u32, 384> {
+        match decode(self.class, number) {
+            None => ArrayVec::new(),
+            Some(at) => numbers_before(self.class, &at, number),
+        }
     }
 
     fn is_mate(&self, at: &Position) -> bool {

@@ -1,6 +1,7 @@
 ghost use Rattle.std.specs.Prelude.{◌≡◌, ◌↔◌, ◌<◌, ◌≤◌, ◌^◌, ◌⊎◌, ℕ, Bool, true, false, IsTrue, Option, Some, None, Contains};
 ghost use Rattle.study_retro.specs.Forced.{Leads};
 ghost use Rattle.study_retro.specs.Places.{IsPlace};
+ghost use Rattle.study_retro.specs.Back.{LeadsTo};
 ghost use Rattle.study_retro.specs.declared.value.Value.{Value};
 ghost use Rattle.study_moves.specs.declared.moves.Move.{Move};
 
@@ -61,4 +62,16 @@ pub trait Game {
     fn place(&self, at: &Self::Position) -> Place
         requires { known self.now at.now }
         ensures { IsPlace (home self.now) (index self.now) (outside self.now) (size self.now) at.now result };
+
+    /// Whether the move may lead out of the class.
+    fn leaves(&self, at: &Self::Position, by: Move) -> bool
+        requires numbered { (n : ℕ) × (position self.now n ≡ Some at.now) }
+        requires legal { legal at.now by }
+        ensures { result ≡ false → home self.now (after at.now by) ≡ true };
+
+    /// The numbers of the positions from which a move leads to the position of this number.
+    fn earlier(&self, number: u32) -> ArrayVec<u32, 384>
+        requires { number < size self.now }
+        ensures all { (n : ℕ) → LeadsTo (Leads legal after) (home self.now) (index self.now) (position self.now) n number → Contains result.items n }
+        ensures only { (n : ℕ) → Contains result.items n → LeadsTo (Leads legal after) (home self.now) (index self.now) (position self.now) n number };
 }

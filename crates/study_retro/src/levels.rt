@@ -1,141 +1,176 @@
-//! Filling the cells of a class level by level.
-ghost use Rattle.std.specs.Prelude.{◌≡◌, ◌≢◌, ◌↔◌, ◌+◌, ◌<◌, ◌≤◌, ◌^◌, ◌⊎◌, ℕ, true, false, length, slice_index, IsTrue, All};
-ghost use Rattle.study_retro.specs.Levels.{unset, IsRisen, Rests, GivesMate, Wakes};
-ghost use Rattle.study_retro.specs.Report.{numbers_decoded};
-ghost use Rattle.study_retro.specs.Right.{AreRight, AreRightBelow, IsRightBelowCell, IsSettledCell, IsRightOutside, IsSound, HasFar};
-ghost use Rattle.study_retro.specs.Cells.{label_of};
+//! Levels: from the mates in at most so many plies to those in one more.
+ghost use Rattle.std.specs.Prelude.{◌≡◌, ◌≢◌, ◌+◌, ◌<◌, ◌≤◌, ◌%◌, ◌⊎◌, ℕ, Bool, true, false, length, slice_index, Option, Some, IsTrue, All};
+ghost use Rattle.study_retro.specs.Forced.{Leads, Mated};
+ghost use Rattle.study_retro.specs.Right.{AreRight, IsRightOutside, HasFar};
 ghost use Rattle.study_retro.specs.Class.{IsClass};
-ghost use Rattle.study_retro.specs.Forced.{Leads};
+ghost use Rattle.study_retro.specs.Back.{LeadsTo, TellsWins, AreHeld};
 
-use crate::check::{first_other, given};
+use crate::back::{go_back_from_loss, go_back_from_win, is_lost_at, put};
+use crate::check::first_other;
+use crate::first::start;
 use crate::game::Game;
 
-/// What a level makes of a cell.
-#[derive(Clone, Copy)]
-pub struct Revised {
-    pub cell: u8,
-    pub settled: bool,
-    pub decoded: bool,
-}
-
-/// The cell of a number after a level, and whether no later level can change it either, as the cells are.
-pub fn revise<G: Game>(game: &G, cells: &[u8], number: u32, level: u8) -> Revised
+/// Goes back from all positions that are lost in `level` plies.
+pub fn level_of_losses<G: Game>(game: &G, cells: &mut [u8], level: u8) -> u64
     requires laws { IsClass (Leads G.legal G.after) G.mate (G.known game.now) (G.home game.now) (G.index game.now) (G.outside game.now) (G.position game.now) (G.size game.now) (G.image game.now) }
-    requires level { level < 255 }
-    requires number { number < G.size game.now }
-    requires cells { length cells.now ≡ G.size game.now }
-    ensures exact { (result.cell ≡ slice_index cells.now number) ⊎ (result.cell ≡ level + 1) }
-    ensures same { IsTrue result.settled → result.cell ≡ slice_index cells.now number }
-    ensures decoded { IsTrue result.decoded ↔ (slice_index cells.now number ≡ 0) }
-    ensures rests { IsTrue result.settled → Rests (Leads G.legal G.after) G.mate (label_of (G.home game.now) (G.index game.now) (G.outside game.now) cells.now) (G.position game.now number) (slice_index cells.now number) }
-    ensures waits { result.settled ≡ false → (slice_index cells.now number ≡ 0) × GivesMate (Leads G.legal G.after) G.mate (label_of (G.home game.now) (G.index game.now) (G.outside game.now) cells.now) (G.position game.now number) }
-    ensures below { IsRightOutside (Leads G.legal G.after) G.mate (G.known game.now) (G.home game.now) (G.outside game.now) → AreRightBelow (Leads G.legal G.after) G.mate level (G.position game.now) (G.size game.now) cells.now → slice_index cells.now number ≤ level → IsRightBelowCell (Leads G.legal G.after) G.mate (level + 1) (G.position game.now number) result.cell }
-    ensures settled { IsRightOutside (Leads G.legal G.after) G.mate (G.known game.now) (G.home game.now) (G.outside game.now) → AreRightBelow (Leads G.legal G.after) G.mate level (G.position game.now) (G.size game.now) cells.now → slice_index cells.now number ≤ level → IsTrue result.settled → IsSettledCell (Leads G.legal G.after) G.mate (label_of (G.home game.now) (G.index game.now) (G.outside game.now) cells.now) (G.position game.now number) (slice_index cells.now number) }
-{
-    let cell = cells[number as usize];
-    if cell != 0 {
-        return Revised {
-            cell,
-            settled: true,
-            decoded: false,
-        };
-    }
-    let Some(at) = game.decode(number) else {
-        return Revised {
-            cell: 0,
-            settled: true,
-            decoded: true,
-        };
-    };
-    let value = given(game, cells, &at);
-    match value.distance() {
-        None => Revised {
-            cell: 0,
-            settled: true,
-            decoded: true,
-        },
-        Some(n) => {
-            let cell = if n == level { n + 1 } else { 0 };
-            Revised {
-                cell,
-                settled: false,
-                decoded: true,
-            }
-        }
-    }
-}
-
-/// What a level did: whether no later level changes a cell, and how many numbers were decoded.
-#[derive(Clone, Copy)]
-pub struct Swept {
-    pub quiet: bool,
-    pub decoded: u64,
-}
-
-/// One level: cells right below `level` plies become right below one more.
-pub fn sweep<G: Game>(game: &G, cells: &mut [u8], level: u8) -> Swept
-    requires laws { IsClass (Leads G.legal G.after) G.mate (G.known game.now) (G.home game.now) (G.index game.now) (G.outside game.now) (G.position game.now) (G.size game.now) (G.image game.now) }
-    requires level { level < 255 }
+    requires level { level < 254 }
     requires cells { length cells.old ≡ G.size game.now }
-    ensures sound { IsSound (Leads G.legal G.after) G.mate (G.known game.now) (G.home game.now) (G.outside game.now) (G.position game.now) (G.size game.now) level cells.old → IsSound (Leads G.legal G.after) G.mate (G.known game.now) (G.home game.now) (G.outside game.now) (G.position game.now) (G.size game.now) (level + 1) cells.new }
-    ensures decoded { result.decoded ≡ unset cells.old }
-    ensures few { result.decoded < 2 ^ 32 }
-    ensures risen { IsRisen (level + 1) cells.old cells.new }
-    ensures still { IsTrue result.quiet → cells.new ≡ cells.old }
-    ensures rests { IsTrue result.quiet → (n : ℕ) → n < G.size game.now → Rests (Leads G.legal G.after) G.mate (label_of (G.home game.now) (G.index game.now) (G.outside game.now) cells.new) (G.position game.now n) (slice_index cells.new n) }
-    ensures wakes { result.quiet ≡ false → Wakes (Leads G.legal G.after) G.mate (G.home game.now) (G.index game.now) (G.outside game.now) (G.position game.now) (G.size game.now) cells.old cells.new }
-    ensures quiet { IsSound (Leads G.legal G.after) G.mate (G.known game.now) (G.home game.now) (G.outside game.now) (G.position game.now) (G.size game.now) level cells.old → IsTrue result.quiet → AreRight (Leads G.legal G.after) G.mate (G.position game.now) (G.size game.now) cells.new }
+    ensures rise { (i : ℕ) → (slice_index cells.new i ≡ slice_index cells.old i) ⊎ ((j : ℕ) × (slice_index cells.old j ≡ level + 1) × LeadsTo (Leads G.legal G.after) (G.home game.now) (G.index game.now) (G.position game.now) i j) × (slice_index cells.new i ≡ level + 2) × ((slice_index cells.old i ≡ 0) ⊎ (level + 2 < slice_index cells.old i)) }
+    ensures done { (i j : ℕ) → j < G.size game.now → slice_index cells.old j ≡ level + 1 → LeadsTo (Leads G.legal G.after) (G.home game.now) (G.index game.now) (G.position game.now) i j → (slice_index cells.new i ≢ 0) × (slice_index cells.new i ≤ level + 2) }
 {
-    let mut quiet = true;
-    let mut decoded = 0u64;
+    let mut examined = 0u64;
     for number in 0..game.cells() {
-        let revised = revise(game, cells, number, level);
-        if revised.decoded {
-            decoded = decoded.saturating_add(1);
-        }
-        if !revised.settled {
-            quiet = false;
-            cells[number as usize] = revised.cell;
+        if cells[number as usize] == level + 1 {
+            let more = go_back_from_loss(game, cells, number, level);
+            examined = examined.saturating_add(more).saturating_add(1);
         }
     }
-    Swept { quiet, decoded }
+    examined
 }
 
-/// What filling came to: whether every distance fits a cell, and how many numbers were decoded.
+/// Looks at a number that a move out of the class makes due: its cell stays where it is lost in `level + 1` plies, and else is 0.
+pub fn confirm<G: Game>(game: &G, cells: &mut [u8], number: u32, level: u8) -> u64
+    requires laws { IsClass (Leads G.legal G.after) G.mate (G.known game.now) (G.home game.now) (G.index game.now) (G.outside game.now) (G.position game.now) (G.size game.now) (G.image game.now) }
+    requires level { level < 254 }
+    requires number { number < G.size game.now }
+    requires cells { length cells.old ≡ G.size game.now }
+    ensures fall { (i : ℕ) → (slice_index cells.new i ≡ slice_index cells.old i) ⊎ (slice_index cells.old i ≡ level + 2) × (slice_index cells.new i ≡ 0) }
+    ensures other { (i : ℕ) → i ≢ number → slice_index cells.new i ≡ slice_index cells.old i }
+    ensures lost { IsRightOutside (Leads G.legal G.after) G.mate (G.known game.now) (G.home game.now) (G.outside game.now) → TellsWins (Leads G.legal G.after) G.mate level (G.position game.now) cells.old → (p : G.Position) → G.position game.now number ≡ Some p → slice_index cells.new number ≡ level + 2 → Mated (Leads G.legal G.after) G.mate p (level + 1) }
+    ensures kept { IsRightOutside (Leads G.legal G.after) G.mate (G.known game.now) (G.home game.now) (G.outside game.now) → TellsWins (Leads G.legal G.after) G.mate level (G.position game.now) cells.old → (p q : G.Position) → G.position game.now number ≡ Some p → Leads G.legal G.after p q → slice_index cells.old number ≡ level + 2 → Mated (Leads G.legal G.after) G.mate p (level + 1) → slice_index cells.new number ≡ level + 2 }
+{
+    if cells[number as usize] != level + 2 {
+        return 0;
+    }
+    if !is_lost_at(game, cells, number, level) {
+        put(cells, number, 0);
+    }
+    1
+}
+
+/// Looks at all numbers that moves out of the class make due.
+pub fn confirm_all<G: Game>(game: &G, cells: &mut [u8], level: u8) -> u64
+    requires laws { IsClass (Leads G.legal G.after) G.mate (G.known game.now) (G.home game.now) (G.index game.now) (G.outside game.now) (G.position game.now) (G.size game.now) (G.image game.now) }
+    requires level { level < 254 }
+    requires odd { level % 2 ≡ 1 }
+    requires cells { length cells.old ≡ G.size game.now }
+    ensures fall { (i : ℕ) → (slice_index cells.new i ≡ slice_index cells.old i) ⊎ (slice_index cells.old i ≡ level + 2) × (slice_index cells.new i ≡ 0) }
+    ensures lost { IsRightOutside (Leads G.legal G.after) G.mate (G.known game.now) (G.home game.now) (G.outside game.now) → TellsWins (Leads G.legal G.after) G.mate level (G.position game.now) cells.old → (i : ℕ) (p : G.Position) → i < G.size game.now → G.position game.now i ≡ Some p → slice_index cells.new i ≡ level + 2 → Mated (Leads G.legal G.after) G.mate p (level + 1) }
+    ensures kept { IsRightOutside (Leads G.legal G.after) G.mate (G.known game.now) (G.home game.now) (G.outside game.now) → TellsWins (Leads G.legal G.after) G.mate level (G.position game.now) cells.old → (i : ℕ) (p q : G.Position) → G.position game.now i ≡ Some p → Leads G.legal G.after p q → slice_index cells.old i ≡ level + 2 → Mated (Leads G.legal G.after) G.mate p (level + 1) → slice_index cells.new i ≡ level + 2 }
+{
+    let mut examined = 0u64;
+    for number in 0..game.cells() {
+        examined = examined.saturating_add(confirm(game, cells, number, level));
+    }
+    examined
+}
+
+/// Goes back from all positions that are won in `level` plies.
+pub fn level_of_wins<G: Game>(game: &G, cells: &mut [u8], level: u8) -> u64
+    requires laws { IsClass (Leads G.legal G.after) G.mate (G.known game.now) (G.home game.now) (G.index game.now) (G.outside game.now) (G.position game.now) (G.size game.now) (G.image game.now) }
+    requires level { level < 254 }
+    requires odd { level % 2 ≡ 1 }
+    requires cells { length cells.old ≡ G.size game.now }
+    ensures rise { IsRightOutside (Leads G.legal G.after) G.mate (G.known game.now) (G.home game.now) (G.outside game.now) → TellsWins (Leads G.legal G.after) G.mate level (G.position game.now) cells.old → (i : ℕ) → (slice_index cells.new i ≡ slice_index cells.old i) ⊎ (slice_index cells.old i ≡ 0) × (slice_index cells.new i ≡ level + 2) × ((p : G.Position) × (G.position game.now i ≡ Some p) × Mated (Leads G.legal G.after) G.mate p (level + 1)) }
+    ensures done { IsRightOutside (Leads G.legal G.after) G.mate (G.known game.now) (G.home game.now) (G.outside game.now) → TellsWins (Leads G.legal G.after) G.mate level (G.position game.now) cells.old → (j : ℕ) → j < G.size game.now → slice_index cells.old j ≡ level + 1 → (i : ℕ) → (t : LeadsTo (Leads G.legal G.after) (G.home game.now) (G.index game.now) (G.position game.now) i j) → Mated (Leads G.legal G.after) G.mate t.0 (level + 1) → slice_index cells.new i ≢ 0 }
+{
+    let mut examined = 0u64;
+    for number in 0..game.cells() {
+        examined = examined.saturating_add(go_back_from_win(game, cells, number, level));
+    }
+    examined
+}
+
+/// One level.
+pub fn step<G: Game>(game: &G, cells: &mut [u8], level: u8) -> u64
+    requires laws { IsClass (Leads G.legal G.after) G.mate (G.known game.now) (G.home game.now) (G.index game.now) (G.outside game.now) (G.position game.now) (G.size game.now) (G.image game.now) }
+    requires level { level < 254 }
+    requires cells { length cells.old ≡ G.size game.now }
+    ensures { IsRightOutside (Leads G.legal G.after) G.mate (G.known game.now) (G.home game.now) (G.outside game.now) → (far : Bool) → AreHeld (Leads G.legal G.after) G.mate (G.home game.now) far level (G.position game.now) (G.size game.now) cells.old → AreHeld (Leads G.legal G.after) G.mate (G.home game.now) far (level + 1) (G.position game.now) (G.size game.now) cells.new }
+{
+    if level % 2 == 0 {
+        level_of_losses(game, cells, level)
+    } else {
+        let due = confirm_all(game, cells, level);
+        due.saturating_add(level_of_wins(game, cells, level))
+    }
+}
+
+/// Whether some cell tells of a mate in `level` plies or more.
+pub fn has_later(cells: &[u8], level: u8) -> bool
+    ensures { result ≡ false → (i : ℕ) → i < length cells.now → slice_index cells.now i ≤ level }
+{
+    for cell in cells {
+        if *cell > level {
+            return true;
+        }
+    }
+    false
+}
+
+/// What levels came to: whether they ended where no cell told of a mate to come, and how much they examined.
+#[derive(Clone, Copy)]
+pub struct Ended {
+    pub silent: bool,
+    pub examined: u64,
+}
+
+/// All levels.
+pub fn all_levels<G: Game>(game: &G, cells: &mut [u8]) -> Ended
+    requires laws { IsClass (Leads G.legal G.after) G.mate (G.known game.now) (G.home game.now) (G.index game.now) (G.outside game.now) (G.position game.now) (G.size game.now) (G.image game.now) }
+    requires cells { length cells.old ≡ G.size game.now }
+    ensures held { IsRightOutside (Leads G.legal G.after) G.mate (G.known game.now) (G.home game.now) (G.outside game.now) → (far : Bool) → AreHeld (Leads G.legal G.after) G.mate (G.home game.now) far 0 (G.position game.now) (G.size game.now) cells.old → AreHeld (Leads G.legal G.after) G.mate (G.home game.now) far 254 (G.position game.now) (G.size game.now) cells.new }
+    ensures bytes { (i : ℕ) → slice_index cells.new i ≤ 255 }
+    ensures right { IsRightOutside (Leads G.legal G.after) G.mate (G.known game.now) (G.home game.now) (G.outside game.now) → AreHeld (Leads G.legal G.after) G.mate (G.home game.now) false 0 (G.position game.now) (G.size game.now) cells.old → IsTrue result.silent → AreRight (Leads G.legal G.after) G.mate (G.position game.now) (G.size game.now) cells.new }
+{
+    let mut examined = 0u64;
+    for level in 0..254u8 {
+        if !has_later(cells, level) {
+            return Ended {
+                silent: true,
+                examined,
+            };
+        }
+        examined = examined.saturating_add(step(game, cells, level));
+    }
+    Ended {
+        silent: false,
+        examined,
+    }
+}
+
+/// What filling came to: whether every distance fits a cell, and how many numbers were decoded and positions gone back to.
 #[derive(Clone, Copy)]
 pub struct Filled {
     pub fits: bool,
-    pub decoded: u64,
+    pub examined: u64,
 }
 
-/// Fills cells that are 0 with the values of a class.
+/// Fills cells with the values of a class, whatever they held.
 pub fn fill<G: Game>(game: &G, cells: &mut [u8]) -> Filled
     requires laws { IsClass (Leads G.legal G.after) G.mate (G.known game.now) (G.home game.now) (G.index game.now) (G.outside game.now) (G.position game.now) (G.size game.now) (G.image game.now) }
     requires cells { length cells.old ≡ G.size game.now }
-    ensures right { IsRightOutside (Leads G.legal G.after) G.mate (G.known game.now) (G.home game.now) (G.outside game.now) → All (λ c. c ≡ 0) cells.old → IsTrue result.fits → AreRight (Leads G.legal G.after) G.mate (G.position game.now) (G.size game.now) cells.new }
-    ensures decoded { All (λ c. c ≡ 0) cells.old → IsTrue result.fits → result.decoded ≡ numbers_decoded cells.new }
-    ensures far { IsRightOutside (Leads G.legal G.after) G.mate (G.known game.now) (G.home game.now) (G.outside game.now) → All (λ c. c ≡ 0) cells.old → result.fits ≡ false → HasFar (Leads G.legal G.after) G.mate (G.known game.now) (G.home game.now) }
+    ensures right { IsRightOutside (Leads G.legal G.after) G.mate (G.known game.now) (G.home game.now) (G.outside game.now) → IsTrue result.fits → AreRight (Leads G.legal G.after) G.mate (G.position game.now) (G.size game.now) cells.new }
+    ensures far { IsRightOutside (Leads G.legal G.after) G.mate (G.known game.now) (G.home game.now) (G.outside game.now) → result.fits ≡ false → HasFar (Leads G.legal G.after) G.mate (G.known game.now) (G.home game.now) }
 {
-    let mut decoded = 0u64;
-    for level in 0..255 {
-        let swept = sweep(game, cells, level);
-        decoded = decoded.saturating_add(swept.decoded);
-        if swept.quiet {
-            return Filled {
-                fits: true,
-                decoded,
-            };
-        }
+    let far = start(game, cells);
+    let ended = all_levels(game, cells);
+    let examined = ended.examined.saturating_add(u64::from(game.cells()));
+    if ended.silent && !far {
+        return Filled {
+            fits: true,
+            examined,
+        };
     }
-    decoded = decoded.saturating_add(u64::from(game.cells()));
+    let examined = examined.saturating_add(u64::from(game.cells()));
     match first_other(game, cells) {
         None => Filled {
             fits: true,
-            decoded,
+            examined,
         },
         Some(_) => Filled {
             fits: false,
-            decoded,
+            examined,
         },
     }
 }

@@ -6,9 +6,12 @@
 //! is proved over any game whose positions have numbers (`game`); `class_game` is chess as such a game.
 #![tactic(auto)]
 
+mod back;
 mod builder;
 mod check;
 mod class_game;
+mod earlier;
+mod first;
 mod game;
 mod levels;
 mod room;

@@ -1,6 +1,5 @@
 //! Tables of values.
-ghost use Rattle.std.specs.Prelude.{◌≡◌, ◌<◌, false, length, slice_index, vec_len, ℕ};
-ghost use Rattle.study_material.specs.Class.{is_left_out};
+ghost use Rattle.std.specs.Prelude.{◌≡◌, ◌<◌, length, slice_index, vec_len, ℕ};
 ghost use Rattle.study_index.specs.Number.{cells_of};
 ghost use Rattle.study_material.specs.Class.{IsOf};
 ghost use Rattle.study_index.specs.Found.{index_of};
@@ -37,8 +36,7 @@ impl<'a, A: Allocator> Model for Table<'a, A> {
 impl<'a, A: Allocator> Table<'a, A> {
     /// The table with these cells, whatever they say.
     pub fn from_cells(class: Class, cells: Vec<u8, &'a A>) -> Self
-        requires admitted { is_left_out class ≡ false }
-        requires size { vec_len cells ≡ cells_of class }
+        requires { vec_len cells ≡ cells_of class }
         ensures { result ≡ record { class = class; cells = cells.entry.items } }
     {
         Table { class, cells }
@@ -61,7 +59,7 @@ impl<'a, A: Allocator> Table<'a, A> {
         self.cells.as_slice()
     }
 
-    /// The value that the table tells of a position of its class, a passed square that no pawn can take included.
+    /// The value that the table tells of a position of its class, a passed square included.
     pub fn at(&self, p: &Position) -> Value
         requires { IsOf self.now.class p.now }
         ensures told { result ≡ value_of (slice_index self.now.cells (index_of p.now)) }

@@ -43,6 +43,8 @@ fn king_and_rook(rt: HostRuntime) -> Result<(), Fail> {
     assert_eq!(rt; write_table(table, &mut writer), Ok(()));
     let mut text = writer.taken;
     assert_eq!(rt; text.len(), 82_624);
+    assert_eq!(rt; text.get(8), Some(&2));
+    assert_eq!(rt; text.get(9), Some(&0));
     let again = read_table(&alloc, &mut MemoryReader::new(text.as_slice()))
         .ok()
         .expect(&rt, "read");

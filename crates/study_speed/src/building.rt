@@ -1,6 +1,4 @@
 //! How long tables take to build and to verify.
-ghost use Rattle.std.specs.Prelude.{◌≡◌, false};
-ghost use Rattle.study_material.specs.Class.{is_left_out};
 
 use crate::timed::tell;
 use std::alloc::Allocator;
@@ -42,7 +40,6 @@ fn build_one<'a, A: Allocator>(
     tables: &mut TableSet<'a, A>,
     class: Class,
 ) -> io::Result<()>
-    requires { is_left_out class ≡ false }
 {
     let label = class.name();
     let start = Instant::now(&rt)?;
@@ -64,9 +61,7 @@ pub fn measure(rt: HostRuntime, class: Class) -> io::Result<()> {
     let alloc = rt.alloc();
     let mut tables = TableSet::new(&alloc)?;
     for each in order(class) {
-        if !each.left_out() {
-            build_one(rt, &alloc, &mut tables, each)?;
-        }
+        build_one(rt, &alloc, &mut tables, each)?;
     }
     Ok(())
 }

@@ -1,6 +1,4 @@
 //! How long it takes to read a number as a position.
-ghost use Rattle.std.specs.Prelude.{◌≡◌, false};
-ghost use Rattle.study_material.specs.Class.{is_left_out};
 
 use crate::timed::show;
 use std::io;
@@ -9,7 +7,6 @@ use study_material::Class;
 
 /// The men of all positions of a class.
 fn count_men(class: Class) -> u64
-    requires { is_left_out class ≡ false }
 {
     let mut sum = 0u64;
     for number in 0..cells(class) {
@@ -28,10 +25,8 @@ pub fn measure(rt: HostRuntime) -> io::Result<()> {
         (Class::KRKN, "KRKN"),
         (Class::KQQK, "KQQK"),
     ] {
-        if !class.left_out() {
-            let count = u64::from(cells(class));
-            show(rt, "decode", label, count, || count_men(class))?;
-        }
+        let count = u64::from(cells(class));
+        show(rt, "decode", label, count, || count_men(class))?;
     }
     Ok(())
 }

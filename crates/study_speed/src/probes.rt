@@ -1,6 +1,4 @@
 //! How long a probe takes through a cache that keeps every page, beside one of a whole table.
-ghost use Rattle.std.specs.Prelude.{◌≡◌, false};
-ghost use Rattle.study_material.specs.Class.{is_left_out};
 
 use crate::timed::tell;
 use std::alloc::Allocator;
@@ -44,7 +42,6 @@ fn time<V: Values>(
 
 /// The positions of a class.
 fn positions_of<'a, A: Allocator>(alloc: &'a A, class: Class) -> io::Result<Vec<Position, &'a A>>
-    requires { is_left_out class ≡ false }
 {
     let mut positions = Vec::new(alloc);
     for number in 0..cells(class) {
@@ -59,11 +56,9 @@ fn positions_of<'a, A: Allocator>(alloc: &'a A, class: Class) -> io::Result<Vec<
 fn tables_of<'a, A: Allocator>(alloc: &'a A, class: Class) -> io::Result<TableSet<'a, A>> {
     let mut tables = TableSet::new(alloc)?;
     for each in order(class) {
-        if !each.left_out() {
-            let room = BuildRoom::new(alloc, cells(each))?;
-            if let Ok((table, _)) = build(each, &tables, room) {
-                let _added = tables.add(table);
-            }
+        let room = BuildRoom::new(alloc, cells(each))?;
+        if let Ok((table, _)) = build(each, &tables, room) {
+            let _added = tables.add(table);
         }
     }
     Ok(tables)

@@ -1,68 +1,68 @@
 -- What is written is read again.
-use Rattle.std.proofs.Common.{◌≡◌, ℕ, zero, suc, ◌+◌, ◌-◌, ◌*◌, ◌<◌, ◌≤◌, inl, inr, min, true, false, List, [], ◌∷◌, ◌++◌, length, take, drop, replicate, Option, Some, None, Result, Ok, OnOk, refl, sym, ap, ◌∙◌, arith, append_assoc, append-nil, length-append, length-drop, length-take, take-append-drop}
+use Rattle.std.proofs.Common.{◌≡◌, ℕ, zero, suc, ◌+◌, ◌-◌, ◌*◌, ◌<◌, ◌≤◌, ◌==◌, ◌⊎◌, inl, inr, min, true, false, subst, List, [], ◌∷◌, ◌++◌, length, take, drop, replicate, Option, Some, None, Result, Ok, OnOk, refl, sym, ap, ◌∙◌, arith, append_assoc, append-nil, length-append, length-drop, length-take, take-append-drop}
 use Rattle.std.specs.Str.{bytes_eq}
 use Rattle.std.proofs.lemmas.Result.{on_ok_weaker}
 use Rattle.std.proofs.lemmas.List.{length-replicate, take_all, take_at, drop_all, drop_at, drop-drop}
-use Rattle.std.proofs.lemmas.Bool.{cases_lt, false≢true}
+use Rattle.std.proofs.lemmas.Bool.{cases_lt, false≢true, eqb-true, or_cases}
 use Rattle.std.proofs.lemmas.Slice.Eq.{bytes_eq-Decides}
 use Rattle.sha2.specs.Sha256.{sha256}
 use Rattle.sha2.proofs.Facts256.{length-sha256}
 use Rattle.study_material.specs.declared.class.Class.{Class}
 use Rattle.study_material.specs.declared.class.Class.TheVariants.{KK, KQK, KRK, KBK, KNK, KPK, KQQK, KQRK, KQBK, KQNK, KQPK, KRRK, KRBK, KRNK, KRPK, KBBK, KBNK, KBPK, KNNK, KNPK, KPPK, KQKQ, KQKR, KQKB, KQKN, KQKP, KRKR, KRKB, KRKN, KRKP, KBKB, KBKN, KBKP, KNKN, KNKP, KPKP}
-use Rattle.study_material.specs.Class.{name_of, is_left_out}
+use Rattle.study_material.specs.Class.{name_of}
 use Rattle.study_index.specs.Number.{cells_of}
 use Rattle.study_retro.specs.Table.{Table, IsComplete}
 use Rattle.study_tablefile.specs.declared.fault.FileFault.{FileFault}
-use Rattle.study_tablefile.specs.File.{class_field, fields_text, header_text, page_cells_of, page_digest, page_text, pages_of, pages_text, table_text}
-use Rattle.study_tablefile.specs.Reading.{class_named, class_checked, class_read, page_fault, pages_read, table_end, table_read, unless}
+use Rattle.study_tablefile.specs.File.{class_field, is_version, is_known, IsVersionOf, fields_text, header_text, page_cells_of, page_digest, page_text, pages_of, pages_text, table_text}
+use Rattle.study_tablefile.specs.Reading.{class_named, class_checked, version_of, class_read, page_fault, pages_read, table_end, table_read, unless}
 use Rattle.study_tablefile.specs.Source.{is_whole_page, page_of}
 use Rattle.study_tablefile.proofs.Bounds.{pages_hold, pages_full}
 use Rattle.study_tablefile.proofs.Known.{long_enough, page_told}
 
 -- ---- lengths
 
-fields_length : (c : Class) → length (fields_text c) ≡ 32
+fields_length : (c : Class) (v : ℕ) → length (fields_text c v) ≡ 32
 unfolding fields_text class_field name_of
-fields_length KK = refl
-fields_length KQK = refl
-fields_length KRK = refl
-fields_length KBK = refl
-fields_length KNK = refl
-fields_length KPK = refl
-fields_length KQQK = refl
-fields_length KQRK = refl
-fields_length KQBK = refl
-fields_length KQNK = refl
-fields_length KQPK = refl
-fields_length KRRK = refl
-fields_length KRBK = refl
-fields_length KRNK = refl
-fields_length KRPK = refl
-fields_length KBBK = refl
-fields_length KBNK = refl
-fields_length KBPK = refl
-fields_length KNNK = refl
-fields_length KNPK = refl
-fields_length KPPK = refl
-fields_length KQKQ = refl
-fields_length KQKR = refl
-fields_length KQKB = refl
-fields_length KQKN = refl
-fields_length KQKP = refl
-fields_length KRKR = refl
-fields_length KRKB = refl
-fields_length KRKN = refl
-fields_length KRKP = refl
-fields_length KBKB = refl
-fields_length KBKN = refl
-fields_length KBKP = refl
-fields_length KNKN = refl
-fields_length KNKP = refl
-fields_length KPKP = refl
+fields_length KK v = refl
+fields_length KQK v = refl
+fields_length KRK v = refl
+fields_length KBK v = refl
+fields_length KNK v = refl
+fields_length KPK v = refl
+fields_length KQQK v = refl
+fields_length KQRK v = refl
+fields_length KQBK v = refl
+fields_length KQNK v = refl
+fields_length KQPK v = refl
+fields_length KRRK v = refl
+fields_length KRBK v = refl
+fields_length KRNK v = refl
+fields_length KRPK v = refl
+fields_length KBBK v = refl
+fields_length KBNK v = refl
+fields_length KBPK v = refl
+fields_length KNNK v = refl
+fields_length KNPK v = refl
+fields_length KPPK v = refl
+fields_length KQKQ v = refl
+fields_length KQKR v = refl
+fields_length KQKB v = refl
+fields_length KQKN v = refl
+fields_length KQKP v = refl
+fields_length KRKR v = refl
+fields_length KRKB v = refl
+fields_length KRKN v = refl
+fields_length KRKP v = refl
+fields_length KBKB v = refl
+fields_length KBKN v = refl
+fields_length KBKP v = refl
+fields_length KNKN v = refl
+fields_length KNKP v = refl
+fields_length KPKP v = refl
 
-pub header_length : (c : Class) → length (header_text c) ≡ 64
+pub header_length : (c : Class) (v : ℕ) → length (header_text c v) ≡ 64
 unfolding header_text
-header_length c = length-append (fields_text c) (sha256 (fields_text c)) ∙ omega (arith, fields_length c, length-sha256 (fields_text c))
+header_length c v = length-append (fields_text c v) (sha256 (fields_text c v)) ∙ omega (arith, fields_length c v, length-sha256 (fields_text c v))
 
 pub cells_length : (cells : List ℕ) → length (page_cells_of cells) ≡ 4096
 unfolding page_cells_of
@@ -82,66 +82,122 @@ pages_length fields n zero cells = refl
 pages_length fields n (suc k) cells =
     length-append (page_text fields n (page_cells_of cells)) (pages_text fields (n + 1) k (drop 4096 cells)) ∙ omega (arith, page_length fields n cells, pages_length fields (n + 1) k (drop 4096 cells))
 
-pub text_length : (t : Table) (c : Class) → t.class ≡ c → length (table_text t) ≡ 64 + 4128 * pages_of c
+pub text_length : (t : Table) (c : Class) (v : ℕ) → t.class ≡ c → length (table_text t v) ≡ 64 + 4128 * pages_of c
 unfolding table_text
-text_length t c e =
-    length-append (header_text t.class) (pages_text (fields_text t.class) 0 (pages_of t.class) t.cells)
-    ∙ omega (arith, header_length t.class, pages_length (fields_text t.class) 0 (pages_of t.class) t.cells) ∙ ap (λ d. 64 + 4128 * pages_of d) e
+text_length t c v e =
+    length-append (header_text t.class v) (pages_text (fields_text t.class v) 0 (pages_of t.class) t.cells)
+    ∙ omega (arith, header_length t.class v, pages_length (fields_text t.class v) 0 (pages_of t.class) t.cells) ∙ ap (λ d. 64 + 4128 * pages_of d) e
 
 -- ---- a header
 
 same_bytes : (xs ys : List ℕ) → xs ≡ ys → bytes_eq xs ys ≡ true
 same_bytes xs ys e = (bytes_eq-Decides xs ys).1 e
 
-class_again : (c : Class) → is_left_out c ≡ false → class_read (header_text c) ≡ class_checked (header_text c) (Some c)
+first_again : (c : Class) → is_known 1 c ≡ true → class_read (header_text c 1) ≡ class_checked 1 (header_text c 1) (Some c)
 unfolding class_read class_named header_text fields_text class_field name_of
-class_again KK h = refl
-class_again KQK h = refl
-class_again KRK h = refl
-class_again KBK h = refl
-class_again KNK h = refl
-class_again KPK h = refl
-class_again KQQK h = refl
-class_again KQRK h = refl
-class_again KQBK h = refl
-class_again KQNK h = refl
-class_again KQPK h = refl
-class_again KRRK h = refl
-class_again KRBK h = refl
-class_again KRNK h = refl
-class_again KRPK h = refl
-class_again KBBK h = refl
-class_again KBNK h = refl
-class_again KBPK h = refl
-class_again KNNK h = refl
-class_again KNPK h = refl
-class_again KPPK h = refl
-class_again KQKQ h = refl
-class_again KQKR h = refl
-class_again KQKB h = refl
-class_again KQKN h = refl
-class_again KQKP h = refl
-class_again KRKR h = refl
-class_again KRKB h = refl
-class_again KRKN h = refl
-class_again KRKP h = refl
-class_again KBKB h = refl
-class_again KBKN h = refl
-class_again KBKP h = refl
-class_again KNKN h = refl
-class_again KNKP h = refl
-class_again KPKP h = absurd (false≢true (sym h))
+first_again KK h = refl
+first_again KQK h = refl
+first_again KRK h = refl
+first_again KBK h = refl
+first_again KNK h = refl
+first_again KPK h = refl
+first_again KQQK h = refl
+first_again KQRK h = refl
+first_again KQBK h = refl
+first_again KQNK h = refl
+first_again KQPK h = refl
+first_again KRRK h = refl
+first_again KRBK h = refl
+first_again KRNK h = refl
+first_again KRPK h = refl
+first_again KBBK h = refl
+first_again KBNK h = refl
+first_again KBPK h = refl
+first_again KNNK h = refl
+first_again KNPK h = refl
+first_again KPPK h = refl
+first_again KQKQ h = refl
+first_again KQKR h = refl
+first_again KQKB h = refl
+first_again KQKN h = refl
+first_again KQKP h = refl
+first_again KRKR h = refl
+first_again KRKB h = refl
+first_again KRKN h = refl
+first_again KRKP h = refl
+first_again KBKB h = refl
+first_again KBKN h = refl
+first_again KBKP h = refl
+first_again KNKN h = refl
+first_again KNKP h = refl
+first_again KPKP h = absurd (false≢true h)
 
-checked_again : (c : Class) → class_checked (header_text c) (Some c) ≡ Ok c
+second_again : (c : Class) → class_read (header_text c 2) ≡ class_checked 2 (header_text c 2) (Some c)
+unfolding class_read class_named header_text fields_text class_field name_of
+second_again KK = refl
+second_again KQK = refl
+second_again KRK = refl
+second_again KBK = refl
+second_again KNK = refl
+second_again KPK = refl
+second_again KQQK = refl
+second_again KQRK = refl
+second_again KQBK = refl
+second_again KQNK = refl
+second_again KQPK = refl
+second_again KRRK = refl
+second_again KRBK = refl
+second_again KRNK = refl
+second_again KRPK = refl
+second_again KBBK = refl
+second_again KBNK = refl
+second_again KBPK = refl
+second_again KNNK = refl
+second_again KNPK = refl
+second_again KPPK = refl
+second_again KQKQ = refl
+second_again KQKR = refl
+second_again KQKB = refl
+second_again KQKN = refl
+second_again KQKP = refl
+second_again KRKR = refl
+second_again KRKB = refl
+second_again KRKN = refl
+second_again KRKP = refl
+second_again KBKB = refl
+second_again KBKN = refl
+second_again KBKP = refl
+second_again KNKN = refl
+second_again KNKP = refl
+second_again KPKP = refl
+
+versions : (v : ℕ) → is_version v ≡ true → (v ≡ 1) ⊎ (v ≡ 2)
+versions v e = elim (or_cases (v == 1) (v == 2) e) [ inl a ↦ inl (eqb-true v 1 a) | inr b ↦ inr (eqb-true v 2 b) ]
+
+class_again : (c : Class) (v : ℕ) → IsVersionOf c v → class_read (header_text c v) ≡ class_checked v (header_text c v) (Some c)
+class_again c v h = elim (versions v h.0) [
+  | inl e ↦ subst (λ (w : ℕ). class_read (header_text c w) ≡ class_checked w (header_text c w) (Some c)) (sym e) (first_again c (ap (λ w. is_known w c) (sym e) ∙ h.1))
+  | inr e ↦ subst (λ (w : ℕ). class_read (header_text c w) ≡ class_checked w (header_text c w) (Some c)) (sym e) (second_again c)
+]
+
+pub version_again : (c : Class) (v : ℕ) → is_version v ≡ true → version_of (header_text c v) ≡ v
+unfolding header_text fields_text
+version_again c v h = elim (versions v h) [
+  | inl e ↦ subst (λ (w : ℕ). version_of (header_text c w) ≡ w) (sym e) refl
+  | inr e ↦ subst (λ (w : ℕ). version_of (header_text c w) ≡ w) (sym e) refl
+]
+
+checked_again : (c : Class) (v : ℕ) → class_checked v (header_text c v) (Some c) ≡ Ok c
 unfolding header_text
-checked_again c =
-    let front : take 32 (fields_text c ++ sha256 (fields_text c)) ≡ fields_text c = take_at (fields_text c) (sha256 (fields_text c)) 32 (fields_length c) in
-    let back : take 32 (drop 32 (fields_text c ++ sha256 (fields_text c))) ≡ sha256 (fields_text c) =
-    ap (λ (l : List ℕ). take 32 l) (drop_at (fields_text c) (sha256 (fields_text c)) 32 (fields_length c)) ∙ take_all 32 (sha256 (fields_text c)) (omega (arith, length-sha256 (fields_text c))) in
+checked_again c v =
+    let fields = fields_text c v in
+    let front : take 32 (fields ++ sha256 fields) ≡ fields = take_at fields (sha256 fields) 32 (fields_length c v) in
+    let back : take 32 (drop 32 (fields ++ sha256 fields)) ≡ sha256 fields =
+    ap (λ (l : List ℕ). take 32 l) (drop_at fields (sha256 fields) 32 (fields_length c v)) ∙ take_all 32 (sha256 fields) (omega (arith, length-sha256 fields)) in
     rw (same_bytes _ _ front) (rw (same_bytes _ _ back) refl)
 
-header_again : (c : Class) → is_left_out c ≡ false → class_read (header_text c) ≡ Ok c
-header_again c h = class_again c h ∙ checked_again c
+pub header_again : (c : Class) (v : ℕ) → IsVersionOf c v → class_read (header_text c v) ≡ Ok c
+header_again c v h = class_again c v h ∙ checked_again c v
 
 -- ---- pages
 
@@ -182,19 +238,19 @@ padded_cells k cells hold full = elim (cases_lt 4096 (length cells)) [
       rw front (rw back (rw none (rw zeros (append-nil _))))
 ]
 
-pages_again : (c : Class) (n k : ℕ) (before cells : List ℕ) → length cells ≤ 4096 * k → 4096 * k < length cells + 4096
-    → pages_read c n k before (pages_text (fields_text c) n k cells) ≡ table_end c (before ++ (cells ++ replicate (4096 * k - length cells) 0)) []
-pages_again c n zero before [] hold full = ap (λ (l : List ℕ). table_end c l []) (sym (append-nil before))
-pages_again c n zero before (x ∷ cells) hold full = absurd (omega arith)
-pages_again c n (suc k) before cells hold full =
-    let fields = fields_text c in
+pages_again : (c : Class) (v n k : ℕ) (before cells : List ℕ) → length cells ≤ 4096 * k → 4096 * k < length cells + 4096
+    → pages_read c v n k before (pages_text (fields_text c v) n k cells) ≡ table_end c (before ++ (cells ++ replicate (4096 * k - length cells) 0)) []
+pages_again c v n zero before [] hold full = ap (λ (l : List ℕ). table_end c l []) (sym (append-nil before))
+pages_again c v n zero before (x ∷ cells) hold full = absurd (omega arith)
+pages_again c v n (suc k) before cells hold full =
+    let fields = fields_text c v in
     let page = page_text fields n (page_cells_of cells) in
     let rest = pages_text fields (n + 1) k (drop 4096 cells) in
     let size = length-drop 4096 cells in
-    ap (λ (o : Option FileFault). unless o (pages_read c (n + 1) k (before ++ take 4096 (page ++ rest)) (drop 4128 (page ++ rest)))) (page_again fields rest cells n)
-    ∙ ap (λ (l : List ℕ). pages_read c (n + 1) k (before ++ l) (drop 4128 (page ++ rest))) (cells_again fields rest cells n)
-    ∙ ap (λ (l : List ℕ). pages_read c (n + 1) k (before ++ page_cells_of cells) l) (drop_at page rest 4128 (page_length fields n cells))
-    ∙ pages_again c (n + 1) k (before ++ page_cells_of cells) (drop 4096 cells) (omega arith) (omega arith)
+    ap (λ (o : Option FileFault). unless o (pages_read c v (n + 1) k (before ++ take 4096 (page ++ rest)) (drop 4128 (page ++ rest)))) (page_again fields rest cells n)
+    ∙ ap (λ (l : List ℕ). pages_read c v (n + 1) k (before ++ l) (drop 4128 (page ++ rest))) (cells_again fields rest cells n)
+    ∙ ap (λ (l : List ℕ). pages_read c v (n + 1) k (before ++ page_cells_of cells) l) (drop_at page rest 4128 (page_length fields n cells))
+    ∙ pages_again c v (n + 1) k (before ++ page_cells_of cells) (drop 4096 cells) (omega arith) (omega arith)
     ∙ ap (λ (l : List ℕ). table_end c l []) (append_assoc before (page_cells_of cells) (drop 4096 cells ++ replicate (4096 * k - length (drop 4096 cells)) 0) ∙ ap (λ (l : List ℕ). before ++ l) (padded_cells k cells hold full))
 
 end_again : (c : Class) (cells : List ℕ) (m : ℕ) → length cells ≡ cells_of c → table_end c (cells ++ replicate m 0) [] ≡ Ok (record { class = c; cells = cells })
@@ -205,17 +261,17 @@ end_again c cells m e =
     let zeros : bytes_eq (replicate m 0) (replicate (length (replicate {A = ℕ} m 0)) 0) ≡ true = same_bytes _ _ (ap (λ (j : ℕ). replicate {A = ℕ} j 0) (sym (length-replicate {A = ℕ} m 0))) in
     rw back (rw zeros (rw front refl))
 
-pub read_again : (t : Table) → IsComplete t → table_read (table_text t) ≡ Ok t
+pub read_again : (t : Table) (v : ℕ) → IsComplete t → IsVersionOf t.class v → table_read (table_text t v) ≡ Ok t
 unfolding table_read table_text
-read_again t complete =
+read_again t v complete is =
     let c = t.class in
-    let header = header_text c in
-    let pages = pages_text (fields_text c) 0 (pages_of c) t.cells in
+    let header = header_text c v in
+    let pages = pages_text (fields_text c v) 0 (pages_of c) t.cells in
     let hold = pages_hold c in
     let full = pages_full c in
     let size = complete.size in
-    rw (long_enough header pages 64 (header_length c)) (rw (take_at header pages 64 (header_length c)) (rw (drop_at header pages 64 (header_length c)) (rw (header_again c complete.admitted)
-    (pages_again c 0 (pages_of c) [] t.cells (omega arith) (omega arith) ∙ end_again c t.cells (4096 * pages_of c - length t.cells) size))))
+    rw (long_enough header pages 64 (header_length c v)) (rw (take_at header pages 64 (header_length c v)) (rw (drop_at header pages 64 (header_length c v)) (rw (header_again c v is) (rw (version_again c v is.0)
+    (pages_again c v 0 (pages_of c) [] t.cells (omega arith) (omega arith) ∙ end_again c t.cells (4096 * pages_of c - length t.cells) size)))))
 
 -- ---- one page of a text
 
@@ -236,25 +292,25 @@ page_at fields n (suc k) (suc i) cells h =
     ∙ ap (λ (m : ℕ). page_text fields m (page_cells_of (drop (4096 * i) (drop 4096 cells)))) next
     ∙ ap (λ (l : List ℕ). page_text fields (n + suc i) (page_cells_of l)) (drop-drop (4096 * i) 4096 cells ∙ ap (λ (m : ℕ). drop m cells) near)
 
-pub text_header : (t : Table) (text : List ℕ) → text ≡ table_text t → take 64 text ≡ header_text t.class
+pub text_header : (t : Table) (v : ℕ) (text : List ℕ) → text ≡ table_text t v → take 64 text ≡ header_text t.class v
 unfolding table_text
-text_header t text e = ap (λ (l : List ℕ). take 64 l) e ∙ take_at (header_text t.class) (pages_text (fields_text t.class) 0 (pages_of t.class) t.cells) 64 (header_length t.class)
+text_header t v text e = ap (λ (l : List ℕ). take 64 l) e ∙ take_at (header_text t.class v) (pages_text (fields_text t.class v) 0 (pages_of t.class) t.cells) 64 (header_length t.class v)
 
-pub text_page : (t : Table) (text : List ℕ) (n : ℕ) → text ≡ table_text t → n < pages_of t.class → take 4128 (drop (64 + 4128 * n) text) ≡ page_of t n
+pub text_page : (t : Table) (v : ℕ) (text : List ℕ) (n : ℕ) → text ≡ table_text t v → n < pages_of t.class → take 4128 (drop (64 + 4128 * n) text) ≡ page_of t v n
 unfolding table_text
-text_page t text n e h =
-    let pages = pages_text (fields_text t.class) 0 (pages_of t.class) t.cells in
+text_page t v text n e h =
+    let pages = pages_text (fields_text t.class v) 0 (pages_of t.class) t.cells in
     let same : 0 + n ≡ n = omega arith in
     ap (λ (l : List ℕ). take 4128 (drop (64 + 4128 * n) l)) e
-    ∙ ap (λ (l : List ℕ). take 4128 l) (sym (drop-drop (4128 * n) 64 (header_text t.class ++ pages)) ∙ ap (λ (l : List ℕ). drop (4128 * n) l) (drop_at (header_text t.class) pages 64 (header_length t.class)))
-    ∙ page_at (fields_text t.class) 0 (pages_of t.class) n t.cells h ∙ ap (λ (m : ℕ). page_text (fields_text t.class) m (page_cells_of (drop (4096 * n) t.cells))) same
+    ∙ ap (λ (l : List ℕ). take 4128 l) (sym (drop-drop (4128 * n) 64 (header_text t.class v ++ pages)) ∙ ap (λ (l : List ℕ). drop (4128 * n) l) (drop_at (header_text t.class v) pages 64 (header_length t.class v)))
+    ∙ page_at (fields_text t.class v) 0 (pages_of t.class) n t.cells h ∙ ap (λ (m : ℕ). page_text (fields_text t.class v) m (page_cells_of (drop (4096 * n) t.cells))) same
 
-pub header_given : {A E : Type 0} (t : Table) (text given : List ℕ) (size : ℕ) (r : Result A E) → text ≡ table_text t → size ≡ 64 → OnOk r (given ≡ take size (drop 0 text)) → OnOk r (given ≡ header_text t.class)
-header_given t text given size r e s h = on_ok_weaker r (λ g. g ∙ ap (λ (n : ℕ). take n text) s ∙ text_header t text e) h
+pub header_given : {A E : Type 0} (t : Table) (v : ℕ) (text given : List ℕ) (size : ℕ) (r : Result A E) → text ≡ table_text t v → size ≡ 64 → OnOk r (given ≡ take size (drop 0 text)) → OnOk r (given ≡ header_text t.class v)
+header_given t v text given size r e s h = on_ok_weaker r (λ g. g ∙ ap (λ (n : ℕ). take n text) s ∙ text_header t v text e) h
 
-pub page_given : {A E : Type 0} (t : Table) (text given : List ℕ) (n size start : ℕ) (r : Result A E) → text ≡ table_text t → n < pages_of t.class → OnOk r (given ≡ take size (drop start text))
-    → size ≡ 4128 → start ≡ 64 + 4128 * n → OnOk r (given ≡ page_of t n)
-page_given t text given n size start r e h o s p = on_ok_weaker r (λ g. g ∙ ap (λ (m : ℕ). take m (drop start text)) s ∙ ap (λ (m : ℕ). take 4128 (drop m text)) p ∙ text_page t text n e h) o
+pub page_given : {A E : Type 0} (t : Table) (v : ℕ) (text given : List ℕ) (n size start : ℕ) (r : Result A E) → text ≡ table_text t v → n < pages_of t.class → OnOk r (given ≡ take size (drop start text))
+    → size ≡ 4128 → start ≡ 64 + 4128 * n → OnOk r (given ≡ page_of t v n)
+page_given t v text given n size start r e h o s p = on_ok_weaker r (λ g. g ∙ ap (λ (m : ℕ). take m (drop start text)) s ∙ ap (λ (m : ℕ). take 4128 (drop m text)) p ∙ text_page t v text n e h) o
 
 -- ---- a page of a table is whole
 
@@ -262,10 +318,10 @@ zeros_behind : (cells : List ℕ) (m : ℕ) → m ≡ min (length cells) 4096 �
 unfolding page_cells_of
 zeros_behind cells m e = drop_at (take 4096 cells) (replicate (4096 - length cells) 0) m (omega (arith, e, length-take 4096 cells))
 
-pub whole_again : (t : Table) (n : ℕ) → IsComplete t → is_whole_page (fields_text t.class) (cells_of t.class) n (page_of t n) ≡ true
+pub whole_again : (t : Table) (v n : ℕ) → IsComplete t → is_whole_page (fields_text t.class v) (cells_of t.class) n (page_of t v n) ≡ true
 unfolding page_text
-whole_again t n complete =
-    let fields = fields_text t.class in
+whole_again t v n complete =
+    let fields = fields_text t.class v in
     let cells = drop (4096 * n) t.cells in
     let full = page_cells_of cells in
     let digest = page_digest fields n full in

@@ -5,11 +5,11 @@ use Rattle.std.specs.Str.{bytes_eq}
 use Rattle.std.proofs.lemmas.Bool.{le-ltb}
 use Rattle.std.proofs.lemmas.List.{take_at, drop_at, drop_more, take-append-le, drop-append-le}
 use Rattle.study_material.specs.declared.class.Class.{Class}
-use Rattle.study_material.specs.Class.{class_list, is_left_out}
+use Rattle.study_material.specs.Class.{class_list}
 use Rattle.study_tablefile.specs.declared.fault.FileFault.{FileFault}
 use Rattle.study_tablefile.specs.declared.fault.FileFault.TheVariants.{PageDamaged}
-use Rattle.study_tablefile.specs.File.{class_field, fields_text, page_digest}
-use Rattle.study_tablefile.specs.Reading.{class_named, class_read, page_fault, pages_read, table_behind, table_read, unless, IsShort}
+use Rattle.study_tablefile.specs.File.{class_field, is_known, fields_text, page_digest}
+use Rattle.study_tablefile.specs.Reading.{class_named, version_of, class_read, page_fault, pages_read, table_behind, table_read, unless, IsShort}
 
 -- ---- lists
 
@@ -19,22 +19,19 @@ find_here test xs i d h e = ap (find test) (drop_more xs i d h) ∙ rw e refl
 pub find_later : {X : Type 0} (test : X → Bool) (xs : List X) (i : ℕ) (d : X) → i < length xs → test (slice_index_or xs i d) ≡ false → find test (drop i xs) ≡ find test (drop (i + 1) xs)
 find_later test xs i d h e = ap (find test) (drop_more xs i d h) ∙ rw e refl
 
-found_one : (test : Class → Bool) (x c : Class) (rest : Option Class) (b : Bool) → is_left_out x ≡ b → (rest ≡ Some c → is_left_out c ≡ false)
-    → (if not b && test x then Some x else rest) ≡ Some c → is_left_out c ≡ false
-found_one test x c rest true e more h = more h
-found_one test x c rest false e more h = found_first (test x) refl h
+-- what is found passes its test
+found_known : (known test : Class → Bool) (c : Class) (xs : List Class) → find (λ d. known d && test d) xs ≡ Some c → known c ≡ true
+found_known known test c [] h = cc
+found_known known test c (x ∷ xs) h = by_tests (known x) (test x) refl h (λ r. found_known known test c xs r)
   where
-    found_first : (b : Bool) → test x ≡ b → (if b then Some x else rest) ≡ Some c → is_left_out c ≡ false
-    found_first true f g = cc
-    found_first false f g = more g
+    by_tests : (a b : Bool) → known x ≡ a → (if a && b then Some x else find (λ d. known d && test d) xs) ≡ Some c → (find (λ d. known d && test d) xs ≡ Some c → known c ≡ true) → known c ≡ true
+    by_tests true true e f rest = (let same : x ≡ c = cc in ap known (sym same) ∙ e)
+    by_tests true false e f rest = rest f
+    by_tests false b e f rest = rest f
 
-pub found_admitted : (test : Class → Bool) (c : Class) (xs : List Class) → find (λ d. not (is_left_out d) && test d) xs ≡ Some c → is_left_out c ≡ false
-found_admitted test c [] h = cc
-found_admitted test c (x ∷ xs) h = found_one test x c (find (λ d. not (is_left_out d) && test d) xs) (is_left_out x) refl (found_admitted test c xs) h
-
-pub named_admitted : (field : List ℕ) (c : Class) → class_named field ≡ Some c → is_left_out c ≡ false
+pub named_known : (v : ℕ) (field : List ℕ) (c : Class) → class_named v field ≡ Some c → is_known v c ≡ true
 unfolding class_named
-named_admitted field c h = found_admitted (λ d. bytes_eq field (class_field d)) c class_list h
+named_known v field c h = found_known (is_known v) (λ d. bytes_eq field (class_field d)) c class_list h
 
 -- ---- known bytes
 
@@ -82,20 +79,20 @@ page_good a b fields page bytes cells old new n t size h e told f g more =
     let front : cells ≡ take 4096 bytes = g ∙ sym (ap (λ (l : List ℕ). take 4096 l) whole ∙ take-append-le 4096 page rest (omega arith)) in
     (next ∙ ap (λ (l : List ℕ). Some l) after, more ∙ ap (λ (l : List ℕ). old ++ l) front, ap (page_fault fields n) whole ∙ page_told fields page rest n size ∙ rw (sym told ∙ f) refl)
 
-pub pages_stop : (c : Class) (n k j : ℕ) (fields cells rest : List ℕ) (fault : FileFault) → fields ≡ fields_text c → k ≡ suc j → page_fault fields n rest ≡ Some fault → pages_read c n k cells rest ≡ Err fault
-pages_stop c n k j fields cells rest fault f e h =
-    ap (λ (m : ℕ). pages_read c n m cells rest) e ∙ ap (λ (o : Option FileFault). unless o (pages_read c (n + 1) j (cells ++ take 4096 rest) (drop 4128 rest))) (ap (λ (l : List ℕ). page_fault l n rest) (sym f) ∙ h)
+pub pages_stop : (c : Class) (v n k j : ℕ) (fields cells rest : List ℕ) (fault : FileFault) → fields ≡ fields_text c v → k ≡ suc j → page_fault fields n rest ≡ Some fault → pages_read c v n k cells rest ≡ Err fault
+pages_stop c v n k j fields cells rest fault f e h =
+    ap (λ (m : ℕ). pages_read c v n m cells rest) e ∙ ap (λ (o : Option FileFault). unless o (pages_read c v (n + 1) j (cells ++ take 4096 rest) (drop 4128 rest))) (ap (λ (l : List ℕ). page_fault l n rest) (sym f) ∙ h)
 
-pub pages_step : (c : Class) (n k j : ℕ) (fields cells new rest : List ℕ) → fields ≡ fields_text c → k ≡ suc j → page_fault fields n rest ≡ None → new ≡ cells ++ take 4096 rest
-    → pages_read c n k cells rest ≡ pages_read c (n + 1) j new (drop 4128 rest)
-pages_step c n k j fields cells new rest f e h g =
-    ap (λ (m : ℕ). pages_read c n m cells rest) e ∙ ap (λ (o : Option FileFault). unless o (pages_read c (n + 1) j (cells ++ take 4096 rest) (drop 4128 rest))) (ap (λ (l : List ℕ). page_fault l n rest) (sym f) ∙ h)
-    ∙ ap (λ (l : List ℕ). pages_read c (n + 1) j l (drop 4128 rest)) (sym g)
+pub pages_step : (c : Class) (v n k j : ℕ) (fields cells new rest : List ℕ) → fields ≡ fields_text c v → k ≡ suc j → page_fault fields n rest ≡ None → new ≡ cells ++ take 4096 rest
+    → pages_read c v n k cells rest ≡ pages_read c v (n + 1) j new (drop 4128 rest)
+pages_step c v n k j fields cells new rest f e h g =
+    ap (λ (m : ℕ). pages_read c v n m cells rest) e ∙ ap (λ (o : Option FileFault). unless o (pages_read c v (n + 1) j (cells ++ take 4096 rest) (drop 4128 rest))) (ap (λ (l : List ℕ). page_fault l n rest) (sym f) ∙ h)
+    ∙ ap (λ (l : List ℕ). pages_read c v (n + 1) j l (drop 4128 rest)) (sym g)
 
 -- ---- headers
 
 pub header_known : (a b : Option (List ℕ)) (header bytes : List ℕ) → length header ≡ 64 → Consumes a b header → a ≡ Some bytes
-    → (rest : List ℕ) × (b ≡ Some rest) × (table_read bytes ≡ table_behind (class_read header) rest) × (take 64 bytes ≡ header)
+    → (rest : List ℕ) × (b ≡ Some rest) × (table_read bytes ≡ table_behind (version_of header) (class_read header) rest) × (take 64 bytes ≡ header)
 unfolding table_read
 header_known a b header bytes size h e =
     let (rest, next, whole) = consumed a b header bytes 64 size h e in

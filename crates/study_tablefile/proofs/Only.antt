@@ -6,18 +6,16 @@ use Rattle.std.proofs.lemmas.Bool.{ltb-false, eqb-true, and_parts}
 use Rattle.std.proofs.lemmas.Slice.Eq.{bytes_eq-Decides}
 use Rattle.std.proofs.lemmas.List.Elements.{All-append, All-take, All-drop}
 use Rattle.sha2.specs.Sha256.{sha256}
-use Rattle.byteorder.specs.Endian.{little_number}
 use Rattle.study_material.specs.declared.class.Class.{Class}
-use Rattle.study_material.specs.Class.{is_left_out}
 use Rattle.study_index.specs.Number.{cells_of}
 use Rattle.study_retro.specs.Table.{Table, IsComplete}
 use Rattle.study_tablefile.specs.declared.fault.FileFault.{FileFault}
 use Rattle.study_tablefile.specs.declared.fault.FileFault.TheVariants.{Cut, NotATable, Version, HeaderDamaged, PageDamaged, Padding, TrailingBytes}
-use Rattle.study_tablefile.specs.File.{fields_text, header_text, page_cells_of, page_digest, page_text, pages_of, pages_text, table_text}
-use Rattle.study_tablefile.specs.Reading.{class_named, class_checked, class_read, page_fault, pages_read, table_behind, table_end, table_read, unless}
+use Rattle.study_tablefile.specs.File.{is_version, IsVersionOf, fields_text, header_text, page_cells_of, page_digest, page_text, pages_of, pages_text, table_text}
+use Rattle.study_tablefile.specs.Reading.{class_named, class_checked, version_of, class_read, page_fault, pages_read, table_behind, table_end, table_read, unless}
 use Rattle.study_tablefile.proofs.Bounds.{pages_hold, pages_full}
 use Rattle.std.proofs.lemmas.List.{take_all, take_at, drop_at, drop-drop}
-use Rattle.study_tablefile.proofs.Known.{named_admitted}
+use Rattle.study_tablefile.proofs.Known.{named_known}
 use Rattle.study_tablefile.proofs.Again.{cells_length, padded_cells}
 
 -- ---- tests on the way to an answer
@@ -52,29 +50,39 @@ same_answer t u r h g = cc
 
 -- ---- a header
 
-checked_is : (header : List ℕ) (o : Option Class) (c : Class) → class_checked header o ≡ Ok c
-    → (o ≡ Some c) × (take 32 header ≡ fields_text c) × (take 32 (drop 32 header) ≡ sha256 (fields_text c))
-checked_is header None c h = cc
-checked_is header (Some d) c h =
-    let front = bytes_eq (take 32 header) (fields_text d) in
-    let back = bytes_eq (take 32 (drop 32 header)) (sha256 (fields_text d)) in
+checked_is : (v : ℕ) (header : List ℕ) (o : Option Class) (c : Class) → class_checked v header o ≡ Ok c
+    → (o ≡ Some c) × (take 32 header ≡ fields_text c v) × (take 32 (drop 32 header) ≡ sha256 (fields_text c v))
+checked_is v header None c h = cc
+checked_is v header (Some d) c h =
+    let front = bytes_eq (take 32 header) (fields_text d v) in
+    let back = bytes_eq (take 32 (drop 32 header)) (sha256 (fields_text d v)) in
     let test = answered (front && back) HeaderDamaged (Ok d) c h in
     let same : d ≡ c = cc in
     let both = and_parts front back test.0 in (
       ap (λ (x : Class). Some x) same,
-      (bytes_eq-Decides (take 32 header) (fields_text d)).0 both.0 ∙ ap fields_text same,
-      (bytes_eq-Decides (take 32 (drop 32 header)) (sha256 (fields_text d))).0 both.1 ∙ ap (λ (x : Class). sha256 (fields_text x)) same,
+      (bytes_eq-Decides (take 32 header) (fields_text d v)).0 both.0 ∙ ap (λ (x : Class). fields_text x v) same,
+      (bytes_eq-Decides (take 32 (drop 32 header)) (sha256 (fields_text d v))).0 both.1 ∙ ap (λ (x : Class). sha256 (fields_text x v)) same,
     )
 
-header_is : (header : List ℕ) (c : Class) → length header ≡ 64 → class_read header ≡ Ok c → (header ≡ header_text c) × (is_left_out c ≡ false)
+-- a class that is read is one of the version that is read
+pub known_is : (header : List ℕ) (c : Class) → class_read header ≡ Ok c → IsVersionOf c (version_of header)
+unfolding class_read
+known_is header c h =
+    let v = version_of header in
+    let mark = admitted (bytes_eq (take 8 header) (codes "STUDYDTM")) NotATable _ c h in
+    let version = admitted (is_version v) (Version v) _ c mark.1 in
+    (version.0, named_known v (take 8 (drop 16 header)) c (checked_is v header (class_named v (take 8 (drop 16 header))) c version.1).0)
+
+pub header_is : (header : List ℕ) (c : Class) → length header ≡ 64 → class_read header ≡ Ok c → (header ≡ header_text c (version_of header)) × IsVersionOf c (version_of header)
 unfolding class_read header_text
 header_is header c size h =
+    let v = version_of header in
     let mark = admitted (bytes_eq (take 8 header) (codes "STUDYDTM")) NotATable _ c h in
-    let version = admitted (little_number 2 (drop 8 header) == 1) (Version (little_number 2 (drop 8 header))) _ c mark.1 in
-    let (named, front, back) = checked_is header (class_named (take 8 (drop 16 header))) c version.1 in
+    let version = admitted (is_version v) (Version v) _ c mark.1 in
+    let (named, front, back) = checked_is v header (class_named v (take 8 (drop 16 header))) c version.1 in
     let whole : take 32 (drop 32 header) ≡ drop 32 header = take_all 32 (drop 32 header) (omega (arith, length-drop 32 header, size)) in (
-      sym (take-append-drop 32 header) ∙ ap (λ (l : List ℕ). take 32 header ++ l) (sym whole ∙ back) ∙ ap (λ (l : List ℕ). l ++ sha256 (fields_text c)) front,
-      named_admitted (take 8 (drop 16 header)) c named,
+      sym (take-append-drop 32 header) ∙ ap (λ (l : List ℕ). take 32 header ++ l) (sym whole ∙ back) ∙ ap (λ (l : List ℕ). l ++ sha256 (fields_text c v)) front,
+      (version.0, named_known v (take 8 (drop 16 header)) c named),
     )
 
 -- ---- pages
@@ -119,15 +127,15 @@ end_is c all rest t h =
     empty (x ∷ xs) e = absurd (omega arith)
 
 -- the cells of pages that are read
-pub record Pages (c : Class) (n k : ℕ) (before bytes : List ℕ) (t : Table) : Type 0 where
+pub record Pages (c : Class) (v n k : ℕ) (before bytes : List ℕ) (t : Table) : Type 0 where
   pub cells : List ℕ
   pub size : length cells ≡ 4096 * k
-  pub text : bytes ≡ pages_text (fields_text c) n k cells
+  pub text : bytes ≡ pages_text (fields_text c v) n k cells
   pub end : table_end c (before ++ cells) [] ≡ Ok t
   pub small : All (λ b. b < 256) bytes → All (λ b. b < 256) cells
 
-pages_are : (c : Class) (n k : ℕ) (before bytes : List ℕ) (t : Table) → pages_read c n k before bytes ≡ Ok t → Pages c n k before bytes t
-pages_are c n zero before bytes t h =
+pages_are : (c : Class) (v n k : ℕ) (before bytes : List ℕ) (t : Table) → pages_read c v n k before bytes ≡ Ok t → Pages c v n k before bytes t
+pages_are c v n zero before bytes t h =
     let none : bytes ≡ [] = (end_is c before bytes t h).1 in
     record {
       cells = [];
@@ -136,12 +144,12 @@ pages_are c n zero before bytes t h =
       end = ap (λ (l : List ℕ). table_end c l []) (append-nil before) ∙ ap (λ (l : List ℕ). table_end c before l) (sym none) ∙ h;
       small = λ all. All-take (λ b. b < 256) 0 bytes all;
     }
-pages_are c n (suc k) before bytes t h =
-    let fields = fields_text c in
+pages_are c v n (suc k) before bytes t h =
+    let fields = fields_text c v in
     let front = take 4096 bytes in
-    let (good, more) = no_fault_before (page_fault fields n bytes) (pages_read c (n + 1) k (before ++ front) (drop 4128 bytes)) t h in
+    let (good, more) = no_fault_before (page_fault fields n bytes) (pages_read c v (n + 1) k (before ++ front) (drop 4128 bytes)) t h in
     let (full, page) = page_is fields bytes n good in
-    let rest = pages_are c (n + 1) k (before ++ front) (drop 4128 bytes) t more in
+    let rest = pages_are c v (n + 1) k (before ++ front) (drop 4128 bytes) t more in
     record {
       cells = front ++ rest.cells;
       size = length-append front rest.cells ∙ omega (arith, full, rest.size);
@@ -171,18 +179,20 @@ pages_padded fields n (suc k) cells hold full =
 
 -- what is known of bytes that read as a table
 pub record Text (bytes : List ℕ) (t : Table) : Type 0 where
-  pub text : bytes ≡ table_text t
-  pub admitted : is_left_out t.class ≡ false
+  pub version : ℕ
+  pub is_version : IsVersionOf t.class version
+  pub text : bytes ≡ table_text t version
   pub size : length t.cells ≡ cells_of t.class
   pub small : All (λ b. b < 256) bytes → All (λ b. b < 256) t.cells
 
 behind_is : (bytes : List ℕ) (r : Result Class FileFault) (t : Table) → r ≡ class_read (take 64 bytes) → length (take 64 bytes) ≡ 64
-    → table_behind r (drop 64 bytes) ≡ Ok t → Text bytes t
+    → table_behind (version_of (take 64 bytes)) r (drop 64 bytes) ≡ Ok t → Text bytes t
 unfolding table_text
 behind_is bytes (Err e) t same front h = cc
 behind_is bytes (Ok c) t same front h =
-    let (header, left_out) = header_is (take 64 bytes) c front (sym same) in
-    let pages = pages_are c 0 (pages_of c) [] (drop 64 bytes) t h in
+    let v = version_of (take 64 bytes) in
+    let (header, known) = header_is (take 64 bytes) c front (sym same) in
+    let pages = pages_are c v 0 (pages_of c) [] (drop 64 bytes) t h in
     let (zeros, none, table) = end_is c pages.cells [] t pages.end in
     let m = cells_of c in
     let hold = pages_hold c in
@@ -191,12 +201,13 @@ behind_is bytes (Ok c) t same front h =
     let left : length (drop m pages.cells) ≡ 4096 * pages_of c - length (take m pages.cells) = length-drop m pages.cells ∙ omega (arith, pages.size, count) in
     let split : pages.cells ≡ take m pages.cells ++ replicate (4096 * pages_of c - length (take m pages.cells)) 0 =
     sym (take-append-drop m pages.cells) ∙ ap (λ (l : List ℕ). take m pages.cells ++ l) (zeros ∙ ap (λ (j : ℕ). replicate {A = ℕ} j 0) left) in
-    let padded = pages_padded (fields_text c) 0 (pages_of c) (take m pages.cells) (omega arith) (omega arith) in
+    let padded = pages_padded (fields_text c v) 0 (pages_of c) (take m pages.cells) (omega arith) (omega arith) in
     rw table (
     record {
+      version = v;
+      is_version = known;
       text = sym (take-append-drop 64 bytes) ∙ ap (λ (l : List ℕ). l ++ drop 64 bytes) header
-          ∙ ap (λ (l : List ℕ). header_text c ++ l) (pages.text ∙ ap (λ (l : List ℕ). pages_text (fields_text c) 0 (pages_of c) l) split ∙ padded);
-      admitted = left_out;
+          ∙ ap (λ (l : List ℕ). header_text c v ++ l) (pages.text ∙ ap (λ (l : List ℕ). pages_text (fields_text c v) 0 (pages_of c) l) split ∙ padded);
       size = count;
       small = λ all. All-take (λ b. b < 256) m pages.cells (pages.small (All-drop (λ b. b < 256) 64 bytes all));
     }
@@ -205,12 +216,12 @@ behind_is bytes (Ok c) t same front h =
 pub text_is : (bytes : List ℕ) (t : Table) → table_read bytes ≡ Ok t → Text bytes t
 unfolding table_read
 text_is bytes t h =
-    let (long, behind) = passed (nat_lt (length bytes) 64) Cut (table_behind (class_read (take 64 bytes)) (drop 64 bytes)) t h in
+    let (long, behind) = passed (nat_lt (length bytes) 64) Cut (table_behind (version_of (take 64 bytes)) (class_read (take 64 bytes)) (drop 64 bytes)) t h in
     let enough : 64 ≤ length bytes = ltb-false (length bytes) 64 long in
     behind_is bytes (class_read (take 64 bytes)) t refl (length-take-le 64 bytes enough) behind
 
-pub text_of_read : (bytes : List ℕ) (t : Table) → table_read bytes ≡ Ok t → bytes ≡ table_text t
-text_of_read bytes t h = (text_is bytes t h).text
+pub text_of_read : (bytes : List ℕ) (t : Table) → table_read bytes ≡ Ok t → (v : ℕ) × IsVersionOf t.class v × (bytes ≡ table_text t v)
+text_of_read bytes t h = let r = text_is bytes t h in (r.version, r.is_version, r.text)
 
 pub complete_when_read : (bytes : List ℕ) (t : Table) → All (λ b. b < 256) bytes → table_read bytes ≡ Ok t → IsComplete t
-complete_when_read bytes t all h = let is = text_is bytes t h in record { admitted = is.admitted; size = is.size; bytes = is.small all }
+complete_when_read bytes t all h = let is = text_is bytes t h in record { size = is.size; bytes = is.small all }

@@ -1,24 +1,38 @@
 -- The text of a table file, byte by byte.
-use Rattle.std.specs.Prelude.{ℕ, zero, suc, ◌+◌, ◌-◌, ◌/◌, List, [], ◌++◌, length, take, drop, replicate, codes}
+use Rattle.std.specs.Prelude.{◌≡◌, ℕ, Bool, true, not, ◌||◌, ◌==◌, zero, suc, ◌+◌, ◌-◌, ◌/◌, List, [], ◌++◌, length, take, drop, replicate, codes}
 use Rattle.byteorder.specs.Endian.{little_bytes}
 use Rattle.sha2.specs.Sha256.{sha256}
 use Rattle.study_material.specs.declared.class.Class.{Class}
-use Rattle.study_material.specs.Class.{name_of}
-use Rattle.study_index.specs.Number.{cells_of}
+use Rattle.study_material.specs.Class.{name_of, lists_of}
+use Rattle.study_index.specs.Number.{has_both_pawns, cells_of}
 use Rattle.study_retro.specs.Table.{Table}
 
 -- the name of a class in 8 bytes
 unfoldable pub class_field : Class → List ℕ
 class_field c = name_of c ++ replicate (8 - length (name_of c)) 0
 
--- the 32 fields of a header: the mark, version 1, the cells of a page, the cells of the class, its name, 8 zero bytes
-unfoldable pub fields_text : Class → List ℕ
-fields_text c =
-    codes "STUDYDTM" ++ little_bytes 2 1 ++ little_bytes 2 4096 ++ little_bytes 4 (cells_of c) ++ class_field c ++ replicate 8 0
+-- the version that is written, and whether a version is read
+abbrev pub written_version : ℕ
+written_version = 2
+
+abbrev pub is_version : ℕ → Bool
+is_version v = (v == 1) || (v == 2)
+
+-- whether files of a version that is read can be of the class: in version 1 no pawn stood against a pawn
+abbrev pub is_known : ℕ → Class → Bool
+is_known v c = not (v == 1) || not (has_both_pawns (lists_of c))
+
+abbrev pub IsVersionOf : Class → ℕ → Type 0
+IsVersionOf c v = (is_version v ≡ true) × (is_known v c ≡ true)
+
+-- the 32 fields of a header: the mark, the version, the cells of a page, the cells of the class, its name, 8 zero bytes
+unfoldable pub fields_text : Class → ℕ → List ℕ
+fields_text c v =
+    codes "STUDYDTM" ++ little_bytes 2 v ++ little_bytes 2 4096 ++ little_bytes 4 (cells_of c) ++ class_field c ++ replicate 8 0
 
 -- a header: its fields and their digest
-unfoldable pub header_text : Class → List ℕ
-header_text c = fields_text c ++ sha256 (fields_text c)
+unfoldable pub header_text : Class → ℕ → List ℕ
+header_text c v = fields_text c v ++ sha256 (fields_text c v)
 
 -- the cells of a page, with zero bytes after the last cell
 unfoldable pub page_cells_of : List ℕ → List ℕ
@@ -41,6 +55,6 @@ pages_text fields n (suc k) cells = page_text fields n (page_cells_of cells) ++ 
 unfoldable pub pages_of : Class → ℕ
 pages_of c = (cells_of c + 4095) / 4096
 
--- the text of a table: a header, and then all pages
-unfoldable pub table_text : Table → List ℕ
-table_text t = header_text t.class ++ pages_text (fields_text t.class) 0 (pages_of t.class) t.cells
+-- the text of a table in a version: a header, and then all pages
+unfoldable pub table_text : Table → ℕ → List ℕ
+table_text t v = header_text t.class v ++ pages_text (fields_text t.class v) 0 (pages_of t.class) t.cells

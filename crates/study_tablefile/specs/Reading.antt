@@ -4,29 +4,33 @@ use Rattle.std.specs.Str.{bytes_eq}
 use Rattle.sha2.specs.Sha256.{sha256}
 use Rattle.byteorder.specs.Endian.{little_number}
 use Rattle.study_material.specs.declared.class.Class.{Class}
-use Rattle.study_material.specs.Class.{class_list, is_left_out}
+use Rattle.study_material.specs.Class.{class_list}
 use Rattle.study_index.specs.Number.{cells_of}
 use Rattle.study_retro.specs.Table.{Table}
 use Rattle.study_tablefile.specs.declared.fault.FileFault.{FileFault}
 use Rattle.study_tablefile.specs.declared.fault.FileFault.TheVariants.{Cut, NotATable, Version, ClassUnknown, HeaderDamaged, PageDamaged, Padding, TrailingBytes}
-use Rattle.study_tablefile.specs.File.{class_field, fields_text, page_digest, pages_of}
+use Rattle.study_tablefile.specs.File.{class_field, is_version, is_known, fields_text, page_digest, pages_of}
 
--- the class with tables that is written in 8 bytes, if there is one
-unfoldable pub class_named : List ℕ → Option Class
-class_named field = find (λ c. not (is_left_out c) && bytes_eq field (class_field c)) class_list
+-- the class of files of the version that is written in 8 bytes, if there is one
+unfoldable pub class_named : ℕ → List ℕ → Option Class
+class_named v field = find (λ c. is_known v c && bytes_eq field (class_field c)) class_list
 
 -- the header against that of its class: the fields, and their digest
-abbrev pub class_checked : List ℕ → Option Class → Result Class FileFault
-class_checked header None = Err ClassUnknown
-class_checked header (Some c) =
-    if bytes_eq (take 32 header) (fields_text c) && bytes_eq (take 32 (drop 32 header)) (sha256 (fields_text c)) then Ok c else Err HeaderDamaged
+abbrev pub class_checked : ℕ → List ℕ → Option Class → Result Class FileFault
+class_checked v header None = Err ClassUnknown
+class_checked v header (Some c) =
+    if bytes_eq (take 32 header) (fields_text c v) && bytes_eq (take 32 (drop 32 header)) (sha256 (fields_text c v)) then Ok c else Err HeaderDamaged
 
--- the class of a header: its mark, its version, its class, and all that follows from the class
+-- the version of a header
+abbrev pub version_of : List ℕ → ℕ
+version_of header = little_number 2 (drop 8 header)
+
+-- the class of a header: its mark, its version, its class, and all that follows from these
 unfoldable pub class_read : List ℕ → Result Class FileFault
 class_read header =
     if not (bytes_eq (take 8 header) (codes "STUDYDTM")) then Err NotATable
-    else if not (little_number 2 (drop 8 header) == 1) then Err (Version (little_number 2 (drop 8 header)))
-    else class_checked header (class_named (take 8 (drop 16 header)))
+    else if not (is_version (version_of header)) then Err (Version (version_of header))
+    else class_checked (version_of header) header (class_named (version_of header) (take 8 (drop 16 header)))
 
 -- what is wrong with the page that begins the bytes
 unfoldable pub page_fault : List ℕ → ℕ → List ℕ → Option FileFault
@@ -48,19 +52,19 @@ unless (Some fault) answer = Err fault
 unless None answer = answer
 
 -- so many pages from page n on, behind the cells of the pages before them
-abbrev pub pages_read : Class → ℕ → ℕ → List ℕ → List ℕ → Result Table FileFault
-pages_read c n zero cells bytes = table_end c cells bytes
-pages_read c n (suc k) cells bytes =
-    unless (page_fault (fields_text c) n bytes) (pages_read c (n + 1) k (cells ++ take 4096 bytes) (drop 4128 bytes))
+abbrev pub pages_read : Class → ℕ → ℕ → ℕ → List ℕ → List ℕ → Result Table FileFault
+pages_read c v n zero cells bytes = table_end c cells bytes
+pages_read c v n (suc k) cells bytes =
+    unless (page_fault (fields_text c v) n bytes) (pages_read c v (n + 1) k (cells ++ take 4096 bytes) (drop 4128 bytes))
 
--- the pages behind a header
-abbrev pub table_behind : Result Class FileFault → List ℕ → Result Table FileFault
-table_behind (Err fault) bytes = Err fault
-table_behind (Ok c) bytes = pages_read c 0 (pages_of c) [] bytes
+-- the pages behind a header of a version
+abbrev pub table_behind : ℕ → Result Class FileFault → List ℕ → Result Table FileFault
+table_behind v (Err fault) bytes = Err fault
+table_behind v (Ok c) bytes = pages_read c v 0 (pages_of c) [] bytes
 
 -- the table that the bytes are the text of, or the first fault
 unfoldable pub table_read : List ℕ → Result Table FileFault
-table_read bytes = if nat_lt (length bytes) 64 then Err Cut else table_behind (class_read (take 64 bytes)) (drop 64 bytes)
+table_read bytes = if nat_lt (length bytes) 64 then Err Cut else table_behind (version_of (take 64 bytes)) (class_read (take 64 bytes)) (drop 64 bytes)
 
 -- fewer bytes than these are left, where that is known
 abbrev pub IsShort : Option (List ℕ) → ℕ → Type 0

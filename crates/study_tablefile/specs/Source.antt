@@ -14,9 +14,9 @@ is_whole_page fields cells n page =
     bytes_eq (take 32 (drop 4096 page)) (page_digest fields n (take 4096 page))
     && bytes_eq (places_behind cells n page) (replicate (length (places_behind cells n page)) 0)
 
--- page n of the file of a table
-abbrev pub page_of : Table → ℕ → List ℕ
-page_of t n = page_text (fields_text t.class) n (page_cells_of (drop (4096 * n) t.cells))
+-- page n of the file of a table in a version
+abbrev pub page_of : Table → ℕ → ℕ → List ℕ
+page_of t v n = page_text (fields_text t.class v) n (page_cells_of (drop (4096 * n) t.cells))
 
 -- one more, up to the last value of a count
 abbrev pub counted : ℕ → ℕ

@@ -1,5 +1,5 @@
 //! A reader and a writer in memory that go byte by byte and fail where a test wants it.
-ghost use Rattle.std.specs.Prelude.{◌≡◌, ◌<◌, ◌↔◌, [], Some, length, take, drop, vec_len, ◌≤◌, ◌⊎◌, IsOk, IsErr, IsErrOf, IfOk, IfErr, OnOk, OnErr, ◌≢◌, ◌+◌, ◌*◌};
+ghost use Rattle.std.specs.Prelude.{◌≡◌, ℕ, ◌<◌, ◌↔◌, [], Some, length, take, drop, vec_len, ◌≤◌, ◌⊎◌, IsOk, IsErr, IsErrOf, IfOk, IfErr, OnOk, OnErr, ◌≢◌, ◌+◌, ◌*◌};
 ghost use Rattle.study_tablefile.specs.Source.{counted, page_of};
 ghost use Rattle.study_tablefile.specs.File.{header_text, pages_of, table_text};
 ghost use Rattle.study_retro.specs.Table.{Table as Seen};
@@ -194,13 +194,13 @@ fn page_start(n: u32) -> usize
 }
 
 impl<'a> PageSource for MemorySource<'a> {
-    ghost honest = { λ s t. s.text.now ≡ table_text t };
+    ghost honest = { λ s t v. s.text.now ≡ table_text t v };
 
     ghost failed = { λ s. s.failures };
 
     #[tactic(auto, using(crate::proofs::Again::header_given))]
     fn header(&mut self, into: &mut [u8; 64]) -> Result<(), SourceFault>
-        ensures ok { (t : Seen) → self.old.text.now ≡ table_text t → OnOk result (into.new ≡ header_text t.class) }
+        ensures ok { (t : Seen) (v : ℕ) → self.old.text.now ≡ table_text t v → OnOk result (into.new ≡ header_text t.class v) }
         ensures text { self.new.text.now ≡ self.old.text.now }
         ensures plan { self.new.fails_at ≡ self.old.fails_at }
         ensures asked { self.new.asked ≡ counted self.old.asked }
@@ -213,7 +213,7 @@ impl<'a> PageSource for MemorySource<'a> {
     }
 
     fn page(&mut self, n: u32, into: &mut [u8; 4128]) -> Result<(), SourceFault>
-        ensures ok { (t : Seen) → self.old.text.now ≡ table_text t → n < pages_of t.class → OnOk result (into.new ≡ page_of t n) }
+        ensures ok { (t : Seen) (v : ℕ) → self.old.text.now ≡ table_text t v → n < pages_of t.class → OnOk result (into.new ≡ page_of t v n) }
         ensures text { self.new.text.now ≡ self.old.text.now }
         ensures plan { self.new.fails_at ≡ self.old.fails_at }
         ensures asked { self.new.asked ≡ counted self.old.asked }

@@ -1,12 +1,11 @@
 //! Table files read from front to back.
-ghost use Rattle.std.specs.Prelude.{◌≡◌, ◌<◌, ◌≤◌, ◌⊎◌, ◌&&◌, not, ◌+◌, ◌*◌, ℕ, List, [], ◌++◌, false, Some, None, Ok, Err, length, take, drop, replicate, OnOk, IfOk, IfErr, vec_len, vec_capacity};
+ghost use Rattle.std.specs.Prelude.{◌≡◌, ◌<◌, ◌≤◌, ◌⊎◌, ◌&&◌, ◌+◌, ◌*◌, ℕ, List, [], ◌++◌, false, Some, None, Ok, Err, length, take, drop, replicate, OnOk, IfOk, IfErr, vec_len, vec_capacity};
 ghost use Rattle.sha2.specs.Sha256.{sha256};
 ghost use Rattle.std.specs.Str.{bytes_eq};
 ghost use Rattle.std.specs.Io.KnownBytes.{Consumes};
-ghost use Rattle.study_material.specs.Class.{is_left_out};
 ghost use Rattle.study_index.specs.Number.{cells_of};
-ghost use Rattle.study_tablefile.specs.File.{class_field, fields_text, page_digest, pages_of, table_text};
-ghost use Rattle.study_tablefile.specs.Reading.{class_named, class_read, page_fault, table_end, pages_read, table_read, IsShort, HasHeader};
+ghost use Rattle.study_tablefile.specs.File.{is_known, IsVersionOf, class_field, fields_text, page_digest, pages_of, table_text};
+ghost use Rattle.study_tablefile.specs.Reading.{class_named, version_of, class_read, page_fault, table_end, pages_read, table_read, IsShort, HasHeader};
 ghost use Rattle.study_tablefile.specs.declared.fault.FileFault.TheVariants.{Cut, Device, OutOfMemory, TrailingBytes};
 
 use crate::fault::FileFault;
@@ -35,57 +34,72 @@ fn fill<R: Read>(input: &mut R, buf: &mut [u8]) -> Result<(), FileFault>
     Ok(())
 }
 
-/// Whether the class has tables, and this is its name in the field of a header.
-fn is_named(field: &[u8], class: Class) -> bool
-    ensures { result ≡ (not (is_left_out class) && bytes_eq field.now (class_field class)) }
+/// Whether files of a version can be of the class.
+fn is_known(version: u16, class: Class) -> bool
+    ensures { result ≡ is_known version class }
+{
+    match class {
+        Class::KPKP => version != 1,
+        _ => true,
+    }
+}
+
+/// Whether files of the version can be of the class, and this is its name in the field of a header.
+fn is_named(version: u16, field: &[u8], class: Class) -> bool
+    ensures { result ≡ (is_known version class && bytes_eq field.now (class_field class)) }
 {
     let name = class_field(class);
-    !class.left_out() && field == name.as_slice()
+    is_known(version, class) && field == name.as_slice()
 }
 
 /// The class that is written in the field of a header.
 #[tactic(auto, unfolding(crate::specs::Reading::class_named))]
-fn class_of_field(field: &[u8]) -> Option<Class>
-    ensures { result ≡ class_named field.now }
+fn class_of_field(version: u16, field: &[u8]) -> Option<Class>
+    ensures { result ≡ class_named version field.now }
 {
     for class in Class::all() {
-        if is_named(field, *class) {
+        if is_named(version, field, *class) {
             return Some(*class);
         }
     }
     None
 }
 
-/// Whether the bytes are the fields of a class and their digest.
-fn is_header(bytes: &[u8; 64], class: Class) -> bool
-    requires { is_left_out class ≡ false }
-    ensures { result ≡ (bytes_eq (take 32 bytes.now) (fields_text class) && bytes_eq (take 32 (drop 32 bytes.now)) (sha256 (fields_text class))) }
+/// Whether the bytes are the fields of a class in a version, and their digest.
+fn is_header(bytes: &[u8; 64], class: Class, version: u16) -> bool
+    ensures { result ≡ (bytes_eq (take 32 bytes.now) (fields_text class version) && bytes_eq (take 32 (drop 32 bytes.now)) (sha256 (fields_text class version))) }
 {
-    let fields = fields(class);
+    let fields = fields(class, version);
     let digest = digest(fields.as_slice());
     let front = &bytes[..32];
     let back = &bytes[32..];
     front == fields.as_slice() && back == digest.as_slice()
 }
 
+/// The version of a header.
+pub fn version_of(header: &[u8; 64]) -> u16
+    ensures { result ≡ version_of header.now }
+{
+    LittleEndian::read_u16(&header[8..])
+}
+
 /// The class of a header.
 #[tactic(auto, unfolding(crate::specs::Reading::class_read))]
 pub fn read_class(header: &[u8; 64]) -> Result<Class, FileFault>
     ensures read { result ≡ class_read header.now }
-    ensures admitted { IfOk result (λ c. is_left_out c ≡ false) }
 {
     let mark = &header[..8];
     if mark != b"STUDYDTM".as_slice() {
         return Err(FileFault::NotATable);
     }
-    let version = LittleEndian::read_u16(&header[8..]);
-    if version != 1 {
+    let version = version_of(header);
+    if version != 1 && version != 2 {
         return Err(FileFault::Version(version));
     }
-    match class_of_field(&header[16..24]) {
+    match class_of_field(version, &header[16..24]) {
         None => Err(FileFault::ClassUnknown),
         Some(class) => {
-            if is_header(header, class) {
+            if is_header(header, class, version) {
                 Ok(class)
             } else {
                 Err(FileFault::HeaderDamaged)
@@ -134,20 +148,20 @@ fn read_page<'a, A: Allocator, R: Read>(
     Ok(())
 }
 
-/// Reads all pages of a class.
+/// Reads all pages of a class in a version.
 fn read_pages<'a, A: Allocator, R: Read>(
     input: &mut R,
     class: Class,
+    version: u16,
     cells: &mut Vec<u8, &'a A>,
 ) -> Result<(), FileFault>
-    requires admitted { is_left_out class ≡ false }
     requires empty { vec_len cells.old ≡ 0 }
     requires room { 4096 * pages_of class ≤ vec_capacity cells.old }
     ensures len { OnOk result (vec_len cells.new ≡ 4096 * pages_of class) }
-    ensures ok { (bytes : List ℕ) → R.remaining input.old ≡ Some bytes → OnOk result ((rest : List ℕ) × (R.remaining input.new ≡ Some rest) × (pages_read class 0 (pages_of class) [] bytes ≡ table_end class cells.new.items rest)) }
-    ensures fault { (bytes : List ℕ) → R.remaining input.old ≡ Some bytes → IfErr result (λ e. (e ≡ Device) ⊎ (pages_read class 0 (pages_of class) [] bytes ≡ Err e)) }
+    ensures ok { (bytes : List ℕ) → R.remaining input.old ≡ Some bytes → OnOk result ((rest : List ℕ) × (R.remaining input.new ≡ Some rest) × (pages_read class version 0 (pages_of class) [] bytes ≡ table_end class cells.new.items rest)) }
+    ensures fault { (bytes : List ℕ) → R.remaining input.old ≡ Some bytes → IfErr result (λ e. (e ≡ Device) ⊎ (pages_read class version 0 (pages_of class) [] bytes ≡ Err e)) }
 {
-    let fields = fields(class);
+    let fields = fields(class, version);
     let count = pages(class);
     let mut number = 0u32;
     while number < count {
@@ -187,7 +201,6 @@ fn finish<'a, A: Allocator, R: Read>(
     class: Class,
     mut all: Vec<u8, &'a A>,
 ) -> Result<Table<'a, A>, FileFault>
-    requires admitted { is_left_out class ≡ false }
     requires enough { cells_of class ≤ vec_len all }
     requires full { vec_len all < cells_of class + 4096 }
     ensures ok { (bytes : List ℕ) → R.remaining input.old ≡ Some bytes → IfOk result (λ t. table_end class all.entry.items bytes ≡ Ok t) }
@@ -209,18 +222,19 @@ pub fn read_table<'a, A: Allocator, R: Read>(
     alloc: &'a A,
     input: &mut R,
 ) -> Result<Table<'a, A>, FileFault>
-    ensures text { (bytes : List ℕ) → R.remaining input.old ≡ Some bytes → IfOk result (λ t. bytes ≡ table_text t) }
+    ensures text { (bytes : List ℕ) → R.remaining input.old ≡ Some bytes → IfOk result (λ t. (v : ℕ) × IsVersionOf t.class v × (bytes ≡ table_text t v)) }
     ensures ok { (bytes : List ℕ) → R.remaining input.old ≡ Some bytes → IfOk result (λ t. table_read bytes ≡ Ok t) }
     ensures fault { (bytes : List ℕ) → R.remaining input.old ≡ Some bytes → IfErr result (λ e. (e ≡ Device) ⊎ ((e ≡ OutOfMemory) × HasHeader bytes) ⊎ (table_read bytes ≡ Err e)) }
 {
     let mut header = [0; 64];
     fill(input, &mut header)?;
     let class = read_class(&header)?;
+    let version = version_of(&header);
     let room = pages(class) as usize * 4096;
     let mut all = match Vec::with_capacity(alloc, room) {
         Ok(all) => all,
         Err(_) => return Err(FileFault::OutOfMemory),
     };
-    read_pages(input, class, &mut all)?;
+    read_pages(input, class, version, &mut all)?;
     finish(input, class, all)
 }

@@ -1,14 +1,13 @@
 //! Pages of tables, read one by one.
-ghost use Rattle.std.specs.Prelude.{◌≡◌, ◌<◌, ℕ, false, OnOk, OnErr, IfOk, IfErr, Ok, Err};
-ghost use Rattle.study_material.specs.Class.{is_left_out};
+ghost use Rattle.std.specs.Prelude.{◌≡◌, ◌<◌, ℕ, OnOk, OnErr, IfOk, IfErr, Ok, Err};
 ghost use Rattle.study_index.specs.Number.{cells_of};
 ghost use Rattle.study_retro.specs.Table.{Table as Seen};
-ghost use Rattle.study_tablefile.specs.File.{fields_text, header_text, pages_of};
-ghost use Rattle.study_tablefile.specs.Reading.{class_read};
+ghost use Rattle.study_tablefile.specs.File.{IsVersionOf, fields_text, header_text, pages_of};
+ghost use Rattle.study_tablefile.specs.Reading.{version_of, class_read};
 ghost use Rattle.study_tablefile.specs.Source.{counted, is_whole_page, page_of};
 
 use crate::fault::{FileFault, SourceFault};
-use crate::reading::{cells_of_page, is_padding, is_page, read_class};
+use crate::reading::{cells_of_page, is_padding, is_page, read_class, version_of};
 use crate::text::fields;
 use study_index::cells;
 use study_material::Class;
@@ -28,18 +27,19 @@ pub struct Header {
 /// The header that the bytes are, or its first fault.
 pub fn read_header(bytes: &[u8; 64]) -> Result<Header, FileFault>
     ensures class { IfOk result (λ h. class_read bytes.now ≡ Ok h.class) }
-    ensures admitted { IfOk result (λ h. is_left_out h.class ≡ false) }
-    ensures version { IfOk result (λ h. h.version ≡ 1) }
+    ensures version { IfOk result (λ h. h.version ≡ version_of bytes.now) }
+    ensures known { IfOk result (λ h. IsVersionOf h.class h.version) }
     ensures cells { IfOk result (λ h. h.cells ≡ cells_of h.class) }
-    ensures fields { IfOk result (λ h. h.fields ≡ fields_text h.class) }
+    ensures fields { IfOk result (λ h. h.fields ≡ fields_text h.class h.version) }
     ensures fault { IfErr result (λ e. class_read bytes.now ≡ Err e) }
 {
     let class = read_class(bytes)?;
+    let version = version_of(bytes);
     Ok(Header {
         class,
-        version: 1,
+        version,
         cells: cells(class),
-        fields: fields(class),
+        fields: fields(class, version),
     })
 }
 
@@ -55,24 +55,24 @@ pub fn page_cells(header: &Header, number: u32, page: &[u8; 4128]) -> bool
 
 /// Where the pages of a table come from.
 pub trait PageSource: Drop {
-    /// Each answer, now and after any calls, gives the bytes of the file of this table.
-    ghost honest: { Self → Seen → Type 0 };
+    /// Each answer, now and after any calls, gives the bytes of the file of this table in this version.
+    ghost honest: { Self → Seen → ℕ → Type 0 };
 
     ghost failed: { Self → ℕ };
 
     /// The header of the file.
     fn header(&mut self, into: &mut [u8; 64]) -> Result<(), SourceFault>
-        ensures ok { (t : Seen) → honest self.old t → OnOk result (into.new ≡ header_text t.class) }
-        ensures stays { (t : Seen) → honest self.old t → honest self.new t }
-        ensures back { (t : Seen) → honest self.new t → honest self.old t }
+        ensures ok { (t : Seen) (v : ℕ) → honest self.old t v → OnOk result (into.new ≡ header_text t.class v) }
+        ensures stays { (t : Seen) (v : ℕ) → honest self.old t v → honest self.new t v }
+        ensures back { (t : Seen) (v : ℕ) → honest self.new t v → honest self.old t v }
         ensures no_failure { OnOk result (failed self.new ≡ failed self.old) }
         ensures failure { OnErr result (failed self.new ≡ counted (failed self.old)) };
 
     /// A page of the file, counted from 0.
     fn page(&mut self, n: u32, into: &mut [u8; 4128]) -> Result<(), SourceFault>
-        ensures ok { (t : Seen) → honest self.old t → n < pages_of t.class → OnOk result (into.new ≡ page_of t n) }
-        ensures stays { (t : Seen) → honest self.old t → honest self.new t }
-        ensures back { (t : Seen) → honest self.new t → honest self.old t }
+        ensures ok { (t : Seen) (v : ℕ) → honest self.old t v → n < pages_of t.class → OnOk result (into.new ≡ page_of t v n) }
+        ensures stays { (t : Seen) (v : ℕ) → honest self.old t v → honest self.new t v }
+        ensures back { (t : Seen) (v : ℕ) → honest self.new t v → honest self.old t v }
         ensures no_failure { OnOk result (failed self.new ≡ failed self.old) }
         ensures failure { OnErr result (failed self.new ≡ counted (failed self.old)) };
 

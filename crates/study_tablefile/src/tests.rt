@@ -18,7 +18,6 @@ use study_retro::Table;
 
 /// A table of zero cells.
 fn zero_table<'a, A: Allocator>(rt: &impl Abort, alloc: &'a A, class: Class) -> Table<'a, A> {
-    assert!(rt; !class.left_out());
     let zeros = vec![in alloc; 0u8; cells(class) as usize]
         .ok()
         .expect(rt, "cells");
@@ -39,7 +38,82 @@ fn fields_of_krk(rt: HostRuntime) {
     assert_eq!(rt; write_table(&table, &mut writer), Err(FileFault::Device));
     assert_eq!(rt;
         writer.taken.as_slice(),
-        b"STUDYDTM\x01\x00\x00\x10\x00\x40\x01\x00KRK\x00\x00\x00\x00\x00\x00\x00\x00\x00\x00\x00\x00\x00".as_slice()
+        b"STUDYDTM\x02\x00\x00\x10\x00\x40\x01\x00KRK\x00\x00\x00\x00\x00\x00\x00\x00\x00\x00\x00\x00\x00".as_slice()
+    );
+}
+
+/// The fields of the file of KPKP.
+#[test]
+fn fields_of_kpkp(rt: HostRuntime) {
+    assert_eq!(rt;
+        fields(Class::KPKP, 2).as_slice(),
+        b"STUDYDTM\x02\x00\x00\x10\x00\x00\x00\x02KPKP\x00\x00\x00\x00\x00\x00\x00\x00\x00\x00\x00\x00".as_slice()
+    );
+}
+
+/// The header of a class in a version.
+fn header_of<'a, A: Allocator>(
+    rt: &impl Abort,
+    alloc: &'a A,
+    class: Class,
+    version: u16,
+) -> Vec<u8, &'a A> {
+    let fields = fields(class, version);
+    let mut writer = MemoryWriter::new(alloc);
+    for part in [fields.as_slice(), digest(fields.as_slice()).as_slice()] {
+        assert!(rt; put(&mut writer, part).is_ok());
+    }
+    writer.taken
+}
+
+/// A pawn against a pawn is known from version 2 on; of the other classes both versions are read.
+#[test]
+fn versions_of_headers(rt: HostRuntime) {
+    let alloc = rt.alloc();
+    for (class, version, want) in [
+        (Class::KPKP, 1, FileFault::ClassUnknown),
+        (Class::KPKP, 2, FileFault::Cut),
+        (Class::KPKP, 3, FileFault::Version(3)),
+        (Class::KQKP, 1, FileFault::Cut),
+        (Class::KRK, 0, FileFault::Version(0)),
+    ] {
+        let text = header_of(&rt, &alloc, class, version);
+        assert_eq!(rt; fault(&alloc, text.as_slice()), Some(want), "{version}");
+    }
+}
+
+/// A page of KK as files of version 1 have it, behind a header of a version.
+fn first_page_behind<'a, A: Allocator>(
+    rt: &impl Abort,
+    alloc: &'a A,
+    version: u16,
+) -> Vec<u8, &'a A> {
+    let page = [0u8; 4096];
+    let mut writer = MemoryWriter::new(alloc);
+    let header = header_of(rt, alloc, Class::KK, version);
+    assert!(rt; put(&mut writer, header.as_slice()).is_ok());
+    assert!(rt; put(&mut writer, page.as_slice()).is_ok());
+    let digest = page_digest(&fields(Class::KK, 1), 0, page.as_slice());
+    assert!(rt; put(&mut writer, digest.as_slice()).is_ok());
+    writer.taken
+}
+
+/// A text of version 1 is read, and what is read is written in version 2. Its pages do not pass under a header of version 2.
+#[test]
+fn first_version_is_read(rt: HostRuntime) {
+    let alloc = rt.alloc();
+    let text = first_page_behind(&rt, &alloc, 1);
+    let table = read_table(&alloc, &mut MemoryReader::new(text.as_slice()))
+        .ok()
+        .expect(&rt, "read");
+    let mut again = MemoryWriter::new(&alloc);
+    assert_eq!(rt; write_table(&table, &mut again), Ok(()));
+    let written = text_of_kk(&rt, &alloc);
+    assert!(rt; again.taken.as_slice() == written.as_slice());
+    let mixed = first_page_behind(&rt, &alloc, 2);
+    assert_eq!(rt;
+        fault(&alloc, mixed.as_slice()),
+        Some(FileFault::PageDamaged(0))
     );
 }
 
@@ -67,8 +141,8 @@ fn bytes_of_files(rt: HostRuntime) {
         (Class::KPK, 264_256),
         (Class::KBBK, 5_283_904),
         (Class::KQKP, 16_908_352),
+        (Class::KPKP, 33_816_640),
     ] {
-        assert!(rt; !class.left_out());
         assert_eq!(rt; file_bytes(class), bytes);
     }
 }
@@ -111,8 +185,8 @@ fn damage_is_named(rt: HostRuntime) -> Result<(), Fail> {
     for place in 0..4192usize {
         for bit in [1u8, 2, 4, 8, 16, 32, 64, 128] {
             let version = match place {
-                8 => 1 ^ bit as u16,
-                _ => 1 + 256 * bit as u16,
+                8 => 2 ^ bit as u16,
+                _ => 2 + 256 * bit as u16,
             };
             turn(text.as_mut_slice(), place, bit);
             let want = fault_of_place(place, version);
@@ -183,7 +257,7 @@ fn padding_is_looked_at(rt: HostRuntime) {
     let alloc = rt.alloc();
     let mut page = [0u8; 4096];
     page[2000] = 1;
-    let fields = fields(Class::KK);
+    let fields = fields(Class::KK, 2);
     let mut writer = MemoryWriter::new(&alloc);
     for part in [
         fields.as_slice(),
@@ -204,16 +278,18 @@ fn padding_is_looked_at(rt: HostRuntime) {
 fn headers_are_looked_at_in_order(rt: HostRuntime) {
     let alloc = rt.alloc();
     for (changes, want) in [
-        ([(7usize, 0u8), (8, 2)], FileFault::NotATable),
-        ([(8, 2), (16, 0)], FileFault::Version(2)),
-        ([(9, 1), (10, 1)], FileFault::Version(257)),
-        ([(17, b'P'), (19, b'P')], FileFault::ClassUnknown),
+        ([(7usize, 0u8), (8, 9)], FileFault::NotATable),
+        ([(8, 9), (16, 0)], FileFault::Version(9)),
+        ([(9, 1), (10, 1)], FileFault::Version(258)),
+        ([(17, b'P'), (19, b'P')], FileFault::HeaderDamaged),
         ([(16, b'k'), (12, 1)], FileFault::ClassUnknown),
+        ([(8, 1), (24, 1)], FileFault::HeaderDamaged),
+        ([(8, 1), (8, 1)], FileFault::Cut),
         ([(10, 1), (10, 1)], FileFault::HeaderDamaged),
         ([(12, 1), (13, 0x40)], FileFault::HeaderDamaged),
         ([(24, 1), (31, 0)], FileFault::HeaderDamaged),
     ] {
-        let mut fields = fields(Class::KRK);
+        let mut fields = fields(Class::KRK, 2);
         for (place, byte) in changes {
             if let Some(field) = fields.as_mut_slice().get_mut(place) {
                 *field = byte;

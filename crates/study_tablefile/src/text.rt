@@ -1,12 +1,11 @@
 //! The text of a table file, and the tables that are written as one.
-ghost use Rattle.std.specs.Prelude.{◌≡◌, ◌<◌, ◌≤◌, false, OnOk, OnErr, IfErr, length};
+ghost use Rattle.std.specs.Prelude.{◌≡◌, ◌<◌, ◌≤◌, ℕ, OnOk, OnErr, IfErr, length};
 ghost use Rattle.std.specs.Prelude.{◌+◌, ◌*◌};
 ghost use Rattle.sha2.specs.Sha256.{sha256};
 ghost use Rattle.std.specs.Io.KnownBytes.{Appends};
-ghost use Rattle.study_material.specs.Class.{is_left_out};
 ghost use Rattle.study_retro.specs.Table.{Table as Seen};
 ghost use Rattle.study_tablefile.specs.Taken.{TakesPrefix};
-ghost use Rattle.study_tablefile.specs.File.{class_field, fields_text, header_text, page_cells_of, page_digest, page_text, pages_of, table_text};
+ghost use Rattle.study_tablefile.specs.File.{written_version, class_field, fields_text, header_text, page_cells_of, page_digest, page_text, pages_of, table_text};
 ghost use Rattle.study_tablefile.specs.declared.fault.FileFault.TheVariants.{Device};
 
 use crate::fault::{DeviceFailed, FileFault};
@@ -33,15 +32,17 @@ pub fn class_field(class: Class) -> [u8; 8]
     out
 }
 
-/// The first 32 bytes of the file of a class.
+/// The version of the files that are written.
+pub const VERSION: u16 = 2;
+
+/// The first 32 bytes of the file of a class in a version.
 #[tactic(auto, unfolding(crate::specs::File::fields_text))]
-pub fn fields(class: Class) -> [u8; 32]
-    requires { is_left_out class ≡ false }
-    ensures { result ≡ fields_text class }
+pub fn fields(class: Class, version: u16) -> [u8; 32]
+    ensures { result ≡ fields_text class version }
 {
     let mut out = [0; 32];
     out[..8].copy_from_slice(b"STUDYDTM");
-    LittleEndian::write_u16(&mut out[8..], 1);
+    LittleEndian::write_u16(&mut out[8..], version);
     LittleEndian::write_u16(&mut out[10..], 4096);
     LittleEndian::write_u32(&mut out[12..], cells(class));
     out[16..24].copy_from_slice(class_field(class).as_slice());
@@ -85,11 +86,10 @@ fn page_cells(cells: &[u8]) -> [u8; 4096]
 /// Writes a header: the fields of the class and their digest.
 #[tactic(auto, unfolding(crate::specs::File::header_text))]
 fn put_header<W: Write>(out: &mut W, class: Class) -> Result<(), DeviceFailed>
-    requires { is_left_out class ≡ false }
-    ensures ok { OnOk result (Appends (W.contents out.old) (W.contents out.new) (header_text class)) }
-    ensures err { OnErr result (TakesPrefix (W.contents out.old) (W.contents out.new) (header_text class)) }
+    ensures ok { OnOk result (Appends (W.contents out.old) (W.contents out.new) (header_text class written_version)) }
+    ensures err { OnErr result (TakesPrefix (W.contents out.old) (W.contents out.new) (header_text class written_version)) }
 {
-    let fields = fields(class);
+    let fields = fields(class, VERSION);
     put(out, fields.as_slice())?;
     put(out, digest(fields.as_slice()).as_slice())
 }
@@ -117,7 +117,6 @@ fn put_page<W: Write>(
 /// How many pages a class has.
 #[tactic(auto, using(crate::proofs::Bounds::few_cells), unfolding(crate::specs::File::pages_of))]
 pub fn pages(class: Class) -> u32
-    requires { is_left_out class ≡ false }
     ensures { result ≡ pages_of class }
 {
     (cells(class) + 4095) / 4096
@@ -126,9 +125,8 @@ pub fn pages(class: Class) -> u32
 /// How many bytes the file of a class has.
 #[tactic(auto, using(crate::proofs::Bounds::few_cells), unfolding(crate::specs::File::pages_of))]
 pub fn file_bytes(class: Class) -> u32
-    requires { is_left_out class ≡ false }
     ensures value { result ≡ 64 + 4128 * pages_of class }
-    ensures text { (t : Seen) → t.class ≡ class → length (table_text t) ≡ result }
+    ensures text { (t : Seen) (v : ℕ) → t.class ≡ class → length (table_text t v) ≡ result }
 {
     64 + 4128 * pages(class)
 }
@@ -138,13 +136,13 @@ pub fn write_table<'a, A: Allocator, W: Write>(
     table: &Table<'a, A>,
     out: &mut W,
 ) -> Result<(), FileFault>
-    ensures ok { OnOk result (Appends (W.contents out.old) (W.contents out.new) (table_text table.now)) }
-    ensures err { OnErr result (TakesPrefix (W.contents out.old) (W.contents out.new) (table_text table.now)) }
+    ensures ok { OnOk result (Appends (W.contents out.old) (W.contents out.new) (table_text table.now written_version)) }
+    ensures err { OnErr result (TakesPrefix (W.contents out.old) (W.contents out.new) (table_text table.now written_version)) }
     ensures fault { IfErr result (λ e. e ≡ Device) }
 {
     let class = table.class();
     put_header(out, class)?;
-    let fields = fields(class);
+    let fields = fields(class, VERSION);
     let mut rest = table.cells();
     let mut number = 0u32;
     while !rest.is_empty() {

@@ -50,7 +50,7 @@ fn ask_all<S: PageSource>(rt: &impl Abort, source: &mut S, fails_at: u32) {
         assert_eq!(rt; answer, Ok(()), "{question}");
         assert_eq!(rt; source.failures(), failures, "{question}");
         let header = read_header(&bytes).ok().expect(rt, "a header");
-        assert!(rt; header.class == Class::KRK && header.version == 1 && header.cells == 81_920);
+        assert!(rt; header.class == Class::KRK && header.version == 2 && header.cells == 81_920);
         assert!(rt;
             question == 0 || page_cells(&header, question - 1, &page),
             "{question}"

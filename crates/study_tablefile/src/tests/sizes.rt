@@ -43,3 +43,8 @@ fn four_men(rt: HostRuntime) {
 fn four_men_and_a_pawn_among_them(rt: HostRuntime) {
     comes_back(&rt, &rt.alloc(), Class::KPPK, 16_908_352);
 }
+
+#[test]
+fn a_pawn_against_a_pawn(rt: HostRuntime) {
+    comes_back(&rt, &rt.alloc(), Class::KPKP, 33_816_640);
+}

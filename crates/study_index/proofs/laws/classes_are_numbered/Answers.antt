@@ -7,12 +7,12 @@ use Rattle.study_index.proofs.Functions.{IsIndex-index_of, index_of-only, decode
 use Rattle.study_index.proofs.laws.classes_are_numbered.Goals as goal
 
 pub returns : goal.returns
-returns c = λ k kept. record {
+returns c = λ k. record {
   below = λ n q e. below k n q (told_decoded k n q e);
   decoded = λ n q e.
       let r = entry k n q (told_decoded k n q e) in
-      record { valid = r.valid; of_class = r.of_class; in_order = r.in_order; none_passed = r.none_passed; index = sym (index_of-only q n r.valid r.index) };
-  numbered = λ p v o. let r = numbered k p (index_of p) kept v o (IsIndex-index_of p v) in (r.0, decoded_told k (index_of p) r.0 r.1, r.2);
+      record { valid = r.valid; of_class = r.of_class; in_order = r.in_order; is_bare = r.is_bare; index = sym (index_of-only q n r.valid r.index) };
+  numbered = λ p v o. let r = numbered k p (index_of p) v o (IsIndex-index_of p v) in (r.0, decoded_told k (index_of p) r.0 r.1, r.2);
   back = λ p q h. alike_back k p q h;
   move = λ p q r h l. alike_move k p q r h l;
   mated = λ p q h mate. AreAlike-mated p q h.alike mate;

@@ -3,6 +3,8 @@ use Rattle.std.proofs.lemmas.List.{get_or-take}
 use Rattle.study_retro.specs.Cells.{value_of}
 use Rattle.study_prober.specs.Sources.{AreChecked}
 use Rattle.study_prober.proofs.Again.{put_or_not}
+use Rattle.study_tablefile.specs.Source.{page_of}
+use Rattle.study_prober.proofs.Cells.{cells_of_text}
 use Rattle.study_prober.proofs.Checked.{checked_page}
 use Rattle.study_prober.proofs.Faults.{passed_on}
 use Rattle.study_prober.proofs.held.read_value.Goals as goal
@@ -10,7 +12,9 @@ use Rattle.study_prober.proofs.held.read_value.Goals as goal
 pub returns-clause-ok : goal.returns-clause-ok
 returns-clause-ok g c = λ t honest same.
     let page = c.in_ok-page.ensures.ok t honest same in
-    c.value_at.ensures ∙ ap value_of (ap (λ (bytes : List ℕ). get_or bytes c.args.at 0) page ∙ sym (get_or-take 4096 _ c.args.at 0 c.requires.at))
+    let text = page_of t c.args.held.now.header.version c.args.key.number in
+    c.value_at.ensures ∙ ap value_of (ap (λ (bytes : List ℕ). get_or bytes c.args.at 0) page ∙ sym (get_or-take 4096 text c.args.at 0 c.requires.at)
+    ∙ ap (λ (cells : List ℕ). get_or cells c.args.at 0) (cells_of_text t c.args.held.now.header.version c.args.key.number))
 
 pub returns-clause-more : goal.returns-clause-more
 returns-clause-more g c = λ e h.
@@ -18,7 +22,7 @@ returns-clause-more g c = λ e h.
       | inl was ↦ inl was
       | inr new ↦ inr (
         new.0,
-        λ t honest same. new.1 ∙ ap (λ (bytes : List ℕ). take 4096 bytes) (c.in_ok-page.ensures.ok t honest same),
+        λ t honest same. new.1 ∙ ap (λ (bytes : List ℕ). take 4096 bytes) (c.in_ok-page.ensures.ok t honest same) ∙ cells_of_text t c.args.held.now.header.version c.args.key.number,
         subst (λ (xs : List ℕ). AreChecked c.args.held.now.header.class c.args.key.number xs) (sym new.1) (checked_page c.args.held.now.header c.args.key.number c.page.new.into c.requires.header c.in_ok-page.ensures.checked),
       )
     ]

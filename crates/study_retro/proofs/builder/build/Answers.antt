@@ -1,8 +1,7 @@
 use Rattle.std.proofs.Common.{◌≡◌, ◌∙◌, ℕ, Bool, true, false, not, List, ◌++◌, length, take, refl, sym, ap, subst}
 use Rattle.std.proofs.Math.Seq.{take-append_seam}
-use Rattle.std.specs.List.{All}
 use Rattle.study_retro.specs.Table.{Table}
-use Rattle.study_retro.specs.Report.{IsGreatest, win_of, loss_of, numbers_decoded}
+use Rattle.study_retro.specs.Report.{IsGreatest, win_of, loss_of}
 use Rattle.study_retro.proofs.ChessClass.{chess_class}
 use Rattle.study_retro.proofs.SetLemmas.{first_missing-none}
 use Rattle.study_retro.proofs.SoundLemmas.{outside_right, table_right, far-from}
@@ -22,29 +21,26 @@ written n xs zs e = subst (λ (m : ℕ). take m (xs ++ zs) ≡ xs) e (take-appen
 
 pub invariant_of-game : goal.invariant_of-game
 invariant_of-game g c = record {
-  admitted = c.requires.admitted;
   ready = first_missing-none c.args.tables.now _ (sym c.first_missing.ensures ∙ c.in_default.is);
   closed = c.table-held.ensures.closed;
 }
 
 pub fill-filled-requires-clause-laws : goal.fill-filled-requires-clause-laws
-fill-filled-requires-clause-laws g c = chess_class c.args.class c.args.tables.now c.requires.admitted c.table-held.ensures.closed
+fill-filled-requires-clause-laws g c = chess_class c.args.class c.args.tables.now c.table-held.ensures.closed
 
 pub returns-then-not-filled-clause-far : goal.returns-then-not-filled-clause-far
 returns-then-not-filled-clause-far g c = λ needs is.
     let held = c.args.tables.now in
     let ready = first_missing-none held _ (sym c.first_missing.ensures ∙ c.in_default.is) in
     let outer = outside_right held c.args.class c.table-held.ensures.closed ready needs in
-    let zero = subst (λ (xs : List ℕ). All (λ n. n ≡ 0) xs) (sym c.as_mut_slice.ensures.value) c.into_cells-cells.ensures.zero in
-    far-from c.args.class (c.fill-filled.ensures.far outer zero (unfit_where c.fill-filled.result.fits c.if-not-filled.true))
+    far-from c.args.class (c.fill-filled.ensures.far outer (unfit_where c.fill-filled.result.fits c.if-not-filled.true))
 
 pub returns-clause-right : goal.returns-clause-right
 returns-clause-right g c = λ needs.
     let held = c.args.tables.now in
     let ready = first_missing-none held _ (sym c.first_missing.ensures ∙ c.in_default.is) in
     let outer = outside_right held c.args.class c.table-held.ensures.closed ready needs in
-    let zero = subst (λ (xs : List ℕ). All (λ n. n ≡ 0) xs) (sym c.as_mut_slice.ensures.value) c.into_cells-cells.ensures.zero in
-    let right = c.fill-filled.ensures.right outer zero (fits_where c.fill-filled.result.fits c.if-not-filled.false) in
+    let right = c.fill-filled.ensures.right outer (fits_where c.fill-filled.result.fits c.if-not-filled.false) in
     table_right c.from_cells.result c.args.class c.fill-filled.new.cells (sym (ap (λ (t : Table). t.class) c.from_cells.ensures))
     (sym (ap (λ (t : Table). t.cells) c.from_cells.ensures ∙ written _ c.fill-filled.new.cells _ (c.fill-filled.auto.cells ∙ c.as_mut_slice.ensures.len))) right
 
@@ -57,9 +53,3 @@ pub returns-clause-deepest_loss : goal.returns-clause-deepest_loss
 returns-clause-deepest_loss g c =
     let same = c.as_slice.ensures.value ∙ sym (ap (λ (t : Table). t.cells) c.from_cells.ensures) in
     subst (λ (xs : List ℕ). IsGreatest loss_of xs c.greatest_distances-deepest.result.loss) same c.greatest_distances-deepest.ensures.loss
-
-pub returns-clause-examined : goal.returns-clause-examined
-returns-clause-examined g c =
-    let zero = subst (λ (xs : List ℕ). All (λ n. n ≡ 0) xs) (sym c.as_mut_slice.ensures.value) c.into_cells-cells.ensures.zero in
-    let same = ap (λ (t : Table). t.cells) c.from_cells.ensures ∙ written _ c.fill-filled.new.cells _ (c.fill-filled.auto.cells ∙ c.as_mut_slice.ensures.len) in
-    c.fill-filled.ensures.decoded zero (fits_where c.fill-filled.result.fits c.if-not-filled.false) ∙ sym (ap numbers_decoded same)

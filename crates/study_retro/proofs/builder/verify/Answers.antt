@@ -1,6 +1,5 @@
-use Rattle.std.proofs.Common.{◌≡◌, ◌∙◌, sym, ap, subst, false}
+use Rattle.std.proofs.Common.{sym, subst}
 use Rattle.study_material.specs.declared.class.Class.{Class}
-use Rattle.study_material.specs.Class.{is_left_out}
 use Rattle.study_retro.specs.Table.{IsReady}
 use Rattle.study_retro.specs.Sound.{NeedsAreRight}
 use Rattle.study_retro.proofs.ChessClass.{chess_class}
@@ -9,8 +8,7 @@ use Rattle.study_retro.proofs.builder.verify.Goals as goal
 
 pub are_right-requires-clause-laws : goal.are_right-requires-clause-laws
 are_right-requires-clause-laws g c =
-    let admitted : is_left_out c.class-class.result ≡ false = ap is_left_out c.class-class.ensures.value ∙ c.class-class.ensures.complete.admitted in
-    chess_class c.class-class.result c.args.tables.now admitted c.table-held.ensures.closed
+    chess_class c.class-class.result c.args.tables.now c.table-held.ensures.closed
 
 pub returns : goal.returns
 returns g c = λ needs.

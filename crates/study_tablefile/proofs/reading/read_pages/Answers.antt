@@ -9,7 +9,7 @@ returns-in_err-read_page-clause-fault g c bytes e =
     let more : pages_of c.args.class - c.loop-number.number ≡ suc (pages_of c.args.class - (c.loop-number.number + 1)) = omega (arith, c.pages-count.ensures, c.loop-number-test.true) in
     IfErr-given c.from_residual.result c.in_err-read_page.field-0.0 _ (search rules) (elim (c.in_err-read_page.ensures.fault rest now) [
       | inl device ↦ inl device
-      | inr fault ↦ inr (same ∙ pages_stop c.args.class c.loop-number.number _ _ _ _ rest _ c.fields-fields.ensures more fault)
+      | inr fault ↦ inr (same ∙ pages_stop c.args.class c.args.version c.loop-number.number _ _ _ _ rest _ c.fields-fields.ensures more fault)
     ])
 
 pub loop-number-preserved : goal.loop-number-preserved
@@ -22,5 +22,5 @@ loop-number-preserved g c =
       read = λ bytes e.
           let (rest, now, same) = c.loop-number.invariant.read bytes e in
           let page = c.in_ok-read_page.ensures.ok rest now in
-          (_, page.0, same ∙ pages_step c.args.class c.loop-number.number _ _ _ _ _ rest c.fields-fields.ensures more page.2 page.1);
+          (_, page.0, same ∙ pages_step c.args.class c.args.version c.loop-number.number _ _ _ _ _ rest c.fields-fields.ensures more page.2 page.1);
     }

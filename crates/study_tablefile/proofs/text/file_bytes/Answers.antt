@@ -3,4 +3,4 @@ use Rattle.study_tablefile.proofs.Again.{text_length}
 use Rattle.study_tablefile.proofs.text.file_bytes.Goals as goal
 
 pub returns-clause-text : goal.returns-clause-text
-returns-clause-text c t e = text_length t c.args.class e ∙ ap (λ (n : ℕ). 64 + 4128 * n) (sym c.pages.ensures)
+returns-clause-text c t v e = text_length t c.args.class v e ∙ ap (λ (n : ℕ). 64 + 4128 * n) (sym c.pages.ensures)

@@ -4,8 +4,8 @@ use Rattle.study_tablefile.proofs.memory.MemorySourcePageSource.TheImpl.Goals as
 pub header-tells : goal.header-tells
 header-tells g x c = record {
   ok = c.ensures.ok;
-  stays = λ t h. c.ensures.text ∙ h;
-  back = λ t h. sym c.ensures.text ∙ h;
+  stays = λ t v h. c.ensures.text ∙ h;
+  back = λ t v h. sym c.ensures.text ∙ h;
   no_failure = c.ensures.no_failure;
   failure = c.ensures.failure;
 }
@@ -13,8 +13,8 @@ header-tells g x c = record {
 pub page-tells : goal.page-tells
 page-tells g x c = record {
   ok = c.ensures.ok;
-  stays = λ t h. c.ensures.text ∙ h;
-  back = λ t h. sym c.ensures.text ∙ h;
+  stays = λ t v h. c.ensures.text ∙ h;
+  back = λ t v h. sym c.ensures.text ∙ h;
   no_failure = c.ensures.no_failure;
   failure = c.ensures.failure;
 }

@@ -1,0 +1,82 @@
+//! Captures in passing: whether one is legal, and the square that is passed.
+ghost use Rattle.std.specs.Prelude.{◌≡◌, ◌&&◌, ◌+◌, ◌-◌, find, Some, None};
+ghost use Rattle.study_moves.specs.Rules.{is_square, is_en_passant, is_legal};
+ghost use Rattle.study_moves.specs.Bare.{is_live, is_taken};
+ghost use Rattle.study_board.specs.Men.{is_man};
+ghost use Rattle.study_board.specs.declared.men.Kind.TheVariants.{Pawn};
+ghost use Rattle.study_index.specs.Decoded.{square_behind, behind};
+
+use study_board::{Kind, Man, Position, Side, Square};
+use study_moves::{Move, is_legal};
+
+#[inline]
+fn is_square(square: Option<Square>, x: Square) -> bool
+    ensures { result ≡ is_square square x }
+{
+    match square {
+        None => false,
+        Some(s) => s.number() == x.number(),
+    }
+}
+
+// Whether the man is a pawn that captures on the passed square by a legal move.
+#[inline]
+#[tactic(auto, unfolding(study_moves::specs::Rules::is_en_passant))]
+fn captures(p: &Position, man: &Man, x: Square) -> bool
+    ensures { result ≡ (is_en_passant p.now.passed man.now x && is_legal p.now (record { origin = man.now.at; target = x; promoted = None })) }
+{
+    man.kind.is(Kind::Pawn)
+        && !(man.at.file() == x.file())
+        && is_square(p.passed(), x)
+        && is_legal(
+            p,
+            Move {
+                origin: man.at,
+                target: x,
+                promoted: None,
+            },
+        )
+}
+
+// Whether some man captures on this passed square.
+fn is_taken(p: &Position, x: Square) -> bool
+    ensures { result ≡ is_taken p.now (Some x) }
+{
+    p.men().iter().any(|man| captures(p, man, x))
+}
+
+/// Whether a capture in passing is legal.
+#[inline]
+pub fn is_live(p: &Position) -> bool
+    ensures { result ≡ is_live p.now }
+{
+    match p.passed() {
+        None => false,
+        Some(x) => is_taken(p, x),
+    }
+}
+
+fn square_behind(side: Side, x: Square) -> u8
+    ensures { result ≡ square_behind side x }
+{
+    match side {
+        Side::White => x.number().saturating_sub(8),
+        Side::Black => x.number() + 8,
+    }
+}
+
+fn pawn_of(side: Side, men: &[Man]) -> Option<Man>
+    ensures { result ≡ find (λ m. is_man side Pawn m) men.now }
+{
+    men.iter().copied().find(|m| m.is(side, Kind::Pawn))
+}
+
+/// The square behind a pawn of the side, by its number, which can be off the board.
+pub fn behind(side: Side, men: &[Man]) -> Option<u8>
+    ensures { result ≡ behind side men.now }
+{
+    match pawn_of(side, men) {
+        None => None,
+        Some(m) => Some(square_behind(side, m.at)),
+    }
+}

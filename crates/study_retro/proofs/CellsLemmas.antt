@@ -1,0 +1,119 @@
+-- How the cells change within a level, step by step.
+use Rattle.std.proofs.Common.{◌≡◌, ◌≢◌, ℕ, zero, suc, [], ◌∷◌, ◌+◌, ◌<◌, ◌≤◌, ◌⊎◌, inl, inr, sym, ◌∙◌, subst, arith, List, slice_index, length, get_or, take, Contains, Option, Bool, true, false, not, IsTrue, ◌==◌, refl, ap}
+use Rattle.study_retro.specs.declared.value.Value.{Value}
+use Rattle.study_retro.specs.declared.value.Value.TheVariants.{Win}
+use Rattle.std.proofs.lemmas.Bool.{eqb-true}
+use Rattle.std.proofs.lemmas.List.{take_more}
+use Rattle.std.proofs.lemmas.List.Elements.{Contains-push_cases}
+use Rattle.study_retro.specs.Forced.{Leads}
+use Rattle.study_retro.specs.Back.{IsWonCell, TellsWins, IsLostBy}
+
+pub not_won-zero : (k c : ℕ) → c ≡ 0 → IsWonCell k c → ⊥
+not_won-zero k c e w = w.1 e
+
+pub not_won-next : (k c : ℕ) → c ≡ k + 2 → IsWonCell k c → ⊥
+not_won-next k c e w = omega (arith, e, w.2)
+
+-- Cells are set to k + 2 where they were 0 or more, for a reason.
+abbrev pub AreLowered : (ℕ → Type 0) → ℕ → List ℕ → List ℕ → Type 0
+AreLowered Why k old new = (i : ℕ) → (slice_index new i ≡ slice_index old i) ⊎ Why i × (slice_index new i ≡ k + 2) × ((slice_index old i ≡ 0) ⊎ (k + 2 < slice_index old i))
+
+module _ (k : ℕ) where
+  pub lowered-then : (Why : ℕ → Type 0) (a b c : List ℕ) → AreLowered Why k a b → AreLowered Why k b c → AreLowered Why k a c
+  lowered-then Why a b c f g i = elim (g i) [
+    | inl same ↦ elim (f i) [ inl e ↦ inl (same ∙ e) | inr x ↦ inr (x.0, same ∙ x.1, x.2) ]
+    | inr y ↦ elim (f i) [
+      | inl e ↦ inr (y.0, y.1, elim y.2 [ inl z ↦ inl (sym e ∙ z) | inr l ↦ inr (omega (arith, e)) ])
+      | inr x ↦ inr (y.0, y.1, x.2)
+    ]
+  ]
+
+  pub lowered-for : (Why Because : ℕ → Type 0) (a b : List ℕ) → ((i : ℕ) → Why i → Because i) → AreLowered Why k a b → AreLowered Because k a b
+  lowered-for Why Because a b to f i = elim (f i) [ inl e ↦ inl e | inr x ↦ inr (to i x.0, x.1, x.2) ]
+
+  pub lowered-kept : (Why : ℕ → Type 0) (a b : List ℕ) → AreLowered Why k a b → (i : ℕ) → (slice_index a i ≢ 0) × (slice_index a i ≤ k + 2) → (slice_index b i ≢ 0) × (slice_index b i ≤ k + 2)
+  lowered-kept Why a b f i h = elim (f i) [
+    | inl e ↦ (λ z. h.0 (sym e ∙ z), omega (arith, e, h.1))
+    | inr x ↦ (omega (arith, x.1), omega (arith, x.1))
+  ]
+
+  -- the cells of mates in k plies stay
+  pub lowered-front : (Why : ℕ → Type 0) (a b : List ℕ) → AreLowered Why k a b → (i : ℕ) → slice_index b i ≡ k + 1 → slice_index a i ≡ k + 1
+  lowered-front Why a b f i h = elim (f i) [ inl e ↦ sym e ∙ h | inr x ↦ absurd (omega (arith, x.1, h)) ]
+
+  pub lowered-same : (Why : ℕ → Type 0) (a b : List ℕ) → AreLowered Why k a b → (i : ℕ) → slice_index a i ≡ k + 1 → slice_index b i ≡ k + 1
+  lowered-same Why a b f i h = elim (f i) [ inl e ↦ e ∙ h | inr x ↦ absurd (elim x.2 [ inl z ↦ omega (arith, z, h) | inr l ↦ omega (arith, h) ]) ]
+
+  -- Cells are set to k + 2 where they were 0, for a reason.
+  abbrev pub AreAdded : (ℕ → Type 0) → List ℕ → List ℕ → Type 0
+  AreAdded Why old new = (i : ℕ) → (slice_index new i ≡ slice_index old i) ⊎ (slice_index old i ≡ 0) × (slice_index new i ≡ k + 2) × Why i
+
+  pub added-then : (Why : ℕ → Type 0) (a b c : List ℕ) → AreAdded Why a b → AreAdded Why b c → AreAdded Why a c
+  added-then Why a b c f g i = elim (g i) [
+    | inl same ↦ elim (f i) [ inl e ↦ inl (same ∙ e) | inr x ↦ inr (x.0, same ∙ x.1, x.2) ]
+    | inr y ↦ elim (f i) [ inl e ↦ inr (sym e ∙ y.0, y.1, y.2) | inr x ↦ absurd (omega (arith, y.0, x.1)) ]
+  ]
+
+  pub added-kept : (Why : ℕ → Type 0) (a b : List ℕ) → AreAdded Why a b → (i : ℕ) → slice_index a i ≢ 0 → slice_index b i ≢ 0
+  added-kept Why a b f i h = elim (f i) [ inl e ↦ (λ z. h (sym e ∙ z)) | inr x ↦ absurd (h x.0) ]
+
+  pub added-front : (Why : ℕ → Type 0) (a b : List ℕ) → AreAdded Why a b → (i : ℕ) → slice_index b i ≡ k + 1 → slice_index a i ≡ k + 1
+  added-front Why a b f i h = elim (f i) [ inl e ↦ sym e ∙ h | inr x ↦ absurd (omega (arith, x.1, h)) ]
+
+  pub added-same : (Why : ℕ → Type 0) (a b : List ℕ) → AreAdded Why a b → (i : ℕ) → slice_index a i ≡ k + 1 → slice_index b i ≡ k + 1
+  added-same Why a b f i h = elim (f i) [ inl e ↦ e ∙ h | inr x ↦ absurd (omega (arith, x.0, h)) ]
+
+  -- Cells of k + 2 are set to 0.
+  abbrev pub AreDropped : List ℕ → List ℕ → Type 0
+  AreDropped old new = (i : ℕ) → (slice_index new i ≡ slice_index old i) ⊎ (slice_index old i ≡ k + 2) × (slice_index new i ≡ 0)
+
+  pub dropped-then : (a b c : List ℕ) → AreDropped a b → AreDropped b c → AreDropped a c
+  dropped-then a b c f g i = elim (g i) [
+    | inl same ↦ elim (f i) [ inl e ↦ inl (same ∙ e) | inr x ↦ inr (x.0, same ∙ x.1) ]
+    | inr y ↦ elim (f i) [ inl e ↦ inr (sym e ∙ y.0, y.1) | inr x ↦ inr (x.0, y.1) ]
+  ]
+
+  -- none of this changes what wins are told
+  module _ {P : Type 0} (leads : P → P → Type 0) (mate : P → Type 0) (position : ℕ → Option P) where
+    pub tells-same : (old new : List ℕ) → ((i : ℕ) → (slice_index new i ≡ slice_index old i) ⊎ (IsWonCell k (slice_index old i) → ⊥) × (IsWonCell k (slice_index new i) → ⊥)) → TellsWins leads mate k position old → TellsWins leads mate k position new
+    tells-same old new same tells n p e = elim (same n) [
+      | inl s ↦ (let t = tells n p e in (λ w. t.0 (subst (IsWonCell k) s w), λ m. subst (IsWonCell k) (sym s) (t.1 m)))
+      | inr x ↦ (let t = tells n p e in (λ w. absurd (x.1 w), λ m. absurd (x.0 (t.1 m))))
+    ]
+
+    pub added-tells : (Why : ℕ → Type 0) (old new : List ℕ) → AreAdded Why old new → TellsWins leads mate k position old → TellsWins leads mate k position new
+    added-tells Why old new f = tells-same old new (λ i. elim (f i) [ inl e ↦ inl e | inr x ↦ inr (not_won-zero k (slice_index old i) x.0, not_won-next k (slice_index new i) x.1) ])
+
+    pub dropped-tells : (old new : List ℕ) → AreDropped old new → TellsWins leads mate k position old → TellsWins leads mate k position new
+    dropped-tells old new f = tells-same old new (λ i. elim (f i) [ inl e ↦ inl e | inr x ↦ inr (not_won-next k (slice_index old i) x.0, not_won-zero k (slice_index new i) x.1) ])
+
+-- what holds of the first elements, and of one more
+pub each-more : {M : Type 0} (Q : M → Type 0) (ms : List M) (i : ℕ) (d : M) → i < length ms → ((m : M) → Contains (take i ms) m → Q m) → Q (get_or ms i d) → (m : M) → Contains (take (i + 1) ms) m → Q m
+each-more {M} Q ms i d b before here m c = elim (Contains-push_cases (take i ms) (get_or ms i d) m (subst (λ (xs : List M). Contains xs m) (take_more ms i d b) c)) [
+  | inl h ↦ before m h
+  | inr e ↦ subst Q e here
+]
+
+-- an element of a list has a place
+pub at_place : (xs : List ℕ) (x : ℕ) → Contains xs x → (t : ℕ) × (t < length xs) × (slice_index xs t ≡ x)
+at_place [] x c = absurd (omega (arith, c.1))
+at_place (y ∷ ys) x c = by_index (λ h. at_place ys x h) c.0 c.1 c.2
+  where
+    by_index : (Contains ys x → (t : ℕ) × (t < length ys) × (slice_index ys t ≡ x)) → (i : ℕ) → i < length (y ∷ ys) → get_or (y ∷ ys) i x ≡ x → (t : ℕ) × (t < length (y ∷ ys)) × (slice_index (y ∷ ys) t ≡ x)
+    by_index f zero b e = (zero, b, e)
+    by_index f (suc i) b e = let r = f (i, omega arith, e) in (suc r.0, omega (arith, r.1), r.2)
+
+-- a position whose moves are these is lost where there is one, and each leads to a win
+pub lost_listed : {P M : Type 0} (legal : P → M → Type 0) (after : P → M → P) (labels : P → Value) (k : ℕ) (p : P) (ms : List M) → ((m : M) → legal p m → Contains ms m) → ((m : M) → Contains ms m → legal p m)
+    → ((m : M) → Contains ms m → (n : ℕ) × (labels (after p m) ≡ Win n) × (n ≤ k)) → (e : Bool) → e ≡ (length ms == 0)
+    → (IsTrue (not e) → IsLostBy (Leads legal after) labels k p) × (IsLostBy (Leads legal after) labels k p → IsTrue (not e))
+lost_listed legal after labels k p [] all only each false q = absurd (let no : false ≡ true = q in cc)
+lost_listed legal after labels k p [] all only each true q = (λ t. absurd (let no : false ≡ true = t in cc), λ h. absurd (let c = all h.some.1.0 h.some.1.1 in omega (arith, c.1)))
+lost_listed legal after labels k p (m ∷ ms) all only each true q = absurd (let z : length (m ∷ ms) ≡ 0 = eqb-true _ _ (sym q) in omega (arith, z))
+lost_listed legal after labels k p (m ∷ ms) all only each false q = (
+  λ t. record {
+    some = (after p m, (m, only m (zero, omega arith, refl), refl));
+    each = λ r l. let w = each l.0 (all l.0 l.1) in (w.0, ap labels (sym l.2) ∙ w.1, w.2);
+  },
+  λ h. refl,
+)

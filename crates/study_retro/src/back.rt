@@ -1,0 +1,144 @@
+//! Steps back from one decided position.
+ghost use Rattle.std.specs.Prelude.{◌≡◌, ◌≢◌, ◌↔◌, ◌+◌, ◌<◌, ◌≤◌, ◌⊎◌, ℕ, true, false, length, slice_index, Option, Some, IsTrue, ◌%◌};
+ghost use Rattle.study_retro.specs.Forced.{Leads, Mated};
+ghost use Rattle.study_retro.specs.Right.{IsRightOutside};
+ghost use Rattle.study_retro.specs.Class.{IsClass};
+ghost use Rattle.study_retro.specs.Cells.{label_of};
+ghost use Rattle.study_retro.specs.Back.{LeadsTo, IsLostBy, TellsWins};
+
+use crate::check::label;
+use crate::game::Game;
+use crate::value::Value;
+
+/// Sets a cell, where it tells of no mate so near.
+pub fn lower(cells: &mut [u8], number: u32, cell: u8)
+    requires number { number < length cells.old }
+    requires cell { 0 < cell }
+    ensures rise { (i : ℕ) → (slice_index cells.new i ≡ slice_index cells.old i) ⊎ (i ≡ number) × (slice_index cells.new i ≡ cell) × ((slice_index cells.old i ≡ 0) ⊎ (cell < slice_index cells.old i)) }
+    ensures done { (slice_index cells.new number ≢ 0) × (slice_index cells.new number ≤ cell) }
+{
+    let known = cells[number as usize];
+    if known == 0 || cell < known {
+        cells[number as usize] = cell;
+    }
+}
+
+/// Sets a cell.
+pub fn put(cells: &mut [u8], number: u32, cell: u8)
+    requires number { number < length cells.old }
+    ensures each { (i : ℕ) → (slice_index cells.new i ≡ slice_index cells.old i) ⊎ (i ≡ number) × (slice_index cells.new i ≡ cell) }
+    ensures here { slice_index cells.new number ≡ cell }
+{
+    cells[number as usize] = cell;
+}
+
+/// A position that is lost in `level` plies: what leads to it is won in one more.
+pub fn go_back_from_loss<G: Game>(game: &G, cells: &mut [u8], number: u32, level: u8) -> u64
+    requires laws { IsClass (Leads G.legal G.after) G.mate (G.known game.now) (G.home game.now) (G.index game.now) (G.outside game.now) (G.position game.now) (G.size game.now) (G.image game.now) }
+    requires level { level < 254 }
+    requires number { number < G.size game.now }
+    requires cells { length cells.old ≡ G.size game.now }
+    ensures rise { (i : ℕ) → (slice_index cells.new i ≡ slice_index cells.old i) ⊎ LeadsTo (Leads G.legal G.after) (G.home game.now) (G.index game.now) (G.position game.now) i number × (slice_index cells.new i ≡ level + 2) × ((slice_index cells.old i ≡ 0) ⊎ (level + 2 < slice_index cells.old i)) }
+    ensures done { (i : ℕ) → LeadsTo (Leads G.legal G.after) (G.home game.now) (G.index game.now) (G.position game.now) i number → (slice_index cells.new i ≢ 0) × (slice_index cells.new i ≤ level + 2) }
+{
+    let before = game.earlier(number);
+    for from in before.as_slice() {
+        lower(cells, *from, level + 2);
+    }
+    before.len() as u64
+}
+
+/// Whether a position has a move, and each leads to a win within `level` plies.
+pub fn is_lost<G: Game>(game: &G, cells: &[u8], at: &G::Position, level: u8) -> bool
+    requires laws { IsClass (Leads G.legal G.after) G.mate (G.known game.now) (G.home game.now) (G.index game.now) (G.outside game.now) (G.position game.now) (G.size game.now) (G.image game.now) }
+    requires known { G.known game.now at.now }
+    requires home { G.home game.now at.now ≡ true }
+    requires cells { length cells.now ≡ G.size game.now }
+    ensures { IsTrue result ↔ IsLostBy (Leads G.legal G.after) (label_of (G.home game.now) (G.index game.now) (G.outside game.now) cells.now) level at.now }
+{
+    let moves = game.moves(at);
+    for by in moves.as_slice() {
+        let to = game.played(at, *by);
+        if !is_won(label(game, cells, &to), level) {
+            return false;
+        }
+    }
+    !moves.is_empty()
+}
+
+/// Whether a value is a win within `level` plies.
+fn is_won(value: Value, level: u8) -> bool
+    ensures { IsTrue result ↔ ((m : ℕ) × (value ≡ Value.Win m) × (m ≤ level)) }
+{
+    match value {
+        Value::Win(n) => n <= level,
+        _ => false,
+    }
+}
+
+/// Whether the position of a number has a move, and each leads to a win within `level` plies.
+pub fn is_lost_at<G: Game>(game: &G, cells: &[u8], number: u32, level: u8) -> bool
+    requires laws { IsClass (Leads G.legal G.after) G.mate (G.known game.now) (G.home game.now) (G.index game.now) (G.outside game.now) (G.position game.now) (G.size game.now) (G.image game.now) }
+    requires number { number < G.size game.now }
+    requires cells { length cells.now ≡ G.size game.now }
+    ensures yes { IsTrue result → (p : G.Position) × (G.position game.now number ≡ Some p) × IsLostBy (Leads G.legal G.after) (label_of (G.home game.now) (G.index game.now) (G.outside game.now) cells.now) level p }
+    ensures no { result ≡ false → (p : G.Position) → G.position game.now number ≡ Some p → IsLostBy (Leads G.legal G.after) (label_of (G.home game.now) (G.index game.now) (G.outside game.now) cells.now) level p → ⊥ }
+{
+    match game.decode(number) {
+        None => false,
+        Some(at) => is_lost(game, cells, &at, level),
+    }
+}
+
+/// Sets the cell of a number that tells of no mate, where each move leads to a win within `level` plies.
+pub fn deny<G: Game>(game: &G, cells: &mut [u8], number: u32, level: u8) -> u64
+    requires laws { IsClass (Leads G.legal G.after) G.mate (G.known game.now) (G.home game.now) (G.index game.now) (G.outside game.now) (G.position game.now) (G.size game.now) (G.image game.now) }
+    requires level { level < 254 }
+    requires number { number < G.size game.now }
+    requires cells { length cells.old ≡ G.size game.now }
+    ensures rise { IsRightOutside (Leads G.legal G.after) G.mate (G.known game.now) (G.home game.now) (G.outside game.now) → TellsWins (Leads G.legal G.after) G.mate level (G.position game.now) cells.old → (i : ℕ) → (slice_index cells.new i ≡ slice_index cells.old i) ⊎ (slice_index cells.old i ≡ 0) × (slice_index cells.new i ≡ level + 2) × ((p : G.Position) × (G.position game.now i ≡ Some p) × Mated (Leads G.legal G.after) G.mate p (level + 1)) }
+    ensures done { IsRightOutside (Leads G.legal G.after) G.mate (G.known game.now) (G.home game.now) (G.outside game.now) → TellsWins (Leads G.legal G.after) G.mate level (G.position game.now) cells.old → (p q : G.Position) → G.position game.now number ≡ Some p → Leads G.legal G.after p q → Mated (Leads G.legal G.after) G.mate p (level + 1) → slice_index cells.new number ≢ 0 }
+{
+    if cells[number as usize] != 0 {
+        return 0;
+    }
+    if is_lost_at(game, cells, number, level) {
+        put(cells, number, level + 2);
+    }
+    1
+}
+
+/// Where the position of a number is won in `level` plies, what leads to it may be lost in one more.
+pub fn go_back_from_win<G: Game>(game: &G, cells: &mut [u8], number: u32, level: u8) -> u64
+    requires laws { IsClass (Leads G.legal G.after) G.mate (G.known game.now) (G.home game.now) (G.index game.now) (G.outside game.now) (G.position game.now) (G.size game.now) (G.image game.now) }
+    requires level { level < 254 }
+    requires odd { level % 2 ≡ 1 }
+    requires number { number < G.size game.now }
+    requires cells { length cells.old ≡ G.size game.now }
+    ensures rise { IsRightOutside (Leads G.legal G.after) G.mate (G.known game.now) (G.home game.now) (G.outside game.now) → TellsWins (Leads G.legal G.after) G.mate level (G.position game.now) cells.old → (i : ℕ) → (slice_index cells.new i ≡ slice_index cells.old i) ⊎ (slice_index cells.old i ≡ 0) × (slice_index cells.new i ≡ level + 2) × ((p : G.Position) × (G.position game.now i ≡ Some p) × Mated (Leads G.legal G.after) G.mate p (level + 1)) }
+    ensures done { IsRightOutside (Leads G.legal G.after) G.mate (G.known game.now) (G.home game.now) (G.outside game.now) → TellsWins (Leads G.legal G.after) G.mate level (G.position game.now) cells.old → slice_index cells.old number ≡ level + 1 → (i : ℕ) → (t : LeadsTo (Leads G.legal G.after) (G.home game.now) (G.index game.now) (G.position game.now) i number) → Mated (Leads G.legal G.after) G.mate t.0 (level + 1) → slice_index cells.new i ≢ 0 }
+{
+    if cells[number as usize] != level + 1 {
+        return 0;
+    }
+    deny_before(game, cells, number, level)
+}
+
+/// Sets the cells of what leads to a number, where they tell of no mate and each move leads to a win within `level` plies.
+// Not inlined: the list of numbers would be cleared for each number of a level.
+#[inline(never)]
+fn deny_before<G: Game>(game: &G, cells: &mut [u8], number: u32, level: u8) -> u64
+    requires laws { IsClass (Leads G.legal G.after) G.mate (G.known game.now) (G.home game.now) (G.index game.now) (G.outside game.now) (G.position game.now) (G.size game.now) (G.image game.now) }
+    requires level { level < 254 }
+    requires number { number < G.size game.now }
+    requires cells { length cells.old ≡ G.size game.now }
+    ensures rise { IsRightOutside (Leads G.legal G.after) G.mate (G.known game.now) (G.home game.now) (G.outside game.now) → TellsWins (Leads G.legal G.after) G.mate level (G.position game.now) cells.old → (i : ℕ) → (slice_index cells.new i ≡ slice_index cells.old i) ⊎ (slice_index cells.old i ≡ 0) × (slice_index cells.new i ≡ level + 2) × ((p : G.Position) × (G.position game.now i ≡ Some p) × Mated (Leads G.legal G.after) G.mate p (level + 1)) }
+    ensures done { IsRightOutside (Leads G.legal G.after) G.mate (G.known game.now) (G.home game.now) (G.outside game.now) → TellsWins (Leads G.legal G.after) G.mate level (G.position game.now) cells.old → (i : ℕ) → (t : LeadsTo (Leads G.legal G.after) (G.home game.now) (G.index game.now) (G.position game.now) i number) → Mated (Leads G.legal G.after) G.mate t.0 (level + 1) → slice_index cells.new i ≢ 0 }
+{
+    let before = game.earlier(number);
+    let mut tested = 0u64;
+    for from in before.as_slice() {
+        tested = tested.saturating_add(deny(game, cells, *from, level));
+    }
+    tested.saturating_add(before.len() as u64).saturating_add(1)
+}

@@ -1,0 +1,82 @@
+//! What leads to the position of a number, within its class.
+ghost use Rattle.std.specs.Prelude.{◌≡◌, ◌≢◌, ◌+◌, ◌≤◌, ◌<◌, ◌⊎◌, ◌↔◌, ℕ, Some, IfSome, IfNone, IsTrue, Contains};
+ghost use Rattle.arrayvec.specs.ArrayVec.{array_vec_len};
+ghost use Rattle.study_board.specs.Position.{Position as Seen};
+ghost use Rattle.study_moves.specs.Rules.{after};
+ghost use Rattle.study_moves.specs.Quiet.{LeadsQuietly, CanHaveLed};
+ghost use Rattle.study_index.specs.Found.{index_of, position_at};
+ghost use Rattle.study_retro.specs.Before.{IsPlainNumber, IsNumberBefore, ComesBefore};
+
+use arrayvec::ArrayVec;
+use study_board::Position;
+use study_index::{decode, index};
+use study_material::Class;
+use study_moves::{Move, last_moves, played, taken_back};
+
+/// The numbers of the positions from which a quiet move leads to the position of this number.
+pub fn numbers_before(class: Class, at: &Position, number: u32) -> ArrayVec<u32, 384>
+    requires { position_at class number ≡ Some at.now }
+    ensures { (n : ℕ) → Contains result.items n ↔ ComesBefore class at.now number n }
+{
+    let moves = last_moves(at);
+    let mut list = ArrayVec::new();
+    for by in moves.as_slice() {
+        add_before(class, at, number, by, &mut list);
+    }
+    list
+}
+
+// Adds the numbers of the positions from which this move leads to the position of this number.
+fn add_before(class: Class, at: &Position, number: u32, by: &Move, list: &mut ArrayVec<u32, 384>)
+    requires at { position_at class number ≡ Some at.now }
+    requires by { CanHaveLed at.now by.now }
+    requires room { array_vec_len list.old ≤ 382 }
+    ensures few { array_vec_len list.new ≤ array_vec_len list.old + 2 }
+    ensures more { (n : ℕ) → Contains list.new.items n ↔ Contains list.old.items n ⊎ IsNumberBefore class at.now number by.now n }
+{
+    if let Some(plain) = plain_number(at, number, by) {
+        list.push(plain);
+        let live = plain + 16_777_216;
+        if is_numbered(class, live) {
+            list.push(live);
+        }
+    }
+}
+
+/// The number of the position before the move, if that leads to the position of this number.
+#[inline]
+fn plain_number(at: &Position, number: u32, by: &Move) -> Option<u32>
+    requires at { index_of at.now ≡ number }
+    requires by { CanHaveLed at.now by.now }
+    ensures small { IfSome result (λ n. n < 16777216) }
+    ensures some { IfSome result (λ n. IsPlainNumber at.now number by.now n) }
+    ensures none { IfNone result ((p : Seen) → LeadsQuietly p by.now at.now → index_of (after p by.now) ≢ number) }
+{
+    let from = taken_back(at, *by);
+    if leads_to(at, &from, *by, number) {
+        Some(index(&from))
+    } else {
+        None
+    }
+}
+
+/// Whether the move leads to the position of this number: where a square is passed after it, its number is looked at.
+#[inline]
+fn leads_to(at: &Position, from: &Position, by: Move, number: u32) -> bool
+    requires at { index_of at.now ≡ number }
+    requires leads { LeadsQuietly from.now by at.now }
+    ensures { IsTrue result ↔ (index_of (after from.now by) ≡ number) }
+{
+    let to = played(from, by);
+    if at.passed().is_none() && to.passed().is_none() {
+        return true;
+    }
+    index(&to) == number
+}
+
+#[inline]
+fn is_numbered(class: Class, number: u32) -> bool
+    ensures { IsTrue result ↔ ((p : Seen) × (position_at class number ≡ Some p)) }
+{
+    decode(class, number).is_some()
+}
