@@ -6,7 +6,7 @@ use Rattle.std.proofs.lemmas.Bool.{eqb-true}
 use Rattle.std.proofs.lemmas.List.{take_more}
 use Rattle.std.proofs.lemmas.List.Elements.{Contains-push_cases}
 use Rattle.study_retro.specs.Forced.{Leads}
-use Rattle.study_retro.specs.Back.{IsWonCell, TellsWins, IsLostBy}
+use Rattle.study_retro.specs.Back.{IsWonCell, TellsWins, IsLostBy, AreAdded, AreDropped}
 
 pub not_won-zero : (k c : ℕ) → c ≡ 0 → IsWonCell k c → ⊥
 not_won-zero k c e w = w.1 e
@@ -14,60 +14,20 @@ not_won-zero k c e w = w.1 e
 pub not_won-next : (k c : ℕ) → c ≡ k + 2 → IsWonCell k c → ⊥
 not_won-next k c e w = omega (arith, e, w.2)
 
--- Cells are set to k + 2 where they were 0 or more, for a reason.
-abbrev pub AreLowered : (ℕ → Type 0) → ℕ → List ℕ → List ℕ → Type 0
-AreLowered Why k old new = (i : ℕ) → (slice_index new i ≡ slice_index old i) ⊎ Why i × (slice_index new i ≡ k + 2) × ((slice_index old i ≡ 0) ⊎ (k + 2 < slice_index old i))
-
 module _ (k : ℕ) where
-  pub lowered-then : (Why : ℕ → Type 0) (a b c : List ℕ) → AreLowered Why k a b → AreLowered Why k b c → AreLowered Why k a c
-  lowered-then Why a b c f g i = elim (g i) [
-    | inl same ↦ elim (f i) [ inl e ↦ inl (same ∙ e) | inr x ↦ inr (x.0, same ∙ x.1, x.2) ]
-    | inr y ↦ elim (f i) [
-      | inl e ↦ inr (y.0, y.1, elim y.2 [ inl z ↦ inl (sym e ∙ z) | inr l ↦ inr (omega (arith, e)) ])
-      | inr x ↦ inr (y.0, y.1, x.2)
-    ]
-  ]
-
-  pub lowered-for : (Why Because : ℕ → Type 0) (a b : List ℕ) → ((i : ℕ) → Why i → Because i) → AreLowered Why k a b → AreLowered Because k a b
-  lowered-for Why Because a b to f i = elim (f i) [ inl e ↦ inl e | inr x ↦ inr (to i x.0, x.1, x.2) ]
-
-  pub lowered-kept : (Why : ℕ → Type 0) (a b : List ℕ) → AreLowered Why k a b → (i : ℕ) → (slice_index a i ≢ 0) × (slice_index a i ≤ k + 2) → (slice_index b i ≢ 0) × (slice_index b i ≤ k + 2)
-  lowered-kept Why a b f i h = elim (f i) [
-    | inl e ↦ (λ z. h.0 (sym e ∙ z), omega (arith, e, h.1))
-    | inr x ↦ (omega (arith, x.1), omega (arith, x.1))
-  ]
-
-  -- the cells of mates in k plies stay
-  pub lowered-front : (Why : ℕ → Type 0) (a b : List ℕ) → AreLowered Why k a b → (i : ℕ) → slice_index b i ≡ k + 1 → slice_index a i ≡ k + 1
-  lowered-front Why a b f i h = elim (f i) [ inl e ↦ sym e ∙ h | inr x ↦ absurd (omega (arith, x.1, h)) ]
-
-  pub lowered-same : (Why : ℕ → Type 0) (a b : List ℕ) → AreLowered Why k a b → (i : ℕ) → slice_index a i ≡ k + 1 → slice_index b i ≡ k + 1
-  lowered-same Why a b f i h = elim (f i) [ inl e ↦ e ∙ h | inr x ↦ absurd (elim x.2 [ inl z ↦ omega (arith, z, h) | inr l ↦ omega (arith, h) ]) ]
-
-  -- Cells are set to k + 2 where they were 0, for a reason.
-  abbrev pub AreAdded : (ℕ → Type 0) → List ℕ → List ℕ → Type 0
-  AreAdded Why old new = (i : ℕ) → (slice_index new i ≡ slice_index old i) ⊎ (slice_index old i ≡ 0) × (slice_index new i ≡ k + 2) × Why i
-
-  pub added-then : (Why : ℕ → Type 0) (a b c : List ℕ) → AreAdded Why a b → AreAdded Why b c → AreAdded Why a c
+  pub added-then : (Why : ℕ → Type 0) (a b c : List ℕ) → AreAdded k Why a b → AreAdded k Why b c → AreAdded k Why a c
   added-then Why a b c f g i = elim (g i) [
     | inl same ↦ elim (f i) [ inl e ↦ inl (same ∙ e) | inr x ↦ inr (x.0, same ∙ x.1, x.2) ]
     | inr y ↦ elim (f i) [ inl e ↦ inr (sym e ∙ y.0, y.1, y.2) | inr x ↦ absurd (omega (arith, y.0, x.1)) ]
   ]
 
-  pub added-kept : (Why : ℕ → Type 0) (a b : List ℕ) → AreAdded Why a b → (i : ℕ) → slice_index a i ≢ 0 → slice_index b i ≢ 0
+  pub added-kept : (Why : ℕ → Type 0) (a b : List ℕ) → AreAdded k Why a b → (i : ℕ) → slice_index a i ≢ 0 → slice_index b i ≢ 0
   added-kept Why a b f i h = elim (f i) [ inl e ↦ (λ z. h (sym e ∙ z)) | inr x ↦ absurd (h x.0) ]
 
-  pub added-front : (Why : ℕ → Type 0) (a b : List ℕ) → AreAdded Why a b → (i : ℕ) → slice_index b i ≡ k + 1 → slice_index a i ≡ k + 1
-  added-front Why a b f i h = elim (f i) [ inl e ↦ sym e ∙ h | inr x ↦ absurd (omega (arith, x.1, h)) ]
-
-  pub added-same : (Why : ℕ → Type 0) (a b : List ℕ) → AreAdded Why a b → (i : ℕ) → slice_index a i ≡ k + 1 → slice_index b i ≡ k + 1
+  pub added-same : (Why : ℕ → Type 0) (a b : List ℕ) → AreAdded k Why a b → (i : ℕ) → slice_index a i ≡ k + 1 → slice_index b i ≡ k + 1
   added-same Why a b f i h = elim (f i) [ inl e ↦ e ∙ h | inr x ↦ absurd (omega (arith, x.0, h)) ]
 
-  -- Cells of k + 2 are set to 0.
-  abbrev pub AreDropped : List ℕ → List ℕ → Type 0
-  AreDropped old new = (i : ℕ) → (slice_index new i ≡ slice_index old i) ⊎ (slice_index old i ≡ k + 2) × (slice_index new i ≡ 0)
-
-  pub dropped-then : (a b c : List ℕ) → AreDropped a b → AreDropped b c → AreDropped a c
+  pub dropped-then : (a b c : List ℕ) → AreDropped k a b → AreDropped k b c → AreDropped k a c
   dropped-then a b c f g i = elim (g i) [
     | inl same ↦ elim (f i) [ inl e ↦ inl (same ∙ e) | inr x ↦ inr (x.0, same ∙ x.1) ]
     | inr y ↦ elim (f i) [ inl e ↦ inr (sym e ∙ y.0, y.1) | inr x ↦ inr (x.0, y.1) ]
@@ -81,10 +41,10 @@ module _ (k : ℕ) where
       | inr x ↦ (let t = tells n p e in (λ w. absurd (x.1 w), λ m. absurd (x.0 (t.1 m))))
     ]
 
-    pub added-tells : (Why : ℕ → Type 0) (old new : List ℕ) → AreAdded Why old new → TellsWins leads mate k position old → TellsWins leads mate k position new
+    pub added-tells : (Why : ℕ → Type 0) (old new : List ℕ) → AreAdded k Why old new → TellsWins leads mate k position old → TellsWins leads mate k position new
     added-tells Why old new f = tells-same old new (λ i. elim (f i) [ inl e ↦ inl e | inr x ↦ inr (not_won-zero k (slice_index old i) x.0, not_won-next k (slice_index new i) x.1) ])
 
-    pub dropped-tells : (old new : List ℕ) → AreDropped old new → TellsWins leads mate k position old → TellsWins leads mate k position new
+    pub dropped-tells : (old new : List ℕ) → AreDropped k old new → TellsWins leads mate k position old → TellsWins leads mate k position new
     dropped-tells old new f = tells-same old new (λ i. elim (f i) [ inl e ↦ inl e | inr x ↦ inr (not_won-next k (slice_index old i) x.0, not_won-zero k (slice_index new i) x.1) ])
 
 -- what holds of the first elements, and of one more

@@ -68,11 +68,6 @@ value_in-near held closed p = by_table (table_of held (class_found p)) refl
     by_table None e = omega arith
     by_table (Some t) e = let b = byte_near t.cells (closed.complete (class_found p) t e).bytes (index_of p) in distance-byte (slice_index t.cells (index_of p)) (omega arith)
 
-same_bool : (a b : Bool) → (a ≡ true → b ≡ true) → (b ≡ true → a ≡ true) → a ≡ b
-same_bool true b f g = sym (f refl)
-same_bool false true f g = g refl
-same_bool false false f g = refl
-
 of_class_after : (c : Class) (p q : Position) → AreAlike p q → IsOf c p ⊎ ((d : Class) × Contains (needs_of c) d × IsOf d p) → IsOf c q ⊎ ((d : Class) × Contains (needs_of c) d × IsOf d q)
 of_class_after c p q h (inl k) = inl (same_class p q c h k)
 of_class_after c p q h (inr k) = inr (k.0, k.1, same_class p q k.0 h k.2)

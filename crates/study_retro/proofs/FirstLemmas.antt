@@ -1,29 +1,16 @@
 -- What the mates, and the moves out of the class, tell before the levels.
-use Rattle.std.proofs.Common.{◌≡◌, ◌≢◌, ℕ, zero, suc, ◌+◌, ◌-◌, ◌%◌, ◌<◌, ◌≤◌, ◌⊎◌, inl, inr, sym, subst, refl, arith, Option, Some, None, Bool, true, false}
+use Rattle.std.proofs.Common.{◌≡◌, ◌≢◌, ℕ, zero, suc, ◌+◌, ◌-◌, ◌%◌, ◌<◌, ◌≤◌, ◌⊎◌, inl, inr, sym, subst, refl, arith, Option, Bool, true, false}
 use Rattle.study_retro.specs.declared.value.Value.{Value}
 use Rattle.study_retro.specs.declared.value.Value.TheVariants.{Win, Loss, Draw}
 use Rattle.study_retro.specs.Forced.{Mated, Mates, IsGame, IsWin, IsLoss, GivesOutside}
 use Rattle.study_retro.specs.Right.{IsRightOutside}
 use Rattle.study_retro.specs.Class.{IsClass}
-use Rattle.study_retro.specs.Back.{IsFirst, IsHeld, IsHeldCell}
+use Rattle.study_retro.specs.Back.{IsFirst, IsHeld}
 use Rattle.study_retro.proofs.ForcedLemmas.{Mates-Mated, IsGame-unique}
 use Rattle.study_retro.proofs.ParityLemmas.{odd-win, even-loss}
 
 module _ {P : Type 0} {leads : P → P → Type 0} {mate : P → Type 0} {known : P → Type 0} {home : P → Bool} {index : P → ℕ} {outside : P → Value} {position : ℕ → Option P} {size : ℕ} {image : P → P → Type 0}
     (laws : IsClass leads mate known home index outside position size image) (outer : IsRightOutside leads mate known home outside) where
-  -- more mates that cannot be told
-  pub IsHeld-far : (far more : Bool) (k : ℕ) (o : Option P) (c : ℕ) → (far ≡ true → more ≡ true) → IsHeldCell leads mate home far k o c → IsHeldCell leads mate home more k o c
-  IsHeld-far far more k None c f h = h
-  IsHeld-far far more k (Some p) c f h = record {
-    set = h.set;
-    unmating = h.unmating;
-    unmated = h.unmated;
-    wins = h.wins;
-    lasts = h.lasts;
-    won = λ q j r. h.won q j (λ e. r (f e));
-    lost = λ q j m r. h.lost q j m (λ e. r (f e));
-  }
-
   pub held-mate : (p : P) → mate p → IsHeld leads mate home false 0 p 1
   held-mate p m = record {
     set = λ z l. record { forced = m; least = λ n x. omega arith };

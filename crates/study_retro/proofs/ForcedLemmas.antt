@@ -82,10 +82,6 @@ module _ {P : Type 0} (leads : P → P → Type 0) (mate : P → Type 0) (stuck 
 
   -- right below k plies at each move's end, labels give what is right below one more
   module _ (labels : P → Value) (k : ℕ) (p : P) (after : (q : P) → leads p q → IsRightBelow leads mate k q (labels q)) where
-    -- a mate leaves no move
-    no_mate : (q : P) → leads p q → mate p → ⊥
-    no_mate q l h = stuck p q h l
-
     -- where a move leads to a position that is not won, the mover is not mated
     not_mated : (q : P) → leads p q → ((n : ℕ) → labels q ≡ Win n → ⊥) → (m : ℕ) → m < suc k → Mated leads mate p m → ⊥
     not_mated q l unwon zero b x = stuck p q x l
@@ -192,23 +188,6 @@ module _ {P : Type 0} (leads : P → P → Type 0) (mate : P → Type 0) (stuck 
     ];
   }
   IsGame-from_near k p Draw drawn b h = absurd (drawn refl)
-
-  -- a value right below k plies that tells of no nearer mate leaves the label of a draw right below k plies
-  pub below-Draw : (k : ℕ) (p : P) (v : Value) → k ≤ distance_of v ⊎ (v ≡ Draw) → IsRightBelow leads mate k p v → IsRightBelow leads mate k p Draw
-  below-Draw k p v far h = record {
-    wins = λ m b x. absurd (no_win m b (h.wins m b x) far);
-    loses = λ m b x. absurd (no_loss m b (h.loses m b x) far);
-    won = λ m b e. absurd (let no : ⊥ = cc in no);
-    lost = λ m b e. absurd (let no : ⊥ = cc in no);
-  }
-    where
-      no_win : (m : ℕ) → m < k → ((n : ℕ) × (v ≡ Win n) × (n ≤ m)) → k ≤ distance_of v ⊎ (v ≡ Draw) → ⊥
-      no_win m b w (inl f) = let d : distance_of v ≡ w.0 = ap distance_of w.1 in omega (arith, w.2)
-      no_win m b w (inr e) = let is : v ≡ Win w.0 = w.1 in cc
-
-      no_loss : (m : ℕ) → m < k → ((n : ℕ) × (v ≡ Loss n) × (n ≤ m)) → k ≤ distance_of v ⊎ (v ≡ Draw) → ⊥
-      no_loss m b w (inl f) = let d : distance_of v ≡ w.0 = ap distance_of w.1 in omega (arith, w.2)
-      no_loss m b w (inr e) = let is : v ≡ Loss w.0 = w.1 in cc
 
   pub below-less : (k j : ℕ) (p : P) (v : Value) → j ≤ k → IsRightBelow leads mate k p v → IsRightBelow leads mate j p v
   below-less k j p v l h = record {

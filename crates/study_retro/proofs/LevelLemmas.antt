@@ -1,30 +1,19 @@
 -- One level of a builder: from cells right below k plies to cells right below one more.
-use Rattle.std.proofs.Common.{◌≡◌, ◌≢◌, ℕ, zero, suc, ◌+◌, ◌-◌, add-one, ◌<◌, ◌≤◌, ◌⊎◌, inl, inr, sym, ◌∙◌, ap, subst, refl, arith, List, slice_index, Option, Some, None, Bool, true}
+use Rattle.std.proofs.Common.{◌≡◌, ◌≢◌, ℕ, zero, suc, ◌-◌, ◌<◌, ◌≤◌, ◌⊎◌, inl, inr, sym, ◌∙◌, ap, subst, refl, arith, List, slice_index, Option, Some, None, Bool, true}
 use Rattle.study_retro.specs.declared.value.Value.{Value}
 use Rattle.study_retro.specs.declared.value.Value.TheVariants.{Win, Loss, Draw}
 use Rattle.study_retro.specs.Forced.{IsGame, Gives, IsRightBelow, distance_of}
 use Rattle.study_retro.specs.Cells.{value_of, label_of}
 use Rattle.study_retro.specs.Right.{IsRightCell, IsRightOutside, IsOtherCell, IsRightBelowCell, AreRightBelow, AreNear, HasFar}
 use Rattle.study_retro.specs.Class.{IsClass}
-use Rattle.study_retro.proofs.ForcedLemmas.{IsGame-below, IsGame-from_near, Gives-below, below-Draw, below-less}
+use Rattle.study_retro.proofs.ForcedLemmas.{IsGame-below, IsGame-from_near, Gives-below}
 use Rattle.study_retro.proofs.AlongLemmas.{IsRightBelow-along}
-use Rattle.study_retro.proofs.ParityLemmas.{value_of-mate, value_of-not_draw, distance_of-value_of}
+use Rattle.study_retro.proofs.ParityLemmas.{value_of-not_draw, distance_of-value_of}
 use Rattle.study_retro.proofs.ClassLemmas.{true_or_false, some_or_none, image_keeps, label-home, label-outside}
 
 pub zero_or_not : (c : ℕ) → (c ≡ zero) ⊎ (c ≢ zero)
 zero_or_not zero = inl refl
 zero_or_not (suc c) = inr (λ e. omega arith)
-
-near_or_far : (v : Value) (k : ℕ) → ((v ≢ Draw) × (distance_of v ≤ k)) ⊎ (suc k ≤ distance_of v ⊎ (v ≡ Draw))
-near_or_far Draw k = inr (inr refl)
-near_or_far (Win n) k = elim (le_or n k) [ inl h ↦ inl (λ e. cc, h) | inr h ↦ inr (inl h) ]
-  where
-    le_or : (a b : ℕ) → (a ≤ b) ⊎ (suc b ≤ a)
-    le_or a b = grind arith
-near_or_far (Loss n) k = elim (le_or n k) [ inl h ↦ inl (λ e. cc, h) | inr h ↦ inr (inl h) ]
-  where
-    le_or : (a b : ℕ) → (a ≤ b) ⊎ (suc b ≤ a)
-    le_or a b = grind arith
 
 pub distance-byte : (c : ℕ) → c ≤ 255 → distance_of (value_of c) < 255
 distance-byte c h = elim (zero_or_not c) [
@@ -75,24 +64,6 @@ module _ {P : Type 0} {leads : P → P → Type 0} {mate : P → Type 0} {known 
   pub given-below : (k : ℕ) → AreRightBelow leads mate k position size cells → (p : P) (v : Value) → known p → home p ≡ true → Gives leads mate Labels p v → IsRightBelow leads mate (suc k) p v
   given-below k right p v kn e g = Gives-below leads mate laws.stuck Labels k p (λ q l. labels-below k right q (laws.closed p q kn e l)) v g
 
-  -- a position whose cell was 0 gets the cell of a mate in k plies
-  pub cell-near : (k : ℕ) → AreRightBelow leads mate k position size cells → (n : ℕ) (p : P) (v : Value) → position n ≡ Some p → Gives leads mate Labels p v → v ≢ Draw → distance_of v ≤ k
-      → IsRightBelowCell leads mate (k + 1) (position n) (distance_of v + 1)
-  cell-near k right n p v e g mated near =
-      let d = laws.decoded n p e in
-      let is = given-below k right p v d.0 d.1 g in
-      let game = IsGame-from_near leads mate laws.stuck (suc k) p v mated (omega arith) is in
-      subst (λ (j : ℕ). IsRightBelowCell leads mate j (position n) (distance_of v + 1)) (sym (add-one k)) (
-      subst (λ (o : Option P). IsRightBelowCell leads mate (suc k) o (distance_of v + 1)) (sym e) (subst (IsRightBelow leads mate (suc k) p) (sym (value_of-mate leads mate p v mated game)) is))
-
-  -- or stays 0
-  pub cell-far : (k : ℕ) → AreRightBelow leads mate k position size cells → (n : ℕ) (p : P) (v : Value) → position n ≡ Some p → Gives leads mate Labels p v → suc k ≤ distance_of v ⊎ (v ≡ Draw)
-      → IsRightBelowCell leads mate (k + 1) (position n) 0
-  cell-far k right n p v e g far =
-      let d = laws.decoded n p e in
-      subst (λ (j : ℕ). IsRightBelowCell leads mate j (position n) 0) (sym (add-one k)) (
-      subst (λ (o : Option P). IsRightBelowCell leads mate (suc k) o 0) (sym e) (below-Draw leads mate laws.stuck (suc k) p v far (given-below k right p v d.0 d.1 g)))
-
   -- a cell that tells of a mate in fewer than k plies is right
   pub cell-decided : (k n c : ℕ) → c ≢ 0 → c ≤ k → IsRightBelowCell leads mate k (position n) c → IsRightCell leads mate (position n) c
   cell-decided k n c nonzero small h = by_position (position n) h
@@ -100,21 +71,6 @@ module _ {P : Type 0} {leads : P → P → Type 0} {mate : P → Type 0} {known 
       by_position : (o : Option P) → IsRightBelowCell leads mate k o c → IsRightCell leads mate o c
       by_position None x = x
       by_position (Some p) x = IsGame-from_near leads mate laws.stuck k p (value_of c) (value_of-not_draw c nonzero) (let d = distance_of-value_of c nonzero in let pos : 0 < c = omega arith in omega arith) x
-
-  -- a right cell is right below any number of plies
-  pub cell-right : (k n c : ℕ) → IsRightCell leads mate (position n) c → IsRightBelowCell leads mate k (position n) c
-  cell-right k n c h = by_position (position n) h
-    where
-      by_position : (o : Option P) → IsRightCell leads mate o c → IsRightBelowCell leads mate k o c
-      by_position None x = x
-      by_position (Some p) x = IsGame-below leads mate laws.stuck k p (value_of c) x
-
-  pub cell-less : (k j n c : ℕ) → j ≤ k → IsRightBelowCell leads mate k (position n) c → IsRightBelowCell leads mate j (position n) c
-  cell-less k j n c l h = by_position (position n) h
-    where
-      by_position : (o : Option P) → IsRightBelowCell leads mate k o c → IsRightBelowCell leads mate j o c
-      by_position None x = x
-      by_position (Some p) x = below-less leads mate laws.stuck k j p (value_of c) l x
 
   -- where a value far enough is given at a cell of 0, the position is mate in that many plies
   pub far-witness : (k : ℕ) → AreRightBelow leads mate k position size cells → (p : P) (v : Value) → known p → home p ≡ true → Gives leads mate Labels p v → v ≢ Draw → distance_of v ≤ k → IsGame leads mate p v
@@ -172,19 +128,3 @@ module _ {P : Type 0} {leads : P → P → Type 0} {mate : P → Type 0} {known 
           beyond : (distance_of w < 255) ⊎ (254 < distance_of w) → IsGame leads mate p w → 254 < distance_of w
           beyond (inl l) game = absurd (mated (sym (below-unique leads mate 255 p Draw w mated l is game)))
           beyond (inr l) game = l
-
-  -- where a cell of 0 is right below k plies, what is given there is no mate in fewer
-  pub cell-exact : (k : ℕ) → AreRightBelow leads mate k position size cells → (n : ℕ) (p : P) (v : Value) → n < size → slice_index cells n ≡ 0 → position n ≡ Some p → Gives leads mate Labels p v → v ≢ Draw → distance_of v ≢ k → suc k ≤ distance_of v
-  cell-exact k right n p v b z e g mated other = elim (le_or k (distance_of v)) [
-    | inl l ↦ (let ne : k ≢ distance_of v = (λ x. other (sym x)) in omega arith)
-    | inr l ↦
-        let cell = slice_index cells n in
-        let d = laws.decoded n p e in
-        let is = subst (λ (o : Option P). IsRightBelowCell leads mate k o cell) e (right n b) in
-        let is0 = subst (λ (c : ℕ). IsRightBelow leads mate k p (value_of c)) z is in
-        let game = far-witness k right p v d.0 d.1 g mated (omega arith) in
-        absurd (mated (sym (below-unique leads mate k p Draw v mated l is0 game)))
-  ]
-    where
-      le_or : (a b : ℕ) → (a ≤ b) ⊎ (suc b ≤ a)
-      le_or a b = grind arith

@@ -1,9 +1,8 @@
 -- A win is in an odd number of plies and a loss in an even one, so a cell's byte tells which it is.
-use Rattle.std.proofs.Common.{◌≡◌, ◌≢◌, ℕ, zero, suc, ◌+◌, ◌-◌, ◌*◌, ◌%◌, ◌≤◌, ◌⊎◌, inl, inr, arith, ap, subst, refl, sym}
+use Rattle.std.proofs.Common.{◌≡◌, ◌≢◌, ℕ, zero, suc, ◌-◌, ◌*◌, ◌%◌, ◌≤◌, ◌⊎◌, inl, inr, arith, ap, subst, refl, sym}
 use Rattle.std.proofs.lemmas.Bool.Decides.{nat_tests}
-use Rattle.study_retro.specs.declared.value.Value.{Value}
-use Rattle.study_retro.specs.declared.value.Value.TheVariants.{Win, Loss, Draw}
-use Rattle.study_retro.specs.Forced.{Mated, Mates, IsWin, IsLoss, IsGame, distance_of}
+use Rattle.study_retro.specs.declared.value.Value.TheVariants.{Draw}
+use Rattle.study_retro.specs.Forced.{Mated, Mates, IsWin, IsLoss, distance_of}
 use Rattle.study_retro.specs.Cells.{value_of}
 
 double : ℕ → ℕ
@@ -69,18 +68,6 @@ module _ {P : Type 0} (leads : P → P → Type 0) (mate : P → Type 0) where
     | inl e ↦ let d = double_is e.0 in let is : n ≡ double e.0 = e.1 in omega arith
     | inr e ↦ absurd (odd-not_loss e.0 p (subst (IsLoss leads mate p) e.1 h))
   ]
-
-value_of-win : (n : ℕ) → n % 2 ≡ 1 → value_of (n + 1) ≡ Win n
-value_of-win n h = grind (arith, nat_tests)
-
-value_of-loss : (n : ℕ) → n % 2 ≡ 0 → value_of (n + 1) ≡ Loss n
-value_of-loss n h = grind (arith, nat_tests)
-
--- the cell of a mate tells it
-pub value_of-mate : {P : Type 0} (leads : P → P → Type 0) (mate : P → Type 0) (p : P) (v : Value) → v ≢ Draw → IsGame leads mate p v → value_of (distance_of v + 1) ≡ v
-value_of-mate leads mate p (Win n) d h = value_of-win n (odd-win leads mate n p h)
-value_of-mate leads mate p (Loss n) d h = value_of-loss n (even-loss leads mate n p h)
-value_of-mate leads mate p Draw d h = absurd (d refl)
 
 -- a cell other than 0 tells of a mate, in one ply less than its number
 pub value_of-not_draw : (c : ℕ) → c ≢ 0 → value_of c ≢ Draw

@@ -158,9 +158,6 @@ module _ (p : Position) (m : Move) (v : IsValid p) (legal : is_legal p m ≡ tru
   same_number : (n k : ℕ) → n ≡ k → eqb n k ≡ true
   same_number n k e = grind (arith, nat_tests)
 
-  other_number : (n k : ℕ) → n ≢ k → eqb n k ≡ false
-  other_number n k e = grind (arith, nat_tests)
-
   mover_goes : goes_away p.passed mover m.target mover ≡ true
   unfolding stays
   mover_goes = (let same : eqb mover.at mover.at ≡ true = same_number mover.at mover.at refl in rw same refl)

@@ -67,9 +67,6 @@ module _ (held : List (Option Table)) where
   pub first_missing-here : (xs : List Class) (i : ℕ) (d : Class) → i < length xs → is_some (table_of held (get_or xs i d)) ≡ false → first_missing held (drop i xs) ≡ Some (get_or xs i d)
   first_missing-here xs i d l e = rw (drop-cons xs i d l, e) refl
 
-  pub first_missing-next : (xs : List Class) (i : ℕ) (d : Class) → i < length xs → is_some (table_of held (get_or xs i d)) ≡ true → first_missing held (drop i xs) ≡ first_missing held (drop (suc i) xs)
-  first_missing-next xs i d l e = rw (drop-cons xs i d l, e) refl
-
   by_held : (c : Class) (cs : List Class) → (first_missing held (c ∷ cs) ≡ None) → (is_some (table_of held c) ≡ true) × (first_missing held cs ≡ None)
   by_held c cs e = go (is_some (table_of held c)) refl e
     where

@@ -3,7 +3,8 @@ use Rattle.std.specs.Prelude.{◌≡◌, ℕ, ◌<◌, Option, Some, Bool, true,
 use Rattle.study_retro.specs.Forced.{distance_of}
 use Rattle.study_retro.specs.declared.value.Value.{Value}
 
-pub record IsClass {P : Type 0} (leads : P → P → Type 0) (mate : P → Type 0) (known : P → Type 0) (home : P → Bool) (index : P → ℕ) (outside : P → Value) (position : ℕ → Option P) (size : ℕ) (image : P → P → Type 0) : Type 0 where
+pub record IsClass {P : Type 0} (leads : P → P → Type 0) (mate : P → Type 0) (known : P → Type 0) (home : P → Bool) (index : P → ℕ)
+    (outside : P → Value) (position : ℕ → Option P) (size : ℕ) (image : P → P → Type 0) : Type 0 where
   pub stuck : (p q : P) → mate p → leads p q → ⊥
   pub below : (n : ℕ) (p : P) → position n ≡ Some p → n < size
   pub decoded : (n : ℕ) (p : P) → position n ≡ Some p → known p × (home p ≡ true) × (index p ≡ n)

@@ -11,3 +11,5 @@ pub mod Right
 pub mod Class
 pub mod Back
 pub mod Before
+pub mod Numbered
+pub mod ClassGame

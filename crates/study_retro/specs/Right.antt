@@ -1,5 +1,5 @@
 -- What it is for a table to be right.
-use Rattle.std.specs.Prelude.{◌≡◌, ◌≢◌, ◌⊎◌, ℕ, ◌<◌, ◌≤◌, List, slice_index, Option, Some, None, Bool, true, false}
+use Rattle.std.specs.Prelude.{◌≡◌, ◌≢◌, ℕ, ◌<◌, ◌≤◌, List, slice_index, Option, Some, None, Bool, true, false}
 use Rattle.study_retro.specs.Forced.{IsGame, Gives, IsRightBelow, distance_of}
 use Rattle.study_retro.specs.Cells.{value_of}
 use Rattle.study_retro.specs.declared.value.Value.{Value}
@@ -40,17 +40,6 @@ AreRightBelow leads mate k position size cells = (n : ℕ) → n < size → IsRi
 abbrev pub AreNear : ℕ → ℕ → List ℕ → Type 0
 AreNear k size cells = (n : ℕ) → n < size → slice_index cells n ≤ k
 
--- a cell is right, or tells what the labels after its position's moves give
-abbrev pub IsSettledCell : {P : Type 0} → (P → P → Type 0) → (P → Type 0) → (P → Value) → Option P → ℕ → Type 0
-IsSettledCell leads mate labels o cell = IsRightCell leads mate o cell ⊎ IsGivenCell leads mate labels o cell
-
 -- some position of the class is mate in more than 254 plies
 abbrev pub HasFar : {P : Type 0} → (P → P → Type 0) → (P → Type 0) → (P → Type 0) → (P → Bool) → Type 0
 HasFar {P} leads mate known home = (p : P) × known p × (home p ≡ true) × ((v : Value) × IsGame leads mate p v × (254 < distance_of v))
-
--- cells after the levels below k: what is known outside of the class is right, no cell tells anything wrong about mates in fewer
--- than k plies, and none tells of a mate in k plies or more
-pub record IsSound {P : Type 0} (leads : P → P → Type 0) (mate : P → Type 0) (known : P → Type 0) (home : P → Bool) (outside : P → Value) (position : ℕ → Option P) (size k : ℕ) (cells : List ℕ) : Type 0 where
-  pub outer : IsRightOutside leads mate known home outside
-  pub below : AreRightBelow leads mate k position size cells
-  pub near : AreNear k size cells

@@ -1,10 +1,7 @@
 //! Steps back from one decided position.
-ghost use Rattle.std.specs.Prelude.{◌≡◌, ◌≢◌, ◌↔◌, ◌+◌, ◌<◌, ◌≤◌, ◌⊎◌, ℕ, true, false, length, slice_index, Option, Some, IsTrue, ◌%◌};
-ghost use Rattle.study_retro.specs.Forced.{Leads, Mated};
-ghost use Rattle.study_retro.specs.Right.{IsRightOutside};
-ghost use Rattle.study_retro.specs.Class.{IsClass};
-ghost use Rattle.study_retro.specs.Cells.{label_of};
-ghost use Rattle.study_retro.specs.Back.{LeadsTo, IsLostBy, TellsWins};
+ghost use Rattle.std.specs.Prelude.{◌≡◌, ◌↔◌, ◌+◌, ◌<◌, ◌≤◌, ◌⊎◌, ℕ, true, false, length, slice_index, Some, IsTrue, ◌%◌};
+ghost use Rattle.study_retro.specs.Back.{AreAdded, AreLowered, IsLowered, IsSetBy};
+ghost use Rattle.study_retro.specs.Numbered.{IsMatedAt, IsNumberedClass, LosesBy, LossIsSet, LossesAreSet, NoLossBy, StepLeads, WhereWinsAreTold, WinGoesBack};
 
 use crate::check::label;
 use crate::game::Game;
@@ -14,8 +11,8 @@ use crate::value::Value;
 pub fn lower(cells: &mut [u8], number: u32, cell: u8)
     requires number { number < length cells.old }
     requires cell { 0 < cell }
-    ensures rise { (i : ℕ) → (slice_index cells.new i ≡ slice_index cells.old i) ⊎ (i ≡ number) × (slice_index cells.new i ≡ cell) × ((slice_index cells.old i ≡ 0) ⊎ (cell < slice_index cells.old i)) }
-    ensures done { (slice_index cells.new number ≢ 0) × (slice_index cells.new number ≤ cell) }
+    ensures rise { IsLowered number cell cells.old cells.new }
+    ensures done { IsSetBy cell cells.new number }
 {
     let known = cells[number as usize];
     if known == 0 || cell < known {
@@ -34,12 +31,12 @@ pub fn put(cells: &mut [u8], number: u32, cell: u8)
 
 /// A position that is lost in `level` plies: what leads to it is won in one more.
 pub fn go_back_from_loss<G: Game>(game: &G, cells: &mut [u8], number: u32, level: u8) -> u64
-    requires laws { IsClass (Leads G.legal G.after) G.mate (G.known game.now) (G.home game.now) (G.index game.now) (G.outside game.now) (G.position game.now) (G.size game.now) (G.image game.now) }
+    requires laws { IsNumberedClass (G.numbered game.now) }
     requires level { level < 254 }
-    requires number { number < G.size game.now }
-    requires cells { length cells.old ≡ G.size game.now }
-    ensures rise { (i : ℕ) → (slice_index cells.new i ≡ slice_index cells.old i) ⊎ LeadsTo (Leads G.legal G.after) (G.home game.now) (G.index game.now) (G.position game.now) i number × (slice_index cells.new i ≡ level + 2) × ((slice_index cells.old i ≡ 0) ⊎ (level + 2 < slice_index cells.old i)) }
-    ensures done { (i : ℕ) → LeadsTo (Leads G.legal G.after) (G.home game.now) (G.index game.now) (G.position game.now) i number → (slice_index cells.new i ≢ 0) × (slice_index cells.new i ≤ level + 2) }
+    requires number { number < (G.numbered game.now).size }
+    requires cells { length cells.old ≡ (G.numbered game.now).size }
+    ensures rise { AreLowered (λ i. StepLeads (G.numbered game.now) i number) level cells.old cells.new }
+    ensures done { (i : ℕ) → StepLeads (G.numbered game.now) i number → IsSetBy (level + 2) cells.new i }
 {
     let before = game.earlier(number);
     for from in before.as_slice() {
@@ -50,11 +47,11 @@ pub fn go_back_from_loss<G: Game>(game: &G, cells: &mut [u8], number: u32, level
 
 /// Whether a position has a move, and each leads to a win within `level` plies.
 pub fn is_lost<G: Game>(game: &G, cells: &[u8], at: &G::Position, level: u8) -> bool
-    requires laws { IsClass (Leads G.legal G.after) G.mate (G.known game.now) (G.home game.now) (G.index game.now) (G.outside game.now) (G.position game.now) (G.size game.now) (G.image game.now) }
-    requires known { G.known game.now at.now }
-    requires home { G.home game.now at.now ≡ true }
-    requires cells { length cells.now ≡ G.size game.now }
-    ensures { IsTrue result ↔ IsLostBy (Leads G.legal G.after) (label_of (G.home game.now) (G.index game.now) (G.outside game.now) cells.now) level at.now }
+    requires laws { IsNumberedClass (G.numbered game.now) }
+    requires known { (G.numbered game.now).known at.now }
+    requires home { (G.numbered game.now).home at.now ≡ true }
+    requires cells { length cells.now ≡ (G.numbered game.now).size }
+    ensures { IsTrue result ↔ LosesBy (G.numbered game.now) cells.now level at.now }
 {
     let moves = game.moves(at);
     for by in moves.as_slice() {
@@ -78,11 +75,11 @@ fn is_won(value: Value, level: u8) -> bool
 
 /// Whether the position of a number has a move, and each leads to a win within `level` plies.
 pub fn is_lost_at<G: Game>(game: &G, cells: &[u8], number: u32, level: u8) -> bool
-    requires laws { IsClass (Leads G.legal G.after) G.mate (G.known game.now) (G.home game.now) (G.index game.now) (G.outside game.now) (G.position game.now) (G.size game.now) (G.image game.now) }
-    requires number { number < G.size game.now }
-    requires cells { length cells.now ≡ G.size game.now }
-    ensures yes { IsTrue result → (p : G.Position) × (G.position game.now number ≡ Some p) × IsLostBy (Leads G.legal G.after) (label_of (G.home game.now) (G.index game.now) (G.outside game.now) cells.now) level p }
-    ensures no { result ≡ false → (p : G.Position) → G.position game.now number ≡ Some p → IsLostBy (Leads G.legal G.after) (label_of (G.home game.now) (G.index game.now) (G.outside game.now) cells.now) level p → ⊥ }
+    requires laws { IsNumberedClass (G.numbered game.now) }
+    requires number { number < (G.numbered game.now).size }
+    requires cells { length cells.now ≡ (G.numbered game.now).size }
+    ensures yes { IsTrue result → (p : G.Position) × ((G.numbered game.now).position number ≡ Some p) × LosesBy (G.numbered game.now) cells.now level p }
+    ensures no { result ≡ false → NoLossBy (G.numbered game.now) cells.now level number }
 {
     match game.decode(number) {
         None => false,
@@ -92,12 +89,12 @@ pub fn is_lost_at<G: Game>(game: &G, cells: &[u8], number: u32, level: u8) -> bo
 
 /// Sets the cell of a number that tells of no mate, where each move leads to a win within `level` plies.
 pub fn deny<G: Game>(game: &G, cells: &mut [u8], number: u32, level: u8) -> u64
-    requires laws { IsClass (Leads G.legal G.after) G.mate (G.known game.now) (G.home game.now) (G.index game.now) (G.outside game.now) (G.position game.now) (G.size game.now) (G.image game.now) }
+    requires laws { IsNumberedClass (G.numbered game.now) }
     requires level { level < 254 }
-    requires number { number < G.size game.now }
-    requires cells { length cells.old ≡ G.size game.now }
-    ensures rise { IsRightOutside (Leads G.legal G.after) G.mate (G.known game.now) (G.home game.now) (G.outside game.now) → TellsWins (Leads G.legal G.after) G.mate level (G.position game.now) cells.old → (i : ℕ) → (slice_index cells.new i ≡ slice_index cells.old i) ⊎ (slice_index cells.old i ≡ 0) × (slice_index cells.new i ≡ level + 2) × ((p : G.Position) × (G.position game.now i ≡ Some p) × Mated (Leads G.legal G.after) G.mate p (level + 1)) }
-    ensures done { IsRightOutside (Leads G.legal G.after) G.mate (G.known game.now) (G.home game.now) (G.outside game.now) → TellsWins (Leads G.legal G.after) G.mate level (G.position game.now) cells.old → (p q : G.Position) → G.position game.now number ≡ Some p → Leads G.legal G.after p q → Mated (Leads G.legal G.after) G.mate p (level + 1) → slice_index cells.new number ≢ 0 }
+    requires number { number < (G.numbered game.now).size }
+    requires cells { length cells.old ≡ (G.numbered game.now).size }
+    ensures rise { WhereWinsAreTold (G.numbered game.now) level cells.old (AreAdded level (IsMatedAt (G.numbered game.now) (level + 1)) cells.old cells.new) }
+    ensures done { WhereWinsAreTold (G.numbered game.now) level cells.old (LossIsSet (G.numbered game.now) level number cells.new) }
 {
     if cells[number as usize] != 0 {
         return 0;
@@ -110,13 +107,13 @@ pub fn deny<G: Game>(game: &G, cells: &mut [u8], number: u32, level: u8) -> u64
 
 /// Where the position of a number is won in `level` plies, what leads to it may be lost in one more.
 pub fn go_back_from_win<G: Game>(game: &G, cells: &mut [u8], number: u32, level: u8) -> u64
-    requires laws { IsClass (Leads G.legal G.after) G.mate (G.known game.now) (G.home game.now) (G.index game.now) (G.outside game.now) (G.position game.now) (G.size game.now) (G.image game.now) }
+    requires laws { IsNumberedClass (G.numbered game.now) }
     requires level { level < 254 }
     requires odd { level % 2 ≡ 1 }
-    requires number { number < G.size game.now }
-    requires cells { length cells.old ≡ G.size game.now }
-    ensures rise { IsRightOutside (Leads G.legal G.after) G.mate (G.known game.now) (G.home game.now) (G.outside game.now) → TellsWins (Leads G.legal G.after) G.mate level (G.position game.now) cells.old → (i : ℕ) → (slice_index cells.new i ≡ slice_index cells.old i) ⊎ (slice_index cells.old i ≡ 0) × (slice_index cells.new i ≡ level + 2) × ((p : G.Position) × (G.position game.now i ≡ Some p) × Mated (Leads G.legal G.after) G.mate p (level + 1)) }
-    ensures done { IsRightOutside (Leads G.legal G.after) G.mate (G.known game.now) (G.home game.now) (G.outside game.now) → TellsWins (Leads G.legal G.after) G.mate level (G.position game.now) cells.old → slice_index cells.old number ≡ level + 1 → (i : ℕ) → (t : LeadsTo (Leads G.legal G.after) (G.home game.now) (G.index game.now) (G.position game.now) i number) → Mated (Leads G.legal G.after) G.mate t.0 (level + 1) → slice_index cells.new i ≢ 0 }
+    requires number { number < (G.numbered game.now).size }
+    requires cells { length cells.old ≡ (G.numbered game.now).size }
+    ensures rise { WhereWinsAreTold (G.numbered game.now) level cells.old (AreAdded level (IsMatedAt (G.numbered game.now) (level + 1)) cells.old cells.new) }
+    ensures done { WhereWinsAreTold (G.numbered game.now) level cells.old (WinGoesBack (G.numbered game.now) level number cells.old cells.new) }
 {
     if cells[number as usize] != level + 1 {
         return 0;
@@ -128,12 +125,12 @@ pub fn go_back_from_win<G: Game>(game: &G, cells: &mut [u8], number: u32, level:
 // Not inlined: the list of numbers would be cleared for each number of a level.
 #[inline(never)]
 fn deny_before<G: Game>(game: &G, cells: &mut [u8], number: u32, level: u8) -> u64
-    requires laws { IsClass (Leads G.legal G.after) G.mate (G.known game.now) (G.home game.now) (G.index game.now) (G.outside game.now) (G.position game.now) (G.size game.now) (G.image game.now) }
+    requires laws { IsNumberedClass (G.numbered game.now) }
     requires level { level < 254 }
-    requires number { number < G.size game.now }
-    requires cells { length cells.old ≡ G.size game.now }
-    ensures rise { IsRightOutside (Leads G.legal G.after) G.mate (G.known game.now) (G.home game.now) (G.outside game.now) → TellsWins (Leads G.legal G.after) G.mate level (G.position game.now) cells.old → (i : ℕ) → (slice_index cells.new i ≡ slice_index cells.old i) ⊎ (slice_index cells.old i ≡ 0) × (slice_index cells.new i ≡ level + 2) × ((p : G.Position) × (G.position game.now i ≡ Some p) × Mated (Leads G.legal G.after) G.mate p (level + 1)) }
-    ensures done { IsRightOutside (Leads G.legal G.after) G.mate (G.known game.now) (G.home game.now) (G.outside game.now) → TellsWins (Leads G.legal G.after) G.mate level (G.position game.now) cells.old → (i : ℕ) → (t : LeadsTo (Leads G.legal G.after) (G.home game.now) (G.index game.now) (G.position game.now) i number) → Mated (Leads G.legal G.after) G.mate t.0 (level + 1) → slice_index cells.new i ≢ 0 }
+    requires number { number < (G.numbered game.now).size }
+    requires cells { length cells.old ≡ (G.numbered game.now).size }
+    ensures rise { WhereWinsAreTold (G.numbered game.now) level cells.old (AreAdded level (IsMatedAt (G.numbered game.now) (level + 1)) cells.old cells.new) }
+    ensures done { WhereWinsAreTold (G.numbered game.now) level cells.old (LossesAreSet (G.numbered game.now) level number cells.new) }
 {
     let before = game.earlier(number);
     let mut tested = 0u64;

@@ -22,36 +22,11 @@ pub struct ClassGame<'t, 'a, A: Allocator> {
 }
 
 impl<'t, 'a, A: Allocator> Game for ClassGame<'t, 'a, A> {
-    ghost use Rattle.std.specs.Prelude.{◌≡◌, true};
-    ghost use Rattle.study_moves.specs.Rules.{is_legal, after};
-    ghost use Rattle.study_moves.specs.Game.{IsMate};
-    ghost use Rattle.study_material.specs.Needs.{LeadsOn};
-    ghost use Rattle.study_index.specs.Number.{cells_of};
-    ghost use Rattle.study_index.specs.Found.{index_of, position_at};
-    ghost use Rattle.study_index.specs.Laws.{AreAlikeIn};
-    ghost use Rattle.study_retro.specs.Game.{is_of, value_in};
+    ghost use Rattle.study_retro.specs.ClassGame.{class_game};
 
     type Position = Position;
 
-    ghost legal = { λ p m. is_legal p m ≡ true };
-
-    ghost after = { after };
-
-    ghost mate = { IsMate };
-
-    ghost size = { λ g. cells_of g.class };
-
-    ghost home = { λ g p. is_of g.class p };
-
-    ghost known = { λ g p. LeadsOn g.class p };
-
-    ghost index = { λ g p. index_of p };
-
-    ghost outside = { λ g p. value_in g.tables.now p };
-
-    ghost position = { λ g n. position_at g.class n };
-
-    ghost image = { λ g p q. AreAlikeIn g.class p q };
+    ghost numbered = { λ g. class_game g.class g.tables.now };
 
     fn cells(&self) -> u32 {
         cells(self.class)

@@ -1,10 +1,8 @@
 //! What a number is worth before the levels: the mates, and what the moves out of the class alone give.
-ghost use Rattle.std.specs.Prelude.{◌≡◌, ◌≢◌, ◌+◌, ◌<◌, ◌≤◌, ◌⊎◌, ℕ, true, false, length, slice_index, Some};
-ghost use Rattle.study_retro.specs.Tally.{lost_with, won_with, drawn_with};
-ghost use Rattle.study_retro.specs.Forced.{Leads, GivesOutside, distance_of};
-ghost use Rattle.study_retro.specs.Right.{IsRightOutside};
-ghost use Rattle.study_retro.specs.Class.{IsClass};
-ghost use Rattle.study_retro.specs.Back.{IsFirst, IsHeldCell, AreHeld};
+ghost use Rattle.std.specs.Prelude.{◌≡◌, ◌<◌, ℕ, true, false, length, Some};
+ghost use Rattle.study_retro.specs.Back.{IsFirst};
+ghost use Rattle.study_retro.specs.Numbered.{CellIsHeld, CellsAreHeld, IsNumberedClass, OutsideGives, OutsideIsRight};
+ghost use Rattle.study_retro.specs.Tally.{drawn_with, lost_with, won_with};
 
 use crate::game::{Game, Place};
 use crate::tally::Tally;
@@ -12,13 +10,13 @@ use crate::value::Value;
 
 /// Takes the value of a position out of the class into a tally.
 pub fn with_outside<G: Game>(game: &G, tally: Tally, at: &G::Position) -> Tally
-    requires { G.known game.now at.now }
-    ensures in_lost { G.home game.now at.now ≡ true → result.lost ≡ tally.lost }
-    ensures in_won { G.home game.now at.now ≡ true → result.won ≡ tally.won }
-    ensures in_drawn { G.home game.now at.now ≡ true → result.drawn ≡ tally.drawn }
-    ensures out_lost { G.home game.now at.now ≡ false → result.lost ≡ lost_with tally.lost (G.outside game.now at.now) }
-    ensures out_won { G.home game.now at.now ≡ false → result.won ≡ won_with tally.won (G.outside game.now at.now) }
-    ensures out_drawn { G.home game.now at.now ≡ false → result.drawn ≡ drawn_with tally.drawn (G.outside game.now at.now) }
+    requires { (G.numbered game.now).known at.now }
+    ensures in_lost { (G.numbered game.now).home at.now ≡ true → result.lost ≡ tally.lost }
+    ensures in_won { (G.numbered game.now).home at.now ≡ true → result.won ≡ tally.won }
+    ensures in_drawn { (G.numbered game.now).home at.now ≡ true → result.drawn ≡ tally.drawn }
+    ensures out_lost { (G.numbered game.now).home at.now ≡ false → result.lost ≡ lost_with tally.lost ((G.numbered game.now).outside at.now) }
+    ensures out_won { (G.numbered game.now).home at.now ≡ false → result.won ≡ won_with tally.won ((G.numbered game.now).outside at.now) }
+    ensures out_drawn { (G.numbered game.now).home at.now ≡ false → result.drawn ≡ drawn_with tally.drawn ((G.numbered game.now).outside at.now) }
 {
     match game.place(at) {
         Place::Cell(_) => tally,
@@ -28,11 +26,11 @@ pub fn with_outside<G: Game>(game: &G, tally: Tally, at: &G::Position) -> Tally
 
 /// What the moves out of the class alone give a position.
 pub fn converted<G: Game>(game: &G, at: &G::Position) -> Value
-    requires laws { IsClass (Leads G.legal G.after) G.mate (G.known game.now) (G.home game.now) (G.index game.now) (G.outside game.now) (G.position game.now) (G.size game.now) (G.image game.now) }
-    requires numbered { (n : ℕ) × (G.position game.now n ≡ Some at.now) }
-    requires known { G.known game.now at.now }
-    requires home { G.home game.now at.now ≡ true }
-    ensures { GivesOutside (Leads G.legal G.after) (G.home game.now) (G.outside game.now) at.now result }
+    requires laws { IsNumberedClass (G.numbered game.now) }
+    requires numbered { (n : ℕ) × ((G.numbered game.now).position n ≡ Some at.now) }
+    requires known { (G.numbered game.now).known at.now }
+    requires home { (G.numbered game.now).home at.now ≡ true }
+    ensures { OutsideGives (G.numbered game.now) at.now result }
 {
     let moves = game.moves(at);
     let mut tally = Tally::new();
@@ -76,9 +74,9 @@ pub fn first_by(value: Value) -> First
 
 /// What a number begins with.
 pub fn first_of<G: Game>(game: &G, number: u32) -> First
-    requires laws { IsClass (Leads G.legal G.after) G.mate (G.known game.now) (G.home game.now) (G.index game.now) (G.outside game.now) (G.position game.now) (G.size game.now) (G.image game.now) }
-    requires number { number < G.size game.now }
-    ensures { IsRightOutside (Leads G.legal G.after) G.mate (G.known game.now) (G.home game.now) (G.outside game.now) → IsHeldCell (Leads G.legal G.after) G.mate (G.home game.now) result.far 0 (G.position game.now number) result.cell }
+    requires laws { IsNumberedClass (G.numbered game.now) }
+    requires number { number < (G.numbered game.now).size }
+    ensures { OutsideIsRight (G.numbered game.now) → CellIsHeld (G.numbered game.now) result.far 0 number result.cell }
 {
     let Some(at) = game.decode(number) else {
         return First {
@@ -97,9 +95,9 @@ pub fn first_of<G: Game>(game: &G, number: u32) -> First
 
 /// What all numbers begin with, and whether some mate cannot be told.
 pub fn start<G: Game>(game: &G, cells: &mut [u8]) -> bool
-    requires laws { IsClass (Leads G.legal G.after) G.mate (G.known game.now) (G.home game.now) (G.index game.now) (G.outside game.now) (G.position game.now) (G.size game.now) (G.image game.now) }
-    requires cells { length cells.old ≡ G.size game.now }
-    ensures { IsRightOutside (Leads G.legal G.after) G.mate (G.known game.now) (G.home game.now) (G.outside game.now) → AreHeld (Leads G.legal G.after) G.mate (G.home game.now) result 0 (G.position game.now) (G.size game.now) cells.new }
+    requires laws { IsNumberedClass (G.numbered game.now) }
+    requires cells { length cells.old ≡ (G.numbered game.now).size }
+    ensures { OutsideIsRight (G.numbered game.now) → CellsAreHeld (G.numbered game.now) result 0 cells.new }
 {
     let mut far = false;
     for number in 0..game.cells() {

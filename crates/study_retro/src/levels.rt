@@ -1,9 +1,7 @@
 //! Levels: from the mates in at most so many plies to those in one more.
-ghost use Rattle.std.specs.Prelude.{◌≡◌, ◌≢◌, ◌+◌, ◌<◌, ◌≤◌, ◌%◌, ◌⊎◌, ℕ, Bool, true, false, length, slice_index, Option, Some, IsTrue, All};
-ghost use Rattle.study_retro.specs.Forced.{Leads, Mated};
-ghost use Rattle.study_retro.specs.Right.{AreRight, IsRightOutside, HasFar};
-ghost use Rattle.study_retro.specs.Class.{IsClass};
-ghost use Rattle.study_retro.specs.Back.{LeadsTo, TellsWins, AreHeld};
+ghost use Rattle.std.specs.Prelude.{◌≡◌, ◌≢◌, ◌+◌, ◌<◌, ◌≤◌, ◌%◌, ℕ, false, length, slice_index, IsTrue};
+ghost use Rattle.study_retro.specs.Back.{AreAdded, AreDropped, AreLowered};
+ghost use Rattle.study_retro.specs.Numbered.{CellsAreRight, EndsRight, HasFarMate, IsMatedAt, IsNumberedClass, LossIsKept, LossIsTrue, LossesAreKept, LossesAreTrue, LossesGoBack, OutsideIsRight, RaisesLevel, StepLeads, WhereWinsAreTold, WinsGoBack};
 
 use crate::back::{go_back_from_loss, go_back_from_win, is_lost_at, put};
 use crate::check::first_other;
@@ -12,11 +10,11 @@ use crate::game::Game;
 
 /// Goes back from all positions that are lost in `level` plies.
 pub fn level_of_losses<G: Game>(game: &G, cells: &mut [u8], level: u8) -> u64
-    requires laws { IsClass (Leads G.legal G.after) G.mate (G.known game.now) (G.home game.now) (G.index game.now) (G.outside game.now) (G.position game.now) (G.size game.now) (G.image game.now) }
+    requires laws { IsNumberedClass (G.numbered game.now) }
     requires level { level < 254 }
-    requires cells { length cells.old ≡ G.size game.now }
-    ensures rise { (i : ℕ) → (slice_index cells.new i ≡ slice_index cells.old i) ⊎ ((j : ℕ) × (slice_index cells.old j ≡ level + 1) × LeadsTo (Leads G.legal G.after) (G.home game.now) (G.index game.now) (G.position game.now) i j) × (slice_index cells.new i ≡ level + 2) × ((slice_index cells.old i ≡ 0) ⊎ (level + 2 < slice_index cells.old i)) }
-    ensures done { (i j : ℕ) → j < G.size game.now → slice_index cells.old j ≡ level + 1 → LeadsTo (Leads G.legal G.after) (G.home game.now) (G.index game.now) (G.position game.now) i j → (slice_index cells.new i ≢ 0) × (slice_index cells.new i ≤ level + 2) }
+    requires cells { length cells.old ≡ (G.numbered game.now).size }
+    ensures rise { AreLowered (λ i. (j : ℕ) × (slice_index cells.old j ≡ level + 1) × StepLeads (G.numbered game.now) i j) level cells.old cells.new }
+    ensures done { LossesGoBack (G.numbered game.now) level cells.old cells.new }
 {
     let mut examined = 0u64;
     for number in 0..game.cells() {
@@ -30,14 +28,14 @@ pub fn level_of_losses<G: Game>(game: &G, cells: &mut [u8], level: u8) -> u64
 
 /// Looks at a number that a move out of the class makes due: its cell stays where it is lost in `level + 1` plies, and else is 0.
 pub fn confirm<G: Game>(game: &G, cells: &mut [u8], number: u32, level: u8) -> u64
-    requires laws { IsClass (Leads G.legal G.after) G.mate (G.known game.now) (G.home game.now) (G.index game.now) (G.outside game.now) (G.position game.now) (G.size game.now) (G.image game.now) }
+    requires laws { IsNumberedClass (G.numbered game.now) }
     requires level { level < 254 }
-    requires number { number < G.size game.now }
-    requires cells { length cells.old ≡ G.size game.now }
-    ensures fall { (i : ℕ) → (slice_index cells.new i ≡ slice_index cells.old i) ⊎ (slice_index cells.old i ≡ level + 2) × (slice_index cells.new i ≡ 0) }
+    requires number { number < (G.numbered game.now).size }
+    requires cells { length cells.old ≡ (G.numbered game.now).size }
+    ensures fall { AreDropped level cells.old cells.new }
     ensures other { (i : ℕ) → i ≢ number → slice_index cells.new i ≡ slice_index cells.old i }
-    ensures lost { IsRightOutside (Leads G.legal G.after) G.mate (G.known game.now) (G.home game.now) (G.outside game.now) → TellsWins (Leads G.legal G.after) G.mate level (G.position game.now) cells.old → (p : G.Position) → G.position game.now number ≡ Some p → slice_index cells.new number ≡ level + 2 → Mated (Leads G.legal G.after) G.mate p (level + 1) }
-    ensures kept { IsRightOutside (Leads G.legal G.after) G.mate (G.known game.now) (G.home game.now) (G.outside game.now) → TellsWins (Leads G.legal G.after) G.mate level (G.position game.now) cells.old → (p q : G.Position) → G.position game.now number ≡ Some p → Leads G.legal G.after p q → slice_index cells.old number ≡ level + 2 → Mated (Leads G.legal G.after) G.mate p (level + 1) → slice_index cells.new number ≡ level + 2 }
+    ensures lost { WhereWinsAreTold (G.numbered game.now) level cells.old (LossIsTrue (G.numbered game.now) level number cells.new) }
+    ensures kept { WhereWinsAreTold (G.numbered game.now) level cells.old (LossIsKept (G.numbered game.now) level number cells.old cells.new) }
 {
     if cells[number as usize] != level + 2 {
         return 0;
@@ -50,13 +48,13 @@ pub fn confirm<G: Game>(game: &G, cells: &mut [u8], number: u32, level: u8) -> u
 
 /// Looks at all numbers that moves out of the class make due.
 pub fn confirm_all<G: Game>(game: &G, cells: &mut [u8], level: u8) -> u64
-    requires laws { IsClass (Leads G.legal G.after) G.mate (G.known game.now) (G.home game.now) (G.index game.now) (G.outside game.now) (G.position game.now) (G.size game.now) (G.image game.now) }
+    requires laws { IsNumberedClass (G.numbered game.now) }
     requires level { level < 254 }
     requires odd { level % 2 ≡ 1 }
-    requires cells { length cells.old ≡ G.size game.now }
-    ensures fall { (i : ℕ) → (slice_index cells.new i ≡ slice_index cells.old i) ⊎ (slice_index cells.old i ≡ level + 2) × (slice_index cells.new i ≡ 0) }
-    ensures lost { IsRightOutside (Leads G.legal G.after) G.mate (G.known game.now) (G.home game.now) (G.outside game.now) → TellsWins (Leads G.legal G.after) G.mate level (G.position game.now) cells.old → (i : ℕ) (p : G.Position) → i < G.size game.now → G.position game.now i ≡ Some p → slice_index cells.new i ≡ level + 2 → Mated (Leads G.legal G.after) G.mate p (level + 1) }
-    ensures kept { IsRightOutside (Leads G.legal G.after) G.mate (G.known game.now) (G.home game.now) (G.outside game.now) → TellsWins (Leads G.legal G.after) G.mate level (G.position game.now) cells.old → (i : ℕ) (p q : G.Position) → G.position game.now i ≡ Some p → Leads G.legal G.after p q → slice_index cells.old i ≡ level + 2 → Mated (Leads G.legal G.after) G.mate p (level + 1) → slice_index cells.new i ≡ level + 2 }
+    requires cells { length cells.old ≡ (G.numbered game.now).size }
+    ensures fall { AreDropped level cells.old cells.new }
+    ensures lost { WhereWinsAreTold (G.numbered game.now) level cells.old (LossesAreTrue (G.numbered game.now) level cells.new) }
+    ensures kept { WhereWinsAreTold (G.numbered game.now) level cells.old (LossesAreKept (G.numbered game.now) level cells.old cells.new) }
 {
     let mut examined = 0u64;
     for number in 0..game.cells() {
@@ -67,12 +65,12 @@ pub fn confirm_all<G: Game>(game: &G, cells: &mut [u8], level: u8) -> u64
 
 /// Goes back from all positions that are won in `level` plies.
 pub fn level_of_wins<G: Game>(game: &G, cells: &mut [u8], level: u8) -> u64
-    requires laws { IsClass (Leads G.legal G.after) G.mate (G.known game.now) (G.home game.now) (G.index game.now) (G.outside game.now) (G.position game.now) (G.size game.now) (G.image game.now) }
+    requires laws { IsNumberedClass (G.numbered game.now) }
     requires level { level < 254 }
     requires odd { level % 2 ≡ 1 }
-    requires cells { length cells.old ≡ G.size game.now }
-    ensures rise { IsRightOutside (Leads G.legal G.after) G.mate (G.known game.now) (G.home game.now) (G.outside game.now) → TellsWins (Leads G.legal G.after) G.mate level (G.position game.now) cells.old → (i : ℕ) → (slice_index cells.new i ≡ slice_index cells.old i) ⊎ (slice_index cells.old i ≡ 0) × (slice_index cells.new i ≡ level + 2) × ((p : G.Position) × (G.position game.now i ≡ Some p) × Mated (Leads G.legal G.after) G.mate p (level + 1)) }
-    ensures done { IsRightOutside (Leads G.legal G.after) G.mate (G.known game.now) (G.home game.now) (G.outside game.now) → TellsWins (Leads G.legal G.after) G.mate level (G.position game.now) cells.old → (j : ℕ) → j < G.size game.now → slice_index cells.old j ≡ level + 1 → (i : ℕ) → (t : LeadsTo (Leads G.legal G.after) (G.home game.now) (G.index game.now) (G.position game.now) i j) → Mated (Leads G.legal G.after) G.mate t.0 (level + 1) → slice_index cells.new i ≢ 0 }
+    requires cells { length cells.old ≡ (G.numbered game.now).size }
+    ensures rise { WhereWinsAreTold (G.numbered game.now) level cells.old (AreAdded level (IsMatedAt (G.numbered game.now) (level + 1)) cells.old cells.new) }
+    ensures done { WhereWinsAreTold (G.numbered game.now) level cells.old (WinsGoBack (G.numbered game.now) level cells.old cells.new) }
 {
     let mut examined = 0u64;
     for number in 0..game.cells() {
@@ -83,10 +81,10 @@ pub fn level_of_wins<G: Game>(game: &G, cells: &mut [u8], level: u8) -> u64
 
 /// One level.
 pub fn step<G: Game>(game: &G, cells: &mut [u8], level: u8) -> u64
-    requires laws { IsClass (Leads G.legal G.after) G.mate (G.known game.now) (G.home game.now) (G.index game.now) (G.outside game.now) (G.position game.now) (G.size game.now) (G.image game.now) }
+    requires laws { IsNumberedClass (G.numbered game.now) }
     requires level { level < 254 }
-    requires cells { length cells.old ≡ G.size game.now }
-    ensures { IsRightOutside (Leads G.legal G.after) G.mate (G.known game.now) (G.home game.now) (G.outside game.now) → (far : Bool) → AreHeld (Leads G.legal G.after) G.mate (G.home game.now) far level (G.position game.now) (G.size game.now) cells.old → AreHeld (Leads G.legal G.after) G.mate (G.home game.now) far (level + 1) (G.position game.now) (G.size game.now) cells.new }
+    requires cells { length cells.old ≡ (G.numbered game.now).size }
+    ensures { RaisesLevel (G.numbered game.now) level (level + 1) cells.old cells.new }
 {
     if level % 2 == 0 {
         level_of_losses(game, cells, level)
@@ -117,11 +115,11 @@ pub struct Ended {
 
 /// All levels.
 pub fn all_levels<G: Game>(game: &G, cells: &mut [u8]) -> Ended
-    requires laws { IsClass (Leads G.legal G.after) G.mate (G.known game.now) (G.home game.now) (G.index game.now) (G.outside game.now) (G.position game.now) (G.size game.now) (G.image game.now) }
-    requires cells { length cells.old ≡ G.size game.now }
-    ensures held { IsRightOutside (Leads G.legal G.after) G.mate (G.known game.now) (G.home game.now) (G.outside game.now) → (far : Bool) → AreHeld (Leads G.legal G.after) G.mate (G.home game.now) far 0 (G.position game.now) (G.size game.now) cells.old → AreHeld (Leads G.legal G.after) G.mate (G.home game.now) far 254 (G.position game.now) (G.size game.now) cells.new }
+    requires laws { IsNumberedClass (G.numbered game.now) }
+    requires cells { length cells.old ≡ (G.numbered game.now).size }
+    ensures held { RaisesLevel (G.numbered game.now) 0 254 cells.old cells.new }
     ensures bytes { (i : ℕ) → slice_index cells.new i ≤ 255 }
-    ensures right { IsRightOutside (Leads G.legal G.after) G.mate (G.known game.now) (G.home game.now) (G.outside game.now) → AreHeld (Leads G.legal G.after) G.mate (G.home game.now) false 0 (G.position game.now) (G.size game.now) cells.old → IsTrue result.silent → AreRight (Leads G.legal G.after) G.mate (G.position game.now) (G.size game.now) cells.new }
+    ensures right { EndsRight (G.numbered game.now) result.silent cells.old cells.new }
 {
     let mut examined = 0u64;
     for level in 0..254u8 {
@@ -148,10 +146,10 @@ pub struct Filled {
 
 /// Fills cells with the values of a class, whatever they held.
 pub fn fill<G: Game>(game: &G, cells: &mut [u8]) -> Filled
-    requires laws { IsClass (Leads G.legal G.after) G.mate (G.known game.now) (G.home game.now) (G.index game.now) (G.outside game.now) (G.position game.now) (G.size game.now) (G.image game.now) }
-    requires cells { length cells.old ≡ G.size game.now }
-    ensures right { IsRightOutside (Leads G.legal G.after) G.mate (G.known game.now) (G.home game.now) (G.outside game.now) → IsTrue result.fits → AreRight (Leads G.legal G.after) G.mate (G.position game.now) (G.size game.now) cells.new }
-    ensures far { IsRightOutside (Leads G.legal G.after) G.mate (G.known game.now) (G.home game.now) (G.outside game.now) → result.fits ≡ false → HasFar (Leads G.legal G.after) G.mate (G.known game.now) (G.home game.now) }
+    requires laws { IsNumberedClass (G.numbered game.now) }
+    requires cells { length cells.old ≡ (G.numbered game.now).size }
+    ensures right { OutsideIsRight (G.numbered game.now) → IsTrue result.fits → CellsAreRight (G.numbered game.now) cells.new }
+    ensures far { OutsideIsRight (G.numbered game.now) → result.fits ≡ false → HasFarMate (G.numbered game.now) }
 {
     let far = start(game, cells);
     let ended = all_levels(game, cells);

@@ -1,5 +1,5 @@
-use Rattle.std.proofs.Common.{◌≡◌, ℕ, ◌+◌, inl, inr, slice_index, Some, sym, subst}
-use Rattle.study_retro.specs.Forced.{Leads, Mated}
+use Rattle.std.proofs.Common.{◌≡◌, ℕ, ◌+◌, inl, inr, slice_index, sym, subst}
+use Rattle.study_retro.specs.Numbered.{IsMatedAt}
 use Rattle.study_retro.proofs.HeldLemmas.{lost-sound, lost-complete}
 use Rattle.study_retro.proofs.back.deny.Goals as goal
 
@@ -11,7 +11,7 @@ returns-then-is_lost_at-clause-rise g c = λ outer tells i. elim (c.put.ensures.
       let d = c.requires.laws.decoded c.args.number y.0 y.1 in
       let m = lost-sound c.requires.laws c.args.cells.now outer c.args.level tells y.0 d.0 d.1 y.2 in
       let zero_there : slice_index c.args.cells.now c.args.number ≡ 0 = c.if-cells-number-ne0.false in
-      subst (λ (n : ℕ). (slice_index c.args.cells.now n ≡ 0) × (slice_index c.put.new.cells n ≡ c.args.level + 2) × ((p : g.row.G-Position.Denot) × (g.G.Game.position c.args.game.now n ≡ Some p) × Mated (Leads g.G.Game.legal g.G.Game.after) g.G.Game.mate p (c.args.level + 1))) (sym x.0)
+      subst (λ (n : ℕ). (slice_index c.args.cells.now n ≡ 0) × (slice_index c.put.new.cells n ≡ c.args.level + 2) × (IsMatedAt (g.G.Game.numbered c.args.game.now) (c.args.level + 1) n)) (sym x.0)
       (zero_there, c.put.ensures.here, (y.0, y.1, m)))
 ]
 

@@ -1,8 +1,6 @@
-use Rattle.std.proofs.Common.{◌≡◌, ◌≢◌, ℕ, ◌+◌, List, slice_index, Contains, Some, arith, sym, ◌∙◌, subst, below_more}
+use Rattle.std.proofs.Common.{◌≢◌, ℕ, ◌+◌, List, slice_index, Contains, arith, sym, ◌∙◌, subst, below_more}
 use Rattle.std.proofs.lemmas.List.Elements.{Contains-get_or}
-use Rattle.study_retro.specs.Forced.{Leads, Mated}
-use Rattle.study_retro.specs.Right.{IsRightOutside}
-use Rattle.study_retro.specs.Back.{LeadsTo, TellsWins}
+use Rattle.study_retro.specs.Numbered.{OutsideIsRight, StepLeads, TellWins, IsMatedAt, IsMatedWithin, leads_in}
 use Rattle.study_retro.proofs.CellsLemmas.{at_place, added-then, added-kept, added-tells}
 use Rattle.study_retro.proofs.back.deny_before.Goals as goal
 
@@ -17,8 +15,8 @@ deny-requires-clause-number g c =
 pub loop-from-preserved : goal.loop-from-preserved
 loop-from-preserved g c =
     let inv = c.loop-from.invariant in
-    let Why : ℕ → Type 0 = (λ (i : ℕ). (p : g.row.G-Position.Denot) × (g.G.Game.position c.args.game.now i ≡ Some p) × Mated (Leads g.G.Game.legal g.G.Game.after) g.G.Game.mate p (c.args.level + 1)) in
-    let now : IsRightOutside (Leads g.G.Game.legal g.G.Game.after) g.G.Game.mate (g.G.Game.known c.args.game.now) (g.G.Game.home c.args.game.now) (g.G.Game.outside c.args.game.now) → TellsWins (Leads g.G.Game.legal g.G.Game.after) g.G.Game.mate c.args.level (g.G.Game.position c.args.game.now) c.args.cells.now → TellsWins (Leads g.G.Game.legal g.G.Game.after) g.G.Game.mate c.args.level (g.G.Game.position c.args.game.now) c.loop-from.cells = λ outer tells. added-tells c.args.level (Leads g.G.Game.legal g.G.Game.after) g.G.Game.mate (g.G.Game.position c.args.game.now) Why c.args.cells.now c.loop-from.cells (inv.rise outer tells) tells in
+    let Why : ℕ → Type 0 = (λ (i : ℕ). IsMatedAt (g.G.Game.numbered c.args.game.now) (c.args.level + 1) i) in
+    let now : OutsideIsRight (g.G.Game.numbered c.args.game.now) → TellWins (g.G.Game.numbered c.args.game.now) c.args.level c.args.cells.now → TellWins (g.G.Game.numbered c.args.game.now) c.args.level c.loop-from.cells = λ outer tells. added-tells c.args.level (leads_in (g.G.Game.numbered c.args.game.now)) (g.G.Game.numbered c.args.game.now).mate (g.G.Game.numbered c.args.game.now).position Why c.args.cells.now c.loop-from.cells (inv.rise outer tells) tells in
     record {
       size = c.deny.auto.cells ∙ inv.size;
       rise = λ outer tells. added-then c.args.level Why c.args.cells.now c.loop-from.cells c.deny.new.cells (inv.rise outer tells) (c.deny.ensures.rise outer (now outer tells));
@@ -32,5 +30,5 @@ returns-clause-done g c = λ outer tells i t m.
     let numbers = c.as_slice-from-items.result.now in
     let there = subst (λ (xs : List ℕ). Contains xs i) (sym c.as_slice-from-items.ensures.value) (c.earlier-before.ensures.all i t) in
     let place = at_place numbers i there in
-    subst (λ (n : ℕ). (t : LeadsTo (Leads g.G.Game.legal g.G.Game.after) (g.G.Game.home c.args.game.now) (g.G.Game.index c.args.game.now) (g.G.Game.position c.args.game.now) n c.args.number) → Mated (Leads g.G.Game.legal g.G.Game.after) g.G.Game.mate t.0 (c.args.level + 1) → slice_index c.loop-from.cells n ≢ 0) place.2
+    subst (λ (n : ℕ). (t : StepLeads (g.G.Game.numbered c.args.game.now) n c.args.number) → IsMatedWithin (g.G.Game.numbered c.args.game.now) (c.args.level + 1) t.0 → slice_index c.loop-from.cells n ≢ 0) place.2
     (c.loop-from.invariant.done outer tells place.0 (omega (arith, place.1, c.loop-from-test.false))) t m

@@ -1,12 +1,11 @@
 use Rattle.std.proofs.Common.{◌≡◌, ◌≢◌, ℕ, ◌+◌, ◌<◌, ◌≤◌, length, slice_index}
-use Rattle.study_retro.specs.Forced.{Leads}
-use Rattle.study_retro.specs.Back.{LeadsTo}
-use Rattle.study_retro.proofs.CellsLemmas.{AreLowered}
+use Rattle.study_retro.specs.Back.{AreLowered}
+use Rattle.study_retro.specs.Numbered.{StepLeads}
 use Rattle.study_retro.proofs.back.go_back_from_loss.Given as goal
 
 abbrev pub invariant-loop-from : goal.invariant-loop-from
 invariant-loop-from g l = record {
-  size : length l.cells ≡ g.G.Game.size l.game;
-  rise : AreLowered (λ i. LeadsTo (Leads g.G.Game.legal g.G.Game.after) (g.G.Game.home l.game) (g.G.Game.index l.game) (g.G.Game.position l.game) i l.number) l.level l.initial.cells l.cells;
+  size : length l.cells ≡ (g.G.Game.numbered l.game).size;
+  rise : AreLowered (λ i. StepLeads (g.G.Game.numbered l.game) i l.number) l.level l.initial.cells l.cells;
   done : (t : ℕ) → t < l.from-index → (slice_index l.cells (slice_index l.from-items t) ≢ 0) × (slice_index l.cells (slice_index l.from-items t) ≤ l.level + 2);
 }

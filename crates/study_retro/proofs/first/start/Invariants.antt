@@ -1,11 +1,10 @@
 use Rattle.std.proofs.Common.{◌≡◌, ℕ, ◌<◌, length, slice_index}
-use Rattle.study_retro.specs.Forced.{Leads}
-use Rattle.study_retro.specs.Right.{IsRightOutside}
 use Rattle.study_retro.specs.Back.{IsHeldCell}
+use Rattle.study_retro.specs.Numbered.{OutsideIsRight, leads_in}
 use Rattle.study_retro.proofs.first.start.Given as goal
 
 abbrev pub invariant-loop-number : goal.invariant-loop-number
 invariant-loop-number g l = record {
-  size : length l.cells ≡ g.G.Game.size l.game;
-  held : IsRightOutside (Leads g.G.Game.legal g.G.Game.after) g.G.Game.mate (g.G.Game.known l.game) (g.G.Game.home l.game) (g.G.Game.outside l.game) → (j : ℕ) → j < l.number → IsHeldCell (Leads g.G.Game.legal g.G.Game.after) g.G.Game.mate (g.G.Game.home l.game) l.far 0 (g.G.Game.position l.game j) (slice_index l.cells j);
+  size : length l.cells ≡ (g.G.Game.numbered l.game).size;
+  held : OutsideIsRight (g.G.Game.numbered l.game) → (j : ℕ) → j < l.number → IsHeldCell (leads_in (g.G.Game.numbered l.game)) (g.G.Game.numbered l.game).mate (g.G.Game.numbered l.game).home l.far 0 ((g.G.Game.numbered l.game).position j) (slice_index l.cells j);
 }

@@ -1,12 +1,10 @@
 use Rattle.std.proofs.Common.{◌≡◌, ℕ, ◌≤◌, length, slice_index, Bool}
-use Rattle.study_retro.specs.Forced.{Leads}
-use Rattle.study_retro.specs.Right.{IsRightOutside}
-use Rattle.study_retro.specs.Back.{AreHeld}
+use Rattle.study_retro.specs.Numbered.{OutsideIsRight, CellsAreHeld}
 use Rattle.study_retro.proofs.levels.all_levels.Given as goal
 
 abbrev pub invariant-loop-level : goal.invariant-loop-level
 invariant-loop-level g l = record {
-  size : length l.cells ≡ g.G.Game.size l.game;
+  size : length l.cells ≡ (g.G.Game.numbered l.game).size;
   bytes : (i : ℕ) → slice_index l.cells i ≤ 255;
-  held : IsRightOutside (Leads g.G.Game.legal g.G.Game.after) g.G.Game.mate (g.G.Game.known l.game) (g.G.Game.home l.game) (g.G.Game.outside l.game) → (far : Bool) → AreHeld (Leads g.G.Game.legal g.G.Game.after) g.G.Game.mate (g.G.Game.home l.game) far 0 (g.G.Game.position l.game) (g.G.Game.size l.game) l.initial.cells → AreHeld (Leads g.G.Game.legal g.G.Game.after) g.G.Game.mate (g.G.Game.home l.game) far l.level (g.G.Game.position l.game) (g.G.Game.size l.game) l.cells;
+  held : OutsideIsRight (g.G.Game.numbered l.game) → (far : Bool) → CellsAreHeld (g.G.Game.numbered l.game) far 0 l.initial.cells → CellsAreHeld (g.G.Game.numbered l.game) far l.level l.cells;
 }

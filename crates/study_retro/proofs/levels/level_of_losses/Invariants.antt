@@ -1,12 +1,11 @@
 use Rattle.std.proofs.Common.{◌≡◌, ◌≢◌, ℕ, ◌+◌, ◌<◌, ◌≤◌, length, slice_index}
-use Rattle.study_retro.specs.Forced.{Leads}
-use Rattle.study_retro.specs.Back.{LeadsTo}
-use Rattle.study_retro.proofs.CellsLemmas.{AreLowered}
+use Rattle.study_retro.specs.Back.{AreLowered}
+use Rattle.study_retro.specs.Numbered.{StepLeads}
 use Rattle.study_retro.proofs.levels.level_of_losses.Given as goal
 
 abbrev pub invariant-loop-number : goal.invariant-loop-number
 invariant-loop-number g l = record {
-  size : length l.cells ≡ g.G.Game.size l.game;
-  rise : AreLowered (λ i. (j : ℕ) × (slice_index l.initial.cells j ≡ l.level + 1) × LeadsTo (Leads g.G.Game.legal g.G.Game.after) (g.G.Game.home l.game) (g.G.Game.index l.game) (g.G.Game.position l.game) i j) l.level l.initial.cells l.cells;
-  done : (j : ℕ) → j < l.number → (i : ℕ) → slice_index l.initial.cells j ≡ l.level + 1 → LeadsTo (Leads g.G.Game.legal g.G.Game.after) (g.G.Game.home l.game) (g.G.Game.index l.game) (g.G.Game.position l.game) i j → (slice_index l.cells i ≢ 0) × (slice_index l.cells i ≤ l.level + 2);
+  size : length l.cells ≡ (g.G.Game.numbered l.game).size;
+  rise : AreLowered (λ i. (j : ℕ) × (slice_index l.initial.cells j ≡ l.level + 1) × StepLeads (g.G.Game.numbered l.game) i j) l.level l.initial.cells l.cells;
+  done : (j : ℕ) → j < l.number → (i : ℕ) → slice_index l.initial.cells j ≡ l.level + 1 → StepLeads (g.G.Game.numbered l.game) i j → (slice_index l.cells i ≢ 0) × (slice_index l.cells i ≤ l.level + 2);
 }

@@ -1,0 +1,28 @@
+-- Chess with the material of a class, as a numbered game.
+use Rattle.std.specs.Prelude.{◌≡◌, true, List, Option}
+use Rattle.study_board.specs.Position.{Position}
+use Rattle.study_moves.specs.Rules.{is_legal, after}
+use Rattle.study_moves.specs.Game.{IsMate}
+use Rattle.study_material.specs.declared.class.Class.{Class}
+use Rattle.study_material.specs.Needs.{LeadsOn}
+use Rattle.study_index.specs.Number.{cells_of}
+use Rattle.study_index.specs.Found.{index_of, position_at}
+use Rattle.study_index.specs.Laws.{AreAlikeIn}
+use Rattle.study_retro.specs.Game.{is_of, value_in}
+use Rattle.study_retro.specs.Table.{Table}
+use Rattle.study_retro.specs.Numbered.{Numbered}
+
+-- the positions of the class, and those of the classes that it needs, whose values the held tables tell
+abbrev pub class_game : Class → List (Option Table) → Numbered Position
+class_game c held = record {
+  legal = λ p m. is_legal p m ≡ true;
+  after = after;
+  mate = IsMate;
+  size = cells_of c;
+  position = position_at c;
+  home = is_of c;
+  index = index_of;
+  known = LeadsOn c;
+  outside = value_in held;
+  image = AreAlikeIn c;
+}
