@@ -9,7 +9,7 @@ use Rattle.study_retro.proofs.SetLemmas.{place_of-injective}
 use Rattle.study_prober.specs.declared.cache.PageKey.{PageKey}
 use Rattle.study_tablefile.specs.declared.source.Header.{Header}
 use Rattle.study_prober.specs.declared.held.Held.{Held}
-use Rattle.study_prober.specs.Sources.{IsHeaderOf, AreChecked, GivesRight, AreHonestAlike, page_cells_of}
+use Rattle.study_prober.specs.Sources.{IsHeaderOf, GivesRight, AreHonestAlike, page_cells_of}
 use Rattle.study_prober.specs.Paged.{held_of, places, IsKept, AreRight, IsSameSource}
 
 pub same_class : (c d : Class) → (c ≡ d) ⊎ (place_of c ≢ place_of d)
@@ -125,7 +125,7 @@ module _ {S : Type 0} where
     module _ {V : Type 0} (cells : V → List ℕ) where
       -- a page after a call: one that was kept before, or one of the source that was asked
       abbrev pub IsPageOf : List (PageKey × V) → Held S → PageKey × V → Type 0
-      IsPageOf kept h e = Contains kept e ⊎ ((e.0.class ≡ place_of h.header.class) × ((t : Table) → honest h.source t h.header.version → t.class ≡ h.header.class → cells e.1 ≡ page_cells_of t e.0.number) × AreChecked h.header.class e.0.number (cells e.1))
+      IsPageOf kept h e = Contains kept e ⊎ ((e.0.class ≡ place_of h.header.class) × ((t : Table) → honest h.source t h.header.version → t.class ≡ h.header.class → cells e.1 ≡ page_cells_of t e.0.number))
 
       pub header_own : (xs : List (Option (Held S))) (kept : List (PageKey × V)) (c : Class) (h : Held S) → IsKept honest cells xs kept → held_of xs c ≡ Some h → IsHeaderOf h.header h.header.class
       header_own xs kept c h was is = let of_class = was.header c h is in subst (λ (x : Class). IsHeaderOf h.header x) (sym of_class.class) of_class
@@ -178,10 +178,6 @@ module _ {S : Type 0} where
           some = λ n. length-set xs (place_of c) (Some k) ∙ was.some (λ e. n (length-set xs (place_of c) (Some k) ∙ e));
           header = header_after;
           held = held_after;
-          checked = λ e d i at. elim (more e i) [
-            | inl old ↦ was.checked e d old at
-            | inr new ↦ subst (λ (x : Class). AreChecked x e.0.number (cells e.1)) (place_of-injective h.header.class d (sym new.0 ∙ at)) new.2
-          ];
           right = λ d j t e gives of. record { is = right_after d j t e gives of };
         }
 
@@ -211,7 +207,6 @@ module _ {S : Type 0} where
             | inl same ↦ subst (λ (x : Held S). IsHeaderOf x.header d) same.1 (subst (λ (x : Class). IsHeaderOf k.header x) same.0 header)
             | inr far ↦ was.header d j far.1
           ];
-          checked = was.checked;
           held = λ e d i at. is_held_after (places xs) c d k room (ap (λ (o : Option (Held S)). is_some o) (held_placed xs d) ∙ was.held e d i at);
           right = λ d j t e gives of. record {
             is = λ page i at. elim (either d j e) [

@@ -3,7 +3,7 @@ pub mod Keys
 pub mod Cells
 pub mod Faults
 pub mod Kept
-pub mod Checked
+pub mod Given
 pub mod Probed
 pub mod Headers
 pub mod Again

@@ -1,10 +1,12 @@
 -- Paged tables as a contract sees them.
-use Rattle.std.specs.Prelude.{◌≡◌, ◌≢◌, ℕ, List, length, slice_index_or, replicate, Contains, true, is_some, Option, Some, None, [], ◌∷◌, ⊤}
+use Rattle.std.specs.Prelude.{◌≡◌, ◌≢◌, ℕ, List, length, slice_index_or, replicate, Contains, true, is_some, Option, Some, None, [], ◌∷◌, ⊤, Result}
 use Rattle.study_material.specs.declared.class.Class.{Class}
 use Rattle.study_retro.specs.Table.{Table, place_of}
+use Rattle.study_tablefile.specs.declared.fault.SourceFault.{SourceFault}
+use Rattle.study_tablefile.specs.Source.{Question}
 use Rattle.study_prober.specs.declared.cache.PageKey.{PageKey}
 use Rattle.study_prober.specs.declared.held.Held.{Held}
-use Rattle.study_prober.specs.Sources.{IsHeaderOf, AreChecked, AreOf, GivesRight, AreHonestAlike}
+use Rattle.study_prober.specs.Sources.{IsHeaderOf, IsGivenPage, AreOf, GivesRight, AreHonestAlike}
 
 -- the sources, each at the place of its class, the pages that are kept, the last used first, and how many there may be
 pub record Paged (S : Type 0) : Type 0 where
@@ -23,14 +25,17 @@ abbrev pub places : {S : Type 0} → List (Option (Held S)) → List (Option (He
 places [] = replicate 36 None
 places (o ∷ os) = o ∷ os
 
--- each source has the header of its class, each page that is kept has passed its check, and for whatever table a source is honest
--- in the version of its header, its pages that are kept are the table's
+-- each source has the header of its class, each page that is kept is of a source that is held, and for whatever table a source is
+-- honest in the version of its header, its pages that are kept are the table's
 pub record IsKept {S V : Type 0} (honest : S → Table → ℕ → Type 0) (cells : V → List ℕ) (sources : List (Option (Held S))) (kept : List (PageKey × V)) : Type 0 where
   pub some : length sources ≢ 0 → length sources ≡ 36
   pub header : (c : Class) (h : Held S) → held_of sources c ≡ Some h → IsHeaderOf h.header c
   pub held : (e : PageKey × V) (c : Class) → Contains kept e → e.0.class ≡ place_of c → is_some (held_of sources c) ≡ true
-  pub checked : (e : PageKey × V) (c : Class) → Contains kept e → e.0.class ≡ place_of c → AreChecked c e.0.number (cells e.1)
   pub right : (c : Class) (h : Held S) (t : Table) → held_of sources c ≡ Some h → honest h.source t h.header.version → t.class ≡ c → AreOf cells kept t
+
+-- each page that is kept is one that its source may give, and has passed its check
+pub record AreGiven {S V : Type 0} (gives : S → Question → Result (List ℕ) SourceFault → Type 0) (cells : V → List ℕ) (sources : List (Option (Held S))) (kept : List (PageKey × V)) : Type 0 where
+  pub given : (e : PageKey × V) (c : Class) (h : Held S) → Contains kept e → e.0.class ≡ place_of c → held_of sources c ≡ Some h → IsGivenPage gives h e.0.number (cells e.1)
 
 -- each source gives the file of a right table of its class
 pub record AreRight {S : Type 0} (honest : S → Table → ℕ → Type 0) (sources : List (Option (Held S))) : Type 0 where

@@ -1,5 +1,5 @@
 -- Sources of pages, and the cells of their tables' pages.
-use Rattle.std.specs.Prelude.{◌≡◌, ℕ, ◌*◌, ◌/◌, ◌%◌, List, ◌++◌, slice_index, drop, Contains, Bool, true, false, Result, Ok, Err}
+use Rattle.std.specs.Prelude.{◌≡◌, ℕ, ◌*◌, ◌/◌, ◌%◌, List, slice_index, take, drop, Contains, Bool, true, false, Result, Ok, Err}
 use Rattle.study_material.specs.declared.class.Class.{Class}
 use Rattle.study_index.specs.Number.{cells_of}
 use Rattle.study_retro.specs.Table.{Table, IsComplete, place_of}
@@ -8,7 +8,9 @@ use Rattle.study_retro.specs.Cells.{value_of}
 use Rattle.study_retro.specs.declared.value.Value.{Value}
 use Rattle.study_tablefile.specs.declared.source.Header.{Header}
 use Rattle.study_tablefile.specs.File.{IsVersionOf, fields_text, page_cells_of as cells_from}
-use Rattle.study_tablefile.specs.Source.{is_whole_page}
+use Rattle.study_tablefile.specs.declared.fault.SourceFault.{SourceFault}
+use Rattle.study_tablefile.specs.Source.{is_whole_page, Question, of_page}
+use Rattle.study_prober.specs.declared.held.Held.{Held}
 use Rattle.study_prober.specs.declared.cache.PageKey.{PageKey}
 use Rattle.study_prober.specs.declared.values.ProbeFault.{ProbeFault}
 use Rattle.study_prober.specs.declared.values.ProbeFault.TheVariants.{NoTable, TableRead, PageDamaged}
@@ -24,13 +26,27 @@ pub record IsHeaderOf (h : Header) (c : Class) : Type 0 where
 abbrev pub page_cells_of : Table → ℕ → List ℕ
 page_cells_of t n = cells_from (drop (4096 * n) t.cells)
 
--- the cells stand in a page n that passes the check of the class's file in a version that it can have
-abbrev pub AreChecked : Class → ℕ → List ℕ → Type 0
-AreChecked c n cells = (v : ℕ) × (digest : List ℕ) × IsVersionOf c v × (is_whole_page (fields_text c v) (cells_of c) n (cells ++ digest) ≡ true)
+-- the cells are those of a page that the source may give as page n, and that passes the check of the source's header
+pub record IsGivenPage {S : Type 0} (gives : S → Question → Result (List ℕ) SourceFault → Type 0) (h : Held S) (n : ℕ) (cells : List ℕ) : Type 0 where
+  pub page : List ℕ
+  pub given : gives h.source (of_page n) (Ok page)
+  pub whole : is_whole_page h.header.fields h.header.cells n page ≡ true
+  pub is : cells ≡ take 4096 page
 
--- the value stands at a number of the class, in a page that passes the check
-abbrev pub IsReadOff : Class → ℕ → Value → Type 0
-IsReadOff c n v = (cells : List ℕ) × AreChecked c (n / 4096) cells × (v ≡ value_of (slice_index cells (n % 4096)))
+-- the source may give a page n that does not pass it
+pub record HasBadPage {S : Type 0} (gives : S → Question → Result (List ℕ) SourceFault → Type 0) (h : Held S) (n : ℕ) : Type 0 where
+  pub page : List ℕ
+  pub given : gives h.source (of_page n) (Ok page)
+  pub not_whole : is_whole_page h.header.fields h.header.cells n page ≡ false
+
+-- the value stands at a number, in such a page
+abbrev pub IsReadFrom : {S : Type 0} → (S → Question → Result (List ℕ) SourceFault → Type 0) → Held S → ℕ → Value → Type 0
+IsReadFrom gives h n v = (cells : List ℕ) × IsGivenPage gives h (n / 4096) cells × (v ≡ value_of (slice_index cells (n % 4096)))
+
+-- two states of one source: they may answer the same
+pub record GiveAlike {S : Type 0} (gives : S → Question → Result (List ℕ) SourceFault → Type 0) (old new : S) : Type 0 where
+  pub on : (q : Question) (a : Result (List ℕ) SourceFault) → gives old q a → gives new q a
+  pub back : (q : Question) (a : Result (List ℕ) SourceFault) → gives new q a → gives old q a
 
 -- the pages of a table's class that are kept are the table's
 pub record AreOf {V : Type 0} (cells : V → List ℕ) (kept : List (PageKey × V)) (t : Table) : Type 0 where

@@ -5,6 +5,7 @@ use Rattle.study_retro.specs.Table.{Table, place_of}
 use Rattle.study_tablefile.specs.declared.fault.SourceFault.{SourceFault}
 use Rattle.study_tablefile.specs.declared.fault.FileFault.{FileFault}
 use Rattle.study_tablefile.specs.declared.source.Header.{Header}
+use Rattle.study_tablefile.specs.Source.{Question, of_header}
 use Rattle.study_tablefile.specs.File.{header_text}
 use Rattle.study_tablefile.specs.Reading.{version_of, class_read}
 use Rattle.study_prober.specs.declared.fault.PagedFault.{PagedFault}
@@ -14,6 +15,10 @@ use Rattle.study_prober.specs.declared.fault.PagedFault.TheVariants.{AlreadyHeld
 abbrev pub MayTell : {S : Type 0} → (S → Table → ℕ → Type 0) → S → Result (List ℕ) SourceFault → Type 0
 MayTell honest source (Err fault) = ⊤
 MayTell honest source (Ok bytes) = (t : Table) (v : ℕ) → honest source t v → bytes ≡ header_text t.class v
+
+-- what this source may answer to the question for its header
+abbrev pub MayAnswer : {S : Type 0} → (S → Question → Result (List ℕ) SourceFault → Type 0) → (S → Table → ℕ → Type 0) → S → Result (List ℕ) SourceFault → Type 0
+MayAnswer gives honest source told = gives source of_header told × MayTell honest source told
 
 abbrev pub class_fault : Class → Result Class FileFault → Option PagedFault
 class_fault c (Err fault) = Some (BadHeader fault)

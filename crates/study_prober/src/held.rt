@@ -1,5 +1,5 @@
 //! Sources of pages, each with what its header says, and the cells of their tables.
-ghost use Rattle.std.specs.Prelude.{◌≡◌, ◌<◌, ◌/◌, ◌⊎◌, ℕ, List, Result, Ok, Err, true, false, IfOk, IfErr, IfSome, OnOk, OnErr, IsErrOf, MatchResult, Contains, slice_index, length, if◌then◌else◌};
+ghost use Rattle.std.specs.Prelude.{◌≡◌, ◌<◌, ◌/◌, ◌⊎◌, ℕ, List, Result, Ok, Err, true, false, IfOk, IfErr, IfSome, OnOk, OnErr, IsErrOf, MatchResult, Contains, slice_index, take, length, if◌then◌else◌};
 ghost use Rattle.study_material.specs.declared.class.Class.{Class as AClass};
 ghost use Rattle.study_retro.specs.Cells.{value_of};
 ghost use Rattle.study_retro.specs.Table.{Table as Seen, IsComplete, place_of};
@@ -7,11 +7,11 @@ ghost use Rattle.study_index.specs.Number.{cells_of};
 ghost use Rattle.study_tablefile.specs.declared.fault.SourceFault.{SourceFault as ASourceFault};
 ghost use Rattle.study_tablefile.specs.File.{IsVersionOf, pages_of};
 ghost use Rattle.study_tablefile.specs.Reading.{class_read};
-ghost use Rattle.study_tablefile.specs.Source.{counted, is_whole_page, page_of};
+ghost use Rattle.study_tablefile.specs.Source.{counted, page_of, of_page};
 ghost use Rattle.lru.specs.LruCache.{promoted, put_entries};
 ghost use Rattle.study_prober.specs.Cache.{same_key, key_at, kept_cell, IsUsed};
-ghost use Rattle.study_prober.specs.Sources.{AreChecked, IsReadOff, AreHonestAlike, AreOf, IsHeaderOf, is_read_fault, page_cells_of};
-ghost use Rattle.study_prober.specs.Told.{MayTell, IsReadOf, IsTold, is_unread};
+ghost use Rattle.study_prober.specs.Sources.{IsGivenPage, HasBadPage, IsReadFrom, GiveAlike, AreHonestAlike, AreOf, IsHeaderOf, is_read_fault, page_cells_of};
+ghost use Rattle.study_prober.specs.Told.{MayAnswer, IsReadOf, IsTold, is_unread};
 
 use crate::cache::{PageKey, Pages, keep, kept_byte, key_of};
 use crate::fault::PagedFault;
@@ -31,7 +31,8 @@ pub struct Held<S> {
 pub fn header_of<S: PageSource>(source: &mut S) -> Result<Header, PagedFault>
     ensures same { AreHonestAlike S.honest source.old source.new }
     ensures count { S.failed source.new ≡ (if is_unread result then counted (S.failed source.old) else S.failed source.old) }
-    ensures told { (told : Result (List ℕ) ASourceFault) × MayTell S.honest source.old told × IsTold told result }
+    ensures alike { GiveAlike S.gives source.old source.new }
+    ensures told { (told : Result (List ℕ) ASourceFault) × MayAnswer S.gives S.honest source.old told × IsTold told result }
     ensures header { IfOk result (λ h. IsHeaderOf h h.class) }
     ensures reads { (t : Seen) (v : ℕ) → IsVersionOf t.class v → S.honest source.old t v → IsReadOf result t.class v }
 {
@@ -49,9 +50,11 @@ impl<S: PageSource> Held<S> {
         ensures same { AreHonestAlike S.honest self.old.source self.new.source }
         ensures ok { (t : Seen) → S.honest self.old.source t self.old.header.version → t.class ≡ self.old.header.class → OnOk result (into.new ≡ page_of t self.old.header.version number) }
         ensures whole { (t : Seen) → S.honest self.old.source t self.old.header.version → t.class ≡ self.old.header.class → IsComplete t → (c : AClass) (n : ℕ) → IsErrOf result (ProbeFault.PageDamaged c n) → ⊥ }
-        ensures checked { OnOk result (is_whole_page self.old.header.fields self.old.header.cells number into.new ≡ true) }
+        ensures alike { GiveAlike S.gives self.old.source self.new.source }
+        ensures checked { OnOk result (IsGivenPage S.gives self.old number (take 4096 into.new)) }
+        ensures unread { (f : ASourceFault) → IsErrOf result (ProbeFault.TableRead f) → S.gives self.old.source (of_page number) (Err f) }
         ensures damaged { (c : AClass) (n : ℕ) → IsErrOf result (ProbeFault.PageDamaged c n) → (c ≡ self.old.header.class) × (n ≡ number) }
-        ensures not_whole { (c : AClass) (n : ℕ) → IsErrOf result (ProbeFault.PageDamaged c n) → is_whole_page self.old.header.fields self.old.header.cells number into.new ≡ false }
+        ensures not_whole { (c : AClass) (n : ℕ) → IsErrOf result (ProbeFault.PageDamaged c n) → HasBadPage S.gives self.old number }
         ensures no_table { (c : AClass) → IsErrOf result (ProbeFault.NoTable c) → ⊥ }
         ensures failed { S.failed self.new.source ≡ (if is_read_fault result then counted (S.failed self.old.source) else S.failed self.old.source) }
     {
@@ -83,9 +86,14 @@ fn read_value<'a, S: PageSource, A: Allocator>(
     ensures damaged { (c : AClass) (n : ℕ) → IsErrOf result (ProbeFault.PageDamaged c n) → (c ≡ held.old.header.class) × (n ≡ key.number) }
     ensures no_table { (c : AClass) → IsErrOf result (ProbeFault.NoTable c) → ⊥ }
     ensures failed { S.failed held.new.source ≡ (if is_read_fault result then counted (S.failed held.old.source) else S.failed held.old.source) }
-    ensures more { (e : _) → Contains pages.new.entries e → Contains pages.old.entries e ⊎ ((e.0 ≡ key) × ((t : Seen) → S.honest held.old.source t held.old.header.version → t.class ≡ held.old.header.class → e.1.items ≡ page_cells_of t key.number) × AreChecked held.old.header.class key.number e.1.items) }
+    ensures more { (e : _) → Contains pages.new.entries e → Contains pages.old.entries e ⊎ ((e.0 ≡ key) × ((t : Seen) → S.honest held.old.source t held.old.header.version → t.class ≡ held.old.header.class → e.1.items ≡ page_cells_of t key.number)) }
+    ensures given { (e : _) → Contains pages.new.entries e → Contains pages.old.entries e ⊎ ((e.0 ≡ key) × IsGivenPage S.gives held.old key.number e.1.items) }
+    ensures refused { OnErr result (pages.new.entries ≡ pages.old.entries) }
+    ensures alike { GiveAlike S.gives held.old.source held.new.source }
+    ensures unread { (f : ASourceFault) → IsErrOf result (ProbeFault.TableRead f) → S.gives held.old.source (of_page key.number) (Err f) }
+    ensures not_whole { (c : AClass) (n : ℕ) → IsErrOf result (ProbeFault.PageDamaged c n) → HasBadPage S.gives held.old key.number }
     ensures kept { (pages.new.entries ≡ pages.old.entries) ⊎ ((v : _) × (pages.new.entries ≡ put_entries same_key pages.old key v)) }
-    ensures read { IfOk result (λ v. (cells : List ℕ) × AreChecked held.old.header.class key.number cells × (v ≡ value_of (slice_index cells at))) }
+    ensures read { IfOk result (λ v. (cells : List ℕ) × IsGivenPage S.gives held.old key.number cells × (v ≡ value_of (slice_index cells at))) }
 {
     let mut page = [0; 4128];
     held.page(key.number, &mut page)?;
@@ -110,10 +118,15 @@ pub fn value_in<'a, S: PageSource, A: Allocator>(
     ensures damaged { (c : AClass) (n : ℕ) → IsErrOf result (ProbeFault.PageDamaged c n) → (c ≡ held.old.header.class) × (n ≡ number / 4096) }
     ensures no_table { (c : AClass) → IsErrOf result (ProbeFault.NoTable c) → ⊥ }
     ensures failed { S.failed held.new.source ≡ (if is_read_fault result then counted (S.failed held.old.source) else S.failed held.old.source) }
-    ensures more { (e : _) → Contains pages.new.entries e → Contains pages.old.entries e ⊎ ((e.0.class ≡ place_of held.old.header.class) × ((t : Seen) → S.honest held.old.source t held.old.header.version → t.class ≡ held.old.header.class → e.1.items ≡ page_cells_of t e.0.number) × AreChecked held.old.header.class e.0.number e.1.items) }
+    ensures more { (e : _) → Contains pages.new.entries e → Contains pages.old.entries e ⊎ ((e.0.class ≡ place_of held.old.header.class) × ((t : Seen) → S.honest held.old.source t held.old.header.version → t.class ≡ held.old.header.class → e.1.items ≡ page_cells_of t e.0.number)) }
+    ensures given { (e : _) → Contains pages.new.entries e → Contains pages.old.entries e ⊎ ((e.0 ≡ key_at held.old.header.class number) × IsGivenPage S.gives held.old (number / 4096) e.1.items) }
+    ensures refused { OnErr result ((e : _) → Contains pages.new.entries e → Contains pages.old.entries e) }
+    ensures alike { GiveAlike S.gives held.old.source held.new.source }
+    ensures unread { (f : ASourceFault) → IsErrOf result (ProbeFault.TableRead f) → S.gives held.old.source (of_page (number / 4096)) (Err f) }
+    ensures not_whole { (c : AClass) (n : ℕ) → IsErrOf result (ProbeFault.PageDamaged c n) → HasBadPage S.gives held.old (number / 4096) }
     ensures kept { IsUsed (key_at held.old.header.class number) pages.old.cap pages.old.entries pages.new.entries }
     ensures again { IfSome (kept_cell (λ v. v.items) pages.old.entries held.old.header.class number) (λ x. (result ≡ Ok (value_of x)) × (held.new ≡ held.old) × (pages.new.entries ≡ promoted (same_key (key_at held.old.header.class number)) pages.old.entries)) }
-    ensures read { ((e : _) → Contains pages.old.entries e → e.0.class ≡ place_of held.old.header.class → AreChecked held.old.header.class e.0.number e.1.items) → IfOk result (IsReadOff held.old.header.class number) }
+    ensures read { ((e : _) → Contains pages.old.entries e → e.0.class ≡ place_of held.old.header.class → IsGivenPage S.gives held.old e.0.number e.1.items) → IfOk result (IsReadFrom S.gives held.old number) }
 {
     let key = key_of(held.header.class, number);
     let at = (number % 4096) as usize;

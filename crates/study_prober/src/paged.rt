@@ -1,22 +1,22 @@
 //! Values from pages of tables, read as they are asked and kept as far as there is room.
-ghost use Rattle.std.specs.Prelude.{◌≡◌, false, ◌≤◌, ◌<◌, ◌/◌, ◌↔◌, ⊤, ℕ, List, Option, Result, [], Some, None, Ok, Err, true, is_some, IfOk, IfErr, IfSome, OnOk, OnErr, IsErrOf, MatchOption, length, slice_index, slice_set, replicate, vec_len, Contains, if◌then◌else◌};
+ghost use Rattle.std.specs.Prelude.{◌≡◌, false, ◌≤◌, ◌<◌, ◌/◌, ◌⊎◌, ◌↔◌, ⊤, ℕ, List, Option, Result, [], Some, None, Ok, Err, true, is_some, IfOk, IfErr, IfSome, OnOk, OnErr, IsErrOf, MatchOption, length, slice_index, slice_set, replicate, vec_len, Contains, if◌then◌else◌};
 ghost use Rattle.study_material.specs.declared.class.Class.{Class as AClass};
 ghost use Rattle.study_material.specs.Class.{IsOf};
 ghost use Rattle.study_index.specs.Found.{index_of};
 ghost use Rattle.study_retro.specs.Cells.{value_of};
 ghost use Rattle.study_retro.specs.Game.{IsValueOf};
 ghost use Rattle.study_retro.specs.Table.{Table as Seen, IsComplete, place_of};
-ghost use Rattle.study_tablefile.specs.Source.{counted};
+ghost use Rattle.study_tablefile.specs.Source.{counted, of_page};
 ghost use Rattle.study_tablefile.specs.File.{IsVersionOf};
 ghost use Rattle.study_tablefile.specs.declared.fault.FileFault.{FileFault as AFileFault};
 ghost use Rattle.study_tablefile.specs.declared.fault.SourceFault.{SourceFault as ASourceFault};
 ghost use Rattle.lru.specs.LruCache.{promoted};
 ghost use Rattle.study_prober.specs.Cache.{same_key, key_at, kept_cell, IsUsed};
 ghost use Rattle.study_prober.specs.declared.held.Held.{Held as AHeld};
-ghost use Rattle.study_prober.specs.Sources.{AreHonestAlike, AreOf, IsReadOff, GivesRight, IsHeaderOf, is_read_fault};
-ghost use Rattle.study_prober.specs.Paged.{AreRight, IsKept, IsSameSource, held_of, places};
+ghost use Rattle.study_prober.specs.Sources.{AreHonestAlike, GiveAlike, IsGivenPage, HasBadPage, IsReadFrom, GivesRight, IsHeaderOf, is_read_fault};
+ghost use Rattle.study_prober.specs.Paged.{AreRight, AreGiven, IsKept, IsSameSource, held_of, places};
 ghost use Rattle.study_prober.specs.Values.{is_device_fault};
-ghost use Rattle.study_prober.specs.Told.{MayTell, paged_fault, is_unread};
+ghost use Rattle.study_prober.specs.Told.{MayAnswer, paged_fault, is_unread};
 
 use crate::cache::{Pages, place};
 use crate::fault::PagedFault;
@@ -45,13 +45,13 @@ pub struct PagedTables<'a, S: PageSource, A: Allocator> {
 
 impl<'a, S: PageSource, A: Allocator> Model for PagedTables<'a, S, A> {
     ghost use Rattle.std.specs.Prelude.{map};
-    ghost use Rattle.study_prober.specs.Paged.{Paged, IsKept};
+    ghost use Rattle.study_prober.specs.Paged.{Paged, IsKept, AreGiven};
 
     ghost Value = { Paged S };
 
     ghost view = { λ w. record { sources = w.sources.items; kept = map (λ e. (e.0, e.1.items)) w.kept.entries; room = w.kept.cap; asked = w.asked; failed = w.failed } };
 
-    ghost invariant = { λ w. IsKept S.honest (λ v. v.items) w.sources.items w.kept.entries };
+    ghost invariant = { λ w. IsKept S.honest (λ v. v.items) w.sources.items w.kept.entries × AreGiven S.gives (λ v. v.items) w.sources.items w.kept.entries };
 }
 
 impl<'a, S: PageSource, A: Allocator> PagedTables<'a, S, A> {
@@ -75,8 +75,8 @@ impl<'a, S: PageSource, A: Allocator> PagedTables<'a, S, A> {
 
     /// Holds a source of the table of a class, whose needs are not asked for. A source that is refused is dropped.
     pub fn add(&mut self, class: Class, mut source: S) -> Result<(), PagedFault>
-        ensures fault { (told : Result (List ℕ) ASourceFault) × MayTell S.honest source told × MatchOption (paged_fault (is_some (held_of self.old.sources class)) class told) (IfErr result (λ e. e ≡ PagedFault.OutOfMemory)) (λ fault. IsErrOf result fault) }
-        ensures added { OnOk result ((h : AHeld S) × IsHeaderOf h.header class × ((t : Seen) (v : ℕ) → IsVersionOf t.class v → S.honest source t v → h.header.version ≡ v) × AreHonestAlike S.honest source h.source × (S.failed h.source ≡ S.failed source) × (self.new ≡ record self.old { sources = slice_set (places self.old.sources) (place_of class) (Some h) })) }
+        ensures fault { (told : Result (List ℕ) ASourceFault) × (is_some (held_of self.old.sources class) ≡ false → MayAnswer S.gives S.honest source told) × MatchOption (paged_fault (is_some (held_of self.old.sources class)) class told) (IfErr result (λ e. e ≡ PagedFault.OutOfMemory)) (λ fault. IsErrOf result fault) }
+        ensures added { OnOk result ((h : AHeld S) × IsHeaderOf h.header class × ((t : Seen) (v : ℕ) → IsVersionOf t.class v → S.honest source t v → h.header.version ≡ v) × AreHonestAlike S.honest source h.source × GiveAlike S.gives source h.source × (S.failed h.source ≡ S.failed source) × (self.new ≡ record self.old { sources = slice_set (places self.old.sources) (place_of class) (Some h) })) }
         ensures same { OnErr result (self.new ≡ self.old) }
 
         // There is a last state of the source, which has failed once more where its header is not read, and only there.
@@ -133,15 +133,22 @@ fn probe<'a, S: PageSource, A: Allocator>(
     alloc: &'a A,
     p: &Position,
 ) -> Result<Value, ProbeFault>
-    requires { IsKept S.honest (λ v. v.items) sources.old.items pages.old.entries }
+    requires kept { IsKept S.honest (λ v. v.items) sources.old.items pages.old.entries }
+    requires given { AreGiven S.gives (λ v. v.items) sources.old.items pages.old.entries }
     ensures kept { IsKept S.honest (λ v. v.items) sources.new.items pages.new.entries }
+    ensures given { AreGiven S.gives (λ v. v.items) sources.new.items pages.new.entries }
+    ensures put { (c : AClass) (h : AHeld S) → IsOf c p.now → held_of sources.old.items c ≡ Some h → (e : _) → Contains pages.new.entries e → Contains pages.old.entries e ⊎ ((e.0 ≡ key_at c (index_of p.now)) × IsGivenPage S.gives h (index_of p.now / 4096) e.1.items) }
+    ensures refused { OnErr result ((e : _) → Contains pages.new.entries e → Contains pages.old.entries e) }
+    ensures alike { (c : AClass) (h k : AHeld S) → held_of sources.old.items c ≡ Some h → held_of sources.new.items c ≡ Some k → GiveAlike S.gives h.source k.source }
+    ensures unread { (c : AClass) (h : AHeld S) (f : ASourceFault) → IsOf c p.now → held_of sources.old.items c ≡ Some h → IsErrOf result (ProbeFault.TableRead f) → S.gives h.source (of_page (index_of p.now / 4096)) (Err f) }
+    ensures not_whole { (c : AClass) (h : AHeld S) (n : ℕ) → held_of sources.old.items c ≡ Some h → IsErrOf result (ProbeFault.PageDamaged c n) → HasBadPage S.gives h n }
     ensures room { pages.new.cap ≡ pages.old.cap }
     ensures sources { (c : AClass) → IsSameSource S.honest (held_of sources.old.items c) (held_of sources.new.items c) }
     ensures no_table { (c : AClass) → IsErrOf result (ProbeFault.NoTable c) ↔ (IsOf c p.now × (held_of sources.old.items c ≡ None)) }
     ensures told { (c : AClass) (h : AHeld S) (t : Seen) → IsOf c p.now → held_of sources.old.items c ≡ Some h → S.honest h.source t h.header.version → t.class ≡ c → IfOk result (λ v. v ≡ value_of (slice_index t.cells (index_of p.now))) }
     ensures whole { (c : AClass) (h : AHeld S) (t : Seen) (n : ℕ) → IsOf c p.now → held_of sources.old.items c ≡ Some h → S.honest h.source t h.header.version → t.class ≡ c → IsComplete t → IsErrOf result (ProbeFault.PageDamaged c n) → ⊥ }
     ensures damaged { (c : AClass) (n : ℕ) → IsErrOf result (ProbeFault.PageDamaged c n) → IsOf c p.now × (n ≡ index_of p.now / 4096) }
-    ensures read { (c : AClass) → IsOf c p.now → IfOk result (IsReadOff c (index_of p.now)) }
+    ensures read { (c : AClass) (h : AHeld S) → IsOf c p.now → held_of sources.old.items c ≡ Some h → IfOk result (IsReadFrom S.gives h (index_of p.now)) }
     ensures failed { (c : AClass) (h k : AHeld S) → IsOf c p.now → held_of sources.old.items c ≡ Some h → held_of sources.new.items c ≡ Some k → S.failed k.source ≡ (if is_read_fault result then counted (S.failed h.source) else S.failed h.source) }
     ensures others { (c : AClass) → (IsOf c p.now → ⊥) → held_of sources.new.items c ≡ held_of sources.old.items c }
     ensures used { (c : AClass) → IsOf c p.now → IsUsed (key_at c (index_of p.now)) pages.old.cap pages.old.entries pages.new.entries }
@@ -182,11 +189,19 @@ impl<'a, S: PageSource, A: Allocator> Values for PagedTables<'a, S, A> {
         ensures whole { (c : AClass) (h : AHeld S) (t : Seen) (n : ℕ) → IsOf c p.now → held_of self.old.sources c ≡ Some h → S.honest h.source t h.header.version → t.class ≡ c → IsComplete t → IsErrOf result (ProbeFault.PageDamaged c n) → ⊥ }
         ensures damaged { (c : AClass) (n : ℕ) → IsErrOf result (ProbeFault.PageDamaged c n) → IsOf c p.now × (n ≡ index_of p.now / 4096) }
 
-        // Of any source, an answer stands in a page that passes its check.
-        ensures read { (c : AClass) → IsOf c p.now → IfOk result (IsReadOff c (index_of p.now)) }
+        // Of any source, an answer stands in a page that it may give and that passes its check; a page is damaged where it
+        // may give one that does not; and the fault that is told is one that it may answer.
+        ensures read { (c : AClass) (h : AHeld S) → IsOf c p.now → held_of self.old.sources c ≡ Some h → IfOk result (IsReadFrom S.gives h (index_of p.now)) }
+        ensures not_whole { (c : AClass) (h : AHeld S) (n : ℕ) → held_of self.old.sources c ≡ Some h → IsErrOf result (ProbeFault.PageDamaged c n) → HasBadPage S.gives h n }
+        ensures unread { (c : AClass) (h : AHeld S) (f : ASourceFault) → IsOf c p.now → held_of self.old.sources c ≡ Some h → IsErrOf result (ProbeFault.TableRead f) → S.gives h.source (of_page (index_of p.now / 4096)) (Err f) }
+
+        // A page that is put in is the one asked for, as the source may give it; behind a refusal none is.
+        ensures put { (c : AClass) (h : AHeld S) → IsOf c p.now → held_of self.old.sources c ≡ Some h → (e : _) → Contains self.new.kept e → Contains self.old.kept e ⊎ ((e.0 ≡ key_at c (index_of p.now)) × IsGivenPage S.gives h (index_of p.now / 4096) e.1) }
+        ensures refused { OnErr result ((e : _) → Contains self.new.kept e → Contains self.old.kept e) }
 
         // The sources stay; that of the class fails once more where a table is not read, and only there.
         ensures sources { (c : AClass) → IsSameSource S.honest (held_of self.old.sources c) (held_of self.new.sources c) }
+        ensures alike { (c : AClass) (h k : AHeld S) → held_of self.old.sources c ≡ Some h → held_of self.new.sources c ≡ Some k → GiveAlike S.gives h.source k.source }
         ensures failed { (c : AClass) (h k : AHeld S) → IsOf c p.now → held_of self.old.sources c ≡ Some h → held_of self.new.sources c ≡ Some k → S.failed k.source ≡ (if is_read_fault result then counted (S.failed h.source) else S.failed h.source) }
         ensures others { (c : AClass) → (IsOf c p.now → ⊥) → held_of self.new.sources c ≡ held_of self.old.sources c }
         ensures room { self.new.room ≡ self.old.room }

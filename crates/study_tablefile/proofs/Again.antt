@@ -1,5 +1,5 @@
 -- What is written is read again.
-use Rattle.std.proofs.Common.{◌≡◌, ℕ, zero, suc, ◌+◌, ◌-◌, ◌*◌, ◌<◌, ◌≤◌, ◌==◌, ◌⊎◌, inl, inr, min, true, false, subst, List, [], ◌∷◌, ◌++◌, length, take, drop, replicate, Option, Some, None, Result, Ok, OnOk, refl, sym, ap, ◌∙◌, arith, append_assoc, append-nil, length-append, length-drop, length-take, take-append-drop}
+use Rattle.std.proofs.Common.{◌≡◌, ℕ, zero, suc, ◌+◌, ◌-◌, ◌*◌, ◌<◌, ◌≤◌, ◌==◌, ◌⊎◌, inl, inr, min, true, false, subst, List, [], ◌∷◌, ◌++◌, length, take, drop, replicate, Option, Some, None, Result, Ok, Err, OnOk, refl, sym, ap, ◌∙◌, arith, append_assoc, append-nil, length-append, length-drop, length-take, take-append-drop}
 use Rattle.std.specs.Str.{bytes_eq}
 use Rattle.std.proofs.lemmas.Result.{on_ok_weaker}
 use Rattle.std.proofs.lemmas.List.{length-replicate, take_all, take_at, drop_all, drop_at, drop-drop}
@@ -15,7 +15,8 @@ use Rattle.study_retro.specs.Table.{Table, IsComplete}
 use Rattle.study_tablefile.specs.declared.fault.FileFault.{FileFault}
 use Rattle.study_tablefile.specs.File.{class_field, is_version, is_known, IsVersionOf, fields_text, header_text, page_cells_of, page_digest, page_text, pages_of, pages_text, table_text}
 use Rattle.study_tablefile.specs.Reading.{class_named, class_checked, version_of, class_read, page_fault, pages_read, table_end, table_read, unless}
-use Rattle.study_tablefile.specs.Source.{is_whole_page, page_of}
+use Rattle.study_tablefile.specs.declared.fault.SourceFault.{SourceFault}
+use Rattle.study_tablefile.specs.Source.{is_whole_page, page_of, IsAnswerOf, of_page}
 use Rattle.study_tablefile.proofs.Bounds.{pages_hold, pages_full}
 use Rattle.study_tablefile.proofs.Known.{long_enough, page_told}
 
@@ -331,3 +332,9 @@ whole_again t v n complete =
     let count : min (cells_of t.class - n * 4096) 4096 ≡ min (length cells) 4096 = omega (arith, complete.size, length-drop (4096 * n) t.cells) in
     let zeros : drop (min (cells_of t.class - n * 4096) 4096) full ≡ replicate (4096 - length cells) 0 = zeros_behind cells (min (cells_of t.class - n * 4096) 4096) count in
     rw front (rw (same_bytes _ _ back) (rw zeros (same_bytes _ _ (ap (λ (j : ℕ). replicate {A = ℕ} j 0) (sym (length-replicate {A = ℕ} (4096 - length cells) 0))))))
+
+-- the bytes that were read are the answer to the question for a page
+pub page_answered : (text : List ℕ) (start n : ℕ) (bytes old : List ℕ) (fails : Option ℕ) (r : Result (Unit {0}) SourceFault) → start ≡ 64 + 4128 * n → length old ≡ 4128
+    → OnOk r (bytes ≡ take (length old) (drop start text)) → OnOk r (start + length old ≤ length text) → OnOk r (IsAnswerOf text fails (of_page n) (Ok bytes))
+page_answered text start n bytes old fails (Ok x) at long read within = (subst (λ (m : ℕ). m + 4128 ≤ length text) at (subst (λ (k : ℕ). start + k ≤ length text) long within), read ∙ ap (λ (k : ℕ). take k (drop start text)) long ∙ ap (λ (m : ℕ). take 4128 (drop m text)) at)
+page_answered text start n bytes old fails (Err fault) at long read within = tt

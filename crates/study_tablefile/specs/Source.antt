@@ -1,7 +1,9 @@
 -- Pages of a table's file, one by one, and what gives them.
-use Rattle.std.specs.Prelude.{ℕ, ◌+◌, ◌-◌, ◌*◌, ◌^◌, min, Bool, ◌&&◌, List, length, take, drop, replicate}
+use Rattle.std.specs.Prelude.{◌≡◌, ℕ, ◌+◌, ◌-◌, ◌*◌, ◌^◌, ◌<◌, ◌≤◌, min, Bool, true, ◌&&◌, List, length, take, drop, replicate, Option, is_some, Result, Ok, Err}
 use Rattle.std.specs.Str.{bytes_eq}
 use Rattle.study_retro.specs.Table.{Table}
+use Rattle.study_tablefile.specs.declared.fault.SourceFault.{SourceFault}
+use Rattle.study_tablefile.specs.declared.fault.SourceFault.TheVariants.{Device, Short}
 use Rattle.study_tablefile.specs.File.{fields_text, page_cells_of, page_digest, page_text}
 
 -- the places of a page behind the last cell
@@ -21,3 +23,23 @@ page_of t v n = page_text (fields_text t.class v) n (page_cells_of (drop (4096 *
 -- one more, up to the last value of a count
 abbrev pub counted : ℕ → ℕ
 counted n = min (n + 1) (2 ^ 64 - 1)
+
+-- what a source of pages is asked for: the header of a file, or a page
+pub data Question : Type 0 where
+  of_header : Question
+  of_page : (n : ℕ) → Question
+
+-- where the bytes begin that are asked for, and how many they are
+abbrev pub begins_at : Question → ℕ
+begins_at of_header = 0
+begins_at (of_page n) = 64 + 4128 * n
+
+abbrev pub asks_for : Question → ℕ
+asks_for of_header = 64
+asks_for (of_page n) = 4128
+
+-- what a source over a text in memory may answer: these bytes of the text, `Short` where it has too few, and `Device` where it is to fail once
+abbrev pub IsAnswerOf : List ℕ → Option ℕ → Question → Result (List ℕ) SourceFault → Type 0
+IsAnswerOf text fails q (Ok bytes) = (begins_at q + asks_for q ≤ length text) × (bytes ≡ take (asks_for q) (drop (begins_at q) text))
+IsAnswerOf text fails q (Err Short) = length text < begins_at q + asks_for q
+IsAnswerOf text fails q (Err Device) = is_some fails ≡ true

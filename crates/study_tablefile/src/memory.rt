@@ -1,6 +1,6 @@
 //! A reader and a writer in memory that go byte by byte and fail where a test wants it.
-ghost use Rattle.std.specs.Prelude.{◌≡◌, ℕ, ◌<◌, ◌↔◌, [], Some, length, take, drop, vec_len, ◌≤◌, ◌⊎◌, IsOk, IsErr, IsErrOf, IfOk, IfErr, OnOk, OnErr, ◌≢◌, ◌+◌, ◌*◌};
-ghost use Rattle.study_tablefile.specs.Source.{counted, page_of};
+ghost use Rattle.std.specs.Prelude.{◌≡◌, ℕ, ◌<◌, ◌↔◌, [], Some, None, Ok, Err, length, take, drop, vec_len, ◌≤◌, ◌⊎◌, IsOk, IsErr, IsErrOf, IfOk, IfErr, OnOk, OnErr, MatchResult, ◌≢◌, ◌+◌, ◌-◌, ◌*◌, ◌^◌};
+ghost use Rattle.study_tablefile.specs.Source.{counted, page_of, IsAnswerOf, of_header, of_page};
 ghost use Rattle.study_tablefile.specs.File.{header_text, pages_of, table_text};
 ghost use Rattle.study_retro.specs.Table.{Table as Seen};
 ghost use Rattle.std.specs.Io.{ReadsAtMost, WritesAtMost};
@@ -28,6 +28,7 @@ impl<'a> MemoryReader<'a> {
     pub fn new(text: &'a [u8]) -> Self
         ensures text { result.text.now ≡ text.now }
         ensures given { result.given ≡ 0 }
+        ensures plan { result.fails_after ≡ None }
     {
         MemoryReader {
             text,
@@ -58,6 +59,8 @@ impl<'a> Read for MemoryReader<'a> {
         ensures bound { ReadsAtMost result buf.new }
         ensures bytes { ReadConsumes (Some (drop self.old.given self.old.text.now)) (Some (drop self.new.given self.new.text.now)) result buf.new }
         ensures few { IfOk result (λ n. n ≤ 1) }
+        ensures text { self.new.text.now ≡ self.old.text.now }
+        ensures plan { self.new.fails_after ≡ self.old.fails_after }
         ensures fails { IsErr result ↔ (self.old.fails_after ≡ Some self.old.given) }
     {
         if self.fails_after == Some(self.given) {
@@ -91,7 +94,9 @@ pub struct MemoryWriter<'a, A: Allocator> {
 impl<'a, A: Allocator> MemoryWriter<'a, A> {
     /// A writer that takes all bytes for which there is memory.
     pub fn new(alloc: &'a A) -> Self
-        ensures { result.taken.items ≡ [] }
+        ensures taken { result.taken.items ≡ [] }
+        ensures room { result.room ≡ 2 ^ 64 - 1 }
+        ensures when_full { result.when_full ≡ WhenFull.Fail }
     {
         MemoryWriter {
             taken: Vec::new(alloc),
@@ -121,7 +126,8 @@ impl<'a, A: Allocator> Write for MemoryWriter<'a, A> {
         ensures bound { WritesAtMost result buf.now }
         ensures bytes { WriteAppends (Some self.old.taken.items) (Some self.new.taken.items) result buf.now }
         ensures takes { 0 < length buf.now → vec_len self.old.taken < self.old.room → IfOk result (λ n. n ≡ 1) }
-        ensures full { self.old.room ≤ vec_len self.old.taken → IfOk result (λ n. n ≡ 0) }
+        ensures full { 0 < length buf.now → self.old.room ≤ vec_len self.old.taken → MatchResult result (λ n. (n ≡ 0) × (self.old.when_full ≡ WhenFull.TakeNothing)) (λ e. self.old.when_full ≡ WhenFull.Fail) }
+        ensures plan { (self.new.room ≡ self.old.room) × (self.new.when_full ≡ self.old.when_full) }
         ensures fails { IfErr result (λ e. (error_kind e ≡ ErrorKind.OutOfMemory) ⊎ ((self.old.room ≤ vec_len self.old.taken) × (self.old.when_full ≡ WhenFull.Fail))) }
     {
         if buf.is_empty() {
@@ -164,6 +170,7 @@ impl<'a> MemorySource<'a> {
         ensures plan { self.new.fails_at ≡ self.old.fails_at }
         ensures asked { self.new.asked ≡ counted self.old.asked }
         ensures ok { OnOk result (into.new ≡ take (length into.old) (drop start self.old.text.now)) }
+        ensures within { OnOk result (start + length into.old ≤ length self.old.text.now) }
         ensures device { IsErrOf result SourceFault.Device ↔ (self.old.fails_at ≡ Some self.old.asked) }
         ensures short { IsErrOf result SourceFault.Short ↔ ((self.old.fails_at ≢ Some self.old.asked) × (length self.old.text.now < start + length into.old)) }
         ensures no_failure { OnOk result (self.new.failures ≡ self.old.failures) }
@@ -196,11 +203,15 @@ fn page_start(n: u32) -> usize
 impl<'a> PageSource for MemorySource<'a> {
     ghost honest = { λ s t v. s.text.now ≡ table_text t v };
 
+    ghost gives = { λ s q a. IsAnswerOf s.text.now s.fails_at q a };
+
     ghost failed = { λ s. s.failures };
 
     #[tactic(auto, using(crate::proofs::Again::header_given))]
     fn header(&mut self, into: &mut [u8; 64]) -> Result<(), SourceFault>
         ensures ok { (t : Seen) (v : ℕ) → self.old.text.now ≡ table_text t v → OnOk result (into.new ≡ header_text t.class v) }
+        ensures given { OnOk result (IsAnswerOf self.old.text.now self.old.fails_at of_header (Ok into.new)) }
+        ensures refused { IfErr result (λ fault. IsAnswerOf self.old.text.now self.old.fails_at of_header (Err fault)) }
         ensures text { self.new.text.now ≡ self.old.text.now }
         ensures plan { self.new.fails_at ≡ self.old.fails_at }
         ensures asked { self.new.asked ≡ counted self.old.asked }
@@ -214,6 +225,8 @@ impl<'a> PageSource for MemorySource<'a> {
 
     fn page(&mut self, n: u32, into: &mut [u8; 4128]) -> Result<(), SourceFault>
         ensures ok { (t : Seen) (v : ℕ) → self.old.text.now ≡ table_text t v → n < pages_of t.class → OnOk result (into.new ≡ page_of t v n) }
+        ensures given { OnOk result (IsAnswerOf self.old.text.now self.old.fails_at (of_page n) (Ok into.new)) }
+        ensures refused { IfErr result (λ fault. IsAnswerOf self.old.text.now self.old.fails_at (of_page n) (Err fault)) }
         ensures text { self.new.text.now ≡ self.old.text.now }
         ensures plan { self.new.fails_at ≡ self.old.fails_at }
         ensures asked { self.new.asked ≡ counted self.old.asked }

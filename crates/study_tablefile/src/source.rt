@@ -1,10 +1,11 @@
 //! Pages of tables, read one by one.
-ghost use Rattle.std.specs.Prelude.{◌≡◌, ◌<◌, ℕ, OnOk, OnErr, IfOk, IfErr, Ok, Err};
+ghost use Rattle.std.specs.Prelude.{◌≡◌, ◌<◌, ℕ, List, Result, OnOk, OnErr, IfOk, IfErr, Ok, Err};
 ghost use Rattle.study_index.specs.Number.{cells_of};
 ghost use Rattle.study_retro.specs.Table.{Table as Seen};
 ghost use Rattle.study_tablefile.specs.File.{IsVersionOf, fields_text, header_text, pages_of};
 ghost use Rattle.study_tablefile.specs.Reading.{version_of, class_read};
-ghost use Rattle.study_tablefile.specs.Source.{counted, is_whole_page, page_of};
+ghost use Rattle.study_tablefile.specs.declared.fault.SourceFault.{SourceFault as ASourceFault};
+ghost use Rattle.study_tablefile.specs.Source.{counted, is_whole_page, page_of, Question, of_header, of_page};
 
 use crate::fault::{FileFault, SourceFault};
 use crate::reading::{cells_of_page, is_padding, is_page, read_class, version_of};
@@ -58,11 +59,19 @@ pub trait PageSource: Drop {
     /// Each answer, now and after any calls, gives the bytes of the file of this table in this version.
     ghost honest: { Self → Seen → ℕ → Type 0 };
 
+    /// What it may answer to a question, now and after any calls: bytes, or its fault. A source that does not tell its
+    /// bytes may answer anything.
+    ghost gives: { Self → Question → Result (List ℕ) ASourceFault → Type 0 };
+
     ghost failed: { Self → ℕ };
 
     /// The header of the file.
     fn header(&mut self, into: &mut [u8; 64]) -> Result<(), SourceFault>
         ensures ok { (t : Seen) (v : ℕ) → honest self.old t v → OnOk result (into.new ≡ header_text t.class v) }
+        ensures given { OnOk result (gives self.old of_header (Ok into.new)) }
+        ensures refused { IfErr result (λ fault. gives self.old of_header (Err fault)) }
+        ensures gives_on { (q : Question) (a : Result (List ℕ) ASourceFault) → gives self.old q a → gives self.new q a }
+        ensures gave { (q : Question) (a : Result (List ℕ) ASourceFault) → gives self.new q a → gives self.old q a }
         ensures stays { (t : Seen) (v : ℕ) → honest self.old t v → honest self.new t v }
         ensures back { (t : Seen) (v : ℕ) → honest self.new t v → honest self.old t v }
         ensures no_failure { OnOk result (failed self.new ≡ failed self.old) }
@@ -71,6 +80,10 @@ pub trait PageSource: Drop {
     /// A page of the file, counted from 0.
     fn page(&mut self, n: u32, into: &mut [u8; 4128]) -> Result<(), SourceFault>
         ensures ok { (t : Seen) (v : ℕ) → honest self.old t v → n < pages_of t.class → OnOk result (into.new ≡ page_of t v n) }
+        ensures given { OnOk result (gives self.old (of_page n) (Ok into.new)) }
+        ensures refused { IfErr result (λ fault. gives self.old (of_page n) (Err fault)) }
+        ensures gives_on { (q : Question) (a : Result (List ℕ) ASourceFault) → gives self.old q a → gives self.new q a }
+        ensures gave { (q : Question) (a : Result (List ℕ) ASourceFault) → gives self.new q a → gives self.old q a }
         ensures stays { (t : Seen) (v : ℕ) → honest self.old t v → honest self.new t v }
         ensures back { (t : Seen) (v : ℕ) → honest self.new t v → honest self.old t v }
         ensures no_failure { OnOk result (failed self.new ≡ failed self.old) }

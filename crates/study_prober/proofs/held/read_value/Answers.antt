@@ -1,11 +1,10 @@
 use Rattle.std.proofs.Common.{ℕ, List, take, get_or, inl, inr, sym, ◌∙◌, ap, subst}
 use Rattle.std.proofs.lemmas.List.{get_or-take}
 use Rattle.study_retro.specs.Cells.{value_of}
-use Rattle.study_prober.specs.Sources.{AreChecked}
+use Rattle.study_prober.specs.Sources.{IsGivenPage}
 use Rattle.study_prober.proofs.Again.{put_or_not}
 use Rattle.study_tablefile.specs.Source.{page_of}
 use Rattle.study_prober.proofs.Cells.{cells_of_text}
-use Rattle.study_prober.proofs.Checked.{checked_page}
 use Rattle.study_prober.proofs.Faults.{passed_on}
 use Rattle.study_prober.proofs.held.read_value.Goals as goal
 
@@ -23,7 +22,6 @@ returns-clause-more g c = λ e h.
       | inr new ↦ inr (
         new.0,
         λ t honest same. new.1 ∙ ap (λ (bytes : List ℕ). take 4096 bytes) (c.in_ok-page.ensures.ok t honest same) ∙ cells_of_text t c.args.held.now.header.version c.args.key.number,
-        subst (λ (xs : List ℕ). AreChecked c.args.held.now.header.class c.args.key.number xs) (sym new.1) (checked_page c.args.held.now.header c.args.key.number c.page.new.into c.requires.header c.in_ok-page.ensures.checked),
       )
     ]
 
@@ -33,9 +31,16 @@ returns-in_err-page-clause-whole g c = λ t honest same complete d n told. c.in_
 pub returns-clause-read : goal.returns-clause-read
 returns-clause-read g c = (
   take 4096 c.page.new.into,
-  checked_page c.args.held.now.header c.args.key.number c.page.new.into c.requires.header c.in_ok-page.ensures.checked,
+  c.in_ok-page.ensures.checked,
   c.value_at.ensures ∙ ap value_of (sym (get_or-take 4096 c.page.new.into c.args.at 0 c.requires.at)),
 )
 
 pub returns-clause-kept : goal.returns-clause-kept
 returns-clause-kept g c = elim (put_or_not c.keep.result c.keep.ensures.kept c.keep.ensures.same) [ inl same ↦ inl same | inr put ↦ inr (put.0, put.2) ]
+
+pub returns-clause-given : goal.returns-clause-given
+returns-clause-given g c = λ e h.
+    elim (c.keep.ensures.more e h) [
+      | inl was ↦ inl was
+      | inr new ↦ inr (new.0, subst (λ (xs : List ℕ). IsGivenPage g.S.PageSource.gives c.args.held.now c.args.key.number xs) (sym new.1) c.in_ok-page.ensures.checked)
+    ]

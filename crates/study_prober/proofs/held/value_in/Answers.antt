@@ -1,7 +1,7 @@
 use Rattle.std.proofs.Common.{ℕ, List, get_or, inl, inr, sym, ◌∙◌, ap, subst, ◌%◌}
 use Rattle.study_retro.specs.Cells.{value_of}
 use Rattle.study_retro.specs.Table.{place_of}
-use Rattle.study_prober.specs.Sources.{AreChecked, page_cells_of}
+use Rattle.study_prober.specs.Sources.{IsGivenPage, page_cells_of}
 use Rattle.study_prober.specs.declared.cache.PageKey.{PageKey}
 use Rattle.study_prober.specs.Cache.{key_at}
 use Rattle.study_prober.proofs.Again.{used_after}
@@ -27,7 +27,6 @@ returns-in-None-clause-more g c = λ e h.
       | inr new ↦ inr (
         ap (λ (k : PageKey). k.class) (new.0 ∙ c.key_of-key.ensures),
         λ t honest same. new.1 t honest same ∙ ap (λ (k : PageKey). page_cells_of t k.number) (sym new.0),
-        subst (λ (k : PageKey). AreChecked c.args.held.now.header.class k.number e.1.items) (sym new.0) new.2,
       )
     ]
 
@@ -35,7 +34,7 @@ pub returns-in-Some-clause-read : goal.returns-in-Some-clause-read
 returns-in-Some-clause-read g c = λ kept.
     let found = c.in-Some.ensures.found in
     let checked = kept (_, found.0) found.1 (ap (λ (k : PageKey). k.class) c.key_of-key.ensures) in
-    (found.0.items, subst (λ (k : PageKey). AreChecked c.args.held.now.header.class k.number found.0.items) c.key_of-key.ensures checked, c.value_at.ensures ∙ ap value_of found.2)
+    (found.0.items, subst (λ (k : PageKey). IsGivenPage g.S.PageSource.gives c.args.held.now k.number found.0.items) c.key_of-key.ensures checked, c.value_at.ensures ∙ ap value_of found.2)
 
 pub returns-in-None-clause-read : goal.returns-in-None-clause-read
 returns-in-None-clause-read g c = λ kept. rw c.key_of-key.ensures at c.read_value.ensures.read
@@ -43,3 +42,10 @@ returns-in-None-clause-read g c = λ kept. rw c.key_of-key.ensures at c.read_val
 pub returns-in-None-clause-kept : goal.returns-in-None-clause-kept
 returns-in-None-clause-kept g c =
     used_after c.key_of-key.result (key_at c.args.held.now.header.class c.args.number) c.args.pages.now c.kept_byte.new.pages c.read_value.new.pages.entries c.key_of-key.ensures c.in-None.ensures.used c.in-None.ensures.room c.read_value.ensures.kept
+
+pub returns-in-None-clause-given : goal.returns-in-None-clause-given
+returns-in-None-clause-given g c = λ e h.
+    elim (c.read_value.ensures.given e h) [
+      | inl was ↦ inl (c.in-None.ensures.fewer e was)
+      | inr new ↦ inr (new.0 ∙ c.key_of-key.ensures, subst (λ (k : PageKey). IsGivenPage g.S.PageSource.gives c.args.held.now k.number e.1.items) c.key_of-key.ensures new.1)
+    ]

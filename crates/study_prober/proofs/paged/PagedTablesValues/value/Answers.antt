@@ -1,7 +1,9 @@
-use Rattle.std.proofs.Common.{◌∙◌, ap}
+use Rattle.std.proofs.Common.{◌≡◌, ◌/◌, ◌∙◌, ap}
 use Rattle.study_prober.specs.Cache.{key_at}
 use Rattle.study_prober.specs.Paged.{Paged, held_of}
 use Rattle.study_index.specs.Found.{index_of}
+use Rattle.study_prober.specs.Sources.{IsGivenPage}
+use Rattle.study_prober.proofs.Given.{put_seen, fewer_seen, on_err}
 use Rattle.study_prober.proofs.Again.{again_seen, used_seen}
 use Rattle.study_prober.proofs.Kept.{no_table_by, stays_right_at}
 use Rattle.study_prober.proofs.paged.PagedTablesValues.value.Goals as goal
@@ -26,3 +28,21 @@ returns-clause-again g c = λ d of.
 pub returns-clause-used : goal.returns-clause-used
 returns-clause-used g c = λ d of.
     used_seen (λ v. v.items) (key_at d (index_of c.args.p.now)) c.self.inside.kept.cap c.args.self.now.room c.self.inside.kept.entries c.probe-answer.new.pages.entries c.args.self.now.kept (ap (λ (w : Paged g.row.S.Denot). w.room) c.self.view_is) (ap (λ (w : Paged g.row.S.Denot). w.kept) c.self.view_is) (c.probe-answer.ensures.used d of)
+
+pub returns-clause-read : goal.returns-clause-read
+returns-clause-read g c = λ d h of was. c.probe-answer.ensures.read d h of (ap (λ (w : Paged g.row.S.Denot). held_of w.sources d) c.self.view_is ∙ was)
+
+pub returns-clause-unread : goal.returns-clause-unread
+returns-clause-unread g c = λ d h f of was. c.probe-answer.ensures.unread d h f of (ap (λ (w : Paged g.row.S.Denot). held_of w.sources d) c.self.view_is ∙ was)
+
+pub returns-clause-put : goal.returns-clause-put
+returns-clause-put g c = λ d h of was.
+    put_seen (λ v. v.items) (λ k cells. (k ≡ key_at d (index_of c.args.p.now)) × IsGivenPage g.S.PageSource.gives h (index_of c.args.p.now / 4096) cells) c.self.inside.kept.entries c.probe-answer.new.pages.entries c.args.self.now.kept
+    (ap (λ (w : Paged g.row.S.Denot). w.kept) c.self.view_is) (c.probe-answer.ensures.put d h of (ap (λ (w : Paged g.row.S.Denot). held_of w.sources d) c.self.view_is ∙ was))
+
+pub returns-clause-refused : goal.returns-clause-refused
+returns-clause-refused g c =
+    on_err c.probe-answer.result _ _ (fewer_seen (λ v. v.items) c.self.inside.kept.entries c.probe-answer.new.pages.entries c.args.self.now.kept (ap (λ (w : Paged g.row.S.Denot). w.kept) c.self.view_is)) c.probe-answer.ensures.refused
+
+pub returns-clause-alike : goal.returns-clause-alike
+returns-clause-alike g c = λ d h k was now. c.probe-answer.ensures.alike d h k (ap (λ (w : Paged g.row.S.Denot). held_of w.sources d) c.self.view_is ∙ was) now
