@@ -1,13 +1,17 @@
 -- What the table of a position's class says of it, and when there is none.
-use Rattle.std.proofs.Common.{◌≡◌, false, List, Option, Some, None, Ok, Err, sym, ◌∙◌, subst, ap}
+use Rattle.std.proofs.Common.{◌≡◌, ℕ, zero, suc, ◌≤◌, inl, inr, false, List, [], ◌∷◌, length, set, Option, Some, None, Result, Ok, Err, OnOk, OnErr, refl, sym, ◌∙◌, subst, ap, arith}
+use Rattle.std.proofs.lemmas.List.{get_or-set_same, get_or-set_other}
 use Rattle.std.specs.Prelude.{is_some, IsErrOf}
-use Rattle.std.proofs.lemmas.Bool.{false≢true}
+use Rattle.std.proofs.lemmas.Bool.{false≢true, cases_lt}
 use Rattle.study_board.specs.Position.{Position}
 use Rattle.study_material.specs.declared.class.Class.{Class}
 use Rattle.study_material.specs.Class.{IsOf}
 use Rattle.study_material.proofs.Classes.{lists_of-injective}
 use Rattle.study_retro.specs.declared.value.Value.{Value}
-use Rattle.study_retro.specs.Table.{Table, table_of, IsClosed}
+use Rattle.study_retro.specs.Table.{Table, table_of, place_of, IsClosed}
+use Rattle.study_retro.specs.Sound.{IsRight}
+use Rattle.study_prober.specs.Whole.{AreRight}
+use Rattle.study_prober.proofs.Kept.{same_class}
 use Rattle.study_prober.specs.declared.values.ProbeFault.{ProbeFault}
 use Rattle.study_prober.specs.declared.values.ProbeFault.TheVariants.{NoTable}
 
@@ -32,3 +36,27 @@ none_held held d c p is none = (
 pub some_held : (held : List (Option Table)) (d c : Class) (p : Position) (t : Table) (v : Value) → IsOf d p → Some t ≡ table_of held d
     → (IsErrOf {E = ProbeFault} (Ok v) (NoTable c) → IsOf c p × (is_some (table_of held c) ≡ false)) × (IsOf c p × (is_some (table_of held c) ≡ false) → IsErrOf {E = ProbeFault} (Ok v) (NoTable c))
 some_held held d c p t v is some = (λ e. absurd (let no : ⊥ = cc in no), λ h. absurd (false≢true (sym h.1 ∙ ap (λ (o : Option Table). is_some o) (ap (λ (k : Class). table_of held k) (one_class c d p h.0 is) ∙ sym some))))
+
+set_past : {A : Type 0} (xs : List A) (i : ℕ) (x : A) → length xs ≤ i → set xs i x ≡ xs
+set_past [] i x past = refl
+set_past (y ∷ ys) zero x past = absurd (omega (arith, past))
+set_past {A} (y ∷ ys) (suc i) x past = ap (λ (zs : List A). y ∷ zs) (set_past ys i x (omega (arith, past)))
+
+right_set : (held : List (Option Table)) (t : Table) → AreRight held → IsRight t → AreRight (set held (place_of t.class) (Some t))
+right_set held t all own = record {
+  right = λ c u e. elim (same_class t.class c) [
+    | inl same ↦ elim (cases_lt (place_of t.class) (length held)) [
+      | inl small ↦
+          let here : ◌≡◌ {A = Option Table} (Some t) (Some u) = sym (get_or-set_same held (place_of t.class) (Some t) None small) ∙ ap (λ (k : Class). table_of (set held (place_of t.class) (Some t)) k) same ∙ e in
+          let one : t ≡ u = cc in
+          subst IsRight one own
+      | inr past ↦ all.right c u (sym (ap (λ (xs : List (Option Table)). table_of xs c) (set_past held (place_of t.class) (Some t) past)) ∙ e)
+    ]
+    | inr far ↦ all.right c u (sym (get_or-set_other held (place_of t.class) (place_of c) (Some t) None (λ i. far (sym i))) ∙ e)
+  ];
+}
+
+-- a right table that is added to right ones
+pub right_added : {T E : Type 0} (r : Result T E) (old new : List (Option Table)) (t : Table) → OnOk r (new ≡ set old (place_of t.class) (Some t)) → OnErr r (new ≡ old) → AreRight old → IsRight t → AreRight new
+right_added (Ok x) old new t added same all own = subst AreRight (sym added) (right_set old t all own)
+right_added (Err e) old new t added same all own = subst AreRight (sym same) all

@@ -1,7 +1,6 @@
--- The pages that are kept, the last used first.
-use Rattle.std.specs.Prelude.{◌≡◌, ◌⊎◌, ℕ, ◌==◌, ◌/◌, ◌%◌, Bool, ◌&&◌, List, slice_get, Option, Some, None}
+-- Cells of pages that are kept.
+use Rattle.std.specs.Prelude.{ℕ, ◌==◌, ◌/◌, ◌%◌, Bool, ◌&&◌, List, slice_get, Option, Some, None}
 use Rattle.std.specs.Map.{lookup}
-use Rattle.lru.specs.LruCache.{lru_cache, promoted, put_entries}
 use Rattle.study_material.specs.declared.class.Class.{Class}
 use Rattle.study_retro.specs.Table.{place_of}
 use Rattle.study_prober.specs.declared.cache.PageKey.{PageKey}
@@ -22,7 +21,3 @@ cell_at cells at (Some v) = slice_get (cells v) at
 -- the cell of a number in the pages that are kept, if its page is
 abbrev pub kept_cell : {V : Type 0} → (V → List ℕ) → List (PageKey × V) → Class → ℕ → Option ℕ
 kept_cell cells kept c n = cell_at cells (n % 4096) (lookup (same_key (key_at c n)) kept)
-
--- the pages after one was used: it goes first where it is kept, and where it is not, it may be kept
-abbrev pub IsUsed : {V : Type 0} → PageKey → ℕ → List (PageKey × V) → List (PageKey × V) → Type 0
-IsUsed {V} key room old new = (new ≡ promoted (same_key key) old) ⊎ ((v : V) × (new ≡ put_entries same_key (lru_cache (promoted (same_key key) old) room) key v))

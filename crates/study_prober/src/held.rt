@@ -8,8 +8,7 @@ ghost use Rattle.study_tablefile.specs.declared.fault.SourceFault.{SourceFault a
 ghost use Rattle.study_tablefile.specs.File.{IsVersionOf, pages_of};
 ghost use Rattle.study_tablefile.specs.Reading.{class_read};
 ghost use Rattle.study_tablefile.specs.Source.{counted, page_of, of_page};
-ghost use Rattle.lru.specs.LruCache.{promoted, put_entries};
-ghost use Rattle.study_prober.specs.Cache.{same_key, key_at, kept_cell, IsUsed};
+ghost use Rattle.study_prober.specs.Cache.{key_at, kept_cell};
 ghost use Rattle.study_prober.specs.Sources.{IsGivenPage, HasBadPage, IsReadFrom, GiveAlike, AreHonestAlike, AreOf, IsHeaderOf, is_read_fault, page_cells_of};
 ghost use Rattle.study_prober.specs.Told.{MayAnswer, IsReadOf, IsTold, is_unread};
 
@@ -92,7 +91,6 @@ fn read_value<'a, S: PageSource, A: Allocator>(
     ensures alike { GiveAlike S.gives held.old.source held.new.source }
     ensures unread { (f : ASourceFault) → IsErrOf result (ProbeFault.TableRead f) → S.gives held.old.source (of_page key.number) (Err f) }
     ensures not_whole { (c : AClass) (n : ℕ) → IsErrOf result (ProbeFault.PageDamaged c n) → HasBadPage S.gives held.old key.number }
-    ensures kept { (pages.new.entries ≡ pages.old.entries) ⊎ ((v : _) × (pages.new.entries ≡ put_entries same_key pages.old key v)) }
     ensures read { IfOk result (λ v. (cells : List ℕ) × IsGivenPage S.gives held.old key.number cells × (v ≡ value_of (slice_index cells at))) }
 {
     let mut page = [0; 4128];
@@ -124,8 +122,7 @@ pub fn value_in<'a, S: PageSource, A: Allocator>(
     ensures alike { GiveAlike S.gives held.old.source held.new.source }
     ensures unread { (f : ASourceFault) → IsErrOf result (ProbeFault.TableRead f) → S.gives held.old.source (of_page (number / 4096)) (Err f) }
     ensures not_whole { (c : AClass) (n : ℕ) → IsErrOf result (ProbeFault.PageDamaged c n) → HasBadPage S.gives held.old (number / 4096) }
-    ensures kept { IsUsed (key_at held.old.header.class number) pages.old.cap pages.old.entries pages.new.entries }
-    ensures again { IfSome (kept_cell (λ v. v.items) pages.old.entries held.old.header.class number) (λ x. (result ≡ Ok (value_of x)) × (held.new ≡ held.old) × (pages.new.entries ≡ promoted (same_key (key_at held.old.header.class number)) pages.old.entries)) }
+    ensures again { IfSome (kept_cell (λ v. v.items) pages.old.entries held.old.header.class number) (λ x. (result ≡ Ok (value_of x)) × (held.new ≡ held.old)) }
     ensures read { ((e : _) → Contains pages.old.entries e → e.0.class ≡ place_of held.old.header.class → IsGivenPage S.gives held.old e.0.number e.1.items) → IfOk result (IsReadFrom S.gives held.old number) }
 {
     let key = key_of(held.header.class, number);

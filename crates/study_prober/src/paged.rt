@@ -10,8 +10,7 @@ ghost use Rattle.study_tablefile.specs.Source.{counted, of_page};
 ghost use Rattle.study_tablefile.specs.File.{IsVersionOf};
 ghost use Rattle.study_tablefile.specs.declared.fault.FileFault.{FileFault as AFileFault};
 ghost use Rattle.study_tablefile.specs.declared.fault.SourceFault.{SourceFault as ASourceFault};
-ghost use Rattle.lru.specs.LruCache.{promoted};
-ghost use Rattle.study_prober.specs.Cache.{same_key, key_at, kept_cell, IsUsed};
+ghost use Rattle.study_prober.specs.Cache.{key_at, kept_cell};
 ghost use Rattle.study_prober.specs.declared.held.Held.{Held as AHeld};
 ghost use Rattle.study_prober.specs.Sources.{AreHonestAlike, GiveAlike, IsGivenPage, HasBadPage, IsReadFrom, GivesRight, IsHeaderOf, is_read_fault};
 ghost use Rattle.study_prober.specs.Paged.{AreRight, AreGiven, IsKept, IsSameSource, held_of, places};
@@ -151,8 +150,7 @@ fn probe<'a, S: PageSource, A: Allocator>(
     ensures read { (c : AClass) (h : AHeld S) → IsOf c p.now → held_of sources.old.items c ≡ Some h → IfOk result (IsReadFrom S.gives h (index_of p.now)) }
     ensures failed { (c : AClass) (h k : AHeld S) → IsOf c p.now → held_of sources.old.items c ≡ Some h → held_of sources.new.items c ≡ Some k → S.failed k.source ≡ (if is_read_fault result then counted (S.failed h.source) else S.failed h.source) }
     ensures others { (c : AClass) → (IsOf c p.now → ⊥) → held_of sources.new.items c ≡ held_of sources.old.items c }
-    ensures used { (c : AClass) → IsOf c p.now → IsUsed (key_at c (index_of p.now)) pages.old.cap pages.old.entries pages.new.entries }
-    ensures again { (c : AClass) → IsOf c p.now → IfSome (kept_cell (λ v. v.items) pages.old.entries c (index_of p.now)) (λ x. (result ≡ Ok (value_of x)) × (sources.new.items ≡ sources.old.items) × (pages.new.entries ≡ promoted (same_key (key_at c (index_of p.now))) pages.old.entries)) }
+    ensures again { (c : AClass) → IsOf c p.now → IfSome (kept_cell (λ v. v.items) pages.old.entries c (index_of p.now)) (λ x. (result ≡ Ok (value_of x)) × (sources.new.items ≡ sources.old.items)) }
     ensures game { AreRight S.honest sources.old.items → IfOk result (IsValueOf p.now) }
 {
     let _men = p.men();
@@ -206,9 +204,8 @@ impl<'a, S: PageSource, A: Allocator> Values for PagedTables<'a, S, A> {
         ensures others { (c : AClass) → (IsOf c p.now → ⊥) → held_of self.new.sources c ≡ held_of self.old.sources c }
         ensures room { self.new.room ≡ self.old.room }
 
-        // The page goes first where it is kept; else it may be put in. A cell of a kept page is told without its source.
-        ensures used { (c : AClass) → IsOf c p.now → IsUsed (key_at c (index_of p.now)) self.old.room self.old.kept self.new.kept }
-        ensures again { (c : AClass) → IsOf c p.now → IfSome (kept_cell (λ cells. cells) self.old.kept c (index_of p.now)) (λ x. (result ≡ Ok (value_of x)) × (self.new.sources ≡ self.old.sources) × (self.new.kept ≡ promoted (same_key (key_at c (index_of p.now))) self.old.kept)) }
+        // A cell of a page that is kept is told without its source.
+        ensures again { (c : AClass) → IsOf c p.now → IfSome (kept_cell (λ cells. cells) self.old.kept c (index_of p.now)) (λ x. (result ≡ Ok (value_of x)) × (self.new.sources ≡ self.old.sources)) }
     {
         self.asked = self.asked.saturating_add(1);
         let answer = probe(&mut self.sources, &mut self.kept, self.alloc, p);

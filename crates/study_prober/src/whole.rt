@@ -7,6 +7,7 @@ ghost use Rattle.study_retro.specs.Cells.{value_of};
 ghost use Rattle.study_retro.specs.Game.{IsValueOf};
 ghost use Rattle.study_retro.specs.Table.{Table as Seen, place_of, table_of};
 ghost use Rattle.study_retro.specs.Set.{add_fault};
+ghost use Rattle.study_retro.specs.Sound.{IsRight};
 ghost use Rattle.study_tablefile.specs.Source.{counted};
 ghost use Rattle.study_prober.specs.Values.{is_device_fault};
 ghost use Rattle.study_prober.specs.Whole.{AreRight, Whole};
@@ -54,6 +55,7 @@ impl<'a, A: Allocator> WholeTables<'a, A> {
         ensures added { OnOk result (self.new ≡ record self.old { tables = slice_set self.old.tables (place_of table.entry.class) (Some table.entry) }) }
         ensures same { OnErr result (self.new ≡ self.old) }
         ensures handed_back { IfErr result (λ e. e.table ≡ table.entry) }
+        ensures honest { AreRight self.old.tables → IsRight table.entry → AreRight self.new.tables }
     {
         self.tables.add(table)
     }

@@ -2,7 +2,6 @@ use Rattle.std.proofs.Common.{ℕ, List, take, get_or, inl, inr, sym, ◌∙◌,
 use Rattle.std.proofs.lemmas.List.{get_or-take}
 use Rattle.study_retro.specs.Cells.{value_of}
 use Rattle.study_prober.specs.Sources.{IsGivenPage}
-use Rattle.study_prober.proofs.Again.{put_or_not}
 use Rattle.study_tablefile.specs.Source.{page_of}
 use Rattle.study_prober.proofs.Cells.{cells_of_text}
 use Rattle.study_prober.proofs.Faults.{passed_on}
@@ -34,9 +33,6 @@ returns-clause-read g c = (
   c.in_ok-page.ensures.checked,
   c.value_at.ensures ∙ ap value_of (sym (get_or-take 4096 c.page.new.into c.args.at 0 c.requires.at)),
 )
-
-pub returns-clause-kept : goal.returns-clause-kept
-returns-clause-kept g c = elim (put_or_not c.keep.result c.keep.ensures.kept c.keep.ensures.same) [ inl same ↦ inl same | inr put ↦ inr (put.0, put.2) ]
 
 pub returns-clause-given : goal.returns-clause-given
 returns-clause-given g c = λ e h.

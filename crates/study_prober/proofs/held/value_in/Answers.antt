@@ -3,8 +3,6 @@ use Rattle.study_retro.specs.Cells.{value_of}
 use Rattle.study_retro.specs.Table.{place_of}
 use Rattle.study_prober.specs.Sources.{IsGivenPage, page_cells_of}
 use Rattle.study_prober.specs.declared.cache.PageKey.{PageKey}
-use Rattle.study_prober.specs.Cache.{key_at}
-use Rattle.study_prober.proofs.Again.{used_after}
 use Rattle.study_prober.proofs.Cells.{page_of_cell, cell_of_page, told_cell}
 use Rattle.study_prober.proofs.held.value_in.Goals as goal
 
@@ -38,10 +36,6 @@ returns-in-Some-clause-read g c = λ kept.
 
 pub returns-in-None-clause-read : goal.returns-in-None-clause-read
 returns-in-None-clause-read g c = λ kept. rw c.key_of-key.ensures at c.read_value.ensures.read
-
-pub returns-in-None-clause-kept : goal.returns-in-None-clause-kept
-returns-in-None-clause-kept g c =
-    used_after c.key_of-key.result (key_at c.args.held.now.header.class c.args.number) c.args.pages.now c.kept_byte.new.pages c.read_value.new.pages.entries c.key_of-key.ensures c.in-None.ensures.used c.in-None.ensures.room c.read_value.ensures.kept
 
 pub returns-in-None-clause-given : goal.returns-in-None-clause-given
 returns-in-None-clause-given g c = λ e h.

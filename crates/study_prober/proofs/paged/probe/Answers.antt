@@ -10,9 +10,9 @@ use Rattle.study_material.specs.declared.class.Class.{Class}
 use Rattle.study_material.specs.Class.{IsOf}
 use Rattle.study_retro.proofs.SetLemmas.{place_of-injective}
 use Rattle.study_prober.proofs.Kept.{header_own, held_other, none_past, kept_after, same_after, held_at}
-use Rattle.study_prober.proofs.Again.{again_none, again_at, used_none, used_at}
+use Rattle.study_prober.proofs.Again.{again_none, again_at}
 use Rattle.study_prober.proofs.Tables.{one_class}
-use Rattle.study_prober.specs.Sources.{IsGivenPage, GiveAlike}
+use Rattle.study_prober.specs.Sources.{IsGivenPage}
 use Rattle.study_prober.proofs.Given.{given_after, alike_after, one_held, read_at, unread_at, bad_at}
 use Rattle.study_prober.proofs.Probed.{number_in, told_at, whole_at, failed_at, game_at}
 use Rattle.study_prober.proofs.paged.probe.Goals as goal
@@ -83,24 +83,7 @@ pub returns-in-Some-clause-again : goal.returns-in-Some-clause-again
 returns-in-Some-clause-again g c = λ d of.
     let is = held_at c.args.sources.now.items c.class_of-class.result.0 c.place-at.result c.index_mut.result.now c.in-Some.held c.place-at.ensures.value (search rules) c.index_mut.ensures.value c.in-Some.is in
     let own = (c.requires.kept.header c.class_of-class.result.0 c.in-Some.held is.1).class in
-    again_at (λ v. v.items) c.args.sources.now.items c.args.pages.now.entries c.value_in.new.pages.entries c.value_in.result c.in-Some.held.header.class c.class_of-class.result.0 d c.place-at.result c.index.result (index_of c.args.p.now) c.in-Some.held c.value_in.new.held c.place-at.ensures.value is.1 (own ∙ sym (one_class d c.class_of-class.result.0 c.args.p.now of c.class_of-class.ensures.class)) c.index.ensures.value c.value_in.ensures.again
-
-pub returns-then-len-at-clause-used : goal.returns-then-len-at-clause-used
-returns-then-len-at-clause-used g c = λ d of.
-    let past : length c.args.sources.now.items ≤ c.place-at.result = search rules in
-    let none = none_past c.args.sources.now.items c.class_of-class.result.0 (subst (λ (n : ℕ). length c.args.sources.now.items ≤ n) c.place-at.ensures.value past) in
-    used_none g.S.PageSource.honest (λ v. v.items) c.args.sources.now.items c.args.pages.now.entries c.class_of-class.result.0 d (index_of c.args.p.now) c.args.pages.now.cap c.requires.kept none (one_class d c.class_of-class.result.0 c.args.p.now of c.class_of-class.ensures.class)
-
-pub returns-in-None-clause-used : goal.returns-in-None-clause-used
-returns-in-None-clause-used g c = λ d of.
-    let none : held_of c.args.sources.now.items c.class_of-class.result.0 ≡ None = search rules in
-    used_none g.S.PageSource.honest (λ v. v.items) c.args.sources.now.items c.args.pages.now.entries c.class_of-class.result.0 d (index_of c.args.p.now) c.args.pages.now.cap c.requires.kept none (one_class d c.class_of-class.result.0 c.args.p.now of c.class_of-class.ensures.class)
-
-pub returns-in-Some-clause-used : goal.returns-in-Some-clause-used
-returns-in-Some-clause-used g c = λ d of.
-    let is = held_at c.args.sources.now.items c.class_of-class.result.0 c.place-at.result c.index_mut.result.now c.in-Some.held c.place-at.ensures.value (search rules) c.index_mut.ensures.value c.in-Some.is in
-    let own = (c.requires.kept.header c.class_of-class.result.0 c.in-Some.held is.1).class in
-    used_at c.in-Some.held.header.class d c.index.result (index_of c.args.p.now) c.args.pages.now.cap c.args.pages.now.entries c.value_in.new.pages.entries (own ∙ sym (one_class d c.class_of-class.result.0 c.args.p.now of c.class_of-class.ensures.class)) c.index.ensures.value c.value_in.ensures.kept
+    again_at (λ v. v.items) c.args.sources.now.items c.args.pages.now.entries c.value_in.result c.in-Some.held.header.class c.class_of-class.result.0 d c.place-at.result c.index.result (index_of c.args.p.now) c.in-Some.held c.value_in.new.held c.place-at.ensures.value is.1 (own ∙ sym (one_class d c.class_of-class.result.0 c.args.p.now of c.class_of-class.ensures.class)) c.index.ensures.value c.value_in.ensures.again
 
 pub returns-in-Some-clause-read : goal.returns-in-Some-clause-read
 returns-in-Some-clause-read g c = λ d h of was.

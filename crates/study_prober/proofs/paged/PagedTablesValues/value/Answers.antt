@@ -4,7 +4,7 @@ use Rattle.study_prober.specs.Paged.{Paged, held_of}
 use Rattle.study_index.specs.Found.{index_of}
 use Rattle.study_prober.specs.Sources.{IsGivenPage}
 use Rattle.study_prober.proofs.Given.{put_seen, fewer_seen, on_err}
-use Rattle.study_prober.proofs.Again.{again_seen, used_seen}
+use Rattle.study_prober.proofs.Again.{again_seen}
 use Rattle.study_prober.proofs.Kept.{no_table_by, stays_right_at}
 use Rattle.study_prober.proofs.paged.PagedTablesValues.value.Goals as goal
 
@@ -23,11 +23,7 @@ returns-clause-failed g c = λ d h k of before. c.probe-answer.ensures.failed d 
 
 pub returns-clause-again : goal.returns-clause-again
 returns-clause-again g c = λ d of.
-    again_seen (λ v. v.items) c.self.inside.sources.items c.probe-answer.new.sources.items c.args.self.now.sources c.self.inside.kept.entries c.probe-answer.new.pages.entries c.args.self.now.kept c.probe-answer.result d (index_of c.args.p.now) (ap (λ (w : Paged g.row.S.Denot). w.sources) c.self.view_is) (ap (λ (w : Paged g.row.S.Denot). w.kept) c.self.view_is) (c.probe-answer.ensures.again d of)
-
-pub returns-clause-used : goal.returns-clause-used
-returns-clause-used g c = λ d of.
-    used_seen (λ v. v.items) (key_at d (index_of c.args.p.now)) c.self.inside.kept.cap c.args.self.now.room c.self.inside.kept.entries c.probe-answer.new.pages.entries c.args.self.now.kept (ap (λ (w : Paged g.row.S.Denot). w.room) c.self.view_is) (ap (λ (w : Paged g.row.S.Denot). w.kept) c.self.view_is) (c.probe-answer.ensures.used d of)
+    again_seen (λ v. v.items) c.self.inside.sources.items c.probe-answer.new.sources.items c.args.self.now.sources c.self.inside.kept.entries c.args.self.now.kept c.probe-answer.result d (index_of c.args.p.now) (ap (λ (w : Paged g.row.S.Denot). w.sources) c.self.view_is) (ap (λ (w : Paged g.row.S.Denot). w.kept) c.self.view_is) (c.probe-answer.ensures.again d of)
 
 pub returns-clause-read : goal.returns-clause-read
 returns-clause-read g c = λ d h of was. c.probe-answer.ensures.read d h of (ap (λ (w : Paged g.row.S.Denot). held_of w.sources d) c.self.view_is ∙ was)
