@@ -1,5 +1,5 @@
 //! Values through pages that are kept, read, damaged and refused.
-ghost use Rattle.std.specs.Prelude.{◌≡◌};
+ghost use Rattle.std.specs.Prelude.{◌≡◌, ⊤};
 
 use crate::memory::FailingValues;
 use crate::{PagedFault, PagedTables, ProbeFault, Values, WholeTables};
@@ -67,6 +67,8 @@ impl File {
 
 impl PageSource for File {
     ghost honest = { λ _ _ _. ⊥ };
+
+    ghost gives = { λ _ _ _. ⊤ };
 
     ghost failed = { λ s. s.failures };
 
@@ -359,6 +361,35 @@ fn sources_are_refused(rt: HostRuntime) {
         Err(PagedFault::TableRead(SourceFault::Short))
     );
     assert!(rt; tables.asked() == 0 && tables.failures() == 0);
+}
+
+/// Each fault of a header that was read: its version, its class and its digest, and what comes first of two.
+#[test]
+fn headers_are_refused(rt: HostRuntime) {
+    let alloc = rt.alloc();
+    let table = table_of(&rt, &alloc, Class::KRK, 0);
+    let mut tables = paged(&rt, &alloc, 1, Class::KRK, file_of(&rt, alloc, &table));
+    let rows = [
+        (8usize, 8usize, FileFault::Version(3)),
+        (8, 16, FileFault::Version(3)),
+        (16, 24, FileFault::ClassUnknown),
+        (10, 40, FileFault::HeaderDamaged),
+        (63, 63, FileFault::HeaderDamaged),
+        (7, 8, FileFault::NotATable),
+    ];
+    for (first, second, fault) in rows {
+        let mut file = file_of(&rt, alloc, &table);
+        file.turn(first);
+        if second != first {
+            file.turn(second);
+        }
+        assert_eq!(rt;
+            tables.add(Class::KQK, file),
+            Err(PagedFault::Header(fault)),
+            "{first}"
+        );
+        assert!(rt; !tables.holds(Class::KQK) && tables.failures() == 0);
+    }
 }
 
 /// Values that fail at their second question, and answer it when it is put again.

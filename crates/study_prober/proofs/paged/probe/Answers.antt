@@ -97,10 +97,10 @@ returns-in-Some-clause-given g c =
     let is = held_at c.args.sources.now.items c.class_of-class.result.0 c.place-at.result c.index_mut.result.now c.in-Some.held c.place-at.ensures.value (search rules) c.index_mut.ensures.value c.in-Some.is in
     let own = (c.requires.kept.header c.class_of-class.result.0 c.in-Some.held is.1).class in
     rw c.place-at.ensures.value (given_after g.S.PageSource.gives (λ v. v.items) c.args.sources.now.items c.args.pages.now.entries c.value_in.new.pages.entries c.class_of-class.result.0 c.in-Some.held c.value_in.new.held c.requires.given is.0 is.1 own c.value_in.ensures.header c.value_in.ensures.alike
-      (λ e i. elim (c.value_in.ensures.given e i) [
-        | inl old ↦ inl old
-        | inr new ↦ inr (ap (λ (k : PageKey). k.class) new.0 ∙ ap place_of own, subst (λ (k : PageKey). IsGivenPage g.S.PageSource.gives c.in-Some.held k.number e.1.items) (sym new.0) new.1)
-      ]))
+    (λ e i. elim (c.value_in.ensures.given e i) [
+      | inl old ↦ inl old
+      | inr new ↦ inr (ap (λ (k : PageKey). k.class) new.0 ∙ ap place_of own, subst (λ (k : PageKey). IsGivenPage g.S.PageSource.gives c.in-Some.held k.number e.1.items) (sym new.0) new.1)
+    ]))
 
 pub returns-in-Some-clause-put : goal.returns-in-Some-clause-put
 returns-in-Some-clause-put g c = λ d h of was e i.

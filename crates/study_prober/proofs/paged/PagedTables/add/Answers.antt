@@ -35,12 +35,11 @@ invariant_of-self-2 g c =
     let of_class = differs_false the_type (search rules) c.in_ok-header.header.class c.args.class (sym c.ne.ensures ∙ c.if-ne.false) in
     let small = subst (λ (n : ℕ). n < 36) c.place.ensures.value c.place.ensures.small in
     let long = places_length c.self.inside.sources.items c.self.invariant.0.some in
-    let none = same ∙ sym c.holds.ensures ∙ c.if-holds.false in
-    (
+    let none = same ∙ sym c.holds.ensures ∙ c.if-holds.false in (
       rw c.in_ok-make_places.ensures.made (rw c.place.ensures.value (kept_with g.S.PageSource.honest (λ v. v.items) c.self.inside.sources.items c.self.inside.kept.entries c.args.class (record { header = c.in_ok-header.header; source = c.header_of.new.source }) c.self.invariant.0
-      none (subst (λ (x : Class). IsHeaderOf c.in_ok-header.header x) of_class c.in_ok-header.ensures.header) small)),
+          none (subst (λ (x : Class). IsHeaderOf c.in_ok-header.header x) of_class c.in_ok-header.ensures.header) small)),
       rw c.in_ok-make_places.ensures.made (rw c.place.ensures.value (given_with g.S.PageSource.gives (λ v. v.items) g.S.PageSource.honest c.self.inside.sources.items c.self.inside.kept.entries c.args.class (record { header = c.in_ok-header.header; source = c.header_of.new.source }) c.self.invariant.0 c.self.invariant.1
-      none (omega (arith, long, small)))),
+          none (omega (arith, long, small)))),
     )
 
 pub returns-clause-fault : goal.returns-clause-fault
