@@ -1,6 +1,7 @@
 -- What tables rest on: each position of a class has a number, and the position read off it has the same game.
 use Rattle.std.specs.Prelude.{◌≡◌, ◌↔◌, ℕ, ◌<◌, false, Some, None}
 use Rattle.study_board.specs.Position.{Position, IsValid}
+use Rattle.study_board.specs.Images.{IsImage}
 use Rattle.study_moves.specs.Bare.{bare}
 use Rattle.study_moves.specs.Game.{IsMate}
 use Rattle.study_moves.specs.Laws.{HasSameGame}
@@ -25,7 +26,7 @@ pub record IsEntry (c : Class) (n : ℕ) (q : Position) : Type 0 where
   pub of_class : IsOf c q
   pub in_order : is_swapped q.men ≡ false
   pub is_bare : bare q ≡ q
-  pub index : index_of q ≡ n
+  pub index : IsIndex q n
 
 -- the index as a function
 pub record HasIndex (p : Position) : Type 0 where
@@ -39,16 +40,19 @@ PositionsHaveAnIndex = (p : Position) → IsValid p → HasIndex p
 abbrev pub NumbersAreRead : Type 0
 NumbersAreRead = (c : Class) (n : ℕ) (q : Position) → (position_at c n ≡ Some q) ↔ IsDecoded c n q
 
--- the laws of a class
+-- the laws of a class: the index of a position is below its cells, and what is read off it is an image of the bare position, and alike to
+-- it; alike positions have one index and move alike
 pub record IsNumbered (c : Class) : Type 0 where
-  pub below : (n : ℕ) (q : Position) → position_at c n ≡ Some q → n < cells_of c
-  pub decoded : (n : ℕ) (q : Position) → position_at c n ≡ Some q → IsEntry c n q
-  pub numbered : (p : Position) → IsValid p → IsOf c p → (q : Position) × (position_at c (index_of p) ≡ Some q) × AreAlikeIn c q p
+  pub below : (n : ℕ) (q : Position) → IsDecoded c n q → n < cells_of c
+  pub decoded : (n : ℕ) (q : Position) → IsDecoded c n q → IsEntry c n q
+  pub numbered : (p : Position) (n : ℕ) → IsValid p → IsOf c p → IsIndex p n → (q : Position) × IsDecoded c n q × AreAlikeIn c q p
+  pub index_below : (p : Position) (n : ℕ) → IsValid p → IsOf c p → IsIndex p n → n < cells_of c
+  pub image : (p q : Position) (n : ℕ) → IsValid p → IsOf c p → IsIndex p n → IsDecoded c n q → IsImage (bare p) q
   pub back : (p q : Position) → AreAlikeIn c p q → AreAlikeIn c q p
   pub move : (p q r : Position) → AreAlikeIn c p q → Leads p r → (s : Position) × Leads q s × AreAlikeIn c r s
   pub mated : (p q : Position) → AreAlikeIn c p q → IsMate p → IsMate q
   pub same_home : (p q : Position) → AreAlikeIn c p q → IsOf c p → IsOf c q
-  pub same_index : (p q : Position) → AreAlikeIn c p q → IsOf c p → index_of p ≡ index_of q
+  pub same_index : (p q : Position) (n : ℕ) → AreAlikeIn c p q → IsOf c p → IsIndex p n → IsIndex q n
   pub closed : (p q : Position) → IsValid p → IsOf c p → Leads p q → LeadsOn c q
 
 abbrev pub ClassesAreNumbered : Type 0

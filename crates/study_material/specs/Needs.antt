@@ -1,6 +1,6 @@
 -- What classes one move can lead to.
 use Rattle.std.specs.Prelude.{◌≡◌, ◌↔◌, ◌⊎◌, ℕ, ◌+◌, ◌*◌, zero, suc, Bool, true, not, nat_lt, List, [], ◌∷◌, ◌++◌, length, map, filter, if◌then◌else◌}
-use Rattle.std.specs.List.{list_any, flat_map, fold, count_by, Contains}
+use Rattle.std.specs.List.{list_any, list_all, flat_map, fold, count_by, Contains}
 use Rattle.study_board.specs.declared.men.Kind.{Kind}
 use Rattle.study_board.specs.declared.men.Kind.TheVariants.{Queen, Rook, Bishop, Knight, Pawn}
 use Rattle.study_board.specs.Men.{same_kind}
@@ -90,6 +90,10 @@ is_in ds d = list_any (λ c. same_lists (lists_of c) (lists_of d)) ds
 pub record IsOrder (c : Class) (ds : List Class) : Type 0 where
   pub each : (d : Class) → Contains ds d ↔ IsNeeded c d
   pub ascending : ds ≡ filter (is_in ds) by_size
+
+-- what a class needs is smaller, so it comes before the class in any order by size
+abbrev pub NeedsComeFirst : Type 0
+NeedsComeFirst = (c : Class) → list_all (λ d. nat_lt (size d) (size c)) (needs_of c) ≡ true
 
 -- a valid position of the class, or of one that it needs
 pub record LeadsOn (c : Class) (q : Position) : Type 0 where

@@ -1,5 +1,5 @@
 //! Laws over the definitions, which tables rest on: functions that do nothing.
-ghost use Rattle.study_material.specs.Needs.{MovesLeadOn};
+ghost use Rattle.study_material.specs.Needs.{MovesLeadOn, NeedsComeFirst};
 ghost use Rattle.study_material.specs.Class.{PositionsHaveOneClass};
 
 /// Every valid position is of one class.
@@ -10,4 +10,9 @@ pub fn positions_have_one_class()
 /// Every legal move from a valid position of a class leads to a valid position of the class or of one that it needs.
 pub fn moves_lead_into_needs()
     ensures { MovesLeadOn }
+{}
+
+/// What a class needs has fewer men, or as many and fewer pawns: `order` gives it before the class.
+pub fn needs_come_first()
+    ensures { NeedsComeFirst }
 {}

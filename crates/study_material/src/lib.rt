@@ -12,7 +12,7 @@ mod reached;
 
 pub use class::Class;
 pub use fault::ClassFault;
-pub use laws::{moves_lead_into_needs, positions_have_one_class};
+pub use laws::{moves_lead_into_needs, needs_come_first, positions_have_one_class};
 pub use material::class_of;
 pub use reached::{needs, order};
 

@@ -17,11 +17,12 @@ use Rattle.study_moves.proofs.Ways.{IsCapture}
 use Rattle.study_moves.proofs.Among.{IsAmong, found_among, list_any-from, some_among}
 use Rattle.study_moves.proofs.Gaps.{IsMoveOf, HasMover-from_is_legal}
 use Rattle.study_notation.specs.declared.san.San.{San}
-use Rattle.study_notation.specs.LegalList.{legal_list}
-use Rattle.study_notation.specs.Matching.{takes, same_promotion, fits_given, fits_takes, agrees, matches}
+use Rattle.study_moves.specs.LegalList.{legal_list}
+use Rattle.study_moves.specs.LegalList.{takes}
+use Rattle.study_notation.specs.Matching.{same_promotion, fits_given, fits_takes, agrees, matches}
 use Rattle.study_notation.specs.Written.{is_rival, has_rival, has_file_rival, gives_file, gives_rank, san_for}
-use Rattle.study_notation.proofs.Sorted.{alone}
-use Rattle.study_notation.proofs.Listed.{in_legal, is_legal-in, AscendsFrom-legal_list}
+use Rattle.study_moves.proofs.Sorted.{alone}
+use Rattle.study_moves.proofs.LegalLists.{in_legal, is_legal-in, AscendsFrom-legal_list}
 use Rattle.study_notation.proofs.Three.{not_three}
 use Rattle.study_notation.proofs.Pawns.{Advances, advances_or_captures, same_advance, same_capture}
 

@@ -9,11 +9,11 @@ use Rattle.study_notation.specs.declared.san.San.{San}
 use Rattle.study_notation.specs.declared.fault.SanFault.{SanFault}
 use Rattle.study_notation.specs.declared.fault.SanFault.TheVariants.{NotSan, CastlingLeftOut, NoSuchMove, Ambiguous}
 use Rattle.study_notation.specs.SanParts.{san_of, is_castling}
-use Rattle.study_notation.specs.LegalList.{legal_list}
+use Rattle.study_moves.specs.LegalList.{legal_list}
 use Rattle.study_notation.specs.Matching.{matches, picked, meant, move_of}
 use Rattle.study_notation.specs.Meaning.{IsSan, Matches}
-use Rattle.study_notation.proofs.Sorted.{IsIn, IsIn-filter, IsIn-kept, AscendsFrom, AscendsFrom-filter}
-use Rattle.study_notation.proofs.Listed.{in_legal, is_legal-in, AscendsFrom-legal_list}
+use Rattle.study_moves.proofs.Sorted.{IsIn, IsIn-filter, IsIn-kept, AscendsFrom, AscendsFrom-filter}
+use Rattle.study_moves.proofs.LegalLists.{in_legal, is_legal-in, AscendsFrom-legal_list}
 use Rattle.study_notation.proofs.MoveAgain.{parts_spelled}
 
 -- what the answer is to say of the moves M that match, where T tells that the text is castling

@@ -8,7 +8,7 @@ use Rattle.std.specs.Result.{result_ok}
 use Rattle.study_board.specs.declared.fault.PositionFault.TheVariants.{EnPassantImpossible}
 use Rattle.study_board.specs.Equal.{same_man}
 use Rattle.study_board.specs.EqualLaws.{same_man-equal, same_position-self}
-use Rattle.study_notation.proofs.Sorted.{IsIn, AscendsFrom, list_any-in, some_in, same_list}
+use Rattle.study_moves.proofs.Sorted.{IsIn, AscendsFrom, list_any-in, some_in, same_list}
 use Rattle.std.proofs.lemmas.Bool.{cases_Bool, and_parts}
 use Rattle.study_board.specs.declared.men.Man.{Man}
 use Rattle.study_board.specs.declared.men.Side.{Side}

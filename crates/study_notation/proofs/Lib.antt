@@ -1,12 +1,10 @@
 pub mod FirstWord
 pub mod Ranks
 pub mod Counts
-pub mod Sorted
 pub mod Faults
 pub mod RowText
 pub mod FenAgain
 pub mod Picked
-pub mod Listed
 pub mod Given
 pub mod Three
 pub mod Pawns
@@ -17,3 +15,4 @@ pub mod Spelled
 pub mod MoveAgain
 pub mod Exactly
 pub mod Settled
+pub mod Examples

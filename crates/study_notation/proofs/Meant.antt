@@ -7,10 +7,10 @@ use Rattle.study_moves.specs.declared.moves.Move.{Move}
 use Rattle.study_moves.specs.Rules.{is_legal}
 use Rattle.study_notation.specs.declared.san.San.{San}
 use Rattle.study_notation.specs.declared.fault.SanFault.{SanFault}
-use Rattle.study_notation.specs.LegalList.{legal_list}
+use Rattle.study_moves.specs.LegalList.{legal_list}
 use Rattle.study_notation.specs.Matching.{matches, picked}
-use Rattle.study_notation.proofs.Sorted.{IsIn, IsIn-filter}
-use Rattle.study_notation.proofs.Listed.{is_legal-in}
+use Rattle.study_moves.proofs.Sorted.{IsIn, IsIn-filter}
+use Rattle.study_moves.proofs.LegalLists.{is_legal-in}
 
 picked_in : (xs : List Move) → IfOk (picked xs) (λ m. IsIn m xs)
 picked_in [] = tt

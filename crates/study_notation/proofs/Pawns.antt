@@ -10,7 +10,7 @@ use Rattle.study_board.specs.Position.{Position, is_occupied, is_empty}
 use Rattle.study_moves.specs.Rules.{has_side, is_square, is_ahead, starting_rank, half_way, pawn_steps, pawn_double_steps, pawn_takes, is_pawn, goes, is_en_passant}
 use Rattle.study_moves.proofs.Ways.{IsAheadBy, IsStep, IsDoubleStep, IsCapture, pawn_ways}
 use Rattle.study_moves.proofs.Among.{IsAmong, list_any-from, some_among}
-use Rattle.study_notation.specs.Matching.{takes}
+use Rattle.study_moves.specs.LegalList.{takes}
 
 occupied_by : (men : List Man) (m : Man) → IsAmong m men → is_occupied men m.at ≡ true
 unfolding is_occupied

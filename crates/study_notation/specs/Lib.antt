@@ -5,7 +5,6 @@ pub mod FenSpelling
 pub mod San
 pub mod SanParts
 pub mod SquaresView
-pub mod LegalList
 pub mod Matching
 pub mod Meaning
 pub mod Written

@@ -12,11 +12,7 @@ use Rattle.study_notation.specs.declared.san.San.{San}
 use Rattle.study_notation.specs.declared.fault.SanFault.{SanFault}
 use Rattle.study_notation.specs.declared.fault.SanFault.TheVariants.{NotSan, CastlingLeftOut, NoSuchMove, Ambiguous}
 use Rattle.study_notation.specs.SanParts.{san_of, is_castling}
-use Rattle.study_notation.specs.LegalList.{legal_list}
-
--- a legal move of the man to the square is a capture: a man stands there, or the pawn takes in passing
-unfoldable pub takes : Position → Man → ℕ → Bool
-takes p man x = is_occupied p.men x || is_en_passant p.passed man x
+use Rattle.study_moves.specs.LegalList.{legal_list, takes}
 
 abbrev pub same_promotion : Option Kind → Option Kind → Bool
 same_promotion None None = true

@@ -7,7 +7,7 @@ use Rattle.study_board.specs.Position.{Position, man_at}
 use Rattle.study_moves.specs.declared.moves.Move.{Move}
 use Rattle.study_moves.specs.Rules.{is_pawn, after}
 use Rattle.study_notation.specs.declared.start.Start.{Start}
-use Rattle.study_notation.specs.Matching.{takes}
+use Rattle.study_moves.specs.LegalList.{takes}
 
 -- one more, up to 65,535
 abbrev pub one_more : ℕ → ℕ

@@ -2,12 +2,12 @@
 ghost use Rattle.std.specs.Prelude.{◌≡◌};
 ghost use Rattle.study_board.specs.Position.{is_occupied};
 ghost use Rattle.study_moves.specs.Rules.{is_square, is_en_passant};
-ghost use Rattle.study_notation.specs.Matching.{takes};
+ghost use Rattle.study_moves.specs.LegalList.{takes};
 
 use study_board::{Kind, Man, Position, Square, is_occupied};
 
 /// Whether a legal move of the man to the square is a capture.
-#[tactic(auto, unfolding(crate::specs::Matching::takes))]
+#[tactic(auto, unfolding(study_moves::specs::LegalList::takes))]
 pub fn takes(p: &Position, man: &Man, x: Square) -> bool
     ensures { result ≡ takes p.now man.now x }
 {

@@ -1,17 +1,14 @@
 //! What is written is read again, and what the definitions of texts mean in the words of chess.
 ghost use Rattle.std.specs.Prelude.{◌≡◌, ◌≤◌, ◌↔◌, ℕ, List, true, false, Ok, Err, Some};
-ghost use Rattle.std.specs.List.{Contains};
 ghost use Rattle.study_board.specs.Position.{Position as APosition, IsValid};
 ghost use Rattle.study_moves.specs.declared.moves.Move.{Move as AMove};
 ghost use Rattle.study_moves.specs.Rules.{is_legal};
-ghost use Rattle.study_moves.specs.Game.{IsMate};
 ghost use Rattle.study_notation.specs.declared.start.Start.{Start as AStart};
 ghost use Rattle.study_notation.specs.declared.san.San.{San as ASan};
 ghost use Rattle.study_notation.specs.Fen.{start_of};
 ghost use Rattle.study_notation.specs.FenSpelling.{fen_text};
 ghost use Rattle.study_notation.specs.San.{Says};
 ghost use Rattle.study_notation.specs.SanParts.{san_of, is_castling};
-ghost use Rattle.study_notation.specs.LegalList.{legal_list, is_mate};
 ghost use Rattle.study_notation.specs.Matching.{move_of};
 ghost use Rattle.study_notation.specs.Meaning.{IsSan, MatchesAlone, MatchesNone, MatchesTwo};
 ghost use Rattle.study_notation.specs.Written.{move_text};
@@ -35,17 +32,6 @@ pub fn fen_is_settled()
 pub fn san_is_read_again()
     ensures { (p : APosition) (m : AMove) → IsValid p → is_legal p m ≡ true
         → move_of p (move_text p m) ≡ Ok m }
-{}
-
-/// The list from which a text's move is picked has exactly the legal moves.
-pub fn legal_list_is_exact()
-    ensures { (p : APosition) (m : AMove) → IsValid p
-        → Contains (legal_list p) m ↔ (is_legal p m ≡ true) }
-{}
-
-/// What is written with `#` is checkmate.
-pub fn mate_is_checkmate()
-    ensures { (p : APosition) → IsValid p → (is_mate p ≡ true) ↔ IsMate p }
 {}
 
 /// The parts that are read from the left are those with which the text is spelled; so a text is

@@ -2,7 +2,6 @@
 ghost use Rattle.std.specs.Prelude.{◌≡◌, true, filter, IfOk};
 ghost use Rattle.study_moves.specs.Rules.{is_legal};
 ghost use Rattle.study_notation.specs.SanParts.{is_castling, is_castling_with};
-ghost use Rattle.study_notation.specs.LegalList.{legal_list};
 ghost use Rattle.study_notation.specs.Matching.{same_promotion, fits_given, fits_takes, agrees, matches, picked, move_of};
 
 use crate::SanFault;
@@ -10,7 +9,6 @@ use crate::captures::takes;
 use crate::san::San;
 use crate::san_parser::parse_san;
 use crate::san_parts::is_ending;
-use arrayvec::ArrayVec;
 use study_board::{Kind, Man, Position};
 use study_moves::{Move, legal_moves};
 
@@ -27,7 +25,7 @@ pub fn read_san(p: &Position, text: &str) -> Result<Move, SanFault>
     let bytes = text.as_bytes();
     match parse_san(bytes) {
         Some(san) => {
-            let moves = legal_list(p);
+            let moves = legal_moves(p);
             find_move(p, moves.as_slice(), &san)
         }
         None => Err(if is_castling(bytes) {
@@ -36,14 +34,6 @@ pub fn read_san(p: &Position, text: &str) -> Result<Move, SanFault>
             SanFault::NotSan
         }),
     }
-}
-
-// The legal moves in the order of the list.
-fn legal_list(p: &Position) -> ArrayVec<Move, 256>
-    ensures { result.items ≡ legal_list p.now }
-{
-    let _valid = p.men();
-    legal_moves(p)
 }
 
 // The one move of the list that the parts agree with.

@@ -6,7 +6,7 @@ ghost use Rattle.study_board.specs.Position.{man_at};
 ghost use Rattle.study_moves.specs.Rules.{is_legal};
 ghost use Rattle.study_notation.specs.FenSpelling.{square_text};
 ghost use Rattle.study_notation.specs.San.{kind_text, file_text, rank_text, takes_text, promotion_text, san_text};
-ghost use Rattle.study_notation.specs.LegalList.{is_mate};
+ghost use Rattle.study_moves.specs.LegalList.{is_mate};
 ghost use Rattle.study_notation.specs.Written.{is_rival, has_rival, has_file_rival, gives_file, gives_rank, GivesOne, san_for, check_text, move_text};
 
 use crate::captures::takes;

@@ -78,6 +78,9 @@ impl<'a, S: PageSource, A: Allocator> PagedTables<'a, S, A> {
         ensures added { OnOk result ((h : AHeld S) × IsHeaderOf h.header class × ((t : Seen) (v : ℕ) → IsVersionOf t.class v → S.honest source t v → h.header.version ≡ v) × AreHonestAlike S.honest source h.source × GiveAlike S.gives source h.source × (S.failed h.source ≡ S.failed source) × (self.new ≡ record self.old { sources = slice_set (places self.old.sources) (place_of class) (Some h) })) }
         ensures same { OnErr result (self.new ≡ self.old) }
 
+        // Each class has a place from the first source on.
+        ensures places { OnOk result (length self.new.sources ≡ 36) }
+
         // There is a last state of the source, which has failed once more where its header is not read, and only there.
         ensures last { (last : S) × AreHonestAlike S.honest source last × (S.failed last ≡ (if is_unread result then counted (S.failed source) else S.failed source)) }
 

@@ -11,7 +11,7 @@ use Rattle.study_notation.specs.declared.start.Start.{Start}
 use Rattle.study_notation.specs.declared.fault.FenFault.{FenFault}
 use Rattle.study_notation.specs.Fen.{start_of}
 use Rattle.study_notation.specs.FenSpelling.{fen_text}
-use Rattle.study_notation.specs.LegalList.{legal_list}
+use Rattle.study_moves.specs.LegalList.{legal_list}
 use Rattle.study_notation.specs.Written.{move_text}
 use Rattle.studybench.specs.declared.command.Node.{Node}
 use Rattle.studybench.specs.declared.command.Node.TheVariants.{Root, Below}

@@ -3,7 +3,7 @@ ghost use Rattle.std.specs.Prelude.{◌≡◌, ◌++◌, ◌∷◌, [], List, �
 ghost use Rattle.std.specs.Io.KnownBytes.{Appends};
 ghost use Rattle.std.specs.List.{All};
 ghost use Rattle.study_moves.specs.Rules.{is_legal};
-ghost use Rattle.study_notation.specs.LegalList.{legal_list};
+ghost use Rattle.study_moves.specs.LegalList.{legal_list};
 ghost use Rattle.study_notation.specs.Written.{move_text};
 ghost use Rattle.study_tablefile.specs.Taken.{TakesPrefix};
 ghost use Rattle.studybench.specs.Replies.{error_text, line_text, moves_listed, list_text, moves_text, solve_text};

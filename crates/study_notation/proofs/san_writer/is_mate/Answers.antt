@@ -1,4 +1,4 @@
-use Rattle.study_notation.proofs.Listed.{mate_told}
+use Rattle.study_moves.proofs.LegalLists.{mate_told}
 use Rattle.study_notation.proofs.san_writer.is_mate.Goals as goal
 
 pub returns : goal.returns

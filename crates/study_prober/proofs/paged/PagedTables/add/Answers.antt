@@ -9,6 +9,7 @@ use Rattle.study_tablefile.specs.File.{IsVersionOf}
 use Rattle.study_prober.specs.Paged.{Paged, held_of, AreRight}
 use Rattle.study_prober.specs.Told.{MayAnswer}
 use Rattle.study_prober.proofs.Given.{given_with}
+use Rattle.std.proofs.lemmas.List.{length-set}
 use Rattle.study_prober.proofs.Faults.{fault_held, fault_other, fault_none, only_memory}
 use Rattle.study_prober.proofs.Kept.{alike_refl, kept_with, places_length, right_with, gives_more}
 use Rattle.study_prober.proofs.paged.PagedTables.add.Goals as goal
@@ -77,3 +78,8 @@ pub returns-clause-own : goal.returns-clause-own
 returns-clause-own g c = λ t v known honest.
     let of_class = differs_false the_type (search rules) c.in_ok-header.header.class c.args.class (sym c.ne.ensures ∙ c.if-ne.false) in
     sym (c.in_ok-header.ensures.reads t v known honest).0 ∙ of_class
+
+pub returns-clause-places : goal.returns-clause-places
+returns-clause-places g c =
+    let long : length c.make_places.new.sources.items ≡ 36 = ap (λ (xs : List (Option (Held g.row.S.Denot))). length xs) c.in_ok-make_places.ensures.made ∙ places_length c.self.inside.sources.items c.self.invariant.0.some in
+    length-set _ _ _ ∙ long

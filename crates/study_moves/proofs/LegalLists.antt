@@ -12,8 +12,8 @@ use Rattle.study_moves.specs.Order.{place_of, IsBefore}
 use Rattle.study_moves.specs.Game.{IsMate, HasNoMove}
 use Rattle.study_moves.proofs.Among.{found_among, All-among}
 use Rattle.study_moves.proofs.Gaps.{HasMover-from_is_legal}
-use Rattle.study_notation.specs.LegalList.{moves_between, moves_from, all_moves, legal_list, is_mate}
-use Rattle.study_notation.proofs.Sorted.{IsIn, IsIn-left, IsIn-right, IsIn-filter, IsIn-kept, IsIn-from_Contains, Contains-from_in, AscendsFrom, Spans, AscendsFrom-spans, AscendsFrom-filter, AscendsFrom-pairs, Spans-append, same_list}
+use Rattle.study_moves.specs.LegalList.{moves_between, moves_from, all_moves, legal_list, is_mate}
+use Rattle.study_moves.proofs.Sorted.{IsIn, IsIn-left, IsIn-right, IsIn-filter, IsIn-kept, IsIn-from_Contains, Contains-from_in, AscendsFrom, Spans, AscendsFrom-spans, AscendsFrom-filter, AscendsFrom-pairs, Spans-append, same_list}
 
 -- what each of a range of numbers gives, one after another
 spans_range : (f : ℕ → List Move) (c base : ℕ) → ((k : ℕ) → Spans place_of (base + c * k) (base + c * (k + 1)) (f k)) → (start n : ℕ) → Spans place_of (base + c * start) (base + c * (start + n)) (flat_map f (range_with_len start n))
