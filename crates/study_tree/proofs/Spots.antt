@@ -1,13 +1,13 @@
 -- What is read at a path, and the last place of one.
 use Rattle.std.proofs.Common.{◌≡◌, ℕ, ◌≤◌, ◌-◌, List, [], ◌∷◌, length, true, Option, Some, None, refl, sym, ap, ◌∙◌, arith, zero, suc}
-use Rattle.std.specs.Prelude.{slice_get}
+use Rattle.std.specs.Prelude.{slice_get, is_some, IfSome}
 use Rattle.std.proofs.lemmas.Bool.{ne_eqb}
 use Rattle.study_moves.specs.declared.moves.Move.{Move}
 use Rattle.study_tree.specs.declared.fault.TreeFault.TheVariants.{AlreadyFirst}
 use Rattle.study_tree.specs.Forest.{Forest, none, more, Twig, forest_of, nodes_in, nodes_from}
-use Rattle.study_tree.specs.Edits.{node_in, width, plain, last_place}
+use Rattle.study_tree.specs.Edits.{node_in, children_at, width, plain, last_place}
 use Rattle.study_tree.specs.Tree.{Plain, Spot, spot_at, twig_spot, has_spot, move_up_refusal}
-use Rattle.study_tree.proofs.Shown.{node_in-plain, width-plain, plain_twig, width-le}
+use Rattle.study_tree.proofs.Shown.{node_in-plain, width-plain, plain_twig, width-le, is_some-node_in}
 use Rattle.study_tree.proofs.Places.{width-forest_of}
 
 last_place-get : (k : ℕ) (ks : List ℕ) → slice_get (k ∷ ks) (length ks) ≡ Some (last_place k ks)
@@ -58,3 +58,19 @@ module _ {L : Type 0} where
 
   pub spot-same : (o p : Option Move) (l x : L) (n k : ℕ) → o ≡ p → l ≡ x → n ≡ k → spot_of o l n ≡ spot_of p x k
   spot-same o p l x n k a b c = rw (a, b, c) refl
+
+module _ {L : Type 0} where
+  twig_some : (o : Option (Twig L)) → is_some (twig_spot o) ≡ is_some o
+  twig_some None = refl
+  twig_some (Some t) = refl
+
+  twig_children : (f : Forest L) (k : ℕ) (ks : List ℕ) → IfSome (twig_spot (node_in f k ks)) (λ s. s.children ≡ children_at f (k ∷ ks))
+  twig_children none k ks = tt
+  twig_children (more m l b r) zero [] = refl
+  twig_children (more m l b r) zero (j ∷ js) = twig_children b j js
+  twig_children (more m l b r) (suc k) ks = twig_children r k ks
+
+  -- a node is where a path shows one, with as many children as it shows
+  pub places-shown : (t : Plain L) (steps : List ℕ) → (has_spot t steps ≡ is_some (spot_at t steps)) × IfSome (spot_at t steps) (λ s. s.children ≡ children_at t.below steps)
+  places-shown t [] = (refl, refl)
+  places-shown t (k ∷ ks) = (sym (twig_some (node_in t.below k ks) ∙ is_some-node_in t.below k ks), twig_children t.below k ks)

@@ -1,7 +1,8 @@
 -- What joins a tree to its rows in written order.
-use Rattle.std.specs.Prelude.{◌≡◌, ℕ, List, ◌∷◌, length, None}
+use Rattle.std.specs.Prelude.{◌≡◌, ℕ, List, ◌∷◌, length, None, is_some, IfSome}
 use Rattle.study_moves.specs.declared.moves.Move.{Move}
-use Rattle.study_tree.specs.Tree.{Plain, with_child, without, with_label, moved_up, move_up_refusal, spot_at, size_of}
+use Rattle.study_tree.specs.Edits.{children_at}
+use Rattle.study_tree.specs.Tree.{Plain, has_spot, with_child, without, with_label, moved_up, move_up_refusal, spot_at, size_of}
 use Rattle.study_tree.specs.Rows.{Row, rows, AreRows, rows_with_child, rows_without, rows_with_label, rows_moved_up, first_spot, cut_at}
 
 -- each edit is an edit of the rows; move up, where it is not refused
@@ -17,6 +18,11 @@ abbrev pub NodesAreOfRows : Type 0 → Type 0
 NodesAreOfRows L =
     ((t : Plain L) (steps : List ℕ) → spot_at t steps ≡ first_spot (cut_at (rows t) steps).block)
     × ((t : Plain L) → size_of t ≡ length (rows t))
+
+-- there is a node at a path exactly where it shows something, and it has as many children as it shows
+abbrev pub PlacesAreShown : Type 0 → Type 0
+PlacesAreShown L = (t : Plain L) (steps : List ℕ) →
+    (has_spot t steps ≡ is_some (spot_at t steps)) × IfSome (spot_at t steps) (λ s. s.children ≡ children_at t.below steps)
 
 -- the rows of a tree have the depths and moves that rows have, and each list of such rows is that of one tree and no other
 abbrev pub RowsAreWritten : Type 0 → Type 0

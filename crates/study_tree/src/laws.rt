@@ -1,6 +1,6 @@
 //! Laws over the definitions, stated by functions that do nothing.
 ghost use Rattle.std.specs.Prelude.{◌≡◌, ℕ, List, ◌∷◌};
-ghost use Rattle.study_tree.specs.Laws.{EditsAreOfRows, NodesAreOfRows, RowsAreWritten};
+ghost use Rattle.study_tree.specs.Laws.{EditsAreOfRows, NodesAreOfRows, PlacesAreShown, RowsAreWritten};
 
 /// An edit of a tree is an edit of its rows in written order: add last puts a row after the parent's block, remove
 /// drops the block, move up lets the block change places with that of the sibling before it, and relabel changes
@@ -12,6 +12,11 @@ pub fn edits_in_rows<L>()
 /// What a node shows is what the first row of its block shows, and a tree has as many nodes as rows.
 pub fn nodes_in_rows<L>()
     ensures { NodesAreOfRows L }
+{}
+
+/// There is a node where a path shows one, and the place of a new last child is the number of children that it shows.
+pub fn places_are_shown<L>()
+    ensures { PlacesAreShown L }
 {}
 
 /// The rows of a tree are rows in written order, and each list of such rows is that of one tree.

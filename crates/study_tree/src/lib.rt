@@ -13,6 +13,6 @@ mod tests;
 mod tree;
 
 pub use fault::TreeFault;
-pub use laws::{edits_in_rows, nodes_in_rows, rows_are_written};
+pub use laws::{edits_in_rows, nodes_in_rows, places_are_shown, rows_are_written};
 pub use path::Path;
 pub use tree::{MAX_DEPTH, MAX_NODES, NodeRef, Tree};

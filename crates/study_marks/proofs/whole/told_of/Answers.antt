@@ -1,0 +1,7 @@
+use Rattle.std.proofs.Common.{get_or, ap, sym, ◌∙◌}
+use Rattle.study_tree.specs.Tree.{plain_tree}
+use Rattle.study_marks.proofs.Trees.{no-spot}
+use Rattle.study_marks.proofs.whole.told_of.Goals as goal
+
+pub unreachable-requires : goal.unreachable-requires
+unreachable-requires g c = no-spot (plain_tree c.args.tree.now) c.args.steps.now c.requires.found c.in-None.ensures

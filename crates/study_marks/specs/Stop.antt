@@ -1,0 +1,107 @@
+-- A list of edits: what each accepted one asks, finds and writes, and where the list stops.
+use Rattle.std.specs.Prelude.{◌≡◌, ℕ, ◌+◌, ◌⊎◌, Bool, true, false, List, [], ◌∷◌, length, take, zero, suc, MatchOption, Option, None, Result, Ok, Err, IfErr, OnOk, OnErr, if◌then◌else◌}
+use Rattle.study_board.specs.Position.{Position}
+use Rattle.study_moves.specs.Rules.{after}
+use Rattle.study_material.specs.declared.class.Class.{Class}
+use Rattle.study_tree.specs.Tree.{counted, size_of}
+use Rattle.study_marks.specs.declared.fault.Refusal.{Refusal}
+use Rattle.study_marks.specs.declared.fault.Refusal.TheVariants.{OutOfMemory}
+use Rattle.study_marks.specs.declared.edit.Edit.{Edit}
+use Rattle.study_marks.specs.declared.edit.Edit.TheVariants as edits
+use Rattle.study_marks.specs.declared.edit.Stopped.{Stopped}
+use Rattle.study_marks.specs.Study.{Study, plain_study, position_at}
+use Rattle.study_marks.specs.Asked.{asked_at, asked_of, AllHeld, IsOutside, HasAsked, HasStopped, is_of_tables, is_of_device, counted_times, failures_after}
+use Rattle.study_marks.specs.Edits.{Plainly, shifted, edited, edit_refusal, insert_refusal, delete_refusal, promote_refusal, shift_refusal, tag_refusal}
+use Rattle.study_marks.specs.Kept.{Kept, marked, IsRight}
+
+module _ {A : Type 0} where
+  -- the positions whose values an edit of this study asks
+  abbrev pub questions_of : Plainly → Edit A → List Position
+  questions_of s (edits.Position start) = asked_at start.position
+  questions_of s (edits.Shift start) = asked_of (shifted s start)
+  questions_of s (edits.Stipulate stipulation) = []
+  questions_of s (edits.Insert steps m) = asked_at (after (position_at s steps) m)
+  questions_of s (edits.Delete steps) = []
+  questions_of s (edits.Promote steps) = []
+  questions_of s (edits.Tag name text) = []
+
+  -- a shift is refused for a broken move, or where there is no memory for that move's path
+  abbrev pub IsShiftRefusal : (Class → Bool) → List Position → Option (Refusal A) → Refusal A → Type 0
+  IsShiftRefusal held asked reason r = MatchOption reason (IsOutside held asked r) (λ fault. (r ≡ fault) ⊎ (r ≡ OutOfMemory))
+
+  -- the edit of this study may be refused so
+  abbrev pub IsRefusalOf : (Class → Bool) → Plainly → Edit A → Refusal A → Type 0
+  IsRefusalOf held s (edits.Position start) r = IsOutside held (asked_at start.position) r
+  IsRefusalOf held s (edits.Shift start) r = IsShiftRefusal held (asked_of (shifted s start)) (shift_refusal s start) r
+  IsRefusalOf held s (edits.Stipulate stipulation) r = ⊥
+  IsRefusalOf held s (edits.Insert steps m) r =
+      MatchOption (insert_refusal s steps m) (IsOutside held (asked_at (after (position_at s steps) m)) r) (λ fault. r ≡ fault)
+  IsRefusalOf held s (edits.Delete steps) r = MatchOption (delete_refusal s steps) ⊥ (λ fault. r ≡ fault)
+  IsRefusalOf held s (edits.Promote steps) r = MatchOption (promote_refusal s steps) ⊥ (λ fault. r ≡ fault)
+  IsRefusalOf held s (edits.Tag name text) r = MatchOption (tag_refusal text.bytes) ⊥ (λ fault. r ≡ fault)
+
+  -- the edit of this study has no reason to be refused, and a table of each position that it asks is held
+  pub record IsAccepted (held : Class → Bool) (s : Plainly) (e : Edit A) : Type 0 where
+    pub allowed : edit_refusal s e ≡ None
+    pub found : AllHeld held (questions_of s e)
+
+  abbrev pub AreAccepted : (Class → Bool) → Plainly → List (Edit A) → Type 0
+  AreAccepted held s [] = Unit {0}
+  AreAccepted held s (e ∷ es) = IsAccepted held s e × AreAccepted held (edited s e) es
+
+  -- the count of labels after an edit of this study: a new position begins it anew
+  abbrev pub labels_after : Plainly → Edit A → ℕ → ℕ
+  labels_after s (edits.Position start) n = 1
+  labels_after s (edits.Shift start) n = counted_times (size_of s.tree) n
+  labels_after s (edits.Stipulate stipulation) n = counted_times (size_of s.tree) n
+  labels_after s (edits.Insert steps m) n = counted_times (length steps + 2) n
+  labels_after s (edits.Delete steps) n = counted_times (length steps) n
+  labels_after s (edits.Promote steps) n = counted_times (length steps) n
+  labels_after s (edits.Tag name text) n = n
+
+  abbrev pub labels_by : Plainly → List (Edit A) → ℕ → ℕ
+  labels_by s [] n = n
+  labels_by s (e ∷ es) n = labels_by (edited s e) es (labels_after s e n)
+
+  -- the edits that were accepted
+  abbrev pub accepted_of : Result (Unit {0}) (Stopped A) → List (Edit A) → List (Edit A)
+  accepted_of (Ok x) es = es
+  accepted_of (Err s) es = take s.done es
+
+  -- after so many of the edits, the next is refused so
+  abbrev pub IsStopped : (Class → Bool) → Plainly → List (Edit A) → ℕ → Refusal A → Type 0
+  IsStopped held s [] n r = ⊥
+  IsStopped held s (e ∷ es) zero r = IsRefusalOf held s e r
+  IsStopped held s (e ∷ es) (suc n) r = IsStopped held (edited s e) es n r
+
+  -- how many values were asked: all of each accepted edit, and up to one that was not told of the refused one
+  abbrev pub asked_by : Plainly → List (Edit A) → ℕ → ℕ
+  asked_by s [] n = n
+  asked_by s (e ∷ es) n = asked_by (edited s e) es (counted_times (length (questions_of s e)) n)
+
+  abbrev pub HasAskedUpTo : Plainly → List (Edit A) → ℕ → Refusal A → ℕ → ℕ → Type 0
+  HasAskedUpTo s [] n r old new = ⊥
+  HasAskedUpTo s (e ∷ es) zero r old new = HasStopped (is_of_tables r) (length (questions_of s e)) old new
+  HasAskedUpTo s (e ∷ es) (suc n) r old new = HasAskedUpTo (edited s e) es n r (counted_times (length (questions_of s e)) old) new
+
+  abbrev pub HasAskedBy : Plainly → List (Edit A) → Result (Unit {0}) (Stopped A) → ℕ → ℕ → Type 0
+  HasAskedBy s es (Ok x) old new = new ≡ asked_by s es old
+  HasAskedBy s es (Err stop) old new = HasAskedUpTo s es stop.done stop.refusal old new
+
+  -- the count of failures rises exactly where a device is refused
+  abbrev pub failures_stopped : Result (Unit {0}) (Stopped A) → ℕ → ℕ
+  failures_stopped (Ok x) old = old
+  failures_stopped (Err s) old = if is_of_device s.refusal then counted old else old
+
+  -- Not part of any public contract: what one edit of a bench does, over tables that are held, values that are honest, and the counts of questions and of failures, before and now.
+  pub record IsApplied (held held_now : Class → Bool) (honest honest_now : Type 0) (asked asked_now failed failed_now : ℕ) (old new : Kept) (e : Edit A) (r : Result (Unit {0}) (Refusal A)) : Type 0 where
+    pub refusal : IfErr r (IsRefusalOf held (plain_study (marked old)) e)
+    pub accepted : OnOk r (IsAccepted held (plain_study (marked old)) e)
+    pub edit : OnOk r (plain_study (marked new) ≡ edited (plain_study (marked old)) e)
+    pub right : honest → IsRight old → OnOk r (IsRight new)
+    pub labels : OnOk r (new.relabelled ≡ labels_after (plain_study (marked old)) e old.relabelled)
+    pub counts : HasAsked (length (questions_of (plain_study (marked old)) e)) r asked asked_now
+    pub failures : failed_now ≡ failures_after r failed
+    pub stays : honest → honest_now
+    pub tables : (c : Class) → held_now c ≡ held c
+    pub same : OnErr r (new ≡ old)

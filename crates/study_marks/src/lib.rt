@@ -1,0 +1,35 @@
+//! A study with marks that are always those of annotating it from scratch.
+//!
+//! A `Bench` holds a study: a start, a stipulation, tags, and a tree of moves. Each edit says what it makes of the plain
+//! study, and leaves marks that are those of the new one wherever the values that it asked were the game's. `insert`,
+//! `delete` and `promote` renew what is kept on one path to the root; a refused edit changes nothing.
+#![tactic(auto)]
+
+mod ask;
+mod bench;
+mod edit;
+mod edits;
+mod fault;
+mod find;
+mod gather;
+mod label;
+mod laws;
+mod mark;
+mod marking;
+mod renew;
+mod stipulation;
+mod tag;
+mod tally;
+mod treework;
+#[cfg(test)]
+mod tests;
+mod walk;
+mod whole;
+
+pub use bench::{Bench, Shown};
+pub use edit::{Edit, Stopped};
+pub use fault::Refusal;
+pub use laws::{annotations_are_unique, edits_in_rows};
+pub use mark::{Mark, MoveMark};
+pub use stipulation::{Goal, MateMoves, Stipulation};
+pub use tag::TagName;

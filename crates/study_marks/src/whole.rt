@@ -1,0 +1,183 @@
+//! The whole tree: its first move that is not legal, and the labels of all nodes, written anew.
+ghost use Rattle.std.specs.Prelude.{◌≡◌, ◌+◌, ◌≤◌, ◌++◌, ℕ, List, IsTrue, IsSome, length, Some, None, false};
+ghost use Rattle.study_tree.specs.Forest.{nodes_in};
+ghost use Rattle.study_tree.specs.Edits.{width, below_edited};
+ghost use Rattle.study_tree.specs.Tree.{Spot, plain_tree, has_spot, spot_at, with_label, size_of, counted};
+ghost use Rattle.study_marks.specs.declared.label.Label.{Label as ALabel};
+ghost use Rattle.study_marks.specs.Study.{IsWithin};
+ghost use Rattle.study_marks.specs.Edits.{broken_from};
+ghost use Rattle.study_marks.specs.Bench.{played_by};
+ghost use Rattle.study_marks.specs.Asked.{counted_times};
+ghost use Rattle.study_marks.specs.Goals.{hero_moves};
+ghost use Rattle.study_marks.specs.Kept.{own, faults_below, AllAddUp};
+ghost use Rattle.study_marks.specs.Renewal.{told_tree, below_at};
+ghost use Rattle.study_marks.specs.Whole.{told_in, retold_tree, refreshed};
+
+use crate::label::{Label, Told};
+use crate::marking::{Aim, hero_moves, own_faults};
+use crate::renew::share;
+use arrayvec::ArrayVec;
+use std::alloc::Allocator;
+use study_board::Position;
+use study_moves::{Move, is_legal, played};
+use study_tree::Tree;
+
+/// A way down from the root that takes no memory.
+pub type Steps = ArrayVec<u16, 256>;
+
+/// How many children the node has.
+pub fn children_of<'a, A: Allocator>(tree: &Tree<'a, Label, A>, steps: &[u16]) -> u16
+    requires { IsTrue (has_spot (plain_tree tree.now) steps.now) }
+    ensures { result ≡ width (below_at (plain_tree tree.now).below steps.now) }
+{
+    match tree.node(steps) {
+        None => 0,
+        Some(node) => node.children,
+    }
+}
+
+/// The move that led to the node.
+fn move_to<'a, A: Allocator>(tree: &Tree<'a, Label, A>, steps: &[u16]) -> Option<Move>
+    ensures { result ≡ played_by (spot_at (plain_tree tree.now) steps.now) }
+{
+    match tree.node(steps) {
+        None => None,
+        Some(node) => node.played,
+    }
+}
+
+/// The move that led to a node that is there and not the root.
+pub fn move_of<'a, A: Allocator>(tree: &Tree<'a, Label, A>, steps: &[u16]) -> Move
+    requires found { IsSome (played_by (spot_at (plain_tree tree.now) steps.now)) }
+    ensures { played_by (spot_at (plain_tree tree.now) steps.now) ≡ Some result }
+{
+    match move_to(tree, steps) {
+        None => unreachable!(),
+        Some(m) => m,
+    }
+}
+
+/// Goes to the first node in written order, below this one, whose move is not legal; stays where there is none.
+pub fn find_broken<'a, A: Allocator>(
+    tree: &Tree<'a, Label, A>,
+    position: &Position,
+    steps: &mut Steps,
+) -> bool
+    requires found { IsTrue (has_spot (plain_tree tree.now) steps.old.items) }
+    requires shallow { IsWithin 256 (plain_tree tree.now).below }
+    ensures broken { IsTrue result → (path : List ℕ) × (broken_from 0 position.now (below_at (plain_tree tree.now).below steps.old.items) ≡ Some path) × (steps.new.items ≡ steps.old.items ++ path) }
+    ensures whole { result ≡ false → (broken_from 0 position.now (below_at (plain_tree tree.now).below steps.old.items) ≡ None) × (steps.new.items ≡ steps.old.items) }
+{
+    let count = children_of(tree, steps.as_slice());
+    let mut place = 0u16;
+    while place < count {
+        steps.push(place);
+        let m = move_of(tree, steps.as_slice());
+        if !is_legal(position, m) {
+            return true;
+        }
+        let legal = move_of(tree, steps.as_slice());
+        let next = played(position, legal);
+        if find_broken(tree, &next, steps) {
+            return true;
+        }
+        let _place = steps.pop();
+        place += 1;
+    }
+    false
+}
+
+/// What is to be told of the node with this number: what the list tells, or what is told already where it is shorter.
+fn told_of<'a, A: Allocator>(
+    tree: &Tree<'a, Label, A>,
+    steps: &[u16],
+    all: &[Told],
+    number: usize,
+) -> Told
+    requires found { IsTrue (has_spot (plain_tree tree.now) steps.now) }
+    ensures { (s : Spot ALabel) → spot_at (plain_tree tree.now) steps.now ≡ Some s → result ≡ told_in all.now number s.label.told }
+{
+    if number < all.len() {
+        return all[number].copied();
+    }
+    match tree.node(steps) {
+        None => unreachable!(),
+        Some(node) => node.label.told.copied(),
+    }
+}
+
+/// Writes the label of a node, other than the root, whose parent keeps `before`; says its faults, to which those below it are counted.
+fn write_label<'a, A: Allocator>(
+    aim: &Aim,
+    tree: &mut Tree<'a, Label, A>,
+    steps: &[u16],
+    depth: usize,
+    before: &Told,
+    told: Told,
+    below: u32,
+) -> u32
+    requires found { IsTrue (has_spot (plain_tree tree.old) steps.now) }
+    requires few { below ≤ 4096 }
+    requires shallow { depth ≤ 256 }
+    ensures faults { result ≡ own aim.now depth before.now told.value + below }
+    ensures written { plain_tree tree.new ≡ with_label (plain_tree tree.old) steps.now (record { told = told; faults = result }) }
+    ensures count { tree.new.relabelled ≡ counted tree.old.relabelled }
+{
+    let faults = own_faults(aim, depth, before, told.value) + below;
+    let _written = tree.relabel(steps, Label { told, faults });
+    faults
+}
+
+/// Writes the labels of all below the node, which keeps `told`, by the list, from the node with this number on. Says
+/// the faults that its children count for it, and the number of the first node that is not below it.
+fn write_below<'a, A: Allocator>(
+    aim: &Aim,
+    tree: &mut Tree<'a, Label, A>,
+    steps: &mut Steps,
+    told: &Told,
+    all: &[Told],
+    number: usize,
+) -> (u32, usize)
+    requires found { IsTrue (has_spot (plain_tree tree.old) steps.old.items) }
+    requires shallow { IsWithin 256 (plain_tree tree.old).below }
+    requires numbers { number + nodes_in (below_at (plain_tree tree.old).below steps.old.items) ≤ 4096 }
+    ensures written { plain_tree tree.new ≡ record { label = (plain_tree tree.old).label; below = below_edited (refreshed all.now aim.now (length steps.old.items) number told.now) (plain_tree tree.old).below steps.old.items } }
+    ensures faults { result.0 ≡ faults_below (hero_moves aim.now (length steps.old.items)) (refreshed all.now aim.now (length steps.old.items) number told.now (below_at (plain_tree tree.old).below steps.old.items)) }
+    ensures number { result.1 ≡ number + nodes_in (below_at (plain_tree tree.old).below steps.old.items) }
+    ensures count { tree.new.relabelled ≡ counted_times (nodes_in (below_at (plain_tree tree.old).below steps.old.items)) tree.old.relabelled }
+    ensures steps { steps.new.items ≡ steps.old.items }
+    ensures few { result.0 ≤ 4096 }
+{
+    let _few = tree.size();
+    let depth = steps.len();
+    let count = children_of(tree, steps.as_slice());
+    let mut place = 0u16;
+    let mut faults = 0u32;
+    let mut next = number;
+    while place < count {
+        steps.push(place);
+        let child = told_of(tree, steps.as_slice(), all, next);
+        let (below, beyond) = write_below(aim, tree, steps, &child, all, next + 1);
+        let own = write_label(aim, tree, steps.as_slice(), depth, told, child, below);
+        let _place = steps.pop();
+        faults += share(aim, depth, place, own);
+        next = beyond;
+        place += 1;
+    }
+    (faults, next)
+}
+
+/// Writes all labels: what is told comes from the list, one for each node in written order, or stays where the list is
+/// empty; the faults are counted anew.
+pub fn write_all<'a, A: Allocator>(aim: &Aim, tree: &mut Tree<'a, Label, A>, all: &[Told])
+    requires shallow { IsWithin 256 (plain_tree tree.old).below }
+    ensures told { told_tree (plain_tree tree.new) ≡ retold_tree all.now (told_tree (plain_tree tree.old)) }
+    ensures right { AllAddUp aim.now (plain_tree tree.new) }
+    ensures count { tree.new.relabelled ≡ counted_times (size_of (plain_tree tree.old)) tree.old.relabelled }
+{
+    let _few = tree.size();
+    let mut steps = ArrayVec::new();
+    let told = told_of(tree, steps.as_slice(), all, 0);
+    let (faults, _) = write_below(aim, tree, &mut steps, &told, all, 1);
+    let _written = tree.relabel(steps.as_slice(), Label { told, faults });
+}

@@ -1,0 +1,5 @@
+use Rattle.study_tree.proofs.Spots.{places-shown}
+use Rattle.study_tree.proofs.laws.places_are_shown.Goals as goal
+
+pub returns : goal.returns
+returns g c = places-shown
