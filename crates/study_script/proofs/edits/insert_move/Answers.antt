@@ -1,0 +1,19 @@
+use Rattle.std.proofs.Common.{sym, subst, OnOk}
+use Rattle.study_moves.specs.Rules.{after}
+use Rattle.study_marks.specs.Study.{position_at}
+use Rattle.study_marks.specs.Kept.{marked}
+use Rattle.study_marks.specs.Asked.{asked_at, AllHeld}
+use Rattle.study_script.specs.Held.{tables_held}
+use Rattle.study_script.proofs.edits.insert_move.Goals as goal
+
+pub returns-in-Whole-clause-refusal : goal.returns-in-Whole-clause-refusal
+returns-in-Whole-clause-refusal g c = rw c.in-Whole.is c.insert.ensures.refusal
+
+pub returns-in-Whole-clause-found : goal.returns-in-Whole-clause-found
+returns-in-Whole-clause-found g c = subst (λ t. OnOk c.insert.result (AllHeld (tables_held t) (asked_at (after (position_at (marked c.args.bench.now) c.args.path.now) c.args.m)))) (sym c.in-Whole.is) c.insert.ensures.found
+
+pub returns-in-Paged-clause-refusal : goal.returns-in-Paged-clause-refusal
+returns-in-Paged-clause-refusal g c = rw c.in-Paged.is c.insert-in-Paged.ensures.refusal
+
+pub returns-in-Paged-clause-found : goal.returns-in-Paged-clause-found
+returns-in-Paged-clause-found g c = subst (λ t. OnOk c.insert-in-Paged.result (AllHeld (tables_held t) (asked_at (after (position_at (marked c.args.bench.now) c.args.path.now) c.args.m)))) (sym c.in-Paged.is) c.insert-in-Paged.ensures.found

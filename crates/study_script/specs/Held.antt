@@ -1,0 +1,132 @@
+-- What the code holds, as a script sees it.
+use Rattle.std.specs.Prelude.{◌≡◌, ℕ, Bool, true, false, is_some, List, Option, Result}
+use Rattle.study_script.specs.declared.store.StoreFault.{StoreFault}
+use Rattle.std.specs.Io.KnownBytes.{Appends}
+use Rattle.study_tablefile.specs.Taken.{TakesPrefix}
+use Rattle.study_material.specs.declared.class.Class.{Class}
+use Rattle.study_retro.specs.Table.{Table, table_of}
+use Rattle.study_prober.specs.Whole.{AreRight as WholeAreRight}
+use Rattle.study_prober.specs.Paged.{AreRight as SourcesAreRight, held_of}
+use Rattle.study_marks.specs.declared.fault.Refusal.{Refusal as EditRefusal}
+use Rattle.study_marks.specs.declared.fault.Refusal.TheVariants as edit
+use Rattle.study_marks.specs.Study.{plain_study}
+use Rattle.study_marks.specs.Kept.{Kept, marked, IsRight}
+use Rattle.study_script.specs.declared.board.Board.{Board as HeldBoard}
+use Rattle.study_script.specs.declared.board.Board.TheVariants as held
+use Rattle.study_script.specs.declared.tables.Tables.{Tables}
+use Rattle.study_script.specs.declared.tables.Tables.TheVariants.{Whole, Paged}
+use Rattle.study_script.specs.State.{Board, empty, start, study, State, is_among, Outside}
+use Rattle.study_script.specs.Replies.{Reply}
+
+module _ {A : Type 0} where
+  -- the study without its marks
+  abbrev pub board_seen : HeldBoard A → Board
+  board_seen held.Empty = empty
+  board_seen (held.Start s) = start s
+  board_seen (held.Study b) = study (plain_study (marked b))
+
+  -- the marks are those of annotating from scratch
+  abbrev pub IsMarked : HeldBoard A → Type 0
+  IsMarked held.Empty = Unit {0}
+  IsMarked (held.Start s) = Unit {0}
+  IsMarked (held.Study b) = IsRight b
+
+module _ {P A : Type 0} where
+  -- each value that is told is the game's
+  abbrev pub tables_honest : (P → Table → ℕ → Type 0) → Tables P A → Type 0
+  tables_honest honest (Whole w) = WholeAreRight w.tables
+  tables_honest honest (Paged w) = SourcesAreRight honest w.sources
+
+  -- a table of the class is held
+  abbrev pub tables_held : Tables P A → Class → Bool
+  tables_held (Whole w) c = is_some (table_of w.tables c)
+  tables_held (Paged w) c = is_some (held_of w.sources c)
+
+  abbrev pub tables_asked : Tables P A → ℕ
+  tables_asked (Whole w) = w.asked
+  tables_asked (Paged w) = w.asked
+
+  abbrev pub tables_failed : Tables P A → ℕ
+  tables_failed (Whole w) = 0
+  tables_failed (Paged w) = w.failed
+
+  abbrev pub are_paged : Tables P A → Bool
+  are_paged (Whole w) = false
+  are_paged (Paged w) = true
+
+  -- what is held is the state of the script, with marks that are right and values that are honest
+  pub record Holds (honest : P → Table → ℕ → Type 0) (b : HeldBoard A) (t : Tables P A) (s : State) : Type 0 where
+    pub board : board_seen b ≡ s.board
+    pub marks : IsMarked b
+    pub values : tables_honest honest t
+    pub classes : (c : Class) → tables_held t c ≡ is_among s.classes c
+    pub paged : are_paged t ≡ s.paged
+
+-- the same of a part of what is held; and of it after a command that leaves the other part as it was
+module _ {A : Type 0} where
+  pub record HoldsBoard (b : HeldBoard A) (s : State) : Type 0 where
+    pub board : board_seen b ≡ s.board
+    pub marks : IsMarked b
+
+  pub record HoldsFrom (old : State) (b : HeldBoard A) (s : State) : Type 0 where
+    pub holds : HoldsBoard b s
+    pub classes : s.classes ≡ old.classes
+    pub paged : s.paged ≡ old.paged
+    pub shelf : s.shelf ≡ old.shelf
+
+-- the study that is held
+pub record HoldsBench (b : Kept) (s : State) : Type 0 where
+  pub board : study (plain_study (marked b)) ≡ s.board
+  pub marks : IsRight b
+
+pub record HoldsBenchFrom (old : State) (b : Kept) (s : State) : Type 0 where
+  pub holds : HoldsBench b s
+  pub classes : s.classes ≡ old.classes
+  pub paged : s.paged ≡ old.paged
+  pub shelf : s.shelf ≡ old.shelf
+
+module _ {P A : Type 0} where
+  pub record HoldsTables (honest : P → Table → ℕ → Type 0) (t : Tables P A) (s : State) : Type 0 where
+    pub values : tables_honest honest t
+    pub classes : (c : Class) → tables_held t c ≡ is_among s.classes c
+    pub paged : are_paged t ≡ s.paged
+
+  pub record TablesFrom (honest : P → Table → ℕ → Type 0) (old : State) (t : Tables P A) (s : State) : Type 0 where
+    pub holds : HoldsTables honest t s
+    pub board : s.board ≡ old.board
+
+-- what is known of a store is what it gives
+pub record KnowsStore (files headers : Class → Option (Result (List ℕ) StoreFault)) (s : State) : Type 0 where
+  pub files_known : (c : Class) → files c ≡ s.shelf.files c
+  pub headers_known : (c : Class) → headers c ≡ s.shelf.headers c
+
+-- whole tables tell no fault of a device
+abbrev pub IsToldBy : {A : Type 0} → Bool → EditRefusal A → Type 0
+IsToldBy paged (edit.TableRead fault) = paged ≡ true
+IsToldBy paged edit.NoSuchNode = Unit {0}
+IsToldBy paged edit.RootNotAllowed = Unit {0}
+IsToldBy paged edit.AlreadyFirst = Unit {0}
+IsToldBy paged edit.IllegalMove = Unit {0}
+IsToldBy paged (edit.AlreadyThere k) = Unit {0}
+IsToldBy paged edit.TooDeep = Unit {0}
+IsToldBy paged edit.TreeFull = Unit {0}
+IsToldBy paged (edit.ShiftBroken steps) = Unit {0}
+IsToldBy paged edit.TagText = Unit {0}
+IsToldBy paged edit.OutOfMemory = Unit {0}
+IsToldBy paged (edit.NoTable c) = Unit {0}
+
+-- ---- what a writer has
+
+-- a reply with the property is written whole, and what is held then is its state
+abbrev pub Answered : (Outside → Reply → Type 0) → (State → Type 0) → Option (List ℕ) → Option (List ℕ) → Bool → Type 0
+Answered IsIt HoldsIt old new was_refused =
+    (o : Outside) × (reply : Reply) × IsIt o reply × Appends old new reply.text × HoldsIt reply.state × (was_refused ≡ reply.refused)
+
+-- a reply with the property is written in part
+abbrev pub BrokenOff : (Outside → Reply → Type 0) → Option (List ℕ) → Option (List ℕ) → Type 0
+BrokenOff IsIt old new = (o : Outside) × (reply : Reply) × IsIt o reply × TakesPrefix old new reply.text
+
+-- no table is held, and what will be is honest
+pub record Begun {P A : Type 0} (honest : P → Table → ℕ → Type 0) (t : Tables P A) : Type 0 where
+  pub none : (c : Class) → tables_held t c ≡ false
+  pub values : tables_honest honest t

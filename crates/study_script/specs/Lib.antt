@@ -1,0 +1,13 @@
+pub mod Paths
+pub mod Asking
+pub mod Lines
+pub mod State
+pub mod Stored
+pub mod Names
+pub mod Words
+pub mod Replies
+pub mod Held
+pub mod Memory
+pub mod Told
+pub mod Desk
+pub mod Outcome

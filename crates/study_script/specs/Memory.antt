@@ -1,0 +1,53 @@
+-- What is known of a store in memory, which is all that it gives.
+use Rattle.std.specs.Prelude.{◌≡◌, ℕ, Bool, true, false, List, take, slice_index_or, Option, Some, None, Result, Ok, Err}
+use Rattle.study_material.specs.declared.class.Class.{Class}
+use Rattle.study_retro.specs.Table.{Table, IsComplete, place_of}
+use Rattle.study_retro.specs.Sound.{IsRight}
+use Rattle.study_tablefile.specs.File.{IsVersionOf, table_text}
+use Rattle.study_script.specs.declared.store.StoreFault.{StoreFault}
+use Rattle.study_script.specs.declared.store.StoreFault.TheVariants.{NoFile, Device}
+use Rattle.study_script.specs.declared.memory.MemoryFile.{MemoryFile}
+use Rattle.study_script.specs.declared.memory.MemoryFile.TheVariants.{Absent, Closed, Bytes, Written}
+use Rattle.study_script.specs.Stored.{IsRightFile}
+
+-- the file of a class
+abbrev pub file_at : List MemoryFile → Class → MemoryFile
+file_at files c = slice_index_or files (place_of c) Absent
+
+-- what a file gives from front to back; of one that was written nothing is known
+abbrev pub file_known : MemoryFile → Option (Result (List ℕ) StoreFault)
+file_known Absent = Some (Err NoFile)
+file_known Closed = Some (Err Device)
+file_known (Bytes bytes) = Some (Ok bytes.now)
+file_known Written = None
+
+-- what its source tells as its header, if it tells one
+abbrev pub header_known : MemoryFile → Option (Result (List ℕ) StoreFault)
+header_known Absent = Some (Err NoFile)
+header_known Closed = Some (Err Device)
+header_known (Bytes bytes) = Some (Ok (take 64 bytes.now))
+header_known Written = None
+
+-- the text of a right table
+pub record IsRightText (bytes : List ℕ) : Type 0 where
+  pub table : Table
+  pub version : ℕ
+  pub known : IsVersionOf table.class version
+  pub complete : IsComplete table
+  pub right : IsRight table
+  pub text : bytes ≡ table_text table version
+
+-- by pages each file is the text of a right table; from front to back each that reads as a table reads as a right one
+abbrev pub IsHonestFile : Bool → MemoryFile → Type 0
+IsHonestFile by_pages Absent = Unit {0}
+IsHonestFile by_pages Closed = Unit {0}
+IsHonestFile true (Bytes bytes) = IsRightText bytes.now
+IsHonestFile false (Bytes bytes) = IsRightFile (Some bytes.now)
+IsHonestFile by_pages Written = Unit {0}
+
+-- the fault of opening a file that gives no bytes
+abbrev pub IsFaultOf : StoreFault → MemoryFile → Type 0
+IsFaultOf fault Absent = fault ≡ NoFile
+IsFaultOf fault Closed = fault ≡ Device
+IsFaultOf fault (Bytes bytes) = ⊥
+IsFaultOf fault Written = fault ≡ Device

@@ -1,0 +1,60 @@
+-- What a run over a script leaves behind.
+use Rattle.std.specs.Prelude.{◌≡◌, ℕ, ◌+◌, ◌-◌, ◌<◌, ◌≤◌, Bool, List, [], ◌∷◌, length, take, drop, slice_get, Option, Some, None, Result, Ok, Err, count_by, IsSomeAnd}
+use Rattle.std.specs.List.{AllByRecursion}
+use Rattle.std.specs.Io.KnownBytes.{Appends, Keeps}
+use Rattle.study_tablefile.specs.Taken.{TakesPrefix}
+use Rattle.study_script.specs.declared.run.Summary.{Summary}
+use Rattle.study_script.specs.declared.run.RunFault.{RunFault}
+use Rattle.study_script.specs.declared.run.RunFault.TheVariants.{ReadDevice, WriteDevice, LineTooLong, TooManyLines, OutOfMemory}
+use Rattle.study_script.specs.Lines.{lines_of, GaveFeeds}
+use Rattle.study_script.specs.State.{State, empty, Shelf, Outside}
+use Rattle.study_script.specs.Replies.{Reply, Answer, IsReply, AreReplies, replies_text}
+
+-- nothing is held before the first line
+abbrev pub begun_state : Shelf → Bool → State
+begun_state shelf paged = record { board = empty; classes = []; paged = paged; shelf = shelf }
+
+-- no line has more than 1,024 bytes
+abbrev pub AreShort : List (List ℕ) → Type 0
+AreShort lines = AllByRecursion (λ line. length line ≤ 1024) lines
+
+-- how many replies are errors
+abbrev pub error_count : List Answer → ℕ
+error_count replies = count_by (λ answer. answer.1.refused) replies
+
+-- the replies to the lines are written
+abbrev pub AreAnswered : State → List (List ℕ) → Option (List ℕ) → Option (List ℕ) → Type 0
+AreAnswered first lines old new = AreShort lines × (replies : List Answer) × AreReplies first lines replies × Appends old new (replies_text replies)
+
+-- what is held behind replies
+abbrev pub state_after : State → List Answer → State
+state_after s [] = s
+state_after s (answer ∷ more) = state_after answer.1.state more
+
+-- the replies to the lines are written, and then a front of the reply to one line more, of which at least a byte is left out
+abbrev pub AreBrokenOff : State → List (List ℕ) → List ℕ → Option (List ℕ) → Option (List ℕ) → Type 0
+AreBrokenOff first lines line old new =
+    AreShort lines × (length line ≤ 1024) × (replies : List Answer) × AreReplies first lines replies
+    × (mid : Option (List ℕ)) × Appends old mid (replies_text replies)
+    × (o : Outside) × (reply : Reply) × IsReply (state_after first replies) line o reply × TakesPrefix mid new reply.text
+
+-- these lines are what a reader has left
+abbrev pub AreLeft : Option (List ℕ) → List (List ℕ) → Type 0
+AreLeft None lines = ⊥
+AreLeft (Some rest) lines = lines_of rest ≡ lines
+
+-- what is held at the beginning, the bytes of a script, what the reader has left of them, what the writer had and has, and what the run answers
+abbrev pub Outcome : State → List ℕ → Option (List ℕ) → Option (List ℕ) → Option (List ℕ) → Result Summary RunFault → Type 0
+Outcome first script left old new (Ok summary) =
+    (length (lines_of script) ≤ 100000) × AreShort (lines_of script)
+    × (replies : List Answer) × AreReplies first (lines_of script) replies × Appends old new (replies_text replies)
+    × (summary.lines ≡ length (lines_of script)) × (summary.refused ≡ error_count replies)
+-- each line whose end was read is answered; no line behind these was begun
+Outcome first script left old new (Err ReadDevice) = (n : ℕ) × (n ≤ 100000) × (n ≤ length (lines_of script)) × GaveFeeds (Some script) left n × AreAnswered first (take n (lines_of script)) old new
+-- where the writer failed, the lines behind the one whose reply it broke off are left
+Outcome first script left old new (Err WriteDevice) =
+    (n : ℕ) × (n < 100000) × GaveFeeds (Some script) left (n + 1) × AreLeft left (drop (n + 1) (lines_of script))
+    × IsSomeAnd (slice_get (lines_of script) n) (λ line. AreBrokenOff first (take n (lines_of script)) line old new)
+Outcome first script left old new (Err (LineTooLong n)) = (0 < n) × (n ≤ 100000) × IsSomeAnd (slice_get (lines_of script) (n - 1)) (λ line. 1024 < length line) × AreAnswered first (take (n - 1) (lines_of script)) old new
+Outcome first script left old new (Err TooManyLines) = (100000 < length (lines_of script)) × AreAnswered first (take 100000 (lines_of script)) old new
+Outcome first script left old new (Err OutOfMemory) = Keeps old new

@@ -1,0 +1,369 @@
+-- What is replied to each line of a script.
+use Rattle.std.specs.Prelude.{◌≡◌, ℕ, ◌+◌, ◌-◌, ◌*◌, ◌≤◌, Bool, true, false, ◌&&◌, ◌==◌, List, [], ◌∷◌, ◌++◌, find, Option, Some, None, Result}
+use Rattle.std.specs.Prelude.{Ok, Err, if◌then◌else◌, codes}
+use Rattle.std.specs.List.{flat_map}
+use Rattle.std.specs.Str.{bytes_eq}
+use Rattle.study_board.specs.Position.{Position}
+use Rattle.study_moves.specs.declared.moves.Move.{Move}
+use Rattle.study_moves.specs.Rules.{after}
+use Rattle.study_moves.specs.Game.{MatesWithin, IsWon}
+use Rattle.study_material.specs.declared.class.Class.{Class}
+use Rattle.study_material.specs.Class.{name_of, class_list}
+use Rattle.study_retro.specs.Table.{Table, IsComplete, place_of}
+use Rattle.study_retro.specs.Sound.{IsRight, HasFarPosition}
+use Rattle.study_retro.specs.Report.{IsGreatest, win_of}
+use Rattle.study_tablefile.specs.declared.fault.FileFault.{FileFault}
+use Rattle.study_tablefile.specs.File.{pages_of}
+use Rattle.study_tablefile.specs.Reading.{HasHeader, table_read}
+use Rattle.study_prober.specs.declared.fault.PagedFault.{PagedFault}
+use Rattle.study_prober.specs.Told.{paged_fault}
+use Rattle.study_notation.specs.declared.start.Start.{Start}
+use Rattle.study_notation.specs.declared.fault.FenFault.{FenFault}
+use Rattle.study_notation.specs.declared.fault.SanFault.{SanFault}
+use Rattle.study_notation.specs.Fen.{start_of}
+use Rattle.study_notation.specs.FenSpelling.{fen_text}
+use Rattle.study_notation.specs.Matching.{move_of}
+use Rattle.study_notation.specs.Written.{move_text}
+use Rattle.study_tree.specs.Forest.{none}
+use Rattle.study_tree.specs.Edits.{children_at}
+use Rattle.study_tree.specs.Tree.{Spot, has_spot, spot_at}
+use Rattle.study_marks.specs.declared.stipulation.Stipulation.{Stipulation}
+use Rattle.study_marks.specs.declared.mark.Mark.{Mark}
+use Rattle.study_marks.specs.declared.tag.TagName.{TagName}
+use Rattle.study_marks.specs.declared.fault.Refusal.{Refusal as EditRefusal}
+use Rattle.study_marks.specs.Study.{Study, plain_study, position_at}
+use Rattle.study_marks.specs.Annotated.{IsAnnotated}
+use Rattle.study_marks.specs.Edits.{Plainly, positioned, shifted, stipulated, inserted, deleted, promoted, tagged, insert_refusal, delete_refusal}
+use Rattle.study_marks.specs.Edits.{promote_refusal, shift_refusal, tag_refusal}
+use Rattle.study_marks.specs.Asked.{asked_at, asked_of, IsFirstMissing, AllHeld, IsDeviceFault}
+use Rattle.study_marks.specs.Bench.{start_at}
+use Rattle.study_pgn.specs.Pgn.{pgn_text}
+use Rattle.study_script.specs.declared.command.FenWord.{FenWord}
+use Rattle.study_script.specs.declared.command.FenWord.TheVariants.{Position as PositionWord, Shift}
+use Rattle.study_script.specs.declared.command.NodeWord.{NodeWord}
+use Rattle.study_script.specs.declared.command.NodeWord.TheVariants.{Moves, Fen as FenAt}
+use Rattle.study_script.specs.declared.command.StudyWord.{StudyWord}
+use Rattle.study_script.specs.declared.command.StudyWord.TheVariants.{Delete, Promote, Mark as MarkWord}
+use Rattle.study_script.specs.declared.command.ClassWord.{ClassWord}
+use Rattle.study_script.specs.declared.command.ClassWord.TheVariants.{Build, Load, Save, Verify}
+use Rattle.study_script.specs.Paths.{path_text}
+use Rattle.study_script.specs.Asking.{Asked, of_start, at_node, at_study, of_class, stipulate, insert, tag, solve, pgn, Asks, command_of}
+use Rattle.study_script.specs.declared.refusal.Refusal.{Refusal}
+use Rattle.study_script.specs.declared.refusal.Refusal.TheVariants.{Form, NoPosition, NoStudy, OutOfMemory, PagedMode, NotAClass, NoSuchNode, Fen}
+use Rattle.study_script.specs.declared.refusal.Refusal.TheVariants.{San, NoTable, MissingTable, AlreadyHeld, OtherClass, Device, File}
+use Rattle.study_script.specs.declared.refusal.Refusal.TheVariants.{DistanceTooLarge}
+use Rattle.study_script.specs.Names.{words_of, edit_words, of_probe, of_paged, of_store}
+use Rattle.study_script.specs.State.{Board, empty, start, study, State, is_among, first_lacking, IsGiven, IsOpened, IsTold, written_anew, Outside}
+use Rattle.study_script.specs.State.{no_path, no_room, no_room_for, unread, unopened, cut_off, file, header}
+use Rattle.study_script.specs.Words.{line_text, stipulation_text, tag_name, mark_text, moves_text, solve_text, insert_text, built_text, loaded_text}
+use Rattle.study_script.specs.Words.{saved_text, verified_text}
+
+-- the reply to a line: its bytes, what is held behind the line, and whether the line is refused
+pub record Reply : Type 0 where
+  pub text : List ℕ
+  pub state : State
+  pub refused : Bool
+
+abbrev pub accepted : State → List ℕ → Reply
+accepted s text = record { text = text; state = s; refused = false }
+
+-- a refused line changes nothing
+abbrev pub refused_by : State → List ℕ → Reply
+refused_by s words = record { text = line_text (codes "error ") words; state = s; refused = true }
+
+abbrev pub refused : State → Refusal → Reply
+refused s refusal = refused_by s (words_of refusal)
+
+-- with another study
+abbrev pub holding : State → Plainly → State
+holding s new = record s { board = study new }
+
+-- ---- edits
+
+-- an edit that asks no value: the first reason to refuse it, or the study after it
+abbrev pub edit_reply : State → Option (EditRefusal (Unit {0})) → Plainly → List ℕ → Reply
+edit_reply s None new text = accepted (holding s new) text
+edit_reply s (Some refusal) new text = refused_by s (edit_words refusal)
+
+-- the values of these positions are asked: a table is missing, or the study is the new one
+pub data IsValued (s : State) (asked : List Position) (new : Plainly) (text : List ℕ) (reply : Reply) : Type 0 where
+  missing : (c : Class) → IsFirstMissing (is_among s.classes) asked c → reply ≡ refused s (NoTable c) → IsValued s asked new text reply
+  found : AllHeld (is_among s.classes) asked → reply ≡ accepted (holding s new) text → IsValued s asked new text reply
+
+-- an edit that takes memory, and then asks the values of these positions; a page is read only where tables are read by pages
+abbrev pub IsAskedReply : State → Outside → List Position → Plainly → List ℕ → Reply → Type 0
+IsAskedReply s no_room asked new text reply = reply ≡ refused s OutOfMemory
+IsAskedReply s (unread fault) asked new text reply = (s.paged ≡ true) × IsDeviceFault fault × (reply ≡ refused s (of_probe fault))
+IsAskedReply s _ asked new text reply = IsValued s asked new text reply
+
+-- `position`: without a study the start is held, and no table is asked
+abbrev pub IsPositionReply : State → Outside → Board → Start → Reply → Type 0
+IsPositionReply s o empty new reply = reply ≡ accepted (record s { board = start new }) (line_text (codes "position ") (fen_text new))
+IsPositionReply s o (start old) new reply = reply ≡ accepted (record s { board = start new }) (line_text (codes "position ") (fen_text new))
+IsPositionReply s o (study old) new reply = IsAskedReply s o (asked_at new.position) (positioned old new) (line_text (codes "position ") (fen_text new)) reply
+
+-- `shift`: a move of the tree is not legal, which may also be told as want of memory for its path
+abbrev pub IsShiftReply : State → Outside → Plainly → Start → Option (EditRefusal (Unit {0})) → Reply → Type 0
+IsShiftReply s no_room old new (Some refusal) reply = reply ≡ refused s OutOfMemory
+IsShiftReply s _ old new (Some refusal) reply = reply ≡ refused_by s (edit_words refusal)
+IsShiftReply s o old new None reply = IsAskedReply s o (asked_of (shifted old new)) (shifted old new) (line_text (codes "shift ") (fen_text new)) reply
+
+abbrev pub IsStartReply : State → Outside → FenWord → Board → Result Start FenFault → Reply → Type 0
+IsStartReply s o PositionWord board (Err fault) reply = reply ≡ refused s (Fen fault)
+IsStartReply s o PositionWord board (Ok new) reply = IsPositionReply s o board new reply
+IsStartReply s o Shift (study old) (Err fault) reply = reply ≡ refused s (Fen fault)
+IsStartReply s o Shift (study old) (Ok new) reply = IsShiftReply s o old new (shift_refusal old new) reply
+IsStartReply s o Shift empty read reply = reply ≡ refused s NoStudy
+IsStartReply s o Shift (start old) read reply = reply ≡ refused s NoStudy
+
+-- a study with the root alone, and no tag known
+abbrev pub new_study : Start → Stipulation → Plainly
+new_study from stipulation = record {
+  start = from;
+  stipulation = stipulation;
+  tags = None ∷ None ∷ None ∷ None ∷ None ∷ None ∷ [];
+  tree = record { label = tt; below = none };
+}
+
+-- `stipulate` makes the study, or changes its stipulation
+abbrev pub IsStipulateReply : State → Outside → Board → Stipulation → Reply → Type 0
+IsStipulateReply s o empty new reply = reply ≡ refused s NoPosition
+IsStipulateReply s o (start from) new reply = IsAskedReply s o (asked_at from.position) (new_study from new) (stipulation_text new) reply
+IsStipulateReply s o (study old) new reply = reply ≡ accepted (holding s (stipulated old new)) (stipulation_text new)
+
+-- `tag`
+abbrev pub tag_reply : State → Board → TagName → List ℕ → Reply
+tag_reply s empty name text = refused s NoStudy
+tag_reply s (start from) name text = refused s NoStudy
+tag_reply s (study old) name text = edit_reply s (tag_refusal text) (tagged old name text) (line_text (codes "tag ") (tag_name name))
+
+-- `insert`: the node, then the move, then the edit; the reply has the path of the new node
+abbrev pub inserted_text : Plainly → List ℕ → Move → List ℕ
+inserted_text old steps m = insert_text (steps ++ children_at old.tree.below steps ∷ []) (move_text (position_at old steps) m)
+
+abbrev pub IsInserted : State → Outside → Plainly → List ℕ → Move → Option (EditRefusal (Unit {0})) → Reply → Type 0
+IsInserted s o old steps m (Some refusal) reply = reply ≡ refused_by s (edit_words refusal)
+IsInserted s o old steps m None reply = IsAskedReply s o (asked_at (after (position_at old steps) m)) (inserted old steps m) (inserted_text old steps m) reply
+
+abbrev pub IsMoveReply : State → Outside → Plainly → List ℕ → Result Move SanFault → Reply → Type 0
+IsMoveReply s o old steps (Err fault) reply = reply ≡ refused s (San fault)
+IsMoveReply s o old steps (Ok m) reply = IsInserted s o old steps m (insert_refusal old steps m) reply
+
+abbrev pub IsMoveReplyAt : State → Outside → Plainly → List ℕ → List ℕ → Bool → Reply → Type 0
+IsMoveReplyAt s o old steps san false reply = reply ≡ refused s NoSuchNode
+IsMoveReplyAt s o old steps san true reply = IsMoveReply s o old steps (move_of (position_at old steps) san) reply
+
+abbrev pub IsInsertReply : State → Outside → Board → List ℕ → List ℕ → Reply → Type 0
+IsInsertReply s o empty steps san reply = reply ≡ refused s NoStudy
+IsInsertReply s o (start from) steps san reply = reply ≡ refused s NoStudy
+IsInsertReply s no_path (study old) steps san reply = reply ≡ refused s OutOfMemory
+IsInsertReply s o (study old) steps san reply = IsMoveReplyAt s o old steps san (has_spot old.tree steps) reply
+
+-- ---- nodes
+
+abbrev pub named : Option Start → Result Start Refusal
+named (Some at) = Ok at
+named None = Err NoSuchNode
+
+-- the start at a node; without a study the root is the only node
+abbrev pub start_of_node : Board → List ℕ → Result Start Refusal
+start_of_node empty steps = Err NoPosition
+start_of_node (start from) [] = Ok from
+start_of_node (start from) (k ∷ ks) = Err NoSuchNode
+start_of_node (study old) steps = named (start_at old steps)
+
+-- the same, where there may be no memory for the path; without a position none is asked
+abbrev pub start_found : Outside → Board → List ℕ → Result Start Refusal
+start_found o empty steps = Err NoPosition
+start_found no_path (start from) steps = Err OutOfMemory
+start_found no_path (study old) steps = Err OutOfMemory
+start_found _ board steps = start_of_node board steps
+
+-- `moves` and `fen`
+abbrev pub moves_reply : State → Result Start Refusal → Reply
+moves_reply s (Ok at) = accepted s (moves_text at.position)
+moves_reply s (Err refusal) = refused s refusal
+
+abbrev pub fen_reply : State → Result Start Refusal → Reply
+fen_reply s (Ok at) = accepted s (line_text (codes "fen ") (fen_text at))
+fen_reply s (Err refusal) = refused s refusal
+
+-- the side to move mates in so many plies against every defence, and not sooner; with None, not within that many moves of its own
+abbrev pub IsSolution : Position → ℕ → Option ℕ → Type 0
+IsSolution p count (Some plies) = IsWon p plies × (plies + 1 ≤ 2 * count)
+IsSolution p count None = (n : ℕ) → n + 1 ≤ 2 * count → ¬ (MatesWithin n p)
+
+-- `solve`
+abbrev pub IsSolveReply : State → ℕ → Result Start Refusal → Reply → Type 0
+IsSolveReply s count (Ok at) reply = (plies : Option ℕ) × IsSolution at.position count plies × (reply ≡ accepted s (solve_text plies))
+IsSolveReply s count (Err refusal) reply = reply ≡ refused s refusal
+
+-- a study with its marks has the property, the marks being those of annotating it from scratch
+abbrev pub Annotated : Plainly → (Study Mark → Type 0) → Type 0
+Annotated old P = (annotated : Study Mark) × IsAnnotated annotated × (plain_study annotated ≡ old) × P annotated
+
+-- `mark`, of a study that is annotated from scratch
+abbrev pub marked_reply : State → List ℕ → Option (Spot Mark) → Reply
+marked_reply s steps None = refused s NoSuchNode
+marked_reply s steps (Some spot) = accepted s (mark_text steps spot.label)
+
+abbrev pub IsMarkReply : State → Plainly → List ℕ → Reply → Type 0
+IsMarkReply s old steps reply = Annotated old (λ annotated. reply ≡ marked_reply s steps (spot_at annotated.tree steps))
+
+-- the path of a node that was moved up by one place
+abbrev pub raised : List ℕ → List ℕ
+raised [] = []
+raised (k ∷ []) = (k - 1) ∷ []
+raised (k ∷ j ∷ js) = k ∷ raised (j ∷ js)
+
+-- `delete`, `promote` and `mark`
+abbrev pub IsStudyReply : State → StudyWord → Plainly → List ℕ → Reply → Type 0
+IsStudyReply s Delete old steps reply =
+    reply ≡ edit_reply s (delete_refusal old steps) (deleted old steps) (line_text (codes "delete ") (path_text steps))
+IsStudyReply s Promote old steps reply =
+    reply ≡ edit_reply s (promote_refusal old steps) (promoted old steps) (line_text (codes "promote ") (path_text (raised steps)))
+IsStudyReply s MarkWord old steps reply = IsMarkReply s old steps reply
+
+abbrev pub IsStudyReplyAt : State → Outside → StudyWord → Board → List ℕ → Reply → Type 0
+IsStudyReplyAt s o word empty steps reply = reply ≡ refused s NoStudy
+IsStudyReplyAt s o word (start from) steps reply = reply ≡ refused s NoStudy
+IsStudyReplyAt s no_path word (study old) steps reply = reply ≡ refused s OutOfMemory
+IsStudyReplyAt s _ word (study old) steps reply = IsStudyReply s word old steps reply
+
+abbrev pub IsNodeReply : State → Outside → NodeWord → List ℕ → Reply → Type 0
+IsNodeReply s o Moves steps reply = reply ≡ moves_reply s (start_found o s.board steps)
+IsNodeReply s o FenAt steps reply = reply ≡ fen_reply s (start_found o s.board steps)
+
+-- `pgn`, of a study that is annotated from scratch
+abbrev pub IsPgnReply : State → Outside → Board → Reply → Type 0
+IsPgnReply s o empty reply = reply ≡ refused s NoStudy
+IsPgnReply s o (start from) reply = reply ≡ refused s NoStudy
+IsPgnReply s no_room (study old) reply = reply ≡ refused s OutOfMemory
+IsPgnReply s _ (study old) reply = Annotated old (λ annotated. reply ≡ accepted s (pgn_text annotated))
+
+-- ---- tables
+
+-- with the table of one more class
+abbrev pub with_class : State → Class → State
+with_class s c = record s { classes = c ∷ s.classes }
+
+-- a table was built, and it is right; or no table can be
+pub data IsBuilt (s : State) (c : Class) (reply : Reply) : Type 0 where
+  built : (t : Table) (win : Option ℕ) → t.class ≡ c → IsComplete t → IsRight t → IsGreatest win_of t.cells win
+      → reply ≡ accepted (with_class s c) (built_text c win) → IsBuilt s c reply
+  too_far : HasFarPosition c → reply ≡ refused s DistanceTooLarge → IsBuilt s c reply
+
+-- `build`: whether the class is held, and the first class that is lacking
+abbrev pub IsBuildReply : State → Outside → Class → Bool → Option Class → Reply → Type 0
+IsBuildReply s o c true lacking reply = reply ≡ refused s (AlreadyHeld c)
+IsBuildReply s no_room c false lacking reply = reply ≡ refused s OutOfMemory
+IsBuildReply s _ c false (Some d) reply = reply ≡ refused s (MissingTable d)
+IsBuildReply s _ c false None reply = IsBuilt s c reply
+
+-- what a file that is read whole comes to
+abbrev pub loaded : State → Class → Result Table FileFault → Reply
+loaded s c (Err fault) = refused s (File fault)
+loaded s c (Ok t) = if place_of t.class == place_of c then accepted (with_class s c) (loaded_text c) else refused s (OtherClass t.class)
+
+abbrev pub IsLoadReply : State → Outside → Class → Bool → Option Class → Reply → Type 0
+IsLoadReply s o c true lacking reply = reply ≡ refused s (AlreadyHeld c)
+IsLoadReply s o c false (Some d) reply = reply ≡ refused s (MissingTable d)
+IsLoadReply s (unopened fault) c false None reply = IsGiven (s.shelf.files c) (Err fault) × (reply ≡ refused s (of_store fault))
+IsLoadReply s cut_off c false None reply = IsOpened (s.shelf.files c) × (reply ≡ refused s Device)
+IsLoadReply s (no_room_for bytes) c false None reply = IsGiven (s.shelf.files c) (Ok bytes) × HasHeader bytes × (reply ≡ refused s OutOfMemory)
+IsLoadReply s (file bytes) c false None reply = IsGiven (s.shelf.files c) (Ok bytes) × (reply ≡ loaded s c (table_read bytes))
+IsLoadReply s _ c false None reply = ⊥
+
+-- what the header of a source of pages comes to
+abbrev pub opened : State → Class → Option PagedFault → Reply
+opened s c None = accepted (with_class s c) (loaded_text c)
+opened s c (Some fault) = refused s (of_paged fault)
+
+abbrev pub IsOpenReply : State → Outside → Class → Bool → Reply → Type 0
+IsOpenReply s o c true reply = reply ≡ refused s (AlreadyHeld c)
+IsOpenReply s (unopened fault) c false reply = IsGiven (s.shelf.headers c) (Err fault) × (reply ≡ refused s (of_store fault))
+IsOpenReply s (no_room_for bytes) c false reply =
+    IsGiven (s.shelf.headers c) (Ok bytes) × (paged_fault false c (Ok bytes) ≡ None) × (reply ≡ refused s OutOfMemory)
+IsOpenReply s (header told) c false reply = IsTold (s.shelf.headers c) told × (reply ≡ opened s c (paged_fault false c told))
+IsOpenReply s _ c false reply = ⊥
+
+-- `save`: every fault of the store is one of its device; what the file gives is not known any more
+abbrev pub save_reply : State → Outside → Class → Bool → Reply
+save_reply s o c false = refused s (NoTable c)
+save_reply s (unopened fault) c true = refused (written_anew s c) Device
+save_reply s cut_off c true = refused (written_anew s c) Device
+save_reply s _ c true = accepted (written_anew s c) (saved_text c (64 + 4128 * pages_of c))
+
+-- `verify`, of a table that is right
+abbrev pub verify_reply : State → Class → Bool → Reply
+verify_reply s c false = refused s (NoTable c)
+verify_reply s c true = accepted s (verified_text c)
+
+-- `load`, whole or by pages
+abbrev pub IsLoadIn : State → Outside → Bool → Class → Reply → Type 0
+IsLoadIn s o false c reply = IsLoadReply s o c (is_among s.classes c) (first_lacking s.classes c) reply
+IsLoadIn s o true c reply = IsOpenReply s o c (is_among s.classes c) reply
+
+abbrev pub IsTableReply : State → Outside → ClassWord → Class → Reply → Type 0
+IsTableReply s o Build c reply = IsBuildReply s o c (is_among s.classes c) (first_lacking s.classes c) reply
+IsTableReply s o Load c reply = IsLoadIn s o s.paged c reply
+IsTableReply s o Save c reply = reply ≡ save_reply s o c (is_among s.classes c)
+IsTableReply s o Verify c reply = reply ≡ verify_reply s c (is_among s.classes c)
+
+abbrev pub IsNamedReply : State → Outside → ClassWord → Option Class → Reply → Type 0
+IsNamedReply s o word None reply = reply ≡ refused s NotAClass
+IsNamedReply s o word (Some c) reply = IsTableReply s o word c reply
+
+-- the class of a name
+unfoldable pub class_named : List ℕ → Option Class
+class_named name = find (λ c. bytes_eq name (name_of c)) class_list
+
+-- all of these but `load` want whole tables
+abbrev pub wants_whole : ClassWord → Bool
+wants_whole Load = false
+wants_whole _ = true
+
+abbrev pub IsClassReplyIn : State → Outside → ClassWord → List ℕ → Bool → Reply → Type 0
+IsClassReplyIn s o word name true reply = reply ≡ refused s PagedMode
+IsClassReplyIn s o word name false reply = IsNamedReply s o word (class_named name) reply
+
+abbrev pub IsClassReply : State → Outside → ClassWord → List ℕ → Reply → Type 0
+IsClassReply s o word name reply = IsClassReplyIn s o word name (wants_whole word && s.paged) reply
+
+-- ---- the lines
+
+-- the reply to a command
+abbrev pub IsReplyTo : State → Outside → Asked → Reply → Type 0
+IsReplyTo s o (of_start word fen) reply = IsStartReply s o word s.board (start_of fen) reply
+IsReplyTo s o (at_node word steps) reply = IsNodeReply s o word steps reply
+IsReplyTo s o (at_study word steps) reply = IsStudyReplyAt s o word s.board steps reply
+IsReplyTo s o (of_class word name) reply = IsClassReply s o word name reply
+IsReplyTo s o (stipulate stipulation) reply = IsStipulateReply s o s.board stipulation reply
+IsReplyTo s o (insert steps san) reply = IsInsertReply s o s.board steps san reply
+IsReplyTo s o (tag name text) reply = reply ≡ tag_reply s s.board name text
+IsReplyTo s o (solve count steps) reply = IsSolveReply s count (start_found o s.board steps) reply
+IsReplyTo s o pgn reply = IsPgnReply s o s.board reply
+
+abbrev pub IsReplyWhere : State → Outside → Asks → Reply → Type 0
+IsReplyWhere s o (Ok None) reply = reply ≡ accepted s []
+IsReplyWhere s o (Ok (Some asked)) reply = IsReplyTo s o asked reply
+IsReplyWhere s o (Err fault) reply = reply ≡ refused s (Form fault)
+
+-- the reply to a line, by what the outside does at it
+abbrev pub IsReply : State → List ℕ → Outside → Reply → Type 0
+IsReply s line o reply = IsReplyWhere s o (command_of line) reply
+
+-- a line's reply, and what the outside did at the line
+abbrev pub Answer : Type 0
+Answer = Outside × Reply
+
+-- the replies to lines, one for each, where each line finds what the one before it left
+abbrev pub AreReplies : State → List (List ℕ) → List Answer → Type 0
+AreReplies s [] [] = Unit {0}
+AreReplies s [] (answer ∷ more) = ⊥
+AreReplies s (line ∷ lines) [] = ⊥
+AreReplies s (line ∷ lines) (answer ∷ more) = IsReply s line answer.0 answer.1 × AreReplies answer.1.state lines more
+
+-- the bytes of replies
+abbrev pub replies_text : List Answer → List ℕ
+replies_text replies = flat_map (λ answer. answer.1.text) replies

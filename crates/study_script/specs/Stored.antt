@@ -1,0 +1,40 @@
+-- Stores of tables: the files that are right, and what a script knows of its store.
+use Rattle.std.specs.Prelude.{◌≡◌, ℕ, Bool, List, Option, Some, None, Result, Ok}
+use Rattle.study_material.specs.declared.class.Class.{Class}
+use Rattle.study_script.specs.declared.store.StoreFault.{StoreFault}
+use Rattle.study_retro.specs.Table.{Table, IsComplete}
+use Rattle.study_retro.specs.Sound.{IsRight}
+use Rattle.study_tablefile.specs.File.{IsVersionOf}
+use Rattle.study_tablefile.specs.Reading.{table_read}
+use Rattle.study_script.specs.State.{State, Shelf}
+use Rattle.study_script.specs.Held.{KnowsStore}
+
+-- a reader tells its bytes, and what they read as, if a table, is right
+abbrev pub IsRightFile : Option (List ℕ) → Type 0
+IsRightFile None = ⊥
+IsRightFile (Some bytes) = (t : Table) → table_read bytes ≡ Ok t → IsRight t
+
+-- a source gives the file of some right table, of whichever class and in a version that a file of it can have
+pub record IsRightSource {S : Type 0} (honest : S → Table → ℕ → Type 0) (source : S) : Type 0 where
+  pub table : Table
+  pub version : ℕ
+  pub known : IsVersionOf table.class version
+  pub complete : IsComplete table
+  pub right : IsRight table
+  pub is_honest : honest source table version
+
+-- a reader tells the bytes that its store is known to give
+abbrev pub GivesBytes : Option (Result (List ℕ) StoreFault) → Option (List ℕ) → Type 0
+GivesBytes None told = Unit {0}
+GivesBytes (Some known) None = ⊥
+GivesBytes (Some known) (Some bytes) = Ok bytes ≡ known
+
+module _ {S : Type 0} where
+  -- the store is honest in the way in which its tables are read, by pages or whole, and what is known of it is what it gives
+  pub record StoreSeen (honest : S → Bool → Type 0) (files headers : S → Class → Option (Result (List ℕ) StoreFault)) (store : S) (s : State) : Type 0 where
+    pub is_honest : honest store s.paged
+    pub known : KnowsStore (files store) (headers store) s
+
+  -- all that is known of a store
+  abbrev pub shelf_of : (S → Class → Option (Result (List ℕ) StoreFault)) → (S → Class → Option (Result (List ℕ) StoreFault)) → S → Shelf
+  shelf_of files headers store = record { files = files store; headers = headers store }

@@ -1,0 +1,67 @@
+-- What the commands of a class come to, before it is written.
+use Rattle.std.specs.Prelude.{◌≡◌, ◌⊎◌, ◌+◌, ◌*◌, ℕ, true, false, is_some, is_err, List, ◌++◌, Option, Result, Ok, Err, codes}
+use Rattle.study_material.specs.declared.class.Class.{Class}
+use Rattle.study_material.specs.Class.{name_of}
+use Rattle.study_retro.specs.Table.{Table, table_of}
+use Rattle.study_tablefile.specs.File.{pages_of}
+use Rattle.study_prober.specs.Whole.{Whole, AreRight}
+use Rattle.study_prober.specs.Paged.{Paged, held_of, AreRight as SourcesAreRight}
+use Rattle.study_script.specs.declared.told.Told.{Told}
+use Rattle.study_script.specs.declared.told.Told.TheVariants.{Built, Loaded, Saved, Verified}
+use Rattle.study_script.specs.declared.refusal.Refusal.{Refusal}
+use Rattle.study_script.specs.Names.{words_of, of_store}
+use Rattle.study_script.specs.Words.{line_text, built_text, loaded_text, saved_text, verified_text}
+use Rattle.study_tablefile.specs.declared.fault.FileFault.{FileFault}
+use Rattle.study_tablefile.specs.Reading.{table_read, HasHeader}
+use Rattle.study_script.specs.declared.store.StoreFault.{StoreFault}
+use Rattle.study_script.specs.declared.refusal.Refusal.TheVariants.{Device, OutOfMemory, File}
+use Rattle.study_script.specs.State.{State, Outside, is_among, IsGiven, IsOpened}
+use Rattle.study_script.specs.Replies.{Reply}
+
+-- the reply to a command that did its work
+abbrev pub done_text : Told → List ℕ
+done_text (Built c win) = built_text c win
+done_text (Loaded c) = loaded_text c
+done_text (Saved c) = saved_text c (64 + 4128 * pages_of c)
+done_text (Verified c true) = verified_text c
+done_text (Verified c false) = codes "verified " ++ name_of c ++ codes " no\n"
+
+-- or to one that is refused
+abbrev pub told_text : Result Told Refusal → List ℕ
+told_text (Ok told) = done_text told
+told_text (Err refusal) = line_text (codes "error ") (words_of refusal)
+
+-- the reply that leaves this state behind
+abbrev pub told_reply : State → Result Told Refusal → Reply
+told_reply s told = record { text = told_text told; state = s; refused = is_err told }
+
+-- what the command comes to has the property, by what the outside did, and what is held then is the state that its reply leaves
+abbrev pub Decided : (Outside → Reply → Type 0) → (State → Type 0) → Result Told Refusal → Type 0
+Decided IsIt HoldsIt told = (o : Outside) × (t : State) × IsIt o (told_reply t told) × HoldsIt t
+
+-- these whole tables are those of the script, and they are right
+pub record HoldsWhole (w : Whole) (s : State) : Type 0 where
+  pub values : AreRight w.tables
+  pub classes : (c : Class) → is_some (table_of w.tables c) ≡ is_among s.classes c
+  pub whole : false ≡ s.paged
+
+-- the same behind a command that leaves the board, and what is known of the store
+pub record WholeFrom (old : State) (w : Whole) (s : State) : Type 0 where
+  pub holds : HoldsWhole w s
+  pub board : s.board ≡ old.board
+  pub shelf : s.shelf ≡ old.shelf
+
+-- the sources that are held are those of the script, and each gives a right table
+pub record HoldsPaged {P : Type 0} (honest : P → Table → ℕ → Type 0) (w : Paged P) (s : State) : Type 0 where
+  pub values : SourcesAreRight honest w.sources
+  pub classes : (c : Class) → is_some (held_of w.sources c) ≡ is_among s.classes c
+  pub by_pages : true ≡ s.paged
+
+-- why the file of a class gives no table, by what is known of it: it is not opened, its device fails, there is no memory behind its
+-- header, or its bytes have a fault
+abbrev pub IsFileRefusal : Option (Result (List ℕ) StoreFault) → Refusal → Type 0
+IsFileRefusal known refusal =
+    ((fault : StoreFault) × IsGiven known (Err fault) × (words_of refusal ≡ words_of (of_store fault)))
+    ⊎ (IsOpened known × (words_of refusal ≡ words_of Device))
+    ⊎ ((bytes : List ℕ) × IsGiven known (Ok bytes) × HasHeader bytes × (words_of refusal ≡ words_of OutOfMemory))
+    ⊎ ((bytes : List ℕ) × (fault : FileFault) × IsGiven known (Ok bytes) × (table_read bytes ≡ Err fault) × (words_of refusal ≡ words_of (File fault)))

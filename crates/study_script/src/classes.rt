@@ -1,0 +1,268 @@
+//! Classes of material: `build`, `load`, `save` and `verify`.
+ghost use Rattle.std.specs.Prelude.{◌≡◌, ◌↔◌, ◌&&◌, ◌==◌, ℕ, Bool, List, Option, Some, None, Ok, false, true, is_some, is_none, length, slice_set, IfOk, IfErr, IfSome, IsTrue, OnErr, OnOk};
+ghost use Rattle.study_material.specs.declared.class.Class.{Class as AClass};
+ghost use Rattle.study_retro.specs.Sound.{IsRight, NeedsAreRight};
+ghost use Rattle.study_retro.specs.Set.{add_fault};
+ghost use Rattle.study_retro.specs.Table.{Table as Seen, table_of, place_of, IsClosed, IsComplete};
+ghost use Rattle.study_material.specs.Needs.{needs_of};
+ghost use Rattle.study_tablefile.specs.Reading.{table_read};
+ghost use Rattle.study_script.specs.State.{State, is_among, first_lacking, written_anew, IsGiven};
+ghost use Rattle.study_script.specs.Names.{of_store, of_paged};
+ghost use Rattle.study_script.specs.Replies.{IsClassReply, IsNamedReply, IsBuildReply, IsLoadReply, IsOpenReply, save_reply, verify_reply, refused, class_named};
+ghost use Rattle.study_script.specs.Held.{HoldsTables, KnowsStore, TablesFrom, Answered, BrokenOff};
+ghost use Rattle.study_script.specs.Stored.{StoreSeen};
+ghost use Rattle.study_script.specs.Told.{Decided, HoldsWhole, HoldsPaged, WholeFrom, IsFileRefusal};
+
+use crate::command::ClassWord;
+use crate::refusal::Refusal;
+use crate::store::{StoreFault, TableStore};
+use crate::tables::Tables;
+use crate::told::{Told, tell};
+use std::alloc::Allocator;
+use std::io::Write;
+use study_index::cells;
+use study_material::Class;
+use study_prober::{PagedFault, PagedTables, Values, WholeTables};
+use study_retro::{BuildFault, BuildRoom, Table, build, verify};
+use study_tablefile::{DeviceFailed, FileFault, read_table, write_table};
+
+/// Commands that take a class.
+pub fn of_class<'a, W: Write, S: TableStore, A: Allocator>(
+    alloc: &'a A,
+    tables: &mut Tables<'a, S::Pages, A>,
+    store: &mut S,
+    word: ClassWord,
+    name: &str,
+    out: &mut W,
+) -> Result<bool, DeviceFailed>
+    ensures ok { (s : State) → HoldsTables S.Pages.honest tables.old s → StoreSeen S.honest S.files S.headers store.old s → IfOk result (Answered (λ o. IsClassReply s o word name.now) (λ t. TablesFrom S.Pages.honest s tables.new t × StoreSeen S.honest S.files S.headers store.new t) (W.contents out.old) (W.contents out.new)) }
+    ensures err { (s : State) → HoldsTables S.Pages.honest tables.old s → StoreSeen S.honest S.files S.headers store.old s → OnErr result (BrokenOff (λ o. IsClassReply s o word name.now) (W.contents out.old) (W.contents out.new)) }
+{
+    match tables {
+        Tables::Whole(whole) => {
+            let told = in_whole(alloc, whole, store, word, name);
+            tell(out, told)
+        }
+        Tables::Paged(paged) => {
+            let told = in_pages(paged, store, word, name);
+            tell(out, told)
+        }
+    }
+}
+
+// Over whole tables.
+fn in_whole<'a, S: TableStore, A: Allocator>(
+    alloc: &'a A,
+    tables: &mut WholeTables<'a, A>,
+    store: &mut S,
+    word: ClassWord,
+    name: &str,
+) -> Result<Told, Refusal>
+    ensures { (s : State) → HoldsWhole tables.old s → StoreSeen S.honest S.files S.headers store.old s → Decided (λ o. IsNamedReply s o word (class_named name.now)) (λ t. HoldsWhole tables.new t × (t.board ≡ s.board) × StoreSeen S.honest S.files S.headers store.new t) result }
+{
+    let class = class_of_name(name)?;
+    match word {
+        ClassWord::Build => build_class(alloc, tables, class),
+        ClassWord::Load => load_class(alloc, tables, store, class),
+        ClassWord::Save => save_class(tables, store, class),
+        ClassWord::Verify => verify_class(tables, class),
+    }
+}
+
+// Over tables that are read by pages, of which none is made or written.
+fn in_pages<'a, S: TableStore, A: Allocator>(
+    tables: &mut PagedTables<'a, S::Pages, A>,
+    store: &mut S,
+    word: ClassWord,
+    name: &str,
+) -> Result<Told, Refusal>
+    ensures { (s : State) → HoldsPaged S.Pages.honest tables.old s → StoreSeen S.honest S.files S.headers store.old s → Decided (λ o. IsClassReply s o word name.now) (λ t. HoldsPaged S.Pages.honest tables.new t × (t.board ≡ s.board) × StoreSeen S.honest S.files S.headers store.new t) result }
+{
+    match word {
+        ClassWord::Load => {
+            let class = class_of_name(name)?;
+            open_class(tables, store, class)
+        }
+        ClassWord::Build | ClassWord::Save | ClassWord::Verify => Err(Refusal::PagedMode),
+    }
+}
+
+#[tactic(auto, unfolding(crate::specs::Replies::class_named))]
+fn class_of_name(name: &str) -> Result<Class, Refusal>
+    ensures ok { IfOk result (λ c. class_named name.now ≡ Some c) }
+    ensures err { IfErr result (λ e. (e ≡ Refusal.NotAClass) × (class_named name.now ≡ None)) }
+{
+    match Class::parse(name) {
+        Ok(class) => Ok(class),
+        Err(_) => Err(Refusal::NotAClass),
+    }
+}
+
+fn build_class<'a, A: Allocator>(
+    alloc: &'a A,
+    tables: &mut WholeTables<'a, A>,
+    class: Class,
+) -> Result<Told, Refusal>
+    ensures { (s : State) → HoldsWhole tables.old s → Decided (λ o. IsBuildReply s o class (is_among s.classes class) (first_lacking s.classes class)) (WholeFrom s tables.new) result }
+{
+    if is_held(tables, class) {
+        return Err(Refusal::AlreadyHeld(class));
+    }
+    let Ok(room) = BuildRoom::new(alloc, cells(class)) else {
+        return Err(Refusal::OutOfMemory);
+    };
+    match build(class, tables.tables(), room) {
+        Ok((table, report)) => {
+            hold(tables, table);
+            Ok(Told::Built(class, report.deepest_win))
+        }
+        Err(BuildFault::MissingTable(need)) => Err(Refusal::MissingTable(need)),
+        Err(BuildFault::DistanceTooLarge) => Err(Refusal::DistanceTooLarge),
+    }
+}
+
+fn is_held<'a, A: Allocator>(tables: &WholeTables<'a, A>, class: Class) -> bool
+    ensures value { result ≡ is_some (table_of tables.now.tables class) }
+    ensures closed { IsClosed tables.now.tables }
+{
+    tables.tables().table(class).is_some()
+}
+
+// Holds a table whose class is not held, and whose needs are.
+fn hold<'a, A: Allocator>(tables: &mut WholeTables<'a, A>, table: Table<'a, A>)
+    requires { add_fault tables.old.tables table.class ≡ None }
+    ensures held { tables.new ≡ record tables.old { tables = slice_set tables.old.tables (place_of table.entry.class) (Some table.entry) } }
+    ensures complete { IsComplete table.entry }
+{
+    let _class = table.class();
+    if tables.add(table).is_err() {
+        unreachable!();
+    }
+}
+
+fn load_class<'a, S: TableStore, A: Allocator>(
+    alloc: &'a A,
+    tables: &mut WholeTables<'a, A>,
+    store: &mut S,
+    class: Class,
+) -> Result<Told, Refusal>
+    ensures { (s : State) → HoldsWhole tables.old s → StoreSeen S.honest S.files S.headers store.old s → Decided (λ o. IsLoadReply s o class (is_among s.classes class) (first_lacking s.classes class)) (λ t. WholeFrom s tables.new t × StoreSeen S.honest S.files S.headers store.new t) result }
+{
+    if is_held(tables, class) {
+        return Err(Refusal::AlreadyHeld(class));
+    }
+    if let Some(need) = tables.tables().first_missing(class) {
+        return Err(Refusal::MissingTable(need));
+    }
+    let table = table_in_file(alloc, store, class)?;
+    if table.class() != class {
+        return Err(Refusal::OtherClass(table.class()));
+    }
+    hold(tables, table);
+    Ok(Told::Loaded(class))
+}
+
+// Reads the file of a class, and tells why it gives no table.
+fn table_in_file<'a, S: TableStore, A: Allocator>(
+    alloc: &'a A,
+    store: &mut S,
+    class: Class,
+) -> Result<Table<'a, A>, Refusal>
+    ensures read { S.honest store.old false → IfOk result (λ t. (bytes : List ℕ) × IsGiven (S.files store.old class) (Ok bytes) × (table_read bytes ≡ Ok t) × IsRight t) }
+    ensures refused { S.honest store.old false → IfErr result (λ refusal. IsFileRefusal (S.files store.old class) refusal) }
+    ensures store { (s : State) → StoreSeen S.honest S.files S.headers store.old s → StoreSeen S.honest S.files S.headers store.new s }
+{
+    let mut reader = match store.reader(class) {
+        Ok(reader) => reader,
+        Err(fault) => return Err(of_store(fault)),
+    };
+    match read_table(alloc, &mut reader) {
+        Ok(table) => Ok(table),
+        Err(FileFault::Device) => Err(Refusal::Device),
+        Err(FileFault::OutOfMemory) => Err(Refusal::OutOfMemory),
+        Err(fault) => Err(Refusal::File(fault)),
+    }
+}
+
+fn of_store(fault: StoreFault) -> Refusal
+    ensures { result ≡ of_store fault }
+{
+    match fault {
+        StoreFault::NoFile => Refusal::NoFile,
+        StoreFault::Device => Refusal::Device,
+    }
+}
+
+fn open_class<'a, S: TableStore, A: Allocator>(
+    tables: &mut PagedTables<'a, S::Pages, A>,
+    store: &mut S,
+    class: Class,
+) -> Result<Told, Refusal>
+    ensures { (s : State) → HoldsPaged S.Pages.honest tables.old s → StoreSeen S.honest S.files S.headers store.old s → Decided (λ o. IsOpenReply s o class (is_among s.classes class)) (λ t. HoldsPaged S.Pages.honest tables.new t × (t.board ≡ s.board) × StoreSeen S.honest S.files S.headers store.new t) result }
+{
+    if tables.holds(class) {
+        return Err(Refusal::AlreadyHeld(class));
+    }
+    let source = match store.pages(class) {
+        Ok(source) => source,
+        Err(fault) => return Err(of_store(fault)),
+    };
+    match tables.add(class, source) {
+        Ok(()) => Ok(Told::Loaded(class)),
+        Err(fault) => Err(of_paged(fault)),
+    }
+}
+
+fn of_paged(fault: PagedFault) -> Refusal
+    ensures { result ≡ of_paged fault }
+{
+    match fault {
+        PagedFault::AlreadyHeld(class) => Refusal::AlreadyHeld(class),
+        PagedFault::TableRead(fault) => Refusal::TableRead(fault),
+        PagedFault::Header(fault) => Refusal::File(fault),
+        PagedFault::OtherClass(class) => Refusal::OtherClass(class),
+        PagedFault::OutOfMemory => Refusal::OutOfMemory,
+    }
+}
+
+fn save_class<'a, S: TableStore, A: Allocator>(
+    tables: &WholeTables<'a, A>,
+    store: &mut S,
+    class: Class,
+) -> Result<Told, Refusal>
+    ensures { (s : State) → HoldsWhole tables.now s → StoreSeen S.honest S.files S.headers store.old s → Decided (λ o reply. reply ≡ save_reply s o class (is_among s.classes class)) (λ t. HoldsWhole tables.now t × (t.board ≡ s.board) × StoreSeen S.honest S.files S.headers store.new t) result }
+{
+    let Some(table) = tables.tables().table(class) else {
+        return Err(Refusal::NoTable(class));
+    };
+    let Ok(mut writer) = store.writer(class) else {
+        return Err(Refusal::Device);
+    };
+    if write_table(table, &mut writer).is_err() || writer.flush().is_err() {
+        return Err(Refusal::Device);
+    }
+    Ok(Told::Saved(class))
+}
+
+fn verify_class<'a, A: Allocator>(
+    tables: &WholeTables<'a, A>,
+    class: Class,
+) -> Result<Told, Refusal>
+    ensures { (s : State) → HoldsWhole tables.now s → Decided (λ o reply. reply ≡ verify_reply s class (is_among s.classes class)) (WholeFrom s tables.now) result }
+{
+    match is_right(tables, class) {
+        None => Err(Refusal::NoTable(class)),
+        Some(right) => Ok(Told::Verified(class, right)),
+    }
+}
+
+/// Whether the held table of a class is right, where those that it needs are; `None` where it is not held.
+pub fn is_right<'a, A: Allocator>(tables: &WholeTables<'a, A>, class: Class) -> Option<bool>
+    ensures held { is_some result ≡ is_some (table_of tables.now.tables class) }
+    ensures right { NeedsAreRight tables.now.tables class → IfSome result (λ told. IfSome (table_of tables.now.tables class) (λ t. IsTrue told ↔ IsRight t)) }
+{
+    match tables.tables().table(class) {
+        None => None,
+        Some(table) => Some(verify(table, tables.tables())),
+    }
+}

@@ -1,0 +1,50 @@
+//! What answers the lines of a script.
+ghost use Rattle.std.specs.Prelude.{IfOk, OnErr};
+ghost use Rattle.study_script.specs.State.{State as AState};
+ghost use Rattle.study_script.specs.Replies.{IsReply};
+ghost use Rattle.study_script.specs.Held.{Answered, BrokenOff};
+
+use crate::answer;
+use crate::board::Board;
+use crate::store::TableStore;
+use crate::tables::Tables;
+use std::alloc::Allocator;
+use std::io::Write;
+use study_tablefile::DeviceFailed;
+
+/// Answers lines one by one, and holds what a script holds.
+pub trait Desk {
+    /// What is held is this state; its marks are right, its values and its store are honest.
+    ghost holds: { Self → AState → Type 0 };
+
+    /// Writes the reply to a line, keeps what is held behind it, and tells whether the line was refused.
+    fn answer<W: Write>(&mut self, line: &[u8], out: &mut W) -> Result<bool, DeviceFailed>
+        ensures ok { (s : AState) → holds self.old s → IfOk result (Answered (IsReply s line.now) (holds self.new) (W.contents out.old) (W.contents out.new)) }
+        ensures err { (s : AState) → holds self.old s → OnErr result (BrokenOff (IsReply s line.now) (W.contents out.old) (W.contents out.new)) };
+}
+
+/// The desk of a script: what it works on, the tables that it holds, and the store of their files.
+#[derive(Drop)]
+pub struct StudyDesk<'a, 's, S: TableStore, A: Allocator> {
+    pub alloc: &'a A,
+    pub board: Board<'a, A>,
+    pub tables: Tables<'a, S::Pages, A>,
+    pub store: &'s mut S,
+}
+
+impl<'a, 's, S: TableStore, A: Allocator> Desk for StudyDesk<'a, 's, S, A> {
+    ghost use Rattle.study_script.specs.Desk.{DeskHolds};
+
+    ghost holds = { λ d s. DeskHolds S.Pages.honest S.honest S.files S.headers d.board d.tables d.store.now s };
+
+    fn answer<W: Write>(&mut self, line: &[u8], out: &mut W) -> Result<bool, DeviceFailed> {
+        answer::answer(
+            self.alloc,
+            &mut self.board,
+            &mut self.tables,
+            self.store,
+            line,
+            out,
+        )
+    }
+}

@@ -1,0 +1,129 @@
+//! A store of tables in memory, which fails where a test wants it.
+ghost use Rattle.std.specs.Prelude.{◌≡◌, Some, Ok, Err, length, slice_set, IfOk, IfErr};
+ghost use Rattle.study_retro.specs.Table.{place_of};
+ghost use Rattle.study_material.specs.declared.class.Class.{Class as AClass};
+ghost use Rattle.study_script.specs.Memory.{file_at, file_known, header_known, IsHonestFile, IsFaultOf};
+
+use crate::store::{StoreFault, TableStore};
+use std::alloc::Allocator;
+use std::cell::RefCell;
+use std::io;
+use std::io::Write;
+use study_material::Class;
+use study_tablefile::memory::{MemoryReader, MemorySource, MemoryWriter};
+
+/// The file of a class.
+#[derive(Clone, Copy)]
+pub enum MemoryFile<'f> {
+    Absent,
+    /// A file that is there and is not opened, as one without permission.
+    Closed,
+    Bytes(&'f [u8]),
+    /// A file that was opened to be written, and is not read again over this store.
+    Written,
+}
+
+/// Files in memory, one for each class, and writers for those that are saved.
+#[derive(Drop)]
+pub struct MemoryStore<'f, 'w, 'a, A: Allocator> {
+    files: [MemoryFile<'f>; 36],
+    /// The writers of files to come, in the order in which they are opened. With none left no file is opened to be written.
+    writers: &'w [RefCell<MemoryWriter<'a, A>>],
+    /// How many files were opened to be written.
+    opened: usize,
+    /// After how many bytes a file that is read from front to back fails.
+    pub fails_after: Option<usize>,
+    /// Which of the questions for a header or a page fails in each source, counted from 0.
+    pub fails_at: Option<u64>,
+    ghost full: { length files ≡ 36 },
+}
+
+impl<'f, 'w, 'a, A: Allocator> MemoryStore<'f, 'w, 'a, A> {
+    /// A store without files, whose devices do not fail.
+    pub fn new(writers: &'w [RefCell<MemoryWriter<'a, A>>]) -> Self {
+        MemoryStore {
+            files: [MemoryFile::Absent; 36],
+            writers,
+            opened: 0,
+            fails_after: None,
+            fails_at: None,
+        }
+    }
+
+    /// Lays out the file of a class, in place of what was there.
+    pub fn put(&mut self, class: Class, file: MemoryFile<'f>)
+        ensures files { self.new.files ≡ slice_set self.old.files (place_of class) file.entry }
+        ensures places { length self.old.files ≡ 36 }
+    {
+        self.files[class as usize] = file;
+    }
+
+    fn bytes(&self, class: Class) -> Result<&'f [u8], StoreFault>
+        ensures ok { IfOk result (λ bytes. file_at self.now.files class ≡ MemoryFile.Bytes bytes) }
+        ensures err { IfErr result (λ fault. IsFaultOf fault (file_at self.now.files class)) }
+    {
+        match self.files[class as usize] {
+            MemoryFile::Bytes(bytes) => Ok(bytes),
+            MemoryFile::Absent => Err(StoreFault::NoFile),
+            MemoryFile::Closed | MemoryFile::Written => Err(StoreFault::Device),
+        }
+    }
+}
+
+impl<'f, 'w, 'a, A: Allocator> TableStore for MemoryStore<'f, 'w, 'a, A> {
+    type Reader = MemoryReader<'f>;
+    type Writer = SharedWriter<'w, 'a, A>;
+    type Pages = MemorySource<'f>;
+
+    ghost honest = { λ s by_pages. (c : AClass) → IsHonestFile by_pages (file_at s.files c) };
+
+    ghost files = { λ s c. file_known (file_at s.files c) };
+
+    ghost headers = { λ s c. header_known (file_at s.files c) };
+
+    fn reader(&mut self, class: Class) -> Result<MemoryReader<'f>, StoreFault> {
+        let text = self.bytes(class)?;
+        Ok(MemoryReader {
+            text,
+            given: 0,
+            fails_after: self.fails_after,
+        })
+    }
+
+    fn writer(&mut self, class: Class) -> Result<SharedWriter<'w, 'a, A>, StoreFault> {
+        self.put(class, MemoryFile::Written);
+        match self.writers.get(self.opened) {
+            None => Err(StoreFault::Device),
+            Some(writer) => {
+                self.opened += 1;
+                Ok(SharedWriter { writer })
+            }
+        }
+    }
+
+    fn pages(&mut self, class: Class) -> Result<MemorySource<'f>, StoreFault> {
+        let text = self.bytes(class)?;
+        Ok(MemorySource {
+            text,
+            asked: 0,
+            fails_at: self.fails_at,
+            failures: 0,
+        })
+    }
+}
+
+/// A writer that the store shares with who laid it out. What a cell holds is not known to a clause.
+#[derive(Drop)]
+pub struct SharedWriter<'w, 'a, A: Allocator> {
+    writer: &'w RefCell<MemoryWriter<'a, A>>,
+}
+
+impl<'w, 'a, A: Allocator> Write for SharedWriter<'w, 'a, A> {
+    fn write(&mut self, buf: &[u8]) -> io::Result<usize> {
+        self.writer.try_borrow_mut()?.write(buf)
+    }
+
+    fn flush(&mut self) -> io::Result<()> {
+        self.writer.try_borrow_mut()?.flush()
+    }
+}

@@ -1,0 +1,129 @@
+//! A run over a whole script.
+ghost use Rattle.std.specs.Prelude.{◌≡◌, ◌≤◌, Err, is_some, IfOk, IfSome};
+ghost use Rattle.study_script.specs.Held.{Begun, are_paged};
+ghost use Rattle.study_script.specs.Outcome.{Outcome, begun_state};
+ghost use Rattle.study_script.specs.Stored.{shelf_of};
+ghost use Rattle.study_script.specs.State.{State};
+
+use crate::board::Board;
+use crate::desk::{Desk, StudyDesk};
+use crate::lines::{Line, LineFault, read_byte};
+use crate::store::TableStore;
+use crate::tables::Tables;
+use std::alloc::{AllocError, Allocator};
+use std::io::{Read, Write};
+use study_prober::{PagedTables, WholeTables};
+use study_retro::TableSet;
+use study_tablefile::PageSource;
+use thiserror::Error;
+
+/// How a run holds tables: whole, or so many pages of them.
+#[derive(Clone, Copy, Debug, PartialEq, Eq)]
+pub struct Settings {
+    /// 1 to 4,096.
+    pub pages: Option<u16>,
+}
+
+/// What a run did: all lines, those without a reply too, and how many were refused.
+#[derive(Clone, Copy, Debug, PartialEq, Eq)]
+pub struct Summary {
+    pub lines: u32,
+    pub refused: u32,
+}
+
+/// Why a run stopped. The replies to the lines before stay written.
+#[derive(Clone, Copy, Debug, PartialEq, Eq, Error)]
+pub enum RunFault {
+    #[error("ReadDevice")]
+    ReadDevice,
+    #[error("WriteDevice")]
+    WriteDevice,
+    /// The line has more than 1,024 bytes; lines are counted from 1.
+    #[error("LineTooLong {0}")]
+    LineTooLong(u32),
+    /// There are more than 100,000 lines.
+    #[error("TooManyLines")]
+    TooManyLines,
+    #[error("OutOfMemory")]
+    OutOfMemory,
+}
+
+/// Answers each line of a script over a store of tables. All memory but that of the commands is taken before the first line.
+///
+/// The premise is on the store alone: each table that it gives, by pages or whole as the settings say, is right.
+pub fn run<'a, R: Read, W: Write, S: TableStore, A: Allocator>(
+    alloc: &'a A,
+    script: &mut R,
+    out: &mut W,
+    store: &mut S,
+    settings: Settings,
+) -> Result<Summary, RunFault>
+    requires { IfSome settings.pages (λ n. (1 ≤ n) × (n ≤ 4096)) }
+    ensures { S.honest store.old (is_some settings.pages) → IfSome (R.remaining script.old) (λ bytes. Outcome (begun_state (shelf_of S.files S.headers store.old) (is_some settings.pages)) bytes (R.remaining script.new) (W.contents out.old) (W.contents out.new) result) }
+{
+    let Ok(mut line) = Line::new(alloc) else {
+        return Err(RunFault::OutOfMemory);
+    };
+    let Ok(tables) = no_tables(alloc, settings) else {
+        return Err(RunFault::OutOfMemory);
+    };
+    let mut desk = StudyDesk {
+        alloc,
+        board: Board::Empty,
+        tables,
+        store,
+    };
+    run_in(&mut line, script, out, &mut desk)
+}
+
+// No table yet, and room for those that will be held.
+fn no_tables<'a, P: PageSource, A: Allocator>(
+    alloc: &'a A,
+    settings: Settings,
+) -> Result<Tables<'a, P, A>, AllocError>
+    requires { IfSome settings.pages (λ n. (1 ≤ n) × (n ≤ 4096)) }
+    ensures none { IfOk result (λ t. Begun P.honest t) }
+    ensures mode { IfOk result (λ t. are_paged t ≡ is_some settings.pages) }
+{
+    match settings.pages {
+        None => Ok(Tables::Whole(WholeTables::new(TableSet::new(alloc)?))),
+        Some(pages) => Ok(Tables::Paged(PagedTables::new(alloc, pages)?)),
+    }
+}
+
+/// Answers each line of a script, by any desk. It takes no memory.
+pub fn run_in<R: Read, W: Write, D: Desk, A: Allocator>(
+    line: &mut Line<'_, A>,
+    script: &mut R,
+    out: &mut W,
+    desk: &mut D,
+) -> Result<Summary, RunFault>
+    ensures outcome { (first : State) → D.holds desk.old first → IfSome (R.remaining script.old) (λ bytes. Outcome first bytes (R.remaining script.new) (W.contents out.old) (W.contents out.new) result) }
+    ensures takes_no_memory { ¬ (result ≡ Err RunFault.OutOfMemory) }
+{
+    let mut refused = 0u32;
+    for n in 0..100_000u32 {
+        match line.read(script) {
+            Err(LineFault::Device) => return Err(RunFault::ReadDevice),
+            Err(LineFault::TooLong) => return Err(RunFault::LineTooLong(n + 1)),
+            Ok(false) => return Ok(Summary { lines: n, refused }),
+            Ok(true) => {}
+        }
+        match desk.answer(line.as_slice(), out) {
+            Err(_) => return Err(RunFault::WriteDevice),
+            Ok(was_refused) => {
+                if was_refused {
+                    refused += 1;
+                }
+            }
+        }
+    }
+    match read_byte(script) {
+        Err(_) => Err(RunFault::ReadDevice),
+        Ok(None) => Ok(Summary {
+            lines: 100_000,
+            refused,
+        }),
+        Ok(Some(_)) => Err(RunFault::TooManyLines),
+    }
+}

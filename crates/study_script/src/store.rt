@@ -1,0 +1,62 @@
+//! Where the files of tables are.
+ghost use Rattle.std.specs.Prelude.{◌≡◌, ℕ, Bool, true, false, List, Option, Result, Ok, Err, IsOk, IfOk, MatchResult};
+ghost use Rattle.study_material.specs.declared.class.Class.{Class as AClass};
+ghost use Rattle.study_tablefile.specs.Source.{of_header};
+ghost use Rattle.study_script.specs.declared.store.StoreFault.{StoreFault as AStoreFault};
+ghost use Rattle.study_script.specs.State.{IsGiven, IsOpened, forgotten};
+ghost use Rattle.study_script.specs.Stored.{IsRightFile, IsRightSource, GivesBytes};
+
+use std::io::{Read, Write};
+use study_material::Class;
+use study_tablefile::PageSource;
+use thiserror::Error;
+
+/// Why a file of a table is not opened.
+#[derive(Clone, Copy, Debug, PartialEq, Eq, Error)]
+pub enum StoreFault {
+    #[error("there is no such file")]
+    NoFile,
+    #[error("the device of a table failed")]
+    Device,
+}
+
+/// The files of tables, one for each class.
+pub trait TableStore {
+    type Reader: Read + Drop;
+
+    type Writer: Write + Drop;
+
+    type Pages: PageSource + Drop;
+
+    /// Each table that is read from its files, now and after any calls, is right: by pages, or from front to back.
+    ghost honest: { Self → Bool → Type 0 };
+
+    /// What is known of each class's file: its bytes from front to back, or the fault of opening it.
+    ghost files: { Self → AClass → Option (Result (List ℕ) AStoreFault) };
+
+    /// What is known of each class's source of pages: the header that it tells, or the fault of opening it.
+    ghost headers: { Self → AClass → Option (Result (List ℕ) AStoreFault) };
+
+    /// Opens a file to be read from front to back.
+    fn reader(&mut self, class: Class) -> Result<Self::Reader, StoreFault>
+        ensures right { honest self.old false → IfOk result (λ r. IsRightFile (Self.Reader.remaining r)) }
+        ensures given { MatchResult result (λ r. GivesBytes (files self.old class) (Self.Reader.remaining r)) (λ fault. IsGiven (files self.old class) (Err fault)) }
+        ensures stays { (by_pages : Bool) → honest self.old by_pages → honest self.new by_pages }
+        ensures files { (c : AClass) → files self.new c ≡ files self.old c }
+        ensures headers { (c : AClass) → headers self.new c ≡ headers self.old c };
+
+    /// Opens a file to be written from its beginning. What the class's file and source give is not known any more.
+    fn writer(&mut self, class: Class) -> Result<Self::Writer, StoreFault>
+        ensures stays { (by_pages : Bool) → honest self.old by_pages → honest self.new by_pages }
+        ensures files { (c : AClass) → files self.new c ≡ forgotten class (files self.old) c }
+        ensures headers { (c : AClass) → headers self.new c ≡ forgotten class (headers self.old) c };
+
+    /// Opens a file to be read by pages.
+    fn pages(&mut self, class: Class) -> Result<Self::Pages, StoreFault>
+        ensures opened { IsOk result → IsOpened (headers self.old class) }
+        ensures right { honest self.old true → IfOk result (λ source. IsRightSource Self.Pages.honest source) }
+        ensures given { MatchResult result (λ source. (bytes : List ℕ) → Self.Pages.gives source of_header (Ok bytes) → IsGiven (headers self.old class) (Ok bytes)) (λ fault. IsGiven (headers self.old class) (Err fault)) }
+        ensures stays { (by_pages : Bool) → honest self.old by_pages → honest self.new by_pages }
+        ensures files { (c : AClass) → files self.new c ≡ files self.old c }
+        ensures headers { (c : AClass) → headers self.new c ≡ headers self.old c };
+}
