@@ -18,3 +18,5 @@ pub mod Gathers
 pub mod Shifts
 pub mod Applied
 pub mod Runs
+pub mod Blocked
+pub mod Others

@@ -1,12 +1,22 @@
 -- What the public laws say.
-use Rattle.std.specs.Prelude.{◌≡◌, ℕ, List, [], ◌∷◌, take, None}
+use Rattle.std.specs.Prelude.{◌≡◌, ◌==◌, ℕ, ◌+◌, true, List, [], ◌∷◌, take, Some, None, if◌then◌else◌}
+use Rattle.study_board.specs.Position.{Position, IsValid}
 use Rattle.study_moves.specs.declared.moves.Move.{Move}
+use Rattle.study_moves.specs.Rules.{is_legal, after}
+use Rattle.study_retro.specs.declared.value.Value.{Value}
+use Rattle.study_retro.specs.Game.{IsValueOf}
+use Rattle.study_moves.specs.LegalList.{legal_list}
 use Rattle.study_notation.specs.declared.start.Start.{Start}
-use Rattle.study_tree.specs.Tree.{move_up_refusal}
-use Rattle.study_tree.specs.Rows.{rows, rows_with_child, rows_without, rows_moved_up}
+use Rattle.study_tree.specs.Tree.{Spot, spot_at, move_up_refusal}
+use Rattle.study_tree.specs.Rows.{rows, cut_at, rows_with_child, rows_without, rows_moved_up}
 use Rattle.study_marks.specs.declared.mark.Mark.{Mark}
-use Rattle.study_marks.specs.Study.{Study, plain_study}
-use Rattle.study_marks.specs.Annotated.{IsAnnotated}
+use Rattle.study_marks.specs.Study.{Study, plain_study, same_move}
+use Rattle.study_marks.specs.declared.mark.MoveMark.TheVariants.{Only, Dual}
+use Rattle.study_marks.specs.declared.marking.Aim.{Aim}
+use Rattle.study_marks.specs.Goals.{aim_of, hero_moves, holds}
+use Rattle.study_marks.specs.Marks.{move_mark}
+use Rattle.study_marks.specs.Annotated.{AreValuesAfter, IsAnnotated}
+use Rattle.study_marks.specs.Blocks.{block_faults}
 use Rattle.study_marks.specs.Edits.{Plainly, positioned, shifted, inserted, deleted, promoted}
 
 -- a plain study has one annotation
@@ -22,3 +32,23 @@ EditsAreOfRows =
     × ((s : Plainly) (steps : List ℕ) (m : Move) → rows (inserted s steps m).tree ≡ rows_with_child (rows s.tree) steps m tt)
     × ((s : Plainly) (k : ℕ) (ks : List ℕ) → rows (deleted s (k ∷ ks)).tree ≡ rows_without (rows s.tree) (k ∷ ks))
     × ((s : Plainly) (steps : List ℕ) → move_up_refusal s.tree steps ≡ None → rows (promoted s steps).tree ≡ rows_moved_up (rows s.tree) steps)
+
+-- In an annotated study each node has the faults of its block of rows: those of the rows that solution steps join to the block's first.
+abbrev pub FaultsAreOfRows : Type 0
+FaultsAreOfRows =
+    (s : Study Mark) → IsAnnotated s → (steps : List ℕ) (x : Spot Mark) → spot_at s.tree steps ≡ Some x
+    → x.label.faults ≡ block_faults (aim_of s) (cut_at (rows s.tree) steps).block
+
+-- how many of these moves, other than m, lead to a position at depth d that holds, by the values after them
+abbrev pub others_that_hold : Aim → ℕ → Move → List Move → List Value → ℕ
+others_that_hold a d m [] vs = 0
+others_that_hold a d m (n ∷ ms) [] = 0
+others_that_hold a d m (n ∷ ms) (v ∷ vs) =
+    (if same_move m n then 0 else (if holds a d v then 1 else 0)) + others_that_hold a d m ms vs
+
+-- A move of the hero from a position that holds to one that does is the only one, or a dual with the number of the other legal moves that lead to a position that holds.
+abbrev pub DualCountsOthers : Type 0
+DualCountsOthers =
+    (a : Aim) (d : ℕ) (p : Position) (m : Move) (v : Value) (all : List Value) (w : Value) → IsValid p → is_legal p m ≡ true → AreValuesAfter p (legal_list p) all
+    → IsValueOf (after p m) w → hero_moves a d ≡ true → holds a d v ≡ true → holds a (d + 1) w ≡ true
+    → move_mark a d v all w ≡ (if others_that_hold a (d + 1) m (legal_list p) all == 0 then Only else Dual (others_that_hold a (d + 1) m (legal_list p) all))

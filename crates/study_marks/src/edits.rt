@@ -1,5 +1,5 @@
 //! Edits of a bench.
-ghost use Rattle.std.specs.Prelude.{◌≡◌, ◌+◌, ◌≤◌, ◌⊎◌, ℕ, [], ◌∷◌, length, map, take, slice_set, OnOk, OnErr, IfOk, IfErr, IsOk, MatchOption, Some, None, Ok, Err};
+ghost use Rattle.std.specs.Prelude.{◌≡◌, ◌+◌, ◌≤◌, ◌⊎◌, ℕ, [], ◌∷◌, length, map, take, slice_set, OnOk, OnErr, IfOk, IfErr, IsOk, MatchOption, Some, None, Ok, Err, true};
 ghost use Rattle.study_material.specs.declared.class.Class.{Class as AClass};
 ghost use Rattle.study_moves.specs.Rules.{after};
 ghost use Rattle.study_tree.specs.Forest.{none};
@@ -8,7 +8,7 @@ ghost use Rattle.study_tree.specs.Tree.{size_of};
 ghost use Rattle.study_marks.specs.Bench.{text_of};
 ghost use Rattle.study_marks.specs.Study.{plain_study, position_at, place_of_tag, IsPlayable};
 ghost use Rattle.study_marks.specs.Kept.{marked, IsRight};
-ghost use Rattle.study_marks.specs.Asked.{asked_at, asked_of, AllHeld, IsOutside, HasAsked, failures_after, counted_times};
+ghost use Rattle.study_marks.specs.Asked.{asked_at, asked_of, is_of_tables, AllHeld, IsOutside, HasAsked, failures_after, counted_times};
 ghost use Rattle.study_marks.specs.Stop.{IsShiftRefusal, IsStopped, AreAccepted, accepted_of, labels_by, HasAskedBy, failures_stopped, IsApplied};
 ghost use Rattle.study_marks.specs.Edits.{broken_from, positioned, shifted, stipulated, inserted, deleted, promoted, tagged, edited_by, insert_refusal, delete_refusal, promote_refusal, shift_refusal, is_printed, is_tag_text, tag_refusal};
 ghost use Rattle.std.specs.List.{list_all};
@@ -43,6 +43,7 @@ impl<'a, A: Allocator> Bench<'a, A> {
         values: &mut V,
     ) -> Result<Bench<'a, A>, Refusal<'a, A>>
         ensures refusal { IfErr result (IsOutside (V.held values.old) (asked_at start.position)) }
+        ensures takes_no_memory { IfErr result (λ e. is_of_tables e ≡ true) }
         ensures found { OnOk result (AllHeld (V.held values.old) (asked_at start.position)) }
         ensures made { IfOk result (λ b. plain_study (marked b) ≡ record { start = start; stipulation = stipulation; tags = None ∷ None ∷ None ∷ None ∷ None ∷ None ∷ []; tree = record { label = tt; below = none } }) }
         ensures right { V.is_honest values.old → IfOk result IsRight }
@@ -69,6 +70,7 @@ impl<'a, A: Allocator> Bench<'a, A> {
         values: &mut V,
     ) -> Result<(), Refusal<'a, A>>
         ensures refusal { IfErr result (IsOutside (V.held values.old) (asked_at start.position)) }
+        ensures takes_no_memory { IfErr result (λ e. is_of_tables e ≡ true) }
         ensures found { OnOk result (AllHeld (V.held values.old) (asked_at start.position)) }
         ensures edited { OnOk result (plain_study (marked self.new) ≡ positioned (plain_study (marked self.old)) start) }
         ensures right { V.is_honest values.old → OnOk result (IsRight self.new) }

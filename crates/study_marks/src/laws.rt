@@ -1,5 +1,5 @@
 //! Laws over the definitions, stated by functions that do nothing.
-ghost use Rattle.study_marks.specs.Laws.{AnnotationsAreUnique, EditsAreOfRows};
+ghost use Rattle.study_marks.specs.Laws.{AnnotationsAreUnique, DualCountsOthers, EditsAreOfRows, FaultsAreOfRows};
 
 use study_moves::values_are_unique;
 
@@ -15,4 +15,17 @@ pub fn edits_in_rows()
     ensures { EditsAreOfRows }
 {
     study_tree::edits_in_rows::<()>();
+}
+
+/// The faults of a node in an annotated study are the rows of its block that solution steps join to the block's first,
+/// and whose moves are the hero's and duals or mistakes.
+pub fn faults_in_rows()
+    ensures { FaultsAreOfRows }
+{}
+
+/// A dual has the number of the other legal moves that hold, whether the tree has them or not.
+pub fn duals_count_other_moves()
+    ensures { DualCountsOthers }
+{
+    values_are_unique();
 }

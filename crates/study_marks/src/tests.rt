@@ -57,8 +57,8 @@ fn insert<'a, A: Allocator, V: Values>(
 
 fn moved(origin: u8, target: u8) -> Move {
     Move {
-        origin: Square::at(origin),
-        target: Square::at(target),
+        origin: Square::at(origin % 64),
+        target: Square::at(target % 64),
         promoted: None,
     }
 }

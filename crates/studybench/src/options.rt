@@ -1,26 +1,72 @@
 //! The command line.
-use clap::{Command, Error};
+ghost use Rattle.std.specs.Prelude.{◌≤◌, IfSome, IfOk};
+
+use clap::{Arg, ArgAction, Command, Error, value_parser};
 use std::alloc::Global;
 
 const ABOUT: &str =
     "Answers a script of commands on chess endgame studies, one reply a line, from standard input to standard output.";
 
 const COMMANDS: &str = "Commands of a script, one a line:
-  position FEN    holds a position of up to four men
-  moves root      lists its legal moves, or says that it is mate or stalemate
-  solve K root    finds the shortest forced mate in up to K moves, K from 1 to 3
-A line that begins with # and an empty one have no reply; a refused line has the reply 'error NAME'.
+  position FEN          starts a study on a position of up to four men, the tree empty
+  shift FEN             puts another start under the same moves
+  stipulate SIDE GOAL   says who is to do what: 'white win', 'black draw', 'white mate 3'
+  insert PATH SAN       adds a move below a node, as 'insert root Qg8' or 'insert 0.1 Kb8'
+  delete PATH           takes out a node with all below it
+  promote PATH          moves a node up by one place among its siblings
+  tag NAME TEXT         fills a tag of the game: Event, Site, Date, Round, White or Black
+  mark PATH             tells a node's value, the mark of its move, and the faults from it on
+  moves PATH            lists the legal moves of a node, or says that it is mate or stalemate
+  fen PATH              tells the position of a node
+  solve K PATH          finds the shortest forced mate in up to K moves, K from 1 to 3
+  pgn                   writes the study with its marks as a game of PGN
+  build CLASS           makes the table of a class of material, as KQK, from those that it leads to
+  save CLASS            writes a table to its file, as KQK.dtm
+  load CLASS            reads a table from its file
+  verify CLASS          checks each cell of a table against the rules of chess
+PATH is 'root', or places of children from the root on, counted from 0: '0.1' is the second child of the first.
+A line that begins with # and an empty one have no reply; a refused line has the reply 'error NAME' and changes nothing.
 
 Exit status: 0 no line was refused; 1 some line was; 2 the command line was; 3 the run stopped at a fault.";
 
-/// Reads the words of the command line, of which the first is the program's name. No word is known but `--help`, or
-/// `-h`, which is answered as an error whose exit code is 0.
-pub fn read_words(alloc: Global, words: &[String]) -> Result<(), Error> {
+/// What the command line asks for.
+#[derive(Clone, Copy, Debug)]
+pub struct Options<'a> {
+    /// The folder of the files of tables.
+    pub tables: &'a str,
+    /// How many pages of tables are kept, where they are read by pages: 1 to 4,096.
+    pub pages: Option<u16>,
+}
+
+/// Reads the words of the command line, of which the first is the program's name. `--help` is answered as an error whose
+/// exit code is 0.
+pub fn read_words<'a>(alloc: Global, words: &'a [String]) -> Result<Options<'a>, Error>
+    ensures { IfOk result (λ options. IfSome options.pages (λ n. (1 ≤ n) × (n ≤ 4096))) }
+{
+    let tables = Arg::new(alloc, "tables")
+        .long("tables")
+        .value_name("DIR")
+        .action(ArgAction::Set)
+        .help("The folder of the files of tables, as KQK.dtm [default: .]");
+    let pages = Arg::new(alloc, "pages")
+        .long("pages")
+        .value_name("N")
+        .action(ArgAction::Set)
+        .value_parser(value_parser!(u16).range(1..=4096))
+        .help("Reads tables by pages of 4,096 cells and keeps N of them, 1 to 4096");
     let command = Command::new(alloc, "studybench")
         .about(ABOUT)
-        .after_help(COMMANDS);
-    let _matches = command.try_get_matches_from(words)?;
-    Ok(())
+        .after_help(COMMANDS)
+        .arg(tables)?
+        .arg(pages)?;
+    let matches = command.try_get_matches_from(words)?;
+    Ok(Options {
+        tables: matches.get_str("tables").unwrap_or("."),
+        pages: match matches.get_one::<u16>("pages") {
+            Some(n) if 1 <= n && n <= 4096 => Some(n),
+            _ => None,
+        },
+    })
 }
 
 #[cfg(test)]
@@ -28,28 +74,35 @@ mod tests {
     use super::read_words;
     use std::test::Fail;
 
-    /// Help is asked for, and a word is refused.
+    /// Options are read, help is asked for, and words are refused.
     #[test]
     fn words(rt: HostRuntime) -> Result<(), Fail> {
         let rows = [
-            ("", None),
-            ("--help", Some(0)),
-            ("-h", Some(0)),
-            ("--pages", Some(2)),
-            ("file.script", Some(2)),
+            ("", Ok((".", None))),
+            ("--tables=t", Ok(("t", None))),
+            ("--pages=1", Ok((".", Some(1)))),
+            ("--pages=4096", Ok((".", Some(4096)))),
+            ("--help", Err(0)),
+            ("-h", Err(0)),
+            ("--pages", Err(2)),
+            ("--pages=0", Err(2)),
+            ("--pages=4097", Err(2)),
+            ("--pages=x", Err(2)),
+            ("--bad", Err(2)),
+            ("file.script", Err(2)),
         ];
-        for (word, status) in rows {
+        for (word, wanted) in rows {
             let mut words = Vec::new(rt.alloc());
             words.push(String::from_str(rt.alloc(), "studybench")?)?;
             if !word.is_empty() {
                 words.push(String::from_str(rt.alloc(), word)?)?;
             }
-            let answer = read_words(rt.alloc(), words.as_slice());
-            assert_eq!(rt;
-                answer.err().map(|error| error.exit_code()),
-                status,
-                "{word}"
-            );
+            match read_words(rt.alloc(), words.as_slice()) {
+                Ok(options) => {
+                    assert!(rt; wanted == Ok((options.tables, options.pages)), "{word}")
+                }
+                Err(error) => assert!(rt; wanted == Err(error.exit_code()), "{word}"),
+            }
         }
         Ok(())
     }

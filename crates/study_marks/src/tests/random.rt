@@ -38,8 +38,16 @@ struct Seen {
     hero: bool,
 }
 
-/// Whether a position with this value at this depth holds; `hero` says who moves in it, `first` who moves at the root.
-fn holds(goal: Goal, depth: usize, hero: bool, first: bool, value: Value) -> bool {
+/// What is wanted, and whether the hero moves at the root.
+#[derive(Clone, Copy)]
+struct Wanted {
+    goal: Goal,
+    first: bool,
+}
+
+/// Whether a position with this value at this depth holds; `hero` says whether the hero moves in it.
+fn holds(wanted: &Wanted, depth: usize, hero: bool, value: Value) -> bool {
+    let goal = wanted.goal;
     let (mates, mated) = match value {
         Value::Win(n) => (if hero { Some(n) } else { None }, !hero),
         Value::Loss(n) => (if hero { None } else { Some(n) }, hero),
@@ -50,7 +58,7 @@ fn holds(goal: Goal, depth: usize, hero: bool, first: bool, value: Value) -> boo
         Goal::Draw => !mated,
         Goal::MateIn(moves) => {
             let plies = 2 * moves.count() as usize;
-            let last = if first { plies.saturating_sub(1) } else { plies };
+            let last = if wanted.first { plies.saturating_sub(1) } else { plies };
             match mates {
                 None => false,
                 Some(n) => depth.saturating_add(n as usize) <= last,
@@ -63,34 +71,35 @@ fn value_of<V: Values>(rt: &impl Abort, values: &mut V, p: &Position) -> Value {
     values.value(p).ok().expect(rt, "a value")
 }
 
-/// Whether the position after a move holds, where the hero makes it at this depth.
+/// Whether the position after a move, at this depth, holds, where the hero makes the move.
 fn holds_after<V: Values>(
     rt: &impl Abort,
     values: &mut V,
-    study: (Goal, bool, usize),
+    wanted: &Wanted,
+    depth: usize,
     before: &Position,
     m: &Move,
 ) -> bool {
-    let (goal, first, depth) = study;
     if !is_legal(before, *m) {
         return false;
     }
     let next = played(before, *m);
     let value = value_of(rt, values, &next);
-    holds(goal, depth.saturating_add(1), false, first, value)
+    holds(wanted, depth, false, value)
 }
 
-/// Of how many other moves the position after them holds, where the hero moves from this one at this depth.
+/// After how many other moves of the hero the position, at this depth, holds.
 fn others_of<V: Values>(
     rt: &impl Abort,
     values: &mut V,
-    study: (Goal, bool, usize),
+    wanted: &Wanted,
+    depth: usize,
     before: &Position,
     m: &Move,
 ) -> u8 {
     let mut others = 0u8;
     for other in legal_moves(before).as_slice() {
-        let is_held = holds_after(rt, values, study, before, other);
+        let is_held = holds_after(rt, values, wanted, depth, before, other);
         if is_held && *other != *m {
             others = others.saturating_add(1);
         }
@@ -148,8 +157,10 @@ fn check<A: Allocator, V: Values>(
     let rows = rows_of(alloc, bench).ok().expect(rt, "rows");
     let root = &bench.start().position;
     let stipulation = bench.stipulation();
-    let goal = stipulation.goal;
-    let first = root.to_move().is(stipulation.hero);
+    let wanted = Wanted {
+        goal: stipulation.goal,
+        first: root.to_move().is(stipulation.hero),
+    };
     let mut line: Vec<Seen> = Vec::new(alloc);
     let mut faulty: Vec<bool> = Vec::new(alloc);
     for (depth, _, m, mark) in rows.as_slice() {
@@ -161,21 +172,20 @@ fn check<A: Allocator, V: Values>(
         let value = value_of(rt, values, &position);
         let hero = position.to_move().is(stipulation.hero);
         let seen = Seen {
-            holds: holds(goal, *depth, hero, first, value),
+            holds: holds(&wanted, *depth, hero, value),
             position,
             value,
             hero,
         };
-        let wanted = match (line.as_slice().last(), *m) {
+        let marked = match (line.as_slice().last(), *m) {
             (Some(before), Some(m)) => {
-                let study = (goal, first, depth.saturating_sub(1));
-                let others = others_of(rt, values, study, &before.position, &m);
+                let others = others_of(rt, values, &wanted, *depth, &before.position, &m);
                 Some(mark_of(before.hero, before.holds, seen.holds, others))
             }
             _ => None,
         };
-        assert!(rt; mark.value == seen.value && mark.on_move == wanted);
-        let fault = match wanted {
+        assert!(rt; mark.value == seen.value && mark.on_move == marked);
+        let fault = match marked {
             Some(MoveMark::Dual(_)) => true,
             Some(MoveMark::Mistake) => !seen.hero,
             _ => false,
@@ -183,7 +193,7 @@ fn check<A: Allocator, V: Values>(
         assert!(rt; faulty.push(fault).is_ok() && line.push(seen).is_ok());
     }
     for (place, row) in rows.as_slice().iter().enumerate() {
-        let count = faults_of(rows.as_slice(), faulty.as_slice(), place, first);
+        let count = faults_of(rows.as_slice(), faulty.as_slice(), place, wanted.first);
         assert!(rt; row.3.faults == count, "{place}");
     }
 }
@@ -218,7 +228,7 @@ fn stipulation_of(rt: &impl Abort, numbers: &mut Numbers) -> Stipulation {
         0 => Goal::Win,
         1 => Goal::Draw,
         _ => {
-            let count = numbers.below(6).saturating_add(1) as u8;
+            let count = 1 + (numbers.below(6) % 6) as u8;
             Goal::MateIn(MateMoves::new(count).expect(rt, "a count"))
         }
     };

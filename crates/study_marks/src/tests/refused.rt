@@ -3,7 +3,7 @@ use super::picture::{Picture, is_same, picture_of};
 use super::{WHITE_WINS, moved, path, start, tables};
 use crate::{Bench, Edit, Refusal};
 use linked_list_allocator::LocalHeap;
-use std::alloc::{Allocator, Global};
+use std::alloc::{AllocError, Allocator, Global};
 use std::process::Abort;
 use std::test::Fail;
 use study_material::Class;
@@ -41,7 +41,7 @@ const BUSH: usize = 18;
 fn bush_path<'a, A: Allocator>(rt: &impl Abort, alloc: &'a A, at: usize) -> Path<'a, A> {
     match at {
         0 => Path::root(alloc),
-        _ => path(rt, alloc, &[at.saturating_sub(1) as u16]),
+        _ => path(rt, alloc, &[(at.saturating_sub(1) % 64) as u16]),
     }
 }
 
@@ -126,12 +126,12 @@ fn accepted<A: Allocator>(
     }
 }
 
-/// Each growth of `reannotate` and `shift_position` is refused in turn, also that of the path to a broken move.
+/// Each growth of `reannotate` and `shift_position` is refused in turn.
 #[test]
 fn whole_studies_without_memory(rt: HostRuntime) -> Result<(), Fail> {
     let alloc = rt.alloc();
     let mut values = tables(&rt, &alloc, [Class::KK, Class::KRK].as_slice());
-    let mut refused = [0usize; 3];
+    let mut refused = [0usize; 2];
     let mut accepted_all = false;
     for step in 0..4000usize {
         let heap = LocalHeap::new(rt.alloc(), 64 + step * 32)?;
@@ -142,38 +142,74 @@ fn whole_studies_without_memory(rt: HostRuntime) -> Result<(), Fail> {
             continue;
         }
         let was = picture_of(&rt, alloc, &bench);
-        let asked = values.asked();
-        let broken = start(&rt, "k7/8/8/6R1/8/8/8/K7 w - - 0 1");
-        let told = match bench.shift_position(broken, &mut values) {
-            Err(Refusal::ShiftBroken(at)) => {
-                assert!(rt; at.steps() == [0u16; 19].as_slice());
-                true
-            }
-            result => accepted(&rt, alloc, &bench, &was, result),
-        };
-        assert!(rt; values.asked() == asked && is_same(&rt, alloc, &bench, &was));
-        let result = bench.reannotate(&mut values);
-        let annotated = accepted(&rt, alloc, &bench, &was, result);
+        let answer = bench.reannotate(&mut values);
+        let annotated = accepted(&rt, alloc, &bench, &was, answer);
         let was = picture_of(&rt, alloc, &bench);
         let later = start(&rt, "k7/8/8/7R/8/8/8/K7 w - - 4 7");
-        let result = bench.shift_position(later, &mut values);
-        let shifted = accepted(&rt, alloc, &bench, &was, result);
+        let answer = bench.shift_position(later, &mut values);
+        let shifted = accepted(&rt, alloc, &bench, &was, answer);
         let now = picture_of(&rt, alloc, &bench);
         assert!(rt; now.rows.as_slice() == was.rows.as_slice());
-        for (place, is_accepted) in [told, annotated, shifted].into_iter().enumerate() {
-            if !is_accepted && place < 3 {
-                refused[place] = refused[place].saturating_add(1);
-            }
+        if !annotated {
+            refused[0] = refused[0].saturating_add(1);
         }
-        if told && annotated && shifted {
+        if !shifted {
+            refused[1] = refused[1].saturating_add(1);
+        }
+        if annotated && shifted {
             accepted_all = true;
             break;
         }
     }
     assert!(rt; accepted_all, "never accepted");
-    for count in refused {
-        assert!(rt; count > 0, "{refused:?}");
+    assert!(rt; refused[0] > 0 && refused[1] > 0, "{refused:?}");
+    Ok(())
+}
+
+/// All that a heap still gives.
+fn rest_of<'a>(
+    alloc: Global,
+    heap: &'a LocalHeap,
+) -> Result<Vec<Vec<u8, &'a LocalHeap>>, AllocError> {
+    let mut blocks = Vec::new(alloc);
+    let mut size = 1usize << 20;
+    for _ in 0..1000 {
+        match Vec::with_capacity(heap, size) {
+            Ok(block) => blocks.push(block)?,
+            Err(_) => size /= 2,
+        }
+        if size == 0 {
+            break;
+        }
     }
+    Ok(blocks)
+}
+
+/// A shift that breaks a deep move finds no memory for the path to it, and then finds some.
+#[test]
+fn broken_moves_without_memory(rt: HostRuntime) -> Result<(), Fail> {
+    let alloc = rt.alloc();
+    let mut values = tables(&rt, &alloc, [Class::KK, Class::KRK].as_slice());
+    let heap = LocalHeap::new(rt.alloc(), 1 << 18)?;
+    let mut bench = Bench::new(&heap, start(&rt, CORNERS), WHITE_WINS, &mut values)
+        .ok()
+        .expect(&rt, "a bench");
+    assert_eq!(rt; line_in(&rt, &heap, &mut bench, &mut values), 19);
+    let was = picture_of(&rt, alloc, &bench);
+    let asked = values.asked();
+    let blocks = rest_of(rt.alloc(), &heap)?;
+    let broken = start(&rt, "k7/8/8/6R1/8/8/8/K7 w - - 0 1");
+    let answer = bench.shift_position(broken, &mut values);
+    assert!(rt; matches!(answer, Err(Refusal::OutOfMemory)));
+    assert!(rt; is_same(&rt, alloc, &bench, &was) && values.asked() == asked);
+    drop(answer);
+    drop(blocks);
+    let broken = start(&rt, "k7/8/8/6R1/8/8/8/K7 w - - 0 1");
+    match bench.shift_position(broken, &mut values) {
+        Err(Refusal::ShiftBroken(at)) => assert_eq!(rt; at.steps(), &[0u16; 19][..]),
+        _ => panic!(rt; "not broken"),
+    }
+    assert!(rt; is_same(&rt, alloc, &bench, &was) && values.asked() == asked);
     Ok(())
 }
 
@@ -183,17 +219,7 @@ fn positions_without_memory(rt: HostRuntime) -> Result<(), Fail> {
     let alloc = rt.alloc();
     let mut values = tables(&rt, &alloc, [Class::KK, Class::KRK].as_slice());
     let heap = LocalHeap::new(rt.alloc(), 4096)?;
-    let mut blocks: Vec<Vec<u8, &LocalHeap>> = Vec::new(rt.alloc());
-    let mut size = 4096usize;
-    for _ in 0..1000 {
-        match Vec::with_capacity(&heap, size) {
-            Ok(block) => blocks.push(block)?,
-            Err(_) => size /= 2,
-        }
-        if size == 0 {
-            break;
-        }
-    }
+    let _blocks = rest_of(rt.alloc(), &heap)?;
     let mut bench = Bench::new(&heap, start(&rt, CORNERS), WHITE_WINS, &mut values)
         .ok()
         .expect(&rt, "a bench");
@@ -321,7 +347,7 @@ fn values_that_fail(rt: HostRuntime) {
                 .ok()
                 .expect(&rt, "a bench");
             let mut edits = bush_edits(&rt, &alloc, alloc);
-            edits.truncate(if call == 0 { 9 } else { BUSH });
+            edits.truncate(if call == 0 { 7 } else { BUSH });
             assert!(rt; bench.apply_all(edits.as_slice(), &mut values).is_ok());
             let was = picture_of(&rt, alloc, &bench);
             let failures = values.failures();

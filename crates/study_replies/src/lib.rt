@@ -1,0 +1,13 @@
+//! Scripts and their replies. There is nothing here but tests: what they expect comes from outside of this program.
+#![tactic(auto)]
+
+#[cfg(test)]
+mod files;
+#[cfg(test)]
+mod marks;
+#[cfg(test)]
+mod outside;
+#[cfg(test)]
+mod refusals;
+#[cfg(test)]
+mod runs;

@@ -1,0 +1,101 @@
+//! Runs whose reader, writer or memory fails.
+use crate::runs::replies_of;
+use linked_list_allocator::LocalHeap;
+use std::test::Fail;
+use study_script::memory::MemoryStore;
+use study_script::run::{RunFault, Settings, Summary, run};
+use study_tablefile::memory::{MemoryReader, MemoryWriter, WhenFull};
+
+const SCRIPT: &[u8] = b"position k7/8/1K6/8/8/8/8/7R w - - 0 1\nmoves root\nsolve 1 root\n";
+
+const REPLIES: &[u8] = b"position k7/8/1K6/8/8/8/8/7R w - - 0 1\n\
+    moves 20 Ra1+ Rb1 Rc1 Rd1 Re1 Rf1 Rg1 Rh2 Rh3 Rh4 Rh5 Rh6 Rh7 Rh8# Ka5 Kb5 Kc5 Ka6 Kc6 Kc7\nsolve plies 1\n";
+
+/// The script without a byte has no line.
+#[test]
+fn empty_script(rt: HostRuntime) {
+    let alloc = rt.alloc();
+    let (text, answer) = replies_of(&alloc, &mut MemoryStore::new(&[]), None, b"");
+    assert!(rt; text.is_empty());
+    assert_eq!(rt; answer, Ok(Summary { lines: 0, refused: 0 }));
+}
+
+/// A writer that fails, or takes nothing, has a front of the replies, and no line behind the one that it broke off is read.
+#[test]
+fn writers(rt: HostRuntime) {
+    let alloc = rt.alloc();
+    for when_full in [WhenFull::Fail, WhenFull::TakeNothing] {
+        for room in 0..REPLIES.len() {
+            let mut reader = MemoryReader::new(SCRIPT);
+            let mut writer = MemoryWriter::with_room(&alloc, room, when_full);
+            let answer = run(
+                &alloc,
+                &mut reader,
+                &mut writer,
+                &mut MemoryStore::new(&[]),
+                Settings { pages: None },
+            );
+            assert_eq!(rt; answer, Err(RunFault::WriteDevice), "{room}");
+            let (front, _) = REPLIES.split_at(room);
+            assert!(rt; writer.taken.as_slice() == front, "{room}");
+            let read = if room < 39 { 39 } else if room < 129 { 50 } else { SCRIPT.len() };
+            assert_eq!(rt; reader.given, read, "{room}");
+        }
+    }
+}
+
+/// A reader that fails behind a line: the replies to the lines that had ended are written.
+#[test]
+fn readers(rt: HostRuntime) {
+    let alloc = rt.alloc();
+    for count in 0..=SCRIPT.len() {
+        let mut writer = MemoryWriter::new(&alloc);
+        let answer = run(
+            &alloc,
+            &mut MemoryReader::failing_after(SCRIPT, count),
+            &mut writer,
+            &mut MemoryStore::new(&[]),
+            Settings { pages: None },
+        );
+        assert_eq!(rt; answer, Err(RunFault::ReadDevice), "{count}");
+        let written = if count < 39 { 0 } else if count < 50 { 39 } else if count < 63 { 129 } else { REPLIES.len() };
+        let (front, _) = REPLIES.split_at(written.min(REPLIES.len()));
+        assert!(rt; writer.taken.as_slice() == front, "{count}");
+    }
+}
+
+/// Heaps of rising size: no reply and want of memory before the first line, or one line that wants memory, or none.
+#[test]
+fn heaps(rt: HostRuntime) -> Result<(), Fail> {
+    let script = b"position k7/8/8/8/8/8/8/K7 w - - 0 1\nmoves root\nbuild KK\nstipulate white draw\ninsert root Kb1\nmark 0\n";
+    let mut before = 0u32;
+    let mut refused = 0u32;
+    let mut whole = 0u32;
+    for step in 0..300usize {
+        let heap = LocalHeap::new(rt.alloc(), 64 + step * 64)?;
+        let mut taken = MemoryWriter::new(&rt);
+        let mut store = MemoryStore::new(&[]);
+        let answer = run(
+            &heap,
+            &mut MemoryReader::new(script),
+            &mut taken,
+            &mut store,
+            Settings { pages: None },
+        );
+        match answer {
+            Err(fault) => {
+                assert_eq!(rt; fault, RunFault::OutOfMemory);
+                assert!(rt; taken.taken.is_empty());
+                assert!(rt; refused == 0 && whole == 0);
+                before = before.saturating_add(1);
+            }
+            Ok(summary) if summary.refused > 0 => {
+                assert_eq!(rt; summary.lines, 6);
+                refused = refused.saturating_add(1);
+            }
+            Ok(_) => whole = whole.saturating_add(1),
+        }
+    }
+    assert!(rt; before > 0 && refused > 0 && whole > 0);
+    Ok(())
+}
