@@ -1,12 +1,11 @@
 -- One edit of a bench, as a value.
-use Rattle.std.proofs.Common.{◌≡◌, ℕ, ◌+◌, ◌≤◌, ◌⊎◌, inl, inr, List, [], ◌∷◌, length, Bool, true, false, Option, Some, None, zero, suc, refl, sym, ap, ◌∙◌, subst, arith}
+use Rattle.std.proofs.Common.{◌≡◌, ℕ, ◌+◌, List, length, Bool, true, false, Option, Some, None, refl, sym, ap, ◌∙◌, subst, arith}
 use Rattle.std.specs.Prelude.{if◌then◌else◌, MatchOption, Result, Ok, Err, IfErr, OnOk, OnErr, IsErrAnd}
-use Rattle.study_board.specs.Position.{Position}
 use Rattle.study_material.specs.declared.class.Class.{Class}
 use Rattle.study_moves.specs.declared.moves.Move.{Move}
 use Rattle.study_moves.specs.Rules.{after}
 use Rattle.study_notation.specs.declared.start.Start.{Start}
-use Rattle.study_tree.specs.Tree.{Plain, counted, size_of}
+use Rattle.study_tree.specs.Tree.{counted, size_of}
 use Rattle.study_marks.specs.declared.fault.Refusal.{Refusal}
 use Rattle.study_marks.specs.declared.edit.Edit.{Edit}
 use Rattle.study_marks.specs.declared.edit.Edit.TheVariants as edits
@@ -14,9 +13,9 @@ use Rattle.study_marks.specs.declared.mark.Mark.{Mark}
 use Rattle.study_marks.specs.declared.stipulation.Stipulation.{Stipulation}
 use Rattle.study_marks.specs.Study.{plain_study, position_at}
 use Rattle.study_marks.specs.Asked.{asked_at, asked_of, AllHeld, IsOutside, HasAsked, HasStopped, is_of_tables, is_of_device, counted_times, failures_after}
-use Rattle.study_marks.specs.Edits.{Plainly, shifted, stipulated, inserted, edited, broken, broken_from, insert_refusal, shift_refusal}
+use Rattle.study_marks.specs.Edits.{shifted, stipulated, inserted, broken, broken_from, insert_refusal, shift_refusal}
 use Rattle.study_marks.specs.Kept.{Kept, marked, IsRight}
-use Rattle.study_marks.specs.Stop.{IsShiftRefusal, IsRefusalOf, IsAccepted, IsApplied}
+use Rattle.study_marks.specs.Stop.{IsShiftRefusal, IsAccepted, IsApplied}
 use Rattle.study_marks.proofs.Shapes.{nodes_in-mapped}
 use Rattle.study_marks.proofs.Shifts.{broken-marked}
 

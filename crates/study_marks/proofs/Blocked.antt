@@ -1,6 +1,6 @@
 -- The faults of a node are those of its block of rows.
 use Rattle.std.proofs.Common.{◌≡◌, ℕ, ◌+◌, ◌<◌, ◌≤◌, List, [], ◌∷◌, ◌++◌, length, Bool, true, false, Option, Some, None, refl, sym, ap, ◌∙◌, arith, zero, suc, subst, append_assoc}
-use Rattle.std.specs.Prelude.{if◌then◌else◌, nat_lt, nat_eq}
+use Rattle.std.specs.Prelude.{if◌then◌else◌, nat_eq}
 use Rattle.std.proofs.lemmas.Bool.{eq-eqb, ne_eqb, lt-ltb, le-ltb}
 use Rattle.study_board.specs.Position.{Position}
 use Rattle.study_moves.specs.declared.moves.Move.{Move}
@@ -8,16 +8,15 @@ use Rattle.study_moves.specs.Rules.{after}
 use Rattle.study_retro.specs.declared.value.Value.{Value}
 use Rattle.study_tree.specs.Forest.{Forest, none, more, Twig}
 use Rattle.study_tree.specs.Edits.{node_in, width}
-use Rattle.study_tree.specs.Tree.{Plain, Spot, spot_at, twig_spot}
+use Rattle.study_tree.specs.Tree.{Spot, twig_spot}
 use Rattle.study_tree.specs.Rows.{Row, rows_in, rows, cut_at}
-use Rattle.study_tree.proofs.Written.{row, cut_below, cut-none, cut-here, cut-down, cut-next}
+use Rattle.study_tree.proofs.Written.{cut_below, cut-here, cut-down, cut-next}
 use Rattle.study_marks.specs.declared.mark.Mark.{Mark}
 use Rattle.study_marks.specs.declared.marking.Aim.{Aim}
-use Rattle.study_marks.specs.Study.{Study}
 use Rattle.study_marks.specs.Goals.{aim_of, hero_moves}
 use Rattle.study_marks.specs.Marks.{own_faults, faults_in}
-use Rattle.study_marks.specs.Annotated.{AreAnnotated, IsAnnotated}
-use Rattle.study_marks.specs.Blocks.{is_solution_step, fault_at, is_below, joined_faults, block_faults}
+use Rattle.study_marks.specs.Annotated.{AreAnnotated}
+use Rattle.study_marks.specs.Blocks.{is_solution_step, fault_at, joined_faults, block_faults}
 use Rattle.study_marks.specs.Laws.{FaultsAreOfRows}
 
 -- the depth of the last of these rows, or p where there is none
@@ -52,7 +51,7 @@ module _ (a : Aim) where
   over c d [] h = refl
   over c d (x ∷ xs) h =
       ap (λ b. if b then joined_faults a x.depth (Some c) xs
-        else (if is_solution_step a d x.depth then fault_at a x.depth x.label.on_move + joined_faults a x.depth None xs else joined_faults a x.depth (Some x.depth) xs)) (le-ltb c x.depth h)
+      else (if is_solution_step a d x.depth then fault_at a x.depth x.label.on_move + joined_faults a x.depth None xs else joined_faults a x.depth (Some x.depth) xs)) (le-ltb c x.depth h)
 
   -- nothing counts below it
   skip : (c p e : ℕ) (f : Forest Mark) (rest : List (Row Mark)) → c < e → joined_faults a p (Some c) (rows_in e f ++ rest) ≡ joined_faults a (last_of p e f) (Some c) rest
@@ -60,8 +59,8 @@ module _ (a : Aim) where
   skip c p e none rest h = refl
   skip c p e (more m x b r) rest h =
       ap (λ t. if t then joined_faults a e (Some c) ((rows_in (suc e) b ++ rows_in e r) ++ rest)
-        else (if is_solution_step a p e then fault_at a e x.on_move + joined_faults a e None ((rows_in (suc e) b ++ rows_in e r) ++ rest) else joined_faults a e (Some e) ((rows_in (suc e) b ++ rows_in e r) ++ rest)))
-        (lt-ltb c e h)
+      else (if is_solution_step a p e then fault_at a e x.on_move + joined_faults a e None ((rows_in (suc e) b ++ rows_in e r) ++ rest) else joined_faults a e (Some e) ((rows_in (suc e) b ++ rows_in e r) ++ rest)))
+      (lt-ltb c e h)
       ∙ ap (joined_faults a e (Some c)) (append_assoc (rows_in (suc e) b) (rows_in e r) rest)
       ∙ skip c e (suc e) b (rows_in e r ++ rest) (omega (arith, h)) ∙ skip c (last_of e (suc e) b) e r rest h
 
@@ -77,7 +76,7 @@ module _ (a : Aim) where
       ∙ skip (suc d) (suc d) (suc (suc d)) b (rows_in (suc d) r ++ rest) (omega arith)
       ∙ over (suc d) (last_of (suc d) (suc (suc d)) b) (rows_in (suc d) r ++ rest) (goes-later (suc d) (suc d) r rest (omega arith) (goes-higher d (suc d) rest (omega arith) g))
       ∙ later d (last_of (suc d) (suc (suc d)) b) r rest hero
-        (let least : suc d ≤ last_of (suc d) (suc (suc d)) b = last-least (suc d) (suc d) (suc (suc d)) b (omega arith) (omega arith) in let z : d < last_of (suc d) (suc (suc d)) b = omega (arith, least) in z) g
+      (let least : suc d ≤ last_of (suc d) (suc (suc d)) b = last-least (suc d) (suc d) (suc (suc d)) b (omega arith) (omega arith) in let z : d < last_of (suc d) (suc (suc d)) b = omega (arith, least) in z) g
 
   -- the first child, and each child where the opponent moves, joins what is below it
   join-child : (d p : ℕ) (m : Move) (x : Mark) (b r : Forest Mark) (rest : List (Row Mark)) → is_solution_step a p (suc d) ≡ true
@@ -87,8 +86,8 @@ module _ (a : Aim) where
       let all : List (Row Mark) = (rows_in (suc (suc d)) b ++ rows_in (suc d) r) ++ rest in
       ap (λ t. if t then fault_at a (suc d) x.on_move + joined_faults a (suc d) None all else joined_faults a (suc d) (Some (suc d)) all) step
       ∙ ap (λ n. own_faults (hero_moves a d) x.on_move + n)
-        (ap (joined_faults a (suc d) None) (append_assoc (rows_in (suc (suc d)) b) (rows_in (suc d) r) rest) ∙ h
-        ∙ ap (λ i. faults_in a i b + joined_faults a (last_of (suc d) (suc (suc d)) b) None (rows_in (suc d) r ++ rest)) (let z : suc d ≡ d + 1 = omega arith in z))
+      (ap (joined_faults a (suc d) None) (append_assoc (rows_in (suc (suc d)) b) (rows_in (suc d) r) rest) ∙ h
+      ∙ ap (λ i. faults_in a i b + joined_faults a (last_of (suc d) (suc (suc d)) b) None (rows_in (suc d) r ++ rest)) (let z : suc d ≡ d + 1 = omega arith in z))
 
   joined : (d p : ℕ) (f : Forest Mark) (rest : List (Row Mark)) → (hero_moves a d ≡ true → p ≡ d) → GoesOn d rest → joined_faults a p None (rows_in (suc d) f ++ rest) ≡ faults_in a d f + joined_faults a (last_of p (suc d) f) None rest
   unfolding last_of

@@ -1,12 +1,12 @@
 -- The first move of a tree that is not legal.
-use Rattle.std.proofs.Common.{◌≡◌, ℕ, ◌+◌, ◌<◌, ◌≤◌, List, [], ◌∷◌, ◌++◌, length, Bool, true, false, Option, Some, None, refl, sym, ap, ◌∙◌, arith, zero, suc, subst, IsTrue, append_assoc}
+use Rattle.std.proofs.Common.{◌≡◌, ℕ, ◌+◌, ◌<◌, ◌≤◌, List, [], ◌∷◌, ◌++◌, Bool, true, false, Option, Some, None, refl, sym, ap, ◌∙◌, arith, zero, suc, subst, IsTrue, append_assoc}
 use Rattle.std.specs.Prelude.{if◌then◌else◌, IsSome}
 use Rattle.study_board.specs.Position.{Position}
 use Rattle.study_moves.specs.declared.moves.Move.{Move}
 use Rattle.study_moves.specs.Rules.{is_legal, after}
 use Rattle.study_tree.specs.Forest.{Forest, none, more, Twig}
-use Rattle.study_tree.specs.Edits.{has_node, node_in, width}
-use Rattle.study_tree.specs.Tree.{Plain, Spot, spot_at, twig_spot, has_spot}
+use Rattle.study_tree.specs.Edits.{node_in, width}
+use Rattle.study_tree.specs.Tree.{Plain, spot_at, twig_spot, has_spot}
 use Rattle.study_marks.specs.declared.label.Label.{Label}
 use Rattle.study_marks.specs.Edits.{broken_from, before}
 use Rattle.study_marks.specs.Bench.{played_by}

@@ -1,5 +1,5 @@
 -- Positions listed in written order, what is asked of them, and what is told.
-use Rattle.std.proofs.Common.{◌≡◌, ℕ, ◌+◌, ◌<◌, ◌≤◌, List, [], ◌∷◌, ◌++◌, length, get_or, take, drop, Bool, true, false, Option, Some, None, Result, Ok, Err, is_ok, refl, sym, ap, ◌∙◌, arith, zero, suc, subst, IsTrue, inl, inr, append_assoc, length-append}
+use Rattle.std.proofs.Common.{◌≡◌, ℕ, ◌+◌, ◌<◌, ◌≤◌, List, [], ◌∷◌, ◌++◌, length, get_or, take, drop, Bool, true, false, Some, Result, Ok, Err, is_ok, refl, sym, ap, ◌∙◌, arith, zero, suc, subst, inl, inr, append_assoc, length-append}
 use Rattle.std.specs.Prelude.{IfErr, IsErrAnd}
 use Rattle.study_board.specs.Position.{Position}
 use Rattle.study_material.specs.declared.class.Class.{Class}
@@ -9,7 +9,7 @@ use Rattle.study_prober.specs.declared.values.ProbeFault.{ProbeFault}
 use Rattle.study_prober.specs.declared.values.ProbeFault.TheVariants as probe
 use Rattle.study_tree.specs.Forest.{Forest, none, more, Twig, nodes_in}
 use Rattle.study_tree.specs.Edits.{node_in, width}
-use Rattle.study_tree.specs.Tree.{Plain, spot_at, counted}
+use Rattle.study_tree.specs.Tree.{Plain, spot_at}
 use Rattle.study_marks.specs.declared.label.Label.{Label}
 use Rattle.study_marks.specs.declared.label.Told.{Told}
 use Rattle.study_marks.specs.Study.{mapped, IsPlayable}
@@ -62,8 +62,8 @@ module _ (p : Position) (t : Plain Label) (ks : List ℕ) (k : ℕ) where
       let under = below-further t.below ks k ∙ below-nth (below_at t.below ks) k w.0 w.1 in
       let first : List Position = positions_in p (firsts k (below_at t.below ks)) in
       let child : next ∷ positions_in next (below_at t.below push) ≡ after p w.0.played ∷ positions_in (after p w.0.played) w.0.below =
-          ap (λ x. x ∷ positions_in x (below_at t.below push)) (en ∙ ap (after p) (sym same))
-          ∙ ap (λ (f : Forest Label). after p w.0.played ∷ positions_in (after p w.0.played) f) (ap (below_at t.below) ep ∙ under) in
+      ap (λ x. x ∷ positions_in x (below_at t.below push)) (en ∙ ap (after p) (sym same))
+      ∙ ap (λ (f : Forest Label). after p w.0.played ∷ positions_in (after p w.0.played) f) (ap (below_at t.below) ep ∙ under) in
       new_is ∙ ap (λ x. x ++ positions_in next (below_at t.below push)) one_is ∙ append_assoc all (next ∷ []) (positions_in next (below_at t.below push))
       ∙ ap (λ x. all ++ x) child ∙ ap (λ x. x ++ (after p w.0.played ∷ positions_in (after p w.0.played) w.0.below)) h
       ∙ append_assoc old first (after p w.0.played ∷ positions_in (after p w.0.played) w.0.below)
@@ -88,7 +88,7 @@ asked-positions : (p : Position) (f : Forest Label) → asked_each (positions_in
 asked-positions p none = refl
 asked-positions p (more m l b r) =
     ap (λ x. asked_at (after p m) ++ x) (asked_each-append (positions_in (after p m) b) (positions_in p r)
-      ∙ ap (λ x. x ++ asked_each (positions_in p r)) (asked-positions (after p m) b) ∙ ap (λ x. asked_below (after p m) b ++ x) (asked-positions p r))
+    ∙ ap (λ x. x ++ asked_each (positions_in p r)) (asked-positions (after p m) b) ∙ ap (λ x. asked_below (after p m) b ++ x) (asked-positions p r))
 
 pub asked-tree : (p : Position) (f : Forest Label) (ps : List Position) → ps ≡ p ∷ positions_in p f → asked_each ps ≡ asked_at p ++ asked_below p f
 asked-tree p f ps e = ap asked_each e ∙ ap (λ x. asked_at p ++ x) (asked-positions p f)
@@ -186,7 +186,7 @@ module _ (held mid : Class → Bool) (asked asked_mid failed failed_mid : ℕ) (
   asked-at new k =
       let n = length (asked_each (take i xs)) in
       let long : length (asked_each xs) ≡ n + (length (asked_at p) + length (asked_each (drop (suc i) xs))) =
-          ap length middle ∙ length-append (asked_each (take i xs)) (asked_at p ++ asked_each (drop (suc i) xs)) ∙ ap (λ m. n + m) (length-append (asked_at p) (asked_each (drop (suc i) xs))) in
+      ap length middle ∙ length-append (asked_each (take i xs)) (asked_at p ++ asked_each (drop (suc i) xs)) ∙ ap (λ m. n + m) (length-append (asked_at p) (asked_each (drop (suc i) xs))) in
       (n + k.0, omega (arith, k.1, long), k.2 ∙ ap (counted_times k.0) h.counts ∙ sym (counted_times-sum n k.0 asked))
 
 -- an answer that hands a fault on

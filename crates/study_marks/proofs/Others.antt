@@ -2,13 +2,13 @@
 use Rattle.std.proofs.Common.{◌≡◌, ℕ, ◌+◌, ◌-◌, ◌==◌, ◌<◌, ◌≤◌, List, [], ◌∷◌, Bool, true, false, ◌&&◌, Option, Some, None, inl, inr, refl, sym, ap, ◌∙◌, arith, zero, suc, subst}
 use Rattle.std.specs.Prelude.{if◌then◌else◌}
 use Rattle.std.specs.List.{count_by}
-use Rattle.std.proofs.lemmas.Bool.{false≢true, eqb-true, eq-eqb, ne_eqb}
-use Rattle.study_board.specs.Position.{Position, IsValid}
+use Rattle.std.proofs.lemmas.Bool.{false≢true, eqb-true, ne_eqb}
+use Rattle.study_board.specs.Position.{Position}
 use Rattle.study_board.specs.declared.men.Kind.{Kind}
 use Rattle.study_board.specs.EqualLaws.{kinds_equal}
 use Rattle.study_board.proofs.Lists.{count_by-cons}
 use Rattle.study_moves.specs.declared.moves.Move.{Move}
-use Rattle.study_moves.specs.Rules.{is_legal, after}
+use Rattle.study_moves.specs.Rules.{after}
 use Rattle.study_moves.specs.Laws.{EachHasOneValue}
 use Rattle.study_retro.specs.declared.value.Value.{Value}
 use Rattle.study_retro.specs.Game.{IsValueOf}
@@ -16,13 +16,12 @@ use Rattle.study_moves.specs.LegalList.{legal_list}
 use Rattle.study_notation.specs.Matching.{same_promotion}
 use Rattle.study_moves.specs.Order.{place_of}
 use Rattle.study_moves.proofs.LegalLists.{in_legal, AscendsFrom-legal_list}
-use Rattle.study_moves.proofs.Sorted.{IsIn, AscendsFrom, AscendsFrom-less}
-use Rattle.study_marks.specs.declared.mark.MoveMark.{MoveMark}
+use Rattle.study_moves.proofs.Sorted.{IsIn, AscendsFrom}
 use Rattle.study_marks.specs.declared.mark.MoveMark.TheVariants.{Only, Dual}
 use Rattle.study_marks.specs.declared.marking.Aim.{Aim}
 use Rattle.study_marks.specs.Study.{same_move}
-use Rattle.study_marks.specs.Goals.{hero_moves, holds}
-use Rattle.study_marks.specs.Marks.{mark_of, move_mark, only_or_dual}
+use Rattle.study_marks.specs.Goals.{holds}
+use Rattle.study_marks.specs.Marks.{mark_of, only_or_dual}
 use Rattle.study_marks.specs.Annotated.{AreValuesAfter}
 use Rattle.study_marks.specs.Laws.{others_that_hold, DualCountsOthers}
 use Rattle.study_marks.proofs.Studies.{same_move-refl}
@@ -105,4 +104,4 @@ dual-counts-others law a d p m v all w valid legal values game hero before after
     ∙ ap (λ b. mark_of true b (holds a (d + 1) w) (count_by (holds a (d + 1)) all)) before
     ∙ ap (λ b. mark_of true true b (count_by (holds a (d + 1)) all)) after_move
     ∙ only-or-dual (count_by (holds a (d + 1)) all) (others_that_hold a (d + 1) m (legal_list p) all)
-      (once a (d + 1) p m law 0 (legal_list p) all w (AscendsFrom-legal_list p) (in_legal p m valid legal) values game after_move)
+    (once a (d + 1) p m law 0 (legal_list p) all w (AscendsFrom-legal_list p) (in_legal p m valid legal) values game after_move)

@@ -5,13 +5,13 @@ use Rattle.study_tree.specs.declared.fault.TreeFault.{TreeFault}
 use Rattle.study_tree.specs.declared.fault.TreeFault.TheVariants.{NoSuchNode}
 use Rattle.study_moves.specs.declared.moves.Move.{Move}
 use Rattle.study_tree.specs.Forest.{Forest, none, more, Twig, nodes_in}
-use Rattle.study_tree.specs.Edits.{has_node, node_in, width, below_edited, place_edited, labelled_at}
+use Rattle.study_tree.specs.Edits.{has_node, node_in, width, below_edited, labelled_at}
 use Rattle.study_tree.specs.Tree.{Plain, Spot, with_label, spot_at, twig_spot, has_spot, size_of, counted, label_refusal}
 use Rattle.study_marks.specs.declared.label.Label.{Label}
 use Rattle.study_marks.specs.declared.label.Told.{Told}
 use Rattle.study_marks.specs.declared.marking.Aim.{Aim}
 use Rattle.study_marks.specs.Asked.{counted_times}
-use Rattle.study_marks.specs.Study.{mapped, mapped_tree, IsWithin}
+use Rattle.study_marks.specs.Study.{mapped, IsWithin}
 use Rattle.study_marks.specs.Goals.{hero_moves}
 use Rattle.study_marks.specs.Kept.{own, all_faults, faults_below, AddUp, AllAddUp}
 use Rattle.study_marks.specs.Renewal.{told_tree, below_at, share}
@@ -187,7 +187,7 @@ module _ (all : List Told) (a : Aim) where
   told-refreshed d n q (more m l b r) =
       ap (λ x. more m (told_in all n l.told) x (mapped (λ (y : Label). y.told) (refreshed all a d (n + 1 + nodes_in b) q r))) (told-refreshed (d + 1) (n + 1) (told_in all n l.told) b)
       ∙ ap (more m (told_in all n l.told) (retold all (n + 1) (mapped (λ (y : Label). y.told) b)))
-        (told-refreshed d (n + 1 + nodes_in b) q r ∙ ap (λ x. retold all (n + 1 + x) (mapped (λ (y : Label). y.told) r)) (sym (nodes_in-mapped (λ (y : Label). y.told) b)))
+      (told-refreshed d (n + 1 + nodes_in b) q r ∙ ap (λ x. retold all (n + 1 + x) (mapped (λ (y : Label). y.told) r)) (sym (nodes_in-mapped (λ (y : Label). y.told) b)))
 
   -- nodes stay where they are
   within-refreshed : (d n : ℕ) (q : Told) (w : ℕ) (f : Forest Label) → IsWithin w f → IsWithin w (refreshed all a d n q f)
@@ -274,7 +274,7 @@ done-found j now new k faults next h found left =
     let f : now.below ≡ below_edited (refreshed_to j.all j.aim (length j.path) j.number j.told k) j.was.below j.path = ap (λ (t : Plain Label). t.below) h.tree in
     let here : IsTrue (has_node now.below j.path) = ap (λ x. has_node x j.path) f ∙ has_node-edited (refreshed_to j.all j.aim (length j.path) j.number j.told k) j.was.below j.path ∙ found in
     let same : below_at now.below j.path ≡ refreshed_to j.all j.aim (length j.path) j.number j.told k (below_of j) =
-        ap (λ x. below_at x j.path) f ∙ below_at-edited (refreshed_to j.all j.aim (length j.path) j.number j.told k) j.was.below j.path found in
+    ap (λ x. below_at x j.path) f ∙ below_at-edited (refreshed_to j.all j.aim (length j.path) j.number j.told k) j.was.below j.path found in
     has_node-child now.below j.path k here (subst (λ x. k < width x) (sym same) (wide j.number k (below_of j) left))
   where
     wide : (n k : ℕ) (f : Forest Label) → k < width f → k < width (refreshed_to j.all j.aim (length j.path) n j.told k f)
@@ -414,7 +414,7 @@ done-next j now new k faults next after later share_of beyond h found left n =
         ∙ ap (λ (t : Plain Label). with_label t (ks ++ k ∷ []) (record { told = T; faults = X })) is_between
         ∙ labelled-child (record { label = j.was.label; below = below_edited (λ x. below_edited g (part k x) (k ∷ [])) j.was.below ks }) ks k (record { told = T; faults = X })
         ∙ ap (λ x. record { label = j.was.label; below = x }) (edited-twice (labelled_at (record { told = T; faults = X }) k) (λ x. below_edited g (part k x) (k ∷ [])) j.was.below ks
-          ∙ edited-same (λ x. labelled_at (record { told = T; faults = X }) k (below_edited g (part k x) (k ∷ []))) (part (suc k)) j.was.below ks (one-more j.all a d j.number next q k F w.0 w.1 h.number))
+        ∙ edited-same (λ x. labelled_at (record { told = T; faults = X }) k (below_edited g (part k x) (k ∷ []))) (part (suc k)) j.was.below ks (one-more j.all a d j.number next q k F w.0 w.1 h.number))
 
     sum : faults + share_of ≡ faults_below (hero_moves a d) (refresh j (firsts (suc k) F))
     sum = let shares : share_of ≡ share (hero_moves a d) k X = n.shared ∙ ap (share (hero_moves a d) k) is_sum in
@@ -513,7 +513,7 @@ root-told all a t between after steps path1 path2 q faults e e1 e2 told under wr
     ap told_tree (written ∙ ap (λ p. with_label between p (record { told = q; faults = faults })) (e2 ∙ e) ∙ ap (λ (u : Plain Label). with_label u [] (record { told = q; faults = faults })) under)
     ∙ ap (λ x. record { label = q; below = x }) (told-below all a (length steps) 1 q t steps e)
     ∙ ap (λ x. record { label = x; below = retold all 1 (mapped (λ (l : Label). l.told) t.below) })
-      (told (record { played = None; label = t.label; children = width t.below }) (ap (spot_at t) (e1 ∙ e)))
+    (told (record { played = None; label = t.label; children = width t.below }) (ap (spot_at t) (e1 ∙ e)))
 
 pub root-right : (all : List Told) (a : Aim) (t between after : Plain Label) (steps path2 : List ℕ) (q : Told) (faults : ℕ) → steps ≡ [] → path2 ≡ steps
     → between ≡ record { label = t.label; below = below_edited (refreshed all a (length steps) 1 q) t.below steps }
@@ -521,7 +521,7 @@ pub root-right : (all : List Told) (a : Aim) (t between after : Plain Label) (st
     → after ≡ with_label between path2 (record { told = q; faults = faults }) → AllAddUp a after
 root-right all a t between after steps path2 q faults e e2 under sum written =
     subst (AllAddUp a) (sym (written ∙ ap (λ p. with_label between p (record { told = q; faults = faults })) (e2 ∙ e) ∙ ap (λ (u : Plain Label). with_label u [] (record { told = q; faults = faults })) under
-      ∙ ap (λ p. record { label = record { told = q; faults = faults }; below = below_edited (refreshed all a (length p) 1 q) t.below p }) e))
+    ∙ ap (λ p. record { label = record { told = q; faults = faults }; below = below_edited (refreshed all a (length p) 1 q) t.below p }) e))
     (sum ∙ ap (λ p. faults_below (hero_moves a (length p)) (refreshed all a (length p) 1 q (below_at t.below p))) e, adds-refreshed all a 0 1 q t.below)
 
 pub root-count : (t : Plain Label) (steps : List ℕ) (old new later : ℕ) → steps ≡ [] → new ≡ counted_times (nodes_in (below_at t.below steps)) old → later ≡ counted new → later ≡ counted_times (size_of t) old

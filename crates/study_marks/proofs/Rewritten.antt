@@ -15,7 +15,7 @@ use Rattle.study_marks.specs.Asked.{asked_at, asked_below, asked_of, IsOutside, 
 use Rattle.study_marks.specs.declared.fault.Refusal.{Refusal}
 use Rattle.study_material.specs.declared.class.Class.{Class}
 use Rattle.std.specs.Prelude.{Bool, Result, Ok, Err, IfErr, IsErrAnd}
-use Rattle.study_marks.specs.Whole.{told_in, retold, retold_tree}
+use Rattle.study_marks.specs.Whole.{retold, retold_tree}
 use Rattle.study_marks.specs.declared.mark.Mark.{Mark}
 use Rattle.study_marks.proofs.Shapes.{IsPlayable-mapped, mapped-IsPlayable}
 use Rattle.study_marks.specs.Kept.{Kept, marked, IsStudy, IsRight, AllAddUp}

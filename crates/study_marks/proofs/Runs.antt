@@ -1,6 +1,6 @@
 -- A list of edits, one after the other.
-use Rattle.std.proofs.Common.{◌≡◌, ℕ, ◌+◌, ◌<◌, ◌≤◌, ◌⊎◌, inl, inr, List, [], ◌∷◌, ◌++◌, length, take, get_or, Bool, Option, Some, None, zero, suc, refl, sym, ap, ◌∙◌, subst, arith}
-use Rattle.std.specs.Prelude.{if◌then◌else◌, MatchOption, Result, Ok, Err}
+use Rattle.std.proofs.Common.{◌≡◌, ℕ, ◌+◌, ◌<◌, ◌⊎◌, List, [], ◌∷◌, ◌++◌, length, take, get_or, Bool, Option, Some, None, zero, suc, refl, sym, ap, ◌∙◌, subst, arith}
+use Rattle.std.specs.Prelude.{MatchOption, Ok, Err}
 use Rattle.study_board.specs.Position.{Position}
 use Rattle.study_material.specs.declared.class.Class.{Class}
 use Rattle.study_moves.specs.Rules.{after}
@@ -8,12 +8,11 @@ use Rattle.study_marks.specs.declared.fault.Refusal.{Refusal}
 use Rattle.study_marks.specs.declared.fault.Refusal.TheVariants.{NoSuchNode, RootNotAllowed, AlreadyFirst, IllegalMove, AlreadyThere, TooDeep, TreeFull, ShiftBroken, TagText, OutOfMemory, NoTable, TableRead}
 use Rattle.study_marks.specs.declared.edit.Edit.{Edit}
 use Rattle.study_marks.specs.declared.edit.Edit.TheVariants as edits
-use Rattle.study_marks.specs.declared.edit.Stopped.{Stopped}
 use Rattle.study_marks.specs.Study.{plain_study, position_at}
-use Rattle.study_marks.specs.Asked.{asked_at, asked_of, IsOutside, HasStopped, is_of_tables, is_of_device, counted_times, AllHeld}
+use Rattle.study_marks.specs.Asked.{asked_at, asked_of, IsOutside, HasStopped, is_of_tables, counted_times}
 use Rattle.study_marks.specs.Edits.{Plainly, shifted, edited, edited_by, insert_refusal, shift_refusal}
 use Rattle.study_marks.specs.Kept.{Kept, marked, IsRight}
-use Rattle.study_marks.specs.Stop.{questions_of, IsShiftRefusal, IsRefusalOf, IsAccepted, AreAccepted, labels_after, labels_by, IsStopped, asked_by, HasAskedUpTo, IsApplied}
+use Rattle.study_marks.specs.Stop.{questions_of, IsRefusalOf, IsAccepted, AreAccepted, labels_after, labels_by, IsStopped, asked_by, HasAskedUpTo, IsApplied}
 use Rattle.study_marks.proofs.Asks.{missing-same}
 use Rattle.study_marks.proofs.Gathers.{AreHeld-same, take-one}
 

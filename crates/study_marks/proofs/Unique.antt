@@ -1,9 +1,9 @@
 -- A plain study has one annotation.
-use Rattle.std.proofs.Common.{◌≡◌, ℕ, ◌+◌, List, [], ◌∷◌, Bool, true, false, Option, Some, None, refl, sym, ap, ◌∙◌, arith, zero, suc, subst}
+use Rattle.std.proofs.Common.{◌≡◌, ℕ, ◌+◌, List, [], ◌∷◌, Option, Some, refl, sym, ap, ◌∙◌, subst}
 use Rattle.study_board.specs.Position.{Position}
 use Rattle.study_moves.specs.declared.moves.Move.{Move}
 use Rattle.study_moves.specs.Rules.{after}
-use Rattle.study_moves.specs.Laws.{HasOneValue, EachHasOneValue}
+use Rattle.study_moves.specs.Laws.{EachHasOneValue}
 use Rattle.study_retro.specs.declared.value.Value.{Value}
 use Rattle.study_retro.specs.declared.value.Value.TheVariants.{Win, Loss, Draw}
 use Rattle.study_retro.specs.Game.{IsValueOf}
@@ -14,11 +14,11 @@ use Rattle.study_moves.specs.LegalList.{legal_list}
 use Rattle.study_marks.specs.declared.mark.MoveMark.{MoveMark}
 use Rattle.study_marks.specs.declared.marking.Aim.{Aim}
 use Rattle.study_marks.specs.declared.stipulation.Stipulation.{Stipulation}
-use Rattle.study_marks.specs.Study.{Study, mapped, plain_study}
+use Rattle.study_marks.specs.Study.{Study, mapped}
 use Rattle.study_marks.specs.Goals.{aim_of, hero_moves}
 use Rattle.study_marks.specs.Marks.{move_mark, own_faults, faults_in}
 use Rattle.study_marks.specs.Laws.{AnnotationsAreUnique}
-use Rattle.study_marks.specs.Annotated.{AreValuesAfter, IsMoveMark, AreAnnotated, IsAnnotated}
+use Rattle.study_marks.specs.Annotated.{AreValuesAfter, IsMoveMark, AreAnnotated}
 
 -- the game has one value
 pub one-value : EachHasOneValue → (p : Position) (v w : Value) → IsValueOf p v → IsValueOf p w → v ≡ w

@@ -1,5 +1,5 @@
 -- Faults over the rows of a study in written order: a node, all below its first child, then all below its second.
-use Rattle.std.specs.Prelude.{◌≡◌, ℕ, ◌+◌, Bool, true, false, nat_lt, nat_eq, List, [], ◌∷◌, Option, Some, None, zero, suc, if◌then◌else◌}
+use Rattle.std.specs.Prelude.{ℕ, ◌+◌, Bool, true, false, nat_lt, nat_eq, List, [], ◌∷◌, Option, Some, None, zero, suc, if◌then◌else◌}
 use Rattle.study_tree.specs.Rows.{Row}
 use Rattle.study_marks.specs.declared.mark.Mark.{Mark}
 use Rattle.study_marks.specs.declared.mark.MoveMark.{MoveMark}

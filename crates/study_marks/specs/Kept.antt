@@ -1,15 +1,11 @@
 -- What a bench keeps at each node, and what a contract sees of a bench.
-use Rattle.std.specs.Prelude.{◌≡◌, ℕ, ◌+◌, ◌<◌, ◌≤◌, Bool, true, false, nat_le, List, [], ◌∷◌, length, Option, Some, None, refl, if◌then◌else◌}
+use Rattle.std.specs.Prelude.{◌≡◌, ℕ, ◌+◌, Bool, true, nat_le, List, length, Option, Some, None, if◌then◌else◌}
 use Rattle.std.specs.List.{count_by, All}
-use Rattle.std.specs.Coded.{Coded, code_by, coded×, coded_ℕ, coded_list, coded_option}
 use Rattle.study_board.specs.Position.{Position, IsValid}
-use Rattle.study_moves.specs.declared.moves.Move.{Move}
 use Rattle.study_moves.specs.Rules.{after}
 use Rattle.study_retro.specs.declared.value.Value.{Value}
-use Rattle.study_retro.specs.declared.value.Value.TheVariants as values
-use Rattle.study_retro.specs.Game.{IsValueOf}
 use Rattle.study_moves.specs.LegalList.{legal_list}
-use Rattle.study_tree.specs.Forest.{Forest, none, more, nodes_in}
+use Rattle.study_tree.specs.Forest.{Forest, none, more}
 use Rattle.study_tree.specs.Tree.{Plain}
 use Rattle.study_marks.specs.declared.stipulation.Goal.{Goal}
 use Rattle.study_marks.specs.declared.stipulation.Goal.TheVariants.{Win, Draw, MateIn}
@@ -18,9 +14,9 @@ use Rattle.study_marks.specs.declared.mark.Mark.{Mark}
 use Rattle.study_marks.specs.declared.label.Label.{Label}
 use Rattle.study_marks.specs.declared.label.Told.{Told}
 use Rattle.study_marks.specs.Tally.{Tally, tally_of}
-use Rattle.study_marks.specs.Study.{Study, mapped, mapped_tree, mapped_study, IsPlayable, AreDistinct, IsWithin}
+use Rattle.study_marks.specs.Study.{Study, IsPlayable, AreDistinct, IsWithin}
 use Rattle.study_marks.specs.declared.marking.Aim.{Aim}
-use Rattle.study_marks.specs.Goals.{aim_of, hero_moves, holds, mates_by, plies_of}
+use Rattle.study_marks.specs.Goals.{aim_of, hero_moves, holds, plies_of}
 use Rattle.study_marks.specs.Marks.{mark_of, own_faults}
 use Rattle.study_marks.specs.Annotated.{AreValuesAfter, IsAnnotated}
 use Rattle.study_marks.specs.Edits.{is_tag_text}

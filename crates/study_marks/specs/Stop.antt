@@ -1,5 +1,5 @@
 -- A list of edits: what each accepted one asks, finds and writes, and where the list stops.
-use Rattle.std.specs.Prelude.{◌≡◌, ℕ, ◌+◌, ◌⊎◌, Bool, true, false, List, [], ◌∷◌, length, take, zero, suc, MatchOption, Option, None, Result, Ok, Err, IfErr, OnOk, OnErr, if◌then◌else◌}
+use Rattle.std.specs.Prelude.{◌≡◌, ℕ, ◌+◌, ◌⊎◌, Bool, List, [], ◌∷◌, length, take, zero, suc, MatchOption, Option, None, Result, Ok, Err, IfErr, OnOk, OnErr, if◌then◌else◌}
 use Rattle.study_board.specs.Position.{Position}
 use Rattle.study_moves.specs.Rules.{after}
 use Rattle.study_material.specs.declared.class.Class.{Class}
@@ -9,7 +9,7 @@ use Rattle.study_marks.specs.declared.fault.Refusal.TheVariants.{OutOfMemory}
 use Rattle.study_marks.specs.declared.edit.Edit.{Edit}
 use Rattle.study_marks.specs.declared.edit.Edit.TheVariants as edits
 use Rattle.study_marks.specs.declared.edit.Stopped.{Stopped}
-use Rattle.study_marks.specs.Study.{Study, plain_study, position_at}
+use Rattle.study_marks.specs.Study.{plain_study, position_at}
 use Rattle.study_marks.specs.Asked.{asked_at, asked_of, AllHeld, IsOutside, HasAsked, HasStopped, is_of_tables, is_of_device, counted_times, failures_after}
 use Rattle.study_marks.specs.Edits.{Plainly, shifted, edited, edit_refusal, insert_refusal, delete_refusal, promote_refusal, shift_refusal, tag_refusal}
 use Rattle.study_marks.specs.Kept.{Kept, marked, IsRight}

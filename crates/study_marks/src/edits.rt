@@ -18,13 +18,13 @@ use crate::bench::Bench;
 use crate::edit::{Edit, Stopped};
 use crate::fault::Refusal;
 use crate::find::find_child;
+use crate::gather::gather;
 use crate::label::Label;
 use crate::marking::aim_of;
 use crate::stipulation::Stipulation;
 use crate::tag::{TagName, place_of};
 use crate::treework::{add_and_renew, raise_and_renew, remove_and_renew};
 use crate::walk::position_at as node_position;
-use crate::gather::gather;
 use crate::whole::{find_broken, write_all};
 use arrayvec::{ArrayString, ArrayVec};
 use std::alloc::Allocator;
@@ -290,11 +290,7 @@ impl<'a, A: Allocator> Bench<'a, A> {
     }
 
     /// One edit.
-    fn apply<V: Values>(
-        &mut self,
-        edit: &Edit<'a, A>,
-        values: &mut V,
-    ) -> Result<(), Refusal<'a, A>>
+    fn apply<V: Values>(&mut self, edit: &Edit<'a, A>, values: &mut V) -> Result<(), Refusal<'a, A>>
         ensures { IsApplied (V.held values.old) (V.held values.new) (V.is_honest values.old) (V.is_honest values.new) (V.asked_of values.old) (V.asked_of values.new) (V.failed_of values.old) (V.failed_of values.new) self.old self.new edit.now result }
     {
         match edit {

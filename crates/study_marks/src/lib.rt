@@ -20,18 +20,16 @@ mod renew;
 mod stipulation;
 mod tag;
 mod tally;
-mod treework;
 #[cfg(test)]
 mod tests;
+mod treework;
 mod walk;
 mod whole;
 
 pub use bench::{Bench, Shown};
 pub use edit::{Edit, Stopped};
 pub use fault::Refusal;
-pub use laws::{
-    annotations_are_unique, duals_count_other_moves, edits_in_rows, faults_in_rows,
-};
+pub use laws::{annotations_are_unique, duals_count_other_moves, edits_in_rows, faults_in_rows};
 pub use mark::{Mark, MoveMark};
 pub use stipulation::{Goal, MateMoves, Stipulation};
 pub use tag::TagName;

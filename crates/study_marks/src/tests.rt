@@ -18,7 +18,11 @@ use study_retro::{BuildRoom, TableSet, Value, build};
 use study_tree::Path;
 
 /// The values of these classes, built in order.
-fn tables<'a, A: Allocator>(rt: &impl Abort, alloc: &'a A, classes: &[Class]) -> WholeTables<'a, A> {
+fn tables<'a, A: Allocator>(
+    rt: &impl Abort,
+    alloc: &'a A,
+    classes: &[Class],
+) -> WholeTables<'a, A> {
     let mut set = TableSet::new(alloc).ok().expect(rt, "a set");
     for class in classes {
         let room = BuildRoom::new(alloc, cells(*class)).ok().expect(rt, "room");
@@ -63,15 +67,27 @@ fn moved(origin: u8, target: u8) -> Move {
     }
 }
 
-fn mark<'a, A: Allocator>(rt: &impl Abort, alloc: &'a A, bench: &Bench<'a, A>, steps: &[u16]) -> Mark {
+fn mark<'a, A: Allocator>(
+    rt: &impl Abort,
+    alloc: &'a A,
+    bench: &Bench<'a, A>,
+    steps: &[u16],
+) -> Mark {
     bench.mark(&path(rt, alloc, steps)).expect(rt, "a node")
 }
 
 fn told(value: Value, on_move: Option<MoveMark>, faults: u32) -> Mark {
-    Mark { value, on_move, faults }
+    Mark {
+        value,
+        on_move,
+        faults,
+    }
 }
 
-const WHITE_WINS: Stipulation = Stipulation { hero: Side::White, goal: Goal::Win };
+const WHITE_WINS: Stipulation = Stipulation {
+    hero: Side::White,
+    goal: Goal::Win,
+};
 
 /// A win in one that has 22 moves; a stalemate; the two exchanged, and one deleted.
 #[test]
@@ -79,24 +95,47 @@ fn a_dual_and_a_mistake(rt: HostRuntime) {
     let alloc = rt.alloc();
     let mut values = tables(&rt, &alloc, [Class::KK, Class::KQK].as_slice());
     let first = start(&rt, "k7/8/1K6/8/8/8/8/6Q1 w - - 0 1");
-    let mut bench = Bench::new(&alloc, first, WHITE_WINS, &mut values).ok().expect(&rt, "a bench");
+    let mut bench = Bench::new(&alloc, first, WHITE_WINS, &mut values)
+        .ok()
+        .expect(&rt, "a bench");
     assert_eq!(rt; bench.relabelled(), 1);
     let asked = values.asked().saturating_add(2);
     assert!(rt; insert(&rt, &alloc, &mut bench, &[], "Qg8", &mut values).ok() == Some(0));
     assert!(rt; insert(&rt, &alloc, &mut bench, &[], "Qh2", &mut values).ok() == Some(1));
     assert_eq!(rt; (bench.relabelled(), values.asked()), (5, asked));
-    assert_eq!(rt; mark(&rt, &alloc, &bench, &[]), told(Value::Win(1), None, 1));
-    assert_eq!(rt; mark(&rt, &alloc, &bench, &[0]), told(Value::Loss(0), Some(MoveMark::Dual(21)), 1));
-    assert_eq!(rt; mark(&rt, &alloc, &bench, &[1]), told(Value::Draw, Some(MoveMark::Mistake), 1));
+    assert_eq!(rt;
+        mark(&rt, &alloc, &bench, &[]),
+        told(Value::Win(1), None, 1)
+    );
+    assert_eq!(rt;
+        mark(&rt, &alloc, &bench, &[0]),
+        told(Value::Loss(0), Some(MoveMark::Dual(21)), 1)
+    );
+    assert_eq!(rt;
+        mark(&rt, &alloc, &bench, &[1]),
+        told(Value::Draw, Some(MoveMark::Mistake), 1)
+    );
     assert!(rt; bench.promote(&path(&rt, &alloc, &[1])).is_ok());
-    assert_eq!(rt; mark(&rt, &alloc, &bench, &[]), told(Value::Win(1), None, 1));
+    assert_eq!(rt;
+        mark(&rt, &alloc, &bench, &[]),
+        told(Value::Win(1), None, 1)
+    );
     assert_eq!(rt; bench.relabelled(), 6);
     assert!(rt; bench.delete(&path(&rt, &alloc, &[1])).is_ok());
     assert_eq!(rt; (bench.relabelled(), values.asked()), (7, asked));
-    assert_eq!(rt; mark(&rt, &alloc, &bench, &[]), told(Value::Win(1), None, 1));
-    let draw = Stipulation { hero: Side::White, goal: Goal::Draw };
+    assert_eq!(rt;
+        mark(&rt, &alloc, &bench, &[]),
+        told(Value::Win(1), None, 1)
+    );
+    let draw = Stipulation {
+        hero: Side::White,
+        goal: Goal::Draw,
+    };
     bench.set_stipulation(draw);
-    assert_eq!(rt; mark(&rt, &alloc, &bench, &[0]), told(Value::Draw, Some(MoveMark::Dual(24)), 1));
+    assert_eq!(rt;
+        mark(&rt, &alloc, &bench, &[0]),
+        told(Value::Draw, Some(MoveMark::Dual(24)), 1)
+    );
     assert_eq!(rt; bench.relabelled(), 9);
 }
 
@@ -106,10 +145,18 @@ fn shifts_and_failures(rt: HostRuntime) {
     let alloc = rt.alloc();
     let mut values = tables(&rt, &alloc, [Class::KK, Class::KRK].as_slice());
     let first = start(&rt, "8/8/8/8/8/8/1R1K4/k7 b - - 0 1");
-    let draws = Stipulation { hero: Side::Black, goal: Goal::Draw };
-    let mut bench = Bench::new(&alloc, first, draws, &mut values).ok().expect(&rt, "a bench");
+    let draws = Stipulation {
+        hero: Side::Black,
+        goal: Goal::Draw,
+    };
+    let mut bench = Bench::new(&alloc, first, draws, &mut values)
+        .ok()
+        .expect(&rt, "a bench");
     assert!(rt; insert(&rt, &alloc, &mut bench, &[], "Kb2", &mut values).ok() == Some(0));
-    assert_eq!(rt; mark(&rt, &alloc, &bench, &[0]), told(Value::Draw, Some(MoveMark::Only), 0));
+    assert_eq!(rt;
+        mark(&rt, &alloc, &bench, &[0]),
+        told(Value::Draw, Some(MoveMark::Only), 0)
+    );
     assert_eq!(rt; mark(&rt, &alloc, &bench, &[]), told(Value::Draw, None, 0));
 
     bench.set_stipulation(WHITE_WINS);
@@ -117,20 +164,34 @@ fn shifts_and_failures(rt: HostRuntime) {
     assert!(rt; bench.set_position(first, &mut values).is_ok());
     assert_eq!(rt; (bench.size(), bench.relabelled()), (1, 1));
     let mut failing = FailingValues::new(values, 1);
-    assert!(rt; matches!(insert(&rt, &alloc, &mut bench, &[], "Kc5", &mut failing), Err(Refusal::TableRead(_))));
+    assert!(rt;
+        matches!(
+            insert(&rt, &alloc, &mut bench, &[], "Kc5", &mut failing),
+            Err(Refusal::TableRead(_))
+        )
+    );
     assert_eq!(rt; (bench.size(), bench.relabelled()), (1, 1));
     assert!(rt; insert(&rt, &alloc, &mut bench, &[], "Rh8", &mut failing).ok() == Some(0));
-    assert_eq!(rt; mark(&rt, &alloc, &bench, &[0]), told(Value::Loss(0), Some(MoveMark::Dual(19)), 1));
+    assert_eq!(rt;
+        mark(&rt, &alloc, &bench, &[0]),
+        told(Value::Loss(0), Some(MoveMark::Dual(19)), 1)
+    );
     let next = start(&rt, "k7/8/K7/8/8/8/8/7R w - - 0 1");
     assert!(rt; bench.shift_position(next, &mut failing).is_ok());
-    assert_eq!(rt; mark(&rt, &alloc, &bench, &[0]), told(Value::Loss(0), Some(MoveMark::Dual(15)), 1));
+    assert_eq!(rt;
+        mark(&rt, &alloc, &bench, &[0]),
+        told(Value::Loss(0), Some(MoveMark::Dual(15)), 1)
+    );
     assert_eq!(rt; bench.relabelled(), 5);
     let broken = start(&rt, "k7/8/K7/8/8/8/8/6R1 w - - 0 1");
     match bench.shift_position(broken, &mut failing) {
         Err(Refusal::ShiftBroken(at)) => assert_eq!(rt; at.steps(), &[0u16][..]),
         _ => panic!(rt; "not refused"),
     }
-    assert_eq!(rt; mark(&rt, &alloc, &bench, &[0]), told(Value::Loss(0), Some(MoveMark::Dual(15)), 1));
+    assert_eq!(rt;
+        mark(&rt, &alloc, &bench, &[0]),
+        told(Value::Loss(0), Some(MoveMark::Dual(15)), 1)
+    );
 }
 
 /// A pawn at the edge: both king's moves draw.
@@ -140,12 +201,23 @@ fn two_draws(rt: HostRuntime) {
     let alloc = rt.alloc();
     let mut values = tables(&rt, &alloc, [KK, KQK, KRK, KBK, KNK, KPK].as_slice());
     let first = start(&rt, "k7/8/K7/P7/8/8/8/8 w - - 0 1");
-    let draws = Stipulation { hero: Side::White, goal: Goal::Draw };
-    let mut bench = Bench::new(&alloc, first, draws, &mut values).ok().expect(&rt, "a bench");
+    let draws = Stipulation {
+        hero: Side::White,
+        goal: Goal::Draw,
+    };
+    let mut bench = Bench::new(&alloc, first, draws, &mut values)
+        .ok()
+        .expect(&rt, "a bench");
     assert!(rt; insert(&rt, &alloc, &mut bench, &[], "Kb5", &mut values).ok() == Some(0));
     assert!(rt; insert(&rt, &alloc, &mut bench, &[], "Kb6", &mut values).ok() == Some(1));
-    assert_eq!(rt; mark(&rt, &alloc, &bench, &[0]), told(Value::Draw, Some(MoveMark::Dual(1)), 1));
-    assert_eq!(rt; mark(&rt, &alloc, &bench, &[1]), told(Value::Draw, Some(MoveMark::Dual(1)), 1));
+    assert_eq!(rt;
+        mark(&rt, &alloc, &bench, &[0]),
+        told(Value::Draw, Some(MoveMark::Dual(1)), 1)
+    );
+    assert_eq!(rt;
+        mark(&rt, &alloc, &bench, &[1]),
+        told(Value::Draw, Some(MoveMark::Dual(1)), 1)
+    );
     assert_eq!(rt; mark(&rt, &alloc, &bench, &[]), told(Value::Draw, None, 1));
 }
 
@@ -156,17 +228,37 @@ fn mate_in_one(rt: HostRuntime) {
     let mut values = tables(&rt, &alloc, [Class::KK, Class::KRK].as_slice());
     let first = start(&rt, "k7/8/1K6/8/8/8/8/7R b - - 0 1");
     let one = MateMoves::new(1).expect(&rt, "one");
-    let mates = Stipulation { hero: Side::White, goal: Goal::MateIn(one) };
-    let mut bench = Bench::new(&alloc, first, mates, &mut values).ok().expect(&rt, "a bench");
+    let mates = Stipulation {
+        hero: Side::White,
+        goal: Goal::MateIn(one),
+    };
+    let mut bench = Bench::new(&alloc, first, mates, &mut values)
+        .ok()
+        .expect(&rt, "a bench");
     assert!(rt; insert(&rt, &alloc, &mut bench, &[], "Kb8", &mut values).ok() == Some(0));
     assert!(rt; insert(&rt, &alloc, &mut bench, &[0], "Rh8", &mut values).ok() == Some(0));
-    assert_eq!(rt; mark(&rt, &alloc, &bench, &[0]), told(Value::Win(1), Some(MoveMark::Reply), 0));
-    assert_eq!(rt; mark(&rt, &alloc, &bench, &[0, 0]), told(Value::Loss(0), Some(MoveMark::Only), 0));
-    assert_eq!(rt; mark(&rt, &alloc, &bench, &[]), told(Value::Loss(2), None, 0));
+    assert_eq!(rt;
+        mark(&rt, &alloc, &bench, &[0]),
+        told(Value::Win(1), Some(MoveMark::Reply), 0)
+    );
+    assert_eq!(rt;
+        mark(&rt, &alloc, &bench, &[0, 0]),
+        told(Value::Loss(0), Some(MoveMark::Only), 0)
+    );
+    assert_eq!(rt;
+        mark(&rt, &alloc, &bench, &[]),
+        told(Value::Loss(2), None, 0)
+    );
     let asked = values.asked();
     bench.set_stipulation(WHITE_WINS);
-    assert_eq!(rt; mark(&rt, &alloc, &bench, &[0, 0]), told(Value::Loss(0), Some(MoveMark::Dual(18)), 1));
-    assert_eq!(rt; mark(&rt, &alloc, &bench, &[0]), told(Value::Win(1), Some(MoveMark::Reply), 1));
+    assert_eq!(rt;
+        mark(&rt, &alloc, &bench, &[0, 0]),
+        told(Value::Loss(0), Some(MoveMark::Dual(18)), 1)
+    );
+    assert_eq!(rt;
+        mark(&rt, &alloc, &bench, &[0]),
+        told(Value::Win(1), Some(MoveMark::Reply), 1)
+    );
     assert_eq!(rt; values.asked(), asked);
 }
 
@@ -177,19 +269,39 @@ fn mate_in_two(rt: HostRuntime) {
     let mut values = tables(&rt, &alloc, [Class::KK, Class::KRK].as_slice());
     let first = start(&rt, "k7/8/2K5/8/8/8/8/7R w - - 0 1");
     let two = MateMoves::new(2).expect(&rt, "two");
-    let mates = Stipulation { hero: Side::White, goal: Goal::MateIn(two) };
-    let mut bench = Bench::new(&alloc, first, mates, &mut values).ok().expect(&rt, "a bench");
+    let mates = Stipulation {
+        hero: Side::White,
+        goal: Goal::MateIn(two),
+    };
+    let mut bench = Bench::new(&alloc, first, mates, &mut values)
+        .ok()
+        .expect(&rt, "a bench");
     assert!(rt; insert(&rt, &alloc, &mut bench, &[], "Kb6", &mut values).ok() == Some(0));
     assert!(rt; insert(&rt, &alloc, &mut bench, &[0], "Kb8", &mut values).ok() == Some(0));
     assert!(rt; insert(&rt, &alloc, &mut bench, &[0, 0], "Rh8", &mut values).ok() == Some(0));
-    assert_eq!(rt; mark(&rt, &alloc, &bench, &[]), told(Value::Win(3), None, 1));
-    assert_eq!(rt; mark(&rt, &alloc, &bench, &[0]), told(Value::Loss(2), Some(MoveMark::Dual(1)), 1));
-    assert_eq!(rt; mark(&rt, &alloc, &bench, &[0, 0]), told(Value::Win(1), Some(MoveMark::Reply), 0));
-    assert_eq!(rt; mark(&rt, &alloc, &bench, &[0, 0, 0]), told(Value::Loss(0), Some(MoveMark::Only), 0));
+    assert_eq!(rt;
+        mark(&rt, &alloc, &bench, &[]),
+        told(Value::Win(3), None, 1)
+    );
+    assert_eq!(rt;
+        mark(&rt, &alloc, &bench, &[0]),
+        told(Value::Loss(2), Some(MoveMark::Dual(1)), 1)
+    );
+    assert_eq!(rt;
+        mark(&rt, &alloc, &bench, &[0, 0]),
+        told(Value::Win(1), Some(MoveMark::Reply), 0)
+    );
+    assert_eq!(rt;
+        mark(&rt, &alloc, &bench, &[0, 0, 0]),
+        told(Value::Loss(0), Some(MoveMark::Only), 0)
+    );
     let asked = values.asked();
     assert_eq!(rt; bench.relabelled(), 10);
     bench.set_stipulation(WHITE_WINS);
-    assert_eq!(rt; mark(&rt, &alloc, &bench, &[0, 0, 0]).on_move.is_some(), true);
+    assert_eq!(rt;
+        mark(&rt, &alloc, &bench, &[0, 0, 0]).on_move.is_some(),
+        true
+    );
     assert_eq!(rt; (bench.relabelled(), values.asked()), (14, asked));
 }
 
@@ -199,27 +311,69 @@ fn refusals(rt: HostRuntime) {
     let alloc = rt.alloc();
     let mut values = tables(&rt, &alloc, [Class::KK, Class::KQK].as_slice());
     let first = start(&rt, "k7/8/1K6/8/8/8/8/6Q1 w - - 0 1");
-    let mut bench = Bench::new(&alloc, first, WHITE_WINS, &mut values).ok().expect(&rt, "a bench");
+    let mut bench = Bench::new(&alloc, first, WHITE_WINS, &mut values)
+        .ok()
+        .expect(&rt, "a bench");
     let square = |n: u8| Square::new(n).expect(&rt, "a square");
-    let to = |n: u8| Move { origin: square(6), target: square(n), promoted: None::<Kind> };
+    let to = |n: u8| Move {
+        origin: square(6),
+        target: square(n),
+        promoted: None::<Kind>,
+    };
     let root = || Path::root(&alloc);
-    let edits = [Edit::Insert(root(), to(62)), Edit::Insert(root(), to(15)), Edit::Insert(root(), to(62))];
+    let edits = [
+        Edit::Insert(root(), to(62)),
+        Edit::Insert(root(), to(15)),
+        Edit::Insert(root(), to(62)),
+    ];
     match bench.apply_all(edits.as_slice(), &mut values) {
-        Err(stopped) => assert!(rt; stopped.done == 2 && matches!(stopped.refusal, Refusal::AlreadyThere(0))),
+        Err(stopped) => assert!(rt;
+            stopped.done == 2 && matches!(stopped.refusal, Refusal::AlreadyThere(0))
+        ),
         Ok(()) => panic!(rt; "not stopped"),
     }
-    assert_eq!(rt; mark(&rt, &alloc, &bench, &[]), told(Value::Win(1), None, 1));
+    assert_eq!(rt;
+        mark(&rt, &alloc, &bench, &[]),
+        told(Value::Win(1), None, 1)
+    );
     assert!(rt; matches!(bench.delete(&root()), Err(Refusal::RootNotAllowed)));
-    assert!(rt; matches!(bench.promote(&path(&rt, &alloc, &[0])), Err(Refusal::AlreadyFirst)));
-    assert!(rt; matches!(bench.delete(&path(&rt, &alloc, &[0, 0])), Err(Refusal::NoSuchNode)));
-    assert!(rt; matches!(bench.insert(&root(), to(7 + 8), &mut values), Err(Refusal::AlreadyThere(1))));
-    assert!(rt; matches!(bench.insert(&root(), to(49), &mut values), Err(Refusal::IllegalMove)));
-    assert!(rt; bench.set_tag(TagName::Event, "A \"quoted\" \\ study").is_ok());
+    assert!(rt;
+        matches!(
+            bench.promote(&path(&rt, &alloc, &[0])),
+            Err(Refusal::AlreadyFirst)
+        )
+    );
+    assert!(rt;
+        matches!(
+            bench.delete(&path(&rt, &alloc, &[0, 0])),
+            Err(Refusal::NoSuchNode)
+        )
+    );
+    assert!(rt;
+        matches!(
+            bench.insert(&root(), to(7 + 8), &mut values),
+            Err(Refusal::AlreadyThere(1))
+        )
+    );
+    assert!(rt;
+        matches!(
+            bench.insert(&root(), to(49), &mut values),
+            Err(Refusal::IllegalMove)
+        )
+    );
+    assert!(rt;
+        bench
+            .set_tag(TagName::Event, "A \"quoted\" \\ study")
+            .is_ok()
+    );
     assert!(rt; bench.tag(TagName::Event) == Some("A \"quoted\" \\ study"));
     assert!(rt; bench.tag(TagName::Site).is_none());
     assert!(rt; matches!(bench.set_tag(TagName::Site, ""), Err(Refusal::TagText)));
     assert!(rt; bench.reannotate(&mut values).is_ok());
-    assert_eq!(rt; mark(&rt, &alloc, &bench, &[0]), told(Value::Loss(0), Some(MoveMark::Dual(21)), 1));
+    assert_eq!(rt;
+        mark(&rt, &alloc, &bench, &[0]),
+        told(Value::Loss(0), Some(MoveMark::Dual(21)), 1)
+    );
 }
 
 /// A line of 256 moves, and no more.
@@ -228,8 +382,13 @@ fn a_deep_line(rt: HostRuntime) {
     let alloc: Global = rt.alloc();
     let mut values = tables(&rt, &alloc, [Class::KK].as_slice());
     let first = start(&rt, "k7/8/8/8/8/8/8/K7 w - - 0 1");
-    let draws = Stipulation { hero: Side::White, goal: Goal::Draw };
-    let mut bench = Bench::new(&alloc, first, draws, &mut values).ok().expect(&rt, "a bench");
+    let draws = Stipulation {
+        hero: Side::White,
+        goal: Goal::Draw,
+    };
+    let mut bench = Bench::new(&alloc, first, draws, &mut values)
+        .ok()
+        .expect(&rt, "a bench");
     let mut at = Path::root(&alloc);
     for turn in 0..256usize {
         let (origin, target) = [(0u8, 1u8), (56, 57), (1, 0), (57, 56)][turn % 4];
@@ -238,7 +397,10 @@ fn a_deep_line(rt: HostRuntime) {
             target: Square::new(target).expect(&rt, "a square"),
             promoted: None,
         };
-        assert!(rt; bench.insert(&at, m, &mut values).ok() == Some(0), "turn {turn}");
+        assert!(rt;
+            bench.insert(&at, m, &mut values).ok() == Some(0),
+            "turn {turn}"
+        );
         assert!(rt; at.push(0).is_ok());
     }
     let m = Move {

@@ -1,3 +1,4 @@
+mod Examples
 pub mod Printable
 pub mod Ended
 pub mod Taken
@@ -12,6 +13,8 @@ pub mod Boards
 pub mod Unmarked
 pub mod Inserted
 pub mod Carried
+pub mod LinesAgain
+pub mod OneReply
 pub mod HeldTables
 pub mod ClassReplies
 pub mod PagedReplies

@@ -10,4 +10,5 @@ pub mod Held
 pub mod Memory
 pub mod Told
 pub mod Desk
+pub mod Laws
 pub mod Outcome

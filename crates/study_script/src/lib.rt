@@ -1,24 +1,28 @@
 //! Scripts: what a line asks for, its reply, and what is held behind it.
+//!
+//! `run` answers a whole script, line by line, over a store of tables; `StudyDesk` answers one line, and `run_in` the lines of a
+//! script by any desk. What is replied is said in specs/Replies.antt, over a state that holds a study without marks.
 #![tactic(auto)]
 
-pub mod answer;
-pub mod asking;
+mod answer;
+mod asking;
 pub mod board;
-pub mod classes;
-pub mod command;
+mod classes;
+mod command;
 pub mod desk;
-pub mod edits;
+mod edits;
+pub mod laws;
 pub mod lines;
 pub mod memory;
-pub mod nodes;
-pub mod path_read;
-pub mod path_written;
-pub mod paths;
-pub mod refusal;
-pub mod reply;
+mod nodes;
+mod path_read;
+mod path_written;
+mod paths;
+mod refusal;
+mod reply;
 pub mod run;
-pub mod starts;
+mod starts;
 pub mod store;
 pub mod tables;
-pub mod told;
-pub mod words;
+mod told;
+mod words;

@@ -72,7 +72,9 @@ impl<'f, 'w, 'a, A: Allocator> MemoryStore<'f, 'w, 'a, A> {
 
 impl<'f, 'w, 'a, A: Allocator> TableStore for MemoryStore<'f, 'w, 'a, A> {
     type Reader = MemoryReader<'f>;
+
     type Writer = SharedWriter<'w, 'a, A>;
+
     type Pages = MemorySource<'f>;
 
     ghost honest = { λ s by_pages. (c : AClass) → IsHonestFile by_pages (file_at s.files c) };

@@ -22,10 +22,7 @@ pub struct Picture {
 }
 
 /// What the node shows: its move, its mark and how many children it has.
-fn node_of<A: Allocator>(
-    bench: &Bench<'_, A>,
-    steps: &[u16],
-) -> Option<(Option<Move>, Mark, u16)> {
+fn node_of<A: Allocator>(bench: &Bench<'_, A>, steps: &[u16]) -> Option<(Option<Move>, Mark, u16)> {
     match bench.shown(steps) {
         None => None,
         Some(shown) => Some((shown.played, shown.mark, shown.children)),
@@ -41,10 +38,7 @@ fn last_place(steps: &[u16]) -> u16 {
 }
 
 /// The nodes of the study in written order.
-pub fn rows_of<A: Allocator>(
-    alloc: Global,
-    bench: &Bench<'_, A>,
-) -> Result<Vec<Row>, AllocError> {
+pub fn rows_of<A: Allocator>(alloc: Global, bench: &Bench<'_, A>) -> Result<Vec<Row>, AllocError> {
     let mut rows = Vec::new(alloc);
     let mut steps: Vec<u16> = Vec::new(alloc);
     let mut next = 0u16;

@@ -58,7 +58,11 @@ fn holds(wanted: &Wanted, depth: usize, hero: bool, value: Value) -> bool {
         Goal::Draw => !mated,
         Goal::MateIn(moves) => {
             let plies = 2 * moves.count() as usize;
-            let last = if wanted.first { plies.saturating_sub(1) } else { plies };
+            let last = if wanted.first {
+                plies.saturating_sub(1)
+            } else {
+                plies
+            };
             match mates {
                 None => false,
                 Some(n) => depth.saturating_add(n as usize) <= last,
@@ -223,7 +227,11 @@ const STARTS: [&str; 5] = [
 ];
 
 fn stipulation_of(rt: &impl Abort, numbers: &mut Numbers) -> Stipulation {
-    let hero = if numbers.below(3) == 0 { Side::Black } else { Side::White };
+    let hero = if numbers.below(3) == 0 {
+        Side::Black
+    } else {
+        Side::White
+    };
     let goal = match numbers.below(4) {
         0 => Goal::Win,
         1 => Goal::Draw,
@@ -291,7 +299,11 @@ fn random_edits(rt: HostRuntime) {
         if result.is_ok() {
             accepted = accepted.saturating_add(1);
         }
-        greatest = if bench.size() > greatest { bench.size() } else { greatest };
+        greatest = if bench.size() > greatest {
+            bench.size()
+        } else {
+            greatest
+        };
         check(&rt, alloc, &bench, &mut values);
     }
     assert!(rt; accepted > 300 && greatest > 30, "{accepted} {greatest}");

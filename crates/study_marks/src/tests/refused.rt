@@ -30,7 +30,10 @@ fn line_move(turn: usize) -> Move {
 /// Moves below the root: ten of the rook, and the two of Black's king below each of the first four.
 fn bush_moves(turn: usize) -> (usize, Move) {
     match turn {
-        0..=9 => (0, moved(39, [38, 37, 36, 35, 34, 33, 32, 31, 23, 15][turn % 10])),
+        0..=9 => (
+            0,
+            moved(39, [38, 37, 36, 35, 34, 33, 32, 31, 23, 15][turn % 10]),
+        ),
         _ => (1 + turn % 4, moved(56, if turn < 14 { 57 } else { 48 })),
     }
 }
@@ -92,7 +95,10 @@ fn inserts_without_memory(rt: HostRuntime) -> Result<(), Fail> {
                 Ok(_) => assert!(rt; values.asked() > asked),
                 Err(refusal) => {
                     assert!(rt; is_memory(&refusal), "{turn}");
-                    assert!(rt; is_same(&rt, alloc, &bench, &was) && values.asked() == asked, "{turn}");
+                    assert!(rt;
+                        is_same(&rt, alloc, &bench, &was) && values.asked() == asked,
+                        "{turn}"
+                    );
                     refused = refused.saturating_add(1);
                     whole = false;
                     break;

@@ -1,12 +1,11 @@
-use Rattle.std.proofs.Common.{◌≡◌, ℕ, ◌+◌, ◌≤◌, ◌<◌, ◌∷◌, [], ◌++◌, List, length, sym, ap, ◌∙◌, arith, subst}
+use Rattle.std.proofs.Common.{ℕ, ◌<◌, ◌∷◌, [], ◌++◌, List, length, sym, ap, ◌∙◌, arith, subst}
 use Rattle.std.specs.Prelude.{IsSome}
 use Rattle.study_moves.specs.Rules.{after}
 use Rattle.study_tree.specs.Tree.{plain_tree, spot_at}
 use Rattle.study_marks.specs.Bench.{played_by}
-use Rattle.study_marks.specs.Renewal.{below_at}
 use Rattle.study_marks.proofs.Refreshing.{back, length-further, left-over, none-over, room-left}
 use Rattle.study_marks.proofs.Breaking.{child-move, at-path, found-child}
-use Rattle.study_marks.proofs.Gathers.{legal-child, listed-none, listed-next, listed-all, playable-at}
+use Rattle.study_marks.proofs.Gathers.{legal-child, listed-next, listed-all, playable-at}
 use Rattle.study_marks.proofs.gather.+list_below.Goals as goal
 
 pub push-requires : goal.push-requires
@@ -46,12 +45,19 @@ list_below-requires g t c κs within =
     let left = left-over t0 ks c.as_slice.result.now c.children_of-count.result k c.loop-place-test.true c.children_of-count.ensures c.as_slice.ensures.value in
     let path = c.push.ensures.items ∙ ap (λ (xs : List ℕ). xs ++ k ∷ []) c.loop-place.invariant.1 in
     let e1 = at-path t0 c.as_slice-in-loop-place.result.now (ks ++ k ∷ []) c.move_of-m.result (c.as_slice-in-loop-place.ensures.value ∙ path) c.move_of-m.ensures in
-    let legal = legal-child c.args.position.now t0 ks k c.move_of-m.result left e1 c.requires.playable in
-    (omega (arith, room-left t0 ks k c.requires.shallow c.requires.found left, ap (λ (xs : List ℕ). length xs) path, length-further ks k, c.decreases),
-    (within,
-    (found-child t0 ks c.push.new.self.items k path c.requires.found left,
-    (c.requires.shallow,
-    playable-at c.played-next.result (after c.args.position.now c.move_of-m.result) t0 c.push.new.self.items (ks ++ k ∷ []) c.played-next.ensures.value path legal.1))))
+    let legal = legal-child c.args.position.now t0 ks k c.move_of-m.result left e1 c.requires.playable in (
+      omega (arith, room-left t0 ks k c.requires.shallow c.requires.found left, ap (λ (xs : List ℕ). length xs) path, length-further ks k, c.decreases),
+      (
+        within,
+        (
+          found-child t0 ks c.push.new.self.items k path c.requires.found left,
+          (
+            c.requires.shallow,
+            playable-at c.played-next.result (after c.args.position.now c.move_of-m.result) t0 c.push.new.self.items (ks ++ k ∷ []) c.played-next.ensures.value path legal.1,
+          ),
+        ),
+      ),
+    )
 
 pub loop-place-preserved : goal.loop-place-preserved
 loop-place-preserved g t c =
@@ -61,10 +67,12 @@ loop-place-preserved g t c =
     let left = left-over t0 ks c.as_slice.result.now c.children_of-count.result k c.loop-place-test.true c.children_of-count.ensures c.as_slice.ensures.value in
     let path = c.push.ensures.items ∙ ap (λ (xs : List ℕ). xs ++ k ∷ []) c.loop-place.invariant.1 in
     let e1 = at-path t0 c.as_slice-in-loop-place.result.now (ks ++ k ∷ []) c.move_of-m.result (c.as_slice-in-loop-place.ensures.value ∙ path) c.move_of-m.ensures in
-    let legal = legal-child c.args.position.now t0 ks k c.move_of-m.result left e1 c.requires.playable in
-    (listed-next c.args.position.now t0 ks k c.move_of-m.result c.played-next.result c.push.new.self.items c.args.all.now.items c.loop-place.all.items c.push_position.new.all.items c.list_below.new.all.items
-      left e1 c.played-next.ensures.value path c.loop-place.invariant.0 c.in_ok-push_position.ensures c.in_ok-list_below.ensures.listed,
-    c.pop-place.ensures.rest ∙ back ks c.list_below.new.steps.items k (c.in_ok-list_below.ensures.steps ∙ path), omega (arith, c.loop-place-test.true))
+    let legal = legal-child c.args.position.now t0 ks k c.move_of-m.result left e1 c.requires.playable in (
+      listed-next c.args.position.now t0 ks k c.move_of-m.result c.played-next.result c.push.new.self.items c.args.all.now.items c.loop-place.all.items c.push_position.new.all.items c.list_below.new.all.items
+          left e1 c.played-next.ensures.value path c.loop-place.invariant.0 c.in_ok-push_position.ensures c.in_ok-list_below.ensures.listed,
+      c.pop-place.ensures.rest ∙ back ks c.list_below.new.steps.items k (c.in_ok-list_below.ensures.steps ∙ path),
+      omega (arith, c.loop-place-test.true),
+    )
 
 pub returns-clause-listed : goal.returns-clause-listed
 returns-clause-listed g t c =

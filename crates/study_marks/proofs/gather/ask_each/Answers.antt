@@ -1,6 +1,6 @@
-use Rattle.std.proofs.Common.{◌≡◌, ◌+◌, ◌≤◌, ◌++◌, ◌∷◌, [], List, length, take, sym, subst, arith}
+use Rattle.std.proofs.Common.{List, length, sym, subst, arith}
 use Rattle.study_board.specs.Position.{Position}
-use Rattle.study_marks.specs.Told.{IsUntold, WasAsked}
+use Rattle.study_marks.specs.Told.{IsUntold}
 use Rattle.study_marks.specs.Whole.{asked_each}
 use Rattle.study_marks.proofs.Gathers.{IsAsked, asked-next, take-one, untold-at, asked-at, same-fault, fault-asked}
 use Rattle.study_marks.proofs.gather.ask_each.Goals as goal

@@ -1,10 +1,9 @@
-use Rattle.std.proofs.Common.{◌≡◌, ℕ, ◌++◌, [], List, length, false, sym, ap, ◌∙◌, subst}
+use Rattle.std.proofs.Common.{◌++◌, List, length, false, ap, ◌∙◌, subst}
 use Rattle.study_board.specs.Position.{Position}
 use Rattle.study_tree.specs.Tree.{plain_tree}
 use Rattle.study_marks.specs.declared.label.Told.{Told}
 use Rattle.study_marks.specs.Asked.{asked_at, asked_below, AreHeld, counted_times}
 use Rattle.study_marks.specs.Told.{IsUntold, WasAsked}
-use Rattle.study_marks.specs.Whole.{AreToldOf}
 use Rattle.study_marks.proofs.Inserts.{outside-answer, asked-answer}
 use Rattle.study_marks.proofs.Gathers.{asked-tree, told-everywhere}
 use Rattle.study_marks.proofs.gather.gather.Goals as goal

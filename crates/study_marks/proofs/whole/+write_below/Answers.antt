@@ -1,13 +1,5 @@
-use Rattle.std.proofs.Common.{◌≡◌, ℕ, ◌+◌, ◌≤◌, ◌<◌, ◌∷◌, [], ◌++◌, List, length, IsTrue, refl, sym, ap, ◌∙◌, arith, subst}
-use Rattle.study_tree.specs.Edits.{below_edited}
-use Rattle.study_tree.specs.Forest.{nodes_in}
-use Rattle.study_tree.specs.Tree.{Spot, Plain, plain_tree, has_spot, spot_at, with_label}
-use Rattle.study_marks.specs.declared.label.Label.{Label}
-use Rattle.study_marks.specs.Asked.{counted_times}
-use Rattle.study_marks.specs.Goals.{hero_moves}
-use Rattle.study_marks.specs.Kept.{faults_below}
-use Rattle.study_marks.specs.Renewal.{below_at}
-use Rattle.study_marks.specs.Whole.{refreshed}
+use Rattle.std.proofs.Common.{ℕ, ◌+◌, ◌≤◌, ◌<◌, ◌∷◌, [], ◌++◌, List, length, IsTrue, refl, sym, ap, ◌∙◌, arith, subst}
+use Rattle.study_tree.specs.Tree.{plain_tree, has_spot}
 use Rattle.study_marks.proofs.Refreshing.{Task, done-none, done-found, done-within, done-few, done-tree, done-sum, done-count, done-number, done-step, room-next, back, length-further, left-over, none-over, room-left, found-between}
 use Rattle.study_marks.proofs.whole.+write_below.Goals as goal
 
@@ -44,12 +36,19 @@ write_below-below-requires g t c κs within =
     let j : Task = record { all = c.args.all.now; aim = c.args.aim.now; number = c.args.number; told = c.args.told.now; path = c.args.steps.now.items; was = plain_tree c.args.tree.now; old = c.args.tree.now.relabelled } in
     let left = left-over j.was j.path c.as_slice.result.now c.children_of-count.result c.loop-place.place c.loop-place-test.true c.children_of-count.ensures c.as_slice.ensures.value in
     let path = c.push.ensures.items ∙ ap (λ (xs : List ℕ). xs ++ c.loop-place.place ∷ []) c.loop-place.invariant.1 in
-    let there = done-found j (plain_tree c.loop-place.tree) c.loop-place.tree.relabelled c.loop-place.place c.loop-place.faults c.loop-place.next c.loop-place.invariant.0 c.requires.found left in
-    (omega (arith, room-left j.was j.path c.loop-place.place c.requires.shallow c.requires.found left, ap (λ (xs : List ℕ). length xs) path, length-further j.path c.loop-place.place, c.decreases),
-    (within,
-    (subst (λ (p : List ℕ). IsTrue (has_spot (plain_tree c.loop-place.tree) p)) (sym path) there,
-    (done-within j (plain_tree c.loop-place.tree) c.loop-place.tree.relabelled c.loop-place.place c.loop-place.faults c.loop-place.next c.loop-place.invariant.0 c.requires.shallow,
-    room-next j (plain_tree c.loop-place.tree) c.loop-place.tree.relabelled c.loop-place.place c.loop-place.faults c.loop-place.next c.push.new.self.items c.loop-place.invariant.0 c.requires.found left c.requires.numbers path))))
+    let there = done-found j (plain_tree c.loop-place.tree) c.loop-place.tree.relabelled c.loop-place.place c.loop-place.faults c.loop-place.next c.loop-place.invariant.0 c.requires.found left in (
+      omega (arith, room-left j.was j.path c.loop-place.place c.requires.shallow c.requires.found left, ap (λ (xs : List ℕ). length xs) path, length-further j.path c.loop-place.place, c.decreases),
+      (
+        within,
+        (
+          subst (λ (p : List ℕ). IsTrue (has_spot (plain_tree c.loop-place.tree) p)) (sym path) there,
+          (
+            done-within j (plain_tree c.loop-place.tree) c.loop-place.tree.relabelled c.loop-place.place c.loop-place.faults c.loop-place.next c.loop-place.invariant.0 c.requires.shallow,
+            room-next j (plain_tree c.loop-place.tree) c.loop-place.tree.relabelled c.loop-place.place c.loop-place.faults c.loop-place.next c.push.new.self.items c.loop-place.invariant.0 c.requires.found left c.requires.numbers path,
+          ),
+        ),
+      ),
+    )
 
 pub write_label-own-requires-clause-found : goal.write_label-own-requires-clause-found
 write_label-own-requires-clause-found g t c =
@@ -67,13 +66,13 @@ overflow_add-faults g t c =
     let left = left-over j.was j.path c.as_slice.result.now c.children_of-count.result c.loop-place.place c.loop-place-test.true c.children_of-count.ensures c.as_slice.ensures.value in
     let path = c.push.ensures.items ∙ ap (λ (xs : List ℕ). xs ++ c.loop-place.place ∷ []) c.loop-place.invariant.1 in
     let next = done-step j (plain_tree c.loop-place.tree) c.loop-place.tree.relabelled c.loop-place.place c.loop-place.faults c.loop-place.next
-      (plain_tree c.write_below-below.new.tree) c.write_below-below.new.tree.relabelled (plain_tree c.write_label-own.new.tree) c.write_label-own.new.tree.relabelled c.share-faults.result c.write_below-below.result.1
-      c.push.new.self.items c.as_slice-in-loop-place.result.now c.as_slice-in-loop-place-2.result.now c.len-depth.result c.told_of-child.result c.write_below-below.result.0 c.write_label-own.result
-      c.loop-place.invariant.0 c.requires.found left path c.as_slice-in-loop-place.ensures.value (c.as_slice-in-loop-place-2.ensures.value ∙ c.write_below-below.ensures.steps) c.len-depth.ensures.value
-      c.told_of-child.ensures c.write_below-below.ensures.written c.write_below-below.ensures.faults c.write_below-below.ensures.count c.write_below-below.ensures.number
-      c.write_label-own.ensures.faults c.write_label-own.ensures.written c.write_label-own.ensures.count c.share-faults.ensures in
+    (plain_tree c.write_below-below.new.tree) c.write_below-below.new.tree.relabelled (plain_tree c.write_label-own.new.tree) c.write_label-own.new.tree.relabelled c.share-faults.result c.write_below-below.result.1
+    c.push.new.self.items c.as_slice-in-loop-place.result.now c.as_slice-in-loop-place-2.result.now c.len-depth.result c.told_of-child.result c.write_below-below.result.0 c.write_label-own.result
+    c.loop-place.invariant.0 c.requires.found left path c.as_slice-in-loop-place.ensures.value (c.as_slice-in-loop-place-2.ensures.value ∙ c.write_below-below.ensures.steps) c.len-depth.ensures.value
+    c.told_of-child.ensures c.write_below-below.ensures.written c.write_below-below.ensures.faults c.write_below-below.ensures.count c.write_below-below.ensures.number
+    c.write_label-own.ensures.faults c.write_label-own.ensures.written c.write_label-own.ensures.count c.share-faults.ensures in
     let few : c.loop-place.faults + c.share-faults.result ≤ 4096 =
-        done-few j (plain_tree c.write_label-own.new.tree) c.write_label-own.new.tree.relabelled (c.loop-place.place + 1) (c.loop-place.faults + c.share-faults.result) c.write_below-below.result.1 next c.size-few.ensures.few in
+    done-few j (plain_tree c.write_label-own.new.tree) c.write_label-own.new.tree.relabelled (c.loop-place.place + 1) (c.loop-place.faults + c.share-faults.result) c.write_below-below.result.1 next c.size-few.ensures.few in
     omega (arith, few)
 
 pub loop-place-preserved : goal.loop-place-preserved
@@ -82,11 +81,11 @@ loop-place-preserved g t c =
     let left = left-over j.was j.path c.as_slice.result.now c.children_of-count.result c.loop-place.place c.loop-place-test.true c.children_of-count.ensures c.as_slice.ensures.value in
     let path = c.push.ensures.items ∙ ap (λ (xs : List ℕ). xs ++ c.loop-place.place ∷ []) c.loop-place.invariant.1 in
     let next = done-step j (plain_tree c.loop-place.tree) c.loop-place.tree.relabelled c.loop-place.place c.loop-place.faults c.loop-place.next
-      (plain_tree c.write_below-below.new.tree) c.write_below-below.new.tree.relabelled (plain_tree c.write_label-own.new.tree) c.write_label-own.new.tree.relabelled c.share-faults.result c.write_below-below.result.1
-      c.push.new.self.items c.as_slice-in-loop-place.result.now c.as_slice-in-loop-place-2.result.now c.len-depth.result c.told_of-child.result c.write_below-below.result.0 c.write_label-own.result
-      c.loop-place.invariant.0 c.requires.found left path c.as_slice-in-loop-place.ensures.value (c.as_slice-in-loop-place-2.ensures.value ∙ c.write_below-below.ensures.steps) c.len-depth.ensures.value
-      c.told_of-child.ensures c.write_below-below.ensures.written c.write_below-below.ensures.faults c.write_below-below.ensures.count c.write_below-below.ensures.number
-      c.write_label-own.ensures.faults c.write_label-own.ensures.written c.write_label-own.ensures.count c.share-faults.ensures in
+    (plain_tree c.write_below-below.new.tree) c.write_below-below.new.tree.relabelled (plain_tree c.write_label-own.new.tree) c.write_label-own.new.tree.relabelled c.share-faults.result c.write_below-below.result.1
+    c.push.new.self.items c.as_slice-in-loop-place.result.now c.as_slice-in-loop-place-2.result.now c.len-depth.result c.told_of-child.result c.write_below-below.result.0 c.write_label-own.result
+    c.loop-place.invariant.0 c.requires.found left path c.as_slice-in-loop-place.ensures.value (c.as_slice-in-loop-place-2.ensures.value ∙ c.write_below-below.ensures.steps) c.len-depth.ensures.value
+    c.told_of-child.ensures c.write_below-below.ensures.written c.write_below-below.ensures.faults c.write_below-below.ensures.count c.write_below-below.ensures.number
+    c.write_label-own.ensures.faults c.write_label-own.ensures.written c.write_label-own.ensures.count c.share-faults.ensures in
     (next, c.pop-place.ensures.rest ∙ back j.path c.write_below-below.new.steps.items c.loop-place.place (c.write_below-below.ensures.steps ∙ path), omega (arith, c.loop-place-test.true))
 
 pub returns-clause-written : goal.returns-clause-written

@@ -1,7 +1,5 @@
 use Rattle.std.proofs.Common.{◌≡◌, ◌≤◌, ◌-◌, length}
-use Rattle.study_tree.specs.Edits.{width}
 use Rattle.study_tree.specs.Tree.{plain_tree}
-use Rattle.study_marks.specs.Renewal.{below_at}
 use Rattle.study_marks.proofs.Refreshing.{IsDone}
 use Rattle.study_marks.proofs.whole.+write_below.Given as goal
 
@@ -13,7 +11,7 @@ decreases-write_below g l = 257 - length l.steps.now.items
 abbrev pub invariant-loop-place : goal.invariant-loop-place
 invariant-loop-place g l =
     IsDone (record { all = l.fn.all; aim = l.fn.aim; number = l.fn.number; told = l.fn.told; path = l.fn.steps.items; was = plain_tree l.fn.tree; old = l.fn.tree.relabelled })
-      (plain_tree l.tree) l.tree.relabelled l.place l.faults l.next
+    (plain_tree l.tree) l.tree.relabelled l.place l.faults l.next
     × (l.steps.items ≡ l.fn.steps.items) × (l.place ≤ l.count)
 
 abbrev pub decreases-loop-place : goal.decreases-loop-place

@@ -1,5 +1,5 @@
-use Rattle.std.proofs.Common.{◌≡◌, ap, ◌∙◌, sym, subst, refl, IsTrue}
-use Rattle.study_tree.specs.Tree.{plain_tree, has_spot}
+use Rattle.std.proofs.Common.{◌∙◌}
+use Rattle.study_tree.specs.Tree.{plain_tree}
 use Rattle.study_marks.proofs.Refreshing.{root-told, root-right, root-count, root-few, root-found, written-there}
 use Rattle.study_marks.proofs.whole.write_all.Goals as goal
 

@@ -1,5 +1,4 @@
-use Rattle.std.proofs.Common.{◌≡◌, ℕ, ◌++◌, List, length, ap, sym, ◌∙◌, subst, rules}
-use Rattle.std.specs.Prelude.{IfErr}
+use Rattle.std.proofs.Common.{◌≡◌, List, length, ap, sym, ◌∙◌, subst, rules}
 use Rattle.study_board.specs.Men.{same_side}
 use Rattle.study_board.specs.Position.{Position, IsValid}
 use Rattle.study_tree.specs.Tree.{plain_tree, size_of, counted}
@@ -7,9 +6,9 @@ use Rattle.study_marks.specs.declared.label.Told.{Told}
 use Rattle.study_marks.specs.declared.marking.Aim.{Aim}
 use Rattle.study_marks.specs.Study.{plain_study, IsPlayable}
 use Rattle.study_marks.specs.Goals.{aim_of}
-use Rattle.study_marks.specs.Kept.{Kept, marked, IsRight, AllAddUp}
+use Rattle.study_marks.specs.Kept.{Kept, marked, AllAddUp}
 use Rattle.study_marks.specs.Edits.{shifted}
-use Rattle.study_marks.specs.Asked.{asked_at, asked_below, asked_of, AreHeld, AllHeld, IsOutside, HasAsked, HasStopped, is_of_tables, counted_times}
+use Rattle.study_marks.specs.Asked.{asked_of, AreHeld, IsOutside, HasStopped, is_of_tables, counted_times}
 use Rattle.study_marks.specs.Bench.{kept_of}
 use Rattle.study_marks.specs.Renewal.{told_tree}
 use Rattle.study_marks.specs.Told.{AllAreTold}

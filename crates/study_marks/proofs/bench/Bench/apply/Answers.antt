@@ -1,5 +1,4 @@
-use Rattle.std.proofs.Common.{◌≡◌, List, sym, refl, ap}
-use Rattle.study_moves.specs.declared.moves.Move.{Move}
+use Rattle.std.proofs.Common.{sym, refl, ap}
 use Rattle.study_marks.specs.declared.mark.Mark.{Mark}
 use Rattle.study_marks.specs.Study.{position_after}
 use Rattle.study_marks.specs.Kept.{marked}

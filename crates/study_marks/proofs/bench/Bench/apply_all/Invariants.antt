@@ -1,4 +1,4 @@
-use Rattle.std.proofs.Common.{◌≡◌, ◌+◌, ◌≤◌, length, take}
+use Rattle.std.proofs.Common.{◌≡◌, take}
 use Rattle.study_marks.proofs.Runs.{IsRun}
 use Rattle.study_marks.proofs.bench.Bench.apply_all.Given as goal
 

@@ -1,4 +1,4 @@
-use Rattle.std.proofs.Common.{◌≡◌, ℕ, ap, sym, ◌∙◌, subst, refl}
+use Rattle.std.proofs.Common.{◌≡◌, ap, sym, ◌∙◌, subst}
 use Rattle.study_board.specs.Men.{same_side}
 use Rattle.study_tree.specs.Tree.{plain_tree, size_of, counted}
 use Rattle.study_marks.specs.declared.marking.Aim.{Aim}
@@ -19,9 +19,10 @@ write_all-requires g c = record { shallow = c.self.invariant.0.shallow }
 pub invariant_of-self : goal.invariant_of-self
 invariant_of-self g c =
     let b = kept_of c.self.inside.start c.self.inside.stipulation c.self.inside.tags c.self.inside.tree in
-    let aim : c.aim_of-aim.result ≡ aim_of (restipulated b.study c.args.stipulation (plain_tree c.write_all.new.tree)) = c.aim_of-aim.ensures ∙ ap (λ s. record { goal = c.args.stipulation.goal; hero_first = same_side c.args.stipulation.hero s }) c.to_move.ensures in
-    (stipulated-study b.study c.args.stipulation (plain_tree c.write_all.new.tree) (told-kept b.study.tree (plain_tree c.write_all.new.tree) c.write_all.ensures.told) c.self.invariant.0,
-    subst (λ (a : Aim). AllAddUp a (plain_tree c.write_all.new.tree)) aim c.write_all.ensures.right)
+    let aim : c.aim_of-aim.result ≡ aim_of (restipulated b.study c.args.stipulation (plain_tree c.write_all.new.tree)) = c.aim_of-aim.ensures ∙ ap (λ s. record { goal = c.args.stipulation.goal; hero_first = same_side c.args.stipulation.hero s }) c.to_move.ensures in (
+      stipulated-study b.study c.args.stipulation (plain_tree c.write_all.new.tree) (told-kept b.study.tree (plain_tree c.write_all.new.tree) c.write_all.ensures.told) c.self.invariant.0,
+      subst (λ (a : Aim). AllAddUp a (plain_tree c.write_all.new.tree)) aim c.write_all.ensures.right,
+    )
 
 pub returns-clause-edited : goal.returns-clause-edited
 returns-clause-edited g c =
