@@ -9,7 +9,7 @@ use Rattle.study_board.specs.EqualLaws.{kinds_equal}
 use Rattle.study_board.proofs.Lists.{count_by-cons}
 use Rattle.study_moves.specs.declared.moves.Move.{Move}
 use Rattle.study_moves.specs.Rules.{after}
-use Rattle.study_moves.specs.Laws.{EachHasOneValue}
+use Rattle.study_moves.specs.Laws.{EachHasAtMostOneValue}
 use Rattle.study_retro.specs.declared.value.Value.{Value}
 use Rattle.study_retro.specs.Game.{IsValueOf}
 use Rattle.study_moves.specs.LegalList.{legal_list}
@@ -80,7 +80,7 @@ module _ (a : Aim) (d : ℕ) (p : Position) (m : Move) where
   no-more lo (n ∷ ms) (v ∷ vs) h less k =
       counted-one v vs ms n 0 (apart m n (λ e. absurd (omega (arith, h.0, less, e)))) (no-more (place_of n + 1) ms vs h.1 (omega (arith, h.0, less)) k.1)
 
-  once : EachHasOneValue → (lo : ℕ) (ms : List Move) (vs : List Value) (w : Value) → AscendsFrom place_of lo ms → IsIn m ms → AreValuesAfter p ms vs → IsValueOf (after p m) w → holds a d w ≡ true
+  once : EachHasAtMostOneValue → (lo : ℕ) (ms : List Move) (vs : List Value) (w : Value) → AscendsFrom place_of lo ms → IsIn m ms → AreValuesAfter p ms vs → IsValueOf (after p m) w → holds a d w ≡ true
       → count_by (holds a d) vs ≡ others_that_hold a d m ms vs + 1
   once law lo [] vs w h i k game held = absurd i
   once law lo (n ∷ ms) [] w h i k game held = absurd k
@@ -98,7 +98,7 @@ only-or-dual n (suc k) e =
     ap (λ b. if b then Only else Dual (n - 1)) (ne_eqb n 1 (λ x. absurd (omega (arith, e, x)))) ∙ ap Dual (let z : n - 1 ≡ suc k = omega (arith, e) in z)
     ∙ sym (ap (λ b. if b then Only else Dual (suc k)) (ne_eqb (suc k) 0 (λ x. absurd (omega (arith, x)))))
 
-pub dual-counts-others : EachHasOneValue → DualCountsOthers
+pub dual-counts-others : EachHasAtMostOneValue → DualCountsOthers
 dual-counts-others law a d p m v all w valid legal values game hero before after_move =
     ap (λ b. mark_of b (holds a d v) (holds a (d + 1) w) (count_by (holds a (d + 1)) all)) hero
     ∙ ap (λ b. mark_of true b (holds a (d + 1) w) (count_by (holds a (d + 1)) all)) before

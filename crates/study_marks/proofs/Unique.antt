@@ -3,7 +3,7 @@ use Rattle.std.proofs.Common.{◌≡◌, ℕ, ◌+◌, List, [], ◌∷◌, Opti
 use Rattle.study_board.specs.Position.{Position}
 use Rattle.study_moves.specs.declared.moves.Move.{Move}
 use Rattle.study_moves.specs.Rules.{after}
-use Rattle.study_moves.specs.Laws.{EachHasOneValue}
+use Rattle.study_moves.specs.Laws.{EachHasAtMostOneValue}
 use Rattle.study_retro.specs.declared.value.Value.{Value}
 use Rattle.study_retro.specs.declared.value.Value.TheVariants.{Win, Loss, Draw}
 use Rattle.study_retro.specs.Game.{IsValueOf}
@@ -21,7 +21,7 @@ use Rattle.study_marks.specs.Laws.{AnnotationsAreUnique}
 use Rattle.study_marks.specs.Annotated.{AreValuesAfter, IsMoveMark, AreAnnotated}
 
 -- the game has one value
-pub one-value : EachHasOneValue → (p : Position) (v w : Value) → IsValueOf p v → IsValueOf p w → v ≡ w
+pub one-value : EachHasAtMostOneValue → (p : Position) (v w : Value) → IsValueOf p v → IsValueOf p w → v ≡ w
 one-value law p (Win n) (Win k) h j = ap Win ((law p).won_once n k h j)
 one-value law p (Win n) (Loss k) h j = absurd ((law p).won_not_lost n k h j)
 one-value law p (Win n) Draw h j = absurd ((law p).won_not_drawn n h j)
@@ -32,7 +32,7 @@ one-value law p Draw (Win k) h j = absurd ((law p).won_not_drawn k j h)
 one-value law p Draw (Loss k) h j = absurd ((law p).lost_not_drawn k j h)
 one-value law p Draw Draw h j = refl
 
-pub one-list : EachHasOneValue → (p : Position) (ms : List Move) (vs ws : List Value) → AreValuesAfter p ms vs → AreValuesAfter p ms ws → vs ≡ ws
+pub one-list : EachHasAtMostOneValue → (p : Position) (ms : List Move) (vs ws : List Value) → AreValuesAfter p ms vs → AreValuesAfter p ms ws → vs ≡ ws
 one-list law p [] [] [] h j = refl
 one-list law p [] [] (w ∷ ws) h j = absurd j
 one-list law p [] (v ∷ vs) ws h j = absurd h
@@ -46,7 +46,7 @@ mark-is x y ev eo ef =
     ∙ ap (λ o. record { value = y.value; on_move = o; faults = x.faults }) eo
     ∙ ap (λ n. record { value = y.value; on_move = y.on_move; faults = n }) ef
 
-one-mark : EachHasOneValue → (a : Aim) (d : ℕ) (p : Position) (v w w' : Value) (o o' : Option MoveMark) → w ≡ w'
+one-mark : EachHasAtMostOneValue → (a : Aim) (d : ℕ) (p : Position) (v w w' : Value) (o o' : Option MoveMark) → w ≡ w'
     → ((mark : MoveMark) × (o ≡ Some mark) × IsMoveMark a d p v w mark) → ((mark : MoveMark) × (o' ≡ Some mark) × IsMoveMark a d p v w' mark) → o ≡ o'
 one-mark law a d p v w w' o o' e h j =
     let all = one-list law p (legal_list p) h.2.0 j.2.0 h.2.1 j.2.1 in
@@ -64,7 +64,7 @@ abbrev others : Forest (Unit {0}) → Forest (Unit {0})
 others none = none
 others (more n l b r) = r
 
-unique-below : EachHasOneValue → (a : Aim) (d : ℕ) (p : Position) (v : Value) (f g : Forest Mark) → AreAnnotated a d p v f → AreAnnotated a d p v g → mapped (λ (x : Mark). tt {0}) f ≡ mapped (λ (x : Mark). tt {0}) g → f ≡ g
+unique-below : EachHasAtMostOneValue → (a : Aim) (d : ℕ) (p : Position) (v : Value) (f g : Forest Mark) → AreAnnotated a d p v f → AreAnnotated a d p v g → mapped (λ (x : Mark). tt {0}) f ≡ mapped (λ (x : Mark). tt {0}) g → f ≡ g
 unique-below law a d p v none none h j e = refl
 unique-below law a d p v none (more n y c s) h j e = let no : ⊥ = cc in absurd no
 unique-below law a d p v (more m x b r) none h j e = let no : ⊥ = cc in absurd no
@@ -81,7 +81,7 @@ unique-below law a d p v (more m x b r) (more n y c s) h j e =
 abbrev made : Start → Stipulation → List (Option (List ℕ)) → Mark → Forest Mark → Study Mark
 made start stipulation tags mark below = record { start = start; stipulation = stipulation; tags = tags; tree = record { label = mark; below = below } }
 
-pub unique : EachHasOneValue → AnnotationsAreUnique
+pub unique : EachHasAtMostOneValue → AnnotationsAreUnique
 unique law s t hs ht e =
     let start : s.start ≡ t.start = ap (λ (u : Study (Unit {0})). u.start) e in
     let stipulation : s.stipulation ≡ t.stipulation = ap (λ (u : Study (Unit {0})). u.stipulation) e in

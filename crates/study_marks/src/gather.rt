@@ -1,7 +1,6 @@
 //! What is told of all nodes, asked in written order.
 ghost use Rattle.std.specs.Prelude.{◌≡◌, ◌+◌, ◌<◌, ◌≤◌, ◌++◌, ◌∷◌, [], List, IsTrue, OnOk, IfOk, IfErr, length, is_ok, vec_len, vec_capacity};
 ghost use Rattle.study_material.specs.declared.class.Class.{Class as AClass};
-ghost use Rattle.study_retro.specs.declared.value.Value.{Value as AValue};
 ghost use Rattle.study_tree.specs.Tree.{plain_tree, has_spot};
 ghost use Rattle.study_marks.specs.declared.label.Told.{Told as ATold};
 ghost use Rattle.study_marks.specs.Study.{IsPlayable, IsWithin};

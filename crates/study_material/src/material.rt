@@ -2,7 +2,6 @@
 ghost use Rattle.std.specs.Prelude.{◌≡◌, ◌≤◌, true, false, [], ◌∷◌, filter, length};
 ghost use Rattle.study_board.specs.Men.{same_kind};
 ghost use Rattle.study_board.specs.declared.men.Kind.TheVariants.{King};
-ghost use Rattle.study_board.specs.Position.{IsValid};
 ghost use Rattle.study_material.specs.Lists.{of, put_kind, comes_before, ordered, is_other, is_swapped, lists};
 ghost use Rattle.std.specs.List.{All};
 ghost use Rattle.study_material.specs.Class.{lists_of, IsOf};

@@ -1,6 +1,5 @@
 //! Reading a FEN text.
 ghost use Rattle.std.specs.Prelude.{◌≡◌, ◌<◌, None, false};
-ghost use Rattle.std.specs.List.{All};
 ghost use Rattle.study_board.specs.Men.{other_side};
 ghost use Rattle.study_board.specs.Position.{IsAscending, in_check};
 ghost use Rattle.study_notation.specs.Fen.{placement_fault, of_placement, position_of, start_of};

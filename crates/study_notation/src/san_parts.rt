@@ -1,5 +1,5 @@
 //! The parts of a SAN text, from the left.
-ghost use Rattle.std.specs.Prelude.{◌≡◌, ◌<◌, IfSome, length};
+ghost use Rattle.std.specs.Prelude.{◌≡◌, ◌<◌, IfSome};
 ghost use Rattle.std.specs.Option.{option_map};
 ghost use Rattle.study_notation.specs.San.{is_glyphs, is_ending};
 ghost use Rattle.study_notation.specs.SanParts.{officer_of, kind_at, file_at, rank_at, takes_at, officer_at, promotion_at, squares_at};

@@ -1,6 +1,6 @@
 //! The words of a text.
 ghost use Rattle.std.specs.Prelude.{◌≡◌, ◌≤◌, ◌∷◌, [], length, not, IfSome, IfNone};
-ghost use Rattle.std.specs.List.{prefix_len, list_all, slice_split};
+ghost use Rattle.std.specs.List.{prefix_len};
 ghost use Rattle.study_notation.specs.Words.{is_space, words, behind_word};
 
 /// The first word of a text, and what stands behind it. Words stand between spaces.

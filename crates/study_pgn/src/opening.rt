@@ -1,11 +1,10 @@
 //! The opening comment.
 ghost use Rattle.std.specs.Prelude.{◌≡◌, ◌++◌, OnOk};
-ghost use Rattle.study_board.specs.Men.{same_side};
-ghost use Rattle.study_marks.specs.Goals.{hero_mates, hero_loses, plies_of, mates_at, is_right};
+ghost use Rattle.study_marks.specs.Goals.{hero_mates, hero_loses, is_right};
 ghost use Rattle.study_marks.specs.Study.{Study};
 ghost use Rattle.study_marks.specs.declared.mark.Mark.{Mark as AMark};
 ghost use Rattle.study_marks.specs.Verdict.{verdict};
-ghost use Rattle.study_pgn.specs.Pgn.{goal_text, stipulation_text, verdict_text, opening_text};
+ghost use Rattle.study_pgn.specs.Pgn.{goal_text, verdict_text, opening_text};
 
 use crate::text::Text;
 use crate::values::{add_value, side_name};

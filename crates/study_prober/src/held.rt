@@ -1,12 +1,11 @@
 //! Sources of pages, each with what its header says, and the cells of their tables.
-ghost use Rattle.std.specs.Prelude.{◌≡◌, ◌<◌, ◌/◌, ◌⊎◌, ℕ, List, Result, Ok, Err, true, false, IfOk, IfErr, IfSome, OnOk, OnErr, IsErrOf, MatchResult, Contains, slice_index, take, length, if◌then◌else◌};
+ghost use Rattle.std.specs.Prelude.{◌≡◌, ◌<◌, ◌/◌, ◌⊎◌, ℕ, List, Result, Ok, Err, IfOk, IfSome, OnOk, OnErr, IsErrOf, Contains, slice_index, take, if◌then◌else◌};
 ghost use Rattle.study_material.specs.declared.class.Class.{Class as AClass};
 ghost use Rattle.study_retro.specs.Cells.{value_of};
 ghost use Rattle.study_retro.specs.Table.{Table as Seen, IsComplete, place_of};
 ghost use Rattle.study_index.specs.Number.{cells_of};
 ghost use Rattle.study_tablefile.specs.declared.fault.SourceFault.{SourceFault as ASourceFault};
 ghost use Rattle.study_tablefile.specs.File.{IsVersionOf, pages_of};
-ghost use Rattle.study_tablefile.specs.Reading.{class_read};
 ghost use Rattle.study_tablefile.specs.Source.{counted, page_of, of_page};
 ghost use Rattle.study_prober.specs.Cache.{key_at, kept_cell};
 ghost use Rattle.study_prober.specs.Sources.{IsGivenPage, HasBadPage, IsReadFrom, GiveAlike, AreHonestAlike, AreOf, IsHeaderOf, is_read_fault, page_cells_of};

@@ -1,5 +1,5 @@
 //! Values from pages of tables, read as they are asked and kept as far as there is room.
-ghost use Rattle.std.specs.Prelude.{◌≡◌, false, ◌≤◌, ◌<◌, ◌/◌, ◌⊎◌, ◌↔◌, ⊤, ℕ, List, Option, Result, [], Some, None, Ok, Err, true, is_some, IfOk, IfErr, IfSome, OnOk, OnErr, IsErrOf, MatchOption, length, slice_index, slice_set, replicate, vec_len, Contains, if◌then◌else◌};
+ghost use Rattle.std.specs.Prelude.{◌≡◌, false, ◌≤◌, ◌<◌, ◌/◌, ◌⊎◌, ◌↔◌, ⊤, ℕ, List, Option, Result, [], Some, None, Ok, Err, true, is_some, IfOk, IfErr, IfSome, OnOk, OnErr, IsErrOf, MatchOption, length, slice_index, slice_set, replicate, Contains, if◌then◌else◌};
 ghost use Rattle.study_material.specs.declared.class.Class.{Class as AClass};
 ghost use Rattle.study_material.specs.Class.{IsOf};
 ghost use Rattle.study_index.specs.Found.{index_of};

@@ -1,3 +1,4 @@
+//! The game that a table is of: the positions of a class, by numbers.
 ghost use Rattle.std.specs.Prelude.{◌≡◌, ◌↔◌, ◌<◌, ℕ, true, false, IsTrue, Some, Contains};
 ghost use Rattle.study_retro.specs.Numbered.{Numbered, StandsAt, StepLeads};
 ghost use Rattle.study_retro.specs.declared.value.Value.{Value};

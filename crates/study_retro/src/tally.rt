@@ -1,3 +1,4 @@
+//! What the values after the moves of a position come to.
 ghost use Rattle.std.specs.Prelude.{◌≡◌, ◌<◌, None, false};
 ghost use Rattle.std.specs.Option.{ForSome};
 ghost use Rattle.study_retro.specs.Tally.{lost_with, won_with, drawn_with, given_by};

@@ -1,3 +1,4 @@
+//! Values: won or lost in so many plies, or drawn.
 ghost use Rattle.std.specs.Prelude.{◌≡◌, ◌≢◌, ◌<◌, MatchOption};
 ghost use Rattle.study_retro.specs.Cells.{value_of};
 

@@ -6,7 +6,7 @@ use Rattle.std.proofs.lemmas.Grind.{common_steps}
 use Rattle.study_board.specs.Position.{Position}
 use Rattle.study_moves.specs.declared.moves.Move.{Move}
 use Rattle.study_moves.specs.Game.{IsWon}
-use Rattle.study_moves.specs.Laws.{EachHasOneValue}
+use Rattle.study_moves.specs.Laws.{EachHasAtMostOneValue}
 use Rattle.study_material.specs.declared.class.Class.{Class}
 use Rattle.study_index.specs.Number.{cells_of}
 use Rattle.study_index.specs.Found.{position_at, index_of}
@@ -207,7 +207,7 @@ module _ (one_annotation : AnnotationsAreUnique) where
 
 -- ---- tables
 
-module _ (one_value : EachHasOneValue) where
+module _ (one_value : EachHasAtMostOneValue) where
   told_once : (at : Option Position) (x y : ℕ) → TellsValue at x → TellsValue at y → value_of x ≡ value_of y
   told_once None x y h k = ap value_of (h ∙ sym k)
   told_once (Some p) x y h k = one-value one_value p (value_of x) (value_of y) h k
@@ -304,7 +304,7 @@ load_in_once : (s : State) (o : Outside) (by_pages : Bool) (c : Class) (a b : Re
 load_in_once s o false c a b h k = load_once s o c (is_among s.classes c) (first_lacking s.classes c) a b h k
 load_in_once s o true c a b h k = open_once s o c (is_among s.classes c) a b h k
 
-module _ (one_value : EachHasOneValue) (one_annotation : AnnotationsAreUnique) where
+module _ (one_value : EachHasAtMostOneValue) (one_annotation : AnnotationsAreUnique) where
   table_once : (s : State) (o : Outside) (word : ClassWord) (c : Class) (a b : Reply) → IsTableReply s o word c a → IsTableReply s o word c b → a ≡ b
   table_once s o Build c a b h k = build_once one_value s o c (is_among s.classes c) (first_lacking s.classes c) a b h k
   table_once s o Load c a b h k = load_in_once s o s.paged c a b h k

@@ -1,15 +1,13 @@
 //! Classes of material: `build`, `load`, `save` and `verify`.
-ghost use Rattle.std.specs.Prelude.{◌≡◌, ◌↔◌, ◌&&◌, ◌==◌, ℕ, Bool, List, Option, Some, None, Ok, false, true, is_some, is_none, length, slice_set, IfOk, IfErr, IfSome, IsTrue, OnErr, OnOk};
-ghost use Rattle.study_material.specs.declared.class.Class.{Class as AClass};
+ghost use Rattle.std.specs.Prelude.{◌≡◌, ◌↔◌, ◌&&◌, ◌==◌, ℕ, List, Option, Some, None, Ok, false, is_some, slice_set, IfOk, IfErr, IfSome, IsTrue, OnErr};
 ghost use Rattle.study_retro.specs.Sound.{IsRight, NeedsAreRight};
 ghost use Rattle.study_retro.specs.Set.{add_fault};
-ghost use Rattle.study_retro.specs.Table.{Table as Seen, table_of, place_of, IsClosed, IsComplete};
-ghost use Rattle.study_material.specs.Needs.{needs_of};
+ghost use Rattle.study_retro.specs.Table.{table_of, place_of, IsClosed, IsComplete};
 ghost use Rattle.study_tablefile.specs.Reading.{table_read};
-ghost use Rattle.study_script.specs.State.{State, is_among, first_lacking, written_anew, IsGiven};
+ghost use Rattle.study_script.specs.State.{State, is_among, first_lacking, IsGiven};
 ghost use Rattle.study_script.specs.Names.{of_store, of_paged};
 ghost use Rattle.study_script.specs.Replies.{IsClassReply, IsNamedReply, IsBuildReply, IsLoadReply, IsOpenReply, save_reply, verify_reply, refused, class_named};
-ghost use Rattle.study_script.specs.Held.{HoldsTables, KnowsStore, TablesFrom, Answered, BrokenOff};
+ghost use Rattle.study_script.specs.Held.{HoldsTables, TablesFrom, Answered, BrokenOff};
 ghost use Rattle.study_script.specs.Stored.{StoreSeen};
 ghost use Rattle.study_script.specs.Told.{Decided, HoldsWhole, HoldsPaged, WholeFrom, IsFileRefusal};
 

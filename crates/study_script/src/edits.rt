@@ -1,5 +1,5 @@
 //! Edits of the study that ask the tables, whichever they are.
-ghost use Rattle.std.specs.Prelude.{◌≡◌, true, Err, None, MatchOption, IfErr, IfOk, OnOk, OnErr};
+ghost use Rattle.std.specs.Prelude.{◌≡◌, Err, None, MatchOption, IfErr, IfOk, OnOk, OnErr};
 ghost use Rattle.study_material.specs.declared.class.Class.{Class as AClass};
 ghost use Rattle.study_marks.specs.Study.{plain_study};
 ghost use Rattle.study_marks.specs.Kept.{marked, IsRight};

@@ -1,5 +1,5 @@
 //! A store of tables in memory, which fails where a test wants it.
-ghost use Rattle.std.specs.Prelude.{◌≡◌, Some, Ok, Err, length, slice_set, IfOk, IfErr};
+ghost use Rattle.std.specs.Prelude.{◌≡◌, None, length, slice_set, IfOk, IfErr};
 ghost use Rattle.study_retro.specs.Table.{place_of};
 ghost use Rattle.study_material.specs.declared.class.Class.{Class as AClass};
 ghost use Rattle.study_script.specs.Memory.{file_at, file_known, header_known, IsHonestFile, IsFaultOf};
@@ -40,7 +40,10 @@ pub struct MemoryStore<'f, 'w, 'a, A: Allocator> {
 
 impl<'f, 'w, 'a, A: Allocator> MemoryStore<'f, 'w, 'a, A> {
     /// A store without files, whose devices do not fail.
-    pub fn new(writers: &'w [RefCell<MemoryWriter<'a, A>>]) -> Self {
+    pub fn new(writers: &'w [RefCell<MemoryWriter<'a, A>>]) -> Self
+        ensures files { (c : AClass) → file_at result.files c ≡ MemoryFile.Absent }
+        ensures plan { (result.fails_after ≡ None) × (result.fails_at ≡ None) }
+    {
         MemoryStore {
             files: [MemoryFile::Absent; 36],
             writers,
@@ -54,6 +57,7 @@ impl<'f, 'w, 'a, A: Allocator> MemoryStore<'f, 'w, 'a, A> {
     pub fn put(&mut self, class: Class, file: MemoryFile<'f>)
         ensures files { self.new.files ≡ slice_set self.old.files (place_of class) file.entry }
         ensures places { length self.old.files ≡ 36 }
+        ensures plan { (self.new.fails_after ≡ self.old.fails_after) × (self.new.fails_at ≡ self.old.fails_at) }
     {
         self.files[class as usize] = file;
     }

@@ -8,13 +8,13 @@ ghost use Rattle.study_tree.specs.Tree.{has_spot};
 ghost use Rattle.study_tablefile.specs.Taken.{TakesPrefix};
 ghost use Rattle.study_marks.specs.Study.{plain_study, position_at};
 ghost use Rattle.study_marks.specs.Kept.{marked};
-ghost use Rattle.study_script.specs.Paths.{path_text, steps_of, is_path_word};
+ghost use Rattle.study_script.specs.Paths.{steps_of, is_path_word};
 ghost use Rattle.study_script.specs.Words.{insert_text};
 ghost use Rattle.study_script.specs.State.{State, Outside, study, start as begun};
 ghost use Rattle.study_script.specs.Replies.{IsNodeReply, IsInsertReply, IsSolveReply, IsPgnReply, IsStudyReply, IsStudyReplyAt, IsMoveReply};
-ghost use Rattle.study_script.specs.Replies.{IsMoveReplyAt, raised, tag_reply, start_found, moves_reply, fen_reply};
+ghost use Rattle.study_script.specs.Replies.{IsMoveReplyAt, tag_reply, start_found, moves_reply, fen_reply};
 ghost use Rattle.study_script.specs.declared.board.Board.TheVariants as held;
-ghost use Rattle.study_script.specs.Held.{Holds, HoldsBoard, HoldsFrom, HoldsBench, HoldsBenchFrom, HoldsTables, Answered, BrokenOff};
+ghost use Rattle.study_script.specs.Held.{Holds, HoldsBoard, HoldsFrom, HoldsBench, HoldsBenchFrom, Answered, BrokenOff};
 
 use crate::board::Board;
 use crate::command::{MoveCount, NodeWord, StudyWord};

@@ -1,5 +1,5 @@
 //! Table files read from front to back.
-ghost use Rattle.std.specs.Prelude.{◌≡◌, ◌<◌, ◌≤◌, ◌⊎◌, ◌&&◌, ◌+◌, ◌*◌, ℕ, List, [], ◌++◌, false, Some, None, Ok, Err, length, take, drop, replicate, OnOk, IfOk, IfErr, vec_len, vec_capacity};
+ghost use Rattle.std.specs.Prelude.{◌≡◌, ◌<◌, ◌≤◌, ◌⊎◌, ◌&&◌, ◌+◌, ◌*◌, ℕ, List, [], ◌++◌, Some, None, Ok, Err, length, take, drop, replicate, OnOk, IfOk, IfErr, vec_len, vec_capacity};
 ghost use Rattle.sha2.specs.Sha256.{sha256};
 ghost use Rattle.std.specs.Str.{bytes_eq};
 ghost use Rattle.std.specs.Io.KnownBytes.{Consumes};

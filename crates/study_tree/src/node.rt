@@ -17,7 +17,7 @@ pub struct Node<'a, L, A: Allocator> {
 }
 
 impl<'a, L, A: Allocator> Model for Node<'a, L, A> {
-    ghost use Rattle.std.specs.Prelude.{ℕ, ◌-◌, length, vec_len, vec_capacity};
+    ghost use Rattle.std.specs.Prelude.{ℕ, ◌-◌, vec_len, vec_capacity};
     ghost use Rattle.std.specs.Coded.{coded×, coded_ℕ};
     ghost use Rattle.std.proofs.Common.{arith};
     ghost use Rattle.study_tree.specs.Forest.{Twig, forest_of, nodes_from, twig_code, most_le-nodes_in};

@@ -37,7 +37,7 @@ pub struct Tree<'a, L, A: Allocator> {
 }
 
 impl<'a, L, A: Allocator> Model for Tree<'a, L, A> {
-    ghost use Rattle.std.specs.Prelude.{ℕ, ◌≡◌, ◌+◌, ◌-◌, ◌≤◌, vec_len, vec_capacity};
+    ghost use Rattle.std.specs.Prelude.{◌≡◌, ◌+◌, ◌-◌, ◌≤◌, vec_len, vec_capacity};
     ghost use Rattle.study_tree.specs.Forest.{forest_of, nodes_in};
     ghost use Rattle.study_tree.specs.Tree.{Held, held_code};
 

@@ -1,5 +1,5 @@
 //! The files of tables in a folder, one for each class: `KQK.dtm`.
-ghost use Rattle.std.specs.Prelude.{◌≡◌, ◌<◌, ⊥, ⊤, None, IfOk, OnOk, OnErr, vec_len, length, ℕ};
+ghost use Rattle.std.specs.Prelude.{◌≡◌, ◌<◌, ⊥, ⊤, None, OnOk, OnErr, vec_len, length};
 ghost use Rattle.study_tablefile.specs.Source.{counted};
 
 use std::alloc::{AllocError, Allocator};
