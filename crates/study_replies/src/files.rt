@@ -1,5 +1,5 @@
 //! Tables loaded, opened by pages, saved and verified.
-use crate::runs::{check_over, text_of};
+use crate::runs::{check_over, no_files, text_of};
 use std::alloc::{AllocError, Allocator};
 use std::cell::RefCell;
 use std::process::Abort;
@@ -36,7 +36,7 @@ fn whole_files(rt: HostRuntime) {
         Ok(writer) => assert!(rt; writer.taken.as_slice() == text.as_slice()),
         Err(_) => assert!(rt; false, "lent"),
     }
-    let mut other = MemoryStore::new(&[]);
+    let mut other = no_files(&alloc);
     other.put(Class::KQK, MemoryFile::Bytes(text.as_slice()));
     other.put(Class::KRK, MemoryFile::Closed);
     let rows = [
@@ -53,7 +53,7 @@ fn whole_files(rt: HostRuntime) {
 fn files_by_pages(rt: HostRuntime) -> Result<(), Fail> {
     let alloc = rt.alloc();
     let text = text_of(&rt, &alloc, &[Class::KK, Class::KRK]);
-    let mut store = MemoryStore::new(&[]);
+    let mut store = no_files(&alloc);
     store.put(Class::KRK, MemoryFile::Bytes(text.as_slice()));
     let start = "position k7/8/1K6/8/8/8/8/7R w - - 0 1";
     let rows = [
@@ -70,7 +70,7 @@ fn files_by_pages(rt: HostRuntime) -> Result<(), Fail> {
     ];
     check_over(&rt, &alloc, &mut store, Some(1), rows.as_slice());
     for (fails_at, fault) in [(0, "load"), (1, "stipulate")] {
-        let mut failing = MemoryStore::new(&[]);
+        let mut failing = no_files(&alloc);
         failing.put(Class::KRK, MemoryFile::Bytes(text.as_slice()));
         failing.fails_at = Some(fails_at);
         let refused = fault == "load";
@@ -90,7 +90,7 @@ fn files_by_pages(rt: HostRuntime) -> Result<(), Fail> {
         }
     }
     let (short, _) = text.as_slice().split_at(text.len().min(63));
-    let mut damaged = MemoryStore::new(&[]);
+    let mut damaged = no_files(&alloc);
     damaged.put(Class::KRK, MemoryFile::Bytes(wrong.as_slice()));
     damaged.put(Class::KQK, MemoryFile::Bytes(text.as_slice()));
     damaged.put(Class::KBK, MemoryFile::Bytes(short));
@@ -126,7 +126,7 @@ fn lies_are_found(rt: HostRuntime) {
     let alloc = rt.alloc();
     let text = text_of(&rt, &alloc, &[Class::KK, Class::KRK]);
     let lie = lying(&rt, &alloc, text.as_slice());
-    let mut store = MemoryStore::new(&[]);
+    let mut store = no_files(&alloc);
     store.put(Class::KRK, MemoryFile::Bytes(lie.as_slice()));
     let rows = [
         ("build KK", "built KK cells 1280 win -"),
@@ -170,7 +170,7 @@ fn faults_of_files(rt: HostRuntime) -> Result<(), Fail> {
         (longer, "error TrailingBytes", "loaded KK cells 1280"),
     ];
     for (bytes, whole, by_pages) in &rows {
-        let mut store = MemoryStore::new(&[]);
+        let mut store = no_files(&alloc);
         store.put(Class::KK, MemoryFile::Bytes(bytes.as_slice()));
         let wanted = [("load KK", *whole), ("load KK", *whole), ("build KK", "built KK cells 1280 win -")];
         check_over(&rt, &alloc, &mut store, None, wanted.as_slice());
@@ -178,7 +178,7 @@ fn faults_of_files(rt: HostRuntime) -> Result<(), Fail> {
         check_over(&rt, &alloc, &mut store, Some(1), wanted.as_slice());
     }
     for fails_after in 0..text.len() {
-        let mut store = MemoryStore::new(&[]);
+        let mut store = no_files(&alloc);
         store.put(Class::KK, MemoryFile::Bytes(text.as_slice()));
         store.fails_after = Some(fails_after);
         check_over(&rt, &alloc, &mut store, None, &[("load KK", "error Device")]);

@@ -1,8 +1,7 @@
 //! Runs whose reader, writer or memory fails.
-use crate::runs::replies_of;
+use crate::runs::{no_files, replies_of};
 use linked_list_allocator::LocalHeap;
 use std::test::Fail;
-use study_script::memory::MemoryStore;
 use study_script::run::{RunFault, Settings, Summary, run};
 use study_tablefile::memory::{MemoryReader, MemoryWriter, WhenFull};
 
@@ -15,7 +14,7 @@ const REPLIES: &[u8] = b"position k7/8/1K6/8/8/8/8/7R w - - 0 1\n\
 #[test]
 fn empty_script(rt: HostRuntime) {
     let alloc = rt.alloc();
-    let (text, answer) = replies_of(&alloc, &mut MemoryStore::new(&[]), None, b"");
+    let (text, answer) = replies_of(&alloc, &mut no_files(&alloc), None, b"");
     assert!(rt; text.is_empty());
     assert_eq!(rt; answer, Ok(Summary { lines: 0, refused: 0 }));
 }
@@ -32,13 +31,13 @@ fn writers(rt: HostRuntime) {
                 &alloc,
                 &mut reader,
                 &mut writer,
-                &mut MemoryStore::new(&[]),
+                &mut no_files(&alloc),
                 Settings { pages: None },
             );
             assert_eq!(rt; answer, Err(RunFault::WriteDevice), "{room}");
             let (front, _) = REPLIES.split_at(room);
             assert!(rt; writer.taken.as_slice() == front, "{room}");
-            let read = if room < 39 { 39 } else if room < 129 { 50 } else { SCRIPT.len() };
+            let read = if room < 39 { 39 } else if room < 130 { 50 } else { SCRIPT.len() };
             assert_eq!(rt; reader.given, read, "{room}");
         }
     }
@@ -54,11 +53,11 @@ fn readers(rt: HostRuntime) {
             &alloc,
             &mut MemoryReader::failing_after(SCRIPT, count),
             &mut writer,
-            &mut MemoryStore::new(&[]),
+            &mut no_files(&alloc),
             Settings { pages: None },
         );
         assert_eq!(rt; answer, Err(RunFault::ReadDevice), "{count}");
-        let written = if count < 39 { 0 } else if count < 50 { 39 } else if count < 63 { 129 } else { REPLIES.len() };
+        let written = if count < 39 { 0 } else if count < 50 { 39 } else if count < 63 { 130 } else { REPLIES.len() };
         let (front, _) = REPLIES.split_at(written.min(REPLIES.len()));
         assert!(rt; writer.taken.as_slice() == front, "{count}");
     }
@@ -68,13 +67,14 @@ fn readers(rt: HostRuntime) {
 #[test]
 fn heaps(rt: HostRuntime) -> Result<(), Fail> {
     let script = b"position k7/8/8/8/8/8/8/K7 w - - 0 1\nmoves root\nbuild KK\nstipulate white draw\ninsert root Kb1\nmark 0\n";
+    let alloc = rt.alloc();
     let mut before = 0u32;
     let mut refused = 0u32;
     let mut whole = 0u32;
     for step in 0..300usize {
         let heap = LocalHeap::new(rt.alloc(), 64 + step * 64)?;
-        let mut taken = MemoryWriter::new(&rt);
-        let mut store = MemoryStore::new(&[]);
+        let mut taken = MemoryWriter::new(&alloc);
+        let mut store = no_files(&alloc);
         let answer = run(
             &heap,
             &mut MemoryReader::new(script),

@@ -1,12 +1,12 @@
 //! Runs over a store in memory.
 use std::alloc::Allocator;
-use std::cell::RefCell;
 use std::process::Abort;
 use study_index::cells;
 use study_material::Class;
 use study_retro::{BuildRoom, TableSet, build};
 use study_script::memory::MemoryStore;
 use study_script::run::{RunFault, Settings, Summary, run};
+use study_script::store::TableStore;
 use study_tablefile::memory::{MemoryReader, MemoryWriter};
 use study_tablefile::write_table;
 
@@ -14,9 +14,9 @@ use study_tablefile::write_table;
 pub type Rows<'r> = &'r [(&'r str, &'r str)];
 
 /// What a run writes, and what it answers.
-pub fn replies_of<'a, A: Allocator>(
+pub fn replies_of<'a, S: TableStore, A: Allocator>(
     alloc: &'a A,
-    store: &mut MemoryStore<'_, '_, '_, A>,
+    store: &mut S,
     pages: Option<u16>,
     script: &[u8],
 ) -> (Vec<u8, &'a A>, Result<Summary, RunFault>) {
@@ -32,10 +32,10 @@ pub fn replies_of<'a, A: Allocator>(
 }
 
 /// Runs the lines, and compares the replies.
-pub fn check_over<A: Allocator>(
+pub fn check_over<S: TableStore, A: Allocator>(
     rt: &impl Abort,
     alloc: &A,
-    store: &mut MemoryStore<'_, '_, '_, A>,
+    store: &mut S,
     pages: Option<u16>,
     rows: Rows<'_>,
 ) {
@@ -67,14 +67,12 @@ pub fn check_over<A: Allocator>(
 
 /// The same over a store without files.
 pub fn check<A: Allocator>(rt: &impl Abort, alloc: &A, rows: Rows<'_>) {
-    let writers: [RefCell<MemoryWriter<'_, A>>; 0] = [];
-    check_over(
-        rt,
-        alloc,
-        &mut MemoryStore::new(writers.as_slice()),
-        None,
-        rows,
-    );
+    check_over(rt, alloc, &mut no_files(alloc), None, rows);
+}
+
+/// A store without files, and without writers for those that are saved.
+pub fn no_files<'f, 'a, A: Allocator>(_alloc: &'a A) -> MemoryStore<'f, 'a, 'a, A> {
+    MemoryStore::new(&[])
 }
 
 /// The text of the built table of the last of these classes, each of which needs none but those before it.

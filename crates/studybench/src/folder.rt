@@ -1,5 +1,5 @@
 //! The files of tables in a folder, one for each class: `KQK.dtm`.
-ghost use Rattle.std.specs.Prelude.{◌≡◌, ◌<◌, ⊥, ⊤, None, OnOk, OnErr, vec_len, length};
+ghost use Rattle.std.specs.Prelude.{⊤, ◌≡◌, None, OnOk, OnErr, vec_len, length};
 ghost use Rattle.study_tablefile.specs.Source.{counted};
 
 use std::alloc::{AllocError, Allocator};
@@ -25,7 +25,7 @@ impl<'r, 'a, R: Files, A: Allocator> FolderStore<'r, 'a, R, A> {
     pub fn new(files: &'r R, alloc: &'a A, folder: &str) -> Result<Self, AllocError> {
         let mut paths = Vec::with_capacity(alloc, 36)?;
         for class in Class::all() {
-            paths.push_reserved(path_in(alloc, folder, *class)?);
+            paths.push(path_in(alloc, folder, *class)?)?;
         }
         Ok(FolderStore { files, paths })
     }
@@ -41,9 +41,10 @@ fn path_in<'a, A: Allocator>(
     class: Class,
 ) -> Result<String<&'a A>, AllocError> {
     let mut path = String::new(alloc);
-    for part in [folder, "/", class.name(), ".dtm"] {
-        path.push_str(part)?;
-    }
+    path.push_str(folder)?;
+    path.push_str("/")?;
+    path.push_str(class.name())?;
+    path.push_str(".dtm")?;
     Ok(path)
 }
 
@@ -118,15 +119,11 @@ fn read_at<F: Read + Seek>(file: &mut F, start: u64, into: &mut [u8]) -> Result<
     if file.seek(SeekFrom::Start(start)).is_err() {
         return Err(SourceFault::Device);
     }
-    let mut filled = 0usize;
-    while filled < into.len() {
-        match file.read(&mut into[filled..]) {
-            Ok(0) => return Err(SourceFault::Short),
-            Ok(n) => filled += n,
-            Err(_) => return Err(SourceFault::Device),
-        }
+    match file.read_exact(into) {
+        Ok(()) => Ok(()),
+        Err(error) if error.kind() == ErrorKind::UnexpectedEof => Err(SourceFault::Short),
+        Err(_) => Err(SourceFault::Device),
     }
-    Ok(())
 }
 
 impl<F: Read + Seek + Drop> PageSource for FilePages<F> {

@@ -1,5 +1,6 @@
 //! The command line.
-ghost use Rattle.std.specs.Prelude.{◌≤◌, IfSome, IfOk};
+ghost use Rattle.std.specs.Prelude.{◌≤◌, IfSome};
+ghost use Rattle.std.proofs.Props.{props};
 
 use clap::{Arg, ArgAction, Command, Error, value_parser};
 use std::alloc::Global;
@@ -36,12 +37,12 @@ pub struct Options<'a> {
     pub tables: &'a str,
     /// How many pages of tables are kept, where they are read by pages: 1 to 4,096.
     pub pages: Option<u16>,
+    ghost range: { IfSome pages (λ n. (1 ≤ n) × (n ≤ 4096)) } by { Prim.hlevel props },
 }
 
 /// Reads the words of the command line, of which the first is the program's name. `--help` is answered as an error whose
 /// exit code is 0.
 pub fn read_words<'a>(alloc: Global, words: &'a [String]) -> Result<Options<'a>, Error>
-    ensures { IfOk result (λ options. IfSome options.pages (λ n. (1 ≤ n) × (n ≤ 4096))) }
 {
     let tables = Arg::new(alloc, "tables")
         .long("tables")
