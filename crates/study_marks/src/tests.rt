@@ -1,4 +1,5 @@
 //! Worked studies: marks, edits, refusals and counts.
+ghost use Rattle.std.specs.Prelude.{true};
 
 mod picture;
 mod random;
@@ -7,13 +8,13 @@ mod refused;
 use crate::{Bench, Edit, Goal, Mark, MateMoves, MoveMark, Refusal, Stipulation, TagName};
 use std::alloc::{Allocator, Global};
 use std::process::Abort;
-use study_board::{Kind, Side, Square};
+use study_board::{Position, Side, Square};
 use study_index::cells;
 use study_material::Class;
 use study_moves::Move;
 use study_notation::{Start, read_fen, read_san};
 use study_prober::memory::FailingValues;
-use study_prober::{Values, WholeTables};
+use study_prober::{ProbeFault, Values, WholeTables};
 use study_retro::{BuildRoom, TableSet, Value, build};
 use study_tree::Path;
 
@@ -305,26 +306,30 @@ fn mate_in_two(rt: HostRuntime) {
     assert_eq!(rt; (bench.relabelled(), values.asked()), (14, asked));
 }
 
-/// Each refusal, and a list of edits.
+/// The marks of the study with a queen: a win that is one of 22, and a stalemate.
+fn has_dual_and_mistake<'a, A: Allocator>(rt: &impl Abort, alloc: &'a A, bench: &Bench<'a, A>) {
+    let root = told(Value::Win(1), None, 1);
+    let dual = told(Value::Loss(0), Some(MoveMark::Dual(21)), 1);
+    let mistake = told(Value::Draw, Some(MoveMark::Mistake), 1);
+    assert_eq!(rt; mark(rt, alloc, bench, &[]), root);
+    assert_eq!(rt; mark(rt, alloc, bench, &[0]), dual);
+    assert_eq!(rt; mark(rt, alloc, bench, &[1]), mistake);
+    assert_eq!(rt; bench.size(), 3);
+}
+
+/// A list of edits stops at the first that is refused, after those before.
 #[test]
-fn refusals(rt: HostRuntime) {
+fn a_list_of_edits(rt: HostRuntime) {
     let alloc = rt.alloc();
     let mut values = tables(&rt, &alloc, [Class::KK, Class::KQK].as_slice());
     let first = start(&rt, "k7/8/1K6/8/8/8/8/6Q1 w - - 0 1");
     let mut bench = Bench::new(&alloc, first, WHITE_WINS, &mut values)
         .ok()
         .expect(&rt, "a bench");
-    let square = |n: u8| Square::new(n).expect(&rt, "a square");
-    let to = |n: u8| Move {
-        origin: square(6),
-        target: square(n),
-        promoted: None::<Kind>,
-    };
-    let root = || Path::root(&alloc);
     let edits = [
-        Edit::Insert(root(), to(62)),
-        Edit::Insert(root(), to(15)),
-        Edit::Insert(root(), to(62)),
+        Edit::Insert(Path::root(&alloc), moved(6, 62)),
+        Edit::Insert(Path::root(&alloc), moved(6, 15)),
+        Edit::Insert(Path::root(&alloc), moved(6, 62)),
     ];
     match bench.apply_all(edits.as_slice(), &mut values) {
         Err(stopped) => assert!(rt;
@@ -332,48 +337,106 @@ fn refusals(rt: HostRuntime) {
         ),
         Ok(()) => panic!(rt; "not stopped"),
     }
-    assert_eq!(rt;
-        mark(&rt, &alloc, &bench, &[]),
-        told(Value::Win(1), None, 1)
-    );
-    assert!(rt; matches!(bench.delete(&root()), Err(Refusal::RootNotAllowed)));
-    assert!(rt;
-        matches!(
-            bench.promote(&path(&rt, &alloc, &[0])),
-            Err(Refusal::AlreadyFirst)
-        )
-    );
-    assert!(rt;
-        matches!(
-            bench.delete(&path(&rt, &alloc, &[0, 0])),
-            Err(Refusal::NoSuchNode)
-        )
-    );
-    assert!(rt;
-        matches!(
-            bench.insert(&root(), to(7 + 8), &mut values),
-            Err(Refusal::AlreadyThere(1))
-        )
-    );
-    assert!(rt;
-        matches!(
-            bench.insert(&root(), to(49), &mut values),
-            Err(Refusal::IllegalMove)
-        )
-    );
-    assert!(rt;
-        bench
-            .set_tag(TagName::Event, "A \"quoted\" \\ study")
-            .is_ok()
-    );
-    assert!(rt; bench.tag(TagName::Event) == Some("A \"quoted\" \\ study"));
-    assert!(rt; bench.tag(TagName::Site).is_none());
-    assert!(rt; matches!(bench.set_tag(TagName::Site, ""), Err(Refusal::TagText)));
+    has_dual_and_mistake(&rt, &alloc, &bench);
+    let (none, _) = edits.as_slice().split_at(0);
+    assert!(rt; bench.apply_all(none, &mut values).is_ok());
+    has_dual_and_mistake(&rt, &alloc, &bench);
+}
+
+/// Values that are not the game's: each is a draw.
+#[derive(Drop)]
+struct Draws {
+    asked: u64,
+}
+
+impl Values for Draws {
+    ghost is_honest = { λ w. ⊥ };
+
+    ghost held = { λ w c. true };
+
+    ghost asked_of = { λ w. w.asked };
+
+    ghost failed_of = { λ w. 0 };
+
+    fn value(&mut self, p: &Position) -> Result<Value, ProbeFault> {
+        let _men = p.men();
+        self.asked = self.asked.saturating_add(1);
+        Ok(Value::Draw)
+    }
+
+    fn holds(&self, class: Class) -> bool {
+        let _place = cells(class);
+        true
+    }
+
+    fn asked(&self) -> u64 {
+        self.asked
+    }
+
+    fn failures(&self) -> u64 {
+        0
+    }
+}
+
+/// A study made over values that are wrong has the game's marks once its values are asked anew.
+#[test]
+fn annotated_anew(rt: HostRuntime) {
+    let alloc = rt.alloc();
+    let mut values = tables(&rt, &alloc, [Class::KK, Class::KQK].as_slice());
+    let mut draws = Draws { asked: 0 };
+    let first = start(&rt, "k7/8/1K6/8/8/8/8/6Q1 w - - 0 1");
+    let mut bench = Bench::new(&alloc, first, WHITE_WINS, &mut draws)
+        .ok()
+        .expect(&rt, "a bench");
+    let root = Path::root(&alloc);
+    assert!(rt; bench.insert(&root, moved(6, 62), &mut draws).ok() == Some(0));
+    assert!(rt; bench.insert(&root, moved(6, 15), &mut draws).ok() == Some(1));
+    let idle = told(Value::Draw, Some(MoveMark::Idle), 0);
+    assert_eq!(rt; mark(&rt, &alloc, &bench, &[0]), idle);
     assert!(rt; bench.reannotate(&mut values).is_ok());
-    assert_eq!(rt;
-        mark(&rt, &alloc, &bench, &[0]),
-        told(Value::Loss(0), Some(MoveMark::Dual(21)), 1)
-    );
+    has_dual_and_mistake(&rt, &alloc, &bench);
+}
+
+/// The first reason to refuse each edit.
+#[test]
+fn refusals(rt: HostRuntime) {
+    let alloc = rt.alloc();
+    let mut values = tables(&rt, &alloc, [Class::KK, Class::KRK].as_slice());
+    let first = start(&rt, "k7/8/1K6/8/8/8/8/7R w - - 0 1");
+    let mut bench = Bench::new(&alloc, first, WHITE_WINS, &mut values)
+        .ok()
+        .expect(&rt, "a bench");
+    let root = Path::root(&alloc);
+    let child = path(&rt, &alloc, &[0]);
+    let missing = path(&rt, &alloc, &[0, 0]);
+    assert!(rt; bench.insert(&root, moved(41, 34), &mut values).ok() == Some(0));
+    assert!(rt; matches!(bench.delete(&root), Err(Refusal::RootNotAllowed)));
+    assert!(rt; matches!(bench.promote(&root), Err(Refusal::RootNotAllowed)));
+    assert!(rt; matches!(bench.promote(&child), Err(Refusal::AlreadyFirst)));
+    assert!(rt; matches!(bench.delete(&missing), Err(Refusal::NoSuchNode)));
+    let again = bench.insert(&root, moved(41, 34), &mut values);
+    assert!(rt; matches!(again, Err(Refusal::AlreadyThere(0))));
+    let foul = bench.insert(&root, moved(7, 49), &mut values);
+    assert!(rt; matches!(foul, Err(Refusal::IllegalMove)));
+    let nowhere = bench.insert(&missing, moved(7, 49), &mut values);
+    assert!(rt; matches!(nowhere, Err(Refusal::NoSuchNode)));
+    assert_eq!(rt; bench.size(), 2);
+}
+
+/// A tag is told as it was given, and one that is refused stays unknown.
+#[test]
+fn tags(rt: HostRuntime) {
+    let alloc = rt.alloc();
+    let mut values = tables(&rt, &alloc, [Class::KK].as_slice());
+    let first = start(&rt, "k7/8/1K6/8/8/8/8/8 w - - 0 1");
+    let mut bench = Bench::new(&alloc, first, WHITE_WINS, &mut values)
+        .ok()
+        .expect(&rt, "a bench");
+    let text = "A \"quoted\" \\ study";
+    assert!(rt; bench.set_tag(TagName::Event, text).is_ok());
+    assert!(rt; bench.tag(TagName::Event) == Some(text));
+    assert!(rt; matches!(bench.set_tag(TagName::Site, ""), Err(Refusal::TagText)));
+    assert!(rt; bench.tag(TagName::Site).is_none());
 }
 
 /// A line of 256 moves, and no more.

@@ -75,9 +75,23 @@ fn files_by_pages(rt: HostRuntime) -> Result<(), Fail> {
         failing.fails_at = Some(fails_at);
         let refused = fault == "load";
         let rows = [
-            ("load KRK", if refused { "error TableRead Device" } else { "loaded KRK cells 81920" }),
+            (
+                "load KRK",
+                if refused {
+                    "error TableRead Device"
+                } else {
+                    "loaded KRK cells 81920"
+                },
+            ),
             (start, start),
-            ("stipulate white win", if refused { "error NoTable KRK" } else { "error TableRead Device" }),
+            (
+                "stipulate white win",
+                if refused {
+                    "error NoTable KRK"
+                } else {
+                    "error TableRead Device"
+                },
+            ),
             ("mark root", "error NoStudy"),
         ];
         check_over(&rt, &alloc, &mut failing, Some(1), rows.as_slice());
@@ -162,17 +176,41 @@ fn faults_of_files(rt: HostRuntime) -> Result<(), Fail> {
     let (cut, _) = text.as_slice().split_at(text.len().min(4_191));
     let rows: [(Vec<u8, _>, &str, &str); 7] = [
         (cut.to_vec(&alloc)?, "error Cut", "loaded KK cells 1280"),
-        (changed(&alloc, text.as_slice(), 0, b'T')?, "error NotATable", "error NotATable"),
-        (changed(&alloc, text.as_slice(), 8, 9)?, "error Version 9", "error Version 9"),
-        (changed(&alloc, text.as_slice(), 17, b'X')?, "error ClassUnknown", "error ClassUnknown"),
-        (changed(&alloc, text.as_slice(), 40, 0)?, "error HeaderDamaged", "error HeaderDamaged"),
-        (changed(&alloc, text.as_slice(), 100, 1)?, "error PageDamaged 0", "loaded KK cells 1280"),
+        (
+            changed(&alloc, text.as_slice(), 0, b'T')?,
+            "error NotATable",
+            "error NotATable",
+        ),
+        (
+            changed(&alloc, text.as_slice(), 8, 9)?,
+            "error Version 9",
+            "error Version 9",
+        ),
+        (
+            changed(&alloc, text.as_slice(), 17, b'X')?,
+            "error ClassUnknown",
+            "error ClassUnknown",
+        ),
+        (
+            changed(&alloc, text.as_slice(), 40, 0)?,
+            "error HeaderDamaged",
+            "error HeaderDamaged",
+        ),
+        (
+            changed(&alloc, text.as_slice(), 100, 1)?,
+            "error PageDamaged 0",
+            "loaded KK cells 1280",
+        ),
         (longer, "error TrailingBytes", "loaded KK cells 1280"),
     ];
     for (bytes, whole, by_pages) in &rows {
         let mut store = no_files(&alloc);
         store.put(Class::KK, MemoryFile::Bytes(bytes.as_slice()));
-        let wanted = [("load KK", *whole), ("load KK", *whole), ("build KK", "built KK cells 1280 win -")];
+        let wanted = [
+            ("load KK", *whole),
+            ("load KK", *whole),
+            ("build KK", "built KK cells 1280 win -"),
+        ];
         check_over(&rt, &alloc, &mut store, None, wanted.as_slice());
         let wanted = [("load KK", *by_pages), ("build KK", "error PagedMode")];
         check_over(&rt, &alloc, &mut store, Some(1), wanted.as_slice());
@@ -181,7 +219,13 @@ fn faults_of_files(rt: HostRuntime) -> Result<(), Fail> {
         let mut store = no_files(&alloc);
         store.put(Class::KK, MemoryFile::Bytes(text.as_slice()));
         store.fails_after = Some(fails_after);
-        check_over(&rt, &alloc, &mut store, None, &[("load KK", "error Device")]);
+        check_over(
+            &rt,
+            &alloc,
+            &mut store,
+            None,
+            &[("load KK", "error Device")],
+        );
     }
     Ok(())
 }

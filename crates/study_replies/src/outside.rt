@@ -16,7 +16,13 @@ fn empty_script(rt: HostRuntime) {
     let alloc = rt.alloc();
     let (text, answer) = replies_of(&alloc, &mut no_files(&alloc), None, b"");
     assert!(rt; text.is_empty());
-    assert_eq!(rt; answer, Ok(Summary { lines: 0, refused: 0 }));
+    assert_eq!(rt;
+        answer,
+        Ok(Summary {
+            lines: 0,
+            refused: 0
+        })
+    );
 }
 
 /// A writer that fails, or takes nothing, has a front of the replies, and no line behind the one that it broke off is read.
@@ -37,7 +43,13 @@ fn writers(rt: HostRuntime) {
             assert_eq!(rt; answer, Err(RunFault::WriteDevice), "{room}");
             let (front, _) = REPLIES.split_at(room);
             assert!(rt; writer.taken.as_slice() == front, "{room}");
-            let read = if room < 39 { 39 } else if room < 130 { 50 } else { SCRIPT.len() };
+            let read = if room < 39 {
+                39
+            } else if room < 130 {
+                50
+            } else {
+                SCRIPT.len()
+            };
             assert_eq!(rt; reader.given, read, "{room}");
         }
     }
@@ -57,7 +69,15 @@ fn readers(rt: HostRuntime) {
             Settings { pages: None },
         );
         assert_eq!(rt; answer, Err(RunFault::ReadDevice), "{count}");
-        let written = if count < 39 { 0 } else if count < 50 { 39 } else if count < 63 { 130 } else { REPLIES.len() };
+        let written = if count < 39 {
+            0
+        } else if count < 50 {
+            39
+        } else if count < 63 {
+            130
+        } else {
+            REPLIES.len()
+        };
         let (front, _) = REPLIES.split_at(written.min(REPLIES.len()));
         assert!(rt; writer.taken.as_slice() == front, "{count}");
     }
@@ -66,7 +86,8 @@ fn readers(rt: HostRuntime) {
 /// Heaps of rising size: no reply and want of memory before the first line, or one line that wants memory, or none.
 #[test]
 fn heaps(rt: HostRuntime) -> Result<(), Fail> {
-    let script = b"position k7/8/8/8/8/8/8/K7 w - - 0 1\nmoves root\nbuild KK\nstipulate white draw\ninsert root Kb1\nmark 0\n";
+    let script =
+        b"position k7/8/8/8/8/8/8/K7 w - - 0 1\nmoves root\nbuild KK\nstipulate white draw\ninsert root Kb1\nmark 0\n";
     let alloc = rt.alloc();
     let mut before = 0u32;
     let mut refused = 0u32;

@@ -52,10 +52,19 @@ fn positions(rt: HostRuntime) {
         &[
             ("position k7/8/8/8/8/8/8/K7 w -", "error FieldCount"),
             ("position k7/8/8/8/8/8/8 w - - 0 1", "error Placement"),
-            ("position k7/8/8/8/8/8/8/K6P w - - 0 1", "error PawnOnEndRank"),
+            (
+                "position k7/8/8/8/8/8/8/K6P w - - 0 1",
+                "error PawnOnEndRank",
+            ),
             ("position k7/8/8/8/8/8/8/K7 x - - 0 1", "error SideField"),
-            ("position k7/8/8/8/8/8/8/K7 w - e9 0 1", "error EnPassantField"),
-            ("position k7/8/8/8/8/8/8/K7 w - e6 0 1", "error EnPassantImpossible"),
+            (
+                "position k7/8/8/8/8/8/8/K7 w - e9 0 1",
+                "error EnPassantField",
+            ),
+            (
+                "position k7/8/8/8/8/8/8/K7 w - e6 0 1",
+                "error EnPassantImpossible",
+            ),
             ("position k7/8/8/8/8/8/8/K7 w - - x 1", "error Clock"),
             ("position k7/8/8/8/8/8/8/K7 w - - 0 x", "error MoveNumber"),
             ("moves root", "error NoPosition"),
@@ -72,7 +81,10 @@ fn edits(rt: HostRuntime) {
         &rt,
         &alloc,
         &[
-            ("position k7/8/8/8/8/8/8/K7 w - - 0 1", "position k7/8/8/8/8/8/8/K7 w - - 0 1"),
+            (
+                "position k7/8/8/8/8/8/8/K7 w - - 0 1",
+                "position k7/8/8/8/8/8/8/K7 w - - 0 1",
+            ),
             ("moves 0", "error NoSuchNode"),
             ("stipulate white draw", "error NoTable KK"),
             ("build KK", "built KK cells 1280 win -"),

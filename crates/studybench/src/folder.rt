@@ -3,10 +3,9 @@ ghost use Rattle.std.specs.Prelude.{⊤, ◌≡◌, None, OnOk, OnErr, vec_len, 
 ghost use Rattle.study_tablefile.specs.Source.{counted};
 
 use std::alloc::{AllocError, Allocator};
-use std::fs;
-use std::io;
 use std::io::{ErrorKind, Read, Seek, SeekFrom};
 use std::rt::Files;
+use std::{fs, io};
 use study_material::Class;
 use study_script::store::{StoreFault, TableStore};
 use study_tablefile::{PageSource, SourceFault};
@@ -60,7 +59,9 @@ fn fault_of(error: &io::Error) -> StoreFault {
 // Nothing is known of what files give: a run over this store is the theorem's case without its premise, and is tested.
 impl<'r, 'a, R: Files, A: Allocator> TableStore for FolderStore<'r, 'a, R, A> {
     type Reader = R::File;
+
     type Writer = R::File;
+
     type Pages = FilePages<R::File>;
 
     ghost honest = { λ s by_pages. ⊥ };

@@ -42,8 +42,7 @@ pub struct Options<'a> {
 
 /// Reads the words of the command line, of which the first is the program's name. `--help` is answered as an error whose
 /// exit code is 0.
-pub fn read_words<'a>(alloc: Global, words: &'a [String]) -> Result<Options<'a>, Error>
-{
+pub fn read_words<'a>(alloc: Global, words: &'a [String]) -> Result<Options<'a>, Error> {
     let tables = Arg::new(alloc, "tables")
         .long("tables")
         .value_name("DIR")
