@@ -1,4 +1,6 @@
 //! Runs over a store in memory.
+ghost use Rattle.std.specs.Prelude.{◌≤◌, IfSome};
+
 use std::alloc::Allocator;
 use std::process::Abort;
 use study_index::cells;
@@ -19,7 +21,9 @@ pub fn replies_of<'a, S: TableStore, A: Allocator>(
     store: &mut S,
     pages: Option<u16>,
     script: &[u8],
-) -> (Vec<u8, &'a A>, Result<Summary, RunFault>) {
+) -> (Vec<u8, &'a A>, Result<Summary, RunFault>)
+    requires { IfSome pages (λ n. (1 ≤ n) × (n ≤ 4096)) }
+{
     let mut writer = MemoryWriter::new(alloc);
     let answer = run(
         alloc,
@@ -38,7 +42,9 @@ pub fn check_over<S: TableStore, A: Allocator>(
     store: &mut S,
     pages: Option<u16>,
     rows: Rows<'_>,
-) {
+)
+    requires { IfSome pages (λ n. (1 ≤ n) × (n ≤ 4096)) }
+{
     let mut script = Vec::new(alloc);
     let mut wanted = Vec::new(alloc);
     let mut refused = 0u32;
