@@ -3,6 +3,7 @@
 use crate::board::{Kind, Man, Side, Square};
 use crate::index::{least_of, places};
 use crate::material::Class;
+use crate::passing::{behind, is_live};
 use crate::position::Position;
 
 /// What man fills a place in the order of a class.
@@ -33,7 +34,8 @@ pub fn cells(class: Class) -> u32 {
         KK => 1_280,
         KQK | KRK | KBK | KNK => 81_920,
         KPK => 262_144,
-        KQPK | KRPK | KBPK | KNPK | KPPK | KQKP | KRKP | KBKP | KNKP | KPKP => 16_777_216,
+        KQPK | KRPK | KBPK | KNPK | KPPK | KQKP | KRKP | KBKP | KNKP => 16_777_216,
+        KPKP => 33_554_432,
         _ => 5_242_880,
     }
 }
@@ -50,10 +52,35 @@ fn slots(class: Class) -> &'static [Slot] {
         KNK => const { &[white(King), black(King), white(Knight)] },
         KPK => const { &[white(King), black(King), white(Pawn)] },
         KQQK => const { &[white(King), black(King), white(Queen), white(Queen)] },
+        KQRK => const { &[white(King), black(King), white(Queen), white(Rook)] },
+        KQBK => const { &[white(King), black(King), white(Queen), white(Bishop)] },
+        KQNK => const { &[white(King), black(King), white(Queen), white(Knight)] },
+        KQPK => const { &[white(King), black(King), white(Queen), white(Pawn)] },
+        KRRK => const { &[white(King), black(King), white(Rook), white(Rook)] },
+        KRBK => const { &[white(King), black(King), white(Rook), white(Bishop)] },
+        KRNK => const { &[white(King), black(King), white(Rook), white(Knight)] },
         KRPK => const { &[white(King), black(King), white(Rook), white(Pawn)] },
+        KBBK => const { &[white(King), black(King), white(Bishop), white(Bishop)] },
+        KBNK => const { &[white(King), black(King), white(Bishop), white(Knight)] },
+        KBPK => const { &[white(King), black(King), white(Bishop), white(Pawn)] },
+        KNNK => const { &[white(King), black(King), white(Knight), white(Knight)] },
+        KNPK => const { &[white(King), black(King), white(Knight), white(Pawn)] },
+        KPPK => const { &[white(King), black(King), white(Pawn), white(Pawn)] },
+        KQKQ => const { &[white(King), black(King), white(Queen), black(Queen)] },
+        KQKR => const { &[white(King), black(King), white(Queen), black(Rook)] },
+        KQKB => const { &[white(King), black(King), white(Queen), black(Bishop)] },
+        KQKN => const { &[white(King), black(King), white(Queen), black(Knight)] },
         KQKP => const { &[white(King), black(King), white(Queen), black(Pawn)] },
+        KRKR => const { &[white(King), black(King), white(Rook), black(Rook)] },
+        KRKB => const { &[white(King), black(King), white(Rook), black(Bishop)] },
         KRKN => const { &[white(King), black(King), white(Rook), black(Knight)] },
-        _ => unimplemented!("a class that is not timed"),
+        KRKP => const { &[white(King), black(King), white(Rook), black(Pawn)] },
+        KBKB => const { &[white(King), black(King), white(Bishop), black(Bishop)] },
+        KBKN => const { &[white(King), black(King), white(Bishop), black(Knight)] },
+        KBKP => const { &[white(King), black(King), white(Bishop), black(Pawn)] },
+        KNKN => const { &[white(King), black(King), white(Knight), black(Knight)] },
+        KNKP => const { &[white(King), black(King), white(Knight), black(Pawn)] },
+        KPKP => const { &[white(King), black(King), white(Pawn), black(Pawn)] },
     }
 }
 
@@ -81,13 +108,30 @@ fn man(slot: &Slot, square: u32) -> Man {
     }
 }
 
+/// The position of these men, the square behind the pawn of the side that is not to move being passed.
+fn placed_behind(men: &[Man], to_move: Side) -> Option<Position> {
+    match behind(to_move.other(), men) {
+        None => Position::new(men, to_move, None),
+        Some(number) if number < 64 => Position::new(men, to_move, Some(Square(number))),
+        Some(_) => None,
+    }
+}
+
 /// The position of these men, if `number` is their least and they are one.
 #[inline]
-fn numbered(pawns: bool, to_move: Side, number: u32, men: &[Man]) -> Option<Position> {
-    if least_of(pawns, to_move, false, men) == Some(number) {
-        Position::new(men, to_move, None)
-    } else {
+fn numbered(
+    pawns: bool,
+    to_move: Side,
+    number: u32,
+    passed: bool,
+    men: &[Man],
+) -> Option<Position> {
+    if least_of(pawns, to_move, false, men) != Some(number) {
         None
+    } else if passed {
+        placed_behind(men, to_move)
+    } else {
+        Position::new(men, to_move, None)
     }
 }
 
@@ -100,12 +144,8 @@ fn side_of(number: u32) -> Side {
     }
 }
 
-/// The position of the class that has this number, if there is one.
-pub fn decode(class: Class, number: u32) -> Option<Position> {
-    if number >= cells(class) {
-        return None;
-    }
-    let slots = slots(class);
+/// The position of the men and the side that the number tells, with a passed square or without.
+fn read_off(slots: &[Slot], number: u32, passed: bool) -> Option<Position> {
     let pawns = slots.iter().any(|slot| slot.kind == Kind::Pawn);
     let places = places(pawns);
     let king = |slot, head| man(slot, listed(pawns, head % places));
@@ -114,21 +154,32 @@ pub fn decode(class: Class, number: u32) -> Option<Position> {
         [k, b] => {
             let head = number / 64;
             let men = [king(k, head), man(b, number % 64)];
-            numbered(pawns, side(head), number, &men)
+            numbered(pawns, side(head), number, passed, &men)
         }
         [k, b, x] => {
             let head = number / 64 / 64;
             let black = man(b, number / 64 % 64);
             let men = [king(k, head), black, man(x, number % 64)];
-            numbered(pawns, side(head), number, &men)
+            numbered(pawns, side(head), number, passed, &men)
         }
         [k, b, x, y] => {
             let head = number / 64 / 64 / 64;
             let black = man(b, number / 64 / 64 % 64);
             let further = man(x, number / 64 % 64);
             let men = [king(k, head), black, further, man(y, number % 64)];
-            numbered(pawns, side(head), number, &men)
+            numbered(pawns, side(head), number, passed, &men)
         }
         _ => unreachable!(),
+    }
+}
+
+/// The position of the class that has this number, if there is one, with a passed square where the number has the bit.
+pub fn decode(class: Class, number: u32) -> Option<Position> {
+    if number >= cells(class) {
+        None
+    } else if number < 16_777_216 {
+        read_off(slots(class), number, false)
+    } else {
+        read_off(slots(class), number - 16_777_216, true).filter(is_live)
     }
 }

@@ -1,20 +1,20 @@
-//! Tables of distances to mate: built and verified.
+//! Tables of distances to mate: what the moves of a position give it, and whether a table tells it.
 
 use crate::decode::{cells, decode};
 use crate::index::index;
 use crate::material::{Class, class_of};
-use crate::moves::{is_mate, legal_moves, played};
+use crate::moves::{Move, is_mate, legal_moves, played};
 use crate::position::Position;
 
 #[derive(Clone, Copy, Debug, PartialEq, Eq)]
-enum Value {
+pub enum Value {
     Win(u8),
     Loss(u8),
     Draw,
 }
 
 impl Value {
-    fn of_cell(cell: u8) -> Value {
+    pub fn of_cell(cell: u8) -> Value {
         if cell == 0 {
             Value::Draw
         } else if cell % 2 == 1 {
@@ -24,7 +24,7 @@ impl Value {
         }
     }
 
-    fn distance(self) -> Option<u8> {
+    pub fn distance(self) -> Option<u8> {
         match self {
             Value::Draw => None,
             Value::Win(plies) | Value::Loss(plies) => Some(plies),
@@ -34,14 +34,14 @@ impl Value {
 
 /// What the values seen so far come to: the nearest loss, the farthest win, and whether there is a draw.
 #[derive(Clone, Copy, Default)]
-struct Tally {
+pub struct Tally {
     lost: Option<u8>,
     won: Option<u8>,
     drawn: bool,
 }
 
 impl Tally {
-    fn with(mut self, value: Value) -> Tally {
+    pub fn with(mut self, value: Value) -> Tally {
         match value {
             Value::Loss(plies) => self.lost = Some(self.lost.map_or(plies, |n| n.min(plies))),
             Value::Win(plies) => self.won = Some(self.won.map_or(plies, |n| n.max(plies))),
@@ -50,7 +50,7 @@ impl Tally {
         self
     }
 
-    fn given(self, mate: bool) -> Value {
+    pub fn given(self, mate: bool) -> Value {
         if let Some(plies) = self.lost {
             Value::Win(plies + 1)
         } else if self.drawn {
@@ -88,16 +88,38 @@ pub struct ClassGame<'a> {
     pub tables: &'a Tables,
 }
 
+/// Where the value of a position stands.
+pub enum Place {
+    Cell(u32),
+    Outside(Value),
+}
+
 impl ClassGame<'_> {
-    fn label(&self, cells: &[u8], position: &Position) -> Value {
+    pub fn cells(&self) -> u32 {
+        cells(self.class)
+    }
+
+    pub fn place(&self, position: &Position) -> Place {
         let (class, _) = class_of(position);
         if class == self.class {
-            return Value::of_cell(cells[index(position) as usize]);
+            return Place::Cell(index(position));
         }
         let table = self.tables.tables[class as usize]
             .as_ref()
             .expect("a table that is needed is held");
-        Value::of_cell(table[index(position) as usize])
+        Place::Outside(Value::of_cell(table[index(position) as usize]))
+    }
+
+    pub fn label(&self, cells: &[u8], position: &Position) -> Value {
+        match self.place(position) {
+            Place::Cell(number) => Value::of_cell(cells[number as usize]),
+            Place::Outside(value) => value,
+        }
+    }
+
+    /// Whether the move may lead out of the class.
+    pub fn leaves(&self, position: &Position, by: Move) -> bool {
+        by.promoted.is_some() || position.passed.is_some() || position.man_at(by.target).is_some()
     }
 
     fn given(&self, cells: &[u8], position: &Position) -> Value {
@@ -110,44 +132,14 @@ impl ClassGame<'_> {
         tally.given(is_mate(position))
     }
 
-    /// The new cell of a number whose cell is still 0, where some label gives it a value.
-    fn revised(&self, cells: &[u8], number: u32, level: u8) -> Option<u8> {
-        let position = decode(self.class, number)?;
-        let plies = self.given(cells, &position).distance()?;
-        Some(if plies == level { plies + 1 } else { 0 })
-    }
-
-    /// One level, and whether no later one changes a cell.
-    fn sweep(&self, cells: &mut [u8], level: u8) -> bool {
-        let mut quiet = true;
-        for number in 0..cells.len() {
-            if cells[number] != 0 {
-                continue;
-            }
-            if let Some(cell) = self.revised(cells, number as u32, level) {
-                quiet = false;
-                cells[number] = cell;
-            }
-        }
-        quiet
-    }
-
-    /// The cells of the class.
-    pub fn build(&self) -> Vec<u8> {
-        let mut cells = vec![0; cells(self.class) as usize];
-        for level in 0..255 {
-            if self.sweep(&mut cells, level) {
-                return cells;
-            }
-        }
-        panic!("some distance is above 254 plies");
-    }
-
     /// Whether each cell tells what the cells give it.
     pub fn verify(&self, cells: &[u8]) -> bool {
-        (0..cells.len()).all(|number| match decode(self.class, number as u32) {
-            None => cells[number] == 0,
-            Some(position) => self.given(cells, &position) == Value::of_cell(cells[number]),
+        (0..self.cells()).all(|number| {
+            let cell = cells[number as usize];
+            match decode(self.class, number) {
+                None => cell == 0,
+                Some(position) => self.given(cells, &position) == Value::of_cell(cell),
+            }
         })
     }
 }

@@ -135,7 +135,13 @@ pub fn calls() {
         show("earlier", sample.label, count, || {
             positions
                 .iter()
-                .map(|position| earlier(position).as_slice().iter().map(squares).sum::<u64>())
+                .map(|position| {
+                    earlier(position)
+                        .as_slice()
+                        .iter()
+                        .map(squares)
+                        .sum::<u64>()
+                })
                 .sum()
         });
         show("last_moves", sample.label, count, || {
@@ -194,9 +200,9 @@ pub fn tables(classes: &[Class]) {
         };
         let label = format!("{class:?}");
         let start = Instant::now();
-        let cells = game.build();
+        let (cells, examined) = game.build();
         let built = start.elapsed().as_nanos();
-        let sum = cells.iter().map(|cell| u64::from(*cell)).sum();
+        let sum = examined + cells.iter().map(|cell| u64::from(*cell)).sum::<u64>();
         line("build", &label, 1, built, sum);
         let start = Instant::now();
         let right = game.verify(&cells);

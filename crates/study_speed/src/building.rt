@@ -8,9 +8,9 @@ use study_index::cells;
 use study_material::{Class, order};
 use study_retro::{BuildRoom, Table, TableSet, build, verify};
 
-/// The sum of a table's cells.
-fn add_cells<A: Allocator>(table: &Table<A>) -> u64 {
-    let mut sum = 0u64;
+/// The sum of a table's cells, and of what its building examined.
+fn add_cells<A: Allocator>(table: &Table<A>, examined: u64) -> u64 {
+    let mut sum = examined;
     for cell in table.cells() {
         sum = sum.saturating_add(u64::from(*cell));
     }
@@ -39,16 +39,16 @@ fn build_one<'a, A: Allocator>(
     alloc: &'a A,
     tables: &mut TableSet<'a, A>,
     class: Class,
-) -> io::Result<()>
-{
+) -> io::Result<()> {
     let label = class.name();
     let start = Instant::now(&rt)?;
     let room = BuildRoom::new(alloc, cells(class))?;
-    let Ok((table, _)) = build(class, tables, room) else {
+    let Ok((table, report)) = build(class, tables, room) else {
         return println!(rt; "{label} is not built");
     };
     let nanoseconds = start.elapsed(&rt)?.as_nanos();
-    tell(rt, "build", label, 1, nanoseconds, add_cells(&table))?;
+    let sum = add_cells(&table, report.examined);
+    tell(rt, "build", label, 1, nanoseconds, sum)?;
     verify_one(rt, tables, &table)?;
     if tables.add(table).is_err() {
         return println!(rt; "{label} is not added");

@@ -4,12 +4,46 @@ use crate::timed::show;
 use std::io;
 use study_board::{Kind, Position, Side, Square};
 use study_index::index;
-use study_moves::{in_check, is_legal, legal_moves, played};
+use study_moves::{in_check, is_legal, last_moves, legal_moves, played, taken_back};
 
 fn count_moves(positions: &[Position]) -> u64 {
     let mut sum = 0u64;
     for position in positions {
         sum = sum.saturating_add(legal_moves(position).len() as u64);
+    }
+    sum
+}
+
+fn count_last_moves(positions: &[Position]) -> u64 {
+    let mut sum = 0u64;
+    for position in positions {
+        sum = sum.saturating_add(last_moves(position).len() as u64);
+    }
+    sum
+}
+
+/// The squares of the men of a position, added up.
+fn add_squares(position: &Position) -> u64 {
+    let mut sum = 0u64;
+    for man in position.men() {
+        sum = sum.saturating_add(u64::from(man.at.number()));
+    }
+    sum
+}
+
+fn add_squares_before(position: &Position) -> u64 {
+    let moves = last_moves(position);
+    let mut sum = 0u64;
+    for by in moves.as_slice() {
+        sum = sum.saturating_add(add_squares(&taken_back(position, *by)));
+    }
+    sum
+}
+
+fn add_taken_back(positions: &[Position]) -> u64 {
+    let mut sum = 0u64;
+    for position in positions {
+        sum = sum.saturating_add(add_squares_before(position));
     }
     sum
 }
@@ -75,12 +109,25 @@ fn diagonal(rt: HostRuntime) -> io::Result<Vec<Square>> {
     Ok(list)
 }
 
+fn measure_steps_back(rt: HostRuntime, label: &str, positions: &[Position]) -> io::Result<()> {
+    let count = positions.len() as u64;
+    show(
+        rt,
+        "last_moves",
+        label,
+        count,
+        || count_last_moves(positions),
+    )?;
+    show(rt, "taken_back", label, count, || add_taken_back(positions))
+}
+
 fn measure_at(rt: HostRuntime, setting: Setting) -> io::Result<()> {
     let label = setting.label;
     let list = setting.positions(rt)?;
     let positions = list.as_slice();
     let count = positions.len() as u64;
     show(rt, "legal_moves", label, count, || count_moves(positions))?;
+    measure_steps_back(rt, label, positions)?;
     show(rt, "in_check", label, count, || count_checks(positions))?;
     show(rt, "index", label, count, || add_indexes(positions))?;
     let squares = diagonal(rt)?;

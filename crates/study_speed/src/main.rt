@@ -5,6 +5,7 @@
 //! test.
 #![tactic(auto)]
 
+mod all_tables;
 mod building;
 mod calls;
 mod files;
@@ -25,15 +26,24 @@ fn measure_tables(rt: HostRuntime, name: &str) -> io::Result<()> {
     }
 }
 
+/// Tells of all tables, or of the one that a word names and those that it needs.
+fn tell_tables(rt: HostRuntime, name: &str) -> io::Result<()> {
+    match Class::parse(name) {
+        Ok(class) => all_tables::measure(rt, &[class]),
+        Err(_) => all_tables::measure(rt, Class::all()),
+    }
+}
+
 /// Times what the words ask for.
-fn measure(rt: HostRuntime, what: &str, name: &str) -> io::Result<()> {
+fn measure(rt: HostRuntime, what: &str, name: Option<&str>) -> io::Result<()> {
     match what {
+        "all" => tell_tables(rt, name.unwrap_or("")),
         "calls" => calls::measure(rt),
         "numbers" => numbers::measure(rt),
         "files" => files::measure(rt),
         "probes" => probes::measure(rt),
-        "tables" => measure_tables(rt, name),
-        _ => println!(rt; "calls, numbers, files, probes, or tables and a class"),
+        "tables" => measure_tables(rt, name.unwrap_or("KPK")),
+        _ => println!(rt; "calls, numbers, files, probes, all, or tables and a class"),
     }
 }
 
@@ -41,11 +51,7 @@ fn main(rt: HostRuntime) -> io::Result<ExitCode> {
     let mut words = std::env::args(&rt)?.skip(1);
     if let Some(what) = words.next() {
         let name = words.next();
-        let name = match &name {
-            Some(name) => name.as_str(),
-            None => "KPK",
-        };
-        measure(rt, what.as_str(), name)?;
+        measure(rt, what.as_str(), name.as_deref())?;
     }
     Ok(ExitCode::from(0))
 }

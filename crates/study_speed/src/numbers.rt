@@ -6,8 +6,7 @@ use study_index::{cells, decode};
 use study_material::Class;
 
 /// The men of all positions of a class.
-fn count_men(class: Class) -> u64
-{
+fn count_men(class: Class) -> u64 {
     let mut sum = 0u64;
     for number in 0..cells(class) {
         if let Some(position) = decode(class, number) {

@@ -41,8 +41,7 @@ fn time<V: Values>(
 }
 
 /// The positions of a class.
-fn positions_of<'a, A: Allocator>(alloc: &'a A, class: Class) -> io::Result<Vec<Position, &'a A>>
-{
+fn positions_of<'a, A: Allocator>(alloc: &'a A, class: Class) -> io::Result<Vec<Position, &'a A>> {
     let mut positions = Vec::new(alloc);
     for number in 0..cells(class) {
         if let Some(position) = decode(class, number) {
