@@ -256,5 +256,9 @@ pub fn index(p: &Position) -> u32
     ensures value { result ≡ index_of p.now }
 {
     let least = least_number(p);
-    if is_live(p) { 16_777_216 + least } else { least }
+    if is_live(p) {
+        16_777_216 + least
+    } else {
+        least
+    }
 }

@@ -136,13 +136,7 @@ fn is_least(pawns: bool, to_move: Side, n: u32, men: &[Man]) -> bool
 
 /// The position of these men, if they are one and `n` is their least number.
 #[inline]
-fn numbered(
-    pawns: bool,
-    to_move: Side,
-    n: u32,
-    passed: bool,
-    men: &[Man],
-) -> Option<Position>
+fn numbered(pawns: bool, to_move: Side, n: u32, passed: bool, men: &[Man]) -> Option<Position>
     requires { length men.now ≤ 4 }
     ensures some { IfSome result (λ q. IsPlaced men.now to_move (passed_behind passed to_move men.now) q × HasLeast pawns to_move n men.now) }
     ensures none { IfNone result (IsFaulty men.now to_move (passed_behind passed to_move men.now) ⊎ (HasLeast pawns to_move n men.now → ⊥)) }

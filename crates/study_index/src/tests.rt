@@ -154,8 +154,7 @@ fn cells_of_classes(rt: HostRuntime) {
 }
 
 // How many numbers of the class read as positions, and how many of these have another index.
-fn counted(class: Class) -> (u32, u32)
-{
+fn counted(class: Class) -> (u32, u32) {
     let (mut found, mut others) = (0u32, 0u32);
     for n in 0..cells(class) {
         if let Some(q) = decode(class, n) {
