@@ -1,11 +1,15 @@
 #!/bin/sh
 # Times the inner loop and the building of tables beside plain Rust of the same algorithm, in one run on one machine.
 #
-#   tools/speed.sh           the calls, the tables up to KPK, the files
-#   tools/speed.sh tables    KRKN and what it needs as well, which takes minutes
+#   tools/speed.sh                 the calls, the tables up to KPK, the files
+#   tools/speed.sh tables          KQKR, KRKN and what they need as well, which takes a minute
+#   tools/speed.sh instructions    the tables up to KPK in instructions, counted by valgrind, which other work cannot disturb
+#   tools/speed.sh all [CLASS]     builds all 36 tables (or one, and what it needs) and tells of each: seconds, numbers
+#                                  examined, deepest win and loss in plies, SHA-256 of the cells; then the sum of seconds
 #
 # Both programs print 'NAME LABEL PICOSECONDS SUM' for the same positions and numbers; a line is marked where the sums
-# differ. Each takes the fastest of five goes, and is run three times, in turns with the other; tables are built once.
+# differ. Each takes the fastest of five goes, and is run three times, in turns with the other; tables are built once in
+# each run. The sum of a build is that of its cells and of the numbers examined.
 set -e
 top=$(cd "$(dirname "$0")/.." && pwd)
 work=$(mktemp -d)
@@ -13,21 +17,45 @@ trap 'rm -rf "$work"' EXIT
 plain="$work/plain"
 ours="$top/crates/study_speed/out/study_speed"
 
-rustc --edition 2024 -C opt-level=3 -C target-cpu=x86-64-v2 -C panic=abort "$top/tools/speed/plain.rs" -o "$plain"
 (cd "$top/crates/study_speed" && rt run) > "$work/log" 2>&1 || { cat "$work/log"; exit 1; }
 
+if [ "$1" = all ]; then
+    # A line is marked where an independent builder has the digest too, and where it has another.
+    "$ours" all $2 | awk 'FNR == NR { if ($1 != "#") digest[$1] = $2; next }
+         { print $0 (!($1 in digest) ? "" : digest[$1] == $6 ? " as expected" : " NOT AS EXPECTED"); fflush() }' "$top/tools/speed/digests.txt" -
+    exit
+fi
+
+rustc --edition 2024 -C opt-level=3 -C target-cpu=x86-64-v2 -C panic=abort "$top/tools/speed/plain.rs" -o "$plain"
+
+if [ "$1" = instructions ]; then
+    # Instructions of one program on one class, within `build` alone or in all.
+    count() {
+        valgrind --tool=callgrind --callgrind-out-file=/dev/null "$@" 2>&1 | awk '/Collected/ { print $NF }'
+    }
+    for class in KQK KRK KPK; do
+        for part in build all; do
+            toggle=
+            [ "$part" = build ] && toggle='--toggle-collect=*build*'
+            echo "$part $class $(count $toggle "$ours" tables $class) $(count $toggle "$plain" tables $class)"
+        done
+    done | awk '{ name = $1 == "all" ? "and verify" : $1
+                  printf "%-12s %-11s %9.1f million   plain Rust %9.1f million   ratio %.2f\n", name, $2, $3 / 1e6, $4 / 1e6, $3 / $4 }'
+    exit
+fi
+
 for _ in 1 2 3; do
-    for what in calls numbers; do
+    for what in calls numbers tables; do
         "$ours" "$what" >> "$work/ours"
         "$plain" "$what" >> "$work/theirs"
     done
+    if [ "$1" = tables ]; then
+        for class in KQKR KRKN; do
+            "$ours" tables "$class" >> "$work/ours"
+            "$plain" tables "$class" >> "$work/theirs"
+        done
+    fi
 done
-"$ours" tables KPK >> "$work/ours"
-"$plain" tables KPK >> "$work/theirs"
-if [ "$1" = tables ]; then
-    "$ours" tables KRKN >> "$work/ours"
-    "$plain" tables KRKN >> "$work/theirs"
-fi
 "$ours" files > "$work/files"
 "$ours" probes > "$work/probes"
 

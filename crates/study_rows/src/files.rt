@@ -13,23 +13,6 @@ fn fault<A: Allocator>(alloc: &A, text: &[u8]) -> Option<FileFault> {
     read_table(alloc, &mut MemoryReader::new(text)).err()
 }
 
-/// The file of the last of these classes, each of which needs none but those before it.
-pub fn file_of<'a, A: Allocator>(
-    rt: &impl Abort,
-    alloc: &'a A,
-    classes: &[Class],
-) -> Vec<u8, &'a A> {
-    let mut tables = TableSet::new(alloc).ok().expect(rt, "a set");
-    let mut writer = MemoryWriter::new(alloc);
-    for class in classes {
-        let _report = built(rt, alloc, &mut tables, *class);
-        let table = tables.table(*class).expect(rt, "held");
-        writer = MemoryWriter::new(alloc);
-        assert_eq!(rt; write_table(table, &mut writer), Ok(()));
-    }
-    writer.taken
-}
-
 /// A text whose pages 3 and 4 have changed places.
 fn exchanged<'a, A: Allocator>(
     rt: &impl Abort,

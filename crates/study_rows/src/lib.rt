@@ -4,10 +4,6 @@
 #[cfg(test)]
 mod files;
 #[cfg(test)]
-mod growths;
-#[cfg(test)]
-mod pages;
-#[cfg(test)]
 mod pgn;
 #[cfg(test)]
 mod tables;

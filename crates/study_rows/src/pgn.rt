@@ -51,7 +51,7 @@ fn insert<'a, A: Allocator>(
     Ok(place)
 }
 
-pub fn path_of<'a, A: Allocator>(alloc: &'a A, steps: &[u16]) -> Result<Path<'a, A>, Fail> {
+fn path_of<'a, A: Allocator>(alloc: &'a A, steps: &[u16]) -> Result<Path<'a, A>, Fail> {
     let mut path = Path::root(alloc);
     for step in steps {
         path.push(*step)?;

@@ -1,0 +1,192 @@
+#!/usr/bin/env python3
+"""The runs of faults.sh: one fault a run, and the replies compared with those of the undisturbed program.
+
+A refused line changes nothing. So where the fault is told as a reply, the other replies have to be those of the undisturbed
+program over the script without that line, byte for byte. Where the run stops with status 3, the fault is named on standard
+error and the replies before it are a front of the undisturbed ones. A read or write that does less than it was asked changes
+nothing; one that is interrupted is made again, or is a fault of the device."""
+import os
+import re
+import subprocess
+import sys
+
+TOP, WORK, PROGRAM = (os.environ[name] for name in ("FAULTS_TOP", "FAULTS_WORK", "FAULTS_PROGRAM"))
+RUNS = int(os.environ["FAULTS_RUNS"])
+TOLD = {
+    "alloc": ("error OutOfMemory",),
+    "fileread": ("error Device", "error TableRead Device"),
+    "seek": ("error Device", "error TableRead Device"),
+    "open": ("error Device",),
+    "filewrite": ("error Device",),
+}
+undisturbed = {}
+
+
+def run(script, words=(), **faults):
+    """The replies, the status and standard error of one run."""
+    environment = dict(os.environ, **{name: str(value) for name, value in faults.items()})
+    if faults:
+        environment["LD_PRELOAD"] = f"{WORK}/fault.so"
+    try:
+        done = subprocess.run([PROGRAM, *words], input=script, capture_output=True, env=environment, timeout=60)
+        return done.stdout, done.returncode, done.stderr.decode()
+    except subprocess.TimeoutExpired:
+        return b"", "no end within a minute", ""
+
+
+def sound(script, words):
+    """The replies of the undisturbed program, which are worked out once."""
+    key = (script, tuple(words))
+    if key not in undisturbed:
+        undisturbed[key] = run(script, words)[0]
+    return undisturbed[key]
+
+
+def commands(script):
+    """The lines that have a reply."""
+    return [line for line in script.split(b"\n") if line.strip(b" \r") and not line.lstrip(b" ").startswith(b"#")]
+
+
+def replies(text):
+    """The replies, one a command: a game goes up to the second empty line."""
+    out, lines = [], text.split(b"\n")[:-1]
+    while lines:
+        count = 1
+        if lines[0].startswith(b"[Event "):
+            empty = [i for i, line in enumerate(lines) if not line]
+            count = empty[1] + 1 if len(empty) > 1 else len(lines)
+        out.append(b"\n".join(lines[:count]))
+        lines = lines[count:]
+    return out
+
+
+def told_right(script, words, text, kind):
+    """What is wrong with replies of a run that came to its end; and how many lines tell the fault."""
+    given, lines = replies(text), commands(script)
+    if len(given) != len(lines):
+        return f"{len(given)} replies to {len(lines)} lines", 0
+    names = [name.encode() for name in TOLD.get(kind, ())]
+    faults = [i for i, reply in enumerate(given) if reply in names]
+    rest = b"".join(line + b"\n" for i, line in enumerate(lines) if i not in faults)
+    wanted = iter(replies(sound(rest, words)))
+    for i, reply in enumerate(given):
+        if i not in faults and reply != (want := next(wanted, b"")):
+            return f"line '{lines[i].decode()}' has '{reply.decode()}', wanted '{want.decode()}'", len(faults)
+    return None, len(faults)
+
+
+def judge(script, words, answer, kind, how, front=None, once=True):
+    """What is wrong with a run, or None; and how many lines were refused for the fault."""
+    text, status, error = answer
+    if status == 3:
+        stops = {"alloc": "OutOfMemory", "stdin": "ReadDevice", "stdout": "WriteDevice"}
+        base = sound(script, words)
+        if how == "short" or kind not in stops or error != f"studybench: {stops[kind]}\n":
+            return f"status 3 and '{error.strip()}'", 0
+        if kind == "alloc" and text:
+            return "replies before want of memory", 0
+        if front is not None and text != b"".join(r + b"\n" for r in replies(base)[:front]):
+            return f"not the replies to {front} lines", 0
+        return (None, 0) if base.startswith(text) and (kind != "stdout" or text != base) else ("no front of the replies", 0)
+    if status not in (0, 1) or error:
+        return f"status {status} and '{error.strip()}'", 0
+    wrong, faults = told_right(script, words, text, kind)
+    if wrong is None and status != (1 if any(r.startswith(b"error ") for r in replies(text)) else 0):
+        wrong = f"status {status}"
+    if wrong is None and how == "short" and faults:
+        wrong = "a fault is told"
+    # A page that finds no room is used and forgotten: with pages, want of memory may show nowhere.
+    if wrong is None and how in ("fail", "nothing") and not faults and not (kind == "alloc" and "--pages" in words):
+        wrong = "the fault is not told"
+    if wrong is None and once and faults > 1:
+        wrong = f"one fault is told {faults} times"
+    return wrong, faults
+
+
+def loads(script):
+    return re.sub(rb"(?m)^build ", b"load ", script)
+
+
+def scripts():
+    """The scripts with tables of up to three men: each as it stands, over saved tables, and by one page."""
+    names = sorted(name for name in os.listdir(f"{TOP}/examples") if name.endswith(".script"))
+    texts = [("row of the program's test", open(f"{TOP}/crates/studybench/stdin", "rb").read())]
+    for name in names:
+        text = open(f"{TOP}/examples/{name}", "rb").read()
+        last = re.findall(rb"(?m)^build (\S+)", text)[-1]
+        if len(last) <= 3 and not name.startswith("small_tables"):
+            texts.append((name, text))
+    saves = b"build KK\nsave KK\nbuild KRK\nverify KRK\nsave KRK\nsave KQK\n"
+    for name, text in texts:
+        yield name, text, ["--tables", f"{WORK}/saved"], b"build KPK" in text
+        yield f"{name}, loaded", loads(text), ["--tables", f"{WORK}/tables"], False
+        yield f"{name}, by one page", loads(text), ["--tables", f"{WORK}/tables", "--pages", "1"], False
+    yield "tables saved", saves, ["--tables", f"{WORK}/saved"], False
+
+
+KINDS = [("alloc", "fail", {}), ("alloc", "fail", {"FAULT_ON": 1}), ("stdin", "fail", {"FAULT_CHUNK": 40}),
+         ("stdin", "short", {}), ("stdin", "interrupt", {}), ("stdout", "fail", {}), ("stdout", "nothing", {}),
+         ("stdout", "short", {}), ("stdout", "interrupt", {}), ("fileread", "fail", {}), ("fileread", "fail", {"FAULT_ON": 1}),
+         ("fileread", "short", {}), ("fileread", "interrupt", {}), ("seek", "fail", {}), ("open", "fail", {}),
+         ("filewrite", "fail", {}), ("filewrite", "nothing", {}), ("filewrite", "short", {}), ("filewrite", "interrupt", {})]
+
+
+def sweep():
+    os.makedirs(f"{WORK}/saved", exist_ok=True)
+    total = bad = refused = stopped = quiet = 0
+    by_kind = {}
+    for name, script, words, slow in scripts():
+        for kind, how, more in KINDS:
+            faults = dict(more, FAULT_KIND=kind, FAULT_HOW=how, FAULT_COUNT=f"{WORK}/count")
+            answer = run(script, words, FAULT_AT=0, **faults)
+            if answer[0] != sound(script, words):
+                print(f"WRONG {name}: with no fault the replies differ")
+                bad += 1
+            places = int(open(f"{WORK}/count").read())
+            bound = max(4, RUNS // 6) if slow else RUNS
+            step = max(1, -(-places // bound))
+            for at in range(1, places + 1, step):
+                answer = run(script, words, FAULT_AT=at, **faults)
+                front = None
+                if kind == "stdin" and how == "fail":
+                    whole = script[: 40 * (at - 1)].split(b"\n")[:-1]
+                    front = len(commands(b"\n".join(whole)))
+                wrong, told = judge(script, words, answer, kind, how, front, "FAULT_ON" not in more)
+                total += 1
+                tally = by_kind.setdefault(f"{kind} {how}{' from there on' if 'FAULT_ON' in more else ''}", [0, 0, 0])
+                tally[0] += 1
+                tally[1] += told > 0
+                tally[2] += answer[1] == 3
+                refused, stopped = refused + (told > 0), stopped + (answer[1] == 3)
+                quiet += told == 0 and answer[1] != 3
+                if wrong:
+                    bad += 1
+                    print(f"WRONG {name}: {kind} {how} at {at}{' and on' if 'FAULT_ON' in more else ''}: {wrong}")
+        sys.stdout.flush()
+    for kind, (runs, told, ended) in by_kind.items():
+        print(f"{kind}: {runs} runs, {told} told as a reply, {ended} ended with status 3")
+    print(f"{total} faults in {total} runs: {refused} told as a reply, {stopped} ended with status 3, {quiet} with the replies "
+          f"as they were; {bad} wrong")
+    return bad
+
+
+def tried(numbers):
+    """`rt try --fail-alloc N`: the program is interpreted, and its checks are made as it runs."""
+    script = b"load KK\nload KQK\n" + b"\n".join(open(f"{TOP}/crates/studybench/stdin", "rb").read().split(b"\n")[2:])
+    words, runs, bad = ["--tables", f"{WORK}/tables"], 0, 0
+    for number in " ".join(numbers).split():
+        command = ["rt", "try", "--fail-alloc", number, "--", *words]
+        done = subprocess.run(command, input=script, capture_output=True, cwd=f"{TOP}/crates/studybench", timeout=300)
+        text = done.stdout.decode() + done.stderr.decode()
+        status = re.search(r"run=ended status=(\d)", text)
+        told = "studybench: OutOfMemory\n" if "studybench: OutOfMemory" in text else ""
+        given = re.sub(r"(?m)^(allocations:|checked:|run=|studybench:|rt:).*\n", "", text).encode()
+        wrong, faults = judge(script, words, (given, int(status[1]) if status else "none", told), "alloc", "fail")
+        runs += 1
+        bad += wrong is not None
+        print(f"rt try --fail-alloc {number}: {wrong or 'right'}, status {status and status[1]}, {faults} lines tell it")
+    print(f"{runs} faults in {runs} runs of rt try, {bad} wrong")
+    return bad
+
+
+sys.exit(1 if (sweep() if sys.argv[1] == "sweep" else tried(sys.argv[2:])) else 0)
