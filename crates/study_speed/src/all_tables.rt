@@ -63,6 +63,7 @@ fn build_one<'a, A: Allocator>(
 }
 
 /// Builds what these classes need and their own tables, each once, in the order of `order`, and tells the sum of seconds.
+/// No contract: it measures, and what it prints is read by people alone.
 pub fn measure(rt: HostRuntime, classes: &[Class]) -> io::Result<()> {
     let alloc = rt.alloc();
     let mut tables = TableSet::new(&alloc)?;

@@ -144,6 +144,7 @@ fn measure_at(rt: HostRuntime, setting: Setting) -> io::Result<()> {
 }
 
 /// Times the calls on six sets of positions.
+/// No contract: it measures, and what it prints is read by people alone.
 pub fn measure(rt: HostRuntime) -> io::Result<()> {
     for (label, ours, theirs, to_move, fixed) in [
         ("KRKQ_white", Kind::Rook, Kind::Queen, Side::White, 20),

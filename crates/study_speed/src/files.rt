@@ -35,6 +35,7 @@ fn read<A: Allocator>(alloc: &A, bytes: &[u8]) -> u64 {
 }
 
 /// Times the file of a class whose cells are 0, in memory, and SHA-256 of its bytes. A call is one byte.
+/// No contract: it measures, and what it prints is read by people alone.
 pub fn measure(rt: HostRuntime) -> io::Result<()> {
     let alloc = rt.alloc();
     let class = Class::KRKN;

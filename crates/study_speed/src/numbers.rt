@@ -17,6 +17,7 @@ fn count_men(class: Class) -> u64 {
 }
 
 /// Times the reading of all numbers of some classes.
+/// No contract: it measures, and what it prints is read by people alone.
 pub fn measure(rt: HostRuntime) -> io::Result<()> {
     for (class, label) in [
         (Class::KRK, "KRK"),

@@ -79,6 +79,7 @@ fn time_pages<S: PageSource, A: Allocator>(
 }
 
 /// Times probes of all positions of a class: of the whole table, and through pages that are all kept.
+/// No contract: it measures, and what it prints is read by people alone.
 pub fn measure(rt: HostRuntime) -> io::Result<()> {
     let alloc = rt.alloc();
     let class = Class::KRK;

@@ -37,6 +37,7 @@ impl Setting {
     }
 
     /// All positions.
+    /// No contract: any sample serves to measure on.
     pub fn positions(&self, rt: HostRuntime) -> io::Result<Vec<Position>> {
         let mut list = Vec::new(rt.alloc());
         for white_king in 0..64u8 {
@@ -58,6 +59,7 @@ fn man(side: Side, kind: Kind, number: u8) -> Option<Man> {
 }
 
 /// Each legal move of every eighth position.
+/// No contract: any sample serves to measure on.
 pub fn turns(rt: HostRuntime, positions: &[Position]) -> io::Result<Vec<Turn>> {
     let mut list = Vec::new(rt.alloc());
     for position in positions.iter().step_by(8) {

@@ -3,6 +3,7 @@ use std::io;
 use std::time::Instant;
 
 /// Prints what was timed, on what, picoseconds for each of so many items, and a sum.
+/// No contract: it measures, and what it prints is read by people alone.
 pub fn tell(
     rt: HostRuntime,
     name: &str,
@@ -16,6 +17,7 @@ pub fn tell(
 }
 
 /// Does some work five times, and prints how long the fastest took.
+/// No contract: it measures, and what it prints is read by people alone.
 pub fn show<F: Fn() -> u64>(
     rt: HostRuntime,
     name: &str,

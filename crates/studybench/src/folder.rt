@@ -21,6 +21,7 @@ pub struct FolderStore<'r, 'a, R: Files, A: Allocator> {
 
 impl<'r, 'a, R: Files, A: Allocator> FolderStore<'r, 'a, R, A> {
     /// The files of a folder, which need not be there.
+    /// No contract: the type proves one path for each class, and nothing is known of what the files give.
     pub fn new(files: &'r R, alloc: &'a A, folder: &str) -> Result<Self, AllocError> {
         let mut paths = Vec::with_capacity(alloc, 36)?;
         for class in Class::all() {

@@ -42,6 +42,8 @@ pub struct Options<'a> {
 
 /// Reads the words of the command line, of which the first is the program's name. `--help` is answered as an error whose
 /// exit code is 0.
+///
+/// No contract: clap has none on the words that it takes. The type proves the range of pages; the tests tell the rest.
 pub fn read_words<'a>(alloc: Global, words: &'a [String]) -> Result<Options<'a>, Error> {
     let tables = Arg::new(alloc, "tables")
         .long("tables")

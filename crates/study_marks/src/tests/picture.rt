@@ -38,6 +38,7 @@ fn last_place(steps: &[u16]) -> u16 {
 }
 
 /// The nodes of the study in written order.
+/// No contract: tests alone call it, to compare two studies.
 pub fn rows_of<A: Allocator>(alloc: Global, bench: &Bench<'_, A>) -> Result<Vec<Row>, AllocError> {
     let mut rows = Vec::new(alloc);
     let mut steps: Vec<u16> = Vec::new(alloc);
@@ -63,6 +64,7 @@ pub fn rows_of<A: Allocator>(alloc: Global, bench: &Bench<'_, A>) -> Result<Vec<
     Ok(rows)
 }
 
+/// All that the readers show of a study. No contract: tests alone call it, to compare two studies.
 pub fn picture_of<A: Allocator>(rt: &impl Abort, alloc: Global, bench: &Bench<'_, A>) -> Picture {
     Picture {
         rows: rows_of(alloc, bench).ok().expect(rt, "rows"),
@@ -75,6 +77,7 @@ pub fn picture_of<A: Allocator>(rt: &impl Abort, alloc: Global, bench: &Bench<'_
 }
 
 /// Whether two studies show the same, but for how many labels were written.
+/// No contract: tests alone call it.
 pub fn shows_same(a: &Picture, b: &Picture) -> bool {
     a.rows.as_slice() == b.rows.as_slice()
         && a.fen.as_str() == b.fen.as_str()
@@ -84,6 +87,7 @@ pub fn shows_same(a: &Picture, b: &Picture) -> bool {
 }
 
 /// Whether a study is as it was.
+/// No contract: tests alone call it.
 pub fn is_same<A: Allocator>(
     rt: &impl Abort,
     alloc: Global,
