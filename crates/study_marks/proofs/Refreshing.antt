@@ -5,13 +5,14 @@ use Rattle.study_tree.specs.declared.fault.TreeFault.{TreeFault}
 use Rattle.study_tree.specs.declared.fault.TreeFault.TheVariants.{NoSuchNode}
 use Rattle.study_moves.specs.declared.moves.Move.{Move}
 use Rattle.study_tree.specs.Forest.{Forest, none, more, Twig, nodes_in}
-use Rattle.study_tree.specs.Edits.{has_node, node_in, width, below_edited, labelled_at}
+use Rattle.study_tree.specs.Edits.{IsWithin, has_node, node_in, width, below_edited, labelled_at}
 use Rattle.study_tree.specs.Tree.{Plain, Spot, with_label, spot_at, twig_spot, has_spot, size_of, counted, label_refusal}
 use Rattle.study_marks.specs.declared.label.Label.{Label}
 use Rattle.study_marks.specs.declared.label.Told.{Told}
 use Rattle.study_marks.specs.declared.marking.Aim.{Aim}
 use Rattle.study_marks.specs.Asked.{counted_times}
-use Rattle.study_marks.specs.Study.{mapped, IsWithin}
+use Rattle.study_tree.proofs.Within.{within-length}
+use Rattle.study_marks.specs.Study.{mapped}
 use Rattle.study_marks.specs.Goals.{hero_moves}
 use Rattle.study_marks.specs.Kept.{own, all_faults, faults_below, AddUp, AllAddUp}
 use Rattle.study_marks.specs.Renewal.{told_tree, below_at, share}
@@ -68,13 +69,6 @@ module _ {L : Type 0} where
   has_node-child none (j ∷ js) k h w = let no : ⊥ = cc in absurd no
   has_node-child (more m l b r) (zero ∷ js) k h w = has_node-child b js k h w
   has_node-child (more m l b r) (suc j ∷ js) k h w = has_node-child r (j ∷ js) k h w
-
-  pub within-length : (n : ℕ) (f : Forest L) (ks : List ℕ) → IsWithin n f → IsTrue (has_node f ks) → length ks ≤ n
-  within-length n f [] w h = omega arith
-  within-length n none (k ∷ ks) w h = let no : ⊥ = cc in absurd no
-  within-length zero (more m l b r) (k ∷ ks) w h = absurd w
-  within-length (suc n) (more m l b r) (zero ∷ ks) w h = omega (arith, within-length n b ks w.0 h)
-  within-length (suc n) (more m l b r) (suc k ∷ ks) w h = omega (arith, within-length (suc n) r (k ∷ ks) w.1 h)
 
   pub nodes-below : (f : Forest L) (ks : List ℕ) → nodes_in (below_at f ks) ≤ nodes_in f
   nodes-below f [] = omega arith

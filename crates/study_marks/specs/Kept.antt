@@ -7,6 +7,7 @@ use Rattle.study_retro.specs.declared.value.Value.{Value}
 use Rattle.study_moves.specs.LegalList.{legal_list}
 use Rattle.study_tree.specs.Forest.{Forest, none, more}
 use Rattle.study_tree.specs.Tree.{Plain}
+use Rattle.study_tree.specs.Edits.{IsWithin}
 use Rattle.study_marks.specs.declared.stipulation.Goal.{Goal}
 use Rattle.study_marks.specs.declared.stipulation.Goal.TheVariants.{Win, Draw, MateIn}
 use Rattle.study_marks.specs.declared.mark.MoveMark.{MoveMark}
@@ -14,7 +15,7 @@ use Rattle.study_marks.specs.declared.mark.Mark.{Mark}
 use Rattle.study_marks.specs.declared.label.Label.{Label}
 use Rattle.study_marks.specs.declared.label.Told.{Told}
 use Rattle.study_marks.specs.Tally.{Tally, tally_of}
-use Rattle.study_marks.specs.Study.{Study, IsPlayable, AreDistinct, IsWithin}
+use Rattle.study_marks.specs.Study.{Study, IsPlayable, AreDistinct}
 use Rattle.study_marks.specs.declared.marking.Aim.{Aim}
 use Rattle.study_marks.specs.Goals.{aim_of, hero_moves, holds, plies_of}
 use Rattle.study_marks.specs.Marks.{mark_of, own_faults}

@@ -3,7 +3,8 @@ ghost use Rattle.std.specs.Prelude.{◌≡◌, ◌+◌, ◌<◌, ◌≤◌, ◌+
 ghost use Rattle.study_material.specs.declared.class.Class.{Class as AClass};
 ghost use Rattle.study_tree.specs.Tree.{plain_tree, has_spot};
 ghost use Rattle.study_marks.specs.declared.label.Told.{Told as ATold};
-ghost use Rattle.study_marks.specs.Study.{IsPlayable, IsWithin};
+ghost use Rattle.study_tree.specs.Edits.{IsWithin};
+ghost use Rattle.study_marks.specs.Study.{IsPlayable};
 ghost use Rattle.study_marks.specs.Asked.{asked_at, asked_below, AreHeld, IsOutside, HasAsked, failures_after};
 ghost use Rattle.study_marks.specs.Told.{IsToldOf, AllAreTold, IsUntold, WasAsked, failures_told};
 ghost use Rattle.study_marks.specs.Renewal.{told_tree, below_at};

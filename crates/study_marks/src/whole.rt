@@ -4,7 +4,7 @@ ghost use Rattle.study_tree.specs.Forest.{nodes_in};
 ghost use Rattle.study_tree.specs.Edits.{width, below_edited};
 ghost use Rattle.study_tree.specs.Tree.{Spot, plain_tree, has_spot, spot_at, with_label, size_of, counted};
 ghost use Rattle.study_marks.specs.declared.label.Label.{Label as ALabel};
-ghost use Rattle.study_marks.specs.Study.{IsWithin};
+ghost use Rattle.study_tree.specs.Edits.{IsWithin};
 ghost use Rattle.study_marks.specs.Edits.{broken_from};
 ghost use Rattle.study_marks.specs.Bench.{played_by};
 ghost use Rattle.study_marks.specs.Asked.{counted_times};

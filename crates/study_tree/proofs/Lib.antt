@@ -1,6 +1,7 @@
 pub mod Places
 pub mod Shown
 pub mod Spots
+pub mod Within
 pub mod Written
 pub mod RowEdits
 pub mod RowReads

@@ -146,6 +146,6 @@ module _ {L : Type 0} where
       let open_to = no-refusal (has_spot t steps) (nat_le 256 (length steps)) (nat_le 4096 (size_of t)) NoSuchNode TooDeep TreeFull h in
       (open_to.0, leb-false 256 (length steps) open_to.1, leb-false 4096 (size_of t) open_to.2)
 
-  pub room_for_child : (f : Forest (L × ℕ)) (t : Plain L) (steps : List ℕ) (n : ℕ) → plain f ≡ t.below → n ≡ 1 + nodes_in f → child_refusal t steps ≡ None → IsTrue (has_node f steps) × (n < 4096)
+  pub room_for_child : (f : Forest (L × ℕ)) (t : Plain L) (steps : List ℕ) (n : ℕ) → plain f ≡ t.below → n ≡ 1 + nodes_in f → child_refusal t steps ≡ None → IsTrue (has_node f steps) × (n < 4096) × (length steps < 256)
   room_for_child f t steps n shown count h =
-      let open_to = child_refusal-open t steps h in (found_in f t.below steps steps shown refl open_to.0, omega (arith, size_of-shown f t n shown count, open_to.2))
+      let open_to = child_refusal-open t steps h in (found_in f t.below steps steps shown refl open_to.0, omega (arith, size_of-shown f t n shown count, open_to.2), open_to.1)

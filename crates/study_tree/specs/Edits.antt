@@ -30,6 +30,12 @@ module _ {L : Type 0} where
   below_edited g (more m l b r) (zero ∷ ks) = more m l (below_edited g b ks) r
   below_edited g (more m l b r) (suc k ∷ ks) = more m l b (below_edited g r (k ∷ ks))
 
+  -- no node is more than n plies below
+  abbrev pub IsWithin : ℕ → Forest L → Type 0
+  IsWithin n none = Unit {0}
+  IsWithin zero (more m l b r) = ⊥
+  IsWithin (suc n) (more m l b r) = IsWithin n b × IsWithin (suc n) r
+
   -- one more node, after the others
   abbrev pub with_last : Move → L → Forest L → Forest L
   with_last m l none = more m l none none

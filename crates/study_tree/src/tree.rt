@@ -1,7 +1,7 @@
 //! The tree.
 ghost use Rattle.std.specs.Prelude.{◌≡◌, ◌<◌, ◌≤◌, IsOk, IfOk, IfErr, OnErr, OnOk, MatchOption, IsOkUnless, Some, None, ◌≢◌};
 ghost use Rattle.study_tree.specs.Forest.{none};
-ghost use Rattle.study_tree.specs.Edits.{children_at, plain};
+ghost use Rattle.study_tree.specs.Edits.{IsWithin, children_at, plain};
 ghost use Rattle.study_tree.specs.Tree.{plain_tree, spare_of, size_of, has_spot, spot_at, with_child, with_label, without, moved_up, child_refusal, removal_refusal, move_up_refusal, label_refusal, counted};
 
 use crate::fault::TreeFault;
@@ -39,6 +39,7 @@ pub struct Tree<'a, L, A: Allocator> {
 impl<'a, L, A: Allocator> Model for Tree<'a, L, A> {
     ghost use Rattle.std.specs.Prelude.{◌≡◌, ◌+◌, ◌-◌, ◌≤◌, vec_len, vec_capacity};
     ghost use Rattle.study_tree.specs.Forest.{forest_of, nodes_in};
+    ghost use Rattle.study_tree.specs.Edits.{IsWithin, plain};
     ghost use Rattle.study_tree.specs.Tree.{Held, held_code};
 
     ghost Value = { Held L };
@@ -47,7 +48,7 @@ impl<'a, L, A: Allocator> Model for Tree<'a, L, A> {
 
     ghost view = { λ t. record { label = t.label; spare = vec_capacity t.children - vec_len t.children; below = forest_of t.children.items; relabelled = t.relabelled } };
 
-    ghost invariant = { λ t. (t.size ≡ 1 + nodes_in (forest_of t.children.items)) × (t.size ≤ 4096) };
+    ghost invariant = { λ t. (t.size ≡ 1 + nodes_in (forest_of t.children.items)) × (t.size ≤ 4096) × IsWithin 256 (plain (forest_of t.children.items)) };
 }
 
 impl<'a, L, A: Allocator> Tree<'a, L, A> {
@@ -69,6 +70,7 @@ impl<'a, L, A: Allocator> Tree<'a, L, A> {
     pub fn size(&self) -> usize
         ensures size { result ≡ size_of (plain_tree self.now) }
         ensures few { size_of (plain_tree self.now) ≤ 4096 }
+        ensures shallow { IsWithin 256 (plain_tree self.now).below }
     {
         self.size
     }

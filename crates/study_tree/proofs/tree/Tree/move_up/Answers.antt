@@ -3,6 +3,7 @@ use Rattle.study_tree.specs.Forest.{forest_of}
 use Rattle.study_tree.specs.Tree.{plain_tree}
 use Rattle.study_tree.proofs.Shown.{found_in, size-raised}
 use Rattle.study_tree.proofs.Spots.{last_place-read, move_up_refusal-first, move_up_refusal-none}
+use Rattle.study_tree.proofs.Within.{within-raised}
 use Rattle.study_tree.proofs.tree.Tree.move_up.Goals as goal
 
 pub returns-then-last-eq0-clause-refusal : goal.returns-then-last-eq0-clause-refusal
@@ -22,7 +23,8 @@ move_up_below-requires-clause-not_first g c =
 
 pub invariant_of-self : goal.invariant_of-self
 invariant_of-self g c =
-    (size-raised (forest_of c.self.inside.children.items) (forest_of c.move_up_below.new.children.items) c.in-Some-Some.first.now c.in-Some-Some.rest.now c.self.inside.size c.move_up_below.ensures c.self.invariant.0, c.self.invariant.1)
+    (size-raised (forest_of c.self.inside.children.items) (forest_of c.move_up_below.new.children.items) c.in-Some-Some.first.now c.in-Some-Some.rest.now c.self.inside.size c.move_up_below.ensures c.self.invariant.0, c.self.invariant.1,
+     within-raised 256 (forest_of c.self.inside.children.items) (forest_of c.move_up_below.new.children.items) c.in-Some-Some.first.now c.in-Some-Some.rest.now c.move_up_below.ensures c.self.invariant.2)
 
 pub returns-else-last-eq0-clause-refusal : goal.returns-else-last-eq0-clause-refusal
 returns-else-last-eq0-clause-refusal g c =

@@ -2,6 +2,7 @@ use Rattle.std.proofs.Common.{◌∷◌, sym, ap}
 use Rattle.study_tree.specs.Forest.{forest_of}
 use Rattle.study_tree.specs.Tree.{plain_tree}
 use Rattle.study_tree.proofs.Shown.{found_in, size-labelled}
+use Rattle.study_tree.proofs.Within.{within-labelled}
 use Rattle.study_tree.proofs.tree.Tree.relabel.Goals as goal
 use Rattle.study_tree.proofs.tree.Tree.relabel.Goals.{in-None, in-Some}
 
@@ -17,5 +18,6 @@ invariant_of-self g c =
       | in-Some w ↦ rw w.self-inside-is (
         size-labelled (forest_of c.self.inside.children.items) (forest_of w.relabel_below.new.children.items) w.in-Some.first.now w.in-Some.rest.now c.args.label c.self.inside.size w.relabel_below.ensures c.self.invariant.0,
         c.self.invariant.1,
+        within-labelled 256 (forest_of c.self.inside.children.items) (forest_of w.relabel_below.new.children.items) w.in-Some.first.now w.in-Some.rest.now c.args.label w.relabel_below.ensures c.self.invariant.2,
       )
     ]

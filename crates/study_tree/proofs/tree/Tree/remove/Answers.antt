@@ -2,6 +2,7 @@ use Rattle.std.proofs.Common.{◌∷◌, sym, ap, arith}
 use Rattle.study_tree.specs.Forest.{forest_of, nodes_from}
 use Rattle.study_tree.specs.Tree.{plain_tree}
 use Rattle.study_tree.proofs.Shown.{found_in, counted-below}
+use Rattle.study_tree.proofs.Within.{within-dropped}
 use Rattle.study_tree.proofs.tree.Tree.remove.Goals as goal
 
 pub remove_below-removed-requires : goal.remove_below-removed-requires
@@ -27,4 +28,5 @@ overflow_sub-self g c =
 pub invariant_of-self : goal.invariant_of-self
 invariant_of-self g c =
     let small = counted-below (forest_of c.self.inside.children.items) (forest_of c.remove_below-removed.new.children.items) c.remove_below-removed.result c.removed.inside.children.items c.deref.result.now c.deref.ensures.value (ap nodes_from c.removed.view_is) c.remove_below-removed.ensures.counted in
-    (omega (arith, small, c.count_in.ensures, c.self.invariant.0, c.self.invariant.1), omega (arith, small, c.count_in.ensures, c.self.invariant.0, c.self.invariant.1))
+    (omega (arith, small, c.count_in.ensures, c.self.invariant.0, c.self.invariant.1), omega (arith, small, c.count_in.ensures, c.self.invariant.0, c.self.invariant.1),
+     within-dropped 256 (forest_of c.self.inside.children.items) (forest_of c.remove_below-removed.new.children.items) c.in-Some.first.now c.in-Some.rest.now c.remove_below-removed.ensures.removed c.self.invariant.2)
