@@ -3,6 +3,7 @@ use Rattle.std.specs.Prelude.{◌≡◌, ℕ, Bool, true, false, ◌&&◌, List,
 use Rattle.study_board.specs.declared.men.Kind.{Kind}
 use Rattle.study_board.specs.declared.men.Kind.TheVariants.{King, Queen, Rook, Bishop, Knight, Pawn}
 use Rattle.study_board.specs.Men.{same_kind}
+use Rattle.study_board.specs.Letters.{letter}
 use Rattle.study_board.specs.Position.{Position, IsValid}
 use Rattle.study_material.specs.Lists.{Lists, of, lists, ordered}
 use Rattle.study_material.specs.declared.class.Class.{Class}
@@ -49,15 +50,6 @@ lists_of KPKP = of (Pawn ∷ []) (Pawn ∷ [])
 -- all classes, in the order of the class list
 abbrev pub class_list : List Class
 class_list = KK ∷ KQK ∷ KRK ∷ KBK ∷ KNK ∷ KPK ∷ KQQK ∷ KQRK ∷ KQBK ∷ KQNK ∷ KQPK ∷ KRRK ∷ KRBK ∷ KRNK ∷ KRPK ∷ KBBK ∷ KBNK ∷ KBPK ∷ KNNK ∷ KNPK ∷ KPPK ∷ KQKQ ∷ KQKR ∷ KQKB ∷ KQKN ∷ KQKP ∷ KRKR ∷ KRKB ∷ KRKN ∷ KRKP ∷ KBKB ∷ KBKN ∷ KBKP ∷ KNKN ∷ KNKP ∷ KPKP ∷ []
-
--- the letter of a kind
-abbrev pub letter : Kind → ℕ
-letter King = 75
-letter Queen = 81
-letter Rook = 82
-letter Bishop = 66
-letter Knight = 78
-letter Pawn = 80
 
 -- K, White's list, K, Black's list
 unfoldable pub name_of : Class → List ℕ

@@ -17,7 +17,7 @@ use Rattle.study_board.specs.declared.men.Kind.TheVariants.{King, Queen, Rook, B
 use Rattle.study_notation.specs.declared.placement.Piece.{Piece}
 use Rattle.study_board.specs.declared.men.Man.{Man}
 use Rattle.study_notation.specs.Fen.{placement_fault, position_of, is_run, is_known, is_rank, is_digit, squares, squares_of, men_from, placement, side_of, passed_of, count_of, fields_of, start_of}
-use Rattle.study_notation.specs.FenSpelling.{letter, piece_on, row, run, spelled, rank_text, ranks_text, placement_text, side_text, passed_text, fen_text}
+use Rattle.study_notation.specs.FenSpelling.{man_letter, piece_on, row, run, spelled, rank_text, ranks_text, placement_text, side_text, passed_text, fen_text}
 use Rattle.std.specs.List.{All}
 use Rattle.std.proofs.lemmas.List.Elements.{All-head, All-tail}
 use Rattle.study_board.specs.Position.{IsValid, AllAbove, IsAscending, could_be_passed, passed_possible}
@@ -61,7 +61,7 @@ Lacks-above n (x ∷ xs) h = let lt = h.0 in (ne_eqb x n (λ e. omega arith), La
 
 -- ---- the text of a rank
 
-letter-above : (s : Side) (k : Kind) → 47 < letter s k
+letter-above : (s : Side) (k : Kind) → 47 < man_letter s k
 letter-above White King = omega arith
 letter-above White Queen = omega arith
 letter-above White Rook = omega arith
@@ -75,7 +75,7 @@ letter-above Black Bishop = omega arith
 letter-above Black Knight = omega arith
 letter-above Black Pawn = omega arith
 
-letter_again : (s : Side) (k : Kind) → (squares_of (letter s k) ≡ Some (record { side = s; kind = k }) ∷ []) × (is_known (letter s k) ≡ true)
+letter_again : (s : Side) (k : Kind) → (squares_of (man_letter s k) ≡ Some (record { side = s; kind = k }) ∷ []) × (is_known (man_letter s k) ≡ true)
 unfolding squares_of
 letter_again White King = (refl, refl)
 letter_again White Queen = (refl, refl)
@@ -116,14 +116,14 @@ known-run n le =
 spelled-above : (n : ℕ) (cells : List (Option Piece)) → Above 47 (spelled n cells)
 spelled-above n [] = run-above n
 spelled-above n (None ∷ cells) = spelled-above (n + 1) cells
-spelled-above n (Some p ∷ cells) = Above-append 47 (run n) (letter p.side p.kind ∷ spelled 0 cells) (run-above n) (letter-above p.side p.kind, spelled-above 0 cells)
+spelled-above n (Some p ∷ cells) = Above-append 47 (run n) (man_letter p.side p.kind ∷ spelled 0 cells) (run-above n) (letter-above p.side p.kind, spelled-above 0 cells)
 
 squares-spelled : (n : ℕ) (cells : List (Option Piece)) → n + length cells ≤ 8 → squares (spelled n cells) ≡ replicate n None ++ cells
 squares-spelled n [] le = squares-run n (omega arith) ∙ sym (append-nil (replicate n None))
 squares-spelled n (None ∷ cells) le =
     squares-spelled (n + 1) cells (omega arith) ∙ ap (λ (xs : List (Option Piece)). xs ++ cells) (sym (replicate_more n None)) ∙ append_assoc (replicate n None) (None ∷ []) cells
 squares-spelled n (Some p ∷ cells) le =
-    let l = letter p.side p.kind in
+    let l = man_letter p.side p.kind in
     flat_map-append squares_of (run n) (l ∷ spelled 0 cells) ∙ ap (λ (xs : List (Option Piece)). xs ++ squares (l ∷ spelled 0 cells)) (squares-run n (omega arith))
     ∙ ap (λ (xs : List (Option Piece)). replicate n None ++ (xs ++ squares (spelled 0 cells))) ((letter_again p.side p.kind).0)
     ∙ ap (λ (xs : List (Option Piece)). replicate n None ++ (Some p ∷ xs)) (squares-spelled 0 cells (omega arith))
@@ -132,7 +132,7 @@ known-spelled : (n : ℕ) (cells : List (Option Piece)) → n + length cells ≤
 known-spelled n [] le = known-run n (omega arith)
 known-spelled n (None ∷ cells) le = known-spelled (n + 1) cells (omega arith)
 known-spelled n (Some p ∷ cells) le =
-    let l = letter p.side p.kind in
+    let l = man_letter p.side p.kind in
     list_all-append is_known (run n) (l ∷ spelled 0 cells) ∙ and_from (list_all is_known (run n)) (is_known l && list_all is_known (spelled 0 cells)) (known-run n (omega arith)) (and_from (is_known l) (list_all is_known (spelled 0 cells)) ((letter_again p.side p.kind).1) (known-spelled 0 cells (omega arith)))
 
 rank_squares : (men : List Man) (rank : ℕ) → squares (rank_text men rank) ≡ row men (8 * rank) 8

@@ -4,7 +4,7 @@ use Rattle.std.proofs.lemmas.Bool.{eqb-true, ne_eqb, cases_Bool}
 use Rattle.std.proofs.lemmas.List.{append-nil}
 use Rattle.study_notation.specs.declared.placement.Piece.{Piece}
 use Rattle.study_board.specs.declared.men.Man.{Man}
-use Rattle.study_notation.specs.FenSpelling.{letter, piece_on, row, run, spelled, rank_text, ranks_text, placement_text}
+use Rattle.study_notation.specs.FenSpelling.{man_letter, piece_on, row, run, spelled, rank_text, ranks_text, placement_text}
 
 unfoldable pub rest_text : List Man → ℕ → ℕ → ℕ → List ℕ
 rest_text men at n empty = spelled empty (row men at n)
@@ -19,11 +19,11 @@ rest_none men at at' n m empty e e' none =
     let e2 : n ≡ suc m = omega arith in
     ap (λ k. spelled empty (row men at k)) e2 ∙ ap (λ (o : Option Piece). spelled empty (o ∷ row men (at + 1) m)) none ∙ ap (λ k. spelled (empty + 1) (row men k m)) (sym e')
 
-pub rest_some : (men : List Man) (at at' n m empty : ℕ) (p : Piece) → n ≡ m + 1 → at' ≡ at + 1 → piece_on men at ≡ Some p → rest_text men at n empty ≡ run empty ++ (letter p.side p.kind ∷ rest_text men at' m 0)
+pub rest_some : (men : List Man) (at at' n m empty : ℕ) (p : Piece) → n ≡ m + 1 → at' ≡ at + 1 → piece_on men at ≡ Some p → rest_text men at n empty ≡ run empty ++ (man_letter p.side p.kind ∷ rest_text men at' m 0)
 unfolding rest_text
 rest_some men at at' n m empty p e e' some =
     let e2 : n ≡ suc m = omega arith in
-    ap (λ k. spelled empty (row men at k)) e2 ∙ ap (λ (o : Option Piece). spelled empty (o ∷ row men (at + 1) m)) some ∙ ap (λ k. run empty ++ (letter p.side p.kind ∷ spelled 0 (row men k m))) (sym e')
+    ap (λ k. spelled empty (row men at k)) e2 ∙ ap (λ (o : Option Piece). spelled empty (o ∷ row men (at + 1) m)) some ∙ ap (λ k. run empty ++ (man_letter p.side p.kind ∷ spelled 0 (row men k m))) (sym e')
 
 pub rest_end : (men : List Man) (at n empty : ℕ) → n ≡ 0 → rest_text men at n empty ≡ run empty
 unfolding rest_text
@@ -42,7 +42,7 @@ length-run n = elim (cases_Bool (eqb n 0)) [ inl hit ↦ rw hit (omega arith) | 
 length-spelled : (n : ℕ) (cells : List (Option Piece)) → length (spelled n cells) ≤ 1 + 2 * count cells
 length-spelled n [] = omega (arith, length-run n)
 length-spelled n (None ∷ cells) = length-spelled (n + 1) cells
-length-spelled n (Some p ∷ cells) = omega (arith, length-append (run n) (letter p.side p.kind ∷ spelled 0 cells), length-run n, length-spelled 0 cells)
+length-spelled n (Some p ∷ cells) = omega (arith, length-append (run n) (man_letter p.side p.kind ∷ spelled 0 cells), length-run n, length-spelled 0 cells)
 
 unfoldable pub occupied : List Man → ℕ → ℕ → ℕ
 occupied men at n = count (row men at n)
@@ -141,13 +141,13 @@ pub len_both : (a b c d : List ℕ) → a ++ b ≡ c ++ d → length a + length 
 len_both a b c d e = omega (arith, ap length e, length-append a b, length-append c d)
 
 pub len_some : (men : List Man) (at at' n m empty : ℕ) (p : Piece) → n ≡ m + 1 → at' ≡ at + 1 → piece_on men at ≡ Some p → length (rest_text men at n empty) ≡ length (run empty) + 1 + length (rest_text men at' m 0)
-len_some men at at' n m empty p e e' some = omega (arith, ap length (rest_some men at at' n m empty p e e' some), length-append (run empty) (letter p.side p.kind ∷ rest_text men at' m 0))
+len_some men at at' n m empty p e e' some = omega (arith, ap length (rest_some men at at' n m empty p e e' some), length-append (run empty) (man_letter p.side p.kind ∷ rest_text men at' m 0))
 
 -- a man is written
-pub some_written : (out out1 out2 total : List ℕ) (men : List Man) (at at' n m empty l : ℕ) (p : Piece) → n ≡ m + 1 → at' ≡ at + 1 → piece_on men at ≡ Some p → l ≡ letter p.side p.kind → out1 ≡ out ++ run empty → out2 ≡ out1 ++ l ∷ []
+pub some_written : (out out1 out2 total : List ℕ) (men : List Man) (at at' n m empty l : ℕ) (p : Piece) → n ≡ m + 1 → at' ≡ at + 1 → piece_on men at ≡ Some p → l ≡ man_letter p.side p.kind → out1 ≡ out ++ run empty → out2 ≡ out1 ++ l ∷ []
     → out ++ rest_text men at n empty ≡ total → out2 ++ rest_text men at' m 0 ≡ total
 some_written out out1 out2 total men at at' n m empty l p e e' some le o1 o2 inv =
-    rw (o2, o1, le) (append_assoc (out ++ run empty) (letter p.side p.kind ∷ []) (rest_text men at' m 0) ∙ append_assoc out (run empty) (letter p.side p.kind ∷ rest_text men at' m 0) ∙ ap (λ (t : List ℕ). out ++ t) (sym (rest_some men at at' n m empty p e e' some)) ∙ inv)
+    rw (o2, o1, le) (append_assoc (out ++ run empty) (man_letter p.side p.kind ∷ []) (rest_text men at' m 0) ∙ append_assoc out (run empty) (man_letter p.side p.kind ∷ rest_text men at' m 0) ∙ ap (λ (t : List ℕ). out ++ t) (sym (rest_some men at at' n m empty p e e' some)) ∙ inv)
 
 -- a rank is written
 pub below_written : (out out1 out2 total : List ℕ) (men : List Man) (n k : ℕ) → n ≡ k + 1 → out1 ≡ out ++ 47 ∷ [] → out2 ≡ out1 ++ rank_text men k → out ++ below men n ≡ total → out2 ++ below men k ≡ total

@@ -1,5 +1,6 @@
 -- What a FEN text says: the start, or the first fault.
 use Rattle.study_notation.specs.Words.{words}
+use Rattle.study_notation.specs.FenSpelling.{man_letter}
 use Rattle.std.specs.Prelude.{ℕ, ◌+◌, ◌-◌, ◌*◌, Bool, true, false, not, ◌&&◌, ◌||◌, List, [], ◌∷◌, length, reverse, replicate, Option, Some, None, Result, Ok, Err, nat_le, nat_lt, ◌==◌, if◌then◌else◌, is_some}
 use Rattle.std.specs.List.{slice_split, flat_map, list_all}
 use Rattle.std.specs.Str.Parse.{digits_value}
@@ -38,13 +39,21 @@ fields_of _ = None
 abbrev pub piece : Side → Kind → Option Piece
 piece s k = Some (record { side = s; kind = k })
 
--- KQRBNP for White, kqrbnp for Black
+-- the man that a letter stands for
 abbrev pub piece_of : ℕ → Option Piece
 piece_of b =
-    if b == 75 then piece White King else (if b == 81 then piece White Queen else (if b == 82 then piece White Rook
-    else (if b == 66 then piece White Bishop else (if b == 78 then piece White Knight else (if b == 80 then piece White Pawn
-    else (if b == 107 then piece Black King else (if b == 113 then piece Black Queen else (if b == 114 then piece Black Rook
-    else (if b == 98 then piece Black Bishop else (if b == 110 then piece Black Knight else (if b == 112 then piece Black Pawn
+    if b == man_letter White King then piece White King
+    else (if b == man_letter White Queen then piece White Queen
+    else (if b == man_letter White Rook then piece White Rook
+    else (if b == man_letter White Bishop then piece White Bishop
+    else (if b == man_letter White Knight then piece White Knight
+    else (if b == man_letter White Pawn then piece White Pawn
+    else (if b == man_letter Black King then piece Black King
+    else (if b == man_letter Black Queen then piece Black Queen
+    else (if b == man_letter Black Rook then piece Black Rook
+    else (if b == man_letter Black Bishop then piece Black Bishop
+    else (if b == man_letter Black Knight then piece Black Knight
+    else (if b == man_letter Black Pawn then piece Black Pawn
     else None)))))))))))
 
 -- a digit from 1 to 8

@@ -4,24 +4,15 @@ use Rattle.std.specs.List.{join_with_byte}
 use Rattle.study_board.specs.declared.men.Side.{Side}
 use Rattle.study_board.specs.declared.men.Side.TheVariants.{White, Black}
 use Rattle.study_board.specs.declared.men.Kind.{Kind}
-use Rattle.study_board.specs.declared.men.Kind.TheVariants.{King, Queen, Rook, Bishop, Knight, Pawn}
 use Rattle.study_board.specs.declared.men.Man.{Man}
+use Rattle.study_board.specs.Letters.{letter}
 use Rattle.study_notation.specs.declared.placement.Piece.{Piece}
 use Rattle.study_notation.specs.declared.start.Start.{Start}
 
-abbrev pub letter : Side → Kind → ℕ
-letter White King = 75
-letter White Queen = 81
-letter White Rook = 82
-letter White Bishop = 66
-letter White Knight = 78
-letter White Pawn = 80
-letter Black King = 107
-letter Black Queen = 113
-letter Black Rook = 114
-letter Black Bishop = 98
-letter Black Knight = 110
-letter Black Pawn = 112
+-- KQRBNP for White, kqrbnp for Black: small letters are 32 behind the others
+abbrev pub man_letter : Side → Kind → ℕ
+man_letter White k = letter k
+man_letter Black k = letter k + 32
 
 -- what stands on a square
 abbrev pub piece_on : List Man → ℕ → Option Piece
@@ -41,7 +32,7 @@ run n = if n == 0 then [] else (48 + n) ∷ []
 abbrev pub spelled : ℕ → List (Option Piece) → List ℕ
 spelled n [] = run n
 spelled n (None ∷ cells) = spelled (n + 1) cells
-spelled n (Some p ∷ cells) = run n ++ (letter p.side p.kind ∷ spelled 0 cells)
+spelled n (Some p ∷ cells) = run n ++ (man_letter p.side p.kind ∷ spelled 0 cells)
 
 unfoldable pub rank_text : List Man → ℕ → List ℕ
 rank_text men rank = spelled 0 (row men (8 * rank) 8)

@@ -2,16 +2,17 @@
 use Rattle.std.specs.Prelude.{◌≡◌, ℕ, ◌+◌, ◌<◌, Bool, true, false, ◌&&◌, ◌||◌, ◌==◌, if◌then◌else◌, List, [], ◌∷◌, ◌++◌, Option, Some, None, IfSome}
 use Rattle.study_board.specs.declared.men.Kind.{Kind}
 use Rattle.study_board.specs.declared.men.Kind.TheVariants.{King, Queen, Rook, Bishop, Knight, Pawn}
+use Rattle.study_board.specs.Letters.{letter}
 use Rattle.study_moves.specs.Rules.{is_officer}
 use Rattle.study_notation.specs.declared.san.San.{San}
 use Rattle.study_notation.specs.FenSpelling.{square_text}
 
 abbrev pub kind_text : Kind → List ℕ
-kind_text King = 75 ∷ []
-kind_text Queen = 81 ∷ []
-kind_text Rook = 82 ∷ []
-kind_text Bishop = 66 ∷ []
-kind_text Knight = 78 ∷ []
+kind_text King = letter King ∷ []
+kind_text Queen = letter Queen ∷ []
+kind_text Rook = letter Rook ∷ []
+kind_text Bishop = letter Bishop ∷ []
+kind_text Knight = letter Knight ∷ []
 kind_text Pawn = []
 
 abbrev pub file_text : Option ℕ → List ℕ

@@ -2,6 +2,7 @@
 use Rattle.std.specs.Prelude.{ℕ, ◌+◌, ◌-◌, ◌*◌, Bool, true, false, ◌&&◌, ◌||◌, ◌==◌, nat_le, if◌then◌else◌, List, [], ◌∷◌, Option, Some, None}
 use Rattle.study_board.specs.declared.men.Kind.{Kind}
 use Rattle.study_board.specs.declared.men.Kind.TheVariants.{King, Queen, Rook, Bishop, Knight, Pawn}
+use Rattle.study_board.specs.Letters.{letter}
 use Rattle.study_notation.specs.declared.san.San.{San}
 use Rattle.study_notation.specs.San.{is_ending}
 
@@ -11,11 +12,15 @@ abbrev pub ◌>>=◌ : {A B : Type 0} → Option A → (A → Option B) → Opti
 None >>= f = None
 
 unfoldable pub officer_of : ℕ → Option Kind
-officer_of b = if b == 81 then Some Queen else (if b == 82 then Some Rook else (if b == 66 then Some Bishop else (if b == 78 then Some Knight else None)))
+officer_of b =
+    if b == letter Queen then Some Queen else (if b == letter Rook then Some Rook
+    else (if b == letter Bishop then Some Bishop else (if b == letter Knight then Some Knight else None)))
 
 unfoldable pub kind_at : List ℕ → Kind × List ℕ
 kind_at [] = (Pawn, [])
-kind_at (b ∷ bs) = if b == 75 then (King, bs) else (if b == 81 then (Queen, bs) else (if b == 82 then (Rook, bs) else (if b == 66 then (Bishop, bs) else (if b == 78 then (Knight, bs) else (Pawn, b ∷ bs)))))
+kind_at (b ∷ bs) =
+    if b == letter King then (King, bs) else (if b == letter Queen then (Queen, bs) else (if b == letter Rook then (Rook, bs)
+    else (if b == letter Bishop then (Bishop, bs) else (if b == letter Knight then (Knight, bs) else (Pawn, b ∷ bs)))))
 
 unfoldable pub file_at : List ℕ → Option ℕ × List ℕ
 file_at [] = (None, [])

@@ -1,7 +1,7 @@
 //! Writing a FEN text.
 ghost use Rattle.std.specs.Prelude.{◌≡◌, ◌<◌, ◌≤◌, ◌+◌, ◌*◌, ◌++◌, ◌∷◌, [], length, decimal};
 ghost use Rattle.arrayvec.specs.ArrayString.{array_string_len};
-ghost use Rattle.study_notation.specs.FenSpelling.{letter, piece_on, run, rank_text, placement_text, side_text, square_text, passed_text, fen_text};
+ghost use Rattle.study_notation.specs.FenSpelling.{man_letter, piece_on, run, rank_text, placement_text, side_text, square_text, passed_text, fen_text};
 
 use crate::Start;
 use crate::placement::Piece;
@@ -11,7 +11,7 @@ use study_board::{Kind, Man, Side, Square};
 
 // The letter of a man.
 fn letter_of(piece: Piece) -> u8
-    ensures value { result ≡ letter piece.side piece.kind }
+    ensures value { result ≡ man_letter piece.side piece.kind }
     ensures ascii { result < 128 }
 {
     match (piece.side, piece.kind) {

@@ -3,3 +3,4 @@ pub mod Edits
 pub mod Tree
 pub mod Rows
 pub mod Laws
+pub mod Codes

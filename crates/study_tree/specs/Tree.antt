@@ -1,10 +1,9 @@
 -- A whole tree: what contracts see of one, and when an edit is refused.
-use Rattle.std.specs.Prelude.{ℕ, ◌+◌, List, [], ◌∷◌, Bool, not, Option, Some, None, refl, length, nat_le, nat_eq, min, if◌then◌else◌}
-use Rattle.std.specs.Coded.{Coded, code_by, coded×, coded_ℕ}
+use Rattle.std.specs.Prelude.{ℕ, ◌+◌, List, [], ◌∷◌, Bool, not, Option, Some, None, length, nat_le, nat_eq, min, if◌then◌else◌}
 use Rattle.study_moves.specs.declared.moves.Move.{Move}
 use Rattle.study_tree.specs.declared.fault.TreeFault.{TreeFault}
 use Rattle.study_tree.specs.declared.fault.TreeFault.TheVariants.{NoSuchNode, Root, AlreadyFirst, TooDeep, TreeFull}
-use Rattle.study_tree.specs.Forest.{Forest, Twig, nodes_in, forest_code}
+use Rattle.study_tree.specs.Forest.{Forest, Twig, nodes_in}
 use Rattle.study_tree.specs.Edits.{has_node, node_in, width, add_last, place_edited, labelled_at, dropped_at, raised_at, last_place, plain, spare_at}
 
 -- a tree: the root's label, and what is below the root
@@ -24,11 +23,6 @@ pub record Held (L : Type 0) : Type 0 where
   pub spare : ℕ
   pub below : Forest (L × ℕ)
   pub relabelled : ℕ
-
-abbrev pub held_code : {L : Type 0} → Coded L → Coded (Held L)
-held_code {L} code =
-    code_by (L × (ℕ × (Forest (L × ℕ) × ℕ))) (coded× code (coded× coded_ℕ (coded× (forest_code (coded× code coded_ℕ)) coded_ℕ)))
-    (λ h. (h.label, (h.spare, (h.below, h.relabelled)))) (λ p. record { label = p.0; spare = p.1.0; below = p.1.1.0; relabelled = p.1.1.1 }) (λ _. refl)
 
 module _ {L : Type 0} where
   abbrev pub plain_tree : Held L → Plain L

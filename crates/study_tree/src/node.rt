@@ -20,7 +20,8 @@ impl<'a, L, A: Allocator> Model for Node<'a, L, A> {
     ghost use Rattle.std.specs.Prelude.{ℕ, ◌-◌, vec_len, vec_capacity};
     ghost use Rattle.std.specs.Coded.{coded×, coded_ℕ};
     ghost use Rattle.std.proofs.Common.{arith};
-    ghost use Rattle.study_tree.specs.Forest.{Twig, forest_of, nodes_from, twig_code, most_le-nodes_in};
+    ghost use Rattle.study_tree.specs.Forest.{Twig, forest_of, nodes_from};
+    ghost use Rattle.study_tree.specs.Codes.{twig_code, most_le-nodes_in};
 
     ghost Value = { Twig (L × ℕ) };
 

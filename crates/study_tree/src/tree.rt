@@ -40,7 +40,8 @@ impl<'a, L, A: Allocator> Model for Tree<'a, L, A> {
     ghost use Rattle.std.specs.Prelude.{◌≡◌, ◌+◌, ◌-◌, ◌≤◌, vec_len, vec_capacity};
     ghost use Rattle.study_tree.specs.Forest.{forest_of, nodes_in};
     ghost use Rattle.study_tree.specs.Edits.{IsWithin, plain};
-    ghost use Rattle.study_tree.specs.Tree.{Held, held_code};
+    ghost use Rattle.study_tree.specs.Tree.{Held};
+    ghost use Rattle.study_tree.specs.Codes.{held_code};
 
     ghost Value = { Held L };
 
