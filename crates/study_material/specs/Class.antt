@@ -1,5 +1,5 @@
 -- The classes of material, by the kinds of each side's men beside its king.
-use Rattle.std.specs.Prelude.{◌≡◌, ℕ, Bool, true, false, ◌&&◌, List, [], ◌∷◌, ◌++◌, map}
+use Rattle.std.specs.Prelude.{◌≡◌, ℕ, Bool, true, false, ◌&&◌, List, [], ◌∷◌, ◌++◌, map, if◌then◌else◌}
 use Rattle.study_board.specs.declared.men.Kind.{Kind}
 use Rattle.study_board.specs.declared.men.Kind.TheVariants.{King, Queen, Rook, Bishop, Knight, Pawn}
 use Rattle.study_board.specs.Men.{same_kind}
@@ -74,6 +74,15 @@ IsOf c p = lists_of c ≡ ordered (lists p.men)
 -- the same as a test
 abbrev pub is_of : Class → Position → Bool
 is_of c p = same_lists (lists_of c) (ordered (lists p.men))
+
+-- the class with these lists, of some classes
+abbrev pub class_in : List Class → Lists → Class
+class_in [] l = KK
+class_in (c ∷ cs) l = if same_lists (lists_of c) l then c else class_in cs l
+
+-- the class of a position
+unfoldable pub class_found : Position → Class
+class_found p = class_in class_list (ordered (lists p.men))
 
 -- the position is of one class
 pub record HasOneClass (p : Position) : Type 0 where

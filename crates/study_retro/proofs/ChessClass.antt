@@ -21,15 +21,11 @@ use Rattle.study_retro.specs.Cells.{value_of}
 use Rattle.study_retro.specs.Class.{IsClass}
 use Rattle.study_index.specs.Found.{index_of, position_at}
 use Rattle.study_retro.specs.Table.{Table, table_of, IsClosed}
-use Rattle.study_retro.specs.Game.{is_of, class_in, class_found, value_by, value_in}
+use Rattle.study_material.specs.Class.{is_of, class_in, class_found}
+use Rattle.study_material.proofs.Classes.{IsOf-is_of, is_of-IsOf}
+use Rattle.study_retro.specs.Game.{value_by, value_in}
 use Rattle.study_index.proofs.Functions.{IsIndex-index_of, index_of-only, told_decoded, decoded_told}
 use Rattle.study_retro.proofs.LevelLemmas.{distance-byte}
-
-pub is_of-IsOf : (c : Class) (p : Position) → is_of c p ≡ true → IsOf c p
-is_of-IsOf c p e = same_lists-equal (lists_of c) (ordered (lists p.men)) e
-
-pub IsOf-is_of : (c : Class) (p : Position) → IsOf c p → is_of c p ≡ true
-IsOf-is_of c p h = subst (λ (l : Lists). same_lists (lists_of c) l ≡ true) h (same_lists-self (lists_of c))
 
 -- alike positions have one pair of lists
 pub same_ordered : (p q : Position) → AreAlike p q → ordered (lists p.men) ≡ ordered (lists q.men)
@@ -79,14 +75,14 @@ chess_class c held closed = record {
   below = λ n p e. below c n p (told_decoded c n p e);
   decoded = λ n p e. (
       let h = entry c n p (told_decoded c n p e) in
-      (record { valid = h.valid; of_class = inl h.of_class }, IsOf-is_of c p h.of_class, sym (index_of-only p n h.valid h.index)));
-  numbered = λ p k e. (let h = numbered c p (index_of p) k.valid (is_of-IsOf c p e) (IsIndex-index_of p k.valid) in (h.0, decoded_told c (index_of p) h.0 h.1, h.2));
-  closed = λ p q k e l. moves_lead_on c p q k.valid (is_of-IsOf c p e) l;
+      (record { valid = h.valid; of_class = inl h.of_class }, is_of-IsOf c p h.of_class, sym (index_of-only p n h.valid h.index)));
+  numbered = λ p k e. (let h = numbered c p (index_of p) k.valid (IsOf-is_of c p e) (IsIndex-index_of p k.valid) in (h.0, decoded_told c (index_of p) h.0 h.1, h.2));
+  closed = λ p q k e l. moves_lead_on c p q k.valid (IsOf-is_of c p e) l;
   back = alike_back c;
   move = alike_move c;
   mated = λ p q h m. (same_game p q h.alike).mate.0 m;
   same_home = λ p q k h. ap (λ (l : Lists). same_lists (lists_of c) l) (same_ordered p q h.alike);
-  same_index = λ p q k e h. index_of-only q (index_of p) h.alike.right (same_index c p q (index_of p) h (is_of-IsOf c p e) (IsIndex-index_of p k.valid));
+  same_index = λ p q k e h. index_of-only q (index_of p) h.alike.right (same_index c p q (index_of p) h (IsOf-is_of c p e) (IsIndex-index_of p k.valid));
   same_known = λ p q k h. record { valid = h.alike.right; of_class = of_class_after c p q h.alike k.of_class };
   near_outside = λ p k e. value_in-near held closed p;
 }

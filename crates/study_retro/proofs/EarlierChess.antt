@@ -35,8 +35,8 @@ use Rattle.study_index.proofs.Live.{live_along, not_live_passed}
 use Rattle.study_index.proofs.WithBit.{HasParts-from}
 use Rattle.study_retro.specs.Back.{LeadsTo}
 use Rattle.study_retro.specs.Before.{IsPlainNumber, IsNumberBefore, ComesBefore}
-use Rattle.study_retro.specs.Game.{is_of}
-use Rattle.study_retro.proofs.ChessClass.{is_of-IsOf, IsOf-is_of}
+use Rattle.study_material.specs.Class.{is_of}
+use Rattle.study_material.proofs.Classes.{IsOf-is_of, is_of-IsOf}
 use Rattle.study_retro.proofs.QuietClass.{quiet_lists, quiet_any, quiet_within, passes_none, unpassing, unoccupied}
 
 without_bare : (p : Position) → without_passed (bare p) ≡ without_passed p
@@ -225,8 +225,8 @@ module _ (c : Class) where
   before_leads n i q m e b =
       let t = IsLed-from n q b.from m e b.leads b.lands in
       elim b.is [
-        | inl s ↦ (t.from, t.to, subst (λ (k : ℕ). position_at c k ≡ Some t.from) (sym s) t.at, t.leads, IsOf-is_of c t.to t.home, t.lands)
-        | inr s ↦ (s.1.0, t.to, s.1.1, twin_leads n b.from t.from s.1.0 t.to t.at t.unpassed t.leads t.home (subst (λ (k : ℕ). position_at c k ≡ Some s.1.0) s.0 s.1.1), IsOf-is_of c t.to t.home, t.lands)
+        | inl s ↦ (t.from, t.to, subst (λ (k : ℕ). position_at c k ≡ Some t.from) (sym s) t.at, t.leads, is_of-IsOf c t.to t.home, t.lands)
+        | inr s ↦ (s.1.0, t.to, s.1.1, twin_leads n b.from t.from s.1.0 t.to t.at t.unpassed t.leads t.home (subst (λ (k : ℕ). position_at c k ≡ Some s.1.0) s.0 s.1.1), is_of-IsOf c t.to t.home, t.lands)
       ]
 
   -- and no others do
@@ -237,7 +237,7 @@ module _ (c : Class) where
       let l = t.3.1 in
       let x = after t.0 m in
       let vx : IsValid x = IsValid-after t.0 m d.valid l in
-      let ox : IsOf c x = subst (λ (y : Position). IsOf c y) (sym t.3.2) (is_of-IsOf c t.1 t.4) in
+      let ox : IsOf c x = subst (λ (y : Position). IsOf c y) (sym t.3.2) (IsOf-is_of c t.1 t.4) in
       let ix : index_of x ≡ n = ap index_of t.3.2 ∙ t.5 in
       let p = numbered c x (index_of x) vx ox (IsIndex-index_of x vx) in
       let there : position_at c n ≡ Some p.0 = subst (λ (k : ℕ). position_at c k ≡ Some p.0) ix (decoded_told c (index_of x) p.0 p.1) in
@@ -267,14 +267,14 @@ module _ (c : Class) where
   leads_numbered n i t =
       let d = entry c i t.0 (told_decoded c i t.0 t.2) in
       let vx : IsValid t.1 = subst IsValid t.3.2 (IsValid-after t.0 t.3.0 d.valid t.3.1) in
-      let p = numbered c t.1 (index_of t.1) vx (is_of-IsOf c t.1 t.4) (IsIndex-index_of t.1 vx) in
+      let p = numbered c t.1 (index_of t.1) vx (IsOf-is_of c t.1 t.4) (IsIndex-index_of t.1 vx) in
       (p.0, subst (λ (k : ℕ). position_at c k ≡ Some p.0) t.5 (decoded_told c (index_of t.1) p.0 p.1))
 
   -- a quiet move stays in the class
   pub quiet_home : (n : ℕ) (p : Position) (m : Move) → position_at c n ≡ Some p → is_legal p m ≡ true → m.promoted ≡ None → p.passed ≡ None → man_at p.men m.target ≡ None → is_of c (after p m) ≡ true
   quiet_home n p m e l o u none =
       let d = entry c n p (told_decoded c n p e) in
-      IsOf-is_of c (after p m) (d.of_class ∙ ap (λ (k : Lists). ordered k) (sym (quiet_lists p m d.valid l (unpassing p m d.valid l u) (unoccupied p.men m.target none, o))))
+      is_of-IsOf c (after p m) (d.of_class ∙ ap (λ (k : Lists). ordered k) (sym (quiet_lists p m d.valid l (unpassing p m d.valid l u) (unoccupied p.men m.target none, o))))
 
   pub numbered_index : (n : ℕ) (q : Position) → position_at c n ≡ Some q → index_of q ≡ n
   numbered_index n q e = let d = entry c n q (told_decoded c n q e) in sym (index_of-only q n d.valid d.index)

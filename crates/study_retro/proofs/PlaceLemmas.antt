@@ -14,9 +14,11 @@ use Rattle.study_index.proofs.Functions.{index_of-only, told_decoded, decoded_to
 use Rattle.study_retro.specs.declared.value.Value.{Value}
 use Rattle.study_retro.specs.Cells.{value_of}
 use Rattle.study_retro.specs.Table.{Table, table_of, place_of, IsReady, IsClosed}
-use Rattle.study_retro.specs.Game.{is_of, value_in}
+use Rattle.study_material.specs.Class.{is_of}
+use Rattle.study_material.proofs.Classes.{IsOf-is_of, is_of-IsOf}
+use Rattle.study_retro.specs.Game.{value_in}
 use Rattle.study_retro.proofs.ClassLemmas.{some_or_none}
-use Rattle.study_retro.proofs.ChessClass.{chess_class, is_of-IsOf, IsOf-is_of, value_in-held}
+use Rattle.study_retro.proofs.ChessClass.{chess_class, value_in-held}
 use Rattle.study_retro.proofs.SetLemmas.{place_of-injective}
 
 pub decode_at : (c : Class) (n : ℕ) (o : Option Position) → IfSome o (λ q. IsDecoded c n q) → IfNone o ((q : Position) → IsDecoded c n q → ⊥) → o ≡ position_at c n
@@ -32,16 +34,16 @@ module _ (held : List (Option Table)) (c d : Class) (p : Position) (closed : IsC
       let same : d ≡ c = place_of-injective d c (sym e ∙ g ∙ f) in
       let home : IsOf c p = subst (λ (k : Class). IsOf k p) same is in
       let laws = chess_class c held closed in
-      let q = laws.numbered p (record { valid = valid; of_class = inl home }) (IsOf-is_of c p home) in
+      let q = laws.numbered p (record { valid = valid; of_class = inl home }) (is_of-IsOf c p home) in
       let small = laws.below (index_of p) q.0 q.1 in
       let number : index_of p ≡ n = sym (index_of-only p n valid x) in
-      (IsOf-is_of c p home, number, subst (λ (m : ℕ). m < cells_of c) number small)
+      (is_of-IsOf c p home, number, subst (λ (m : ℕ). m < cells_of c) number small)
 
   other_class : (i j : ℕ) → i ≡ place_of d → j ≡ place_of c → (i ≡ j → ⊥) → IsOf c p → ⊥
   other_class i j e f g h = g (e ∙ ap place_of (one_class d c p is h) ∙ sym f)
 
   pub place_away : (i j : ℕ) → i ≡ place_of d → j ≡ place_of c → (i ≡ j → ⊥) → is_of c p ≡ false
-  place_away i j e f g = false_from_ne_true (is_of c p) (λ h. other_class i j e f g (is_of-IsOf c p h))
+  place_away i j e f g = false_from_ne_true (is_of c p) (λ h. other_class i j e f g (IsOf-is_of c p h))
 
   pub table_class : (t : Table) → Some t ≡ table_of held d → IsOf t.class p
   table_class t e = subst (λ (k : Class). IsOf k p) (sym (closed.class d t (sym e))) is

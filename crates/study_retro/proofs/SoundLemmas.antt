@@ -18,12 +18,14 @@ use Rattle.study_retro.specs.Forced.{IsGame}
 use Rattle.study_retro.specs.Cells.{value_of}
 use Rattle.study_retro.specs.Right.{IsRightCell, AreRight, IsRightOutside, HasFar}
 use Rattle.study_retro.specs.Table.{Table, IsComplete, table_of, IsReady, IsClosed}
-use Rattle.study_retro.specs.Game.{IsValueOf, is_of, value_in}
+use Rattle.study_material.specs.Class.{is_of}
+use Rattle.study_material.proofs.Classes.{IsOf-is_of, is_of-IsOf}
+use Rattle.study_retro.specs.Game.{IsValueOf, value_in}
 use Rattle.study_retro.specs.Sound.{TellsValue, IsRight, NeedsAreRight, HasFarPosition}
 use Rattle.study_retro.proofs.Bridge.{IsGame-from_value, IsValueOf-from_game}
 use Rattle.study_retro.proofs.AlongLemmas.{IsGame-along}
 use Rattle.study_retro.proofs.ClassLemmas.{image_keeps}
-use Rattle.study_retro.proofs.ChessClass.{chess_class, is_of-IsOf, IsOf-is_of, value_in-held}
+use Rattle.study_retro.proofs.ChessClass.{chess_class, value_in-held}
 use Rattle.study_retro.proofs.SetLemmas.{some-is, empty-closed}
 
 cell-from_value : (o : Option Position) (c : ℕ) → TellsValue o c → IsRightCell Leads IsMate o c
@@ -46,7 +48,7 @@ at_right t complete right p valid of_class =
     let c = t.class in
     let laws = chess_class c (replicate 36 None) empty-closed in
     let v = value_of (slice_index t.cells (index_of p)) in
-    let n = laws.numbered p (record { valid = valid; of_class = inl of_class }) (IsOf-is_of c p of_class) in
+    let n = laws.numbered p (record { valid = valid; of_class = inl of_class }) (is_of-IsOf c p of_class) in
     let small = laws.below (index_of p) n.0 n.1 in
     let tells : IsValueOf n.0 v = subst (λ (o : Option Position). TellsValue o (slice_index t.cells (index_of p))) n.1 (right.tells (index_of p) small) in
     IsValueOf-from_game p v (IsGame-along Leads IsMate (AreAlikeIn c) (image_keeps laws t.cells) n.0 p v n.2 (IsGame-from_value n.0 v tells))
@@ -62,17 +64,17 @@ outside_right held c closed ready needs p known away = by_class known.of_class
         IsGame-from_value p (value_in held p) (subst (λ (v : Value). IsValueOf p v) (sym (value_in-held held d t p o e)) value)
 
     by_class : IsOf c p ⊎ ((d : Class) × Contains (needs_of c) d × IsOf d p) → IsGame Leads IsMate p (value_in held p)
-    by_class (inl o) = absurd (false≢true (sym away ∙ IsOf-is_of c p o))
+    by_class (inl o) = absurd (false≢true (sym away ∙ is_of-IsOf c p o))
     by_class (inr h) = let t = some-is (table_of held h.0) (ready h.0 h.1) in from_need h.0 h.1 h.2 t.0 t.1
 
 pub far-from : (c : Class) → HasFar Leads IsMate (λ p. LeadsOn c p) (is_of c) → HasFarPosition c
-far-from c h = (h.0, (h.3.0, record { valid = h.1.valid; of_class = is_of-IsOf c h.0 h.2; value = IsValueOf-from_game h.0 h.3.0 h.3.1; far = h.3.2 }))
+far-from c h = (h.0, (h.3.0, record { valid = h.1.valid; of_class = IsOf-is_of c h.0 h.2; value = IsValueOf-from_game h.0 h.3.0 h.3.1; far = h.3.2 }))
 
 -- the index of a position is below the number of its table's cells
 pub cell_in_bounds : (t : Table) (p : Position) (n : ℕ) → IsComplete t → IsValid p → IsOf t.class p → IsIndex p n → n < length t.cells
 cell_in_bounds t p n complete valid of_class is =
     let laws = chess_class t.class (replicate 36 None) empty-closed in
-    let h = laws.numbered p (record { valid = valid; of_class = inl of_class }) (IsOf-is_of t.class p of_class) in
+    let h = laws.numbered p (record { valid = valid; of_class = inl of_class }) (is_of-IsOf t.class p of_class) in
     let small = laws.below (index_of p) h.0 h.1 in
     let same : n ≡ index_of p = index_of-only p n valid is in
     omega (arith, complete.size)

@@ -8,7 +8,8 @@ use Rattle.study_material.specs.Needs.{LeadsOn}
 use Rattle.study_index.specs.Number.{cells_of}
 use Rattle.study_index.specs.Found.{index_of, position_at}
 use Rattle.study_index.specs.Laws.{AreAlikeIn}
-use Rattle.study_retro.specs.Game.{is_of, value_in}
+use Rattle.study_material.specs.Class.{is_of}
+use Rattle.study_retro.specs.Game.{value_in}
 use Rattle.study_retro.specs.Table.{Table}
 use Rattle.study_retro.specs.Numbered.{Numbered}
 
