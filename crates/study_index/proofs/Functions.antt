@@ -21,7 +21,7 @@ use Rattle.study_index.specs.Number.{IsLeastNumber, IsIndex, places, numbers_of,
 use Rattle.study_index.specs.Decoded.{IsDecoded, AreSlots, slots_of, slots_have_pawn, men_of, told_men, listed, man}
 use borrow.Author.Tests.{ltb-true}
 use Rattle.study_index.specs.Found.{least_number, index_of, told, is_entry, position_at}
-use Rattle.study_index.proofs.Bridge.{below}
+use Rattle.study_index.proofs.ClassLaws.{below}
 use Rattle.study_index.proofs.ClassSlots.{AreSlots-class, is_cell-below, number_below}
 use Rattle.study_index.proofs.Numbers.{least_is}
 use Rattle.study_index.proofs.ReadOff.{IsLeastNumber-unique, IsIndex-unique, IsOfMen-decoded, decoded, told_fault, same_position}

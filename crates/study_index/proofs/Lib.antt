@@ -11,10 +11,10 @@ pub mod WithBit
 pub mod ClassSlots
 pub mod ImageNumbers
 pub mod ListOrder
-pub mod Live
+pub mod LivePassing
 pub mod Decodes
 pub mod ReadCells
-pub mod Bridge
+pub mod ClassLaws
 pub mod Functions
 pub mod BySquares
 pub mod Weighing

@@ -19,8 +19,8 @@ use Rattle.study_board.proofs.Ascending.{IsAscending-filter}
 use Rattle.study_moves.specs.declared.moves.Move.{Move}
 use Rattle.study_moves.specs.Rules.{is_pawn, is_en_passant, is_square, has_side, stays, moved, is_legal, after, is_choice, is_officer, reaches_end, last_rank}
 use Rattle.study_moves.specs.Alike.{Leads}
-use Rattle.study_moves.proofs.Among.{IsAmong, none_among, IsAmong-filter, found_among}
-use Rattle.study_moves.proofs.Gaps.{HasMover-from_is_legal}
+use Rattle.study_moves.proofs.MenOfList.{IsAmong, none_among, IsAmong-filter, found_among}
+use Rattle.study_moves.proofs.NoMoveBetween.{HasMover-from_is_legal}
 use Rattle.study_moves.proofs.After.{IsMoveFrom-is_legal, IsValid-after}
 use Rattle.study_material.specs.declared.class.Class.{Class}
 use Rattle.study_material.specs.Lists.{Lists, of, put_kind, kinds_of, lists, ordered}

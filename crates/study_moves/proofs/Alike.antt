@@ -14,7 +14,7 @@ use Rattle.study_moves.specs.Symmetry.{image_move}
 use Rattle.study_moves.specs.Game.{IsLegal, IsMate}
 use Rattle.study_moves.specs.Bare.{is_live, without_passed, bare}
 use Rattle.study_moves.specs.Alike.{AreAlike, Leads}
-use Rattle.study_moves.proofs.Gaps.{HasMover-from_is_legal}
+use Rattle.study_moves.proofs.NoMoveBetween.{HasMover-from_is_legal}
 use Rattle.study_moves.proofs.Turned.{after-turned, image_legal, moved_pawn}
 use Rattle.study_moves.proofs.ImageMates.{IsMate-image}
 use Rattle.study_moves.proofs.Bare.{found_any, AgreesWithBare-from_valid}

@@ -10,8 +10,8 @@ use Rattle.study_moves.specs.declared.moves.Move.{Move}
 use Rattle.study_moves.specs.Rules.{is_legal, is_choice, reaches_end}
 use Rattle.study_moves.specs.Order.{place_of, IsBefore}
 use Rattle.study_moves.specs.Game.{IsMate, HasNoMove}
-use Rattle.study_moves.proofs.Among.{found_among, All-among}
-use Rattle.study_moves.proofs.Gaps.{HasMover-from_is_legal}
+use Rattle.study_moves.proofs.MenOfList.{found_among, All-among}
+use Rattle.study_moves.proofs.NoMoveBetween.{HasMover-from_is_legal}
 use Rattle.study_moves.specs.LegalList.{moves_between, moves_from, all_moves, legal_list, is_mate}
 use Rattle.study_moves.proofs.Sorted.{IsIn, IsIn-left, IsIn-right, IsIn-filter, IsIn-kept, IsIn-from_Contains, Contains-from_in, AscendsFrom, Spans, AscendsFrom-spans, AscendsFrom-filter, AscendsFrom-pairs, Spans-append, same_list}
 

@@ -7,9 +7,9 @@ use Rattle.study_board.specs.Position.{AllAbove, IsAscending, is_occupied, place
 use Rattle.study_board.proofs.Turned.{list_any-placed, man_at-placed}
 use Rattle.study_moves.specs.Rules.{stays}
 use Rattle.study_moves.specs.Quiet.{set_back, men_before}
-use Rattle.study_moves.proofs.Among.{IsAmong, IsAmong-filter, above_among, none_among}
+use Rattle.study_moves.proofs.MenOfList.{IsAmong, IsAmong-filter, above_among, none_among}
 use Rattle.study_moves.proofs.KingSafety.{filter_any}
-use Rattle.study_moves.proofs.Sure.{none_passed}
+use Rattle.study_moves.proofs.SafeTargets.{none_passed}
 use Rattle.study_board.proofs.Faults.{list_any_same}
 
 filter_all : (q : Man → Bool) (xs : List Man) → ((m : Man) → IsAmong m xs → q m ≡ true) → filter q xs ≡ xs

@@ -20,11 +20,11 @@ use Rattle.study_moves.specs.declared.moves.Move.{Move}
 use Rattle.study_moves.specs.Rules.{is_legal, is_pawn, goes, stays, men_after, after, is_choice, reaches_end}
 use Rattle.study_moves.specs.Bare.{without_passed}
 use Rattle.study_moves.specs.Quiet.{LeadsQuietly, move_from, set_back, men_before, before, pawn_comes, comes, was_check, came_from}
-use Rattle.study_moves.proofs.Found.{fewer_stay}
-use Rattle.study_moves.proofs.Among.{IsAmong, above_among, list_any-from, list_any-none, none_among, IsAmong-filter, found_among, All-among, same_square, has_square_twice-ascending}
-use Rattle.study_moves.proofs.Gaps.{HasMover, HasMover-from_is_legal}
+use Rattle.study_moves.proofs.MenFound.{fewer_stay}
+use Rattle.study_moves.proofs.MenOfList.{IsAmong, above_among, list_any-from, list_any-none, none_among, IsAmong-filter, found_among, All-among, same_square, has_square_twice-ascending}
+use Rattle.study_moves.proofs.NoMoveBetween.{HasMover, HasMover-from_is_legal}
 use Rattle.study_moves.proofs.After.{other_twice}
-use Rattle.study_moves.proofs.Sure.{legal_from}
+use Rattle.study_moves.proofs.SafeTargets.{legal_from}
 use Rattle.study_moves.proofs.PutBack.{CanBeMoved, IsAmong-placed, others_and_man, back_and_forth, target_is_empty, man_at_origin, occupied_before, no_man_on_origin, apart_from_origin}
 use Rattle.study_moves.proofs.QuietChecks.{same_side-self, no_side_there, in_check_before}
 use Rattle.study_moves.proofs.QuietGoes.{going, stands_inside, coming, not_last}

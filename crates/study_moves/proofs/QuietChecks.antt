@@ -16,8 +16,8 @@ use Rattle.study_board.proofs.Faults.{list_any_same, in_check_same}
 use Rattle.study_moves.specs.Rules.{has_side, stays}
 use Rattle.study_moves.specs.Safety.{threatened_past, threatens}
 use Rattle.study_moves.specs.Quiet.{king_was_attacked, was_check, set_back, men_before}
-use Rattle.study_moves.proofs.Sure.{none_passed}
-use Rattle.study_moves.proofs.BothWays.{between-both}
+use Rattle.study_moves.proofs.SafeTargets.{none_passed}
+use Rattle.study_moves.proofs.BearsBothWays.{between-both}
 use Rattle.study_moves.proofs.PutBack.{stays_plain}
 use Rattle.study_moves.proofs.KingSafety.{filter_any, any_same_where, bears_after, not_at_end, no_line, shuffle, threatened_past_is}
 

@@ -15,8 +15,8 @@ use Rattle.study_board.proofs.Order.{IsPermutation-placed}
 use Rattle.study_board.proofs.Faults.{list_any_same, is_blocked_same}
 use Rattle.study_moves.specs.Rules.{is_ahead, starting_rank, half_way, pawn_steps, pawn_double_steps, pawn_takes, is_pawn, goes, stays, reaches_end, last_rank}
 use Rattle.study_moves.specs.Quiet.{set_back, men_before, first_rank, pawn_comes, comes}
-use Rattle.study_moves.proofs.Sure.{none_passed}
-use Rattle.study_moves.proofs.BothWays.{between-both, reaches-both, eqb-both}
+use Rattle.study_moves.proofs.SafeTargets.{none_passed}
+use Rattle.study_moves.proofs.BearsBothWays.{between-both, reaches-both, eqb-both}
 use Rattle.study_moves.proofs.KingSafety.{not_at_end, blocked_after, reaches_is}
 use Rattle.study_moves.proofs.QuietChecks.{same_side-self, no_side_there}
 use Rattle.study_moves.proofs.PutBack.{CanBeMoved, target_is_empty, others_stay}

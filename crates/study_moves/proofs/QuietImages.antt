@@ -20,8 +20,8 @@ use Rattle.study_moves.specs.Laws.{AgreesQuietly}
 use Rattle.study_moves.proofs.Alike.{admits_bare}
 use Rattle.study_moves.proofs.BareImages.{bare_image}
 use Rattle.study_moves.proofs.Turned.{legal_small, image_legal, after-turned}
-use Rattle.study_moves.proofs.Gaps.{HasMover-from_is_legal}
-use Rattle.study_moves.proofs.Among.{found_among, none_among}
+use Rattle.study_moves.proofs.NoMoveBetween.{HasMover-from_is_legal}
+use Rattle.study_moves.proofs.MenOfList.{found_among, none_among}
 use Rattle.study_moves.proofs.QuietBack.{IsTakenBack-from, tested_alike, counted_alike}
 
 pub known : (p : Position) (m : Move) → IsValid p → p.passed ≡ None → is_legal p m ≡ true → IsQuiet p m → LeadsQuietly p m (after p m)

@@ -16,7 +16,7 @@ use Rattle.study_board.specs.declared.men.Side.TheVariants.{White, Black}
 use Rattle.study_board.specs.declared.fault.PositionFault.{PositionFault}
 use Rattle.study_board.specs.Position.{Position, IsValid, passed_possible, AllAbove, IsAscending, has_one_king, has_end_pawn, in_check, first_fault}
 use Rattle.study_board.specs.Men.{other_side}
-use Rattle.study_moves.proofs.Among.{has_square_twice-ascending}
+use Rattle.study_moves.proofs.MenOfList.{has_square_twice-ascending}
 use Rattle.study_notation.specs.declared.placement.Piece.{Piece}
 use Rattle.study_notation.specs.declared.fault.FenFault.{FenFault}
 use Rattle.study_notation.specs.Fen.{placement, placement_fault, of_placement, position_of, men_from, squares}

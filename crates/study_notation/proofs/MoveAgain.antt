@@ -8,8 +8,8 @@ use Rattle.study_board.specs.Geometry.{file_of, rank_of}
 use Rattle.study_board.specs.Position.{Position, IsValid, man_at, in_check}
 use Rattle.study_moves.specs.declared.moves.Move.{Move}
 use Rattle.study_moves.specs.Rules.{is_legal, is_choice, is_officer, reaches_end, after}
-use Rattle.study_moves.proofs.Among.{found_among, All-among}
-use Rattle.study_moves.proofs.Gaps.{HasMover-from_is_legal}
+use Rattle.study_moves.proofs.MenOfList.{found_among, All-among}
+use Rattle.study_moves.proofs.NoMoveBetween.{HasMover-from_is_legal}
 use Rattle.study_notation.specs.declared.san.San.{San}
 use Rattle.study_notation.specs.San.{Fits, Says, san_text, is_ending}
 use Rattle.study_notation.specs.SanParts.{san_of}
@@ -18,7 +18,7 @@ use Rattle.study_notation.specs.Matching.{picked, meant, move_of}
 use Rattle.study_notation.specs.Written.{gives_file, gives_rank, san_for, check_text, move_text}
 use Rattle.study_notation.proofs.SanAgain.{san_again}
 use Rattle.study_notation.proofs.Spelled.{says}
-use Rattle.study_notation.proofs.Alone.{alone_matches}
+use Rattle.study_notation.proofs.OneMoveAgrees.{alone_matches}
 
 some_below : (b : Bool) (n k : ℕ) → n < k → IfSome (cond b (Some n) None) (λ f. f < k)
 some_below true n k lt = lt

@@ -6,7 +6,7 @@ use Rattle.study_material.specs.declared.class.Class.{Class}
 use Rattle.study_material.specs.Class.{IsOf}
 use Rattle.study_index.specs.Number.{IsIndex, cells_of}
 use Rattle.study_index.specs.Found.{index_of}
-use Rattle.study_index.proofs.Bridge.{below, numbered}
+use Rattle.study_index.proofs.ClassLaws.{below, numbered}
 use Rattle.study_retro.specs.declared.value.Value.{Value}
 use Rattle.study_retro.specs.Cells.{value_of}
 use Rattle.study_retro.specs.Game.{IsValueOf}

@@ -18,7 +18,7 @@ use Rattle.study_moves.specs.Quiet.{IsQuiet, LeadsQuietly}
 use Rattle.study_moves.proofs.Turned.{after-turned, image_legal}
 use Rattle.study_moves.proofs.Bare.{goes_without, is_legal_for_bare, men_after_bare}
 use Rattle.study_moves.proofs.BareImages.{bare_image}
-use Rattle.study_moves.proofs.Gaps.{HasMover-from_is_legal}
+use Rattle.study_moves.proofs.NoMoveBetween.{HasMover-from_is_legal}
 use Rattle.study_moves.proofs.After.{IsValid-after}
 use Rattle.study_moves.proofs.Alike.{admits_bare}
 use Rattle.study_material.specs.declared.class.Class.{Class}
@@ -28,10 +28,10 @@ use Rattle.study_index.specs.Number.{IsIndex, with_bit, without_bit}
 use Rattle.study_index.specs.Decoded.{slots_of, told_men, told_side}
 use Rattle.study_index.specs.Found.{index_of, told, is_entry, position_at}
 use Rattle.study_index.specs.Laws.{AreAlikeIn}
-use Rattle.study_index.proofs.Bridge.{entry, numbered, same_class, same_index, alike_back, alike_move}
+use Rattle.study_index.proofs.ClassLaws.{entry, numbered, same_class, same_index, alike_back, alike_move}
 use Rattle.study_index.proofs.Functions.{IsIndex-index_of, index_of-only, told_decoded, decoded_told}
 use Rattle.study_index.proofs.ImageNumbers.{IsLeastNumber-passed}
-use Rattle.study_index.proofs.Live.{live_along, not_live_passed}
+use Rattle.study_index.proofs.LivePassing.{live_along, not_live_passed}
 use Rattle.study_index.proofs.WithBit.{HasParts-from}
 use Rattle.study_retro.specs.Back.{LeadsTo}
 use Rattle.study_retro.specs.Before.{IsPlainNumber, IsNumberBefore, ComesBefore}

@@ -1,4 +1,4 @@
-use Rattle.study_index.proofs.Bridge.{same_class, same_game}
+use Rattle.study_index.proofs.ClassLaws.{same_class, same_game}
 use Rattle.study_index.proofs.laws.alike_agree.Goals as goal
 
 pub returns : goal.returns

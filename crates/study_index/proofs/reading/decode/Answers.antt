@@ -5,7 +5,7 @@ use Rattle.study_material.specs.declared.class.Class.{Class}
 use Rattle.study_index.specs.Number.{cells_of}
 use Rattle.study_index.specs.Decoded.{IsDecoded}
 use Rattle.study_index.specs.Found.{position_at}
-use Rattle.study_index.proofs.Bridge.{below}
+use Rattle.study_index.proofs.ClassLaws.{below}
 use Rattle.study_index.proofs.Functions.{decoded_told, told_decoded}
 use Rattle.study_index.proofs.reading.decode.Goals as goal
 

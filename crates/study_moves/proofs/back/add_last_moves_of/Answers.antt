@@ -1,5 +1,5 @@
 use Rattle.std.proofs.Common.{arith, refl}
-use Rattle.study_moves.proofs.EachOnce.{gathering_begins, gathered_more, gathering_ends, few_end, next_below}
+use Rattle.study_moves.proofs.LastMoves.{gathering_begins, gathered_more, gathering_ends, few_end, next_below}
 use Rattle.study_moves.proofs.back.add_last_moves_of.Goals as goal
 
 pub loop-rest-init : goal.loop-rest-init

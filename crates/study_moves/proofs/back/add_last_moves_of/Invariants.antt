@@ -1,5 +1,5 @@
 use Rattle.std.proofs.Common.{◌-◌, length}
-use Rattle.study_moves.proofs.EachOnce.{IsGathering}
+use Rattle.study_moves.proofs.LastMoves.{IsGathering}
 use Rattle.study_moves.proofs.back.add_last_moves_of.Given as goal
 
 abbrev pub invariant-loop-rest : goal.invariant-loop-rest

@@ -2,7 +2,7 @@ use Rattle.std.proofs.Common.{sym, arith, subst, List}
 use Rattle.std.specs.List.{Contains}
 use Rattle.std.proofs.lemmas.List.Elements.{Contains-get_or}
 use Rattle.study_moves.specs.declared.moves.Move.{Move}
-use Rattle.study_moves.proofs.EachOnce.{AreDistinct, none_before, one_before, all_before}
+use Rattle.study_moves.proofs.LastMoves.{AreDistinct, none_before, one_before, all_before}
 use Rattle.study_moves.proofs.back.earlier.Goals as goal
 
 pub loop-m-init : goal.loop-m-init

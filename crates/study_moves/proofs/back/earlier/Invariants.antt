@@ -1,4 +1,4 @@
-use Rattle.study_moves.proofs.EachOnce.{AreBefore}
+use Rattle.study_moves.proofs.LastMoves.{AreBefore}
 use Rattle.study_moves.proofs.back.earlier.Given as goal
 
 abbrev pub invariant-loop-m : goal.invariant-loop-m

@@ -1,7 +1,7 @@
 use Rattle.std.proofs.Common.{◌≡◌, ◌∙◌, sym, ap, arith, true}
 use Rattle.study_board.specs.declared.men.Side.{Side}
 use Rattle.study_board.specs.Men.{same_side, other_side}
-use Rattle.study_moves.proofs.EachOnce.{men_begin, men_end, apart_so_far, has_room, man_more, man_passed}
+use Rattle.study_moves.proofs.LastMoves.{men_begin, men_end, apart_so_far, has_room, man_more, man_passed}
 use Rattle.study_moves.proofs.back.last_moves.Goals as goal
 use Rattle.study_moves.proofs.back.last_moves.Goals.{then-is, else-is}
 

@@ -1,5 +1,5 @@
 use Rattle.std.proofs.Common.{take}
-use Rattle.study_moves.proofs.EachOnce.{AreOfMen}
+use Rattle.study_moves.proofs.LastMoves.{AreOfMen}
 use Rattle.study_moves.proofs.back.last_moves.Given as goal
 
 abbrev pub invariant-loop-man : goal.invariant-loop-man

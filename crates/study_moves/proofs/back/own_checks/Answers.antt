@@ -1,6 +1,6 @@
 use Rattle.std.proofs.Common.{◌∙◌, refl}
 use Rattle.study_moves.specs.Quiet.{set_back}
-use Rattle.study_moves.proofs.BothWays.{bears_past-both}
+use Rattle.study_moves.proofs.BearsBothWays.{bears_past-both}
 use Rattle.study_moves.proofs.back.own_checks.Goals as goal
 
 pub returns : goal.returns

@@ -1,7 +1,7 @@
 use Rattle.std.proofs.Common.{◌≡◌, ◌∙◌, sym, refl, subst}
 use Rattle.study_moves.specs.declared.moves.Move.{Move}
 use Rattle.study_moves.specs.Quiet.{LeadsQuietly, before}
-use Rattle.study_moves.proofs.Found.{is_occupied-from_man_at}
+use Rattle.study_moves.proofs.MenFound.{is_occupied-from_man_at}
 use Rattle.study_moves.proofs.QuietBack.{mover_there, taken_from, men_before_is, IsValid-before, LeadsQuietly-before}
 use Rattle.study_moves.proofs.back.taken_back.Goals as goal
 

@@ -1,7 +1,7 @@
 use Rattle.std.proofs.Common.{◌≡◌, ◌∙◌, ap, false, not}
 use Rattle.study_board.specs.Sets.{has}
 use Rattle.study_moves.specs.Safety.{is_unsafe}
-use Rattle.study_moves.proofs.Sure.{safe_where}
+use Rattle.study_moves.proofs.SafeTargets.{safe_where}
 use Rattle.study_moves.proofs.legal.is_safe.Goals as goal
 
 pub returns-else-may_pass : goal.returns-else-may_pass

@@ -2,7 +2,7 @@ use Rattle.std.proofs.Common.{◌≡◌, Bool, ℕ, ◌≤◌, length, [], ◌�
 use Rattle.std.proofs.lemmas.List.{drop_all, length-append}
 use Rattle.study_board.specs.declared.men.Man.{Man}
 use Rattle.study_moves.specs.Rules.{stays}
-use Rattle.study_moves.proofs.Found.{fewer_stay}
+use Rattle.study_moves.proofs.MenFound.{fewer_stay}
 use Rattle.study_moves.proofs.CarriedUp.{carried_into, carried-placed, length-carried}
 use Rattle.study_moves.proofs.legal.placed_among.Goals as goal
 

@@ -1,4 +1,4 @@
-use Rattle.study_notation.proofs.Settled.{read_is, settled}
+use Rattle.study_notation.proofs.FenStarts.{read_is, settled}
 use Rattle.study_notation.proofs.laws.fen_is_settled.Goals as goal
 
 pub returns-clause-valid : goal.returns-clause-valid

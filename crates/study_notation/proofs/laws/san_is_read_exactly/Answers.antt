@@ -1,4 +1,4 @@
-use Rattle.study_notation.proofs.Exactly.{exactly}
+use Rattle.study_notation.proofs.ReadExactly.{exactly}
 use Rattle.study_notation.proofs.laws.san_is_read_exactly.Goals as goal
 
 pub returns-clause-one : goal.returns-clause-one

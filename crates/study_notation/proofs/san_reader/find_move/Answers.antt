@@ -1,6 +1,6 @@
 use Rattle.std.proofs.Common.{sym}
 use Rattle.study_notation.specs.Matching.{matches}
-use Rattle.study_notation.proofs.Picked.{picked_two}
+use Rattle.study_notation.proofs.TwoAgree.{picked_two}
 use Rattle.study_notation.proofs.san_reader.find_move.Goals as goal
 
 pub returns-then-is_some : goal.returns-then-is_some

@@ -1,4 +1,4 @@
-use Rattle.study_notation.proofs.Meant.{picked_legal}
+use Rattle.study_notation.proofs.MeansLegal.{picked_legal}
 use Rattle.study_notation.proofs.san_reader.read_san.Goals as goal
 
 pub returns-in-Some-clause-legal : goal.returns-in-Some-clause-legal

@@ -1,5 +1,5 @@
 use Rattle.std.proofs.Common.{sym}
-use Rattle.study_notation.proofs.Given.{not_both}
+use Rattle.study_notation.proofs.OneCoordinate.{not_both}
 use Rattle.study_notation.proofs.san_writer.describe.Goals as goal
 use Rattle.study_notation.proofs.san_writer.describe.Goals.{then-gives_file, else-gives_file, then-gives_rank, else-gives_rank}
 

@@ -33,7 +33,7 @@ use Rattle.study_index.specs.Laws.{AreAlikeIn}
 use Rattle.study_index.proofs.ClassSlots.{AreSlots-class, is_cell-below, class_in_order}
 use Rattle.study_index.proofs.ImageNumbers.{Keeps, has_pawn-image, IsLeastNumber-image, IsLeastNumber-passed, bare_men, bare_to_move}
 use Rattle.study_index.proofs.ListOrder.{lists-filled, filled_in_order, slots_for}
-use Rattle.study_index.proofs.Live.{live_class, live_behind, live_along, live_bare, bare_twice, not_live_passed}
+use Rattle.study_index.proofs.LivePassing.{live_class, live_behind, live_along, live_bare, bare_twice, not_live_passed}
 use Rattle.study_index.proofs.ReadOff.{IsLeastNumber-unique, IsOfMen-decoded}
 use Rattle.study_index.proofs.WithBit.{HasParts-from}
 

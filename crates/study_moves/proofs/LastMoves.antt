@@ -21,7 +21,7 @@ use Rattle.study_board.specs.Sets.{has}
 use Rattle.study_board.proofs.SetBits.{has-zero}
 use Rattle.study_moves.specs.declared.moves.Move.{Move}
 use Rattle.study_moves.specs.Quiet.{LeadsQuietly, IsEarlier, CanHaveLed, IsMoveFrom, IsLastMove, move_from, before, came_from}
-use Rattle.study_moves.proofs.Among.{IsAmong, above_among}
+use Rattle.study_moves.proofs.MenOfList.{IsAmong, above_among}
 use Rattle.study_moves.proofs.QuietChecks.{same_side-self}
 use Rattle.study_moves.proofs.QuietBack.{CameFrom, LeadsQuietly-before, IsTakenBack-from, same_move}
 

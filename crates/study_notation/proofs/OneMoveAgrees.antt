@@ -13,9 +13,9 @@ use Rattle.study_board.specs.Position.{Position, IsValid, man_at}
 use Rattle.study_moves.specs.declared.moves.Move.{Move}
 use Rattle.study_moves.specs.Rules.{is_legal, is_pawn, is_choice, reaches_end}
 use Rattle.study_moves.specs.Order.{place_of}
-use Rattle.study_moves.proofs.Ways.{IsCapture}
-use Rattle.study_moves.proofs.Among.{IsAmong, found_among, list_any-from, some_among}
-use Rattle.study_moves.proofs.Gaps.{IsMoveOf, HasMover-from_is_legal}
+use Rattle.study_moves.proofs.HowMenGo.{IsCapture}
+use Rattle.study_moves.proofs.MenOfList.{IsAmong, found_among, list_any-from, some_among}
+use Rattle.study_moves.proofs.NoMoveBetween.{IsMoveOf, HasMover-from_is_legal}
 use Rattle.study_notation.specs.declared.san.San.{San}
 use Rattle.study_moves.specs.LegalList.{legal_list}
 use Rattle.study_moves.specs.LegalList.{takes}
@@ -23,7 +23,7 @@ use Rattle.study_notation.specs.Matching.{same_promotion, fits_given, fits_takes
 use Rattle.study_notation.specs.Written.{is_rival, has_rival, has_file_rival, gives_file, gives_rank, san_for}
 use Rattle.study_moves.proofs.Sorted.{alone}
 use Rattle.study_moves.proofs.LegalLists.{in_legal, is_legal-in, AscendsFrom-legal_list}
-use Rattle.study_notation.proofs.Three.{not_three}
+use Rattle.study_notation.proofs.ThreeAlike.{not_three}
 use Rattle.study_notation.proofs.Pawns.{Advances, advances_or_captures, same_advance, same_capture}
 
 promotion_self : (q : Option Kind) → same_promotion q q ≡ true

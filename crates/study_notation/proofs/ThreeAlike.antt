@@ -12,7 +12,7 @@ use Rattle.study_board.specs.Men.{same_side, same_kind, is_man}
 use Rattle.study_board.specs.Position.{Position, IsValid, has_one_king}
 use Rattle.study_board.proofs.Lists.{count_by-cons}
 use Rattle.study_board.proofs.Valid.{IsFaultless, IsFaultless-from_first}
-use Rattle.study_moves.proofs.Among.{IsAmong}
+use Rattle.study_moves.proofs.MenOfList.{IsAmong}
 
 counted : (q : Man → Bool) (x : Man) (xs : List Man) → q x ≡ true → count_by q (x ∷ xs) ≡ 1 + count_by q xs
 counted q x xs e = count_by-cons q x xs ∙ ap (λ b. cond b 1 0 + count_by q xs) e

@@ -20,8 +20,8 @@ use Rattle.study_moves.specs.declared.moves.Move.{Move}
 use Rattle.study_moves.specs.Rules.{is_pawn, is_en_passant, is_square, is_legal}
 use Rattle.study_moves.specs.Bare.{is_taken, is_live, without_passed, bare}
 use Rattle.study_index.specs.Decoded.{square_behind, behind}
-use Rattle.study_moves.proofs.Among.{IsAmong, some_among, same_square, found_among}
-use Rattle.study_moves.proofs.Gaps.{HasMover-from_is_legal}
+use Rattle.study_moves.proofs.MenOfList.{IsAmong, some_among, same_square, found_among}
+use Rattle.study_moves.proofs.NoMoveBetween.{HasMover-from_is_legal}
 use Rattle.study_material.specs.declared.class.Class.{Class}
 use Rattle.study_material.specs.Lists.{of, ordered}
 use Rattle.study_material.specs.Class.{lists_of, IsOf}
