@@ -16,8 +16,7 @@ use Rattle.study_material.proofs.MovesOn.{moves_lead_on}
 use Rattle.study_index.specs.Number.{cells_of}
 use Rattle.study_index.specs.Laws.{AreAlikeIn}
 use Rattle.study_index.proofs.ClassLaws.{below, entry, numbered, same_class, same_index, alike_back, alike_move, same_game}
-use Rattle.study_retro.specs.Forced.{distance_of}
-use Rattle.study_retro.specs.Cells.{value_of}
+use Rattle.study_retro.specs.Cells.{distance_of, value_of}
 use Rattle.study_retro.specs.Class.{IsClass}
 use Rattle.study_index.specs.Found.{index_of, position_at}
 use Rattle.study_retro.specs.Table.{Table, table_of, IsClosed}

@@ -2,7 +2,8 @@
 use Rattle.std.proofs.Common.{◌≡◌, ℕ, zero, suc, ◌<◌, ◌≤◌, ◌⊎◌, inl, inr, arith, subst, refl, ap}
 use Rattle.study_retro.specs.declared.value.Value.{Value}
 use Rattle.study_retro.specs.declared.value.Value.TheVariants.{Win, Loss, Draw}
-use Rattle.study_retro.specs.Forced.{Mated, Mates, IsGame, HasLoss, HasOnlyWins, HasDraw, Gives, IsRightBelow, distance_of}
+use Rattle.study_retro.specs.Forced.{Mated, Mates, IsGame, HasLoss, HasOnlyWins, HasDraw, Gives, IsRightBelow}
+use Rattle.study_retro.specs.Cells.{distance_of}
 
 at_most_suc : (n m : ℕ) → n ≤ suc m → (n ≤ m) ⊎ (n ≡ suc m)
 at_most_suc n m h = grind arith

@@ -2,8 +2,8 @@
 use Rattle.std.proofs.Common.{◌≡◌, ◌≢◌, ℕ, zero, suc, ◌-◌, ◌<◌, ◌≤◌, ◌⊎◌, inl, inr, sym, ◌∙◌, ap, subst, refl, arith, List, slice_index, Option, Some, None, Bool, true}
 use Rattle.study_retro.specs.declared.value.Value.{Value}
 use Rattle.study_retro.specs.declared.value.Value.TheVariants.{Win, Loss, Draw}
-use Rattle.study_retro.specs.Forced.{IsGame, Gives, IsRightBelow, distance_of}
-use Rattle.study_retro.specs.Cells.{value_of, label_of}
+use Rattle.study_retro.specs.Forced.{IsGame, Gives, IsRightBelow}
+use Rattle.study_retro.specs.Cells.{distance_of, value_of, label_of}
 use Rattle.study_retro.specs.Right.{IsRightCell, IsRightOutside, IsOtherCell, IsRightBelowCell, AreRightBelow, AreNear, HasFar}
 use Rattle.study_retro.specs.Class.{IsClass}
 use Rattle.study_retro.proofs.ForcedLemmas.{IsGame-below, IsGame-from_near, Gives-below}

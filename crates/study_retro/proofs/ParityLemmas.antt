@@ -2,8 +2,8 @@
 use Rattle.std.proofs.Common.{◌≡◌, ◌≢◌, ℕ, zero, suc, ◌-◌, ◌*◌, ◌%◌, ◌≤◌, ◌⊎◌, inl, inr, arith, ap, subst, refl, sym}
 use Rattle.std.proofs.lemmas.Bool.Decides.{nat_tests}
 use Rattle.study_retro.specs.declared.value.Value.TheVariants.{Draw}
-use Rattle.study_retro.specs.Forced.{Mated, Mates, IsWin, IsLoss, distance_of}
-use Rattle.study_retro.specs.Cells.{value_of}
+use Rattle.study_retro.specs.Forced.{Mated, Mates, IsWin, IsLoss}
+use Rattle.study_retro.specs.Cells.{distance_of, value_of}
 
 double : ℕ → ℕ
 double zero = zero

@@ -1,7 +1,7 @@
 -- What a builder knows that goes back from decided positions.
 use Rattle.std.specs.Prelude.{◌≡◌, ◌≢◌, ◌⊎◌, ℕ, ◌+◌, ◌-◌, ◌%◌, ◌<◌, ◌≤◌, Bool, true, false, List, slice_index, Option, Some, None}
-use Rattle.study_retro.specs.Forced.{Mated, Mates, IsGame, IsWin, distance_of}
-use Rattle.study_retro.specs.Cells.{value_of}
+use Rattle.study_retro.specs.Forced.{Mated, Mates, IsGame, IsWin}
+use Rattle.study_retro.specs.Cells.{distance_of, value_of}
 use Rattle.study_retro.specs.declared.value.Value.{Value}
 use Rattle.study_retro.specs.declared.value.Value.TheVariants.{Win, Draw}
 

@@ -1,6 +1,6 @@
 -- The laws of a class's numbers.
 use Rattle.std.specs.Prelude.{◌≡◌, ℕ, ◌<◌, Option, Some, Bool, true, false}
-use Rattle.study_retro.specs.Forced.{distance_of}
+use Rattle.study_retro.specs.Cells.{distance_of}
 use Rattle.study_retro.specs.declared.value.Value.{Value}
 
 pub record IsClass {P : Type 0} (leads : P → P → Type 0) (mate : P → Type 0) (known : P → Type 0) (home : P → Bool) (index : P → ℕ)

@@ -69,12 +69,6 @@ pub record IsRightBelow {P : Type 0} (leads : P → P → Type 0) (mate : P → 
   pub won : (n : ℕ) → n < k → v ≡ Win n → Mates leads mate p n
   pub lost : (n : ℕ) → n < k → v ≡ Loss n → Mated leads mate p n
 
--- the plies to the mate, none for a draw
-abbrev pub distance_of : Value → ℕ
-distance_of (Win n) = n
-distance_of (Loss n) = n
-distance_of Draw = 0
-
 -- a legal move leads from p to q
 abbrev pub Leads : {P M : Type 0} → (P → M → Type 0) → (P → M → P) → P → P → Type 0
 Leads {P} {M} legal after p q = (m : M) × legal p m × (after p m ≡ q)

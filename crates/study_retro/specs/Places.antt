@@ -1,5 +1,5 @@
 use Rattle.std.specs.Prelude.{◌≡◌, ℕ, ◌<◌, Bool, true, false}
-use Rattle.study_retro.specs.Forced.{distance_of}
+use Rattle.study_retro.specs.Cells.{distance_of}
 use Rattle.study_retro.specs.declared.value.Value.{Value}
 use Rattle.study_retro.specs.declared.game.Place.{Place}
 use Rattle.study_retro.specs.declared.game.Place.TheVariants.{Cell, Outside}

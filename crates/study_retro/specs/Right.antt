@@ -1,7 +1,7 @@
 -- What it is for a table to be right.
 use Rattle.std.specs.Prelude.{◌≡◌, ◌≢◌, ℕ, ◌<◌, ◌≤◌, List, slice_index, Option, Some, None, Bool, true, false}
-use Rattle.study_retro.specs.Forced.{IsGame, Gives, IsRightBelow, distance_of}
-use Rattle.study_retro.specs.Cells.{value_of}
+use Rattle.study_retro.specs.Forced.{IsGame, Gives, IsRightBelow}
+use Rattle.study_retro.specs.Cells.{distance_of, value_of}
 use Rattle.study_retro.specs.declared.value.Value.{Value}
 
 -- a cell is right: it tells the game's value of its position, and is 0 where its number stands for none

@@ -7,8 +7,7 @@ use Rattle.study_material.specs.Class.{IsOf}
 use Rattle.study_material.specs.Needs.{needs_of}
 use Rattle.study_index.specs.Number.{cells_of}
 use Rattle.study_index.specs.Found.{position_at}
-use Rattle.study_retro.specs.Forced.{distance_of}
-use Rattle.study_retro.specs.Cells.{value_of}
+use Rattle.study_retro.specs.Cells.{distance_of, value_of}
 use Rattle.study_retro.specs.declared.value.Value.{Value}
 use Rattle.study_retro.specs.Game.{IsValueOf}
 use Rattle.study_retro.specs.Table.{Table, table_of}

@@ -1,6 +1,6 @@
 //! What the cells of a table give a number, and whether they tell it.
 ghost use Rattle.std.specs.Prelude.{◌≡◌, ◌<◌, ◌↔◌, true, false, length, IsTrue, IfSome, IfNone, ℕ};
-ghost use Rattle.study_retro.specs.Forced.{distance_of};
+ghost use Rattle.study_retro.specs.Cells.{distance_of};
 ghost use Rattle.study_retro.specs.Numbered.{CellsAreRight, CellsGive, IsGivenAt, IsNumberedClass, IsOtherAt, OutsideIsRight, label_by};
 
 use crate::game::{Game, Place};

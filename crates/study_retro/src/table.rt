@@ -3,8 +3,7 @@ ghost use Rattle.std.specs.Prelude.{◌≡◌, ◌<◌, length, slice_index, vec
 ghost use Rattle.study_index.specs.Number.{cells_of};
 ghost use Rattle.study_material.specs.Class.{IsOf};
 ghost use Rattle.study_index.specs.Found.{index_of};
-ghost use Rattle.study_retro.specs.Forced.{distance_of};
-ghost use Rattle.study_retro.specs.Cells.{value_of};
+ghost use Rattle.study_retro.specs.Cells.{distance_of, value_of};
 ghost use Rattle.study_retro.specs.Table.{Table as Seen, IsComplete, place_of};
 ghost use Rattle.study_retro.specs.Game.{IsValueOf};
 ghost use Rattle.study_retro.specs.Sound.{IsRight};

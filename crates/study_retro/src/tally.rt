@@ -2,7 +2,7 @@
 ghost use Rattle.std.specs.Prelude.{◌≡◌, ◌<◌, None, false};
 ghost use Rattle.std.specs.Option.{ForSome};
 ghost use Rattle.study_retro.specs.Tally.{lost_with, won_with, drawn_with, given_by};
-ghost use Rattle.study_retro.specs.Forced.{distance_of};
+ghost use Rattle.study_retro.specs.Cells.{distance_of};
 
 use crate::value::Value;
 

@@ -1,6 +1,6 @@
 //! Values: won or lost in so many plies, or drawn.
 ghost use Rattle.std.specs.Prelude.{◌≡◌, ◌≢◌, ◌<◌, MatchOption};
-ghost use Rattle.study_retro.specs.Cells.{value_of};
+ghost use Rattle.study_retro.specs.Cells.{distance_of, value_of};
 
 /// A value, seen from the side to move.
 #[derive(Clone, Copy, PartialEq, Eq, Debug)]
@@ -24,7 +24,6 @@ pub fn value_at(cell: u8) -> Value
 }
 
 impl Value {
-    ghost use Rattle.study_retro.specs.Forced.{distance_of};
 
     /// The plies to the mate.
     pub fn distance(self) -> Option<u8>

@@ -11,8 +11,7 @@ use Rattle.study_material.specs.declared.class.Class.{Class}
 use Rattle.study_index.specs.Number.{cells_of}
 use Rattle.study_index.specs.Found.{position_at, index_of}
 use Rattle.study_retro.specs.declared.value.Value.{Value}
-use Rattle.study_retro.specs.Cells.{value_of}
-use Rattle.study_retro.specs.Forced.{distance_of}
+use Rattle.study_retro.specs.Cells.{distance_of, value_of}
 use Rattle.study_retro.specs.Table.{Table, IsComplete}
 use Rattle.study_retro.specs.Sound.{TellsValue, IsRight, HasFarPosition}
 use Rattle.study_retro.specs.Report.{Tells, IsGreatest, win_of}
