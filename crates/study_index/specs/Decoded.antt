@@ -60,6 +60,8 @@ pub record IsDecodedAt (slots : List Slot) (n : ℕ) (q : Position) : Type 0 whe
 abbrev pub IsDecoded : Class → ℕ → Position → Type 0
 IsDecoded c n q = IsDecodedAt (slots_of c) n q
 
+-- ---- not part of any public contract: how a number is read
+
 -- slots in order, two to four, the kings first
 abbrev pub number_of : Slot → ℕ
 number_of s = slot_of s.side s.kind

@@ -1,4 +1,4 @@
--- The index as it is computed: the men in the order of their slots as numbers, then as squares alone.
+-- Not part of any public contract: the index as it is computed, the men in the order of their slots as numbers, then as squares alone.
 use Rattle.std.specs.Prelude.{ℕ, ◌+◌, ◌*◌, ◌/◌, ◌%◌, Bool, true, false, nat_lt, nat_le, List, [], ◌∷◌, map, Option, None, if◌then◌else◌}
 use Rattle.std.specs.Option.{option_map}
 use Rattle.study_board.specs.declared.men.Side.{Side}

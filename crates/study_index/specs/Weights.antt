@@ -1,4 +1,4 @@
--- Which side's list of men comes first, by weights: an earlier kind weighs more, and any two men more than one.
+-- Not part of any public contract: which side's list of men comes first, by weights: an earlier kind weighs more, and any two men more than one.
 use Rattle.std.specs.Prelude.{ℕ, ◌+◌, ◌-◌, List, [], ◌∷◌, if◌then◌else◌}
 use Rattle.study_board.specs.declared.men.Side.{Side}
 use Rattle.study_board.specs.declared.men.Side.TheVariants.{White, Black}

@@ -1,4 +1,4 @@
--- A man carried up through others to its place.
+-- Not part of any public contract: a man carried up through others to its place.
 use Rattle.std.specs.Prelude.{nat_lt, if◌then◌else◌}
 use Rattle.study_board.specs.declared.men.Man.{Man}
 

@@ -1,4 +1,4 @@
--- What a builder knows that goes back from decided positions.
+-- Not part of any public contract: what a builder knows that goes back from decided positions.
 use Rattle.std.specs.Prelude.{◌≡◌, ◌≢◌, ◌⊎◌, ℕ, ◌+◌, ◌-◌, ◌%◌, ◌<◌, ◌≤◌, Bool, true, false, List, slice_index, Option, Some, None}
 use Rattle.study_retro.specs.Forced.{Mated, Mates, IsGame, IsWin}
 use Rattle.study_retro.specs.Cells.{distance_of, value_of}

@@ -1,4 +1,4 @@
--- The numbers of the positions from which a move leads to the position of a number, within a class.
+-- Not part of any public contract: the numbers of the positions from which a move leads to the position of a number, within a class.
 use Rattle.std.specs.Prelude.{◌≡◌, ℕ, ◌+◌, ◌⊎◌, Some}
 use Rattle.study_board.specs.Position.{Position}
 use Rattle.study_moves.specs.declared.moves.Move.{Move}

@@ -1,4 +1,4 @@
--- The laws of a class's numbers.
+-- Not part of any public contract: the laws of a class's numbers.
 use Rattle.std.specs.Prelude.{◌≡◌, ℕ, ◌<◌, Option, Some, Bool, true, false}
 use Rattle.study_retro.specs.Cells.{distance_of}
 use Rattle.study_retro.specs.declared.value.Value.{Value}

@@ -1,4 +1,4 @@
--- Chess with the material of a class, as a numbered game.
+-- Not part of any public contract: chess with the material of a class, as a numbered game.
 use Rattle.std.specs.Prelude.{◌≡◌, true, List, Option}
 use Rattle.study_board.specs.Position.{Position}
 use Rattle.study_moves.specs.Rules.{is_legal, after}

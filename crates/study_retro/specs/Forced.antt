@@ -1,4 +1,4 @@
--- Forced mate over any positions `P`, given by which positions a move leads to and which are mates.
+-- Not part of any public contract: forced mate over any positions `P`, given by which positions a move leads to and which are mates.
 use Rattle.std.specs.Prelude.{◌≡◌, ℕ, zero, suc, ◌<◌, ◌≤◌, ◌⊎◌, Bool, false}
 use Rattle.study_retro.specs.declared.value.Value.{Value}
 use Rattle.study_retro.specs.declared.value.Value.TheVariants.{Win, Loss, Draw}

@@ -1,4 +1,4 @@
--- A game whose positions have numbers, and what a table of its cells says of it.
+-- Not part of any public contract: a game whose positions have numbers, and what a table of its cells says of it.
 use Rattle.std.specs.Prelude.{◌≡◌, ◌≢◌, ℕ, ◌+◌, ◌<◌, Bool, false, IsTrue, List, slice_index, Option, Some}
 use Rattle.study_moves.specs.declared.moves.Move.{Move}
 use Rattle.study_retro.specs.declared.value.Value.{Value}

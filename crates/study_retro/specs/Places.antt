@@ -1,3 +1,4 @@
+-- Not part of any public contract: where the value of a position stands, in a cell of the class or outside of it.
 use Rattle.std.specs.Prelude.{◌≡◌, ℕ, ◌<◌, Bool, true, false}
 use Rattle.study_retro.specs.Cells.{distance_of}
 use Rattle.study_retro.specs.declared.value.Value.{Value}

@@ -1,4 +1,4 @@
--- What it is for a table to be right.
+-- Not part of any public contract: what it is for the cells of such a game to be right.
 use Rattle.std.specs.Prelude.{◌≡◌, ◌≢◌, ℕ, ◌<◌, ◌≤◌, List, slice_index, Option, Some, None, Bool, true, false}
 use Rattle.study_retro.specs.Forced.{IsGame, Gives, IsRightBelow}
 use Rattle.study_retro.specs.Cells.{distance_of, value_of}
