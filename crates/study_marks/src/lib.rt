@@ -20,8 +20,6 @@ mod renew;
 mod stipulation;
 mod tag;
 mod tally;
-#[cfg(test)]
-mod tests;
 mod treework;
 mod walk;
 mod whole;

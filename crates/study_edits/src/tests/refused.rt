@@ -1,7 +1,7 @@
 //! Memory and values that fail in turn: the study stays as it was.
 use super::picture::{Picture, is_same, picture_of};
 use super::{WHITE_WINS, moved, path, start, tables};
-use crate::{Bench, Edit, Refusal};
+use study_marks::{Bench, Edit, Refusal};
 use linked_list_allocator::LocalHeap;
 use std::alloc::{AllocError, Allocator, Global};
 use std::process::Abort;

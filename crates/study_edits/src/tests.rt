@@ -5,7 +5,7 @@ mod picture;
 mod random;
 mod refused;
 
-use crate::{Bench, Edit, Goal, Mark, MateMoves, MoveMark, Refusal, Stipulation, TagName};
+use study_marks::{Bench, Edit, Goal, Mark, MateMoves, MoveMark, Refusal, Stipulation, TagName};
 use std::alloc::{Allocator, Global};
 use std::process::Abort;
 use study_board::{Position, Side, Square};

@@ -1,5 +1,5 @@
 //! All that the readers show of a study.
-use crate::{Bench, Mark, Stipulation, TagName};
+use study_marks::{Bench, Mark, Stipulation, TagName};
 use arrayvec::ArrayString;
 use std::alloc::{AllocError, Allocator, Global};
 use std::process::Abort;
