@@ -1,5 +1,5 @@
 //! Worked studies: marks, edits, refusals and counts.
-ghost use Rattle.std.specs.Prelude.{true};
+ghost use Rattle.std.specs.Prelude.{◌≡◌, Ok, true};
 
 mod picture;
 mod random;
@@ -353,6 +353,8 @@ impl Values for Draws {
     ghost is_honest = { λ w. ⊥ };
 
     ghost held = { λ w c. true };
+
+    ghost gives = { λ w p answer. answer ≡ Ok Value.Draw };
 
     ghost asked_of = { λ w. w.asked };
 

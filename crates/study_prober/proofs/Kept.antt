@@ -49,7 +49,7 @@ module _ {S : Type 0} where
   pub some_same : (h k : Held S) → ◌≡◌ {A = Option (Held S)} (Some h) (Some k) → h ≡ k
   some_same h k e = cc
 
-  some_none : (h : Held S) → ◌≡◌ {A = Option (Held S)} None (Some h) → ⊥
+  pub some_none : (h : Held S) → ◌≡◌ {A = Option (Held S)} None (Some h) → ⊥
   some_none h e = cc
 
   is_some-is : (o : Option (Held S)) (h : Held S) → o ≡ Some h → is_some o ≡ true

@@ -7,3 +7,4 @@ pub mod Given
 pub mod Probed
 pub mod Headers
 pub mod Again
+pub mod Answered

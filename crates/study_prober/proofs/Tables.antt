@@ -10,7 +10,8 @@ use Rattle.study_material.proofs.Classes.{lists_of-injective}
 use Rattle.study_retro.specs.declared.value.Value.{Value}
 use Rattle.study_retro.specs.Table.{Table, table_of, place_of, IsClosed}
 use Rattle.study_retro.specs.Sound.{IsRight}
-use Rattle.study_prober.specs.Whole.{AreRight}
+use Rattle.study_prober.specs.Values.{ProbeAnswer}
+use Rattle.study_prober.specs.Whole.{AreRight, IsCellAnswer, cell_answer}
 use Rattle.study_prober.proofs.Kept.{same_class}
 use Rattle.study_prober.specs.declared.values.ProbeFault.{ProbeFault}
 use Rattle.study_prober.specs.declared.values.ProbeFault.TheVariants.{NoTable}
@@ -36,6 +37,11 @@ none_held held d c p is none = (
 pub some_held : (held : List (Option Table)) (d c : Class) (p : Position) (t : Table) (v : Value) → IsOf d p → Some t ≡ table_of held d
     → (IsErrOf {E = ProbeFault} (Ok v) (NoTable c) → IsOf c p × (is_some (table_of held c) ≡ false)) × (IsOf c p × (is_some (table_of held c) ≡ false) → IsErrOf {E = ProbeFault} (Ok v) (NoTable c))
 some_held held d c p t v is some = (λ e. absurd (let no : ⊥ = cc in no), λ h. absurd (false≢true (sym h.1 ∙ ap (λ (o : Option Table). is_some o) (ap (λ (k : Class). table_of held k) (one_class c d p h.0 is) ∙ sym some))))
+
+-- what the table of its class answers is the answer for a position
+pub cell_told : (held : List (Option Table)) (d : Class) (p : Position) (o : Option Table) (r : ProbeAnswer) → IsOf d p → o ≡ table_of held d → r ≡ cell_answer o d p → IsCellAnswer held p r
+cell_told held d p o r is found told = λ c of.
+    told ∙ ap (λ (x : Option Table). cell_answer x d p) found ∙ ap (λ (k : Class). cell_answer (table_of held k) k p) (one_class d c p is of)
 
 set_past : {A : Type 0} (xs : List A) (i : ℕ) (x : A) → length xs ≤ i → set xs i x ≡ xs
 set_past [] i x past = refl

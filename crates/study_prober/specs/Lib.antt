@@ -4,3 +4,4 @@ pub mod Sources
 pub mod Paged
 pub mod Told
 pub mod Cache
+pub mod Failing

@@ -1,12 +1,17 @@
 -- Paged tables as a contract sees them.
-use Rattle.std.specs.Prelude.{◌≡◌, ◌≢◌, ℕ, List, length, slice_index_or, replicate, Contains, true, is_some, Option, Some, None, [], ◌∷◌, ⊤, Result}
+use Rattle.std.specs.Prelude.{◌≡◌, ◌≢◌, ℕ, List, length, slice_index_or, replicate, Contains, true, is_some, Option, Some, None, [], ◌∷◌, ⊤, Result, Err}
+use Rattle.study_board.specs.Position.{Position}
 use Rattle.study_material.specs.declared.class.Class.{Class}
+use Rattle.study_material.specs.Class.{IsOf}
+use Rattle.study_index.specs.Found.{index_of}
 use Rattle.study_retro.specs.Table.{Table, place_of}
 use Rattle.study_tablefile.specs.declared.fault.SourceFault.{SourceFault}
 use Rattle.study_tablefile.specs.Source.{Question}
 use Rattle.study_prober.specs.declared.cache.PageKey.{PageKey}
 use Rattle.study_prober.specs.declared.held.Held.{Held}
-use Rattle.study_prober.specs.Sources.{IsHeaderOf, IsGivenPage, AreOf, GivesRight, AreHonestAlike}
+use Rattle.study_prober.specs.Sources.{IsHeaderOf, IsGivenPage, IsAnswerFrom, AreOf, GivesRight, AreHonestAlike}
+use Rattle.study_prober.specs.Values.{ProbeAnswer}
+use Rattle.study_prober.specs.declared.values.ProbeFault.TheVariants.{NoTable}
 
 -- the sources, each at the place of its class, the pages that are kept, the last used first, and how many there may be
 pub record Paged (S : Type 0) : Type 0 where
@@ -47,3 +52,12 @@ IsSameSource honest None None = ⊤
 IsSameSource honest None (Some new) = ⊥
 IsSameSource honest (Some old) None = ⊥
 IsSameSource honest (Some old) (Some new) = (new.header ≡ old.header) × AreHonestAlike honest old.source new.source
+
+-- what is held for a position's class, if anything is, answers for the cell of a number
+abbrev pub IsHeldAnswer : {S : Type 0} → (S → Question → Result (List ℕ) SourceFault → Type 0) → Option (Held S) → Class → ℕ → ProbeAnswer → Type 0
+IsHeldAnswer gives None c n answer = answer ≡ Err (NoTable c)
+IsHeldAnswer gives (Some h) c n answer = IsAnswerFrom gives c h n answer
+
+-- an answer of these sources for a position
+abbrev pub IsPagedAnswer : {S : Type 0} → (S → Question → Result (List ℕ) SourceFault → Type 0) → List (Option (Held S)) → Position → ProbeAnswer → Type 0
+IsPagedAnswer gives sources p answer = (c : Class) → IsOf c p → IsHeldAnswer gives (held_of sources c) c (index_of p) answer

@@ -12,6 +12,7 @@ use Rattle.study_tablefile.specs.declared.fault.SourceFault.{SourceFault}
 use Rattle.study_tablefile.specs.Source.{is_whole_page, Question, of_page}
 use Rattle.study_prober.specs.declared.held.Held.{Held}
 use Rattle.study_prober.specs.declared.cache.PageKey.{PageKey}
+use Rattle.study_prober.specs.Values.{ProbeAnswer}
 use Rattle.study_prober.specs.declared.values.ProbeFault.{ProbeFault}
 use Rattle.study_prober.specs.declared.values.ProbeFault.TheVariants.{NoTable, TableRead, PageDamaged}
 
@@ -42,6 +43,14 @@ pub record HasBadPage {S : Type 0} (gives : S → Question → Result (List ℕ)
 -- the value stands at a number, in such a page
 abbrev pub IsReadFrom : {S : Type 0} → (S → Question → Result (List ℕ) SourceFault → Type 0) → Held S → ℕ → Value → Type 0
 IsReadFrom gives h n v = (cells : List ℕ) × IsGivenPage gives h (n / 4096) cells × (v ≡ value_of (slice_index cells (n % 4096)))
+
+-- the answer for the cell of a number, through a source that is held for a class: its value; a fault that the source may answer when it
+-- is asked for the page; or that the page is damaged, where it may give one that is not whole
+abbrev pub IsAnswerFrom : {S : Type 0} → (S → Question → Result (List ℕ) SourceFault → Type 0) → Class → Held S → ℕ → ProbeAnswer → Type 0
+IsAnswerFrom gives c h n (Ok v) = IsReadFrom gives h n v
+IsAnswerFrom gives c h n (Err (NoTable d)) = ⊥
+IsAnswerFrom gives c h n (Err (TableRead f)) = gives h.source (of_page (n / 4096)) (Err f)
+IsAnswerFrom gives c h n (Err (PageDamaged d page)) = (d ≡ c) × (page ≡ n / 4096) × HasBadPage gives h page
 
 -- two states of one source: they may answer the same
 pub record GiveAlike {S : Type 0} (gives : S → Question → Result (List ℕ) SourceFault → Type 0) (old new : S) : Type 0 where

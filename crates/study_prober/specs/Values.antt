@@ -1,12 +1,20 @@
--- Which answers tell of a device's fault.
-use Rattle.std.specs.Prelude.{Bool, true, false, Result, Ok, Err}
+-- Answers to the question for a position's value.
+use Rattle.std.specs.Prelude.{ℕ, Bool, true, false, Result, Ok, Err, if◌then◌else◌}
 use Rattle.study_retro.specs.declared.value.Value.{Value}
+use Rattle.study_tablefile.specs.Source.{counted}
 use Rattle.study_prober.specs.declared.values.ProbeFault.{ProbeFault}
 use Rattle.study_prober.specs.declared.values.ProbeFault.TheVariants.{NoTable, TableRead, PageDamaged}
 
+abbrev pub ProbeAnswer : Type 0
+ProbeAnswer = Result Value ProbeFault
+
 -- a page was not read, or was damaged
-abbrev pub is_device_fault : Result Value ProbeFault → Bool
+abbrev pub is_device_fault : ProbeAnswer → Bool
 is_device_fault (Ok v) = false
 is_device_fault (Err (NoTable c)) = false
 is_device_fault (Err (TableRead f)) = true
 is_device_fault (Err (PageDamaged c n)) = true
+
+-- how many faults of a device there were after an answer
+abbrev pub faults_after : ℕ → ProbeAnswer → ℕ
+faults_after count answer = if is_device_fault answer then counted count else count

@@ -4,7 +4,7 @@ ghost use Rattle.study_material.specs.declared.class.Class.{Class as AClass};
 ghost use Rattle.study_material.specs.Class.{IsOf};
 ghost use Rattle.study_retro.specs.Game.{IsValueOf};
 ghost use Rattle.study_tablefile.specs.Source.{counted};
-ghost use Rattle.study_prober.specs.Values.{is_device_fault};
+ghost use Rattle.study_prober.specs.Values.{faults_after};
 
 use crate::values::{ProbeFault, Values, counted_fault};
 use study_board::Position;
@@ -39,9 +39,13 @@ impl<V: Values> FailingValues<V> {
 }
 
 impl<V: Values> Values for FailingValues<V> {
+    ghost use Rattle.study_prober.specs.Failing.{FailsNext, IsFailingAnswer};
+
     ghost is_honest = { λ w. V.is_honest w.values };
 
     ghost held = { λ w c. V.held w.values c };
+
+    ghost gives = { λ w p answer. IsFailingAnswer V.held V.gives w p answer };
 
     ghost asked_of = { λ w. w.asked };
 
@@ -50,16 +54,19 @@ impl<V: Values> Values for FailingValues<V> {
     fn value(&mut self, p: &Position) -> Result<Value, ProbeFault>
         ensures game { V.is_honest self.old.values → IfOk result (IsValueOf p.now) }
         ensures stays_honest { V.is_honest self.old.values → V.is_honest self.new.values }
+        ensures given { IsFailingAnswer V.held V.gives self.old p.now result }
         ensures no_table { (c : AClass) → IsErrOf result (ProbeFault.NoTable c) ↔ (IsOf c p.now × (V.held self.old.values c ≡ false)) }
         ensures same_tables { (c : AClass) → V.held self.new.values c ≡ V.held self.old.values c }
         ensures asked { self.new.asked ≡ counted self.old.asked }
-        ensures failures { self.new.failures ≡ (if is_device_fault result then counted self.old.failures else self.old.failures) }
-        ensures fails { self.old.fails_at ≡ Some self.old.asked → (c : AClass) → IsOf c p.now → V.held self.old.values c ≡ true → result ≡ Err (ProbeFault.TableRead SourceFault.Device) }
-        ensures not_asked { self.old.fails_at ≡ Some self.old.asked → (c : AClass) → IsOf c p.now → V.held self.old.values c ≡ true → self.new.values ≡ self.old.values }
+        ensures failures { self.new.failures ≡ faults_after self.old.failures result }
+        ensures fails { FailsNext V.held self.old p.now → result ≡ Err (ProbeFault.TableRead SourceFault.Device) }
+        ensures not_asked { FailsNext V.held self.old p.now → self.new.values ≡ self.old.values }
         ensures same { self.new.fails_at ≡ self.old.fails_at }
 
-        // Any other question goes to the values, once, and a fault of theirs is told as a fault.
-        ensures passed { (self.old.fails_at ≡ Some self.old.asked → ⊥) → (V.asked_of self.new.values ≡ counted (V.asked_of self.old.values)) × (V.failed_of self.new.values ≡ (if is_device_fault result then counted (V.failed_of self.old.values) else V.failed_of self.old.values)) }
+        // Any other question goes to the values, once, and what they answer is told.
+        ensures passed { (FailsNext V.held self.old p.now → ⊥) → V.gives self.old.values p.now result }
+        ensures asked_on { (FailsNext V.held self.old p.now → ⊥) → V.asked_of self.new.values ≡ counted (V.asked_of self.old.values) }
+        ensures failures_on { (FailsNext V.held self.old p.now → ⊥) → V.failed_of self.new.values ≡ faults_after (V.failed_of self.old.values) result }
     {
         let number = self.asked;
         self.asked = self.asked.saturating_add(1);

@@ -13,8 +13,8 @@ ghost use Rattle.study_tablefile.specs.declared.fault.SourceFault.{SourceFault a
 ghost use Rattle.study_prober.specs.Cache.{key_at, kept_cell};
 ghost use Rattle.study_prober.specs.declared.held.Held.{Held as AHeld};
 ghost use Rattle.study_prober.specs.Sources.{AreHonestAlike, GiveAlike, IsGivenPage, HasBadPage, IsReadFrom, GivesRight, IsHeaderOf, is_read_fault};
-ghost use Rattle.study_prober.specs.Paged.{AreRight, AreGiven, IsKept, IsSameSource, held_of, places};
-ghost use Rattle.study_prober.specs.Values.{is_device_fault};
+ghost use Rattle.study_prober.specs.Paged.{AreRight, AreGiven, IsKept, IsPagedAnswer, IsSameSource, held_of, places};
+ghost use Rattle.study_prober.specs.Values.{faults_after};
 ghost use Rattle.study_prober.specs.Told.{MayAnswer, paged_fault, is_unread};
 
 use crate::cache::{Pages, place};
@@ -173,6 +173,8 @@ impl<'a, S: PageSource, A: Allocator> Values for PagedTables<'a, S, A> {
 
     ghost held = { λ w c. is_some (held_of w.sources c) };
 
+    ghost gives = { λ w p answer. IsPagedAnswer S.gives w.sources p answer };
+
     ghost asked_of = { λ w. w.asked };
 
     ghost failed_of = { λ w. w.failed };
@@ -180,10 +182,11 @@ impl<'a, S: PageSource, A: Allocator> Values for PagedTables<'a, S, A> {
     fn value(&mut self, p: &Position) -> Result<Value, ProbeFault>
         ensures game { AreRight S.honest self.old.sources → IfOk result (IsValueOf p.now) }
         ensures stays_honest { AreRight S.honest self.old.sources → AreRight S.honest self.new.sources }
+        ensures given { IsPagedAnswer S.gives self.old.sources p.now result }
         ensures no_table { (c : AClass) → IsErrOf result (ProbeFault.NoTable c) ↔ (IsOf c p.now × (is_some (held_of self.old.sources c) ≡ false)) }
         ensures same_tables { (c : AClass) → is_some (held_of self.new.sources c) ≡ is_some (held_of self.old.sources c) }
         ensures asked { self.new.asked ≡ counted self.old.asked }
-        ensures failures { self.new.failed ≡ (if is_device_fault result then counted self.old.failed else self.old.failed) }
+        ensures failures { self.new.failed ≡ faults_after self.old.failed result }
 
         // Of a source that is honest for whatever table of the class, an answer is the table's, and no page is damaged.
         ensures told { (c : AClass) (h : AHeld S) (t : Seen) → IsOf c p.now → held_of self.old.sources c ≡ Some h → S.honest h.source t h.header.version → t.class ≡ c → IfOk result (λ v. v ≡ value_of (slice_index t.cells (index_of p.now))) }

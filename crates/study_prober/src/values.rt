@@ -1,10 +1,11 @@
 //! What answers the values of positions.
-ghost use Rattle.std.specs.Prelude.{◌≡◌, ◌↔◌, ℕ, Bool, false, IfOk, IsErrOf, if◌then◌else◌};
+ghost use Rattle.std.specs.Prelude.{◌≡◌, ◌↔◌, ℕ, Bool, false, IfOk, IsErrOf};
+ghost use Rattle.study_board.specs.Position.{Position as APosition};
 ghost use Rattle.study_material.specs.declared.class.Class.{Class as AClass};
 ghost use Rattle.study_material.specs.Class.{IsOf};
 ghost use Rattle.study_retro.specs.Game.{IsValueOf};
 ghost use Rattle.study_tablefile.specs.Source.{counted};
-ghost use Rattle.study_prober.specs.Values.{is_device_fault};
+ghost use Rattle.study_prober.specs.Values.{ProbeAnswer, faults_after};
 
 use study_board::Position;
 use study_material::Class;
@@ -36,7 +37,7 @@ impl From<SourceFault> for ProbeFault {
 
 /// A count of faults after an answer.
 pub fn counted_fault(count: u64, answer: &Result<Value, ProbeFault>) -> u64
-    ensures { result ≡ (if is_device_fault answer.now then counted count else count) }
+    ensures { result ≡ faults_after count answer.now }
 {
     match answer {
         Err(ProbeFault::TableRead(_) | ProbeFault::PageDamaged(_, _)) => count.saturating_add(1),
@@ -52,6 +53,10 @@ pub trait Values: Drop {
     /// A table of the class is held.
     ghost held: { Self → AClass → Bool };
 
+    /// What may be answered to the question for a position that is asked next. Values that do not tell their answers may
+    /// answer anything.
+    ghost gives: { Self → APosition → ProbeAnswer → Type 0 };
+
     ghost asked_of: { Self → ℕ };
 
     ghost failed_of: { Self → ℕ };
@@ -60,10 +65,11 @@ pub trait Values: Drop {
     fn value(&mut self, p: &Position) -> Result<Value, ProbeFault>
         ensures game { is_honest self.old → IfOk result (IsValueOf p.now) }
         ensures stays_honest { is_honest self.old → is_honest self.new }
+        ensures given { gives self.old p.now result }
         ensures no_table { (c : AClass) → IsErrOf result (ProbeFault.NoTable c) ↔ (IsOf c p.now × (held self.old c ≡ false)) }
         ensures same_tables { (c : AClass) → held self.new c ≡ held self.old c }
         ensures asked { asked_of self.new ≡ counted (asked_of self.old) }
-        ensures failures { failed_of self.new ≡ (if is_device_fault result then counted (failed_of self.old) else failed_of self.old) };
+        ensures failures { failed_of self.new ≡ faults_after (failed_of self.old) result };
 
     /// Whether a table of the class is held.
     fn holds(&self, class: Class) -> bool

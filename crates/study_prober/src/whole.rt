@@ -1,5 +1,5 @@
 //! Values from tables in memory.
-ghost use Rattle.std.specs.Prelude.{◌≡◌, ◌<◌, ◌^◌, ◌↔◌, false, is_some, Some, Ok, IsOk, IfOk, OnOk, OnErr, IfErr, IsErrAnd, IsErrOf, MatchOption, slice_index, slice_set, if◌then◌else◌};
+ghost use Rattle.std.specs.Prelude.{◌≡◌, ◌<◌, ◌^◌, ◌↔◌, false, is_some, Some, Ok, IsOk, IfOk, OnOk, OnErr, IfErr, IsErrAnd, IsErrOf, MatchOption, slice_index, slice_set};
 ghost use Rattle.study_material.specs.declared.class.Class.{Class as AClass};
 ghost use Rattle.study_material.specs.Class.{IsOf};
 ghost use Rattle.study_index.specs.Found.{index_of};
@@ -9,8 +9,8 @@ ghost use Rattle.study_retro.specs.Table.{Table as Seen, place_of, table_of};
 ghost use Rattle.study_retro.specs.Set.{add_fault};
 ghost use Rattle.study_retro.specs.Sound.{IsRight};
 ghost use Rattle.study_tablefile.specs.Source.{counted};
-ghost use Rattle.study_prober.specs.Values.{is_device_fault};
-ghost use Rattle.study_prober.specs.Whole.{AreRight, Whole};
+ghost use Rattle.study_prober.specs.Values.{faults_after};
+ghost use Rattle.study_prober.specs.Whole.{AreRight, IsCellAnswer, Whole};
 
 use crate::values::{ProbeFault, Values};
 use std::alloc::Allocator;
@@ -66,6 +66,8 @@ impl<'a, A: Allocator> Values for WholeTables<'a, A> {
 
     ghost held = { λ w c. is_some (table_of w.tables c) };
 
+    ghost gives = { λ w p answer. IsCellAnswer w.tables p answer };
+
     ghost asked_of = { λ w. w.asked };
 
     ghost failed_of = { λ w. 0 };
@@ -73,10 +75,11 @@ impl<'a, A: Allocator> Values for WholeTables<'a, A> {
     fn value(&mut self, p: &Position) -> Result<Value, ProbeFault>
         ensures game { AreRight self.old.tables → IfOk result (IsValueOf p.now) }
         ensures stays_honest { AreRight self.old.tables → AreRight self.new.tables }
+        ensures given { IsCellAnswer self.old.tables p.now result }
         ensures no_table { (c : AClass) → IsErrOf result (ProbeFault.NoTable c) ↔ (IsOf c p.now × (is_some (table_of self.old.tables c) ≡ false)) }
         ensures same_tables { (c : AClass) → is_some (table_of self.new.tables c) ≡ is_some (table_of self.old.tables c) }
         ensures asked { self.new.asked ≡ counted self.old.asked }
-        ensures failures { 0 ≡ (if is_device_fault result then counted 0 else 0) }
+        ensures failures { 0 ≡ faults_after 0 result }
         ensures told { (c : AClass) (t : Seen) → IsOf c p.now → table_of self.old.tables c ≡ Some t → result ≡ Ok (value_of (slice_index t.cells (index_of p.now))) }
         ensures same { self.new.tables ≡ self.old.tables }
     {

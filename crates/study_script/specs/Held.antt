@@ -2,11 +2,15 @@
 use Rattle.std.specs.Prelude.{◌≡◌, ℕ, Bool, true, false, is_some, List, Option, Result}
 use Rattle.study_script.specs.declared.store.StoreFault.{StoreFault}
 use Rattle.std.specs.Io.KnownBytes.{Appends}
+use Rattle.study_board.specs.Position.{Position}
+use Rattle.study_tablefile.specs.declared.fault.SourceFault.{SourceFault}
+use Rattle.study_tablefile.specs.Source.{Question}
 use Rattle.study_tablefile.specs.Taken.{TakesPrefix}
 use Rattle.study_material.specs.declared.class.Class.{Class}
 use Rattle.study_retro.specs.Table.{Table, table_of}
-use Rattle.study_prober.specs.Whole.{AreRight as WholeAreRight}
-use Rattle.study_prober.specs.Paged.{AreRight as SourcesAreRight, held_of}
+use Rattle.study_prober.specs.Values.{ProbeAnswer}
+use Rattle.study_prober.specs.Whole.{AreRight as WholeAreRight, IsCellAnswer}
+use Rattle.study_prober.specs.Paged.{AreRight as SourcesAreRight, IsPagedAnswer, held_of}
 use Rattle.study_marks.specs.declared.fault.Refusal.{Refusal as EditRefusal}
 use Rattle.study_marks.specs.declared.fault.Refusal.TheVariants as edit
 use Rattle.study_marks.specs.Study.{plain_study}
@@ -41,6 +45,11 @@ module _ {P A : Type 0} where
   abbrev pub tables_held : Tables P A → Class → Bool
   tables_held (Whole w) c = is_some (table_of w.tables c)
   tables_held (Paged w) c = is_some (held_of w.sources c)
+
+  -- what may be answered for a position
+  abbrev pub tables_give : (P → Question → Result (List ℕ) SourceFault → Type 0) → Tables P A → Position → ProbeAnswer → Type 0
+  tables_give gives (Whole w) p answer = IsCellAnswer w.tables p answer
+  tables_give gives (Paged w) p answer = IsPagedAnswer gives w.sources p answer
 
   abbrev pub tables_asked : Tables P A → ℕ
   tables_asked (Whole w) = w.asked

@@ -1,11 +1,14 @@
-use Rattle.std.proofs.Common.{◌≡◌, ◌/◌, ◌∙◌, ap}
+use Rattle.std.proofs.Common.{◌≡◌, ◌/◌, ◌∙◌, ap, sym}
+use Rattle.study_material.specs.declared.class.Class.{Class}
 use Rattle.study_prober.specs.Cache.{key_at}
 use Rattle.study_prober.specs.Paged.{Paged, held_of}
 use Rattle.study_index.specs.Found.{index_of}
 use Rattle.study_prober.specs.Sources.{IsGivenPage}
 use Rattle.study_prober.proofs.Given.{put_seen, fewer_seen, on_err}
 use Rattle.study_prober.proofs.Again.{again_seen}
+use Rattle.study_prober.proofs.Answered.{answered}
 use Rattle.study_prober.proofs.Kept.{no_table_by, stays_right_at}
+use Rattle.study_prober.proofs.Tables.{one_class}
 use Rattle.study_prober.proofs.paged.PagedTablesValues.value.Goals as goal
 
 pub returns-clause-stays_honest : goal.returns-clause-stays_honest
@@ -42,3 +45,15 @@ returns-clause-refused g c =
 
 pub returns-clause-alike : goal.returns-clause-alike
 returns-clause-alike g c = λ d h k was now. c.probe-answer.ensures.alike d h k (ap (λ (w : Paged g.row.S.Denot). held_of w.sources d) c.self.view_is ∙ was) now
+
+pub returns-clause-given : goal.returns-clause-given
+returns-clause-given g c = λ d of.
+    let same = ap (λ (w : Paged g.row.S.Denot). held_of w.sources d) c.self.view_is in
+    let probed = c.probe-answer.ensures in
+    answered g.S.PageSource.gives d (index_of c.args.p.now) (held_of c.args.self.now.sources d) c.probe-answer.result
+    (λ b told. let none = (probed.no_table b).0 told in sym same ∙ ap (λ (x : Class). held_of c.self.inside.sources.items x) (one_class d b c.args.p.now of none.0) ∙ none.1)
+    (λ none. (probed.no_table d).1 (of, same ∙ none))
+    (λ h was. probed.read d h of (same ∙ was))
+    (λ h f was. probed.unread d h f of (same ∙ was))
+    (λ b page told. let at = probed.damaged b page told in (one_class b d c.args.p.now at.0 of, at.1))
+    (λ h page was. probed.not_whole d h page (same ∙ was))

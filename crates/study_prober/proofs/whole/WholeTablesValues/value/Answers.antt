@@ -3,7 +3,7 @@ use Rattle.study_index.specs.Found.{index_of}
 use Rattle.study_retro.specs.Cells.{value_of}
 use Rattle.study_retro.specs.Table.{Table, table_of}
 use Rattle.study_prober.specs.Whole.{Whole}
-use Rattle.study_prober.proofs.Tables.{one_class, same_table, table_class, some_held}
+use Rattle.study_prober.proofs.Tables.{one_class, same_table, table_class, some_held, cell_told}
 use Rattle.study_prober.proofs.whole.WholeTablesValues.value.Goals as goal
 
 pub at-requires : goal.at-requires
@@ -27,3 +27,9 @@ returns-clause-told g c = λ d t of is.
     let found = subst (λ (held : List (Option Table)). Some c.in-Some.table.now ≡ table_of held c.class_of-class.result.0) same c.in-Some.ensures.value in
     let table = same_table c.args.self.now.tables d c.class_of-class.result.0 t c.in-Some.table.now (one_class d c.class_of-class.result.0 c.args.p.now of c.class_of-class.ensures.class) found is in
     ap (λ v. Ok v) (c.at.ensures.told ∙ ap (λ (u : Table). value_of (get_or u.cells (index_of c.args.p.now) 0)) table)
+
+pub returns-clause-given : goal.returns-clause-given
+returns-clause-given g c =
+    let same = ap (λ (w : Whole). w.tables) c.self.view_is in
+    let found = subst (λ (held : List (Option Table)). Some c.in-Some.table.now ≡ table_of held c.class_of-class.result.0) same c.in-Some.ensures.value in
+    cell_told c.args.self.now.tables c.class_of-class.result.0 c.args.p.now (Some c.in-Some.table.now) _ c.class_of-class.ensures.class found (ap (λ v. Ok v) c.at.ensures.told)
