@@ -10,7 +10,8 @@ ghost use Rattle.study_marks.specs.Study.{plain_study, position_at, place_of_tag
 ghost use Rattle.study_marks.specs.Kept.{marked, IsRight};
 ghost use Rattle.study_marks.specs.Asked.{asked_at, asked_of, is_of_tables, AllHeld, IsOutside, HasAsked, failures_after, counted_times};
 ghost use Rattle.study_marks.specs.Stop.{IsShiftRefusal, IsStopped, AreAccepted, accepted_of, labels_by, HasAskedBy, failures_stopped, IsApplied};
-ghost use Rattle.study_marks.specs.Edits.{broken_from, positioned, shifted, stipulated, inserted, deleted, promoted, tagged, edited_by, insert_refusal, delete_refusal, promote_refusal, shift_refusal, is_printed, is_tag_text, tag_refusal};
+ghost use Rattle.study_marks.specs.Edits.{broken_from, positioned, shifted, stipulated, inserted, deleted, promoted, tagged, edited_by};
+ghost use Rattle.study_marks.specs.Edits.{insert_refusal, delete_refusal, promote_refusal, shift_refusal, is_printed, is_tag_text, tag_refusal};
 ghost use Rattle.std.specs.List.{list_all};
 
 use crate::ask::ask;
@@ -45,7 +46,12 @@ impl<'a, A: Allocator> Bench<'a, A> {
         ensures refusal { IfErr result (IsOutside (V.held values.old) (asked_at start.position)) }
         ensures takes_no_memory { IfErr result (λ e. is_of_tables e ≡ true) }
         ensures found { OnOk result (AllHeld (V.held values.old) (asked_at start.position)) }
-        ensures made { IfOk result (λ b. plain_study (marked b) ≡ record { start = start; stipulation = stipulation; tags = None ∷ None ∷ None ∷ None ∷ None ∷ None ∷ []; tree = record { label = tt; below = none } }) }
+        ensures made { IfOk result (λ b. plain_study (marked b) ≡ record {
+          start = start;
+          stipulation = stipulation;
+          tags = None ∷ None ∷ None ∷ None ∷ None ∷ None ∷ [];
+          tree = record { label = tt; below = none };
+        }) }
         ensures right { V.is_honest values.old → IfOk result IsRight }
         ensures relabelled { IfOk result (λ b. b.relabelled ≡ 1) }
         ensures asked { HasAsked (length (asked_at start.position)) result (V.asked_of values.old) (V.asked_of values.new) }
@@ -94,7 +100,8 @@ impl<'a, A: Allocator> Bench<'a, A> {
         values: &mut V,
     ) -> Result<(), Refusal<'a, A>>
         ensures broken { OnOk result (broken_from 0 start.position (marked self.old).tree.below ≡ None) }
-        ensures refusal { IfErr result (IsShiftRefusal (V.held values.old) (asked_of (shifted (plain_study (marked self.old)) start)) (shift_refusal (plain_study (marked self.old)) start)) }
+        ensures refusal { IfErr result (IsShiftRefusal (V.held values.old) (asked_of (shifted (plain_study (marked self.old)) start))
+            (shift_refusal (plain_study (marked self.old)) start)) }
         ensures edited { OnOk result (plain_study (marked self.new) ≡ shifted (plain_study (marked self.old)) start) }
         ensures right { V.is_honest values.old → OnOk result (IsRight self.new) }
         ensures relabelled { OnOk result (self.new.relabelled ≡ counted_times (size_of (marked self.old).tree) self.old.relabelled) }
@@ -119,7 +126,9 @@ impl<'a, A: Allocator> Bench<'a, A> {
         m: Move,
         values: &mut V,
     ) -> Result<u16, Refusal<'a, A>>
-        ensures refusal { MatchOption (insert_refusal (plain_study (marked self.old)) path.now m) (IfErr result (IsOutside (V.held values.old) (asked_at (after (position_at (marked self.old) path.now) m)))) (λ fault. result ≡ Err fault) }
+        ensures refusal { MatchOption (insert_refusal (plain_study (marked self.old)) path.now m)
+            (IfErr result (IsOutside (V.held values.old) (asked_at (after (position_at (marked self.old) path.now) m))))
+            (λ fault. result ≡ Err fault) }
         ensures found { OnOk result (AllHeld (V.held values.old) (asked_at (after (position_at (marked self.old) path.now) m))) }
         ensures edited { OnOk result (plain_study (marked self.new) ≡ inserted (plain_study (marked self.old)) path.now m) }
         ensures place { IfOk result (λ k. k ≡ children_at (marked self.old).tree.below path.now) }
@@ -291,7 +300,9 @@ impl<'a, A: Allocator> Bench<'a, A> {
 
     /// One edit.
     fn apply<V: Values>(&mut self, edit: &Edit<'a, A>, values: &mut V) -> Result<(), Refusal<'a, A>>
-        ensures { IsApplied (V.held values.old) (V.held values.new) (V.is_honest values.old) (V.is_honest values.new) (V.asked_of values.old) (V.asked_of values.new) (V.failed_of values.old) (V.failed_of values.new) self.old self.new edit.now result }
+        ensures { IsApplied (V.held values.old) (V.held values.new) (V.is_honest values.old) (V.is_honest values.new)
+            (V.asked_of values.old) (V.asked_of values.new) (V.failed_of values.old) (V.failed_of values.new)
+            self.old self.new edit.now result }
     {
         match edit {
             Edit::Position(start) => self.set_position(start.copied(), values),

@@ -65,8 +65,12 @@ pub fn find_broken<'a, A: Allocator>(
 ) -> bool
     requires found { IsTrue (has_spot (plain_tree tree.now) steps.old.items) }
     requires shallow { IsWithin 256 (plain_tree tree.now).below }
-    ensures broken { IsTrue result → (path : List ℕ) × (broken_from 0 position.now (below_at (plain_tree tree.now).below steps.old.items) ≡ Some path) × (steps.new.items ≡ steps.old.items ++ path) }
-    ensures whole { result ≡ false → (broken_from 0 position.now (below_at (plain_tree tree.now).below steps.old.items) ≡ None) × (steps.new.items ≡ steps.old.items) }
+    ensures broken { IsTrue result
+        → (path : List ℕ) × (broken_from 0 position.now (below_at (plain_tree tree.now).below steps.old.items) ≡ Some path)
+        × (steps.new.items ≡ steps.old.items ++ path) }
+    ensures whole { result ≡ false
+        → (broken_from 0 position.now (below_at (plain_tree tree.now).below steps.old.items) ≡ None)
+        × (steps.new.items ≡ steps.old.items) }
 {
     let count = children_of(tree, steps.as_slice());
     let mut place = 0u16;
@@ -141,8 +145,14 @@ fn write_below<'a, A: Allocator>(
     requires found { IsTrue (has_spot (plain_tree tree.old) steps.old.items) }
     requires shallow { IsWithin 256 (plain_tree tree.old).below }
     requires numbers { number + nodes_in (below_at (plain_tree tree.old).below steps.old.items) ≤ 4096 }
-    ensures written { plain_tree tree.new ≡ record { label = (plain_tree tree.old).label; below = below_edited (refreshed all.now aim.now (length steps.old.items) number told.now) (plain_tree tree.old).below steps.old.items } }
-    ensures faults { result.0 ≡ faults_below (hero_moves aim.now (length steps.old.items)) (refreshed all.now aim.now (length steps.old.items) number told.now (below_at (plain_tree tree.old).below steps.old.items)) }
+    ensures written { plain_tree tree.new ≡ record {
+      label = (plain_tree tree.old).label;
+      below = below_edited (refreshed all.now aim.now (length steps.old.items) number told.now)
+          (plain_tree tree.old).below steps.old.items;
+    } }
+    ensures faults { result.0 ≡ faults_below (hero_moves aim.now (length steps.old.items))
+        (refreshed all.now aim.now (length steps.old.items) number told.now
+        (below_at (plain_tree tree.old).below steps.old.items)) }
     ensures number { result.1 ≡ number + nodes_in (below_at (plain_tree tree.old).below steps.old.items) }
     ensures count { tree.new.relabelled ≡ counted_times (nodes_in (below_at (plain_tree tree.old).below steps.old.items)) tree.old.relabelled }
     ensures steps { steps.new.items ≡ steps.old.items }

@@ -13,7 +13,7 @@ use Rattle.study_retro.specs.declared.value.Value.{Value}
 use Rattle.study_retro.specs.Cells.{value_of}
 use Rattle.study_retro.specs.Table.{Table, place_of}
 use Rattle.study_prober.specs.declared.cache.PageKey.{PageKey}
-use Rattle.study_prober.specs.declared.held.Held.{Held}
+use Rattle.study_prober.specs.declared.held.HeldSource.{HeldSource}
 use Rattle.study_prober.specs.declared.values.ProbeFault.{ProbeFault}
 use Rattle.study_prober.specs.Cache.{same_key, key_at, cell_at, kept_cell}
 use Rattle.study_prober.specs.Paged.{held_of, IsKept}
@@ -27,7 +27,7 @@ then_some P Q (Some x) f h = f x h
 abbrev pub IsAgain : {S V : Type 0} → (V → List ℕ) → List S → List S → List (PageKey × V) → Result Value ProbeFault → Class → ℕ → Type 0
 IsAgain cells xs ys kept r c n = IfSome (kept_cell cells kept c n) (λ x. (r ≡ Ok (value_of x)) × (ys ≡ xs))
 
-module _ {S V : Type 0} (honest : S → Table → ℕ → Type 0) (cells : V → List ℕ) (xs : List (Option (Held S))) (kept : List (PageKey × V)) (c : Class) where
+module _ {S V : Type 0} (honest : S → Table → ℕ → Type 0) (cells : V → List ℕ) (xs : List (Option (HeldSource S))) (kept : List (PageKey × V)) (c : Class) where
   -- no page is kept of a class without a source
   no_page : IsKept honest cells xs kept → held_of xs c ≡ None → (n : ℕ) (o : Option V) → lookup (same_key (key_at c n)) kept ≡ o → o ≡ None
   no_page was none n None e = refl
@@ -35,7 +35,7 @@ module _ {S V : Type 0} (honest : S → Table → ℕ → Type 0) (cells : V →
       let found = Contains-lookup (same_key (key_at c n)) kept v e in
       let key : key_at c n ≡ found.0 = same_key-is (key_at c n) found.0 found.2 in
       let held = was.held (found.0, v) c found.1 (ap (λ (k : PageKey). k.class) (sym key)) in
-      absurd (false≢true (sym (ap (λ (o : Option (Held S)). is_some o) none) ∙ held))
+      absurd (false≢true (sym (ap (λ (o : Option (HeldSource S)). is_some o) none) ∙ held))
 
   none_kept : IsKept honest cells xs kept → held_of xs c ≡ None → (n : ℕ) → lookup (same_key (key_at c n)) kept ≡ None
   none_kept was none n = no_page was none n (lookup (same_key (key_at c n)) kept) refl
@@ -44,9 +44,9 @@ module _ {S V : Type 0} (honest : S → Table → ℕ → Type 0) (cells : V →
   again_none d n P was none same =
       subst (λ (x : Class). IfSome (kept_cell cells kept x n) P) (sym same) (subst (λ (o : Option ℕ). IfSome o P) (sym (ap (λ (o : Option V). cell_at cells (n % 4096) o) (none_kept was none n))) tt)
 
-module _ {S V : Type 0} (cells : V → List ℕ) (xs : List (Option (Held S))) (kept : List (PageKey × V)) (r : Result Value ProbeFault) where
+module _ {S V : Type 0} (cells : V → List ℕ) (xs : List (Option (HeldSource S))) (kept : List (PageKey × V)) (r : Result Value ProbeFault) where
   -- the source that was not asked stands where it stood
-  pub again_at : (b c d : Class) (i m n : ℕ) (h k : Held S) → i ≡ place_of c → held_of xs c ≡ Some h → b ≡ d → m ≡ n
+  pub again_at : (b c d : Class) (i m n : ℕ) (h k : HeldSource S) → i ≡ place_of c → held_of xs c ≡ Some h → b ≡ d → m ≡ n
       → IfSome (kept_cell cells kept b m) (λ x. (r ≡ Ok (value_of x)) × (k ≡ h))
       → IsAgain cells xs (set xs i (Some k)) kept r d n
   again_at b c d i m n h k at is same number told =
@@ -54,7 +54,7 @@ module _ {S V : Type 0} (cells : V → List ℕ) (xs : List (Option (Held S))) (
       let of_class = subst (λ (y : Class). IfSome (kept_cell cells kept y m) Told) same told in
       let of_number = subst (λ (l : ℕ). IfSome (kept_cell cells kept d l) Told) number of_class in
       then_some Told (λ x. (r ≡ Ok (value_of x)) × (set xs i (Some k) ≡ xs)) (kept_cell cells kept d n)
-      (λ x t. (t.0, ap (λ (j : ℕ). set xs j (Some k)) at ∙ ap (λ (o : Option (Held S)). set xs (place_of c) o) (ap (λ (y : Held S). Some y) t.1 ∙ sym is) ∙ set-get_or xs (place_of c) None)) of_number
+      (λ x t. (t.0, ap (λ (j : ℕ). set xs j (Some k)) at ∙ ap (λ (o : Option (HeldSource S)). set xs (place_of c) o) (ap (λ (y : HeldSource S). Some y) t.1 ∙ sym is) ∙ set-get_or xs (place_of c) None)) of_number
 
 cell_of : {V : Type 0} (cells : V → List ℕ) (i : ℕ) (o : Option V) → cell_at (λ xs. xs) i (option_map cells o) ≡ cell_at cells i o
 cell_of cells i None = refl

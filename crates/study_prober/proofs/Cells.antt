@@ -13,7 +13,7 @@ use Rattle.study_tablefile.specs.declared.source.Header.{Header}
 use Rattle.study_tablefile.specs.Source.{is_whole_page, page_of}
 use Rattle.study_tablefile.proofs.Again.{whole_again}
 use Rattle.study_prober.specs.declared.values.ProbeFault.{ProbeFault}
-use Rattle.study_prober.specs.Sources.{IsHeaderOf, page_cells_of as cells_of_page}
+use Rattle.study_prober.specs.Sources.{IsHeaderOf, cells_on_page}
 
 -- zeros, and what is beyond them, read as 0
 zero_read : (m i : ℕ) → get_or {A = ℕ} (replicate m 0) i 0 ≡ 0
@@ -36,18 +36,18 @@ cells_length : (xs : List ℕ) → length (page_cells_of xs) ≡ 4096
 unfolding page_cells_of
 cells_length xs = length-append (take 4096 xs) (replicate (4096 - length xs) 0) ∙ omega (arith, length-take 4096 xs, length-replicate {A = ℕ} (4096 - length xs) 0)
 
-page_reads_cells : (t : Table) (n k : ℕ) → k < 4096 → get_or (cells_of_page t n) k 0 ≡ get_or t.cells (4096 * n + k) 0
+page_reads_cells : (t : Table) (n k : ℕ) → k < 4096 → get_or (cells_on_page t n) k 0 ≡ get_or t.cells (4096 * n + k) 0
 page_reads_cells t n k small = page_reads (drop (4096 * n) t.cells) k small ∙ get_or-drop (4096 * n) t.cells k 0
 
 -- the cells of a page's text
-pub cells_of_text : (t : Table) (v n : ℕ) → take 4096 (page_of t v n) ≡ cells_of_page t n
+pub cells_of_text : (t : Table) (v n : ℕ) → take 4096 (page_of t v n) ≡ cells_on_page t n
 unfolding page_text
 cells_of_text t v n =
     let cells = page_cells_of (drop (4096 * n) t.cells) in
     take_at cells (page_digest (fields_text t.class v) n cells) 4096 (cells_length (drop (4096 * n) t.cells))
 
 -- cell i of a table is byte i mod 4,096 of its page i / 4,096
-pub cell_of_page : (t : Table) (i : ℕ) → get_or (cells_of_page t (i / 4096)) (i % 4096) 0 ≡ get_or t.cells i 0
+pub cell_of_page : (t : Table) (i : ℕ) → get_or (cells_on_page t (i / 4096)) (i % 4096) 0 ≡ get_or t.cells i 0
 cell_of_page t i =
     let whole : 4096 * (i / 4096) + i % 4096 ≡ i = omega arith in
     let small : i % 4096 < 4096 = omega arith in
@@ -65,6 +65,6 @@ whole_read t h n page header same complete e =
     let cells : h.cells ≡ cells_of t.class = header.cells ∙ ap cells_of (sym same) in
     rw fields (rw cells (rw e (whole_again t h.version n complete)))
 
-pub told_cell : (t : Table) (i : ℕ) (r : Result Value ProbeFault) → IfOk r (λ v. v ≡ value_of (get_or (cells_of_page t (i / 4096)) (i % 4096) 0)) → IfOk r (λ v. v ≡ value_of (get_or t.cells i 0))
+pub told_cell : (t : Table) (i : ℕ) (r : Result Value ProbeFault) → IfOk r (λ v. v ≡ value_of (get_or (cells_on_page t (i / 4096)) (i % 4096) 0)) → IfOk r (λ v. v ≡ value_of (get_or t.cells i 0))
 told_cell t i (Ok v) told = told ∙ ap value_of (cell_of_page t i)
 told_cell t i (Err fault) told = told

@@ -10,7 +10,7 @@ use Rattle.study_tablefile.specs.declared.fault.SourceFault.{SourceFault}
 use Rattle.study_tablefile.specs.declared.source.Header.{Header}
 use Rattle.study_prober.specs.declared.fault.PagedFault.{PagedFault}
 use Rattle.study_prober.specs.declared.fault.PagedFault.TheVariants.{TableRead}
-use Rattle.study_prober.specs.Told.{IsReadOf}
+use Rattle.study_prober.specs.Told.{IsHonestHeader}
 use Rattle.study_tablefile.proofs.Again.{header_again, version_again}
 
 -- a header that was given reads as the class of each table for which the source is honest, and its version
@@ -23,6 +23,6 @@ read_of t v bytes h known given is version = (
 pub never_bad : (t : Table) (v : ℕ) (bytes : List ℕ) (e : FileFault) → IsVersionOf t.class v → bytes ≡ header_text t.class v → class_read bytes ≡ Err e → ⊥
 never_bad t v bytes e known given is = let same : ◌≡◌ {A = Result Class FileFault} (Err e) (Ok t.class) = sym is ∙ ap class_read given ∙ header_again t.class v known in cc
 
-pub fault_read : (c : Class) (v : ℕ) (f : SourceFault) (r : Result Header PagedFault) → IsErrAnd r (λ fault. fault ≡ TableRead f) → IsReadOf r c v
+pub fault_read : (c : Class) (v : ℕ) (f : SourceFault) (r : Result Header PagedFault) → IsErrAnd r (λ fault. fault ≡ TableRead f) → IsHonestHeader r c v
 fault_read c v f (Ok h) is = absurd is
 fault_read c v f (Err fault) is = (f, is)

@@ -11,7 +11,7 @@ use Rattle.study_retro.specs.declared.value.Value.{Value}
 use Rattle.study_retro.specs.Table.{Table, table_of, place_of, IsClosed}
 use Rattle.study_retro.specs.Sound.{IsRight}
 use Rattle.study_prober.specs.Values.{ProbeAnswer}
-use Rattle.study_prober.specs.Whole.{AreRight, IsCellAnswer, cell_answer}
+use Rattle.study_prober.specs.Whole.{TablesAreRight, IsCellAnswer, cell_answer}
 use Rattle.study_prober.proofs.Kept.{same_class}
 use Rattle.study_prober.specs.declared.values.ProbeFault.{ProbeFault}
 use Rattle.study_prober.specs.declared.values.ProbeFault.TheVariants.{NoTable}
@@ -48,7 +48,7 @@ set_past [] i x past = refl
 set_past (y ∷ ys) zero x past = absurd (omega (arith, past))
 set_past {A} (y ∷ ys) (suc i) x past = ap (λ (zs : List A). y ∷ zs) (set_past ys i x (omega (arith, past)))
 
-right_set : (held : List (Option Table)) (t : Table) → AreRight held → IsRight t → AreRight (set held (place_of t.class) (Some t))
+right_set : (held : List (Option Table)) (t : Table) → TablesAreRight held → IsRight t → TablesAreRight (set held (place_of t.class) (Some t))
 right_set held t all own = record {
   right = λ c u e. elim (same_class t.class c) [
     | inl same ↦ elim (cases_lt (place_of t.class) (length held)) [
@@ -63,6 +63,6 @@ right_set held t all own = record {
 }
 
 -- a right table that is added to right ones
-pub right_added : {T E : Type 0} (r : Result T E) (old new : List (Option Table)) (t : Table) → OnOk r (new ≡ set old (place_of t.class) (Some t)) → OnErr r (new ≡ old) → AreRight old → IsRight t → AreRight new
-right_added (Ok x) old new t added same all own = subst AreRight (sym added) (right_set old t all own)
-right_added (Err e) old new t added same all own = subst AreRight (sym same) all
+pub right_added : {T E : Type 0} (r : Result T E) (old new : List (Option Table)) (t : Table) → OnOk r (new ≡ set old (place_of t.class) (Some t)) → OnErr r (new ≡ old) → TablesAreRight old → IsRight t → TablesAreRight new
+right_added (Ok x) old new t added same all own = subst TablesAreRight (sym added) (right_set old t all own)
+right_added (Err e) old new t added same all own = subst TablesAreRight (sym same) all

@@ -16,6 +16,7 @@ pub record FailsNext {V : Type 0} (held : V → Class → Bool) (w : FailingValu
   pub is_held : held w.values class ≡ true
 
 -- what may be answered for a position: the device's fault where the question fails, else what the values may answer
-pub record IsFailingAnswer {V : Type 0} (held : V → Class → Bool) (gives : V → Position → ProbeAnswer → Type 0) (w : FailingValues V) (p : Position) (answer : ProbeAnswer) : Type 0 where
+pub record IsFailingAnswer {V : Type 0} (held : V → Class → Bool) (gives : V → Position → ProbeAnswer → Type 0)
+    (w : FailingValues V) (p : Position) (answer : ProbeAnswer) : Type 0 where
   pub fails : FailsNext held w p → answer ≡ Err (TableRead Device)
   pub passed : (FailsNext held w p → ⊥) → gives w.values p answer

@@ -1,63 +1,73 @@
 -- Paged tables as a contract sees them.
-use Rattle.std.specs.Prelude.{◌≡◌, ◌≢◌, ℕ, List, length, slice_index_or, replicate, Contains, true, is_some, Option, Some, None, [], ◌∷◌, ⊤, Result, Err}
+use Rattle.std.specs.Prelude.{◌≡◌, ◌≢◌, ℕ, ◌/◌, List, [], ◌∷◌, length, slice_index_or, replicate, Contains, true, ⊤}
+use Rattle.std.specs.Prelude.{Option, Some, None, is_some, IfSome, Ok, Err}
 use Rattle.study_board.specs.Position.{Position}
 use Rattle.study_material.specs.declared.class.Class.{Class}
 use Rattle.study_material.specs.Class.{IsOf}
 use Rattle.study_index.specs.Found.{index_of}
+use Rattle.study_retro.specs.Cells.{value_of}
 use Rattle.study_retro.specs.Table.{Table, place_of}
-use Rattle.study_tablefile.specs.declared.fault.SourceFault.{SourceFault}
-use Rattle.study_tablefile.specs.Source.{Question}
 use Rattle.study_prober.specs.declared.cache.PageKey.{PageKey}
-use Rattle.study_prober.specs.declared.held.Held.{Held}
-use Rattle.study_prober.specs.Sources.{IsHeaderOf, IsGivenPage, IsAnswerFrom, AreOf, GivesRight, AreHonestAlike}
+use Rattle.study_prober.specs.declared.held.HeldSource.{HeldSource}
+use Rattle.study_prober.specs.Sources.{GivesOf, HonestOf, IsHeaderOf, IsGivenPage, IsAnswerFrom, AreOf, GivesRight, AreHonestAlike}
+use Rattle.study_prober.specs.Cache.{key_at}
 use Rattle.study_prober.specs.Values.{ProbeAnswer}
 use Rattle.study_prober.specs.declared.values.ProbeFault.TheVariants.{NoTable}
 
 -- the sources, each at the place of its class, the pages that are kept, the last used first, and how many there may be
 pub record Paged (S : Type 0) : Type 0 where
-  pub sources : List (Option (Held S))
+  pub sources : List (Option (HeldSource S))
   pub kept : List (PageKey × List ℕ)
   pub room : ℕ
   pub asked : ℕ
   pub failed : ℕ
 
 -- what is held for a class, if anything is
-abbrev pub held_of : {S : Type 0} → List (Option (Held S)) → Class → Option (Held S)
+abbrev pub held_of : {S : Type 0} → List (Option (HeldSource S)) → Class → Option (HeldSource S)
 held_of sources c = slice_index_or sources (place_of c) None
 
 -- a place for each class, from the first source on
-abbrev pub places : {S : Type 0} → List (Option (Held S)) → List (Option (Held S))
+abbrev pub places : {S : Type 0} → List (Option (HeldSource S)) → List (Option (HeldSource S))
 places [] = replicate 36 None
 places (o ∷ os) = o ∷ os
 
 -- each source has the header of its class, each page that is kept is of a source that is held, and for whatever table a source is
 -- honest in the version of its header, its pages that are kept are the table's
-pub record IsKept {S V : Type 0} (honest : S → Table → ℕ → Type 0) (cells : V → List ℕ) (sources : List (Option (Held S))) (kept : List (PageKey × V)) : Type 0 where
+pub record IsKept {S V : Type 0} (honest : HonestOf S) (cells : V → List ℕ) (sources : List (Option (HeldSource S))) (kept : List (PageKey × V)) : Type 0 where
   pub some : length sources ≢ 0 → length sources ≡ 36
-  pub header : (c : Class) (h : Held S) → held_of sources c ≡ Some h → IsHeaderOf h.header c
+  pub header : (c : Class) (h : HeldSource S) → held_of sources c ≡ Some h → IsHeaderOf h.header c
   pub held : (e : PageKey × V) (c : Class) → Contains kept e → e.0.class ≡ place_of c → is_some (held_of sources c) ≡ true
-  pub right : (c : Class) (h : Held S) (t : Table) → held_of sources c ≡ Some h → honest h.source t h.header.version → t.class ≡ c → AreOf cells kept t
+  pub right : (c : Class) (h : HeldSource S) (t : Table) → held_of sources c ≡ Some h → honest h.source t h.header.version → t.class ≡ c → AreOf cells kept t
 
 -- each page that is kept is one that its source may give, and has passed its check
-pub record AreGiven {S V : Type 0} (gives : S → Question → Result (List ℕ) SourceFault → Type 0) (cells : V → List ℕ) (sources : List (Option (Held S))) (kept : List (PageKey × V)) : Type 0 where
-  pub given : (e : PageKey × V) (c : Class) (h : Held S) → Contains kept e → e.0.class ≡ place_of c → held_of sources c ≡ Some h → IsGivenPage gives h e.0.number (cells e.1)
+pub record AreGiven {S V : Type 0} (gives : GivesOf S) (cells : V → List ℕ) (sources : List (Option (HeldSource S))) (kept : List (PageKey × V)) : Type 0 where
+  pub given : (e : PageKey × V) (c : Class) (h : HeldSource S) → Contains kept e → e.0.class ≡ place_of c
+      → held_of sources c ≡ Some h → IsGivenPage gives h e.0.number (cells e.1)
 
 -- each source gives the file of a right table of its class
-pub record AreRight {S : Type 0} (honest : S → Table → ℕ → Type 0) (sources : List (Option (Held S))) : Type 0 where
-  pub right : (c : Class) (h : Held S) → held_of sources c ≡ Some h → GivesRight honest h.source h.header.version c
+pub record SourcesAreRight {S : Type 0} (honest : HonestOf S) (sources : List (Option (HeldSource S))) : Type 0 where
+  pub right : (c : Class) (h : HeldSource S) → held_of sources c ≡ Some h → GivesRight honest h.source h.header.version c
 
 -- what is held for a class before and after a call: the same source
-abbrev pub IsSameSource : {S : Type 0} → (S → Table → ℕ → Type 0) → Option (Held S) → Option (Held S) → Type 0
+abbrev pub IsSameSource : {S : Type 0} → HonestOf S → Option (HeldSource S) → Option (HeldSource S) → Type 0
 IsSameSource honest None None = ⊤
 IsSameSource honest None (Some new) = ⊥
 IsSameSource honest (Some old) None = ⊥
 IsSameSource honest (Some old) (Some new) = (new.header ≡ old.header) × AreHonestAlike honest old.source new.source
 
 -- what is held for a position's class, if anything is, answers for the cell of a number
-abbrev pub IsHeldAnswer : {S : Type 0} → (S → Question → Result (List ℕ) SourceFault → Type 0) → Option (Held S) → Class → ℕ → ProbeAnswer → Type 0
+abbrev pub IsHeldAnswer : {S : Type 0} → GivesOf S → Option (HeldSource S) → Class → ℕ → ProbeAnswer → Type 0
 IsHeldAnswer gives None c n answer = answer ≡ Err (NoTable c)
 IsHeldAnswer gives (Some h) c n answer = IsAnswerFrom gives c h n answer
 
 -- an answer of these sources for a position
-abbrev pub IsPagedAnswer : {S : Type 0} → (S → Question → Result (List ℕ) SourceFault → Type 0) → List (Option (Held S)) → Position → ProbeAnswer → Type 0
+abbrev pub IsPagedAnswer : {S : Type 0} → GivesOf S → List (Option (HeldSource S)) → Position → ProbeAnswer → Type 0
 IsPagedAnswer gives sources p answer = (c : Class) → IsOf c p → IsHeldAnswer gives (held_of sources c) c (index_of p) answer
+
+-- a page that is put in by a question for the cell of a number: the one in which the cell stands, as the source may give it
+abbrev pub IsPageFor : {S : Type 0} → GivesOf S → Class → HeldSource S → ℕ → PageKey → List ℕ → Type 0
+IsPageFor gives c h n key cells = (key ≡ key_at c n) × IsGivenPage gives h (n / 4096) cells
+
+-- a cell that is kept is told without its source
+abbrev pub IsToldAgain : {X : Type 0} → Option ℕ → ProbeAnswer → X → X → Type 0
+IsToldAgain cell answer old new = IfSome cell (λ x. (answer ≡ Ok (value_of x)) × (new ≡ old))

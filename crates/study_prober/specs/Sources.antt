@@ -1,5 +1,5 @@
 -- Sources of pages, and the cells of their tables' pages.
-use Rattle.std.specs.Prelude.{◌≡◌, ℕ, ◌*◌, ◌/◌, ◌%◌, List, slice_index, take, drop, Contains, Bool, true, false, Result, Ok, Err}
+use Rattle.std.specs.Prelude.{◌≡◌, ◌⊎◌, ℕ, ◌*◌, ◌/◌, ◌%◌, List, slice_index, take, drop, Contains, Bool, true, false, Result, Ok, Err, if◌then◌else◌}
 use Rattle.study_material.specs.declared.class.Class.{Class}
 use Rattle.study_index.specs.Number.{cells_of}
 use Rattle.study_retro.specs.Table.{Table, IsComplete, place_of}
@@ -7,10 +7,10 @@ use Rattle.study_retro.specs.Sound.{IsRight}
 use Rattle.study_retro.specs.Cells.{value_of}
 use Rattle.study_retro.specs.declared.value.Value.{Value}
 use Rattle.study_tablefile.specs.declared.source.Header.{Header}
-use Rattle.study_tablefile.specs.File.{IsVersionOf, fields_text, page_cells_of as cells_from}
+use Rattle.study_tablefile.specs.File.{IsVersionOf, fields_text, page_cells_of}
 use Rattle.study_tablefile.specs.declared.fault.SourceFault.{SourceFault}
-use Rattle.study_tablefile.specs.Source.{is_whole_page, Question, of_page}
-use Rattle.study_prober.specs.declared.held.Held.{Held}
+use Rattle.study_tablefile.specs.Source.{counted, is_whole_page, Question, of_page}
+use Rattle.study_prober.specs.declared.held.HeldSource.{HeldSource}
 use Rattle.study_prober.specs.declared.cache.PageKey.{PageKey}
 use Rattle.study_prober.specs.Values.{ProbeAnswer}
 use Rattle.study_prober.specs.declared.values.ProbeFault.{ProbeFault}
@@ -24,45 +24,52 @@ pub record IsHeaderOf (h : Header) (c : Class) : Type 0 where
   pub fields : h.fields ≡ fields_text c h.version
 
 -- the cells of page n of a table's file, in whatever version
-abbrev pub page_cells_of : Table → ℕ → List ℕ
-page_cells_of t n = cells_from (drop (4096 * n) t.cells)
+abbrev pub cells_on_page : Table → ℕ → List ℕ
+cells_on_page t n = page_cells_of (drop (4096 * n) t.cells)
+
+-- what a source may answer to a question, and for which tables, in which versions of their files, it is honest
+abbrev pub GivesOf : Type 0 → Type 1
+GivesOf S = S → Question → Result (List ℕ) SourceFault → Type 0
+
+abbrev pub HonestOf : Type 0 → Type 1
+HonestOf S = S → Table → ℕ → Type 0
 
 -- the cells are those of a page that the source may give as page n, and that passes the check of the source's header
-pub record IsGivenPage {S : Type 0} (gives : S → Question → Result (List ℕ) SourceFault → Type 0) (h : Held S) (n : ℕ) (cells : List ℕ) : Type 0 where
+pub record IsGivenPage {S : Type 0} (gives : GivesOf S) (h : HeldSource S) (n : ℕ) (cells : List ℕ) : Type 0 where
   pub page : List ℕ
   pub given : gives h.source (of_page n) (Ok page)
   pub whole : is_whole_page h.header.fields h.header.cells n page ≡ true
   pub is : cells ≡ take 4096 page
 
 -- the source may give a page n that does not pass it
-pub record HasBadPage {S : Type 0} (gives : S → Question → Result (List ℕ) SourceFault → Type 0) (h : Held S) (n : ℕ) : Type 0 where
+pub record HasBadPage {S : Type 0} (gives : GivesOf S) (h : HeldSource S) (n : ℕ) : Type 0 where
   pub page : List ℕ
   pub given : gives h.source (of_page n) (Ok page)
   pub not_whole : is_whole_page h.header.fields h.header.cells n page ≡ false
 
 -- the value stands at a number, in such a page
-abbrev pub IsReadFrom : {S : Type 0} → (S → Question → Result (List ℕ) SourceFault → Type 0) → Held S → ℕ → Value → Type 0
+abbrev pub IsReadFrom : {S : Type 0} → GivesOf S → HeldSource S → ℕ → Value → Type 0
 IsReadFrom gives h n v = (cells : List ℕ) × IsGivenPage gives h (n / 4096) cells × (v ≡ value_of (slice_index cells (n % 4096)))
 
 -- the answer for the cell of a number, through a source that is held for a class: its value; a fault that the source may answer when it
 -- is asked for the page; or that the page is damaged, where it may give one that is not whole
-abbrev pub IsAnswerFrom : {S : Type 0} → (S → Question → Result (List ℕ) SourceFault → Type 0) → Class → Held S → ℕ → ProbeAnswer → Type 0
+abbrev pub IsAnswerFrom : {S : Type 0} → GivesOf S → Class → HeldSource S → ℕ → ProbeAnswer → Type 0
 IsAnswerFrom gives c h n (Ok v) = IsReadFrom gives h n v
 IsAnswerFrom gives c h n (Err (NoTable d)) = ⊥
 IsAnswerFrom gives c h n (Err (TableRead f)) = gives h.source (of_page (n / 4096)) (Err f)
 IsAnswerFrom gives c h n (Err (PageDamaged d page)) = (d ≡ c) × (page ≡ n / 4096) × HasBadPage gives h page
 
 -- two states of one source: they may answer the same
-pub record GiveAlike {S : Type 0} (gives : S → Question → Result (List ℕ) SourceFault → Type 0) (old new : S) : Type 0 where
+pub record GiveAlike {S : Type 0} (gives : GivesOf S) (old new : S) : Type 0 where
   pub on : (q : Question) (a : Result (List ℕ) SourceFault) → gives old q a → gives new q a
   pub back : (q : Question) (a : Result (List ℕ) SourceFault) → gives new q a → gives old q a
 
 -- the pages of a table's class that are kept are the table's
 pub record AreOf {V : Type 0} (cells : V → List ℕ) (kept : List (PageKey × V)) (t : Table) : Type 0 where
-  pub is : (e : PageKey × V) → Contains kept e → e.0.class ≡ place_of t.class → cells e.1 ≡ page_cells_of t e.0.number
+  pub is : (e : PageKey × V) → Contains kept e → e.0.class ≡ place_of t.class → cells e.1 ≡ cells_on_page t e.0.number
 
 -- the source gives the file of a right table of the class, in this version
-pub record GivesRight {S : Type 0} (honest : S → Table → ℕ → Type 0) (source : S) (version : ℕ) (c : Class) : Type 0 where
+pub record GivesRight {S : Type 0} (honest : HonestOf S) (source : S) (version : ℕ) (c : Class) : Type 0 where
   pub table : Table
   pub of_class : table.class ≡ c
   pub complete : IsComplete table
@@ -70,7 +77,7 @@ pub record GivesRight {S : Type 0} (honest : S → Table → ℕ → Type 0) (so
   pub is_honest : honest source table version
 
 -- two states of one source: honest for the same tables in the same versions
-pub record AreHonestAlike {S : Type 0} (honest : S → Table → ℕ → Type 0) (old new : S) : Type 0 where
+pub record AreHonestAlike {S : Type 0} (honest : HonestOf S) (old new : S) : Type 0 where
   pub stays : (t : Table) (v : ℕ) → honest old t v → honest new t v
   pub back : (t : Table) (v : ℕ) → honest new t v → honest old t v
 
@@ -80,3 +87,15 @@ is_read_fault (Ok v) = false
 is_read_fault (Err (NoTable c)) = false
 is_read_fault (Err (TableRead f)) = true
 is_read_fault (Err (PageDamaged c n)) = false
+
+-- how often a source has failed after such an answer
+abbrev pub failed_after : {T : Type 0} → ℕ → Result T ProbeFault → ℕ
+failed_after count answer = if is_read_fault answer then counted count else count
+
+-- each page that is kept was kept before, or is a new one
+abbrev pub PutsOnly : {V : Type 0} → (PageKey → V → Type 0) → List (PageKey × V) → List (PageKey × V) → Type 0
+PutsOnly {V} IsNew old new = (e : PageKey × V) → Contains new e → Contains old e ⊎ IsNew e.0 e.1
+
+-- each page that is kept was kept before
+abbrev pub PutsNone : {V : Type 0} → List (PageKey × V) → List (PageKey × V) → Type 0
+PutsNone {V} old new = (e : PageKey × V) → Contains new e → Contains old e

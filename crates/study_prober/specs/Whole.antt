@@ -16,7 +16,7 @@ pub record Whole : Type 0 where
   pub asked : ℕ
 
 -- every held table is right
-pub record AreRight (held : List (Option Table)) : Type 0 where
+pub record TablesAreRight (held : List (Option Table)) : Type 0 where
   pub right : (c : Class) (t : Table) → table_of held c ≡ Some t → IsRight t
 
 -- what the table of a position's class, if there is one, answers: the value of the position's cell

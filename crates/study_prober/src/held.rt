@@ -1,15 +1,17 @@
 //! Sources of pages, each with what its header says, and the cells of their tables.
-ghost use Rattle.std.specs.Prelude.{◌≡◌, ◌<◌, ◌/◌, ◌⊎◌, ℕ, List, Result, Ok, Err, IfOk, IfSome, OnOk, OnErr, IsErrOf, Contains, slice_index, take, if◌then◌else◌};
+ghost use Rattle.std.specs.Prelude.{◌≡◌, ◌<◌, ◌/◌, ℕ, List, Result, Err, IfOk, OnOk, OnErr, IsErrOf, Contains, slice_index, take};
 ghost use Rattle.study_material.specs.declared.class.Class.{Class as AClass};
 ghost use Rattle.study_retro.specs.Cells.{value_of};
 ghost use Rattle.study_retro.specs.Table.{Table as Seen, IsComplete, place_of};
 ghost use Rattle.study_index.specs.Number.{cells_of};
 ghost use Rattle.study_tablefile.specs.declared.fault.SourceFault.{SourceFault as ASourceFault};
 ghost use Rattle.study_tablefile.specs.File.{IsVersionOf, pages_of};
-ghost use Rattle.study_tablefile.specs.Source.{counted, page_of, of_page};
-ghost use Rattle.study_prober.specs.Cache.{key_at, kept_cell};
-ghost use Rattle.study_prober.specs.Sources.{IsGivenPage, HasBadPage, IsReadFrom, GiveAlike, AreHonestAlike, AreOf, IsHeaderOf, is_read_fault, page_cells_of};
-ghost use Rattle.study_prober.specs.Told.{MayAnswer, IsReadOf, IsTold, is_unread};
+ghost use Rattle.study_tablefile.specs.Source.{page_of, of_page};
+ghost use Rattle.study_prober.specs.Cache.{kept_cell};
+ghost use Rattle.study_prober.specs.Paged.{IsPageFor, IsToldAgain};
+ghost use Rattle.study_prober.specs.Sources.{IsGivenPage, HasBadPage, IsReadFrom, GiveAlike, AreHonestAlike, AreOf, IsHeaderOf};
+ghost use Rattle.study_prober.specs.Sources.{PutsNone, PutsOnly, failed_after, cells_on_page};
+ghost use Rattle.study_prober.specs.Told.{MayAnswer, IsHonestHeader, IsTold, unread_after};
 
 use crate::cache::{PageKey, Pages, keep, kept_byte, key_of};
 use crate::fault::PagedFault;
@@ -20,7 +22,7 @@ use study_tablefile::{Header, PageSource, page_cells, read_header};
 
 /// A source of pages, and what its header says.
 #[derive(Drop)]
-pub struct Held<S> {
+pub struct HeldSource<S> {
     pub header: Header,
     pub source: S,
 }
@@ -28,33 +30,35 @@ pub struct Held<S> {
 /// Asks a source for its header.
 pub fn header_of<S: PageSource>(source: &mut S) -> Result<Header, PagedFault>
     ensures same { AreHonestAlike S.honest source.old source.new }
-    ensures count { S.failed source.new ≡ (if is_unread result then counted (S.failed source.old) else S.failed source.old) }
+    ensures count { S.failed source.new ≡ unread_after (S.failed source.old) result }
     ensures alike { GiveAlike S.gives source.old source.new }
     ensures told { (told : Result (List ℕ) ASourceFault) × MayAnswer S.gives S.honest source.old told × IsTold told result }
     ensures header { IfOk result (λ h. IsHeaderOf h h.class) }
-    ensures reads { (t : Seen) (v : ℕ) → IsVersionOf t.class v → S.honest source.old t v → IsReadOf result t.class v }
+    ensures reads { (t : Seen) (v : ℕ) → IsVersionOf t.class v → S.honest source.old t v → IsHonestHeader result t.class v }
 {
     let mut bytes = [0; 64];
     source.header(&mut bytes)?;
     Ok(read_header(&bytes)?)
 }
 
-impl<S: PageSource> Held<S> {
+impl<S: PageSource> HeldSource<S> {
     /// Reads a page and looks whether it is whole.
     fn page(&mut self, number: u32, into: &mut [u8; 4128]) -> Result<(), ProbeFault>
         requires header { IsHeaderOf self.old.header self.old.header.class }
         requires number { number < pages_of self.old.header.class }
         ensures header { self.new.header ≡ self.old.header }
         ensures same { AreHonestAlike S.honest self.old.source self.new.source }
-        ensures ok { (t : Seen) → S.honest self.old.source t self.old.header.version → t.class ≡ self.old.header.class → OnOk result (into.new ≡ page_of t self.old.header.version number) }
-        ensures whole { (t : Seen) → S.honest self.old.source t self.old.header.version → t.class ≡ self.old.header.class → IsComplete t → (c : AClass) (n : ℕ) → IsErrOf result (ProbeFault.PageDamaged c n) → ⊥ }
+        ensures ok { (t : Seen) → S.honest self.old.source t self.old.header.version → t.class ≡ self.old.header.class
+            → OnOk result (into.new ≡ page_of t self.old.header.version number) }
+        ensures whole { (t : Seen) → S.honest self.old.source t self.old.header.version → t.class ≡ self.old.header.class → IsComplete t
+            → (c : AClass) (n : ℕ) → IsErrOf result (ProbeFault.PageDamaged c n) → ⊥ }
         ensures alike { GiveAlike S.gives self.old.source self.new.source }
         ensures checked { OnOk result (IsGivenPage S.gives self.old number (take 4096 into.new)) }
         ensures unread { (f : ASourceFault) → IsErrOf result (ProbeFault.TableRead f) → S.gives self.old.source (of_page number) (Err f) }
         ensures damaged { (c : AClass) (n : ℕ) → IsErrOf result (ProbeFault.PageDamaged c n) → (c ≡ self.old.header.class) × (n ≡ number) }
         ensures not_whole { (c : AClass) (n : ℕ) → IsErrOf result (ProbeFault.PageDamaged c n) → HasBadPage S.gives self.old number }
         ensures no_table { (c : AClass) → IsErrOf result (ProbeFault.NoTable c) → ⊥ }
-        ensures failed { S.failed self.new.source ≡ (if is_read_fault result then counted (S.failed self.old.source) else S.failed self.old.source) }
+        ensures failed { S.failed self.new.source ≡ failed_after (S.failed self.old.source) result }
     {
         self.source.page(number, into)?;
         if page_cells(&self.header, number, into) {
@@ -67,7 +71,7 @@ impl<S: PageSource> Held<S> {
 
 /// The value that a cell of a page tells, which is read now. A page that finds no room is used and forgotten.
 fn read_value<'a, S: PageSource, A: Allocator>(
-    held: &mut Held<S>,
+    held: &mut HeldSource<S>,
     pages: &mut Pages<'a, A>,
     alloc: &'a A,
     key: PageKey,
@@ -79,13 +83,16 @@ fn read_value<'a, S: PageSource, A: Allocator>(
     ensures room { pages.new.cap ≡ pages.old.cap }
     ensures header { held.new.header ≡ held.old.header }
     ensures same { AreHonestAlike S.honest held.old.source held.new.source }
-    ensures ok { (t : Seen) → S.honest held.old.source t held.old.header.version → t.class ≡ held.old.header.class → IfOk result (λ v. v ≡ value_of (slice_index (page_cells_of t key.number) at)) }
-    ensures whole { (t : Seen) → S.honest held.old.source t held.old.header.version → t.class ≡ held.old.header.class → IsComplete t → (c : AClass) (n : ℕ) → IsErrOf result (ProbeFault.PageDamaged c n) → ⊥ }
+    ensures ok { (t : Seen) → S.honest held.old.source t held.old.header.version → t.class ≡ held.old.header.class
+        → IfOk result (λ v. v ≡ value_of (slice_index (cells_on_page t key.number) at)) }
+    ensures whole { (t : Seen) → S.honest held.old.source t held.old.header.version → t.class ≡ held.old.header.class → IsComplete t
+        → (c : AClass) (n : ℕ) → IsErrOf result (ProbeFault.PageDamaged c n) → ⊥ }
     ensures damaged { (c : AClass) (n : ℕ) → IsErrOf result (ProbeFault.PageDamaged c n) → (c ≡ held.old.header.class) × (n ≡ key.number) }
     ensures no_table { (c : AClass) → IsErrOf result (ProbeFault.NoTable c) → ⊥ }
-    ensures failed { S.failed held.new.source ≡ (if is_read_fault result then counted (S.failed held.old.source) else S.failed held.old.source) }
-    ensures more { (e : _) → Contains pages.new.entries e → Contains pages.old.entries e ⊎ ((e.0 ≡ key) × ((t : Seen) → S.honest held.old.source t held.old.header.version → t.class ≡ held.old.header.class → e.1.items ≡ page_cells_of t key.number)) }
-    ensures given { (e : _) → Contains pages.new.entries e → Contains pages.old.entries e ⊎ ((e.0 ≡ key) × IsGivenPage S.gives held.old key.number e.1.items) }
+    ensures failed { S.failed held.new.source ≡ failed_after (S.failed held.old.source) result }
+    ensures more { PutsOnly (λ k v. (k ≡ key) × ((t : Seen) → S.honest held.old.source t held.old.header.version → t.class ≡ held.old.header.class
+        → v.items ≡ cells_on_page t key.number)) pages.old.entries pages.new.entries }
+    ensures given { PutsOnly (λ k v. (k ≡ key) × IsGivenPage S.gives held.old key.number v.items) pages.old.entries pages.new.entries }
     ensures refused { OnErr result (pages.new.entries ≡ pages.old.entries) }
     ensures alike { GiveAlike S.gives held.old.source held.new.source }
     ensures unread { (f : ASourceFault) → IsErrOf result (ProbeFault.TableRead f) → S.gives held.old.source (of_page key.number) (Err f) }
@@ -100,7 +107,7 @@ fn read_value<'a, S: PageSource, A: Allocator>(
 
 /// The value that the cell of a number tells, from a page that is kept, or else from its source.
 pub fn value_in<'a, S: PageSource, A: Allocator>(
-    held: &mut Held<S>,
+    held: &mut HeldSource<S>,
     pages: &mut Pages<'a, A>,
     alloc: &'a A,
     number: u32,
@@ -110,19 +117,25 @@ pub fn value_in<'a, S: PageSource, A: Allocator>(
     ensures room { pages.new.cap ≡ pages.old.cap }
     ensures header { held.new.header ≡ held.old.header }
     ensures same { AreHonestAlike S.honest held.old.source held.new.source }
-    ensures ok { (t : Seen) → S.honest held.old.source t held.old.header.version → t.class ≡ held.old.header.class → AreOf (λ v. v.items) pages.old.entries t → IfOk result (λ v. v ≡ value_of (slice_index t.cells number)) }
-    ensures whole { (t : Seen) → S.honest held.old.source t held.old.header.version → t.class ≡ held.old.header.class → IsComplete t → (c : AClass) (n : ℕ) → IsErrOf result (ProbeFault.PageDamaged c n) → ⊥ }
+    ensures ok { (t : Seen) → S.honest held.old.source t held.old.header.version → t.class ≡ held.old.header.class
+        → AreOf (λ v. v.items) pages.old.entries t → IfOk result (λ v. v ≡ value_of (slice_index t.cells number)) }
+    ensures whole { (t : Seen) → S.honest held.old.source t held.old.header.version → t.class ≡ held.old.header.class → IsComplete t
+        → (c : AClass) (n : ℕ) → IsErrOf result (ProbeFault.PageDamaged c n) → ⊥ }
     ensures damaged { (c : AClass) (n : ℕ) → IsErrOf result (ProbeFault.PageDamaged c n) → (c ≡ held.old.header.class) × (n ≡ number / 4096) }
     ensures no_table { (c : AClass) → IsErrOf result (ProbeFault.NoTable c) → ⊥ }
-    ensures failed { S.failed held.new.source ≡ (if is_read_fault result then counted (S.failed held.old.source) else S.failed held.old.source) }
-    ensures more { (e : _) → Contains pages.new.entries e → Contains pages.old.entries e ⊎ ((e.0.class ≡ place_of held.old.header.class) × ((t : Seen) → S.honest held.old.source t held.old.header.version → t.class ≡ held.old.header.class → e.1.items ≡ page_cells_of t e.0.number)) }
-    ensures given { (e : _) → Contains pages.new.entries e → Contains pages.old.entries e ⊎ ((e.0 ≡ key_at held.old.header.class number) × IsGivenPage S.gives held.old (number / 4096) e.1.items) }
-    ensures refused { OnErr result ((e : _) → Contains pages.new.entries e → Contains pages.old.entries e) }
+    ensures failed { S.failed held.new.source ≡ failed_after (S.failed held.old.source) result }
+    ensures more { PutsOnly (λ k v. (k.class ≡ place_of held.old.header.class)
+        × ((t : Seen) → S.honest held.old.source t held.old.header.version → t.class ≡ held.old.header.class
+        → v.items ≡ cells_on_page t k.number)) pages.old.entries pages.new.entries }
+    ensures given { PutsOnly (λ k v. IsPageFor S.gives held.old.header.class held.old number k v.items) pages.old.entries pages.new.entries }
+    ensures refused { OnErr result (PutsNone pages.old.entries pages.new.entries) }
     ensures alike { GiveAlike S.gives held.old.source held.new.source }
     ensures unread { (f : ASourceFault) → IsErrOf result (ProbeFault.TableRead f) → S.gives held.old.source (of_page (number / 4096)) (Err f) }
     ensures not_whole { (c : AClass) (n : ℕ) → IsErrOf result (ProbeFault.PageDamaged c n) → HasBadPage S.gives held.old (number / 4096) }
-    ensures again { IfSome (kept_cell (λ v. v.items) pages.old.entries held.old.header.class number) (λ x. (result ≡ Ok (value_of x)) × (held.new ≡ held.old)) }
-    ensures read { ((e : _) → Contains pages.old.entries e → e.0.class ≡ place_of held.old.header.class → IsGivenPage S.gives held.old e.0.number e.1.items) → IfOk result (IsReadFrom S.gives held.old number) }
+    ensures again { IsToldAgain (kept_cell (λ v. v.items) pages.old.entries held.old.header.class number) result held.old held.new }
+    ensures read { ((e : _) → Contains pages.old.entries e → e.0.class ≡ place_of held.old.header.class
+        → IsGivenPage S.gives held.old e.0.number e.1.items)
+        → IfOk result (IsReadFrom S.gives held.old number) }
 {
     let key = key_of(held.header.class, number);
     let at = (number % 4096) as usize;

@@ -66,7 +66,8 @@ impl<V: Values> Values for FailingValues<V> {
         // Any other question goes to the values, once, and what they answer is told.
         ensures passed { (FailsNext V.held self.old p.now → ⊥) → V.gives self.old.values p.now result }
         ensures asked_on { (FailsNext V.held self.old p.now → ⊥) → V.asked_of self.new.values ≡ counted (V.asked_of self.old.values) }
-        ensures failures_on { (FailsNext V.held self.old p.now → ⊥) → V.failed_of self.new.values ≡ faults_after (V.failed_of self.old.values) result }
+        ensures failures_on { (FailsNext V.held self.old p.now → ⊥)
+            → V.failed_of self.new.values ≡ faults_after (V.failed_of self.old.values) result }
     {
         let number = self.asked;
         self.asked = self.asked.saturating_add(1);

@@ -1,5 +1,6 @@
 //! Values from pages of tables, read as they are asked and kept as far as there is room.
-ghost use Rattle.std.specs.Prelude.{◌≡◌, false, ◌≤◌, ◌<◌, ◌/◌, ◌⊎◌, ◌↔◌, ⊤, ℕ, List, Option, Result, [], Some, None, Ok, Err, true, is_some, IfOk, IfErr, IfSome, OnOk, OnErr, IsErrOf, MatchOption, length, slice_index, slice_set, replicate, Contains, if◌then◌else◌};
+ghost use Rattle.std.specs.Prelude.{◌≡◌, ◌≤◌, ◌/◌, ◌↔◌, ⊤, ℕ, List, Option, Result, [], Some, None, Ok, Err, true, false, is_some};
+ghost use Rattle.std.specs.Prelude.{IfOk, IfErr, OnOk, OnErr, IsErrOf, length, slice_index, slice_set, replicate};
 ghost use Rattle.study_material.specs.declared.class.Class.{Class as AClass};
 ghost use Rattle.study_material.specs.Class.{IsOf};
 ghost use Rattle.study_index.specs.Found.{index_of};
@@ -10,16 +11,17 @@ ghost use Rattle.study_tablefile.specs.Source.{counted, of_page};
 ghost use Rattle.study_tablefile.specs.File.{IsVersionOf};
 ghost use Rattle.study_tablefile.specs.declared.fault.FileFault.{FileFault as AFileFault};
 ghost use Rattle.study_tablefile.specs.declared.fault.SourceFault.{SourceFault as ASourceFault};
-ghost use Rattle.study_prober.specs.Cache.{key_at, kept_cell};
-ghost use Rattle.study_prober.specs.declared.held.Held.{Held as AHeld};
-ghost use Rattle.study_prober.specs.Sources.{AreHonestAlike, GiveAlike, IsGivenPage, HasBadPage, IsReadFrom, GivesRight, IsHeaderOf, is_read_fault};
-ghost use Rattle.study_prober.specs.Paged.{AreRight, AreGiven, IsKept, IsPagedAnswer, IsSameSource, held_of, places};
+ghost use Rattle.study_prober.specs.Cache.{kept_cell};
+ghost use Rattle.study_prober.specs.declared.held.HeldSource.{HeldSource as AHeld};
+ghost use Rattle.study_prober.specs.Sources.{AreHonestAlike, GiveAlike, HasBadPage, IsReadFrom, GivesRight, IsHeaderOf};
+ghost use Rattle.study_prober.specs.Sources.{PutsNone, PutsOnly, failed_after};
+ghost use Rattle.study_prober.specs.Paged.{SourcesAreRight, AreGiven, IsKept, IsPageFor, IsPagedAnswer, IsSameSource, IsToldAgain, held_of, places};
 ghost use Rattle.study_prober.specs.Values.{faults_after};
-ghost use Rattle.study_prober.specs.Told.{MayAnswer, paged_fault, is_unread};
+ghost use Rattle.study_prober.specs.Told.{IsRefusedBy, MayAnswer, paged_fault, unread_after};
 
 use crate::cache::{Pages, place};
 use crate::fault::PagedFault;
-use crate::held::{Held, header_of, value_in};
+use crate::held::{HeldSource, header_of, value_in};
 use crate::values::{ProbeFault, Values, counted_fault};
 use lru::LruCache;
 use std::alloc::{AllocError, Allocator};
@@ -36,7 +38,7 @@ use study_tablefile::PageSource;
 pub struct PagedTables<'a, S: PageSource, A: Allocator> {
     alloc: &'a A,
     /// A place for each class, once there is a source.
-    sources: Vec<Option<Held<S>>, &'a A>,
+    sources: Vec<Option<HeldSource<S>>, &'a A>,
     kept: Pages<'a, A>,
     asked: u64,
     failed: u64,
@@ -48,9 +50,16 @@ impl<'a, S: PageSource, A: Allocator> Model for PagedTables<'a, S, A> {
 
     ghost Value = { Paged S };
 
-    ghost view = { λ w. record { sources = w.sources.items; kept = map (λ e. (e.0, e.1.items)) w.kept.entries; room = w.kept.cap; asked = w.asked; failed = w.failed } };
+    ghost view = { λ w. record {
+      sources = w.sources.items;
+      kept = map (λ e. (e.0, e.1.items)) w.kept.entries;
+      room = w.kept.cap;
+      asked = w.asked;
+      failed = w.failed;
+    } };
 
-    ghost invariant = { λ w. IsKept S.honest (λ v. v.items) w.sources.items w.kept.entries × AreGiven S.gives (λ v. v.items) w.sources.items w.kept.entries };
+    ghost invariant = { λ w. IsKept S.honest (λ v. v.items) w.sources.items w.kept.entries
+        × AreGiven S.gives (λ v. v.items) w.sources.items w.kept.entries };
 }
 
 impl<'a, S: PageSource, A: Allocator> PagedTables<'a, S, A> {
@@ -74,21 +83,32 @@ impl<'a, S: PageSource, A: Allocator> PagedTables<'a, S, A> {
 
     /// Holds a source of the table of a class, whose needs are not asked for. A source that is refused is dropped.
     pub fn add(&mut self, class: Class, mut source: S) -> Result<(), PagedFault>
-        ensures fault { (told : Result (List ℕ) ASourceFault) × (is_some (held_of self.old.sources class) ≡ false → MayAnswer S.gives S.honest source told) × MatchOption (paged_fault (is_some (held_of self.old.sources class)) class told) (IfErr result (λ e. e ≡ PagedFault.OutOfMemory)) (λ fault. IsErrOf result fault) }
-        ensures added { OnOk result ((h : AHeld S) × IsHeaderOf h.header class × ((t : Seen) (v : ℕ) → IsVersionOf t.class v → S.honest source t v → h.header.version ≡ v) × AreHonestAlike S.honest source h.source × GiveAlike S.gives source h.source × (S.failed h.source ≡ S.failed source) × (self.new ≡ record self.old { sources = slice_set (places self.old.sources) (place_of class) (Some h) })) }
+        ensures fault { (told : Result (List ℕ) ASourceFault)
+            × (is_some (held_of self.old.sources class) ≡ false → MayAnswer S.gives S.honest source told)
+            × IsRefusedBy (paged_fault (is_some (held_of self.old.sources class)) class told) result }
+        ensures added { OnOk result (
+            (h : AHeld S) × IsHeaderOf h.header class
+            × ((t : Seen) (v : ℕ) → IsVersionOf t.class v → S.honest source t v → h.header.version ≡ v)
+            × AreHonestAlike S.honest source h.source × GiveAlike S.gives source h.source
+            × (S.failed h.source ≡ S.failed source)
+            × (self.new ≡ record self.old { sources = slice_set (places self.old.sources) (place_of class) (Some h) })
+            ) }
         ensures same { OnErr result (self.new ≡ self.old) }
 
         // Each class has a place from the first source on.
         ensures places { OnOk result (length self.new.sources ≡ 36) }
 
         // There is a last state of the source, which has failed once more where its header is not read, and only there.
-        ensures last { (last : S) × AreHonestAlike S.honest source last × (S.failed last ≡ (if is_unread result then counted (S.failed source) else S.failed source)) }
+        ensures last { (last : S) × AreHonestAlike S.honest source last × (S.failed last ≡ unread_after (S.failed source) result) }
 
         // Of a source that is honest for a table the header is never refused, and a class is the table's.
-        ensures header { (t : Seen) (v : ℕ) (e : AFileFault) → IsVersionOf t.class v → S.honest source t v → IsErrOf result (PagedFault.Header e) → ⊥ }
-        ensures other { (t : Seen) (v : ℕ) (d : AClass) → IsVersionOf t.class v → S.honest source t v → IsErrOf result (PagedFault.OtherClass d) → d ≡ t.class }
+        ensures header { (t : Seen) (v : ℕ) (e : AFileFault) → IsVersionOf t.class v → S.honest source t v
+            → IsErrOf result (PagedFault.Header e) → ⊥ }
+        ensures other { (t : Seen) (v : ℕ) (d : AClass) → IsVersionOf t.class v → S.honest source t v
+            → IsErrOf result (PagedFault.OtherClass d) → d ≡ t.class }
         ensures own { (t : Seen) (v : ℕ) → IsVersionOf t.class v → S.honest source t v → OnOk result (t.class ≡ class) }
-        ensures honest { (v : ℕ) → IsVersionOf class v → AreRight S.honest self.old.sources → GivesRight S.honest source v class → OnOk result (AreRight S.honest self.new.sources) }
+        ensures honest { (v : ℕ) → IsVersionOf class v → SourcesAreRight S.honest self.old.sources → GivesRight S.honest source v class
+            → OnOk result (SourcesAreRight S.honest self.new.sources) }
     {
         if self.holds(class) {
             return Err(PagedFault::AlreadyHeld(class));
@@ -98,13 +118,15 @@ impl<'a, S: PageSource, A: Allocator> PagedTables<'a, S, A> {
             return Err(PagedFault::OtherClass(header.class));
         }
         make_places(&mut self.sources, self.alloc)?;
-        self.sources[place(class) as usize] = Some(Held { header, source });
+        self.sources[place(class) as usize] = Some(HeldSource { header, source });
         Ok(())
     }
 }
 
 /// So many places without a source as there are classes.
-fn no_sources<'a, S, A: Allocator>(alloc: &'a A) -> Result<Vec<Option<Held<S>>, &'a A>, AllocError>
+fn no_sources<'a, S, A: Allocator>(
+    alloc: &'a A,
+) -> Result<Vec<Option<HeldSource<S>>, &'a A>, AllocError>
     ensures { IfOk result (λ v. v.items ≡ replicate 36 None) }
 {
     let mut places = Vec::with_capacity(alloc, 36)?;
@@ -116,7 +138,7 @@ fn no_sources<'a, S, A: Allocator>(alloc: &'a A) -> Result<Vec<Option<Held<S>>, 
 
 /// Makes a place for each class, where there is none.
 fn make_places<'a, S: Drop, A: Allocator>(
-    sources: &mut Vec<Option<Held<S>>, &'a A>,
+    sources: &mut Vec<Option<HeldSource<S>>, &'a A>,
     alloc: &'a A,
 ) -> Result<(), AllocError>
     ensures made { OnOk result (sources.new.items ≡ places sources.old.items) }
@@ -130,7 +152,7 @@ fn make_places<'a, S: Drop, A: Allocator>(
 
 /// The value of a position, from a page that is kept or from a source.
 fn probe<'a, S: PageSource, A: Allocator>(
-    sources: &mut Vec<Option<Held<S>>, &'a A>,
+    sources: &mut Vec<Option<HeldSource<S>>, &'a A>,
     pages: &mut Pages<'a, A>,
     alloc: &'a A,
     p: &Position,
@@ -139,22 +161,33 @@ fn probe<'a, S: PageSource, A: Allocator>(
     requires given { AreGiven S.gives (λ v. v.items) sources.old.items pages.old.entries }
     ensures kept { IsKept S.honest (λ v. v.items) sources.new.items pages.new.entries }
     ensures given { AreGiven S.gives (λ v. v.items) sources.new.items pages.new.entries }
-    ensures put { (c : AClass) (h : AHeld S) → IsOf c p.now → held_of sources.old.items c ≡ Some h → (e : _) → Contains pages.new.entries e → Contains pages.old.entries e ⊎ ((e.0 ≡ key_at c (index_of p.now)) × IsGivenPage S.gives h (index_of p.now / 4096) e.1.items) }
-    ensures refused { OnErr result ((e : _) → Contains pages.new.entries e → Contains pages.old.entries e) }
-    ensures alike { (c : AClass) (h k : AHeld S) → held_of sources.old.items c ≡ Some h → held_of sources.new.items c ≡ Some k → GiveAlike S.gives h.source k.source }
-    ensures unread { (c : AClass) (h : AHeld S) (f : ASourceFault) → IsOf c p.now → held_of sources.old.items c ≡ Some h → IsErrOf result (ProbeFault.TableRead f) → S.gives h.source (of_page (index_of p.now / 4096)) (Err f) }
-    ensures not_whole { (c : AClass) (h : AHeld S) (n : ℕ) → held_of sources.old.items c ≡ Some h → IsErrOf result (ProbeFault.PageDamaged c n) → HasBadPage S.gives h n }
+    ensures put { (c : AClass) (h : AHeld S) → IsOf c p.now → held_of sources.old.items c ≡ Some h
+        → PutsOnly (λ k v. IsPageFor S.gives c h (index_of p.now) k v.items) pages.old.entries pages.new.entries }
+    ensures refused { OnErr result (PutsNone pages.old.entries pages.new.entries) }
+    ensures alike { (c : AClass) (h k : AHeld S) → held_of sources.old.items c ≡ Some h → held_of sources.new.items c ≡ Some k
+        → GiveAlike S.gives h.source k.source }
+    ensures unread { (c : AClass) (h : AHeld S) (f : ASourceFault) → IsOf c p.now → held_of sources.old.items c ≡ Some h
+        → IsErrOf result (ProbeFault.TableRead f) → S.gives h.source (of_page (index_of p.now / 4096)) (Err f) }
+    ensures not_whole { (c : AClass) (h : AHeld S) (n : ℕ) → held_of sources.old.items c ≡ Some h
+        → IsErrOf result (ProbeFault.PageDamaged c n) → HasBadPage S.gives h n }
     ensures room { pages.new.cap ≡ pages.old.cap }
     ensures sources { (c : AClass) → IsSameSource S.honest (held_of sources.old.items c) (held_of sources.new.items c) }
     ensures no_table { (c : AClass) → IsErrOf result (ProbeFault.NoTable c) ↔ (IsOf c p.now × (held_of sources.old.items c ≡ None)) }
-    ensures told { (c : AClass) (h : AHeld S) (t : Seen) → IsOf c p.now → held_of sources.old.items c ≡ Some h → S.honest h.source t h.header.version → t.class ≡ c → IfOk result (λ v. v ≡ value_of (slice_index t.cells (index_of p.now))) }
-    ensures whole { (c : AClass) (h : AHeld S) (t : Seen) (n : ℕ) → IsOf c p.now → held_of sources.old.items c ≡ Some h → S.honest h.source t h.header.version → t.class ≡ c → IsComplete t → IsErrOf result (ProbeFault.PageDamaged c n) → ⊥ }
+    ensures told { (c : AClass) (h : AHeld S) (t : Seen) → IsOf c p.now → held_of sources.old.items c ≡ Some h
+        → S.honest h.source t h.header.version → t.class ≡ c
+        → IfOk result (λ v. v ≡ value_of (slice_index t.cells (index_of p.now))) }
+    ensures whole { (c : AClass) (h : AHeld S) (t : Seen) (n : ℕ) → IsOf c p.now → held_of sources.old.items c ≡ Some h
+        → S.honest h.source t h.header.version → t.class ≡ c → IsComplete t
+        → IsErrOf result (ProbeFault.PageDamaged c n) → ⊥ }
     ensures damaged { (c : AClass) (n : ℕ) → IsErrOf result (ProbeFault.PageDamaged c n) → IsOf c p.now × (n ≡ index_of p.now / 4096) }
-    ensures read { (c : AClass) (h : AHeld S) → IsOf c p.now → held_of sources.old.items c ≡ Some h → IfOk result (IsReadFrom S.gives h (index_of p.now)) }
-    ensures failed { (c : AClass) (h k : AHeld S) → IsOf c p.now → held_of sources.old.items c ≡ Some h → held_of sources.new.items c ≡ Some k → S.failed k.source ≡ (if is_read_fault result then counted (S.failed h.source) else S.failed h.source) }
+    ensures read { (c : AClass) (h : AHeld S) → IsOf c p.now → held_of sources.old.items c ≡ Some h
+        → IfOk result (IsReadFrom S.gives h (index_of p.now)) }
+    ensures failed { (c : AClass) (h k : AHeld S) → IsOf c p.now → held_of sources.old.items c ≡ Some h → held_of sources.new.items c ≡ Some k
+        → S.failed k.source ≡ failed_after (S.failed h.source) result }
     ensures others { (c : AClass) → (IsOf c p.now → ⊥) → held_of sources.new.items c ≡ held_of sources.old.items c }
-    ensures again { (c : AClass) → IsOf c p.now → IfSome (kept_cell (λ v. v.items) pages.old.entries c (index_of p.now)) (λ x. (result ≡ Ok (value_of x)) × (sources.new.items ≡ sources.old.items)) }
-    ensures game { AreRight S.honest sources.old.items → IfOk result (IsValueOf p.now) }
+    ensures again { (c : AClass) → IsOf c p.now
+        → IsToldAgain (kept_cell (λ v. v.items) pages.old.entries c (index_of p.now)) result sources.old.items sources.new.items }
+    ensures game { SourcesAreRight S.honest sources.old.items → IfOk result (IsValueOf p.now) }
 {
     let _men = p.men();
     let (class, _) = class_of(p);
@@ -169,7 +202,7 @@ fn probe<'a, S: PageSource, A: Allocator>(
 }
 
 impl<'a, S: PageSource, A: Allocator> Values for PagedTables<'a, S, A> {
-    ghost is_honest = { λ w. AreRight S.honest w.sources };
+    ghost is_honest = { λ w. SourcesAreRight S.honest w.sources };
 
     ghost held = { λ w c. is_some (held_of w.sources c) };
 
@@ -180,8 +213,8 @@ impl<'a, S: PageSource, A: Allocator> Values for PagedTables<'a, S, A> {
     ghost failed_of = { λ w. w.failed };
 
     fn value(&mut self, p: &Position) -> Result<Value, ProbeFault>
-        ensures game { AreRight S.honest self.old.sources → IfOk result (IsValueOf p.now) }
-        ensures stays_honest { AreRight S.honest self.old.sources → AreRight S.honest self.new.sources }
+        ensures game { SourcesAreRight S.honest self.old.sources → IfOk result (IsValueOf p.now) }
+        ensures stays_honest { SourcesAreRight S.honest self.old.sources → SourcesAreRight S.honest self.new.sources }
         ensures given { IsPagedAnswer S.gives self.old.sources p.now result }
         ensures no_table { (c : AClass) → IsErrOf result (ProbeFault.NoTable c) ↔ (IsOf c p.now × (is_some (held_of self.old.sources c) ≡ false)) }
         ensures same_tables { (c : AClass) → is_some (held_of self.new.sources c) ≡ is_some (held_of self.old.sources c) }
@@ -189,29 +222,40 @@ impl<'a, S: PageSource, A: Allocator> Values for PagedTables<'a, S, A> {
         ensures failures { self.new.failed ≡ faults_after self.old.failed result }
 
         // Of a source that is honest for whatever table of the class, an answer is the table's, and no page is damaged.
-        ensures told { (c : AClass) (h : AHeld S) (t : Seen) → IsOf c p.now → held_of self.old.sources c ≡ Some h → S.honest h.source t h.header.version → t.class ≡ c → IfOk result (λ v. v ≡ value_of (slice_index t.cells (index_of p.now))) }
-        ensures whole { (c : AClass) (h : AHeld S) (t : Seen) (n : ℕ) → IsOf c p.now → held_of self.old.sources c ≡ Some h → S.honest h.source t h.header.version → t.class ≡ c → IsComplete t → IsErrOf result (ProbeFault.PageDamaged c n) → ⊥ }
+        ensures told { (c : AClass) (h : AHeld S) (t : Seen) → IsOf c p.now → held_of self.old.sources c ≡ Some h
+            → S.honest h.source t h.header.version → t.class ≡ c
+            → IfOk result (λ v. v ≡ value_of (slice_index t.cells (index_of p.now))) }
+        ensures whole { (c : AClass) (h : AHeld S) (t : Seen) (n : ℕ) → IsOf c p.now → held_of self.old.sources c ≡ Some h
+            → S.honest h.source t h.header.version → t.class ≡ c → IsComplete t
+            → IsErrOf result (ProbeFault.PageDamaged c n) → ⊥ }
         ensures damaged { (c : AClass) (n : ℕ) → IsErrOf result (ProbeFault.PageDamaged c n) → IsOf c p.now × (n ≡ index_of p.now / 4096) }
 
         // Of any source, an answer stands in a page that it may give and that passes its check; a page is damaged where it
         // may give one that does not; and the fault that is told is one that it may answer.
-        ensures read { (c : AClass) (h : AHeld S) → IsOf c p.now → held_of self.old.sources c ≡ Some h → IfOk result (IsReadFrom S.gives h (index_of p.now)) }
-        ensures not_whole { (c : AClass) (h : AHeld S) (n : ℕ) → held_of self.old.sources c ≡ Some h → IsErrOf result (ProbeFault.PageDamaged c n) → HasBadPage S.gives h n }
-        ensures unread { (c : AClass) (h : AHeld S) (f : ASourceFault) → IsOf c p.now → held_of self.old.sources c ≡ Some h → IsErrOf result (ProbeFault.TableRead f) → S.gives h.source (of_page (index_of p.now / 4096)) (Err f) }
+        ensures read { (c : AClass) (h : AHeld S) → IsOf c p.now → held_of self.old.sources c ≡ Some h
+            → IfOk result (IsReadFrom S.gives h (index_of p.now)) }
+        ensures not_whole { (c : AClass) (h : AHeld S) (n : ℕ) → held_of self.old.sources c ≡ Some h
+            → IsErrOf result (ProbeFault.PageDamaged c n) → HasBadPage S.gives h n }
+        ensures unread { (c : AClass) (h : AHeld S) (f : ASourceFault) → IsOf c p.now → held_of self.old.sources c ≡ Some h
+            → IsErrOf result (ProbeFault.TableRead f) → S.gives h.source (of_page (index_of p.now / 4096)) (Err f) }
 
         // A page that is put in is the one asked for, as the source may give it; behind a refusal none is.
-        ensures put { (c : AClass) (h : AHeld S) → IsOf c p.now → held_of self.old.sources c ≡ Some h → (e : _) → Contains self.new.kept e → Contains self.old.kept e ⊎ ((e.0 ≡ key_at c (index_of p.now)) × IsGivenPage S.gives h (index_of p.now / 4096) e.1) }
-        ensures refused { OnErr result ((e : _) → Contains self.new.kept e → Contains self.old.kept e) }
+        ensures put { (c : AClass) (h : AHeld S) → IsOf c p.now → held_of self.old.sources c ≡ Some h
+            → PutsOnly (IsPageFor S.gives c h (index_of p.now)) self.old.kept self.new.kept }
+        ensures refused { OnErr result (PutsNone self.old.kept self.new.kept) }
 
         // The sources stay; that of the class fails once more where a table is not read, and only there.
         ensures sources { (c : AClass) → IsSameSource S.honest (held_of self.old.sources c) (held_of self.new.sources c) }
-        ensures alike { (c : AClass) (h k : AHeld S) → held_of self.old.sources c ≡ Some h → held_of self.new.sources c ≡ Some k → GiveAlike S.gives h.source k.source }
-        ensures failed { (c : AClass) (h k : AHeld S) → IsOf c p.now → held_of self.old.sources c ≡ Some h → held_of self.new.sources c ≡ Some k → S.failed k.source ≡ (if is_read_fault result then counted (S.failed h.source) else S.failed h.source) }
+        ensures alike { (c : AClass) (h k : AHeld S) → held_of self.old.sources c ≡ Some h → held_of self.new.sources c ≡ Some k
+            → GiveAlike S.gives h.source k.source }
+        ensures failed { (c : AClass) (h k : AHeld S) → IsOf c p.now → held_of self.old.sources c ≡ Some h → held_of self.new.sources c ≡ Some k
+            → S.failed k.source ≡ failed_after (S.failed h.source) result }
         ensures others { (c : AClass) → (IsOf c p.now → ⊥) → held_of self.new.sources c ≡ held_of self.old.sources c }
         ensures room { self.new.room ≡ self.old.room }
 
         // A cell of a page that is kept is told without its source.
-        ensures again { (c : AClass) → IsOf c p.now → IfSome (kept_cell (λ cells. cells) self.old.kept c (index_of p.now)) (λ x. (result ≡ Ok (value_of x)) × (self.new.sources ≡ self.old.sources)) }
+        ensures again { (c : AClass) → IsOf c p.now
+            → IsToldAgain (kept_cell (λ cells. cells) self.old.kept c (index_of p.now)) result self.old.sources self.new.sources }
     {
         self.asked = self.asked.saturating_add(1);
         let answer = probe(&mut self.sources, &mut self.kept, self.alloc, p);

@@ -1,5 +1,6 @@
 //! Values from tables in memory.
-ghost use Rattle.std.specs.Prelude.{◌≡◌, ◌<◌, ◌^◌, ◌↔◌, false, is_some, Some, Ok, IsOk, IfOk, OnOk, OnErr, IfErr, IsErrAnd, IsErrOf, MatchOption, slice_index, slice_set};
+ghost use Rattle.std.specs.Prelude.{◌≡◌, ◌↔◌, false, is_some, Some, Ok, IsOk, IfOk, OnOk, OnErr, IfErr, IsErrAnd, IsErrOf, MatchOption};
+ghost use Rattle.std.specs.Prelude.{slice_index, slice_set};
 ghost use Rattle.study_material.specs.declared.class.Class.{Class as AClass};
 ghost use Rattle.study_material.specs.Class.{IsOf};
 ghost use Rattle.study_index.specs.Found.{index_of};
@@ -10,7 +11,7 @@ ghost use Rattle.study_retro.specs.Set.{add_fault};
 ghost use Rattle.study_retro.specs.Sound.{IsRight};
 ghost use Rattle.study_tablefile.specs.Source.{counted};
 ghost use Rattle.study_prober.specs.Values.{faults_after};
-ghost use Rattle.study_prober.specs.Whole.{AreRight, IsCellAnswer, Whole};
+ghost use Rattle.study_prober.specs.Whole.{TablesAreRight, IsCellAnswer, Whole};
 
 use crate::values::{ProbeFault, Values};
 use std::alloc::Allocator;
@@ -52,17 +53,19 @@ impl<'a, A: Allocator> WholeTables<'a, A> {
     /// Adds a table whose class is not held and whose needs are; any other is handed back.
     pub fn add(&mut self, table: Table<'a, A>) -> Result<(), AddRefused<'a, A>>
         ensures fault { MatchOption (add_fault self.old.tables table.entry.class) (IsOk result) (λ fault. IsErrAnd result (λ e. e.fault ≡ fault)) }
-        ensures added { OnOk result (self.new ≡ record self.old { tables = slice_set self.old.tables (place_of table.entry.class) (Some table.entry) }) }
+        ensures added { OnOk result (
+            self.new ≡ record self.old { tables = slice_set self.old.tables (place_of table.entry.class) (Some table.entry) }
+            ) }
         ensures same { OnErr result (self.new ≡ self.old) }
         ensures handed_back { IfErr result (λ e. e.table ≡ table.entry) }
-        ensures honest { AreRight self.old.tables → IsRight table.entry → AreRight self.new.tables }
+        ensures honest { TablesAreRight self.old.tables → IsRight table.entry → TablesAreRight self.new.tables }
     {
         self.tables.add(table)
     }
 }
 
 impl<'a, A: Allocator> Values for WholeTables<'a, A> {
-    ghost is_honest = { λ w. AreRight w.tables };
+    ghost is_honest = { λ w. TablesAreRight w.tables };
 
     ghost held = { λ w c. is_some (table_of w.tables c) };
 
@@ -73,14 +76,15 @@ impl<'a, A: Allocator> Values for WholeTables<'a, A> {
     ghost failed_of = { λ w. 0 };
 
     fn value(&mut self, p: &Position) -> Result<Value, ProbeFault>
-        ensures game { AreRight self.old.tables → IfOk result (IsValueOf p.now) }
-        ensures stays_honest { AreRight self.old.tables → AreRight self.new.tables }
+        ensures game { TablesAreRight self.old.tables → IfOk result (IsValueOf p.now) }
+        ensures stays_honest { TablesAreRight self.old.tables → TablesAreRight self.new.tables }
         ensures given { IsCellAnswer self.old.tables p.now result }
         ensures no_table { (c : AClass) → IsErrOf result (ProbeFault.NoTable c) ↔ (IsOf c p.now × (is_some (table_of self.old.tables c) ≡ false)) }
         ensures same_tables { (c : AClass) → is_some (table_of self.new.tables c) ≡ is_some (table_of self.old.tables c) }
         ensures asked { self.new.asked ≡ counted self.old.asked }
         ensures failures { 0 ≡ faults_after 0 result }
-        ensures told { (c : AClass) (t : Seen) → IsOf c p.now → table_of self.old.tables c ≡ Some t → result ≡ Ok (value_of (slice_index t.cells (index_of p.now))) }
+        ensures told { (c : AClass) (t : Seen) → IsOf c p.now → table_of self.old.tables c ≡ Some t
+            → result ≡ Ok (value_of (slice_index t.cells (index_of p.now))) }
         ensures same { self.new.tables ≡ self.old.tables }
     {
         self.asked = self.asked.saturating_add(1);

@@ -11,7 +11,7 @@ use Rattle.study_material.specs.Needs.{needs_of}
 use Rattle.study_retro.specs.Table.{Table, IsClosed, IsReady, place_of, table_of}
 use Rattle.study_retro.specs.Set.{first_missing, add_fault}
 use Rattle.study_retro.specs.Sound.{IsRight, NeedsAreRight}
-use Rattle.study_prober.specs.Whole.{Whole, AreRight}
+use Rattle.study_prober.specs.Whole.{Whole, TablesAreRight}
 use Rattle.study_prober.proofs.Kept.{same_class}
 use Rattle.study_script.specs.declared.store.StoreFault.{StoreFault}
 use Rattle.study_script.specs.State.{State, Shelf, is_among, forgotten, written_anew}
@@ -143,7 +143,7 @@ module _ (held : List (Option Table)) (t : Table) (full : length held ≡ 36) wh
   there : (d : Class) → place_of d ≢ place_of t.class → table_of (set held (place_of t.class) (Some t)) d ≡ table_of held d
   there d f = get_or-set_other held (place_of t.class) (place_of d) (Some t) None f
 
-  right_with : AreRight held → IsRight t → AreRight (set held (place_of t.class) (Some t))
+  right_with : TablesAreRight held → IsRight t → TablesAreRight (set held (place_of t.class) (Some t))
   right_with all right = record {
     right = λ d u e. elim (same_class d t.class) [
       | inl k ↦ let same : Some t ≡ Some u = sym (here d k) ∙ e in let one : t ≡ u = cc in subst IsRight one right
@@ -175,11 +175,11 @@ ready_of held c t closed e = subst (λ (k : Class). IsReady held k) (sym (closed
 pub class_of_held : (held : List (Option Table)) (c : Class) (t : Table) → IsClosed held → Some t ≡ table_of held c → t.class ≡ c
 class_of_held held c t closed e = closed.class c t (sym e)
 
-pub needs_right : (held : List (Option Table)) (c : Class) → AreRight held → NeedsAreRight held c
+pub needs_right : (held : List (Option Table)) (c : Class) → TablesAreRight held → NeedsAreRight held c
 needs_right held c all = record { right = λ d t n e. all.right d t e }
 
 -- a held table is right where all are
-pub right_told : (held : List (Option Table)) (c : Class) (b : Bool) → AreRight held → is_some (table_of held c) ≡ true → IfSome (table_of held c) (λ t. IsTrue b ↔ IsRight t) → b ≡ true
+pub right_told : (held : List (Option Table)) (c : Class) (b : Bool) → TablesAreRight held → is_some (table_of held c) ≡ true → IfSome (table_of held c) (λ t. IsTrue b ↔ IsRight t) → b ≡ true
 right_told held c b all some told = go (table_of held c) refl some told
   where
     go : (o : Option Table) → table_of held c ≡ o → is_some o ≡ true → IfSome o (λ t. IsTrue b ↔ IsRight t) → b ≡ true

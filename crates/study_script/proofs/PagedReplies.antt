@@ -7,9 +7,9 @@ use Rattle.study_retro.specs.Table.{Table, place_of}
 use Rattle.study_tablefile.specs.declared.fault.SourceFault.{SourceFault}
 use Rattle.study_prober.specs.declared.fault.PagedFault.{PagedFault}
 use Rattle.study_prober.specs.declared.fault.PagedFault.TheVariants as fault_of
-use Rattle.study_prober.specs.declared.held.Held.{Held}
+use Rattle.study_prober.specs.declared.held.HeldSource.{HeldSource}
 use Rattle.study_prober.specs.Sources.{GivesRight}
-use Rattle.study_prober.specs.Paged.{Paged, held_of, places, AreRight}
+use Rattle.study_prober.specs.Paged.{Paged, held_of, places, SourcesAreRight}
 use Rattle.study_prober.specs.Told.{paged_fault}
 use Rattle.study_prober.proofs.Kept.{same_class, held_same, held_other, held_placed}
 use Rattle.study_script.specs.declared.store.StoreFault.{StoreFault}
@@ -79,7 +79,7 @@ module _ {P : Type 0} (honest : P → Table → ℕ → Type 0) where
   pub gives : (source : P) (c : Class) (r : IsRightSource honest source) → r.table.class ≡ c → GivesRight honest source r.version c
   gives source c r same = record { table = r.table; of_class = same; complete = r.complete; right = r.right; is_honest = r.is_honest }
 
-  pub paged_with : (w v : Paged P) (s : State) (c : Class) (x : Held P) → HoldsPaged honest w s → AreRight honest v.sources → length v.sources ≡ 36 → v ≡ record w { sources = set (places w.sources) (place_of c) (Some x) } → HoldsPaged honest v (with_class s c)
+  pub paged_with : (w v : Paged P) (s : State) (c : Class) (x : HeldSource P) → HoldsPaged honest w s → SourcesAreRight honest v.sources → length v.sources ≡ 36 → v ≡ record w { sources = set (places w.sources) (place_of c) (Some x) } → HoldsPaged honest v (with_class s c)
   paged_with w v s c x h right long is = record { values = right; classes = classes; by_pages = h.by_pages }
     where
       sources : v.sources ≡ set (places w.sources) (place_of c) (Some x)
@@ -89,7 +89,7 @@ module _ {P : Type 0} (honest : P → Table → ℕ → Type 0) where
       within = let small = place_below c in omega (arith, small, sym (length-set (places w.sources) (place_of c) (Some x)) ∙ ap length (sym sources) ∙ long)
 
       classes : (d : Class) → is_some (held_of v.sources d) ≡ is_among (c ∷ s.classes) d
-      classes d = ap (λ (xs : List (Option (Held P))). is_some (held_of xs d)) sources ∙ elim (same_class c d) [
-        | inl e ↦ ap (λ (o : Option (Held P)). is_some o) (subst (λ (k : Class). held_of (set (places w.sources) (place_of c) (Some x)) k ≡ Some x) e (held_same (places w.sources) c (Some x) within)) ∙ among_head c d s.classes e
-        | inr f ↦ ap (λ (o : Option (Held P)). is_some o) (held_other (places w.sources) c d (Some x) f ∙ held_placed w.sources d) ∙ among_with c d s.classes (is_some (held_of w.sources d)) (sym (h.classes d)) (λ e. f (ap place_of e))
+      classes d = ap (λ (xs : List (Option (HeldSource P))). is_some (held_of xs d)) sources ∙ elim (same_class c d) [
+        | inl e ↦ ap (λ (o : Option (HeldSource P)). is_some o) (subst (λ (k : Class). held_of (set (places w.sources) (place_of c) (Some x)) k ≡ Some x) e (held_same (places w.sources) c (Some x) within)) ∙ among_head c d s.classes e
+        | inr f ↦ ap (λ (o : Option (HeldSource P)). is_some o) (held_other (places w.sources) c d (Some x) f ∙ held_placed w.sources d) ∙ among_with c d s.classes (is_some (held_of w.sources d)) (sym (h.classes d)) (λ e. f (ap place_of e))
       ]

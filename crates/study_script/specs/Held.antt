@@ -9,8 +9,8 @@ use Rattle.study_tablefile.specs.Taken.{TakesPrefix}
 use Rattle.study_material.specs.declared.class.Class.{Class}
 use Rattle.study_retro.specs.Table.{Table, table_of}
 use Rattle.study_prober.specs.Values.{ProbeAnswer}
-use Rattle.study_prober.specs.Whole.{AreRight as WholeAreRight, IsCellAnswer}
-use Rattle.study_prober.specs.Paged.{AreRight as SourcesAreRight, IsPagedAnswer, held_of}
+use Rattle.study_prober.specs.Whole.{TablesAreRight, IsCellAnswer}
+use Rattle.study_prober.specs.Paged.{SourcesAreRight, IsPagedAnswer, held_of}
 use Rattle.study_marks.specs.declared.fault.Refusal.{Refusal as EditRefusal}
 use Rattle.study_marks.specs.declared.fault.Refusal.TheVariants as edit
 use Rattle.study_marks.specs.Study.{plain_study}
@@ -38,7 +38,7 @@ module _ {A : Type 0} where
 module _ {P A : Type 0} where
   -- each value that is told is the game's
   abbrev pub tables_honest : (P → Table → ℕ → Type 0) → Tables P A → Type 0
-  tables_honest honest (Whole w) = WholeAreRight w.tables
+  tables_honest honest (Whole w) = TablesAreRight w.tables
   tables_honest honest (Paged w) = SourcesAreRight honest w.sources
 
   -- a table of the class is held

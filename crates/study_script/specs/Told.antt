@@ -4,8 +4,8 @@ use Rattle.study_material.specs.declared.class.Class.{Class}
 use Rattle.study_material.specs.Class.{name_of}
 use Rattle.study_retro.specs.Table.{Table, table_of}
 use Rattle.study_tablefile.specs.File.{pages_of}
-use Rattle.study_prober.specs.Whole.{Whole, AreRight}
-use Rattle.study_prober.specs.Paged.{Paged, held_of, AreRight as SourcesAreRight}
+use Rattle.study_prober.specs.Whole.{Whole, TablesAreRight}
+use Rattle.study_prober.specs.Paged.{Paged, held_of, SourcesAreRight}
 use Rattle.study_script.specs.declared.told.Told.{Told}
 use Rattle.study_script.specs.declared.told.Told.TheVariants.{Built, Loaded, Saved, Verified}
 use Rattle.study_script.specs.declared.refusal.Refusal.{Refusal}
@@ -41,7 +41,7 @@ Decided IsIt HoldsIt told = (o : Outside) × (t : State) × IsIt o (told_reply t
 
 -- these whole tables are those of the script, and they are right
 pub record HoldsWhole (w : Whole) (s : State) : Type 0 where
-  pub values : AreRight w.tables
+  pub values : TablesAreRight w.tables
   pub classes : (c : Class) → is_some (table_of w.tables c) ≡ is_among s.classes c
   pub whole : false ≡ s.paged
 

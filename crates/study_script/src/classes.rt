@@ -33,8 +33,12 @@ pub fn of_class<'a, W: Write, S: TableStore, A: Allocator>(
     name: &str,
     out: &mut W,
 ) -> Result<bool, DeviceFailed>
-    ensures ok { (s : State) → HoldsTables S.Pages.honest tables.old s → StoreSeen S.honest S.files S.headers store.old s → IfOk result (Answered (λ o. IsClassReply s o word name.now) (λ t. TablesFrom S.Pages.honest s tables.new t × StoreSeen S.honest S.files S.headers store.new t) (W.contents out.old) (W.contents out.new)) }
-    ensures err { (s : State) → HoldsTables S.Pages.honest tables.old s → StoreSeen S.honest S.files S.headers store.old s → OnErr result (BrokenOff (λ o. IsClassReply s o word name.now) (W.contents out.old) (W.contents out.new)) }
+    ensures ok { (s : State) → HoldsTables S.Pages.honest tables.old s → StoreSeen S.honest S.files S.headers store.old s
+        → IfOk result (Answered (λ o. IsClassReply s o word name.now)
+        (λ t. TablesFrom S.Pages.honest s tables.new t × StoreSeen S.honest S.files S.headers store.new t)
+        (W.contents out.old) (W.contents out.new)) }
+    ensures err { (s : State) → HoldsTables S.Pages.honest tables.old s → StoreSeen S.honest S.files S.headers store.old s
+        → OnErr result (BrokenOff (λ o. IsClassReply s o word name.now) (W.contents out.old) (W.contents out.new)) }
 {
     match tables {
         Tables::Whole(whole) => {
@@ -56,7 +60,9 @@ fn in_whole<'a, S: TableStore, A: Allocator>(
     word: ClassWord,
     name: &str,
 ) -> Result<Told, Refusal>
-    ensures { (s : State) → HoldsWhole tables.old s → StoreSeen S.honest S.files S.headers store.old s → Decided (λ o. IsNamedReply s o word (class_named name.now)) (λ t. HoldsWhole tables.new t × (t.board ≡ s.board) × StoreSeen S.honest S.files S.headers store.new t) result }
+    ensures { (s : State) → HoldsWhole tables.old s → StoreSeen S.honest S.files S.headers store.old s
+        → Decided (λ o. IsNamedReply s o word (class_named name.now))
+        (λ t. HoldsWhole tables.new t × (t.board ≡ s.board) × StoreSeen S.honest S.files S.headers store.new t) result }
 {
     let class = class_of_name(name)?;
     match word {
@@ -74,7 +80,10 @@ fn in_pages<'a, S: TableStore, A: Allocator>(
     word: ClassWord,
     name: &str,
 ) -> Result<Told, Refusal>
-    ensures { (s : State) → HoldsPaged S.Pages.honest tables.old s → StoreSeen S.honest S.files S.headers store.old s → Decided (λ o. IsClassReply s o word name.now) (λ t. HoldsPaged S.Pages.honest tables.new t × (t.board ≡ s.board) × StoreSeen S.honest S.files S.headers store.new t) result }
+    ensures { (s : State) → HoldsPaged S.Pages.honest tables.old s → StoreSeen S.honest S.files S.headers store.old s
+        → Decided (λ o. IsClassReply s o word name.now)
+        (λ t. HoldsPaged S.Pages.honest tables.new t × (t.board ≡ s.board) × StoreSeen S.honest S.files S.headers store.new t)
+        result }
 {
     match word {
         ClassWord::Load => {
@@ -101,7 +110,9 @@ fn build_class<'a, A: Allocator>(
     tables: &mut WholeTables<'a, A>,
     class: Class,
 ) -> Result<Told, Refusal>
-    ensures { (s : State) → HoldsWhole tables.old s → Decided (λ o. IsBuildReply s o class (is_among s.classes class) (first_lacking s.classes class)) (WholeFrom s tables.new) result }
+    ensures { (s : State) → HoldsWhole tables.old s
+        → Decided (λ o. IsBuildReply s o class (is_among s.classes class) (first_lacking s.classes class))
+        (WholeFrom s tables.new) result }
 {
     if is_held(tables, class) {
         return Err(Refusal::AlreadyHeld(class));
@@ -144,7 +155,9 @@ fn load_class<'a, S: TableStore, A: Allocator>(
     store: &mut S,
     class: Class,
 ) -> Result<Told, Refusal>
-    ensures { (s : State) → HoldsWhole tables.old s → StoreSeen S.honest S.files S.headers store.old s → Decided (λ o. IsLoadReply s o class (is_among s.classes class) (first_lacking s.classes class)) (λ t. WholeFrom s tables.new t × StoreSeen S.honest S.files S.headers store.new t) result }
+    ensures { (s : State) → HoldsWhole tables.old s → StoreSeen S.honest S.files S.headers store.old s
+        → Decided (λ o. IsLoadReply s o class (is_among s.classes class) (first_lacking s.classes class))
+        (λ t. WholeFrom s tables.new t × StoreSeen S.honest S.files S.headers store.new t) result }
 {
     if is_held(tables, class) {
         return Err(Refusal::AlreadyHeld(class));
@@ -166,7 +179,8 @@ fn table_in_file<'a, S: TableStore, A: Allocator>(
     store: &mut S,
     class: Class,
 ) -> Result<Table<'a, A>, Refusal>
-    ensures read { S.honest store.old false → IfOk result (λ t. (bytes : List ℕ) × IsGiven (S.files store.old class) (Ok bytes) × (table_read bytes ≡ Ok t) × IsRight t) }
+    ensures read { S.honest store.old false
+        → IfOk result (λ t. (bytes : List ℕ) × IsGiven (S.files store.old class) (Ok bytes) × (table_read bytes ≡ Ok t) × IsRight t) }
     ensures refused { S.honest store.old false → IfErr result (λ refusal. IsFileRefusal (S.files store.old class) refusal) }
     ensures store { (s : State) → StoreSeen S.honest S.files S.headers store.old s → StoreSeen S.honest S.files S.headers store.new s }
 {
@@ -196,7 +210,10 @@ fn open_class<'a, S: TableStore, A: Allocator>(
     store: &mut S,
     class: Class,
 ) -> Result<Told, Refusal>
-    ensures { (s : State) → HoldsPaged S.Pages.honest tables.old s → StoreSeen S.honest S.files S.headers store.old s → Decided (λ o. IsOpenReply s o class (is_among s.classes class)) (λ t. HoldsPaged S.Pages.honest tables.new t × (t.board ≡ s.board) × StoreSeen S.honest S.files S.headers store.new t) result }
+    ensures { (s : State) → HoldsPaged S.Pages.honest tables.old s → StoreSeen S.honest S.files S.headers store.old s
+        → Decided (λ o. IsOpenReply s o class (is_among s.classes class))
+        (λ t. HoldsPaged S.Pages.honest tables.new t × (t.board ≡ s.board) × StoreSeen S.honest S.files S.headers store.new t)
+        result }
 {
     if tables.holds(class) {
         return Err(Refusal::AlreadyHeld(class));
@@ -228,7 +245,9 @@ fn save_class<'a, S: TableStore, A: Allocator>(
     store: &mut S,
     class: Class,
 ) -> Result<Told, Refusal>
-    ensures { (s : State) → HoldsWhole tables.now s → StoreSeen S.honest S.files S.headers store.old s → Decided (λ o reply. reply ≡ save_reply s o class (is_among s.classes class)) (λ t. HoldsWhole tables.now t × (t.board ≡ s.board) × StoreSeen S.honest S.files S.headers store.new t) result }
+    ensures { (s : State) → HoldsWhole tables.now s → StoreSeen S.honest S.files S.headers store.old s
+        → Decided (λ o reply. reply ≡ save_reply s o class (is_among s.classes class))
+        (λ t. HoldsWhole tables.now t × (t.board ≡ s.board) × StoreSeen S.honest S.files S.headers store.new t) result }
 {
     let Some(table) = tables.tables().table(class) else {
         return Err(Refusal::NoTable(class));
@@ -246,7 +265,8 @@ fn verify_class<'a, A: Allocator>(
     tables: &WholeTables<'a, A>,
     class: Class,
 ) -> Result<Told, Refusal>
-    ensures { (s : State) → HoldsWhole tables.now s → Decided (λ o reply. reply ≡ verify_reply s class (is_among s.classes class)) (WholeFrom s tables.now) result }
+    ensures { (s : State) → HoldsWhole tables.now s
+        → Decided (λ o reply. reply ≡ verify_reply s class (is_among s.classes class)) (WholeFrom s tables.now) result }
 {
     match is_right(tables, class) {
         None => Err(Refusal::NoTable(class)),

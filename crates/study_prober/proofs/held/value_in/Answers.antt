@@ -1,7 +1,7 @@
 use Rattle.std.proofs.Common.{ℕ, List, get_or, inl, inr, sym, ◌∙◌, ap, subst, ◌%◌}
 use Rattle.study_retro.specs.Cells.{value_of}
 use Rattle.study_retro.specs.Table.{place_of}
-use Rattle.study_prober.specs.Sources.{IsGivenPage, page_cells_of}
+use Rattle.study_prober.specs.Sources.{IsGivenPage, cells_on_page}
 use Rattle.study_prober.specs.declared.cache.PageKey.{PageKey}
 use Rattle.study_prober.proofs.Cells.{page_of_cell, cell_of_page, told_cell}
 use Rattle.study_prober.proofs.held.value_in.Goals as goal
@@ -12,7 +12,7 @@ read_value-requires-clause-number g c = rw c.key_of-key.ensures (page_of_cell c.
 pub returns-in-Some-clause-ok : goal.returns-in-Some-clause-ok
 returns-in-Some-clause-ok g c = λ t honest same kept.
     let found = c.in-Some.ensures.found in
-    let own = kept.is (_, found.0) found.1 (ap (λ (k : PageKey). k.class) c.key_of-key.ensures ∙ ap place_of (sym same)) ∙ ap (λ (k : PageKey). page_cells_of t k.number) c.key_of-key.ensures in
+    let own = kept.is (_, found.0) found.1 (ap (λ (k : PageKey). k.class) c.key_of-key.ensures ∙ ap place_of (sym same)) ∙ ap (λ (k : PageKey). cells_on_page t k.number) c.key_of-key.ensures in
     c.value_at.ensures ∙ ap value_of (found.2 ∙ ap (λ (cells : List ℕ). get_or cells (c.args.number % 4096) 0) own ∙ cell_of_page t c.args.number)
 
 pub returns-in-None-clause-ok : goal.returns-in-None-clause-ok
@@ -24,7 +24,7 @@ returns-in-None-clause-more g c = λ e h.
       | inl was ↦ inl (c.in-None.ensures.fewer e was)
       | inr new ↦ inr (
         ap (λ (k : PageKey). k.class) (new.0 ∙ c.key_of-key.ensures),
-        λ t honest same. new.1 t honest same ∙ ap (λ (k : PageKey). page_cells_of t k.number) (sym new.0),
+        λ t honest same. new.1 t honest same ∙ ap (λ (k : PageKey). cells_on_page t k.number) (sym new.0),
       )
     ]
 

@@ -2,7 +2,7 @@ use Rattle.std.proofs.Common.{inl, inr, ◌≡◌, ◌≤◌, ◌/◌, ℕ, leng
 use Rattle.std.specs.Prelude.{None}
 use Rattle.study_retro.specs.Table.{place_of}
 use Rattle.study_prober.specs.declared.cache.PageKey.{PageKey}
-use Rattle.study_prober.specs.declared.held.Held.{Held}
+use Rattle.study_prober.specs.declared.held.HeldSource.{HeldSource}
 use Rattle.study_prober.specs.Cache.{key_at}
 use Rattle.study_prober.specs.Paged.{held_of}
 use Rattle.study_index.specs.Found.{index_of}
@@ -112,7 +112,7 @@ returns-in-Some-clause-put g c = λ d h of was e i.
       | inl old ↦ inl old
       | inr new ↦ inr (
         new.0 ∙ ap (λ (x : Class). key_at x c.index.result) (own ∙ sym here) ∙ ap (λ (m : ℕ). key_at d m) c.index.ensures.value,
-        subst (λ (x : Held g.row.S.Denot). IsGivenPage g.S.PageSource.gives x (index_of c.args.p.now / 4096) e.1.items) one (subst (λ (m : ℕ). IsGivenPage g.S.PageSource.gives c.in-Some.held (m / 4096) e.1.items) c.index.ensures.value new.1),
+        subst (λ (x : HeldSource g.row.S.Denot). IsGivenPage g.S.PageSource.gives x (index_of c.args.p.now / 4096) e.1.items) one (subst (λ (m : ℕ). IsGivenPage g.S.PageSource.gives c.in-Some.held (m / 4096) e.1.items) c.index.ensures.value new.1),
       )
     ]
 

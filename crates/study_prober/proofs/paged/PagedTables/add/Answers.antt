@@ -1,12 +1,12 @@
 use Rattle.std.proofs.Common.{rules, refl, sym, ◌∙◌, ◌≡◌, ap, subst, ◌<◌, ℕ, List, length, arith}
 use Rattle.std.specs.Prelude.{Option, is_some, Ok}
-use Rattle.study_prober.specs.declared.held.Held.{Held}
+use Rattle.study_prober.specs.declared.held.HeldSource.{HeldSource}
 use Rattle.study_material.specs.declared.class.Class.{Class}
 use denote.Enum.Bare.{differs_true, differs_false}
 use Rattle.study_material.specs.contracts.class.Class.{the_type}
 use Rattle.study_prober.specs.Sources.{IsHeaderOf, GivesRight}
 use Rattle.study_tablefile.specs.File.{IsVersionOf}
-use Rattle.study_prober.specs.Paged.{Paged, held_of, AreRight}
+use Rattle.study_prober.specs.Paged.{Paged, held_of, SourcesAreRight}
 use Rattle.study_prober.specs.Told.{MayAnswer}
 use Rattle.study_prober.proofs.Given.{given_with}
 use Rattle.std.proofs.lemmas.List.{length-set}
@@ -65,13 +65,13 @@ returns-clause-honest g c = λ v known all right.
     let version = (c.in_ok-header.ensures.reads right.table v (subst (λ (x : Class). IsVersionOf x v) (sym right.of_class) known) right.is_honest).1 in
     let same = ap (λ (w : Paged g.row.S.Denot). is_some (held_of w.sources c.args.class)) c.self.view_is in
     let of_class = differs_false the_type (search rules) c.in_ok-header.header.class c.args.class (sym c.ne.ensures ∙ c.if-ne.false) in
-    let before = subst (λ (w : Paged g.row.S.Denot). AreRight g.S.PageSource.honest w.sources) (sym c.self.view_is) all in
+    let before = subst (λ (w : Paged g.row.S.Denot). SourcesAreRight g.S.PageSource.honest w.sources) (sym c.self.view_is) all in
     rw c.in_ok-make_places.ensures.made (rw c.place.ensures.value (right_with g.S.PageSource.honest (λ v. v.items) c.self.inside.sources.items c.self.inside.kept.entries c.args.class (record { header = c.in_ok-header.header; source = c.header_of.new.source }) c.self.invariant.0
     (same ∙ sym c.holds.ensures ∙ c.if-holds.false) (subst (λ (x : Class). IsHeaderOf c.in_ok-header.header x) of_class c.in_ok-header.ensures.header) (subst (λ (n : ℕ). n < 36) c.place.ensures.value c.place.ensures.small) before (subst (λ (n : ℕ). GivesRight g.S.PageSource.honest c.header_of.new.source n c.args.class) (sym version) (gives_more g.S.PageSource.honest c.args.source c.header_of.new.source v c.args.class c.in_ok-header.ensures.same right))))
 
 pub index_mut-requires : goal.index_mut-requires
 index_mut-requires g c =
-    let long : length c.make_places.new.sources.items ≡ 36 = ap (λ (xs : List (Option (Held g.row.S.Denot))). length xs) c.in_ok-make_places.ensures.made ∙ places_length c.self.inside.sources.items c.self.invariant.0.some in
+    let long : length c.make_places.new.sources.items ≡ 36 = ap (λ (xs : List (Option (HeldSource g.row.S.Denot))). length xs) c.in_ok-make_places.ensures.made ∙ places_length c.self.inside.sources.items c.self.invariant.0.some in
     omega (arith, long, c.place.ensures.small)
 
 pub returns-clause-own : goal.returns-clause-own
@@ -81,5 +81,5 @@ returns-clause-own g c = λ t v known honest.
 
 pub returns-clause-places : goal.returns-clause-places
 returns-clause-places g c =
-    let long : length c.make_places.new.sources.items ≡ 36 = ap (λ (xs : List (Option (Held g.row.S.Denot))). length xs) c.in_ok-make_places.ensures.made ∙ places_length c.self.inside.sources.items c.self.invariant.0.some in
+    let long : length c.make_places.new.sources.items ≡ 36 = ap (λ (xs : List (Option (HeldSource g.row.S.Denot))). length xs) c.in_ok-make_places.ensures.made ∙ places_length c.self.inside.sources.items c.self.invariant.0.some in
     length-set _ _ _ ∙ long

@@ -1,7 +1,7 @@
 use Rattle.std.proofs.Common.{sym, ◌∙◌}
 use Rattle.std.proofs.lemmas.Bool.{false≢true}
 use Rattle.study_prober.proofs.Cells.{whole_read}
-use Rattle.study_prober.proofs.held.Held.page.Goals as goal
+use Rattle.study_prober.proofs.held.HeldSource.page.Goals as goal
 
 pub returns-else-page_cells-clause-whole : goal.returns-else-page_cells-clause-whole
 returns-else-page_cells-clause-whole g c = λ t honest same complete d n told.
