@@ -2,15 +2,14 @@
 # Puts faults of the outside into runs of the program, one fault a run, and names each reply that is not the right one.
 #
 #   tools/faults.sh            the built program: memory, reads, writes, opened files and places in them that fail, are cut
-#                              short or are broken off, then whole devices; some minutes
+#                              short or are broken off, then whole devices and tools/files.sh; some minutes
 #   tools/faults.sh try [N ..] `rt try --fail-alloc N` over the small scripts, for each N (default 3 19 35 51); slow
 #
 # FAULTS_RUNS=N bounds the runs of one script with one kind of fault (default 24): where there are more places for the fault,
 # every k-th of them is taken. A compiler `cc` makes the library of faults; the program itself is not changed.
-top=$(cd "$(dirname "$0")/.." && pwd); crate="$top/crates/studybench"
-program=${STUDYBENCH:-$crate/out/studybench}
-[ -x "$program" ] || (cd "$crate" && rt run < /dev/null) > /dev/null 2>&1 || { echo "studybench is not built: cd crates/studybench && rt check"; exit 2; }
+top=$(cd "$(dirname "$0")/.." && pwd)
 work=$(mktemp -d); trap 'rm -rf "$work"' EXIT
+. "$top/tools/cases.sh"
 export FAULTS_PROGRAM="$program" FAULTS_TOP="$top" FAULTS_WORK="$work" FAULTS_RUNS=${FAULTS_RUNS:-24}
 mkdir "$work/tables"
 "$program" --tables "$work/tables" < "$top/examples/small_tables.script" > /dev/null || { echo "no tables"; exit 2; }
@@ -83,20 +82,7 @@ END
 cc -shared -fPIC -O1 -fno-builtin -o "$work/fault.so" "$work/fault.c" || { echo "cc is needed for the library of faults"; exit 2; }
 python3 "$top/tools/faults.py" sweep; swept=$?
 
-# Whole devices. Each case: its name, the status that is wanted, standard error, and the replies.
-cases=0; wrong=0
-expect() {
-    cases=$((cases + 1))
-    if [ "$2" != "$3" ] || [ "$4" != "$5" ] || [ "$6" != "$7" ]; then
-        wrong=$((wrong + 1))
-        echo "WRONG $1: status $3, wanted $2; error '$5', wanted '$4'; replies '$7', wanted '$6'"
-    fi
-}
-run() { # name, status, standard error, replies, script, words of the command line
-    local name=$1 status=$2 error=$3 replies=$4 script=$5; shift 5
-    printf '%b' "$script" | (cd "$work" && timeout 60 "$program" "$@" > out 2> err); local was=${PIPESTATUS[1]}
-    expect "$name" "$status" "$was" "$error" "$(cat "$work/err")" "$(printf '%b' "$replies")" "$(cat "$work/out")"
-}
+# Whole devices.
 mate='position k7/8/1K6/8/8/8/8/7R w - - 0 1\n'
 (cd "$work" && printf '%b' "$mate" | timeout 60 "$program" > /dev/full 2> err); expect "full device" 3 $? "studybench: WriteDevice" "$(cat "$work/err")" "" ""
 (cd "$work" && printf '%b' "$mate" | timeout 60 "$program" >&- 2> err); expect "closed output" 3 $? "studybench: WriteDevice" "$(cat "$work/err")" "" ""
@@ -112,16 +98,6 @@ for words in "--pages 0" "--pages 4097" "--pages x" "--pages" "--bad" "a.script"
     expect "$words" 2 $was yes "$(grep -q '^error: ' "$work/err" && echo yes)" "" "$(cat "$work/out")"
     echo "standard error of $words: $(head -1 "$work/err")"
 done
-run "a folder that is not there" 1 "" "error NoFile\nbuilt KK cells 1280 win -\nerror Device\nbuilt KQK cells 81920 win 19\n" "load KK\nbuild KK\nsave KK\nbuild KQK\n" --tables "$work/absent"
-run "the same by pages" 1 "" "error NoFile\n" "load KK\n" --tables "$work/absent" --pages 1
-: > "$work/file"
-run "a folder that is a file" 1 "" "error Device\nbuilt KK cells 1280 win -\nerror Device\nverified KK yes\n" "load KK\nbuild KK\nsave KK\nverify KK\n" --tables "$work/file"
-run "the same by pages" 1 "" "error Device\n" "load KK\n" --tables "$work/file" --pages 1
-mkdir -p "$work/odd/KK.dtm"
-run "a folder with the name of a table" 1 "" "error Device\nbuilt KK cells 1280 win -\nerror Device\nverified KK yes\n" "load KK\nbuild KK\nsave KK\nverify KK\n" --tables "$work/odd"
-run "the same by pages" 1 "" "error TableRead Device\n" "load KK\n" --tables "$work/odd" --pages 1
-mkdir "$work/full"; ln -s /dev/full "$work/full/KK.dtm"
-run "a table to a full device" 1 "" "built KK cells 1280 win -\nerror Device\nverified KK yes\n" "build KK\nsave KK\nverify KK\n" --tables "$work/full"
 
 # A file that is cut, or has a byte turned, while it is read by pages; then it is whole again.
 while_read() { # name, what to do to the file, the reply wanted
@@ -143,4 +119,5 @@ while_read "a table that is cut" 'truncate -s 5000 "$work/live/KRK.dtm"' "error 
 while_read "a table without a byte" ': > "$work/live/KRK.dtm"' "error TableRead Short"
 while_read "a byte turned" 'printf "\\377" | dd of="$work/live/KRK.dtm" bs=1 seek=$((64 + 4128 * 5 + 63)) conv=notrunc 2> /dev/null' "error TableRead Page 5"
 echo "$cases cases of whole devices, $wrong wrong"
-[ $swept = 0 ] && [ $wrong = 0 ]
+"$top/tools/files.sh"; filed=$?
+[ $swept = 0 ] && [ $wrong = 0 ] && [ $filed = 0 ]

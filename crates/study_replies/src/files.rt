@@ -1,5 +1,7 @@
 //! Tables loaded, opened by pages, saved and verified.
-use crate::runs::{check_over, no_files, text_of};
+ghost use Rattle.std.specs.Prelude.{◌≤◌, IfSome};
+
+use crate::runs::{Rows, check_over, no_files, text_of};
 use std::alloc::{AllocError, Allocator};
 use std::cell::RefCell;
 use std::process::Abort;
@@ -11,7 +13,18 @@ use study_script::memory::{MemoryFile, MemoryStore};
 use study_tablefile::memory::{MemoryReader, MemoryWriter};
 use study_tablefile::{read_table, write_table};
 
-/// A table is loaded where its needs are held and it is not, from a file of its own class; it is saved as it was built.
+const SAVED: Rows<'static> = "load KRK -> error MissingTable KK
+build KK -> built KK cells 1280 win -
+load KRK -> loaded KRK cells 81920
+load KRK -> error AlreadyHeld KRK
+load KQK -> error NoFile
+save KQK -> error NoTable KQK
+verify KRK -> verified KRK yes
+verify KQK -> error NoTable KQK
+save KRK -> saved KRK bytes 82624
+save KRK -> error Device";
+
+/// A table is loaded where its needs are held and it is not, and saved as it was built.
 #[test]
 fn whole_files(rt: HostRuntime) {
     let alloc = rt.alloc();
@@ -19,105 +32,112 @@ fn whole_files(rt: HostRuntime) {
     let writers = [RefCell::new(MemoryWriter::new(&alloc))];
     let mut store = MemoryStore::new(writers.as_slice());
     store.put(Class::KRK, MemoryFile::Bytes(text.as_slice()));
-    let rows = [
-        ("load KRK", "error MissingTable KK"),
-        ("build KK", "built KK cells 1280 win -"),
-        ("load KRK", "loaded KRK cells 81920"),
-        ("load KRK", "error AlreadyHeld KRK"),
-        ("load KQK", "error NoFile"),
-        ("save KQK", "error NoTable KQK"),
-        ("verify KRK", "verified KRK yes"),
-        ("verify KQK", "error NoTable KQK"),
-        ("save KRK", "saved KRK bytes 82624"),
-        ("save KRK", "error Device"),
-    ];
-    check_over(&rt, &alloc, &mut store, None, rows.as_slice());
+    check_over(&rt, &alloc, &mut store, None, SAVED);
     match writers[0].try_borrow() {
         Ok(writer) => assert!(rt; writer.taken.as_slice() == text.as_slice()),
         Err(_) => assert!(rt; false, "lent"),
     }
-    let mut other = no_files(&alloc);
-    other.put(Class::KQK, MemoryFile::Bytes(text.as_slice()));
-    other.put(Class::KRK, MemoryFile::Closed);
-    let rows = [
-        ("build KK", "built KK cells 1280 win -"),
-        ("load KQK", "error OtherClass KRK"),
-        ("load KRK", "error Device"),
-        ("load KQK", "error OtherClass KRK"),
-    ];
-    check_over(&rt, &alloc, &mut other, None, rows.as_slice());
 }
 
-/// A table read by pages of which one is kept, a source that fails, and pages that are damaged.
+const OTHERS: Rows<'static> = "build KK -> built KK cells 1280 win -
+load KQK -> error OtherClass KRK
+load KRK -> error Device
+load KQK -> error OtherClass KRK";
+
+/// A table is loaded from a file of its own class alone.
 #[test]
-fn files_by_pages(rt: HostRuntime) -> Result<(), Fail> {
+fn files_of_others(rt: HostRuntime) {
+    let alloc = rt.alloc();
+    let text = text_of(&rt, &alloc, &[Class::KK, Class::KRK]);
+    let mut store = no_files(&alloc);
+    store.put(Class::KQK, MemoryFile::Bytes(text.as_slice()));
+    store.put(Class::KRK, MemoryFile::Closed);
+    check_over(&rt, &alloc, &mut store, None, OTHERS);
+}
+
+const ONE_PAGE: Rows<'static> = "build KK -> error PagedMode
+save KK -> error PagedMode
+verify KRK -> error PagedMode
+load KRK -> loaded KRK cells 81920
+load KRK -> error AlreadyHeld KRK
+load KQK -> error NoFile
+load KQKX -> error NotAClass
+position k7/8/1K6/8/8/8/8/7R w - - 0 1 -> position k7/8/1K6/8/8/8/8/7R w - - 0 1
+stipulate white win -> stipulate White to win
+mark root -> mark root win 1 - faults 0";
+
+/// A table read by pages of which one is kept.
+#[test]
+fn files_by_pages(rt: HostRuntime) {
     let alloc = rt.alloc();
     let text = text_of(&rt, &alloc, &[Class::KK, Class::KRK]);
     let mut store = no_files(&alloc);
     store.put(Class::KRK, MemoryFile::Bytes(text.as_slice()));
-    let start = "position k7/8/1K6/8/8/8/8/7R w - - 0 1";
-    let rows = [
-        ("build KK", "error PagedMode"),
-        ("save KK", "error PagedMode"),
-        ("verify KRK", "error PagedMode"),
-        ("load KRK", "loaded KRK cells 81920"),
-        ("load KRK", "error AlreadyHeld KRK"),
-        ("load KQK", "error NoFile"),
-        ("load KQKX", "error NotAClass"),
-        (start, start),
-        ("stipulate white win", "stipulate White to win"),
-        ("mark root", "mark root win 1 - faults 0"),
-    ];
-    check_over(&rt, &alloc, &mut store, Some(1), rows.as_slice());
-    for (fails_at, fault) in [(0, "load"), (1, "stipulate")] {
-        let mut failing = no_files(&alloc);
-        failing.put(Class::KRK, MemoryFile::Bytes(text.as_slice()));
-        failing.fails_at = Some(fails_at);
-        let refused = fault == "load";
-        let rows = [
-            (
-                "load KRK",
-                if refused {
-                    "error TableRead Device"
-                } else {
-                    "loaded KRK cells 81920"
-                },
-            ),
-            (start, start),
-            (
-                "stipulate white win",
-                if refused {
-                    "error NoTable KRK"
-                } else {
-                    "error TableRead Device"
-                },
-            ),
-            ("mark root", "error NoStudy"),
-        ];
-        check_over(&rt, &alloc, &mut failing, Some(1), rows.as_slice());
+    check_over(&rt, &alloc, &mut store, Some(1), ONE_PAGE);
+}
+
+const NO_HEADER: Rows<'static> = "load KRK -> error TableRead Device
+position k7/8/1K6/8/8/8/8/7R w - - 0 1 -> position k7/8/1K6/8/8/8/8/7R w - - 0 1
+stipulate white win -> error NoTable KRK
+mark root -> error NoStudy";
+
+const NO_PAGE: Rows<'static> = "load KRK -> loaded KRK cells 81920
+position k7/8/1K6/8/8/8/8/7R w - - 0 1 -> position k7/8/1K6/8/8/8/8/7R w - - 0 1
+stipulate white win -> error TableRead Device
+mark root -> error NoStudy
+stipulate white win -> stipulate White to win
+mark root -> mark root win 1 - faults 0";
+
+/// A source that fails once, at its header or at its first page.
+#[test]
+fn sources_that_fail(rt: HostRuntime) {
+    let alloc = rt.alloc();
+    let text = text_of(&rt, &alloc, &[Class::KK, Class::KRK]);
+    for (fails_at, rows) in [(0, NO_HEADER), (1, NO_PAGE)] {
+        let mut store = no_files(&alloc);
+        store.put(Class::KRK, MemoryFile::Bytes(text.as_slice()));
+        store.fails_at = Some(fails_at);
+        check_over(&rt, &alloc, &mut store, Some(1), rows);
     }
-    let mut wrong = Vec::new(&alloc);
-    wrong.extend_from_slice(text.as_slice())?;
+}
+
+const DAMAGED: Rows<'static> = "load KQK -> error OtherClass KRK
+load KBK -> error TableRead Short
+load KNK -> error Device
+load KRK -> loaded KRK cells 81920
+position k7/8/1K6/8/8/8/8/7R w - - 0 1 -> position k7/8/1K6/8/8/8/8/7R w - - 0 1
+stipulate white win -> error TableRead Page 5
+mark root -> error NoStudy";
+
+/// Runs rows over files of which each has its own text.
+fn check_damaged<'x, A: Allocator>(
+    rt: &impl Abort,
+    alloc: &A,
+    wrong: &'x [u8],
+    other: &'x [u8],
+    short: &'x [u8],
+) {
+    let mut store = no_files(alloc);
+    store.put(Class::KRK, MemoryFile::Bytes(wrong));
+    store.put(Class::KQK, MemoryFile::Bytes(other));
+    store.put(Class::KBK, MemoryFile::Bytes(short));
+    store.put(Class::KNK, MemoryFile::Closed);
+    check_over(rt, alloc, &mut store, Some(4096), DAMAGED);
+}
+
+/// Sources whose pages are damaged, whose header is not whole, and one that is not opened.
+#[test]
+fn pages_that_are_damaged(rt: HostRuntime) -> Result<(), Fail> {
+    let alloc = rt.alloc();
+    let text = text_of(&rt, &alloc, &[Class::KK, Class::KRK]);
+    let mut wrong = text.as_slice().to_vec(&alloc)?;
     for page in 0..20usize {
         if let Some(cell) = wrong.as_mut_slice().get_mut(64 + 4128 * page) {
             *cell ^= 1;
         }
     }
     let (short, _) = text.as_slice().split_at(text.len().min(63));
-    let mut damaged = no_files(&alloc);
-    damaged.put(Class::KRK, MemoryFile::Bytes(wrong.as_slice()));
-    damaged.put(Class::KQK, MemoryFile::Bytes(text.as_slice()));
-    damaged.put(Class::KBK, MemoryFile::Bytes(short));
-    damaged.put(Class::KNK, MemoryFile::Closed);
-    let rows = [
-        ("load KQK", "error OtherClass KRK"),
-        ("load KBK", "error TableRead Short"),
-        ("load KNK", "error Device"),
-        ("load KRK", "loaded KRK cells 81920"),
-        (start, start),
-        ("stipulate white win", "error TableRead Page 5"),
-    ];
-    check_over(&rt, &alloc, &mut damaged, Some(4096), rows.as_slice());
+    check_damaged(&rt, &alloc, wrong.as_slice(), text.as_slice(), short);
     Ok(())
 }
 
@@ -134,6 +154,12 @@ fn lying<'a, A: Allocator>(rt: &impl Abort, alloc: &'a A, text: &[u8]) -> Vec<u8
     writer.taken
 }
 
+const LIES: Rows<'static> = "build KK -> built KK cells 1280 win -
+load KRK -> loaded KRK cells 81920
+verify KRK -> verified KRK no
+verify KK -> verified KK yes
+verify KQK -> error NoTable KQK";
+
 /// A file with a lie in it is read; `verify` finds the lie.
 #[test]
 fn lies_are_found(rt: HostRuntime) {
@@ -142,14 +168,47 @@ fn lies_are_found(rt: HostRuntime) {
     let lie = lying(&rt, &alloc, text.as_slice());
     let mut store = no_files(&alloc);
     store.put(Class::KRK, MemoryFile::Bytes(lie.as_slice()));
-    let rows = [
-        ("build KK", "built KK cells 1280 win -"),
-        ("load KRK", "loaded KRK cells 81920"),
-        ("verify KRK", "verified KRK no"),
-        ("verify KK", "verified KK yes"),
-        ("verify KQK", "error NoTable KQK"),
-    ];
-    check_over(&rt, &alloc, &mut store, None, rows.as_slice());
+    check_over(&rt, &alloc, &mut store, None, LIES);
+}
+
+/// The text of a table whose cells are all the same.
+fn constant<'a, A: Allocator>(
+    rt: &impl Abort,
+    alloc: &'a A,
+    class: Class,
+    cell: u8,
+) -> Vec<u8, &'a A> {
+    let all = vec![in alloc; cell; cells(class) as usize]
+        .ok()
+        .expect(rt, "cells");
+    assert!(rt; all.len() == cells(class) as usize);
+    let mut writer = MemoryWriter::new(alloc);
+    assert!(rt; write_table(&Table::from_cells(class, all), &mut writer).is_ok());
+    writer.taken
+}
+
+const FAR: Rows<'static> = "build KK -> built KK cells 1280 win -
+load KQK -> loaded KQK cells 81920
+load KRK -> loaded KRK cells 81920
+build KBK -> built KBK cells 81920 win -
+build KNK -> built KNK cells 81920 win -
+build KPK -> error DistanceTooLarge
+verify KQK -> verified KQK no";
+
+fn check_far<'x, A: Allocator>(rt: &impl Abort, alloc: &A, queen: &'x [u8], rook: &'x [u8]) {
+    let mut store = no_files(alloc);
+    store.put(Class::KQK, MemoryFile::Bytes(queen));
+    store.put(Class::KRK, MemoryFile::Bytes(rook));
+    check_over(rt, alloc, &mut store, None, FAR);
+}
+
+/// No table has a mate in 255 plies. Over one that lies, by which a new queen is mate in 254, a pawn leads to such a mate.
+#[test]
+fn distances_too_large(rt: HostRuntime) {
+    let alloc = rt.alloc();
+    let queen = constant(&rt, &alloc, Class::KQK, 255);
+    let rook = constant(&rt, &alloc, Class::KRK, 0);
+    check_far(&rt, &alloc, queen.as_slice(), rook.as_slice());
 }
 
 /// A text with one byte changed.
@@ -166,66 +225,119 @@ fn changed<'a, A: Allocator>(
     Ok(copy)
 }
 
-/// Each fault of a file has its name, whole and by pages; the session goes on.
+/// Runs rows over a store that has this file of KK alone.
+fn check_file<A: Allocator>(
+    rt: &impl Abort,
+    alloc: &A,
+    bytes: &[u8],
+    pages: Option<u16>,
+    rows: Rows<'_>,
+)
+    requires { IfSome pages (λ n. (1 ≤ n) × (n ≤ 4096)) }
+{
+    let mut store = no_files(alloc);
+    store.put(Class::KK, MemoryFile::Bytes(bytes));
+    check_over(rt, alloc, &mut store, pages, rows);
+}
+
+const HEADERS: [(usize, u8, Rows<'static>); 4] = [
+    (
+        0,
+        b'T',
+        "load KK -> error NotATable\nload KK -> error NotATable",
+    ),
+    (
+        8,
+        9,
+        "load KK -> error Version 9\nload KK -> error Version 9",
+    ),
+    (
+        17,
+        b'X',
+        "load KK -> error ClassUnknown\nload KK -> error ClassUnknown",
+    ),
+    (
+        40,
+        0,
+        "load KK -> error HeaderDamaged\nload KK -> error HeaderDamaged",
+    ),
+];
+
+/// Each fault of a header has its name, whole and by pages; the session goes on.
 #[test]
-fn faults_of_files(rt: HostRuntime) -> Result<(), Fail> {
+fn faults_of_headers(rt: HostRuntime) -> Result<(), Fail> {
     let alloc = rt.alloc();
     let text = text_of(&rt, &alloc, &[Class::KK]);
+    for (at, byte, rows) in HEADERS {
+        let bytes = changed(&alloc, text.as_slice(), at, byte)?;
+        check_file(&rt, &alloc, bytes.as_slice(), None, rows);
+        check_file(&rt, &alloc, bytes.as_slice(), Some(1), rows);
+    }
+    Ok(())
+}
+
+const CUT: Rows<'static> = "load KK -> error Cut
+load KK -> error Cut
+build KK -> built KK cells 1280 win -";
+
+const LONGER: Rows<'static> = "load KK -> error TrailingBytes
+build KK -> built KK cells 1280 win -";
+
+const PAGE: Rows<'static> = "load KK -> error PageDamaged 0
+build KK -> built KK cells 1280 win -";
+
+const PADDED: Rows<'static> = "load KK -> error Padding
+build KK -> built KK cells 1280 win -";
+
+const BY_PAGES: Rows<'static> = "load KK -> loaded KK cells 1280
+build KK -> error PagedMode";
+
+/// Each fault behind the header has its name. By pages the header alone is read at first.
+#[test]
+fn faults_behind_headers(rt: HostRuntime) -> Result<(), Fail> {
+    let alloc = rt.alloc();
+    let text = text_of(&rt, &alloc, &[Class::KK]);
+    let (cut, _) = text.as_slice().split_at(text.len().min(4_191));
+    check_file(&rt, &alloc, cut, None, CUT);
+    check_file(&rt, &alloc, cut, Some(1), BY_PAGES);
     let mut longer = text.as_slice().to_vec(&alloc)?;
     longer.push(0)?;
-    let (cut, _) = text.as_slice().split_at(text.len().min(4_191));
-    let rows: [(Vec<u8, _>, &str, &str); 7] = [
-        (cut.to_vec(&alloc)?, "error Cut", "loaded KK cells 1280"),
-        (
-            changed(&alloc, text.as_slice(), 0, b'T')?,
-            "error NotATable",
-            "error NotATable",
-        ),
-        (
-            changed(&alloc, text.as_slice(), 8, 9)?,
-            "error Version 9",
-            "error Version 9",
-        ),
-        (
-            changed(&alloc, text.as_slice(), 17, b'X')?,
-            "error ClassUnknown",
-            "error ClassUnknown",
-        ),
-        (
-            changed(&alloc, text.as_slice(), 40, 0)?,
-            "error HeaderDamaged",
-            "error HeaderDamaged",
-        ),
-        (
-            changed(&alloc, text.as_slice(), 100, 1)?,
-            "error PageDamaged 0",
-            "loaded KK cells 1280",
-        ),
-        (longer, "error TrailingBytes", "loaded KK cells 1280"),
-    ];
-    for (bytes, whole, by_pages) in &rows {
-        let mut store = no_files(&alloc);
-        store.put(Class::KK, MemoryFile::Bytes(bytes.as_slice()));
-        let wanted = [
-            ("load KK", *whole),
-            ("load KK", *whole),
-            ("build KK", "built KK cells 1280 win -"),
-        ];
-        check_over(&rt, &alloc, &mut store, None, wanted.as_slice());
-        let wanted = [("load KK", *by_pages), ("build KK", "error PagedMode")];
-        check_over(&rt, &alloc, &mut store, Some(1), wanted.as_slice());
-    }
+    check_file(&rt, &alloc, longer.as_slice(), None, LONGER);
+    check_file(&rt, &alloc, longer.as_slice(), Some(1), BY_PAGES);
+    let page = changed(&alloc, text.as_slice(), 100, 1)?;
+    check_file(&rt, &alloc, page.as_slice(), None, PAGE);
+    check_file(&rt, &alloc, page.as_slice(), Some(1), BY_PAGES);
+    Ok(())
+}
+
+/// The SHA-256 of the fields of KK, the number of its page, and 4,096 cells of which the one numbered 2,000 is 1.
+const PADDED_DIGEST: [u8; 32] = [
+    0x4a, 0xda, 0x66, 0x17, 0x10, 0x32, 0x92, 0x98, 0x16, 0x39, 0xe7, 0xdb, 0x5f, 0x91, 0x55, 0x5e,
+    0x85, 0x82, 0x48, 0x9b, 0x7c, 0x75, 0xe2, 0x1c, 0xf7, 0xba, 0xe8, 0xab, 0x09, 0xa0, 0x30, 0x16,
+];
+
+/// A byte behind the last cell that is not zero, under its right digest.
+#[test]
+fn padding(rt: HostRuntime) -> Result<(), Fail> {
+    let alloc = rt.alloc();
+    let text = text_of(&rt, &alloc, &[Class::KK]);
+    let mut bytes = changed(&alloc, text.as_slice(), 64 + 2_000, 1)?;
+    bytes.truncate(64 + 4_096);
+    bytes.extend_from_slice(PADDED_DIGEST.as_slice())?;
+    check_file(&rt, &alloc, bytes.as_slice(), None, PADDED);
+    check_file(&rt, &alloc, bytes.as_slice(), Some(1), BY_PAGES);
+    Ok(())
+}
+
+/// A file that fails after so many bytes.
+#[test]
+fn files_that_fail(rt: HostRuntime) {
+    let alloc = rt.alloc();
+    let text = text_of(&rt, &alloc, &[Class::KK]);
     for fails_after in 0..text.len() {
         let mut store = no_files(&alloc);
         store.put(Class::KK, MemoryFile::Bytes(text.as_slice()));
         store.fails_after = Some(fails_after);
-        check_over(
-            &rt,
-            &alloc,
-            &mut store,
-            None,
-            &[("load KK", "error Device")],
-        );
+        check_over(&rt, &alloc, &mut store, None, "load KK -> error Device");
     }
-    Ok(())
 }

@@ -4,7 +4,13 @@
 #[cfg(test)]
 mod files;
 #[cfg(test)]
+mod heaps;
+#[cfg(test)]
+mod limits;
+#[cfg(test)]
 mod marks;
+#[cfg(test)]
+mod moves;
 #[cfg(test)]
 mod outside;
 #[cfg(test)]

@@ -1,7 +1,5 @@
-//! Runs whose reader, writer or memory fails.
+//! Runs whose reader or writer fails.
 use crate::runs::{no_files, replies_of};
-use linked_list_allocator::LocalHeap;
-use std::test::Fail;
 use study_script::run::{RunFault, Settings, Summary, run};
 use study_tablefile::memory::{MemoryReader, MemoryWriter, WhenFull};
 
@@ -81,42 +79,4 @@ fn readers(rt: HostRuntime) {
         let (front, _) = REPLIES.split_at(written.min(REPLIES.len()));
         assert!(rt; writer.taken.as_slice() == front, "{count}");
     }
-}
-
-/// Heaps of rising size: no reply and want of memory before the first line, or one line that wants memory, or none.
-#[test]
-fn heaps(rt: HostRuntime) -> Result<(), Fail> {
-    let script =
-        b"position k7/8/8/8/8/8/8/K7 w - - 0 1\nmoves root\nbuild KK\nstipulate white draw\ninsert root Kb1\nmark 0\n";
-    let alloc = rt.alloc();
-    let mut before = 0u32;
-    let mut refused = 0u32;
-    let mut whole = 0u32;
-    for step in 0..300usize {
-        let heap = LocalHeap::new(rt.alloc(), 64 + step * 64)?;
-        let mut taken = MemoryWriter::new(&alloc);
-        let mut store = no_files(&alloc);
-        let answer = run(
-            &heap,
-            &mut MemoryReader::new(script),
-            &mut taken,
-            &mut store,
-            Settings { pages: None },
-        );
-        match answer {
-            Err(fault) => {
-                assert_eq!(rt; fault, RunFault::OutOfMemory);
-                assert!(rt; taken.taken.is_empty());
-                assert!(rt; refused == 0 && whole == 0);
-                before = before.saturating_add(1);
-            }
-            Ok(summary) if summary.refused > 0 => {
-                assert_eq!(rt; summary.lines, 6);
-                refused = refused.saturating_add(1);
-            }
-            Ok(_) => whole = whole.saturating_add(1),
-        }
-    }
-    assert!(rt; before > 0 && refused > 0 && whole > 0);
-    Ok(())
 }

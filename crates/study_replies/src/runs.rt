@@ -12,8 +12,9 @@ use study_script::store::TableStore;
 use study_tablefile::memory::{MemoryReader, MemoryWriter};
 use study_tablefile::write_table;
 
-/// Each line of a script beside its reply; a comment has none.
-pub type Rows<'r> = &'r [(&'r str, &'r str)];
+/// Lines of a script, each with ` -> ` and its reply behind it, or ` ->` where it has none. A row without an arrow is one more
+/// line of the reply above it.
+pub type Rows<'r> = &'r str;
 
 /// What a run writes, and what it answers.
 pub fn replies_of<'a, S: TableStore, A: Allocator>(
@@ -35,6 +36,84 @@ pub fn replies_of<'a, S: TableStore, A: Allocator>(
     (writer.taken, answer)
 }
 
+/// A script beside the replies that it is to have.
+#[derive(Drop)]
+pub struct Case<'a, A: Allocator> {
+    pub script: Vec<u8, &'a A>,
+    pub replies: Vec<u8, &'a A>,
+    pub lines: u32,
+    pub refused: u32,
+}
+
+impl<'a, A: Allocator> Case<'a, A> {
+    pub fn new(alloc: &'a A) -> Self {
+        Case {
+            script: Vec::new(alloc),
+            replies: Vec::new(alloc),
+            lines: 0,
+            refused: 0,
+        }
+    }
+
+    /// One more line.
+    pub fn add_line(&mut self, rt: &impl Abort, line: &str) {
+        put_line(rt, &mut self.script, line);
+        self.lines = self.lines.saturating_add(1);
+    }
+
+    /// One more line of the replies.
+    pub fn add_reply(&mut self, rt: &impl Abort, reply: &str) {
+        put_line(rt, &mut self.replies, reply);
+        if reply.starts_with("error ") {
+            self.refused = self.refused.saturating_add(1);
+        }
+    }
+
+    /// The script and the replies that rows tell.
+    pub fn add_rows(&mut self, rt: &impl Abort, rows: Rows<'_>) {
+        for row in rows.lines() {
+            match row.split_once(" ->") {
+                None => self.add_reply(rt, row),
+                Some((line, reply)) => {
+                    self.add_line(rt, line);
+                    if let Some(reply) = reply.strip_prefix(' ') {
+                        self.add_reply(rt, reply);
+                    }
+                }
+            }
+        }
+    }
+
+    /// Whether these are the replies and the answer of a run over the script.
+    pub fn is_had(&self, text: &[u8], answer: Result<Summary, RunFault>) -> bool {
+        let (lines, refused) = (self.lines, self.refused);
+        text == self.replies.as_slice() && answer == Ok(Summary { lines, refused })
+    }
+
+    /// Runs the script, and compares the replies.
+    pub fn check<S: TableStore>(
+        &self,
+        rt: &impl Abort,
+        alloc: &A,
+        store: &mut S,
+        pages: Option<u16>,
+    )
+        requires { IfSome pages (λ n. (1 ≤ n) × (n ≤ 4096)) }
+    {
+        let (text, answer) = replies_of(alloc, store, pages, self.script.as_slice());
+        let text = std::str::from_utf8(text.as_slice()).unwrap_or("no text");
+        let wanted = std::str::from_utf8(self.replies.as_slice()).unwrap_or("no text");
+        assert_eq!(rt; text, wanted);
+        let (lines, refused) = (self.lines, self.refused);
+        assert_eq!(rt; answer, Ok(Summary { lines, refused }));
+    }
+}
+
+fn put_line<A: Allocator>(rt: &impl Abort, text: &mut Vec<u8, &A>, line: &str) {
+    assert!(rt; text.extend_from_slice(line.as_bytes()).is_ok());
+    assert!(rt; text.push(b'\n').is_ok());
+}
+
 /// Runs the lines, and compares the replies.
 pub fn check_over<S: TableStore, A: Allocator>(
     rt: &impl Abort,
@@ -45,30 +124,9 @@ pub fn check_over<S: TableStore, A: Allocator>(
 )
     requires { IfSome pages (λ n. (1 ≤ n) × (n ≤ 4096)) }
 {
-    let mut script = Vec::new(alloc);
-    let mut wanted = Vec::new(alloc);
-    let mut refused = 0u32;
-    for (line, reply) in rows {
-        for byte in line.as_bytes() {
-            script.push(*byte).ok().expect(rt, "memory");
-        }
-        script.push(b'\n').ok().expect(rt, "memory");
-        for byte in reply.as_bytes() {
-            wanted.push(*byte).ok().expect(rt, "memory");
-        }
-        if !reply.is_empty() {
-            wanted.push(b'\n').ok().expect(rt, "memory");
-        }
-        if reply.starts_with("error ") {
-            refused = refused.saturating_add(1);
-        }
-    }
-    let (text, answer) = replies_of(alloc, store, pages, script.as_slice());
-    let text = std::str::from_utf8(text.as_slice()).unwrap_or("no text");
-    let wanted = std::str::from_utf8(wanted.as_slice()).unwrap_or("no text");
-    assert_eq!(rt; text, wanted);
-    let lines = rows.len().min(100_000) as u32;
-    assert_eq!(rt; answer, Ok(Summary { lines, refused }));
+    let mut case = Case::new(alloc);
+    case.add_rows(rt, rows);
+    case.check(rt, alloc, store, pages);
 }
 
 /// The same over a store without files.
