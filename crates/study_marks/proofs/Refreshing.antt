@@ -6,7 +6,8 @@ use Rattle.study_tree.specs.declared.fault.TreeFault.TheVariants.{NoSuchNode}
 use Rattle.study_moves.specs.declared.moves.Move.{Move}
 use Rattle.study_tree.specs.Forest.{Forest, none, more, Twig, nodes_in}
 use Rattle.study_tree.specs.Edits.{IsWithin, has_node, node_in, width, below_edited, labelled_at}
-use Rattle.study_tree.specs.Tree.{Plain, Spot, with_label, spot_at, twig_spot, has_spot, size_of, counted, label_refusal}
+use Rattle.study_board.specs.Counts.{counted}
+use Rattle.study_tree.specs.Tree.{Plain, Spot, with_label, spot_at, twig_spot, has_spot, size_of, label_refusal}
 use Rattle.study_marks.specs.declared.label.Label.{Label}
 use Rattle.study_marks.specs.declared.label.Told.{Told}
 use Rattle.study_marks.specs.declared.marking.Aim.{Aim}

@@ -8,7 +8,7 @@ use Rattle.study_moves.specs.LegalList.{legal_list}
 use Rattle.study_prober.specs.declared.values.ProbeFault.{ProbeFault}
 use Rattle.study_prober.specs.declared.values.ProbeFault.TheVariants as probe
 use Rattle.study_tree.specs.Forest.{Forest, none, more}
-use Rattle.study_tree.specs.Tree.{counted}
+use Rattle.study_board.specs.Counts.{counted}
 use Rattle.study_marks.specs.declared.fault.Refusal.{Refusal}
 use Rattle.study_marks.specs.declared.fault.Refusal.TheVariants.{NoSuchNode, RootNotAllowed, AlreadyFirst, IllegalMove, AlreadyThere, TooDeep, TreeFull, ShiftBroken, TagText, OutOfMemory, NoTable, TableRead}
 use Rattle.study_marks.specs.Study.{Study}

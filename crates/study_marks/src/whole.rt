@@ -2,7 +2,8 @@
 ghost use Rattle.std.specs.Prelude.{◌≡◌, ◌+◌, ◌≤◌, ◌++◌, ℕ, List, IsTrue, IsSome, length, Some, None, false};
 ghost use Rattle.study_tree.specs.Forest.{nodes_in};
 ghost use Rattle.study_tree.specs.Edits.{width, below_edited};
-ghost use Rattle.study_tree.specs.Tree.{Spot, plain_tree, has_spot, spot_at, with_label, size_of, counted};
+ghost use Rattle.study_board.specs.Counts.{counted};
+ghost use Rattle.study_tree.specs.Tree.{Spot, plain_tree, has_spot, spot_at, with_label, size_of};
 ghost use Rattle.study_marks.specs.declared.label.Label.{Label as ALabel};
 ghost use Rattle.study_tree.specs.Edits.{IsWithin};
 ghost use Rattle.study_marks.specs.Edits.{broken_from};

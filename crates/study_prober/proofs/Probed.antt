@@ -14,7 +14,7 @@ use Rattle.study_retro.specs.Sound.{IsRight}
 use Rattle.study_retro.specs.Table.{Table, IsComplete, place_of}
 use Rattle.study_retro.proofs.SoundLemmas.{at_value}
 use Rattle.study_tablefile.specs.declared.source.Header.{Header}
-use Rattle.study_tablefile.specs.Source.{counted}
+use Rattle.study_board.specs.Counts.{counted}
 use Rattle.study_prober.specs.declared.cache.PageKey.{PageKey}
 use Rattle.study_prober.specs.declared.held.HeldSource.{HeldSource}
 use Rattle.study_prober.specs.declared.values.ProbeFault.{ProbeFault}

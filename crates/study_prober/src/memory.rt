@@ -3,7 +3,7 @@ ghost use Rattle.std.specs.Prelude.{◌≡◌, ◌↔◌, Some, Err, true, false
 ghost use Rattle.study_material.specs.declared.class.Class.{Class as AClass};
 ghost use Rattle.study_material.specs.Class.{IsOf};
 ghost use Rattle.study_retro.specs.Game.{IsValueOf};
-ghost use Rattle.study_tablefile.specs.Source.{counted};
+ghost use Rattle.study_board.specs.Counts.{counted};
 ghost use Rattle.study_prober.specs.Values.{faults_after};
 
 use crate::values::{ProbeFault, Values, counted_fault};

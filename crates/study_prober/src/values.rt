@@ -4,7 +4,7 @@ ghost use Rattle.study_board.specs.Position.{Position as APosition};
 ghost use Rattle.study_material.specs.declared.class.Class.{Class as AClass};
 ghost use Rattle.study_material.specs.Class.{IsOf};
 ghost use Rattle.study_retro.specs.Game.{IsValueOf};
-ghost use Rattle.study_tablefile.specs.Source.{counted};
+ghost use Rattle.study_board.specs.Counts.{counted};
 ghost use Rattle.study_prober.specs.Values.{ProbeAnswer, faults_after};
 
 use study_board::Position;

@@ -9,7 +9,7 @@ ghost use Rattle.study_retro.specs.Game.{IsValueOf};
 ghost use Rattle.study_retro.specs.Table.{Table as Seen, place_of, table_of};
 ghost use Rattle.study_retro.specs.Set.{add_fault};
 ghost use Rattle.study_retro.specs.Sound.{IsRight};
-ghost use Rattle.study_tablefile.specs.Source.{counted};
+ghost use Rattle.study_board.specs.Counts.{counted};
 ghost use Rattle.study_prober.specs.Values.{faults_after};
 ghost use Rattle.study_prober.specs.Whole.{TablesAreRight, IsCellAnswer, Whole};
 

@@ -1,6 +1,7 @@
 //! A reader and a writer in memory that go byte by byte and fail where a test wants it.
 ghost use Rattle.std.specs.Prelude.{◌≡◌, ℕ, ◌<◌, ◌↔◌, [], Some, None, Ok, Err, length, take, drop, vec_len, ◌≤◌, ◌⊎◌, IsOk, IsErr, IsErrOf, IfOk, IfErr, OnOk, OnErr, MatchResult, ◌≢◌, ◌+◌, ◌-◌, ◌*◌, ◌^◌};
-ghost use Rattle.study_tablefile.specs.Source.{counted, page_of, IsAnswerOf, of_header, of_page};
+ghost use Rattle.study_board.specs.Counts.{counted};
+ghost use Rattle.study_tablefile.specs.Source.{page_of, IsAnswerOf, of_header, of_page};
 ghost use Rattle.study_tablefile.specs.File.{header_text, pages_of, table_text};
 ghost use Rattle.study_retro.specs.Table.{Table as Seen};
 ghost use Rattle.std.specs.Io.{ReadsAtMost, WritesAtMost};

@@ -1,5 +1,5 @@
 -- A whole tree: what contracts see of one, and when an edit is refused.
-use Rattle.std.specs.Prelude.{ℕ, ◌+◌, List, [], ◌∷◌, Bool, not, Option, Some, None, length, nat_le, nat_eq, min, if◌then◌else◌}
+use Rattle.std.specs.Prelude.{ℕ, ◌+◌, List, [], ◌∷◌, Bool, not, Option, Some, None, length, nat_le, nat_eq, if◌then◌else◌}
 use Rattle.study_moves.specs.declared.moves.Move.{Move}
 use Rattle.study_tree.specs.declared.fault.TreeFault.{TreeFault}
 use Rattle.study_tree.specs.declared.fault.TreeFault.TheVariants.{NoSuchNode, Root, AlreadyFirst, TooDeep, TreeFull}
@@ -82,7 +82,3 @@ module _ {L : Type 0} where
   -- the same, to write the node's label
   abbrev pub label_refusal : Plain L → List ℕ → Option TreeFault
   label_refusal t steps = if not (has_spot t steps) then Some NoSuchNode else None
-
--- a count, one up; it stays at its last value
-abbrev pub counted : ℕ → ℕ
-counted n = min (n + 1) 18446744073709551615

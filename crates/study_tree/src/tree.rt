@@ -2,7 +2,8 @@
 ghost use Rattle.std.specs.Prelude.{◌≡◌, ◌<◌, ◌≤◌, IsOk, IfOk, IfErr, OnErr, OnOk, MatchOption, IsOkUnless, Some, None, ◌≢◌};
 ghost use Rattle.study_tree.specs.Forest.{none};
 ghost use Rattle.study_tree.specs.Edits.{IsWithin, children_at, plain};
-ghost use Rattle.study_tree.specs.Tree.{plain_tree, spare_of, size_of, has_spot, spot_at, with_child, with_label, without, moved_up, child_refusal, removal_refusal, move_up_refusal, label_refusal, counted};
+ghost use Rattle.study_board.specs.Counts.{counted};
+ghost use Rattle.study_tree.specs.Tree.{plain_tree, spare_of, size_of, has_spot, spot_at, with_child, with_label, without, moved_up, child_refusal, removal_refusal, move_up_refusal, label_refusal};
 
 use crate::fault::TreeFault;
 use crate::node::{

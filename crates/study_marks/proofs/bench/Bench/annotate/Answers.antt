@@ -1,7 +1,8 @@
 use Rattle.std.proofs.Common.{◌≡◌, List, length, ap, sym, ◌∙◌, subst, rules}
 use Rattle.study_board.specs.Men.{same_side}
 use Rattle.study_board.specs.Position.{Position, IsValid}
-use Rattle.study_tree.specs.Tree.{plain_tree, size_of, counted}
+use Rattle.study_board.specs.Counts.{counted}
+use Rattle.study_tree.specs.Tree.{plain_tree, size_of}
 use Rattle.study_marks.specs.declared.label.Told.{Told}
 use Rattle.study_marks.specs.declared.marking.Aim.{Aim}
 use Rattle.study_marks.specs.Study.{plain_study, IsPlayable}

@@ -1,6 +1,7 @@
 use Rattle.std.proofs.Common.{◌≡◌, ap, sym, ◌∙◌, subst}
 use Rattle.study_board.specs.Men.{same_side}
-use Rattle.study_tree.specs.Tree.{plain_tree, size_of, counted}
+use Rattle.study_board.specs.Counts.{counted}
+use Rattle.study_tree.specs.Tree.{plain_tree, size_of}
 use Rattle.study_marks.specs.declared.marking.Aim.{Aim}
 use Rattle.study_marks.specs.Study.{plain_study}
 use Rattle.study_marks.specs.Goals.{aim_of}
