@@ -48,17 +48,23 @@ k7/2P5/1K6/8/8/8/8/8 w - - 0 1\tKa5 Kb5 Kc5 Ka6 Kc6 c8=Q# c8=R# c8=B c8=N\n\
 8/8/8/8/8/3P3k/8/6K1 w - - 0 1\tKf1 Kh1 Kf2 d4\n\
 8/8/6K1/8/8/8/P5k1/8 w - - 0 1\ta3 a4 Kf5 Kg5 Kh5 Kf6 Kh6 Kf7 Kg7 Kh7\n\
 4qk2/8/8/4K3/8/5q2/8/8 w - - 0 1\tKd4 Kd6\n\
-8/8/2Q2Q2/8/8/6k1/8/2K5 w - - 0 1\tKb1 Kd1 Kb2 Kc2 Kd2 Qh1 Qc2 Qg2+ Qcc3+ Qcf3+ Qa4 Qc4 Qe4 Qb5 Qc5 Qd5 Qa6 Qb6 Qcd6+ Qce6 Qb7 Qc7+ Qd7 Qa8 Qc8 Qe8 Qa1 Qf1 Qb2 Qf2+ Qfc3+ Qff3+ Qd4 Qf4+ Qh4+ Qe5+ Qf5 Qg5+ Qfd6+ Qfe6 Qg6+ Qh6 Qe7 Qf7 Qg7+ Qd8 Qf8 Qh8\n\
+8/8/2Q2Q2/8/8/6k1/8/2K5 w - - 0 1\tKb1 Kd1 Kb2 Kc2 Kd2 Qh1 Qc2 Qg2+ Qcc3+ Qcf3+ Qa4 Qc4 Qe4 Qb5 Qc5 Qd5 Qa6 Qb6 Qcd6+ Qce6 Qb7 Qc7+ Qd7 \
+    Qa8 Qc8 Qe8 Qa1 Qf1 Qb2 Qf2+ Qfc3+ Qff3+ Qd4 Qf4+ Qh4+ Qe5+ Qf5 Qg5+ Qfd6+ Qfe6 Qg6+ Qh6 Qe7 Qf7 Qg7+ Qd8 Qf8 Qh8\n\
 8/3q4/8/8/8/8/Kq6/3k4 w - - 0 1\tKxb2\n\
 5q2/7k/8/8/2q5/8/8/3K4 w - - 0 1\tKe1 Kd2\n\
 8/7Q/2k5/7Q/8/6K1/8/8 b - - 0 1\tKb6 Kd6\n\
-8/8/4q3/8/8/1q6/k4K2/8 b - - 0 1\tKa1 Kb1 Kb2 Ka3 Qb1 Qd1 Qb2+ Qc2+ Qa3 Qc3 Qd3 Qbe3+ Qf3+ Qg3+ Qbh3 Qa4 Qb4 Qbc4 Qb5 Qbd5 Qbb6+ Qb7 Qb8 Qe1+ Qe2+ Qee3+ Qeh3 Qec4 Qe4 Qg4 Qed5 Qe5 Qf5+ Qa6 Qeb6+ Qc6 Qd6 Qf6+ Qg6 Qh6 Qd7 Qe7 Qf7+ Qc8 Qe8 Qg8\n\
-8/7k/5Q2/8/8/3K4/R7/8 w - - 0 1\tRa1 Rb2 Rc2 Rd2 Re2 Rf2 Rg2 Rh2+ Ra3 Ra4 Ra5 Ra6 Ra7+ Ra8 Kc2 Kd2 Ke2 Kc3 Ke3 Kc4 Kd4 Ke4 Qa1 Qf1 Qb2 Qf2 Qc3 Qf3 Qd4 Qf4 Qh4+ Qe5 Qf5+ Qg5 Qa6 Qb6 Qc6 Qd6 Qe6 Qg6+ Qh6+ Qe7+ Qf7+ Qg7+ Qd8 Qf8 Qh8+\n\
-3k4/8/2r5/5K2/8/8/1q6/8 b - - 0 1\tQa1 Qb1+ Qc1 Qa2 Qc2+ Qd2 Qe2 Qf2+ Qg2 Qh2 Qa3 Qb3 Qc3 Qb4 Qd4 Qb5+ Qe5+ Qb6 Qf6+ Qb7 Qg7 Qb8 Qh8 Rc1 Rc2 Rc3 Rc4 Rc5+ Ra6 Rb6 Rd6 Re6 Rf6+ Rg6 Rh6 Rc7 Rc8 Kc7 Kd7 Ke7 Kc8 Ke8\n\
+8/8/4q3/8/8/1q6/k4K2/8 b - - 0 1\tKa1 Kb1 Kb2 Ka3 Qb1 Qd1 Qb2+ Qc2+ Qa3 Qc3 Qd3 Qbe3+ Qf3+ Qg3+ Qbh3 Qa4 Qb4 Qbc4 Qb5 Qbd5 Qbb6+ Qb7 Qb8 \
+    Qe1+ Qe2+ Qee3+ Qeh3 Qec4 Qe4 Qg4 Qed5 Qe5 Qf5+ Qa6 Qeb6+ Qc6 Qd6 Qf6+ Qg6 Qh6 Qd7 Qe7 Qf7+ Qc8 Qe8 Qg8\n\
+8/7k/5Q2/8/8/3K4/R7/8 w - - 0 1\tRa1 Rb2 Rc2 Rd2 Re2 Rf2 Rg2 Rh2+ Ra3 Ra4 Ra5 Ra6 Ra7+ Ra8 Kc2 Kd2 Ke2 Kc3 Ke3 Kc4 Kd4 Ke4 Qa1 Qf1 Qb2 \
+    Qf2 Qc3 Qf3 Qd4 Qf4 Qh4+ Qe5 Qf5+ Qg5 Qa6 Qb6 Qc6 Qd6 Qe6 Qg6+ Qh6+ Qe7+ Qf7+ Qg7+ Qd8 Qf8 Qh8+\n\
+3k4/8/2r5/5K2/8/8/1q6/8 b - - 0 1\tQa1 Qb1+ Qc1 Qa2 Qc2+ Qd2 Qe2 Qf2+ Qg2 Qh2 Qa3 Qb3 Qc3 Qb4 Qd4 Qb5+ Qe5+ Qb6 Qf6+ Qb7 Qg7 Qb8 Qh8 Rc1 \
+    Rc2 Rc3 Rc4 Rc5+ Ra6 Rb6 Rd6 Re6 Rf6+ Rg6 Rh6 Rc7 Rc8 Kc7 Kd7 Ke7 Kc8 Ke8\n\
 8/8/8/5q2/1k6/8/4K3/1r6 w - - 0 1\tKd2 Ke3\n\
-8/4Q3/2R2K2/8/8/8/8/1k6 w - - 0 1\tRc1+ Rc2 Rc3 Rc4 Rc5 Ra6 Rb6+ Rd6 Re6 Rc7 Rc8 Ke5 Kf5 Kg5 Ke6 Kg6 Kf7 Kg7 Qe1+ Qe2 Qa3 Qe3 Qb4+ Qe4+ Qc5 Qe5 Qd6 Qe6 Qa7 Qb7+ Qc7 Qd7 Qf7 Qg7 Qh7+ Qd8 Qe8 Qf8\n\
+8/4Q3/2R2K2/8/8/8/8/1k6 w - - 0 1\tRc1+ Rc2 Rc3 Rc4 Rc5 Ra6 Rb6+ Rd6 Re6 Rc7 Rc8 Ke5 Kf5 Kg5 Ke6 Kg6 Kf7 Kg7 Qe1+ Qe2 Qa3 Qe3 Qb4+ Qe4+ \
+    Qc5 Qe5 Qd6 Qe6 Qa7 Qb7+ Qc7 Qd7 Qf7 Qg7 Qh7+ Qd8 Qe8 Qf8\n\
 8/3r4/8/K7/5k2/8/8/5q2 w - - 0 1\tKa4 Kb4 Kb6\n\
-Q7/8/8/8/5K2/8/7R/1k6 w - - 0 1\tRh1+ Ra2 Rb2+ Rc2 Rd2 Re2 Rf2 Rg2 Rh3 Rh4 Rh5 Rh6 Rh7 Rh8 Ke3 Kf3 Kg3 Ke4 Kg4 Ke5 Kf5 Kg5 Qa1+ Qh1# Qa2+ Qg2 Qa3 Qf3 Qa4 Qe4+ Qa5 Qd5 Qa6 Qc6 Qa7 Qb7+ Qb8+ Qc8 Qd8 Qe8 Qf8 Qg8 Qh8\n\
+Q7/8/8/8/5K2/8/7R/1k6 w - - 0 1\tRh1+ Ra2 Rb2+ Rc2 Rd2 Re2 Rf2 Rg2 Rh3 Rh4 Rh5 Rh6 Rh7 Rh8 Ke3 Kf3 Kg3 Ke4 Kg4 Ke5 Kf5 Kg5 Qa1+ Qh1# Qa2+ \
+    Qg2 Qa3 Qf3 Qa4 Qe4+ Qa5 Qd5 Qa6 Qc6 Qa7 Qb7+ Qb8+ Qc8 Qd8 Qe8 Qf8 Qg8 Qh8\n\
 8/8/8/8/8/k4K2/8/5qb1 w - - 0 1\tKg3 Ke4 Kg4\n\
 5Q1K/8/8/8/8/2k5/4B3/8 b - - 0 1\tKb2 Kc2 Kd2 Kb3 Kd4\n\
 5k2/8/8/1b1K4/3q4/8/8/8 w - - 0 1\tKxd4 Ke6\n\
@@ -66,12 +72,15 @@ Q7/8/8/8/5K2/8/7R/1k6 w - - 0 1\tRh1+ Ra2 Rb2+ Rc2 Rd2 Re2 Rf2 Rg2 Rh3 Rh4 Rh5 R
 8/8/4B3/5K2/8/3kQ3/8/8 b - - 0 1\tKc2 Kxe3\n\
 8/8/8/1B1k4/8/1K6/6Q1/8 b - - 0 1\tKd4 Kc5 Ke5 Kd6 Ke6\n\
 1n6/8/2k5/8/8/8/8/2q1K3 w - - 0 1\tKe2 Kf2\n\
-8/8/8/8/1N6/5Q2/6K1/1k6 w - - 0 1\tKf1 Kg1 Kh1 Kf2 Kh2 Kg3 Kh3 Qd1+ Qf1+ Qe2 Qf2 Qa3 Qb3+ Qc3 Qd3+ Qe3 Qg3 Qh3 Qe4+ Qf4 Qg4 Qd5 Qf5+ Qh5 Qc6 Qf6 Qb7 Qf7 Qa8 Qf8 Na2 Nc2 Nd3 Nd5 Na6 Nc6\n\
+8/8/8/8/1N6/5Q2/6K1/1k6 w - - 0 1\tKf1 Kg1 Kh1 Kf2 Kh2 Kg3 Kh3 Qd1+ Qf1+ Qe2 Qf2 Qa3 Qb3+ Qc3 Qd3+ Qe3 Qg3 Qh3 Qe4+ Qf4 Qg4 Qd5 Qf5+ Qh5 \
+    Qc6 Qf6 Qb7 Qf7 Qa8 Qf8 Na2 Nc2 Nd3 Nd5 Na6 Nc6\n\
 8/3k4/7K/8/5Q2/8/8/4N3 b - - 0 1\tKc6 Ke6 Ke7 Kc8 Kd8 Ke8\n\
 2q3K1/n7/8/6k1/8/8/8/8 w - - 0 1\tKf7 Kg7 Kh7\n\
-4K3/8/8/8/2k3n1/2q5/8/8 b - - 0 1\tQa1 Qc1 Qe1+ Qb2 Qc2 Qd2 Qa3 Qb3 Qd3 Qe3+ Qf3 Qg3 Qh3 Qb4 Qd4 Qa5 Qe5+ Qf6 Qg7 Qh8+ Kb3 Kd3 Kb4 Kd4 Kb5 Kc5 Kd5 Nf2 Nh2 Ne3 Ne5 Nf6+ Nh6\n\
+4K3/8/8/8/2k3n1/2q5/8/8 b - - 0 1\tQa1 Qc1 Qe1+ Qb2 Qc2 Qd2 Qa3 Qb3 Qd3 Qe3+ Qf3 Qg3 Qh3 Qb4 Qd4 Qa5 Qe5+ Qf6 Qg7 Qh8+ Kb3 Kd3 Kb4 Kd4 \
+    Kb5 Kc5 Kd5 Nf2 Nh2 Ne3 Ne5 Nf6+ Nh6\n\
 6Q1/K7/8/8/8/3N1k2/8/8 b - - 0 1\tKe2 Ke3 Ke4\n\
-1K3k2/7P/8/8/8/1Q6/8/8 w - - 0 1\tQb1 Qd1 Qa2 Qb2 Qc2 Qa3+ Qc3 Qd3 Qe3 Qf3+ Qg3 Qh3 Qa4 Qb4+ Qc4 Qb5 Qd5 Qb6 Qe6 Qb7 Qf7+ Qg8+ h8=Q+ h8=R+ h8=B h8=N Ka7 Kb7 Kc7 Ka8 Kc8\n\
+1K3k2/7P/8/8/8/1Q6/8/8 w - - 0 1\tQb1 Qd1 Qa2 Qb2 Qc2 Qa3+ Qc3 Qd3 Qe3 Qf3+ Qg3 Qh3 Qa4 Qb4+ Qc4 Qb5 Qd5 Qb6 Qe6 Qb7 Qf7+ Qg8+ h8=Q+ \
+    h8=R+ h8=B h8=N Ka7 Kb7 Kc7 Ka8 Kc8\n\
 6q1/8/2p5/8/8/7k/4K3/8 w - - 0 1\tKd1 Ke1 Kf1 Kd2 Kf2 Kd3 Ke3 Kf3\n\
 8/7p/8/8/4k3/4q3/7K/8 b - - 0 1\tQc1 Qe1 Qg1+ Qd2+ Qe2+ Qf2+ Qa3 Qb3 Qc3 Qd3 Qf3 Qg3+ Qh3+ Qd4 Qf4+ Qc5 Qg5 Qb6 Qh6+ Qa7 Kd3 Kf3 Kd4 Kf4 Kd5 Ke5 Kf5 h5 h6\n\
 8/1K6/2Q5/3P4/8/8/6k1/8 b - - 0 1\tKf1 Kg1 Kh1 Kf2 Kh2 Kf3 Kg3 Kh3\n\
@@ -85,7 +94,8 @@ Q7/8/8/8/5K2/8/7R/1k6 w - - 0 1\tRh1+ Ra2 Rb2+ Rc2 Rd2 Re2 Rf2 Rg2 Rh3 Rh4 Rh5 R
 8/r7/8/8/8/5r2/2K5/5k2 w - - 0 1\tKb1 Kc1 Kd1 Kb2 Kd2\n\
 8/8/5R2/K7/3k4/8/8/R7 w - - 0 1\tRb1 Rc1 Rd1+ Re1 Raf1 Rg1 Rh1 Ra2 Ra3 Ra4+ Ka4 Kb4 Kb5 Ka6 Kb6 Rff1 Rf2 Rf3 Rf4+ Rf5 Ra6 Rb6 Rc6 Rd6+ Re6 Rg6 Rh6 Rf7 Rf8\n\
 1rk5/8/5r2/8/8/8/8/K7 b - - 0 1\tRf1+ Rf2 Rf3 Rf4 Rf5 Ra6# Rfb6 Rc6 Rd6 Re6 Rg6 Rh6 Rf7 Rf8 Rb1+ Rb2 Rb3 Rb4 Rb5 Rbb6 Rb7 Ra8+ Kb7 Kc7 Kd7 Kd8\n\
-8/8/k7/3R4/8/3K4/8/1R6 w - - 0 1\tRa1+ Rc1 Rd1 Re1 Rf1 Rg1 Rh1 Rb2 Rb3 Rb4 Rbb5 Rb6+ Rb7 Rb8 Kc2 Kd2 Ke2 Kc3 Ke3 Kc4 Kd4 Ke4 Rd4 Ra5+ Rdb5 Rc5 Re5 Rf5 Rg5 Rh5 Rd6+ Rd7 Rd8\n\
+8/8/k7/3R4/8/3K4/8/1R6 w - - 0 1\tRa1+ Rc1 Rd1 Re1 Rf1 Rg1 Rh1 Rb2 Rb3 Rb4 Rbb5 Rb6+ Rb7 Rb8 Kc2 Kd2 Ke2 Kc3 Ke3 Kc4 Kd4 Ke4 Rd4 Ra5+ \
+    Rdb5 Rc5 Re5 Rf5 Rg5 Rh5 Rd6+ Rd7 Rd8\n\
 8/3R2K1/8/8/8/3R4/1k6/8 b - - 0 1\tKa1 Kb1 Kc1 Ka2 Kc2\n\
 8/5b2/K7/6rk/8/8/8/8 w - - 0 1\tKb6 Ka7 Kb7\n\
 7B/5R2/8/8/3K4/k7/8/8 w - - 0 1\tKc3 Kd3 Ke3 Kc4 Ke4 Kc5 Kd5 Ke5 Rf1 Rf2 Rf3+ Rf4 Rf5 Rf6 Ra7+ Rb7 Rc7 Rd7 Re7 Rg7 Rh7 Rf8 Be5 Bf6 Bg7\n\
