@@ -4,6 +4,10 @@
 #[cfg(test)]
 mod files;
 #[cfg(test)]
+mod growths;
+#[cfg(test)]
+mod pages;
+#[cfg(test)]
 mod pgn;
 #[cfg(test)]
 mod tables;

@@ -85,8 +85,20 @@ const QUEEN: Case = Case {
     moves: &[(&[], "Qg8"), (&[], "Qh2")],
 };
 
-const QUEEN_TEXT: &str =
-    "[Event \"?\"]\n[Site \"?\"]\n[Date \"????.??.??\"]\n[Round \"?\"]\n[White \"?\"]\n[Black \"?\"]\n[Result \"1-0\"]\n[FEN \"k7/8/1K6/8/8/8/8/6Q1 w - - 0 1\"]\n[SetUp \"1\"]\n\n{White to win: unsound 1, White mates in 1} 1. Qg8# {mate; dual 21} (1. Qh2 $4\n{draw}) 1-0\n\n";
+const QUEEN_TEXT: &str = r#"[Event "?"]
+[Site "?"]
+[Date "????.??.??"]
+[Round "?"]
+[White "?"]
+[Black "?"]
+[Result "1-0"]
+[FEN "k7/8/1K6/8/8/8/8/6Q1 w - - 0 1"]
+[SetUp "1"]
+
+{White to win: unsound 1, White mates in 1} 1. Qg8# {mate; dual 21} (1. Qh2 $4
+{draw}) 1-0
+
+"#;
 
 #[test]
 fn writes_tags_and_movetext(rt: HostRuntime) -> Result<(), Fail> {
@@ -187,24 +199,24 @@ fn draws(rt: HostRuntime) -> Result<(), Fail> {
     )
 }
 
-/// Mate in two moves, a root that mates sooner than it should, and a study in which Black begins.
+const ROOK: &[Class] = &[Class::KK, Class::KRK];
+
+const TWO_TEXT: &str = "{White to mate in 2: unsound 1, White mates in 2} 1. Kb6 {White mates in 1;
+dual 1} 1... Kb8 {White mates in 1} 2. Rh8# $1 {mate} 1-0
+
+";
+
+/// Mate in two moves, and a root that mates sooner than it should.
 #[test]
 fn mates_in_so_many_moves(rt: HostRuntime) -> Result<(), Fail> {
-    let rook: &[Class] = &[Class::KK, Class::KRK];
     let two = Case {
         fen: "k7/8/2K5/8/8/8/8/7R w - - 0 1",
         hero: Side::White,
         goal: Goal::MateIn(MateMoves::new(2).ok_or("2")?),
-        classes: rook,
+        classes: ROOK,
         moves: &[(&[], "Kb6"), (&[0], "Kb8"), (&[0, 0], "Rh8")],
     };
-    expect_text(
-        &rt,
-        rt.alloc(),
-        &two,
-        "[Result \"1-0\"]\n",
-        "{White to mate in 2: unsound 1, White mates in 2} 1. Kb6 {White mates in 1;\ndual 1} 1... Kb8 {White mates in 1} 2. Rh8# $1 {mate} 1-0\n\n",
-    )?;
+    expect_text(&rt, rt.alloc(), &two, "[Result \"1-0\"]\n", TWO_TEXT)?;
     let three = Case {
         goal: Goal::MateIn(MateMoves::new(3).ok_or("3")?),
         moves: &[],
@@ -216,22 +228,33 @@ fn mates_in_so_many_moves(rt: HostRuntime) -> Result<(), Fail> {
         &three,
         "[SetUp \"1\"]",
         "{White to mate in 3: wrong, White mates in 2} 1-0\n\n",
-    )?;
+    )
+}
+
+const ONE_TEXT: &str = "{White to mate in 1: sound, White mates in 1} 1... Kb8 {White mates in 1} 2.
+Rh8# $1 {mate} 1-0
+
+";
+
+/// A study in which Black begins.
+#[test]
+fn mate_in_one_move(rt: HostRuntime) -> Result<(), Fail> {
     let one = Case {
         fen: "k7/8/1K6/8/8/8/8/7R b - - 0 1",
         hero: Side::White,
         goal: Goal::MateIn(MateMoves::new(1).ok_or("1")?),
-        classes: rook,
+        classes: ROOK,
         moves: &[(&[], "Kb8"), (&[0], "Rh8")],
     };
-    expect_text(
-        &rt,
-        rt.alloc(),
-        &one,
-        "[Result \"1-0\"]\n",
-        "{White to mate in 1: sound, White mates in 1} 1... Kb8 {White mates in 1} 2.\nRh8# $1 {mate} 1-0\n\n",
-    )
+    expect_text(&rt, rt.alloc(), &one, "[Result \"1-0\"]\n", ONE_TEXT)
 }
+
+const VARIATIONS: &str =
+    "{White to draw: unsound 2, draw} 9999... Kb8 {draw} (9999... Ka7 {draw} 10000.
+Kb2 {draw; dual 2}) 10000. Kb1 {draw; dual 2} (10000. Ka2 {draw; dual 2})
+10000... Kc8 {draw} 1/2-1/2
+
+";
 
 /// A variation stands before the main line goes on, each move has its number, and numbers go past 9999.
 #[test]
@@ -250,13 +273,7 @@ fn main_line_goes_on_behind_the_variations(rt: HostRuntime) -> Result<(), Fail> 
             (&[0, 0], "Kc8"),
         ],
     };
-    expect_text(
-        &rt,
-        rt.alloc(),
-        &case,
-        "b - - 0 9999\"]\n",
-        "{White to draw: unsound 2, draw} 9999... Kb8 {draw} (9999... Ka7 {draw} 10000.\nKb2 {draw; dual 2}) 10000. Kb1 {draw; dual 2} (10000. Ka2 {draw; dual 2})\n10000... Kc8 {draw} 1/2-1/2\n\n",
-    )
+    expect_text(&rt, rt.alloc(), &case, "b - - 0 9999\"]\n", VARIATIONS)
 }
 
 /// A tree of variations within variations, so many deep.
