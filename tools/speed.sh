@@ -3,6 +3,7 @@
 #
 #   tools/speed.sh                 the calls, the tables up to KPK, the files
 #   tools/speed.sh tables          KQKR, KRKN and what they need as well, which takes a minute
+#   tools/speed.sh studies         edits and the PGN of studies of kings alone, of 1,024 and of 4,096 nodes, and the bytes of a node
 #   tools/speed.sh instructions    the tables up to KPK in instructions, counted by valgrind, which other work cannot disturb
 #   tools/speed.sh all [CLASS]     builds all 36 tables (or one, and what it needs) and tells of each: seconds, numbers
 #                                  examined, deepest win and loss in plies, SHA-256 of the cells; then the sum of seconds
@@ -44,8 +45,10 @@ if [ "$1" = instructions ]; then
     exit
 fi
 
+kinds="calls numbers tables"
+[ "$1" = studies ] && kinds=studies
 for _ in 1 2 3; do
-    for what in calls numbers tables; do
+    for what in $kinds; do
         "$ours" "$what" >> "$work/ours"
         "$plain" "$what" >> "$work/theirs"
     done
@@ -56,8 +59,6 @@ for _ in 1 2 3; do
         done
     fi
 done
-"$ours" files > "$work/files"
-"$ours" probes > "$work/probes"
 
 # The best time of each name and label, and the sum of the last.
 awk 'FILENAME == ARGV[1] { if (!($1 " " $2 in theirs) || $3 < theirs[$1 " " $2]) theirs[$1 " " $2] = $3; sum[$1 " " $2] = $4; next }
@@ -66,12 +67,17 @@ awk 'FILENAME == ARGV[1] { if (!($1 " " $2 in theirs) || $3 < theirs[$1 " " $2])
          print "Rattle beside plain Rust of the same algorithm, by rustc at opt-level 3 for the same processor:"
          for (i = 1; i <= count; i++) {
              key = order[i]; split(key, word, " ")
-             whole = word[1] == "build" || word[1] == "verify"
-             unit = whole ? "s " : "ns"; scale = whole ? 1e12 : 1e3
-             printf "%-12s %-11s %9.3f %s   plain Rust %9.3f %s   ratio %.2f%s\n", word[1], word[2], best[key] / scale, unit,
+             unit = "ns"; scale = 1e3
+             if (word[1] == "build" || word[1] == "verify") { unit = "s "; scale = 1e12 }
+             if (word[2] ~ /_[0-9]+$/) { unit = "ms"; scale = 1e9 }
+             if (word[1] == "bytes") { printf "%-15s %-11s %9d bytes a node\n", word[1], word[2], best[key]; continue }
+             printf "%-15s %-11s %9.3f %s   plain Rust %9.3f %s   ratio %.2f%s\n", word[1], word[2], best[key] / scale, unit,
                  theirs[key] / scale, unit, best[key] / theirs[key], own[key] == sum[key] ? "" : "   SUMS DIFFER"
          }
      }' "$work/theirs" "$work/ours"
+[ "$1" = studies ] && exit
+"$ours" files > "$work/files"
+"$ours" probes > "$work/probes"
 awk '{ each[$1] = $3 }
      END {
          print "A file of KRKN in memory beside SHA-256 alone over its bytes, both of the kit, a byte:"

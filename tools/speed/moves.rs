@@ -5,7 +5,7 @@ use crate::list::List;
 use crate::position::Position;
 use crate::sets::{between, has, pawn_captures_of, reach, reach_past, single};
 
-#[derive(Clone, Copy, Debug, Default)]
+#[derive(Clone, Copy, Debug, Default, PartialEq, Eq)]
 pub struct Move {
     pub origin: Square,
     pub target: Square,

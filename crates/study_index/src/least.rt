@@ -53,7 +53,7 @@ fn least(a: Option<u32>, b: Option<u32>) -> Option<u32>
 }
 
 /// The least number by one symmetry, where the last two of four squares can be exchanged.
-#[inline]
+#[inline(always)]
 #[tactic(auto, unfolding(crate::specs::Squares::least_turned))]
 fn least_by(pawns: bool, to_move: Side, t: Symmetry, like: bool, squares: &[Square]) -> Option<u32>
     requires { length squares.now ≤ 4 }
@@ -90,7 +90,7 @@ fn exchanged_number(pawns: bool, to_move: Side, t: Symmetry, squares: &[Square])
 }
 
 /// The least number by the symmetries that bring the first square, the white king's, to a listed one.
-#[inline]
+#[inline(always)]
 #[tactic(auto, unfolding(crate::specs::Squares::least_at))]
 fn least_at(
     pawns: bool,
@@ -118,7 +118,7 @@ fn least_at(
 }
 
 /// The least number of men who stand in the order of their slots.
-#[inline]
+#[inline(always)]
 #[tactic(auto, unfolding(crate::specs::Squares::least_at, crate::specs::Chosen::least_of))]
 pub fn least_of(pawns: bool, to_move: Side, colours: bool, men: &[Man]) -> Option<u32>
     requires { length men.now ≤ 4 }
@@ -149,7 +149,7 @@ fn least_of_kings(pawns: bool, to_move: Side, colours: bool, a: Man, b: Man) -> 
     least_at(pawns, to_move, colours, false, &squares)
 }
 
-#[inline]
+#[inline(always)]
 fn least_with_one(pawns: bool, to_move: Side, colours: bool, a: Man, b: Man, c: Man) -> Option<u32>
     ensures { result ≡ least_of pawns to_move colours (a ∷ b ∷ c ∷ []) }
 {
@@ -157,7 +157,7 @@ fn least_with_one(pawns: bool, to_move: Side, colours: bool, a: Man, b: Man, c: 
     least_at(pawns, to_move, colours, false, &squares)
 }
 
-#[inline]
+#[inline(always)]
 fn least_with_two(
     pawns: bool,
     to_move: Side,

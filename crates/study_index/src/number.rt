@@ -76,7 +76,7 @@ fn more(t: Symmetry, n: u32, x: Square) -> u32
 }
 
 /// Further squares, each 64 times less than what comes before.
-#[inline]
+#[inline(always)]
 fn counted_on(t: Symmetry, n: u32, squares: &[Square]) -> u32
     requires small { n < 64 }
     requires few { length squares.now ≤ 3 }
@@ -111,7 +111,7 @@ fn places(pawns: bool) -> u32
 }
 
 /// The number of squares in the order of their slots, turned, if the white king comes to a listed square.
-#[inline]
+#[inline(always)]
 #[tactic(auto, unfolding(crate::specs::Squares::number_at))]
 pub fn number(pawns: bool, to_move: Side, t: Symmetry, squares: &[Square]) -> Option<u32>
     requires { length squares.now ≤ 4 }

@@ -1,6 +1,7 @@
 //! The positions of numbers.
 ghost use Rattle.std.specs.Prelude.{◌≡◌, ◌+◌, ◌*◌, ◌/◌, ◌%◌, ◌≤◌, ◌<◌, ◌↔◌, ◌⊎◌, IsTrue, length, IfSome, IfNone, None};
-ghost use Rattle.study_board.specs.Position.{Position as Seen};
+ghost use Rattle.std.specs.List.{All};
+ghost use Rattle.study_board.specs.Position.{Position as Seen, in_order};
 ghost use Rattle.study_material.specs.Class.{lists_of};
 ghost use Rattle.study_index.specs.Number.{places, cells_of};
 ghost use Rattle.study_index.specs.Found.{position_at};
@@ -9,7 +10,8 @@ ghost use Rattle.study_board.specs.Men.{other_side};
 
 use crate::least::least_of;
 use crate::passing::{behind, is_live};
-use study_board::{Kind, Man, Position, Side, Square};
+use arrayvec::ArrayVec;
+use study_board::{Kind, Man, Position, Side, Square, first_fault, place};
 use study_material::Class;
 
 /// What man fills a place in the order of a class.
@@ -97,15 +99,33 @@ fn side_of(n: u32) -> Side
     if n == 0 { Side::White } else { Side::Black }
 }
 
+/// The men in ascending order of their squares.
+#[inline(always)]
+fn in_order(men: &[Man]) -> ArrayVec<Man, 4>
+    requires { length men.now ≤ 4 }
+    ensures value { result.items ≡ in_order men.now }
+    ensures on_board { All (λ m. m.at < 64) result.items }
+{
+    let mut list = ArrayVec::new();
+    for m in men {
+        place(&mut list, *m);
+    }
+    list
+}
+
 /// The position of these men, if they are one.
+#[inline(always)]
 fn placed(men: &[Man], to_move: Side, passed: Option<Square>) -> Option<Position>
     ensures some { IfSome result (λ q. IsPlaced men.now to_move passed q) }
     ensures none { IfNone result (IsFaulty men.now to_move passed) }
 {
-    match Position::new(men, to_move, passed) {
-        Ok(q) => Some(q),
-        Err(_) => None,
+    let square = passed;
+    if let Some(_) = first_fault(men, to_move, square) {
+        return None;
     }
+    let list = in_order(men);
+    let position = Position::of(list, to_move, passed);
+    Some(position)
 }
 
 /// The position of these men, if they are one, the square behind the pawn of the side that is not to move being passed.
@@ -123,7 +143,7 @@ fn placed_behind(men: &[Man], to_move: Side) -> Option<Position>
 }
 
 // Whether `n` is the least number of these men, who stand in the order of their slots.
-#[inline]
+#[inline(always)]
 fn is_least(pawns: bool, to_move: Side, n: u32, men: &[Man]) -> bool
     requires { length men.now ≤ 4 }
     ensures { IsTrue result ↔ HasLeast pawns to_move n men.now }
@@ -135,7 +155,7 @@ fn is_least(pawns: bool, to_move: Side, n: u32, men: &[Man]) -> bool
 }
 
 /// The position of these men, if they are one and `n` is their least number.
-#[inline]
+#[inline(always)]
 fn numbered(pawns: bool, to_move: Side, n: u32, passed: bool, men: &[Man]) -> Option<Position>
     requires { length men.now ≤ 4 }
     ensures some { IfSome result (λ q. IsPlaced men.now to_move (passed_behind passed to_move men.now) q × HasLeast pawns to_move n men.now) }
@@ -152,6 +172,7 @@ fn numbered(pawns: bool, to_move: Side, n: u32, passed: bool, men: &[Man]) -> Op
 
 /// The position of the men and the side that the number tells, if they are one and the number is their least, with a
 /// passed square or without.
+#[inline(always)]
 fn read_off(slots: &[Slot], n: u32, passed: bool) -> Option<Position>
     requires { AreSlots slots.now }
     ensures some { IfSome result (λ q. IsPlaced (told_men slots.now n) (told_side slots.now n) (passed_behind passed (told_side slots.now n) (told_men slots.now n)) q × HasLeast (slots_have_pawn slots.now) (told_side slots.now n) n (told_men slots.now n)) }
@@ -200,7 +221,7 @@ pub fn cells(class: Class) -> u32
 }
 
 /// The position of a number without the bit.
-#[inline]
+#[inline(always)]
 fn read_plain(class: Class, n: u32) -> Option<Position>
     requires cell { n < cells_of class }
     requires plain { n < 16777216 }

@@ -12,6 +12,7 @@ mod files;
 mod numbers;
 mod probes;
 mod samples;
+mod studies;
 mod timed;
 
 use std::io;
@@ -42,8 +43,9 @@ fn measure(rt: HostRuntime, what: &str, name: Option<&str>) -> io::Result<()> {
         "numbers" => numbers::measure(rt),
         "files" => files::measure(rt),
         "probes" => probes::measure(rt),
+        "studies" => studies::measure(rt),
         "tables" => measure_tables(rt, name.unwrap_or("KPK")),
-        _ => println!(rt; "calls, numbers, files, probes, all, or tables and a class"),
+        _ => println!(rt; "calls, numbers, files, probes, studies, all, or tables and a class"),
     }
 }
 
