@@ -5,11 +5,11 @@ mod picture;
 mod random;
 mod refused;
 
-use study_marks::{Bench, Edit, Goal, Mark, MateMoves, MoveMark, Refusal, Stipulation, TagName};
 use std::alloc::{Allocator, Global};
 use std::process::Abort;
 use study_board::{Position, Side, Square};
 use study_index::cells;
+use study_marks::{Bench, Edit, Goal, Mark, MateMoves, MoveMark, Refusal, Stipulation, TagName};
 use study_material::Class;
 use study_moves::Move;
 use study_notation::{Start, read_fen, read_san};

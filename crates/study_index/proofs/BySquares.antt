@@ -7,7 +7,7 @@ use Rattle.study_board.specs.declared.symmetry.Symmetry.{Symmetry}
 use Rattle.study_board.specs.Geometry.{file_of, rank_of}
 use Rattle.study_board.specs.Images.{differ}
 use Rattle.study_board.specs.Symmetry.{turned_square, turned_man, mirrored}
-use Rattle.study_index.specs.Filling.{slot}
+use Rattle.study_index.specs.Filling.{man_slot_number}
 use Rattle.study_index.specs.Found.{put, sorted}
 use Rattle.study_index.specs.Number.{place, places, side_number, counted_on, number}
 use Rattle.study_index.specs.Chosen.{chosen, exchanged, are_like, falls, turned_number, least, least_by, least_of}
@@ -129,7 +129,7 @@ least_of_squares false to_move c (k ∷ ms) h =
     two_least _ _ _ _ (least_by_squares false to_move (brought false false c k.at) (chosen false false c k.at) (brought_so false false c k.at) (k ∷ ms) h)
     (least_by_squares false to_move (brought false true c k.at) (chosen false true c k.at) (brought_so false true c k.at) (k ∷ ms) h)
 
-key-slot : (c : Bool) (m : Man) → m.at < 64 → key c m / 64 ≡ slot c m
+key-slot : (c : Bool) (m : Man) → m.at < 64 → key c m / 64 ≡ man_slot_number c m
 unfolding key
 key-slot c m l = omega arith
 
@@ -141,7 +141,7 @@ AreOnBoard-put : (c : Bool) (m : Man) (xs : List Man) → m.at < 64 → AreOnBoa
 unfolding put
 AreOnBoard-put c m [] l h = (l, tt)
 AreOnBoard-put c m (x ∷ xs) l h =
-    elim (nat_le (slot c x) (slot c m)) as (λ b. AreOnBoard (cond b (x ∷ put c m xs) (m ∷ x ∷ xs)))
+    elim (nat_le (man_slot_number c x) (man_slot_number c m)) as (λ b. AreOnBoard (cond b (x ∷ put c m xs) (m ∷ x ∷ xs)))
     [ true ↦ (h.0, AreOnBoard-put c m xs l h.1) | false ↦ (l, h) ]
 
 AreOnBoard-sorted : (c : Bool) (ms : List Man) → AreOnBoard ms → AreOnBoard (sorted c ms)
@@ -153,7 +153,7 @@ unfolding put put_key
 keys-put c m [] l h = refl
 keys-put c m (x ∷ xs) l h =
     rw (key-slot c x h.0, key-slot c m l)
-    elim (nat_le (slot c x) (slot c m))
+    elim (nat_le (man_slot_number c x) (man_slot_number c m))
     as (λ b. cond b (key c x ∷ put_key (key c m) (map (key c) xs)) (key c m ∷ key c x ∷ map (key c) xs) ≡ map (key c) (cond b (x ∷ put c m xs) (m ∷ x ∷ xs))) [
       | true ↦ ap (λ ks. key c x ∷ ks) (keys-put c m xs l h.1)
       | false ↦ refl

@@ -14,7 +14,7 @@ use Rattle.study_board.specs.Men.{is_man, same_side, same_kind}
 use Rattle.study_board.specs.Position.{Position, IsValid, AllAbove, IsAscending, has_one_king}
 use Rattle.study_board.proofs.Lists.{count_by-cons}
 use Rattle.study_board.proofs.Valid.{IsFaultless-from_first}
-use Rattle.study_index.specs.Filling.{slot_of, slot, NoneBefore, IsInSlots, IsFilling}
+use Rattle.study_index.specs.Filling.{slot_number, man_slot_number, NoneBefore, IsInSlots, IsFilling}
 use Rattle.study_board.specs.Symmetry.{turned_side}
 use Rattle.study_index.specs.Chosen.{exchanged, are_like}
 
@@ -73,14 +73,14 @@ AreApart-ascending (x ∷ xs) h s =
 
 -- how many men of a slot
 abbrev pub in_slot : Bool → ℕ → List Man → ℕ
-in_slot c k xs = count_by (λ m. slot c m == k) xs
+in_slot c k xs = count_by (λ m. man_slot_number c m == k) xs
 
 module _ (c : Bool) where
   none_in : (n k : ℕ) (xs : List Man) → NoneBefore c n xs → k < n → in_slot c k xs ≡ 0
   none_in n k [] h l = refl
   none_in n k (x ∷ xs) h l =
-      let other : eqb (slot c x) k ≡ false = (let a = h.0 in grind (arith, nat_tests)) in
-      count_by-cons (λ m. slot c m == k) x xs ∙ rw (other, zero-add) (none_in n k xs h.1 l)
+      let other : eqb (man_slot_number c x) k ≡ false = (let a = h.0 in grind (arith, nat_tests)) in
+      count_by-cons (λ m. man_slot_number c m == k) x xs ∙ rw (other, zero-add) (none_in n k xs h.1 l)
 
   pub NoneBefore-less : (a b : ℕ) (xs : List Man) → a ≤ b → NoneBefore c b xs → NoneBefore c a xs
   NoneBefore-less a b [] le h = tt
@@ -89,27 +89,27 @@ module _ (c : Bool) where
   none_more : (k : ℕ) (xs : List Man) → NoneBefore c k xs → in_slot c k xs ≡ 0 → NoneBefore c (k + 1) xs
   none_more k [] h e = tt
   none_more k (x ∷ xs) h e =
-      let d = sym (count_by-cons (λ m. slot c m == k) x xs) ∙ e in
-      let go : (b : Bool) → eqb (slot c x) k ≡ b → cond b 1 0 + in_slot c k xs ≡ 0 → (k + 1 ≤ slot c x) × (in_slot c k xs ≡ 0) =
-      λ b. elim b as (λ v. eqb (slot c x) k ≡ v → cond v 1 0 + in_slot c k xs ≡ 0 → (k + 1 ≤ slot c x) × (in_slot c k xs ≡ 0))
+      let d = sym (count_by-cons (λ m. man_slot_number c m == k) x xs) ∙ e in
+      let go : (b : Bool) → eqb (man_slot_number c x) k ≡ b → cond b 1 0 + in_slot c k xs ≡ 0 → (k + 1 ≤ man_slot_number c x) × (in_slot c k xs ≡ 0) =
+      λ b. elim b as (λ v. eqb (man_slot_number c x) k ≡ v → cond v 1 0 + in_slot c k xs ≡ 0 → (k + 1 ≤ man_slot_number c x) × (in_slot c k xs ≡ 0))
       [ true ↦ λ _ z. absurd (omega arith) | false ↦ λ t z. ((let a = h.0 in grind (arith, nat_tests)), omega arith) ] in
-      let r = go (eqb (slot c x) k) refl d in
+      let r = go (eqb (man_slot_number c x) k) refl d in
       (r.0, none_more k xs h.1 r.1)
 
   -- the first man, where just one is of the first slot
-  pub first_is : (k : ℕ) (x : Man) (xs : List Man) → IsInSlots c (x ∷ xs) → NoneBefore c k (x ∷ xs) → in_slot c k (x ∷ xs) ≡ 1 → (slot c x ≡ k) × NoneBefore c (k + 1) xs
+  pub first_is : (k : ℕ) (x : Man) (xs : List Man) → IsInSlots c (x ∷ xs) → NoneBefore c k (x ∷ xs) → in_slot c k (x ∷ xs) ≡ 1 → (man_slot_number c x ≡ k) × NoneBefore c (k + 1) xs
   first_is k x xs h n e =
-      let d = sym (count_by-cons (λ m. slot c m == k) x xs) ∙ e in
-      let go : (b : Bool) → eqb (slot c x) k ≡ b → cond b 1 0 + in_slot c k xs ≡ 1 → (slot c x ≡ k) × NoneBefore c (k + 1) xs =
-      λ b. elim b as (λ v. eqb (slot c x) k ≡ v → cond v 1 0 + in_slot c k xs ≡ 1 → (slot c x ≡ k) × NoneBefore c (k + 1) xs) [
+      let d = sym (count_by-cons (λ m. man_slot_number c m == k) x xs) ∙ e in
+      let go : (b : Bool) → eqb (man_slot_number c x) k ≡ b → cond b 1 0 + in_slot c k xs ≡ 1 → (man_slot_number c x ≡ k) × NoneBefore c (k + 1) xs =
+      λ b. elim b as (λ v. eqb (man_slot_number c x) k ≡ v → cond v 1 0 + in_slot c k xs ≡ 1 → (man_slot_number c x ≡ k) × NoneBefore c (k + 1) xs) [
         | true ↦ λ t z. ((grind (arith, nat_tests)), none_more k xs n.1 (omega arith))
         | false ↦ λ t z.
-            let above : k < slot c x = (let a = n.0 in grind (arith, nat_tests)) in
-            absurd (omega (arith, none_in (slot c x) k xs h.0 above))
+            let above : k < man_slot_number c x = (let a = n.0 in grind (arith, nat_tests)) in
+            absurd (omega (arith, none_in (man_slot_number c x) k xs h.0 above))
       ]
-      in go (eqb (slot c x) k) refl d
+      in go (eqb (man_slot_number c x) k) refl d
 
-  In-NoneBefore : (n : ℕ) (z : Man) (xs : List Man) → NoneBefore c n xs → In z xs → n ≤ slot c z
+  In-NoneBefore : (n : ℕ) (z : Man) (xs : List Man) → NoneBefore c n xs → In z xs → n ≤ man_slot_number c z
   In-NoneBefore n z [] h i = absurd i
   In-NoneBefore n z (x ∷ xs) h (inl e) = rw e h.0
   In-NoneBefore n z (x ∷ xs) h (inr i) = In-NoneBefore n z xs h.1 i
@@ -137,7 +137,7 @@ IsSame-tail x xs ys h = record {
 }
 
 -- both begin with the one man of the first slot
-pub same_first : (c : Bool) (k : ℕ) (x y : Man) (xs ys : List Man) → slot c x ≡ k → slot c y ≡ k → NoneBefore c (k + 1) ys → IsSame (x ∷ xs) (y ∷ ys) → x ≡ y
+pub same_first : (c : Bool) (k : ℕ) (x y : Man) (xs ys : List Man) → man_slot_number c x ≡ k → man_slot_number c y ≡ k → NoneBefore c (k + 1) ys → IsSame (x ∷ xs) (y ∷ ys) → x ≡ y
 same_first c k x y xs ys e d n h =
     elim (h.to x (inl refl)) [ inl s ↦ s | inr i ↦ absurd (let b = In-NoneBefore c (k + 1) x ys n i in omega arith) ]
 
@@ -189,7 +189,7 @@ pub record IsMaterial (c : Bool) (men : List Man) : Type 0 where
   pub second : in_slot c 1 men ≡ 1
 
 in_slot-permutation : (c : Bool) (k : ℕ) (xs ys : List Man) → IsPermutation xs ys → in_slot c k ys ≡ in_slot c k xs
-in_slot-permutation c k xs ys p = sum_by-IsPermutation (λ m. cond (slot c m == k) 1 0) xs ys p
+in_slot-permutation c k xs ys p = sum_by-IsPermutation (λ m. cond (man_slot_number c m == k) 1 0) xs ys p
 
 NoneBefore-zero : (c : Bool) (xs : List Man) → NoneBefore c 0 xs
 NoneBefore-zero c [] = tt
@@ -201,8 +201,8 @@ pub record HasKings (c : Bool) (xs : List Man) : Type 0 where
   pub black : Man
   pub rest : List Man
   pub is : xs ≡ white ∷ black ∷ rest
-  pub white_slot : slot c white ≡ 0
-  pub black_slot : slot c black ≡ 1
+  pub white_slot : man_slot_number c white ≡ 0
+  pub black_slot : man_slot_number c black ≡ 1
   pub after_white : NoneBefore c 1 (black ∷ rest)
   pub after_black : NoneBefore c 2 rest
   pub in_slots : IsInSlots c rest
@@ -211,12 +211,12 @@ kings_of : (c : Bool) (xs : List Man) → IsInSlots c xs → in_slot c 0 xs ≡ 
 kings_of c [] h f s = absurd (omega arith)
 kings_of c (a ∷ xs) h f s =
     let one = first_is c 0 a xs h (NoneBefore-zero c (a ∷ xs)) f in
-    let other : eqb (slot c a) 1 ≡ false = (let e = one.0 in grind (arith, nat_tests)) in
-    let split : in_slot c 1 (a ∷ xs) ≡ in_slot c 1 xs = count_by-cons (λ m. slot c m == 1) a xs ∙ rw (other, zero-add) refl in
+    let other : eqb (man_slot_number c a) 1 ≡ false = (let e = one.0 in grind (arith, nat_tests)) in
+    let split : in_slot c 1 (a ∷ xs) ≡ in_slot c 1 xs = count_by-cons (λ m. man_slot_number c m == 1) a xs ∙ rw (other, zero-add) refl in
     let left : in_slot c 1 xs ≡ 1 = sym split ∙ s in
     kings_rest c a xs h one.0 one.1 left
   where
-    kings_rest : (c : Bool) (a : Man) (xs : List Man) → IsInSlots c (a ∷ xs) → slot c a ≡ 0 → NoneBefore c 1 xs → in_slot c 1 xs ≡ 1 → HasKings c (a ∷ xs)
+    kings_rest : (c : Bool) (a : Man) (xs : List Man) → IsInSlots c (a ∷ xs) → man_slot_number c a ≡ 0 → NoneBefore c 1 xs → in_slot c 1 xs ≡ 1 → HasKings c (a ∷ xs)
     kings_rest c a [] h e n s = absurd (omega arith)
     kings_rest c a (b ∷ xs) h e n s =
         let two = first_is c 1 b xs h.1 n s in
@@ -241,7 +241,7 @@ fillings_of c men xs ys m f g =
       | inr (a, b, r, r') ↦
           let sorted : IsInSlots c (a ∷ b ∷ []) = subst (λ zs. IsInSlots c zs) r k.in_slots in
           let sorted' : IsInSlots c (b ∷ a ∷ []) = subst (λ zs. IsInSlots c zs) r' l.in_slots in
-          let alike : eqb (slot c a) (slot c b) ≡ true = (let p = sorted.0.0 in let q = sorted'.0.0 in grind (arith, nat_tests)) in
+          let alike : eqb (man_slot_number c a) (man_slot_number c b) ≡ true = (let p = sorted.0.0 in let q = sorted'.0.0 in grind (arith, nat_tests)) in
           let whole : xs ≡ k.white ∷ k.black ∷ a ∷ b ∷ [] = k.is ∙ rw r refl in
           let whole' : ys ≡ k.white ∷ k.black ∷ b ∷ a ∷ [] = l.is ∙ rw (← e, ← d, r') refl in
           inr (rw whole alike, rw whole whole')
@@ -252,7 +252,7 @@ count_by-same p q h [] = refl
 count_by-same p q h (x ∷ xs) =
     count_by-cons p x xs ∙ rw (h x, count_by-same p q h xs) (sym (count_by-cons q x xs))
 
-first_slot : (c : Bool) (side : Side) (kind : Kind) → eqb (slot_of (turned_side c side) kind) 0 ≡ (same_side side (turned_side c White) && same_kind kind King)
+first_slot : (c : Bool) (side : Side) (kind : Kind) → eqb (slot_number (turned_side c side) kind) 0 ≡ (same_side side (turned_side c White) && same_kind kind King)
 first_slot true White King = refl
 first_slot true White Queen = refl
 first_slot true White Rook = refl
@@ -278,7 +278,7 @@ first_slot false Black Bishop = refl
 first_slot false Black Knight = refl
 first_slot false Black Pawn = refl
 
-second_slot : (c : Bool) (side : Side) (kind : Kind) → eqb (slot_of (turned_side c side) kind) 1 ≡ (same_side side (turned_side c Black) && same_kind kind King)
+second_slot : (c : Bool) (side : Side) (kind : Kind) → eqb (slot_number (turned_side c side) kind) 1 ≡ (same_side side (turned_side c Black) && same_kind kind King)
 second_slot true White King = refl
 second_slot true White Queen = refl
 second_slot true White Rook = refl
@@ -318,14 +318,14 @@ some_king men e Black = (both _ _ e).1
 
 -- the men of a valid position
 pub IsMaterial-from_valid : (c : Bool) (p : Position) → IsValid p → IsMaterial c p.men
-unfolding slot
+unfolding man_slot_number
 IsMaterial-from_valid c p v =
     let f = IsFaultless-from_first p.men p.to_move p.passed v.faultless in
     record {
       few = omega (arith, ltb-false _ _ f.few);
       apart = AreApart-ascending p.men v.ordered;
-      first = count_by-same (λ m. slot c m == 0) (is_man (turned_side c White) King) (λ m. first_slot c m.side m.kind) p.men ∙ one_king p.men (turned_side c White) (some_king p.men f.kings (turned_side c White));
-      second = count_by-same (λ m. slot c m == 1) (is_man (turned_side c Black) King) (λ m. second_slot c m.side m.kind) p.men ∙ one_king p.men (turned_side c Black) (some_king p.men f.kings (turned_side c Black));
+      first = count_by-same (λ m. man_slot_number c m == 0) (is_man (turned_side c White) King) (λ m. first_slot c m.side m.kind) p.men ∙ one_king p.men (turned_side c White) (some_king p.men f.kings (turned_side c White));
+      second = count_by-same (λ m. man_slot_number c m == 1) (is_man (turned_side c Black) King) (λ m. second_slot c m.side m.kind) p.men ∙ one_king p.men (turned_side c Black) (some_king p.men f.kings (turned_side c Black));
     }
 
 -- like men exchanged fill the same slots
@@ -334,7 +334,7 @@ swap_tail x y = IsPermutation-append_comm (x ∷ []) (y ∷ [])
 
 pub exchanged-fills : (c : Bool) (men xs : List Man) → are_like c xs ≡ true → IsFilling c men xs → IsFilling c men (exchanged xs)
 exchanged-fills c men (a ∷ b ∷ x ∷ y ∷ []) e f =
-    let d : slot c x ≡ slot c y = grind (arith, nat_tests) in
+    let d : man_slot_number c x ≡ man_slot_number c y = grind (arith, nat_tests) in
     let s = f.in_slots in
     record {
       each_once = IsPermutation-trans men (a ∷ b ∷ x ∷ y ∷ []) (a ∷ b ∷ y ∷ x ∷ []) f.each_once (IsPermutation-cons a _ _ (IsPermutation-cons b _ _ (swap_tail x y)));

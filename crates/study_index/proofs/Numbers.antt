@@ -12,7 +12,7 @@ use Rattle.study_board.specs.Position.{Position, IsValid}
 use Rattle.study_board.specs.Symmetry.{turned_side, turned_man}
 use Rattle.study_material.specs.Lists.{is_swapped}
 use Rattle.study_material.proofs.Images.{IsPermutation-turned}
-use Rattle.study_index.specs.Filling.{slot, NoneBefore, IsInSlots, IsFilling}
+use Rattle.study_index.specs.Filling.{man_slot_number, NoneBefore, IsInSlots, IsFilling}
 use Rattle.study_index.specs.Number.{has_pawn, number, IsNumber, IsLeastNumber}
 use Rattle.study_index.specs.Chosen.{turned_number, least_of}
 use Rattle.study_index.specs.Found.{sorted}
@@ -44,24 +44,24 @@ module _ {X Y : Type 0} (f : X → Y) where
   )
 
 pub NoneBefore-turned : (t : Symmetry) (n : ℕ) (xs : List Man) → NoneBefore false n (map (turned_man t) xs) → NoneBefore t.colours n xs
-unfolding slot
+unfolding man_slot_number
 NoneBefore-turned t n [] h = tt
 NoneBefore-turned t n (x ∷ xs) h = (h.0, NoneBefore-turned t n xs h.1)
 
 pub IsInSlots-turned : (t : Symmetry) (xs : List Man) → IsInSlots false (map (turned_man t) xs) → IsInSlots t.colours xs
-unfolding slot
+unfolding man_slot_number
 IsInSlots-turned t [] h = tt
-IsInSlots-turned t (x ∷ xs) h = (NoneBefore-turned t (slot t.colours x) xs h.0, IsInSlots-turned t xs h.1)
+IsInSlots-turned t (x ∷ xs) h = (NoneBefore-turned t (man_slot_number t.colours x) xs h.0, IsInSlots-turned t xs h.1)
 
 pub NoneBefore-map : (t : Symmetry) (n : ℕ) (xs : List Man) → NoneBefore t.colours n xs → NoneBefore false n (map (turned_man t) xs)
-unfolding slot
+unfolding man_slot_number
 NoneBefore-map t n [] h = tt
 NoneBefore-map t n (x ∷ xs) h = (h.0, NoneBefore-map t n xs h.1)
 
 pub IsInSlots-map : (t : Symmetry) (xs : List Man) → IsInSlots t.colours xs → IsInSlots false (map (turned_man t) xs)
-unfolding slot
+unfolding man_slot_number
 IsInSlots-map t [] h = tt
-IsInSlots-map t (x ∷ xs) h = (NoneBefore-map t (slot t.colours x) xs h.0, IsInSlots-map t xs h.1)
+IsInSlots-map t (x ∷ xs) h = (NoneBefore-map t (man_slot_number t.colours x) xs h.0, IsInSlots-map t xs h.1)
 
 pub IsNumberOf-from : (p : Position) (n : ℕ) → IsNumber p n → IsNumberOf (is_swapped p.men) p n
 unfolding turned_number

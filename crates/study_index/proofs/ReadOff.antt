@@ -18,9 +18,9 @@ use Rattle.study_index.proofs.Order.{ascending_same}
 use Rattle.study_board.proofs.Faults.{first_fault_same}
 use Rattle.study_moves.specs.Bare.{is_live}
 use Rattle.study_index.specs.declared.reading.Slot.{Slot}
-use Rattle.study_index.specs.Filling.{IsInSlots, slot}
+use Rattle.study_index.specs.Filling.{IsInSlots, man_slot_number}
 use Rattle.study_index.specs.Number.{place, places, number, has_pawn, counted_on, side_number, with_bit, has_bit, without_bit, IsLeastNumber, IsIndex}
-use Rattle.study_index.specs.Decoded.{filled, IsDecodedAt, AreSlots, listed, slots_have_pawn, man, head, men_of, side_of, told_men, told_side, passed_behind, is_cell, IsPlaced, IsFaulty}
+use Rattle.study_index.specs.Decoded.{slot_filled, IsDecodedAt, AreSlots, listed, slots_have_pawn, man, head, men_of, side_of, told_men, told_side, passed_behind, is_cell, IsPlaced, IsFaulty}
 use Rattle.study_index.proofs.Symmetries.{all_below, at_below}
 
 -- an option is this number
@@ -80,11 +80,11 @@ head_parts false Black q h l e = (omega arith, (let z : h / 10 ≡ 1 = omega ari
 
 -- what is read off the number of men
 pub record IsRead (pawns : Bool) (side : Side) (fs : List Man) (n : ℕ) : Type 0 where
-  pub men : fs ≡ men_of pawns (map filled fs) n
-  pub side_is : side ≡ side_of (head (map filled fs) n / places pawns)
-  pub cell : nat_lt (head (map filled fs) n / places pawns) 2 ≡ true
+  pub men : fs ≡ men_of pawns (map slot_filled fs) n
+  pub side_is : side ≡ side_of (head (map slot_filled fs) n / places pawns)
+  pub cell : nat_lt (head (map slot_filled fs) n / places pawns) 2 ≡ true
 
-pub IsRead-number : (pawns : Bool) (side : Side) (fs : List Man) (n : ℕ) → AreSlots (map filled fs) → All (λ m. m.at < 64) fs → number pawns side fs ≡ Some n → IsRead pawns side fs n
+pub IsRead-number : (pawns : Bool) (side : Side) (fs : List Man) (n : ℕ) → AreSlots (map slot_filled fs) → All (λ m. m.at < 64) fs → number pawns side fs ≡ Some n → IsRead pawns side fs n
 IsRead-number pawns side (k ∷ b ∷ []) n a all e =
     let p = number-parts pawns side k (b ∷ []) n e in
     let lk = all 0 k (omega arith) in let lb = all 1 b (omega arith) in
@@ -98,7 +98,7 @@ IsRead-number pawns side (k ∷ b ∷ []) n a all e =
       cell = r.2;
     }
   where
-    two : (k b : Man) (x y : ℕ) → x ≡ k.at → y ≡ b.at → man (filled k) x ∷ man (filled b) y ∷ [] ≡ k ∷ b ∷ []
+    two : (k b : Man) (x y : ℕ) → x ≡ k.at → y ≡ b.at → man (slot_filled k) x ∷ man (slot_filled b) y ∷ [] ≡ k ∷ b ∷ []
     two k b x y e f = rw (e, f) refl
 IsRead-number pawns side (k ∷ b ∷ x ∷ []) n a all e =
     let p = number-parts pawns side k (b ∷ x ∷ []) n e in
@@ -116,7 +116,7 @@ IsRead-number pawns side (k ∷ b ∷ x ∷ []) n a all e =
       cell = r.2;
     }
   where
-    three : (k b c : Man) (x y z : ℕ) → x ≡ k.at → y ≡ b.at → z ≡ c.at → man (filled k) x ∷ man (filled b) y ∷ man (filled c) z ∷ [] ≡ k ∷ b ∷ c ∷ []
+    three : (k b c : Man) (x y z : ℕ) → x ≡ k.at → y ≡ b.at → z ≡ c.at → man (slot_filled k) x ∷ man (slot_filled b) y ∷ man (slot_filled c) z ∷ [] ≡ k ∷ b ∷ c ∷ []
     three k b c x y z e f g = rw (e, f, g) refl
 IsRead-number pawns side (k ∷ b ∷ x ∷ y ∷ []) n a all e =
     let p = number-parts pawns side k (b ∷ x ∷ y ∷ []) n e in
@@ -136,7 +136,7 @@ IsRead-number pawns side (k ∷ b ∷ x ∷ y ∷ []) n a all e =
       cell = r.2;
     }
   where
-    four : (k b c d : Man) (x y z w : ℕ) → x ≡ k.at → y ≡ b.at → z ≡ c.at → w ≡ d.at → man (filled k) x ∷ man (filled b) y ∷ man (filled c) z ∷ man (filled d) w ∷ [] ≡ k ∷ b ∷ c ∷ d ∷ []
+    four : (k b c d : Man) (x y z w : ℕ) → x ≡ k.at → y ≡ b.at → z ≡ c.at → w ≡ d.at → man (slot_filled k) x ∷ man (slot_filled b) y ∷ man (slot_filled c) z ∷ man (slot_filled d) w ∷ [] ≡ k ∷ b ∷ c ∷ d ∷ []
     four k b c d x y z w e f g h = rw (e, f, g, h) refl
 IsRead-number pawns side [] n a all e = absurd a
 IsRead-number pawns side (k ∷ []) n a all e = absurd a
@@ -171,7 +171,7 @@ number-men_of pawns [] n a c = absurd a
 number-men_of pawns (k ∷ []) n a c = absurd a
 number-men_of pawns (k ∷ b ∷ x ∷ y ∷ z ∷ fs) n a c = absurd a
 
-pub filled-men_of : (pawns : Bool) (slots : List Slot) (n : ℕ) → AreSlots slots → map filled (men_of pawns slots n) ≡ slots
+pub filled-men_of : (pawns : Bool) (slots : List Slot) (n : ℕ) → AreSlots slots → map slot_filled (men_of pawns slots n) ≡ slots
 filled-men_of pawns (k ∷ b ∷ []) n a = refl
 filled-men_of pawns (k ∷ b ∷ x ∷ []) n a = refl
 filled-men_of pawns (k ∷ b ∷ x ∷ y ∷ []) n a = refl
@@ -180,7 +180,7 @@ filled-men_of pawns (k ∷ []) n a = absurd a
 filled-men_of pawns (k ∷ b ∷ x ∷ y ∷ z ∷ fs) n a = absurd a
 
 pub IsInSlots-men_of : (pawns : Bool) (slots : List Slot) (n : ℕ) → AreSlots slots → IsInSlots false (men_of pawns slots n)
-unfolding slot
+unfolding man_slot_number
 IsInSlots-men_of pawns (k ∷ b ∷ []) n a = (((let e = a.0 in omega arith), tt), (tt, tt))
 IsInSlots-men_of pawns (k ∷ b ∷ x ∷ []) n a = (((let e = a.0 in omega arith), ((let e = a.0 in omega arith), tt)), (((let e = a in omega arith), tt), (tt, tt)))
 IsInSlots-men_of pawns (k ∷ b ∷ x ∷ y ∷ []) n a =
@@ -189,11 +189,11 @@ IsInSlots-men_of pawns [] n a = absurd a
 IsInSlots-men_of pawns (k ∷ []) n a = absurd a
 IsInSlots-men_of pawns (k ∷ b ∷ x ∷ y ∷ z ∷ fs) n a = absurd a
 
-pawn_in_slots : (fs : List Man) → list_any (λ m. same_kind m.kind Pawn) fs ≡ slots_have_pawn (map filled fs)
+pawn_in_slots : (fs : List Man) → list_any (λ m. same_kind m.kind Pawn) fs ≡ slots_have_pawn (map slot_filled fs)
 pawn_in_slots [] = refl
 pawn_in_slots (x ∷ xs) = rw (pawn_in_slots xs) refl
 
-pub has_pawn-slots : (men fs : List Man) (slots : List Slot) → IsPermutation men fs → map filled fs ≡ slots → has_pawn men ≡ slots_have_pawn slots
+pub has_pawn-slots : (men fs : List Man) (slots : List Slot) → IsPermutation men fs → map slot_filled fs ≡ slots → has_pawn men ≡ slots_have_pawn slots
 has_pawn-slots men fs slots p e = list_any-IsPermutation (λ m. same_kind m.kind Pawn) men fs p ∙ pawn_in_slots fs ∙ ap (λ s. slots_have_pawn s) e
 
 pub IsLeastNumber-unique : (p : Position) (m n : ℕ) → IsLeastNumber p m → IsLeastNumber p n → m ≡ n
@@ -214,7 +214,7 @@ IsOfMen-decoded slots n q a d =
     let f = d.read_off.filling in
     let b = without_bit n in
     let p = has_pawn-slots q.men f slots d.read_off.fills.each_once d.read_off.slots_are in
-    let a' : AreSlots (map filled f) = subst (λ s. AreSlots s) (sym d.read_off.slots_are) a in
+    let a' : AreSlots (map slot_filled f) = subst (λ s. AreSlots s) (sym d.read_off.slots_are) a in
     let r = IsRead-number (slots_have_pawn slots) q.to_move f b a' (All-permutation (λ m. m.at < 64) q.men f d.read_off.fills.each_once d.valid.on_board) (subst (λ h. number h q.to_move f ≡ Some b) p d.read_off.is) in
     let men : f ≡ told_men slots b = subst (λ s. f ≡ men_of (slots_have_pawn slots) s b) d.read_off.slots_are r.men in
     let move : q.to_move ≡ told_side slots b = subst (λ s. q.to_move ≡ side_of (head s b / places (slots_have_pawn slots))) d.read_off.slots_are r.side_is in

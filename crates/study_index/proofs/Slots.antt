@@ -5,41 +5,41 @@ use Rattle.std.specs.List.Sorted.{IsPermutation}
 use Rattle.std.proofs.lemmas.List.Sorted.{IsPermutation-insert, IsPermutation-cons, IsPermutation-trans, IsPermutation-refl}
 use Rattle.std.proofs.lemmas.Bool.Decides.{nat_tests}
 use Rattle.study_board.specs.declared.men.Man.{Man}
-use Rattle.study_index.specs.Filling.{slot, NoneBefore, IsInSlots, IsFilling}
+use Rattle.study_index.specs.Filling.{man_slot_number, NoneBefore, IsInSlots, IsFilling}
 use Rattle.study_index.specs.Found.{put, sorted}
 use Rattle.study_index.proofs.Fillings.{NoneBefore-less}
 
 -- how many men it is put after
 abbrev pub before : Bool → Man → List Man → ℕ
-before c m xs = prefix_len (λ x. nat_le (slot c x) (slot c m)) xs
+before c m xs = prefix_len (λ x. nat_le (man_slot_number c x) (man_slot_number c m)) xs
 
 insert-put : (c : Bool) (m : Man) (xs : List Man) → insert xs (before c m xs) m ≡ put c m xs
 unfolding put
 insert-put c m [] = refl
 insert-put c m (x ∷ xs) =
-    elim (nat_le (slot c x) (slot c m))
+    elim (nat_le (man_slot_number c x) (man_slot_number c m))
     as (λ b. take (cond b (1 + before c m xs) 0) (x ∷ xs) ++ m ∷ drop (cond b (1 + before c m xs) 0) (x ∷ xs) ≡ cond b (x ∷ put c m xs) (m ∷ x ∷ xs)) [
       | true ↦ let e : 1 + before c m xs ≡ suc (before c m xs) = omega arith in rw e (ap (λ l. x ∷ l) (insert-put c m xs))
       | false ↦ refl
     ]
 
-NoneBefore-put : (c : Bool) (n : ℕ) (m : Man) (xs : List Man) → n ≤ slot c m → NoneBefore c n xs → NoneBefore c n (put c m xs)
+NoneBefore-put : (c : Bool) (n : ℕ) (m : Man) (xs : List Man) → n ≤ man_slot_number c m → NoneBefore c n xs → NoneBefore c n (put c m xs)
 unfolding put
 NoneBefore-put c n m [] le h = (le, tt)
 NoneBefore-put c n m (x ∷ xs) le h =
-    elim (nat_le (slot c x) (slot c m)) as (λ b. NoneBefore c n (cond b (x ∷ put c m xs) (m ∷ x ∷ xs)))
+    elim (nat_le (man_slot_number c x) (man_slot_number c m)) as (λ b. NoneBefore c n (cond b (x ∷ put c m xs) (m ∷ x ∷ xs)))
     [ true ↦ (h.0, NoneBefore-put c n m xs le h.1) | false ↦ (le, h) ]
 
 IsInSlots-put : (c : Bool) (m : Man) (xs : List Man) → IsInSlots c xs → IsInSlots c (put c m xs)
 unfolding put
 IsInSlots-put c m [] h = (tt, tt)
 IsInSlots-put c m (x ∷ xs) h =
-    let go : (b : Bool) → nat_le (slot c x) (slot c m) ≡ b → IsInSlots c (cond b (x ∷ put c m xs) (m ∷ x ∷ xs)) =
-    λ b. elim b as (λ v. nat_le (slot c x) (slot c m) ≡ v → IsInSlots c (cond v (x ∷ put c m xs) (m ∷ x ∷ xs))) [
-      | true ↦ λ e. (let le : slot c x ≤ slot c m = grind (arith, nat_tests) in (NoneBefore-put c (slot c x) m xs le h.0, IsInSlots-put c m xs h.1))
-      | false ↦ λ e. (let le : slot c m ≤ slot c x = grind (arith, nat_tests) in ((le, NoneBefore-less c (slot c m) (slot c x) xs le h.0), h))
+    let go : (b : Bool) → nat_le (man_slot_number c x) (man_slot_number c m) ≡ b → IsInSlots c (cond b (x ∷ put c m xs) (m ∷ x ∷ xs)) =
+    λ b. elim b as (λ v. nat_le (man_slot_number c x) (man_slot_number c m) ≡ v → IsInSlots c (cond v (x ∷ put c m xs) (m ∷ x ∷ xs))) [
+      | true ↦ λ e. (let le : man_slot_number c x ≤ man_slot_number c m = grind (arith, nat_tests) in (NoneBefore-put c (man_slot_number c x) m xs le h.0, IsInSlots-put c m xs h.1))
+      | false ↦ λ e. (let le : man_slot_number c m ≤ man_slot_number c x = grind (arith, nat_tests) in ((le, NoneBefore-less c (man_slot_number c m) (man_slot_number c x) xs le h.0), h))
     ]
-    in go (nat_le (slot c x) (slot c m)) refl
+    in go (nat_le (man_slot_number c x) (man_slot_number c m)) refl
 
 IsPermutation-put : (c : Bool) (m : Man) (xs : List Man) → IsPermutation (m ∷ xs) (put c m xs)
 IsPermutation-put c m xs = subst (λ (l : List Man). IsPermutation (m ∷ xs) l) (insert-put c m xs) (IsPermutation-insert xs (before c m xs) m)

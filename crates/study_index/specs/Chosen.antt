@@ -6,7 +6,7 @@ use Rattle.study_board.specs.declared.symmetry.Symmetry.{Symmetry}
 use Rattle.study_board.specs.Geometry.{file_of, rank_of}
 use Rattle.study_board.specs.Symmetry.{turned_square, turned_man}
 use Rattle.study_board.specs.Images.{differ}
-use Rattle.study_index.specs.Filling.{slot}
+use Rattle.study_index.specs.Filling.{man_slot_number}
 use Rattle.study_index.specs.Number.{number}
 
 -- the symmetry that brings a square to a listed one, if any does
@@ -22,7 +22,7 @@ exchanged xs = xs
 
 -- the last two of four men are of one slot
 abbrev pub are_like : Bool → List Man → Bool
-are_like c (a ∷ b ∷ x ∷ y ∷ []) = slot c x == slot c y
+are_like c (a ∷ b ∷ x ∷ y ∷ []) = man_slot_number c x == man_slot_number c y
 are_like c xs = false
 
 -- the lesser of two numbers, of those that there are

@@ -15,12 +15,12 @@ use Rattle.study_material.specs.declared.class.Class.{Class}
 use Rattle.study_material.specs.Class.{lists_of}
 use Rattle.study_index.specs.declared.reading.Slot.{Slot}
 use Rattle.study_index.specs.Chosen.{least_of}
-use Rattle.study_index.specs.Filling.{IsFilling, slot_of}
+use Rattle.study_index.specs.Filling.{IsFilling, slot_number}
 use Rattle.study_index.specs.Number.{number, places, has_pawn, has_bit, without_bit, IsIndex}
 
 -- what slot a man fills
-abbrev pub filled : Man → Slot
-filled m = record { side = m.side; kind = m.kind }
+abbrev pub slot_filled : Man → Slot
+slot_filled m = record { side = m.side; kind = m.kind }
 
 abbrev pub slot_for : Side → Kind → Slot
 slot_for side kind = record { side = side; kind = kind }
@@ -46,7 +46,7 @@ passed_behind false to_move men = None
 pub record IsReadOff (slots : List Slot) (n : ℕ) (q : Position) : Type 0 where
   pub filling : List Man
   pub fills : IsFilling false q.men filling
-  pub slots_are : map filled filling ≡ slots
+  pub slots_are : map slot_filled filling ≡ slots
   pub is : number (has_pawn q.men) q.to_move filling ≡ Some (without_bit n)
   pub passed : q.passed ≡ passed_behind (has_bit n) q.to_move filling
 
@@ -63,13 +63,13 @@ IsDecoded c n q = IsDecodedAt (slots_of c) n q
 -- ---- not part of any public contract: how a number is read
 
 -- slots in order, two to four, the kings first
-abbrev pub number_of : Slot → ℕ
-number_of s = slot_of s.side s.kind
+abbrev pub number_of_slot : Slot → ℕ
+number_of_slot s = slot_number s.side s.kind
 
 abbrev pub AreSlots : List Slot → Type 0
-AreSlots (k ∷ b ∷ []) = (number_of k ≡ 0) × (number_of b ≡ 1)
-AreSlots (k ∷ b ∷ x ∷ []) = (number_of k ≡ 0) × (number_of b ≡ 1) × (1 < number_of x)
-AreSlots (k ∷ b ∷ x ∷ y ∷ []) = (number_of k ≡ 0) × (number_of b ≡ 1) × (1 < number_of x) × (number_of x ≤ number_of y)
+AreSlots (k ∷ b ∷ []) = (number_of_slot k ≡ 0) × (number_of_slot b ≡ 1)
+AreSlots (k ∷ b ∷ x ∷ []) = (number_of_slot k ≡ 0) × (number_of_slot b ≡ 1) × (1 < number_of_slot x)
+AreSlots (k ∷ b ∷ x ∷ y ∷ []) = (number_of_slot k ≡ 0) × (number_of_slot b ≡ 1) × (1 < number_of_slot x) × (number_of_slot x ≤ number_of_slot y)
 AreSlots slots = ⊥
 
 -- the listed square of a place

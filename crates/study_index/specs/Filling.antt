@@ -9,33 +9,33 @@ use Rattle.study_board.specs.declared.men.Man.{Man}
 use Rattle.study_board.specs.Symmetry.{turned_side}
 
 -- the order of the slots: both kings, White's men in list order, Black's men in list order
-abbrev pub slot_of : Side → Kind → ℕ
-slot_of White King = 0
-slot_of Black King = 1
-slot_of White Queen = 2
-slot_of White Rook = 3
-slot_of White Bishop = 4
-slot_of White Knight = 5
-slot_of White Pawn = 6
-slot_of Black Queen = 7
-slot_of Black Rook = 8
-slot_of Black Bishop = 9
-slot_of Black Knight = 10
-slot_of Black Pawn = 11
+abbrev pub slot_number : Side → Kind → ℕ
+slot_number White King = 0
+slot_number Black King = 1
+slot_number White Queen = 2
+slot_number White Rook = 3
+slot_number White Bishop = 4
+slot_number White Knight = 5
+slot_number White Pawn = 6
+slot_number Black Queen = 7
+slot_number Black Rook = 8
+slot_number Black Bishop = 9
+slot_number Black Knight = 10
+slot_number Black Pawn = 11
 
 -- the slot of a man, the colours swapped or not
-unfoldable pub slot : Bool → Man → ℕ
-slot colours m = slot_of (turned_side colours m.side) m.kind
+unfoldable pub man_slot_number : Bool → Man → ℕ
+man_slot_number colours m = slot_number (turned_side colours m.side) m.kind
 
 -- no man of the list is of a slot before n
 abbrev pub NoneBefore : Bool → ℕ → List Man → Type 0
 NoneBefore colours n [] = Unit {0}
-NoneBefore colours n (x ∷ xs) = (n ≤ slot colours x) × NoneBefore colours n xs
+NoneBefore colours n (x ∷ xs) = (n ≤ man_slot_number colours x) × NoneBefore colours n xs
 
 -- the men stand in the order of their slots; like men stand in either order
 abbrev pub IsInSlots : Bool → List Man → Type 0
 IsInSlots colours [] = Unit {0}
-IsInSlots colours (x ∷ xs) = NoneBefore colours (slot colours x) xs × IsInSlots colours xs
+IsInSlots colours (x ∷ xs) = NoneBefore colours (man_slot_number colours x) xs × IsInSlots colours xs
 
 -- the men, each once, in the order of the slots
 pub record IsFilling (colours : Bool) (men filling : List Man) : Type 0 where

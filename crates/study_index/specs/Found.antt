@@ -7,7 +7,7 @@ use Rattle.study_board.specs.Symmetry.{turned_side}
 use Rattle.study_moves.specs.Bare.{is_live}
 use Rattle.study_material.specs.declared.class.Class.{Class}
 use Rattle.study_material.specs.Lists.{is_swapped}
-use Rattle.study_index.specs.Filling.{slot}
+use Rattle.study_index.specs.Filling.{man_slot_number}
 use Rattle.study_index.specs.Number.{has_pawn, with_bit, has_bit, without_bit, cells_of}
 use Rattle.study_index.specs.Chosen.{least_of}
 use Rattle.study_index.specs.Decoded.{slots_of, told_men, told_side, passed_behind}
@@ -15,7 +15,7 @@ use Rattle.study_index.specs.Decoded.{slots_of, told_men, told_side, passed_behi
 -- a man put after those of no later slot
 unfoldable pub put : Bool → Man → List Man → List Man
 put c m [] = m ∷ []
-put c m (x ∷ xs) = if nat_le (slot c x) (slot c m) then x ∷ put c m xs else m ∷ x ∷ xs
+put c m (x ∷ xs) = if nat_le (man_slot_number c x) (man_slot_number c m) then x ∷ put c m xs else m ∷ x ∷ xs
 
 -- the men in the order of their slots
 abbrev pub sorted : Bool → List Man → List Man

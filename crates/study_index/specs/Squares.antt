@@ -6,13 +6,13 @@ use Rattle.study_board.specs.declared.men.Man.{Man}
 use Rattle.study_board.specs.declared.symmetry.Symmetry.{Symmetry}
 use Rattle.study_board.specs.Geometry.{file_of, rank_of}
 use Rattle.study_board.specs.Symmetry.{turned_square}
-use Rattle.study_index.specs.Filling.{slot}
+use Rattle.study_index.specs.Filling.{man_slot_number}
 use Rattle.study_index.specs.Number.{place, places, side_number}
 use Rattle.study_index.specs.Chosen.{least}
 
 -- the slot and the square of a man in one number
 unfoldable pub key : Bool → Man → ℕ
-key c m = slot c m * 64 + m.at
+key c m = man_slot_number c m * 64 + m.at
 
 -- a key put after those of no later slot
 unfoldable pub put_key : ℕ → List ℕ → List ℕ

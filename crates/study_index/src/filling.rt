@@ -1,14 +1,14 @@
 //! The men of a position in the order of their slots.
 ghost use Rattle.std.specs.Prelude.{◌≡◌, ◌<◌, ◌/◌, ◌%◌, ◌==◌, nat_le, [], ◌∷◌, if◌then◌else◌};
-ghost use Rattle.study_index.specs.Filling.{slot, slot_of};
+ghost use Rattle.study_index.specs.Filling.{man_slot_number, slot_number};
 ghost use Rattle.study_index.specs.Squares.{key, put_key};
 ghost use Rattle.study_board.specs.Symmetry.{turned_side};
 
 use study_board::{Kind, Man, Side, Square};
 
 #[inline]
-fn slot_of(side: Side, kind: Kind) -> u8
-    ensures { result ≡ slot_of side kind }
+fn slot_number(side: Side, kind: Kind) -> u8
+    ensures { result ≡ slot_number side kind }
 {
     match (side, kind) {
         (Side::White, Kind::King) => 0,
@@ -35,11 +35,11 @@ pub fn coloured(colours: bool, side: Side) -> Side
 }
 
 #[inline]
-#[tactic(auto, unfolding(crate::specs::Filling::slot))]
-pub fn slot(colours: bool, m: &Man) -> u8
-    ensures { result ≡ slot colours m.now }
+#[tactic(auto, unfolding(crate::specs::Filling::man_slot_number))]
+pub fn man_slot_number(colours: bool, m: &Man) -> u8
+    ensures { result ≡ man_slot_number colours m.now }
 {
-    slot_of(coloured(colours, m.side), m.kind)
+    slot_number(coloured(colours, m.side), m.kind)
 }
 
 /// The square of a man.
@@ -59,7 +59,7 @@ pub fn key(colours: bool, m: &Man) -> u16
     ensures value { result ≡ key colours m.now }
     ensures on_board { m.now.at < 64 }
 {
-    u16::from(slot(colours, m)) * 64 + u16::from(m.at.number())
+    u16::from(man_slot_number(colours, m)) * 64 + u16::from(m.at.number())
 }
 
 /// The square of a key.

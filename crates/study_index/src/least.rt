@@ -7,7 +7,7 @@ ghost use Rattle.study_index.specs.Chosen.{least, least_of};
 ghost use Rattle.study_index.specs.Squares.{brought, exchanged_at, falls_at, number_at, least_turned, least_at};
 
 use crate::filling::{
-    coloured, is_like, key, slot, square_of, standing, with_one, with_three, with_two,
+    coloured, is_like, key, man_slot_number, square_of, standing, with_one, with_three, with_two,
 };
 use crate::number::{has_pawn, number};
 use crate::passing::is_live;
@@ -169,7 +169,7 @@ fn least_with_two(
 ) -> Option<u32>
     ensures { result ≡ least_of pawns to_move colours (a ∷ b ∷ c ∷ d ∷ []) }
 {
-    let like = slot(colours, &c) == slot(colours, &d);
+    let like = man_slot_number(colours, &c) == man_slot_number(colours, &d);
     let squares = [standing(a), standing(b), standing(c), standing(d)];
     least_at(pawns, to_move, colours, like, &squares)
 }

@@ -24,7 +24,6 @@ pub fn value_at(cell: u8) -> Value
 }
 
 impl Value {
-
     /// The plies to the mate.
     pub fn distance(self) -> Option<u8>
         ensures { MatchOption result (self ≡ Value.Draw) (λ n. (self ≢ Value.Draw) × (distance_of self ≡ n)) }

@@ -20,7 +20,6 @@ is_whole_page fields cells n page =
 abbrev pub page_of : Table → ℕ → ℕ → List ℕ
 page_of t v n = page_text (fields_text t.class v) n (page_cells_of (drop (4096 * n) t.cells))
 
-
 -- what a source of pages is asked for: the header of a file, or a page
 pub data Question : Type 0 where
   of_header : Question

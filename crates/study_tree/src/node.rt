@@ -92,7 +92,7 @@ pub fn reserve_below<'a, L, A: Allocator>(
     ensures room { OnOk result (0 < spare_at (vec_capacity children.new - vec_len children.new) (forest_of children.new.items) steps.now) }
 {
     match steps.split_first() {
-        None => children.reserve(1),
+        None => children.reserve_exact(1),
         Some((first, rest)) => {
             let child = &mut children[*first as usize];
             reserve_below(&mut child.children, rest)

@@ -1,8 +1,8 @@
 //! All that the readers show of a study.
-use study_marks::{Bench, Mark, Stipulation, TagName};
 use arrayvec::ArrayString;
 use std::alloc::{AllocError, Allocator, Global};
 use std::process::Abort;
+use study_marks::{Bench, Mark, Stipulation, TagName};
 use study_moves::Move;
 use study_notation::write_fen;
 use study_tree::MAX_NODES;

@@ -1,10 +1,10 @@
 //! Random edits, and after each the marks found another way: by counting over the legal moves and the game's values.
 use super::picture::{Row, rows_of};
 use super::{path, start, tables};
-use study_marks::{Bench, Goal, MateMoves, MoveMark, Refusal, Stipulation};
 use std::alloc::{Allocator, Global};
 use std::process::Abort;
 use study_board::{Position, Side};
+use study_marks::{Bench, Goal, MateMoves, MoveMark, Refusal, Stipulation};
 use study_material::Class;
 use study_moves::{Move, is_legal, legal_moves, played};
 use study_prober::Values;

@@ -1,11 +1,11 @@
 //! Memory and values that fail in turn: the study stays as it was.
 use super::picture::{Picture, is_same, picture_of};
 use super::{WHITE_WINS, moved, path, start, tables};
-use study_marks::{Bench, Edit, Refusal};
 use linked_list_allocator::LocalHeap;
 use std::alloc::{AllocError, Allocator, Global};
 use std::process::Abort;
 use std::test::Fail;
+use study_marks::{Bench, Edit, Refusal};
 use study_material::Class;
 use study_moves::Move;
 use study_notation::Start;

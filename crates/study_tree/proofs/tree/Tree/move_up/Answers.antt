@@ -22,9 +22,11 @@ move_up_below-requires-clause-not_first g c =
     let last = last_place-read c.args.steps.now c.in-Some-Some.first.now c.in-Some-Some.rest.now c.in-Some-Some.last.now c.in-Some-Some.ensures.cases.0 c.in-Some-Some.ensures'.value in omega (arith, c.if-last-eq0.false)
 
 pub invariant_of-self : goal.invariant_of-self
-invariant_of-self g c =
-    (size-raised (forest_of c.self.inside.children.items) (forest_of c.move_up_below.new.children.items) c.in-Some-Some.first.now c.in-Some-Some.rest.now c.self.inside.size c.move_up_below.ensures c.self.invariant.0, c.self.invariant.1,
-     within-raised 256 (forest_of c.self.inside.children.items) (forest_of c.move_up_below.new.children.items) c.in-Some-Some.first.now c.in-Some-Some.rest.now c.move_up_below.ensures c.self.invariant.2)
+invariant_of-self g c = (
+  size-raised (forest_of c.self.inside.children.items) (forest_of c.move_up_below.new.children.items) c.in-Some-Some.first.now c.in-Some-Some.rest.now c.self.inside.size c.move_up_below.ensures c.self.invariant.0,
+  c.self.invariant.1,
+  within-raised 256 (forest_of c.self.inside.children.items) (forest_of c.move_up_below.new.children.items) c.in-Some-Some.first.now c.in-Some-Some.rest.now c.move_up_below.ensures c.self.invariant.2,
+)
 
 pub returns-else-last-eq0-clause-refusal : goal.returns-else-last-eq0-clause-refusal
 returns-else-last-eq0-clause-refusal g c =

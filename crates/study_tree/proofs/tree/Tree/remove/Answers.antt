@@ -27,6 +27,8 @@ overflow_sub-self g c =
 
 pub invariant_of-self : goal.invariant_of-self
 invariant_of-self g c =
-    let small = counted-below (forest_of c.self.inside.children.items) (forest_of c.remove_below-removed.new.children.items) c.remove_below-removed.result c.removed.inside.children.items c.deref.result.now c.deref.ensures.value (ap nodes_from c.removed.view_is) c.remove_below-removed.ensures.counted in
-    (omega (arith, small, c.count_in.ensures, c.self.invariant.0, c.self.invariant.1), omega (arith, small, c.count_in.ensures, c.self.invariant.0, c.self.invariant.1),
-     within-dropped 256 (forest_of c.self.inside.children.items) (forest_of c.remove_below-removed.new.children.items) c.in-Some.first.now c.in-Some.rest.now c.remove_below-removed.ensures.removed c.self.invariant.2)
+    let small = counted-below (forest_of c.self.inside.children.items) (forest_of c.remove_below-removed.new.children.items) c.remove_below-removed.result c.removed.inside.children.items c.deref.result.now c.deref.ensures.value (ap nodes_from c.removed.view_is) c.remove_below-removed.ensures.counted in (
+      omega (arith, small, c.count_in.ensures, c.self.invariant.0, c.self.invariant.1),
+      omega (arith, small, c.count_in.ensures, c.self.invariant.0, c.self.invariant.1),
+      within-dropped 256 (forest_of c.self.inside.children.items) (forest_of c.remove_below-removed.new.children.items) c.in-Some.first.now c.in-Some.rest.now c.remove_below-removed.ensures.removed c.self.invariant.2,
+    )

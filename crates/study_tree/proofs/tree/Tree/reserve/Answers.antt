@@ -11,11 +11,15 @@ reserve_below-requires g c =
     record { found = room.0 }
 
 pub invariant_of-self : goal.invariant_of-self
-invariant_of-self g c =
-    (size-same (forest_of c.self.inside.children.items) (forest_of c.reserve_below.new.children.items) c.self.inside.size c.reserve_below.ensures.same c.self.invariant.0, c.self.invariant.1,
-     within-same 256 (forest_of c.self.inside.children.items) (forest_of c.reserve_below.new.children.items) c.reserve_below.ensures.same c.self.invariant.2)
+invariant_of-self g c = (
+  size-same (forest_of c.self.inside.children.items) (forest_of c.reserve_below.new.children.items) c.self.inside.size c.reserve_below.ensures.same c.self.invariant.0,
+  c.self.invariant.1,
+  within-same 256 (forest_of c.self.inside.children.items) (forest_of c.reserve_below.new.children.items) c.reserve_below.ensures.same c.self.invariant.2,
+)
 
 pub invariant_of-self-2 : goal.invariant_of-self-2
-invariant_of-self-2 g c =
-    (size-same (forest_of c.self.inside.children.items) (forest_of c.reserve_below.new.children.items) c.self.inside.size c.reserve_below.ensures.same c.self.invariant.0, c.self.invariant.1,
-     within-same 256 (forest_of c.self.inside.children.items) (forest_of c.reserve_below.new.children.items) c.reserve_below.ensures.same c.self.invariant.2)
+invariant_of-self-2 g c = (
+  size-same (forest_of c.self.inside.children.items) (forest_of c.reserve_below.new.children.items) c.self.inside.size c.reserve_below.ensures.same c.self.invariant.0,
+  c.self.invariant.1,
+  within-same 256 (forest_of c.self.inside.children.items) (forest_of c.reserve_below.new.children.items) c.reserve_below.ensures.same c.self.invariant.2,
+)
