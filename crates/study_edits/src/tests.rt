@@ -350,11 +350,13 @@ struct Draws {
 }
 
 impl Values for Draws {
+    ghost use Rattle.study_retro.specs.declared.value.Value.TheVariants.{Draw};
+
     ghost is_honest = { λ w. ⊥ };
 
     ghost held = { λ w c. true };
 
-    ghost gives = { λ w p answer. answer ≡ Ok Value.Draw };
+    ghost gives = { λ w p answer. answer ≡ Ok Draw };
 
     ghost asked_of = { λ w. w.asked };
 
