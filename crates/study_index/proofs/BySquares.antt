@@ -1,5 +1,6 @@
 -- The least number of men is that of their squares, and keys sort men by their slots.
-use Rattle.std.proofs.Common.{◌≡◌, ℕ, ◌+◌, ◌-◌, ◌*◌, ◌/◌, ◌%◌, ◌<◌, ◌==◌, Bool, true, false, cond, nat_lt, nat_le, List, [], ◌∷◌, map, Option, Some, None, refl, sym, ◌∙◌, ap, arith}
+use Rattle.std.proofs.Common.{◌≡◌, ℕ, ◌+◌, ◌-◌, ◌*◌, ◌/◌, ◌%◌, ◌<◌, ◌==◌, Bool, true, false, cond, nat_lt}
+use Rattle.std.proofs.Common.{nat_le, List, [], ◌∷◌, map, Option, Some, None, refl, sym, ◌∙◌, ap, arith}
 use Rattle.std.specs.Option.{option_map}
 use Rattle.study_board.specs.declared.men.Side.{Side}
 use Rattle.study_board.specs.declared.men.Man.{Man}
@@ -27,13 +28,15 @@ TakeSame t u = (x : ℕ) → x < 64 → turned_square t x ≡ turned_square u x
 twice : (n : ℕ) → n < 8 → 7 - (7 - n) ≡ n
 twice n l = omega arith
 
-with_pawns : (right c : Bool) → TakeSame (record { files = right; ranks = c; diagonal = false; colours = false }) (record { files = right; ranks = false; diagonal = false; colours = c })
+with_pawns : (right c : Bool) → TakeSame (record { files = right; ranks = c; diagonal = false; colours = false })
+    (record { files = right; ranks = false; diagonal = false; colours = c })
 unfolding turned_square
 with_pawns right true x l = refl
 with_pawns right false x l = refl
 
 straight : (right top c : Bool)
-    → TakeSame (record { files = right; ranks = top; diagonal = false; colours = false }) (record { files = right; ranks = differ c top; diagonal = false; colours = c })
+    → TakeSame (record { files = right; ranks = top; diagonal = false; colours = false })
+    (record { files = right; ranks = differ c top; diagonal = false; colours = c })
 unfolding turned_square
 straight right top false x l = refl
 straight right true true x l = refl
@@ -42,7 +45,8 @@ straight right false true x l =
     ap (λ r. 8 * r + mirrored right (file_of x)) e
 
 across : (right top c : Bool)
-    → TakeSame (record { files = right; ranks = top; diagonal = true; colours = false }) (record { files = differ c right; ranks = top; diagonal = true; colours = c })
+    → TakeSame (record { files = right; ranks = top; diagonal = true; colours = false })
+    (record { files = differ c right; ranks = top; diagonal = true; colours = c })
 unfolding turned_square
 across right top false x l = refl
 across true top true x l = refl
@@ -110,8 +114,13 @@ least_by_squares : (pawns : Bool) (to_move : Side) (t u : Symmetry) → TakeSame
 unfolding least_turned least_by
 least_by_squares pawns to_move t u same ms h =
     let n = number_men pawns to_move t u same ms h in
-    let e = ap (λ xs. number_at pawns to_move (turned_square t) xs) (exchanged_men ms) ∙ number_men pawns to_move t u same (exchanged ms) (AreOnBoard-exchanged ms h) in
-    ap (λ f. cond (are_like u.colours ms) (cond f (number_at pawns to_move (turned_square t) (exchanged_at (map square ms))) (number_at pawns to_move (turned_square t) (map square ms))) (number_at pawns to_move (turned_square t) (map square ms)))
+    let e = ap (λ xs. number_at pawns to_move (turned_square t) xs) (exchanged_men ms) ∙ number_men pawns to_move t
+    u same (exchanged ms) (AreOnBoard-exchanged ms h) in
+    ap
+    (λ f. cond (are_like u.colours ms)
+    (cond f (number_at pawns to_move (turned_square t) (exchanged_at (map square ms)))
+    (number_at pawns to_move (turned_square t) (map square ms)))
+    (number_at pawns to_move (turned_square t) (map square ms)))
     (falls_men pawns to_move t u same ms h)
     ∙ one_of_three (are_like u.colours ms) (falls u ms) _ _ _ _ e n
 
@@ -164,7 +173,8 @@ unfolding put
 one_key c m k e = ap (λ n. n ∷ []) e
 
 -- one key more is put among the others
-pub more_keys : (c : Bool) (m : Man) (ms : List Man) (k : ℕ) (ks xs : List ℕ) → k ≡ key c m → m.at < 64 → AreOnBoard ms → ks ≡ put_key k xs → xs ≡ map (key c) (sorted c ms) → ks ≡ map (key c) (sorted c (m ∷ ms))
+pub more_keys : (c : Bool) (m : Man) (ms : List Man) (k : ℕ) (ks xs : List ℕ) → k ≡ key c m → m.at < 64
+    → AreOnBoard ms → ks ≡ put_key k xs → xs ≡ map (key c) (sorted c ms) → ks ≡ map (key c) (sorted c (m ∷ ms))
 more_keys c m ms k ks xs d l h e f = e ∙ ap (λ n. put_key n xs) d ∙ ap (λ z. put_key (key c m) z) f ∙ keys-put c m (sorted c ms) l (AreOnBoard-sorted c ms h)
 
 squares-keys : (c : Bool) (ms : List Man) → AreOnBoard ms → squares_of (map (key c) ms) ≡ map square ms

@@ -1,5 +1,6 @@
 -- The laws of classes: what tables rest on.
-use Rattle.std.proofs.Common.{◌≡◌, ℕ, ◌+◌, ◌*◌, ◌^◌, ◌<◌, Bool, true, false, cond, ◌||◌, List, [], ◌∷◌, length, Option, Some, None, refl, sym, ◌∙◌, ap, subst, arith}
+use Rattle.std.proofs.Common.{◌≡◌, ℕ, ◌+◌, ◌*◌, ◌^◌, ◌<◌, Bool, true, false, cond, ◌||◌, List, []}
+use Rattle.std.proofs.Common.{◌∷◌, length, Option, Some, None, refl, sym, ◌∙◌, ap, subst, arith}
 use Rattle.std.proofs.lemmas.Bool.{false≢true}
 use borrow.Author.Tests.{ltb-true}
 use Rattle.study_board.specs.declared.men.Man.{Man}
@@ -7,34 +8,37 @@ use Rattle.study_board.specs.declared.men.Side.{Side}
 use Rattle.study_board.specs.declared.men.Kind.TheVariants.{Pawn}
 use Rattle.study_board.specs.Position.{Position, IsValid}
 use Rattle.study_board.specs.Symmetry.{turned_men, image, admits}
-use Rattle.study_board.specs.Images.{IsImage, differ, back}
-use Rattle.study_board.proofs.Turned.{valid_image}
-use Rattle.study_board.proofs.Images.{IsTurnable-from_valid, image_back, admits_image, admits_back}
+use Rattle.study_board.specs.Images.{differ, back}
+use Rattle.study_board.proofs.ImagesValid.{valid_image}
+use Rattle.study_board.proofs.ImagesOfImages.{IsTurnable-from_valid, image_back, admits_image, admits_back}
 use Rattle.study_moves.specs.Rules.{after}
 use Rattle.study_moves.specs.Symmetry.{image_move}
 use Rattle.study_moves.specs.Game.{IsLegal}
 use Rattle.study_moves.specs.Bare.{is_live, without_passed, bare}
 use Rattle.study_moves.specs.Laws.{HasSameGame}
 use Rattle.study_moves.specs.Alike.{AreAlike, Leads}
-use Rattle.study_moves.proofs.Turned.{after-turned, image_legal}
-use Rattle.study_moves.proofs.ImageMates.{IsMate-image, IsMate-from_image, IsStalemate-image, IsStalemate-from_image, MatesWithin-image, MatesWithin-from_image, IsMatedWithin-image, IsMatedWithin-from_image}
-use Rattle.study_moves.proofs.Bare.{AgreesWithBare-from_valid}
+use Rattle.study_moves.proofs.RulesOfImages.{after-turned, image_legal}
+use Rattle.study_moves.proofs.ImageMates.{IsMate-image, IsMate-from_image, IsStalemate-image}
+use Rattle.study_moves.proofs.ImageMates.{IsStalemate-from_image, MatesWithin-image, MatesWithin-from_image}
+use Rattle.study_moves.proofs.ImageMates.{IsMatedWithin-image, IsMatedWithin-from_image}
+use Rattle.study_moves.proofs.BarePassing.{AgreesWithBare-from_valid}
 use Rattle.study_moves.proofs.BareImages.{bare_image}
-use Rattle.study_moves.proofs.After.{IsValid-after}
-use Rattle.study_moves.proofs.Alike.{admits_after, admits_bare}
+use Rattle.study_moves.proofs.AfterMove.{IsValid-after}
+use Rattle.study_moves.proofs.AlikePositions.{admits_after, admits_bare}
 use Rattle.study_material.specs.declared.class.Class.{Class}
 use Rattle.study_material.specs.Lists.{Lists, of, exchanged, lists, ordered, is_exchanged, is_swapped}
 use Rattle.study_material.specs.Class.{lists_of, IsOf}
-use Rattle.study_material.proofs.Images.{ordered-image, swapped-image, compare_lists, black_first, white_first, equal}
+use Rattle.study_material.proofs.ClassOfImage.{ordered-image, swapped-image, compare_lists, black_first, white_first, equal}
 use Rattle.study_index.specs.Filling.{IsFilling}
-use Rattle.study_index.specs.Number.{number, places, kinds_have_pawn, has_both_pawns, numbers_of, cells_of, with_bit, has_bit, without_bit, IsLeastNumber, IsIndex}
+use Rattle.study_index.specs.Number.{number, places, kinds_have_pawn, has_both_pawns, numbers_of, cells_of}
+use Rattle.study_index.specs.Number.{with_bit, has_bit, without_bit, IsLeastNumber, IsIndex}
 use Rattle.study_index.specs.Decoded.{slots_of, passed_behind, IsDecoded}
 use Rattle.study_index.specs.Laws.{AreAlikeIn}
 use Rattle.study_index.proofs.ClassSlots.{AreSlots-class, is_cell-below, class_in_order}
 use Rattle.study_index.proofs.ImageNumbers.{Keeps, has_pawn-image, IsLeastNumber-image, IsLeastNumber-passed, bare_men, bare_to_move}
 use Rattle.study_index.proofs.ListOrder.{lists-filled, filled_in_order, slots_for}
 use Rattle.study_index.proofs.LivePassing.{live_class, live_behind, live_along, live_bare, bare_twice, not_live_passed}
-use Rattle.study_index.proofs.ReadOff.{IsLeastNumber-unique, IsOfMen-decoded}
+use Rattle.study_index.proofs.NumbersReadOff.{IsLeastNumber-unique, IsOfMen-decoded}
 use Rattle.study_index.proofs.WithBit.{HasParts-from}
 
 -- twice the numbers of a pawn against a pawn
@@ -95,7 +99,8 @@ entry c n q d =
     none true s xs e = absurd (false≢true (sym e))
     none false s xs e = refl
 
-    without : (men : List Man) (side : Side) (o : Option ℕ) → o ≡ None → (let r : Position = record { men = men; to_move = side; passed = o } in without_passed r ≡ r)
+    without : (men : List Man) (side : Side) (o : Option ℕ) → o ≡ None
+        → (let r : Position = record { men = men; to_move = side; passed = o } in without_passed r ≡ r)
     without men side None e = refl
     without men side (Some x) e = cc
 
@@ -120,7 +125,12 @@ keeps_swapped : (p : Position) → (lists p.men).white ≡ (lists p.men).black �
 keeps_swapped p e = by_lists (lists p.men) e
   where
     by_lists : (l : Lists) → l.white ≡ l.black → is_exchanged l ≡ false
-    by_lists l e = elim (compare_lists l) [ black_first f g ↦ absurd (false≢true (sym g ∙ ap (λ m. is_exchanged m) (same l e) ∙ f)) | white_first f g ↦ f | equal f g s ↦ f ]
+    by_lists l e =
+        elim (compare_lists l) [
+          | black_first f g ↦ absurd (false≢true (sym g ∙ ap (λ m. is_exchanged m) (same l e) ∙ f))
+          | white_first f g ↦ f
+          | equal f g s ↦ f
+        ]
       where
         same : (l : Lists) → l.white ≡ l.black → exchanged l ≡ l
         same l e = rw e refl
@@ -136,7 +146,9 @@ same_least c p q n h o i =
     let s = h.alike.images.by in
     let v = (AgreesWithBare-from_valid p h.alike.left).valid in
     let keeps : Keeps s (bare p) = λ e. h.kept (equal_lists c p o (subst (λ xs. (lists xs).white ≡ (lists xs).black) (bare_men p) e)) in
-    let j : IsLeastNumber (image s (bare p)) n = IsLeastNumber-image s (bare p) n v h.alike.images.admitted keeps (IsLeastNumber-passed p (bare p) n (sym (bare_men p)) (sym (bare_to_move p)) i) in
+    let j : IsLeastNumber (image s (bare p)) n =
+    IsLeastNumber-image s (bare p) n v h.alike.images.admitted keeps
+    (IsLeastNumber-passed p (bare p) n (sym (bare_men p)) (sym (bare_to_move p)) i) in
     IsLeastNumber-passed (bare q) q n (bare_men q) (bare_to_move q) (subst (λ (r : Position). IsLeastNumber r n) (sym h.alike.images.is) j)
 
 pub same_index : (c : Class) (p q : Position) (n : ℕ) → AreAlikeIn c p q → IsOf c p → IsIndex p n → IsIndex q n
@@ -157,7 +169,8 @@ alike_back c p q h =
         right = h.alike.left;
         images = record {
           by = back s;
-          admitted = subst (λ (x : Position). admits x (back s) ≡ true) (sym h.alike.images.is) (admits_image s (back s) (bare p) v a ∙ admits_back s (bare p) a);
+          admitted = subst (λ (x : Position). admits x (back s) ≡ true) (sym h.alike.images.is)
+              (admits_image s (back s) (bare p) v a ∙ admits_back s (bare p) a);
           is = sym (subst (λ (x : Position). image (back s) x ≡ bare p) (sym h.alike.images.is) (image_back s (bare p) (IsTurnable-from_valid s (bare p) v a)));
         };
       };
@@ -225,7 +238,8 @@ HasParts-number : (p : Position) (n : ℕ) (v : IsValid p) (i : IsIndex p n) →
 HasParts-number p n v i = IsLeastNumber-unique p (without_bit n) i.number (HasParts-from p n v i).least i.least
 
 -- the passed square of a position that is its own bare form is the one that the bit tells
-told_passed : (q : Position) (xs : List Man) (b : Bool) → IsValid q → bare q ≡ q → IsFilling false q.men xs → is_live q ≡ b → q.passed ≡ passed_behind b q.to_move xs
+told_passed : (q : Position) (xs : List Man) (b : Bool) → IsValid q → bare q ≡ q → IsFilling false q.men xs
+    → is_live q ≡ b → q.passed ≡ passed_behind b q.to_move xs
 told_passed q xs true v own f e = live_behind q xs v f.each_once e
 told_passed q xs false v own f e = not_live_passed q own e
 
@@ -238,7 +252,8 @@ equal_back c p o e = by_test (is_exchanged (lists p.men)) (subst (λ (l : Lists)
     by_test false e = e
 
 -- the image of the bare form by the symmetry of its index is read off the index
-numbered_bare : (c : Class) (p b : Position) (n : ℕ) → IsValid p → IsValid b → bare p ≡ b → bare b ≡ b → IsOf c b → IsIndex b n → (q : Position) × IsDecoded c n q × AreAlikeIn c q p
+numbered_bare : (c : Class) (p b : Position) (n : ℕ) → IsValid p → IsValid b → bare p ≡ b → bare b ≡ b → IsOf c b
+    → IsIndex b n → (q : Position) × IsDecoded c n q × AreAlikeIn c q p
 numbered_bare c p b n v w plain own o i =
     let t = i.least.number.by in
     let a : admits b t ≡ true = i.least.number.admitted in
@@ -248,7 +263,9 @@ numbered_bare c p b n v w plain own o i =
     let u : IsValid q = valid_image t b w a in
     let keeps : Keeps t b = λ e. i.least.number.colours ∙ keeps_swapped b e in
     let of_class : IsOf c q = o ∙ sym (ordered-image t b.men) in
-    let in_order : is_exchanged (lists q.men) ≡ false = swapped-image t b.men keeps ∙ ap (λ s. differ s (is_swapped b.men)) i.least.number.colours ∙ differ_same (is_swapped b.men) in
+    let in_order : is_exchanged (lists q.men) ≡ false =
+    swapped-image t b.men keeps ∙ ap (λ s. differ s (is_swapped b.men)) i.least.number.colours
+    ∙ differ_same (is_swapped b.men) in
     let same : lists q.men ≡ lists_of c = sym (of_class ∙ unchanged (lists q.men) in_order) in
     let own_image : bare q ≡ q = bare_image t b turn ∙ ap (image t) own in
     let live : is_live q ≡ is_live b = live_along t b q (own_image ∙ sym (ap (image t) own)) in
@@ -266,7 +283,8 @@ numbered_bare c p b n v w plain own o i =
           filling = filling;
           fills = i.least.number.fills;
           slots_are = filled_in_order q filling u i.least.number.fills ∙ ap (λ l. slots_for l) same;
-          is = subst (λ h. number h q.to_move filling ≡ Some (without_bit n)) (sym (has_pawn-image t b w a)) (i.least.number.is ∙ ap (λ k. Some k) (sym same_number));
+          is = subst (λ h. number h q.to_move filling ≡ Some (without_bit n)) (sym (has_pawn-image t b w a))
+              (i.least.number.is ∙ ap (λ k. Some k) (sym same_number));
           passed = told_passed q filling (has_bit n) u own_image i.least.number.fills (sym parts.bit);
         };
         index = index;

@@ -1,10 +1,13 @@
 -- The men of a position fill the slots in one way, or in two where the last two are alike.
-use Rattle.std.proofs.Common.{◌≡◌, ℕ, ◌+◌, ◌≤◌, ◌<◌, ◌==◌, ◌⊎◌, zero, suc, zero-add, Bool, true, false, cond, ◌&&◌, eqb, List, [], ◌∷◌, length, refl, ap, sym, ◌∙◌, subst, arith, inl, inr}
+use Rattle.std.proofs.Common.{◌≡◌, ℕ, ◌+◌, ◌≤◌, ◌<◌, ◌==◌, ◌⊎◌, zero, suc, zero-add, Bool, true, false, cond}
+use Rattle.std.proofs.Common.{◌&&◌, eqb, List, [], ◌∷◌, length, refl, ap, sym, ◌∙◌, subst, arith, inl, inr}
 use Rattle.std.specs.List.{Contains, count_by}
 use Rattle.std.specs.List.Sorted.{IsPermutation}
 use Rattle.std.proofs.lemmas.Bool.Decides.{nat_tests}
 use borrow.Author.Tests.{ltb-false}
-use Rattle.std.proofs.lemmas.List.Sorted.{IsPermutation-cons, IsPermutation-append_comm, Contains-permutation, sum_by-IsPermutation, length_permutation, IsPermutation-sym, IsPermutation-trans}
+use Rattle.std.proofs.lemmas.List.Sorted.{IsPermutation-cons, IsPermutation-append_comm}
+use Rattle.std.proofs.lemmas.List.Sorted.{Contains-permutation, sum_by-IsPermutation}
+use Rattle.std.proofs.lemmas.List.Sorted.{length_permutation, IsPermutation-sym, IsPermutation-trans}
 use Rattle.study_board.specs.declared.men.Side.{Side}
 use Rattle.study_board.specs.declared.men.Side.TheVariants.{White, Black}
 use Rattle.study_board.specs.declared.men.Kind.{Kind}
@@ -97,7 +100,8 @@ module _ (c : Bool) where
       (r.0, none_more k xs h.1 r.1)
 
   -- the first man, where just one is of the first slot
-  pub first_is : (k : ℕ) (x : Man) (xs : List Man) → IsInSlots c (x ∷ xs) → NoneBefore c k (x ∷ xs) → in_slot c k (x ∷ xs) ≡ 1 → (man_slot_number c x ≡ k) × NoneBefore c (k + 1) xs
+  pub first_is : (k : ℕ) (x : Man) (xs : List Man) → IsInSlots c (x ∷ xs) → NoneBefore c k (x ∷ xs)
+      → in_slot c k (x ∷ xs) ≡ 1 → (man_slot_number c x ≡ k) × NoneBefore c (k + 1) xs
   first_is k x xs h n e =
       let d = sym (count_by-cons (λ m. man_slot_number c m == k) x xs) ∙ e in
       let go : (b : Bool) → eqb (man_slot_number c x) k ≡ b → cond b 1 0 + in_slot c k xs ≡ 1 → (man_slot_number c x ≡ k) × NoneBefore c (k + 1) xs =
@@ -137,7 +141,8 @@ IsSame-tail x xs ys h = record {
 }
 
 -- both begin with the one man of the first slot
-pub same_first : (c : Bool) (k : ℕ) (x y : Man) (xs ys : List Man) → man_slot_number c x ≡ k → man_slot_number c y ≡ k → NoneBefore c (k + 1) ys → IsSame (x ∷ xs) (y ∷ ys) → x ≡ y
+pub same_first : (c : Bool) (k : ℕ) (x y : Man) (xs ys : List Man) → man_slot_number c x ≡ k
+    → man_slot_number c y ≡ k → NoneBefore c (k + 1) ys → IsSame (x ∷ xs) (y ∷ ys) → x ≡ y
 same_first c k x y xs ys e d n h =
     elim (h.to x (inl refl)) [ inl s ↦ s | inr i ↦ absurd (let b = In-NoneBefore c (k + 1) x ys n i in omega arith) ]
 
@@ -216,7 +221,8 @@ kings_of c (a ∷ xs) h f s =
     let left : in_slot c 1 xs ≡ 1 = sym split ∙ s in
     kings_rest c a xs h one.0 one.1 left
   where
-    kings_rest : (c : Bool) (a : Man) (xs : List Man) → IsInSlots c (a ∷ xs) → man_slot_number c a ≡ 0 → NoneBefore c 1 xs → in_slot c 1 xs ≡ 1 → HasKings c (a ∷ xs)
+    kings_rest : (c : Bool) (a : Man) (xs : List Man) → IsInSlots c (a ∷ xs) → man_slot_number c a ≡ 0
+        → NoneBefore c 1 xs → in_slot c 1 xs ≡ 1 → HasKings c (a ∷ xs)
     kings_rest c a [] h e n s = absurd (omega arith)
     kings_rest c a (b ∷ xs) h e n s =
         let two = first_is c 1 b xs h.1 n s in
@@ -226,13 +232,18 @@ pub HasKings-from_filling : (c : Bool) (men xs : List Man) → IsMaterial c men 
 HasKings-from_filling c men xs m f =
     kings_of c xs f.in_slots (in_slot-permutation c 0 men xs f.each_once ∙ m.first) (in_slot-permutation c 1 men xs f.each_once ∙ m.second)
 
-pub fillings_of : (c : Bool) (men xs ys : List Man) → IsMaterial c men → IsFilling c men xs → IsFilling c men ys → (ys ≡ xs) ⊎ ((are_like c xs ≡ true) × (ys ≡ exchanged xs))
+pub fillings_of : (c : Bool) (men xs ys : List Man) → IsMaterial c men → IsFilling c men xs → IsFilling c men ys
+    → (ys ≡ xs) ⊎ ((are_like c xs ≡ true) × (ys ≡ exchanged xs))
 fillings_of c men xs ys m f g =
     let k = HasKings-from_filling c men xs m f in
     let l = HasKings-from_filling c men ys m g in
-    let same : IsSame (k.white ∷ k.black ∷ k.rest) (l.white ∷ l.black ∷ l.rest) = subst (λ zs. IsSame zs (l.white ∷ l.black ∷ l.rest)) k.is (subst (λ zs. IsSame xs zs) l.is (IsSame-from_permutations men xs ys m.apart f.each_once g.each_once)) in
+    let same : IsSame (k.white ∷ k.black ∷ k.rest) (l.white ∷ l.black ∷ l.rest) =
+    subst (λ zs. IsSame zs (l.white ∷ l.black ∷ l.rest)) k.is
+    (subst (λ zs. IsSame xs zs) l.is (IsSame-from_permutations men xs ys m.apart f.each_once g.each_once)) in
     let e : k.white ≡ l.white = same_first c 0 k.white l.white (k.black ∷ k.rest) (l.black ∷ l.rest) k.white_slot l.white_slot l.after_white same in
-    let same' : IsSame (k.black ∷ k.rest) (l.black ∷ l.rest) = IsSame-tail l.white (k.black ∷ k.rest) (l.black ∷ l.rest) (subst (λ z. IsSame (z ∷ k.black ∷ k.rest) (l.white ∷ l.black ∷ l.rest)) e same) in
+    let same' : IsSame (k.black ∷ k.rest) (l.black ∷ l.rest) =
+    IsSame-tail l.white (k.black ∷ k.rest) (l.black ∷ l.rest)
+    (subst (λ z. IsSame (z ∷ k.black ∷ k.rest) (l.white ∷ l.black ∷ l.rest)) e same) in
     let d : k.black ≡ l.black = same_first c 1 k.black l.black k.rest l.rest k.black_slot l.black_slot l.after_black same' in
     let same'' : IsSame k.rest l.rest = IsSame-tail l.black k.rest l.rest (subst (λ z. IsSame (z ∷ k.rest) (l.black ∷ l.rest)) d same') in
     let short : length k.rest ≤ 2 = omega (arith, m.few, length_permutation men xs f.each_once, ap length k.is) in
@@ -252,7 +263,8 @@ count_by-same p q h [] = refl
 count_by-same p q h (x ∷ xs) =
     count_by-cons p x xs ∙ rw (h x, count_by-same p q h xs) (sym (count_by-cons q x xs))
 
-first_slot : (c : Bool) (side : Side) (kind : Kind) → eqb (slot_number (turned_side c side) kind) 0 ≡ (same_side side (turned_side c White) && same_kind kind King)
+first_slot : (c : Bool) (side : Side) (kind : Kind) → eqb (slot_number (turned_side c side) kind) 0
+    ≡ (same_side side (turned_side c White) && same_kind kind King)
 first_slot true White King = refl
 first_slot true White Queen = refl
 first_slot true White Rook = refl
@@ -278,7 +290,8 @@ first_slot false Black Bishop = refl
 first_slot false Black Knight = refl
 first_slot false Black Pawn = refl
 
-second_slot : (c : Bool) (side : Side) (kind : Kind) → eqb (slot_number (turned_side c side) kind) 1 ≡ (same_side side (turned_side c Black) && same_kind kind King)
+second_slot : (c : Bool) (side : Side) (kind : Kind) → eqb (slot_number (turned_side c side) kind) 1
+    ≡ (same_side side (turned_side c Black) && same_kind kind King)
 second_slot true White King = refl
 second_slot true White Queen = refl
 second_slot true White Rook = refl
@@ -324,8 +337,12 @@ IsMaterial-from_valid c p v =
     record {
       few = omega (arith, ltb-false _ _ f.few);
       apart = AreApart-ascending p.men v.ordered;
-      first = count_by-same (λ m. man_slot_number c m == 0) (is_man (turned_side c White) King) (λ m. first_slot c m.side m.kind) p.men ∙ one_king p.men (turned_side c White) (some_king p.men f.kings (turned_side c White));
-      second = count_by-same (λ m. man_slot_number c m == 1) (is_man (turned_side c Black) King) (λ m. second_slot c m.side m.kind) p.men ∙ one_king p.men (turned_side c Black) (some_king p.men f.kings (turned_side c Black));
+      first = count_by-same (λ m. man_slot_number c m == 0) (is_man (turned_side c White) King)
+          (λ m. first_slot c m.side m.kind) p.men ∙ one_king p.men (turned_side c White)
+          (some_king p.men f.kings (turned_side c White));
+      second = count_by-same (λ m. man_slot_number c m == 1) (is_man (turned_side c Black) King)
+          (λ m. second_slot c m.side m.kind) p.men ∙ one_king p.men (turned_side c Black)
+          (some_king p.men f.kings (turned_side c Black));
     }
 
 -- like men exchanged fill the same slots
@@ -337,7 +354,8 @@ exchanged-fills c men (a ∷ b ∷ x ∷ y ∷ []) e f =
     let d : man_slot_number c x ≡ man_slot_number c y = grind (arith, nat_tests) in
     let s = f.in_slots in
     record {
-      each_once = IsPermutation-trans men (a ∷ b ∷ x ∷ y ∷ []) (a ∷ b ∷ y ∷ x ∷ []) f.each_once (IsPermutation-cons a _ _ (IsPermutation-cons b _ _ (swap_tail x y)));
+      each_once = IsPermutation-trans men (a ∷ b ∷ x ∷ y ∷ []) (a ∷ b ∷ y ∷ x ∷ []) f.each_once
+          (IsPermutation-cons a _ _ (IsPermutation-cons b _ _ (swap_tail x y)));
       in_slots = ((s.0.0, (s.0.1.1.0, (s.0.1.0, tt))), ((s.1.0.1.0, (s.1.0.0, tt)), ((omega arith, tt), (tt, tt))));
     }
 exchanged-fills c men [] e f = f

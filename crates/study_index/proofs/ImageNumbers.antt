@@ -4,11 +4,11 @@ use Rattle.study_board.specs.declared.symmetry.Symmetry.{Symmetry}
 use Rattle.study_board.specs.Position.{Position, IsValid}
 use Rattle.study_board.specs.Symmetry.{is_pawn, image, admits}
 use Rattle.study_board.specs.Images.{differ, joined, back}
-use Rattle.study_board.proofs.Turned.{any_turned, seats, valid_image}
-use Rattle.study_board.proofs.Images.{IsTurnable-from_valid, image_joined, image_back, admits_image, admits_joined, admits_back}
+use Rattle.study_board.proofs.ImagesValid.{any_turned, seats, valid_image}
+use Rattle.study_board.proofs.ImagesOfImages.{IsTurnable-from_valid, image_joined, image_back, admits_image, admits_joined, admits_back}
 use Rattle.study_moves.specs.Bare.{is_live, without_passed, bare}
 use Rattle.study_material.specs.Lists.{Lists, lists, is_swapped}
-use Rattle.study_material.proofs.Images.{turned_lists, lists-image, swapped-image}
+use Rattle.study_material.proofs.ClassOfImage.{turned_lists, lists-image, swapped-image}
 use Rattle.study_index.specs.Filling.{IsFilling}
 use Rattle.study_index.specs.Number.{has_pawn, number, IsNumber, IsLeastNumber}
 

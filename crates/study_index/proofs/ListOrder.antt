@@ -12,7 +12,7 @@ use Rattle.study_board.specs.Position.{Position, IsValid}
 use Rattle.study_material.specs.declared.class.Class.{Class}
 use Rattle.study_material.specs.Lists.{Lists, of, put_kind, kinds_of, lists, is_other}
 use Rattle.study_material.specs.Class.{lists_of}
-use Rattle.study_material.proofs.Counts.{kinds_of-IsPermutation, lists-IsPermutation}
+use Rattle.study_material.proofs.KindCounts.{kinds_of-IsPermutation, lists-IsPermutation}
 use Rattle.study_index.specs.declared.reading.Slot.{Slot}
 use Rattle.study_index.specs.Filling.{slot_number, man_slot_number, NoneBefore, IsInSlots, IsFilling}
 use Rattle.study_index.specs.Decoded.{slot_filled, slot_for, slots_of}
@@ -26,10 +26,13 @@ kinds_of-filled side (x ∷ xs) = rw (kinds_of-filled side xs) refl
 
 pub lists-filled : (c : Class) (men xs : List Man) → IsPermutation men xs → map slot_filled xs ≡ slots_of c → lists men ≡ lists_of c
 lists-filled c men xs p e =
-    sym (lists-IsPermutation men xs p) ∙ both (kinds_of White xs) (kinds_of Black xs) (kinds_of-filled White xs ∙ ap (λ ss. kinds_in White ss) e) (kinds_of-filled Black xs ∙ ap (λ ss. kinds_in Black ss) e)
+    sym (lists-IsPermutation men xs p) ∙ both (kinds_of White xs) (kinds_of Black xs)
+    (kinds_of-filled White xs ∙ ap (λ ss. kinds_in White ss) e)
+    (kinds_of-filled Black xs ∙ ap (λ ss. kinds_in Black ss) e)
     ∙ kinds_in-class c
   where
-    both : (ws bs : List Kind) → ws ≡ kinds_in White (slots_of c) → bs ≡ kinds_in Black (slots_of c) → of ws bs ≡ of (kinds_in White (slots_of c)) (kinds_in Black (slots_of c))
+    both : (ws bs : List Kind) → ws ≡ kinds_in White (slots_of c) → bs ≡ kinds_in Black (slots_of c)
+        → of ws bs ≡ of (kinds_in White (slots_of c)) (kinds_in Black (slots_of c))
     both ws bs e f = rw (e, f) refl
 
 -- what fills the first two slots
@@ -79,7 +82,8 @@ one_more Black Knight a l = refl
 one_more Black Pawn a l = refl
 one_more _ _ a l = absurd (omega arith)
 
-two_more : (s t : Side) (k j : Kind) (a b : ℕ) → 2 ≤ slot_number s k → slot_number s k ≤ slot_number t j → slot_for s k ∷ slot_for t j ∷ [] ≡ rest_of (man s k a ∷ man t j b ∷ [])
+two_more : (s t : Side) (k j : Kind) (a b : ℕ) → 2 ≤ slot_number s k → slot_number s k ≤ slot_number t j
+    → slot_for s k ∷ slot_for t j ∷ [] ≡ rest_of (man s k a ∷ man t j b ∷ [])
 two_more White White Queen Queen a b l m = refl
 two_more White White Queen Rook a b l m = refl
 two_more White White Queen Bishop a b l m = refl
@@ -166,7 +170,9 @@ filled_in_order p xs v f =
     λ side. sym (kinds_of-IsPermutation side p.men xs f.each_once) ∙ ap (λ l. kinds_of side l) h.is
     ∙ past_king side h.white (h.black ∷ h.rest) (first_king h.white.side h.white.kind h.white.at h.white_slot)
     ∙ past_king side h.black h.rest (second_king h.black.side h.black.kind h.black.at h.black_slot) in
-    ap (λ l. map slot_filled l) h.is ∙ all (slot_filled h.white) (slot_filled h.black) (map slot_filled h.rest) first second rest ∙ rw (same White, same Black) refl
+    ap (λ l. map slot_filled l) h.is ∙ all (slot_filled h.white) (slot_filled h.black) (map slot_filled h.rest)
+    first second rest ∙ rw (same White, same Black) refl
   where
-    all : {ys : List Slot} (a b : Slot) (xs : List Slot) → a ≡ slot_for White King → b ≡ slot_for Black King → xs ≡ ys → a ∷ b ∷ xs ≡ slot_for White King ∷ slot_for Black King ∷ ys
+    all : {ys : List Slot} (a b : Slot) (xs : List Slot) → a ≡ slot_for White King → b ≡ slot_for Black King
+        → xs ≡ ys → a ∷ b ∷ xs ≡ slot_for White King ∷ slot_for Black King ∷ ys
     all a b xs e f g = rw (e, f, g) refl

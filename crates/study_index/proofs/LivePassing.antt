@@ -1,5 +1,6 @@
 -- Positions in which a capture in passing is legal: their class, and the square that is passed.
-use Rattle.std.proofs.Common.{◌≡◌, ℕ, ◌+◌, ◌-◌, ◌≤◌, ◌==◌, suc, Bool, true, false, cond, not, ◌&&◌, inl, inr, List, [], ◌∷◌, Option, Some, None, refl, sym, ◌∙◌, ap, subst, arith, find}
+use Rattle.std.proofs.Common.{◌≡◌, ℕ, ◌+◌, ◌-◌, ◌≤◌, ◌==◌, suc, Bool, true, false, cond, not, ◌&&◌, inl, inr}
+use Rattle.std.proofs.Common.{List, [], ◌∷◌, Option, Some, None, refl, sym, ◌∙◌, ap, subst, arith, find}
 use Rattle.std.proofs.lemmas.Bool.{false≢true, and_parts, and_from, eqb-true}
 use Rattle.std.specs.List.{list_any}
 use Rattle.std.specs.List.Sorted.{IsPermutation}
@@ -25,8 +26,8 @@ use Rattle.study_moves.proofs.NoMoveBetween.{HasMover-from_is_legal}
 use Rattle.study_material.specs.declared.class.Class.{Class}
 use Rattle.study_material.specs.Lists.{of, ordered}
 use Rattle.study_material.specs.Class.{lists_of, IsOf}
-use Rattle.study_material.proofs.Counts.{many, many-IsPermutation, many_others, two_pawns}
-use Rattle.study_material.proofs.Others.{few_others}
+use Rattle.study_material.proofs.KindCounts.{many, many-IsPermutation, many_others, two_pawns}
+use Rattle.study_material.proofs.MenBesideKings.{few_others}
 
 -- a man of a side and a kind is counted
 many-among : (side : Side) (k : Kind) (xs : List Man) (m : Man) → IsAmong m xs → is_man side k m ≡ true → 1 ≤ many side k xs
@@ -51,12 +52,18 @@ many-has_man men side k x e =
 -- the pawn that has just jumped
 jumped_pawn : (men : List Man) (side : Side) (x : ℕ) → could_be_passed men side x ≡ true → 1 ≤ many (other_side side) Pawn men
 unfolding could_be_passed
-jumped_pawn men White x e = many-has_man men Black Pawn (x - 8) (and_parts (rank_of x == 5 && is_empty men x && is_empty men (x + 8)) (has_man men Black Pawn (x - 8)) e).1
-jumped_pawn men Black x e = many-has_man men White Pawn (x + 8) (and_parts (rank_of x == 2 && is_empty men x && is_empty men (x - 8)) (has_man men White Pawn (x + 8)) e).1
+jumped_pawn men White x e =
+    many-has_man men Black Pawn (x - 8)
+    (and_parts (rank_of x == 5 && is_empty men x && is_empty men (x + 8)) (has_man men Black Pawn (x - 8)) e).1
+jumped_pawn men Black x e =
+    many-has_man men White Pawn (x + 8)
+    (and_parts (rank_of x == 2 && is_empty men x && is_empty men (x - 8)) (has_man men White Pawn (x + 8)) e).1
 
 passing_pawn : (q : Option ℕ) (m : Man) (x : ℕ) → is_en_passant q m x ≡ true → is_pawn m ≡ true
 unfolding is_en_passant
-passing_pawn q m x e = (and_parts (is_pawn m) (not (file_of m.at == file_of x)) (and_parts (is_pawn m && not (file_of m.at == file_of x)) (is_square q x) e).0).0
+passing_pawn q m x e =
+    (and_parts (is_pawn m) (not (file_of m.at == file_of x))
+    (and_parts (is_pawn m && not (file_of m.at == file_of x)) (is_square q x) e).0).0
 
 -- the pawn that captures on the passed square
 capturing_pawn : (p : Position) (x : ℕ) → IsValid p → is_taken p (Some x) ≡ true → 1 ≤ many p.to_move Pawn p.men
@@ -71,7 +78,8 @@ capturing_pawn p x v e =
     let mine : same_side man.side p.to_move ≡ true = subst (λ (m : Man). same_side m.side p.to_move ≡ true) same h.moves.mine in
     many-among p.to_move Pawn p.men man r.1 (and_from (same_side man.side p.to_move) (is_pawn man) mine (passing_pawn p.passed man x parts.0))
 
-both_pawns : (men : List Man) (side : Side) → 1 ≤ many side Pawn men → 1 ≤ many (other_side side) Pawn men → (1 ≤ many White Pawn men) × (1 ≤ many Black Pawn men)
+both_pawns : (men : List Man) (side : Side) → 1 ≤ many side Pawn men → 1 ≤ many (other_side side) Pawn men
+    → (1 ≤ many White Pawn men) × (1 ≤ many Black Pawn men)
 both_pawns men White a b = (a, b)
 both_pawns men Black a b = (b, a)
 
@@ -99,11 +107,14 @@ live_class c p v o taken =
     o ∙ ap (λ l. ordered l) (two_pawns p.men (few_others p v) (r.3) (r.4))
 
 -- the first pawn of a side is its one pawn
-behind-one : (side : Side) (xs : List Man) (m : Man) → IsAmong m xs → is_man side Pawn m ≡ true → many side Pawn xs ≤ 1 → behind side xs ≡ Some (square_behind side m.at)
+behind-one : (side : Side) (xs : List Man) (m : Man) → IsAmong m xs → is_man side Pawn m ≡ true
+    → many side Pawn xs ≤ 1 → behind side xs ≡ Some (square_behind side m.at)
 behind-one side [] m i e few = absurd i
 behind-one side (x ∷ xs) m (inl s) e few = found (is_man side Pawn x) (ap (λ z. is_man side Pawn z) s ∙ e)
   where
-    found : (b : Bool) → b ≡ true → option_map (λ y. square_behind side y.at) (cond b (Some x) (find (λ y. is_man side Pawn y) xs)) ≡ Some (square_behind side m.at)
+    found : (b : Bool) → b ≡ true
+        → option_map (λ y. square_behind side y.at) (cond b (Some x) (find (λ y. is_man side Pawn y) xs))
+        ≡ Some (square_behind side m.at)
     found true h = ap (λ y. Some (square_behind side y.at)) s
     found false h = absurd (false≢true h)
 behind-one side (x ∷ xs) m (inr i) e few = further (is_man side Pawn x) few (λ l. behind-one side xs m i e l)
@@ -118,22 +129,31 @@ pub live_behind : (p : Position) (xs : List Man) → IsValid p → IsPermutation
 unfolding has_man could_be_passed
 live_behind p xs v same taken =
     let r = live_pawns p v taken in
-    let white : many White Pawn xs ≤ 1 = (let a = many_others p.men in let f = few_others p v in let b = r.4 in omega (arith, a, f, b, many-IsPermutation White Pawn p.men xs same)) in
-    let black : many Black Pawn xs ≤ 1 = (let a = many_others p.men in let f = few_others p v in let b = r.3 in omega (arith, a, f, b, many-IsPermutation Black Pawn p.men xs same)) in
+    let white : many White Pawn xs ≤ 1 =
+    (let a = many_others p.men in let f = few_others p v in
+    let b = r.4 in omega (arith, a, f, b, many-IsPermutation White Pawn p.men xs same)) in
+    let black : many Black Pawn xs ≤ 1 =
+    (let a = many_others p.men in let f = few_others p v in
+    let b = r.3 in omega (arith, a, f, b, many-IsPermutation Black Pawn p.men xs same)) in
     r.1 ∙ by_side p.to_move r.0 r.2 white black
   where
     among : (side : Side) (y : ℕ) → has_man p.men side Pawn y ≡ true → many side Pawn xs ≤ 1 → behind side xs ≡ Some (square_behind side y)
     among side y e few =
-        let f : list_any (λ m. is_man side Pawn m && (m.at == y)) xs ≡ true = sym (list_any-IsPermutation (λ m. is_man side Pawn m && (m.at == y)) p.men xs same) ∙ e in
+        let f : list_any (λ m. is_man side Pawn m && (m.at == y)) xs ≡ true =
+        sym (list_any-IsPermutation (λ m. is_man side Pawn m && (m.at == y)) p.men xs same) ∙ e in
         let s = some_among (λ m. is_man side Pawn m && (m.at == y)) xs f in
         let both = and_parts (is_man side Pawn s.0) (s.0.at == y) s.2 in
         behind-one side xs s.0 s.1 both.0 few ∙ ap (λ z. Some (square_behind side z)) (eqb-true s.0.at y both.1)
 
-    by_side : (side : Side) (x : ℕ) → could_be_passed p.men side x ≡ true → many White Pawn xs ≤ 1 → many Black Pawn xs ≤ 1 → Some x ≡ behind (other_side side) xs
+    by_side : (side : Side) (x : ℕ) → could_be_passed p.men side x ≡ true → many White Pawn xs ≤ 1
+        → many Black Pawn xs ≤ 1 → Some x ≡ behind (other_side side) xs
     by_side White x e white black =
         let front = (rank_of x == 5) && is_empty p.men x && is_empty p.men (x + 8) in
         let parts = and_parts front (has_man p.men Black Pawn (x - 8)) e in
-        let rank : rank_of x ≡ 5 = eqb-true (rank_of x) 5 (and_parts (rank_of x == 5) (is_empty p.men x) (and_parts (rank_of x == 5 && is_empty p.men x) (is_empty p.men (x + 8)) parts.0).0).0 in
+        let rank : rank_of x ≡ 5 =
+        eqb-true (rank_of x) 5
+        (and_parts (rank_of x == 5) (is_empty p.men x)
+        (and_parts (rank_of x == 5 && is_empty p.men x) (is_empty p.men (x + 8)) parts.0).0).0 in
         let back : x ≡ x - 8 + 8 = omega (arith, rank) in
         ap (λ z. Some z) back ∙ sym (among Black (x - 8) parts.1 black)
     by_side Black x e white black =

@@ -1,5 +1,6 @@
 -- Men put in the order of their slots.
-use Rattle.std.proofs.Common.{◌≡◌, ℕ, ◌+◌, ◌<◌, ◌≤◌, suc, Bool, true, false, cond, List, [], ◌∷◌, ◌++◌, length, take, drop, refl, ap, sym, ◌∙◌, subst, nat_le, arith, get_or}
+use Rattle.std.proofs.Common.{◌≡◌, ℕ, ◌+◌, ◌<◌, ◌≤◌, suc, Bool, true, false, cond, List, [], ◌∷◌, ◌++◌}
+use Rattle.std.proofs.Common.{length, take, drop, refl, ap, sym, ◌∙◌, subst, nat_le, arith, get_or}
 use Rattle.std.specs.List.{prefix_len, insert}
 use Rattle.std.specs.List.Sorted.{IsPermutation}
 use Rattle.std.proofs.lemmas.List.Sorted.{IsPermutation-insert, IsPermutation-cons, IsPermutation-trans, IsPermutation-refl}
@@ -36,8 +37,10 @@ IsInSlots-put c m [] h = (tt, tt)
 IsInSlots-put c m (x ∷ xs) h =
     let go : (b : Bool) → nat_le (man_slot_number c x) (man_slot_number c m) ≡ b → IsInSlots c (cond b (x ∷ put c m xs) (m ∷ x ∷ xs)) =
     λ b. elim b as (λ v. nat_le (man_slot_number c x) (man_slot_number c m) ≡ v → IsInSlots c (cond v (x ∷ put c m xs) (m ∷ x ∷ xs))) [
-      | true ↦ λ e. (let le : man_slot_number c x ≤ man_slot_number c m = grind (arith, nat_tests) in (NoneBefore-put c (man_slot_number c x) m xs le h.0, IsInSlots-put c m xs h.1))
-      | false ↦ λ e. (let le : man_slot_number c m ≤ man_slot_number c x = grind (arith, nat_tests) in ((le, NoneBefore-less c (man_slot_number c m) (man_slot_number c x) xs le h.0), h))
+      | true ↦ λ e. (let le : man_slot_number c x ≤ man_slot_number c m = grind (arith, nat_tests) in
+          (NoneBefore-put c (man_slot_number c x) m xs le h.0, IsInSlots-put c m xs h.1))
+      | false ↦ λ e. (let le : man_slot_number c m ≤ man_slot_number c x = grind (arith, nat_tests) in
+          ((le, NoneBefore-less c (man_slot_number c m) (man_slot_number c x) xs le h.0), h))
     ]
     in go (nat_le (man_slot_number c x) (man_slot_number c m)) refl
 
@@ -50,7 +53,8 @@ IsFilling-sorted c [] = record { each_once = IsPermutation-refl []; in_slots = t
 IsFilling-sorted c (m ∷ ms) =
     let f = IsFilling-sorted c ms in
     record {
-      each_once = IsPermutation-trans (m ∷ ms) (m ∷ sorted c ms) (put c m (sorted c ms)) (IsPermutation-cons m ms (sorted c ms) f.each_once) (IsPermutation-put c m (sorted c ms));
+      each_once = IsPermutation-trans (m ∷ ms) (m ∷ sorted c ms) (put c m (sorted c ms))
+          (IsPermutation-cons m ms (sorted c ms) f.each_once) (IsPermutation-put c m (sorted c ms));
       in_slots = IsInSlots-put c m (sorted c ms) f.in_slots;
     }
 

@@ -63,7 +63,9 @@ abbrev pub is_chosen : Bool → Symmetry → ℕ → Bool
 is_chosen pawns t s =
     not (admitted pawns t && is_some (place pawns (turned_square t s))) || same_flags t (chosen pawns t.diagonal t.colours s)
 
-for_squares : (pawns files ranks diagonal colours : Bool) → all_below 64 (is_chosen pawns (record { files = files; ranks = ranks; diagonal = diagonal; colours = colours })) ≡ true
+for_squares : (pawns files ranks diagonal colours : Bool)
+    → all_below 64 (is_chosen pawns (record { files = files; ranks = ranks; diagonal = diagonal; colours = colours }))
+    ≡ true
 unfolding turned_square place chosen
 for_squares true true true true true = refl
 for_squares true true true true false = refl
@@ -98,7 +100,8 @@ for_squares false false false true false = refl
 for_squares false false false false true = refl
 for_squares false false false false false = refl
 
-pub chosen-only : (pawns : Bool) (t : Symmetry) (s q : ℕ) → s < 64 → admitted pawns t ≡ true → place pawns (turned_square t s) ≡ Some q → t ≡ chosen pawns t.diagonal t.colours s
+pub chosen-only : (pawns : Bool) (t : Symmetry) (s q : ℕ) → s < 64 → admitted pawns t ≡ true
+    → place pawns (turned_square t s) ≡ Some q → t ≡ chosen pawns t.diagonal t.colours s
 chosen-only pawns t s q l a e =
     let h : is_chosen pawns t s ≡ true = at_below 64 (is_chosen pawns t) (for_squares pawns t.files t.ranks t.diagonal t.colours) s l in
     let i : same_flags t (chosen pawns t.diagonal t.colours s) ≡ true = rw (a, e) at h in

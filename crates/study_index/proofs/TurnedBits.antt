@@ -10,7 +10,8 @@ use Rattle.study_index.proofs.Symmetries.{all_below, at_below}
 abbrev test : Symmetry → ℕ → Bool
 test t x = (turned_bits t x == turned_square t x) && nat_lt (turned_bits t x) 64
 
-for_squares : (files ranks diagonal colours : Bool) → all_below 64 (test (record { files = files; ranks = ranks; diagonal = diagonal; colours = colours })) ≡ true
+for_squares : (files ranks diagonal colours : Bool)
+    → all_below 64 (test (record { files = files; ranks = ranks; diagonal = diagonal; colours = colours })) ≡ true
 unfolding turned_square turned_bits
 for_squares true true true true = refl
 for_squares true true true false = refl
@@ -35,5 +36,6 @@ pub record IsTurned (t : Symmetry) (x : ℕ) : Type 0 where
 
 pub turned_is : (t : Symmetry) (x : ℕ) → x < 64 → IsTurned t x
 turned_is t x l =
-    let e = and_parts (turned_bits t x == turned_square t x) (nat_lt (turned_bits t x) 64) (at_below 64 (test t) (for_squares t.files t.ranks t.diagonal t.colours) x l) in
+    let e = and_parts (turned_bits t x == turned_square t x) (nat_lt (turned_bits t x) 64)
+    (at_below 64 (test t) (for_squares t.files t.ranks t.diagonal t.colours) x l) in
     record { is = eqb-true (turned_bits t x) (turned_square t x) e.0; small = ltb-true (turned_bits t x) 64 e.1 }

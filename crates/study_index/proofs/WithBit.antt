@@ -1,19 +1,19 @@
 -- The bit of an index, and the number without it.
-use Rattle.std.proofs.Common.{◌≡◌, ℕ, ◌+◌, ◌*◌, ◌<◌, ◌≤◌, Bool, true, false, List, [], ◌∷◌, length, Some, refl, sym, ◌∙◌, ap, subst, arith}
+use Rattle.std.proofs.Common.{◌≡◌, ℕ, ◌+◌, ◌*◌, ◌<◌, ◌≤◌, Bool, true, false, List, [], ◌∷◌, length, Some, sym, ◌∙◌, ap, subst, arith}
 use Rattle.std.specs.List.{All}
 use Rattle.std.proofs.lemmas.Bool.Decides.{nat_tests}
-use Rattle.std.proofs.lemmas.List.Elements.{All-head, All-tail}
+use Rattle.std.proofs.lemmas.List.Elements.{All-tail}
 use Rattle.std.proofs.lemmas.List.Sorted.{All-permutation, length_permutation}
 use Rattle.study_board.specs.declared.men.Side.{Side}
 use Rattle.study_board.specs.declared.men.Side.TheVariants.{White, Black}
 use Rattle.study_board.specs.declared.men.Man.{Man}
 use Rattle.study_board.specs.Position.{Position, IsValid}
 use Rattle.study_board.specs.Symmetry.{image}
-use Rattle.study_board.proofs.Turned.{valid_image}
+use Rattle.study_board.proofs.ImagesValid.{valid_image}
 use Rattle.study_moves.specs.Bare.{is_live}
-use Rattle.study_material.proofs.Others.{few_men}
+use Rattle.study_material.proofs.MenBesideKings.{few_men}
 use Rattle.study_index.specs.Number.{number, places, side_number, counted_on, with_bit, has_bit, without_bit, has_pawn, IsNumber, IsLeastNumber, IsIndex}
-use Rattle.study_index.proofs.ReadOff.{number-parts, listed-place}
+use Rattle.study_index.proofs.NumbersReadOff.{number-parts, listed-place}
 
 pub without-with : (b : Bool) (m : ℕ) → m < 16777216 → without_bit (with_bit b m) ≡ m
 without-with true m l = omega arith

@@ -1,5 +1,5 @@
 -- What tables rest on: each position of a class has a number, and the position read off it has the same game.
-use Rattle.std.specs.Prelude.{◌≡◌, ◌↔◌, ℕ, ◌<◌, false, Some, None}
+use Rattle.std.specs.Prelude.{◌≡◌, ◌↔◌, ℕ, ◌<◌, false, Some}
 use Rattle.study_board.specs.Position.{Position, IsValid}
 use Rattle.study_board.specs.Images.{IsImage}
 use Rattle.study_moves.specs.Bare.{bare}

@@ -10,7 +10,9 @@ use Rattle.study_prober.specs.declared.values.ProbeFault.TheVariants as probe
 use Rattle.study_tree.specs.Forest.{Forest, none, more}
 use Rattle.study_board.specs.Counts.{counted}
 use Rattle.study_marks.specs.declared.fault.Refusal.{Refusal}
-use Rattle.study_marks.specs.declared.fault.Refusal.TheVariants.{NoSuchNode, RootNotAllowed, AlreadyFirst, IllegalMove, AlreadyThere, TooDeep, TreeFull, ShiftBroken, TagText, OutOfMemory, NoTable, TableRead}
+use Rattle.study_marks.specs.declared.fault.Refusal.TheVariants.{NoSuchNode, RootNotAllowed, AlreadyFirst, IllegalMove}
+use Rattle.study_marks.specs.declared.fault.Refusal.TheVariants.{AlreadyThere, TooDeep, TreeFull, ShiftBroken, TagText}
+use Rattle.study_marks.specs.declared.fault.Refusal.TheVariants.{OutOfMemory, NoTable, TableRead}
 use Rattle.study_marks.specs.Study.{Study}
 
 -- the position, and then those after its legal moves in their order

@@ -7,7 +7,8 @@ use Rattle.study_marks.specs.declared.marking.Aim.{Aim}
 use Rattle.study_marks.specs.Goals.{hero_moves}
 use Rattle.study_marks.specs.Marks.{own_faults}
 
--- the step to a row of this depth, where the row before it has depth d, is a solution step: the opponent makes it, or the row is a first child, which follows its parent at once
+-- the step to a row of this depth, where the row before it has depth d, is a solution step: the opponent makes it,
+-- or the row is a first child, which follows its parent at once
 abbrev pub is_solution_step : Aim → ℕ → ℕ → Bool
 is_solution_step a d zero = true
 is_solution_step a d (suc e) = if hero_moves a e then nat_eq d e else true
@@ -22,12 +23,14 @@ abbrev pub is_below : Option ℕ → ℕ → Bool
 is_below None e = false
 is_below (Some c) e = nat_lt c e
 
--- How many of these rows are faults that solution steps join to the first row of their block. The row before them has depth d; the last step that is no solution step, if what is below it may go on, led to depth c.
+-- How many of these rows are faults that solution steps join to the first row of their block. The row before them
+-- has depth d; the last step that is no solution step, if what is below it may go on, led to depth c.
 abbrev pub joined_faults : Aim → ℕ → Option ℕ → List (Row Mark) → ℕ
 joined_faults a d c [] = 0
 joined_faults a d c (x ∷ xs) =
     if is_below c x.depth then joined_faults a x.depth c xs
-    else (if is_solution_step a d x.depth then fault_at a x.depth x.label.on_move + joined_faults a x.depth None xs else joined_faults a x.depth (Some x.depth) xs)
+    else (if is_solution_step a d x.depth then fault_at a x.depth x.label.on_move + joined_faults a x.depth None xs
+    else joined_faults a x.depth (Some x.depth) xs)
 
 -- the faults of a block: its first row, and the rows that solution steps join to it
 abbrev pub block_faults : Aim → List (Row Mark) → ℕ

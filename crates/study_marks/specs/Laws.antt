@@ -23,7 +23,8 @@ use Rattle.study_marks.specs.Edits.{Plainly, positioned, shifted, inserted, dele
 abbrev pub AnnotationsAreUnique : Type 0
 AnnotationsAreUnique = (s t : Study Mark) → IsAnnotated s → IsAnnotated t → plain_study s ≡ plain_study t → s ≡ t
 
--- The edits of a plain study are edits of its rows in written order: another position keeps the root's row alone, another start keeps all rows, an inserted move is a row after the block of its parent,
+-- The edits of a plain study are edits of its rows in written order: another position keeps the root's row alone,
+-- another start keeps all rows, an inserted move is a row after the block of its parent,
 -- a deleted one takes its block away, and a promoted one lets its block change places with that of the sibling before it.
 abbrev pub EditsAreOfRows : Type 0
 EditsAreOfRows =
@@ -46,9 +47,11 @@ others_that_hold a d m (n ∷ ms) [] = 0
 others_that_hold a d m (n ∷ ms) (v ∷ vs) =
     (if same_move m n then 0 else (if holds a d v then 1 else 0)) + others_that_hold a d m ms vs
 
--- A move of the hero from a position that holds to one that does is the only one, or a dual with the number of the other legal moves that lead to a position that holds.
+-- A move of the hero from a position that holds to one that does is the only one, or a dual with the number of the
+-- other legal moves that lead to a position that holds.
 abbrev pub DualCountsOthers : Type 0
 DualCountsOthers =
-    (a : Aim) (d : ℕ) (p : Position) (m : Move) (v : Value) (all : List Value) (w : Value) → IsValid p → is_legal p m ≡ true → AreValuesAfter p (legal_list p) all
+    (a : Aim) (d : ℕ) (p : Position) (m : Move) (v : Value) (all : List Value) (w : Value) → IsValid p
+    → is_legal p m ≡ true → AreValuesAfter p (legal_list p) all
     → IsValueOf (after p m) w → hero_moves a d ≡ true → holds a d v ≡ true → holds a (d + 1) w ≡ true
     → move_mark a d v all w ≡ (if others_that_hold a (d + 1) m (legal_list p) all == 0 then Only else Dual (others_that_hold a (d + 1) m (legal_list p) all))

@@ -1,5 +1,6 @@
 -- A list of edits: what each accepted one asks, finds and writes, and where the list stops.
-use Rattle.std.specs.Prelude.{◌≡◌, ℕ, ◌+◌, ◌⊎◌, Bool, List, [], ◌∷◌, length, take, zero, suc, MatchOption, Option, None, Result, Ok, Err, IfErr, OnOk, OnErr, if◌then◌else◌}
+use Rattle.std.specs.Prelude.{◌≡◌, ℕ, ◌+◌, ◌⊎◌, Bool, List, [], ◌∷◌, length, take, zero, suc, MatchOption}
+use Rattle.std.specs.Prelude.{Option, None, Result, Ok, Err, IfErr, OnOk, OnErr, if◌then◌else◌}
 use Rattle.study_board.specs.Position.{Position}
 use Rattle.study_moves.specs.Rules.{after}
 use Rattle.study_material.specs.declared.class.Class.{Class}
@@ -94,8 +95,11 @@ module _ {A : Type 0} where
   failures_stopped (Ok x) old = old
   failures_stopped (Err s) old = if is_of_device s.refusal then counted old else old
 
-  -- Not part of any public contract: what one edit of a bench does, over tables that are held, values that are honest, and the counts of questions and of failures, before and now.
-  pub record IsApplied (held held_now : Class → Bool) (honest honest_now : Type 0) (asked asked_now failed failed_now : ℕ) (old new : Kept) (e : Edit A) (r : Result (Unit {0}) (Refusal A)) : Type 0 where
+  -- Not part of any public contract: what one edit of a bench does, over tables that are held, values that are
+  -- honest, and the counts of questions and of failures, before and now.
+  pub record IsApplied (held held_now : Class → Bool) (honest honest_now : Type 0)
+      (asked asked_now failed failed_now : ℕ) (old new : Kept) (e : Edit A) (r : Result (Unit {0}) (Refusal A))
+      : Type 0 where
     pub refusal : IfErr r (IsRefusalOf held (plain_study (marked old)) e)
     pub accepted : OnOk r (IsAccepted held (plain_study (marked old)) e)
     pub edit : OnOk r (plain_study (marked new) ≡ edited (plain_study (marked old)) e)

@@ -29,7 +29,12 @@ retold_tree all t = record { label = told_in all 0 t.label; below = retold all 1
 abbrev pub refreshed : List Told → Aim → ℕ → ℕ → Told → Forest Label → Forest Label
 refreshed all a d n q none = none
 refreshed all a d n q (more m l b r) =
-    more m (record { told = told_in all n l.told; faults = own a d q (told_in all n l.told).value + faults_below (hero_moves a (d + 1)) (refreshed all a (d + 1) (n + 1) (told_in all n l.told) b) })
+    more m
+    (record {
+      told = told_in all n l.told;
+      faults = own a d q (told_in all n l.told).value + faults_below
+          (hero_moves a (d + 1)) (refreshed all a (d + 1) (n + 1) (told_in all n l.told) b);
+    })
     (refreshed all a (d + 1) (n + 1) (told_in all n l.told) b) (refreshed all a d (n + 1 + nodes_in b) q r)
 
 -- the same of the first k nodes, and the others as they are
@@ -37,7 +42,12 @@ abbrev pub refreshed_to : List Told → Aim → ℕ → ℕ → Told → ℕ →
 refreshed_to all a d n q zero f = f
 refreshed_to all a d n q (suc k) none = none
 refreshed_to all a d n q (suc k) (more m l b r) =
-    more m (record { told = told_in all n l.told; faults = own a d q (told_in all n l.told).value + faults_below (hero_moves a (d + 1)) (refreshed all a (d + 1) (n + 1) (told_in all n l.told) b) })
+    more m
+    (record {
+      told = told_in all n l.told;
+      faults = own a d q (told_in all n l.told).value + faults_below
+          (hero_moves a (d + 1)) (refreshed all a (d + 1) (n + 1) (told_in all n l.told) b);
+    })
     (refreshed all a (d + 1) (n + 1) (told_in all n l.told) b) (refreshed_to all a d (n + 1 + nodes_in b) q k r)
 
 -- the first k of nodes side by side

@@ -38,7 +38,8 @@ fn ask_after<V: Values>(
 ) -> Result<(), ProbeFault>
     requires legal { All (λ m. is_legal p.now m ≡ true) moves.now }
     requires room { length tally.old.mates + tally.old.draws + length moves.now ≤ 256 }
-    ensures game { V.is_honest values.old → OnOk result ((all : List AValue) × AreValuesAfter p.now moves.now all × (tally.new ≡ joined tally.old (tally_of all))) }
+    ensures game { V.is_honest values.old → OnOk result ((all : List AValue) × AreValuesAfter p.now moves.now all
+        × (tally.new ≡ joined tally.old (tally_of all))) }
     ensures untold { IfErr result (IsUntold (V.held values.old) (map (after p.now) moves.now)) }
     ensures held { OnOk result (AreHeld (V.held values.old) (map (after p.now) moves.now)) }
     ensures asked { WasAsked (length moves.now) (is_ok result) (V.asked_of values.old) (V.asked_of values.new) }

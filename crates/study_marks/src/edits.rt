@@ -1,5 +1,6 @@
 //! Edits of a bench.
-ghost use Rattle.std.specs.Prelude.{◌≡◌, ◌+◌, ◌≤◌, ◌⊎◌, [], ◌∷◌, length, map, slice_set, OnOk, OnErr, IfOk, IfErr, IsOk, MatchOption, Some, None, Ok, Err, true};
+ghost use Rattle.std.specs.Prelude.{◌≡◌, ◌+◌, ◌≤◌, ◌⊎◌, [], ◌∷◌, length, map, slice_set, OnOk, OnErr};
+ghost use Rattle.std.specs.Prelude.{IfOk, IfErr, IsOk, MatchOption, Some, None, Ok, Err, true};
 ghost use Rattle.study_material.specs.declared.class.Class.{Class as AClass};
 ghost use Rattle.study_moves.specs.Rules.{after};
 ghost use Rattle.study_tree.specs.Forest.{none};
@@ -10,8 +11,9 @@ ghost use Rattle.study_marks.specs.Study.{plain_study, position_at, place_of_tag
 ghost use Rattle.study_marks.specs.Kept.{marked, IsRight};
 ghost use Rattle.study_marks.specs.Asked.{asked_at, asked_of, is_of_tables, AllHeld, IsOutside, HasAsked, failures_after, counted_times};
 ghost use Rattle.study_marks.specs.Stop.{IsShiftRefusal, IsStopped, AreAccepted, accepted_of, labels_by, HasAskedBy, failures_stopped, IsApplied};
-ghost use Rattle.study_marks.specs.Edits.{broken_from, positioned, shifted, stipulated, inserted, deleted, promoted, tagged, edited_by};
-ghost use Rattle.study_marks.specs.Edits.{insert_refusal, delete_refusal, promote_refusal, shift_refusal, is_printed, is_tag_text, tag_refusal};
+ghost use Rattle.study_marks.specs.Edits.{broken_from, positioned, shifted, stipulated, inserted, deleted};
+ghost use Rattle.study_marks.specs.Edits.{promoted, tagged, edited_by, insert_refusal, delete_refusal};
+ghost use Rattle.study_marks.specs.Edits.{promote_refusal, shift_refusal, is_printed, is_tag_text, tag_refusal};
 ghost use Rattle.std.specs.List.{list_all};
 
 use crate::ask::ask;

@@ -134,7 +134,8 @@ pub fn gather<'a, A: Allocator, V: Values>(
     ensures game { V.is_honest values.old → IfOk result (λ all. AllAreTold position.now (retold_tree all.items (told_tree (plain_tree tree.now)))) }
     ensures refusal { IfErr result (IsOutside (V.held values.old) (asked_at position.now ++ asked_below position.now (plain_tree tree.now).below)) }
     ensures found { OnOk result (AreHeld (V.held values.old) (asked_at position.now ++ asked_below position.now (plain_tree tree.now).below)) }
-    ensures asked { HasAsked (length (asked_at position.now ++ asked_below position.now (plain_tree tree.now).below)) result (V.asked_of values.old) (V.asked_of values.new) }
+    ensures asked { HasAsked (length (asked_at position.now ++ asked_below position.now (plain_tree tree.now).below)) result
+        (V.asked_of values.old) (V.asked_of values.new) }
     ensures failures { V.failed_of values.new ≡ failures_after result (V.failed_of values.old) }
     ensures honest { V.is_honest values.old → V.is_honest values.new }
     ensures tables { (c : AClass) → V.held values.new c ≡ V.held values.old c }

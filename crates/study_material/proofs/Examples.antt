@@ -5,7 +5,7 @@ use Rattle.study_board.specs.declared.men.Side.{Side}
 use Rattle.study_board.specs.declared.men.Side.TheVariants.{White, Black}
 use Rattle.study_board.specs.declared.men.Kind.{Kind}
 use Rattle.study_board.specs.declared.men.Kind.TheVariants.{King, Queen, Rook, Bishop, Knight, Pawn}
-use Rattle.study_material.specs.declared.class.Class.TheVariants.{KPK, KQPK, KQKR, KPKP}
+use Rattle.study_material.specs.declared.class.Class.TheVariants.{KPK, KQPK, KQKR}
 use Rattle.study_material.specs.Lists.{of, lists, comes_before, is_swapped, ordered}
 use Rattle.study_material.specs.Class.{lists_of}
 use Rattle.study_material.specs.Needs.{promoted, reached}

@@ -1,5 +1,7 @@
 -- Every legal move leads to a position of the class or of one that it needs.
-use Rattle.std.proofs.Common.{◌≡◌, ℕ, ◌+◌, ◌-◌, ◌*◌, ◌≤◌, ◌==◌, eqb, suc, Bool, true, false, cond, not, ◌&&◌, ◌||◌, ◌⊎◌, inl, inr, List, [], ◌∷◌, ◌++◌, length, Option, Some, None, unwrap_or, refl, sym, ◌∙◌, ap, subst, arith}
+use Rattle.std.proofs.Common.{◌≡◌, ℕ, ◌+◌, ◌-◌, ◌*◌, ◌≤◌, ◌==◌, eqb, suc, Bool, true, false, cond}
+use Rattle.std.proofs.Common.{not, ◌&&◌, ◌||◌, ◌⊎◌, inl, inr, List, [], ◌∷◌, ◌++◌, length, Option}
+use Rattle.std.proofs.Common.{Some, None, unwrap_or, refl, sym, ◌∙◌, ap, subst, arith}
 use Rattle.std.specs.List.{filter, list_any}
 use Rattle.std.specs.List.Sorted.{IsPermutation}
 use Rattle.std.proofs.lemmas.Bool.{false≢true, and_parts, eqb-true}
@@ -12,7 +14,8 @@ use Rattle.study_board.specs.declared.men.Kind.{Kind}
 use Rattle.study_board.specs.declared.men.Kind.TheVariants.{King, Queen, Rook, Bishop, Knight, Pawn}
 use Rattle.study_board.specs.Geometry.{file_of, rank_of}
 use Rattle.study_board.specs.Men.{same_side, same_kind, is_man}
-use Rattle.study_board.specs.Position.{Position, IsValid, IsAscending, is_empty, is_occupied, has_man, could_be_passed, passed_possible, has_end_pawn, is_end_pawn}
+use Rattle.study_board.specs.Position.{Position, IsValid, IsAscending, is_empty, is_occupied, has_man}
+use Rattle.study_board.specs.Position.{could_be_passed, passed_possible, has_end_pawn, is_end_pawn}
 use Rattle.study_board.proofs.Lists.{not_true}
 use Rattle.study_board.proofs.Valid.{IsFaultless-from_first}
 use Rattle.study_board.proofs.Ascending.{IsAscending-filter}
@@ -21,18 +24,18 @@ use Rattle.study_moves.specs.Rules.{is_pawn, is_en_passant, is_square, has_side,
 use Rattle.study_moves.specs.Alike.{Leads}
 use Rattle.study_moves.proofs.MenOfList.{IsAmong, none_among, IsAmong-filter, found_among}
 use Rattle.study_moves.proofs.NoMoveBetween.{HasMover-from_is_legal}
-use Rattle.study_moves.proofs.After.{IsMoveFrom-is_legal, IsValid-after}
+use Rattle.study_moves.proofs.AfterMove.{IsMoveFrom-is_legal, IsValid-after}
 use Rattle.study_material.specs.declared.class.Class.{Class}
 use Rattle.study_material.specs.Lists.{Lists, of, put_kind, kinds_of, lists, ordered}
 use Rattle.study_material.specs.Class.{IsOf}
 use Rattle.study_material.specs.Needs.{officers, reached, LeadsOn}
 use Rattle.study_board.specs.EqualLaws.{kinds_equal}
-use Rattle.study_material.proofs.Counts.{many, many-count, many-IsPermutation, lists-IsPermutation}
-use Rattle.study_material.proofs.Exists.{class_exists}
-use Rattle.study_material.proofs.Images.{ordered-exchanged}
-use Rattle.study_material.proofs.Others.{one_king}
+use Rattle.study_material.proofs.KindCounts.{many, many-count, many-IsPermutation, lists-IsPermutation}
+use Rattle.study_material.proofs.EachHasClass.{class_exists}
+use Rattle.study_material.proofs.ClassOfImage.{ordered-exchanged}
+use Rattle.study_material.proofs.MenBesideKings.{one_king}
 use Rattle.study_material.proofs.ReachedLists.{In, captured_by_white, promoted_by_white, both_by_white, by_white, by_black, needed}
-use Rattle.study_material.proofs.Steps.{goes_away, IsStep-move}
+use Rattle.study_material.proofs.MenAfterMove.{goes_away, IsStep-move}
 
 abbrev man : Side → Kind → ℕ → Man
 man s k a = record { side = s; kind = k; at = a }
@@ -43,8 +46,14 @@ Goes l m = (m ≡ l) ⊎ In m (reached l)
 
 -- a man is taken
 taken : (t : Side) (j : Kind) (b : ℕ) (xs : List Man) → same_kind j King ≡ false → In (lists xs) (reached (lists (man t j b ∷ xs)))
-taken White j b xs e = rw e (by_black (of (put_kind j (kinds_of White xs)) (kinds_of Black xs)) (of (kinds_of Black xs) (kinds_of White xs)) (captured_by_white (kinds_of Black xs) (kinds_of White xs) j))
-taken Black j b xs e = rw e (by_white (of (kinds_of White xs) (put_kind j (kinds_of Black xs))) (of (kinds_of White xs) (kinds_of Black xs)) (captured_by_white (kinds_of White xs) (kinds_of Black xs) j))
+taken White j b xs e =
+    rw e
+    (by_black (of (put_kind j (kinds_of White xs)) (kinds_of Black xs)) (of (kinds_of Black xs) (kinds_of White xs))
+    (captured_by_white (kinds_of Black xs) (kinds_of White xs) j))
+taken Black j b xs e =
+    rw e
+    (by_white (of (kinds_of White xs) (put_kind j (kinds_of Black xs))) (of (kinds_of White xs) (kinds_of Black xs))
+    (captured_by_white (kinds_of White xs) (kinds_of Black xs) j))
 
 officer : (k : Kind) → is_officer k ≡ true → In k officers × (same_kind k King ≡ false)
 officer Queen e = (inl refl, refl)
@@ -59,14 +68,19 @@ promotes : (s : Side) (k : Kind) (a b : ℕ) (xs : List Man) → is_officer k �
 promotes White k a b xs e =
     let o = officer k e in
     let none : same_kind k King ≡ false = o.1 in
-    rw none (by_white (of (put_kind Pawn (kinds_of White xs)) (kinds_of Black xs)) (of (put_kind k (kinds_of White xs)) (kinds_of Black xs)) (promoted_by_white (kinds_of White xs) (kinds_of Black xs) k o.0))
+    rw none (by_white (of (put_kind Pawn (kinds_of White xs)) (kinds_of Black xs))
+    (of (put_kind k (kinds_of White xs)) (kinds_of Black xs))
+    (promoted_by_white (kinds_of White xs) (kinds_of Black xs) k o.0))
 promotes Black k a b xs e =
     let o = officer k e in
     let none : same_kind k King ≡ false = o.1 in
-    rw none (by_black (of (kinds_of White xs) (put_kind Pawn (kinds_of Black xs))) (of (put_kind k (kinds_of Black xs)) (kinds_of White xs)) (promoted_by_white (kinds_of Black xs) (kinds_of White xs) k o.0))
+    rw none (by_black (of (kinds_of White xs) (put_kind Pawn (kinds_of Black xs)))
+    (of (put_kind k (kinds_of Black xs)) (kinds_of White xs))
+    (promoted_by_white (kinds_of Black xs) (kinds_of White xs) k o.0))
 
 -- a pawn takes and is promoted
-promotes_taking : (s t : Side) (k j : Kind) (a b d : ℕ) (xs : List Man) → is_officer k ≡ true → same_side t s ≡ false → same_kind j King ≡ false → same_kind j Pawn ≡ false
+promotes_taking : (s t : Side) (k j : Kind) (a b d : ℕ) (xs : List Man) → is_officer k ≡ true
+    → same_side t s ≡ false → same_kind j King ≡ false → same_kind j Pawn ≡ false
     → In (lists (man s k b ∷ xs)) (reached (lists (man s Pawn a ∷ man t j d ∷ xs)))
 promotes_taking White Black k j a b d xs e h f g =
     let o = officer k e in
@@ -85,7 +99,8 @@ promotes_taking Black Black k j a b d xs e h f g = absurd (false≢true (sym h))
 pub passed_there : (p : Position) (m : Man) (x : ℕ) → IsValid p → is_en_passant p.passed m x ≡ true → could_be_passed p.men p.to_move x ≡ true
 unfolding is_en_passant
 passed_there p m x v e =
-    by_passed p.passed (and_parts (is_pawn m && not (file_of m.at == file_of x)) (is_square p.passed x) e).1 (IsFaultless-from_first p.men p.to_move p.passed v.faultless).possible
+    by_passed p.passed (and_parts (is_pawn m && not (file_of m.at == file_of x)) (is_square p.passed x) e).1
+    (IsFaultless-from_first p.men p.to_move p.passed v.faultless).possible
   where
     by_passed : (q : Option ℕ) → is_square q x ≡ true → passed_possible p.men p.to_move q ≡ true → could_be_passed p.men p.to_move x ≡ true
     by_passed None e h = absurd (false≢true e)
@@ -143,14 +158,30 @@ IsGone-from mover (a ∷ b ∷ []) l h (inl e) =
       more = b ∷ [];
       one = omega arith;
       are = subst (λ z. IsPermutation (a ∷ b ∷ []) (z ∷ b ∷ [])) e (IsPermutation-refl (a ∷ b ∷ []));
-      each = λ x i. elim i [ inl s ↦ (inr (inl s), λ k. absurd (let c : a.at ≡ mover.at = ap (λ z. z.at) e in let d : b.at ≡ x.at = ap (λ z. z.at) s in let f = h.0.0 in omega arith)) | inr j ↦ absurd j ];
+      each =
+          λ x i. elim i [
+            | inl s ↦ (
+              inr (inl s),
+              λ k. absurd (let c : a.at ≡ mover.at = ap (λ z. z.at) e in
+                  let d : b.at ≡ x.at = ap (λ z. z.at) s in let f = h.0.0 in omega arith),
+            )
+            | inr j ↦ absurd j
+          ];
     }
 IsGone-from mover (a ∷ b ∷ []) l h (inr (inl e)) =
     record {
       more = a ∷ [];
       one = omega arith;
       are = subst (λ z. IsPermutation (a ∷ b ∷ []) (z ∷ a ∷ [])) e (IsPermutation-append_comm (a ∷ []) (b ∷ []));
-      each = λ x i. elim i [ inl s ↦ (inl s, λ k. absurd (let c : b.at ≡ mover.at = ap (λ z. z.at) e in let d : a.at ≡ x.at = ap (λ z. z.at) s in let f = h.0.0 in omega arith)) | inr j ↦ absurd j ];
+      each =
+          λ x i. elim i [
+            | inl s ↦ (
+              inl s,
+              λ k. absurd (let c : b.at ≡ mover.at = ap (λ z. z.at) e in
+                  let d : a.at ≡ x.at = ap (λ z. z.at) s in let f = h.0.0 in omega arith),
+            )
+            | inr j ↦ absurd j
+          ];
     }
 IsGone-from mover (a ∷ b ∷ []) l h (inr (inr i)) = absurd i
 IsGone-from mover (a ∷ b ∷ x ∷ xs) l h i = absurd (omega arith)
@@ -192,7 +223,8 @@ module _ (p : Position) (m : Move) (v : IsValid p) (legal : is_legal p m ≡ tru
   before : IsPermutation p.men (mover ∷ more ++ left)
   before =
       IsPermutation-trans p.men (left ++ gone) (mover ∷ more ++ left) (IsStep-move p mover m v.ordered step_empty).before
-      (IsPermutation-trans (left ++ gone) (gone ++ left) (mover ∷ more ++ left) (IsPermutation-append_comm left gone) (IsPermutation-append_left left gone (mover ∷ more) has_gone.are))
+      (IsPermutation-trans (left ++ gone) (gone ++ left) (mover ∷ more ++ left)
+      (IsPermutation-append_comm left gone) (IsPermutation-append_left left gone (mover ∷ more) has_gone.are))
 
   after_men : IsPermutation (moved mover m ∷ left) (after p m).men
   unfolding after
@@ -218,14 +250,20 @@ module _ (p : Position) (m : Move) (v : IsValid p) (legal : is_legal p m ≡ tru
       one_after Black = many-count Black King (after p m).men ∙ (one_king (after p m) (IsValid-after p m v legal)).1
 
       counted_before : many x.side King (mover ∷ x ∷ left) ≡ 1
-      counted_before = subst (λ ys. many x.side King (mover ∷ ys ++ left) ≡ 1) e (many-IsPermutation x.side King p.men (mover ∷ more ++ left) before ∙ one_before x.side)
+      counted_before =
+          subst (λ ys. many x.side King (mover ∷ ys ++ left) ≡ 1) e
+          (many-IsPermutation x.side King p.men (mover ∷ more ++ left) before ∙ one_before x.side)
 
       counted_after : many x.side King (moved mover m ∷ left) ≡ 1
       counted_after = sym (many-IsPermutation x.side King (moved mover m ∷ left) (after p m).men after_men) ∙ one_after x.side
 
-      moved_king : (o : Option Kind) → is_choice (reaches_end mover m.target) o ≡ true → is_man x.side King (moved_as o) ≡ true → is_man x.side King mover ≡ true
+      moved_king : (o : Option Kind) → is_choice (reaches_end mover m.target) o ≡ true
+          → is_man x.side King (moved_as o) ≡ true → is_man x.side King mover ≡ true
       moved_king None c h = h
-      moved_king (Some k) c h = absurd (false≢true (sym (officer k (chosen (reaches_end mover m.target) c)).1 ∙ (and_parts (same_side mover.side x.side) (same_kind k King) h).1))
+      moved_king (Some k) c h =
+          absurd
+          (false≢true (sym (officer k (chosen (reaches_end mover m.target) c)).1
+          ∙ (and_parts (same_side mover.side x.side) (same_kind k King) h).1))
         where
           chosen : (b : Bool) → is_choice b (Some k) ≡ true → is_officer k ≡ true
           chosen true c = c
@@ -251,8 +289,11 @@ module _ (p : Position) (m : Move) (v : IsValid p) (legal : is_legal p m ≡ tru
       let i : IsAmong x more = subst (λ ys. IsAmong x ys) (sym e) (inl refl) in
       let r = has_gone.each x i in
       let f = IsAmong-filter (goes_away p.passed mover m.target) p.men x r.0 in
-      let apart : eqb x.at mover.at ≡ false = other x.at mover.at r.1 in
-      (f.0, at_target (x.at == mover.at) (x.at == m.target) (is_en_passant p.passed mover m.target) (x.at == 8 * rank_of mover.at + file_of m.target) apart refl no_passing f.1)
+      let apart : eqb x.at mover.at ≡ false = other x.at mover.at r.1 in (
+        f.0,
+        at_target (x.at == mover.at) (x.at == m.target) (is_en_passant p.passed mover m.target)
+            (x.at == 8 * rank_of mover.at + file_of m.target) apart refl no_passing f.1,
+      )
     where
       other : (a b : ℕ) → (a ≡ b → ⊥) → eqb a b ≡ false
       other a b h = grind (arith, nat_tests)
@@ -296,8 +337,13 @@ module _ (p : Position) (m : Move) (v : IsValid p) (legal : is_legal p m ≡ tru
   taken_kind : (x : Man) → IsAmong x p.men → x.at ≡ m.target → reaches_end mover m.target ≡ true → same_kind x.kind Pawn ≡ false
   unfolding has_end_pawn is_end_pawn
   taken_kind x i e end =
-      let none = none_among (λ y. (is_man White Pawn y || is_man Black Pawn y) && ((rank_of y.at == 0) || (rank_of y.at == 7))) p.men x (IsFaultless-from_first p.men p.to_move p.passed v.faultless).pawns i in
-      by_kind (same_kind x.kind Pawn) x.side (last mover.side (rank_of m.target) (rank_of x.at) (ap rank_of e) (and_parts (is_pawn mover) (rank_of m.target == last_rank mover.side) end).1) none
+      let none =
+      none_among
+      (λ y. (is_man White Pawn y || is_man Black Pawn y) && ((rank_of y.at == 0) || (rank_of y.at == 7))) p.men
+      x (IsFaultless-from_first p.men p.to_move p.passed v.faultless).pawns i in
+      by_kind (same_kind x.kind Pawn) x.side
+      (last mover.side (rank_of m.target) (rank_of x.at) (ap rank_of e)
+      (and_parts (is_pawn mover) (rank_of m.target == last_rank mover.side) end).1) none
     where
       last : (s : Side) (n k : ℕ) → k ≡ n → (n == last_rank s) ≡ true → ((k == 0) || (k == 7)) ≡ true
       last White n k d e = (let f : k ≡ 7 = d ∙ eqb-true n 7 e in rw f)
@@ -314,20 +360,32 @@ module _ (p : Position) (m : Move) (v : IsValid p) (legal : is_legal p m ≡ tru
   goes_on [] e l None c = inl refl
   goes_on [] e l (Some k) c =
       let end = ended (reaches_end mover m.target) c in
-      inr (subst (λ j. In (lists (moved_as (Some k) ∷ left)) (reached (lists (man mover.side j mover.at ∷ left)))) (sym (kinds_equal mover.kind Pawn (and_parts (is_pawn mover) (rank_of m.target == last_rank mover.side) end.0).0))
+      inr (subst (λ j. In (lists (moved_as (Some k) ∷ left)) (reached (lists (man mover.side j mover.at ∷ left))))
+      (sym
+      (kinds_equal mover.kind Pawn
+      (and_parts (is_pawn mover) (rank_of m.target == last_rank mover.side) end.0).0))
       (promotes mover.side k mover.at m.target left end.1))
     where
       ended : (b : Bool) → is_choice b (Some k) ≡ true → (b ≡ true) × (is_officer k ≡ true)
       ended true c = (refl, c)
       ended false c = absurd (false≢true c)
   goes_on (x ∷ []) e l None c =
-      inr (subst (λ k. In (lists (mover ∷ left)) (reached k)) (lists-IsPermutation (mover ∷ x ∷ left) (x ∷ mover ∷ left) (IsPermutation-append_left left (mover ∷ x ∷ []) (x ∷ mover ∷ []) (IsPermutation-append_comm (mover ∷ []) (x ∷ []))))
+      inr
+      (subst (λ k. In (lists (mover ∷ left)) (reached k))
+      (lists-IsPermutation (mover ∷ x ∷ left) (x ∷ mover ∷ left)
+      (IsPermutation-append_left left (mover ∷ x ∷ []) (x ∷ mover ∷ [])
+      (IsPermutation-append_comm (mover ∷ []) (x ∷ []))))
       (taken x.side x.kind x.at (mover ∷ left) (no_king x e)))
   goes_on (x ∷ []) e l (Some k) c =
       let end = ended (reaches_end mover m.target) c in
       let there = on_target x e end.0 in
-      inr (subst (λ j. In (lists (moved_as (Some k) ∷ left)) (reached (lists (man mover.side j mover.at ∷ x ∷ left)))) (sym (kinds_equal mover.kind Pawn (and_parts (is_pawn mover) (rank_of m.target == last_rank mover.side) end.0).0))
-      (promotes_taking mover.side x.side k x.kind mover.at m.target x.at left end.1 (taken_side x there.0 there.1) (no_king x e) (taken_kind x there.0 there.1 end.0)))
+      inr
+      (subst (λ j. In (lists (moved_as (Some k) ∷ left)) (reached (lists (man mover.side j mover.at ∷ x ∷ left))))
+      (sym
+      (kinds_equal mover.kind Pawn
+      (and_parts (is_pawn mover) (rank_of m.target == last_rank mover.side) end.0).0))
+      (promotes_taking mover.side x.side k x.kind mover.at m.target x.at left end.1 (taken_side x there.0 there.1)
+      (no_king x e) (taken_kind x there.0 there.1 end.0)))
     where
       ended : (b : Bool) → is_choice b (Some k) ≡ true → (b ≡ true) × (is_officer k ≡ true)
       ended true c = (refl, c)

@@ -3,12 +3,18 @@ use Rattle.std.specs.Prelude.{◌≡◌, List, [], ◌∷◌, filter}
 use Rattle.std.proofs.Common.{refl, ap, ◌∙◌}
 use Rattle.study_board.specs.declared.men.Kind.TheVariants.{Queen, Rook, Bishop, Knight, Pawn}
 use Rattle.study_material.specs.declared.class.Class.{Class}
-use Rattle.study_material.specs.declared.class.Class.TheVariants.{KK, KQK, KRK, KBK, KNK, KPK, KQQK, KQRK, KQBK, KQNK, KQPK, KRRK, KRBK, KRNK, KRPK, KBBK, KBNK, KBPK, KNNK, KNPK, KPPK, KQKQ, KQKR, KQKB, KQKN, KQKP, KRKR, KRKB, KRKN, KRKP, KBKB, KBKN, KBKP, KNKN, KNKP, KPKP}
+use Rattle.study_material.specs.declared.class.Class.TheVariants.{KK, KQK, KRK, KBK, KNK, KPK, KQQK, KQRK, KQBK}
+use Rattle.study_material.specs.declared.class.Class.TheVariants.{KQNK, KQPK, KRRK, KRBK, KRNK, KRPK, KBBK}
+use Rattle.study_material.specs.declared.class.Class.TheVariants.{KBNK, KBPK, KNNK, KNPK, KPPK, KQKQ, KQKR}
+use Rattle.study_material.specs.declared.class.Class.TheVariants.{KQKB, KQKN, KQKP, KRKR, KRKB, KRKN, KRKP}
+use Rattle.study_material.specs.declared.class.Class.TheVariants.{KBKB, KBKN, KBKP, KNKN, KNKP, KPKP}
 use Rattle.study_material.specs.Lists.{Lists, of}
 use Rattle.study_material.specs.Needs.{ordered_reached, has_lists, by_size, needs_of}
 
 abbrev pub size_table : List Class
-size_table = KK ∷ KQK ∷ KRK ∷ KBK ∷ KNK ∷ KPK ∷ KQQK ∷ KQRK ∷ KQBK ∷ KQNK ∷ KRRK ∷ KRBK ∷ KRNK ∷ KBBK ∷ KBNK ∷ KNNK ∷ KQKQ ∷ KQKR ∷ KQKB ∷ KQKN ∷ KRKR ∷ KRKB ∷ KRKN ∷ KBKB ∷ KBKN ∷ KNKN ∷ KQPK ∷ KRPK ∷ KBPK ∷ KNPK ∷ KQKP ∷ KRKP ∷ KBKP ∷ KNKP ∷ KPPK ∷ KPKP ∷ []
+size_table = KK ∷ KQK ∷ KRK ∷ KBK ∷ KNK ∷ KPK ∷ KQQK ∷ KQRK ∷ KQBK ∷ KQNK ∷ KRRK ∷ KRBK ∷ KRNK ∷ KBBK ∷ KBNK ∷ KNNK
+    ∷ KQKQ ∷ KQKR ∷ KQKB ∷ KQKN ∷ KRKR ∷ KRKB ∷ KRKN ∷ KBKB ∷ KBKN ∷ KNKN ∷ KQPK ∷ KRPK ∷ KBPK ∷ KNPK ∷ KQKP ∷ KRKP ∷
+    KBKP ∷ KNKP ∷ KPPK ∷ KPKP ∷ []
 
 pub by_size_is : by_size ≡ size_table
 unfolding by_size
@@ -26,32 +32,48 @@ reached_table KQQK = of (Queen ∷ []) [] ∷ of (Queen ∷ []) [] ∷ []
 reached_table KQRK = of (Rook ∷ []) [] ∷ of (Queen ∷ []) [] ∷ []
 reached_table KQBK = of (Bishop ∷ []) [] ∷ of (Queen ∷ []) [] ∷ []
 reached_table KQNK = of (Knight ∷ []) [] ∷ of (Queen ∷ []) [] ∷ []
-reached_table KQPK = of (Queen ∷ Queen ∷ []) [] ∷ of (Queen ∷ Rook ∷ []) [] ∷ of (Queen ∷ Bishop ∷ []) [] ∷ of (Queen ∷ Knight ∷ []) [] ∷ of (Pawn ∷ []) [] ∷ of (Queen ∷ []) [] ∷ []
+reached_table KQPK = of (Queen ∷ Queen ∷ []) [] ∷ of (Queen ∷ Rook ∷ []) [] ∷ of (Queen ∷ Bishop ∷ []) [] ∷ of
+    (Queen ∷ Knight ∷ []) [] ∷ of (Pawn ∷ []) [] ∷ of (Queen ∷ []) [] ∷ []
 reached_table KRRK = of (Rook ∷ []) [] ∷ of (Rook ∷ []) [] ∷ []
 reached_table KRBK = of (Bishop ∷ []) [] ∷ of (Rook ∷ []) [] ∷ []
 reached_table KRNK = of (Knight ∷ []) [] ∷ of (Rook ∷ []) [] ∷ []
-reached_table KRPK = of (Queen ∷ Rook ∷ []) [] ∷ of (Rook ∷ Rook ∷ []) [] ∷ of (Rook ∷ Bishop ∷ []) [] ∷ of (Rook ∷ Knight ∷ []) [] ∷ of (Pawn ∷ []) [] ∷ of (Rook ∷ []) [] ∷ []
+reached_table KRPK = of (Queen ∷ Rook ∷ []) [] ∷ of (Rook ∷ Rook ∷ []) [] ∷ of (Rook ∷ Bishop ∷ []) [] ∷ of
+    (Rook ∷ Knight ∷ []) [] ∷ of (Pawn ∷ []) [] ∷ of (Rook ∷ []) [] ∷ []
 reached_table KBBK = of (Bishop ∷ []) [] ∷ of (Bishop ∷ []) [] ∷ []
 reached_table KBNK = of (Knight ∷ []) [] ∷ of (Bishop ∷ []) [] ∷ []
-reached_table KBPK = of (Queen ∷ Bishop ∷ []) [] ∷ of (Rook ∷ Bishop ∷ []) [] ∷ of (Bishop ∷ Bishop ∷ []) [] ∷ of (Bishop ∷ Knight ∷ []) [] ∷ of (Pawn ∷ []) [] ∷ of (Bishop ∷ []) [] ∷ []
+reached_table KBPK = of (Queen ∷ Bishop ∷ []) [] ∷ of (Rook ∷ Bishop ∷ []) [] ∷ of (Bishop ∷ Bishop ∷ []) [] ∷ of
+    (Bishop ∷ Knight ∷ []) [] ∷ of (Pawn ∷ []) [] ∷ of (Bishop ∷ []) [] ∷ []
 reached_table KNNK = of (Knight ∷ []) [] ∷ of (Knight ∷ []) [] ∷ []
-reached_table KNPK = of (Queen ∷ Knight ∷ []) [] ∷ of (Rook ∷ Knight ∷ []) [] ∷ of (Bishop ∷ Knight ∷ []) [] ∷ of (Knight ∷ Knight ∷ []) [] ∷ of (Pawn ∷ []) [] ∷ of (Knight ∷ []) [] ∷ []
-reached_table KPPK = of (Queen ∷ Pawn ∷ []) [] ∷ of (Rook ∷ Pawn ∷ []) [] ∷ of (Bishop ∷ Pawn ∷ []) [] ∷ of (Knight ∷ Pawn ∷ []) [] ∷ of (Queen ∷ Pawn ∷ []) [] ∷ of (Rook ∷ Pawn ∷ []) [] ∷ of (Bishop ∷ Pawn ∷ []) [] ∷ of (Knight ∷ Pawn ∷ []) [] ∷ of (Pawn ∷ []) [] ∷ of (Pawn ∷ []) [] ∷ []
+reached_table KNPK = of (Queen ∷ Knight ∷ []) [] ∷ of (Rook ∷ Knight ∷ []) [] ∷ of (Bishop ∷ Knight ∷ []) [] ∷ of
+    (Knight ∷ Knight ∷ []) [] ∷ of (Pawn ∷ []) [] ∷ of (Knight ∷ []) [] ∷ []
+reached_table KPPK = of (Queen ∷ Pawn ∷ []) [] ∷ of (Rook ∷ Pawn ∷ []) [] ∷ of (Bishop ∷ Pawn ∷ []) [] ∷ of
+    (Knight ∷ Pawn ∷ []) [] ∷ of (Queen ∷ Pawn ∷ []) [] ∷ of (Rook ∷ Pawn ∷ []) [] ∷ of (Bishop ∷ Pawn ∷ []) [] ∷ of
+    (Knight ∷ Pawn ∷ []) [] ∷ of (Pawn ∷ []) [] ∷ of (Pawn ∷ []) [] ∷ []
 reached_table KQKQ = of (Queen ∷ []) [] ∷ of (Queen ∷ []) [] ∷ []
 reached_table KQKR = of (Queen ∷ []) [] ∷ of (Rook ∷ []) [] ∷ []
 reached_table KQKB = of (Queen ∷ []) [] ∷ of (Bishop ∷ []) [] ∷ []
 reached_table KQKN = of (Queen ∷ []) [] ∷ of (Knight ∷ []) [] ∷ []
-reached_table KQKP = of (Queen ∷ []) [] ∷ of (Pawn ∷ []) [] ∷ of (Queen ∷ []) (Queen ∷ []) ∷ of (Queen ∷ []) (Rook ∷ []) ∷ of (Queen ∷ []) (Bishop ∷ []) ∷ of (Queen ∷ []) (Knight ∷ []) ∷ of (Queen ∷ []) [] ∷ of (Rook ∷ []) [] ∷ of (Bishop ∷ []) [] ∷ of (Knight ∷ []) [] ∷ []
+reached_table KQKP = of (Queen ∷ []) [] ∷ of (Pawn ∷ []) [] ∷ of (Queen ∷ []) (Queen ∷ []) ∷ of (Queen ∷ [])
+    (Rook ∷ []) ∷ of (Queen ∷ []) (Bishop ∷ []) ∷ of (Queen ∷ []) (Knight ∷ []) ∷ of (Queen ∷ []) [] ∷ of (Rook ∷ [])
+    [] ∷ of (Bishop ∷ []) [] ∷ of (Knight ∷ []) [] ∷ []
 reached_table KRKR = of (Rook ∷ []) [] ∷ of (Rook ∷ []) [] ∷ []
 reached_table KRKB = of (Rook ∷ []) [] ∷ of (Bishop ∷ []) [] ∷ []
 reached_table KRKN = of (Rook ∷ []) [] ∷ of (Knight ∷ []) [] ∷ []
-reached_table KRKP = of (Rook ∷ []) [] ∷ of (Pawn ∷ []) [] ∷ of (Queen ∷ []) (Rook ∷ []) ∷ of (Rook ∷ []) (Rook ∷ []) ∷ of (Rook ∷ []) (Bishop ∷ []) ∷ of (Rook ∷ []) (Knight ∷ []) ∷ of (Queen ∷ []) [] ∷ of (Rook ∷ []) [] ∷ of (Bishop ∷ []) [] ∷ of (Knight ∷ []) [] ∷ []
+reached_table KRKP = of (Rook ∷ []) [] ∷ of (Pawn ∷ []) [] ∷ of (Queen ∷ []) (Rook ∷ []) ∷ of (Rook ∷ [])
+    (Rook ∷ []) ∷ of (Rook ∷ []) (Bishop ∷ []) ∷ of (Rook ∷ []) (Knight ∷ []) ∷ of (Queen ∷ []) [] ∷ of (Rook ∷ []) []
+    ∷ of (Bishop ∷ []) [] ∷ of (Knight ∷ []) [] ∷ []
 reached_table KBKB = of (Bishop ∷ []) [] ∷ of (Bishop ∷ []) [] ∷ []
 reached_table KBKN = of (Bishop ∷ []) [] ∷ of (Knight ∷ []) [] ∷ []
-reached_table KBKP = of (Bishop ∷ []) [] ∷ of (Pawn ∷ []) [] ∷ of (Queen ∷ []) (Bishop ∷ []) ∷ of (Rook ∷ []) (Bishop ∷ []) ∷ of (Bishop ∷ []) (Bishop ∷ []) ∷ of (Bishop ∷ []) (Knight ∷ []) ∷ of (Queen ∷ []) [] ∷ of (Rook ∷ []) [] ∷ of (Bishop ∷ []) [] ∷ of (Knight ∷ []) [] ∷ []
+reached_table KBKP = of (Bishop ∷ []) [] ∷ of (Pawn ∷ []) [] ∷ of (Queen ∷ []) (Bishop ∷ []) ∷ of (Rook ∷ [])
+    (Bishop ∷ []) ∷ of (Bishop ∷ []) (Bishop ∷ []) ∷ of (Bishop ∷ []) (Knight ∷ []) ∷ of (Queen ∷ []) [] ∷ of
+    (Rook ∷ []) [] ∷ of (Bishop ∷ []) [] ∷ of (Knight ∷ []) [] ∷ []
 reached_table KNKN = of (Knight ∷ []) [] ∷ of (Knight ∷ []) [] ∷ []
-reached_table KNKP = of (Knight ∷ []) [] ∷ of (Pawn ∷ []) [] ∷ of (Queen ∷ []) (Knight ∷ []) ∷ of (Rook ∷ []) (Knight ∷ []) ∷ of (Bishop ∷ []) (Knight ∷ []) ∷ of (Knight ∷ []) (Knight ∷ []) ∷ of (Queen ∷ []) [] ∷ of (Rook ∷ []) [] ∷ of (Bishop ∷ []) [] ∷ of (Knight ∷ []) [] ∷ []
-reached_table KPKP = of (Pawn ∷ []) [] ∷ of (Queen ∷ []) (Pawn ∷ []) ∷ of (Rook ∷ []) (Pawn ∷ []) ∷ of (Bishop ∷ []) (Pawn ∷ []) ∷ of (Knight ∷ []) (Pawn ∷ []) ∷ of (Pawn ∷ []) [] ∷ of (Queen ∷ []) (Pawn ∷ []) ∷ of (Rook ∷ []) (Pawn ∷ []) ∷ of (Bishop ∷ []) (Pawn ∷ []) ∷ of (Knight ∷ []) (Pawn ∷ []) ∷ []
+reached_table KNKP = of (Knight ∷ []) [] ∷ of (Pawn ∷ []) [] ∷ of (Queen ∷ []) (Knight ∷ []) ∷ of (Rook ∷ [])
+    (Knight ∷ []) ∷ of (Bishop ∷ []) (Knight ∷ []) ∷ of (Knight ∷ []) (Knight ∷ []) ∷ of (Queen ∷ []) [] ∷ of
+    (Rook ∷ []) [] ∷ of (Bishop ∷ []) [] ∷ of (Knight ∷ []) [] ∷ []
+reached_table KPKP = of (Pawn ∷ []) [] ∷ of (Queen ∷ []) (Pawn ∷ []) ∷ of (Rook ∷ []) (Pawn ∷ []) ∷ of (Bishop ∷ [])
+    (Pawn ∷ []) ∷ of (Knight ∷ []) (Pawn ∷ []) ∷ of (Pawn ∷ []) [] ∷ of (Queen ∷ []) (Pawn ∷ []) ∷ of (Rook ∷ [])
+    (Pawn ∷ []) ∷ of (Bishop ∷ []) (Pawn ∷ []) ∷ of (Knight ∷ []) (Pawn ∷ []) ∷ []
 
 reached_is : (c : Class) → ordered_reached c ≡ reached_table c
 unfolding ordered_reached

@@ -1,5 +1,6 @@
 -- What a capture, a promotion, or both make of the lists is among the lists that are reached.
-use Rattle.std.proofs.Common.{◌≡◌, ℕ, ◌<◌, zero, suc, Bool, true, false, cond, ◌||◌, ◌⊎◌, inl, inr, nat_lt, List, [], ◌∷◌, ◌++◌, length, map, filter, refl, sym, ◌∙◌, ap, subst, arith, get_or}
+use Rattle.std.proofs.Common.{◌≡◌, ℕ, ◌<◌, zero, suc, Bool, true, false, cond, ◌||◌, ◌⊎◌, inl, inr, nat_lt, List}
+use Rattle.std.proofs.Common.{[], ◌∷◌, ◌++◌, length, map, filter, refl, sym, ◌∙◌, ap, subst, arith, get_or}
 use Rattle.std.specs.List.{list_any, flat_map, Contains}
 use Rattle.std.proofs.lemmas.Bool.{false≢true}
 use Rattle.study_board.specs.declared.men.Kind.{Kind}
@@ -7,7 +8,8 @@ use Rattle.study_board.specs.declared.men.Kind.TheVariants.{Pawn}
 use Rattle.study_material.specs.declared.class.Class.{Class}
 use Rattle.study_material.specs.Lists.{Lists, of, kind_place, put_kind, exchanged, ordered, is_exchanged}
 use Rattle.study_material.specs.Class.{lists_of, same_lists}
-use Rattle.study_material.specs.Needs.{by_size, without_one, any_kind, is_pawn, no_pawn, officers, promoted, pairs, reached_by_white, reached, ordered_reached, has_lists, needs_of}
+use Rattle.study_material.specs.Needs.{by_size, without_one, any_kind, is_pawn, no_pawn, officers, promoted, pairs}
+use Rattle.study_material.specs.Needs.{reached_by_white, reached, ordered_reached, has_lists, needs_of}
 use Rattle.study_material.proofs.Classes.{same_lists-self, is_in-Contains}
 use Rattle.study_material.proofs.NeedsTables.{size_table, by_size_is}
 use Rattle.study_material.proofs.InSize.{in_size_table}
@@ -61,14 +63,17 @@ In-without p k (x ∷ xs) e = by_place (nat_lt (kind_place x) (kind_place k)) (p
     by_place : (b d : Bool) → In xs (without_one p (put_kind k xs)) → In (x ∷ xs) (without_one p (cond b (x ∷ put_kind k xs) (k ∷ x ∷ xs)))
     by_place true d i = later (p x) (In-map (λ l. x ∷ l) xs (without_one p (put_kind k xs)) i)
       where
-        later : (b : Bool) → In (x ∷ xs) (map (λ l. x ∷ l) (without_one p (put_kind k xs))) → In (x ∷ xs) (cond b (put_kind k xs ∷ map (λ l. x ∷ l) (without_one p (put_kind k xs))) (map (λ l. x ∷ l) (without_one p (put_kind k xs))))
+        later : (b : Bool) → In (x ∷ xs) (map (λ l. x ∷ l) (without_one p (put_kind k xs)))
+            → In (x ∷ xs) (cond b (put_kind k xs ∷ map (λ l. x ∷ l) (without_one p (put_kind k xs)))
+            (map (λ l. x ∷ l) (without_one p (put_kind k xs))))
         later true i = inr i
         later false i = i
     by_place false d i = first (p k) e
 
 pub In-promoted : (k : Kind) (l : List Kind) → In k officers → In (put_kind k l) (promoted (put_kind Pawn l))
 In-promoted k l i =
-    In-flat_map (λ l. map (λ k. put_kind k l) officers) l (put_kind k l) (without_one is_pawn (put_kind Pawn l)) (In-without is_pawn Pawn l refl) (In-map (λ k. put_kind k l) k officers i)
+    In-flat_map (λ l. map (λ k. put_kind k l) officers) l (put_kind k l) (without_one is_pawn (put_kind Pawn l))
+    (In-without is_pawn Pawn l refl) (In-map (λ k. put_kind k l) k officers i)
 
 pub In-pairs : (x y : List Kind) (xs ys : List (List Kind)) → In x xs → In y ys → In (of x y) (pairs xs ys)
 In-pairs x y xs ys i j = In-flat_map (λ x. map (λ y. of x y) ys) x (of x y) xs i (In-map (λ y. of x y) y ys j)
@@ -76,13 +81,18 @@ In-pairs x y xs ys i j = In-flat_map (λ x. map (λ y. of x y) ys) x (of x y) xs
 -- White's move: a capture, a promotion, or both
 pub captured_by_white : (w b : List Kind) (k : Kind) → In (of w b) (reached_by_white (of w (put_kind k b)))
 captured_by_white w b k =
-    In-left _ _ _ (In-left _ (pairs (w ∷ []) (without_one any_kind (put_kind k b))) _ (In-pairs w b (w ∷ []) (without_one any_kind (put_kind k b)) (inl refl) (In-without any_kind k b refl)))
+    In-left _ _ _
+    (In-left _ (pairs (w ∷ []) (without_one any_kind (put_kind k b))) _
+    (In-pairs w b (w ∷ []) (without_one any_kind (put_kind k b)) (inl refl) (In-without any_kind k b refl)))
 
 pub promoted_by_white : (w b : List Kind) (k : Kind) → In k officers → In (of (put_kind k w) b) (reached_by_white (of (put_kind Pawn w) b))
 promoted_by_white w b k i =
-    In-left _ _ _ (In-right _ (pairs (put_kind Pawn w ∷ []) (without_one any_kind b)) _ (In-pairs (put_kind k w) b (promoted (put_kind Pawn w)) (b ∷ []) (In-promoted k w i) (inl refl)))
+    In-left _ _ _
+    (In-right _ (pairs (put_kind Pawn w ∷ []) (without_one any_kind b)) _
+    (In-pairs (put_kind k w) b (promoted (put_kind Pawn w)) (b ∷ []) (In-promoted k w i) (inl refl)))
 
-pub both_by_white : (w b : List Kind) (k j : Kind) → In k officers → no_pawn j ≡ true → In (of (put_kind k w) b) (reached_by_white (of (put_kind Pawn w) (put_kind j b)))
+pub both_by_white : (w b : List Kind) (k j : Kind) → In k officers → no_pawn j ≡ true
+    → In (of (put_kind k w) b) (reached_by_white (of (put_kind Pawn w) (put_kind j b)))
 both_by_white w b k j i e =
     In-right _ (pairs (put_kind Pawn w ∷ []) (without_one any_kind (put_kind j b)) ++ pairs (promoted (put_kind Pawn w)) (put_kind j b ∷ [])) _
     (In-pairs (put_kind k w) b (promoted (put_kind Pawn w)) (without_one no_pawn (put_kind j b)) (In-promoted k w i) (In-without no_pawn j b e))
@@ -92,7 +102,8 @@ pub by_white : (l m : Lists) → In m (reached_by_white l) → In m (reached l)
 by_white l m i = In-left m (reached_by_white l) (map exchanged (reached_by_white (exchanged l))) i
 
 pub by_black : (l m : Lists) → In m (reached_by_white (exchanged l)) → In (exchanged m) (reached l)
-by_black l m i = In-right (exchanged m) (reached_by_white l) (map exchanged (reached_by_white (exchanged l))) (In-map exchanged m (reached_by_white (exchanged l)) i)
+by_black l m i = In-right (exchanged m) (reached_by_white l) (map exchanged (reached_by_white (exchanged l)))
+    (In-map exchanged m (reached_by_white (exchanged l)) i)
 
 -- the same of the lists exchanged
 exchanged_reached : (l m : Lists) → In m (reached l) → In (exchanged m) (reached (exchanged l))
@@ -124,12 +135,14 @@ Contains-filter p cs d k e = go cs k.0 k.1 k.2
         later false h = h
 
 -- a class whose lists are reached is needed
-pub needed : (c d : Class) (l m : Lists) → lists_of c ≡ ordered l → lists_of d ≡ ordered m → In m (reached l) → ordered (exchanged m) ≡ ordered m → Contains (needs_of c) d
+pub needed : (c d : Class) (l m : Lists) → lists_of c ≡ ordered l → lists_of d ≡ ordered m → In m (reached l)
+    → ordered (exchanged m) ≡ ordered m → Contains (needs_of c) d
 unfolding needs_of ordered_reached
 needed c d l m e f i same =
     let r = by_order (is_exchanged l) in
     let here : In (lists_of d) (map ordered (reached (lists_of c))) =
-    subst (λ k. In k (map ordered (reached (lists_of c)))) (r.2 ∙ sym f) (In-map ordered r.0 (reached (lists_of c)) (subst (λ k. In r.0 (reached k)) (sym e) r.1)) in
+    subst (λ k. In k (map ordered (reached (lists_of c)))) (r.2 ∙ sym f)
+    (In-map ordered r.0 (reached (lists_of c)) (subst (λ k. In r.0 (reached k)) (sym e) r.1)) in
     Contains-filter (has_lists (map ordered (reached (lists_of c)))) by_size d
     (subst (λ ds. Contains ds d) (sym by_size_is) (is_in-Contains size_table d (in_size_table d)))
     (list_any-In (λ k. same_lists k (lists_of d)) (lists_of d) (map ordered (reached (lists_of c))) here (same_lists-self (lists_of d)))

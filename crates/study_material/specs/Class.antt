@@ -7,7 +7,11 @@ use Rattle.study_board.specs.Letters.{letter}
 use Rattle.study_board.specs.Position.{Position, IsValid}
 use Rattle.study_material.specs.Lists.{Lists, of, lists, ordered}
 use Rattle.study_material.specs.declared.class.Class.{Class}
-use Rattle.study_material.specs.declared.class.Class.TheVariants.{KK, KQK, KRK, KBK, KNK, KPK, KQQK, KQRK, KQBK, KQNK, KQPK, KRRK, KRBK, KRNK, KRPK, KBBK, KBNK, KBPK, KNNK, KNPK, KPPK, KQKQ, KQKR, KQKB, KQKN, KQKP, KRKR, KRKB, KRKN, KRKP, KBKB, KBKN, KBKP, KNKN, KNKP, KPKP}
+use Rattle.study_material.specs.declared.class.Class.TheVariants.{KK, KQK, KRK, KBK, KNK, KPK, KQQK, KQRK, KQBK}
+use Rattle.study_material.specs.declared.class.Class.TheVariants.{KQNK, KQPK, KRRK, KRBK, KRNK, KRPK, KBBK}
+use Rattle.study_material.specs.declared.class.Class.TheVariants.{KBNK, KBPK, KNNK, KNPK, KPPK, KQKQ, KQKR}
+use Rattle.study_material.specs.declared.class.Class.TheVariants.{KQKB, KQKN, KQKP, KRKR, KRKB, KRKN, KRKP}
+use Rattle.study_material.specs.declared.class.Class.TheVariants.{KBKB, KBKN, KBKP, KNKN, KNKP, KPKP}
 
 abbrev pub lists_of : Class → Lists
 lists_of KK = of [] []
@@ -49,7 +53,9 @@ lists_of KPKP = of (Pawn ∷ []) (Pawn ∷ [])
 
 -- all classes, in the order of the class list
 abbrev pub class_list : List Class
-class_list = KK ∷ KQK ∷ KRK ∷ KBK ∷ KNK ∷ KPK ∷ KQQK ∷ KQRK ∷ KQBK ∷ KQNK ∷ KQPK ∷ KRRK ∷ KRBK ∷ KRNK ∷ KRPK ∷ KBBK ∷ KBNK ∷ KBPK ∷ KNNK ∷ KNPK ∷ KPPK ∷ KQKQ ∷ KQKR ∷ KQKB ∷ KQKN ∷ KQKP ∷ KRKR ∷ KRKB ∷ KRKN ∷ KRKP ∷ KBKB ∷ KBKN ∷ KBKP ∷ KNKN ∷ KNKP ∷ KPKP ∷ []
+class_list = KK ∷ KQK ∷ KRK ∷ KBK ∷ KNK ∷ KPK ∷ KQQK ∷ KQRK ∷ KQBK ∷ KQNK ∷ KQPK ∷ KRRK ∷ KRBK ∷ KRNK ∷ KRPK ∷ KBBK
+    ∷ KBNK ∷ KBPK ∷ KNNK ∷ KNPK ∷ KPPK ∷ KQKQ ∷ KQKR ∷ KQKB ∷ KQKN ∷ KQKP ∷ KRKR ∷ KRKB ∷ KRKN ∷ KRKP ∷ KBKB ∷ KBKN ∷
+    KBKP ∷ KNKN ∷ KNKP ∷ KPKP ∷ []
 
 -- K, White's list, K, Black's list
 unfoldable pub name_of : Class → List ℕ

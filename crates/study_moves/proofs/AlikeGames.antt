@@ -1,22 +1,24 @@
 -- Positions that are alike have one game.
 use Rattle.std.proofs.Common.{sym, subst}
 use Rattle.study_board.specs.Position.{Position}
-use Rattle.study_board.proofs.Images.{IsTurnable-from_valid}
+use Rattle.study_board.proofs.ImagesOfImages.{IsTurnable-from_valid}
 use Rattle.study_moves.specs.Bare.{bare}
 use Rattle.study_moves.specs.Alike.{AreAlike}
 use Rattle.study_moves.specs.Laws.{HasSameGame, AgreesAlike}
 use Rattle.study_moves.proofs.ImageMates.{HasSameGame-image}
-use Rattle.study_moves.proofs.Bare.{AgreesWithBare-from_valid}
-use Rattle.study_moves.proofs.After.{IsValid-after}
-use Rattle.study_moves.proofs.Alike.{AreAlike-back, AreAlike-move}
-use Rattle.study_moves.proofs.Values.{HasSameGame-back, HasSameGame-joined, HasSameValue-from_game}
+use Rattle.study_moves.proofs.BarePassing.{AgreesWithBare-from_valid}
+use Rattle.study_moves.proofs.AfterMove.{IsValid-after}
+use Rattle.study_moves.proofs.AlikePositions.{AreAlike-back, AreAlike-move}
+use Rattle.study_moves.proofs.OneValue.{HasSameGame-back, HasSameGame-joined, HasSameValue-from_game}
 
 pub HasSameGame-alike : (p q : Position) → AreAlike p q → HasSameGame p q
 HasSameGame-alike p q h =
     let b = AgreesWithBare-from_valid p h.left in
     let c = AgreesWithBare-from_valid q h.right in
     let t = IsTurnable-from_valid h.images.by (bare p) b.valid h.images.admitted in
-    let turned : HasSameGame (bare p) (bare q) = subst (λ (x : Position). HasSameGame (bare p) x) (sym h.images.is) (HasSameGame-image h.images.by (bare p) t) in
+    let turned : HasSameGame (bare p) (bare q) =
+    subst (λ (x : Position). HasSameGame (bare p) x) (sym h.images.is)
+    (HasSameGame-image h.images.by (bare p) t) in
     HasSameGame-joined p (bare p) q b.game (HasSameGame-joined (bare p) (bare q) q turned (HasSameGame-back q (bare q) c.game))
 
 pub AgreesAlike-from : (p q : Position) → AreAlike p q → AgreesAlike p q

@@ -48,7 +48,8 @@ turned_round : (i j k : ℕ) → is_between i j k ≡ true → is_between k j i 
 turned_round i j k e = inside-to i j k (inside-from i j k e)
 
 -- on one file, or one rank
-straight : (u v w i j k : ℕ) → ((apart u v == 0) && (apart u w == 0) && is_between i j k) ≡ true → ((apart w v == 0) && (apart w u == 0) && is_between k j i) ≡ true
+straight : (u v w i j k : ℕ) → ((apart u v == 0) && (apart u w == 0) && is_between i j k) ≡ true
+    → ((apart w v == 0) && (apart w u == 0) && is_between k j i) ≡ true
 straight u v w i j k e =
     let a = and_parts ((apart u v == 0) && (apart u w == 0)) (is_between i j k) e in
     let b = and_parts (apart u v == 0) (apart u w == 0) a.0 in
@@ -131,8 +132,10 @@ blocked-both men a x = list_any_same (λ m. strictly_between a m.at x) (λ m. st
 blocked_past-both : (men : List Man) (lifted a x : ℕ) → is_blocked_past men lifted a x ≡ is_blocked_past men lifted x a
 unfolding is_blocked_past
 blocked_past-both men lifted a x =
-    list_any_same (λ m. not (m.at == lifted) && strictly_between a m.at x) (λ m. not (m.at == lifted) && strictly_between x m.at a) (λ m. rw (between-both a m.at x) refl) men
+    list_any_same (λ m. not (m.at == lifted) && strictly_between a m.at x)
+    (λ m. not (m.at == lifted) && strictly_between x m.at a) (λ m. rw (between-both a m.at x) refl) men
 
-pub bears_past-both : (men : List Man) (lifted : ℕ) (m n : Man) → n.side ≡ other_side m.side → n.kind ≡ m.kind → bears_past men lifted n m.at ≡ bears_past men lifted m n.at
+pub bears_past-both : (men : List Man) (lifted : ℕ) (m n : Man) → n.side ≡ other_side m.side → n.kind ≡ m.kind
+    → bears_past men lifted n m.at ≡ bears_past men lifted m n.at
 bears_past-both men lifted m n s k =
     rw (s, k, eqb-both n.at m.at, blocked_past-both men lifted n.at m.at, reaches-both (is_blocked_past men lifted m.at n.at) m.side m.kind m.at n.at) refl

@@ -39,7 +39,8 @@ carried-placed q z (x ∷ xs) a =
 pub length-carried : (q : Man → Bool) (c : Man) (xs : List Man) → length (carried_into q c xs) ≡ 1 + length (filter q xs)
 length-carried q c [] = refl
 length-carried q c (x ∷ xs) =
-    elim (q x) as (λ b. length (cond b (lower c x ∷ carried_into q (higher c x) xs) (carried_into q c xs)) ≡ 1 + length (cond b (x ∷ filter q xs) (filter q xs))) [
+    elim (q x) as (λ b. length (cond b (lower c x ∷ carried_into q (higher c x) xs) (carried_into q c xs))
+    ≡ 1 + length (cond b (x ∷ filter q xs) (filter q xs))) [
       | true ↦ omega (arith, length-carried q (higher c x) xs)
       | false ↦ length-carried q c xs
     ]

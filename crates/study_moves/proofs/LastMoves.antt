@@ -1,5 +1,7 @@
 -- The quiet moves that can have led to a position, gathered man by man and square by square.
-use Rattle.std.proofs.Common.{◌≡◌, ◌≢◌, ℕ, ◌+◌, ◌*◌, ◌<◌, ◌≤◌, ◌==◌, zero, suc, Bool, true, false, not, cond, ◌&&◌, ◌⊎◌, inl, inr, ◌↔◌, List, [], ◌∷◌, ◌++◌, length, take, get_or, refl, sym, ◌∙◌, ap, arith, subst}
+use Rattle.std.proofs.Common.{◌≡◌, ◌≢◌, ℕ, ◌+◌, ◌*◌, ◌<◌, ◌≤◌, ◌==◌, zero, suc, Bool, true}
+use Rattle.std.proofs.Common.{false, not, cond, ◌&&◌, ◌⊎◌, inl, inr, ◌↔◌, List, [], ◌∷◌, ◌++◌}
+use Rattle.std.proofs.Common.{length, take, get_or, refl, sym, ◌∙◌, ap, arith, subst}
 use Rattle.std.specs.List.{Contains, AllPairs, count_by}
 use Rattle.std.proofs.lemmas.Bool.{false≢true, and_parts, cases_Bool, cases_lt, eqb-true, eq-eqb}
 use Rattle.std.proofs.lemmas.List.Elements.{Contains-push, Contains-append_left, Contains-push_cases}
@@ -13,7 +15,7 @@ use Rattle.study_board.specs.declared.men.Kind.TheVariants.{King}
 use borrow.Author.Tests.{ltb-false}
 use Rattle.study_board.proofs.Lists.{count_by-cons}
 use Rattle.study_board.proofs.Valid.{IsFaultless-from_first}
-use Rattle.study_moves.proofs.After.{other_not_own}
+use Rattle.study_moves.proofs.AfterMove.{other_not_own}
 use Rattle.study_board.specs.Men.{same_side, other_side, is_man}
 use Rattle.study_board.specs.Position.{Position, IsValid, IsAscending, has_one_king}
 use Rattle.study_board.specs.EqualLaws.{sides_equal}
@@ -42,7 +44,8 @@ pub record IsGathering (man : Man) (all rest next len old : ℕ) (first now : Li
 
 -- a set of origins of one man, and each move that it stands for
 module _ (man : Man) (all : ℕ) where
-  pub gathering_begins : (len : ℕ) (first : List Move) → AreDistinct first → ((m : Move) → Contains first m → m.target ≢ man.at) → IsGathering man all all 0 len len first first
+  pub gathering_begins : (len : ℕ) (first : List Move) → AreDistinct first
+      → ((m : Move) → Contains first m → m.target ≢ man.at) → IsGathering man all all 0 len len first first
   gathering_begins len first once apart = record {
     kept = λ m. (λ h. h, λ h. h);
     once = once;
@@ -55,7 +58,8 @@ module _ (man : Man) (all : ℕ) where
   pub next_below : (rest next len old t : ℕ) (first now : List Move) → IsGathering man all rest next len old first now → t < 64 → has rest t ≡ true → next ≤ t
   next_below rest next len old t first now g lt e = elim (cases_lt t next) [ inl l ↦ absurd (false≢true (sym (g.done t l lt) ∙ e)) | inr l ↦ l ]
 
-  gathering_goes_on : (rest next len old t one rest' len' : ℕ) (first now : List Move) → IsGathering man all rest next len old first now → t < 64 → has rest t ≡ true
+  gathering_goes_on : (rest next len old t one rest' len' : ℕ) (first now : List Move)
+      → IsGathering man all rest next len old first now → t < 64 → has rest t ≡ true
       → ((x : ℕ) → x < t → has rest x ≡ false) → ((x : ℕ) → x < 64 → has one x ≡ (t == x)) → ((x : ℕ) → x < 64 → has rest' x ≡ (has rest x && not (has one x)))
       → len' ≡ len + 1 → IsGathering man all rest' (t + 1) len' old first (now ++ move_from man t ∷ [])
   gathering_goes_on rest next len old t one rest' len' first now g lt there least single less longer =
@@ -99,13 +103,17 @@ module _ (man : Man) (all : ℕ) where
         | inr e ↦ inr (h.0, h.1, less h.0 h.1 ∙ rw (h.2, single h.0 h.1, e) refl, h.3)
       ]
 
-  pub gathered_more : (rest next old t one rest' n : ℕ) (first now now' : List Move) (b : Move) → IsGathering man all rest next (length now) old first now → t < 64 → has rest t ≡ true
+  pub gathered_more : (rest next old t one rest' n : ℕ) (first now now' : List Move) (b : Move)
+      → IsGathering man all rest next (length now) old first now → t < 64 → has rest t ≡ true
       → ((x : ℕ) → x < t → has rest x ≡ false) → ((x : ℕ) → x < 64 → has one x ≡ (t == x)) → ((x : ℕ) → x < 64 → has rest' x ≡ (has rest x && not (has one x)))
       → b ≡ move_from man t → now' ≡ now ++ b ∷ [] → n ≡ t → IsGathering man all rest' (n + 1) (length now') old first now'
   gathered_more rest next old t one rest' n first now now' b g lt there least single less is more same =
-      rw (more, is, same) (gathering_goes_on rest next (length now) old t one rest' (length (now ++ move_from man t ∷ [])) first now g lt there least single less (length-append now (move_from man t ∷ [])))
+      rw (more, is, same)
+      (gathering_goes_on rest next (length now) old t one rest' (length (now ++ move_from man t ∷ [])) first now g
+      lt there least single less (length-append now (move_from man t ∷ [])))
 
-  pub gathering_ends : (q : Position) → ((a : ℕ) → a < 64 → has all a ≡ came_from q.men q.to_move man a) → (rest next len old : ℕ) (first now : List Move) → IsGathering man all rest next len old first now → rest ≡ 0
+  pub gathering_ends : (q : Position) → ((a : ℕ) → a < 64 → has all a ≡ came_from q.men q.to_move man a)
+      → (rest next len old : ℕ) (first now : List Move) → IsGathering man all rest next len old first now → rest ≡ 0
       → (m : Move) → Contains now m ↔ (Contains first m ⊎ IsLastMove q man m)
   gathering_ends q these rest next len old first now g e m = (λ c. here ((g.kept m).0 (inl c)), λ h. left ((g.kept m).1 (there h)))
     where
@@ -161,7 +169,8 @@ among-get (x ∷ xs) (suc i) d l = inr (among-get xs i d (omega arith))
 below_next : (xs : List Man) (i : ℕ) (d m : Man) → IsAscending xs → i < length xs → IsAmong m (take i xs) → m.at < (get_or xs i d).at
 below_next xs zero d m h l k = absurd k
 below_next [] (suc i) d m h l k = absurd k
-below_next (x ∷ xs) (suc i) d m h l (inl s) = let a = ap (λ (y : Man). y.at) s in let b = above_among x.at xs (get_or xs i d) h.0 (among-get xs i d (omega arith)) in omega arith
+below_next (x ∷ xs) (suc i) d m h l (inl s) = let a = ap (λ (y : Man). y.at) s in
+    let b = above_among x.at xs (get_or xs i d) h.0 (among-get xs i d (omega arith)) in omega arith
 below_next (x ∷ xs) (suc i) d m h l (inr k) = below_next xs i d m h.1 (omega arith) k
 
 -- two tests of which no man passes both
@@ -178,7 +187,10 @@ disjoint p r h (x ∷ xs) =
           omega arith
       | inr e ↦
           let a' : count_by p (x ∷ xs) ≡ 0 + count_by p xs = a ∙ rw e refl in
-          let b' : count_by r (x ∷ xs) ≤ 1 + count_by r xs = elim (r x) as (λ (v : Bool). count_by r (x ∷ xs) ≡ cond v 1 0 + count_by r xs → count_by r (x ∷ xs) ≤ 1 + count_by r xs) [ true ↦ λ k. omega arith | false ↦ λ k. omega arith ] b in
+          let b' : count_by r (x ∷ xs) ≤ 1 + count_by r xs =
+          elim (r x) as (λ (v : Bool). count_by r (x ∷ xs) ≡ cond v 1 0 + count_by r xs
+          → count_by r (x ∷ xs) ≤ 1 + count_by r xs) [ true ↦ λ k. omega arith | false ↦ λ k. omega arith ]
+          b in
           omega arith
     ]
 
@@ -242,7 +254,9 @@ module _ (q : Position) (valid : IsValid q) (men : List Man) (same : men ≡ q.m
         (other, rw taken_more (among-left (take i men) (man ∷ []) other h.1), h.2, h.3)
 
     -- a man of the side that has moved
-    pub man_more : same_side man.side (other_side q.to_move) ≡ true → (now' : List Move) → ((m : Move) → Contains now' m ↔ (Contains now m ⊎ IsLastMove q man m)) → AreDistinct now' → length now' ≤ length now + 64
+    pub man_more : same_side man.side (other_side q.to_move) ≡ true → (now' : List Move)
+        → ((m : Move) → Contains now' m ↔ (Contains now m ⊎ IsLastMove q man m)) → AreDistinct now'
+        → length now' ≤ length now + 64
         → AreOfMen q (take (i + 1) men) now'
     man_more his now' exact once few = record {
       exact = λ m. (λ c. into m ((exact m).0 c), λ h. (exact m).1 (out m h));
@@ -330,7 +344,8 @@ none_before q moves now e = record {
     nothing : (m : Move) → Contains [] m → ⊥
     nothing m c = absurd (omega (arith, c.1))
 
-module _ (q : Position) (valid : IsValid q) (moves : List Move) (i : ℕ) (d m : Move) (lt : i < length moves) (is : m ≡ get_or moves i d) (each : AreDistinct moves) where
+module _ (q : Position) (valid : IsValid q) (moves : List Move) (i : ℕ) (d m : Move) (lt : i < length moves)
+    (is : m ≡ get_or moves i d) (each : AreDistinct moves) where
   first_moves : take (i + 1) moves ≡ take i moves ++ m ∷ []
   first_moves = take_more moves i d lt ∙ rw (← is) refl
 
@@ -343,7 +358,8 @@ module _ (q : Position) (valid : IsValid q) (moves : List Move) (i : ℕ) (d m :
       let at : get_or (take i moves) k m ≡ get_or moves k m = get_or-take i moves k m low in
       each k i d low lt (get_or_default moves k d m (omega arith) ∙ sym at ∙ c.2 ∙ is)
 
-  pub one_before : (b : Position) (now now' : List Position) → AreBefore q moves i now → LeadsQuietly b m q → ((p : Position) → LeadsQuietly p m q → b ≡ p) → now' ≡ now ++ b ∷ [] → AreBefore q moves (i + 1) now'
+  pub one_before : (b : Position) (now now' : List Position) → AreBefore q moves i now → LeadsQuietly b m q
+      → ((p : Position) → LeadsQuietly p m q → b ≡ p) → now' ≡ now ++ b ∷ [] → AreBefore q moves (i + 1) now'
   one_before b now now' g leads only more = rw more record {
     exact = λ p. (λ c. into p (Contains-push_cases now b p c), λ h. out p h);
     once = distinct_more now b g.once (λ c.
@@ -372,7 +388,9 @@ module _ (q : Position) (valid : IsValid q) (moves : List Move) (i : ℕ) (d m :
                 subst (λ (x : Position). Contains (now ++ b ∷ []) x) e (Contains-push now b)
           ]
 
-pub all_before : (q : Position) (moves : List Move) (i : ℕ) (now : List Position) → ((m : Move) → Contains moves m ↔ CanHaveLed q m) → length moves ≤ i → AreBefore q moves i now → (p : Position) → Contains now p ↔ IsEarlier q p
+pub all_before : (q : Position) (moves : List Move) (i : ℕ) (now : List Position)
+    → ((m : Move) → Contains moves m ↔ CanHaveLed q m) → length moves ≤ i → AreBefore q moves i now → (p : Position)
+    → Contains now p ↔ IsEarlier q p
 all_before q moves i now all le g p = (λ c. back ((g.exact p).0 c), λ h. on h)
   where
     whole : take i moves ≡ moves

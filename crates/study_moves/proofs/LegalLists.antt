@@ -1,5 +1,6 @@
 -- The list of the legal moves.
-use Rattle.std.proofs.Common.{◌≡◌, ℕ, ◌+◌, ◌*◌, ◌<◌, ◌≤◌, ◌==◌, zero, suc, Bool, true, false, inl, inr, List, [], ◌∷◌, length, Option, Some, None, refl, sym, ap, ◌∙◌, arith, subst}
+use Rattle.std.proofs.Common.{◌≡◌, ℕ, ◌+◌, ◌*◌, ◌<◌, ◌≤◌, ◌==◌, zero, suc, Bool, true, false, inl, inr, List}
+use Rattle.std.proofs.Common.{[], ◌∷◌, length, Option, Some, None, refl, sym, ap, ◌∙◌, arith, subst}
 use Rattle.std.specs.Prelude.{◌↔◌, IsTrue}
 use Rattle.std.specs.List.{AllPairs, Contains, flat_map, range_with_len}
 use Rattle.std.proofs.lemmas.Bool.{false≢true, and_parts, and_from, cases_Bool, cases_lt, eqb-true, eq-eqb, false_from_ne_true}
@@ -13,15 +14,21 @@ use Rattle.study_moves.specs.Game.{IsMate, HasNoMove}
 use Rattle.study_moves.proofs.MenOfList.{found_among, All-among}
 use Rattle.study_moves.proofs.NoMoveBetween.{HasMover-from_is_legal}
 use Rattle.study_moves.specs.LegalList.{moves_between, moves_from, all_moves, legal_list, is_mate}
-use Rattle.study_moves.proofs.Sorted.{IsIn, IsIn-left, IsIn-right, IsIn-filter, IsIn-kept, IsIn-from_Contains, Contains-from_in, AscendsFrom, Spans, AscendsFrom-spans, AscendsFrom-filter, AscendsFrom-pairs, Spans-append, same_list}
+use Rattle.study_moves.proofs.AscendingKeys.{IsIn, IsIn-left, IsIn-right, IsIn-filter, IsIn-kept}
+use Rattle.study_moves.proofs.AscendingKeys.{IsIn-from_Contains, Contains-from_in, AscendsFrom}
+use Rattle.study_moves.proofs.AscendingKeys.{Spans, AscendsFrom-spans, AscendsFrom-filter}
+use Rattle.study_moves.proofs.AscendingKeys.{AscendsFrom-pairs, Spans-append, same_list}
 
 -- what each of a range of numbers gives, one after another
-spans_range : (f : ℕ → List Move) (c base : ℕ) → ((k : ℕ) → Spans place_of (base + c * k) (base + c * (k + 1)) (f k)) → (start n : ℕ) → Spans place_of (base + c * start) (base + c * (start + n)) (flat_map f (range_with_len start n))
+spans_range : (f : ℕ → List Move) (c base : ℕ)
+    → ((k : ℕ) → Spans place_of (base + c * k) (base + c * (k + 1)) (f k)) → (start n : ℕ)
+    → Spans place_of (base + c * start) (base + c * (start + n)) (flat_map f (range_with_len start n))
 spans_range f c base h start zero = let e : base + c * start ≤ base + c * (start + 0) = omega arith in e
 spans_range f c base h start (suc n) =
     let e : base + c * (start + 1 + n) ≡ base + c * (start + suc n) = ap (λ k. base + c * k) (omega arith) in
     subst (λ hi. Spans place_of (base + c * start) hi (flat_map f (range_with_len start (suc n)))) e
-    (Spans-append place_of (base + c * start) (base + c * (start + 1)) (base + c * (start + 1 + n)) (f start) (flat_map f (range_with_len (start + 1) n)) (h start) (spans_range f c base h (start + 1) n))
+    (Spans-append place_of (base + c * start) (base + c * (start + 1)) (base + c * (start + 1 + n)) (f start)
+    (flat_map f (range_with_len (start + 1) n)) (h start) (spans_range f c base h (start + 1) n))
 
 spans_between : (a x : ℕ) → Spans place_of (512 * a + 8 * x) (512 * a + 8 * (x + 1)) (moves_between a x)
 spans_between a x = (omega arith, (omega arith, (omega arith, (omega arith, (omega arith, omega arith)))))
@@ -30,11 +37,15 @@ spans_from : (a : ℕ) → Spans place_of (0 + 512 * a) (0 + 512 * (a + 1)) (mov
 spans_from a =
     let lo : 512 * a + 8 * 0 ≡ 0 + 512 * a = omega arith in
     let hi : 512 * a + 8 * (0 + 64) ≡ 0 + 512 * (a + 1) = omega arith in
-    subst (λ l. Spans place_of l (0 + 512 * (a + 1)) (moves_from a)) lo (subst (λ u. Spans place_of (512 * a + 8 * 0) u (moves_from a)) hi (spans_range (moves_between a) 8 (512 * a) (spans_between a) 0 64))
+    subst (λ l. Spans place_of l (0 + 512 * (a + 1)) (moves_from a)) lo
+    (subst (λ u. Spans place_of (512 * a + 8 * 0) u (moves_from a)) hi
+    (spans_range (moves_between a) 8 (512 * a) (spans_between a) 0 64))
 
 pub AscendsFrom-all_moves : AscendsFrom place_of 0 all_moves
 unfolding all_moves
-AscendsFrom-all_moves = AscendsFrom-spans place_of (0 + 512 * 0) (0 + 512 * (0 + 64)) (flat_map moves_from (range_with_len 0 64)) (spans_range moves_from 512 0 spans_from 0 64)
+AscendsFrom-all_moves =
+    AscendsFrom-spans place_of (0 + 512 * 0) (0 + 512 * (0 + 64)) (flat_map moves_from (range_with_len 0 64))
+    (spans_range moves_from 512 0 spans_from 0 64)
 
 in_range : (f : ℕ → List Move) (m : Move) (start n k : ℕ) → start ≤ k → k < start + n → IsIn m (f k) → IsIn m (flat_map f (range_with_len start n))
 in_range f m start zero k le lt i = absurd (omega arith)
@@ -76,7 +87,9 @@ in_all p m valid e =
     let found = found_among p.men m.origin h.man h.here in
     let on_board : h.man.at < 64 = All-among (λ x. x.at < 64) p.men h.man valid.on_board found.0 in
     let origin : m.origin < 64 = subst (λ a. a < 64) found.1 on_board in
-    in_range moves_from m 0 64 m.origin (omega arith) origin (in_range (moves_between m.origin) m 0 64 m.target (omega arith) h.moves.target (in_between m (reaches_end h.man m.target) h.moves.choice))
+    in_range moves_from m 0 64 m.origin (omega arith) origin
+    (in_range (moves_between m.origin) m 0 64 m.target (omega arith) h.moves.target
+    (in_between m (reaches_end h.man m.target) h.moves.choice))
 
 pub in_legal : (p : Position) (m : Move) → IsValid p → is_legal p m ≡ true → IsIn m (legal_list p)
 unfolding legal_list
@@ -94,12 +107,15 @@ unfolding legal_list
 AscendsFrom-legal_list p = AscendsFrom-filter place_of (is_legal p) 0 all_moves AscendsFrom-all_moves
 
 -- an ordered list of exactly the legal moves is the list
-pub legal_list_is : (p : Position) (xs : List Move) → IsValid p → ((m : Move) → Contains xs m ↔ (is_legal p m ≡ true)) → AllPairs IsBefore xs → xs ≡ legal_list p
+pub legal_list_is : (p : Position) (xs : List Move) → IsValid p
+    → ((m : Move) → Contains xs m ↔ (is_legal p m ≡ true)) → AllPairs IsBefore xs → xs ≡ legal_list p
 legal_list_is p xs valid legal ordered =
     same_list place_of 0 0 xs (legal_list p) (AscendsFrom-pairs place_of 0 xs (λ k d lt. omega arith) ordered) (AscendsFrom-legal_list p)
     (λ m i. in_legal p m valid ((legal m).0 (Contains-from_in m xs i))) (λ m i. IsIn-from_Contains m xs ((legal m).1 (is_legal-in p m i)))
 
-empty_or : (p : Position) (xs : List Move) → ((m : Move) → IsIn m xs → is_legal p m ≡ true) → ((m : Move) → is_legal p m ≡ true → IsIn m xs) → ((length xs == 0) ≡ true → HasNoMove p) × (HasNoMove p → (length xs == 0) ≡ true)
+empty_or : (p : Position) (xs : List Move) → ((m : Move) → IsIn m xs → is_legal p m ≡ true)
+    → ((m : Move) → is_legal p m ≡ true → IsIn m xs) → ((length xs == 0) ≡ true → HasNoMove p)
+    × (HasNoMove p → (length xs == 0) ≡ true)
 empty_or p [] out into = ((λ _ m e. into m e), λ _. refl)
 empty_or p (x ∷ xs) out into = ((λ e. absurd (let n = eqb-true (suc (length xs)) 0 e in omega arith)), λ none. absurd (none x (out x (inl refl))))
 

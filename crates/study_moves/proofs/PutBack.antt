@@ -4,7 +4,7 @@ use Rattle.std.specs.List.{filter, list_any}
 use Rattle.std.proofs.lemmas.Bool.{false≢true, and_parts, and_from, cases_Bool, eqb-true, eq-eqb, ne_eqb, lt-ltb, le-ltb, not_from_false, not_from_true}
 use Rattle.study_board.specs.declared.men.Man.{Man}
 use Rattle.study_board.specs.Position.{AllAbove, IsAscending, is_occupied, placed, man_at}
-use Rattle.study_board.proofs.Turned.{list_any-placed, man_at-placed}
+use Rattle.study_board.proofs.ImagesValid.{list_any-placed, man_at-placed}
 use Rattle.study_moves.specs.Rules.{stays}
 use Rattle.study_moves.specs.Quiet.{set_back, men_before}
 use Rattle.study_moves.proofs.MenOfList.{IsAmong, IsAmong-filter, above_among, none_among}
@@ -42,7 +42,9 @@ put_back : (q : Man → Bool) (man : Man) (xs : List Man) → IsAscending xs →
 put_back q man [] h i e k = absurd i
 put_back q man (x ∷ xs) h (inl s) e k =
     let out : q x ≡ false = ap q s ∙ e in
-    let above : (m : Man) → IsAmong m xs → q m ≡ true = λ m j. k m (inr j) (λ t. let l = above_among x.at xs m h.0 j in let a = ap (λ y. y.at) s in absurd (omega arith)) in
+    let above : (m : Man) → IsAmong m xs → q m ≡ true =
+    λ m j. k m (inr j) (λ t. let l = above_among x.at xs m h.0 j in
+    let a = ap (λ y. y.at) s in absurd (omega arith)) in
     let all = filter_all q xs above in
     let low : AllAbove man.at xs = rw (← s) h.0 in
     rw (out, all) (placed_below man xs low ∙ ap (λ y. y ∷ xs) (sym s))

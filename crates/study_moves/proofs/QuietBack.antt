@@ -1,5 +1,6 @@
 -- A man taken back gives exactly the positions from which a quiet move leads on.
-use Rattle.std.proofs.Common.{◌≡◌, ℕ, ◌<◌, ◌==◌, nat_lt, Bool, true, false, not, ◌&&◌, ◌||◌, inl, inr, List, [], ◌∷◌, length, Option, Some, None, refl, sym, ◌∙◌, ap, arith, subst}
+use Rattle.std.proofs.Common.{◌≡◌, ℕ, ◌<◌, ◌==◌, nat_lt, Bool, true, false, not, ◌&&◌, ◌||◌, inl, inr, List}
+use Rattle.std.proofs.Common.{[], ◌∷◌, length, Option, Some, None, refl, sym, ◌∙◌, ap, arith, subst}
 use Rattle.std.specs.List.{All, list_any, filter, count_by}
 use Rattle.std.proofs.lemmas.Bool.{false≢true, and_parts, cases_Bool, eqb-true, eq-eqb, ne_eqb, not-true, lt-ltb, le-ltb, or_from}
 use borrow.Author.Tests.{ltb-false}
@@ -13,19 +14,21 @@ use Rattle.study_board.specs.Men.{same_side, other_side, is_man}
 use Rattle.study_board.specs.Position.{Position, IsValid, IsAscending, is_occupied, placed, man_at, has_one_king, has_end_pawn, is_end_pawn, in_check}
 use Rattle.study_board.specs.EqualLaws.{sides_equal}
 use Rattle.study_board.proofs.Ascending.{IsAscending-filter, IsAscending-placed}
-use Rattle.study_board.proofs.Order.{All-placed}
-use Rattle.study_board.proofs.Turned.{list_any-placed, count_by-placed, length-placed}
+use Rattle.study_board.proofs.MenInOrder.{All-placed}
+use Rattle.study_board.proofs.ImagesValid.{list_any-placed, count_by-placed, length-placed}
 use Rattle.study_board.proofs.Valid.{IsFaultless, IsFaultless-from_first, first_fault-from_IsFaultless}
 use Rattle.study_moves.specs.declared.moves.Move.{Move}
 use Rattle.study_moves.specs.Rules.{is_legal, is_pawn, goes, stays, men_after, after, is_choice, reaches_end}
 use Rattle.study_moves.specs.Bare.{without_passed}
 use Rattle.study_moves.specs.Quiet.{LeadsQuietly, move_from, set_back, men_before, before, pawn_comes, comes, was_check, came_from}
 use Rattle.study_moves.proofs.MenFound.{fewer_stay}
-use Rattle.study_moves.proofs.MenOfList.{IsAmong, above_among, list_any-from, list_any-none, none_among, IsAmong-filter, found_among, All-among, same_square, has_square_twice-ascending}
+use Rattle.study_moves.proofs.MenOfList.{IsAmong, above_among, list_any-from, list_any-none, none_among, IsAmong-filter}
+use Rattle.study_moves.proofs.MenOfList.{found_among, All-among, same_square, has_square_twice-ascending}
 use Rattle.study_moves.proofs.NoMoveBetween.{HasMover, HasMover-from_is_legal}
-use Rattle.study_moves.proofs.After.{other_twice}
+use Rattle.study_moves.proofs.AfterMove.{other_twice}
 use Rattle.study_moves.proofs.SafeTargets.{legal_from}
-use Rattle.study_moves.proofs.PutBack.{CanBeMoved, IsAmong-placed, others_and_man, back_and_forth, target_is_empty, man_at_origin, occupied_before, no_man_on_origin, apart_from_origin}
+use Rattle.study_moves.proofs.PutBack.{CanBeMoved, IsAmong-placed, others_and_man, back_and_forth, target_is_empty}
+use Rattle.study_moves.proofs.PutBack.{man_at_origin, occupied_before, no_man_on_origin, apart_from_origin}
 use Rattle.study_moves.proofs.QuietChecks.{same_side-self, no_side_there, in_check_before}
 use Rattle.study_moves.proofs.QuietGoes.{going, stands_inside, coming, not_last}
 
@@ -106,7 +109,8 @@ module _ (q : Position) (valid : IsValid q) (man : Man) (a : ℕ) (h : CameFrom 
   no_end_pawn =
       list_any-placed is_end_pawn z ys
       ∙ or_from _ _ (stands_inside q.men man a movable on_square comes_so)
-      (list_any-none is_end_pawn ys (λ k i. let r = IsAmong-filter (stays None man a) q.men k i in none_among is_end_pawn q.men k (faultless q valid).pawns r.0))
+      (list_any-none is_end_pawn ys (λ k i. let r = IsAmong-filter (stays None man a) q.men k i in none_among
+      is_end_pawn q.men k (faultless q valid).pawns r.0))
 
   none_there : list_any (λ y. y.at == a) ys ≡ false
   none_there = list_any-none (λ y. y.at == a) ys (λ k i.
@@ -261,7 +265,8 @@ module _ (q : Position) (by : Move) (p : Position) (valid : IsValid q) (e : Lead
 
   by_man : by ≡ move_from then man.at
   by_man =
-      let whole : (o : ℕ) (k : Option Kind) → by.origin ≡ o → by.promoted ≡ k → by ≡ record { origin = o; target = by.target; promoted = k } = λ o k i j. rw (← i, ← j) refl in
+      let whole : (o : ℕ) (k : Option Kind) → by.origin ≡ o → by.promoted ≡ k
+      → by ≡ record { origin = o; target = by.target; promoted = k } = λ o k i j. rw (← i, ← j) refl in
       whole man.at None (sym found.1) e.quiet.1
 
   pub IsTakenBack-from : IsTakenBack q by p
@@ -270,15 +275,19 @@ module _ (q : Position) (by : Move) (p : Position) (valid : IsValid q) (e : Lead
     origin = man.at;
     came = record { among = among_now; his = his_now; on = All-among (λ m. m.at < 64) p.men man e.valid.on_board found.0; came = came_now };
     is =
-        let whole : (xs : List Man) (s : Side) (o : Option ℕ) → p.men ≡ xs → p.to_move ≡ s → p.passed ≡ o → p ≡ record { men = xs; to_move = s; passed = o } = λ xs s o i j k. rw (← i, ← j, ← k) refl in
+        let whole : (xs : List Man) (s : Side) (o : Option ℕ) → p.men ≡ xs → p.to_move ≡ s → p.passed ≡ o
+        → p ≡ record { men = xs; to_move = s; passed = o } = λ xs s o i j k. rw (← i, ← j, ← k) refl in
         whole _ _ _ (sym men_then) (sym side_before) e.unpassed;
     by = by_man;
   }
 
 -- a position before tells the man and its square
-module _ (q : Position) (valid : IsValid q) (man man' : Man) (a a' : ℕ) (h : CameFrom q man a) (k : CameFrom q man' a') (same : men_before q.men man a ≡ men_before q.men man' a') where
-  both : (x : ℕ) → ((a == x) || ((not (x == man.at) && not (x == a)) && is_occupied q.men x)) ≡ ((a' == x) || ((not (x == man'.at) && not (x == a')) && is_occupied q.men x))
-  both x = sym (occupied_before q.men man a (movable q valid man a h) x) ∙ ap (λ (xs : List Man). is_occupied xs x) same ∙ occupied_before q.men man' a' (movable q valid man' a' k) x
+module _ (q : Position) (valid : IsValid q) (man man' : Man) (a a' : ℕ) (h : CameFrom q man a)
+    (k : CameFrom q man' a') (same : men_before q.men man a ≡ men_before q.men man' a') where
+  both : (x : ℕ) → ((a == x) || ((not (x == man.at) && not (x == a)) && is_occupied q.men x))
+      ≡ ((a' == x) || ((not (x == man'.at) && not (x == a')) && is_occupied q.men x))
+  both x = sym (occupied_before q.men man a (movable q valid man a h) x) ∙ ap (λ (xs : List Man). is_occupied xs x)
+      same ∙ occupied_before q.men man' a' (movable q valid man' a' k) x
 
   pub same_man : man ≡ man'
   same_man = elim (cases_Bool (man'.at == man.at)) [
@@ -323,7 +332,8 @@ mover_there q m p valid e =
     let at : m.target ≡ t.man.at = ap (λ (x : Move). x.target) t.by in
     (t.man, subst (λ (x : ℕ). man_at q.men x ≡ Some t.man) (sym at) (man_at-among q.men t.man valid.ordered t.came.among))
 
-pub taken_from : (q : Position) (m : Move) (p : Position) (man : Man) → IsValid q → man_at q.men m.target ≡ Some man → LeadsQuietly p m q → IsTakenFrom q m man p
+pub taken_from : (q : Position) (m : Move) (p : Position) (man : Man) → IsValid q → man_at q.men m.target ≡ Some man
+    → LeadsQuietly p m q → IsTakenFrom q m man p
 taken_from q m p man valid here e =
     let t = IsTakenBack-from q m p valid e in
     let at : m.target ≡ t.man.at = ap (λ (x : Move). x.target) t.by in

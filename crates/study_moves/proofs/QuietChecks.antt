@@ -11,7 +11,7 @@ use Rattle.study_board.specs.Men.{same_side, other_side, is_man, is_attacked, be
 use Rattle.study_board.specs.Position.{is_occupied, in_check}
 use Rattle.study_board.specs.Sets.{is_slider, bears_past}
 use Rattle.study_board.proofs.Lists.{list_any_weaker}
-use Rattle.study_board.proofs.Order.{IsPermutation-placed}
+use Rattle.study_board.proofs.MenInOrder.{IsPermutation-placed}
 use Rattle.study_board.proofs.Faults.{list_any_same, in_check_same}
 use Rattle.study_moves.specs.Rules.{has_side, stays}
 use Rattle.study_moves.specs.Safety.{threatened_past, threatens}
@@ -77,7 +77,8 @@ module _ (men : List Man) (man : Man) (a : ℕ) (free : is_occupied men a ≡ fa
       filter_any (λ m. same_side m.side (other_side side) && bears_on (z ∷ ys) m k) (stays None man a) men
       ∙ list_any_same (λ m. stays None man a m && (same_side m.side (other_side side) && bears_on (z ∷ ys) m k)) (threatens men (other_side side) man.at k a)
       (λ m. rw (stays_plain man a m, bears_then m k)
-      (shuffle (not (m.at == man.at)) (not (m.at == a)) (same_side m.side (other_side side)) (bears_past men man.at m k) (not (is_slider m.kind && strictly_between m.at a k)))) men
+      (shuffle (not (m.at == man.at)) (not (m.at == a)) (same_side m.side (other_side side))
+      (bears_past men man.at m k) (not (is_slider m.kind && strictly_between m.at a k)))) men
       ∙ threatened_past_is men (other_side side) man.at k a
 
   attacked_then : (k : ℕ) → is_attacked (z ∷ ys) (other_side side) k ≡ (bears_past men man.at z k || threatened_past men (other_side side) man.at k a)
@@ -86,7 +87,9 @@ module _ (men : List Man) (man : Man) (a : ℕ) (free : is_occupied men a ≡ fa
       let mine : same_side man.side (other_side side) ≡ true = rw his (same_side-self (other_side side)) in
       two_ways _ _ _ _ _ mine (own_attack k) (others_attack k)
 
-  king_then : (k : Man) → (k.at == a) ≡ false → (stays None man a k && (is_man side King k && is_attacked (z ∷ ys) (other_side side) k.at)) ≡ king_was_attacked men side man a k
+  king_then : (k : Man) → (k.at == a) ≡ false
+      → (stays None man a k && (is_man side King k && is_attacked (z ∷ ys) (other_side side) k.at))
+      ≡ king_was_attacked men side man a k
   king_then k e =
       rw (stays_plain man a k)
       (kept (not (k.at == man.at)) (k.at == a) (is_man side King k) _ _ e (attacked_then k.at))
@@ -99,4 +102,6 @@ module _ (men : List Man) (man : Man) (a : ℕ) (free : is_occupied men a ≡ fa
       sym (in_check_same (z ∷ ys) _ (IsPermutation-placed z ys) side)
       ∙ rw other
       (filter_any (λ k. is_man side King k && is_attacked (z ∷ ys) (other_side side) k.at) (stays None man a) men
-      ∙ any_same_where (λ y. y.at == a) (λ k. stays None man a k && (is_man side King k && is_attacked (z ∷ ys) (other_side side) k.at)) (king_was_attacked men side man a) king_then men free)
+      ∙ any_same_where (λ y. y.at == a)
+      (λ k. stays None man a k && (is_man side King k && is_attacked (z ∷ ys) (other_side side) k.at))
+      (king_was_attacked men side man a) king_then men free)

@@ -11,7 +11,7 @@ use Rattle.study_board.specs.Geometry.{strictly_between, rank_of, file_of}
 use Rattle.study_board.specs.Men.{same_side, same_kind, other_side, is_blocked, bears_on, pawn_captures}
 use Rattle.study_board.specs.Position.{is_empty, is_end_pawn}
 use Rattle.study_board.specs.Sets.{reaches_if, is_blocked_past}
-use Rattle.study_board.proofs.Order.{IsPermutation-placed}
+use Rattle.study_board.proofs.MenInOrder.{IsPermutation-placed}
 use Rattle.study_board.proofs.Faults.{list_any_same, is_blocked_same}
 use Rattle.study_moves.specs.Rules.{is_ahead, starting_rank, half_way, pawn_steps, pawn_double_steps, pawn_takes, is_pawn, goes, stays, reaches_end, last_rank}
 use Rattle.study_moves.specs.Quiet.{set_back, men_before, first_rank, pawn_comes, comes}
@@ -57,7 +57,9 @@ over Black a x e =
     (λ h. absurd (omega arith), λ h. absurd (omega arith))
 
 -- a pawn does not stand on an end rank before a step or a double step
-inside : (side : Side) (a x : ℕ) (e : Bool) → x < 64 → ((is_ahead side 1 a x && not (rank_of a == first_rank side)) || ((rank_of a == starting_rank side) && is_ahead side 2 a x && e)) ≡ true
+inside : (side : Side) (a x : ℕ) (e : Bool) → x < 64
+    → ((is_ahead side 1 a x && not (rank_of a == first_rank side)) ||
+    ((rank_of a == starting_rank side) && is_ahead side 2 a x && e)) ≡ true
     → ((rank_of a == 0) || (rank_of a == 7)) ≡ false
 inside side a x e lx h =
     elim (or_cases (is_ahead side 1 a x && not (rank_of a == first_rank side)) ((rank_of a == starting_rank side) && is_ahead side 2 a x && e) h) [
@@ -87,7 +89,9 @@ not_first : (man : Man) (a : ℕ) → is_pawn man ≡ true → is_end_pawn (set_
 unfolding is_end_pawn
 not_first man a p n = first man.side (rw p at n)
   where
-    first : (s : Side) → (((same_side s White && true) || (same_side s Black && true)) && ((rank_of a == 0) || (rank_of a == 7))) ≡ false → (rank_of a == first_rank s) ≡ false
+    first : (s : Side)
+        → (((same_side s White && true) || (same_side s Black && true)) && ((rank_of a == 0) || (rank_of a == 7)))
+        ≡ false → (rank_of a == first_rank s) ≡ false
     first White e = (or_parts (rank_of a == 0) (rank_of a == 7) e).0
     first Black e = (or_parts (rank_of a == 0) (rank_of a == 7) e).1
 
@@ -99,7 +103,9 @@ not_last man n = elim (cases_Bool (is_pawn man)) [
   | inr p ↦ rw p refl
 ]
   where
-    last : (s : Side) → (((same_side s White && true) || (same_side s Black && true)) && ((rank_of man.at == 0) || (rank_of man.at == 7))) ≡ false → (rank_of man.at == last_rank s) ≡ false
+    last : (s : Side)
+        → (((same_side s White && true) || (same_side s Black && true)) &&
+        ((rank_of man.at == 0) || (rank_of man.at == 7))) ≡ false → (rank_of man.at == last_rank s) ≡ false
     last White e = (or_parts (rank_of man.at == 0) (rank_of man.at == 7) e).1
     last Black e = (or_parts (rank_of man.at == 0) (rank_of man.at == 7) e).0
 
@@ -136,13 +142,25 @@ module _ (men : List Man) (man : Man) (a : ℕ) (h : CanBeMoved men man a) where
       ∙ side_apart (is_blocked men man.at a) (other_side man.side) man.side man.kind man.at a e))
 
   -- the ways of a pawn, with no man to take
-  pawn_goes : is_pawn man ≡ true → goes (men_before men man a) None z man.at ≡ (is_ahead man.side 1 a man.at || ((rank_of a == starting_rank man.side) && is_ahead man.side 2 a man.at && is_empty men (half_way a man.at)))
+  pawn_goes : is_pawn man ≡ true → goes (men_before men man a) None z man.at
+      ≡ (is_ahead man.side 1 a man.at ||
+      ((rank_of a == starting_rank man.side) && is_ahead man.side 2 a man.at && is_empty men (half_way a man.at)))
   unfolding goes pawn_steps pawn_double_steps pawn_takes
   pawn_goes e =
-      rw (e, target_is_empty men man a h, no_side_there (men_before men man a) (other_side man.side) man.at (target_is_empty men man a h), and_true (is_ahead man.side 1 a man.at), and_false (pawn_captures man.side a man.at))
+      rw (
+        e,
+        target_is_empty men man a h,
+        no_side_there (men_before men man a) (other_side man.side) man.at
+            (target_is_empty men man a h),
+        and_true (is_ahead man.side 1 a man.at),
+        and_false (pawn_captures man.side a man.at),
+      )
       (or_false _ ∙ ap (λ (b : Bool). is_ahead man.side 1 a man.at || b) double)
     where
-      double : (((rank_of a == starting_rank man.side) && is_ahead man.side 2 a man.at && is_empty (men_before men man a) (half_way a man.at)) && true) ≡ ((rank_of a == starting_rank man.side) && is_ahead man.side 2 a man.at && is_empty men (half_way a man.at))
+      double : (((rank_of a == starting_rank man.side) && is_ahead man.side 2 a man.at && is_empty
+          (men_before men man a) (half_way a man.at)) && true)
+          ≡ ((rank_of a == starting_rank man.side) && is_ahead man.side 2 a man.at && is_empty men
+          (half_way a man.at))
       double = and_true _ ∙ elim (cases_Bool (is_ahead man.side 2 a man.at)) [
         | inl f ↦ let k = over man.side a man.at f in rw (others_stay men man a h (half_way a man.at) k.0 k.1) refl
         | inr f ↦ rw (f, and_false (rank_of a == starting_rank man.side)) refl
@@ -157,8 +175,13 @@ module _ (men : List Man) (man : Man) (a : ℕ) (h : CanBeMoved men man a) where
   unfolding comes pawn_comes
   going e = elim (cases_Bool (is_pawn man)) [
     | inl p ↦
-        let c : (((is_ahead man.side 1 a man.at && not (rank_of a == first_rank man.side)) || ((rank_of a == starting_rank man.side) && is_ahead man.side 2 a man.at && is_empty men (half_way a man.at))) && is_empty men a) ≡ true = rw p at e in
-        pawn_goes p ∙ weaker (is_ahead man.side 1 a man.at) (not (rank_of a == first_rank man.side)) ((rank_of a == starting_rank man.side) && is_ahead man.side 2 a man.at && is_empty men (half_way a man.at)) (and_parts _ (is_empty men a) c).0
+        let
+        c : (((is_ahead man.side 1 a man.at && not (rank_of a == first_rank man.side)) ||
+        ((rank_of a == starting_rank man.side) && is_ahead man.side 2 a man.at && is_empty men
+        (half_way a man.at))) && is_empty men a) ≡ true = rw p at e in
+        pawn_goes p ∙ weaker (is_ahead man.side 1 a man.at) (not (rank_of a == first_rank man.side))
+        ((rank_of a == starting_rank man.side) && is_ahead man.side 2 a man.at && is_empty men
+        (half_way a man.at)) (and_parts _ (is_empty men a) c).0
     | inr p ↦
         let c : (bears_on men man a && is_empty men a) ≡ true = rw p at e in
         goes_bears p ∙ bears_before p ∙ (and_parts (bears_on men man a) (is_empty men a) c).0
@@ -173,7 +196,10 @@ module _ (men : List Man) (man : Man) (a : ℕ) (h : CanBeMoved men man a) where
   unfolding comes pawn_comes is_end_pawn
   stands_inside lx e = elim (cases_Bool (is_pawn man)) [
     | inl p ↦
-        let c : (((is_ahead man.side 1 a man.at && not (rank_of a == first_rank man.side)) || ((rank_of a == starting_rank man.side) && is_ahead man.side 2 a man.at && is_empty men (half_way a man.at))) && is_empty men a) ≡ true = rw p at e in
+        let
+        c : (((is_ahead man.side 1 a man.at && not (rank_of a == first_rank man.side)) ||
+        ((rank_of a == starting_rank man.side) && is_ahead man.side 2 a man.at && is_empty men
+        (half_way a man.at))) && is_empty men a) ≡ true = rw p at e in
         let r = inside man.side a man.at (is_empty men (half_way a man.at)) lx (and_parts _ (is_empty men a) c).0 in
         rw r (and_false _)
     | inr p ↦ rw (p, and_false (same_side man.side White), and_false (same_side man.side Black)) refl

@@ -8,8 +8,8 @@ use Rattle.study_board.specs.declared.symmetry.Symmetry.{Symmetry}
 use Rattle.study_board.specs.Men.{is_man}
 use Rattle.study_board.specs.Position.{Position, IsValid, man_at}
 use Rattle.study_board.specs.Symmetry.{image, admits, is_pawn, keeps_pawns, turned_passed}
-use Rattle.study_board.proofs.Turned.{is_occupied-turned, valid_image}
-use Rattle.study_board.proofs.Images.{IsTurnable, IsTurnable-from_valid}
+use Rattle.study_board.proofs.ImagesValid.{is_occupied-turned, valid_image}
+use Rattle.study_board.proofs.ImagesOfImages.{IsTurnable, IsTurnable-from_valid}
 use Rattle.study_moves.specs.declared.moves.Move.{Move}
 use Rattle.study_moves.specs.Rules.{is_legal, after}
 use Rattle.study_moves.specs.Symmetry.{image_move}
@@ -17,9 +17,9 @@ use Rattle.study_moves.specs.Bare.{is_live, without_passed, bare}
 use Rattle.study_moves.specs.Alike.{AreAlike}
 use Rattle.study_moves.specs.Quiet.{IsQuiet, LeadsQuietly}
 use Rattle.study_moves.specs.Laws.{AgreesQuietly}
-use Rattle.study_moves.proofs.Alike.{admits_bare}
+use Rattle.study_moves.proofs.AlikePositions.{admits_bare}
 use Rattle.study_moves.proofs.BareImages.{bare_image}
-use Rattle.study_moves.proofs.Turned.{legal_small, image_legal, after-turned}
+use Rattle.study_moves.proofs.RulesOfImages.{legal_small, image_legal, after-turned}
 use Rattle.study_moves.proofs.NoMoveBetween.{HasMover-from_is_legal}
 use Rattle.study_moves.proofs.MenOfList.{found_among, none_among}
 use Rattle.study_moves.proofs.QuietBack.{IsTakenBack-from, tested_alike, counted_alike}

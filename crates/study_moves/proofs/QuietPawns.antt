@@ -1,6 +1,7 @@
 -- Whence a pawn can have come by a step or a double step.
 use Rattle.std.proofs.Common.{◌≡◌, ℕ, ◌+◌, ◌-◌, ◌<◌, ◌≤◌, ◌==◌, nat_le, Bool, true, false, not, ◌&&◌, ◌||◌, inl, inr, List, refl, sym, ◌∙◌, arith}
-use Rattle.std.proofs.lemmas.Bool.{cases_lt, le-leb, leb-true, false≢true, and_parts, and_from, cases_Bool, eqb-true, eq-eqb, ne_eqb, not_from_false, not_from_true}
+use Rattle.std.proofs.lemmas.Bool.{cases_lt, le-leb, leb-true, false≢true, and_parts, and_from, cases_Bool}
+use Rattle.std.proofs.lemmas.Bool.{eqb-true, eq-eqb, ne_eqb, not_from_false, not_from_true}
 use Rattle.study_board.specs.declared.men.Man.{Man}
 use Rattle.study_board.specs.declared.men.Side.TheVariants.{White, Black}
 use Rattle.study_board.specs.Geometry.{file_of, rank_of}
@@ -33,7 +34,8 @@ module _ (men : List Man) (one two a : ℕ) where
   pub outside : (inside starts : Bool) → inside ≡ false → (starts ≡ true → inside ≡ true) → has 0 a ≡ pawn_came men inside starts one two a
   outside inside starts i h = has-zero a ∙ none_inside inside starts (one == a) (two == a) (is_empty men one) (is_empty men a) i h
 
-  pub one_step : (inside starts : Bool) (s : ℕ) → inside ≡ true → starts ≡ false → has s a ≡ ((one == a) && is_empty men one) → has s a ≡ pawn_came men inside starts one two a
+  pub one_step : (inside starts : Bool) (s : ℕ) → inside ≡ true → starts ≡ false
+      → has s a ≡ ((one == a) && is_empty men one) → has s a ≡ pawn_came men inside starts one two a
   one_step inside starts s i j e = e ∙ empty_there men one a ∙ rw (i, j) (same (one == a) (is_empty men a))
     where
       same : (b e : Bool) → (b && e) ≡ ((b || false) && e)
@@ -51,7 +53,9 @@ module _ (men : List Man) (one two a : ℕ) where
         | inr e ↦ rw (e, o, and_false (two == a)) refl
       ]
 
-  pub two_steps : (s t u : ℕ) → is_occupied men one ≡ false → has s a ≡ (one == a) → has t a ≡ ((two == a) && is_empty men two) → has u a ≡ (has s a || has t a) → has u a ≡ pawn_came men true true one two a
+  pub two_steps : (s t u : ℕ) → is_occupied men one ≡ false → has s a ≡ (one == a)
+      → has t a ≡ ((two == a) && is_empty men two) → has u a ≡ (has s a || has t a)
+      → has u a ≡ pawn_came men true true one two a
   two_steps s t u o e f g =
       g ∙ rw (e, f, empty_there men two a, o)
       (elim (cases_Bool (one == a)) [
@@ -117,7 +121,8 @@ white_two x a = same_test _ _ to from
         let n : rank_of a ≡ 1 = omega arith in
         and_from _ _ (eq-eqb _ _ n) (and_from _ _ (eq-eqb _ _ f) (eq-eqb _ _ r))
 
-black_one : (x a one : ℕ) → (nat_le (rank_of x) 5 ≡ true → one ≡ x + 8) → a < 64 → (is_ahead Black 1 a x && not (rank_of a == 7)) ≡ (nat_le (rank_of x) 5 && (one == a))
+black_one : (x a one : ℕ) → (nat_le (rank_of x) 5 ≡ true → one ≡ x + 8) → a < 64
+    → (is_ahead Black 1 a x && not (rank_of a == 7)) ≡ (nat_le (rank_of x) 5 && (one == a))
 black_one x a one o la = same_test _ _ to from
   where
     to : (is_ahead Black 1 a x && not (rank_of a == 7)) ≡ true → (nat_le (rank_of x) 5 && (one == a)) ≡ true
@@ -171,11 +176,13 @@ black_two x a two o = same_test _ _ to from
         and_from _ _ (eq-eqb _ _ n) (and_from _ _ (eq-eqb _ _ f) (eq-eqb _ _ r))
 
 -- the two ways together, the square jumped over being the square one back
-joined : (men : List Man) (one h : ℕ) (s s' t t' e : Bool) → s' ≡ s → t' ≡ t → (t ≡ true → h ≡ one) → ((s' || (t' && is_empty men h)) && e) ≡ ((s || (t && is_empty men one)) && e)
+joined : (men : List Man) (one h : ℕ) (s s' t t' e : Bool) → s' ≡ s → t' ≡ t → (t ≡ true → h ≡ one)
+    → ((s' || (t' && is_empty men h)) && e) ≡ ((s || (t && is_empty men one)) && e)
 joined men one h s s' true t' e i j k = let o = k refl in rw (i, j, o) refl
 joined men one h s s' false t' e i j k = rw (i, j) refl
 
-pub white_origins : (men : List Man) (x a r one two : ℕ) → r ≡ rank_of x → one ≡ x - 8 → two ≡ x - 16 → pawn_came men (nat_le 2 r) (r == 3) one two a ≡ pawn_comes men White x a
+pub white_origins : (men : List Man) (x a r one two : ℕ) → r ≡ rank_of x → one ≡ x - 8 → two ≡ x - 16
+    → pawn_came men (nat_le 2 r) (r == 3) one two a ≡ pawn_comes men White x a
 unfolding pawn_comes
 white_origins men x a r one two i j k =
     rw (i, j, k)

@@ -5,7 +5,8 @@ ghost use Rattle.arrayvec.specs.ArrayVec.{array_vec_len};
 ghost use Rattle.study_moves.specs.declared.moves.Move.{Move as AMove};
 ghost use Rattle.study_board.specs.Position.{Position as Seen, is_occupied, is_empty};
 ghost use Rattle.study_board.specs.Sets.{has, bears_past};
-ghost use Rattle.study_moves.specs.Quiet.{LeadsQuietly, IsEarlier, CanHaveLed, IsLastMove, set_back, pawn_comes, pawn_came, comes, king_was_attacked, was_check, came_from};
+ghost use Rattle.study_moves.specs.Quiet.{LeadsQuietly, IsEarlier, CanHaveLed, IsLastMove, set_back, pawn_comes};
+ghost use Rattle.study_moves.specs.Quiet.{pawn_came, comes, king_was_attacked, was_check, came_from};
 
 use crate::Move;
 use crate::legal::placed_among;

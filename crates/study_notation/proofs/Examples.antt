@@ -26,10 +26,21 @@ man s k a = record { side = s; kind = k; at = a }
 
 -- row 2 and row 12: four fields, and a run in two digits
 abbrev row_2 : Start
-row_2 = record { position = record { men = man White Rook 7 ∷ man White King 42 ∷ man Black King 56 ∷ []; to_move = White; passed = None }; clock = 0; number = 1 }
+row_2 =
+    record {
+      position = record {
+        men = man White Rook 7 ∷ man White King 42 ∷ man Black King 56 ∷ [];
+        to_move = White;
+        passed = None;
+      };
+      clock = 0;
+      number = 1;
+    }
 
 four_fields : start_of (codes " k7/44/2K5/8/8/8/8/7R  w - - ") ≡ Ok row_2
-unfolding start_of words fields_of squares_of is_rank placement placement_fault position_of count_of has_one_king has_end_pawn is_end_pawn in_check is_attacked reaches is_blocked on_rook_line on_bishop_line king_step knight_jump strictly_between pawn_captures could_be_passed is_occupied has_man
+unfolding start_of words fields_of squares_of is_rank placement placement_fault position_of count_of has_one_king
+    has_end_pawn is_end_pawn in_check is_attacked reaches is_blocked on_rook_line on_bishop_line king_step knight_jump
+    strictly_between pawn_captures could_be_passed is_occupied has_man
 four_fields = refl
 
 -- (a whole `fen_text` does not compute: the digits of a number are closed in std)
@@ -45,21 +56,36 @@ abbrev to_e2 : ℕ → Move
 to_e2 a = record { origin = a; target = 12; promoted = None }
 
 knights : san_text (san_for row_11 (man White Knight 18) (to_e2 18)) true ≡ codes "Nce2"
-unfolding san_for gives_file gives_rank has_rival has_file_rival is_rival takes is_legal is_legal_for can_go goes pawn_steps pawn_double_steps pawn_takes has_side men_after stays is_en_passant in_check is_attacked reaches is_blocked on_rook_line on_bishop_line king_step knight_jump strictly_between pawn_captures is_occupied
+unfolding san_for gives_file gives_rank has_rival has_file_rival is_rival takes is_legal is_legal_for can_go goes
+    pawn_steps pawn_double_steps pawn_takes has_side men_after stays is_en_passant in_check is_attacked reaches
+    is_blocked on_rook_line on_bishop_line king_step knight_jump strictly_between pawn_captures is_occupied
 knights = refl
 
 -- row 9: a capture in passing
-in_passing : san_text (san_for (record { men = man White King 4 ∷ man Black King 24 ∷ man White Pawn 27 ∷ man Black Pawn 28 ∷ []; to_move = Black; passed = Some 19 }) (man Black Pawn 28) (record { origin = 28; target = 19; promoted = None })) true ≡ codes "exd3"
-unfolding san_for gives_file gives_rank has_rival has_file_rival is_rival takes is_legal is_legal_for can_go goes pawn_steps pawn_double_steps pawn_takes has_side men_after stays is_en_passant in_check is_attacked reaches is_blocked on_rook_line on_bishop_line king_step knight_jump strictly_between pawn_captures is_occupied
+in_passing : san_text
+    (san_for
+    (record {
+      men = man White King 4 ∷ man Black King 24 ∷ man White Pawn 27 ∷ man Black Pawn 28 ∷ [];
+      to_move = Black;
+      passed = Some 19;
+    }) (man Black Pawn 28)
+    (record { origin = 28; target = 19; promoted = None })) true ≡ codes "exd3"
+unfolding san_for gives_file gives_rank has_rival has_file_rival is_rival takes is_legal is_legal_for can_go goes
+    pawn_steps pawn_double_steps pawn_takes has_side men_after stays is_en_passant in_check is_attacked reaches
+    is_blocked on_rook_line on_bishop_line king_step knight_jump strictly_between pawn_captures is_occupied
 in_passing = refl
 
 -- row 12
 no_white_king : start_of (codes "k7/8/8/8/8/8/8/8 x K - 0 1") ≡ Err KingCount
-unfolding start_of words fields_of squares_of is_rank placement placement_fault position_of count_of has_one_king has_end_pawn is_end_pawn in_check is_attacked reaches is_blocked on_rook_line on_bishop_line king_step knight_jump strictly_between pawn_captures could_be_passed is_occupied has_man
+unfolding start_of words fields_of squares_of is_rank placement placement_fault position_of count_of has_one_king
+    has_end_pawn is_end_pawn in_check is_attacked reaches is_blocked on_rook_line on_bishop_line king_step knight_jump
+    strictly_between pawn_captures could_be_passed is_occupied has_man
 no_white_king = refl
 
 kings_touch : start_of (codes "k7/K7/8/8/8/8/8/8 w - - 0 1") ≡ Err OpponentInCheck
-unfolding start_of words fields_of squares_of is_rank placement placement_fault position_of count_of has_one_king has_end_pawn is_end_pawn in_check is_attacked reaches is_blocked on_rook_line on_bishop_line king_step knight_jump strictly_between pawn_captures could_be_passed is_occupied has_man
+unfolding start_of words fields_of squares_of is_rank placement placement_fault position_of count_of has_one_king
+    has_end_pawn is_end_pawn in_check is_attacked reaches is_blocked on_rook_line on_bishop_line king_step knight_jump
+    strictly_between pawn_captures could_be_passed is_occupied has_man
 kings_touch = refl
 
 -- counts have four digits at most, and leading zeros are read

@@ -1,5 +1,7 @@
 -- What is written is read again.
-use Rattle.std.proofs.Common.{◌≡◌, ℕ, zero, suc, ◌+◌, ◌*◌, ◌-◌, ◌/◌, ◌%◌, ◌<◌, ◌≤◌, Bool, true, false, ◌&&◌, eqb, leb, List, [], ◌∷◌, ◌++◌, length, map, reverse, replicate, Option, Some, None, Ok, refl, sym, ap, subst, ◌∙◌, inl, inr, arith, length-append, append_assoc}
+use Rattle.std.proofs.Common.{◌≡◌, ℕ, zero, suc, ◌+◌, ◌*◌, ◌-◌, ◌/◌, ◌%◌, ◌<◌, ◌≤◌, Bool, true, false, ◌&&◌, eqb}
+use Rattle.std.proofs.Common.{leb, List, [], ◌∷◌, ◌++◌, length, map, reverse, replicate, Option, Some, None, Ok}
+use Rattle.std.proofs.Common.{refl, sym, ap, subst, ◌∙◌, inl, inr, arith, length-append, append_assoc}
 use Rattle.std.specs.Prelude.{IfSome, decimal}
 use Rattle.std.proofs.lemmas.List.{append-nil, replicate_more}
 use Rattle.std.proofs.lemmas.Bool.{and_parts, ne_eqb, eq-eqb, eqb-true, eqb-false, le-leb, and_from, cases_Bool}
@@ -16,7 +18,9 @@ use Rattle.study_board.specs.declared.men.Kind.{Kind}
 use Rattle.study_board.specs.declared.men.Kind.TheVariants.{King, Queen, Rook, Bishop, Knight, Pawn}
 use Rattle.study_notation.specs.declared.placement.Piece.{Piece}
 use Rattle.study_board.specs.declared.men.Man.{Man}
-use Rattle.study_notation.specs.Fen.{placement_fault, position_of, is_run, is_known, is_rank, is_digit, squares, squares_of, men_from, placement, side_of, passed_of, count_of, fields_of, start_of}
+use Rattle.study_notation.specs.Fen.{placement_fault, position_of, is_run, is_known, is_rank}
+use Rattle.study_notation.specs.Fen.{is_digit, squares, squares_of, men_from, placement}
+use Rattle.study_notation.specs.Fen.{side_of, passed_of, count_of, fields_of, start_of}
 use Rattle.study_notation.specs.FenSpelling.{man_letter, piece_on, row, run, spelled, rank_text, ranks_text, placement_text, side_text, passed_text, fen_text}
 use Rattle.std.specs.List.{All}
 use Rattle.std.proofs.lemmas.List.Elements.{All-head, All-tail}
@@ -25,7 +29,7 @@ use Rattle.study_board.proofs.Valid.{IsFaultless, IsFaultless-from_first}
 use Rattle.study_notation.specs.declared.start.Start.{Start}
 use Rattle.study_notation.specs.Words.{is_space, words}
 use Rattle.study_notation.proofs.FirstWord.{is_word, words_cons}
-use Rattle.study_notation.proofs.Ranks.{is_stroke}
+use Rattle.study_notation.proofs.PlacementParts.{is_stroke}
 
 -- ---- cutting a text at a byte
 
@@ -33,7 +37,8 @@ abbrev pub Lacks : (ℕ → Bool) → List ℕ → Type 0
 Lacks p [] = Unit {0}
 Lacks p (b ∷ bs) = (p b ≡ false) × Lacks p bs
 
-split_on : (p : ℕ → Bool) (raw ys part : List ℕ) (parts : List (List ℕ)) → Lacks p raw → slice_split p ys ≡ part ∷ parts → slice_split p (raw ++ ys) ≡ (raw ++ part) ∷ parts
+split_on : (p : ℕ → Bool) (raw ys part : List ℕ) (parts : List (List ℕ)) → Lacks p raw
+    → slice_split p ys ≡ part ∷ parts → slice_split p (raw ++ ys) ≡ (raw ++ part) ∷ parts
 split_on p [] ys part parts h e = e
 split_on p (x ∷ raw) ys part parts h e = rw h.0 (ap (onto_first x) (split_on p raw ys part parts h.1 e))
 
@@ -116,15 +121,19 @@ known-run n le =
 spelled-above : (n : ℕ) (cells : List (Option Piece)) → Above 47 (spelled n cells)
 spelled-above n [] = run-above n
 spelled-above n (None ∷ cells) = spelled-above (n + 1) cells
-spelled-above n (Some p ∷ cells) = Above-append 47 (run n) (man_letter p.side p.kind ∷ spelled 0 cells) (run-above n) (letter-above p.side p.kind, spelled-above 0 cells)
+spelled-above n (Some p ∷ cells) =
+    Above-append 47 (run n) (man_letter p.side p.kind ∷ spelled 0 cells) (run-above n)
+    (letter-above p.side p.kind, spelled-above 0 cells)
 
 squares-spelled : (n : ℕ) (cells : List (Option Piece)) → n + length cells ≤ 8 → squares (spelled n cells) ≡ replicate n None ++ cells
 squares-spelled n [] le = squares-run n (omega arith) ∙ sym (append-nil (replicate n None))
 squares-spelled n (None ∷ cells) le =
-    squares-spelled (n + 1) cells (omega arith) ∙ ap (λ (xs : List (Option Piece)). xs ++ cells) (sym (replicate_more n None)) ∙ append_assoc (replicate n None) (None ∷ []) cells
+    squares-spelled (n + 1) cells (omega arith) ∙ ap (λ (xs : List (Option Piece)). xs ++ cells)
+    (sym (replicate_more n None)) ∙ append_assoc (replicate n None) (None ∷ []) cells
 squares-spelled n (Some p ∷ cells) le =
     let l = man_letter p.side p.kind in
-    flat_map-append squares_of (run n) (l ∷ spelled 0 cells) ∙ ap (λ (xs : List (Option Piece)). xs ++ squares (l ∷ spelled 0 cells)) (squares-run n (omega arith))
+    flat_map-append squares_of (run n) (l ∷ spelled 0 cells)
+    ∙ ap (λ (xs : List (Option Piece)). xs ++ squares (l ∷ spelled 0 cells)) (squares-run n (omega arith))
     ∙ ap (λ (xs : List (Option Piece)). replicate n None ++ (xs ++ squares (spelled 0 cells))) ((letter_again p.side p.kind).0)
     ∙ ap (λ (xs : List (Option Piece)). replicate n None ++ (Some p ∷ xs)) (squares-spelled 0 cells (omega arith))
 
@@ -133,7 +142,10 @@ known-spelled n [] le = known-run n (omega arith)
 known-spelled n (None ∷ cells) le = known-spelled (n + 1) cells (omega arith)
 known-spelled n (Some p ∷ cells) le =
     let l = man_letter p.side p.kind in
-    list_all-append is_known (run n) (l ∷ spelled 0 cells) ∙ and_from (list_all is_known (run n)) (is_known l && list_all is_known (spelled 0 cells)) (known-run n (omega arith)) (and_from (is_known l) (list_all is_known (spelled 0 cells)) ((letter_again p.side p.kind).1) (known-spelled 0 cells (omega arith)))
+    list_all-append is_known (run n) (l ∷ spelled 0 cells) ∙ and_from (list_all is_known (run n))
+    (is_known l && list_all is_known (spelled 0 cells)) (known-run n (omega arith))
+    (and_from (is_known l) (list_all is_known (spelled 0 cells)) ((letter_again p.side p.kind).1)
+    (known-spelled 0 cells (omega arith)))
 
 rank_squares : (men : List Man) (rank : ℕ) → squares (rank_text men rank) ≡ row men (8 * rank) 8
 unfolding rank_text
@@ -141,7 +153,9 @@ rank_squares men rank = squares-spelled 0 (row men (8 * rank) 8) (omega arith)
 
 rank_is : (men : List Man) (rank : ℕ) → is_rank (rank_text men rank) ≡ true
 unfolding is_rank rank_text
-rank_is men rank = and_from (list_all is_known (rank_text men rank)) (eqb (length (squares (rank_text men rank))) 8) (known-spelled 0 (row men (8 * rank) 8) (omega arith)) (eq-eqb (length (squares (rank_text men rank))) 8 (ap length (rank_squares men rank)))
+rank_is men rank = and_from (list_all is_known (rank_text men rank)) (eqb (length (squares (rank_text men rank))) 8)
+    (known-spelled 0 (row men (8 * rank) 8) (omega arith))
+    (eq-eqb (length (squares (rank_text men rank))) 8 (ap length (rank_squares men rank)))
 
 rank_above : (men : List Man) (rank : ℕ) → Above 47 (rank_text men rank)
 unfolding rank_text
@@ -156,12 +170,18 @@ parts men (suc k) = rank_text men (suc k) ∷ parts men k
 ranks_split : (men : List Man) (k : ℕ) → slice_split is_stroke (ranks_text men k) ≡ parts men k
 unfolding ranks_text
 ranks_split men zero = split_whole is_stroke (rank_text men 0) (Lacks-above 47 (rank_text men 0) (rank_above men 0))
-ranks_split men (suc k) = split_cut is_stroke (rank_text men (suc k)) 47 (ranks_text men k) (Lacks-above 47 (rank_text men (suc k)) (rank_above men (suc k))) refl ∙ ap (λ (ps : List (List ℕ)). rank_text men (suc k) ∷ ps) (ranks_split men k)
+ranks_split men (suc k) =
+    split_cut is_stroke (rank_text men (suc k)) 47 (ranks_text men k)
+    (Lacks-above 47 (rank_text men (suc k)) (rank_above men (suc k))) refl
+    ∙ ap (λ (ps : List (List ℕ)). rank_text men (suc k) ∷ ps) (ranks_split men k)
 
 ranks_above : (men : List Man) (k : ℕ) → Above 32 (ranks_text men k)
 unfolding ranks_text
 ranks_above men zero = Above-weaker 32 47 (rank_text men 0) (omega arith) (rank_above men 0)
-ranks_above men (suc k) = Above-append 32 (rank_text men (suc k)) (47 ∷ ranks_text men k) (Above-weaker 32 47 (rank_text men (suc k)) (omega arith) (rank_above men (suc k))) (omega arith, ranks_above men k)
+ranks_above men (suc k) =
+    Above-append 32 (rank_text men (suc k)) (47 ∷ ranks_text men k)
+    (Above-weaker 32 47 (rank_text men (suc k)) (omega arith) (rank_above men (suc k)))
+    (omega arith, ranks_above men k)
 
 all_ranks : (men : List Man) (k : ℕ) → list_all is_rank (parts men k) ≡ true
 all_ranks men zero = rw (rank_is men 0) refl
@@ -169,7 +189,8 @@ all_ranks men (suc k) = and_from (is_rank (rank_text men (suc k))) (list_all is_
 
 rows_of : (men : List Man) (rs : List ℕ) → flat_map squares (map (rank_text men) rs) ≡ flat_map (λ r. row men (8 * r) 8) rs
 rows_of men [] = refl
-rows_of men (r ∷ rs) = ap (λ (xs : List (Option Piece)). xs ++ flat_map squares (map (rank_text men) rs)) (rank_squares men r) ∙ ap (λ (xs : List (Option Piece)). row men (8 * r) 8 ++ xs) (rows_of men rs)
+rows_of men (r ∷ rs) = ap (λ (xs : List (Option Piece)). xs ++ flat_map squares (map (rank_text men) rs))
+    (rank_squares men r) ∙ ap (λ (xs : List (Option Piece)). row men (8 * r) 8 ++ xs) (rows_of men rs)
 
 all_rows : (men : List Man) → flat_map squares (reverse (parts men 7)) ≡ row men 0 64
 all_rows men = rows_of men (0 ∷ 1 ∷ 2 ∷ 3 ∷ 4 ∷ 5 ∷ 6 ∷ 7 ∷ [])
@@ -189,7 +210,9 @@ piece_none (m ∷ men) at from end h lt =
 
 row_skip : (m : Man) (men : List Man) (at n : ℕ) → m.at < at → row (m ∷ men) at n ≡ row men at n
 row_skip m men at zero lt = refl
-row_skip m men at (suc n) lt = rw (ne_eqb m.at at (λ e. omega arith)) (ap (λ (xs : List (Option Piece)). piece_on men at ∷ xs) (row_skip m men (at + 1) n (omega arith)))
+row_skip m men at (suc n) lt =
+    rw (ne_eqb m.at at (λ e. omega arith))
+    (ap (λ (xs : List (Option Piece)). piece_on men at ∷ xs) (row_skip m men (at + 1) n (omega arith)))
 
 men_again : (n at : ℕ) (men : List Man) → Ascending at (at + n) men → men_from at (row men at n) ≡ men
 men_again zero at [] h = refl
@@ -202,8 +225,15 @@ men_again (suc n) at (m ∷ men) h =
     elim (cases_Bool (eqb m.at at)) [
       | inl hit ↦
           let here = eqb-true m.at at hit in
-          let others : Ascending (at + 1) (at + 1 + n) men = subst (λ k. Ascending (k + 1) (at + 1 + n) men) here (subst (λ e. Ascending (m.at + 1) e men) end h.2) in
-          rw hit (ap (λ (cells : List (Option Piece)). record { side = m.side; kind = m.kind; at = at } ∷ men_from (at + 1) cells) (row_skip m men (at + 1) n (omega arith)) ∙ ap (λ (ms : List Man). record { side = m.side; kind = m.kind; at = at } ∷ ms) (men_again n (at + 1) men others) ∙ ap (λ k. record { side = m.side; kind = m.kind; at = k } ∷ men) (sym here))
+          let others : Ascending (at + 1) (at + 1 + n) men =
+          subst (λ k. Ascending (k + 1) (at + 1 + n) men) here
+          (subst (λ e. Ascending (m.at + 1) e men) end h.2) in
+          rw hit
+          (ap (λ (cells : List (Option Piece)). record { side = m.side; kind = m.kind; at = at } ∷ men_from
+          (at + 1) cells) (row_skip m men (at + 1) n (omega arith))
+          ∙ ap (λ (ms : List Man). record { side = m.side; kind = m.kind; at = at } ∷ ms)
+          (men_again n (at + 1) men others) ∙ ap (λ k. record { side = m.side; kind = m.kind; at = k } ∷ men)
+          (sym here))
       | inr miss ↦
           let ne = eqb-false m.at at miss in
           let above : at + 1 ≤ m.at = omega arith in
@@ -225,8 +255,10 @@ side_again Black = refl
 passed_again : (p : Option ℕ) → IfSome p (λ at. at < 64) → passed_of (passed_text p) ≡ Some p
 passed_again None h = refl
 passed_again (Some at) h =
-    let f : (leb 97 (97 + at % 8) && leb (97 + at % 8) 104) ≡ true = and_from _ _ (le-leb 97 (97 + at % 8) (omega arith)) (le-leb (97 + at % 8) 104 (omega arith)) in
-    let r : (leb 49 (49 + at / 8) && leb (49 + at / 8) 56) ≡ true = and_from _ _ (le-leb 49 (49 + at / 8) (omega arith)) (le-leb (49 + at / 8) 56 (omega arith)) in
+    let f : (leb 97 (97 + at % 8) && leb (97 + at % 8) 104) ≡ true =
+    and_from _ _ (le-leb 97 (97 + at % 8) (omega arith)) (le-leb (97 + at % 8) 104 (omega arith)) in
+    let r : (leb 49 (49 + at / 8) && leb (49 + at / 8) 56) ≡ true =
+    and_from _ _ (le-leb 49 (49 + at / 8) (omega arith)) (le-leb (49 + at / 8) 56 (omega arith)) in
     let e : 8 * (49 + at / 8 - 49) + (97 + at % 8 - 97) ≡ at = omega arith in
     rw (f, r, e) refl
 
@@ -260,7 +292,8 @@ AllWords (w ∷ ws) = Above 32 w × (0 < length w) × AllWords ws
 
 words_joined : (w : List ℕ) (ws : List (List ℕ)) → AllWords (w ∷ ws) → slice_split is_space (join_with_byte 32 (w ∷ ws)) ≡ w ∷ ws
 words_joined w [] h = split_whole is_space w (Lacks-above 32 w h.0)
-words_joined w (v ∷ ws) h = split_cut is_space w 32 (join_with_byte 32 (v ∷ ws)) (Lacks-above 32 w h.0) refl ∙ ap (λ (xs : List (List ℕ)). w ∷ xs) (words_joined v ws h.2)
+words_joined w (v ∷ ws) h = split_cut is_space w 32 (join_with_byte 32 (v ∷ ws)) (Lacks-above 32 w h.0) refl
+    ∙ ap (λ (xs : List (List ℕ)). w ∷ xs) (words_joined v ws h.2)
 
 words_kept : (ws : List (List ℕ)) → AllWords ws → filter is_word ws ≡ ws
 words_kept [] h = refl
@@ -282,7 +315,8 @@ count_word : (n : ℕ) → n ≤ 9999 → Above 32 (decimal n) × (0 < length (d
 count_word n le = let is = decimal_is_IsNumeral n (omega arith) in (digits_above (decimal n) is.0.1, decimal_nonempty n (omega arith))
 
 rank_long : (men : List Man) (rank : ℕ) → 0 < length (rank_text men rank)
-rank_long men rank = elim (rank_text men rank) as (λ (t : List ℕ). squares t ≡ row men (8 * rank) 8 → 0 < length t) [ [] ↦ λ e. absurd cc | b ∷ bs ↦ λ e. omega arith ] (rank_squares men rank)
+rank_long men rank = elim (rank_text men rank) as (λ (t : List ℕ). squares t ≡ row men (8 * rank) 8 → 0 < length t)
+    [ [] ↦ λ e. absurd cc | b ∷ bs ↦ λ e. omega arith ] (rank_squares men rank)
 
 ranks_long : (men : List Man) (k : ℕ) → 0 < length (ranks_text men k)
 unfolding ranks_text
@@ -331,6 +365,21 @@ start_again s valid clock low high =
     let p = passed_word passed in
     let h = count_word s.clock clock in
     let n = count_word s.number high in
-    let all = words_again (placement_text men) (side_text side ∷ (45 ∷ []) ∷ passed_text passed ∷ decimal s.clock ∷ decimal s.number ∷ []) (a.0, a.1, (b.0, b.1, ((omega arith, tt), omega arith, (p.0, p.1, (h.0, h.1, (n.0, n.1, tt)))))) in
+    let all =
+    words_again (placement_text men)
+    (side_text side ∷ (45 ∷ []) ∷ passed_text passed ∷ decimal s.clock ∷ decimal s.number ∷ [])
+    (a.0, a.1, (b.0, b.1, ((omega arith, tt), omega arith, (p.0, p.1, (h.0, h.1, (n.0, n.1, tt)))))) in
     let some : eqb s.number 0 ≡ false = ne_eqb s.number 0 (λ e. omega arith) in
-    rw (all, placement_again men (Ascending-valid men valid.ordered valid.on_board), placement_fault-none men side passed ok, side_again side, ok.safe, passed_again passed (passed_in men side passed ok.possible), ok.possible, count_again s.clock clock, count_again s.number high, some) refl
+    rw (
+      all,
+      placement_again men (Ascending-valid men valid.ordered valid.on_board),
+      placement_fault-none men side
+          passed ok,
+      side_again side,
+      ok.safe,
+      passed_again passed (passed_in men side passed ok.possible),
+      ok.possible,
+      count_again s.clock clock,
+      count_again s.number high,
+      some,
+    ) refl

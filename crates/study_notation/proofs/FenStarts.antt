@@ -1,5 +1,7 @@
 -- What is read of a FEN text is a start of a valid position, with counts that are written and read again.
-use Rattle.std.proofs.Common.{◌≡◌, ℕ, ◌+◌, ◌*◌, ◌^◌, ◌<◌, ◌≤◌, ◌==◌, Bool, true, false, not, cond, ◌&&◌, leb, List, [], ◌∷◌, length, reverse, Option, Some, None, refl, sym, ap, ◌∙◌, subst, arith, inl, inr}
+use Rattle.std.proofs.Common.{◌≡◌, ℕ, ◌+◌, ◌*◌, ◌^◌, ◌<◌, ◌≤◌, ◌==◌, Bool, true, false, not}
+use Rattle.std.proofs.Common.{cond, ◌&&◌, leb, List, [], ◌∷◌, length, reverse, Option, Some}
+use Rattle.std.proofs.Common.{None, refl, sym, ap, ◌∙◌, subst, arith, inl, inr}
 use Rattle.std.specs.Prelude.{Result, Ok, Err}
 use Rattle.std.specs.List.{All, flat_map, slice_split, list_all}
 use Rattle.std.specs.Char.{digit_value}
@@ -17,12 +19,14 @@ use Rattle.study_board.specs.Position.{Position, IsValid, IsAscending, in_check,
 use Rattle.study_notation.specs.declared.start.Start.{Start}
 use Rattle.study_notation.specs.declared.fault.FenFault.{FenFault}
 use Rattle.study_notation.specs.declared.placement.Piece.{Piece}
-use Rattle.study_notation.specs.Fen.{◌>>=◌, refuse, refuse_any, needed, fields_of, is_rank, squares, men_from, placement, placement_fault, side_of, is_dash, passed_of, position_of, is_digit, count_of, start_of}
+use Rattle.study_notation.specs.Fen.{◌>>=◌, refuse, refuse_any, needed, fields_of, is_rank, squares}
+use Rattle.study_notation.specs.Fen.{men_from, placement, placement_fault, side_of, is_dash}
+use Rattle.study_notation.specs.Fen.{passed_of, position_of, is_digit, count_of, start_of}
 use Rattle.study_notation.specs.Words.{words}
 use Rattle.study_notation.specs.FenSpelling.{fen_text}
-use Rattle.study_notation.proofs.Ranks.{rank_len}
-use Rattle.study_notation.proofs.Counts.{digit_is}
-use Rattle.study_notation.proofs.Faults.{IsAscending-placement, faultless_but_passed}
+use Rattle.study_notation.proofs.PlacementParts.{rank_len}
+use Rattle.study_notation.proofs.DigitCounts.{digit_is}
+use Rattle.study_notation.proofs.PlacementFaults.{IsAscending-placement, faultless_but_passed}
 use Rattle.study_notation.proofs.FenAgain.{start_again}
 
 bind_ok : {A B : Type 0} (r : Result A FenFault) (f : A → Result B FenFault) (y : B) → (r >>= f) ≡ Ok y → (x : A) × (r ≡ Ok x) × (f x ≡ Ok y)
@@ -47,16 +51,25 @@ ranks_length : (parts : List (List ℕ)) → list_all is_rank parts ≡ true →
 ranks_length [] e = refl
 ranks_length (part ∷ parts) e =
     let h = and_parts (is_rank part) (list_all is_rank parts) e in
-    omega (arith, length-append (squares part) (flat_map squares parts), ap length (flat_map-cons squares part parts), rank_len part h.0, ranks_length parts h.1)
+    omega (
+      arith,
+      length-append (squares part) (flat_map squares parts),
+      ap length (flat_map-cons squares part parts),
+      rank_len part h.0,
+      ranks_length parts h.1,
+    )
 
 length-reversed : (parts : List (List ℕ)) → length (flat_map squares (reverse parts)) ≡ length (flat_map squares parts)
 length-reversed parts =
-    length-flat_map squares (reverse parts) ∙ sum_by-IsPermutation (λ part. length (squares part)) parts (reverse parts) (IsPermutation-reverse parts) ∙ sym (length-flat_map squares parts)
+    length-flat_map squares (reverse parts) ∙ sum_by-IsPermutation (λ part. length (squares part)) parts
+    (reverse parts) (IsPermutation-reverse parts) ∙ sym (length-flat_map squares parts)
 
 All-men_from : (n : ℕ) (cells : List (Option Piece)) (end : ℕ) → n + length cells ≤ end → All (λ m. m.at < end) (men_from n cells)
 All-men_from n [] end le = All-nil (λ m. m.at < end)
 All-men_from n (None ∷ cells) end le = All-men_from (n + 1) cells end (omega arith)
-All-men_from n (Some p ∷ cells) end le = All-cons (λ m. m.at < end) (record { side = p.side; kind = p.kind; at = n }) (men_from (n + 1) cells) (omega arith) (All-men_from (n + 1) cells end (omega arith))
+All-men_from n (Some p ∷ cells) end le =
+    All-cons (λ m. m.at < end) (record { side = p.side; kind = p.kind; at = n }) (men_from (n + 1) cells)
+    (omega arith) (All-men_from (n + 1) cells end (omega arith))
 
 where_true : {A : Type 0} (b : Bool) (x y : A) → cond b (Some x) None ≡ Some y → (b ≡ true) × (x ≡ y)
 where_true true x y e = (refl, cc)
@@ -109,7 +122,9 @@ one_or_more n le = elim (cases_Bool (n == 0)) [
 
 -- ---- the position
 
-valid_position : (men : List Man) (side : Side) (passed : Option ℕ) (p : Position) → IsAscending men → All (λ m. m.at < 64) men → placement_fault men ≡ None → in_check men (other_side side) ≡ false → position_of men side passed ≡ Some p → IsValid p
+valid_position : (men : List Man) (side : Side) (passed : Option ℕ) (p : Position) → IsAscending men
+    → All (λ m. m.at < 64) men → placement_fault men ≡ None → in_check men (other_side side) ≡ false
+    → position_of men side passed ≡ Some p → IsValid p
 unfolding position_of
 valid_position men side passed p ordered board none safe e =
     let made = where_true (passed_possible men side passed) (record { men = men; to_move = side; passed = passed }) p e in
@@ -149,7 +164,9 @@ read_is text s e =
     let start : Start = record { position = made.0; clock = clock.0; number = cond (n == 0) 1 n } in
     let counted = one_or_more n (count_low f.number n (needed_ok _ _ n number.1)) in
     subst (λ (z : Start). IsRead z) (ok_is start s number.2) (record {
-      valid = valid_position men side jumped.0 made.0 (IsAscending-placement f.placement men is_placement) (on_board f.placement men is_placement) (refuse_any_ok _ _ whole.1) (refuse_ok _ _ _ safe.1) (needed_ok _ _ made.0 made.1);
+      valid = valid_position men side jumped.0 made.0 (IsAscending-placement f.placement men is_placement)
+          (on_board f.placement men is_placement) (refuse_any_ok _ _ whole.1) (refuse_ok _ _ _ safe.1)
+          (needed_ok _ _ made.0 made.1);
       clock = count_low f.clock clock.0 (needed_ok _ _ clock.0 clock.1);
       positive = counted.0;
       number = counted.1;

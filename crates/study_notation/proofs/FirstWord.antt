@@ -24,7 +24,12 @@ one_more n = omega arith
 words_space : (line : List ℕ) → words line ≡ words (begun_word line)
 unfolding words
 words_space [] = refl
-words_space (b ∷ line) = elim (cases_Bool (is_space b)) [ inl space ↦ rw space (words_space line ∙ ap (λ k. words (drop k (b ∷ line))) (one_more (prefix_len is_space line))) | inr letter ↦ rw letter (rw letter refl) ]
+words_space (b ∷ line) =
+    elim (cases_Bool (is_space b)) [
+      | inl space ↦ rw space
+          (words_space line ∙ ap (λ k. words (drop k (b ∷ line))) (one_more (prefix_len is_space line)))
+      | inr letter ↦ rw letter (rw letter refl)
+    ]
 
 -- the parts behind a word
 abbrev parts_behind : List ℕ → List (List ℕ)
@@ -45,7 +50,9 @@ words_behind [] = refl
 words_behind (b ∷ text) =
     elim (cases_Bool (is_space b)) [
       | inl space ↦ rw space (rw space refl)
-      | inr letter ↦ rw letter (ap (λ k. words (drop k (b ∷ text))) (sym (one_more (word_len text))) ∙ words_behind text ∙ ap (λ k. filter is_word (parts_behind (drop k (b ∷ text)))) (one_more (word_len text)))
+      | inr letter ↦ rw letter (ap (λ k. words (drop k (b ∷ text))) (sym (one_more (word_len text)))
+          ∙ words_behind text ∙ ap (λ k. filter is_word (parts_behind (drop k (b ∷ text))))
+          (one_more (word_len text)))
     ]
 
 pub words_cons : (w : List ℕ) (ws : List (List ℕ)) → 0 < length w → filter is_word (w ∷ ws) ≡ w ∷ filter is_word ws
@@ -55,7 +62,9 @@ words_first : (text : List ℕ) → 0 < word_len text → words text ≡ take (w
 unfolding words
 words_first text h =
     let long : 0 < length (take (word_len text) text) = omega (arith, length-prefix_len is_letter text) in
-    ap (filter is_word) (split_word text) ∙ words_cons (take (word_len text) text) (parts_behind (drop (word_len text) text)) long ∙ ap (λ (ws : List (List ℕ)). take (word_len text) text ∷ ws) (sym (words_behind text))
+    ap (filter is_word) (split_word text) ∙ words_cons (take (word_len text) text)
+    (parts_behind (drop (word_len text) text)) long ∙ ap (λ (ws : List (List ℕ)). take (word_len text) text ∷ ws)
+    (sym (words_behind text))
 
 begun_long : (line : List ℕ) → 0 < length (begun_word line) → 0 < word_len (begun_word line)
 begun_long [] h = absurd (omega arith)
@@ -71,7 +80,9 @@ begun_long (b ∷ line) h =
     ]
 
 -- the line begins, behind spaces, with a word
-pub words_begin : (line : List ℕ) → 0 < length (begun_word line) → words line ≡ take (word_len (begun_word line)) (begun_word line) ∷ words (drop (word_len (begun_word line)) (begun_word line))
+pub words_begin : (line : List ℕ) → 0 < length (begun_word line)
+    → words line ≡ take (word_len (begun_word line)) (begun_word line) ∷ words
+    (drop (word_len (begun_word line)) (begun_word line))
 words_begin line h = words_space line ∙ words_first (begun_word line) (begun_long line h)
 
 -- the line has nothing but spaces
@@ -80,7 +91,9 @@ unfolding words
 words_none line h = words_space line ∙ ap words (nil_from_length (begun_word line) h)
 
 -- a line cut behind its spaces, and the text then behind its first word
-pub words-cut : (line text front back : List ℕ) (spaces letters : ℕ) → spaces ≡ prefix_len is_space line → text ≡ drop spaces line → letters ≡ word_len text → front ≡ take letters text → back ≡ drop letters text → 0 < length text
+pub words-cut : (line text front back : List ℕ) (spaces letters : ℕ) → spaces ≡ prefix_len is_space line
+    → text ≡ drop spaces line → letters ≡ word_len text → front ≡ take letters text → back ≡ drop letters text
+    → 0 < length text
     → (words line ≡ front ∷ words back) × (back ≡ behind_word line)
 unfolding behind_word
 words-cut line text front back spaces letters s t l f b some =

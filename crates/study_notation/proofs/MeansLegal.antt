@@ -9,7 +9,7 @@ use Rattle.study_notation.specs.declared.san.San.{San}
 use Rattle.study_notation.specs.declared.fault.SanFault.{SanFault}
 use Rattle.study_moves.specs.LegalList.{legal_list}
 use Rattle.study_notation.specs.Matching.{matches, picked}
-use Rattle.study_moves.proofs.Sorted.{IsIn, IsIn-filter}
+use Rattle.study_moves.proofs.AscendingKeys.{IsIn, IsIn-filter}
 use Rattle.study_moves.proofs.LegalLists.{is_legal-in}
 
 picked_in : (xs : List Move) → IfOk (picked xs) (λ m. IsIn m xs)
@@ -21,9 +21,11 @@ IfOk-weaker : {A E : Type 0} (P Q : A → Type 0) (r : Result A E) → ((x : A) 
 IfOk-weaker P Q (Ok x) f h = f x h
 IfOk-weaker P Q (Err e) f h = tt
 
-pub picked_legal : (p : Position) (s : San) (ms xs : List Move) (r : Result Move SanFault) → ms ≡ xs → xs ≡ legal_list p → r ≡ picked (filter (matches p s) ms) → IfOk r (λ m. is_legal p m ≡ true)
+pub picked_legal : (p : Position) (s : San) (ms xs : List Move) (r : Result Move SanFault) → ms ≡ xs
+    → xs ≡ legal_list p → r ≡ picked (filter (matches p s) ms) → IfOk r (λ m. is_legal p m ≡ true)
 picked_legal p s ms xs r e h k =
     let all = filter (matches p s) (legal_list p) in
     let told : r ≡ picked all = k ∙ ap (λ (l : List Move). picked (filter (matches p s) l)) (e ∙ h) in
     subst (λ (x : Result Move SanFault). IfOk x (λ m. is_legal p m ≡ true)) (sym told)
-    (IfOk-weaker (λ m. IsIn m all) (λ m. is_legal p m ≡ true) (picked all) (λ m i. is_legal-in p m (IsIn-filter (matches p s) (legal_list p) m i).0) (picked_in all))
+    (IfOk-weaker (λ m. IsIn m all) (λ m. is_legal p m ≡ true) (picked all)
+    (λ m i. is_legal-in p m (IsIn-filter (matches p s) (legal_list p) m i).0) (picked_in all))

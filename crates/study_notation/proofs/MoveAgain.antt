@@ -17,7 +17,7 @@ use Rattle.study_moves.specs.LegalList.{is_mate}
 use Rattle.study_notation.specs.Matching.{picked, meant, move_of}
 use Rattle.study_notation.specs.Written.{gives_file, gives_rank, san_for, check_text, move_text}
 use Rattle.study_notation.proofs.SanAgain.{san_again}
-use Rattle.study_notation.proofs.Spelled.{says}
+use Rattle.study_notation.proofs.ReadIsSpelled.{says}
 use Rattle.study_notation.proofs.OneMoveAgrees.{alone_matches}
 
 some_below : (b : Bool) (n k : ℕ) → n < k → IfSome (cond b (Some n) None) (λ f. f < k)
@@ -56,8 +56,11 @@ move_again p m valid e =
     let s = san_for p h.man m in
     let check = check_text (after p m) in
     let on_board = All-among (λ x. x.at < 64) p.men h.man valid.on_board (found_among p.men m.origin h.man h.here).0 in
-    let read : san_of (san_text s true ++ check) ≡ Some s = san_again s true check (fits_for p h.man m on_board h.moves.target h.moves.choice) (check_ending (after p m)) in
-    ap (λ (t : List ℕ). meant p t (san_of t)) (text_of p m h.man h.here) ∙ ap (meant p (san_text s true ++ check)) read ∙ ap picked (alone_matches p m h.man valid e h.here)
+    let read : san_of (san_text s true ++ check) ≡ Some s =
+    san_again s true check (fits_for p h.man m on_board h.moves.target h.moves.choice)
+    (check_ending (after p m)) in
+    ap (λ (t : List ℕ). meant p t (san_of t)) (text_of p m h.man h.here) ∙ ap (meant p (san_text s true ++ check))
+    read ∙ ap picked (alone_matches p m h.man valid e h.here)
 
 read_where_spelled : (text : List ℕ) (s : San) → Says text s → san_of text ≡ Some s
 read_where_spelled text s h = ap san_of h.1.3 ∙ san_again s h.1.0 h.1.1 h.0 h.1.2

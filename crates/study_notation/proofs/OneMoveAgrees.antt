@@ -17,14 +17,13 @@ use Rattle.study_moves.proofs.HowMenGo.{IsCapture}
 use Rattle.study_moves.proofs.MenOfList.{IsAmong, found_among, list_any-from, some_among}
 use Rattle.study_moves.proofs.NoMoveBetween.{IsMoveOf, HasMover-from_is_legal}
 use Rattle.study_notation.specs.declared.san.San.{San}
-use Rattle.study_moves.specs.LegalList.{legal_list}
-use Rattle.study_moves.specs.LegalList.{takes}
+use Rattle.study_moves.specs.LegalList.{legal_list, takes}
 use Rattle.study_notation.specs.Matching.{same_promotion, fits_given, fits_takes, agrees, matches}
 use Rattle.study_notation.specs.Written.{is_rival, has_rival, has_file_rival, gives_file, gives_rank, san_for}
-use Rattle.study_moves.proofs.Sorted.{alone}
+use Rattle.study_moves.proofs.AscendingKeys.{alone}
 use Rattle.study_moves.proofs.LegalLists.{in_legal, is_legal-in, AscendsFrom-legal_list}
 use Rattle.study_notation.proofs.ThreeAlike.{not_three}
-use Rattle.study_notation.proofs.Pawns.{Advances, advances_or_captures, same_advance, same_capture}
+use Rattle.study_notation.proofs.TwoPawns.{Advances, advances_or_captures, same_advance, same_capture}
 
 promotion_self : (q : Option Kind) → same_promotion q q ≡ true
 promotion_self None = refl
@@ -102,7 +101,8 @@ IsMove-from p m e =
 same_square_by : (a b : ℕ) → file_of a ≡ file_of b → rank_of a ≡ rank_of b → a ≡ b
 same_square_by a b f r = omega arith
 
-module _ (p : Position) (valid : IsValid p) (man : Man) (m : Move) (h : IsMove p man m) (other : Man) (n : Move) (k : IsMove p other n) (a : Agrees p (san_for p man m) other n) where
+module _ (p : Position) (valid : IsValid p) (man : Man) (m : Move) (h : IsMove p man m) (other : Man) (n : Move)
+    (k : IsMove p other n) (a : Agrees p (san_for p man m) other n) where
   same_sides : other.side ≡ man.side
   same_sides = sides_equal _ _ k.moves.mine ∙ sym (sides_equal _ _ h.moves.mine)
 
@@ -131,16 +131,21 @@ module _ (p : Position) (valid : IsValid p) (man : Man) (m : Move) (h : IsMove p
 
   takes_written : is_pawn man ≡ true → takes p other m.target ≡ takes p man m.target
   unfolding san_for
-  takes_written e = pawn_written (takes p man m.target) (takes p other m.target) (is_pawn other) (is_pawn_too true e) (subst (λ x. fits_takes (takes p man m.target) (takes p other x) (is_pawn other) ≡ true) same_targets a.captures)
+  takes_written e = pawn_written (takes p man m.target) (takes p other m.target) (is_pawn other)
+      (is_pawn_too true e) (subst (λ x. fits_takes (takes p man m.target) (takes p other x) (is_pawn other) ≡ true)
+      same_targets a.captures)
 
   pawn_gives : is_pawn man ≡ true → gives_file p man m.target ≡ takes p man m.target
   unfolding gives_file
   pawn_gives e = rw e refl
 
-  others : is_pawn other ≡ true → ((takes p other m.target ≡ false) × Advances p.men man.side other.at m.target) ⊎ ((takes p other m.target ≡ true) × IsCapture man.side other.at m.target)
+  others : is_pawn other ≡ true → ((takes p other m.target ≡ false) × Advances p.men man.side other.at m.target)
+      ⊎ ((takes p other m.target ≡ true) × IsCapture man.side other.at m.target)
   others pawn =
-      let X : ℕ → Type 0 = λ x. ((takes p other x ≡ false) × Advances p.men other.side other.at x) ⊎ ((takes p other x ≡ true) × IsCapture other.side other.at x) in
-      let S : Side → Type 0 = λ s. ((takes p other m.target ≡ false) × Advances p.men s other.at m.target) ⊎ ((takes p other m.target ≡ true) × IsCapture s other.at m.target) in
+      let X : ℕ → Type 0 = λ x. ((takes p other x ≡ false) × Advances p.men other.side other.at x)
+      ⊎ ((takes p other x ≡ true) × IsCapture other.side other.at x) in
+      let S : Side → Type 0 = λ s. ((takes p other m.target ≡ false) × Advances p.men s other.at m.target)
+      ⊎ ((takes p other m.target ≡ true) × IsCapture s other.at m.target) in
       subst S same_sides (subst X same_targets (advances_or_captures p other n.target pawn k.moves.going))
 
   same_pawn : is_pawn man ≡ true → man.at ≡ other.at
@@ -167,7 +172,8 @@ module _ (p : Position) (valid : IsValid p) (man : Man) (m : Move) (h : IsMove p
       ap by_origin (sym k.at) ∙ ap by_target same_targets ∙ ap by_choice none
 
   other_man : is_man man.side man.kind other ≡ true
-  other_man = and_from _ _ (subst (λ s. same_side other.side s ≡ true) same_sides (side_self other.side)) (subst (λ l. same_kind other.kind l ≡ true) same_kinds (kind_self other.kind))
+  other_man = and_from _ _ (subst (λ s. same_side other.side s ≡ true) same_sides (side_self other.side))
+      (subst (λ l. same_kind other.kind l ≡ true) same_kinds (kind_self other.kind))
 
   this_man : is_man man.side man.kind man ≡ true
   this_man = and_from _ _ (side_self man.side) (kind_self man.kind)
@@ -192,7 +198,9 @@ module _ (p : Position) (valid : IsValid p) (man : Man) (m : Move) (h : IsMove p
   file_shared e apart =
       let r = some_among (λ o. is_rival p man m.target o && file_of o.at == file_of man.at) p.men e in
       let b = and_parts (is_rival p man m.target r.0) (file_of r.0.at == file_of man.at) r.2 in
-      let c = and_parts (not (r.0.at == man.at) && is_man man.side man.kind r.0) (is_legal p (record { origin = r.0.at; target = m.target; promoted = None })) b.0 in
+      let c =
+      and_parts (not (r.0.at == man.at) && is_man man.side man.kind r.0)
+      (is_legal p (record { origin = r.0.at; target = m.target; promoted = None })) b.0 in
       let d = and_parts (not (r.0.at == man.at)) (is_man man.side man.kind r.0) c.0 in
       let away : r.0.at ≡ man.at → ⊥ = λ s. false≢true (sym (not-true (r.0.at == man.at) d.0) ∙ eq-eqb _ _ s) in
       elim (cases_Bool (r.0.at == other.at)) [
@@ -242,8 +250,10 @@ unfolding san_for
 itself p man m h = agrees_from p (san_for p man m) man m (record {
   kind = kind_self man.kind;
   target = eq-eqb m.target m.target refl;
-  file = subst (λ o. fits_given (cond (gives_file p man m.target) (Some (file_of man.at)) None) (file_of o) ≡ true) h.at (given_fits (gives_file p man m.target) (file_of man.at));
-  rank = subst (λ o. fits_given (cond (gives_rank p man m.target) (Some (rank_of man.at)) None) (rank_of o) ≡ true) h.at (given_fits (gives_rank p man m.target) (rank_of man.at));
+  file = subst (λ o. fits_given (cond (gives_file p man m.target) (Some (file_of man.at)) None) (file_of o) ≡ true)
+      h.at (given_fits (gives_file p man m.target) (file_of man.at));
+  rank = subst (λ o. fits_given (cond (gives_rank p man m.target) (Some (rank_of man.at)) None) (rank_of o) ≡ true)
+      h.at (given_fits (gives_rank p man m.target) (rank_of man.at));
   promoted = promotion_self m.promoted;
   captures = fits_itself (takes p man m.target) (is_pawn man);
 })
@@ -252,13 +262,15 @@ matches_at : (p : Position) (s : San) (man : Man) (m : Move) → man_at p.men m.
 unfolding matches
 matches_at p s man m e = rw e refl
 
-pub alone_matches : (p : Position) (m : Move) (man : Man) → IsValid p → is_legal p m ≡ true → man_at p.men m.origin ≡ Some man → filter (matches p (san_for p man m)) (legal_list p) ≡ m ∷ []
+pub alone_matches : (p : Position) (m : Move) (man : Man) → IsValid p → is_legal p m ≡ true
+    → man_at p.men m.origin ≡ Some man → filter (matches p (san_for p man m)) (legal_list p) ≡ m ∷ []
 alone_matches p m man valid e here =
     let found = IsMove-from p m e in
     let both : Some found.0 ≡ Some man = sym found.1.here ∙ here in
     let same : found.0 ≡ man = cc in
     let h : IsMove p man m = subst (λ (z : Man). IsMove p z m) same found.1 in
-    alone place_of 0 (matches p (san_for p man m)) (legal_list p) m (AscendsFrom-legal_list p) (in_legal p m valid e) (matches_at p (san_for p man m) man m here ∙ itself p man m h)
+    alone place_of 0 (matches p (san_for p man m)) (legal_list p) m (AscendsFrom-legal_list p)
+    (in_legal p m valid e) (matches_at p (san_for p man m) man m here ∙ itself p man m h)
     (λ n i t.
     let k = IsMove-from p n (is_legal-in p n i) in
     same_move p valid man m h k.0 n k.1 (agrees_parts p (san_for p man m) k.0 n (sym (matches_at p (san_for p man m) k.0 n k.1.here) ∙ t)))

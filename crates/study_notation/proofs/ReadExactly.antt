@@ -12,7 +12,7 @@ use Rattle.study_notation.specs.SanParts.{san_of, is_castling}
 use Rattle.study_moves.specs.LegalList.{legal_list}
 use Rattle.study_notation.specs.Matching.{matches, picked, meant, move_of}
 use Rattle.study_notation.specs.Meaning.{IsSan, Matches}
-use Rattle.study_moves.proofs.Sorted.{IsIn, IsIn-filter, IsIn-kept, AscendsFrom, AscendsFrom-filter}
+use Rattle.study_moves.proofs.AscendingKeys.{IsIn, IsIn-filter, IsIn-kept, AscendsFrom, AscendsFrom-filter}
 use Rattle.study_moves.proofs.LegalLists.{in_legal, is_legal-in, AscendsFrom-legal_list}
 use Rattle.study_notation.proofs.MoveAgain.{parts_spelled}
 
@@ -27,7 +27,9 @@ pub record Tells (r : Result Move SanFault) (san : Type 0) (M : Move → Type 0)
 differ : (lo : ℕ) (m n : Move) (ms : List Move) → AscendsFrom place_of lo (m ∷ n ∷ ms) → m ≡ n → ⊥
 differ lo m n ms h e = let lt = h.1.0 in let same : place_of m ≡ place_of n = ap place_of e in absurd (omega arith)
 
-told_by_list : (ms : List Move) (san : Type 0) (M : Move → Type 0) (castling : Bool) → san → AscendsFrom place_of 0 ms → ((m : Move) → M m → IsIn m ms) → ((m : Move) → IsIn m ms → M m) → Tells (picked ms) san M castling
+told_by_list : (ms : List Move) (san : Type 0) (M : Move → Type 0) (castling : Bool) → san
+    → AscendsFrom place_of 0 ms → ((m : Move) → M m → IsIn m ms) → ((m : Move) → IsIn m ms → M m)
+    → Tells (picked ms) san M castling
 told_by_list [] san M castling s h into out = record {
   one = λ m. (λ e. absurd (let no : ⊥ = cc in no), λ a. absurd (into m a.0));
   none = (λ _. (s, into), λ _. refl);
@@ -62,7 +64,8 @@ told_by_list (x ∷ y ∷ ms) san M castling s h into out =
       not_san = (λ e. absurd (let no : ⊥ = cc in no), λ a. absurd (a.0 s));
     }
 
-told_by_text : (castling : Bool) (san : Type 0) (M : Move → Type 0) → ¬ san → ((m : Move) → ¬ (M m)) → Tells (Err (if castling then CastlingLeftOut else NotSan)) san M castling
+told_by_text : (castling : Bool) (san : Type 0) (M : Move → Type 0) → ¬ san → ((m : Move) → ¬ (M m))
+    → Tells (Err (if castling then CastlingLeftOut else NotSan)) san M castling
 told_by_text true san M unsaid none = record {
   one = λ m. (λ e. absurd (let no : ⊥ = cc in no), λ a. absurd (none m a.0));
   none = (λ e. absurd (let no : ⊥ = cc in no), λ a. absurd (unsaid a.0));

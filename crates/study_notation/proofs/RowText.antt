@@ -1,5 +1,7 @@
 -- The text of a rank, from one square on.
-use Rattle.std.proofs.Common.{◌≡◌, ℕ, zero, suc, ◌+◌, ◌*◌, ◌<◌, ◌≤◌, false, eqb, List, [], ◌∷◌, ◌++◌, length, Option, Some, None, refl, sym, ap, ◌∙◌, inl, inr, arith, length-append, append_assoc, zero-add, add-zero}
+use Rattle.std.proofs.Common.{◌≡◌, ℕ, zero, suc, ◌+◌, ◌*◌, ◌<◌, ◌≤◌, false, eqb, List, [], ◌∷◌}
+use Rattle.std.proofs.Common.{◌++◌, length, Option, Some, None, refl, sym, ap, ◌∙◌, inl, inr}
+use Rattle.std.proofs.Common.{arith, length-append, append_assoc, zero-add, add-zero}
 use Rattle.std.proofs.lemmas.Bool.{eqb-true, ne_eqb, cases_Bool}
 use Rattle.std.proofs.lemmas.List.{append-nil}
 use Rattle.study_notation.specs.declared.placement.Piece.{Piece}
@@ -13,17 +15,22 @@ pub rest_init : (men : List Man) (rank at : ℕ) → at ≡ 8 * rank → rest_te
 unfolding rest_text rank_text
 rest_init men rank at e = ap (λ k. spelled 0 (row men k 8)) e
 
-pub rest_none : (men : List Man) (at at' n m empty : ℕ) → n ≡ m + 1 → at' ≡ at + 1 → piece_on men at ≡ None → rest_text men at n empty ≡ rest_text men at' m (empty + 1)
+pub rest_none : (men : List Man) (at at' n m empty : ℕ) → n ≡ m + 1 → at' ≡ at + 1 → piece_on men at ≡ None
+    → rest_text men at n empty ≡ rest_text men at' m (empty + 1)
 unfolding rest_text
 rest_none men at at' n m empty e e' none =
     let e2 : n ≡ suc m = omega arith in
-    ap (λ k. spelled empty (row men at k)) e2 ∙ ap (λ (o : Option Piece). spelled empty (o ∷ row men (at + 1) m)) none ∙ ap (λ k. spelled (empty + 1) (row men k m)) (sym e')
+    ap (λ k. spelled empty (row men at k)) e2 ∙ ap (λ (o : Option Piece). spelled empty (o ∷ row men (at + 1) m))
+    none ∙ ap (λ k. spelled (empty + 1) (row men k m)) (sym e')
 
-pub rest_some : (men : List Man) (at at' n m empty : ℕ) (p : Piece) → n ≡ m + 1 → at' ≡ at + 1 → piece_on men at ≡ Some p → rest_text men at n empty ≡ run empty ++ (man_letter p.side p.kind ∷ rest_text men at' m 0)
+pub rest_some : (men : List Man) (at at' n m empty : ℕ) (p : Piece) → n ≡ m + 1 → at' ≡ at + 1
+    → piece_on men at ≡ Some p
+    → rest_text men at n empty ≡ run empty ++ (man_letter p.side p.kind ∷ rest_text men at' m 0)
 unfolding rest_text
 rest_some men at at' n m empty p e e' some =
     let e2 : n ≡ suc m = omega arith in
-    ap (λ k. spelled empty (row men at k)) e2 ∙ ap (λ (o : Option Piece). spelled empty (o ∷ row men (at + 1) m)) some ∙ ap (λ k. run empty ++ (man_letter p.side p.kind ∷ spelled 0 (row men k m))) (sym e')
+    ap (λ k. spelled empty (row men at k)) e2 ∙ ap (λ (o : Option Piece). spelled empty (o ∷ row men (at + 1) m))
+    some ∙ ap (λ k. run empty ++ (man_letter p.side p.kind ∷ spelled 0 (row men k m))) (sym e')
 
 pub rest_end : (men : List Man) (at n empty : ℕ) → n ≡ 0 → rest_text men at n empty ≡ run empty
 unfolding rest_text
@@ -59,7 +66,8 @@ occupied-skip m men at zero lt = refl
 occupied-skip m men at (suc n) lt =
     let miss : eqb m.at at ≡ false = ne_eqb m.at at (λ e. omega arith) in
     let others = occupied-skip m men (at + 1) n (omega arith) in
-    rw miss (elim (piece_on men at) as (λ o. count (o ∷ row (m ∷ men) (at + 1) n) ≡ count (o ∷ row men (at + 1) n)) [ None ↦ others | Some p ↦ ap (λ k. 1 + k) others ])
+    rw miss (elim (piece_on men at) as (λ o. count (o ∷ row (m ∷ men) (at + 1) n) ≡ count (o ∷ row men (at + 1) n))
+    [ None ↦ others | Some p ↦ ap (λ k. 1 + k) others ])
 
 count-le : (o : Option Piece) (cells : List (Option Piece)) → count cells ≤ count (o ∷ cells)
 count-le None cells = omega arith
@@ -77,7 +85,10 @@ occupied-cons m men at (suc n) =
           rw hit (omega (arith, others, most))
       | inr miss ↦
           let others = occupied-cons m men (at + 1) n in
-          rw miss (elim (piece_on men at) as (λ o. count (o ∷ row (m ∷ men) (at + 1) n) ≤ 1 + count (o ∷ row men (at + 1) n)) [ None ↦ others | Some p ↦ omega (arith, others) ])
+          rw miss
+          (elim (piece_on men at) as
+          (λ o. count (o ∷ row (m ∷ men) (at + 1) n) ≤ 1 + count (o ∷ row men (at + 1) n))
+          [ None ↦ others | Some p ↦ omega (arith, others) ])
     ]
 
 pub occupied-le : (men : List Man) (at n : ℕ) → occupied men at n ≤ length men
@@ -91,7 +102,9 @@ occupied-add men at (suc n) k =
     let e : suc n + k ≡ suc (n + k) = omega arith in
     let f : at + suc n ≡ (at + 1) + n = omega arith in
     let others = occupied-add men (at + 1) n k in
-    rw (e, f) (elim (piece_on men at) as (λ o. count (o ∷ row men (at + 1) (n + k)) ≡ count (o ∷ row men (at + 1) n) + count (row men (at + 1 + n) k)) [ None ↦ others | Some p ↦ omega (arith, others) ])
+    rw (e, f)
+    (elim (piece_on men at) as (λ o. count (o ∷ row men (at + 1) (n + k)) ≡ count (o ∷ row men (at + 1) n) + count
+    (row men (at + 1 + n) k)) [ None ↦ others | Some p ↦ omega (arith, others) ])
 
 length-rank_text : (men : List Man) (rank : ℕ) → length (rank_text men rank) ≤ 1 + 2 * occupied men (8 * rank) 8
 unfolding rank_text occupied
@@ -140,19 +153,33 @@ below_none men n e = ap (below men) e
 pub len_both : (a b c d : List ℕ) → a ++ b ≡ c ++ d → length a + length b ≡ length c + length d
 len_both a b c d e = omega (arith, ap length e, length-append a b, length-append c d)
 
-pub len_some : (men : List Man) (at at' n m empty : ℕ) (p : Piece) → n ≡ m + 1 → at' ≡ at + 1 → piece_on men at ≡ Some p → length (rest_text men at n empty) ≡ length (run empty) + 1 + length (rest_text men at' m 0)
-len_some men at at' n m empty p e e' some = omega (arith, ap length (rest_some men at at' n m empty p e e' some), length-append (run empty) (man_letter p.side p.kind ∷ rest_text men at' m 0))
+pub len_some : (men : List Man) (at at' n m empty : ℕ) (p : Piece) → n ≡ m + 1 → at' ≡ at + 1
+    → piece_on men at ≡ Some p → length (rest_text men at n empty) ≡ length (run empty) + 1 + length
+    (rest_text men at' m 0)
+len_some men at at' n m empty p e e' some =
+    omega (
+      arith,
+      ap length (rest_some men at at' n m empty p e e' some),
+      length-append (run empty)
+          (man_letter p.side p.kind ∷ rest_text men at' m 0),
+    )
 
 -- a man is written
-pub some_written : (out out1 out2 total : List ℕ) (men : List Man) (at at' n m empty l : ℕ) (p : Piece) → n ≡ m + 1 → at' ≡ at + 1 → piece_on men at ≡ Some p → l ≡ man_letter p.side p.kind → out1 ≡ out ++ run empty → out2 ≡ out1 ++ l ∷ []
+pub some_written : (out out1 out2 total : List ℕ) (men : List Man) (at at' n m empty l : ℕ) (p : Piece) → n ≡ m + 1
+    → at' ≡ at + 1 → piece_on men at ≡ Some p → l ≡ man_letter p.side p.kind → out1 ≡ out ++ run empty
+    → out2 ≡ out1 ++ l ∷ []
     → out ++ rest_text men at n empty ≡ total → out2 ++ rest_text men at' m 0 ≡ total
 some_written out out1 out2 total men at at' n m empty l p e e' some le o1 o2 inv =
-    rw (o2, o1, le) (append_assoc (out ++ run empty) (man_letter p.side p.kind ∷ []) (rest_text men at' m 0) ∙ append_assoc out (run empty) (man_letter p.side p.kind ∷ rest_text men at' m 0) ∙ ap (λ (t : List ℕ). out ++ t) (sym (rest_some men at at' n m empty p e e' some)) ∙ inv)
+    rw (o2, o1, le) (append_assoc (out ++ run empty) (man_letter p.side p.kind ∷ []) (rest_text men at' m 0)
+    ∙ append_assoc out (run empty) (man_letter p.side p.kind ∷ rest_text men at' m 0)
+    ∙ ap (λ (t : List ℕ). out ++ t) (sym (rest_some men at at' n m empty p e e' some)) ∙ inv)
 
 -- a rank is written
-pub below_written : (out out1 out2 total : List ℕ) (men : List Man) (n k : ℕ) → n ≡ k + 1 → out1 ≡ out ++ 47 ∷ [] → out2 ≡ out1 ++ rank_text men k → out ++ below men n ≡ total → out2 ++ below men k ≡ total
+pub below_written : (out out1 out2 total : List ℕ) (men : List Man) (n k : ℕ) → n ≡ k + 1 → out1 ≡ out ++ 47 ∷ []
+    → out2 ≡ out1 ++ rank_text men k → out ++ below men n ≡ total → out2 ++ below men k ≡ total
 below_written out out1 out2 total men n k e o1 o2 inv =
-    rw (o2, o1) (append_assoc (out ++ 47 ∷ []) (rank_text men k) (below men k) ∙ append_assoc out (47 ∷ []) (rank_text men k ++ below men k) ∙ ap (λ (t : List ℕ). out ++ t) (sym (below_step men n k e)) ∙ inv)
+    rw (o2, o1) (append_assoc (out ++ 47 ∷ []) (rank_text men k) (below men k) ∙ append_assoc out (47 ∷ [])
+    (rank_text men k ++ below men k) ∙ ap (λ (t : List ℕ). out ++ t) (sym (below_step men n k e)) ∙ inv)
 
 pub len_below : (men : List Man) (n k : ℕ) → n ≡ k + 1 → length (below men n) ≡ 1 + length (rank_text men k) + length (below men k)
 len_below men n k e = omega (arith, ap length (below_step men n k e), length-append (rank_text men k) (below men k))

@@ -1,5 +1,6 @@
 -- What is spelled is read.
-use Rattle.std.proofs.Common.{◌≡◌, ℕ, ◌+◌, ◌*◌, ◌-◌, ◌/◌, ◌%◌, ◌<◌, ◌≤◌, Bool, true, false, ◌||◌, eqb, List, [], ◌∷◌, ◌++◌, Option, Some, None, refl, ap, ◌∙◌, inl, inr, ◌⊎◌, arith, append_assoc}
+use Rattle.std.proofs.Common.{◌≡◌, ℕ, ◌+◌, ◌*◌, ◌-◌, ◌/◌, ◌%◌, ◌<◌, ◌≤◌, Bool, true, false, ◌||◌, eqb, List, [], ◌∷◌}
+use Rattle.std.proofs.Common.{◌++◌, Option, Some, None, refl, ap, ◌∙◌, inl, inr, ◌⊎◌, arith, append_assoc}
 use Rattle.std.specs.Prelude.{IfSome}
 use Rattle.std.proofs.lemmas.Bool.{ne_eqb, eqb-true, le-leb, lt-leb, and_parts, or_cases, cases_Bool}
 use Rattle.study_board.specs.declared.men.Kind.{Kind}
@@ -70,38 +71,91 @@ coords f r x s t = file_text f ++ (rank_text r ++ (takes_text x ++ (square_text 
 abbrev made : Option ℕ → Option ℕ → Bool → ℕ → Squares
 made f r x s = record { file = f; rank = r; takes = x; target = s }
 
-squares_again : (f r : Option ℕ) (x : Bool) (s : ℕ) (t : List ℕ) → IfSome f (λ k. k < 8) → IfSome r (λ k. k < 8) → s < 64 → AsideFirst t → squares_at (coords f r x s t) ≡ Some (made f r x s, t)
+squares_again : (f r : Option ℕ) (x : Bool) (s : ℕ) (t : List ℕ) → IfSome f (λ k. k < 8) → IfSome r (λ k. k < 8)
+    → s < 64 → AsideFirst t → squares_at (coords f r x s t) ≡ Some (made f r x s, t)
 unfolding squares_at
 squares_again None None false s t hf hr hs ht =
     let e : 8 * (s / 8) + s % 8 ≡ s = omega arith in
     rw (file_again (s % 8) ((49 + s / 8) ∷ t) (omega arith), rank_again (s / 8) t (omega arith), takes_aside t ht, file_aside t ht, e) refl
 squares_again None None true s t hf hr hs ht =
     let e : 8 * (s / 8) + s % 8 ≡ s = omega arith in
-    rw (file_x ((97 + s % 8) ∷ (49 + s / 8) ∷ t), rank_high 120 ((97 + s % 8) ∷ (49 + s / 8) ∷ t) (omega arith), takes_yes ((97 + s % 8) ∷ (49 + s / 8) ∷ t), file_again (s % 8) ((49 + s / 8) ∷ t) (omega arith), rank_again (s / 8) t (omega arith), e) refl
+    rw (
+      file_x ((97 + s % 8) ∷ (49 + s / 8) ∷ t),
+      rank_high 120 ((97 + s % 8) ∷ (49 + s / 8) ∷ t) (omega arith),
+      takes_yes ((97 + s % 8) ∷ (49 + s / 8) ∷ t),
+      file_again (s % 8) ((49 + s / 8) ∷ t) (omega arith),
+      rank_again (s / 8) t (omega arith),
+      e,
+    ) refl
 squares_again (Some f) None false s t hf hr hs ht =
     let e : 8 * (s / 8) + s % 8 ≡ s = omega arith in
     let sq = (97 + s % 8) ∷ (49 + s / 8) ∷ t in
-    rw (file_again f sq hf, rank_high (97 + s % 8) ((49 + s / 8) ∷ t) (omega arith), takes_no (97 + s % 8) ((49 + s / 8) ∷ t) (λ e. omega arith), file_again (s % 8) ((49 + s / 8) ∷ t) (omega arith), rank_again (s / 8) t (omega arith), e) refl
+    rw (
+      file_again f sq hf,
+      rank_high (97 + s % 8) ((49 + s / 8) ∷ t) (omega arith),
+      takes_no (97 + s % 8)
+          ((49 + s / 8) ∷ t) (λ e. omega arith),
+      file_again (s % 8) ((49 + s / 8) ∷ t) (omega arith),
+      rank_again (s / 8) t (omega arith),
+      e,
+    ) refl
 squares_again (Some f) None true s t hf hr hs ht =
     let e : 8 * (s / 8) + s % 8 ≡ s = omega arith in
     let sq = (97 + s % 8) ∷ (49 + s / 8) ∷ t in
-    rw (file_again f (120 ∷ sq) hf, rank_high 120 sq (omega arith), takes_yes sq, file_again (s % 8) ((49 + s / 8) ∷ t) (omega arith), rank_again (s / 8) t (omega arith), e) refl
+    rw (
+      file_again f (120 ∷ sq) hf,
+      rank_high 120 sq (omega arith),
+      takes_yes sq,
+      file_again (s % 8) ((49 + s / 8) ∷ t) (omega arith),
+      rank_again (s / 8) t (omega arith),
+      e,
+    ) refl
 squares_again None (Some r) false s t hf hr hs ht =
     let e : 8 * (s / 8) + s % 8 ≡ s = omega arith in
     let sq = (97 + s % 8) ∷ (49 + s / 8) ∷ t in
-    rw (file_low (49 + r) sq (omega arith), rank_again r sq hr, takes_no (97 + s % 8) ((49 + s / 8) ∷ t) (λ e. omega arith), file_again (s % 8) ((49 + s / 8) ∷ t) (omega arith), rank_again (s / 8) t (omega arith), e) refl
+    rw (
+      file_low (49 + r) sq (omega arith),
+      rank_again r sq hr,
+      takes_no (97 + s % 8) ((49 + s / 8) ∷ t)
+          (λ e. omega arith),
+      file_again (s % 8) ((49 + s / 8) ∷ t) (omega arith),
+      rank_again (s / 8) t (omega arith),
+      e,
+    ) refl
 squares_again None (Some r) true s t hf hr hs ht =
     let e : 8 * (s / 8) + s % 8 ≡ s = omega arith in
     let sq = (97 + s % 8) ∷ (49 + s / 8) ∷ t in
-    rw (file_low (49 + r) (120 ∷ sq) (omega arith), rank_again r (120 ∷ sq) hr, takes_yes sq, file_again (s % 8) ((49 + s / 8) ∷ t) (omega arith), rank_again (s / 8) t (omega arith), e) refl
+    rw (
+      file_low (49 + r) (120 ∷ sq) (omega arith),
+      rank_again r (120 ∷ sq) hr,
+      takes_yes sq,
+      file_again (s % 8) ((49 + s / 8) ∷ t) (omega arith),
+      rank_again (s / 8) t (omega arith),
+      e,
+    ) refl
 squares_again (Some f) (Some r) false s t hf hr hs ht =
     let e : 8 * (s / 8) + s % 8 ≡ s = omega arith in
     let sq = (97 + s % 8) ∷ (49 + s / 8) ∷ t in
-    rw (file_again f ((49 + r) ∷ sq) hf, rank_again r sq hr, takes_no (97 + s % 8) ((49 + s / 8) ∷ t) (λ e. omega arith), file_again (s % 8) ((49 + s / 8) ∷ t) (omega arith), rank_again (s / 8) t (omega arith), e) refl
+    rw (
+      file_again f ((49 + r) ∷ sq) hf,
+      rank_again r sq hr,
+      takes_no (97 + s % 8) ((49 + s / 8) ∷ t)
+          (λ e. omega arith),
+      file_again (s % 8) ((49 + s / 8) ∷ t) (omega arith),
+      rank_again (s / 8) t (omega arith),
+      e,
+    ) refl
 squares_again (Some f) (Some r) true s t hf hr hs ht =
     let e : 8 * (s / 8) + s % 8 ≡ s = omega arith in
     let sq = (97 + s % 8) ∷ (49 + s / 8) ∷ t in
-    rw (file_again f ((49 + r) ∷ (120 ∷ sq)) hf, rank_again r (120 ∷ sq) hr, takes_yes sq, file_again (s % 8) ((49 + s / 8) ∷ t) (omega arith), rank_again (s / 8) t (omega arith), e) refl
+    rw (
+      file_again f ((49 + r) ∷ (120 ∷ sq)) hf,
+      rank_again r (120 ∷ sq) hr,
+      takes_yes sq,
+      file_again (s % 8) ((49 + s / 8) ∷ t) (omega arith),
+      rank_again (s / 8) t (omega arith),
+      e,
+    ) refl
 
 -- ---- the kind
 
@@ -127,7 +181,14 @@ kind_again Rook t h = refl
 kind_again Bishop t h = refl
 kind_again Knight t h = refl
 kind_again Pawn [] h = absurd h
-kind_again Pawn (b ∷ t) h = rw (no_kind b 75 h (omega arith) (omega arith), no_kind b 81 h (omega arith) (omega arith), no_kind b 82 h (omega arith) (omega arith), no_kind b 66 h (omega arith) (omega arith), no_kind b 78 h (omega arith) (omega arith)) refl
+kind_again Pawn (b ∷ t) h =
+    rw (
+      no_kind b 75 h (omega arith) (omega arith),
+      no_kind b 81 h (omega arith) (omega arith),
+      no_kind b 82 h (omega arith) (omega arith),
+      no_kind b 66 h (omega arith) (omega arith),
+      no_kind b 78 h (omega arith) (omega arith),
+    ) refl
 
 -- ---- the promotion and the ending
 
@@ -167,7 +228,8 @@ no_promotion b bs (inr (inl e)) = rw e refl
 no_promotion b bs (inr (inr (inl e))) = rw e refl
 no_promotion b bs (inr (inr (inr e))) = rw e refl
 
-promotion_again : (equals : Bool) (p : Option Kind) (t : List ℕ) → IfSome p (λ k. is_officer k ≡ true) → is_ending t ≡ true → promotion_at (promotion_text equals p ++ t) ≡ Some (p, t)
+promotion_again : (equals : Bool) (p : Option Kind) (t : List ℕ) → IfSome p (λ k. is_officer k ≡ true)
+    → is_ending t ≡ true → promotion_at (promotion_text equals p ++ t) ≡ Some (p, t)
 unfolding promotion_at officer_at officer_of
 promotion_again equals None [] h e = refl
 promotion_again equals None (b ∷ t) h e = no_promotion b t (ending_byte b t e)
@@ -184,7 +246,8 @@ promotion_again false (Some Knight) t h e = refl
 promotion_again false (Some King) t h e = absurd cc
 promotion_again false (Some Pawn) t h e = absurd cc
 
-promotion_aside : (equals : Bool) (p : Option Kind) (t : List ℕ) → IfSome p (λ k. is_officer k ≡ true) → is_ending t ≡ true → AsideFirst (promotion_text equals p ++ t)
+promotion_aside : (equals : Bool) (p : Option Kind) (t : List ℕ) → IfSome p (λ k. is_officer k ≡ true)
+    → is_ending t ≡ true → AsideFirst (promotion_text equals p ++ t)
 promotion_aside equals None t h e = ending_aside t e
 promotion_aside true (Some k) t h e = (omega arith, inr (omega arith))
 promotion_aside false (Some Queen) t h e = (omega arith, inr (omega arith))
@@ -204,5 +267,14 @@ unfolding san_of
 san_again s equals ending fits e =
     let p = promotion_text equals s.promoted ++ ending in
     let t = coords s.file s.rank s.takes s.target p in
-    let whole : san_text s equals ++ ending ≡ kind_text s.kind ++ t = regrouped (kind_text s.kind) (file_text s.file) (rank_text s.rank) (takes_text s.takes) (square_text s.target) (promotion_text equals s.promoted) ending in
-    ap san_of whole ∙ rw (kind_again s.kind t (coords_start s.file s.rank s.takes s.target p fits.rank), squares_again s.file s.rank s.takes s.target p fits.file fits.rank fits.target (promotion_aside equals s.promoted ending fits.promoted e), promotion_again equals s.promoted ending fits.promoted e, e) refl
+    let whole : san_text s equals ++ ending ≡ kind_text s.kind ++ t =
+    regrouped (kind_text s.kind) (file_text s.file) (rank_text s.rank) (takes_text s.takes)
+    (square_text s.target) (promotion_text equals s.promoted) ending in
+    ap san_of whole ∙ rw (
+      kind_again s.kind t (coords_start s.file s.rank s.takes s.target p fits.rank),
+      squares_again s.file s.rank s.takes s.target p fits.file fits.rank fits.target
+          (promotion_aside equals s.promoted ending fits.promoted e),
+      promotion_again equals s.promoted ending
+          fits.promoted e,
+      e,
+    ) refl

@@ -29,14 +29,18 @@ two_of q (x ∷ xs) a b (inl s) (inr j) e f ab = let t : q x ≡ true = ap q s �
 two_of q (x ∷ xs) a b (inr i) (inl t) e f ab = let u : q x ≡ true = ap q t ∙ f in let w = counted q x xs u in omega (arith, w, one_of q xs a i e)
 two_of q (x ∷ xs) a b (inr i) (inr j) e f ab = omega (arith, count_by-cons q x xs, two_of q xs a b i j e f ab)
 
-three_of : (q : Man → Bool) (xs : List Man) (a b c : Man) → IsAmong a xs → IsAmong b xs → IsAmong c xs → q a ≡ true → q b ≡ true → q c ≡ true → (a.at ≡ b.at → ⊥) → (a.at ≡ c.at → ⊥) → (b.at ≡ c.at → ⊥) → 3 ≤ count_by q xs
+three_of : (q : Man → Bool) (xs : List Man) (a b c : Man) → IsAmong a xs → IsAmong b xs → IsAmong c xs → q a ≡ true
+    → q b ≡ true → q c ≡ true → (a.at ≡ b.at → ⊥) → (a.at ≡ c.at → ⊥) → (b.at ≡ c.at → ⊥) → 3 ≤ count_by q xs
 three_of q [] a b c i j k e f g ab ac bc = absurd i
 three_of q (x ∷ xs) a b c (inl s) (inl t) k e f g ab ac bc = absurd (ab (ap (λ m. m.at) (sym s ∙ t)))
 three_of q (x ∷ xs) a b c (inl s) (inr j) (inl u) e f g ab ac bc = absurd (ac (ap (λ m. m.at) (sym s ∙ u)))
-three_of q (x ∷ xs) a b c (inl s) (inr j) (inr k) e f g ab ac bc = let t : q x ≡ true = ap q s ∙ e in let w = counted q x xs t in omega (arith, w, two_of q xs b c j k f g bc)
+three_of q (x ∷ xs) a b c (inl s) (inr j) (inr k) e f g ab ac bc = let t : q x ≡ true = ap q s ∙ e in
+    let w = counted q x xs t in omega (arith, w, two_of q xs b c j k f g bc)
 three_of q (x ∷ xs) a b c (inr i) (inl t) (inl u) e f g ab ac bc = absurd (bc (ap (λ m. m.at) (sym t ∙ u)))
-three_of q (x ∷ xs) a b c (inr i) (inl t) (inr k) e f g ab ac bc = let u : q x ≡ true = ap q t ∙ f in let w = counted q x xs u in omega (arith, w, two_of q xs a c i k e g ac)
-three_of q (x ∷ xs) a b c (inr i) (inr j) (inl u) e f g ab ac bc = let t : q x ≡ true = ap q u ∙ g in let w = counted q x xs t in omega (arith, w, two_of q xs a b i j e f ab)
+three_of q (x ∷ xs) a b c (inr i) (inl t) (inr k) e f g ab ac bc = let u : q x ≡ true = ap q t ∙ f in
+    let w = counted q x xs u in omega (arith, w, two_of q xs a c i k e g ac)
+three_of q (x ∷ xs) a b c (inr i) (inr j) (inl u) e f g ab ac bc = let t : q x ≡ true = ap q u ∙ g in
+    let w = counted q x xs t in omega (arith, w, two_of q xs a b i j e f ab)
 three_of q (x ∷ xs) a b c (inr i) (inr j) (inr k) e f g ab ac bc = omega (arith, count_by-cons q x xs, three_of q xs a b c i j k e f g ab ac bc)
 
 abbrev bit : Bool → ℕ
@@ -47,7 +51,8 @@ bit_le true = omega arith
 bit_le false = omega arith
 
 -- tests of which no man passes two
-apart_counts : (p q r : Man → Bool) → ((m : Man) → bit (p m) + bit (q m) + bit (r m) ≤ 1) → (xs : List Man) → count_by p xs + count_by q xs + count_by r xs ≤ length xs
+apart_counts : (p q r : Man → Bool) → ((m : Man) → bit (p m) + bit (q m) + bit (r m) ≤ 1) → (xs : List Man)
+    → count_by p xs + count_by q xs + count_by r xs ≤ length xs
 apart_counts p q r h [] = omega arith
 apart_counts p q r h (x ∷ xs) = omega (arith, count_by-cons p x xs, count_by-cons q x xs, count_by-cons r x xs, h x, apart_counts p q r h xs)
 
@@ -84,7 +89,8 @@ module _ (p : Position) (valid : IsValid p) where
   faultless = IsFaultless-from_first p.men p.to_move p.passed valid.faultless
 
   -- of three men of one side and one kind two stand on one square
-  pub not_three : (s : Side) (k : Kind) (a b c : Man) → IsAmong a p.men → IsAmong b p.men → IsAmong c p.men → is_man s k a ≡ true → is_man s k b ≡ true → is_man s k c ≡ true
+  pub not_three : (s : Side) (k : Kind) (a b c : Man) → IsAmong a p.men → IsAmong b p.men → IsAmong c p.men
+      → is_man s k a ≡ true → is_man s k b ≡ true → is_man s k c ≡ true
       → (a.at ≡ b.at → ⊥) → (a.at ≡ c.at → ⊥) → (b.at ≡ c.at → ⊥) → ⊥
   not_three s k a b c i j l e f g ab ac bc = elim (cases_Bool (same_kind King k)) [
     | inl king ↦

@@ -1,7 +1,9 @@
 -- What a FEN text says: the start, or the first fault.
 use Rattle.study_notation.specs.Words.{words}
 use Rattle.study_notation.specs.FenSpelling.{man_letter}
-use Rattle.std.specs.Prelude.{ℕ, ◌+◌, ◌-◌, ◌*◌, Bool, true, false, not, ◌&&◌, ◌||◌, List, [], ◌∷◌, length, reverse, replicate, Option, Some, None, Result, Ok, Err, nat_le, nat_lt, ◌==◌, if◌then◌else◌, is_some}
+use Rattle.std.specs.Prelude.{ℕ, ◌+◌, ◌-◌, ◌*◌, Bool, true, false, not, ◌&&◌, ◌||◌, List, []}
+use Rattle.std.specs.Prelude.{◌∷◌, length, reverse, replicate, Option, Some, None, Result, Ok}
+use Rattle.std.specs.Prelude.{Err, nat_le, nat_lt, ◌==◌, if◌then◌else◌, is_some}
 use Rattle.std.specs.List.{slice_split, flat_map, list_all}
 use Rattle.std.specs.Str.Parse.{digits_value}
 use Rattle.study_board.specs.declared.men.Side.{Side}
@@ -16,7 +18,10 @@ use Rattle.study_board.specs.Position.{Position, has_one_king, has_end_pawn, in_
 use Rattle.study_notation.specs.declared.placement.Piece.{Piece}
 use Rattle.study_notation.specs.declared.start.Start.{Start}
 use Rattle.study_notation.specs.declared.fault.FenFault.{FenFault}
-use Rattle.study_notation.specs.declared.fault.FenFault.TheVariants.{FieldCount, Placement, TooManyMen, KingCount, PawnOnEndRank, SideField, OpponentInCheck, Castling, EnPassantField, EnPassantImpossible, Clock, MoveNumber}
+use Rattle.study_notation.specs.declared.fault.FenFault.TheVariants.{FieldCount, Placement, TooManyMen, KingCount}
+use Rattle.study_notation.specs.declared.fault.FenFault.TheVariants.{PawnOnEndRank, SideField, OpponentInCheck}
+use Rattle.study_notation.specs.declared.fault.FenFault.TheVariants.{Castling, EnPassantField, EnPassantImpossible}
+use Rattle.study_notation.specs.declared.fault.FenFault.TheVariants.{Clock, MoveNumber}
 
 -- ---- the fields
 

@@ -59,4 +59,6 @@ passed_text (Some at) = square_text at
 
 -- six fields, and no castling
 unfoldable pub fen_text : Start → List ℕ
-fen_text s = join_with_byte 32 (placement_text s.position.men ∷ side_text s.position.to_move ∷ (45 ∷ []) ∷ passed_text s.position.passed ∷ decimal s.clock ∷ decimal s.number ∷ [])
+fen_text s =
+    join_with_byte 32 (placement_text s.position.men ∷ side_text s.position.to_move ∷ (45 ∷ []) ∷ passed_text
+    s.position.passed ∷ decimal s.clock ∷ decimal s.number ∷ [])

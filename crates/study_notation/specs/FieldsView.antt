@@ -3,4 +3,12 @@ use Rattle.study_notation.specs.Fen.{Fields}
 use Rattle.study_notation.specs.declared.fields.FieldTexts.{FieldTexts}
 
 abbrev pub fields_view : FieldTexts → Fields
-fields_view f = record { placement = f.placement.now; side = f.side.now; castling = f.castling.now; passed = f.passed.now; clock = f.clock.now; number = f.number.now }
+fields_view f =
+    record {
+      placement = f.placement.now;
+      side = f.side.now;
+      castling = f.castling.now;
+      passed = f.passed.now;
+      clock = f.clock.now;
+      number = f.number.now;
+    }

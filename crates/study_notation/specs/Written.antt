@@ -10,8 +10,7 @@ use Rattle.study_moves.specs.declared.moves.Move.{Move}
 use Rattle.study_moves.specs.Rules.{is_pawn, is_legal, after}
 use Rattle.study_notation.specs.declared.san.San.{San}
 use Rattle.study_notation.specs.San.{san_text}
-use Rattle.study_moves.specs.LegalList.{is_mate}
-use Rattle.study_moves.specs.LegalList.{takes}
+use Rattle.study_moves.specs.LegalList.{is_mate, takes}
 
 -- another man of the same kind and side, which can legally go to the square
 unfoldable pub is_rival : Position → Man → ℕ → Man → Bool

@@ -72,7 +72,8 @@ fn add_verdict<A: Allocator>(
     first: Side,
     root: Mark,
 ) -> Result<(), AllocError>
-    ensures { (s : Study AMark) → s.stipulation ≡ stipulation → s.start.position.to_move ≡ first → s.tree.label ≡ root → OnOk result (text.new ≡ text.old ++ verdict_text (verdict s)) }
+    ensures { (s : Study AMark) → s.stipulation ≡ stipulation → s.start.position.to_move ≡ first → s.tree.label ≡ root
+        → OnOk result (text.new ≡ text.old ++ verdict_text (verdict s)) }
 {
     if !is_right(stipulation.goal, stipulation.hero.is(first), root.value) {
         text.add(b"wrong")
@@ -92,7 +93,8 @@ pub fn add_opening<A: Allocator>(
     first: Side,
     root: Mark,
 ) -> Result<(), AllocError>
-    ensures { (s : Study AMark) → s.stipulation ≡ stipulation → s.start.position.to_move ≡ first → s.tree.label ≡ root → OnOk result (text.new ≡ text.old ++ opening_text s) }
+    ensures { (s : Study AMark) → s.stipulation ≡ stipulation → s.start.position.to_move ≡ first → s.tree.label ≡ root
+        → OnOk result (text.new ≡ text.old ++ opening_text s) }
 {
     text.add(b"{")?;
     text.add(side_name(stipulation.hero))?;

@@ -1,6 +1,7 @@
 -- A cell of a table is a byte of its page.
 use Rattle.std.specs.Prelude.{Result, Ok, Err, IfOk}
-use Rattle.std.proofs.Common.{true, ◌≡◌, ℕ, ◌+◌, ◌-◌, ◌*◌, ◌/◌, ◌%◌, ◌<◌, inl, inr, List, ◌++◌, length, take, drop, replicate, get_or, refl, sym, ap, ◌∙◌, arith, length-append, length-take}
+use Rattle.std.proofs.Common.{true, ◌≡◌, ℕ, ◌+◌, ◌-◌, ◌*◌, ◌/◌, ◌%◌, ◌<◌, inl, inr, List, length, take, drop}
+use Rattle.std.proofs.Common.{replicate, get_or, refl, sym, ap, ◌∙◌, arith, length-append, length-take}
 use Rattle.std.proofs.lemmas.List.{take_at, length-replicate, get_or-replicate, get_or_append_left, get_or-append_right, get_or-take, get_or-drop, get_or_past}
 use Rattle.std.proofs.lemmas.Bool.{cases_lt}
 use Rattle.study_material.specs.declared.class.Class.{Class}
@@ -11,7 +12,7 @@ use Rattle.study_retro.specs.Table.{Table, IsComplete}
 use Rattle.study_tablefile.specs.File.{fields_text, page_cells_of, page_digest, page_text, pages_of}
 use Rattle.study_tablefile.specs.declared.source.Header.{Header}
 use Rattle.study_tablefile.specs.Source.{is_whole_page, page_of}
-use Rattle.study_tablefile.proofs.Again.{whole_again}
+use Rattle.study_tablefile.proofs.ReadAgain.{whole_again}
 use Rattle.study_prober.specs.declared.values.ProbeFault.{ProbeFault}
 use Rattle.study_prober.specs.Sources.{IsHeaderOf, cells_on_page}
 
@@ -34,7 +35,8 @@ page_reads xs k small = elim (cases_lt k (length xs)) [
 
 cells_length : (xs : List ℕ) → length (page_cells_of xs) ≡ 4096
 unfolding page_cells_of
-cells_length xs = length-append (take 4096 xs) (replicate (4096 - length xs) 0) ∙ omega (arith, length-take 4096 xs, length-replicate {A = ℕ} (4096 - length xs) 0)
+cells_length xs = length-append (take 4096 xs) (replicate (4096 - length xs) 0)
+    ∙ omega (arith, length-take 4096 xs, length-replicate {A = ℕ} (4096 - length xs) 0)
 
 page_reads_cells : (t : Table) (n k : ℕ) → k < 4096 → get_or (cells_on_page t n) k 0 ≡ get_or t.cells (4096 * n + k) 0
 page_reads_cells t n k small = page_reads (drop (4096 * n) t.cells) k small ∙ get_or-drop (4096 * n) t.cells k 0
@@ -59,12 +61,15 @@ unfolding pages_of
 page_of_cell c i small = omega arith
 
 -- a page of a complete table is whole by the header of its class
-pub whole_read : (t : Table) (h : Header) (n : ℕ) (page : List ℕ) → IsHeaderOf h h.class → t.class ≡ h.class → IsComplete t → page ≡ page_of t h.version n → is_whole_page h.fields h.cells n page ≡ true
+pub whole_read : (t : Table) (h : Header) (n : ℕ) (page : List ℕ) → IsHeaderOf h h.class → t.class ≡ h.class
+    → IsComplete t → page ≡ page_of t h.version n → is_whole_page h.fields h.cells n page ≡ true
 whole_read t h n page header same complete e =
     let fields : h.fields ≡ fields_text t.class h.version = header.fields ∙ ap (λ c. fields_text c h.version) (sym same) in
     let cells : h.cells ≡ cells_of t.class = header.cells ∙ ap cells_of (sym same) in
     rw fields (rw cells (rw e (whole_again t h.version n complete)))
 
-pub told_cell : (t : Table) (i : ℕ) (r : Result Value ProbeFault) → IfOk r (λ v. v ≡ value_of (get_or (cells_on_page t (i / 4096)) (i % 4096) 0)) → IfOk r (λ v. v ≡ value_of (get_or t.cells i 0))
+pub told_cell : (t : Table) (i : ℕ) (r : Result Value ProbeFault)
+    → IfOk r (λ v. v ≡ value_of (get_or (cells_on_page t (i / 4096)) (i % 4096) 0))
+    → IfOk r (λ v. v ≡ value_of (get_or t.cells i 0))
 told_cell t i (Ok v) told = told ∙ ap value_of (cell_of_page t i)
 told_cell t i (Err fault) told = told

@@ -4,7 +4,7 @@ use Rattle.std.proofs.lemmas.Bool.{false≢true}
 use Rattle.std.proofs.lemmas.Bool.Decides.{nat_tests}
 use Rattle.std.specs.Prelude.{Result, Ok, Err, Some, None, IfErr, IsErrAnd, IsErrOf, MatchOption}
 use Rattle.study_material.specs.declared.class.Class.{Class}
-use Rattle.study_retro.specs.Table.{Table, place_of}
+use Rattle.study_retro.specs.Table.{place_of}
 use Rattle.study_tablefile.specs.declared.fault.SourceFault.{SourceFault}
 use Rattle.study_tablefile.specs.declared.fault.SourceFault.TheVariants.{Device}
 use Rattle.study_tablefile.specs.declared.fault.FileFault.{FileFault}
@@ -12,16 +12,19 @@ use Rattle.study_tablefile.specs.declared.source.Header.{Header}
 use Rattle.study_tablefile.specs.Reading.{class_read}
 use Rattle.study_prober.specs.declared.fault.PagedFault.{PagedFault}
 use Rattle.study_prober.specs.declared.fault.PagedFault.TheVariants.{AlreadyHeld, Header as BadHeader, OtherClass, OutOfMemory}
-use Rattle.study_prober.proofs.Kept.{same_class}
+use Rattle.study_prober.proofs.HeldSources.{same_class}
 use Rattle.study_prober.specs.Told.{IsTold, class_fault, paged_fault}
 
-pub bad_header : (bytes : List ℕ) (f : FileFault) (r : Result Header PagedFault) → IsErrAnd r (λ e. e ≡ BadHeader f) → class_read bytes ≡ Err f → IsTold (Ok bytes) r
+pub bad_header : (bytes : List ℕ) (f : FileFault) (r : Result Header PagedFault) → IsErrAnd r (λ e. e ≡ BadHeader f)
+    → class_read bytes ≡ Err f → IsTold (Ok bytes) r
 bad_header bytes f (Ok h) is e = absurd is
 bad_header bytes f (Err fault) is e = (f, is, e)
 
 -- a source for a class whose table is held already
 pub fault_held : (May : Result (List ℕ) SourceFault → Type 0) (held : Bool) (c : Class) → held ≡ true
-    → (told : Result (List ℕ) SourceFault) × (held ≡ false → May told) × MatchOption (paged_fault held c told) (IfErr {T = Unit {0}} (Err (AlreadyHeld c)) (λ e. e ≡ OutOfMemory)) (λ fault. IsErrOf {T = Unit {0}} (Err (AlreadyHeld c)) fault)
+    → (told : Result (List ℕ) SourceFault) × (held ≡ false → May told)
+    × MatchOption (paged_fault held c told) (IfErr {T = Unit {0}} (Err (AlreadyHeld c)) (λ e. e ≡ OutOfMemory))
+    (λ fault. IsErrOf {T = Unit {0}} (Err (AlreadyHeld c)) fault)
 fault_held May held c is_held = (Err Device, λ free. absurd (false≢true (sym free ∙ is_held)), rw is_held refl)
 
 differ : (n m : ℕ) → n ≢ m → (n == m) ≡ false
@@ -43,19 +46,30 @@ no_fault c d e = rw (alike (place_of d) (place_of c) (ap place_of e)) refl
 pub fault_told : (May : Result (List ℕ) SourceFault → Type 0) (held : Bool) (c : Class) (h : Header) (r : Result (Unit {0}) PagedFault) → held ≡ false
     → ((told : Result (List ℕ) SourceFault) × May told × IsTold told (Ok h))
     → MatchOption (class_fault c (Ok h.class)) (IfErr r (λ e. e ≡ OutOfMemory)) (λ fault. IsErrOf r fault)
-    → (told : Result (List ℕ) SourceFault) × (held ≡ false → May told) × MatchOption (paged_fault held c told) (IfErr r (λ e. e ≡ OutOfMemory)) (λ fault. IsErrOf r fault)
-fault_told May held c h r free (Ok bytes, may, is) then =
-    (Ok bytes, λ _. may, rw free (subst (λ (read : Result Class FileFault). MatchOption (class_fault c read) (IfErr r (λ e. e ≡ OutOfMemory)) (λ fault. IsErrOf r fault)) (sym is.0) then))
+    → (told : Result (List ℕ) SourceFault) × (held ≡ false → May told)
+    × MatchOption (paged_fault held c told) (IfErr r (λ e. e ≡ OutOfMemory)) (λ fault. IsErrOf r fault)
+fault_told May held c h r free (Ok bytes, may, is) then = (
+  Ok bytes,
+  λ _. may,
+  rw free
+      (subst (λ (read : Result Class FileFault). MatchOption (class_fault c read) (IfErr r (λ e. e ≡ OutOfMemory))
+      (λ fault. IsErrOf r fault)) (sym is.0) then),
+)
 fault_told May held c h r free (Err fault, may, is) then = absurd (let contrary : ⊥ = cc in contrary)
 
 pub fault_other : (May : Result (List ℕ) SourceFault → Type 0) (held : Bool) (c : Class) (h : Header) → held ≡ false → (h.class ≡ c → ⊥)
     → ((told : Result (List ℕ) SourceFault) × May told × IsTold told (Ok h))
-    → (told : Result (List ℕ) SourceFault) × (held ≡ false → May told) × MatchOption (paged_fault held c told) (IfErr {T = Unit {0}} (Err (OtherClass h.class)) (λ e. e ≡ OutOfMemory)) (λ fault. IsErrOf {T = Unit {0}} (Err (OtherClass h.class)) fault)
+    → (told : Result (List ℕ) SourceFault) × (held ≡ false → May told)
+    × MatchOption (paged_fault held c told)
+    (IfErr {T = Unit {0}} (Err (OtherClass h.class)) (λ e. e ≡ OutOfMemory))
+    (λ fault. IsErrOf {T = Unit {0}} (Err (OtherClass h.class)) fault)
 fault_other May held c h free far told = fault_told May held c h (Err (OtherClass h.class)) free told (rw (other_fault c h.class far) refl)
 
-pub fault_none : (May : Result (List ℕ) SourceFault → Type 0) (held : Bool) (c : Class) (h : Header) (r : Result (Unit {0}) PagedFault) → held ≡ false → h.class ≡ c → IfErr r (λ e. e ≡ OutOfMemory)
+pub fault_none : (May : Result (List ℕ) SourceFault → Type 0) (held : Bool) (c : Class) (h : Header)
+    (r : Result (Unit {0}) PagedFault) → held ≡ false → h.class ≡ c → IfErr r (λ e. e ≡ OutOfMemory)
     → ((told : Result (List ℕ) SourceFault) × May told × IsTold told (Ok h))
-    → (told : Result (List ℕ) SourceFault) × (held ≡ false → May told) × MatchOption (paged_fault held c told) (IfErr r (λ e. e ≡ OutOfMemory)) (λ fault. IsErrOf r fault)
+    → (told : Result (List ℕ) SourceFault) × (held ≡ false → May told)
+    × MatchOption (paged_fault held c told) (IfErr r (λ e. e ≡ OutOfMemory)) (λ fault. IsErrOf r fault)
 fault_none May held c h r free same is told = fault_told May held c h r free told (rw (no_fault c h.class same) is)
 
 pub only_memory : {T : Type 0} (r : Result T PagedFault) → IsErrAnd r (λ fault. fault ≡ OutOfMemory) → IfErr r (λ fault. fault ≡ OutOfMemory)

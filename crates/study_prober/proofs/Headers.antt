@@ -11,17 +11,20 @@ use Rattle.study_tablefile.specs.declared.source.Header.{Header}
 use Rattle.study_prober.specs.declared.fault.PagedFault.{PagedFault}
 use Rattle.study_prober.specs.declared.fault.PagedFault.TheVariants.{TableRead}
 use Rattle.study_prober.specs.Told.{IsHonestHeader}
-use Rattle.study_tablefile.proofs.Again.{header_again, version_again}
+use Rattle.study_tablefile.proofs.ReadAgain.{header_again, version_again}
 
 -- a header that was given reads as the class of each table for which the source is honest, and its version
-pub read_of : (t : Table) (v : ℕ) (bytes : List ℕ) (h : Header) → IsVersionOf t.class v → bytes ≡ header_text t.class v → class_read bytes ≡ Ok h.class → h.version ≡ version_of bytes → (h.class ≡ t.class) × (h.version ≡ v)
+pub read_of : (t : Table) (v : ℕ) (bytes : List ℕ) (h : Header) → IsVersionOf t.class v
+    → bytes ≡ header_text t.class v → class_read bytes ≡ Ok h.class → h.version ≡ version_of bytes
+    → (h.class ≡ t.class) × (h.version ≡ v)
 read_of t v bytes h known given is version = (
   (let same : ◌≡◌ {A = Result Class FileFault} (Ok h.class) (Ok t.class) = sym is ∙ ap class_read given ∙ header_again t.class v known in cc),
   version ∙ ap version_of given ∙ version_again t.class v known.0,
 )
 
 pub never_bad : (t : Table) (v : ℕ) (bytes : List ℕ) (e : FileFault) → IsVersionOf t.class v → bytes ≡ header_text t.class v → class_read bytes ≡ Err e → ⊥
-never_bad t v bytes e known given is = let same : ◌≡◌ {A = Result Class FileFault} (Err e) (Ok t.class) = sym is ∙ ap class_read given ∙ header_again t.class v known in cc
+never_bad t v bytes e known given is = let same : ◌≡◌ {A = Result Class FileFault} (Err e) (Ok t.class) =
+    sym is ∙ ap class_read given ∙ header_again t.class v known in cc
 
 pub fault_read : (c : Class) (v : ℕ) (f : SourceFault) (r : Result Header PagedFault) → IsErrAnd r (λ fault. fault ≡ TableRead f) → IsHonestHeader r c v
 fault_read c v f (Ok h) is = absurd is

@@ -2,9 +2,9 @@ pub mod Tables
 pub mod Keys
 pub mod Cells
 pub mod Faults
-pub mod Kept
-pub mod Given
-pub mod Probed
+pub mod HeldSources
+pub mod GivenPages
+pub mod ProbedSources
 pub mod Headers
-pub mod Again
-pub mod Answered
+pub mod KeptCells
+pub mod PagedAnswers

@@ -1,5 +1,6 @@
 -- What the table of a position's class says of it, and when there is none.
-use Rattle.std.proofs.Common.{◌≡◌, ℕ, zero, suc, ◌≤◌, inl, inr, false, List, [], ◌∷◌, length, set, Option, Some, None, Result, Ok, Err, OnOk, OnErr, refl, sym, ◌∙◌, subst, ap, arith}
+use Rattle.std.proofs.Common.{◌≡◌, ℕ, zero, suc, ◌≤◌, inl, inr, false, List, [], ◌∷◌, length, set, Option}
+use Rattle.std.proofs.Common.{Some, None, Result, Ok, Err, OnOk, OnErr, refl, sym, ◌∙◌, subst, ap, arith}
 use Rattle.std.proofs.lemmas.List.{get_or-set_same, get_or-set_other}
 use Rattle.std.specs.Prelude.{is_some, IsErrOf}
 use Rattle.std.proofs.lemmas.Bool.{false≢true, cases_lt}
@@ -12,7 +13,7 @@ use Rattle.study_retro.specs.Table.{Table, table_of, place_of, IsClosed}
 use Rattle.study_retro.specs.Sound.{IsRight}
 use Rattle.study_prober.specs.Values.{ProbeAnswer}
 use Rattle.study_prober.specs.Whole.{TablesAreRight, IsCellAnswer, cell_answer}
-use Rattle.study_prober.proofs.Kept.{same_class}
+use Rattle.study_prober.proofs.HeldSources.{same_class}
 use Rattle.study_prober.specs.declared.values.ProbeFault.{ProbeFault}
 use Rattle.study_prober.specs.declared.values.ProbeFault.TheVariants.{NoTable}
 
@@ -28,18 +29,32 @@ same_table held c d t u same found is = let one : ◌≡◌ {A = Option Table} (
 
 -- no table is held for the class of the position
 pub none_held : (held : List (Option Table)) (d c : Class) (p : Position) → IsOf d p → None ≡ table_of held d
-    → (IsErrOf {T = Value} (Err (NoTable d)) (NoTable c) → IsOf c p × (is_some (table_of held c) ≡ false)) × (IsOf c p × (is_some (table_of held c) ≡ false) → IsErrOf {T = Value} (Err (NoTable d)) (NoTable c))
+    → (IsErrOf {T = Value} (Err (NoTable d)) (NoTable c) → IsOf c p × (is_some (table_of held c) ≡ false))
+    × (IsOf c p × (is_some (table_of held c) ≡ false) → IsErrOf {T = Value} (Err (NoTable d)) (NoTable c))
 none_held held d c p is none = (
-  λ e. (let same : d ≡ c = cc in (subst (λ (k : Class). IsOf k p) same is, sym (ap (λ (o : Option Table). is_some o) (none ∙ ap (λ (k : Class). table_of held k) same)))),
+  λ e.
+      (let same : d
+      ≡ c = cc in (
+        subst (λ (k : Class). IsOf k p) same is,
+        sym (ap (λ (o : Option Table). is_some o) (none ∙ ap (λ (k : Class). table_of held k) same)),
+      )),
   λ h. (let same : d ≡ c = one_class d c p is h.0 in ap (λ (k : Class). Err (NoTable k)) same),
 )
 
 pub some_held : (held : List (Option Table)) (d c : Class) (p : Position) (t : Table) (v : Value) → IsOf d p → Some t ≡ table_of held d
-    → (IsErrOf {E = ProbeFault} (Ok v) (NoTable c) → IsOf c p × (is_some (table_of held c) ≡ false)) × (IsOf c p × (is_some (table_of held c) ≡ false) → IsErrOf {E = ProbeFault} (Ok v) (NoTable c))
-some_held held d c p t v is some = (λ e. absurd (let no : ⊥ = cc in no), λ h. absurd (false≢true (sym h.1 ∙ ap (λ (o : Option Table). is_some o) (ap (λ (k : Class). table_of held k) (one_class c d p h.0 is) ∙ sym some))))
+    → (IsErrOf {E = ProbeFault} (Ok v) (NoTable c) → IsOf c p × (is_some (table_of held c) ≡ false))
+    × (IsOf c p × (is_some (table_of held c) ≡ false) → IsErrOf {E = ProbeFault} (Ok v) (NoTable c))
+some_held held d c p t v is some = (
+  λ e. absurd (let no : ⊥ = cc in no),
+  λ h. absurd
+      (false≢true
+      (sym h.1 ∙ ap (λ (o : Option Table). is_some o)
+      (ap (λ (k : Class). table_of held k) (one_class c d p h.0 is) ∙ sym some))),
+)
 
 -- what the table of its class answers is the answer for a position
-pub cell_told : (held : List (Option Table)) (d : Class) (p : Position) (o : Option Table) (r : ProbeAnswer) → IsOf d p → o ≡ table_of held d → r ≡ cell_answer o d p → IsCellAnswer held p r
+pub cell_told : (held : List (Option Table)) (d : Class) (p : Position) (o : Option Table) (r : ProbeAnswer)
+    → IsOf d p → o ≡ table_of held d → r ≡ cell_answer o d p → IsCellAnswer held p r
 cell_told held d p o r is found told = λ c of.
     told ∙ ap (λ (x : Option Table). cell_answer x d p) found ∙ ap (λ (k : Class). cell_answer (table_of held k) k p) (one_class d c p is of)
 
@@ -53,7 +68,9 @@ right_set held t all own = record {
   right = λ c u e. elim (same_class t.class c) [
     | inl same ↦ elim (cases_lt (place_of t.class) (length held)) [
       | inl small ↦
-          let here : ◌≡◌ {A = Option Table} (Some t) (Some u) = sym (get_or-set_same held (place_of t.class) (Some t) None small) ∙ ap (λ (k : Class). table_of (set held (place_of t.class) (Some t)) k) same ∙ e in
+          let here : ◌≡◌ {A = Option Table} (Some t) (Some u) =
+          sym (get_or-set_same held (place_of t.class) (Some t) None small)
+          ∙ ap (λ (k : Class). table_of (set held (place_of t.class) (Some t)) k) same ∙ e in
           let one : t ≡ u = cc in
           subst IsRight one own
       | inr past ↦ all.right c u (sym (ap (λ (xs : List (Option Table)). table_of xs c) (set_past held (place_of t.class) (Some t) past)) ∙ e)
@@ -63,6 +80,8 @@ right_set held t all own = record {
 }
 
 -- a right table that is added to right ones
-pub right_added : {T E : Type 0} (r : Result T E) (old new : List (Option Table)) (t : Table) → OnOk r (new ≡ set old (place_of t.class) (Some t)) → OnErr r (new ≡ old) → TablesAreRight old → IsRight t → TablesAreRight new
+pub right_added : {T E : Type 0} (r : Result T E) (old new : List (Option Table)) (t : Table)
+    → OnOk r (new ≡ set old (place_of t.class) (Some t)) → OnErr r (new ≡ old) → TablesAreRight old → IsRight t
+    → TablesAreRight new
 right_added (Ok x) old new t added same all own = subst TablesAreRight (sym added) (right_set old t all own)
 right_added (Err e) old new t added same all own = subst TablesAreRight (sym same) all

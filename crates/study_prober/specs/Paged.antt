@@ -1,6 +1,6 @@
 -- Paged tables as a contract sees them.
-use Rattle.std.specs.Prelude.{◌≡◌, ◌≢◌, ℕ, ◌/◌, List, [], ◌∷◌, length, slice_index_or, replicate, Contains, true, ⊤}
-use Rattle.std.specs.Prelude.{Option, Some, None, is_some, IfSome, Ok, Err}
+use Rattle.std.specs.Prelude.{◌≡◌, ◌≢◌, ℕ, ◌/◌, List, [], ◌∷◌, length, slice_index_or, replicate}
+use Rattle.std.specs.Prelude.{Contains, true, ⊤, Option, Some, None, is_some, IfSome, Ok, Err}
 use Rattle.study_board.specs.Position.{Position}
 use Rattle.study_material.specs.declared.class.Class.{Class}
 use Rattle.study_material.specs.Class.{IsOf}

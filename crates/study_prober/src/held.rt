@@ -9,8 +9,8 @@ ghost use Rattle.study_tablefile.specs.File.{IsVersionOf, pages_of};
 ghost use Rattle.study_tablefile.specs.Source.{page_of, of_page};
 ghost use Rattle.study_prober.specs.Cache.{kept_cell};
 ghost use Rattle.study_prober.specs.Paged.{IsPageFor, IsToldAgain};
-ghost use Rattle.study_prober.specs.Sources.{IsGivenPage, HasBadPage, IsReadFrom, GiveAlike, AreHonestAlike, AreOf, IsHeaderOf};
-ghost use Rattle.study_prober.specs.Sources.{PutsNone, PutsOnly, failed_after, cells_on_page};
+ghost use Rattle.study_prober.specs.Sources.{IsGivenPage, HasBadPage, IsReadFrom, GiveAlike, AreHonestAlike, AreOf};
+ghost use Rattle.study_prober.specs.Sources.{IsHeaderOf, PutsNone, PutsOnly, failed_after, cells_on_page};
 ghost use Rattle.study_prober.specs.Told.{MayAnswer, IsHonestHeader, IsTold, unread_after};
 
 use crate::cache::{PageKey, Pages, keep, kept_byte, key_of};

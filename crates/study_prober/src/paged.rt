@@ -1,6 +1,7 @@
 //! Values from pages of tables, read as they are asked and kept as far as there is room.
-ghost use Rattle.std.specs.Prelude.{◌≡◌, ◌≤◌, ◌/◌, ◌↔◌, ⊤, ℕ, List, Option, Result, [], Some, None, Ok, Err, true, false, is_some};
-ghost use Rattle.std.specs.Prelude.{IfOk, OnOk, OnErr, IsErrOf, length, slice_index, slice_set, replicate};
+ghost use Rattle.std.specs.Prelude.{◌≡◌, ◌≤◌, ◌/◌, ◌↔◌, ⊤, ℕ, List, Option, Result, [], Some};
+ghost use Rattle.std.specs.Prelude.{None, Ok, Err, true, false, is_some, IfOk, OnOk, OnErr};
+ghost use Rattle.std.specs.Prelude.{IsErrOf, length, slice_index, slice_set, replicate};
 ghost use Rattle.study_material.specs.declared.class.Class.{Class as AClass};
 ghost use Rattle.study_material.specs.Class.{IsOf};
 ghost use Rattle.study_index.specs.Found.{index_of};
@@ -14,8 +15,8 @@ ghost use Rattle.study_tablefile.specs.declared.fault.FileFault.{FileFault as AF
 ghost use Rattle.study_tablefile.specs.declared.fault.SourceFault.{SourceFault as ASourceFault};
 ghost use Rattle.study_prober.specs.Cache.{kept_cell};
 ghost use Rattle.study_prober.specs.declared.held.HeldSource.{HeldSource as AHeld};
-ghost use Rattle.study_prober.specs.Sources.{AreHonestAlike, GiveAlike, HasBadPage, IsReadFrom, GivesRight, IsHeaderOf};
-ghost use Rattle.study_prober.specs.Sources.{PutsNone, PutsOnly, failed_after};
+ghost use Rattle.study_prober.specs.Sources.{AreHonestAlike, GiveAlike, HasBadPage, IsReadFrom, GivesRight};
+ghost use Rattle.study_prober.specs.Sources.{IsHeaderOf, PutsNone, PutsOnly, failed_after};
 ghost use Rattle.study_prober.specs.Paged.{SourcesAreRight, AreGiven, IsKept, IsPageFor, IsPagedAnswer, IsSameSource, IsToldAgain, held_of, places};
 ghost use Rattle.study_prober.specs.Values.{faults_after};
 ghost use Rattle.study_prober.specs.Told.{IsRefusedBy, MayAnswer, paged_fault, unread_after};

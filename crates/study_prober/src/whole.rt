@@ -1,6 +1,6 @@
 //! Values from tables in memory.
-ghost use Rattle.std.specs.Prelude.{◌≡◌, ◌↔◌, false, is_some, Some, Ok, IsOk, IfOk, OnOk, OnErr, IfErr, IsErrAnd, IsErrOf, MatchOption};
-ghost use Rattle.std.specs.Prelude.{slice_index, slice_set};
+ghost use Rattle.std.specs.Prelude.{◌≡◌, ◌↔◌, false, is_some, Some, Ok, IsOk, IfOk, OnOk, OnErr, IfErr};
+ghost use Rattle.std.specs.Prelude.{IsErrAnd, IsErrOf, MatchOption, slice_index, slice_set};
 ghost use Rattle.study_material.specs.declared.class.Class.{Class as AClass};
 ghost use Rattle.study_material.specs.Class.{IsOf};
 ghost use Rattle.study_index.specs.Found.{index_of};

@@ -28,11 +28,17 @@ module _ {P : Type 0} (leads : P → P → Type 0) (mate : P → Type 0) (Alike 
   pub IsGame-along : (p q : P) (v : Value) → Alike p q → IsGame leads mate p v → IsGame leads mate q v
   IsGame-along p q (Win n) r h = record { forced = Mates-along n p q r h.forced; least = λ m x. h.least m (Mates-along m q p (keeps.back p q r) x) }
   IsGame-along p q (Loss n) r h = record { forced = Mated-along n p q r h.forced; least = λ m x. h.least m (Mated-along m q p (keeps.back p q r) x) }
-  IsGame-along p q Draw r h = record { no_win = λ m x. h.no_win m (Mates-along m q p (keeps.back p q r) x); no_loss = λ m x. h.no_loss m (Mated-along m q p (keeps.back p q r) x) }
+  IsGame-along p q Draw r h =
+      record {
+        no_win = λ m x. h.no_win m (Mates-along m q p (keeps.back p q r) x);
+        no_loss = λ m x. h.no_loss m
+            (Mated-along m q p (keeps.back p q r) x);
+      }
 
   -- labels that are alike where positions are, which known positions after the moves are
   module _ (known : P → Type 0) (labels : P → Value) (alike : (p q : P) → known p → Alike p q → labels p ≡ labels q) where
-    pub Gives-along : (p q : P) (v : Value) → ((p' : P) → leads p p' → known p') → ((q' : P) → leads q q' → known q') → Alike p q → Gives leads mate labels p v → Gives leads mate labels q v
+    pub Gives-along : (p q : P) (v : Value) → ((p' : P) → leads p p' → known p')
+        → ((q' : P) → leads q q' → known q') → Alike p q → Gives leads mate labels p v → Gives leads mate labels q v
     Gives-along p q (Win zero) kp kq r g = g
     Gives-along p q (Win (suc n)) kp kq r g =
         let m = keeps.move p q g.to r g.move in

@@ -1,5 +1,7 @@
 -- How the cells change within a level, step by step.
-use Rattle.std.proofs.Common.{◌≡◌, ◌≢◌, ℕ, zero, suc, [], ◌∷◌, ◌+◌, ◌<◌, ◌≤◌, ◌⊎◌, inl, inr, sym, ◌∙◌, subst, arith, List, slice_index, length, get_or, take, Contains, Option, Bool, true, false, not, IsTrue, ◌==◌, refl, ap}
+use Rattle.std.proofs.Common.{◌≡◌, ◌≢◌, ℕ, zero, suc, [], ◌∷◌, ◌+◌, ◌<◌, ◌≤◌, ◌⊎◌, inl, inr, sym}
+use Rattle.std.proofs.Common.{◌∙◌, subst, arith, List, slice_index, length, get_or, take, Contains}
+use Rattle.std.proofs.Common.{Option, Bool, true, false, not, IsTrue, ◌==◌, refl, ap}
 use Rattle.study_retro.specs.declared.value.Value.{Value}
 use Rattle.study_retro.specs.declared.value.Value.TheVariants.{Win}
 use Rattle.std.proofs.lemmas.Bool.{eqb-true}
@@ -35,40 +37,62 @@ module _ (k : ℕ) where
 
   -- none of this changes what wins are told
   module _ {P : Type 0} (leads : P → P → Type 0) (mate : P → Type 0) (position : ℕ → Option P) where
-    pub tells-same : (old new : List ℕ) → ((i : ℕ) → (slice_index new i ≡ slice_index old i) ⊎ (IsWonCell k (slice_index old i) → ⊥) × (IsWonCell k (slice_index new i) → ⊥)) → TellsWins leads mate k position old → TellsWins leads mate k position new
+    pub tells-same : (old new : List ℕ)
+        → ((i : ℕ) → (slice_index new i ≡ slice_index old i) ⊎ (IsWonCell k (slice_index old i) → ⊥)
+        × (IsWonCell k (slice_index new i) → ⊥)) → TellsWins leads mate k position old
+        → TellsWins leads mate k position new
     tells-same old new same tells n p e = elim (same n) [
       | inl s ↦ (let t = tells n p e in (λ w. t.0 (subst (IsWonCell k) s w), λ m. subst (IsWonCell k) (sym s) (t.1 m)))
       | inr x ↦ (let t = tells n p e in (λ w. absurd (x.1 w), λ m. absurd (x.0 (t.1 m))))
     ]
 
     pub added-tells : (Why : ℕ → Type 0) (old new : List ℕ) → AreAdded k Why old new → TellsWins leads mate k position old → TellsWins leads mate k position new
-    added-tells Why old new f = tells-same old new (λ i. elim (f i) [ inl e ↦ inl e | inr x ↦ inr (not_won-zero k (slice_index old i) x.0, not_won-next k (slice_index new i) x.1) ])
+    added-tells Why old new f =
+        tells-same old new
+        (λ i. elim (f i) [
+          | inl e ↦ inl e
+          | inr x ↦ inr (not_won-zero k (slice_index old i) x.0, not_won-next k (slice_index new i) x.1)
+        ])
 
     pub dropped-tells : (old new : List ℕ) → AreDropped k old new → TellsWins leads mate k position old → TellsWins leads mate k position new
-    dropped-tells old new f = tells-same old new (λ i. elim (f i) [ inl e ↦ inl e | inr x ↦ inr (not_won-next k (slice_index old i) x.0, not_won-zero k (slice_index new i) x.1) ])
+    dropped-tells old new f =
+        tells-same old new
+        (λ i. elim (f i) [
+          | inl e ↦ inl e
+          | inr x ↦ inr (not_won-next k (slice_index old i) x.0, not_won-zero k (slice_index new i) x.1)
+        ])
 
 -- what holds of the first elements, and of one more
-pub each-more : {M : Type 0} (Q : M → Type 0) (ms : List M) (i : ℕ) (d : M) → i < length ms → ((m : M) → Contains (take i ms) m → Q m) → Q (get_or ms i d) → (m : M) → Contains (take (i + 1) ms) m → Q m
-each-more {M} Q ms i d b before here m c = elim (Contains-push_cases (take i ms) (get_or ms i d) m (subst (λ (xs : List M). Contains xs m) (take_more ms i d b) c)) [
-  | inl h ↦ before m h
-  | inr e ↦ subst Q e here
-]
+pub each-more : {M : Type 0} (Q : M → Type 0) (ms : List M) (i : ℕ) (d : M) → i < length ms
+    → ((m : M) → Contains (take i ms) m → Q m) → Q (get_or ms i d) → (m : M) → Contains (take (i + 1) ms) m → Q m
+each-more {M} Q ms i d b before here m c =
+    elim
+    (Contains-push_cases (take i ms) (get_or ms i d) m
+    (subst (λ (xs : List M). Contains xs m) (take_more ms i d b) c)) [
+      | inl h ↦ before m h
+      | inr e ↦ subst Q e here
+    ]
 
 -- an element of a list has a place
 pub at_place : (xs : List ℕ) (x : ℕ) → Contains xs x → (t : ℕ) × (t < length xs) × (slice_index xs t ≡ x)
 at_place [] x c = absurd (omega (arith, c.1))
 at_place (y ∷ ys) x c = by_index (λ h. at_place ys x h) c.0 c.1 c.2
   where
-    by_index : (Contains ys x → (t : ℕ) × (t < length ys) × (slice_index ys t ≡ x)) → (i : ℕ) → i < length (y ∷ ys) → get_or (y ∷ ys) i x ≡ x → (t : ℕ) × (t < length (y ∷ ys)) × (slice_index (y ∷ ys) t ≡ x)
+    by_index : (Contains ys x → (t : ℕ) × (t < length ys) × (slice_index ys t ≡ x)) → (i : ℕ) → i < length (y ∷ ys)
+        → get_or (y ∷ ys) i x ≡ x → (t : ℕ) × (t < length (y ∷ ys)) × (slice_index (y ∷ ys) t ≡ x)
     by_index f zero b e = (zero, b, e)
     by_index f (suc i) b e = let r = f (i, omega arith, e) in (suc r.0, omega (arith, r.1), r.2)
 
 -- a position whose moves are these is lost where there is one, and each leads to a win
-pub lost_listed : {P M : Type 0} (legal : P → M → Type 0) (after : P → M → P) (labels : P → Value) (k : ℕ) (p : P) (ms : List M) → ((m : M) → legal p m → Contains ms m) → ((m : M) → Contains ms m → legal p m)
+pub lost_listed : {P M : Type 0} (legal : P → M → Type 0) (after : P → M → P) (labels : P → Value) (k : ℕ) (p : P)
+    (ms : List M) → ((m : M) → legal p m → Contains ms m) → ((m : M) → Contains ms m → legal p m)
     → ((m : M) → Contains ms m → (n : ℕ) × (labels (after p m) ≡ Win n) × (n ≤ k)) → (e : Bool) → e ≡ (length ms == 0)
     → (IsTrue (not e) → IsLostBy (Leads legal after) labels k p) × (IsLostBy (Leads legal after) labels k p → IsTrue (not e))
 lost_listed legal after labels k p [] all only each false q = absurd (let no : false ≡ true = q in cc)
-lost_listed legal after labels k p [] all only each true q = (λ t. absurd (let no : false ≡ true = t in cc), λ h. absurd (let c = all h.some.1.0 h.some.1.1 in omega (arith, c.1)))
+lost_listed legal after labels k p [] all only each true q = (
+  λ t. absurd (let no : false ≡ true = t in cc),
+  λ h. absurd (let c = all h.some.1.0 h.some.1.1 in omega (arith, c.1)),
+)
 lost_listed legal after labels k p (m ∷ ms) all only each true q = absurd (let z : length (m ∷ ms) ≡ 0 = eqb-true _ _ (sym q) in omega (arith, z))
 lost_listed legal after labels k p (m ∷ ms) all only each false q = (
   λ t. record {

@@ -1,5 +1,6 @@
 -- The laws of a class's numbers, for chess.
-use Rattle.std.proofs.Common.{◌≡◌, ℕ, ◌<◌, ◌⊎◌, inl, inr, Bool, true, false, cond, List, [], ◌∷◌, length, get_or, slice_index, Option, Some, None, refl, sym, ◌∙◌, subst, ap, arith, zero, suc}
+use Rattle.std.proofs.Common.{◌≡◌, ℕ, ◌<◌, ◌⊎◌, inl, inr, Bool, true, false, cond, List, [], ◌∷◌, length, get_or}
+use Rattle.std.proofs.Common.{slice_index, Option, Some, None, refl, sym, ◌∙◌, subst, ap, arith, zero, suc}
 use Rattle.std.specs.List.{All, Contains}
 use Rattle.std.proofs.lemmas.Bool.{false≢true}
 use Rattle.study_board.specs.Position.{Position}
@@ -10,8 +11,8 @@ use Rattle.study_material.specs.Lists.{Lists, lists, ordered}
 use Rattle.study_material.specs.Class.{lists_of, same_lists, class_list, IsOf}
 use Rattle.study_material.specs.Needs.{LeadsOn, needs_of}
 use Rattle.study_material.proofs.Classes.{same_lists-self, same_lists-equal, lists_of-injective}
-use Rattle.study_material.proofs.Names.{Contains-class}
-use Rattle.study_material.proofs.Exists.{class_exists}
+use Rattle.study_material.proofs.ClassNames.{Contains-class}
+use Rattle.study_material.proofs.EachHasClass.{class_exists}
 use Rattle.study_material.proofs.MovesOn.{moves_lead_on}
 use Rattle.study_index.specs.Number.{cells_of}
 use Rattle.study_index.specs.Laws.{AreAlikeIn}
@@ -23,7 +24,7 @@ use Rattle.study_retro.specs.Table.{Table, table_of, IsClosed}
 use Rattle.study_material.specs.Class.{is_of, class_in, class_found}
 use Rattle.study_material.proofs.Classes.{IsOf-is_of, is_of-IsOf}
 use Rattle.study_retro.specs.Game.{value_by, value_in}
-use Rattle.study_index.proofs.Functions.{IsIndex-index_of, index_of-only, told_decoded, decoded_told}
+use Rattle.study_index.proofs.ComputedIndex.{IsIndex-index_of, index_of-only, told_decoded, decoded_told}
 use Rattle.study_retro.proofs.LevelLemmas.{distance-byte}
 
 -- alike positions have one pair of lists
@@ -40,7 +41,10 @@ class_in-is (d ∷ cs) c l h e = by_head (same_lists (lists_of d) l) refl (rest 
 
     by_head : (b : Bool) → same_lists (lists_of d) l ≡ b → (d ≡ c) ⊎ (class_in cs l ≡ c) → cond b d (class_in cs l) ≡ c
     by_head true f g = lists_of-injective d c (same_lists-equal (lists_of d) l f ∙ sym e)
-    by_head false f (inl s) = absurd (false≢true (sym f ∙ subst (λ (x : Class). same_lists (lists_of x) l ≡ true) (sym s) (subst (λ (m : Lists). same_lists (lists_of c) m ≡ true) e (same_lists-self (lists_of c)))))
+    by_head false f (inl s) =
+        absurd
+        (false≢true (sym f ∙ subst (λ (x : Class). same_lists (lists_of x) l ≡ true) (sym s)
+        (subst (λ (m : Lists). same_lists (lists_of c) m ≡ true) e (same_lists-self (lists_of c)))))
     by_head false f (inr g) = g
 
 pub class_found-is : (c : Class) (p : Position) → IsOf c p → class_found p ≡ c
@@ -48,7 +52,8 @@ unfolding class_found
 class_found-is c p h = class_in-is class_list c (ordered (lists p.men)) (Contains-class c) h
 
 -- what a held table says of a position of its class
-pub value_in-held : (held : List (Option Table)) (c : Class) (t : Table) (p : Position) → IsOf c p → table_of held c ≡ Some t → value_in held p ≡ value_of (slice_index t.cells (index_of p))
+pub value_in-held : (held : List (Option Table)) (c : Class) (t : Table) (p : Position) → IsOf c p
+    → table_of held c ≡ Some t → value_in held p ≡ value_of (slice_index t.cells (index_of p))
 value_in-held held c t p h e = ap (λ (d : Class). value_by (table_of held d) p) (class_found-is c p h) ∙ ap (λ (o : Option Table). value_by o p) e
 
 byte_near : (cells : List ℕ) → All (λ c. c < 256) cells → (n : ℕ) → slice_index cells n < 256
@@ -61,9 +66,12 @@ value_in-near held closed p = by_table (table_of held (class_found p)) refl
   where
     by_table : (o : Option Table) → table_of held (class_found p) ≡ o → distance_of (value_by o p) < 255
     by_table None e = omega arith
-    by_table (Some t) e = let b = byte_near t.cells (closed.complete (class_found p) t e).bytes (index_of p) in distance-byte (slice_index t.cells (index_of p)) (omega arith)
+    by_table (Some t) e = let b = byte_near t.cells (closed.complete (class_found p) t e).bytes (index_of p) in
+        distance-byte (slice_index t.cells (index_of p)) (omega arith)
 
-of_class_after : (c : Class) (p q : Position) → AreAlike p q → IsOf c p ⊎ ((d : Class) × Contains (needs_of c) d × IsOf d p) → IsOf c q ⊎ ((d : Class) × Contains (needs_of c) d × IsOf d q)
+of_class_after : (c : Class) (p q : Position) → AreAlike p q → IsOf c p
+    ⊎ ((d : Class) × Contains (needs_of c) d × IsOf d p) → IsOf c q
+    ⊎ ((d : Class) × Contains (needs_of c) d × IsOf d q)
 of_class_after c p q h (inl k) = inl (same_class p q c h k)
 of_class_after c p q h (inr k) = inr (k.0, k.1, same_class p q k.0 h k.2)
 
@@ -75,7 +83,9 @@ chess_class c held closed = record {
   decoded = λ n p e. (
       let h = entry c n p (told_decoded c n p e) in
       (record { valid = h.valid; of_class = inl h.of_class }, is_of-IsOf c p h.of_class, sym (index_of-only p n h.valid h.index)));
-  numbered = λ p k e. (let h = numbered c p (index_of p) k.valid (IsOf-is_of c p e) (IsIndex-index_of p k.valid) in (h.0, decoded_told c (index_of p) h.0 h.1, h.2));
+  numbered =
+      λ p k e. (let h = numbered c p (index_of p) k.valid (IsOf-is_of c p e) (IsIndex-index_of p k.valid) in
+      (h.0, decoded_told c (index_of p) h.0 h.1, h.2));
   closed = λ p q k e l. moves_lead_on c p q k.valid (IsOf-is_of c p e) l;
   back = alike_back c;
   move = alike_move c;

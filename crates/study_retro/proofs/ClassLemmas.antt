@@ -16,7 +16,8 @@ pub some_or_none : {P : Type 0} (o : Option P) → ((p : P) × (o ≡ Some p)) �
 some_or_none (Some p) = inl (p, refl)
 some_or_none None = inr refl
 
-module _ {P : Type 0} {leads : P → P → Type 0} {mate : P → Type 0} {known : P → Type 0} {home : P → Bool} {index : P → ℕ} {outside : P → Value} {position : ℕ → Option P} {size : ℕ} {image : P → P → Type 0}
+module _ {P : Type 0} {leads : P → P → Type 0} {mate : P → Type 0} {known : P → Type 0} {home : P → Bool} {index : P
+    → ℕ} {outside : P → Value} {position : ℕ → Option P} {size : ℕ} {image : P → P → Type 0}
     (laws : IsClass leads mate known home index outside position size image) (cells : List ℕ) where
   abbrev Labels : P → Value
   Labels = label_of home index outside cells
@@ -33,7 +34,8 @@ module _ {P : Type 0} {leads : P → P → Type 0} {mate : P → Type 0} {known 
   -- images have one label, where what is known outside of the class is right
   pub same_label : IsRightOutside leads mate known home outside → (p q : P) → known p → image p q → Labels p ≡ Labels q
   same_label outer p q k r = elim (true_or_false (home p)) [
-    | inl e ↦ label-home p e ∙ ap (λ (n : ℕ). value_of (slice_index cells n)) (laws.same_index p q k e r) ∙ sym (label-home q (sym (laws.same_home p q k r) ∙ e))
+    | inl e ↦ label-home p e ∙ ap (λ (n : ℕ). value_of (slice_index cells n)) (laws.same_index p q k e r)
+        ∙ sym (label-home q (sym (laws.same_home p q k r) ∙ e))
     | inr e ↦ (
         let away = sym (laws.same_home p q k r) ∙ e in
         let along = IsGame-along leads mate image image_keeps p q (outside p) r (outer p k e) in
@@ -57,11 +59,13 @@ module _ {P : Type 0} {leads : P → P → Type 0} {mate : P → Type 0} {known 
   ]
 
   -- what right cells give a position is right
-  pub given-right : IsRightOutside leads mate known home outside → AreRight leads mate position size cells → (p : P) (v : Value) → known p → home p ≡ true → Gives leads mate Labels p v → IsGame leads mate p v
+  pub given-right : IsRightOutside leads mate known home outside → AreRight leads mate position size cells
+      → (p : P) (v : Value) → known p → home p ≡ true → Gives leads mate Labels p v → IsGame leads mate p v
   given-right outer right p v k e g = IsGame-Gives leads mate laws.stuck Labels p v (λ q l. labels-right outer right q (laws.closed p q k e l)) g
 
   -- no right cells hold one that tells something else than they give
-  pub other-wrong : IsRightOutside leads mate known home outside → AreRight leads mate position size cells → (n : ℕ) → n < size → IsOtherCell leads mate Labels (position n) (slice_index cells n) → ⊥
+  pub other-wrong : IsRightOutside leads mate known home outside → AreRight leads mate position size cells → (n : ℕ)
+      → n < size → IsOtherCell leads mate Labels (position n) (slice_index cells n) → ⊥
   other-wrong outer right n b h = elim (some_or_none (position n)) [
     | inl s ↦
         let cell = slice_index cells n in
@@ -82,7 +86,9 @@ module _ {P : Type 0} {leads : P → P → Type 0} {mate : P → Type 0} {known 
   cells-settled outer each n b = elim (some_or_none (position n)) [
     | inl s ↦
         let d = laws.decoded n s.0 s.1 in
-        subst (λ (o : Option P). IsRightCell leads mate o cell) (sym s.1) (subst (IsGame leads mate s.0) (label-position n s.0 s.1) (settled leads mate laws.stuck known Labels known_each s.0 d.0))
+        subst (λ (o : Option P). IsRightCell leads mate o cell) (sym s.1)
+        (subst (IsGame leads mate s.0) (label-position n s.0 s.1)
+        (settled leads mate laws.stuck known Labels known_each s.0 d.0))
     | inr e ↦ elim (each n b) [
       | inl h ↦ h
       | inr h ↦ subst (λ (o : Option P). IsRightCell leads mate o cell) (sym e) (subst (λ (o : Option P). IsGivenCell leads mate Labels o cell) e h)
@@ -93,7 +99,8 @@ module _ {P : Type 0} {leads : P → P → Type 0} {mate : P → Type 0} {known 
       cell = slice_index cells n
 
       from_number : (p q : P) → known p → home p ≡ true → position (index p) ≡ Some q → image q p
-          → IsRightCell leads mate (position (index p)) (slice_index cells (index p)) ⊎ IsGivenCell leads mate Labels (position (index p)) (slice_index cells (index p))
+          → IsRightCell leads mate (position (index p)) (slice_index cells (index p))
+          ⊎ IsGivenCell leads mate Labels (position (index p)) (slice_index cells (index p))
           → IsGame leads mate p (Labels p) ⊎ Gives leads mate Labels p (Labels p) × ((q : P) → leads p q → known q)
       from_number p q k e s r (inl h) =
           let at = subst (λ (o : Option P). IsRightCell leads mate o (slice_index cells (index p))) s h in
@@ -103,7 +110,9 @@ module _ {P : Type 0} {leads : P → P → Type 0} {mate : P → Type 0} {known 
           let d = laws.decoded (index p) q s in
           inr (
             subst (Gives leads mate Labels p) (sym (label-home p e))
-                (Gives-along leads mate image image_keeps known Labels (same_label outer) q p (value_of (slice_index cells (index p))) (λ q' l. laws.closed q q' d.0 d.1 l) (λ q' l. laws.closed p q' k e l) r at),
+                (Gives-along leads mate image image_keeps known Labels (same_label outer) q p
+                (value_of (slice_index cells (index p))) (λ q' l. laws.closed q q' d.0 d.1 l)
+                (λ q' l. laws.closed p q' k e l) r at),
             λ q' l. laws.closed p q' k e l,
           )
 

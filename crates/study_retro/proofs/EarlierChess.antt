@@ -1,5 +1,6 @@
 -- What leads to the position of a number, by the positions before a quiet move.
-use Rattle.std.proofs.Common.{◌≡◌, ℕ, ◌+◌, ◌<◌, ◌⊎◌, inl, inr, arith, Bool, true, false, cond, not, ◌||◌, ◌↔◌, List, [], ◌∷◌, ◌++◌, Contains, Option, Some, None, refl, sym, ◌∙◌, ap, subst}
+use Rattle.std.proofs.Common.{◌≡◌, ℕ, ◌+◌, ◌<◌, ◌⊎◌, inl, inr, arith, Bool, true, false, cond, not, ◌||◌, ◌↔◌}
+use Rattle.std.proofs.Common.{List, [], ◌∷◌, ◌++◌, Contains, Option, Some, None, refl, sym, ◌∙◌, ap, subst}
 use Rattle.std.proofs.lemmas.Bool.{false≢true, false_from_ne_true}
 use Rattle.std.proofs.lemmas.List.Elements.{Contains-push, Contains-push_cases, Contains-append_left}
 use Rattle.study_board.specs.declared.men.Man.{Man}
@@ -7,20 +8,20 @@ use Rattle.study_board.specs.Position.{Position, IsValid, man_at, is_empty, in_o
 use Rattle.study_board.proofs.Valid.{IsFaultless-from_first, first_fault-from_IsFaultless}
 use Rattle.study_board.specs.declared.symmetry.Symmetry.{Symmetry}
 use Rattle.study_board.specs.Symmetry.{image, admits, keeps_pawns, is_pawn}
-use Rattle.study_board.proofs.Turned.{valid_image}
-use Rattle.study_board.proofs.Images.{IsTurnable-from_valid}
+use Rattle.study_board.proofs.ImagesValid.{valid_image}
+use Rattle.study_board.proofs.ImagesOfImages.{IsTurnable-from_valid}
 use Rattle.study_moves.specs.declared.moves.Move.{Move}
 use Rattle.study_moves.specs.Rules.{is_legal, after, goes, is_en_passant}
 use Rattle.study_moves.specs.Symmetry.{image_move}
 use Rattle.study_moves.specs.Bare.{is_taken, is_live, without_passed, bare}
 use Rattle.study_moves.specs.Alike.{Leads}
 use Rattle.study_moves.specs.Quiet.{IsQuiet, LeadsQuietly}
-use Rattle.study_moves.proofs.Turned.{after-turned, image_legal}
-use Rattle.study_moves.proofs.Bare.{goes_without, is_legal_for_bare, men_after_bare}
+use Rattle.study_moves.proofs.RulesOfImages.{after-turned, image_legal}
+use Rattle.study_moves.proofs.BarePassing.{goes_without, is_legal_for_bare, men_after_bare}
 use Rattle.study_moves.proofs.BareImages.{bare_image}
 use Rattle.study_moves.proofs.NoMoveBetween.{HasMover-from_is_legal}
-use Rattle.study_moves.proofs.After.{IsValid-after}
-use Rattle.study_moves.proofs.Alike.{admits_bare}
+use Rattle.study_moves.proofs.AfterMove.{IsValid-after}
+use Rattle.study_moves.proofs.AlikePositions.{admits_bare}
 use Rattle.study_material.specs.declared.class.Class.{Class}
 use Rattle.study_material.specs.Lists.{Lists, lists, ordered}
 use Rattle.study_material.specs.Class.{IsOf}
@@ -29,7 +30,7 @@ use Rattle.study_index.specs.Decoded.{slots_of, told_men, told_side}
 use Rattle.study_index.specs.Found.{index_of, told, is_entry, position_at}
 use Rattle.study_index.specs.Laws.{AreAlikeIn}
 use Rattle.study_index.proofs.ClassLaws.{entry, numbered, same_class, same_index, alike_back, alike_move}
-use Rattle.study_index.proofs.Functions.{IsIndex-index_of, index_of-only, told_decoded, decoded_told}
+use Rattle.study_index.proofs.ComputedIndex.{IsIndex-index_of, index_of-only, told_decoded, decoded_told}
 use Rattle.study_index.proofs.ImageNumbers.{IsLeastNumber-passed}
 use Rattle.study_index.proofs.LivePassing.{live_along, not_live_passed}
 use Rattle.study_index.proofs.WithBit.{HasParts-from}
@@ -54,7 +55,8 @@ without_image s p = by_live (is_live p)
     by_live false = refl
 
 -- a quiet move leaves the pawns on the board
-admits_before : (s : Symmetry) (p : Position) (m : Move) → IsValid p → p.passed ≡ None → is_legal p m ≡ true → IsQuiet p m → admits (after p m) s ≡ true → admits p s ≡ true
+admits_before : (s : Symmetry) (p : Position) (m : Move) → IsValid p → p.passed ≡ None → is_legal p m ≡ true
+    → IsQuiet p m → admits (after p m) s ≡ true → admits p s ≡ true
 admits_before s p m v u l q a = subst (λ (b : Bool). (not b || keeps_pawns s) ≡ true) (quiet_any p m v l (unpassing p m v l u) is_pawn (λ t k x y. refl) q) a
 
 -- what leads to a position of the class leads, from an image, to any position alike
@@ -65,7 +67,8 @@ record IsLedAlike (c : Class) (p : Position) (m : Move) (q : Position) : Type 0 
   pub leads : LeadsQuietly from by q
   pub lands : AreAlikeIn c (after p m) (after from by)
 
-before_alike : (c : Class) (p q : Position) (m : Move) → IsValid p → p.passed ≡ None → IsOf c p → is_legal p m ≡ true → IsOf c (after p m) → AreAlikeIn c (after p m) q → IsLedAlike c p m q
+before_alike : (c : Class) (p q : Position) (m : Move) → IsValid p → p.passed ≡ None → IsOf c p
+    → is_legal p m ≡ true → IsOf c (after p m) → AreAlikeIn c (after p m) q → IsLedAlike c p m q
 before_alike c p q m v u o l k h =
     let s = h.alike.images.by in
     let quiet = quiet_within p m v l (unpassing p m v l u) c o k in
@@ -78,7 +81,9 @@ before_alike c p q m v u o l k h =
     let w : IsValid r = valid_image s p v a in
     let u' : r.passed ≡ None = unturned s u in
     let to : after r m' ≡ image s (after p m) = after-turned s p t m l in
-    let same : without_passed (after r m') ≡ without_passed q = ap without_passed to ∙ sym (without_image s (after p m)) ∙ ap without_passed (sym h.alike.images.is) ∙ without_bare q in
+    let same : without_passed (after r m') ≡ without_passed q =
+    ap without_passed to ∙ sym (without_image s (after p m)) ∙ ap without_passed (sym h.alike.images.is)
+    ∙ without_bare q in
     let alike : AreAlikeIn c p r = record {
       alike = record { left = v; right = w; images = record { by = s; admitted = admits_bare s p ∙ a; is = bare_image s p t } };
       kept = h.kept;
@@ -112,7 +117,9 @@ valid_without p v =
     record {
       ordered = v.ordered;
       on_board = v.on_board;
-      faultless = first_fault-from_IsFaultless p.men p.to_move None (record { few = f.few; once = f.once; kings = f.kings; pawns = f.pawns; safe = f.safe; possible = refl });
+      faultless =
+          first_fault-from_IsFaultless p.men p.to_move None
+          (record { few = f.few; once = f.once; kings = f.kings; pawns = f.pawns; safe = f.safe; possible = refl });
     }
 
 -- a move that does not capture in passing needs no passed square
@@ -133,7 +140,15 @@ record HasPlain (p : Position) (i : ℕ) : Type 0 where
 HasPlain-from : (p : Position) (i : ℕ) → IsValid p → IsIndex p i → HasPlain p i
 HasPlain-from p i v x =
     let h = HasParts-from p i v x in
-    record { plain = record { number = without_bit i; least = IsLeastNumber-passed p (without_passed p) (without_bit i) refl refl h.least; is = refl }; is = h.is }
+    record {
+      plain = record {
+        number = without_bit i;
+        least = IsLeastNumber-passed p (without_passed p) (without_bit i)
+            refl refl h.least;
+        is = refl;
+      };
+      is = h.is;
+    }
 
 pub small_index : (p : Position) → IsValid p → p.passed ≡ None → index_of p < 16777216
 small_index p v u =
@@ -202,7 +217,8 @@ module _ (c : Class) where
       }
 
   -- with its live passed square, the same position leads there too
-  twin_leads : (n : ℕ) (r o p t : Position) → position_at c (index_of r) ≡ Some o → o.passed ≡ None → Leads o t → IsOf c t → position_at c (index_of r + 16777216) ≡ Some p → Leads p t
+  twin_leads : (n : ℕ) (r o p t : Position) → position_at c (index_of r) ≡ Some o → o.passed ≡ None → Leads o t
+      → IsOf c t → position_at c (index_of r + 16777216) ≡ Some p → Leads p t
   twin_leads n r o p t e u l home f =
       let m = l.0 in
       let d = entry c (index_of r) o (told_decoded c (index_of r) o e) in
@@ -212,21 +228,33 @@ module _ (c : Class) where
       let quiet = quiet_within o m d.valid l.1 (unpassing o m d.valid l.1 u) c d.of_class k in
       let h = HasMover-from_is_legal o m l.1 in
       let here : man_at p.men m.origin ≡ Some h.man = ap (λ (xs : List Man). man_at xs m.origin) men ∙ h.here in
-      let going : goes p.men None h.man m.target ≡ true = ap (λ (xs : List Man). goes xs None h.man m.target) men ∙ ap (λ (y : Option ℕ). goes o.men y h.man m.target) (sym u) ∙ h.moves.going in
+      let going : goes p.men None h.man m.target ≡ true = ap (λ (xs : List Man). goes xs None h.man m.target) men
+      ∙ ap (λ (y : Option ℕ). goes o.men y h.man m.target) (sym u) ∙ h.moves.going in
       let empty : is_empty p.men m.target ≡ true = ap (λ (xs : List Man). is_empty xs m.target) men ∙ ap not quiet.0 in
-      let no : is_en_passant p.passed h.man m.target ≡ false = false_from_ne_true (is_en_passant p.passed h.man m.target) (λ y. false≢true (sym (goes_without p.men p.passed h.man m.target y empty) ∙ going)) in (
+      let no : is_en_passant p.passed h.man m.target ≡ false =
+      false_from_ne_true (is_en_passant p.passed h.man m.target)
+      (λ y. false≢true (sym (goes_without p.men p.passed h.man m.target y empty) ∙ going)) in (
         m,
         sym (legal_without p m h.man here no) ∙ ap (λ (x : Position). is_legal x m) same ∙ l.1,
         sym (after_without p m h.man here no) ∙ ap (λ (x : Position). after x m) same ∙ l.2,
       )
 
   -- the numbers before a number lead to it
-  pub before_leads : (n i : ℕ) (q : Position) (m : Move) → position_at c n ≡ Some q → IsNumberBefore c q n m i → LeadsTo Leads (is_of c) index_of (position_at c) i n
+  pub before_leads : (n i : ℕ) (q : Position) (m : Move) → position_at c n ≡ Some q → IsNumberBefore c q n m i
+      → LeadsTo Leads (is_of c) index_of (position_at c) i n
   before_leads n i q m e b =
       let t = IsLed-from n q b.from m e b.leads b.lands in
       elim b.is [
         | inl s ↦ (t.from, t.to, subst (λ (k : ℕ). position_at c k ≡ Some t.from) (sym s) t.at, t.leads, is_of-IsOf c t.to t.home, t.lands)
-        | inr s ↦ (s.1.0, t.to, s.1.1, twin_leads n b.from t.from s.1.0 t.to t.at t.unpassed t.leads t.home (subst (λ (k : ℕ). position_at c k ≡ Some s.1.0) s.0 s.1.1), is_of-IsOf c t.to t.home, t.lands)
+        | inr s ↦ (
+          s.1.0,
+          t.to,
+          s.1.1,
+          twin_leads n b.from t.from s.1.0 t.to t.at t.unpassed t.leads t.home
+              (subst (λ (k : ℕ). position_at c k ≡ Some s.1.0) s.0 s.1.1),
+          is_of-IsOf c t.to t.home,
+          t.lands,
+        )
       ]
 
   -- and no others do
@@ -248,17 +276,26 @@ module _ (c : Class) where
       let b = without_passed t.0 in
       let lb : is_legal b m ≡ true = legal_without t.0 m has.man has.here no ∙ l in
       let ab : after b m ≡ x = after_without t.0 m has.man has.here no in
-      let r = before_alike c b q m (valid_without t.0 d.valid) refl d.of_class lb (subst (λ (y : Position). IsOf c y) (sym ab) ox) (subst (λ (y : Position). AreAlikeIn c y q) (sym ab) h) in
+      let r =
+      before_alike c b q m (valid_without t.0 d.valid) refl d.of_class lb
+      (subst (λ (y : Position). IsOf c y) (sym ab) ox)
+      (subst (λ (y : Position). AreAlikeIn c y q) (sym ab) h) in
       let plain = HasPlain-from t.0 i d.valid d.index in
-      let at : without_bit i ≡ index_of r.from = index_of-only r.from (without_bit i) r.alike.alike.right (same_index c b r.from (without_bit i) r.alike d.of_class plain.plain) in
+      let at : without_bit i ≡ index_of r.from =
+      index_of-only r.from (without_bit i) r.alike.alike.right
+      (same_index c b r.from (without_bit i) r.alike d.of_class plain.plain) in
       let vy : IsValid (after r.from r.by) = r.lands.alike.right in
-      let iy : IsIndex (after r.from r.by) n = same_index c (after b m) (after r.from r.by) n r.lands (subst (λ (y : Position). IsOf c y) (sym ab) ox) (subst (λ (y : Position). IsIndex y n) (sym ab) (subst (λ (k : ℕ). IsIndex x k) ix (IsIndex-index_of x vx))) in
+      let iy : IsIndex (after r.from r.by) n =
+      same_index c (after b m) (after r.from r.by) n r.lands (subst (λ (y : Position). IsOf c y) (sym ab) ox)
+      (subst (λ (y : Position). IsIndex y n) (sym ab)
+      (subst (λ (k : ℕ). IsIndex x k) ix (IsIndex-index_of x vx))) in
       record {
         by = r.by;
         is = record { from = r.from; leads = r.leads; lands = sym (index_of-only (after r.from r.by) n vy iy); is = by_live (is_live t.0) plain.is at };
       }
     where
-      by_live : (b : Bool) {k : ℕ} → i ≡ with_bit b (without_bit i) → without_bit i ≡ k → (i ≡ k) ⊎ (i ≡ k + 16777216) × ((p : Position) × (position_at c i ≡ Some p))
+      by_live : (b : Bool) {k : ℕ} → i ≡ with_bit b (without_bit i) → without_bit i ≡ k → (i ≡ k)
+          ⊎ (i ≡ k + 16777216) × ((p : Position) × (position_at c i ≡ Some p))
       by_live true f g = inr (omega (arith, f, g), (t.0, t.2))
       by_live false f g = inl (f ∙ g)
 
@@ -271,10 +308,13 @@ module _ (c : Class) where
       (p.0, subst (λ (k : ℕ). position_at c k ≡ Some p.0) t.5 (decoded_told c (index_of t.1) p.0 p.1))
 
   -- a quiet move stays in the class
-  pub quiet_home : (n : ℕ) (p : Position) (m : Move) → position_at c n ≡ Some p → is_legal p m ≡ true → m.promoted ≡ None → p.passed ≡ None → man_at p.men m.target ≡ None → is_of c (after p m) ≡ true
+  pub quiet_home : (n : ℕ) (p : Position) (m : Move) → position_at c n ≡ Some p → is_legal p m ≡ true
+      → m.promoted ≡ None → p.passed ≡ None → man_at p.men m.target ≡ None → is_of c (after p m) ≡ true
   quiet_home n p m e l o u none =
       let d = entry c n p (told_decoded c n p e) in
-      is_of-IsOf c (after p m) (d.of_class ∙ ap (λ (k : Lists). ordered k) (sym (quiet_lists p m d.valid l (unpassing p m d.valid l u) (unoccupied p.men m.target none, o))))
+      is_of-IsOf c (after p m)
+      (d.of_class ∙ ap (λ (k : Lists). ordered k)
+      (sym (quiet_lists p m d.valid l (unpassing p m d.valid l u) (unoccupied p.men m.target none, o))))
 
   pub numbered_index : (n : ℕ) (q : Position) → position_at c n ≡ Some q → index_of q ≡ n
   numbered_index n q e = let d = entry c n q (told_decoded c n q e) in sym (index_of-only q n d.valid d.index)
@@ -284,7 +324,9 @@ module _ (c : Class) where
     plain_first = record { from = h.from; leads = h.leads; lands = h.lands; is = inl h.is }
 
     -- the plain number was added
-    pub one_added : (new : List ℕ) → new ≡ old ++ k ∷ [] → ((p : Position) × (position_at c (k + 16777216) ≡ Some p) → ⊥) → (n : ℕ) → Contains new n ↔ Contains old n ⊎ IsNumberBefore c q number m n
+    pub one_added : (new : List ℕ) → new ≡ old ++ k ∷ []
+        → ((p : Position) × (position_at c (k + 16777216) ≡ Some p) → ⊥) → (n : ℕ) → Contains new n ↔ Contains old n
+        ⊎ IsNumberBefore c q number m n
     one_added new e none n = (
       λ i. elim (Contains-push_cases old k n (subst (λ (xs : List ℕ). Contains xs n) e i)) [
         | inl i ↦ inl i
@@ -301,7 +343,9 @@ module _ (c : Class) where
         ]
 
     -- so was the number with the bit
-    pub two_added : (new : List ℕ) → new ≡ (old ++ k ∷ []) ++ (k + 16777216) ∷ [] → (p : Position) × (position_at c (k + 16777216) ≡ Some p) → (n : ℕ) → Contains new n ↔ Contains old n ⊎ IsNumberBefore c q number m n
+    pub two_added : (new : List ℕ) → new ≡ (old ++ k ∷ []) ++ (k + 16777216) ∷ [] → (p : Position)
+        × (position_at c (k + 16777216) ≡ Some p) → (n : ℕ) → Contains new n ↔ Contains old n
+        ⊎ IsNumberBefore c q number m n
     two_added new e some n = (
       λ i. elim (Contains-push_cases (old ++ k ∷ []) (k + 16777216) n (subst (λ (xs : List ℕ). Contains xs n) e i)) [
         | inl i ↦ elim (Contains-push_cases old k n i) [
@@ -317,6 +361,9 @@ module _ (c : Class) where
         back : Contains old n ⊎ IsNumberBefore c q number m n → Contains ((old ++ k ∷ []) ++ (k + 16777216) ∷ []) n
         back (inl i) = Contains-append_left (old ++ k ∷ []) ((k + 16777216) ∷ []) n (Contains-append_left old (k ∷ []) n i)
         back (inr b) = elim b.is [
-          | inl s ↦ Contains-append_left (old ++ k ∷ []) ((k + 16777216) ∷ []) n (subst (λ (x : ℕ). Contains (old ++ k ∷ []) x) (sym (s ∙ h.only b.from b.leads)) (Contains-push old k))
-          | inr s ↦ subst (λ (x : ℕ). Contains ((old ++ k ∷ []) ++ (k + 16777216) ∷ []) x) (sym (s.0 ∙ ap (λ (x : ℕ). x + 16777216) (h.only b.from b.leads))) (Contains-push (old ++ k ∷ []) (k + 16777216))
+          | inl s ↦ Contains-append_left (old ++ k ∷ []) ((k + 16777216) ∷ []) n
+              (subst (λ (x : ℕ). Contains (old ++ k ∷ []) x) (sym (s ∙ h.only b.from b.leads)) (Contains-push old k))
+          | inr s ↦ subst (λ (x : ℕ). Contains ((old ++ k ∷ []) ++ (k + 16777216) ∷ []) x)
+              (sym (s.0 ∙ ap (λ (x : ℕ). x + 16777216) (h.only b.from b.leads)))
+              (Contains-push (old ++ k ∷ []) (k + 16777216))
         ]

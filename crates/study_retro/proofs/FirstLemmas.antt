@@ -9,7 +9,8 @@ use Rattle.study_retro.specs.Back.{IsFirst, IsHeld}
 use Rattle.study_retro.proofs.ForcedLemmas.{Mates-Mated, IsGame-unique}
 use Rattle.study_retro.proofs.ParityLemmas.{odd-win, even-loss}
 
-module _ {P : Type 0} {leads : P → P → Type 0} {mate : P → Type 0} {known : P → Type 0} {home : P → Bool} {index : P → ℕ} {outside : P → Value} {position : ℕ → Option P} {size : ℕ} {image : P → P → Type 0}
+module _ {P : Type 0} {leads : P → P → Type 0} {mate : P → Type 0} {known : P → Type 0} {home : P → Bool} {index : P
+    → ℕ} {outside : P → Value} {position : ℕ → Option P} {size : ℕ} {image : P → P → Type 0}
     (laws : IsClass leads mate known home index outside position size image) (outer : IsRightOutside leads mate known home outside) where
   pub held-mate : (p : P) → mate p → IsHeld leads mate home false 0 p 1
   held-mate p m = record {
@@ -33,7 +34,8 @@ module _ {P : Type 0} {leads : P → P → Type 0} {mate : P → Type 0} {known 
     all-won (suc m) (inr x) q l = (m, x.1 q l)
 
     -- the nearest loss out of the class
-    held-win : (n c : ℕ) (far : Bool) → GivesOutside leads home outside p (Win (suc n)) → (c ≡ n + 2) × (far ≡ false) ⊎ (254 ≤ n) × (c ≡ 0) × (far ≡ true) → IsHeld leads mate home far 0 p c
+    held-win : (n c : ℕ) (far : Bool) → GivesOutside leads home outside p (Win (suc n)) → (c ≡ n + 2)
+        × (far ≡ false) ⊎ (254 ≤ n) × (c ≡ 0) × (far ≡ true) → IsHeld leads mate home far 0 p c
     held-win n c far g how = record {
       set = λ z l. absurd (elim how [ inl h ↦ omega (arith, h.0) | inr h ↦ z h.1 ]);
       unmating = λ free x. x;
@@ -56,7 +58,8 @@ module _ {P : Type 0} {leads : P → P → Type 0} {mate : P → Type 0} {known 
         wins : Mates leads mate p (suc n)
         wins = (g.to, g.move.0, is.forced)
 
-        by_value : (q : P) (j : ℕ) → (far ≡ true → j < 254) → leads p q → home q ≡ false → Mated leads mate q j → (v : Value) → outside q ≡ v → IsGame leads mate q v → (c % 2 ≡ 0) × (c ≢ 0) × (c ≤ j + 2)
+        by_value : (q : P) (j : ℕ) → (far ≡ true → j < 254) → leads p q → home q ≡ false → Mated leads mate q j
+            → (v : Value) → outside q ≡ v → IsGame leads mate q v → (c % 2 ≡ 0) × (c ≢ 0) × (c ≤ j + 2)
         by_value q j r l out x (Win i) e h = absurd (Mates-Mated leads mate laws.stuck i j q h.forced x)
         by_value q j r l out x (Loss i) e h =
             let near : n ≤ i = g.least q i (l, out) e in
@@ -74,8 +77,14 @@ module _ {P : Type 0} {leads : P → P → Type 0} {mate : P → Type 0} {known 
       unmating = λ free x. x;
       unmated = λ free x. unmated x;
       wins = λ l e. absurd (elim how [ inl h ↦ omega (arith, h, e, odd) | inr h ↦ omega (arith, h.1) ]);
-      lasts = λ l e x. elim how [ inl h ↦ sooner n refl (subst (Mated leads mate p) (let s : c - 2 ≡ n = omega (arith, h) in s) x) | inr h ↦ omega (arith, h.1) ];
-      won = λ q j r l out x. absurd (let e = g.each q (l, out) in Mates-Mated leads mate laws.stuck e.0 j q (subst (IsGame leads mate q) e.1 (is-outside q l out)).forced x);
+      lasts =
+          λ l e x. elim how [
+            | inl h ↦ sooner n refl (subst (Mated leads mate p) (let s : c - 2 ≡ n = omega (arith, h) in s) x)
+            | inr h ↦ omega (arith, h.1)
+          ];
+      won =
+          λ q j r l out x. absurd (let e = g.each q (l, out) in Mates-Mated leads mate laws.stuck e.0 j q
+          (subst (IsGame leads mate q) e.1 (is-outside q l out)).forced x);
       lost = λ q j m r b l out w x. (
           let e = g.each q (l, out) in
           let same = IsGame-unique leads mate laws.stuck q (Win j) (Win e.0) w (subst (IsGame leads mate q) e.1 (is-outside q l out)) in

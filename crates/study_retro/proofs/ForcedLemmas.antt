@@ -147,7 +147,12 @@ module _ {P : Type 0} (leads : P → P → Type 0) (mate : P → Type 0) (stuck 
       won = λ m b e. absurd (let no : ⊥ = cc in no);
       lost = λ m b e.
           let same : suc n ≡ m = cc in
-          let x : Mated leads mate p (suc n) = inr ((g.to, g.move), λ q l. let w = g.each q l in Mates-le leads mate w.0 n q w.2 ((after q l).won w.0 (omega (arith, w.2)) w.1)) in
+          let x : Mated leads mate p (suc n) =
+          inr (
+            (g.to, g.move),
+            λ q l. let w = g.each q l in Mates-le leads mate w.0 n q w.2
+                ((after q l).won w.0 (omega (arith, w.2)) w.1),
+          ) in
           subst (Mated leads mate p) same x;
     }
     Gives-below Draw g = record {
@@ -199,8 +204,12 @@ module _ {P : Type 0} (leads : P → P → Type 0) (mate : P → Type 0) (stuck 
   }
 
   -- what right labels give is right
-  pub IsGame-Gives : (labels : P → Value) (p : P) (w : Value) → ((q : P) → leads p q → IsGame leads mate q (labels q)) → Gives leads mate labels p w → IsGame leads mate p w
-  IsGame-Gives labels p w after g = IsGame-from_below p w (λ k. below-less (suc k) k p w (omega arith) (Gives-below labels k p (λ q l. IsGame-below k q (labels q) (after q l)) w g))
+  pub IsGame-Gives : (labels : P → Value) (p : P) (w : Value)
+      → ((q : P) → leads p q → IsGame leads mate q (labels q)) → Gives leads mate labels p w → IsGame leads mate p w
+  IsGame-Gives labels p w after g =
+      IsGame-from_below p w
+      (λ k. below-less (suc k) k p w (omega arith)
+      (Gives-below labels k p (λ q l. IsGame-below k q (labels q) (after q l)) w g))
 
   -- labels are right on a set of positions where each is right, or is what the labels after its moves give
   module _ (inside : P → Type 0) (labels : P → Value)

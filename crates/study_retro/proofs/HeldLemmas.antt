@@ -1,5 +1,6 @@
 -- What cells before a level tell: which positions are won within so many plies, and which are lost in one more.
-use Rattle.std.proofs.Common.{◌≡◌, ◌≢◌, ℕ, suc, ◌+◌, ◌-◌, ◌%◌, add-one, ◌<◌, ◌≤◌, ◌⊎◌, inl, inr, sym, ◌∙◌, ap, subst, arith, List, slice_index, Option, Some, Bool, true, []}
+use Rattle.std.proofs.Common.{◌≡◌, ◌≢◌, ℕ, suc, ◌+◌, ◌-◌, ◌%◌, add-one, ◌<◌, ◌≤◌, ◌⊎◌, inl, inr, sym, ◌∙◌}
+use Rattle.std.proofs.Common.{ap, subst, arith, List, slice_index, Option, Some, Bool, true, []}
 use Rattle.study_retro.specs.declared.value.Value.{Value}
 use Rattle.study_retro.specs.declared.value.Value.TheVariants.{Win, Loss, Draw}
 use Rattle.study_retro.specs.Forced.{Mated, Mates, IsGame}
@@ -30,12 +31,14 @@ pub won_cell : (c m : ℕ) → value_of c ≡ Win m → (c % 2 ≡ 0) × (c ≢ 
 won_cell c m e = elim (zero_or_not c) [
   | inl z ↦ absurd (let d : value_of c ≡ Draw = ap value_of z in let no : ⊥ = cc in no)
   | inr z ↦ elim (even_or_odd c) [
-    | inl even ↦ (let w : value_of c ≡ Win (c - 1) = value_of-even c z even in let same : c - 1 ≡ m = cc in let pos : 0 < c = omega arith in (even, z, omega arith))
+    | inl even ↦ (let w : value_of c ≡ Win (c - 1) = value_of-even c z even in let same : c - 1 ≡ m = cc in
+        let pos : 0 < c = omega arith in (even, z, omega arith))
     | inr odd ↦ absurd (let l : value_of c ≡ Loss (c - 1) = value_of-odd c odd in let no : ⊥ = cc in no)
   ]
 ]
 
-module _ {P : Type 0} {leads : P → P → Type 0} {mate : P → Type 0} {known : P → Type 0} {home : P → Bool} {index : P → ℕ} {outside : P → Value} {position : ℕ → Option P} {size : ℕ} {image : P → P → Type 0}
+module _ {P : Type 0} {leads : P → P → Type 0} {mate : P → Type 0} {known : P → Type 0} {home : P → Bool} {index : P
+    → ℕ} {outside : P → Value} {position : ℕ → Option P} {size : ℕ} {image : P → P → Type 0}
     (laws : IsClass leads mate known home index outside position size image) where
   -- the position of a number of the class, and its image
   pub home_number : (q : P) → known q → home q ≡ true → (o : P) × (position (index q) ≡ Some o) × image o q × (index q < size)
@@ -48,7 +51,8 @@ module _ {P : Type 0} {leads : P → P → Type 0} {mate : P → Type 0} {known 
   Mated-image n p q i h = Mated-along leads mate image (image_keeps laws []) n p q i h
 
   -- a held cell tells whether its position is won within k plies
-  pub held-wins : (far : Bool) (k c : ℕ) (p : P) → IsHeld leads mate home far k p c → (IsWonCell k c → Mates leads mate p k) × (Mates leads mate p k → IsWonCell k c)
+  pub held-wins : (far : Bool) (k c : ℕ) (p : P) → IsHeld leads mate home far k p c
+      → (IsWonCell k c → Mates leads mate p k) × (Mates leads mate p k → IsWonCell k c)
   held-wins far k c p h = (to, from)
     where
       to : IsWonCell k c → Mates leads mate p k
@@ -64,7 +68,8 @@ module _ {P : Type 0} {leads : P → P → Type 0} {mate : P → Type 0} {known 
           | inr l ↦ absurd (h.unmating (inr l) m)
           | inl l ↦ elim (even_or_odd c) [
             | inl even ↦ (even, z, l)
-            | inr odd ↦ absurd (let g = subst (IsGame leads mate p) (value_of-odd c odd) (h.set z l) in Mates-Mated leads mate laws.stuck k (c - 1) p m g.forced)
+            | inr odd ↦ absurd (let g = subst (IsGame leads mate p) (value_of-odd c odd) (h.set z l) in Mates-Mated
+                leads mate laws.stuck k (c - 1) p m g.forced)
           ]
         ]
       ]
@@ -107,7 +112,9 @@ module _ {P : Type 0} {leads : P → P → Type 0} {mate : P → Type 0} {known 
         by_value Draw e g = absurd (g.no_win k w)
 
     pub lost-sound : (p : P) → known p → home p ≡ true → IsLostBy leads Labels k p → Mated leads mate p (k + 1)
-    lost-sound p kp hp h = subst (Mated leads mate p) (sym (add-one k)) (inr (h.some, λ q l. let e = h.each q l in label-won q e.0 (laws.closed p q kp hp l) e.1 e.2))
+    lost-sound p kp hp h =
+        subst (Mated leads mate p) (sym (add-one k))
+        (inr (h.some, λ q l. let e = h.each q l in label-won q e.0 (laws.closed p q kp hp l) e.1 e.2))
 
     pub lost-complete : (p q : P) → known p → home p ≡ true → leads p q → Mated leads mate p (k + 1) → IsLostBy leads Labels k p
     lost-complete p q kp hp l m = by_cases (subst (Mated leads mate p) (add-one k) m)

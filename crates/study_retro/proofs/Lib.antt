@@ -5,7 +5,7 @@ pub mod ClassLemmas
 pub mod ParityLemmas
 pub mod LevelLemmas
 pub mod SetLemmas
-pub mod Bridge
+pub mod GameValues
 pub mod ChessClass
 pub mod SoundLemmas
 pub mod PlaceLemmas

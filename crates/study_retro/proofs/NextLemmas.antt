@@ -1,5 +1,6 @@
 -- From the cells before a level to those after it.
-use Rattle.std.proofs.Common.{◌≡◌, ◌≢◌, ℕ, zero, suc, ◌+◌, ◌-◌, ◌%◌, add-one, ◌<◌, ◌≤◌, ◌⊎◌, inl, inr, sym, ◌∙◌, ap, subst, refl, arith, List, slice_index, Option, Some, None, Bool, true, false}
+use Rattle.std.proofs.Common.{◌≡◌, ◌≢◌, ℕ, zero, suc, ◌+◌, ◌-◌, ◌%◌, add-one, ◌<◌, ◌≤◌, ◌⊎◌, inl, inr, sym, ◌∙◌, ap}
+use Rattle.std.proofs.Common.{subst, refl, arith, List, slice_index, Option, Some, None, Bool, true, false}
 use Rattle.study_retro.specs.declared.value.Value.{Value}
 use Rattle.study_retro.specs.declared.value.Value.TheVariants.{Win, Loss, Draw}
 use Rattle.study_retro.specs.Forced.{Mated, Mates, IsWin, IsLoss, IsGame}
@@ -40,14 +41,16 @@ module _ {P : Type 0} (leads : P → P → Type 0) (mate : P → Type 0) where
     | inr k ↦ Mated-suc m p (Mated-le n m p (omega arith) h)
   ]
 
-module _ {P : Type 0} {leads : P → P → Type 0} {mate : P → Type 0} {known : P → Type 0} {home : P → Bool} {index : P → ℕ} {outside : P → Value} {position : ℕ → Option P} {size : ℕ} {image : P → P → Type 0}
+module _ {P : Type 0} {leads : P → P → Type 0} {mate : P → Type 0} {known : P → Type 0} {home : P → Bool} {index : P
+    → ℕ} {outside : P → Value} {position : ℕ → Option P} {size : ℕ} {image : P → P → Type 0}
     (laws : IsClass leads mate known home index outside position size image) (outer : IsRightOutside leads mate known home outside)
     (far : Bool) (k : ℕ) (reach : far ≡ true → k < 254) (old : List ℕ) (held : AreHeld leads mate home far k position size old) where
   held-at : (n : ℕ) (p : P) → position n ≡ Some p → IsHeld leads mate home far k p (slice_index old n)
   held-at n p e = subst (λ (o : Option P). IsHeldCell leads mate home far k o (slice_index old n)) e (held n (laws.below n p e))
 
   -- a position that is mated within k plies, in no fewer than the mates that are set
-  lost-cell : (q o : P) (n : ℕ) → position n ≡ Some o → Mated leads mate o k → (Mated leads mate o (slice_index old n - 1)) × (slice_index old n ≢ 0) × (slice_index old n ≤ k + 1)
+  lost-cell : (q o : P) (n : ℕ) → position n ≡ Some o → Mated leads mate o k
+      → (Mated leads mate o (slice_index old n - 1)) × (slice_index old n ≢ 0) × (slice_index old n ≤ k + 1)
   lost-cell q o n e m = elim (free_or_set k (slice_index old n)) [
     | inl free ↦ absurd ((held-at n o e).unmated free m)
     | inr set ↦ elim (even_or_odd (slice_index old n)) [
@@ -76,7 +79,8 @@ module _ {P : Type 0} {leads : P → P → Type 0} {mate : P → Type 0} {known 
             elim (equal_or_less (slice_index old (index q)) (k + 1) c.2) [
               | inl same ↦ by_home (index q) o.3 same (p, q, e, l, h, refl)
               | inr less ↦ absurd ((held-at n p e).unmating free (
-                  let sooner : Mates leads mate p (suc (slice_index old (index q) - 1)) = (q, l, Mated-image laws (slice_index old (index q) - 1) o.0 q o.2 c.0) in
+                  let sooner : Mates leads mate p (suc (slice_index old (index q) - 1)) =
+                  (q, l, Mated-image laws (slice_index old (index q) - 1) o.0 q o.2 c.0) in
                   let pos : slice_index old (index q) ≢ 0 = c.1 in
                   Mates-le leads mate (suc (slice_index old (index q) - 1)) k p (omega arith) sooner))
             ])
@@ -121,16 +125,27 @@ module _ {P : Type 0} {leads : P → P → Type 0} {mate : P → Type 0} {known 
 
   -- a cell that is not set, of a position won in k + 1 plies
   won-next : (p : P) (c : ℕ) → IsHeld leads mate home far k p c → IsFree k c → Mates leads mate p (k + 1) → IsWin leads mate p (k + 1)
-  won-next p c h free m = record { forced = m; least = λ i x. elim (le_or_above i k) [ inl l ↦ absurd (h.unmating free (Mates-le leads mate i k p l x)) | inr l ↦ omega arith ] }
+  won-next p c h free m =
+      record {
+        forced = m;
+        least = λ i x. elim (le_or_above i k)
+            [ inl l ↦ absurd (h.unmating free (Mates-le leads mate i k p l x)) | inr l ↦ omega arith ];
+      }
 
   lost-next : (p : P) (c : ℕ) → IsHeld leads mate home far k p c → IsFree k c → Mated leads mate p (k + 1) → IsLoss leads mate p (k + 1)
-  lost-next p c h free m = record { forced = m; least = λ i x. elim (le_or_above i k) [ inl l ↦ absurd (h.unmated free (Mated-le leads mate i k p l x)) | inr l ↦ omega arith ] }
+  lost-next p c h free m =
+      record {
+        forced = m;
+        least = λ i x. elim (le_or_above i k)
+            [ inl l ↦ absurd (h.unmated free (Mated-le leads mate i k p l x)) | inr l ↦ omega arith ];
+      }
 
   injective : (n : ℕ) (p q : P) → position n ≡ Some p → position n ≡ Some q → p ≡ q
   injective n p q e f = let g : Some p ≡ Some q = sym e ∙ f in cc
 
   -- what leads to a position that is lost in exactly k plies is won in one more
-  pub won-by : (i j : ℕ) (p : P) → k % 2 ≡ 0 → slice_index old j ≡ k + 1 → LeadsTo leads home index position i j → position i ≡ Some p → Mates leads mate p (k + 1)
+  pub won-by : (i j : ℕ) (p : P) → k % 2 ≡ 0 → slice_index old j ≡ k + 1 → LeadsTo leads home index position i j
+      → position i ≡ Some p → Mates leads mate p (k + 1)
   won-by i j p even e t f =
       let d = laws.decoded i t.0 t.2 in
       let o = home_number laws t.1 (laws.closed t.0 t.1 d.0 d.1 t.3) t.4 in
@@ -145,7 +160,8 @@ module _ {P : Type 0} {leads : P → P → Type 0} {mate : P → Type 0} {known 
 
   -- a cell that a level of losses leaves
   same-even : (n c : ℕ) (p : P) → k % 2 ≡ 0 → position n ≡ Some p → slice_index old n ≡ c
-      → ((j : ℕ) → j < size → slice_index old j ≡ k + 1 → LeadsTo leads home index position n j → (c ≢ 0) × (c ≤ k + 2)) → IsHeld leads mate home far (k + 1) p c
+      → ((j : ℕ) → j < size → slice_index old j ≡ k + 1 → LeadsTo leads home index position n j → (c ≢ 0)
+      × (c ≤ k + 2)) → IsHeld leads mate home far (k + 1) p c
   same-even n c p even e f done = record {
     set = λ z l. elim (free_or_set k c) [
       | inr s ↦ h.set z s.1
@@ -180,7 +196,8 @@ module _ {P : Type 0} {leads : P → P → Type 0} {mate : P → Type 0} {known 
       no (inr l) x = omega (arith, x.1)
 
   -- a cell that a level of losses sets
-  raised-even : (n c : ℕ) (p : P) → k % 2 ≡ 0 → position n ≡ Some p → slice_index old n ≡ c → (c ≡ 0) ⊎ (k + 2 < c) → Mates leads mate p (k + 1) → IsHeld leads mate home far (k + 1) p (k + 2)
+  raised-even : (n c : ℕ) (p : P) → k % 2 ≡ 0 → position n ≡ Some p → slice_index old n ≡ c → (c ≡ 0) ⊎ (k + 2 < c)
+      → Mates leads mate p (k + 1) → IsHeld leads mate home far (k + 1) p (k + 2)
   raised-even n c p even e f above m = record {
     set = λ z l. (
         let v : value_of (k + 2) ≡ Win (k + 1) = value_of-even (k + 2) (omega arith) (omega arith) ∙ ap Win (let r : k + 2 - 1 ≡ k + 1 = omega arith in r) in
@@ -209,13 +226,16 @@ module _ {P : Type 0} {leads : P → P → Type 0} {mate : P → Type 0} {known 
 
   -- a level of losses
   pub level-even : (new : List ℕ) → k % 2 ≡ 0
-      → ((i : ℕ) → (slice_index new i ≡ slice_index old i) ⊎ ((j : ℕ) × (slice_index old j ≡ k + 1) × LeadsTo leads home index position i j) × (slice_index new i ≡ k + 2) × ((slice_index old i ≡ 0) ⊎ (k + 2 < slice_index old i)))
+      → ((i : ℕ) → (slice_index new i ≡ slice_index old i)
+      ⊎ ((j : ℕ) × (slice_index old j ≡ k + 1) × LeadsTo leads home index position i j)
+      × (slice_index new i ≡ k + 2) × ((slice_index old i ≡ 0) ⊎ (k + 2 < slice_index old i)))
       → ((i j : ℕ) → j < size → slice_index old j ≡ k + 1 → LeadsTo leads home index position i j → (slice_index new i ≢ 0) × (slice_index new i ≤ k + 2))
       → AreHeld leads mate home far (k + 1) position size new
   level-even new even rise done n b = elim (some_or_none (position n)) [
     | inl s ↦ subst (λ (o : Option P). IsHeldCell leads mate home far (k + 1) o (slice_index new n)) (sym s.1) (elim (rise n) [
       | inl same ↦ same-even n (slice_index new n) s.0 even s.1 (sym same) (λ j l e t. done n j l e t)
-      | inr x ↦ subst (IsHeld leads mate home far (k + 1) s.0) (sym x.1) (raised-even n (slice_index old n) s.0 even s.1 refl x.2 (won-by n x.0.0 s.0 even x.0.1 x.0.2 s.1))
+      | inr x ↦ subst (IsHeld leads mate home far (k + 1) s.0) (sym x.1)
+          (raised-even n (slice_index old n) s.0 even s.1 refl x.2 (won-by n x.0.0 s.0 even x.0.1 x.0.2 s.1))
     ])
     | inr none ↦ subst (λ (o : Option P). IsHeldCell leads mate home far (k + 1) o (slice_index new n)) (sym none) (elim (rise n) [
       | inl same ↦ same ∙ subst (λ (o : Option P). IsHeldCell leads mate home far k o (slice_index old n)) none (held n b)
@@ -227,8 +247,10 @@ module _ {P : Type 0} {leads : P → P → Type 0} {mate : P → Type 0} {known 
       (fall : (i : ℕ) → (slice_index mid i ≡ slice_index old i) ⊎ (slice_index old i ≡ k + 2) × (slice_index mid i ≡ 0))
       (lost : (i : ℕ) (p : P) → i < size → position i ≡ Some p → slice_index mid i ≡ k + 2 → Mated leads mate p (k + 1))
       (kept : (i : ℕ) (p q : P) → position i ≡ Some p → leads p q → slice_index old i ≡ k + 2 → Mated leads mate p (k + 1) → slice_index mid i ≡ k + 2)
-      (rise : (i : ℕ) → (slice_index new i ≡ slice_index mid i) ⊎ (slice_index mid i ≡ 0) × (slice_index new i ≡ k + 2) × ((p : P) × (position i ≡ Some p) × Mated leads mate p (k + 1)))
-      (done : (j : ℕ) → j < size → slice_index mid j ≡ k + 1 → (i : ℕ) → (t : LeadsTo leads home index position i j) → Mated leads mate t.0 (k + 1) → slice_index new i ≢ 0) where
+      (rise : (i : ℕ) → (slice_index new i ≡ slice_index mid i) ⊎ (slice_index mid i ≡ 0)
+      × (slice_index new i ≡ k + 2) × ((p : P) × (position i ≡ Some p) × Mated leads mate p (k + 1)))
+      (done : (j : ℕ) → j < size → slice_index mid j ≡ k + 1 → (i : ℕ) → (t : LeadsTo leads home index position i j)
+      → Mated leads mate t.0 (k + 1) → slice_index new i ≢ 0) where
     -- a cell that stays
     stays : (n : ℕ) → slice_index old n ≢ 0 → slice_index old n ≢ k + 2 → slice_index new n ≡ slice_index old n
     stays n z t = elim (fall n) [
@@ -237,14 +259,21 @@ module _ {P : Type 0} {leads : P → P → Type 0} {mate : P → Type 0} {known 
     ]
 
     -- what a cell was
-    was : (n : ℕ) → (slice_index new n ≡ slice_index old n) ⊎ ((slice_index old n ≡ 0) ⊎ (slice_index old n ≡ k + 2)) × ((slice_index new n ≡ 0) ⊎ (slice_index new n ≡ k + 2))
+    was : (n : ℕ) → (slice_index new n ≡ slice_index old n)
+        ⊎ ((slice_index old n ≡ 0) ⊎ (slice_index old n ≡ k + 2))
+        × ((slice_index new n ≡ 0) ⊎ (slice_index new n ≡ k + 2))
     was n = elim (fall n) [
       | inl e ↦ elim (rise n) [ inl f ↦ inl (f ∙ e) | inr y ↦ inr (inl (sym e ∙ y.0), inr y.1) ]
       | inr x ↦ elim (rise n) [ inl f ↦ inr (inr x.0, inl (f ∙ x.1)) | inr y ↦ inr (inr x.0, inr y.1) ]
     ]
 
     mated-there : (n : ℕ) (p : P) → n < size → position n ≡ Some p → slice_index new n ≡ k + 2 → Mated leads mate p (k + 1)
-    mated-there n p b e s = elim (rise n) [ inl f ↦ lost n p b e (sym f ∙ s) | inr y ↦ subst (λ (x : P). Mated leads mate x (k + 1)) (injective n y.2.0 p y.2.1 e) y.2.2 ]
+    mated-there n p b e s =
+        elim (rise n) [
+          | inl f ↦ lost n p b e (sym f ∙ s)
+          | inr y ↦ subst (λ (x : P). Mated leads mate x (k + 1))
+              (injective n y.2.0 p y.2.1 e) y.2.2
+        ]
 
     module _ (n : ℕ) (p : P) (b : n < size) (e : position n ≡ Some p) where
       h : IsHeld leads mate home far k p (slice_index old n)
@@ -285,7 +314,9 @@ module _ {P : Type 0} {leads : P → P → Type 0} {mate : P → Type 0} {known 
           not_there z = above-unmated (let l = above z in omega (arith, was-above (above z))) m
 
           no_home : (j : ℕ) → j < size → slice_index old j ≡ k + 1 → LeadsTo leads home index position n j → ⊥
-          no_home j l s t = not_there (done j l (elim (fall j) [ inl same ↦ same ∙ s | inr x ↦ absurd (omega (arith, s, x.0)) ]) n t (subst (λ (x : P). Mated leads mate x (k + 1)) (injective n p t.0 e t.2) m))
+          no_home j l s t =
+              not_there (done j l (elim (fall j) [ inl same ↦ same ∙ s | inr x ↦ absurd (omega (arith, s, x.0)) ]) n
+              t (subst (λ (x : P). Mated leads mate x (k + 1)) (injective n p t.0 e t.2) m))
 
           a_move : Mated leads mate p (suc k) → (q : P) × leads p q
           a_move (inl x) = absurd (h.unmated (was-free free) (Mated-le leads mate zero k p (omega arith) x))
@@ -307,11 +338,18 @@ module _ {P : Type 0} {leads : P → P → Type 0} {mate : P → Type 0} {known 
       set-odd z l = elim (equal_or_less (slice_index new n) (k + 2) (omega arith)) [
         | inl is ↦ (
             let m = mated-there n p b e is in
-            let free : IsFree k (slice_index old n) = elim (was n) [ inl same ↦ inr (omega (arith, is, same)) | inr x ↦ elim x.0 [ inl y ↦ inl y | inr y ↦ inr (omega (arith, y)) ] ] in
-            let v : value_of (slice_index new n) ≡ Loss (k + 1) = value_of-odd (slice_index new n) (omega (arith, is)) ∙ ap Loss (let r : slice_index new n - 1 ≡ k + 1 = omega (arith, is) in r) in
+            let free : IsFree k (slice_index old n) =
+            elim (was n) [
+              | inl same ↦ inr (omega (arith, is, same))
+              | inr x ↦ elim x.0 [ inl y ↦ inl y | inr y ↦ inr (omega (arith, y)) ]
+            ] in
+            let v : value_of (slice_index new n) ≡ Loss (k + 1) =
+            value_of-odd (slice_index new n) (omega (arith, is))
+            ∙ ap Loss (let r : slice_index new n - 1 ≡ k + 1 = omega (arith, is) in r) in
             subst (IsGame leads mate p) (sym v) (lost-next p (slice_index old n) h free m))
         | inr less ↦ (
-            let same : slice_index new n ≡ slice_index old n = elim (was n) [ inl s ↦ s | inr x ↦ absurd (elim x.1 [ inl y ↦ z y | inr y ↦ omega (arith, y) ]) ] in
+            let same : slice_index new n ≡ slice_index old n =
+            elim (was n) [ inl s ↦ s | inr x ↦ absurd (elim x.1 [ inl y ↦ z y | inr y ↦ omega (arith, y) ]) ] in
             let is = h.set (λ y. z (same ∙ y)) (omega (arith, same)) in
             subst (λ (c : ℕ). IsGame leads mate p (value_of c)) (sym same) is)
       ]
@@ -321,10 +359,19 @@ module _ {P : Type 0} {leads : P → P → Type 0} {mate : P → Type 0} {known 
         set = set-odd;
         unmating = λ free m. h.unmating (was-free free) (Mates-even leads mate k p odd (subst (Mates leads mate p) (add-one k) m));
         unmated = now-unmated k' ek;
-        wins = λ l o. (let s = was-above (omega arith) in subst (λ (c : ℕ). Mates leads mate p (c - 1)) (sym s) (h.wins (omega (arith, s)) (omega (arith, s, o))));
-        lasts = λ l o m. (let s = was-above (omega arith) in h.lasts (omega (arith, s)) (omega (arith, s, o)) (subst (λ (c : ℕ). Mated leads mate p (c - 2)) s m));
-        won = λ q j r l out w. (let x = h.won q j r l out w in let s = stays n x.1 (λ y. omega (arith, y, x.0)) in subst (λ (c : ℕ). (c % 2 ≡ 0) × (c ≢ 0) × (c ≤ j + 2)) (sym s) x);
-        lost = λ q j m r l i out w y. (let x = h.lost q j m r (omega arith) i out w y in let s = stays n (omega (arith, x.1)) (omega (arith, x.1)) in subst (λ (c : ℕ). (c % 2 ≡ 1) × (j + 2 ≤ c)) (sym s) x);
+        wins =
+            λ l o. (let s = was-above (omega arith) in subst (λ (c : ℕ). Mates leads mate p (c - 1)) (sym s)
+            (h.wins (omega (arith, s)) (omega (arith, s, o))));
+        lasts =
+            λ l o m. (let s = was-above (omega arith) in h.lasts (omega (arith, s)) (omega (arith, s, o))
+            (subst (λ (c : ℕ). Mated leads mate p (c - 2)) s m));
+        won =
+            λ q j r l out w. (let x = h.won q j r l out w in let s = stays n x.1 (λ y. omega (arith, y, x.0)) in
+            subst (λ (c : ℕ). (c % 2 ≡ 0) × (c ≢ 0) × (c ≤ j + 2)) (sym s) x);
+        lost =
+            λ q j m r l i out w y. (let x = h.lost q j m r (omega arith) i out w y in
+            let s = stays n (omega (arith, x.1)) (omega (arith, x.1)) in subst (λ (c : ℕ). (c % 2 ≡ 1)
+            × (j + 2 ≤ c)) (sym s) x);
       }
 
     -- a level of wins

@@ -10,7 +10,7 @@ use Rattle.study_material.proofs.Classes.{lists_of-injective}
 use Rattle.study_index.specs.Number.{IsIndex, cells_of}
 use Rattle.study_index.specs.Found.{index_of, position_at}
 use Rattle.study_index.specs.Decoded.{IsDecoded}
-use Rattle.study_index.proofs.Functions.{index_of-only, told_decoded, decoded_told}
+use Rattle.study_index.proofs.ComputedIndex.{index_of-only, told_decoded, decoded_told}
 use Rattle.study_retro.specs.declared.value.Value.{Value}
 use Rattle.study_retro.specs.Cells.{value_of}
 use Rattle.study_retro.specs.Table.{Table, table_of, place_of, IsReady, IsClosed}
@@ -21,7 +21,8 @@ use Rattle.study_retro.proofs.ClassLemmas.{some_or_none}
 use Rattle.study_retro.proofs.ChessClass.{chess_class, value_in-held}
 use Rattle.study_retro.proofs.SetLemmas.{place_of-injective}
 
-pub decode_at : (c : Class) (n : ℕ) (o : Option Position) → IfSome o (λ q. IsDecoded c n q) → IfNone o ((q : Position) → IsDecoded c n q → ⊥) → o ≡ position_at c n
+pub decode_at : (c : Class) (n : ℕ) (o : Option Position) → IfSome o (λ q. IsDecoded c n q)
+    → IfNone o ((q : Position) → IsDecoded c n q → ⊥) → o ≡ position_at c n
 decode_at c n (Some q) h k = sym (decoded_told c n q h)
 decode_at c n None h k = elim (some_or_none (position_at c n)) [ inl s ↦ absurd (k s.0 (told_decoded c n s.0 s.1)) | inr e ↦ sym e ]
 

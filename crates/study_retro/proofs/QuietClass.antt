@@ -1,5 +1,7 @@
 -- Quiet moves stay in the class, and no other moves do.
-use Rattle.std.proofs.Common.{◌≡◌, ◌≢◌, ℕ, ◌+◌, ◌*◌, ◌<◌, ◌≤◌, ◌==◌, eqb, Bool, true, false, cond, nat_lt, not, ◌&&◌, ◌||◌, ◌⊎◌, inl, inr, List, [], ◌∷◌, ◌++◌, Option, Some, None, unwrap_or, refl, sym, ◌∙◌, ap, subst, arith}
+use Rattle.std.proofs.Common.{◌≡◌, ◌≢◌, ℕ, ◌+◌, ◌*◌, ◌<◌, ◌≤◌, ◌==◌, eqb, Bool, true, false, cond}
+use Rattle.std.proofs.Common.{nat_lt, not, ◌&&◌, ◌||◌, ◌⊎◌, inl, inr, List, [], ◌∷◌, ◌++◌, Option}
+use Rattle.std.proofs.Common.{Some, None, unwrap_or, refl, sym, ◌∙◌, ap, subst, arith}
 use Rattle.std.specs.Prelude.{sum_by, count_by}
 use Rattle.std.specs.List.{filter, list_any}
 use Rattle.std.specs.List.Sorted.{IsPermutation}
@@ -21,13 +23,13 @@ use Rattle.study_moves.specs.Rules.{is_pawn, is_en_passant, is_square, has_side,
 use Rattle.study_moves.specs.Quiet.{IsQuiet}
 use Rattle.study_moves.proofs.MenOfList.{IsAmong, none_among, some_among, found_among}
 use Rattle.study_moves.proofs.NoMoveBetween.{HasMover-from_is_legal}
-use Rattle.study_moves.proofs.After.{IsMoveFrom-is_legal, IsValid-after, en_passant_pawn}
+use Rattle.study_moves.proofs.AfterMove.{IsMoveFrom-is_legal, IsValid-after, en_passant_pawn}
 use Rattle.study_material.specs.declared.class.Class.{Class}
 use Rattle.study_material.specs.Lists.{Lists, kind_place, put_kind, kinds_of, lists, ordered, exchanged, is_exchanged}
 use Rattle.study_material.specs.Class.{IsOf}
-use Rattle.study_material.proofs.Counts.{lists-IsPermutation}
-use Rattle.study_material.proofs.Others.{one_king}
-use Rattle.study_material.proofs.Steps.{goes_away, IsStep-move}
+use Rattle.study_material.proofs.KindCounts.{lists-IsPermutation}
+use Rattle.study_material.proofs.MenBesideKings.{one_king}
+use Rattle.study_material.proofs.MenAfterMove.{goes_away, IsStep-move}
 use Rattle.study_material.proofs.MovesOn.{passed_there, passed_empty}
 
 -- a pawn weighs more than what it becomes
@@ -50,7 +52,8 @@ weight-put : (k : Kind) (l : List Kind) → sum_by weight_of (put_kind k l) ≡ 
 weight-put k [] = sum_by-cons weight_of k []
 weight-put k (x ∷ xs) = by_test (nat_lt (kind_place x) (kind_place k)) (weight-put k xs)
   where
-    by_test : (b : Bool) → sum_by weight_of (put_kind k xs) ≡ weight_of k + sum_by weight_of xs → sum_by weight_of (cond b (x ∷ put_kind k xs) (k ∷ x ∷ xs)) ≡ weight_of k + sum_by weight_of (x ∷ xs)
+    by_test : (b : Bool) → sum_by weight_of (put_kind k xs) ≡ weight_of k + sum_by weight_of xs
+        → sum_by weight_of (cond b (x ∷ put_kind k xs) (k ∷ x ∷ xs)) ≡ weight_of k + sum_by weight_of (x ∷ xs)
     by_test true h = (let a = sum_by-cons weight_of x (put_kind k xs) in let c = sum_by-cons weight_of x xs in omega (arith, h))
     by_test false h = sum_by-cons weight_of k (x ∷ xs)
 
@@ -74,18 +77,64 @@ weight-lists (x ∷ xs) = sum_by-cons weight x xs ∙ by_man x.side x.kind x.at 
   where
     by_man : (s : Side) (k : Kind) (a : ℕ) → sum_by weight xs ≡ both (lists xs) + kings xs
         → weight_of k + sum_by weight xs ≡ both (lists (record { side = s; kind = k; at = a } ∷ xs)) + kings (record { side = s; kind = k; at = a } ∷ xs)
-    by_man White King a h = (let u = sum_by-cons (λ m. cond (is_man White King m) 1 0) (record { side = White; kind = King; at = a }) xs in let v = sum_by-cons (λ m. cond (is_man Black King m) 1 0) (record { side = White; kind = King; at = a }) xs in omega (arith, h, u, v))
-    by_man White Queen a h = (let u = sum_by-cons (λ m. cond (is_man White King m) 1 0) (record { side = White; kind = Queen; at = a }) xs in let v = sum_by-cons (λ m. cond (is_man Black King m) 1 0) (record { side = White; kind = Queen; at = a }) xs in let p = weight-put Queen (kinds_of White xs) in omega (arith, h, u, v, p))
-    by_man White Rook a h = (let u = sum_by-cons (λ m. cond (is_man White King m) 1 0) (record { side = White; kind = Rook; at = a }) xs in let v = sum_by-cons (λ m. cond (is_man Black King m) 1 0) (record { side = White; kind = Rook; at = a }) xs in let p = weight-put Rook (kinds_of White xs) in omega (arith, h, u, v, p))
-    by_man White Bishop a h = (let u = sum_by-cons (λ m. cond (is_man White King m) 1 0) (record { side = White; kind = Bishop; at = a }) xs in let v = sum_by-cons (λ m. cond (is_man Black King m) 1 0) (record { side = White; kind = Bishop; at = a }) xs in let p = weight-put Bishop (kinds_of White xs) in omega (arith, h, u, v, p))
-    by_man White Knight a h = (let u = sum_by-cons (λ m. cond (is_man White King m) 1 0) (record { side = White; kind = Knight; at = a }) xs in let v = sum_by-cons (λ m. cond (is_man Black King m) 1 0) (record { side = White; kind = Knight; at = a }) xs in let p = weight-put Knight (kinds_of White xs) in omega (arith, h, u, v, p))
-    by_man White Pawn a h = (let u = sum_by-cons (λ m. cond (is_man White King m) 1 0) (record { side = White; kind = Pawn; at = a }) xs in let v = sum_by-cons (λ m. cond (is_man Black King m) 1 0) (record { side = White; kind = Pawn; at = a }) xs in let p = weight-put Pawn (kinds_of White xs) in omega (arith, h, u, v, p))
-    by_man Black King a h = (let u = sum_by-cons (λ m. cond (is_man White King m) 1 0) (record { side = Black; kind = King; at = a }) xs in let v = sum_by-cons (λ m. cond (is_man Black King m) 1 0) (record { side = Black; kind = King; at = a }) xs in omega (arith, h, u, v))
-    by_man Black Queen a h = (let u = sum_by-cons (λ m. cond (is_man White King m) 1 0) (record { side = Black; kind = Queen; at = a }) xs in let v = sum_by-cons (λ m. cond (is_man Black King m) 1 0) (record { side = Black; kind = Queen; at = a }) xs in let p = weight-put Queen (kinds_of Black xs) in omega (arith, h, u, v, p))
-    by_man Black Rook a h = (let u = sum_by-cons (λ m. cond (is_man White King m) 1 0) (record { side = Black; kind = Rook; at = a }) xs in let v = sum_by-cons (λ m. cond (is_man Black King m) 1 0) (record { side = Black; kind = Rook; at = a }) xs in let p = weight-put Rook (kinds_of Black xs) in omega (arith, h, u, v, p))
-    by_man Black Bishop a h = (let u = sum_by-cons (λ m. cond (is_man White King m) 1 0) (record { side = Black; kind = Bishop; at = a }) xs in let v = sum_by-cons (λ m. cond (is_man Black King m) 1 0) (record { side = Black; kind = Bishop; at = a }) xs in let p = weight-put Bishop (kinds_of Black xs) in omega (arith, h, u, v, p))
-    by_man Black Knight a h = (let u = sum_by-cons (λ m. cond (is_man White King m) 1 0) (record { side = Black; kind = Knight; at = a }) xs in let v = sum_by-cons (λ m. cond (is_man Black King m) 1 0) (record { side = Black; kind = Knight; at = a }) xs in let p = weight-put Knight (kinds_of Black xs) in omega (arith, h, u, v, p))
-    by_man Black Pawn a h = (let u = sum_by-cons (λ m. cond (is_man White King m) 1 0) (record { side = Black; kind = Pawn; at = a }) xs in let v = sum_by-cons (λ m. cond (is_man Black King m) 1 0) (record { side = Black; kind = Pawn; at = a }) xs in let p = weight-put Pawn (kinds_of Black xs) in omega (arith, h, u, v, p))
+    by_man White King a h =
+        (let u = sum_by-cons (λ m. cond (is_man White King m) 1 0) (record { side = White; kind = King; at = a })
+        xs in let v = sum_by-cons (λ m. cond (is_man Black King m) 1 0)
+        (record { side = White; kind = King; at = a }) xs in omega (arith, h, u, v))
+    by_man White Queen a h =
+        (let u = sum_by-cons (λ m. cond (is_man White King m) 1 0) (record { side = White; kind = Queen; at = a })
+        xs in let v = sum_by-cons (λ m. cond (is_man Black King m) 1 0)
+        (record { side = White; kind = Queen; at = a }) xs in
+        let p = weight-put Queen (kinds_of White xs) in omega (arith, h, u, v, p))
+    by_man White Rook a h =
+        (let u = sum_by-cons (λ m. cond (is_man White King m) 1 0) (record { side = White; kind = Rook; at = a })
+        xs in let v = sum_by-cons (λ m. cond (is_man Black King m) 1 0)
+        (record { side = White; kind = Rook; at = a }) xs in let p = weight-put Rook (kinds_of White xs) in omega
+        (arith, h, u, v, p))
+    by_man White Bishop a h =
+        (let u = sum_by-cons (λ m. cond (is_man White King m) 1 0) (record { side = White; kind = Bishop; at = a })
+        xs in let v = sum_by-cons (λ m. cond (is_man Black King m) 1 0)
+        (record { side = White; kind = Bishop; at = a }) xs in
+        let p = weight-put Bishop (kinds_of White xs) in omega (arith, h, u, v, p))
+    by_man White Knight a h =
+        (let u = sum_by-cons (λ m. cond (is_man White King m) 1 0) (record { side = White; kind = Knight; at = a })
+        xs in let v = sum_by-cons (λ m. cond (is_man Black King m) 1 0)
+        (record { side = White; kind = Knight; at = a }) xs in
+        let p = weight-put Knight (kinds_of White xs) in omega (arith, h, u, v, p))
+    by_man White Pawn a h =
+        (let u = sum_by-cons (λ m. cond (is_man White King m) 1 0) (record { side = White; kind = Pawn; at = a })
+        xs in let v = sum_by-cons (λ m. cond (is_man Black King m) 1 0)
+        (record { side = White; kind = Pawn; at = a }) xs in let p = weight-put Pawn (kinds_of White xs) in omega
+        (arith, h, u, v, p))
+    by_man Black King a h =
+        (let u = sum_by-cons (λ m. cond (is_man White King m) 1 0) (record { side = Black; kind = King; at = a })
+        xs in let v = sum_by-cons (λ m. cond (is_man Black King m) 1 0)
+        (record { side = Black; kind = King; at = a }) xs in omega (arith, h, u, v))
+    by_man Black Queen a h =
+        (let u = sum_by-cons (λ m. cond (is_man White King m) 1 0) (record { side = Black; kind = Queen; at = a })
+        xs in let v = sum_by-cons (λ m. cond (is_man Black King m) 1 0)
+        (record { side = Black; kind = Queen; at = a }) xs in
+        let p = weight-put Queen (kinds_of Black xs) in omega (arith, h, u, v, p))
+    by_man Black Rook a h =
+        (let u = sum_by-cons (λ m. cond (is_man White King m) 1 0) (record { side = Black; kind = Rook; at = a })
+        xs in let v = sum_by-cons (λ m. cond (is_man Black King m) 1 0)
+        (record { side = Black; kind = Rook; at = a }) xs in let p = weight-put Rook (kinds_of Black xs) in omega
+        (arith, h, u, v, p))
+    by_man Black Bishop a h =
+        (let u = sum_by-cons (λ m. cond (is_man White King m) 1 0) (record { side = Black; kind = Bishop; at = a })
+        xs in let v = sum_by-cons (λ m. cond (is_man Black King m) 1 0)
+        (record { side = Black; kind = Bishop; at = a }) xs in
+        let p = weight-put Bishop (kinds_of Black xs) in omega (arith, h, u, v, p))
+    by_man Black Knight a h =
+        (let u = sum_by-cons (λ m. cond (is_man White King m) 1 0) (record { side = Black; kind = Knight; at = a })
+        xs in let v = sum_by-cons (λ m. cond (is_man Black King m) 1 0)
+        (record { side = Black; kind = Knight; at = a }) xs in
+        let p = weight-put Knight (kinds_of Black xs) in omega (arith, h, u, v, p))
+    by_man Black Pawn a h =
+        (let u = sum_by-cons (λ m. cond (is_man White King m) 1 0) (record { side = Black; kind = Pawn; at = a })
+        xs in let v = sum_by-cons (λ m. cond (is_man Black King m) 1 0)
+        (record { side = Black; kind = Pawn; at = a }) xs in let p = weight-put Pawn (kinds_of Black xs) in omega
+        (arith, h, u, v, p))
 
 among_filter : (f : Man → Bool) (xs : List Man) (m : Man) → IsAmong m xs → f m ≡ true → IsAmong m (filter f xs)
 among_filter f [] m i e = absurd i
@@ -108,8 +157,10 @@ one_weighs (x ∷ xs) a (inr i) = let c = sum_by-cons weight x xs in let w = one
 two_weigh : (xs : List Man) (a b : Man) → IsAmong a xs → IsAmong b xs → a.at ≢ b.at → weight a + weight b ≤ sum_by weight xs
 two_weigh [] a b i j n = absurd i
 two_weigh (x ∷ xs) a b (inl e) (inl f) n = absurd (n (ap (λ (z : Man). z.at) (sym e ∙ f)))
-two_weigh (x ∷ xs) a b (inl e) (inr j) n = let c = sum_by-cons weight x xs in let w : weight x ≡ weight a = ap weight e in let l = one_weighs xs b j in omega arith
-two_weigh (x ∷ xs) a b (inr i) (inl f) n = let c = sum_by-cons weight x xs in let w : weight x ≡ weight b = ap weight f in let l = one_weighs xs a i in omega arith
+two_weigh (x ∷ xs) a b (inl e) (inr j) n = let c = sum_by-cons weight x xs in
+    let w : weight x ≡ weight a = ap weight e in let l = one_weighs xs b j in omega arith
+two_weigh (x ∷ xs) a b (inr i) (inl f) n = let c = sum_by-cons weight x xs in
+    let w : weight x ≡ weight b = ap weight f in let l = one_weighs xs a i in omega arith
 two_weigh (x ∷ xs) a b (inr i) (inr j) n = let c = sum_by-cons weight x xs in let l = two_weigh xs a b i j n in omega arith
 
 sum-append : (xs ys : List Man) → sum_by weight (xs ++ ys) ≡ sum_by weight xs + sum_by weight ys
@@ -129,9 +180,14 @@ above_each n [] h y i = absurd i
 above_each n (x ∷ xs) h y (inl e) = subst (λ (z : Man). n < z.at) e h.0
 above_each n (x ∷ xs) h y (inr i) = above_each n xs h.1 y i
 
-filter_one : (g : Man → Bool) (xs : List Man) → IsAscending xs → (a : Man) → IsAmong a xs → g a ≡ true → ((y : Man) → IsAmong y xs → g y ≡ true → y.at ≡ a.at) → filter g xs ≡ a ∷ []
+filter_one : (g : Man → Bool) (xs : List Man) → IsAscending xs → (a : Man) → IsAmong a xs → g a ≡ true
+    → ((y : Man) → IsAmong y xs → g y ≡ true → y.at ≡ a.at) → filter g xs ≡ a ∷ []
 filter_one g [] o a i e h = absurd i
-filter_one g (x ∷ xs) o a (inl s) e h = by_test (g x) (ap g s ∙ e) (filter_none g xs (λ y i t. (let k = h y (inr i) t in let l = above_each x.at xs o.0 y i in let m : x.at ≡ a.at = ap (λ (z : Man). z.at) s in omega arith)))
+filter_one g (x ∷ xs) o a (inl s) e h =
+    by_test (g x) (ap g s ∙ e)
+    (filter_none g xs
+    (λ y i t. (let k = h y (inr i) t in let l = above_each x.at xs o.0 y i in
+    let m : x.at ≡ a.at = ap (λ (z : Man). z.at) s in omega arith)))
   where
     by_test : (b : Bool) → b ≡ true → filter g xs ≡ [] → cond b (x ∷ filter g xs) (filter g xs) ≡ a ∷ []
     by_test true t n = ap (λ (ys : List Man). x ∷ ys) n ∙ ap (λ (z : Man). z ∷ []) s
@@ -198,15 +254,18 @@ module _ (p : Position) (m : Move) (v : IsValid p) (legal : is_legal p m ≡ tru
       let y = one_king (after p m) w in
       let a = weight-lists p.men in
       let b = weight-lists (after p m).men in
-      let d : both (lists p.men) ≡ both (lists (after p m).men) = sym (both-ordered (lists p.men)) ∙ ap both (sym h ∙ k) ∙ both-ordered (lists (after p m).men) in
+      let d : both (lists p.men) ≡ both (lists (after p m).men) =
+      sym (both-ordered (lists p.men)) ∙ ap both (sym h ∙ k) ∙ both-ordered (lists (after p m).men) in
       omega (arith, x.0, x.1, y.0, y.1)
 
   -- a promotion makes the mover lighter, and no move heavier
-  moved_weight : (o : Option Kind) → is_choice (reaches_end mover m.target) o ≡ true → (o ≡ None) × (weight_of (unwrap_or o mover.kind) ≡ weight mover) ⊎ (weight_of (unwrap_or o mover.kind) < weight mover)
+  moved_weight : (o : Option Kind) → is_choice (reaches_end mover m.target) o ≡ true → (o ≡ None)
+      × (weight_of (unwrap_or o mover.kind) ≡ weight mover) ⊎ (weight_of (unwrap_or o mover.kind) < weight mover)
   moved_weight None e = inl (refl, refl)
   moved_weight (Some k) e = by_end (reaches_end mover m.target) refl e
     where
-      by_end : (b : Bool) → reaches_end mover m.target ≡ b → is_choice b (Some k) ≡ true → (Some k ≡ None) × (weight_of k ≡ weight mover) ⊎ (weight_of k < weight mover)
+      by_end : (b : Bool) → reaches_end mover m.target ≡ b → is_choice b (Some k) ≡ true → (Some k ≡ None)
+          × (weight_of k ≡ weight mover) ⊎ (weight_of k < weight mover)
       by_end false f g = absurd (false≢true g)
       by_end true f g = inr (
           let pawn : mover.kind ≡ Pawn = kinds_equal mover.kind Pawn (and_parts (is_pawn mover) (rank_of m.target == last_rank mover.side) f).0 in
@@ -229,7 +288,9 @@ module _ (p : Position) (m : Move) (v : IsValid p) (legal : is_legal p m ≡ tru
   -- where a second man goes away, the men weigh less
   lighter : (c : Class) → IsOf c p → IsOf c (after p m) → (y : Man) → IsAmong y p.men → goes_away p.passed mover m.target y ≡ true → mover.at ≢ y.at → ⊥
   lighter c h k y i away apart =
-      let two = two_weigh gone mover y (among_filter (goes_away p.passed mover m.target) p.men mover found.0 mover_goes) (among_filter (goes_away p.passed mover m.target) p.men y i away) apart in
+      let two =
+      two_weigh gone mover y (among_filter (goes_away p.passed mover m.target) p.men mover found.0 mover_goes)
+      (among_filter (goes_away p.passed mover m.target) p.men y i away) apart in
       let l = light y.kind in
       let s = sums in
       let b = same_sums c h k in
@@ -272,7 +333,8 @@ module _ (p : Position) (m : Move) (v : IsValid p) (legal : is_legal p m ≡ tru
   -- nor does a move from a position without a passed square
   pub unpassing : p.passed ≡ None → is_en_passant p.passed mover m.target ≡ false
   unfolding is_en_passant
-  unpassing unpassed = subst (λ (q : Option ℕ). is_en_passant q mover m.target ≡ false) (sym unpassed) (and_no (is_pawn mover && not (file_of mover.at == file_of m.target)))
+  unpassing unpassed = subst (λ (q : Option ℕ). is_en_passant q mover m.target ≡ false) (sym unpassed)
+      (and_no (is_pawn mover && not (file_of mover.at == file_of m.target)))
     where
       and_no : (b : Bool) → (b && false) ≡ false
       and_no true = refl
@@ -298,7 +360,10 @@ module _ (p : Position) (m : Move) (v : IsValid p) (legal : is_legal p m ≡ tru
     ])
 
     before_alone : is_occupied p.men m.target ≡ false → IsPermutation p.men (mover ∷ left)
-    before_alone quiet = IsPermutation-trans p.men (left ++ mover ∷ []) (mover ∷ left) (subst (λ (ys : List Man). IsPermutation p.men (left ++ ys)) (gone_alone quiet) before_men) (IsPermutation-append_comm left (mover ∷ []))
+    before_alone quiet =
+        IsPermutation-trans p.men (left ++ mover ∷ []) (mover ∷ left)
+        (subst (λ (ys : List Man). IsPermutation p.men (left ++ ys)) (gone_alone quiet) before_men)
+        (IsPermutation-append_comm left (mover ∷ []))
 
     moved_quietly : m.promoted ≡ None → moved mover m ≡ record { side = mover.side; kind = mover.kind; at = m.target }
     moved_quietly e = ap (λ (o : Option Kind). record { side = mover.side; kind = unwrap_or o mover.kind; at = m.target }) e
@@ -306,13 +371,20 @@ module _ (p : Position) (m : Move) (v : IsValid p) (legal : is_legal p m ≡ tru
     -- the lists stay
     pub quiet_lists : IsQuiet p m → lists (after p m).men ≡ lists p.men
     quiet_lists q =
-        lists-IsPermutation (moved mover m ∷ left) (after p m).men after_men ∙ ap (λ (x : Man). lists (x ∷ left)) (moved_quietly q.1) ∙ sym (lists-IsPermutation (mover ∷ left) p.men (IsPermutation-sym p.men (mover ∷ left) (before_alone q.0)))
+        lists-IsPermutation (moved mover m ∷ left) (after p m).men after_men ∙ ap (λ (x : Man). lists (x ∷ left))
+        (moved_quietly q.1)
+        ∙ sym
+        (lists-IsPermutation (mover ∷ left) p.men (IsPermutation-sym p.men (mover ∷ left) (before_alone q.0)))
 
     -- and so does what men of each kind there are
-    pub quiet_any : (f : Man → Bool) → ((s : Side) (k : Kind) (a b : ℕ) → f (record { side = s; kind = k; at = a }) ≡ f (record { side = s; kind = k; at = b })) → IsQuiet p m → list_any f (after p m).men ≡ list_any f p.men
+    pub quiet_any : (f : Man → Bool)
+        → ((s : Side) (k : Kind) (a b : ℕ) → f (record { side = s; kind = k; at = a })
+        ≡ f (record { side = s; kind = k; at = b })) → IsQuiet p m → list_any f (after p m).men ≡ list_any f p.men
     quiet_any f any q =
         sym (list_any-IsPermutation f (moved mover m ∷ left) (after p m).men after_men) ∙ ap (λ (x : Man). list_any f (x ∷ left)) (moved_quietly q.1)
-        ∙ ap (λ (b : Bool). b || list_any f left) (any mover.side mover.kind m.target mover.at) ∙ list_any-IsPermutation f (mover ∷ left) p.men (IsPermutation-sym p.men (mover ∷ left) (before_alone q.0))
+        ∙ ap (λ (b : Bool). b || list_any f left) (any mover.side mover.kind m.target mover.at)
+        ∙ list_any-IsPermutation f (mover ∷ left) p.men
+        (IsPermutation-sym p.men (mover ∷ left) (before_alone q.0))
 
     -- a move within the class is quiet
     pub quiet_within : (c : Class) → IsOf c p → IsOf c (after p m) → IsQuiet p m
@@ -336,7 +408,11 @@ module _ (p : Position) (m : Move) (v : IsValid p) (legal : is_legal p m ≡ tru
             goes : (z : Man) → (z.at == m.target) ≡ true → goes_away p.passed mover m.target z ≡ true
             goes z t = rw t (by_at (z.at == mover.at))
               where
-                by_at : (b : Bool) → not (not b && false && not (is_en_passant p.passed mover m.target && (z.at == 8 * rank_of mover.at + file_of m.target))) ≡ true
+                by_at : (b : Bool)
+                    → not
+                    (not b && false && not
+                    (is_en_passant p.passed mover m.target && (z.at == 8 * rank_of mover.at + file_of m.target)))
+                    ≡ true
                 by_at true = refl
                 by_at false = refl
 
@@ -346,6 +422,7 @@ unfolding is_occupied
 unoccupied [] x e = refl
 unoccupied (y ∷ ys) x e = by_test (y.at == x) refl e (unoccupied ys x)
   where
-    by_test : (b : Bool) → (y.at == x) ≡ b → cond b (Some y) (man_at ys x) ≡ None → (man_at ys x ≡ None → list_any (λ m. m.at == x) ys ≡ false) → (b || list_any (λ m. m.at == x) ys) ≡ false
+    by_test : (b : Bool) → (y.at == x) ≡ b → cond b (Some y) (man_at ys x) ≡ None
+        → (man_at ys x ≡ None → list_any (λ m. m.at == x) ys ≡ false) → (b || list_any (λ m. m.at == x) ys) ≡ false
     by_test true t k rest = absurd (let no : Some y ≡ None = k in cc)
     by_test false t k rest = rest k

@@ -58,7 +58,8 @@ module _ (distance : Value → Option ℕ) (xs : List ℕ) where
       less_or : (a b : ℕ) → (a ≤ b) ⊎ (b ≤ a)
       less_or a b = grind arith
 
-  pub IsGreatestBelow-more : (i : ℕ) (o p : Option ℕ) (v : Value) → v ≡ value_of (slice_index xs i) → p ≡ greater o (distance v) → IsGreatestBelow i o → IsGreatestBelow (i + 1) p
+  pub IsGreatestBelow-more : (i : ℕ) (o p : Option ℕ) (v : Value) → v ≡ value_of (slice_index xs i)
+      → p ≡ greater o (distance v) → IsGreatestBelow i o → IsGreatestBelow (i + 1) p
   IsGreatestBelow-more i o p v e f h = subst (λ (q : Option ℕ). IsGreatestBelow (i + 1) q) (sym f) (by_told i o (distance v) (ap distance (sym e)) h)
 
   pub IsGreatest-below : (i : ℕ) (o : Option ℕ) → length xs ≡ i → IsGreatestBelow i o → IsGreatest distance xs o

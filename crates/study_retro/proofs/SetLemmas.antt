@@ -1,12 +1,17 @@
 -- Sets of tables: what is held after a table is added, and what a set lacks.
-use Rattle.std.proofs.Common.{◌≡◌, ◌≢◌, ℕ, suc, zero, ◌<◌, Bool, true, false, List, [], ◌∷◌, length, drop, get_or, set, Option, Some, None, refl, sym, ◌∙◌, ap, subst, arith, inl, inr, ◌⊎◌, cond, not}
+use Rattle.std.proofs.Common.{◌≡◌, ◌≢◌, ℕ, suc, zero, ◌<◌, Bool, true, false, List, [], ◌∷◌, length, drop, get_or, set}
+use Rattle.std.proofs.Common.{Option, Some, None, refl, sym, ◌∙◌, ap, subst, arith, inl, inr, ◌⊎◌, cond, not}
 use Rattle.std.specs.Prelude.{IsSome, is_some, replicate}
 use Rattle.std.specs.List.{Contains}
 use Rattle.std.proofs.Math.Seq.{drop-cons}
 use Rattle.std.proofs.lemmas.List.{get_or-set_same, get_or-set_other, length-set}
 use Rattle.std.proofs.lemmas.Bool.{false≢true}
 use Rattle.study_material.specs.declared.class.Class.{Class}
-use Rattle.study_material.specs.declared.class.Class.TheVariants.{KK, KQK, KRK, KBK, KNK, KPK, KQQK, KQRK, KQBK, KQNK, KQPK, KRRK, KRBK, KRNK, KRPK, KBBK, KBNK, KBPK, KNNK, KNPK, KPPK, KQKQ, KQKR, KQKB, KQKN, KQKP, KRKR, KRKB, KRKN, KRKP, KBKB, KBKN, KBKP, KNKN, KNKP, KPKP}
+use Rattle.study_material.specs.declared.class.Class.TheVariants.{KK, KQK, KRK, KBK, KNK, KPK, KQQK, KQRK, KQBK}
+use Rattle.study_material.specs.declared.class.Class.TheVariants.{KQNK, KQPK, KRRK, KRBK, KRNK, KRPK, KBBK}
+use Rattle.study_material.specs.declared.class.Class.TheVariants.{KBNK, KBPK, KNNK, KNPK, KPPK, KQKQ, KQKR}
+use Rattle.study_material.specs.declared.class.Class.TheVariants.{KQKB, KQKN, KQKP, KRKR, KRKB, KRKN, KRKP}
+use Rattle.study_material.specs.declared.class.Class.TheVariants.{KBKB, KBKN, KBKP, KNKN, KNKP, KPKP}
 use Rattle.study_material.specs.Class.{class_list}
 use Rattle.study_material.specs.Needs.{needs_of}
 use Rattle.study_retro.specs.Table.{Table, IsComplete, place_of, table_of, IsReady, IsClosed}
@@ -64,13 +69,15 @@ some-is None h = absurd (false≢true h)
 some-is (Some x) h = (x, refl)
 
 module _ (held : List (Option Table)) where
-  pub first_missing-here : (xs : List Class) (i : ℕ) (d : Class) → i < length xs → is_some (table_of held (get_or xs i d)) ≡ false → first_missing held (drop i xs) ≡ Some (get_or xs i d)
+  pub first_missing-here : (xs : List Class) (i : ℕ) (d : Class) → i < length xs
+      → is_some (table_of held (get_or xs i d)) ≡ false → first_missing held (drop i xs) ≡ Some (get_or xs i d)
   first_missing-here xs i d l e = rw (drop-cons xs i d l, e) refl
 
   by_held : (c : Class) (cs : List Class) → (first_missing held (c ∷ cs) ≡ None) → (is_some (table_of held c) ≡ true) × (first_missing held cs ≡ None)
   by_held c cs e = go (is_some (table_of held c)) refl e
     where
-      go : (b : Bool) → is_some (table_of held c) ≡ b → cond b (first_missing held cs) (Some c) ≡ None → (is_some (table_of held c) ≡ true) × (first_missing held cs ≡ None)
+      go : (b : Bool) → is_some (table_of held c) ≡ b → cond b (first_missing held cs) (Some c) ≡ None
+          → (is_some (table_of held c) ≡ true) × (first_missing held cs ≡ None)
       go true f k = (f, k)
       go false f k = absurd (let no : ⊥ = cc in no)
 
@@ -150,7 +157,11 @@ module _ (held : List (Option Table)) (t : Table) (closed : IsClosed held) where
 
   of_new : (c : Class) (u : Table) → table_of after c ≡ Some u → ((c ≡ t.class) × (u ≡ t)) ⊎ (table_of held c ≡ Some u)
   of_new c u h = elim (same_class c t.class) [
-    | inl e ↦ inl (e, let k : table_of after c ≡ Some t = subst (λ (x : Class). table_of after x ≡ Some t) (sym e) held_same in let s : Some u ≡ Some t = sym h ∙ k in cc)
+    | inl e ↦ inl (
+      e,
+      let k : table_of after c ≡ Some t = subst (λ (x : Class). table_of after x ≡ Some t) (sym e)
+          held_same in let s : Some u ≡ Some t = sym h ∙ k in cc,
+    )
     | inr f ↦ inr (sym (held_other c f) ∙ h)
   ]
 
@@ -219,15 +230,25 @@ false_from : (b r : Bool) → (b ≡ true → r ≡ true) → r ≡ false → b 
 false_from true r h e = absurd (false≢true (sym e ∙ h refl))
 false_from false r h e = refl
 
-pub missing_found : (held : List (Option Table)) (xs ys : List Class) (i : ℕ) (d : Class) (r : Bool) → ys ≡ xs → i < length ys → (IsSome (table_of held (get_or ys i d)) → r ≡ true) → r ≡ false
+pub missing_found : (held : List (Option Table)) (xs ys : List Class) (i : ℕ) (d : Class) (r : Bool) → ys ≡ xs
+    → i < length ys → (IsSome (table_of held (get_or ys i d)) → r ≡ true) → r ≡ false
     → first_missing held ys ≡ first_missing held (drop i ys) → Some (get_or ys i d) ≡ first_missing held xs
-missing_found held xs ys i d r e l h f k = subst (λ (zs : List Class). Some (get_or ys i d) ≡ first_missing held zs) e (sym (k ∙ first_missing-here held ys i d l (false_from (is_some (table_of held (get_or ys i d))) r h f)))
+missing_found held xs ys i d r e l h f k = subst (λ (zs : List Class). Some (get_or ys i d) ≡ first_missing held zs)
+    e (sym (k ∙ first_missing-here held ys i d l (false_from (is_some (table_of held (get_or ys i d))) r h f)))
 
-pub ready_where : (held : List (Option Table)) (c : Class) (o : Option Class) (r : Bool) → o ≡ first_missing held (needs_of c) → is_some o ≡ not r → (r ≡ true → IsReady held c) × (IsReady held c → r ≡ true)
+pub ready_where : (held : List (Option Table)) (c : Class) (o : Option Class) (r : Bool)
+    → o ≡ first_missing held (needs_of c) → is_some o ≡ not r → (r ≡ true → IsReady held c)
+    × (IsReady held c → r ≡ true)
 ready_where held c None true e f = (λ _. first_missing-none held (needs_of c) (sym e), λ _. refl)
 ready_where held c None false e f = absurd (false≢true f)
 ready_where held c (Some d) true e f = absurd (false≢true (sym f))
-ready_where held c (Some d) false e f = (λ h. absurd (false≢true h), λ h. absurd (let k : Some d ≡ None = e ∙ first_missing-ready held (needs_of c) h in let no : ⊥ = cc in no))
+ready_where held c (Some d) false e f = (
+  λ h. absurd (false≢true h),
+  λ h. absurd (let k : Some d ≡ None = e ∙ first_missing-ready held (needs_of c) h in
+      let no : ⊥ = cc in no),
+)
 
-pub closed_with : (held : List (Option Table)) (t : Table) (place : ℕ) (o : Option Class) → IsClosed held → IsComplete t → place ≡ place_of t.class → o ≡ first_missing held (needs_of t.class) → o ≡ None → IsClosed (set held place (Some t))
+pub closed_with : (held : List (Option Table)) (t : Table) (place : ℕ) (o : Option Class) → IsClosed held
+    → IsComplete t → place ≡ place_of t.class → o ≡ first_missing held (needs_of t.class) → o ≡ None
+    → IsClosed (set held place (Some t))
 closed_with held t place o closed complete e f n = rw e (closed_after held t closed complete (sym f ∙ n))

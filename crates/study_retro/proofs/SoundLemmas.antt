@@ -10,7 +10,7 @@ use Rattle.study_material.specs.declared.class.Class.{Class}
 use Rattle.study_material.specs.Class.{IsOf}
 use Rattle.study_material.specs.Needs.{LeadsOn, needs_of}
 use Rattle.study_index.specs.Number.{IsIndex, cells_of}
-use Rattle.study_index.proofs.Functions.{index_of-only}
+use Rattle.study_index.proofs.ComputedIndex.{index_of-only}
 use Rattle.study_index.specs.Found.{index_of, position_at}
 use Rattle.study_index.specs.Laws.{AreAlikeIn}
 use Rattle.study_retro.specs.declared.value.Value.{Value}
@@ -22,7 +22,7 @@ use Rattle.study_material.specs.Class.{is_of}
 use Rattle.study_material.proofs.Classes.{IsOf-is_of, is_of-IsOf}
 use Rattle.study_retro.specs.Game.{IsValueOf, value_in}
 use Rattle.study_retro.specs.Sound.{TellsValue, IsRight, NeedsAreRight, HasFarPosition}
-use Rattle.study_retro.proofs.Bridge.{IsGame-from_value, IsValueOf-from_game}
+use Rattle.study_retro.proofs.GameValues.{IsGame-from_value, IsValueOf-from_game}
 use Rattle.study_retro.proofs.AlongLemmas.{IsGame-along}
 use Rattle.study_retro.proofs.ClassLemmas.{image_keeps}
 use Rattle.study_retro.proofs.ChessClass.{chess_class, value_in-held}
@@ -54,7 +54,8 @@ at_right t complete right p valid of_class =
     IsValueOf-from_game p v (IsGame-along Leads IsMate (AreAlikeIn c) (image_keeps laws t.cells) n.0 p v n.2 (IsGame-from_value n.0 v tells))
 
 -- what right tables say of the positions that a class leads to is right
-pub outside_right : (held : List (Option Table)) (c : Class) → IsClosed held → IsReady held c → NeedsAreRight held c → IsRightOutside Leads IsMate (λ p. LeadsOn c p) (is_of c) (value_in held)
+pub outside_right : (held : List (Option Table)) (c : Class) → IsClosed held → IsReady held c → NeedsAreRight held c
+    → IsRightOutside Leads IsMate (λ p. LeadsOn c p) (is_of c) (value_in held)
 outside_right held c closed ready needs p known away = by_class known.of_class
   where
     from_need : (d : Class) → Contains (needs_of c) d → IsOf d p → (t : Table) → table_of held d ≡ Some t → IsGame Leads IsMate p (value_in held p)
@@ -80,18 +81,26 @@ cell_in_bounds t p n complete valid of_class is =
     omega (arith, complete.size)
 
 -- what a table answers at a position
-pub at_told : (t u : Table) (p : Position) (n : ℕ) (cells : List ℕ) (v : Value) → t ≡ u → IsValid p → IsIndex p n → cells ≡ t.cells → v ≡ value_of (get_or cells n 0) → v ≡ value_of (slice_index u.cells (index_of p))
+pub at_told : (t u : Table) (p : Position) (n : ℕ) (cells : List ℕ) (v : Value) → t ≡ u → IsValid p → IsIndex p n
+    → cells ≡ t.cells → v ≡ value_of (get_or cells n 0) → v ≡ value_of (slice_index u.cells (index_of p))
 at_told t u p n cells v e valid is s w =
-    w ∙ ap (λ (xs : List ℕ). value_of (slice_index xs n)) (s ∙ ap (λ (x : Table). x.cells) e) ∙ ap (λ (m : ℕ). value_of (slice_index u.cells m)) (index_of-only p n valid is)
+    w ∙ ap (λ (xs : List ℕ). value_of (slice_index xs n)) (s ∙ ap (λ (x : Table). x.cells) e)
+    ∙ ap (λ (m : ℕ). value_of (slice_index u.cells m)) (index_of-only p n valid is)
 
-pub at_value : (u : Table) (p : Position) (v : Value) → IsComplete u → IsValid p → IsOf u.class p → v ≡ value_of (slice_index u.cells (index_of p)) → IsRight u → IsValueOf p v
+pub at_value : (u : Table) (p : Position) (v : Value) → IsComplete u → IsValid p → IsOf u.class p
+    → v ≡ value_of (slice_index u.cells (index_of p)) → IsRight u → IsValueOf p v
 at_value u p v complete valid of_class e right = subst (λ (x : Value). IsValueOf p x) (sym e) (at_right u complete right p valid of_class)
 
 -- where right cells are told, a right table is
-pub table_right : (t : Table) (c : Class) (cells : List ℕ) → c ≡ t.class → cells ≡ t.cells → AreRight Leads IsMate (position_at c) (cells_of c) cells → IsRight t
+pub table_right : (t : Table) (c : Class) (cells : List ℕ) → c ≡ t.class → cells ≡ t.cells
+    → AreRight Leads IsMate (position_at c) (cells_of c) cells → IsRight t
 table_right t c cells e f h =
-    IsRight-from t (subst (λ (xs : List ℕ). AreRight Leads IsMate (position_at t.class) (cells_of t.class) xs) f (subst (λ (d : Class). AreRight Leads IsMate (position_at d) (cells_of d) cells) e h))
+    IsRight-from t (subst (λ (xs : List ℕ). AreRight Leads IsMate (position_at t.class) (cells_of t.class) xs) f
+    (subst (λ (d : Class). AreRight Leads IsMate (position_at d) (cells_of d) cells) e h))
 
-pub right_cells : (t : Table) (c : Class) (cells : List ℕ) → c ≡ t.class → cells ≡ t.cells → IsRight t → AreRight Leads IsMate (position_at c) (cells_of c) cells
+pub right_cells : (t : Table) (c : Class) (cells : List ℕ) → c ≡ t.class → cells ≡ t.cells → IsRight t
+    → AreRight Leads IsMate (position_at c) (cells_of c) cells
 right_cells t c cells e f h =
-    subst (λ (xs : List ℕ). AreRight Leads IsMate (position_at c) (cells_of c) xs) (sym f) (subst (λ (d : Class). AreRight Leads IsMate (position_at d) (cells_of d) t.cells) (sym e) (AreRight-from t h))
+    subst (λ (xs : List ℕ). AreRight Leads IsMate (position_at c) (cells_of c) xs) (sym f)
+    (subst (λ (d : Class). AreRight Leads IsMate (position_at d) (cells_of d) t.cells) (sym e)
+    (AreRight-from t h))

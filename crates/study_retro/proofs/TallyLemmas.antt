@@ -1,5 +1,7 @@
 -- What a tally of the values after some moves tells.
-use Rattle.std.proofs.Common.{◌≡◌, ◌≢◌, ℕ, zero, ◌+◌, ◌<◌, ◌≤◌, min, max, ◌⊎◌, ◌↔◌, inl, inr, Bool, true, false, IsTrue, List, [], ◌∷◌, ◌++◌, length, get_or, take, Contains, Option, Some, None, arith, sym, ◌∙◌, subst, refl, ap, add-one}
+use Rattle.std.proofs.Common.{◌≡◌, ◌≢◌, ℕ, zero, ◌+◌, ◌<◌, ◌≤◌, min, max, ◌⊎◌, ◌↔◌, inl, inr, Bool}
+use Rattle.std.proofs.Common.{true, false, IsTrue, List, [], ◌∷◌, ◌++◌, length, get_or, take, Contains}
+use Rattle.std.proofs.Common.{Option, Some, None, arith, sym, ◌∙◌, subst, refl, ap, add-one}
 use Rattle.std.proofs.lemmas.List.Elements.{Contains-push, Contains-push_cases, Contains-append_left}
 use Rattle.study_retro.specs.declared.value.Value.{Value}
 use Rattle.study_retro.specs.declared.value.Value.TheVariants.{Win, Loss, Draw}
@@ -108,20 +110,25 @@ module _ {M : Type 0} (f : M → Value) where
     won_same None Draw other = refl
     won_same (Some k) Draw other = refl
 
-    pub IsTally-push : (v : Value) (lost won : Option ℕ) (drawn : Bool) → f m ≡ v → IsTally f ms lost won drawn → IsTally f (ms ++ m ∷ []) (lost_with lost v) (won_with won v) (drawn_with drawn v)
+    pub IsTally-push : (v : Value) (lost won : Option ℕ) (drawn : Bool) → f m ≡ v → IsTally f ms lost won drawn
+        → IsTally f (ms ++ m ∷ []) (lost_with lost v) (won_with won v) (drawn_with drawn v)
     IsTally-push (Loss i) lost won drawn e t = record {
       nearest = nearest-loss lost i e t.nearest;
-      farthest = subst (IsFarthest f (ms ++ m ∷ [])) (sym (won_same won (Loss i) (λ n x. cc))) (farthest-same won (λ n x. let y : Loss i ≡ Win n = sym e ∙ x in cc) t.farthest);
+      farthest = subst (IsFarthest f (ms ++ m ∷ [])) (sym (won_same won (Loss i) (λ n x. cc)))
+          (farthest-same won (λ n x. let y : Loss i ≡ Win n = sym e ∙ x in cc) t.farthest);
       draw = draw-same drawn (λ x. let y : Loss i ≡ Draw = sym e ∙ x in cc) t.draw;
     }
     IsTally-push (Win i) lost won drawn e t = record {
-      nearest = subst (IsNearest f (ms ++ m ∷ [])) (sym (lost_same lost (Win i) (λ n x. cc))) (nearest-same lost (λ n x. let y : Win i ≡ Loss n = sym e ∙ x in cc) t.nearest);
+      nearest = subst (IsNearest f (ms ++ m ∷ [])) (sym (lost_same lost (Win i) (λ n x. cc)))
+          (nearest-same lost (λ n x. let y : Win i ≡ Loss n = sym e ∙ x in cc) t.nearest);
       farthest = farthest-win won i e t.farthest;
       draw = draw-same drawn (λ x. let y : Win i ≡ Draw = sym e ∙ x in cc) t.draw;
     }
     IsTally-push Draw lost won drawn e t = record {
-      nearest = subst (IsNearest f (ms ++ m ∷ [])) (sym (lost_same lost Draw (λ n x. cc))) (nearest-same lost (λ n x. let y : Draw ≡ Loss n = sym e ∙ x in cc) t.nearest);
-      farthest = subst (IsFarthest f (ms ++ m ∷ [])) (sym (won_same won Draw (λ n x. cc))) (farthest-same won (λ n x. let y : Draw ≡ Win n = sym e ∙ x in cc) t.farthest);
+      nearest = subst (IsNearest f (ms ++ m ∷ [])) (sym (lost_same lost Draw (λ n x. cc)))
+          (nearest-same lost (λ n x. let y : Draw ≡ Loss n = sym e ∙ x in cc) t.nearest);
+      farthest = subst (IsFarthest f (ms ++ m ∷ [])) (sym (won_same won Draw (λ n x. cc)))
+          (farthest-same won (λ n x. let y : Draw ≡ Win n = sym e ∙ x in cc) t.farthest);
       draw = seen-last Draw e;
     }
 
@@ -151,7 +158,8 @@ module _ {P M : Type 0} (legal : P → M → Type 0) (after : P → M → P) (ma
     holds = inl (after p s.0, move_of Draw s, s.2);
   }
 
-  given-won : (n : ℕ) → ((k : ℕ) → Found (Loss k) → ⊥) → (Found Draw → ⊥) → IsFarthest (λ m. labels (after p m)) ms (Some n) → HasOnlyWins (Leads legal after) labels p n
+  given-won : (n : ℕ) → ((k : ℕ) → Found (Loss k) → ⊥) → (Found Draw → ⊥)
+      → IsFarthest (λ m. labels (after p m)) ms (Some n) → HasOnlyWins (Leads legal after) labels p n
   given-won n unlost undrawn h = record {
     to = after p h.0.0;
     move = move_of (Win n) h.0;
@@ -175,7 +183,9 @@ module _ {P M : Type 0} (legal : P → M → Type 0) (after : P → M → P) (ma
   abbrev Given : Value → Type 0
   Given v = Gives (Leads legal after) mate labels p v
 
-  pub Gives-given_by : (mated : Bool) (lost won : Option ℕ) (drawn : Bool) → IsTrue mated ↔ mate p → IsTally (λ m. labels (after p m)) ms lost won drawn → Gives (Leads legal after) mate labels p (given_by mated lost won drawn)
+  pub Gives-given_by : (mated : Bool) (lost won : Option ℕ) (drawn : Bool) → IsTrue mated ↔ mate p
+      → IsTally (λ m. labels (after p m)) ms lost won drawn
+      → Gives (Leads legal after) mate labels p (given_by mated lost won drawn)
   Gives-given_by mated (Some n) won drawn tells t = subst (λ (k : ℕ). Given (Win k)) (sym (add-one n)) (given-lost n t.nearest)
   Gives-given_by mated None won true tells t = given-drawn t.nearest t.draw
   Gives-given_by mated None (Some n) false tells t = subst (λ (k : ℕ). Given (Loss k)) (sym (add-one n)) (given-won n t.nearest t.draw t.farthest)
@@ -186,7 +196,8 @@ module _ {P M : Type 0} (legal : P → M → Type 0) (after : P → M → P) (ma
   }
 
 -- a loop's step over the moves
-pub IsTally-take : {M : Type 0} (f : M → Value) (ms : List M) (i : ℕ) (d : M) (v : Value) (lost won : Option ℕ) (drawn : Bool) (lost' won' : Option ℕ) (drawn' : Bool)
+pub IsTally-take : {M : Type 0} (f : M → Value) (ms : List M) (i : ℕ) (d : M) (v : Value) (lost won : Option ℕ)
+    (drawn : Bool) (lost' won' : Option ℕ) (drawn' : Bool)
     → i < length ms → f (get_or ms i d) ≡ v → IsTally f (take i ms) lost won drawn
     → lost' ≡ lost_with lost v → won' ≡ won_with won v → drawn' ≡ drawn_with drawn v
     → IsTally f (take (i + 1) ms) lost' won' drawn'

@@ -21,7 +21,8 @@ IsWonCell k c = (c % 2 ≡ 0) × (c ≢ 0) × (c ≤ k + 1)
 -- the cells of wins within k plies are those of the positions whose side to move mates within k plies
 abbrev pub TellsWins : {P : Type 0} → (P → P → Type 0) → (P → Type 0) → ℕ → (ℕ → Option P) → List ℕ → Type 0
 TellsWins {P} leads mate k position cells =
-    (n : ℕ) (p : P) → position n ≡ Some p → (IsWonCell k (slice_index cells n) → Mates leads mate p k) × (Mates leads mate p k → IsWonCell k (slice_index cells n))
+    (n : ℕ) (p : P) → position n ≡ Some p → (IsWonCell k (slice_index cells n) → Mates leads mate p k)
+    × (Mates leads mate p k → IsWonCell k (slice_index cells n))
 
 -- What a cell c is worth where the mates within k plies are set, and no others. A cell of at most k + 1 is right. An even one above tells of a mate
 -- that a move out of the class forces, though there may be a shorter one; an odd one above tells for how long moves out of the class put

@@ -1,7 +1,9 @@
 //! Levels: from the mates in at most so many plies to those in one more.
 ghost use Rattle.std.specs.Prelude.{◌≡◌, ◌≢◌, ◌+◌, ◌<◌, ◌≤◌, ◌%◌, ℕ, false, length, slice_index, IsTrue};
 ghost use Rattle.study_retro.specs.Back.{AreAdded, AreDropped, AreLowered};
-ghost use Rattle.study_retro.specs.Numbered.{CellsAreRight, EndsRight, HasFarMate, IsMatedAt, IsNumberedClass, LossIsKept, LossIsTrue, LossesAreKept, LossesAreTrue, LossesGoBack, OutsideIsRight, RaisesLevel, StepLeads, WhereWinsAreTold, WinsGoBack};
+ghost use Rattle.study_retro.specs.Numbered.{CellsAreRight, EndsRight, HasFarMate, IsMatedAt, IsNumberedClass};
+ghost use Rattle.study_retro.specs.Numbered.{LossIsKept, LossIsTrue, LossesAreKept, LossesAreTrue, LossesGoBack};
+ghost use Rattle.study_retro.specs.Numbered.{OutsideIsRight, RaisesLevel, StepLeads, WhereWinsAreTold, WinsGoBack};
 
 use crate::back::{go_back_from_loss, go_back_from_win, is_lost_at, put};
 use crate::check::first_other;

@@ -25,44 +25,69 @@ module _ {P A : Type 0} where
   seen_of honest b c t s e h = ap board_seen (sym e) ∙ h.board
 
   -- a start is held
-  pub start_held : (honest : P → Table → ℕ → Type 0) (b c : HeldBoard A) (t : Tables P A) (s : State) (new : Start) → c ≡ held.Start new → Holds honest b t s → Holds honest c t (record s { board = start new })
-  start_held honest b c t s new e h = holds_of honest (held.Start new) c t (record s { board = start new }) (sym e) (record { board = refl; marks = tt; values = h.values; classes = h.classes; paged = h.paged })
+  pub start_held : (honest : P → Table → ℕ → Type 0) (b c : HeldBoard A) (t : Tables P A) (s : State) (new : Start)
+      → c ≡ held.Start new → Holds honest b t s → Holds honest c t (record s { board = start new })
+  start_held honest b c t s new e h = holds_of honest (held.Start new) c t (record s { board = start new }) (sym e)
+      (record { board = refl; marks = tt; values = h.values; classes = h.classes; paged = h.paged })
 
   -- a study is held that asked no table
-  pub study_held : (honest : P → Table → ℕ → Type 0) (old k : Kept) (t : Tables P A) (s : State) (new : Plainly) → plain_study (marked k) ≡ new → IsRight k → Holds honest (held.Study old) t s → Holds honest (held.Study k) t (holding s new)
+  pub study_held : (honest : P → Table → ℕ → Type 0) (old k : Kept) (t : Tables P A) (s : State) (new : Plainly)
+      → plain_study (marked k) ≡ new → IsRight k → Holds honest (held.Study old) t s
+      → Holds honest (held.Study k) t (holding s new)
   study_held honest old k t s new e r h = record { board = ap study e; marks = r; values = h.values; classes = h.classes; paged = h.paged }
 
 -- a function that writes the reply to an accepted line, and answers so
-pub accepted_ok : {E : Type 0} (I : Outside → Reply → Type 0) (H : State → Type 0) (r : Result Bool E) (s : State) (old new : Option (List ℕ)) (text : List ℕ) (o : Outside) → I o (accepted s text) → OnOk r (Appends old new text) → OnOk r (H s) → IfOk r (λ b. b ≡ false) → IfOk r (Answered I H old new)
+pub accepted_ok : {E : Type 0} (I : Outside → Reply → Type 0) (H : State → Type 0) (r : Result Bool E) (s : State)
+    (old new : Option (List ℕ)) (text : List ℕ) (o : Outside) → I o (accepted s text) → OnOk r (Appends old new text)
+    → OnOk r (H s) → IfOk r (λ b. b ≡ false) → IfOk r (Answered I H old new)
 accepted_ok I H (Ok b) s old new text o i a h e = (o, accepted s text, i, a, h, e)
 accepted_ok I H (Err e) s old new text o i a h k = tt
 
-pub accepted_err : {E : Type 0} (I : Outside → Reply → Type 0) (r : Result Bool E) (s : State) (old new : Option (List ℕ)) (text : List ℕ) (o : Outside) → I o (accepted s text) → OnErr r (TakesPrefix old new text) → OnErr r (BrokenOff I old new)
+pub accepted_err : {E : Type 0} (I : Outside → Reply → Type 0) (r : Result Bool E) (s : State)
+    (old new : Option (List ℕ)) (text : List ℕ) (o : Outside) → I o (accepted s text)
+    → OnErr r (TakesPrefix old new text) → OnErr r (BrokenOff I old new)
 accepted_err I (Ok b) s old new text o i a = tt
 accepted_err I (Err e) s old new text o i a = (o, accepted s text, i, a)
 
 -- what the outside did is told otherwise
 module _ {I J : Outside → Reply → Type 0} {H K : State → Type 0} where
-  answered_told : (old new : Option (List ℕ)) (b : Bool) → ((o : Outside) (r : Reply) → I o r → (p : Outside) × J p r) → ((t : State) → H t → K t) → Answered I H old new b → Answered J K old new b
+  answered_told : (old new : Option (List ℕ)) (b : Bool)
+      → ((o : Outside) (r : Reply) → I o r → (p : Outside) × J p r) → ((t : State) → H t → K t)
+      → Answered I H old new b → Answered J K old new b
   answered_told old new b f g (o, reply, i, a, h, e) = let j = f o reply i in (j.0, reply, j.1, a, g reply.state h, e)
 
-  pub ok_told : {E : Type 0} (r : Result Bool E) (old new : Option (List ℕ)) → ((o : Outside) (q : Reply) → I o q → (p : Outside) × J p q) → ((t : State) → H t → K t) → IfOk r (Answered I H old new) → IfOk r (Answered J K old new)
+  pub ok_told : {E : Type 0} (r : Result Bool E) (old new : Option (List ℕ))
+      → ((o : Outside) (q : Reply) → I o q → (p : Outside) × J p q) → ((t : State) → H t → K t)
+      → IfOk r (Answered I H old new) → IfOk r (Answered J K old new)
   ok_told (Ok b) old new f g h = answered_told old new b f g h
   ok_told (Err e) old new f g h = tt
 
 module _ {I J : Outside → Reply → Type 0} where
-  pub err_told : {T E : Type 0} (r : Result T E) (old new : Option (List ℕ)) → ((o : Outside) (q : Reply) → I o q → (p : Outside) × J p q) → OnErr r (BrokenOff I old new) → OnErr r (BrokenOff J old new)
+  pub err_told : {T E : Type 0} (r : Result T E) (old new : Option (List ℕ))
+      → ((o : Outside) (q : Reply) → I o q → (p : Outside) × J p q) → OnErr r (BrokenOff I old new)
+      → OnErr r (BrokenOff J old new)
   err_told (Ok b) old new f h = tt
   err_told (Err e) old new f (o, reply, i, t) = let j = f o reply i in (j.0, reply, j.1, t)
 
 module _ {P A : Type 0} where
   -- a study is held that was made by asking tables
-  pub study_made : (honest : P → Table → ℕ → Type 0) (b : HeldBoard A) (k : Kept) (t u : Tables P A) (s : State) (new : Plainly) → Holds honest b t s → plain_study (marked k) ≡ new → IsRight k → tables_honest honest u
+  pub study_made : (honest : P → Table → ℕ → Type 0) (b : HeldBoard A) (k : Kept) (t u : Tables P A) (s : State)
+      (new : Plainly) → Holds honest b t s → plain_study (marked k) ≡ new → IsRight k → tables_honest honest u
       → ((c : Class) → tables_held u c ≡ tables_held t c) → are_paged u ≡ are_paged t → Holds honest (held.Study k) u (holding s new)
-  study_made honest b k t u s new h e r v same mode = record { board = ap study e; marks = r; values = v; classes = λ c. same c ∙ h.classes c; paged = mode ∙ h.paged }
+  study_made honest b k t u s new h e r v same mode =
+      record {
+        board = ap study e;
+        marks = r;
+        values = v;
+        classes = λ c. same c ∙ h.classes c;
+        paged = mode
+            ∙ h.paged;
+      }
 
   -- the board stays, and tables were asked
-  pub board_same : (honest : P → Table → ℕ → Type 0) (b : HeldBoard A) (t u : Tables P A) (s : State) → Holds honest b t s → tables_honest honest u → ((c : Class) → tables_held u c ≡ tables_held t c) → are_paged u ≡ are_paged t → Holds honest b u s
+  pub board_same : (honest : P → Table → ℕ → Type 0) (b : HeldBoard A) (t u : Tables P A) (s : State)
+      → Holds honest b t s → tables_honest honest u → ((c : Class) → tables_held u c ≡ tables_held t c)
+      → are_paged u ≡ are_paged t → Holds honest b u s
   board_same honest b t u s h v same mode = record { board = h.board; marks = h.marks; values = v; classes = λ c. same c ∙ h.classes c; paged = mode ∙ h.paged }
 
 pub on_ok_known : {E T : Type 0} (r : Result T E) {P : Type 0} → P → OnOk r P

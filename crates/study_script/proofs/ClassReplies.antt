@@ -20,11 +20,16 @@ use Rattle.study_tablefile.specs.declared.fault.FileFault.TheVariants as file_fa
 use Rattle.study_prober.specs.Whole.{Whole}
 use Rattle.study_script.specs.declared.store.StoreFault.{StoreFault}
 use Rattle.study_script.specs.declared.refusal.Refusal.{Refusal}
-use Rattle.study_script.specs.declared.refusal.Refusal.TheVariants.{PagedMode, NotAClass, AlreadyHeld, MissingTable, OtherClass, OutOfMemory, DistanceTooLarge, NoTable, Device, File}
+use Rattle.study_script.specs.declared.refusal.Refusal.TheVariants.{PagedMode, NotAClass, AlreadyHeld}
+use Rattle.study_script.specs.declared.refusal.Refusal.TheVariants.{MissingTable, OtherClass, OutOfMemory}
+use Rattle.study_script.specs.declared.refusal.Refusal.TheVariants.{DistanceTooLarge, NoTable, Device, File}
 use Rattle.study_script.specs.declared.told.Told.{Told}
 use Rattle.study_script.specs.declared.told.Told.TheVariants.{Built, Loaded, Saved, Verified}
-use Rattle.study_script.specs.State.{State, is_among, first_lacking, written_anew, IsGiven, IsOpened, Outside, quiet, no_room, no_room_for, unopened, cut_off, file}
-use Rattle.study_script.specs.Replies.{Reply, refused, refused_by, with_class, built, too_far, IsBuildReply, IsLoadReply, IsNamedReply, IsTableReply, IsClassReply, IsClassReplyIn, class_named, wants_whole, save_reply, verify_reply}
+use Rattle.study_script.specs.State.{State, is_among, first_lacking, written_anew, IsGiven, IsOpened}
+use Rattle.study_script.specs.State.{Outside, quiet, no_room, no_room_for, unopened, cut_off, file}
+use Rattle.study_script.specs.Replies.{Reply, refused, refused_by, with_class, built, too_far, IsBuildReply}
+use Rattle.study_script.specs.Replies.{IsLoadReply, IsNamedReply, IsTableReply, IsClassReply, IsClassReplyIn}
+use Rattle.study_script.specs.Replies.{class_named, wants_whole, save_reply, verify_reply}
 use Rattle.study_script.specs.Names.{words_of}
 use Rattle.study_script.specs.Stored.{IsRightFile, GivesBytes}
 use Rattle.study_script.specs.Told.{told_text, told_reply, Decided, HoldsWhole, HoldsPaged, WholeFrom, IsFileRefusal}
@@ -41,89 +46,150 @@ module _ (w : Whole) (s : State) (h : HoldsWhole w s) (c : Class) where
 
   -- ---- `build`
 
-  pub build_held : is_some (table_of w.tables c) ≡ true → Decided (λ o. IsBuildReply s o c (is_among s.classes c) (first_lacking s.classes c)) (WholeFrom s w) (Err (AlreadyHeld c))
+  pub build_held : is_some (table_of w.tables c) ≡ true
+      → Decided (λ o. IsBuildReply s o c (is_among s.classes c) (first_lacking s.classes c)) (WholeFrom s w)
+      (Err (AlreadyHeld c))
   build_held e = (quiet, s, rw (among true e) refl, whole_kept w s h)
 
-  pub build_no_room : is_some (table_of w.tables c) ≡ false → Decided (λ o. IsBuildReply s o c (is_among s.classes c) (first_lacking s.classes c)) (WholeFrom s w) (Err OutOfMemory)
+  pub build_no_room : is_some (table_of w.tables c) ≡ false
+      → Decided (λ o. IsBuildReply s o c (is_among s.classes c) (first_lacking s.classes c)) (WholeFrom s w)
+      (Err OutOfMemory)
   build_no_room e = (no_room, s, rw (among false e) refl, whole_kept w s h)
 
-  pub build_missing : (d : Class) → is_some (table_of w.tables c) ≡ false → first_missing w.tables (needs_of c) ≡ Some d → Decided (λ o. IsBuildReply s o c (is_among s.classes c) (first_lacking s.classes c)) (WholeFrom s w) (Err (MissingTable d))
+  pub build_missing : (d : Class) → is_some (table_of w.tables c) ≡ false
+      → first_missing w.tables (needs_of c) ≡ Some d
+      → Decided (λ o. IsBuildReply s o c (is_among s.classes c) (first_lacking s.classes c)) (WholeFrom s w)
+      (Err (MissingTable d))
   build_missing d e f = (quiet, s, rw (among false e, first (Some d) f) refl, whole_kept w s h)
 
-  pub build_far : is_some (table_of w.tables c) ≡ false → first_missing w.tables (needs_of c) ≡ None → HasFarPosition c → Decided (λ o. IsBuildReply s o c (is_among s.classes c) (first_lacking s.classes c)) (WholeFrom s w) (Err DistanceTooLarge)
+  pub build_far : is_some (table_of w.tables c) ≡ false → first_missing w.tables (needs_of c) ≡ None
+      → HasFarPosition c → Decided (λ o. IsBuildReply s o c (is_among s.classes c) (first_lacking s.classes c))
+      (WholeFrom s w) (Err DistanceTooLarge)
   build_far e f far = (quiet, s, rw (among false e, first None f) (too_far far refl), whole_kept w s h)
 
-  pub build_done : (v : Whole) (t : Table) (win : Option ℕ) → is_some (table_of w.tables c) ≡ false → first_missing w.tables (needs_of c) ≡ None → t.class ≡ c → IsComplete t → IsRight t → IsGreatest win_of t.cells win → WholeFrom s v (with_class s c)
+  pub build_done : (v : Whole) (t : Table) (win : Option ℕ) → is_some (table_of w.tables c) ≡ false
+      → first_missing w.tables (needs_of c) ≡ None → t.class ≡ c → IsComplete t → IsRight t
+      → IsGreatest win_of t.cells win → WholeFrom s v (with_class s c)
       → Decided (λ o. IsBuildReply s o c (is_among s.classes c) (first_lacking s.classes c)) (WholeFrom s v) (Ok (Built c win))
-  build_done v t win e f same complete right deepest holds = (quiet, with_class s c, rw (among false e, first None f) (built t win same complete right deepest refl), holds)
+  build_done v t win e f same complete right deepest holds = (
+    quiet,
+    with_class s c,
+    rw (among false e, first None f) (built t win same complete right deepest refl),
+    holds,
+  )
 
   -- ---- `verify`
 
-  pub verify_none : is_some (table_of w.tables c) ≡ false → Decided (λ o reply. reply ≡ verify_reply s c (is_among s.classes c)) (WholeFrom s w) (Err (NoTable c))
+  pub verify_none : is_some (table_of w.tables c) ≡ false
+      → Decided (λ o reply. reply ≡ verify_reply s c (is_among s.classes c)) (WholeFrom s w) (Err (NoTable c))
   verify_none e = (quiet, s, rw (among false e) refl, whole_kept w s h)
 
-  pub verify_told : (b : Bool) → is_some (table_of w.tables c) ≡ true → b ≡ true → Decided (λ o reply. reply ≡ verify_reply s c (is_among s.classes c)) (WholeFrom s w) (Ok (Verified c b))
+  pub verify_told : (b : Bool) → is_some (table_of w.tables c) ≡ true → b ≡ true
+      → Decided (λ o reply. reply ≡ verify_reply s c (is_among s.classes c)) (WholeFrom s w) (Ok (Verified c b))
   verify_told b e right = (quiet, s, rw (among true e, right) refl, whole_kept w s h)
 
   -- ---- `load` of a file from front to back
 
   module _ (Seen : State → Type 0) where
-    pub load_held : Seen s → is_some (table_of w.tables c) ≡ true → Decided (λ o. IsLoadReply s o c (is_among s.classes c) (first_lacking s.classes c)) (λ t. WholeFrom s w t × Seen t) (Err (AlreadyHeld c))
+    pub load_held : Seen s → is_some (table_of w.tables c) ≡ true
+        → Decided (λ o. IsLoadReply s o c (is_among s.classes c) (first_lacking s.classes c)) (λ t. WholeFrom s w t
+        × Seen t) (Err (AlreadyHeld c))
     load_held seen e = (quiet, s, rw (among true e) refl, (whole_kept w s h, seen))
 
-    pub load_missing : Seen s → (d : Class) → is_some (table_of w.tables c) ≡ false → first_missing w.tables (needs_of c) ≡ Some d → Decided (λ o. IsLoadReply s o c (is_among s.classes c) (first_lacking s.classes c)) (λ t. WholeFrom s w t × Seen t) (Err (MissingTable d))
+    pub load_missing : Seen s → (d : Class) → is_some (table_of w.tables c) ≡ false
+        → first_missing w.tables (needs_of c) ≡ Some d
+        → Decided (λ o. IsLoadReply s o c (is_among s.classes c) (first_lacking s.classes c)) (λ t. WholeFrom s w t
+        × Seen t) (Err (MissingTable d))
     load_missing seen d e f = (quiet, s, rw (among false e, first (Some d) f) refl, (whole_kept w s h, seen))
 
-    pub load_refused : Seen s → (refusal : Refusal) → is_some (table_of w.tables c) ≡ false → first_missing w.tables (needs_of c) ≡ None → IsFileRefusal (s.shelf.files c) refusal
+    pub load_refused : Seen s → (refusal : Refusal) → is_some (table_of w.tables c) ≡ false
+        → first_missing w.tables (needs_of c) ≡ None → IsFileRefusal (s.shelf.files c) refusal
         → Decided (λ o. IsLoadReply s o c (is_among s.classes c) (first_lacking s.classes c)) (λ t. WholeFrom s w t × Seen t) (Err refusal)
-    load_refused seen refusal e f (inl (fault, given, is)) = (unopened fault, s, rw (among false e, first None f) (given, ap (refused_by s) is), (whole_kept w s h, seen))
-    load_refused seen refusal e f (inr (inl (is_open, is))) = (cut_off, s, rw (among false e, first None f) (is_open, ap (refused_by s) is), (whole_kept w s h, seen))
-    load_refused seen refusal e f (inr (inr (inl (bytes, given, has, is)))) = (no_room_for bytes, s, rw (among false e, first None f) (given, has, ap (refused_by s) is), (whole_kept w s h, seen))
-    load_refused seen refusal e f (inr (inr (inr (bytes, fault, given, read, is)))) = (file bytes, s, rw (among false e, first None f) (given, rw read (ap (refused_by s) is)), (whole_kept w s h, seen))
+    load_refused seen refusal e f (inl (fault, given, is)) = (
+      unopened fault,
+      s,
+      rw (among false e, first None f) (given, ap (refused_by s) is),
+      (whole_kept w s h, seen),
+    )
+    load_refused seen refusal e f (inr (inl (is_open, is))) =
+        (cut_off, s, rw (among false e, first None f) (is_open, ap (refused_by s) is), (whole_kept w s h, seen))
+    load_refused seen refusal e f (inr (inr (inl (bytes, given, has, is)))) = (
+      no_room_for bytes,
+      s,
+      rw (among false e, first None f) (given, has, ap (refused_by s) is),
+      (whole_kept w s h, seen),
+    )
+    load_refused seen refusal e f (inr (inr (inr (bytes, fault, given, read, is)))) = (
+      file bytes,
+      s,
+      rw (among false e, first None f) (given, rw read (ap (refused_by s) is)),
+      (whole_kept w s h, seen),
+    )
 
-    pub load_other : Seen s → (bytes : List ℕ) (t : Table) → is_some (table_of w.tables c) ≡ false → first_missing w.tables (needs_of c) ≡ None → IsGiven (s.shelf.files c) (Ok bytes) → table_read bytes ≡ Ok t → eqb (place_of t.class) (place_of c) ≡ false
+    pub load_other : Seen s → (bytes : List ℕ) (t : Table) → is_some (table_of w.tables c) ≡ false
+        → first_missing w.tables (needs_of c) ≡ None → IsGiven (s.shelf.files c) (Ok bytes) → table_read bytes ≡ Ok t
+        → eqb (place_of t.class) (place_of c) ≡ false
         → Decided (λ o. IsLoadReply s o c (is_among s.classes c) (first_lacking s.classes c)) (λ t. WholeFrom s w t × Seen t) (Err (OtherClass t.class))
     load_other seen bytes t e f given read other = (file bytes, s, rw (among false e, first None f) (given, rw (read, other) refl), (whole_kept w s h, seen))
 
-    pub load_done : Seen (with_class s c) → (v : Whole) (bytes : List ℕ) (t : Table) → is_some (table_of w.tables c) ≡ false → first_missing w.tables (needs_of c) ≡ None → IsGiven (s.shelf.files c) (Ok bytes) → table_read bytes ≡ Ok t → eqb (place_of t.class) (place_of c) ≡ true
-        → WholeFrom s v (with_class s c) → Decided (λ o. IsLoadReply s o c (is_among s.classes c) (first_lacking s.classes c)) (λ t. WholeFrom s v t × Seen t) (Ok (Loaded c))
-    load_done seen v bytes t e f given read same holds = (file bytes, with_class s c, rw (among false e, first None f) (given, rw (read, same) refl), (holds, seen))
+    pub load_done : Seen (with_class s c) → (v : Whole) (bytes : List ℕ) (t : Table)
+        → is_some (table_of w.tables c) ≡ false → first_missing w.tables (needs_of c) ≡ None
+        → IsGiven (s.shelf.files c) (Ok bytes) → table_read bytes ≡ Ok t → eqb (place_of t.class) (place_of c) ≡ true
+        → WholeFrom s v (with_class s c)
+        → Decided (λ o. IsLoadReply s o c (is_among s.classes c) (first_lacking s.classes c))
+        (λ t. WholeFrom s v t × Seen t) (Ok (Loaded c))
+    load_done seen v bytes t e f given read same holds =
+        (file bytes, with_class s c, rw (among false e, first None f) (given, rw (read, same) refl), (holds, seen))
 
   -- ---- `save`
 
   module _ (Seen : State → Type 0) where
-    pub save_none : Seen s → is_some (table_of w.tables c) ≡ false → Decided (λ o reply. reply ≡ save_reply s o c (is_among s.classes c)) (λ t. HoldsWhole w t × (t.board ≡ s.board) × Seen t) (Err (NoTable c))
+    pub save_none : Seen s → is_some (table_of w.tables c) ≡ false
+        → Decided (λ o reply. reply ≡ save_reply s o c (is_among s.classes c)) (λ t. HoldsWhole w t
+        × (t.board ≡ s.board) × Seen t) (Err (NoTable c))
     save_none seen e = (quiet, s, rw (among false e) refl, (h, refl, seen))
 
     anew : HoldsWhole w (written_anew s c)
     anew = record { values = h.values; classes = h.classes; whole = h.whole }
 
-    pub save_unopened : Seen (written_anew s c) → (fault : StoreFault) → is_some (table_of w.tables c) ≡ true → Decided (λ o reply. reply ≡ save_reply s o c (is_among s.classes c)) (λ t. HoldsWhole w t × (t.board ≡ s.board) × Seen t) (Err Device)
+    pub save_unopened : Seen (written_anew s c) → (fault : StoreFault) → is_some (table_of w.tables c) ≡ true
+        → Decided (λ o reply. reply ≡ save_reply s o c (is_among s.classes c)) (λ t. HoldsWhole w t
+        × (t.board ≡ s.board) × Seen t) (Err Device)
     save_unopened seen fault e = (unopened fault, written_anew s c, rw (among true e) refl, (anew, refl, seen))
 
-    pub save_cut : Seen (written_anew s c) → is_some (table_of w.tables c) ≡ true → Decided (λ o reply. reply ≡ save_reply s o c (is_among s.classes c)) (λ t. HoldsWhole w t × (t.board ≡ s.board) × Seen t) (Err Device)
+    pub save_cut : Seen (written_anew s c) → is_some (table_of w.tables c) ≡ true
+        → Decided (λ o reply. reply ≡ save_reply s o c (is_among s.classes c)) (λ t. HoldsWhole w t
+        × (t.board ≡ s.board) × Seen t) (Err Device)
     save_cut seen e = (cut_off, written_anew s c, rw (among true e) refl, (anew, refl, seen))
 
-    pub save_done : Seen (written_anew s c) → is_some (table_of w.tables c) ≡ true → Decided (λ o reply. reply ≡ save_reply s o c (is_among s.classes c)) (λ t. HoldsWhole w t × (t.board ≡ s.board) × Seen t) (Ok (Saved c))
+    pub save_done : Seen (written_anew s c) → is_some (table_of w.tables c) ≡ true
+        → Decided (λ o reply. reply ≡ save_reply s o c (is_among s.classes c)) (λ t. HoldsWhole w t
+        × (t.board ≡ s.board) × Seen t) (Ok (Saved c))
     save_done seen e = (quiet, written_anew s c, rw (among true e) refl, (anew, refl, seen))
 
 -- ---- which tables are held
 
 module _ {P A : Type 0} where
   pub whole_of : (honest : P → Table → ℕ → Type 0) (t : Tables P A) (w : Whole) (s : State) → t ≡ held.Whole w → HoldsTables honest t s → HoldsWhole w s
-  whole_of honest t w s e h = let k = subst (λ (x : Tables P A). HoldsTables honest x s) e h in record { values = k.values; classes = k.classes; whole = k.paged }
+  whole_of honest t w s e h = let k = subst (λ (x : Tables P A). HoldsTables honest x s) e h in
+      record { values = k.values; classes = k.classes; whole = k.paged }
 
-  pub paged_of : (honest : P → Table → ℕ → Type 0) (t : Tables P A) (w : Paged P) (s : State) → t ≡ held.Paged w → HoldsTables honest t s → HoldsPaged honest w s
-  paged_of honest t w s e h = let k = subst (λ (x : Tables P A). HoldsTables honest x s) e h in record { values = k.values; classes = k.classes; by_pages = k.paged }
+  pub paged_of : (honest : P → Table → ℕ → Type 0) (t : Tables P A) (w : Paged P) (s : State) → t ≡ held.Paged w
+      → HoldsTables honest t s → HoldsPaged honest w s
+  paged_of honest t w s e h = let k = subst (λ (x : Tables P A). HoldsTables honest x s) e h in
+      record { values = k.values; classes = k.classes; by_pages = k.paged }
 
-  pub tables_whole : (honest : P → Table → ℕ → Type 0) (w : Whole) (s t : State) → HoldsWhole w t → t.board ≡ s.board → TablesFrom {A = A} honest s (held.Whole w) t
+  pub tables_whole : (honest : P → Table → ℕ → Type 0) (w : Whole) (s t : State) → HoldsWhole w t
+      → t.board ≡ s.board → TablesFrom {A = A} honest s (held.Whole w) t
   tables_whole honest w s t h e = record { holds = record { values = h.values; classes = h.classes; paged = h.whole }; board = e }
 
-  pub tables_paged : (honest : P → Table → ℕ → Type 0) (w : Paged P) (s t : State) → HoldsPaged honest w t → t.board ≡ s.board → TablesFrom {A = A} honest s (held.Paged w) t
+  pub tables_paged : (honest : P → Table → ℕ → Type 0) (w : Paged P) (s t : State) → HoldsPaged honest w t
+      → t.board ≡ s.board → TablesFrom {A = A} honest s (held.Paged w) t
   tables_paged honest w s t h e = record { holds = record { values = h.values; classes = h.classes; paged = h.by_pages }; board = e }
 
 -- whole tables are asked by any word
-pub asked_whole : (s : State) (o : Outside) (word : ClassWord) (name : List ℕ) (reply : Reply) → false ≡ s.paged → IsNamedReply s o word (class_named name) reply → IsClassReply s o word name reply
+pub asked_whole : (s : State) (o : Outside) (word : ClassWord) (name : List ℕ) (reply : Reply) → false ≡ s.paged
+    → IsNamedReply s o word (class_named name) reply → IsClassReply s o word name reply
 asked_whole s o word name reply e h = subst (λ b. IsClassReplyIn s o word name b reply) (sym (by_word word s.paged e)) h
   where
     by_word : (w : ClassWord) (p : Bool) → false ≡ p → wants_whole w && p ≡ false
@@ -133,29 +199,37 @@ asked_whole s o word name reply e h = subst (λ b. IsClassReplyIn s o word name 
     by_word Load p k = refl
 
 -- and tables by pages by one alone
-pub refused_paged : (s : State) (word : ClassWord) (name : List ℕ) → true ≡ s.paged → (word ≡ Build) ⊎ ((word ≡ Save) ⊎ (word ≡ Verify)) → IsClassReply s quiet word name (refused s PagedMode)
+pub refused_paged : (s : State) (word : ClassWord) (name : List ℕ) → true ≡ s.paged → (word ≡ Build)
+    ⊎ ((word ≡ Save) ⊎ (word ≡ Verify)) → IsClassReply s quiet word name (refused s PagedMode)
 refused_paged s word name e (inl k) = subst (λ w. IsClassReply s quiet w name (refused s PagedMode)) (sym k) (rw (← e) refl)
 refused_paged s word name e (inr (inl k)) = subst (λ w. IsClassReply s quiet w name (refused s PagedMode)) (sym k) (rw (← e) refl)
 refused_paged s word name e (inr (inr k)) = subst (λ w. IsClassReply s quiet w name (refused s PagedMode)) (sym k) (rw (← e) refl)
 
 -- a name that is none
-pub not_named : (s : State) (o : Outside) (word : ClassWord) (name : List ℕ) → class_named name ≡ None → IsNamedReply s o word (class_named name) (refused s NotAClass)
+pub not_named : (s : State) (o : Outside) (word : ClassWord) (name : List ℕ) → class_named name ≡ None
+    → IsNamedReply s o word (class_named name) (refused s NotAClass)
 not_named s o word name e = rw e refl
 
-pub named_as : (s : State) (o : Outside) (word : ClassWord) (name : List ℕ) (c : Class) (reply : Reply) → class_named name ≡ Some c → IsTableReply s o word c reply → IsNamedReply s o word (class_named name) reply
+pub named_as : (s : State) (o : Outside) (word : ClassWord) (name : List ℕ) (c : Class) (reply : Reply)
+    → class_named name ≡ Some c → IsTableReply s o word c reply → IsNamedReply s o word (class_named name) reply
 named_as s o word name c reply e i = rw e i
 
 -- ---- what was decided is written
 
-pub told_answered : {E : Type 0} (I : Outside → Reply → Type 0) (H : State → Type 0) (told : Result Told Refusal) (r : Result Bool E) (old new : Option (List ℕ)) → Decided I H told → OnOk r (Appends old new (told_text told)) → IfOk r (λ b. b ≡ is_err told) → IfOk r (Answered I H old new)
+pub told_answered : {E : Type 0} (I : Outside → Reply → Type 0) (H : State → Type 0) (told : Result Told Refusal)
+    (r : Result Bool E) (old new : Option (List ℕ)) → Decided I H told → OnOk r (Appends old new (told_text told))
+    → IfOk r (λ b. b ≡ is_err told) → IfOk r (Answered I H old new)
 told_answered I H told (Ok b) old new (o, t, is, holds) wrote e = (o, told_reply t told, is, wrote, holds, e)
 told_answered I H told (Err e) old new d wrote k = tt
 
-pub told_broken : {T E : Type 0} (I : Outside → Reply → Type 0) (H : State → Type 0) (told : Result Told Refusal) (r : Result T E) (old new : Option (List ℕ)) → Decided I H told → OnErr r (TakesPrefix old new (told_text told)) → OnErr r (BrokenOff I old new)
+pub told_broken : {T E : Type 0} (I : Outside → Reply → Type 0) (H : State → Type 0) (told : Result Told Refusal)
+    (r : Result T E) (old new : Option (List ℕ)) → Decided I H told → OnErr r (TakesPrefix old new (told_text told))
+    → OnErr r (BrokenOff I old new)
 told_broken I H told (Ok x) old new d part = tt
 told_broken I H told (Err e) old new (o, t, is, holds) part = (o, told_reply t told, is, part)
 
-pub decided_weaker : (I J : Outside → Reply → Type 0) (H K : State → Type 0) (told : Result Told Refusal) → ((o : Outside) (r : Reply) → I o r → J o r) → ((t : State) → H t → K t) → Decided I H told → Decided J K told
+pub decided_weaker : (I J : Outside → Reply → Type 0) (H K : State → Type 0) (told : Result Told Refusal)
+    → ((o : Outside) (r : Reply) → I o r → J o r) → ((t : State) → H t → K t) → Decided I H told → Decided J K told
 decided_weaker I J H K told f g (o, t, is, holds) = (o, t, f o (told_reply t told) is, g t holds)
 
 -- ---- what a file and its source tell
@@ -175,13 +249,17 @@ opened_bytes (Some (Ok k)) bytes h = tt
 opened_bytes (Some (Err k)) bytes h = absurd cc
 
 -- the words of a device's fault and of want of memory are those of the file's
-file_words : (fault : FileFault) (refusal : Refusal) → (fault ≡ file_fault.Device → words_of (File fault) ≡ words_of Device) × (fault ≡ file_fault.OutOfMemory → words_of (File fault) ≡ words_of OutOfMemory)
+file_words : (fault : FileFault) (refusal : Refusal)
+    → (fault ≡ file_fault.Device → words_of (File fault) ≡ words_of Device)
+    × (fault ≡ file_fault.OutOfMemory → words_of (File fault) ≡ words_of OutOfMemory)
 unfolding words_of
 file_words fault refusal = (λ e. rw e refl, λ e. rw e refl)
 
 -- why no table was read
-pub file_refusal : (known : Option (Result (List ℕ) StoreFault)) (told : Option (List ℕ)) (fault : FileFault) (refusal : Refusal) → IsRightFile told → GivesBytes known told
-    → ((bytes : List ℕ) → told ≡ Some bytes → (fault ≡ file_fault.Device) ⊎ (((fault ≡ file_fault.OutOfMemory) × HasHeader bytes) ⊎ (table_read bytes ≡ Err fault)))
+pub file_refusal : (known : Option (Result (List ℕ) StoreFault)) (told : Option (List ℕ)) (fault : FileFault)
+    (refusal : Refusal) → IsRightFile told → GivesBytes known told
+    → ((bytes : List ℕ) → told ≡ Some bytes → (fault ≡ file_fault.Device)
+    ⊎ (((fault ≡ file_fault.OutOfMemory) × HasHeader bytes) ⊎ (table_read bytes ≡ Err fault)))
     → words_of refusal ≡ words_of (File fault) → IsFileRefusal known refusal
 file_refusal known None fault refusal right given why same = absurd right
 file_refusal known (Some bytes) fault refusal right given why same = elim (why bytes refl) [

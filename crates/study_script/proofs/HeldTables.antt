@@ -1,18 +1,23 @@
 -- The tables of a script, and what its commands of a class come to.
-use Rattle.std.proofs.Common.{◌≡◌, ◌≢◌, ℕ, ◌<◌, Bool, true, false, not, cond, eqb, List, [], ◌∷◌, length, set, find, Option, Some, None, Result, refl, sym, ap, subst, ◌∙◌, inl, inr, arith, is_some}
+use Rattle.std.proofs.Common.{◌≡◌, ◌≢◌, ℕ, ◌<◌, Bool, true, false, not, cond, eqb, List, [], ◌∷◌, length, set, find}
+use Rattle.std.proofs.Common.{Option, Some, None, Result, refl, sym, ap, subst, ◌∙◌, inl, inr, arith, is_some}
 use Rattle.std.specs.Prelude.{IsSome, IfSome, IsTrue, ◌↔◌}
 use Rattle.std.proofs.lemmas.List.{get_or-set_same, get_or-set_other}
 use Rattle.std.proofs.lemmas.Bool.{false≢true}
 use Rattle.std.proofs.lemmas.Bool.Decides.{nat_tests}
 use Rattle.study_material.specs.declared.class.Class.{Class}
-use Rattle.study_material.specs.declared.class.Class.TheVariants.{KK, KQK, KRK, KBK, KNK, KPK, KQQK, KQRK, KQBK, KQNK, KQPK, KRRK, KRBK, KRNK, KRPK, KBBK, KBNK, KBPK, KNNK, KNPK, KPPK, KQKQ, KQKR, KQKB, KQKN, KQKP, KRKR, KRKB, KRKN, KRKP, KBKB, KBKN, KBKP, KNKN, KNKP, KPKP}
+use Rattle.study_material.specs.declared.class.Class.TheVariants.{KK, KQK, KRK, KBK, KNK, KPK, KQQK, KQRK, KQBK}
+use Rattle.study_material.specs.declared.class.Class.TheVariants.{KQNK, KQPK, KRRK, KRBK, KRNK, KRPK, KBBK}
+use Rattle.study_material.specs.declared.class.Class.TheVariants.{KBNK, KBPK, KNNK, KNPK, KPPK, KQKQ, KQKR}
+use Rattle.study_material.specs.declared.class.Class.TheVariants.{KQKB, KQKN, KQKP, KRKR, KRKB, KRKN, KRKP}
+use Rattle.study_material.specs.declared.class.Class.TheVariants.{KBKB, KBKN, KBKP, KNKN, KNKP, KPKP}
 use Rattle.study_material.specs.Class.{name_of}
 use Rattle.study_material.specs.Needs.{needs_of}
 use Rattle.study_retro.specs.Table.{Table, IsClosed, IsReady, place_of, table_of}
 use Rattle.study_retro.specs.Set.{first_missing, add_fault}
 use Rattle.study_retro.specs.Sound.{IsRight, NeedsAreRight}
 use Rattle.study_prober.specs.Whole.{Whole, TablesAreRight}
-use Rattle.study_prober.proofs.Kept.{same_class}
+use Rattle.study_prober.proofs.HeldSources.{same_class}
 use Rattle.study_script.specs.declared.store.StoreFault.{StoreFault}
 use Rattle.study_script.specs.State.{State, Shelf, is_among, forgotten, written_anew}
 use Rattle.study_script.specs.Replies.{with_class, class_named}
@@ -120,7 +125,9 @@ among_head c d cs e = rw (same_at c d e) refl
 -- ---- sets of tables
 
 -- the first class that is lacking is the first whose table is missing
-pub lacking : (held : List (Option Table)) (cs : List Class) (xs : List Class) → ((c : Class) → is_some (table_of held c) ≡ is_among cs c) → first_missing held xs ≡ find (λ d. not (is_among cs d)) xs
+pub lacking : (held : List (Option Table)) (cs : List Class) (xs : List Class)
+    → ((c : Class) → is_some (table_of held c) ≡ is_among cs c)
+    → first_missing held xs ≡ find (λ d. not (is_among cs d)) xs
 lacking held cs [] e = refl
 lacking held cs (x ∷ xs) e = rw (e x) (by_case (is_among cs x) _ _ (lacking held cs xs e))
   where
@@ -133,7 +140,8 @@ none_missing None f = refl
 none_missing (Some d) f = absurd (f d refl)
 
 -- a table whose class is not held, and whose needs are, is added
-pub may_add : (held : List (Option Table)) (c d : Class) → d ≡ c → is_some (table_of held c) ≡ false → first_missing held (needs_of c) ≡ None → add_fault held d ≡ None
+pub may_add : (held : List (Option Table)) (c d : Class) → d ≡ c → is_some (table_of held c) ≡ false
+    → first_missing held (needs_of c) ≡ None → add_fault held d ≡ None
 may_add held c d same e f = rw (same, e, f) refl
 
 module _ (held : List (Option Table)) (t : Table) (full : length held ≡ 36) where
@@ -151,26 +159,39 @@ module _ (held : List (Option Table)) (t : Table) (full : length held ≡ 36) wh
     ];
   }
 
-  classes_with : (cs : List Class) → ((d : Class) → is_some (table_of held d) ≡ is_among cs d) → (d : Class) → is_some (table_of (set held (place_of t.class) (Some t)) d) ≡ is_among (t.class ∷ cs) d
+  classes_with : (cs : List Class) → ((d : Class) → is_some (table_of held d) ≡ is_among cs d) → (d : Class)
+      → is_some (table_of (set held (place_of t.class) (Some t)) d) ≡ is_among (t.class ∷ cs) d
   classes_with cs e d = elim (same_class d t.class) [
     | inl k ↦ ap (λ (o : Option Table). is_some o) (here d k) ∙ among_head t.class d cs (sym k)
     | inr f ↦ ap (λ (o : Option Table). is_some o) (there d f) ∙ among_with t.class d cs (is_some (table_of held d)) (sym (e d)) (λ k. f (ap place_of (sym k)))
   ]
 
 -- the table is held then, and it is right
-pub whole_with : (w v : Whole) (s : State) (t : Table) (c : Class) → IsClosed w.tables → HoldsWhole w s → IsRight t → t.class ≡ c → v ≡ record w { tables = set w.tables (place_of t.class) (Some t) } → WholeFrom s v (with_class s c)
-whole_with w v s t c closed h right same e = subst (λ (x : Whole). WholeFrom s x (with_class s c)) (sym e) (subst (λ (k : Class). WholeFrom s (record w { tables = set w.tables (place_of t.class) (Some t) }) (with_class s k)) same (record {
-  holds = record { values = right_with w.tables t closed.places h.values right; classes = classes_with w.tables t closed.places s.classes h.classes; whole = h.whole };
-  board = refl;
-  shelf = refl;
-}))
+pub whole_with : (w v : Whole) (s : State) (t : Table) (c : Class) → IsClosed w.tables → HoldsWhole w s → IsRight t
+    → t.class ≡ c → v ≡ record w { tables = set w.tables (place_of t.class) (Some t) }
+    → WholeFrom s v (with_class s c)
+whole_with w v s t c closed h right same e =
+    subst (λ (x : Whole). WholeFrom s x (with_class s c)) (sym e)
+    (subst (λ (k : Class). WholeFrom s (record w { tables = set w.tables (place_of t.class) (Some t) })
+    (with_class s k)) same (record {
+      holds =
+          record {
+            values = right_with w.tables t closed.places h.values right;
+            classes = classes_with w.tables t
+                closed.places s.classes h.classes;
+            whole = h.whole;
+          };
+      board = refl;
+      shelf = refl;
+    }))
 
 pub whole_kept : (w : Whole) (s : State) → HoldsWhole w s → WholeFrom s w s
 whole_kept w s h = record { holds = h; board = refl; shelf = refl }
 
 -- a held table has what it needs
 pub ready_of : (held : List (Option Table)) (c : Class) (t : Table) → IsClosed held → Some t ≡ table_of held c → IsReady held t.class
-ready_of held c t closed e = subst (λ (k : Class). IsReady held k) (sym (closed.class c t (sym e))) (closed.ready c (subst (λ (o : Option Table). IsSome o) e refl))
+ready_of held c t closed e = subst (λ (k : Class). IsReady held k) (sym (closed.class c t (sym e)))
+    (closed.ready c (subst (λ (o : Option Table). IsSome o) e refl))
 
 pub class_of_held : (held : List (Option Table)) (c : Class) (t : Table) → IsClosed held → Some t ≡ table_of held c → t.class ≡ c
 class_of_held held c t closed e = closed.class c t (sym e)
@@ -179,7 +200,8 @@ pub needs_right : (held : List (Option Table)) (c : Class) → TablesAreRight he
 needs_right held c all = record { right = λ d t n e. all.right d t e }
 
 -- a held table is right where all are
-pub right_told : (held : List (Option Table)) (c : Class) (b : Bool) → TablesAreRight held → is_some (table_of held c) ≡ true → IfSome (table_of held c) (λ t. IsTrue b ↔ IsRight t) → b ≡ true
+pub right_told : (held : List (Option Table)) (c : Class) (b : Bool) → TablesAreRight held
+    → is_some (table_of held c) ≡ true → IfSome (table_of held c) (λ t. IsTrue b ↔ IsRight t) → b ≡ true
 right_told held c b all some told = go (table_of held c) refl some told
   where
     go : (o : Option Table) → table_of held c ≡ o → is_some o ≡ true → IfSome o (λ t. IsTrue b ↔ IsRight t) → b ≡ true
@@ -190,26 +212,43 @@ right_told held c b all some told = go (table_of held c) refl some told
 
 module _ {S : Type 0} where
   -- a store that is seen as before
-  pub store_same : (honest : S → Bool → Type 0) (files headers : S → Class → Option (Result (List ℕ) StoreFault)) (old new : S) (s : State) → ((b : Bool) → honest old b → honest new b)
-      → ((c : Class) → files new c ≡ files old c) → ((c : Class) → headers new c ≡ headers old c) → StoreSeen honest files headers old s → StoreSeen honest files headers new s
+  pub store_same : (honest : S → Bool → Type 0) (files headers : S → Class → Option (Result (List ℕ) StoreFault))
+      (old new : S) (s : State) → ((b : Bool) → honest old b → honest new b)
+      → ((c : Class) → files new c ≡ files old c) → ((c : Class) → headers new c ≡ headers old c)
+      → StoreSeen honest files headers old s → StoreSeen honest files headers new s
   store_same honest files headers old new s stays f k h = record {
     is_honest = stays s.paged h.is_honest;
     known = record { files_known = λ c. f c ∙ h.known.files_known c; headers_known = λ c. k c ∙ h.known.headers_known c };
   }
 
-  pub store_with : (honest : S → Bool → Type 0) (files headers : S → Class → Option (Result (List ℕ) StoreFault)) (store : S) (s : State) (c : Class) → StoreSeen honest files headers store s → StoreSeen honest files headers store (with_class s c)
-  store_with honest files headers store s c h = record { is_honest = h.is_honest; known = record { files_known = h.known.files_known; headers_known = h.known.headers_known } }
+  pub store_with : (honest : S → Bool → Type 0) (files headers : S → Class → Option (Result (List ℕ) StoreFault))
+      (store : S) (s : State) (c : Class) → StoreSeen honest files headers store s
+      → StoreSeen honest files headers store (with_class s c)
+  store_with honest files headers store s c h =
+      record {
+        is_honest = h.is_honest;
+        known = record { files_known = h.known.files_known; headers_known = h.known.headers_known };
+      }
 
   -- a store is seen alike behind a command that leaves it
-  pub store_of : (honest : S → Bool → Type 0) (files headers : S → Class → Option (Result (List ℕ) StoreFault)) (store : S) (s t : State) → t.paged ≡ s.paged → t.shelf ≡ s.shelf → StoreSeen honest files headers store s → StoreSeen honest files headers store t
+  pub store_of : (honest : S → Bool → Type 0) (files headers : S → Class → Option (Result (List ℕ) StoreFault))
+      (store : S) (s t : State) → t.paged ≡ s.paged → t.shelf ≡ s.shelf → StoreSeen honest files headers store s
+      → StoreSeen honest files headers store t
   store_of honest files headers store s t p e h = record {
     is_honest = subst (λ (b : Bool). honest store b) (sym p) h.is_honest;
-    known = record { files_known = λ c. h.known.files_known c ∙ ap (λ (x : Shelf). x.files c) (sym e); headers_known = λ c. h.known.headers_known c ∙ ap (λ (x : Shelf). x.headers c) (sym e) };
+    known =
+        record {
+          files_known = λ c. h.known.files_known c ∙ ap (λ (x : Shelf). x.files c) (sym e);
+          headers_known = λ c. h.known.headers_known c ∙ ap (λ (x : Shelf). x.headers c) (sym e);
+        };
   }
 
   -- a store in which the file of a class was written anew
-  pub store_anew : (honest : S → Bool → Type 0) (files headers : S → Class → Option (Result (List ℕ) StoreFault)) (old new : S) (s : State) (c : Class) → ((b : Bool) → honest old b → honest new b)
-      → ((d : Class) → files new d ≡ forgotten c (files old) d) → ((d : Class) → headers new d ≡ forgotten c (headers old) d) → StoreSeen honest files headers old s → StoreSeen honest files headers new (written_anew s c)
+  pub store_anew : (honest : S → Bool → Type 0) (files headers : S → Class → Option (Result (List ℕ) StoreFault))
+      (old new : S) (s : State) (c : Class) → ((b : Bool) → honest old b → honest new b)
+      → ((d : Class) → files new d ≡ forgotten c (files old) d)
+      → ((d : Class) → headers new d ≡ forgotten c (headers old) d) → StoreSeen honest files headers old s
+      → StoreSeen honest files headers new (written_anew s c)
   store_anew honest files headers old new s c stays f k h = record {
     is_honest = stays s.paged h.is_honest;
     known = record {

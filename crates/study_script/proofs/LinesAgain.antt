@@ -4,7 +4,7 @@ use Rattle.std.specs.List.{flat_map}
 use Rattle.std.proofs.lemmas.Bool.{cases_Bool}
 use Rattle.study_script.specs.Lines.{lines_of, feed_count}
 use Rattle.study_script.specs.Laws.{AreReadAgain, AreReadAgainBehindReturns}
-use Rattle.study_script.proofs.Taken.{is_feed, NoFeed, NoFeed-push, lines_feed, lines_none, strip_return, feeds-append}
+use Rattle.study_script.proofs.LineTaken.{is_feed, NoFeed, NoFeed-push, lines_feed, lines_none, strip_return, feeds-append}
 
 NoFeed-from_count : (line : List ℕ) → feed_count line ≡ 0 → NoFeed line
 NoFeed-from_count [] e = tt
@@ -18,11 +18,16 @@ pub lines-again : AreReadAgain
 lines-again [] h = lines_none
 lines-again (line ∷ lines) h =
     let rest = flat_map (λ (l : List ℕ). l ++ 10 ∷ []) lines in
-    ap lines_of (append_assoc line (10 ∷ []) rest) ∙ lines_feed line rest (NoFeed-from_count line h.0.0) ∙ ap (λ (l : List ℕ). l ∷ lines_of rest) h.0.1 ∙ ap (λ (ls : List (List ℕ)). line ∷ ls) (lines-again lines h.1)
+    ap lines_of (append_assoc line (10 ∷ []) rest) ∙ lines_feed line rest (NoFeed-from_count line h.0.0)
+    ∙ ap (λ (l : List ℕ). l ∷ lines_of rest) h.0.1 ∙ ap (λ (ls : List (List ℕ)). line ∷ ls)
+    (lines-again lines h.1)
 
 pub lines-again_returns : AreReadAgainBehindReturns
 lines-again_returns [] h = lines_none
 lines-again_returns (line ∷ lines) h =
     let rest = flat_map (λ (l : List ℕ). l ++ 13 ∷ 10 ∷ []) lines in
-    let cut : (line ++ 13 ∷ 10 ∷ []) ++ rest ≡ (line ++ 13 ∷ []) ++ (10 ∷ rest) = append_assoc line (13 ∷ 10 ∷ []) rest ∙ sym (append_assoc line (13 ∷ []) (10 ∷ rest)) in
-    ap lines_of cut ∙ lines_feed (line ++ 13 ∷ []) rest (NoFeed-push line 13 (NoFeed-from_count line h.0) (λ e. omega arith)) ∙ ap (λ (l : List ℕ). l ∷ lines_of rest) (strip_return line) ∙ ap (λ (ls : List (List ℕ)). line ∷ ls) (lines-again_returns lines h.1)
+    let cut : (line ++ 13 ∷ 10 ∷ []) ++ rest ≡ (line ++ 13 ∷ []) ++ (10 ∷ rest) =
+    append_assoc line (13 ∷ 10 ∷ []) rest ∙ sym (append_assoc line (13 ∷ []) (10 ∷ rest)) in
+    ap lines_of cut ∙ lines_feed (line ++ 13 ∷ []) rest
+    (NoFeed-push line 13 (NoFeed-from_count line h.0) (λ e. omega arith)) ∙ ap (λ (l : List ℕ). l ∷ lines_of rest)
+    (strip_return line) ∙ ap (λ (ls : List (List ℕ)). line ∷ ls) (lines-again_returns lines h.1)

@@ -1,5 +1,7 @@
 -- A line has one reply, by what the outside does at it.
-use Rattle.std.proofs.Common.{◌≡◌, ℕ, ◌<◌, ◌≤◌, Bool, true, false, List, [], ◌∷◌, length, map, slice_index, Option, Some, None, Result, Ok, Err, refl, sym, ap, subst, ◌∙◌, inl, inr, arith, true≢false}
+use Rattle.std.proofs.Common.{◌≡◌, ℕ, ◌<◌, ◌≤◌, Bool, true, false, List, [], ◌∷◌, length}
+use Rattle.std.proofs.Common.{map, slice_index, Option, Some, None, Result, Ok, Err, refl}
+use Rattle.std.proofs.Common.{sym, ap, subst, ◌∙◌, inl, inr, arith, true≢false}
 use Rattle.std.specs.List.{All}
 use Rattle.std.proofs.lemmas.Bool.{cases_Bool, cases_lt}
 use Rattle.std.proofs.lemmas.Grind.{common_steps}
@@ -30,7 +32,7 @@ use Rattle.study_marks.specs.Study.{Study, position_at as node_position}
 use Rattle.study_marks.specs.Edits.{Plainly, shifted, shift_refusal, insert_refusal}
 use Rattle.study_marks.specs.Asked.{asked_of, AreHeld, IsFirstMissing}
 use Rattle.study_marks.specs.Laws.{AnnotationsAreUnique}
-use Rattle.study_marks.proofs.Unique.{one-value}
+use Rattle.study_marks.proofs.OneAnnotation.{one-value}
 use Rattle.study_pgn.specs.Pgn.{pgn_text}
 use Rattle.study_script.specs.declared.command.FenWord.{FenWord}
 use Rattle.study_script.specs.declared.command.FenWord.TheVariants.{Position as PositionWord, Shift}
@@ -42,15 +44,19 @@ use Rattle.study_script.specs.declared.command.ClassWord.TheVariants.{Build, Loa
 use Rattle.study_script.specs.declared.refusal.Refusal.{Refusal}
 use Rattle.study_script.specs.declared.refusal.Refusal.TheVariants.{NoTable}
 use Rattle.study_script.specs.Asking.{Asked, of_start, at_node, at_study, of_class, stipulate, insert, tag, solve, pgn, Asks, command_of}
-use Rattle.study_script.specs.State.{State, Board, empty, start, study, is_among, first_lacking, Outside, quiet, no_path, no_room, no_room_for, unread, unopened, cut_off, file, header}
+use Rattle.study_script.specs.State.{State, Board, empty, start, study, is_among, first_lacking, Outside, quiet}
+use Rattle.study_script.specs.State.{no_path, no_room, no_room_for, unread, unopened, cut_off, file, header}
 use Rattle.std.specs.Prelude.{◌==◌, ◌%◌, ◌&&◌, codes}
 use Rattle.study_notation.specs.FenSpelling.{fen_text}
 use Rattle.study_material.specs.Class.{IsOf}
 use Rattle.study_script.specs.Words.{line_text, built_text, solve_text}
-use Rattle.study_script.specs.Replies.{Reply, Answer, accepted, refused, with_class, IsValued, missing, found, IsAskedReply, IsPositionReply, IsShiftReply, IsStartReply, IsStipulateReply}
-use Rattle.study_script.specs.Replies.{IsInserted, IsMoveReply, IsMoveReplyAt, IsInsertReply, start_found, IsSolution, IsSolveReply, marked_reply, Annotated, IsStudyReply, IsStudyReplyAt}
-use Rattle.study_script.specs.Replies.{IsPgnReply, IsBuilt, built, too_far, IsBuildReply, IsLoadReply, IsOpenReply, IsLoadIn, IsTableReply, IsNamedReply, class_named, wants_whole}
-use Rattle.study_script.specs.Replies.{IsClassReplyIn, IsReplyTo, IsReplyWhere, AreReplies}
+use Rattle.study_script.specs.Replies.{Reply, Answer, accepted, refused, with_class, IsValued, missing, found}
+use Rattle.study_script.specs.Replies.{IsAskedReply, IsPositionReply, IsShiftReply, IsStartReply, IsStipulateReply}
+use Rattle.study_script.specs.Replies.{IsInserted, IsMoveReply, IsMoveReplyAt, IsInsertReply, start_found}
+use Rattle.study_script.specs.Replies.{IsSolution, IsSolveReply, marked_reply, Annotated, IsStudyReply, IsStudyReplyAt}
+use Rattle.study_script.specs.Replies.{IsPgnReply, IsBuilt, built, too_far, IsBuildReply, IsLoadReply, IsOpenReply}
+use Rattle.study_script.specs.Replies.{IsLoadIn, IsTableReply, IsNamedReply, class_named, wants_whole, IsClassReplyIn}
+use Rattle.study_script.specs.Replies.{IsReplyTo, IsReplyWhere, AreReplies}
 use Rattle.study_script.specs.Laws.{AreUnique}
 
 -- one reply, where each is that one
@@ -71,13 +77,16 @@ missing_once held (p ∷ ps) c d (inl m) (inr n) = absurd (true≢false (sym (n.
 missing_once held (p ∷ ps) c d (inr m) (inl n) = absurd (true≢false (sym (m.0 d n.0) ∙ n.1))
 missing_once held (p ∷ ps) c d (inr m) (inr n) = missing_once held ps c d m.1 n.1
 
-valued_once : (s : State) (asked : List Position) (new : Plainly) (text : List ℕ) (a b : Reply) → IsValued s asked new text a → IsValued s asked new text b → a ≡ b
-valued_once s asked new text a b (missing c m e) (missing d n f) = e ∙ ap (λ (x : Class). refused s (NoTable x)) (missing_once (is_among s.classes) asked c d m n) ∙ sym f
+valued_once : (s : State) (asked : List Position) (new : Plainly) (text : List ℕ) (a b : Reply)
+    → IsValued s asked new text a → IsValued s asked new text b → a ≡ b
+valued_once s asked new text a b (missing c m e) (missing d n f) =
+    e ∙ ap (λ (x : Class). refused s (NoTable x)) (missing_once (is_among s.classes) asked c d m n) ∙ sym f
 valued_once s asked new text a b (missing c m e) (found all f) = absurd (missing_held (is_among s.classes) asked c m all.each)
 valued_once s asked new text a b (found all e) (missing d n f) = absurd (missing_held (is_among s.classes) asked d n all.each)
 valued_once s asked new text a b (found all e) (found more f) = e ∙ sym f
 
-asked_once : (s : State) (o : Outside) (asked : List Position) (new : Plainly) (text : List ℕ) (a b : Reply) → IsAskedReply s o asked new text a → IsAskedReply s o asked new text b → a ≡ b
+asked_once : (s : State) (o : Outside) (asked : List Position) (new : Plainly) (text : List ℕ) (a b : Reply)
+    → IsAskedReply s o asked new text a → IsAskedReply s o asked new text b → a ≡ b
 asked_once s quiet asked new text a b h k = valued_once s asked new text a b h k
 asked_once s no_path asked new text a b h k = valued_once s asked new text a b h k
 asked_once s no_room asked new text a b h k = h ∙ sym k
@@ -95,27 +104,45 @@ position_once s o empty new a b h k = h ∙ sym k
 position_once s o (start old) new a b h k = h ∙ sym k
 position_once s o (study old) new a b h k = asked_once s o _ _ _ a b h k
 
-shift_once : (s : State) (o : Outside) (old : Plainly) (new : Start) (r : Option (EditRefusal (Unit {0}))) (a b : Reply) → IsShiftReply s o old new r a → IsShiftReply s o old new r b → a ≡ b
+shift_once : (s : State) (o : Outside) (old : Plainly) (new : Start) (r : Option (EditRefusal (Unit {0})))
+    (a b : Reply) → IsShiftReply s o old new r a → IsShiftReply s o old new r b → a ≡ b
 shift_once s quiet old new (Some refusal) a b h k = h ∙ sym k
 shift_once s quiet old new None a b h k = asked_once s quiet (asked_of (shifted old new)) (shifted old new) (line_text (codes "shift ") (fen_text new)) a b h k
 shift_once s no_path old new (Some refusal) a b h k = h ∙ sym k
-shift_once s no_path old new None a b h k = asked_once s no_path (asked_of (shifted old new)) (shifted old new) (line_text (codes "shift ") (fen_text new)) a b h k
+shift_once s no_path old new None a b h k =
+    asked_once s no_path (asked_of (shifted old new)) (shifted old new) (line_text (codes "shift ") (fen_text new))
+    a b h k
 shift_once s no_room old new (Some refusal) a b h k = h ∙ sym k
-shift_once s no_room old new None a b h k = asked_once s no_room (asked_of (shifted old new)) (shifted old new) (line_text (codes "shift ") (fen_text new)) a b h k
+shift_once s no_room old new None a b h k =
+    asked_once s no_room (asked_of (shifted old new)) (shifted old new) (line_text (codes "shift ") (fen_text new))
+    a b h k
 shift_once s (no_room_for bytes) old new (Some refusal) a b h k = h ∙ sym k
-shift_once s (no_room_for bytes) old new None a b h k = asked_once s (no_room_for bytes) (asked_of (shifted old new)) (shifted old new) (line_text (codes "shift ") (fen_text new)) a b h k
+shift_once s (no_room_for bytes) old new None a b h k =
+    asked_once s (no_room_for bytes) (asked_of (shifted old new)) (shifted old new)
+    (line_text (codes "shift ") (fen_text new)) a b h k
 shift_once s (unread fault) old new (Some refusal) a b h k = h ∙ sym k
-shift_once s (unread fault) old new None a b h k = asked_once s (unread fault) (asked_of (shifted old new)) (shifted old new) (line_text (codes "shift ") (fen_text new)) a b h k
+shift_once s (unread fault) old new None a b h k =
+    asked_once s (unread fault) (asked_of (shifted old new)) (shifted old new)
+    (line_text (codes "shift ") (fen_text new)) a b h k
 shift_once s (unopened fault) old new (Some refusal) a b h k = h ∙ sym k
-shift_once s (unopened fault) old new None a b h k = asked_once s (unopened fault) (asked_of (shifted old new)) (shifted old new) (line_text (codes "shift ") (fen_text new)) a b h k
+shift_once s (unopened fault) old new None a b h k =
+    asked_once s (unopened fault) (asked_of (shifted old new)) (shifted old new)
+    (line_text (codes "shift ") (fen_text new)) a b h k
 shift_once s cut_off old new (Some refusal) a b h k = h ∙ sym k
-shift_once s cut_off old new None a b h k = asked_once s cut_off (asked_of (shifted old new)) (shifted old new) (line_text (codes "shift ") (fen_text new)) a b h k
+shift_once s cut_off old new None a b h k =
+    asked_once s cut_off (asked_of (shifted old new)) (shifted old new) (line_text (codes "shift ") (fen_text new))
+    a b h k
 shift_once s (file bytes) old new (Some refusal) a b h k = h ∙ sym k
-shift_once s (file bytes) old new None a b h k = asked_once s (file bytes) (asked_of (shifted old new)) (shifted old new) (line_text (codes "shift ") (fen_text new)) a b h k
+shift_once s (file bytes) old new None a b h k =
+    asked_once s (file bytes) (asked_of (shifted old new)) (shifted old new)
+    (line_text (codes "shift ") (fen_text new)) a b h k
 shift_once s (header told) old new (Some refusal) a b h k = h ∙ sym k
-shift_once s (header told) old new None a b h k = asked_once s (header told) (asked_of (shifted old new)) (shifted old new) (line_text (codes "shift ") (fen_text new)) a b h k
+shift_once s (header told) old new None a b h k =
+    asked_once s (header told) (asked_of (shifted old new)) (shifted old new)
+    (line_text (codes "shift ") (fen_text new)) a b h k
 
-start_once : (s : State) (o : Outside) (word : FenWord) (at : Board) (read : Result Start FenFault) (a b : Reply) → IsStartReply s o word at read a → IsStartReply s o word at read b → a ≡ b
+start_once : (s : State) (o : Outside) (word : FenWord) (at : Board) (read : Result Start FenFault) (a b : Reply)
+    → IsStartReply s o word at read a → IsStartReply s o word at read b → a ≡ b
 start_once s o PositionWord at (Err fault) a b h k = h ∙ sym k
 start_once s o PositionWord at (Ok new) a b h k = position_once s o at new a b h k
 start_once s o Shift (study old) (Err fault) a b h k = h ∙ sym k
@@ -123,26 +150,32 @@ start_once s o Shift (study old) (Ok new) a b h k = shift_once s o old new (shif
 start_once s o Shift empty read a b h k = h ∙ sym k
 start_once s o Shift (start old) read a b h k = h ∙ sym k
 
-stipulate_once : (s : State) (o : Outside) (at : Board) (new : Stipulation) (a b : Reply) → IsStipulateReply s o at new a → IsStipulateReply s o at new b → a ≡ b
+stipulate_once : (s : State) (o : Outside) (at : Board) (new : Stipulation) (a b : Reply)
+    → IsStipulateReply s o at new a → IsStipulateReply s o at new b → a ≡ b
 stipulate_once s o empty new a b h k = h ∙ sym k
 stipulate_once s o (start from) new a b h k = asked_once s o _ _ _ a b h k
 stipulate_once s o (study old) new a b h k = h ∙ sym k
 
 -- ---- nodes
 
-inserted_once : (s : State) (o : Outside) (old : Plainly) (steps : List ℕ) (m : Move) (r : Option (EditRefusal (Unit {0}))) (a b : Reply) → IsInserted s o old steps m r a → IsInserted s o old steps m r b → a ≡ b
+inserted_once : (s : State) (o : Outside) (old : Plainly) (steps : List ℕ) (m : Move)
+    (r : Option (EditRefusal (Unit {0}))) (a b : Reply) → IsInserted s o old steps m r a
+    → IsInserted s o old steps m r b → a ≡ b
 inserted_once s o old steps m (Some refusal) a b h k = h ∙ sym k
 inserted_once s o old steps m None a b h k = asked_once s o _ _ _ a b h k
 
-moved_once : (s : State) (o : Outside) (old : Plainly) (steps : List ℕ) (read : Result Move SanFault) (a b : Reply) → IsMoveReply s o old steps read a → IsMoveReply s o old steps read b → a ≡ b
+moved_once : (s : State) (o : Outside) (old : Plainly) (steps : List ℕ) (read : Result Move SanFault) (a b : Reply)
+    → IsMoveReply s o old steps read a → IsMoveReply s o old steps read b → a ≡ b
 moved_once s o old steps (Err fault) a b h k = h ∙ sym k
 moved_once s o old steps (Ok m) a b h k = inserted_once s o old steps m (insert_refusal old steps m) a b h k
 
-move_at_once : (s : State) (o : Outside) (old : Plainly) (steps san : List ℕ) (there : Bool) (a b : Reply) → IsMoveReplyAt s o old steps san there a → IsMoveReplyAt s o old steps san there b → a ≡ b
+move_at_once : (s : State) (o : Outside) (old : Plainly) (steps san : List ℕ) (there : Bool) (a b : Reply)
+    → IsMoveReplyAt s o old steps san there a → IsMoveReplyAt s o old steps san there b → a ≡ b
 move_at_once s o old steps san false a b h k = h ∙ sym k
 move_at_once s o old steps san true a b h k = moved_once s o old steps (move_of (node_position old steps) san) a b h k
 
-insert_once : (s : State) (o : Outside) (at : Board) (steps san : List ℕ) (a b : Reply) → IsInsertReply s o at steps san a → IsInsertReply s o at steps san b → a ≡ b
+insert_once : (s : State) (o : Outside) (at : Board) (steps san : List ℕ) (a b : Reply)
+    → IsInsertReply s o at steps san a → IsInsertReply s o at steps san b → a ≡ b
 insert_once s o empty steps san a b h k = h ∙ sym k
 insert_once s o (start from) steps san a b h k = h ∙ sym k
 insert_once s quiet (study old) steps san a b h k = move_at_once s quiet old steps san (has_spot old.tree steps) a b h k
@@ -157,7 +190,12 @@ insert_once s (header told) (study old) steps san a b h k = move_at_once s (head
 
 -- the least number of plies is one number
 won_once : (p : Position) (n m : ℕ) → IsWon p n → IsWon p m → n ≡ m
-won_once p n m a b = elim (cases_lt n m) [ inl lt ↦ absurd (b.1 n lt a.0) | inr ge ↦ elim (cases_lt m n) [ inl lt ↦ absurd (a.1 m lt b.0) | inr le ↦ omega arith ] ]
+won_once p n m a b =
+    elim (cases_lt n m) [
+      | inl lt ↦ absurd (b.1 n lt a.0)
+      | inr ge ↦ elim (cases_lt m n)
+          [ inl lt ↦ absurd (a.1 m lt b.0) | inr le ↦ omega arith ]
+    ]
 
 solution_once : (p : Position) (count : ℕ) (a b : Option ℕ) → IsSolution p count a → IsSolution p count b → a ≡ b
 solution_once p count None None x y = refl
@@ -166,19 +204,22 @@ solution_once p count (Some n) None x y = absurd (y n x.1 x.0.0)
 solution_once p count (Some n) (Some m) x y = ap (λ (k : ℕ). Some k) (won_once p n m x.0 y.0)
 
 solve_once : (s : State) (count : ℕ) (found : Result Start Refusal) (a b : Reply) → IsSolveReply s count found a → IsSolveReply s count found b → a ≡ b
-solve_once s count (Ok at) a b (n, x, e) (m, y, f) = e ∙ ap (λ (plies : Option ℕ). accepted s (solve_text plies)) (solution_once at.position count n m x y) ∙ sym f
+solve_once s count (Ok at) a b (n, x, e) (m, y, f) =
+    e ∙ ap (λ (plies : Option ℕ). accepted s (solve_text plies)) (solution_once at.position count n m x y) ∙ sym f
 solve_once s count (Err refusal) a b e f = e ∙ sym f
 
 module _ (one_annotation : AnnotationsAreUnique) where
   annotated_once : (old : Plainly) (told : Study Mark → Reply) (a b : Reply) → Annotated old (λ x. a ≡ told x) → Annotated old (λ x. b ≡ told x) → a ≡ b
   annotated_once old told a b (x, is, from, e) (y, are, same, f) = e ∙ ap told (one_annotation x y is are (from ∙ sym same)) ∙ sym f
 
-  study_once : (s : State) (word : StudyWord) (old : Plainly) (steps : List ℕ) (a b : Reply) → IsStudyReply s word old steps a → IsStudyReply s word old steps b → a ≡ b
+  study_once : (s : State) (word : StudyWord) (old : Plainly) (steps : List ℕ) (a b : Reply)
+      → IsStudyReply s word old steps a → IsStudyReply s word old steps b → a ≡ b
   study_once s Delete old steps a b h k = h ∙ sym k
   study_once s Promote old steps a b h k = h ∙ sym k
   study_once s MarkWord old steps a b h k = annotated_once old (λ x. marked_reply s steps (spot_at x.tree steps)) a b h k
 
-  study_at_once : (s : State) (o : Outside) (word : StudyWord) (at : Board) (steps : List ℕ) (a b : Reply) → IsStudyReplyAt s o word at steps a → IsStudyReplyAt s o word at steps b → a ≡ b
+  study_at_once : (s : State) (o : Outside) (word : StudyWord) (at : Board) (steps : List ℕ) (a b : Reply)
+      → IsStudyReplyAt s o word at steps a → IsStudyReplyAt s o word at steps b → a ≡ b
   study_at_once s o word empty steps a b h k = h ∙ sym k
   study_at_once s o word (start from) steps a b h k = h ∙ sym k
   study_at_once s quiet word (study old) steps a b h k = study_once s word old steps a b h k
@@ -211,7 +252,8 @@ module _ (one_value : EachHasAtMostOneValue) where
   told_once None x y h k = ap value_of (h ∙ sym k)
   told_once (Some p) x y h k = one-value one_value p (value_of x) (value_of y) h k
 
-  told_again : (c : Class) (t u : Table) → t.class ≡ c → u.class ≡ c → IsComplete t → IsComplete u → IsRight t → IsRight u → (m : ℕ) → Tells win_of t.cells m → Tells win_of u.cells m
+  told_again : (c : Class) (t u : Table) → t.class ≡ c → u.class ≡ c → IsComplete t → IsComplete u → IsRight t
+      → IsRight u → (m : ℕ) → Tells win_of t.cells m → Tells win_of u.cells m
   told_again c t u e f whole complete right good m h =
       let n = h.cell in
       let size : length t.cells ≡ cells_of c = whole.size ∙ ap cells_of e in
@@ -220,16 +262,29 @@ module _ (one_value : EachHasAtMostOneValue) where
       let inside : n < cells_of c = omega (arith, size) in
       let first = subst (λ (d : Class). n < cells_of d → TellsValue (position_at d n) (slice_index t.cells n)) e (right.tells n) inside in
       let second = subst (λ (d : Class). n < cells_of d → TellsValue (position_at d n) (slice_index u.cells n)) f (good.tells n) inside in
-      record { cell = n; inside = omega (arith, length_u); is = ap win_of (told_once (position_at c n) (slice_index u.cells n) (slice_index t.cells n) second first) ∙ h.is }
+      record {
+        cell = n;
+        inside = omega (arith, length_u);
+        is = ap win_of (told_once (position_at c n) (slice_index u.cells n) (slice_index t.cells n) second first)
+            ∙ h.is;
+      }
 
-  greatest_once : (cs ds : List ℕ) → ((m : ℕ) → Tells win_of cs m → Tells win_of ds m) → ((m : ℕ) → Tells win_of ds m → Tells win_of cs m) → (x y : Option ℕ) → IsGreatest win_of cs x → IsGreatest win_of ds y → x ≡ y
+  greatest_once : (cs ds : List ℕ) → ((m : ℕ) → Tells win_of cs m → Tells win_of ds m)
+      → ((m : ℕ) → Tells win_of ds m → Tells win_of cs m) → (x y : Option ℕ) → IsGreatest win_of cs x
+      → IsGreatest win_of ds y → x ≡ y
   greatest_once cs ds on back None None g h = refl
   greatest_once cs ds on back None (Some m) g h = absurd (g m (back m h.0))
   greatest_once cs ds on back (Some n) None g h = absurd (h n (on n g.0))
-  greatest_once cs ds on back (Some n) (Some m) g h = let le = h.1 n (on n g.0) in let ge = g.1 m (back m h.0) in let same : n ≡ m = omega arith in ap (λ (k : ℕ). Some k) same
+  greatest_once cs ds on back (Some n) (Some m) g h = let le = h.1 n (on n g.0) in let ge = g.1 m (back m h.0) in
+      let same : n ≡ m = omega arith in ap (λ (k : ℕ). Some k) same
 
   small_at : (xs : List ℕ) (k : ℕ) → All (λ c. c < 256) xs → slice_index xs k < 256
-  small_at xs k all = elim (cases_lt k (length xs)) [ inl lt ↦ all k 0 lt | inr ge ↦ let none : slice_index xs k ≡ 0 = grind (arith, common_steps) in omega (arith, none) ]
+  small_at xs k all =
+      elim (cases_lt k (length xs)) [
+        | inl lt ↦ all k 0 lt
+        | inr ge ↦
+            let none : slice_index xs k ≡ 0 = grind (arith, common_steps) in omega (arith, none)
+      ]
 
   near : (cell : ℕ) → cell < 256 → distance_of (value_of cell) ≤ 254
   near cell lt =
@@ -249,12 +304,15 @@ module _ (one_value : EachHasAtMostOneValue) where
 
   built_once : (s : State) (c : Class) (a b : Reply) → IsBuilt s c a → IsBuilt s c b → a ≡ b
   built_once s c a b (built t x e whole right g h) (built u y f complete good i k) =
-      h ∙ ap (λ (w : Option ℕ). accepted (with_class s c) (built_text c w)) (greatest_once t.cells u.cells (told_again c t u e f whole complete right good) (told_again c u t f e complete whole good right) x y g i) ∙ sym k
+      h ∙ ap (λ (w : Option ℕ). accepted (with_class s c) (built_text c w))
+      (greatest_once t.cells u.cells (told_again c t u e f whole complete right good)
+      (told_again c u t f e complete whole good right) x y g i) ∙ sym k
   built_once s c a b (built t x e whole right g h) (too_far far k) = absurd (not_far c t e whole right far)
   built_once s c a b (too_far far h) (built u y f complete good i k) = absurd (not_far c u f complete good far)
   built_once s c a b (too_far far h) (too_far more k) = h ∙ sym k
 
-  build_once : (s : State) (o : Outside) (c : Class) (holds : Bool) (lacking : Option Class) (a b : Reply) → IsBuildReply s o c holds lacking a → IsBuildReply s o c holds lacking b → a ≡ b
+  build_once : (s : State) (o : Outside) (c : Class) (holds : Bool) (lacking : Option Class) (a b : Reply)
+      → IsBuildReply s o c holds lacking a → IsBuildReply s o c holds lacking b → a ≡ b
   build_once s o c true lacking a b h k = h ∙ sym k
   build_once s quiet c false (Some d) a b h k = h ∙ sym k
   build_once s quiet c false None a b h k = built_once s c a b h k
@@ -274,7 +332,8 @@ module _ (one_value : EachHasAtMostOneValue) where
   build_once s (header told) c false (Some d) a b h k = h ∙ sym k
   build_once s (header told) c false None a b h k = built_once s c a b h k
 
-load_once : (s : State) (o : Outside) (c : Class) (holds : Bool) (lacking : Option Class) (a b : Reply) → IsLoadReply s o c holds lacking a → IsLoadReply s o c holds lacking b → a ≡ b
+load_once : (s : State) (o : Outside) (c : Class) (holds : Bool) (lacking : Option Class) (a b : Reply)
+    → IsLoadReply s o c holds lacking a → IsLoadReply s o c holds lacking b → a ≡ b
 load_once s o c true lacking a b h k = h ∙ sym k
 load_once s o c false (Some d) a b h k = h ∙ sym k
 load_once s quiet c false None a b h k = absurd h
@@ -310,11 +369,13 @@ module _ (one_value : EachHasAtMostOneValue) (one_annotation : AnnotationsAreUni
   table_once s o Save c a b h k = h ∙ sym k
   table_once s o Verify c a b h k = h ∙ sym k
 
-  named_once : (s : State) (o : Outside) (word : ClassWord) (named : Option Class) (a b : Reply) → IsNamedReply s o word named a → IsNamedReply s o word named b → a ≡ b
+  named_once : (s : State) (o : Outside) (word : ClassWord) (named : Option Class) (a b : Reply)
+      → IsNamedReply s o word named a → IsNamedReply s o word named b → a ≡ b
   named_once s o word None a b h k = h ∙ sym k
   named_once s o word (Some c) a b h k = table_once s o word c a b h k
 
-  class_once : (s : State) (o : Outside) (word : ClassWord) (name : List ℕ) (refuses : Bool) (a b : Reply) → IsClassReplyIn s o word name refuses a → IsClassReplyIn s o word name refuses b → a ≡ b
+  class_once : (s : State) (o : Outside) (word : ClassWord) (name : List ℕ) (refuses : Bool) (a b : Reply)
+      → IsClassReplyIn s o word name refuses a → IsClassReplyIn s o word name refuses b → a ≡ b
   class_once s o word name true a b h k = h ∙ sym k
   class_once s o word name false a b h k = named_once s o word (class_named name) a b h k
 

@@ -1,5 +1,6 @@
 -- What `load` comes to by pages.
-use Rattle.std.proofs.Common.{◌≡◌, ℕ, ◌<◌, Bool, true, false, List, ◌∷◌, length, set, Option, Some, None, Result, Ok, Err, refl, sym, ap, subst, ◌∙◌, inl, inr, arith, is_some}
+use Rattle.std.proofs.Common.{◌≡◌, ℕ, ◌<◌, Bool, true, false, List, ◌∷◌, length, set, Option, Some, None}
+use Rattle.std.proofs.Common.{Result, Ok, Err, refl, sym, ap, subst, ◌∙◌, inl, inr, arith, is_some}
 use Rattle.std.specs.Prelude.{MatchOption, IfErr}
 use Rattle.std.proofs.lemmas.List.{length-set}
 use Rattle.study_material.specs.declared.class.Class.{Class}
@@ -11,7 +12,7 @@ use Rattle.study_prober.specs.declared.held.HeldSource.{HeldSource}
 use Rattle.study_prober.specs.Sources.{GivesRight}
 use Rattle.study_prober.specs.Paged.{Paged, held_of, places, SourcesAreRight}
 use Rattle.study_prober.specs.Told.{paged_fault}
-use Rattle.study_prober.proofs.Kept.{same_class, held_same, held_other, held_placed}
+use Rattle.study_prober.proofs.HeldSources.{same_class, held_same, held_other, held_placed}
 use Rattle.study_script.specs.declared.store.StoreFault.{StoreFault}
 use Rattle.study_script.specs.declared.refusal.Refusal.TheVariants.{AlreadyHeld}
 use Rattle.study_script.specs.declared.told.Told.TheVariants.{Loaded}
@@ -25,13 +26,16 @@ use Rattle.study_script.proofs.HeldTables.{place_below, among_with, among_head}
 -- ---- what a source told
 
 -- a header is told as the store is known to give it
-pub told_is : (May : Result (List ℕ) SourceFault → Type 0) (known : Option (Result (List ℕ) StoreFault)) (told : Result (List ℕ) SourceFault) → May told → IsOpened known
+pub told_is : (May : Result (List ℕ) SourceFault → Type 0) (known : Option (Result (List ℕ) StoreFault))
+    (told : Result (List ℕ) SourceFault) → May told → IsOpened known
     → ((bytes : List ℕ) → May (Ok bytes) → IsGiven known (Ok bytes)) → IsTold known told
 told_is May known (Ok bytes) may is_open given = given bytes may
 told_is May known (Err fault) may is_open given = is_open
 
 -- an accepted source told no fault
-pub accepted_none : {T : Type 0} (o : Option PagedFault) (x : T) → MatchOption o (IfErr {E = PagedFault} (Ok x) (λ e. e ≡ fault_of.OutOfMemory)) (λ fault. ◌≡◌ {A = Result T PagedFault} (Ok x) (Err fault)) → o ≡ None
+pub accepted_none : {T : Type 0} (o : Option PagedFault) (x : T)
+    → MatchOption o (IfErr {E = PagedFault} (Ok x) (λ e. e ≡ fault_of.OutOfMemory))
+    (λ fault. ◌≡◌ {A = Result T PagedFault} (Ok x) (Err fault)) → o ≡ None
 accepted_none None x m = refl
 accepted_none (Some f) x m = absurd (let no : ⊥ = cc in no)
 
@@ -45,18 +49,29 @@ module _ {P : Type 0} (honest : P → Table → ℕ → Type 0) (w : Paged P) (s
   among : (b : Bool) → is_some (held_of w.sources c) ≡ b → is_among s.classes c ≡ b
   among b e = sym (h.classes c) ∙ e
 
-  pub open_held : Seen s → is_some (held_of w.sources c) ≡ true → Decided (λ o. IsOpenReply s o c (is_among s.classes c)) (λ t. HoldsPaged honest w t × (t.board ≡ s.board) × Seen t) (Err (AlreadyHeld c))
+  pub open_held : Seen s → is_some (held_of w.sources c) ≡ true
+      → Decided (λ o. IsOpenReply s o c (is_among s.classes c)) (λ t. HoldsPaged honest w t × (t.board ≡ s.board)
+      × Seen t) (Err (AlreadyHeld c))
   open_held seen e = (quiet, s, rw (among true e) refl, (h, refl, seen))
 
-  pub open_unopened : Seen s → (fault : StoreFault) → is_some (held_of w.sources c) ≡ false → IsGiven (s.shelf.headers c) (Err fault) → Decided (λ o. IsOpenReply s o c (is_among s.classes c)) (λ t. HoldsPaged honest w t × (t.board ≡ s.board) × Seen t) (Err (of_store fault))
+  pub open_unopened : Seen s → (fault : StoreFault) → is_some (held_of w.sources c) ≡ false
+      → IsGiven (s.shelf.headers c) (Err fault)
+      → Decided (λ o. IsOpenReply s o c (is_among s.classes c)) (λ t. HoldsPaged honest w t × (t.board ≡ s.board)
+      × Seen t) (Err (of_store fault))
   open_unopened seen fault e given = (unopened fault, s, rw (among false e) (given, refl), (h, refl, seen))
 
-  pub open_done : (v : Paged P) (told : Result (List ℕ) SourceFault) → Seen (with_class s c) → HoldsPaged honest v (with_class s c) → is_some (held_of w.sources c) ≡ false → IsTold (s.shelf.headers c) told → paged_fault false c told ≡ None
+  pub open_done : (v : Paged P) (told : Result (List ℕ) SourceFault) → Seen (with_class s c)
+      → HoldsPaged honest v (with_class s c) → is_some (held_of w.sources c) ≡ false → IsTold (s.shelf.headers c) told
+      → paged_fault false c told ≡ None
       → Decided (λ o. IsOpenReply s o c (is_among s.classes c)) (λ t. HoldsPaged honest v t × (t.board ≡ s.board) × Seen t) (Ok (Loaded c))
   open_done v told seen holds e is_told none = (header told, with_class s c, rw (among false e) (is_told, ap (opened s c) (sym none)), (holds, refl, seen))
 
-  pub open_refused : (v : Paged P) (told : Result (List ℕ) SourceFault) (fault : PagedFault) → v ≡ w → Seen s → is_some (held_of w.sources c) ≡ false → IsTold (s.shelf.headers c) told
-      → MatchOption (paged_fault false c told) (fault ≡ fault_of.OutOfMemory) (λ f. ◌≡◌ {A = Result (Unit {0}) PagedFault} (Err fault) (Err f)) → Decided (λ o. IsOpenReply s o c (is_among s.classes c)) (λ t. HoldsPaged honest v t × (t.board ≡ s.board) × Seen t) (Err (of_paged fault))
+  pub open_refused : (v : Paged P) (told : Result (List ℕ) SourceFault) (fault : PagedFault) → v ≡ w → Seen s
+      → is_some (held_of w.sources c) ≡ false → IsTold (s.shelf.headers c) told
+      → MatchOption (paged_fault false c told) (fault ≡ fault_of.OutOfMemory)
+      (λ f. ◌≡◌ {A = Result (Unit {0}) PagedFault} (Err fault) (Err f))
+      → Decided (λ o. IsOpenReply s o c (is_among s.classes c)) (λ t. HoldsPaged honest v t × (t.board ≡ s.board)
+      × Seen t) (Err (of_paged fault))
   open_refused v told fault same seen e is_told m = go (paged_fault false c told) refl m
     where
       kept : HoldsPaged honest v s
@@ -64,13 +79,28 @@ module _ {P : Type 0} (honest : P → Table → ℕ → Type 0) (w : Paged P) (s
 
       no_room : (t : Result (List ℕ) SourceFault) → IsTold (s.shelf.headers c) t → paged_fault false c t ≡ None → fault ≡ fault_of.OutOfMemory
           → Decided (λ o. IsOpenReply s o c (is_among s.classes c)) (λ u. HoldsPaged honest v u × (u.board ≡ s.board) × Seen u) (Err (of_paged fault))
-      no_room (Ok bytes) given none is = (no_room_for bytes, s, rw (among false e) (given, none, ap (λ (f : PagedFault). refused s (of_paged f)) is), (kept, refl, seen))
+      no_room (Ok bytes) given none is = (
+        no_room_for bytes,
+        s,
+        rw (among false e) (given, none, ap (λ (f : PagedFault). refused s (of_paged f)) is),
+        (kept, refl, seen),
+      )
       no_room (Err f) given none is = absurd (no_fault_of c f none)
 
-      go : (o : Option PagedFault) → paged_fault false c told ≡ o → MatchOption o (fault ≡ fault_of.OutOfMemory) (λ f. ◌≡◌ {A = Result (Unit {0}) PagedFault} (Err fault) (Err f))
+      go : (o : Option PagedFault) → paged_fault false c told ≡ o
+          → MatchOption o (fault ≡ fault_of.OutOfMemory)
+          (λ f. ◌≡◌ {A = Result (Unit {0}) PagedFault} (Err fault) (Err f))
           → Decided (λ o. IsOpenReply s o c (is_among s.classes c)) (λ t. HoldsPaged honest v t × (t.board ≡ s.board) × Seen t) (Err (of_paged fault))
       go None is k = no_room told is_told is k
-      go (Some f) is k = (header told, s, rw (among false e) (is_told, sym (ap (opened s c) is ∙ ap (λ (x : PagedFault). refused s (of_paged x)) (same_fault fault f k))), (kept, refl, seen))
+      go (Some f) is k = (
+        header told,
+        s,
+        rw (among false e) (
+          is_told,
+          sym (ap (opened s c) is ∙ ap (λ (x : PagedFault). refused s (of_paged x)) (same_fault fault f k)),
+        ),
+        (kept, refl, seen),
+      )
 
 -- ---- one source more
 
@@ -79,7 +109,9 @@ module _ {P : Type 0} (honest : P → Table → ℕ → Type 0) where
   pub gives : (source : P) (c : Class) (r : IsRightSource honest source) → r.table.class ≡ c → GivesRight honest source r.version c
   gives source c r same = record { table = r.table; of_class = same; complete = r.complete; right = r.right; is_honest = r.is_honest }
 
-  pub paged_with : (w v : Paged P) (s : State) (c : Class) (x : HeldSource P) → HoldsPaged honest w s → SourcesAreRight honest v.sources → length v.sources ≡ 36 → v ≡ record w { sources = set (places w.sources) (place_of c) (Some x) } → HoldsPaged honest v (with_class s c)
+  pub paged_with : (w v : Paged P) (s : State) (c : Class) (x : HeldSource P) → HoldsPaged honest w s
+      → SourcesAreRight honest v.sources → length v.sources ≡ 36
+      → v ≡ record w { sources = set (places w.sources) (place_of c) (Some x) } → HoldsPaged honest v (with_class s c)
   paged_with w v s c x h right long is = record { values = right; classes = classes; by_pages = h.by_pages }
     where
       sources : v.sources ≡ set (places w.sources) (place_of c) (Some x)
@@ -90,6 +122,10 @@ module _ {P : Type 0} (honest : P → Table → ℕ → Type 0) where
 
       classes : (d : Class) → is_some (held_of v.sources d) ≡ is_among (c ∷ s.classes) d
       classes d = ap (λ (xs : List (Option (HeldSource P))). is_some (held_of xs d)) sources ∙ elim (same_class c d) [
-        | inl e ↦ ap (λ (o : Option (HeldSource P)). is_some o) (subst (λ (k : Class). held_of (set (places w.sources) (place_of c) (Some x)) k ≡ Some x) e (held_same (places w.sources) c (Some x) within)) ∙ among_head c d s.classes e
-        | inr f ↦ ap (λ (o : Option (HeldSource P)). is_some o) (held_other (places w.sources) c d (Some x) f ∙ held_placed w.sources d) ∙ among_with c d s.classes (is_some (held_of w.sources d)) (sym (h.classes d)) (λ e. f (ap place_of e))
+        | inl e ↦ ap (λ (o : Option (HeldSource P)). is_some o)
+            (subst (λ (k : Class). held_of (set (places w.sources) (place_of c) (Some x)) k ≡ Some x) e
+            (held_same (places w.sources) c (Some x) within)) ∙ among_head c d s.classes e
+        | inr f ↦ ap (λ (o : Option (HeldSource P)). is_some o)
+            (held_other (places w.sources) c d (Some x) f ∙ held_placed w.sources d) ∙ among_with c d s.classes
+            (is_some (held_of w.sources d)) (sym (h.classes d)) (λ e. f (ap place_of e))
       ]

@@ -20,10 +20,13 @@ unfolding place_of
 place_is part h = rw h refl
 
 -- what stands before the first point, and behind it
-pub cut_at : (word : List ℕ) (i : ℕ) → i < length word → slice_index word i ≡ 46 → ((k : ℕ) → k < i → (slice_index word k == 46) ≡ false) → places_in word ≡ take i word ∷ places_in (drop (i + 1) word)
+pub cut_at : (word : List ℕ) (i : ℕ) → i < length word → slice_index word i ≡ 46
+    → ((k : ℕ) → k < i → (slice_index word k == 46) ≡ false)
+    → places_in word ≡ take i word ∷ places_in (drop (i + 1) word)
 cut_at word i lt point others =
     let is_point = λ (b : ℕ). b == 46 in
-    let front : All (λ b. is_point b ≡ false) (take i word) = λ k d less. let other = others k (omega (arith, length-take i word)) in grind (arith, common_steps) in
+    let front : All (λ b. is_point b ≡ false) (take i word) = λ k d less. let other =
+    others k (omega (arith, length-take i word)) in grind (arith, common_steps) in
     let whole : word ≡ take i word ++ slice_index word i ∷ drop (i + 1) word = grind (arith, common_steps) in
     ap places_in whole ∙ slice_split_at is_point (take i word) (slice_index word i) (drop (i + 1) word) front (ap is_point point)
 

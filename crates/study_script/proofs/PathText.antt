@@ -8,7 +8,8 @@ use Rattle.study_script.specs.Replies.{raised}
 -- one place more
 more-child : (ks : List ℕ) (p : ℕ) → more_places (ks ++ p ∷ []) ≡ more_places ks ++ (46 ∷ decimal p)
 more-child [] p = ap (λ (t : List ℕ). 46 ∷ t) (append-nil (decimal p))
-more-child (k ∷ ks) p = ap (λ (t : List ℕ). 46 ∷ (decimal k ++ t)) (more-child ks p) ∙ ap (λ (t : List ℕ). 46 ∷ t) (sym (append_assoc (decimal k) (more_places ks) (46 ∷ decimal p)))
+more-child (k ∷ ks) p = ap (λ (t : List ℕ). 46 ∷ (decimal k ++ t)) (more-child ks p) ∙ ap (λ (t : List ℕ). 46 ∷ t)
+    (sym (append_assoc (decimal k) (more_places ks) (46 ∷ decimal p)))
 
 text_cons : (k : ℕ) (rest : List ℕ) → path_text (k ∷ rest) ≡ decimal k ++ more_places rest
 unfolding path_text
@@ -20,7 +21,8 @@ child_none ks p e = ap (λ (l : List ℕ). path_text (l ++ p ∷ [])) (nil_from_
 
 -- the path of a child of another node
 pub child_some : (ks : List ℕ) (k : ℕ) (rest : List ℕ) (p : ℕ) → ks ≡ k ∷ rest → path_text (ks ++ p ∷ []) ≡ decimal k ++ (more_places rest ++ (46 ∷ decimal p))
-child_some ks k rest p e = ap (λ (l : List ℕ). path_text (l ++ p ∷ [])) e ∙ text_cons k (rest ++ p ∷ []) ∙ ap (λ (t : List ℕ). decimal k ++ t) (more-child rest p)
+child_some ks k rest p e = ap (λ (l : List ℕ). path_text (l ++ p ∷ [])) e ∙ text_cons k (rest ++ p ∷ [])
+    ∙ ap (λ (t : List ℕ). decimal k ++ t) (more-child rest p)
 
 -- a path whose last place is one less
 raised-last : (front : List ℕ) (last : ℕ) → raised (front ++ last ∷ []) ≡ front ++ (last - 1) ∷ []

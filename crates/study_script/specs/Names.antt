@@ -20,10 +20,13 @@ use Rattle.study_marks.specs.declared.fault.Refusal.TheVariants as edit
 use Rattle.study_script.specs.declared.store.StoreFault.{StoreFault}
 use Rattle.study_script.specs.declared.store.StoreFault.TheVariants as store
 use Rattle.study_script.specs.declared.refusal.Refusal.{Refusal}
-use Rattle.study_script.specs.declared.refusal.Refusal.TheVariants.{Form, NoPosition, NoStudy, OutOfMemory, PagedMode, NotAClass, NoSuchNode, Fen}
-use Rattle.study_script.specs.declared.refusal.Refusal.TheVariants.{San, RootNotAllowed, AlreadyFirst, IllegalMove, AlreadyThere, TooDeep, TreeFull}
-use Rattle.study_script.specs.declared.refusal.Refusal.TheVariants.{TagText, NoTable, MissingTable, AlreadyHeld, OtherClass, NoFile, Device, File}
-use Rattle.study_script.specs.declared.refusal.Refusal.TheVariants.{TableRead, TableReadPage, DistanceTooLarge}
+use Rattle.study_script.specs.declared.refusal.Refusal.TheVariants.{Form, NoPosition, NoStudy, OutOfMemory}
+use Rattle.study_script.specs.declared.refusal.Refusal.TheVariants.{PagedMode, NotAClass, NoSuchNode, Fen, San}
+use Rattle.study_script.specs.declared.refusal.Refusal.TheVariants.{RootNotAllowed, AlreadyFirst, IllegalMove}
+use Rattle.study_script.specs.declared.refusal.Refusal.TheVariants.{AlreadyThere, TooDeep, TreeFull, TagText}
+use Rattle.study_script.specs.declared.refusal.Refusal.TheVariants.{NoTable, MissingTable, AlreadyHeld, OtherClass}
+use Rattle.study_script.specs.declared.refusal.Refusal.TheVariants.{NoFile, Device, File, TableRead, TableReadPage}
+use Rattle.study_script.specs.declared.refusal.Refusal.TheVariants.{DistanceTooLarge}
 use Rattle.study_script.specs.declared.refusal.Argument.{Argument}
 use Rattle.study_script.specs.declared.refusal.Argument.TheVariants.{None as NoArgument, Class as OfClass, Number}
 

@@ -1,5 +1,6 @@
 -- What a run over a script leaves behind.
-use Rattle.std.specs.Prelude.{◌≡◌, ℕ, ◌+◌, ◌-◌, ◌<◌, ◌≤◌, Bool, List, [], ◌∷◌, length, take, drop, slice_get, Option, Some, None, Result, Ok, Err, count_by, IsSomeAnd}
+use Rattle.std.specs.Prelude.{◌≡◌, ℕ, ◌+◌, ◌-◌, ◌<◌, ◌≤◌, Bool, List, [], ◌∷◌, length, take, drop}
+use Rattle.std.specs.Prelude.{slice_get, Option, Some, None, Result, Ok, Err, count_by, IsSomeAnd}
 use Rattle.std.specs.List.{AllByRecursion}
 use Rattle.std.specs.Io.KnownBytes.{Appends, Keeps}
 use Rattle.study_tablefile.specs.Taken.{TakesPrefix}
@@ -50,11 +51,14 @@ Outcome first script left old new (Ok summary) =
     × (replies : List Answer) × AreReplies first (lines_of script) replies × Appends old new (replies_text replies)
     × (summary.lines ≡ length (lines_of script)) × (summary.refused ≡ error_count replies)
 -- each line whose end was read is answered; no line behind these was begun
-Outcome first script left old new (Err ReadDevice) = (n : ℕ) × (n ≤ 100000) × (n ≤ length (lines_of script)) × GaveFeeds (Some script) left n × AreAnswered first (take n (lines_of script)) old new
+Outcome first script left old new (Err ReadDevice) = (n : ℕ) × (n ≤ 100000) × (n ≤ length (lines_of script))
+    × GaveFeeds (Some script) left n × AreAnswered first (take n (lines_of script)) old new
 -- where the writer failed, the lines behind the one whose reply it broke off are left
 Outcome first script left old new (Err WriteDevice) =
     (n : ℕ) × (n < 100000) × GaveFeeds (Some script) left (n + 1) × AreLeft left (drop (n + 1) (lines_of script))
     × IsSomeAnd (slice_get (lines_of script) n) (λ line. AreBrokenOff first (take n (lines_of script)) line old new)
-Outcome first script left old new (Err (LineTooLong n)) = (0 < n) × (n ≤ 100000) × IsSomeAnd (slice_get (lines_of script) (n - 1)) (λ line. 1024 < length line) × AreAnswered first (take (n - 1) (lines_of script)) old new
+Outcome first script left old new (Err (LineTooLong n)) = (0 < n) × (n ≤ 100000)
+    × IsSomeAnd (slice_get (lines_of script) (n - 1)) (λ line. 1024 < length line)
+    × AreAnswered first (take (n - 1) (lines_of script)) old new
 Outcome first script left old new (Err TooManyLines) = (100000 < length (lines_of script)) × AreAnswered first (take 100000 (lines_of script)) old new
 Outcome first script left old new (Err OutOfMemory) = Keeps old new

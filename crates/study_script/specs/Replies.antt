@@ -1,6 +1,6 @@
 -- What is replied to each line of a script.
-use Rattle.std.specs.Prelude.{◌≡◌, ℕ, ◌+◌, ◌-◌, ◌*◌, ◌≤◌, Bool, true, false, ◌&&◌, ◌==◌, List, [], ◌∷◌, ◌++◌, find, Option, Some, None, Result}
-use Rattle.std.specs.Prelude.{Ok, Err, if◌then◌else◌, codes}
+use Rattle.std.specs.Prelude.{◌≡◌, ℕ, ◌+◌, ◌-◌, ◌*◌, ◌≤◌, Bool, true, false, ◌&&◌, ◌==◌, List, [], ◌∷◌}
+use Rattle.std.specs.Prelude.{◌++◌, find, Option, Some, None, Result, Ok, Err, if◌then◌else◌, codes}
 use Rattle.std.specs.List.{flat_map}
 use Rattle.std.specs.Str.{bytes_eq}
 use Rattle.study_board.specs.Position.{Position}
@@ -33,8 +33,8 @@ use Rattle.study_marks.specs.declared.tag.TagName.{TagName}
 use Rattle.study_marks.specs.declared.fault.Refusal.{Refusal as EditRefusal}
 use Rattle.study_marks.specs.Study.{Study, plain_study, position_at}
 use Rattle.study_marks.specs.Annotated.{IsAnnotated}
-use Rattle.study_marks.specs.Edits.{Plainly, positioned, shifted, stipulated, inserted, deleted, promoted, tagged, insert_refusal, delete_refusal}
-use Rattle.study_marks.specs.Edits.{promote_refusal, shift_refusal, tag_refusal}
+use Rattle.study_marks.specs.Edits.{Plainly, positioned, shifted, stipulated, inserted, deleted, promoted, tagged}
+use Rattle.study_marks.specs.Edits.{insert_refusal, delete_refusal, promote_refusal, shift_refusal, tag_refusal}
 use Rattle.study_marks.specs.Asked.{asked_at, asked_of, IsFirstMissing, AllHeld, IsDeviceFault}
 use Rattle.study_marks.specs.Bench.{start_at}
 use Rattle.study_pgn.specs.Pgn.{pgn_text}
@@ -49,14 +49,16 @@ use Rattle.study_script.specs.declared.command.ClassWord.TheVariants.{Build, Loa
 use Rattle.study_script.specs.Paths.{path_text}
 use Rattle.study_script.specs.Asking.{Asked, of_start, at_node, at_study, of_class, stipulate, insert, tag, solve, pgn, Asks, command_of}
 use Rattle.study_script.specs.declared.refusal.Refusal.{Refusal}
-use Rattle.study_script.specs.declared.refusal.Refusal.TheVariants.{Form, NoPosition, NoStudy, OutOfMemory, PagedMode, NotAClass, NoSuchNode, Fen}
-use Rattle.study_script.specs.declared.refusal.Refusal.TheVariants.{San, NoTable, MissingTable, AlreadyHeld, OtherClass, Device, File}
-use Rattle.study_script.specs.declared.refusal.Refusal.TheVariants.{DistanceTooLarge}
+use Rattle.study_script.specs.declared.refusal.Refusal.TheVariants.{Form, NoPosition, NoStudy, OutOfMemory}
+use Rattle.study_script.specs.declared.refusal.Refusal.TheVariants.{PagedMode, NotAClass, NoSuchNode, Fen, San}
+use Rattle.study_script.specs.declared.refusal.Refusal.TheVariants.{NoTable, MissingTable, AlreadyHeld, OtherClass}
+use Rattle.study_script.specs.declared.refusal.Refusal.TheVariants.{Device, File, DistanceTooLarge}
 use Rattle.study_script.specs.Names.{words_of, edit_words, of_probe, of_paged, of_store}
-use Rattle.study_script.specs.State.{Board, empty, start, study, State, is_among, first_lacking, IsGiven, IsOpened, IsTold, written_anew, Outside}
-use Rattle.study_script.specs.State.{no_path, no_room, no_room_for, unread, unopened, cut_off, file, header}
-use Rattle.study_script.specs.Words.{line_text, stipulation_text, tag_name, mark_text, moves_text, solve_text, insert_text, built_text, loaded_text}
-use Rattle.study_script.specs.Words.{saved_text, verified_text}
+use Rattle.study_script.specs.State.{Board, empty, start, study, State, is_among, first_lacking}
+use Rattle.study_script.specs.State.{IsGiven, IsOpened, IsTold, written_anew, Outside, no_path, no_room}
+use Rattle.study_script.specs.State.{no_room_for, unread, unopened, cut_off, file, header}
+use Rattle.study_script.specs.Words.{line_text, stipulation_text, tag_name, mark_text, moves_text, solve_text}
+use Rattle.study_script.specs.Words.{insert_text, built_text, loaded_text, saved_text, verified_text}
 
 -- the reply to a line: its bytes, what is held behind the line, and whether the line is refused
 pub record Reply : Type 0 where

@@ -3,9 +3,10 @@ ghost use Rattle.std.specs.Prelude.{◌≡◌, true};
 ghost use Rattle.std.specs.Option.{option_map};
 ghost use Rattle.std.specs.List.{list_all};
 ghost use Rattle.study_notation.specs.Words.{words};
-ghost use Rattle.study_script.specs.Asking.{is_printable, count_of, mate_moves_of, side_of, goal_of, stipulation_of, tag_of, insert_asked};
-ghost use Rattle.study_script.specs.Asking.{solve_asked, pgn_asked, tag_asked, path_in, one_word, two_words, needed, asked_of};
-ghost use Rattle.study_script.specs.Asking.{word_of, begins_comment, command_of, seen, count_seen, path_seen};
+ghost use Rattle.study_script.specs.Asking.{is_printable, count_of, mate_moves_of, side_of, goal_of};
+ghost use Rattle.study_script.specs.Asking.{stipulation_of, tag_of, insert_asked, solve_asked, pgn_asked};
+ghost use Rattle.study_script.specs.Asking.{tag_asked, path_in, one_word, two_words, needed, asked_of, word_of};
+ghost use Rattle.study_script.specs.Asking.{begins_comment, command_of, seen, count_seen, path_seen};
 
 use crate::command::{
     ClassWord, Command, FenWord, FormFault, MoveCount, NodeWord, PathWord, StudyWord, Word,

@@ -6,7 +6,8 @@ ghost use Rattle.study_retro.specs.Table.{table_of, place_of, IsClosed, IsComple
 ghost use Rattle.study_tablefile.specs.Reading.{table_read};
 ghost use Rattle.study_script.specs.State.{State, is_among, first_lacking, IsGiven};
 ghost use Rattle.study_script.specs.Names.{of_store, of_paged};
-ghost use Rattle.study_script.specs.Replies.{IsClassReply, IsNamedReply, IsBuildReply, IsLoadReply, IsOpenReply, save_reply, verify_reply, refused, class_named};
+ghost use Rattle.study_script.specs.Replies.{IsClassReply, IsNamedReply, IsBuildReply, IsLoadReply};
+ghost use Rattle.study_script.specs.Replies.{IsOpenReply, save_reply, verify_reply, refused, class_named};
 ghost use Rattle.study_script.specs.Held.{HoldsTables, TablesFrom, Answered, BrokenOff};
 ghost use Rattle.study_script.specs.Stored.{StoreSeen};
 ghost use Rattle.study_script.specs.Told.{Decided, HoldsWhole, HoldsPaged, WholeFrom, IsFileRefusal};

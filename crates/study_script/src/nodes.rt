@@ -11,8 +11,9 @@ ghost use Rattle.study_marks.specs.Kept.{marked};
 ghost use Rattle.study_script.specs.Paths.{steps_of, is_path_word};
 ghost use Rattle.study_script.specs.Words.{insert_text};
 ghost use Rattle.study_script.specs.State.{State, Outside, study, start as begun};
-ghost use Rattle.study_script.specs.Replies.{IsNodeReply, IsInsertReply, IsSolveReply, IsPgnReply, IsStudyReply, IsStudyReplyAt, IsMoveReply};
-ghost use Rattle.study_script.specs.Replies.{IsMoveReplyAt, tag_reply, start_found, moves_reply, fen_reply};
+ghost use Rattle.study_script.specs.Replies.{IsNodeReply, IsInsertReply, IsSolveReply, IsPgnReply};
+ghost use Rattle.study_script.specs.Replies.{IsStudyReply, IsStudyReplyAt, IsMoveReply, IsMoveReplyAt};
+ghost use Rattle.study_script.specs.Replies.{tag_reply, start_found, moves_reply, fen_reply};
 ghost use Rattle.study_script.specs.declared.board.Board.TheVariants as held;
 ghost use Rattle.study_script.specs.Held.{Holds, HoldsBoard, HoldsFrom, HoldsBench, HoldsBenchFrom, Answered, BrokenOff};
 

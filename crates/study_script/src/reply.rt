@@ -8,7 +8,8 @@ ghost use Rattle.study_notation.specs.Written.{move_text};
 ghost use Rattle.study_tablefile.specs.Taken.{TakesPrefix};
 ghost use Rattle.study_script.specs.Paths.{path_text};
 ghost use Rattle.study_script.specs.Names.{argument_text, words_of, edit_words, of_probe};
-ghost use Rattle.study_script.specs.Words.{line_text, moves_listed, list_text, moves_text, solve_text, stipulation_text, side_name, goal_text};
+ghost use Rattle.study_script.specs.Words.{line_text, moves_listed, list_text, moves_text};
+ghost use Rattle.study_script.specs.Words.{solve_text, stipulation_text, side_name, goal_text};
 ghost use Rattle.study_script.specs.Words.{tag_name, value_text, on_move_text, mark_text};
 
 use crate::path_written::put_path;

@@ -59,7 +59,10 @@ pub fn run<'a, R: Read, W: Write, S: TableStore, A: Allocator>(
     settings: Settings,
 ) -> Result<Summary, RunFault>
     requires { IfSome settings.pages (λ n. (1 ≤ n) × (n ≤ 4096)) }
-    ensures { S.honest store.old (is_some settings.pages) → IfSome (R.remaining script.old) (λ bytes. Outcome (begun_state (shelf_of S.files S.headers store.old) (is_some settings.pages)) bytes (R.remaining script.new) (W.contents out.old) (W.contents out.new) result) }
+    ensures { S.honest store.old (is_some settings.pages)
+        → IfSome (R.remaining script.old)
+        (λ bytes. Outcome (begun_state (shelf_of S.files S.headers store.old) (is_some settings.pages)) bytes
+        (R.remaining script.new) (W.contents out.old) (W.contents out.new) result) }
 {
     let Ok(mut line) = Line::new(alloc) else {
         return Err(RunFault::OutOfMemory);
@@ -98,7 +101,9 @@ pub fn run_in<R: Read, W: Write, D: Desk, A: Allocator>(
     out: &mut W,
     desk: &mut D,
 ) -> Result<Summary, RunFault>
-    ensures outcome { (first : State) → D.holds desk.old first → IfSome (R.remaining script.old) (λ bytes. Outcome first bytes (R.remaining script.new) (W.contents out.old) (W.contents out.new) result) }
+    ensures outcome { (first : State) → D.holds desk.old first
+        → IfSome (R.remaining script.old)
+        (λ bytes. Outcome first bytes (R.remaining script.new) (W.contents out.old) (W.contents out.new) result) }
     ensures takes_no_memory { ¬ (result ≡ Err RunFault.OutOfMemory) }
 {
     let mut refused = 0u32;

@@ -40,7 +40,8 @@ pub trait TableStore {
     /// Opens a file to be read from front to back.
     fn reader(&mut self, class: Class) -> Result<Self::Reader, StoreFault>
         ensures right { honest self.old false → IfOk result (λ r. IsRightFile (Self.Reader.remaining r)) }
-        ensures given { MatchResult result (λ r. GivesBytes (files self.old class) (Self.Reader.remaining r)) (λ fault. IsGiven (files self.old class) (Err fault)) }
+        ensures given { MatchResult result (λ r. GivesBytes (files self.old class) (Self.Reader.remaining r))
+            (λ fault. IsGiven (files self.old class) (Err fault)) }
         ensures stays { (by_pages : Bool) → honest self.old by_pages → honest self.new by_pages }
         ensures files { (c : AClass) → files self.new c ≡ files self.old c }
         ensures headers { (c : AClass) → headers self.new c ≡ headers self.old c };
@@ -55,7 +56,9 @@ pub trait TableStore {
     fn pages(&mut self, class: Class) -> Result<Self::Pages, StoreFault>
         ensures opened { IsOk result → IsOpened (headers self.old class) }
         ensures right { honest self.old true → IfOk result (λ source. IsRightSource Self.Pages.honest source) }
-        ensures given { MatchResult result (λ source. (bytes : List ℕ) → Self.Pages.gives source of_header (Ok bytes) → IsGiven (headers self.old class) (Ok bytes)) (λ fault. IsGiven (headers self.old class) (Err fault)) }
+        ensures given { MatchResult result (λ source. (bytes : List ℕ) → Self.Pages.gives source of_header (Ok bytes)
+            → IsGiven (headers self.old class) (Ok bytes))
+            (λ fault. IsGiven (headers self.old class) (Err fault)) }
         ensures stays { (by_pages : Bool) → honest self.old by_pages → honest self.new by_pages }
         ensures files { (c : AClass) → files self.new c ≡ files self.old c }
         ensures headers { (c : AClass) → headers self.new c ≡ headers self.old c };

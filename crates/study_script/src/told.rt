@@ -80,8 +80,12 @@ fn put_counts<W: Write>(
     cells: &[u8],
     win: &[u8],
 ) -> Result<(), DeviceFailed>
-    ensures ok { OnOk result (Appends (W.contents out.old) (W.contents out.new) (codes "built " ++ (name.now ++ (codes " cells " ++ (cells.now ++ line_text (codes " win ") win.now))))) }
-    ensures err { OnErr result (TakesPrefix (W.contents out.old) (W.contents out.new) (codes "built " ++ (name.now ++ (codes " cells " ++ (cells.now ++ line_text (codes " win ") win.now))))) }
+    ensures ok { OnOk result
+        (Appends (W.contents out.old) (W.contents out.new)
+        (codes "built " ++ (name.now ++ (codes " cells " ++ (cells.now ++ line_text (codes " win ") win.now))))) }
+    ensures err { OnErr result
+        (TakesPrefix (W.contents out.old) (W.contents out.new)
+        (codes "built " ++ (name.now ++ (codes " cells " ++ (cells.now ++ line_text (codes " win ") win.now))))) }
 {
     put(out, b"built ")?;
     put(out, name)?;

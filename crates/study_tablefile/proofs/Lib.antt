@@ -1,7 +1,7 @@
-pub mod Wrote
-pub mod Bounds
+pub mod TextTaken
+pub mod ClassBounds
 pub mod Lists
-pub mod Pages
-pub mod Known
-pub mod Again
-pub mod Only
+pub mod PagesWritten
+pub mod BytesGiven
+pub mod ReadAgain
+pub mod TablesRead

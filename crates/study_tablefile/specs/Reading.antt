@@ -1,5 +1,6 @@
 -- How bytes read as a table: from front to back, up to the first fault.
-use Rattle.std.specs.Prelude.{◌≡◌, ℕ, zero, suc, ◌+◌, ◌<◌, ◌==◌, nat_lt, not, ◌&&◌, List, [], ◌++◌, length, take, drop, replicate, codes, find, Option, Some, None, Result, Ok, Err, if◌then◌else◌, ⊤}
+use Rattle.std.specs.Prelude.{◌≡◌, ℕ, zero, suc, ◌+◌, ◌<◌, ◌==◌, nat_lt, not, ◌&&◌, List, [], ◌++◌, length, take, drop}
+use Rattle.std.specs.Prelude.{replicate, codes, find, Option, Some, None, Result, Ok, Err, if◌then◌else◌, ⊤}
 use Rattle.std.specs.Str.{bytes_eq}
 use Rattle.sha2.specs.Sha256.{sha256}
 use Rattle.byteorder.specs.Endian.{little_number}
@@ -8,7 +9,9 @@ use Rattle.study_material.specs.Class.{class_list}
 use Rattle.study_index.specs.Number.{cells_of}
 use Rattle.study_retro.specs.Table.{Table}
 use Rattle.study_tablefile.specs.declared.fault.FileFault.{FileFault}
-use Rattle.study_tablefile.specs.declared.fault.FileFault.TheVariants.{Cut, NotATable, Version, ClassUnknown, HeaderDamaged, PageDamaged, Padding, TrailingBytes}
+use Rattle.study_tablefile.specs.declared.fault.FileFault.TheVariants.{Cut, NotATable, Version, ClassUnknown}
+use Rattle.study_tablefile.specs.declared.fault.FileFault.TheVariants.{HeaderDamaged, PageDamaged, Padding}
+use Rattle.study_tablefile.specs.declared.fault.FileFault.TheVariants.{TrailingBytes}
 use Rattle.study_tablefile.specs.File.{class_field, is_version, is_known, fields_text, page_digest, pages_of}
 
 -- the class of files of the version that is written in 8 bytes, if there is one

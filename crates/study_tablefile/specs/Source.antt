@@ -1,5 +1,6 @@
 -- Pages of a table's file, one by one, and what gives them.
-use Rattle.std.specs.Prelude.{◌≡◌, ℕ, ◌+◌, ◌-◌, ◌*◌, ◌^◌, ◌<◌, ◌≤◌, min, Bool, true, ◌&&◌, List, length, take, drop, replicate, Option, is_some, Result, Ok, Err}
+use Rattle.std.specs.Prelude.{◌≡◌, ℕ, ◌+◌, ◌-◌, ◌*◌, ◌<◌, ◌≤◌, min, Bool, true, ◌&&◌, List}
+use Rattle.std.specs.Prelude.{length, take, drop, replicate, Option, is_some, Result, Ok, Err}
 use Rattle.std.specs.Str.{bytes_eq}
 use Rattle.study_retro.specs.Table.{Table}
 use Rattle.study_tablefile.specs.declared.fault.SourceFault.{SourceFault}

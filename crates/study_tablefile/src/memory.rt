@@ -1,5 +1,7 @@
 //! A reader and a writer in memory that go byte by byte and fail where a test wants it.
-ghost use Rattle.std.specs.Prelude.{◌≡◌, ℕ, ◌<◌, ◌↔◌, [], Some, None, Ok, Err, length, take, drop, vec_len, ◌≤◌, ◌⊎◌, IsOk, IsErr, IsErrOf, IfOk, IfErr, OnOk, OnErr, MatchResult, ◌≢◌, ◌+◌, ◌-◌, ◌*◌, ◌^◌};
+ghost use Rattle.std.specs.Prelude.{◌≡◌, ℕ, ◌<◌, ◌↔◌, [], Some, None, Ok, Err, length, take};
+ghost use Rattle.std.specs.Prelude.{drop, vec_len, ◌≤◌, ◌⊎◌, IsOk, IsErr, IsErrOf, IfOk, IfErr};
+ghost use Rattle.std.specs.Prelude.{OnOk, OnErr, MatchResult, ◌≢◌, ◌+◌, ◌-◌, ◌*◌, ◌^◌};
 ghost use Rattle.study_board.specs.Counts.{counted};
 ghost use Rattle.study_tablefile.specs.Source.{page_of, IsAnswerOf, of_header, of_page};
 ghost use Rattle.study_tablefile.specs.File.{header_text, pages_of, table_text};
@@ -55,7 +57,7 @@ impl<'a> MemoryReader<'a> {
 impl<'a> Read for MemoryReader<'a> {
     ghost remaining = { λ r. Some (drop r.given r.text.now) };
 
-    #[tactic(auto, using(crate::proofs::Known::byte_given))]
+    #[tactic(auto, using(crate::proofs::BytesGiven::byte_given))]
     fn read(&mut self, buf: &mut [u8]) -> io::Result<usize>
         ensures bound { ReadsAtMost result buf.new }
         ensures bytes { ReadConsumes (Some (drop self.old.given self.old.text.now)) (Some (drop self.new.given self.new.text.now)) result buf.new }
@@ -127,9 +129,12 @@ impl<'a, A: Allocator> Write for MemoryWriter<'a, A> {
         ensures bound { WritesAtMost result buf.now }
         ensures bytes { WriteAppends (Some self.old.taken.items) (Some self.new.taken.items) result buf.now }
         ensures takes { 0 < length buf.now → vec_len self.old.taken < self.old.room → IfOk result (λ n. n ≡ 1) }
-        ensures full { 0 < length buf.now → self.old.room ≤ vec_len self.old.taken → MatchResult result (λ n. (n ≡ 0) × (self.old.when_full ≡ WhenFull.TakeNothing)) (λ e. self.old.when_full ≡ WhenFull.Fail) }
+        ensures full { 0 < length buf.now → self.old.room ≤ vec_len self.old.taken
+            → MatchResult result (λ n. (n ≡ 0) × (self.old.when_full ≡ WhenFull.TakeNothing))
+            (λ e. self.old.when_full ≡ WhenFull.Fail) }
         ensures plan { (self.new.room ≡ self.old.room) × (self.new.when_full ≡ self.old.when_full) }
-        ensures fails { IfErr result (λ e. (error_kind e ≡ ErrorKind.OutOfMemory) ⊎ ((self.old.room ≤ vec_len self.old.taken) × (self.old.when_full ≡ WhenFull.Fail))) }
+        ensures fails { IfErr result (λ e. (error_kind e ≡ ErrorKind.OutOfMemory)
+            ⊎ ((self.old.room ≤ vec_len self.old.taken) × (self.old.when_full ≡ WhenFull.Fail))) }
     {
         if buf.is_empty() {
             return Ok(0);
@@ -208,7 +213,7 @@ impl<'a> PageSource for MemorySource<'a> {
 
     ghost failed = { λ s. s.failures };
 
-    #[tactic(auto, using(crate::proofs::Again::header_given))]
+    #[tactic(auto, using(crate::proofs::ReadAgain::header_given))]
     fn header(&mut self, into: &mut [u8; 64]) -> Result<(), SourceFault>
         ensures ok { (t : Seen) (v : ℕ) → self.old.text.now ≡ table_text t v → OnOk result (into.new ≡ header_text t.class v) }
         ensures given { OnOk result (IsAnswerOf self.old.text.now self.old.fails_at of_header (Ok into.new)) }

@@ -1,5 +1,6 @@
 //! Table files read from front to back.
-ghost use Rattle.std.specs.Prelude.{◌≡◌, ◌<◌, ◌≤◌, ◌⊎◌, ◌&&◌, ◌+◌, ◌*◌, ℕ, List, [], ◌++◌, Some, None, Ok, Err, length, take, drop, replicate, OnOk, IfOk, IfErr, vec_len, vec_capacity};
+ghost use Rattle.std.specs.Prelude.{◌≡◌, ◌<◌, ◌≤◌, ◌⊎◌, ◌&&◌, ◌+◌, ◌*◌, ℕ, List, [], ◌++◌, Some, None, Ok, Err};
+ghost use Rattle.std.specs.Prelude.{length, take, drop, replicate, OnOk, IfOk, IfErr, vec_len, vec_capacity};
 ghost use Rattle.sha2.specs.Sha256.{sha256};
 ghost use Rattle.std.specs.Str.{bytes_eq};
 ghost use Rattle.std.specs.Io.KnownBytes.{Consumes};
@@ -67,7 +68,8 @@ fn class_of_field(version: u16, field: &[u8]) -> Option<Class>
 
 /// Whether the bytes are the fields of a class in a version, and their digest.
 fn is_header(bytes: &[u8; 64], class: Class, version: u16) -> bool
-    ensures { result ≡ (bytes_eq (take 32 bytes.now) (fields_text class version) && bytes_eq (take 32 (drop 32 bytes.now)) (sha256 (fields_text class version))) }
+    ensures { result ≡ (bytes_eq (take 32 bytes.now) (fields_text class version) && bytes_eq (take 32 (drop 32 bytes.now))
+        (sha256 (fields_text class version))) }
 {
     let fields = fields(class, version);
     let digest = digest(fields.as_slice());
@@ -136,7 +138,9 @@ fn read_page<'a, A: Allocator, R: Read>(
     requires { vec_len cells.old + 4096 ≤ vec_capacity cells.old }
     ensures capacity { vec_capacity cells.old ≤ vec_capacity cells.new }
     ensures len { OnOk result (vec_len cells.new ≡ vec_len cells.old + 4096) }
-    ensures ok { (bytes : List ℕ) → R.remaining input.old ≡ Some bytes → OnOk result ((R.remaining input.new ≡ Some (drop 4128 bytes)) × (cells.new.items ≡ cells.old.items ++ take 4096 bytes) × (page_fault fields.now number bytes ≡ None)) }
+    ensures ok { (bytes : List ℕ) → R.remaining input.old ≡ Some bytes
+        → OnOk result ((R.remaining input.new ≡ Some (drop 4128 bytes))
+        × (cells.new.items ≡ cells.old.items ++ take 4096 bytes) × (page_fault fields.now number bytes ≡ None)) }
     ensures fault { (bytes : List ℕ) → R.remaining input.old ≡ Some bytes → IfErr result (λ e. (e ≡ Device) ⊎ (page_fault fields.now number bytes ≡ Some e)) }
 {
     let mut page = [0u8; 4128];
@@ -158,8 +162,11 @@ fn read_pages<'a, A: Allocator, R: Read>(
     requires empty { vec_len cells.old ≡ 0 }
     requires room { 4096 * pages_of class ≤ vec_capacity cells.old }
     ensures len { OnOk result (vec_len cells.new ≡ 4096 * pages_of class) }
-    ensures ok { (bytes : List ℕ) → R.remaining input.old ≡ Some bytes → OnOk result ((rest : List ℕ) × (R.remaining input.new ≡ Some rest) × (pages_read class version 0 (pages_of class) [] bytes ≡ table_end class cells.new.items rest)) }
-    ensures fault { (bytes : List ℕ) → R.remaining input.old ≡ Some bytes → IfErr result (λ e. (e ≡ Device) ⊎ (pages_read class version 0 (pages_of class) [] bytes ≡ Err e)) }
+    ensures ok { (bytes : List ℕ) → R.remaining input.old ≡ Some bytes
+        → OnOk result ((rest : List ℕ) × (R.remaining input.new ≡ Some rest)
+        × (pages_read class version 0 (pages_of class) [] bytes ≡ table_end class cells.new.items rest)) }
+    ensures fault { (bytes : List ℕ) → R.remaining input.old ≡ Some bytes
+        → IfErr result (λ e. (e ≡ Device) ⊎ (pages_read class version 0 (pages_of class) [] bytes ≡ Err e)) }
 {
     let fields = fields(class, version);
     let count = pages(class);
@@ -224,7 +231,8 @@ pub fn read_table<'a, A: Allocator, R: Read>(
 ) -> Result<Table<'a, A>, FileFault>
     ensures text { (bytes : List ℕ) → R.remaining input.old ≡ Some bytes → IfOk result (λ t. (v : ℕ) × IsVersionOf t.class v × (bytes ≡ table_text t v)) }
     ensures ok { (bytes : List ℕ) → R.remaining input.old ≡ Some bytes → IfOk result (λ t. table_read bytes ≡ Ok t) }
-    ensures fault { (bytes : List ℕ) → R.remaining input.old ≡ Some bytes → IfErr result (λ e. (e ≡ Device) ⊎ ((e ≡ OutOfMemory) × HasHeader bytes) ⊎ (table_read bytes ≡ Err e)) }
+    ensures fault { (bytes : List ℕ) → R.remaining input.old ≡ Some bytes
+        → IfErr result (λ e. (e ≡ Device) ⊎ ((e ≡ OutOfMemory) × HasHeader bytes) ⊎ (table_read bytes ≡ Err e)) }
 {
     let mut header = [0; 64];
     fill(input, &mut header)?;

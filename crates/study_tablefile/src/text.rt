@@ -1,11 +1,11 @@
 //! The text of a table file, and the tables that are written as one.
-ghost use Rattle.std.specs.Prelude.{◌≡◌, ◌<◌, ◌≤◌, ℕ, OnOk, OnErr, IfErr, length};
-ghost use Rattle.std.specs.Prelude.{◌+◌, ◌*◌};
+ghost use Rattle.std.specs.Prelude.{◌≡◌, ◌<◌, ◌≤◌, ℕ, OnOk, OnErr, IfErr, length, ◌+◌, ◌*◌};
 ghost use Rattle.sha2.specs.Sha256.{sha256};
 ghost use Rattle.std.specs.Io.KnownBytes.{Appends};
 ghost use Rattle.study_retro.specs.Table.{Table as Seen};
 ghost use Rattle.study_tablefile.specs.Taken.{TakesPrefix};
-ghost use Rattle.study_tablefile.specs.File.{written_version, class_field, fields_text, header_text, page_cells_of, page_digest, page_text, pages_of, table_text};
+ghost use Rattle.study_tablefile.specs.File.{written_version, class_field, fields_text, header_text};
+ghost use Rattle.study_tablefile.specs.File.{page_cells_of, page_digest, page_text, pages_of, table_text};
 ghost use Rattle.study_tablefile.specs.declared.fault.FileFault.TheVariants.{Device};
 
 use crate::fault::{DeviceFailed, FileFault};
@@ -22,7 +22,7 @@ use study_retro::Table;
 pub const PAGE_CELLS: usize = 4096;
 
 /// The name of a class in 8 bytes, with zero bytes behind it.
-#[tactic(auto, using(crate::proofs::Bounds::short_name, crate::proofs::Lists::field_filled), unfolding(crate::specs::File::class_field))]
+#[tactic(auto, using(crate::proofs::ClassBounds::short_name, crate::proofs::Lists::field_filled), unfolding(crate::specs::File::class_field))]
 pub fn class_field(class: Class) -> [u8; 8]
     ensures { result ≡ class_field class }
 {
@@ -115,7 +115,7 @@ fn put_page<W: Write>(
 }
 
 /// How many pages a class has.
-#[tactic(auto, using(crate::proofs::Bounds::few_cells), unfolding(crate::specs::File::pages_of))]
+#[tactic(auto, using(crate::proofs::ClassBounds::few_cells), unfolding(crate::specs::File::pages_of))]
 pub fn pages(class: Class) -> u32
     ensures { result ≡ pages_of class }
 {
@@ -123,7 +123,7 @@ pub fn pages(class: Class) -> u32
 }
 
 /// How many bytes the file of a class has.
-#[tactic(auto, using(crate::proofs::Bounds::few_cells), unfolding(crate::specs::File::pages_of))]
+#[tactic(auto, using(crate::proofs::ClassBounds::few_cells), unfolding(crate::specs::File::pages_of))]
 pub fn file_bytes(class: Class) -> u32
     ensures value { result ≡ 64 + 4128 * pages_of class }
     ensures text { (t : Seen) (v : ℕ) → t.class ≡ class → length (table_text t v) ≡ result }

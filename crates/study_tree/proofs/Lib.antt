@@ -1,8 +1,8 @@
-pub mod Places
-pub mod Shown
-pub mod Spots
-pub mod Within
-pub mod Written
+pub mod PathSteps
+pub mod ShownTrees
+pub mod PathEnds
+pub mod TreeDepth
+pub mod RowBlocks
 pub mod RowEdits
 pub mod RowReads
 pub mod RowTrees

@@ -1,5 +1,6 @@
 -- An edit of a tree is the edit of its rows.
-use Rattle.std.proofs.Common.{◌≡◌, ℕ, List, [], ◌∷◌, ◌++◌, Bool, true, false, IsTrue, Some, None, refl, sym, ap, ◌∙◌, arith, zero, suc, append_assoc, append-nil}
+use Rattle.std.proofs.Common.{◌≡◌, ℕ, List, [], ◌∷◌, ◌++◌, Bool, true, false, IsTrue, Some, None}
+use Rattle.std.proofs.Common.{refl, sym, ap, ◌∙◌, arith, zero, suc, append_assoc, append-nil}
 use Rattle.study_moves.specs.declared.moves.Move.{Move}
 use Rattle.study_tree.specs.Forest.{Forest, none, more}
 use Rattle.study_tree.specs.Edits.{below_edited, with_last, add_last, place_edited, dropped_at, labelled_at, raised_at, last_place, has_node}
@@ -7,8 +8,10 @@ use Rattle.std.specs.Prelude.{if◌then◌else◌, not, nat_eq}
 use Rattle.std.proofs.lemmas.Bool.{eqb-false}
 use Rattle.study_tree.specs.declared.fault.TreeFault.TheVariants.{NoSuchNode, AlreadyFirst}
 use Rattle.study_tree.specs.Tree.{Plain, with_child, without, with_label, moved_up, move_up_refusal}
-use Rattle.study_tree.specs.Rows.{Row, Cut, rows_in, rows, around, cut_at, replaced, exchanged, with_last_row, with_first_label, rows_with_child, rows_without, rows_with_label, rows_moved_up, sibling_before, place_before}
-use Rattle.study_tree.proofs.Written.{row, cut_below, later, cut-none, cut-here, cut-down, cut-next}
+use Rattle.study_tree.specs.Rows.{Row, Cut, rows_in, rows, around, cut_at, replaced, exchanged}
+use Rattle.study_tree.specs.Rows.{with_last_row, with_first_label, rows_with_child, rows_without}
+use Rattle.study_tree.specs.Rows.{rows_with_label, rows_moved_up, sibling_before, place_before}
+use Rattle.study_tree.proofs.RowBlocks.{row, cut_below, later, cut-none, cut-here, cut-down, cut-next}
 
 module _ {L : Type 0} where
   -- an edit of the node at a path, whose first place is k, that puts another block in the place of the node's
@@ -19,7 +22,8 @@ module _ {L : Type 0} where
     pub at_down : (m : Move) (l : L) (b r : Forest L) (j : ℕ) (js : List ℕ) → edit (more m l b r) zero (j ∷ js) ≡ more m l (edit b j js) r
     pub at_next : (m : Move) (l : L) (b r : Forest L) (k : ℕ) (ks : List ℕ) → edit (more m l b r) (suc k) ks ≡ more m l b (edit r k ks)
 
-  replaced-around : (block : List (Row L) → List (Row L)) (x : List (Row L)) (c : Cut L) (y : List (Row L)) → x ++ (replaced block c ++ y) ≡ replaced block (around x c y)
+  replaced-around : (block : List (Row L) → List (Row L)) (x : List (Row L)) (c : Cut L) (y : List (Row L))
+      → x ++ (replaced block c ++ y) ≡ replaced block (around x c y)
   replaced-around block x c y =
       ap (λ xs. x ++ xs) (append_assoc c.before (block c.block ++ c.after) y ∙ ap (λ xs. c.before ++ xs) (append_assoc (block c.block) c.after y))
       ∙ sym (append_assoc x c.before (block c.block ++ (c.after ++ y)))
@@ -27,7 +31,8 @@ module _ {L : Type 0} where
   replaced-later : (block : List (Row L) → List (Row L)) (x : List (Row L)) (c : Cut L) → x ++ replaced block c ≡ replaced block (later x c)
   replaced-later block x c = sym (append_assoc x c.before (block c.block ++ c.after))
 
-  edited-rows : {edit : Forest L → ℕ → List ℕ → Forest L} {block : List (Row L) → List (Row L)} → BlockEdit edit block → (d : ℕ) (f : Forest L) (k : ℕ) (ks : List ℕ)
+  edited-rows : {edit : Forest L → ℕ → List ℕ → Forest L} {block : List (Row L) → List (Row L)}
+      → BlockEdit edit block → (d : ℕ) (f : Forest L) (k : ℕ) (ks : List ℕ)
       → rows_in d (edit f k ks) ≡ replaced block (cut_below d (rows_in d f) (k ∷ ks))
   edited-rows {edit} {block} e d none k ks =
       ap (rows_in d) (e.at_none k ks) ∙ ap (λ xs. xs ++ []) (sym e.missing) ∙ ap (replaced block) (sym (cut-none d k ks))
@@ -47,7 +52,9 @@ module _ {L : Type 0} where
   place-none g empty k [] = empty k
   place-none g empty k (j ∷ js) = refl
 
-  place-next : (g : ℕ → Forest L → Forest L) → ((m : Move) (l : L) (b r : Forest L) (k : ℕ) → g (suc k) (more m l b r) ≡ more m l b (g k r)) → (m : Move) (l : L) (b r : Forest L) (k : ℕ) (ks : List ℕ)
+  place-next : (g : ℕ → Forest L → Forest L)
+      → ((m : Move) (l : L) (b r : Forest L) (k : ℕ) → g (suc k) (more m l b r) ≡ more m l b (g k r))
+      → (m : Move) (l : L) (b r : Forest L) (k : ℕ) (ks : List ℕ)
       → place_edited g (more m l b r) (suc k) ks ≡ more m l b (place_edited g r k ks)
   place-next g next m l b r k [] = next m l b r k
   place-next g next m l b r k (j ∷ js) = refl
@@ -126,7 +133,8 @@ sibling-parts : (k : ℕ) (ks : List ℕ) → sibling_before (k ∷ ks) ≡ sibl
 sibling-parts k [] = refl
 sibling-parts k (j ∷ js) = ap (λ xs. k ∷ xs) (sibling-parts j js)
 
-refusal-none : {F : Type 0} (found first : Bool) (a b : F) → (if not found then Some a else (if first then Some b else None)) ≡ None → (found ≡ true) × (first ≡ false)
+refusal-none : {F : Type 0} (found first : Bool) (a b : F)
+    → (if not found then Some a else (if first then Some b else None)) ≡ None → (found ≡ true) × (first ≡ false)
 refusal-none false first a b h = let no : ⊥ = cc in absurd no
 refusal-none true true a b h = let no : ⊥ = cc in absurd no
 refusal-none true false a b h = (refl, refl)
@@ -146,12 +154,16 @@ module _ {L : Type 0} where
   exchanged-same e a c b p q = ap (λ x. exchanged x c) p ∙ ap (exchanged a) q
 
   raised-rows : (d : ℕ) (f : Forest L) (k : ℕ) (ks : List ℕ) → IsTrue (has_node f (k ∷ ks)) → (last_place k ks ≡ 0 → ⊥)
-      → rows_in d (place_edited raised_at f k ks) ≡ exchanged (cut_below d (rows_in d f) (sibling_place k ks ∷ sibling_rest ks)) (cut_below d (rows_in d f) (k ∷ ks))
+      → rows_in d (place_edited raised_at f k ks)
+      ≡ exchanged (cut_below d (rows_in d f) (sibling_place k ks ∷ sibling_rest ks))
+      (cut_below d (rows_in d f) (k ∷ ks))
   raised-rows d none k ks found up = let no : ⊥ = cc in absurd no
   raised-rows d (more m l b r) zero [] found up = absurd (up refl)
   raised-rows d (more m l b r) zero (j ∷ js) found up =
       ap (λ xs. row d m l ∷ (xs ++ rows_in d r)) (raised-rows (suc d) b j js found up)
-      ∙ exchanged-around (row d m l ∷ []) (cut_below (suc d) (rows_in (suc d) b) (sibling_place j js ∷ sibling_rest js)) (cut_below (suc d) (rows_in (suc d) b) (j ∷ js)) (rows_in d r)
+      ∙ exchanged-around (row d m l ∷ [])
+      (cut_below (suc d) (rows_in (suc d) b) (sibling_place j js ∷ sibling_rest js))
+      (cut_below (suc d) (rows_in (suc d) b) (j ∷ js)) (rows_in d r)
       ∙ exchanged-same _ _ _ _ (sym (cut-down d m l b r (sibling_place j js) (sibling_rest js))) (sym (cut-down d m l b r j js))
   raised-rows d (more m l b none) (suc zero) [] found up = let no : ⊥ = cc in absurd no
   raised-rows d (more m l b (more n x a r)) (suc zero) [] found up =
@@ -163,7 +175,9 @@ module _ {L : Type 0} where
       ∙ exchanged-same _ _ _ _ (sym (cut-next d m l b r k [])) (sym (cut-next d m l b r (suc k) []))
   raised-rows d (more m l b r) (suc k) (j ∷ js) found up =
       ap (λ xs. (row d m l ∷ rows_in (suc d) b) ++ xs) (raised-rows d r k (j ∷ js) found up)
-      ∙ exchanged-later (row d m l ∷ rows_in (suc d) b) (cut_below d (rows_in d r) (k ∷ sibling_place j js ∷ sibling_rest js)) (cut_below d (rows_in d r) (k ∷ j ∷ js))
+      ∙ exchanged-later (row d m l ∷ rows_in (suc d) b)
+      (cut_below d (rows_in d r) (k ∷ sibling_place j js ∷ sibling_rest js))
+      (cut_below d (rows_in d r) (k ∷ j ∷ js))
       ∙ exchanged-same _ _ _ _ (sym (cut-next d m l b r k (sibling_place j js ∷ sibling_rest js))) (sym (cut-next d m l b r k (j ∷ js)))
 
   pub moved-rows : (t : Plain L) (steps : List ℕ) → move_up_refusal t steps ≡ None → rows (moved_up t steps) ≡ rows_moved_up (rows t) steps

@@ -1,5 +1,6 @@
 -- What a tree shows, read off its rows.
-use Rattle.std.proofs.Common.{◌≡◌, ℕ, ◌<◌, ◌≤◌, List, [], ◌∷◌, ◌++◌, length, Some, None, refl, sym, ap, ◌∙◌, arith, zero, suc, append_assoc, append-nil, subst, length-append}
+use Rattle.std.proofs.Common.{◌≡◌, ℕ, ◌<◌, ◌≤◌, List, [], ◌∷◌, ◌++◌, length, Some, None, refl, sym, ap}
+use Rattle.std.proofs.Common.{◌∙◌, arith, zero, suc, append_assoc, append-nil, subst, length-append}
 use Rattle.std.specs.Prelude.{if◌then◌else◌}
 use Rattle.std.proofs.lemmas.Bool.{eq-eqb, ne_eqb}
 use Rattle.study_moves.specs.declared.moves.Move.{Move}
@@ -7,7 +8,7 @@ use Rattle.study_tree.specs.Forest.{Forest, none, more, nodes_in}
 use Rattle.study_tree.specs.Edits.{node_in, width}
 use Rattle.study_tree.specs.Tree.{Plain, spot_at, twig_spot, size_of}
 use Rattle.study_tree.specs.Rows.{Row, rows_in, rows, AreRows, AreRowsBelow, deeper, past, cut_at, count_at, first_spot}
-use Rattle.study_tree.proofs.Written.{row, cut_below, cut-none, cut-here, cut-down, cut-next, deeper-split, past-split}
+use Rattle.study_tree.proofs.RowBlocks.{row, cut_below, cut-none, cut-here, cut-down, cut-next, deeper-split, past-split}
 
 module _ {L : Type 0} where
   count-below : (d e : ℕ) (f : Forest L) (rs : List (Row L)) → d < e → count_at d (rows_in e f ++ rs) ≡ count_at d rs
@@ -25,7 +26,8 @@ module _ {L : Type 0} where
   spot-below : (d : ℕ) (f : Forest L) (k : ℕ) (ks : List ℕ) → twig_spot (node_in f k ks) ≡ first_spot (cut_below d (rows_in d f) (k ∷ ks)).block
   spot-below d none k ks = ap (λ c. first_spot c.block) (sym (cut-none d k ks))
   spot-below d (more m l b r) zero [] =
-      ap (λ n. Some (record { played = Some m; label = l; children = n })) (sym (count-width (suc d) b)) ∙ ap (λ c. first_spot c.block) (sym (cut-here d m l b r))
+      ap (λ n. Some (record { played = Some m; label = l; children = n })) (sym (count-width (suc d) b))
+      ∙ ap (λ c. first_spot c.block) (sym (cut-here d m l b r))
   spot-below d (more m l b r) zero (j ∷ js) = spot-below (suc d) b j js ∙ ap (λ c. first_spot c.block) (sym (cut-down d m l b r j js))
   spot-below d (more m l b r) (suc k) ks = spot-below d r k ks ∙ ap (λ c. first_spot c.block) (sym (cut-next d m l b r k ks))
 

@@ -1,12 +1,14 @@
 -- Each list of rows is that of a tree.
-use Rattle.std.proofs.Common.{◌≡◌, ℕ, ◌<◌, ◌≤◌, List, [], ◌∷◌, ◌++◌, length, Bool, true, false, Option, Some, None, refl, sym, ap, ◌∙◌, arith, zero, suc, append_assoc, append-nil, subst, length-append}
+use Rattle.std.proofs.Common.{◌≡◌, ℕ, ◌<◌, ◌≤◌, List, [], ◌∷◌, ◌++◌, length, Bool, true}
+use Rattle.std.proofs.Common.{false, Option, Some, None, refl, sym, ap, ◌∙◌, arith, zero}
+use Rattle.std.proofs.Common.{suc, append_assoc, append-nil, subst, length-append}
 use Rattle.std.specs.Prelude.{is_some, nat_lt}
 use Rattle.std.proofs.lemmas.Bool.{ltb-true, ltb-false}
 use Rattle.study_moves.specs.declared.moves.Move.{Move}
 use Rattle.study_tree.specs.Forest.{Forest, none, more}
 use Rattle.study_tree.specs.Tree.{Plain}
 use Rattle.study_tree.specs.Rows.{Row, rows_in, rows, AreRows, AreRowsBelow}
-use Rattle.study_tree.proofs.Written.{row}
+use Rattle.study_tree.proofs.RowBlocks.{row}
 
 some-of : {X : Type 0} (o : Option X) → is_some o ≡ true → (x : X) × (o ≡ Some x)
 some-of None h = let no : ⊥ = cc in absurd no
@@ -29,13 +31,16 @@ module _ {L : Type 0} where
   same-row : (r : Row L) (d : ℕ) (m : Move) → r.depth ≡ d → r.played ≡ Some m → row d m r.label ≡ r
   same-row r d m deep played = rw (deep, played) refl
 
-  joined-more : (e : ℕ) (r : Row L) (m : Move) (b f : Forest L) (rest later rs : List (Row L)) → r.depth ≡ suc e → r.played ≡ Some m → rows_in (suc (suc e)) b ++ later ≡ rs → rows_in (suc e) f ++ rest ≡ later
+  joined-more : (e : ℕ) (r : Row L) (m : Move) (b f : Forest L) (rest later rs : List (Row L)) → r.depth ≡ suc e
+      → r.played ≡ Some m → rows_in (suc (suc e)) b ++ later ≡ rs → rows_in (suc e) f ++ rest ≡ later
       → rows_in (suc e) (more m r.label b f) ++ rest ≡ r ∷ rs
   joined-more e r m b f rest later rs deep played inner outer =
-      ap (λ xs. row (suc e) m r.label ∷ xs) (append_assoc (rows_in (suc (suc e)) b) (rows_in (suc e) f) rest ∙ ap (λ xs. rows_in (suc (suc e)) b ++ xs) outer ∙ inner)
+      ap (λ xs. row (suc e) m r.label ∷ xs) (append_assoc (rows_in (suc (suc e)) b) (rows_in (suc e) f) rest
+      ∙ ap (λ xs. rows_in (suc (suc e)) b ++ xs) outer ∙ inner)
       ∙ ap (λ x. x ∷ rs) (same-row r (suc e) m deep played)
 
-  more-split : (e : ℕ) (r : Row L) (rs : List (Row L)) (m : Move) → r.depth ≡ suc e → r.played ≡ Some m → (inner : Split (suc e) rs) → Split e inner.rest → Split e (r ∷ rs)
+  more-split : (e : ℕ) (r : Row L) (rs : List (Row L)) (m : Move) → r.depth ≡ suc e → r.played ≡ Some m
+      → (inner : Split (suc e) rs) → Split e inner.rest → Split e (r ∷ rs)
   more-split e r rs m deep played inner outer =
       record {
         siblings = more m r.label inner.siblings outer.siblings;

@@ -1,4 +1,5 @@
--- The nodes that a path leads to, and the edits of a tree there. A path is the places of children from the root, counted from 0; a forest stands for what is below the path's start.
+-- The nodes that a path leads to, and the edits of a tree there. A path is the places of children from the root,
+-- counted from 0; a forest stands for what is below the path's start.
 use Rattle.std.specs.Prelude.{ℕ, ◌+◌, List, [], ◌∷◌, Bool, true, false, Option, Some, None, suc, zero}
 use Rattle.study_moves.specs.declared.moves.Move.{Move}
 use Rattle.study_tree.specs.Forest.{Forest, none, more, Twig}

@@ -73,7 +73,9 @@ module _ {L : Type 0} where
   abbrev pub cut_at : List (Row L) → List ℕ → Cut L
   cut_at rs [] = record { before = []; block = rs; after = [] }
   cut_at [] (k ∷ ks) = record { before = []; block = []; after = [] }
-  cut_at (r ∷ rs) (k ∷ ks) = around (r ∷ before_child (suc r.depth) k rs) (cut_at (first_block (from_child (suc r.depth) k rs)) ks) (past_block (from_child (suc r.depth) k rs))
+  cut_at (r ∷ rs) (k ∷ ks) =
+      around (r ∷ before_child (suc r.depth) k rs) (cut_at (first_block (from_child (suc r.depth) k rs)) ks)
+      (past_block (from_child (suc r.depth) k rs))
 
   -- another block in the place of the one that was cut
   abbrev pub replaced : (List (Row L) → List (Row L)) → Cut L → List (Row L)

@@ -2,7 +2,8 @@
 ghost use Rattle.std.specs.Prelude.{◌≡◌, ◌+◌, ◌-◌, ◌<◌, ◌^◌, IsTrue, IsOk, IfOk, OnErr, OnOk, ◌∷◌, vec_len, vec_capacity};
 ghost use Rattle.std.specs.Option.{option_copied};
 ghost use Rattle.study_tree.specs.Forest.{forest_of, nodes_in, nodes_from};
-ghost use Rattle.study_tree.specs.Edits.{has_node, node_in, add_last, children_at, plain, spare_at, place_edited, labelled_at, dropped_at, raised_at, last_place};
+ghost use Rattle.study_tree.specs.Edits.{has_node, node_in, add_last, children_at, plain, spare_at};
+ghost use Rattle.study_tree.specs.Edits.{place_edited, labelled_at, dropped_at, raised_at, last_place};
 
 use std::alloc::{AllocError, Allocator};
 use std::marker::Model;

@@ -3,7 +3,9 @@ ghost use Rattle.std.specs.Prelude.{◌≡◌, ◌<◌, ◌≤◌, IsOk, IfOk, I
 ghost use Rattle.study_tree.specs.Forest.{none};
 ghost use Rattle.study_tree.specs.Edits.{IsWithin, children_at, plain};
 ghost use Rattle.study_board.specs.Counts.{counted};
-ghost use Rattle.study_tree.specs.Tree.{plain_tree, spare_of, size_of, has_spot, spot_at, with_child, with_label, without, moved_up, child_refusal, removal_refusal, move_up_refusal, label_refusal};
+ghost use Rattle.study_tree.specs.Tree.{plain_tree, spare_of, size_of, has_spot, spot_at};
+ghost use Rattle.study_tree.specs.Tree.{with_child, with_label, without, moved_up, child_refusal};
+ghost use Rattle.study_tree.specs.Tree.{removal_refusal, move_up_refusal, label_refusal};
 
 use crate::fault::TreeFault;
 use crate::node::{
@@ -48,7 +50,12 @@ impl<'a, L, A: Allocator> Model for Tree<'a, L, A> {
 
     ghost coded = { held_code L.code };
 
-    ghost view = { λ t. record { label = t.label; spare = vec_capacity t.children - vec_len t.children; below = forest_of t.children.items; relabelled = t.relabelled } };
+    ghost view = { λ t. record {
+      label = t.label;
+      spare = vec_capacity t.children - vec_len t.children;
+      below = forest_of t.children.items;
+      relabelled = t.relabelled;
+    } };
 
     ghost invariant = { λ t. (t.size ≡ 1 + nodes_in (forest_of t.children.items)) × (t.size ≤ 4096) × IsWithin 256 (plain (forest_of t.children.items)) };
 }
@@ -96,7 +103,9 @@ impl<'a, L, A: Allocator> Tree<'a, L, A> {
 
     /// The node at the path, if there is one.
     pub fn node(&self, steps: &[u16]) -> Option<NodeRef<'_, L>>
-        ensures { MatchOption result (spot_at (plain_tree self.now) steps.now ≡ None) (λ n. spot_at (plain_tree self.now) steps.now ≡ Some (record { played = n.played; label = n.label.now; children = n.children })) }
+        ensures { MatchOption result (spot_at (plain_tree self.now) steps.now ≡ None)
+            (λ n. spot_at (plain_tree self.now) steps.now
+            ≡ Some (record { played = n.played; label = n.label.now; children = n.children })) }
     {
         match steps.split_first() {
             None => Some(NodeRef {

@@ -1,4 +1,4 @@
-use Rattle.study_index.proofs.Functions.{decoded_told, told_decoded}
+use Rattle.study_index.proofs.ComputedIndex.{decoded_told, told_decoded}
 use Rattle.study_index.proofs.laws.numbers_are_read.Goals as goal
 
 pub returns : goal.returns

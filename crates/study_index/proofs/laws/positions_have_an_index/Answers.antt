@@ -1,4 +1,4 @@
-use Rattle.study_index.proofs.Functions.{IsIndex-index_of, index_of-only}
+use Rattle.study_index.proofs.ComputedIndex.{IsIndex-index_of, index_of-only}
 use Rattle.study_index.proofs.laws.positions_have_an_index.Goals as goal
 
 pub returns : goal.returns

@@ -10,4 +10,6 @@ returns c =
     let one = one_key c.args.colours c.args.c _ d.value in
     let two = more_keys c.args.colours c.args.b (c.args.c ∷ []) _ _ _ b.value b.on_board (d.on_board, tt) c.with_one-b.ensures one in
     let three = more_keys c.args.colours c.args.a (c.args.b ∷ c.args.c ∷ []) _ _ _ a.value a.on_board (b.on_board, (d.on_board, tt)) c.with_two-a.ensures two in
-    rw (c.least_at.ensures, c.square_of.ensures, c.square_of-2.ensures, c.square_of-3.ensures) (least_of_keys c.args.pawns c.args.to_move c.args.colours (c.args.a ∷ c.args.b ∷ c.args.c ∷ []) _ (a.on_board, (b.on_board, (d.on_board, tt))) three)
+    rw (c.least_at.ensures, c.square_of.ensures, c.square_of-2.ensures, c.square_of-3.ensures)
+    (least_of_keys c.args.pawns c.args.to_move c.args.colours (c.args.a ∷ c.args.b ∷ c.args.c ∷ []) _
+    (a.on_board, (b.on_board, (d.on_board, tt))) three)

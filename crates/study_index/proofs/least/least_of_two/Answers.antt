@@ -8,4 +8,6 @@ returns c =
     let b = c.key-2.ensures in
     let one = one_key c.args.colours c.args.b _ b.value in
     let two = more_keys c.args.colours c.args.a (c.args.b ∷ []) _ _ _ a.value a.on_board (b.on_board, tt) c.with_one-a.ensures one in
-    rw (c.least_at.ensures, c.square_of.ensures, c.square_of-2.ensures) (least_of_keys c.args.pawns c.args.to_move c.args.colours (c.args.a ∷ c.args.b ∷ []) _ (a.on_board, (b.on_board, tt)) two)
+    rw (c.least_at.ensures, c.square_of.ensures, c.square_of-2.ensures)
+    (least_of_keys c.args.pawns c.args.to_move c.args.colours (c.args.a ∷ c.args.b ∷ []) _
+    (a.on_board, (b.on_board, tt)) two)

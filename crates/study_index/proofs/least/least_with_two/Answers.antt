@@ -3,4 +3,17 @@ use Rattle.study_index.proofs.BySquares.{least_of_squares}
 use Rattle.study_index.proofs.least.least_with_two.Goals as goal
 
 pub returns : goal.returns
-returns c = rw (c.least_at.ensures, c.standing.ensures.value, c.standing-2.ensures.value, c.standing-3.ensures.value, c.standing-4.ensures.value, c.man_slot_number.ensures, c.man_slot_number-2.ensures) (least_of_squares c.args.pawns c.args.to_move c.args.colours (c.args.a ∷ c.args.b ∷ c.args.c ∷ c.args.d ∷ []) (c.standing.ensures.on_board, (c.standing-2.ensures.on_board, (c.standing-3.ensures.on_board, (c.standing-4.ensures.on_board, tt)))))
+returns c =
+    rw (
+      c.least_at.ensures,
+      c.standing.ensures.value,
+      c.standing-2.ensures.value,
+      c.standing-3.ensures.value,
+      c.standing-4.ensures.value,
+      c.man_slot_number.ensures,
+      c.man_slot_number-2.ensures,
+    )
+    (least_of_squares c.args.pawns c.args.to_move c.args.colours (c.args.a ∷ c.args.b ∷ c.args.c ∷ c.args.d ∷ []) (
+      c.standing.ensures.on_board,
+      (c.standing-2.ensures.on_board, (c.standing-3.ensures.on_board, (c.standing-4.ensures.on_board, tt))),
+    ))

@@ -1,12 +1,11 @@
-use Rattle.std.proofs.Common.{◌≡◌, ℕ, ◌<◌, ◌≤◌, true, false, nat_lt, Option, Some, None, IfSome, IfNone, refl, sym, ◌∙◌, arith}
-use Rattle.std.proofs.lemmas.Bool.Decides.{nat_tests}
+use Rattle.std.proofs.Common.{◌≡◌, ℕ, ◌≤◌, Option, Some, None, IfSome, IfNone, refl, sym, arith}
 use Rattle.study_board.specs.Position.{Position}
 use Rattle.study_material.specs.declared.class.Class.{Class}
 use Rattle.study_index.specs.Number.{cells_of}
 use Rattle.study_index.specs.Decoded.{IsDecoded}
 use Rattle.study_index.specs.Found.{position_at}
 use Rattle.study_index.proofs.ClassLaws.{below}
-use Rattle.study_index.proofs.Functions.{decoded_told, told_decoded}
+use Rattle.study_index.proofs.ComputedIndex.{decoded_told, told_decoded}
 use Rattle.study_index.proofs.reading.decode.Goals as goal
 
 none_above : (c : Class) (n m : ℕ) → m ≡ cells_of c → m ≤ n → (q : Position) → IsDecoded c n q → ⊥

@@ -1,7 +1,7 @@
 use Rattle.std.proofs.Common.{◌<◌, arith, sym, subst, List}
 use Rattle.std.specs.List.{All}
 use Rattle.study_board.specs.declared.men.Man.{Man}
-use Rattle.study_board.proofs.Order.{in_order_more, All-placed}
+use Rattle.study_board.proofs.MenInOrder.{in_order_more, All-placed}
 use Rattle.study_index.proofs.reading.in_order.Goals as goal
 
 pub loop-m-preserved : goal.loop-m-preserved

@@ -4,4 +4,7 @@ use Rattle.study_index.proofs.ReadCells.{far_behind}
 use Rattle.study_index.proofs.reading.placed_behind.Goals as goal
 
 pub returns-in-None-new-clause-none : goal.returns-in-None-new-clause-none
-returns-in-None-new-clause-none c = far_behind c.args.men.now c.args.to_move c.in-Some.number _ _ (ap (λ s. behind s c.args.men.now) (sym c.other.ensures) ∙ sym c.behind.ensures ∙ c.in-Some.is) c.in-None-new.is c.new.ensures.known
+returns-in-None-new-clause-none c =
+    far_behind c.args.men.now c.args.to_move c.in-Some.number _ _
+    (ap (λ s. behind s c.args.men.now) (sym c.other.ensures) ∙ sym c.behind.ensures ∙ c.in-Some.is) c.in-None-new.is
+    c.new.ensures.known

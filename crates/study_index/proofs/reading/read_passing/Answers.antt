@@ -7,8 +7,10 @@ returns-in-None-clause-none c = none_passing c.args.class c.args.n _ c.requires.
 
 pub returns-then-is_live-clause-some : goal.returns-then-is_live-clause-some
 returns-then-is_live-clause-some c =
-    some_passing c.args.class c.args.n _ c.in-Some.q c.requires.cell c.requires.passing c.slots.ensures c.in-Some.ensures.some (sym c.is_live.ensures ∙ c.if-is_live.true)
+    some_passing c.args.class c.args.n _ c.in-Some.q c.requires.cell c.requires.passing c.slots.ensures
+    c.in-Some.ensures.some (sym c.is_live.ensures ∙ c.if-is_live.true)
 
 pub returns-else-is_live-clause-none : goal.returns-else-is_live-clause-none
 returns-else-is_live-clause-none c =
-    dead_passing c.args.class c.args.n _ c.in-Some.q c.requires.cell c.requires.passing c.slots.ensures c.in-Some.ensures.some (sym c.is_live.ensures ∙ c.if-is_live.false)
+    dead_passing c.args.class c.args.n _ c.in-Some.q c.requires.cell c.requires.passing c.slots.ensures
+    c.in-Some.ensures.some (sym c.is_live.ensures ∙ c.if-is_live.false)

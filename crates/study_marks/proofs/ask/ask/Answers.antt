@@ -3,19 +3,24 @@ use Rattle.study_moves.specs.declared.moves.Move.{Move}
 use Rattle.study_moves.specs.Rules.{after}
 use Rattle.study_moves.specs.LegalList.{legal_list}
 use Rattle.study_marks.specs.Told.{IsUntold, WasAsked}
-use Rattle.study_marks.proofs.Asks.{held-told, untold-later, asked-more, length-map}
+use Rattle.study_marks.proofs.ValuesAsked.{held-told, untold-later, asked-more, length-map}
 use Rattle.study_marks.proofs.ask.ask.Goals as goal
 
 pub returns-in-Err-ask_after-clause-untold : goal.returns-in-Err-ask_after-clause-untold
 returns-in-Err-ask_after-clause-untold g c =
     let moves : c.as_slice.result.now ≡ legal_list c.args.p.now = c.as_slice.ensures.value ∙ c.legal_list-moves.ensures.moves in
-    untold-later (g.V.Values.held c.args.values.now) (g.V.Values.held c.value.new.self) c.args.p.now (map (after c.args.p.now) (legal_list c.args.p.now)) c.in-Err-ask_after.fault
+    untold-later (g.V.Values.held c.args.values.now) (g.V.Values.held c.value.new.self) c.args.p.now
+    (map (after c.args.p.now) (legal_list c.args.p.now)) c.in-Err-ask_after.fault
     (held-told (g.V.Values.held c.args.values.now) c.args.p.now c.value.result c.in-Ok.value c.in-Ok.is c.value.ensures.no_table) c.value.ensures.same_tables
-    (subst (λ (ms : List Move). IsUntold (g.V.Values.held c.value.new.self) (map (after c.args.p.now) ms) c.in-Err-ask_after.fault) moves c.in-Err-ask_after.ensures.untold)
+    (subst (λ (ms : List Move). IsUntold (g.V.Values.held c.value.new.self) (map (after c.args.p.now) ms)
+    c.in-Err-ask_after.fault) moves c.in-Err-ask_after.ensures.untold)
 
 pub returns-in-Err-ask_after-clause-asked : goal.returns-in-Err-ask_after-clause-asked
 returns-in-Err-ask_after-clause-asked g c =
     let moves : c.as_slice.result.now ≡ legal_list c.args.p.now = c.as_slice.ensures.value ∙ c.legal_list-moves.ensures.moves in
-    let long : length c.as_slice.result.now ≡ length (map (after c.args.p.now) (legal_list c.args.p.now)) = ap length moves ∙ sym (length-map (after c.args.p.now) (legal_list c.args.p.now)) in
-    asked-more (length (map (after c.args.p.now) (legal_list c.args.p.now))) false (g.V.Values.asked_of c.args.values.now) (g.V.Values.asked_of c.value.new.self) (g.V.Values.asked_of c.ask_after.new.values) c.value.ensures.asked
+    let long : length c.as_slice.result.now ≡ length (map (after c.args.p.now) (legal_list c.args.p.now)) =
+    ap length moves ∙ sym (length-map (after c.args.p.now) (legal_list c.args.p.now)) in
+    asked-more (length (map (after c.args.p.now) (legal_list c.args.p.now))) false
+    (g.V.Values.asked_of c.args.values.now) (g.V.Values.asked_of c.value.new.self)
+    (g.V.Values.asked_of c.ask_after.new.values) c.value.ensures.asked
     (subst (λ n. WasAsked n false (g.V.Values.asked_of c.value.new.self) (g.V.Values.asked_of c.ask_after.new.values)) long c.in-Err-ask_after.ensures.asked)

@@ -2,25 +2,36 @@ use Rattle.std.proofs.Common.{List, length, sym, subst, arith}
 use Rattle.study_board.specs.Position.{Position}
 use Rattle.study_marks.specs.Told.{IsUntold}
 use Rattle.study_marks.specs.Whole.{asked_each}
-use Rattle.study_marks.proofs.Gathers.{IsAsked, asked-next, take-one, untold-at, asked-at, same-fault, fault-asked}
+use Rattle.study_marks.proofs.PositionsListed.{IsAsked, asked-next, take-one, untold-at, asked-at, same-fault, fault-asked}
 use Rattle.study_marks.proofs.gather.ask_each.Goals as goal
 
 pub returns-in_err-ask_one-clause-untold : goal.returns-in_err-ask_one-clause-untold
 returns-in_err-ask_one-clause-untold g c =
-    same-fault c.from_residual.result c.in_err-ask_one.field-0.0 (IsUntold (g.V.Values.held c.args.values.now) (asked_each c.args.positions.now)) c.from_residual.ensures.1
-    (untold-at _ _ _ _ _ _ _ _ c.args.positions.now c.loop-p.p-index c.p-item.result _ _ c.loop-p.invariant.asked c.loop-p-test.true c.p-item.is c.in_err-ask_one.field-0.0 c.in_err-ask_one.ensures.untold)
+    same-fault c.from_residual.result c.in_err-ask_one.field-0.0
+    (IsUntold (g.V.Values.held c.args.values.now) (asked_each c.args.positions.now)) c.from_residual.ensures.1
+    (untold-at _ _ _ _ _ _ _ _ c.args.positions.now c.loop-p.p-index c.p-item.result _ _ c.loop-p.invariant.asked
+    c.loop-p-test.true c.p-item.is c.in_err-ask_one.field-0.0 c.in_err-ask_one.ensures.untold)
 
 pub returns-in_err-ask_one-clause-asked : goal.returns-in_err-ask_one-clause-asked
 returns-in_err-ask_one-clause-asked g c =
-    fault-asked c.from_residual.result c.in_err-ask_one.field-0.0 (length (asked_each c.args.positions.now)) (g.V.Values.asked_of c.args.values.now) (g.V.Values.asked_of c.ask_one.new.values) c.from_residual.ensures.1
-    (asked-at _ _ _ _ _ _ _ _ c.args.positions.now c.loop-p.p-index c.p-item.result _ _ c.loop-p.invariant.asked c.loop-p-test.true c.p-item.is (g.V.Values.asked_of c.ask_one.new.values) c.in_err-ask_one.ensures.asked)
+    fault-asked c.from_residual.result c.in_err-ask_one.field-0.0 (length (asked_each c.args.positions.now))
+    (g.V.Values.asked_of c.args.values.now) (g.V.Values.asked_of c.ask_one.new.values) c.from_residual.ensures.1
+    (asked-at _ _ _ _ _ _ _ _ c.args.positions.now c.loop-p.p-index c.p-item.result _ _ c.loop-p.invariant.asked
+    c.loop-p-test.true c.p-item.is (g.V.Values.asked_of c.ask_one.new.values) c.in_err-ask_one.ensures.asked)
 
 pub loop-p-preserved : goal.loop-p-preserved
 loop-p-preserved g c = record {
-  asked = subst (λ (ps : List Position). IsAsked (g.V.Values.held c.args.values.now) (g.V.Values.held c.ask_one.new.values) (g.V.Values.asked_of c.args.values.now) (g.V.Values.asked_of c.ask_one.new.values)
-      (g.V.Values.failed_of c.args.values.now) (g.V.Values.failed_of c.ask_one.new.values) (g.V.Values.is_honest c.args.values.now) (g.V.Values.is_honest c.ask_one.new.values) ps c.args.all.now.items c.ask_one.new.all.items)
+  asked =
+      subst
+      (λ (ps : List Position). IsAsked (g.V.Values.held c.args.values.now) (g.V.Values.held c.ask_one.new.values)
+      (g.V.Values.asked_of c.args.values.now) (g.V.Values.asked_of c.ask_one.new.values)
+      (g.V.Values.failed_of c.args.values.now) (g.V.Values.failed_of c.ask_one.new.values)
+      (g.V.Values.is_honest c.args.values.now) (g.V.Values.is_honest c.ask_one.new.values) ps c.args.all.now.items
+      c.ask_one.new.all.items)
       (sym (take-one c.args.positions.now c.loop-p.p-index c.p-item.result c.loop-p-test.true c.p-item.is))
-      (asked-next _ _ _ _ _ _ _ _ _ _ _ _ _ c.p-item.result _ _ _ c.loop-p.invariant.asked c.in_ok-ask_one.ensures.tables c.in_ok-ask_one.ensures.held c.in_ok-ask_one.ensures.asked c.in_ok-ask_one.ensures.failures
+      (asked-next _ _ _ _ _ _ _ _ _ _ _ _ _ c.p-item.result _ _ _ c.loop-p.invariant.asked
+      c.in_ok-ask_one.ensures.tables c.in_ok-ask_one.ensures.held c.in_ok-ask_one.ensures.asked
+      c.in_ok-ask_one.ensures.failures
       c.in_ok-ask_one.ensures.honest c.in_ok-ask_one.ensures.game);
   room = omega (arith, c.loop-p.invariant.room, c.in_ok-ask_one.ensures.len, c.in_ok-ask_one.ensures.capacity);
 }

@@ -1,12 +1,13 @@
 use Rattle.std.proofs.Common.{◌+◌, ◌≤◌, length, take}
 use Rattle.std.specs.Prelude.{vec_len, vec_capacity}
-use Rattle.study_marks.proofs.Gathers.{IsAsked}
+use Rattle.study_marks.proofs.PositionsListed.{IsAsked}
 use Rattle.study_marks.proofs.gather.ask_each.Given as goal
 
 -- the first positions are asked
 abbrev pub invariant-loop-p : goal.invariant-loop-p
 invariant-loop-p g l = record {
-  asked : IsAsked (g.V.Values.held l.fn.values) (g.V.Values.held l.values) (g.V.Values.asked_of l.fn.values) (g.V.Values.asked_of l.values) (g.V.Values.failed_of l.fn.values) (g.V.Values.failed_of l.values)
+  asked : IsAsked (g.V.Values.held l.fn.values) (g.V.Values.held l.values) (g.V.Values.asked_of l.fn.values)
+      (g.V.Values.asked_of l.values) (g.V.Values.failed_of l.fn.values) (g.V.Values.failed_of l.values)
       (g.V.Values.is_honest l.fn.values) (g.V.Values.is_honest l.values) (take l.p-index l.positions) l.fn.all.items l.all.items;
   room : vec_len l.all + length l.positions ≤ vec_capacity l.all + l.p-index;
 }

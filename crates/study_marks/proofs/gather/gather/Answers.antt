@@ -4,8 +4,8 @@ use Rattle.study_tree.specs.Tree.{plain_tree}
 use Rattle.study_marks.specs.declared.label.Told.{Told}
 use Rattle.study_marks.specs.Asked.{asked_at, asked_below, AreHeld, counted_times}
 use Rattle.study_marks.specs.Told.{IsUntold, WasAsked}
-use Rattle.study_marks.proofs.Inserts.{outside-answer, asked-answer}
-use Rattle.study_marks.proofs.Gathers.{asked-tree, told-everywhere}
+use Rattle.study_marks.proofs.InsertedMoves.{outside-answer, asked-answer}
+use Rattle.study_marks.proofs.PositionsListed.{asked-tree, told-everywhere}
 use Rattle.study_marks.proofs.gather.gather.Goals as goal
 
 pub returns-in_err-ask_each-clause-refusal : goal.returns-in_err-ask_each-clause-refusal
@@ -19,12 +19,15 @@ pub returns-in_err-ask_each-clause-asked : goal.returns-in_err-ask_each-clause-a
 returns-in_err-ask_each-clause-asked g c =
     let same = asked-tree c.args.position.now (plain_tree c.args.tree.now).below c.as_slice.result.now (c.as_slice.ensures.value ∙ c.in-Ok.ensures) in
     let asked = asked_at c.args.position.now ++ asked_below c.args.position.now (plain_tree c.args.tree.now).below in
-    asked-answer (length asked) (g.V.Values.asked_of c.args.values.now) (g.V.Values.asked_of c.ask_each.new.values) c.in_err-ask_each.field-0.0 c.from_residual.result c.from_residual.ensures.1
-    (subst (λ (ps : List Position). WasAsked (length ps) false (g.V.Values.asked_of c.args.values.now) (g.V.Values.asked_of c.ask_each.new.values)) same c.in_err-ask_each.ensures.asked)
+    asked-answer (length asked) (g.V.Values.asked_of c.args.values.now) (g.V.Values.asked_of c.ask_each.new.values)
+    c.in_err-ask_each.field-0.0 c.from_residual.result c.from_residual.ensures.1
+    (subst (λ (ps : List Position). WasAsked (length ps) false (g.V.Values.asked_of c.args.values.now)
+    (g.V.Values.asked_of c.ask_each.new.values)) same c.in_err-ask_each.ensures.asked)
 
 pub returns-clause-game : goal.returns-clause-game
 returns-clause-game g c =
-    λ h. told-everywhere c.args.position.now (plain_tree c.args.tree.now) c.as_slice.result.now c.ask_each.new.all.items (c.as_slice.ensures.value ∙ c.in-Ok.ensures)
+    λ h. told-everywhere c.args.position.now (plain_tree c.args.tree.now) c.as_slice.result.now
+    c.ask_each.new.all.items (c.as_slice.ensures.value ∙ c.in-Ok.ensures)
     (let x = c.in_ok-ask_each.ensures.game h in (x.0, x.1, x.2 ∙ ap (λ (ts : List Told). ts ++ x.0) c.in-Ok-with_capacity.ensures.items))
 
 pub returns-clause-found : goal.returns-clause-found

@@ -1,4 +1,4 @@
-use Rattle.study_marks.proofs.Others.{dual-counts-others}
+use Rattle.study_marks.proofs.DualCounts.{dual-counts-others}
 use Rattle.study_marks.proofs.laws.duals_count_other_moves.Goals as goal
 
 pub returns : goal.returns

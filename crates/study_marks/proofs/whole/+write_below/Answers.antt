@@ -1,50 +1,119 @@
 use Rattle.std.proofs.Common.{ℕ, ◌+◌, ◌≤◌, ◌<◌, ◌∷◌, [], ◌++◌, List, length, IsTrue, refl, sym, ap, ◌∙◌, arith, subst}
 use Rattle.study_tree.specs.Tree.{plain_tree, has_spot}
-use Rattle.study_marks.proofs.Refreshing.{Task, done-none, done-found, done-within, done-few, done-tree, done-sum, done-count, done-number, done-step, room-next, back, length-further, left-over, none-over, room-left, found-between}
+use Rattle.study_marks.proofs.LabelsWritten.{Task, done-none, done-found, done-within, done-few, done-tree}
+use Rattle.study_marks.proofs.LabelsWritten.{done-sum, done-count, done-number, done-step, room-next, back}
+use Rattle.study_marks.proofs.LabelsWritten.{length-further, left-over, none-over, room-left, found-between}
 use Rattle.study_marks.proofs.whole.+write_below.Goals as goal
 
 pub loop-place-init : goal.loop-place-init
 loop-place-init g t c =
-    let j : Task = record { all = c.args.all.now; aim = c.args.aim.now; number = c.args.number; told = c.args.told.now; path = c.args.steps.now.items; was = plain_tree c.args.tree.now; old = c.args.tree.now.relabelled } in
+    let j : Task =
+    record {
+      all = c.args.all.now;
+      aim = c.args.aim.now;
+      number = c.args.number;
+      told = c.args.told.now;
+      path = c.args.steps.now.items;
+      was = plain_tree c.args.tree.now;
+      old = c.args.tree.now.relabelled;
+    } in
     (done-none j, refl, omega arith)
 
 pub push-requires : goal.push-requires
 push-requires g t c =
-    let j : Task = record { all = c.args.all.now; aim = c.args.aim.now; number = c.args.number; told = c.args.told.now; path = c.args.steps.now.items; was = plain_tree c.args.tree.now; old = c.args.tree.now.relabelled } in
-    let left = left-over j.was j.path c.as_slice.result.now c.children_of-count.result c.loop-place.place c.loop-place-test.true c.children_of-count.ensures c.as_slice.ensures.value in
-    let short : length c.loop-place.steps.items < 256 = omega (arith, room-left j.was j.path c.loop-place.place c.requires.shallow c.requires.found left, ap (λ (xs : List ℕ). length xs) c.loop-place.invariant.1) in
+    let j : Task =
+    record {
+      all = c.args.all.now;
+      aim = c.args.aim.now;
+      number = c.args.number;
+      told = c.args.told.now;
+      path = c.args.steps.now.items;
+      was = plain_tree c.args.tree.now;
+      old = c.args.tree.now.relabelled;
+    } in
+    let left = left-over j.was j.path c.as_slice.result.now c.children_of-count.result c.loop-place.place
+    c.loop-place-test.true c.children_of-count.ensures c.as_slice.ensures.value in
+    let short : length c.loop-place.steps.items < 256 =
+    omega (
+      arith,
+      room-left j.was j.path c.loop-place.place c.requires.shallow c.requires.found left,
+      ap (λ (xs : List ℕ). length xs) c.loop-place.invariant.1,
+    ) in
     (omega arith, short)
 
 pub told_of-child-requires : goal.told_of-child-requires
 told_of-child-requires g t c =
-    let j : Task = record { all = c.args.all.now; aim = c.args.aim.now; number = c.args.number; told = c.args.told.now; path = c.args.steps.now.items; was = plain_tree c.args.tree.now; old = c.args.tree.now.relabelled } in
-    let left = left-over j.was j.path c.as_slice.result.now c.children_of-count.result c.loop-place.place c.loop-place-test.true c.children_of-count.ensures c.as_slice.ensures.value in
+    let j : Task =
+    record {
+      all = c.args.all.now;
+      aim = c.args.aim.now;
+      number = c.args.number;
+      told = c.args.told.now;
+      path = c.args.steps.now.items;
+      was = plain_tree c.args.tree.now;
+      old = c.args.tree.now.relabelled;
+    } in
+    let left = left-over j.was j.path c.as_slice.result.now c.children_of-count.result c.loop-place.place
+    c.loop-place-test.true c.children_of-count.ensures c.as_slice.ensures.value in
     let path = c.push.ensures.items ∙ ap (λ (xs : List ℕ). xs ++ c.loop-place.place ∷ []) c.loop-place.invariant.1 in
-    let there = done-found j (plain_tree c.loop-place.tree) c.loop-place.tree.relabelled c.loop-place.place c.loop-place.faults c.loop-place.next c.loop-place.invariant.0 c.requires.found left in
+    let there = done-found j (plain_tree c.loop-place.tree) c.loop-place.tree.relabelled c.loop-place.place
+    c.loop-place.faults c.loop-place.next c.loop-place.invariant.0 c.requires.found left in
     record { found = subst (λ (p : List ℕ). IsTrue (has_spot (plain_tree c.loop-place.tree) p)) (sym (c.as_slice-in-loop-place.ensures.value ∙ path)) there }
 
 pub overflow_add-next : goal.overflow_add-next
 overflow_add-next g t c =
-    let j : Task = record { all = c.args.all.now; aim = c.args.aim.now; number = c.args.number; told = c.args.told.now; path = c.args.steps.now.items; was = plain_tree c.args.tree.now; old = c.args.tree.now.relabelled } in
-    let left = left-over j.was j.path c.as_slice.result.now c.children_of-count.result c.loop-place.place c.loop-place-test.true c.children_of-count.ensures c.as_slice.ensures.value in
+    let j : Task =
+    record {
+      all = c.args.all.now;
+      aim = c.args.aim.now;
+      number = c.args.number;
+      told = c.args.told.now;
+      path = c.args.steps.now.items;
+      was = plain_tree c.args.tree.now;
+      old = c.args.tree.now.relabelled;
+    } in
+    let left = left-over j.was j.path c.as_slice.result.now c.children_of-count.result c.loop-place.place
+    c.loop-place-test.true c.children_of-count.ensures c.as_slice.ensures.value in
     let path = c.push.ensures.items ∙ ap (λ (xs : List ℕ). xs ++ c.loop-place.place ∷ []) c.loop-place.invariant.1 in
-    let room = room-next j (plain_tree c.loop-place.tree) c.loop-place.tree.relabelled c.loop-place.place c.loop-place.faults c.loop-place.next c.push.new.self.items c.loop-place.invariant.0 c.requires.found left c.requires.numbers path in
+    let room = room-next j (plain_tree c.loop-place.tree) c.loop-place.tree.relabelled c.loop-place.place
+    c.loop-place.faults c.loop-place.next c.push.new.self.items c.loop-place.invariant.0 c.requires.found left
+    c.requires.numbers path in
     omega (arith, room)
 
 pub write_below-below-requires : goal.write_below-below-requires
 write_below-below-requires g t c κs within =
-    let j : Task = record { all = c.args.all.now; aim = c.args.aim.now; number = c.args.number; told = c.args.told.now; path = c.args.steps.now.items; was = plain_tree c.args.tree.now; old = c.args.tree.now.relabelled } in
-    let left = left-over j.was j.path c.as_slice.result.now c.children_of-count.result c.loop-place.place c.loop-place-test.true c.children_of-count.ensures c.as_slice.ensures.value in
+    let j : Task =
+    record {
+      all = c.args.all.now;
+      aim = c.args.aim.now;
+      number = c.args.number;
+      told = c.args.told.now;
+      path = c.args.steps.now.items;
+      was = plain_tree c.args.tree.now;
+      old = c.args.tree.now.relabelled;
+    } in
+    let left = left-over j.was j.path c.as_slice.result.now c.children_of-count.result c.loop-place.place
+    c.loop-place-test.true c.children_of-count.ensures c.as_slice.ensures.value in
     let path = c.push.ensures.items ∙ ap (λ (xs : List ℕ). xs ++ c.loop-place.place ∷ []) c.loop-place.invariant.1 in
-    let there = done-found j (plain_tree c.loop-place.tree) c.loop-place.tree.relabelled c.loop-place.place c.loop-place.faults c.loop-place.next c.loop-place.invariant.0 c.requires.found left in (
-      omega (arith, room-left j.was j.path c.loop-place.place c.requires.shallow c.requires.found left, ap (λ (xs : List ℕ). length xs) path, length-further j.path c.loop-place.place, c.decreases),
+    let there = done-found j (plain_tree c.loop-place.tree) c.loop-place.tree.relabelled c.loop-place.place
+    c.loop-place.faults c.loop-place.next c.loop-place.invariant.0 c.requires.found left in (
+      omega (
+        arith,
+        room-left j.was j.path c.loop-place.place c.requires.shallow c.requires.found left,
+        ap (λ (xs : List ℕ). length xs) path,
+        length-further j.path c.loop-place.place,
+        c.decreases,
+      ),
       (
         within,
         (
           subst (λ (p : List ℕ). IsTrue (has_spot (plain_tree c.loop-place.tree) p)) (sym path) there,
           (
-            done-within j (plain_tree c.loop-place.tree) c.loop-place.tree.relabelled c.loop-place.place c.loop-place.faults c.loop-place.next c.loop-place.invariant.0 c.requires.shallow,
-            room-next j (plain_tree c.loop-place.tree) c.loop-place.tree.relabelled c.loop-place.place c.loop-place.faults c.loop-place.next c.push.new.self.items c.loop-place.invariant.0 c.requires.found left c.requires.numbers path,
+            done-within j (plain_tree c.loop-place.tree) c.loop-place.tree.relabelled c.loop-place.place
+                c.loop-place.faults c.loop-place.next c.loop-place.invariant.0 c.requires.shallow,
+            room-next j (plain_tree c.loop-place.tree) c.loop-place.tree.relabelled c.loop-place.place
+                c.loop-place.faults c.loop-place.next c.push.new.self.items c.loop-place.invariant.0 c.requires.found
+                left c.requires.numbers path,
           ),
         ),
       ),
@@ -52,67 +121,166 @@ write_below-below-requires g t c κs within =
 
 pub write_label-own-requires-clause-found : goal.write_label-own-requires-clause-found
 write_label-own-requires-clause-found g t c =
-    let j : Task = record { all = c.args.all.now; aim = c.args.aim.now; number = c.args.number; told = c.args.told.now; path = c.args.steps.now.items; was = plain_tree c.args.tree.now; old = c.args.tree.now.relabelled } in
-    let left = left-over j.was j.path c.as_slice.result.now c.children_of-count.result c.loop-place.place c.loop-place-test.true c.children_of-count.ensures c.as_slice.ensures.value in
+    let j : Task =
+    record {
+      all = c.args.all.now;
+      aim = c.args.aim.now;
+      number = c.args.number;
+      told = c.args.told.now;
+      path = c.args.steps.now.items;
+      was = plain_tree c.args.tree.now;
+      old = c.args.tree.now.relabelled;
+    } in
+    let left = left-over j.was j.path c.as_slice.result.now c.children_of-count.result c.loop-place.place
+    c.loop-place-test.true c.children_of-count.ensures c.as_slice.ensures.value in
     let path = c.push.ensures.items ∙ ap (λ (xs : List ℕ). xs ++ c.loop-place.place ∷ []) c.loop-place.invariant.1 in
-    let there = done-found j (plain_tree c.loop-place.tree) c.loop-place.tree.relabelled c.loop-place.place c.loop-place.faults c.loop-place.next c.loop-place.invariant.0 c.requires.found left in
-    found-between c.args.all.now c.args.aim.now (plain_tree c.loop-place.tree) (plain_tree c.write_below-below.new.tree) c.as_slice-in-loop-place-2.result.now c.push.new.self.items _ _ c.told_of-child.result c.write_below-below.ensures.written
+    let there = done-found j (plain_tree c.loop-place.tree) c.loop-place.tree.relabelled c.loop-place.place
+    c.loop-place.faults c.loop-place.next c.loop-place.invariant.0 c.requires.found left in
+    found-between c.args.all.now c.args.aim.now (plain_tree c.loop-place.tree)
+    (plain_tree c.write_below-below.new.tree) c.as_slice-in-loop-place-2.result.now c.push.new.self.items _ _
+    c.told_of-child.result c.write_below-below.ensures.written
     (subst (λ (p : List ℕ). IsTrue (has_spot (plain_tree c.loop-place.tree) p)) (sym path) there)
     (c.as_slice-in-loop-place-2.ensures.value ∙ c.write_below-below.ensures.steps)
 
 pub overflow_add-faults : goal.overflow_add-faults
 overflow_add-faults g t c =
-    let j : Task = record { all = c.args.all.now; aim = c.args.aim.now; number = c.args.number; told = c.args.told.now; path = c.args.steps.now.items; was = plain_tree c.args.tree.now; old = c.args.tree.now.relabelled } in
-    let left = left-over j.was j.path c.as_slice.result.now c.children_of-count.result c.loop-place.place c.loop-place-test.true c.children_of-count.ensures c.as_slice.ensures.value in
+    let j : Task =
+    record {
+      all = c.args.all.now;
+      aim = c.args.aim.now;
+      number = c.args.number;
+      told = c.args.told.now;
+      path = c.args.steps.now.items;
+      was = plain_tree c.args.tree.now;
+      old = c.args.tree.now.relabelled;
+    } in
+    let left = left-over j.was j.path c.as_slice.result.now c.children_of-count.result c.loop-place.place
+    c.loop-place-test.true c.children_of-count.ensures c.as_slice.ensures.value in
     let path = c.push.ensures.items ∙ ap (λ (xs : List ℕ). xs ++ c.loop-place.place ∷ []) c.loop-place.invariant.1 in
     let next = done-step j (plain_tree c.loop-place.tree) c.loop-place.tree.relabelled c.loop-place.place c.loop-place.faults c.loop-place.next
-    (plain_tree c.write_below-below.new.tree) c.write_below-below.new.tree.relabelled (plain_tree c.write_label-own.new.tree) c.write_label-own.new.tree.relabelled c.share-faults.result c.write_below-below.result.1
-    c.push.new.self.items c.as_slice-in-loop-place.result.now c.as_slice-in-loop-place-2.result.now c.len-depth.result c.told_of-child.result c.write_below-below.result.0 c.write_label-own.result
-    c.loop-place.invariant.0 c.requires.found left path c.as_slice-in-loop-place.ensures.value (c.as_slice-in-loop-place-2.ensures.value ∙ c.write_below-below.ensures.steps) c.len-depth.ensures.value
-    c.told_of-child.ensures c.write_below-below.ensures.written c.write_below-below.ensures.faults c.write_below-below.ensures.count c.write_below-below.ensures.number
+    (plain_tree c.write_below-below.new.tree) c.write_below-below.new.tree.relabelled
+    (plain_tree c.write_label-own.new.tree) c.write_label-own.new.tree.relabelled c.share-faults.result
+    c.write_below-below.result.1
+    c.push.new.self.items c.as_slice-in-loop-place.result.now c.as_slice-in-loop-place-2.result.now
+    c.len-depth.result c.told_of-child.result c.write_below-below.result.0 c.write_label-own.result
+    c.loop-place.invariant.0 c.requires.found left path c.as_slice-in-loop-place.ensures.value
+    (c.as_slice-in-loop-place-2.ensures.value ∙ c.write_below-below.ensures.steps) c.len-depth.ensures.value
+    c.told_of-child.ensures c.write_below-below.ensures.written c.write_below-below.ensures.faults
+    c.write_below-below.ensures.count c.write_below-below.ensures.number
     c.write_label-own.ensures.faults c.write_label-own.ensures.written c.write_label-own.ensures.count c.share-faults.ensures in
     let few : c.loop-place.faults + c.share-faults.result ≤ 4096 =
-    done-few j (plain_tree c.write_label-own.new.tree) c.write_label-own.new.tree.relabelled (c.loop-place.place + 1) (c.loop-place.faults + c.share-faults.result) c.write_below-below.result.1 next c.size-few.ensures.few in
+    done-few j (plain_tree c.write_label-own.new.tree) c.write_label-own.new.tree.relabelled
+    (c.loop-place.place + 1) (c.loop-place.faults + c.share-faults.result) c.write_below-below.result.1 next
+    c.size-few.ensures.few in
     omega (arith, few)
 
 pub loop-place-preserved : goal.loop-place-preserved
 loop-place-preserved g t c =
-    let j : Task = record { all = c.args.all.now; aim = c.args.aim.now; number = c.args.number; told = c.args.told.now; path = c.args.steps.now.items; was = plain_tree c.args.tree.now; old = c.args.tree.now.relabelled } in
-    let left = left-over j.was j.path c.as_slice.result.now c.children_of-count.result c.loop-place.place c.loop-place-test.true c.children_of-count.ensures c.as_slice.ensures.value in
+    let j : Task =
+    record {
+      all = c.args.all.now;
+      aim = c.args.aim.now;
+      number = c.args.number;
+      told = c.args.told.now;
+      path = c.args.steps.now.items;
+      was = plain_tree c.args.tree.now;
+      old = c.args.tree.now.relabelled;
+    } in
+    let left = left-over j.was j.path c.as_slice.result.now c.children_of-count.result c.loop-place.place
+    c.loop-place-test.true c.children_of-count.ensures c.as_slice.ensures.value in
     let path = c.push.ensures.items ∙ ap (λ (xs : List ℕ). xs ++ c.loop-place.place ∷ []) c.loop-place.invariant.1 in
     let next = done-step j (plain_tree c.loop-place.tree) c.loop-place.tree.relabelled c.loop-place.place c.loop-place.faults c.loop-place.next
-    (plain_tree c.write_below-below.new.tree) c.write_below-below.new.tree.relabelled (plain_tree c.write_label-own.new.tree) c.write_label-own.new.tree.relabelled c.share-faults.result c.write_below-below.result.1
-    c.push.new.self.items c.as_slice-in-loop-place.result.now c.as_slice-in-loop-place-2.result.now c.len-depth.result c.told_of-child.result c.write_below-below.result.0 c.write_label-own.result
-    c.loop-place.invariant.0 c.requires.found left path c.as_slice-in-loop-place.ensures.value (c.as_slice-in-loop-place-2.ensures.value ∙ c.write_below-below.ensures.steps) c.len-depth.ensures.value
-    c.told_of-child.ensures c.write_below-below.ensures.written c.write_below-below.ensures.faults c.write_below-below.ensures.count c.write_below-below.ensures.number
-    c.write_label-own.ensures.faults c.write_label-own.ensures.written c.write_label-own.ensures.count c.share-faults.ensures in
-    (next, c.pop-place.ensures.rest ∙ back j.path c.write_below-below.new.steps.items c.loop-place.place (c.write_below-below.ensures.steps ∙ path), omega (arith, c.loop-place-test.true))
+    (plain_tree c.write_below-below.new.tree) c.write_below-below.new.tree.relabelled
+    (plain_tree c.write_label-own.new.tree) c.write_label-own.new.tree.relabelled c.share-faults.result
+    c.write_below-below.result.1
+    c.push.new.self.items c.as_slice-in-loop-place.result.now c.as_slice-in-loop-place-2.result.now
+    c.len-depth.result c.told_of-child.result c.write_below-below.result.0 c.write_label-own.result
+    c.loop-place.invariant.0 c.requires.found left path c.as_slice-in-loop-place.ensures.value
+    (c.as_slice-in-loop-place-2.ensures.value ∙ c.write_below-below.ensures.steps) c.len-depth.ensures.value
+    c.told_of-child.ensures c.write_below-below.ensures.written c.write_below-below.ensures.faults
+    c.write_below-below.ensures.count c.write_below-below.ensures.number
+    c.write_label-own.ensures.faults c.write_label-own.ensures.written c.write_label-own.ensures.count c.share-faults.ensures in (
+      next,
+      c.pop-place.ensures.rest ∙ back j.path c.write_below-below.new.steps.items c.loop-place.place
+          (c.write_below-below.ensures.steps ∙ path),
+      omega (arith, c.loop-place-test.true),
+    )
 
 pub returns-clause-written : goal.returns-clause-written
 returns-clause-written g t c =
-    let j : Task = record { all = c.args.all.now; aim = c.args.aim.now; number = c.args.number; told = c.args.told.now; path = c.args.steps.now.items; was = plain_tree c.args.tree.now; old = c.args.tree.now.relabelled } in
+    let j : Task =
+    record {
+      all = c.args.all.now;
+      aim = c.args.aim.now;
+      number = c.args.number;
+      told = c.args.told.now;
+      path = c.args.steps.now.items;
+      was = plain_tree c.args.tree.now;
+      old = c.args.tree.now.relabelled;
+    } in
     done-tree j (plain_tree c.loop-place.tree) c.loop-place.tree.relabelled c.loop-place.place c.loop-place.faults c.loop-place.next c.loop-place.invariant.0
-    (none-over j.was j.path c.as_slice.result.now c.children_of-count.result c.loop-place.place c.loop-place-test.false c.children_of-count.ensures c.as_slice.ensures.value)
+    (none-over j.was j.path c.as_slice.result.now c.children_of-count.result c.loop-place.place
+    c.loop-place-test.false c.children_of-count.ensures c.as_slice.ensures.value)
 
 pub returns-clause-faults : goal.returns-clause-faults
 returns-clause-faults g t c =
-    let j : Task = record { all = c.args.all.now; aim = c.args.aim.now; number = c.args.number; told = c.args.told.now; path = c.args.steps.now.items; was = plain_tree c.args.tree.now; old = c.args.tree.now.relabelled } in
+    let j : Task =
+    record {
+      all = c.args.all.now;
+      aim = c.args.aim.now;
+      number = c.args.number;
+      told = c.args.told.now;
+      path = c.args.steps.now.items;
+      was = plain_tree c.args.tree.now;
+      old = c.args.tree.now.relabelled;
+    } in
     done-sum j (plain_tree c.loop-place.tree) c.loop-place.tree.relabelled c.loop-place.place c.loop-place.faults c.loop-place.next c.loop-place.invariant.0
-    (none-over j.was j.path c.as_slice.result.now c.children_of-count.result c.loop-place.place c.loop-place-test.false c.children_of-count.ensures c.as_slice.ensures.value)
+    (none-over j.was j.path c.as_slice.result.now c.children_of-count.result c.loop-place.place
+    c.loop-place-test.false c.children_of-count.ensures c.as_slice.ensures.value)
 
 pub returns-clause-number : goal.returns-clause-number
 returns-clause-number g t c =
-    let j : Task = record { all = c.args.all.now; aim = c.args.aim.now; number = c.args.number; told = c.args.told.now; path = c.args.steps.now.items; was = plain_tree c.args.tree.now; old = c.args.tree.now.relabelled } in
+    let j : Task =
+    record {
+      all = c.args.all.now;
+      aim = c.args.aim.now;
+      number = c.args.number;
+      told = c.args.told.now;
+      path = c.args.steps.now.items;
+      was = plain_tree c.args.tree.now;
+      old = c.args.tree.now.relabelled;
+    } in
     done-number j (plain_tree c.loop-place.tree) c.loop-place.tree.relabelled c.loop-place.place c.loop-place.faults c.loop-place.next c.loop-place.invariant.0
-    (none-over j.was j.path c.as_slice.result.now c.children_of-count.result c.loop-place.place c.loop-place-test.false c.children_of-count.ensures c.as_slice.ensures.value)
+    (none-over j.was j.path c.as_slice.result.now c.children_of-count.result c.loop-place.place
+    c.loop-place-test.false c.children_of-count.ensures c.as_slice.ensures.value)
 
 pub returns-clause-count : goal.returns-clause-count
 returns-clause-count g t c =
-    let j : Task = record { all = c.args.all.now; aim = c.args.aim.now; number = c.args.number; told = c.args.told.now; path = c.args.steps.now.items; was = plain_tree c.args.tree.now; old = c.args.tree.now.relabelled } in
+    let j : Task =
+    record {
+      all = c.args.all.now;
+      aim = c.args.aim.now;
+      number = c.args.number;
+      told = c.args.told.now;
+      path = c.args.steps.now.items;
+      was = plain_tree c.args.tree.now;
+      old = c.args.tree.now.relabelled;
+    } in
     done-count j (plain_tree c.loop-place.tree) c.loop-place.tree.relabelled c.loop-place.place c.loop-place.faults c.loop-place.next c.loop-place.invariant.0
-    (none-over j.was j.path c.as_slice.result.now c.children_of-count.result c.loop-place.place c.loop-place-test.false c.children_of-count.ensures c.as_slice.ensures.value)
+    (none-over j.was j.path c.as_slice.result.now c.children_of-count.result c.loop-place.place
+    c.loop-place-test.false c.children_of-count.ensures c.as_slice.ensures.value)
 
 pub returns-clause-few : goal.returns-clause-few
 returns-clause-few g t c =
-    let j : Task = record { all = c.args.all.now; aim = c.args.aim.now; number = c.args.number; told = c.args.told.now; path = c.args.steps.now.items; was = plain_tree c.args.tree.now; old = c.args.tree.now.relabelled } in
-    done-few j (plain_tree c.loop-place.tree) c.loop-place.tree.relabelled c.loop-place.place c.loop-place.faults c.loop-place.next c.loop-place.invariant.0 c.size-few.ensures.few
+    let j : Task =
+    record {
+      all = c.args.all.now;
+      aim = c.args.aim.now;
+      number = c.args.number;
+      told = c.args.told.now;
+      path = c.args.steps.now.items;
+      was = plain_tree c.args.tree.now;
+      old = c.args.tree.now.relabelled;
+    } in
+    done-few j (plain_tree c.loop-place.tree) c.loop-place.tree.relabelled c.loop-place.place c.loop-place.faults
+    c.loop-place.next c.loop-place.invariant.0 c.size-few.ensures.few

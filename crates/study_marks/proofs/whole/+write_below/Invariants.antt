@@ -1,6 +1,6 @@
 use Rattle.std.proofs.Common.{◌≡◌, ◌≤◌, ◌-◌, length}
 use Rattle.study_tree.specs.Tree.{plain_tree}
-use Rattle.study_marks.proofs.Refreshing.{IsDone}
+use Rattle.study_marks.proofs.LabelsWritten.{IsDone}
 use Rattle.study_marks.proofs.whole.+write_below.Given as goal
 
 -- the path grows longer
@@ -10,7 +10,16 @@ decreases-write_below g l = 257 - length l.steps.now.items
 -- the first nodes below the path's are done
 abbrev pub invariant-loop-place : goal.invariant-loop-place
 invariant-loop-place g l =
-    IsDone (record { all = l.fn.all; aim = l.fn.aim; number = l.fn.number; told = l.fn.told; path = l.fn.steps.items; was = plain_tree l.fn.tree; old = l.fn.tree.relabelled })
+    IsDone
+    (record {
+      all = l.fn.all;
+      aim = l.fn.aim;
+      number = l.fn.number;
+      told = l.fn.told;
+      path = l.fn.steps.items;
+      was = plain_tree l.fn.tree;
+      old = l.fn.tree.relabelled;
+    })
     (plain_tree l.tree) l.tree.relabelled l.place l.faults l.next
     × (l.steps.items ≡ l.fn.steps.items) × (l.place ≤ l.count)
 

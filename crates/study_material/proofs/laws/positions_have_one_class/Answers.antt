@@ -1,6 +1,6 @@
 use Rattle.std.proofs.Common.{sym, ◌∙◌}
 use Rattle.study_material.proofs.Classes.{lists_of-injective}
-use Rattle.study_material.proofs.Exists.{class_exists}
+use Rattle.study_material.proofs.EachHasClass.{class_exists}
 use Rattle.study_material.proofs.laws.positions_have_one_class.Goals as goal
 
 pub returns : goal.returns

@@ -1,5 +1,7 @@
-use Rattle.study_material.specs.declared.class.Class.TheVariants.{KK, KQK, KRK, KBK, KNK, KPK, KQQK, KQRK, KQBK, KQNK, KQPK, KRRK, KRBK, KRNK, KRPK, KBBK, KBNK, KBPK, KNNK, KNPK, KPPK}
-use Rattle.study_material.proofs.Orders.{order_is}
+use Rattle.study_material.specs.declared.class.Class.TheVariants.{KK, KQK, KRK, KBK, KNK, KPK, KQQK, KQRK}
+use Rattle.study_material.specs.declared.class.Class.TheVariants.{KQBK, KQNK, KQPK, KRRK, KRBK, KRNK, KRPK}
+use Rattle.study_material.specs.declared.class.Class.TheVariants.{KBBK, KBNK, KBPK, KNNK, KNPK, KPPK}
+use Rattle.study_material.proofs.NeedsThroughOthers.{order_is}
 use Rattle.study_material.proofs.reached.ordered.Goals as goal
 
 pub returns-in-KK-clause-order : goal.returns-in-KK-clause-order

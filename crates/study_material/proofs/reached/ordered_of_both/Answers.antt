@@ -1,5 +1,5 @@
 use Rattle.study_material.specs.declared.class.Class.TheVariants.{KQKQ, KQKR, KQKB, KQKN, KQKP, KRKR, KRKB, KRKN, KRKP, KBKB, KBKN, KBKP, KNKN, KNKP, KPKP}
-use Rattle.study_material.proofs.Orders.{order_is}
+use Rattle.study_material.proofs.NeedsThroughOthers.{order_is}
 use Rattle.study_material.proofs.reached.ordered_of_both.Goals as goal
 
 pub returns-in-KQKQ-clause-order : goal.returns-in-KQKQ-clause-order

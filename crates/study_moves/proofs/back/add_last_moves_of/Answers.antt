@@ -9,7 +9,8 @@ pub loop-rest-preserved : goal.loop-rest-preserved
 loop-rest-preserved c =
     let f = c.first-origin.ensures in
     gathered_more c.args.man.now c.origins-rest.result
-    _ _ _ _ _ _ _ _ _ _ _ c.loop-rest.invariant f.inside f.there f.least c.single.ensures c.without-rest.ensures refl c.push.ensures.items c.number-next.ensures.value
+    _ _ _ _ _ _ _ _ _ _ _ c.loop-rest.invariant f.inside f.there f.least c.single.ensures c.without-rest.ensures
+    refl c.push.ensures.items c.number-next.ensures.value
 
 pub loop-rest-smaller : goal.loop-rest-smaller
 loop-rest-smaller c =
@@ -18,7 +19,8 @@ loop-rest-smaller c =
     omega (arith, c.number-next.ensures.value, f.inside)
 
 pub returns-clause-more : goal.returns-clause-more
-returns-clause-more c = gathering_ends c.args.man.now c.origins-rest.result c.args.q.now c.origins-rest.ensures _ _ _ _ _ _ c.loop-rest.invariant c.loop-rest-test.false
+returns-clause-more c = gathering_ends c.args.man.now c.origins-rest.result c.args.q.now c.origins-rest.ensures _ _
+    _ _ _ _ c.loop-rest.invariant c.loop-rest-test.false
 
 pub returns-clause-few : goal.returns-clause-few
 returns-clause-few c = few_end c.args.man.now c.origins-rest.result _ _ _ _ _ _ c.loop-rest.invariant

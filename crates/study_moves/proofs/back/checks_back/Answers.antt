@@ -12,9 +12,13 @@ loop-k-init c a la = any_none (king_was_attacked c.args.men.now c.args.side c.ar
 
 pub loop-k-preserved : goal.loop-k-preserved
 loop-k-preserved c a la =
-    any_more (king_was_attacked c.args.men.now c.args.side c.args.man.now a) c.args.men.now c.loop-k.k-index _ c.k-item.result a _ _ _ c.loop-k-test.true c.k-item.is (c.loop-k.invariant a la) (c.checks_to.ensures a la) (c.union-set.ensures a)
+    any_more (king_was_attacked c.args.men.now c.args.side c.args.man.now a) c.args.men.now c.loop-k.k-index _
+    c.k-item.result a _ _ _ c.loop-k-test.true c.k-item.is (c.loop-k.invariant a la) (c.checks_to.ensures a la)
+    (c.union-set.ensures a)
 
 pub returns : goal.returns
 returns c a la =
     let whole = take_all c.loop-k.k-index c.args.men.now (omega arith) in
-    c.loop-k.invariant a la ∙ ap (λ (l : List Man). list_any (king_was_attacked c.args.men.now c.args.side c.args.man.now a) l) whole ∙ was_check_is c.args.men.now c.args.side c.args.man.now a
+    c.loop-k.invariant a la
+    ∙ ap (λ (l : List Man). list_any (king_was_attacked c.args.men.now c.args.side c.args.man.now a) l) whole
+    ∙ was_check_is c.args.men.now c.args.side c.args.man.now a

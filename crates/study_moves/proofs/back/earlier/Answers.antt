@@ -24,7 +24,11 @@ loop-m-preserved c =
 pub returns-clause-exact : goal.returns-clause-exact
 returns-clause-exact c =
     all_before c.args.q.now c.as_slice-m-items.result.now c.loop-m.m-index c.loop-m.list.items
-    (λ m. let C : List Move → Type 0 = λ xs. Contains xs m in let e = c.last_moves-moves.ensures.exact m in (λ h. e.0 (subst C c.as_slice-m-items.ensures.value h), λ h. subst C (sym c.as_slice-m-items.ensures.value) (e.1 h)))
+    (λ m. let C : List Move → Type 0 = λ xs. Contains xs m in
+    let e = c.last_moves-moves.ensures.exact m in (
+      λ h. e.0 (subst C c.as_slice-m-items.ensures.value h),
+      λ h. subst C (sym c.as_slice-m-items.ensures.value) (e.1 h),
+    ))
     (omega arith) c.loop-m.invariant
 
 pub returns-clause-once : goal.returns-clause-once

@@ -11,7 +11,8 @@ loop-m-init c x lx = any_none (λ m. m.at == x) x
 
 pub loop-m-preserved : goal.loop-m-preserved
 loop-m-preserved c x lx =
-    any_more (λ m. m.at == x) c.args.men.now c.loop-m.m-index _ c.m-item.result x _ _ _ c.loop-m-test.true c.m-item.is (c.loop-m.invariant x lx) (c.single.ensures x lx) (c.union-set.ensures x)
+    any_more (λ m. m.at == x) c.args.men.now c.loop-m.m-index _ c.m-item.result x _ _ _ c.loop-m-test.true
+    c.m-item.is (c.loop-m.invariant x lx) (c.single.ensures x lx) (c.union-set.ensures x)
 
 pub returns : goal.returns
 returns c x lx =

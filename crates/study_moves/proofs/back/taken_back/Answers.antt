@@ -18,7 +18,14 @@ pub of-requires : goal.of-requires
 of-requires c =
     let q = c.args.q.now in
     let t = taken_from q c.args.m c.requires.from c.in-Some.man c.men-now.ensures.valid (sym c.man_at.ensures ∙ c.in-Some.is) c.requires.leads in
-    rw (c.placed_among-men.ensures, c.other.ensures, c.to_move.ensures, c.men-now.ensures.value, c.on_origin.ensures, men_before_is q.men c.in-Some.man c.args.m.origin)
+    rw (
+      c.placed_among-men.ensures,
+      c.other.ensures,
+      c.to_move.ensures,
+      c.men-now.ensures.value,
+      c.on_origin.ensures,
+      men_before_is q.men c.in-Some.man c.args.m.origin,
+    )
     (IsValid-before q c.men-now.ensures.valid c.in-Some.man c.args.m.origin t.came)
 
 pub returns-clause-before : goal.returns-clause-before
@@ -27,7 +34,15 @@ returns-clause-before c =
     let m = c.args.m in
     let t = taken_from q m c.requires.from c.in-Some.man c.men-now.ensures.valid (sym c.man_at.ensures ∙ c.in-Some.is) c.requires.leads in
     let is : c.of.result ≡ before q c.in-Some.man m.origin =
-    c.of.ensures.value ∙ rw (c.placed_among-men.ensures, c.other.ensures, c.to_move.ensures, c.men-now.ensures.value, c.on_origin.ensures, men_before_is q.men c.in-Some.man m.origin) refl in
+    c.of.ensures.value
+    ∙ rw (
+      c.placed_among-men.ensures,
+      c.other.ensures,
+      c.to_move.ensures,
+      c.men-now.ensures.value,
+      c.on_origin.ensures,
+      men_before_is q.men c.in-Some.man m.origin,
+    ) refl in
     let L : Move → Type 0 = λ n. LeadsQuietly (before q c.in-Some.man m.origin) n q in
     rw is (subst L (sym t.by) (LeadsQuietly-before q c.men-now.ensures.valid c.in-Some.man m.origin t.came))
 
@@ -37,4 +52,11 @@ returns-clause-only c p e =
     let m = c.args.m in
     let t = taken_from q m p c.in-Some.man c.men-now.ensures.valid (sym c.man_at.ensures ∙ c.in-Some.is) e in
     c.of.ensures.value
-    ∙ rw (c.placed_among-men.ensures, c.other.ensures, c.to_move.ensures, c.men-now.ensures.value, c.on_origin.ensures, men_before_is q.men c.in-Some.man m.origin) (sym t.is)
+    ∙ rw (
+      c.placed_among-men.ensures,
+      c.other.ensures,
+      c.to_move.ensures,
+      c.men-now.ensures.value,
+      c.on_origin.ensures,
+      men_before_is q.men c.in-Some.man m.origin,
+    ) (sym t.is)

@@ -1,8 +1,8 @@
-use Rattle.study_board.proofs.Images.{IsTurnable-from_valid}
+use Rattle.study_board.proofs.ImagesOfImages.{IsTurnable-from_valid}
 use Rattle.study_board.specs.Symmetry.{image}
-use Rattle.study_moves.proofs.Turned.{is_legal-turned, after-turned}
+use Rattle.study_moves.proofs.RulesOfImages.{is_legal-turned, after-turned}
 use Rattle.study_moves.proofs.ImageMates.{HasSameGame-image}
-use Rattle.study_moves.proofs.Values.{HasSameValue-from_game}
+use Rattle.study_moves.proofs.OneValue.{HasSameValue-from_game}
 use Rattle.study_moves.proofs.laws.images_agree.Goals as goal
 
 pub returns : goal.returns

@@ -5,6 +5,7 @@ use Rattle.study_moves.proofs.legal.placed_among.Given as goal
 
 abbrev pub invariant-loop-m : goal.invariant-loop-m
 invariant-loop-m l = record {
-  carried : l.list.items ++ carried_into (stays l.fn.passed l.man l.target) l.carried (drop l.m-index l.men) ≡ carried_into (stays l.fn.passed l.man l.target) l.fn.moved l.men;
+  carried : l.list.items ++ carried_into (stays l.fn.passed l.man l.target) l.carried (drop l.m-index l.men)
+      ≡ carried_into (stays l.fn.passed l.man l.target) l.fn.moved l.men;
   few : length l.list.items ≤ l.m-index;
 }

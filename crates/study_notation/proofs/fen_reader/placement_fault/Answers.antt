@@ -1,5 +1,5 @@
 use Rattle.std.proofs.Common.{sym, ap, ◌∙◌}
-use Rattle.study_notation.proofs.Faults.{told, placement_fault-told}
+use Rattle.study_notation.proofs.PlacementFaults.{told, placement_fault-told}
 use Rattle.study_notation.proofs.fen_reader.placement_fault.Goals as goal
 
 pub returns-in-Some : goal.returns-in-Some

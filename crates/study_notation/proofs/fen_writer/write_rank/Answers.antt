@@ -12,14 +12,32 @@ push_run-requires-clause-room c =
     let at = 8 * c.args.rank + c.loop-file.file in
     let n = 8 - c.loop-file.file in
     let m = 8 - (c.loop-file.file + 1) in
-    omega (arith, c.requires.room, len_both c.loop-file.out.bytes (rest_text c.args.men.now (8 * c.args.rank + c.loop-file.file) (8 - c.loop-file.file) c.loop-file.empty) c.args.out.now.bytes (rank_text c.args.men.now c.args.rank) c.loop-file.invariant.0, len_some c.args.men.now at (at + 1) n m c.loop-file.empty c.in-Some.piece (omega arith) (omega arith) (sym c.in-Some.ensures))
+    omega (
+      arith,
+      c.requires.room,
+      len_both c.loop-file.out.bytes
+          (rest_text c.args.men.now (8 * c.args.rank + c.loop-file.file) (8 - c.loop-file.file) c.loop-file.empty)
+          c.args.out.now.bytes (rank_text c.args.men.now c.args.rank) c.loop-file.invariant.0,
+      len_some c.args.men.now
+          at (at + 1) n m c.loop-file.empty c.in-Some.piece (omega arith) (omega arith) (sym c.in-Some.ensures),
+    )
 
 pub push_byte-requires-clause-room : goal.push_byte-requires-clause-room
 push_byte-requires-clause-room c =
     let at = 8 * c.args.rank + c.loop-file.file in
     let n = 8 - c.loop-file.file in
     let m = 8 - (c.loop-file.file + 1) in
-    omega (arith, c.requires.room, len_both c.loop-file.out.bytes (rest_text c.args.men.now (8 * c.args.rank + c.loop-file.file) (8 - c.loop-file.file) c.loop-file.empty) c.args.out.now.bytes (rank_text c.args.men.now c.args.rank) c.loop-file.invariant.0, ap length c.push_run.ensures, length-append c.loop-file.out.bytes (run c.loop-file.empty), len_some c.args.men.now at (at + 1) n m c.loop-file.empty c.in-Some.piece (omega arith) (omega arith) (sym c.in-Some.ensures))
+    omega (
+      arith,
+      c.requires.room,
+      len_both c.loop-file.out.bytes
+          (rest_text c.args.men.now (8 * c.args.rank + c.loop-file.file) (8 - c.loop-file.file) c.loop-file.empty)
+          c.args.out.now.bytes (rank_text c.args.men.now c.args.rank) c.loop-file.invariant.0,
+      ap length c.push_run.ensures,
+      length-append c.loop-file.out.bytes (run c.loop-file.empty),
+      len_some c.args.men.now at (at + 1) n m c.loop-file.empty c.in-Some.piece (omega arith) (omega arith)
+          (sym c.in-Some.ensures),
+    )
 
 pub loop-file-preserved : goal.loop-file-preserved
 loop-file-preserved c =
@@ -29,13 +47,34 @@ loop-file-preserved c =
     let m = 8 - (c.loop-file.file + 1) in
     let men = c.args.men.now in
     elim c.match-find_piece.branch [
-      | in-None w ↦ rw (w.out-is, w.empty-is) (ap (λ (t : List ℕ). c.loop-file.out.bytes ++ t) (sym (rest_none men at at' n m c.loop-file.empty (omega arith) (omega arith) (sym w.in-None.ensures))) ∙ c.loop-file.invariant.0, omega arith)
-      | in-Some w ↦ rw (w.out-is, w.empty-is) (some_written c.loop-file.out.bytes w.push_run.new.out.bytes w.push_byte.new.out.bytes (c.args.out.now.bytes ++ rank_text men c.args.rank) men at at' n m c.loop-file.empty w.letter_of.result w.in-Some.piece (omega arith) (omega arith) (sym w.in-Some.ensures) w.letter_of.ensures.value w.push_run.ensures w.push_byte.ensures.bytes c.loop-file.invariant.0, omega arith)
+      | in-None w ↦ rw (w.out-is, w.empty-is) (
+        ap (λ (t : List ℕ). c.loop-file.out.bytes ++ t)
+            (sym (rest_none men at at' n m c.loop-file.empty (omega arith) (omega arith) (sym w.in-None.ensures)))
+            ∙ c.loop-file.invariant.0,
+        omega arith,
+      )
+      | in-Some w ↦ rw (w.out-is, w.empty-is) (
+        some_written c.loop-file.out.bytes w.push_run.new.out.bytes w.push_byte.new.out.bytes
+            (c.args.out.now.bytes ++ rank_text men c.args.rank) men at at' n m c.loop-file.empty w.letter_of.result
+            w.in-Some.piece (omega arith) (omega arith) (sym w.in-Some.ensures) w.letter_of.ensures.value
+            w.push_run.ensures w.push_byte.ensures.bytes c.loop-file.invariant.0,
+        omega arith,
+      )
     ]
 
 pub push_run-requires-2-clause-room : goal.push_run-requires-2-clause-room
 push_run-requires-2-clause-room c =
-    omega (arith, c.requires.room, len_both c.loop-file.out.bytes (rest_text c.args.men.now (8 * c.args.rank + c.loop-file.file) (8 - c.loop-file.file) c.loop-file.empty) c.args.out.now.bytes (rank_text c.args.men.now c.args.rank) c.loop-file.invariant.0, ap length (rest_end c.args.men.now (8 * c.args.rank + c.loop-file.file) (8 - c.loop-file.file) c.loop-file.empty (omega arith)))
+    omega (
+      arith,
+      c.requires.room,
+      len_both c.loop-file.out.bytes
+          (rest_text c.args.men.now (8 * c.args.rank + c.loop-file.file) (8 - c.loop-file.file) c.loop-file.empty)
+          c.args.out.now.bytes (rank_text c.args.men.now c.args.rank) c.loop-file.invariant.0,
+      ap length (rest_end c.args.men.now (8 * c.args.rank + c.loop-file.file) (8 - c.loop-file.file)
+          c.loop-file.empty (omega arith)),
+    )
 
 pub returns : goal.returns
-returns c = c.push_run-2.ensures ∙ ap (λ (t : List ℕ). c.loop-file.out.bytes ++ t) (sym (rest_end c.args.men.now (8 * c.args.rank + c.loop-file.file) (8 - c.loop-file.file) c.loop-file.empty (omega arith))) ∙ c.loop-file.invariant.0
+returns c = c.push_run-2.ensures ∙ ap (λ (t : List ℕ). c.loop-file.out.bytes ++ t)
+    (sym (rest_end c.args.men.now (8 * c.args.rank + c.loop-file.file) (8 - c.loop-file.file) c.loop-file.empty
+    (omega arith))) ∙ c.loop-file.invariant.0

@@ -1,4 +1,4 @@
-use Rattle.study_notation.proofs.Counts.{one_more_digit}
+use Rattle.study_notation.proofs.DigitCounts.{one_more_digit}
 use Rattle.study_notation.proofs.fields.read_count.Goals as goal
 
 pub loop-d-preserved : goal.loop-d-preserved

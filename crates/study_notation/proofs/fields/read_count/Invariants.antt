@@ -1,4 +1,4 @@
-use Rattle.study_notation.proofs.Counts.{CountsTo}
+use Rattle.study_notation.proofs.DigitCounts.{CountsTo}
 use Rattle.study_notation.proofs.fields.read_count.Given as goal
 
 abbrev pub invariant-loop-d : goal.invariant-loop-d

@@ -2,7 +2,7 @@ use Rattle.std.proofs.Common.{◌≡◌, ◌≤◌, ◌*◌}
 use Rattle.std.specs.List.{slice_split}
 use Rattle.arrayvec.specs.ArrayVec.{array_vec_len}
 use Rattle.study_notation.specs.Fen.{placement}
-use Rattle.study_notation.proofs.Ranks.{is_stroke, placed}
+use Rattle.study_notation.proofs.PlacementParts.{is_stroke, placed}
 use Rattle.study_notation.proofs.placement.read_placement.Given as goal
 
 abbrev pub invariant-loop-rank : goal.invariant-loop-rank

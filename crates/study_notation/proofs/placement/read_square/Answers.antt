@@ -1,5 +1,5 @@
 use Rattle.std.proofs.Common.{◌+◌, sym}
-use Rattle.study_notation.proofs.Ranks.{added_run}
+use Rattle.study_notation.proofs.PlacementParts.{added_run}
 use Rattle.study_notation.proofs.placement.read_square.Goals as goal
 
 pub returns-then-is_run-clause-added : goal.returns-then-is_run-clause-added

@@ -6,13 +6,16 @@ use Rattle.study_prober.proofs.Keys.{same_key-is}
 use Rattle.study_prober.proofs.cache.kept_byte.Goals as goal
 
 pub returns-in_err-page-clause-fewer : goal.returns-in_err-page-clause-fewer
-returns-in_err-page-clause-fewer g c = λ e h. Contains-promoted (eq-value.it c.args.key) c.args.pages.now.entries e (subst (λ q. Contains q.entries e) c.get.follows.holds-at-none h)
+returns-in_err-page-clause-fewer g c = λ e h. Contains-promoted (eq-value.it c.args.key) c.args.pages.now.entries e
+    (subst (λ q. Contains q.entries e) c.get.follows.holds-at-none h)
 
 pub returns-then-at-cells-clause-fewer : goal.returns-then-at-cells-clause-fewer
-returns-then-at-cells-clause-fewer g c = λ e h. Contains-promoted (eq-value.it c.args.key) c.args.pages.now.entries e (subst (λ q. Contains q.entries e) c.get.follows.holds-at-none h)
+returns-then-at-cells-clause-fewer g c = λ e h. Contains-promoted (eq-value.it c.args.key) c.args.pages.now.entries
+    e (subst (λ q. Contains q.entries e) c.get.follows.holds-at-none h)
 
 pub returns-else-at-cells-clause-fewer : goal.returns-else-at-cells-clause-fewer
-returns-else-at-cells-clause-fewer g c = λ e h. Contains-promoted (eq-value.it c.args.key) c.args.pages.now.entries e (subst (λ q. Contains q.entries e) c.get.follows.holds-at-none h)
+returns-else-at-cells-clause-fewer g c = λ e h. Contains-promoted (eq-value.it c.args.key) c.args.pages.now.entries
+    e (subst (λ q. Contains q.entries e) c.get.follows.holds-at-none h)
 
 pub returns-then-at-cells-clause-found : goal.returns-then-at-cells-clause-found
 returns-then-at-cells-clause-found g c =

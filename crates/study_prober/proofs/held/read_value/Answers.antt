@@ -20,12 +20,14 @@ returns-clause-more g c = λ e h.
       | inl was ↦ inl was
       | inr new ↦ inr (
         new.0,
-        λ t honest same. new.1 ∙ ap (λ (bytes : List ℕ). take 4096 bytes) (c.in_ok-page.ensures.ok t honest same) ∙ cells_of_text t c.args.held.now.header.version c.args.key.number,
+        λ t honest same. new.1 ∙ ap (λ (bytes : List ℕ). take 4096 bytes) (c.in_ok-page.ensures.ok t honest same)
+            ∙ cells_of_text t c.args.held.now.header.version c.args.key.number,
       )
     ]
 
 pub returns-in_err-page-clause-whole : goal.returns-in_err-page-clause-whole
-returns-in_err-page-clause-whole g c = λ t honest same complete d n told. c.in_err-page.ensures.whole t honest same complete d n (passed_on c.from_residual.result _ _ c.from_residual.ensures.1 told)
+returns-in_err-page-clause-whole g c = λ t honest same complete d n told. c.in_err-page.ensures.whole t honest same
+    complete d n (passed_on c.from_residual.result _ _ c.from_residual.ensures.1 told)
 
 pub returns-clause-read : goal.returns-clause-read
 returns-clause-read g c = (
@@ -38,5 +40,9 @@ pub returns-clause-given : goal.returns-clause-given
 returns-clause-given g c = λ e h.
     elim (c.keep.ensures.more e h) [
       | inl was ↦ inl was
-      | inr new ↦ inr (new.0, subst (λ (xs : List ℕ). IsGivenPage g.S.PageSource.gives c.args.held.now c.args.key.number xs) (sym new.1) c.in_ok-page.ensures.checked)
+      | inr new ↦ inr (
+        new.0,
+        subst (λ (xs : List ℕ). IsGivenPage g.S.PageSource.gives c.args.held.now c.args.key.number xs)
+            (sym new.1) c.in_ok-page.ensures.checked,
+      )
     ]

@@ -12,11 +12,15 @@ read_value-requires-clause-number g c = rw c.key_of-key.ensures (page_of_cell c.
 pub returns-in-Some-clause-ok : goal.returns-in-Some-clause-ok
 returns-in-Some-clause-ok g c = λ t honest same kept.
     let found = c.in-Some.ensures.found in
-    let own = kept.is (_, found.0) found.1 (ap (λ (k : PageKey). k.class) c.key_of-key.ensures ∙ ap place_of (sym same)) ∙ ap (λ (k : PageKey). cells_on_page t k.number) c.key_of-key.ensures in
+    let own =
+    kept.is (_, found.0) found.1 (ap (λ (k : PageKey). k.class) c.key_of-key.ensures ∙ ap place_of (sym same))
+    ∙ ap (λ (k : PageKey). cells_on_page t k.number) c.key_of-key.ensures in
     c.value_at.ensures ∙ ap value_of (found.2 ∙ ap (λ (cells : List ℕ). get_or cells (c.args.number % 4096) 0) own ∙ cell_of_page t c.args.number)
 
 pub returns-in-None-clause-ok : goal.returns-in-None-clause-ok
-returns-in-None-clause-ok g c = λ t honest same kept. told_cell t c.args.number c.read_value.result (rw c.key_of-key.ensures at (c.read_value.ensures.ok t honest same))
+returns-in-None-clause-ok g c =
+    λ t honest same kept. told_cell t c.args.number c.read_value.result
+    (rw c.key_of-key.ensures at (c.read_value.ensures.ok t honest same))
 
 pub returns-in-None-clause-more : goal.returns-in-None-clause-more
 returns-in-None-clause-more g c = λ e h.
@@ -31,8 +35,12 @@ returns-in-None-clause-more g c = λ e h.
 pub returns-in-Some-clause-read : goal.returns-in-Some-clause-read
 returns-in-Some-clause-read g c = λ kept.
     let found = c.in-Some.ensures.found in
-    let checked = kept (_, found.0) found.1 (ap (λ (k : PageKey). k.class) c.key_of-key.ensures) in
-    (found.0.items, subst (λ (k : PageKey). IsGivenPage g.S.PageSource.gives c.args.held.now k.number found.0.items) c.key_of-key.ensures checked, c.value_at.ensures ∙ ap value_of found.2)
+    let checked = kept (_, found.0) found.1 (ap (λ (k : PageKey). k.class) c.key_of-key.ensures) in (
+      found.0.items,
+      subst (λ (k : PageKey). IsGivenPage g.S.PageSource.gives c.args.held.now k.number found.0.items)
+          c.key_of-key.ensures checked,
+      c.value_at.ensures ∙ ap value_of found.2,
+    )
 
 pub returns-in-None-clause-read : goal.returns-in-None-clause-read
 returns-in-None-clause-read g c = λ kept. rw c.key_of-key.ensures at c.read_value.ensures.read
@@ -41,5 +49,9 @@ pub returns-in-None-clause-given : goal.returns-in-None-clause-given
 returns-in-None-clause-given g c = λ e h.
     elim (c.read_value.ensures.given e h) [
       | inl was ↦ inl (c.in-None.ensures.fewer e was)
-      | inr new ↦ inr (new.0 ∙ c.key_of-key.ensures, subst (λ (k : PageKey). IsGivenPage g.S.PageSource.gives c.args.held.now k.number e.1.items) c.key_of-key.ensures new.1)
+      | inr new ↦ inr (
+        new.0 ∙ c.key_of-key.ensures,
+        subst (λ (k : PageKey). IsGivenPage g.S.PageSource.gives c.args.held.now k.number e.1.items)
+            c.key_of-key.ensures new.1,
+      )
     ]

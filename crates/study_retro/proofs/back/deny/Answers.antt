@@ -11,7 +11,8 @@ returns-then-is_lost_at-clause-rise g c = λ outer tells i. elim (c.put.ensures.
       let d = c.requires.laws.decoded c.args.number y.0 y.1 in
       let m = lost-sound c.requires.laws c.args.cells.now outer c.args.level tells y.0 d.0 d.1 y.2 in
       let zero_there : slice_index c.args.cells.now c.args.number ≡ 0 = c.if-cells-number-ne0.false in
-      subst (λ (n : ℕ). (slice_index c.args.cells.now n ≡ 0) × (slice_index c.put.new.cells n ≡ c.args.level + 2) × (IsMatedAt (g.G.Game.numbered c.args.game.now) (c.args.level + 1) n)) (sym x.0)
+      subst (λ (n : ℕ). (slice_index c.args.cells.now n ≡ 0) × (slice_index c.put.new.cells n ≡ c.args.level + 2)
+      × (IsMatedAt (g.G.Game.numbered c.args.game.now) (c.args.level + 1) n)) (sym x.0)
       (zero_there, c.put.ensures.here, (y.0, y.1, m)))
 ]
 

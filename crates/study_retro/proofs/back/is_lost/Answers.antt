@@ -16,7 +16,8 @@ returns-then-not-is_won g c =
     let here = subst (λ (x : Move). Contains c.moves-moves.result.items x) (sym c.by-item.is) there in (
       λ e. absurd (let no : false ≡ true = e in cc),
       λ h. let w = h.each c.played-to.result (d, c.moves-moves.ensures.only d here, sym c.played-to.ensures) in
-          absurd (let y = c.is_won.ensures.1 (w.0, c.label.ensures.value ∙ w.1, w.2) in let n = c.if-not-is_won.true in let no : true ≡ false = sym y ∙ n in cc),
+          absurd (let y = c.is_won.ensures.1 (w.0, c.label.ensures.value ∙ w.1, w.2) in
+          let n = c.if-not-is_won.true in let no : true ≡ false = sym y ∙ n in cc),
     )
 
 pub loop-by-preserved : goal.loop-by-preserved
@@ -26,8 +27,13 @@ loop-by-preserved g c =
     let m : Move = slice_index_or ms c.loop-by.by-index d in
     let labels = label_by (g.G.Game.numbered c.args.game.now) c.args.cells.now in
     let w = c.is_won.ensures.0 c.if-not-is_won.false in
-    each-more (λ (x : Move). (n : ℕ) × (labels ((g.G.Game.numbered c.args.game.now).after c.args.at.now x) ≡ Win n) × (n ≤ c.args.level)) ms c.loop-by.by-index d c.loop-by-test.true c.loop-by.invariant
-    (w.0, ap (λ (x : Move). labels ((g.G.Game.numbered c.args.game.now).after c.args.at.now x)) (sym c.by-item.is) ∙ (ap labels (sym c.played-to.ensures) ∙ (sym c.label.ensures.value ∙ w.1)), w.2)
+    each-more (λ (x : Move). (n : ℕ) × (labels ((g.G.Game.numbered c.args.game.now).after c.args.at.now x) ≡ Win n)
+    × (n ≤ c.args.level)) ms c.loop-by.by-index d c.loop-by-test.true c.loop-by.invariant (
+      w.0,
+      ap (λ (x : Move). labels ((g.G.Game.numbered c.args.game.now).after c.args.at.now x)) (sym c.by-item.is)
+          ∙ (ap labels (sym c.played-to.ensures) ∙ (sym c.label.ensures.value ∙ w.1)),
+      w.2,
+    )
 
 pub returns : goal.returns
 returns g c =
@@ -37,5 +43,6 @@ returns g c =
     let whole = take_all c.loop-by.by-index ms c.loop-by-test.false in
     let Won : Move → Type 0 = λ m. (n : ℕ) × (labels ((g.G.Game.numbered c.args.game.now).after c.args.at.now m) ≡ Win n) × (n ≤ c.args.level) in
     let each : (m : Move) → Contains ms m → Won m = subst (λ (xs : List Move). (m : Move) → Contains xs m → Won m) whole c.loop-by.invariant in
-    lost_listed (g.G.Game.numbered c.args.game.now).legal (g.G.Game.numbered c.args.game.now).after labels c.args.level c.args.at.now c.moves-moves.result.items c.moves-moves.ensures.all c.moves-moves.ensures.only
+    lost_listed (g.G.Game.numbered c.args.game.now).legal (g.G.Game.numbered c.args.game.now).after labels
+    c.args.level c.args.at.now c.moves-moves.result.items c.moves-moves.ensures.all c.moves-moves.ensures.only
     (subst (λ (xs : List Move). (m : Move) → Contains xs m → Won m) same each) c.is_empty.result c.is_empty.ensures

@@ -8,8 +8,12 @@ loop-cell-init c = record { win = IsGreatestBelow-none win_of c.args.cells.now; 
 
 pub loop-cell-preserved : goal.loop-cell-preserved
 loop-cell-preserved c = record {
-  win = IsGreatestBelow-more win_of c.args.cells.now c.loop-cell.cell-index c.loop-cell.deepest.win c.with-deepest.result.win c.value_at.result c.value_at.ensures c.with-deepest.ensures.win c.loop-cell.invariant.win;
-  loss = IsGreatestBelow-more loss_of c.args.cells.now c.loop-cell.cell-index c.loop-cell.deepest.loss c.with-deepest.result.loss c.value_at.result c.value_at.ensures c.with-deepest.ensures.loss c.loop-cell.invariant.loss;
+  win = IsGreatestBelow-more win_of c.args.cells.now c.loop-cell.cell-index c.loop-cell.deepest.win
+      c.with-deepest.result.win c.value_at.result c.value_at.ensures c.with-deepest.ensures.win
+      c.loop-cell.invariant.win;
+  loss = IsGreatestBelow-more loss_of c.args.cells.now c.loop-cell.cell-index c.loop-cell.deepest.loss
+      c.with-deepest.result.loss c.value_at.result c.value_at.ensures c.with-deepest.ensures.loss
+      c.loop-cell.invariant.loss;
 }
 
 pub returns-clause-win : goal.returns-clause-win

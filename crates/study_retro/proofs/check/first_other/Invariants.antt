@@ -6,4 +6,5 @@ use Rattle.study_retro.proofs.check.first_other.Given as goal
 abbrev pub invariant-loop-number : goal.invariant-loop-number
 invariant-loop-number g l =
     (k : ℕ) → k < l.number →
-    IsGivenCell (leads_in (g.G.Game.numbered l.game)) (g.G.Game.numbered l.game).mate (label_by (g.G.Game.numbered l.game) l.cells) ((g.G.Game.numbered l.game).position k) (slice_index l.cells k)
+    IsGivenCell (leads_in (g.G.Game.numbered l.game)) (g.G.Game.numbered l.game).mate
+    (label_by (g.G.Game.numbered l.game) l.cells) ((g.G.Game.numbered l.game).position k) (slice_index l.cells k)

@@ -9,7 +9,9 @@ plain_number-requires-clause-at c = numbered_index c.args.class c.args.number c.
 pub returns-then-is_numbered-clause-more : goal.returns-then-is_numbered-clause-more
 returns-then-is_numbered-clause-more c =
     two_added c.args.class c.args.at.now c.args.number c.args.by.now c.in-Some.plain c.in-Some.ensures.some c.args.list.now.items
-    c.push-then-is_numbered.new.self.items (c.push-then-is_numbered.ensures.items ∙ ap (λ (xs : List ℕ). xs ++ (c.in-Some.plain + 16777216) ∷ []) c.push.ensures.items)
+    c.push-then-is_numbered.new.self.items
+    (c.push-then-is_numbered.ensures.items ∙ ap (λ (xs : List ℕ). xs ++ (c.in-Some.plain + 16777216) ∷ [])
+    c.push.ensures.items)
     (c.is_numbered.ensures.0 c.if-is_numbered.true)
 
 pub returns-else-is_numbered-clause-more : goal.returns-else-is_numbered-clause-more

@@ -16,11 +16,14 @@ loop-by-init c = record {
 pub add_before-requires-clause-by : goal.add_before-requires-clause-by
 add_before-requires-clause-by c =
     let C : List Move → Type 0 = λ xs. Contains xs c.by-item.result in
-    let there : Contains c.as_slice-by-items.result.now c.by-item.result = subst (λ (x : Move). Contains c.as_slice-by-items.result.now x) (sym c.by-item.is) (Contains-get_or c.as_slice-by-items.result.now c.loop-by.by-index _ c.loop-by-test.true) in
+    let there : Contains c.as_slice-by-items.result.now c.by-item.result =
+    subst (λ (x : Move). Contains c.as_slice-by-items.result.now x) (sym c.by-item.is)
+    (Contains-get_or c.as_slice-by-items.result.now c.loop-by.by-index _ c.loop-by-test.true) in
     (c.last_moves-moves.ensures.exact c.by-item.result).0 (subst C c.as_slice-by-items.ensures.value there)
 
 pub add_before-requires-clause-room : goal.add_before-requires-clause-room
-add_before-requires-clause-room c = let f = c.loop-by.invariant.few in let l = c.loop-by-test.true in let k = c.as_slice-by-items.ensures.fits in omega (arith, f, l, k)
+add_before-requires-clause-room c = let f = c.loop-by.invariant.few in let l = c.loop-by-test.true in
+    let k = c.as_slice-by-items.ensures.fits in omega (arith, f, l, k)
 
 pub loop-by-preserved : goal.loop-by-preserved
 loop-by-preserved c =
@@ -31,7 +34,9 @@ loop-by-preserved c =
     let Q : Move → Type 0 = λ x. (n : ℕ) → IsNumberBefore c.args.class c.args.at.now c.args.number x n → Contains c.add_before.new.list.items n in
     record {
       few = (let f = inv.few in let g = c.add_before.ensures.few in omega (arith, f, g));
-      all = each-more Q moves c.loop-by.by-index m c.loop-by-test.true (λ x i n b. (more n).1 (inl (inv.all x i n b))) (subst Q c.by-item.is (λ n b. (more n).1 (inr b)));
+      all =
+          each-more Q moves c.loop-by.by-index m c.loop-by-test.true (λ x i n b. (more n).1 (inl (inv.all x i n b)))
+          (subst Q c.by-item.is (λ n b. (more n).1 (inr b)));
       only = λ n i. elim ((more n).0 i) [ inl j ↦ inv.only n j | inr b ↦ record { by = m; is = b } ];
     }
 
@@ -40,6 +45,12 @@ returns c = λ n. (
   c.loop-by.invariant.only n,
   λ b.
       let C : List Move → Type 0 = λ xs. Contains xs b.by in
-      let there : Contains c.as_slice-by-items.result.now b.by = subst C (sym c.as_slice-by-items.ensures.value) ((c.last_moves-moves.ensures.exact b.by).1 (record { from = b.is.from; leads = b.is.leads })) in
-      c.loop-by.invariant.all b.by (subst C (sym (take_all c.loop-by.by-index c.as_slice-by-items.result.now (let h = c.loop-by-test.false in omega (arith, h)))) there) n b.is,
+      let there : Contains c.as_slice-by-items.result.now b.by =
+      subst C (sym c.as_slice-by-items.ensures.value)
+      ((c.last_moves-moves.ensures.exact b.by).1 (record { from = b.is.from; leads = b.is.leads })) in
+      c.loop-by.invariant.all b.by
+      (subst C
+      (sym
+      (take_all c.loop-by.by-index c.as_slice-by-items.result.now
+      (let h = c.loop-by-test.false in omega (arith, h)))) there) n b.is,
 )

@@ -33,7 +33,9 @@ loop-by-preserved g c =
     let f : Move → Value = λ m. (g.G.Game.numbered c.args.game.now).outside ((g.G.Game.numbered c.args.game.now).after c.args.at.now m) in
     let ms = c.as_slice-by-items.result.now in
     let d = c.by-item.result in
-    let item : (g.G.Game.numbered c.args.game.now).after c.args.at.now (slice_index_or ms c.loop-by.by-index d) ≡ (g.G.Game.numbered c.args.game.now).after c.args.at.now d = ap ((g.G.Game.numbered c.args.game.now).after c.args.at.now) (sym c.by-item.is) in
+    let item : (g.G.Game.numbered c.args.game.now).after c.args.at.now (slice_index_or ms c.loop-by.by-index d)
+    ≡ (g.G.Game.numbered c.args.game.now).after c.args.at.now d =
+    ap ((g.G.Game.numbered c.args.game.now).after c.args.at.now) (sym c.by-item.is) in
     elim c.if-leaves.branch [
       | then-leaves w ↦ (
           let e = w.with_outside-tally.ensures in
@@ -44,13 +46,16 @@ loop-by-preserved g c =
                 (λ o. let no : true ≡ false = sym h ∙ (ap (g.G.Game.numbered c.args.game.now).home (to ∙ sym item) ∙ o) in cc) c.loop-by.invariant
                 (ap (λ (t : Tally). t.lost) is ∙ e.in_lost h) (ap (λ (t : Tally). t.won) is ∙ e.in_won h) (ap (λ (t : Tally). t.drawn) is ∙ e.in_drawn h)
             | inr h ↦ IsTallyOf-in Ok f ms c.loop-by.by-index d ((g.G.Game.numbered c.args.game.now).outside w.played-to.result) _ _ _ _ _ _ c.loop-by-test.true
-                (ap (g.G.Game.numbered c.args.game.now).home (item ∙ sym to) ∙ h) (ap (g.G.Game.numbered c.args.game.now).outside (item ∙ sym to)) c.loop-by.invariant
+                (ap (g.G.Game.numbered c.args.game.now).home (item ∙ sym to) ∙ h)
+                (ap (g.G.Game.numbered c.args.game.now).outside (item ∙ sym to)) c.loop-by.invariant
                 (ap (λ (t : Tally). t.lost) is ∙ e.out_lost h) (ap (λ (t : Tally). t.won) is ∙ e.out_won h) (ap (λ (t : Tally). t.drawn) is ∙ e.out_drawn h)
           ])
       | else-leaves w ↦ (
           let is = w.tally-is in
           IsTallyOf-out Ok f ms c.loop-by.by-index d _ _ _ _ _ _ c.loop-by-test.true
-          (λ o. let h = c.leaves.ensures w.if-leaves.false in let no : true ≡ false = sym h ∙ (ap (g.G.Game.numbered c.args.game.now).home (sym item) ∙ o) in cc) c.loop-by.invariant
+          (λ o. let h = c.leaves.ensures w.if-leaves.false in
+          let no : true ≡ false = sym h ∙ (ap (g.G.Game.numbered c.args.game.now).home (sym item) ∙ o) in cc)
+          c.loop-by.invariant
           (ap (λ (t : Tally). t.lost) is) (ap (λ (t : Tally). t.won) is) (ap (λ (t : Tally). t.drawn) is))
     ]
 
@@ -60,10 +65,17 @@ returns g c =
     let f : Move → Value = λ m. (g.G.Game.numbered c.args.game.now).outside ((g.G.Game.numbered c.args.game.now).after c.args.at.now m) in
     let ms = c.as_slice-by-items.result.now in
     let same = c.as_slice-by-items.ensures.value in
-    let t = subst (λ (xs : List Move). IsTallyOf Ok f xs c.loop-by.tally.lost c.loop-by.tally.won c.loop-by.tally.drawn) (take_all c.loop-by.by-index ms c.loop-by-test.false) c.loop-by.invariant in
-    let is = GivesOutside-given_by (g.G.Game.numbered c.args.game.now).legal (g.G.Game.numbered c.args.game.now).after (g.G.Game.numbered c.args.game.now).home (g.G.Game.numbered c.args.game.now).outside c.args.at.now ms
+    let t =
+    subst (λ (xs : List Move). IsTallyOf Ok f xs c.loop-by.tally.lost c.loop-by.tally.won c.loop-by.tally.drawn)
+    (take_all c.loop-by.by-index ms c.loop-by-test.false) c.loop-by.invariant in
+    let is =
+    GivesOutside-given_by (g.G.Game.numbered c.args.game.now).legal (g.G.Game.numbered c.args.game.now).after
+    (g.G.Game.numbered c.args.game.now).home (g.G.Game.numbered c.args.game.now).outside c.args.at.now ms
     (λ m l. subst (λ (xs : List Move). Contains xs m) (sym same) (c.moves-moves.ensures.all m l))
     (λ m h. c.moves-moves.ensures.only m (subst (λ (xs : List Move). Contains xs m) same h))
     c.loop-by.tally.lost c.loop-by.tally.won c.loop-by.tally.drawn t in
-    let gives = subst (λ (v : Value). GivesOutside (leads_in (g.G.Game.numbered c.args.game.now)) (g.G.Game.numbered c.args.game.now).home (g.G.Game.numbered c.args.game.now).outside c.args.at.now v) (sym c.given.ensures) is in
+    let gives =
+    subst (λ (v : Value). GivesOutside (leads_in (g.G.Game.numbered c.args.game.now))
+    (g.G.Game.numbered c.args.game.now).home (g.G.Game.numbered c.args.game.now).outside c.args.at.now v)
+    (sym c.given.ensures) is in
     gives

@@ -7,12 +7,17 @@ use Rattle.study_retro.proofs.first.first_of.Goals as goal
 pub returns-then-is_mate : goal.returns-then-is_mate
 returns-then-is_mate g c = λ outer.
     let e = sym c.decode.ensures ∙ c.in-Some.is in
-    subst (λ (o : Option g.row.G-Position.Denot). IsHeldCell (leads_in (g.G.Game.numbered c.args.game.now)) (g.G.Game.numbered c.args.game.now).mate (g.G.Game.numbered c.args.game.now).home false 0 o 1) (sym e)
+    subst (λ (o : Option g.row.G-Position.Denot). IsHeldCell (leads_in (g.G.Game.numbered c.args.game.now))
+    (g.G.Game.numbered c.args.game.now).mate (g.G.Game.numbered c.args.game.now).home false 0 o 1) (sym e)
     (held-mate c.requires.laws outer c.in-Some.at (c.is_mate.ensures.0 c.if-is_mate.true))
 
 pub returns : goal.returns
 returns g c = λ outer.
     let e = sym c.decode.ensures ∙ c.in-Some.is in
     let d = c.requires.laws.decoded c.args.number c.in-Some.at e in
-    subst (λ (o : Option g.row.G-Position.Denot). IsHeldCell (leads_in (g.G.Game.numbered c.args.game.now)) (g.G.Game.numbered c.args.game.now).mate (g.G.Game.numbered c.args.game.now).home c.first_by.result.far 0 o c.first_by.result.cell) (sym e)
-    (held-first c.requires.laws outer c.in-Some.at d.0 d.1 (λ m. let y = c.is_mate.ensures.1 m in let n = c.if-is_mate.false in let no : true ≡ false = sym y ∙ n in cc) c.converted.result c.first_by.result.cell c.first_by.result.far c.converted.ensures c.first_by.ensures)
+    subst (λ (o : Option g.row.G-Position.Denot). IsHeldCell (leads_in (g.G.Game.numbered c.args.game.now))
+    (g.G.Game.numbered c.args.game.now).mate (g.G.Game.numbered c.args.game.now).home c.first_by.result.far 0 o
+    c.first_by.result.cell) (sym e)
+    (held-first c.requires.laws outer c.in-Some.at d.0 d.1 (λ m. let y = c.is_mate.ensures.1 m in
+    let n = c.if-is_mate.false in let no : true ≡ false = sym y ∙ n in cc) c.converted.result
+    c.first_by.result.cell c.first_by.result.far c.converted.ensures c.first_by.ensures)

@@ -6,5 +6,7 @@ use Rattle.study_retro.proofs.first.start.Given as goal
 abbrev pub invariant-loop-number : goal.invariant-loop-number
 invariant-loop-number g l = record {
   size : length l.cells ≡ (g.G.Game.numbered l.game).size;
-  held : OutsideIsRight (g.G.Game.numbered l.game) → (j : ℕ) → j < l.number → IsHeldCell (leads_in (g.G.Game.numbered l.game)) (g.G.Game.numbered l.game).mate (g.G.Game.numbered l.game).home l.far 0 ((g.G.Game.numbered l.game).position j) (slice_index l.cells j);
+  held : OutsideIsRight (g.G.Game.numbered l.game) → (j : ℕ) → j < l.number
+      → IsHeldCell (leads_in (g.G.Game.numbered l.game)) (g.G.Game.numbered l.game).mate
+      (g.G.Game.numbered l.game).home l.far 0 ((g.G.Game.numbered l.game).position j) (slice_index l.cells j);
 }

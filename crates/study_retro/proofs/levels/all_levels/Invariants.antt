@@ -6,5 +6,7 @@ abbrev pub invariant-loop-level : goal.invariant-loop-level
 invariant-loop-level g l = record {
   size : length l.cells ≡ (g.G.Game.numbered l.game).size;
   bytes : (i : ℕ) → slice_index l.cells i ≤ 255;
-  held : OutsideIsRight (g.G.Game.numbered l.game) → (far : Bool) → CellsAreHeld (g.G.Game.numbered l.game) far 0 l.initial.cells → CellsAreHeld (g.G.Game.numbered l.game) far l.level l.cells;
+  held : OutsideIsRight (g.G.Game.numbered l.game) → (far : Bool)
+      → CellsAreHeld (g.G.Game.numbered l.game) far 0 l.initial.cells
+      → CellsAreHeld (g.G.Game.numbered l.game) far l.level l.cells;
 }

@@ -14,4 +14,6 @@ returns-else-not-is_lost_at-clause-lost g c = λ outer tells p e o.
     let y = c.is_lost_at.ensures.yes c.if-not-is_lost_at.false in
     let d = c.requires.laws.decoded c.args.number y.0 y.1 in
     let m = lost-sound c.requires.laws c.args.cells.now outer c.args.level tells y.0 d.0 d.1 y.2 in
-    subst (λ (x : g.row.G-Position.Denot). Mated (leads_in (g.G.Game.numbered c.args.game.now)) (g.G.Game.numbered c.args.game.now).mate x (c.args.level + 1)) (let s : Some y.0 ≡ Some p = sym y.1 ∙ e in cc) m
+    subst (λ (x : g.row.G-Position.Denot). Mated (leads_in (g.G.Game.numbered c.args.game.now))
+    (g.G.Game.numbered c.args.game.now).mate x (c.args.level + 1))
+    (let s : Some y.0 ≡ Some p = sym y.1 ∙ e in cc) m

@@ -6,7 +6,11 @@ use Rattle.study_retro.proofs.levels.confirm_all.Goals as goal
 pub loop-number-preserved : goal.loop-number-preserved
 loop-number-preserved g c =
     let inv = c.loop-number.invariant in
-    let now : TellWins (g.G.Game.numbered c.args.game.now) c.args.level c.args.cells.now → TellWins (g.G.Game.numbered c.args.game.now) c.args.level c.loop-number.cells = λ tells. dropped-tells c.args.level (leads_in (g.G.Game.numbered c.args.game.now)) (g.G.Game.numbered c.args.game.now).mate (g.G.Game.numbered c.args.game.now).position c.args.cells.now c.loop-number.cells inv.fall tells in
+    let now : TellWins (g.G.Game.numbered c.args.game.now) c.args.level c.args.cells.now
+    → TellWins (g.G.Game.numbered c.args.game.now) c.args.level c.loop-number.cells =
+    λ tells. dropped-tells c.args.level (leads_in (g.G.Game.numbered c.args.game.now))
+    (g.G.Game.numbered c.args.game.now).mate (g.G.Game.numbered c.args.game.now).position c.args.cells.now
+    c.loop-number.cells inv.fall tells in
     record {
       size = c.confirm.auto.cells ∙ inv.size;
       fall = dropped-then c.args.level c.args.cells.now c.loop-number.cells c.confirm.new.cells inv.fall c.confirm.ensures.fall;

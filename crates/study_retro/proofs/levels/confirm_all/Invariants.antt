@@ -9,6 +9,12 @@ invariant-loop-number g l = record {
   size : length l.cells ≡ (g.G.Game.numbered l.game).size;
   fall : AreDropped l.level l.initial.cells l.cells;
   rest : (j : ℕ) → l.number ≤ j → slice_index l.cells j ≡ slice_index l.initial.cells j;
-  lost : OutsideIsRight (g.G.Game.numbered l.game) → TellWins (g.G.Game.numbered l.game) l.level l.initial.cells → (j : ℕ) → j < l.number → (p : g.row.G-Position.Denot) → (g.G.Game.numbered l.game).position j ≡ Some p → slice_index l.cells j ≡ l.level + 2 → IsMatedWithin (g.G.Game.numbered l.game) (l.level + 1) p;
-  kept : OutsideIsRight (g.G.Game.numbered l.game) → TellWins (g.G.Game.numbered l.game) l.level l.initial.cells → (j : ℕ) → j < l.number → (p q : g.row.G-Position.Denot) → (g.G.Game.numbered l.game).position j ≡ Some p → Leads (g.G.Game.numbered l.game).legal (g.G.Game.numbered l.game).after p q → slice_index l.initial.cells j ≡ l.level + 2 → IsMatedWithin (g.G.Game.numbered l.game) (l.level + 1) p → slice_index l.cells j ≡ l.level + 2;
+  lost : OutsideIsRight (g.G.Game.numbered l.game) → TellWins (g.G.Game.numbered l.game) l.level l.initial.cells
+      → (j : ℕ) → j < l.number → (p : g.row.G-Position.Denot) → (g.G.Game.numbered l.game).position j ≡ Some p
+      → slice_index l.cells j ≡ l.level + 2 → IsMatedWithin (g.G.Game.numbered l.game) (l.level + 1) p;
+  kept : OutsideIsRight (g.G.Game.numbered l.game) → TellWins (g.G.Game.numbered l.game) l.level l.initial.cells
+      → (j : ℕ) → j < l.number → (p q : g.row.G-Position.Denot) → (g.G.Game.numbered l.game).position j ≡ Some p
+      → Leads (g.G.Game.numbered l.game).legal (g.G.Game.numbered l.game).after p q
+      → slice_index l.initial.cells j ≡ l.level + 2 → IsMatedWithin (g.G.Game.numbered l.game) (l.level + 1) p
+      → slice_index l.cells j ≡ l.level + 2;
 }

@@ -7,5 +7,7 @@ abbrev pub invariant-loop-number : goal.invariant-loop-number
 invariant-loop-number g l = record {
   size : length l.cells ≡ (g.G.Game.numbered l.game).size;
   rise : AreLowered (λ i. (j : ℕ) × (slice_index l.initial.cells j ≡ l.level + 1) × StepLeads (g.G.Game.numbered l.game) i j) l.level l.initial.cells l.cells;
-  done : (j : ℕ) → j < l.number → (i : ℕ) → slice_index l.initial.cells j ≡ l.level + 1 → StepLeads (g.G.Game.numbered l.game) i j → (slice_index l.cells i ≢ 0) × (slice_index l.cells i ≤ l.level + 2);
+  done : (j : ℕ) → j < l.number → (i : ℕ) → slice_index l.initial.cells j ≡ l.level + 1
+      → StepLeads (g.G.Game.numbered l.game) i j → (slice_index l.cells i ≢ 0)
+      × (slice_index l.cells i ≤ l.level + 2);
 }

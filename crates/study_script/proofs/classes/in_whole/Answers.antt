@@ -16,14 +16,33 @@ returns-in_err-class g c = λ s h seen.
 
 pub returns-in-Build : goal.returns-in-Build
 returns-in-Build g c = λ s h seen.
-    decided_weaker (λ o. IsBuildReply s o c.in_ok-class.class (is_among s.classes c.in_ok-class.class) (first_lacking s.classes c.in_ok-class.class)) (λ o. IsNamedReply s o c.args.word (class_named c.args.name.now)) (WholeFrom s c.build_class.new.tables)
-    (λ t. HoldsWhole c.build_class.new.tables t × (t.board ≡ s.board) × StoreSeen g.S.TableStore.honest g.S.TableStore.files g.S.TableStore.headers c.args.store.now t) c.build_class.result
-    (λ o r i. named_as s o c.args.word c.args.name.now c.in_ok-class.class r c.in_ok-class.ensures.ok (subst (λ (w : ClassWord). IsTableReply s o w c.in_ok-class.class r) (sym c.in-Build.is) i))
-    (λ t f. (f.holds, f.board, store_of g.S.TableStore.honest g.S.TableStore.files g.S.TableStore.headers c.args.store.now s t (sym f.holds.whole ∙ h.whole) f.shelf seen)) (c.build_class.ensures s h)
+    decided_weaker (λ o. IsBuildReply s o c.in_ok-class.class (is_among s.classes c.in_ok-class.class)
+    (first_lacking s.classes c.in_ok-class.class))
+    (λ o. IsNamedReply s o c.args.word (class_named c.args.name.now)) (WholeFrom s c.build_class.new.tables)
+    (λ t. HoldsWhole c.build_class.new.tables t × (t.board ≡ s.board)
+    × StoreSeen g.S.TableStore.honest g.S.TableStore.files g.S.TableStore.headers c.args.store.now t)
+    c.build_class.result
+    (λ o r i. named_as s o c.args.word c.args.name.now c.in_ok-class.class r c.in_ok-class.ensures.ok
+    (subst (λ (w : ClassWord). IsTableReply s o w c.in_ok-class.class r) (sym c.in-Build.is) i))
+    (λ t f. (
+      f.holds,
+      f.board,
+      store_of g.S.TableStore.honest g.S.TableStore.files g.S.TableStore.headers
+          c.args.store.now s t (sym f.holds.whole ∙ h.whole) f.shelf seen,
+    )) (c.build_class.ensures s h)
 
 pub returns-in-Verify : goal.returns-in-Verify
 returns-in-Verify g c = λ s h seen.
-    decided_weaker (λ o reply. reply ≡ verify_reply s c.in_ok-class.class (is_among s.classes c.in_ok-class.class)) (λ o. IsNamedReply s o c.args.word (class_named c.args.name.now)) (WholeFrom s c.args.tables.now)
-    (λ t. HoldsWhole c.args.tables.now t × (t.board ≡ s.board) × StoreSeen g.S.TableStore.honest g.S.TableStore.files g.S.TableStore.headers c.args.store.now t) c.verify_class.result
-    (λ o r i. named_as s o c.args.word c.args.name.now c.in_ok-class.class r c.in_ok-class.ensures.ok (subst (λ (w : ClassWord). IsTableReply s o w c.in_ok-class.class r) (sym c.in-Verify.is) i))
-    (λ t f. (f.holds, f.board, store_of g.S.TableStore.honest g.S.TableStore.files g.S.TableStore.headers c.args.store.now s t (sym f.holds.whole ∙ h.whole) f.shelf seen)) (c.verify_class.ensures s h)
+    decided_weaker (λ o reply. reply ≡ verify_reply s c.in_ok-class.class (is_among s.classes c.in_ok-class.class))
+    (λ o. IsNamedReply s o c.args.word (class_named c.args.name.now)) (WholeFrom s c.args.tables.now)
+    (λ t. HoldsWhole c.args.tables.now t × (t.board ≡ s.board)
+    × StoreSeen g.S.TableStore.honest g.S.TableStore.files g.S.TableStore.headers c.args.store.now t)
+    c.verify_class.result
+    (λ o r i. named_as s o c.args.word c.args.name.now c.in_ok-class.class r c.in_ok-class.ensures.ok
+    (subst (λ (w : ClassWord). IsTableReply s o w c.in_ok-class.class r) (sym c.in-Verify.is) i))
+    (λ t f. (
+      f.holds,
+      f.board,
+      store_of g.S.TableStore.honest g.S.TableStore.files g.S.TableStore.headers
+          c.args.store.now s t (sym f.holds.whole ∙ h.whole) f.shelf seen,
+    )) (c.verify_class.ensures s h)

@@ -14,16 +14,20 @@ pub returns-in_default-writer : goal.returns-in_default-writer
 returns-in_default-writer g c = λ s h seen.
     let some = ap (λ (o : Option Table). is_some o) (c.in-Some.ensures.value ∙ ap (λ (x : List (Option Table)). table_of x c.args.class) c.tables.ensures) in
     save_unopened c.args.tables.now s h c.args.class (StoreSeen g.S.TableStore.honest g.S.TableStore.files g.S.TableStore.headers c.writer.new.self)
-    (store_anew g.S.TableStore.honest g.S.TableStore.files g.S.TableStore.headers c.args.store.now c.writer.new.self s c.args.class c.writer.ensures.stays c.writer.ensures.files c.writer.ensures.headers seen) c.in_default-writer.field-0 (sym some)
+    (store_anew g.S.TableStore.honest g.S.TableStore.files g.S.TableStore.headers c.args.store.now c.writer.new.self
+    s c.args.class c.writer.ensures.stays c.writer.ensures.files c.writer.ensures.headers seen)
+    c.in_default-writer.field-0 (sym some)
 
 pub returns-then-is_err : goal.returns-then-is_err
 returns-then-is_err g c = λ s h seen.
     let some = ap (λ (o : Option Table). is_some o) (c.in-Some.ensures.value ∙ ap (λ (x : List (Option Table)). table_of x c.args.class) c.tables.ensures) in
     save_cut c.args.tables.now s h c.args.class (StoreSeen g.S.TableStore.honest g.S.TableStore.files g.S.TableStore.headers c.writer.new.self)
-    (store_anew g.S.TableStore.honest g.S.TableStore.files g.S.TableStore.headers c.args.store.now c.writer.new.self s c.args.class c.writer.ensures.stays c.writer.ensures.files c.writer.ensures.headers seen) (sym some)
+    (store_anew g.S.TableStore.honest g.S.TableStore.files g.S.TableStore.headers c.args.store.now c.writer.new.self
+    s c.args.class c.writer.ensures.stays c.writer.ensures.files c.writer.ensures.headers seen) (sym some)
 
 pub returns : goal.returns
 returns g c = λ s h seen.
     let some = ap (λ (o : Option Table). is_some o) (c.in-Some.ensures.value ∙ ap (λ (x : List (Option Table)). table_of x c.args.class) c.tables.ensures) in
     save_done c.args.tables.now s h c.args.class (StoreSeen g.S.TableStore.honest g.S.TableStore.files g.S.TableStore.headers c.writer.new.self)
-    (store_anew g.S.TableStore.honest g.S.TableStore.files g.S.TableStore.headers c.args.store.now c.writer.new.self s c.args.class c.writer.ensures.stays c.writer.ensures.files c.writer.ensures.headers seen) (sym some)
+    (store_anew g.S.TableStore.honest g.S.TableStore.files g.S.TableStore.headers c.args.store.now c.writer.new.self
+    s c.args.class c.writer.ensures.stays c.writer.ensures.files c.writer.ensures.headers seen) (sym some)

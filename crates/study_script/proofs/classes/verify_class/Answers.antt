@@ -8,4 +8,6 @@ returns-in-None g c = λ s h. verify_none c.args.tables.now s h c.args.class (sy
 
 pub returns-in-Some : goal.returns-in-Some
 returns-in-Some g c = λ s h.
-    verify_told c.args.tables.now s h c.args.class c.in-Some.right (sym c.in-Some.ensures.held) (right_told c.args.tables.now.tables c.args.class c.in-Some.right h.values (sym c.in-Some.ensures.held) (c.in-Some.ensures.right (needs_right c.args.tables.now.tables c.args.class h.values)))
+    verify_told c.args.tables.now s h c.args.class c.in-Some.right (sym c.in-Some.ensures.held)
+    (right_told c.args.tables.now.tables c.args.class c.in-Some.right h.values (sym c.in-Some.ensures.held)
+    (c.in-Some.ensures.right (needs_right c.args.tables.now.tables c.args.class h.values)))

@@ -10,10 +10,18 @@ pub returns-in-Whole-clause-refusal : goal.returns-in-Whole-clause-refusal
 returns-in-Whole-clause-refusal g c = rw c.in-Whole.is c.insert.ensures.refusal
 
 pub returns-in-Whole-clause-found : goal.returns-in-Whole-clause-found
-returns-in-Whole-clause-found g c = subst (λ t. OnOk c.insert.result (AllHeld (tables_held t) (asked_at (after (position_at (marked c.args.bench.now) c.args.path.now) c.args.m)))) (sym c.in-Whole.is) c.insert.ensures.found
+returns-in-Whole-clause-found g c =
+    subst
+    (λ t. OnOk c.insert.result
+    (AllHeld (tables_held t) (asked_at (after (position_at (marked c.args.bench.now) c.args.path.now) c.args.m))))
+    (sym c.in-Whole.is) c.insert.ensures.found
 
 pub returns-in-Paged-clause-refusal : goal.returns-in-Paged-clause-refusal
 returns-in-Paged-clause-refusal g c = rw c.in-Paged.is c.insert-in-Paged.ensures.refusal
 
 pub returns-in-Paged-clause-found : goal.returns-in-Paged-clause-found
-returns-in-Paged-clause-found g c = subst (λ t. OnOk c.insert-in-Paged.result (AllHeld (tables_held t) (asked_at (after (position_at (marked c.args.bench.now) c.args.path.now) c.args.m)))) (sym c.in-Paged.is) c.insert-in-Paged.ensures.found
+returns-in-Paged-clause-found g c =
+    subst
+    (λ t. OnOk c.insert-in-Paged.result
+    (AllHeld (tables_held t) (asked_at (after (position_at (marked c.args.bench.now) c.args.path.now) c.args.m))))
+    (sym c.in-Paged.is) c.insert-in-Paged.ensures.found

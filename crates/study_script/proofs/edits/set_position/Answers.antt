@@ -7,10 +7,14 @@ pub returns-in-Whole-clause-refusal : goal.returns-in-Whole-clause-refusal
 returns-in-Whole-clause-refusal g c = rw c.in-Whole.is c.set_position.ensures.refusal
 
 pub returns-in-Whole-clause-found : goal.returns-in-Whole-clause-found
-returns-in-Whole-clause-found g c = subst (λ t. OnOk c.set_position.result (AllHeld (tables_held t) (asked_at c.args.start.position))) (sym c.in-Whole.is) c.set_position.ensures.found
+returns-in-Whole-clause-found g c =
+    subst (λ t. OnOk c.set_position.result (AllHeld (tables_held t) (asked_at c.args.start.position)))
+    (sym c.in-Whole.is) c.set_position.ensures.found
 
 pub returns-in-Paged-clause-refusal : goal.returns-in-Paged-clause-refusal
 returns-in-Paged-clause-refusal g c = rw c.in-Paged.is c.set_position-in-Paged.ensures.refusal
 
 pub returns-in-Paged-clause-found : goal.returns-in-Paged-clause-found
-returns-in-Paged-clause-found g c = subst (λ t. OnOk c.set_position-in-Paged.result (AllHeld (tables_held t) (asked_at c.args.start.position))) (sym c.in-Paged.is) c.set_position-in-Paged.ensures.found
+returns-in-Paged-clause-found g c =
+    subst (λ t. OnOk c.set_position-in-Paged.result (AllHeld (tables_held t) (asked_at c.args.start.position)))
+    (sym c.in-Paged.is) c.set_position-in-Paged.ensures.found

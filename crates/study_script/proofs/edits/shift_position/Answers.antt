@@ -10,10 +10,18 @@ pub returns-in-Whole-clause-refusal : goal.returns-in-Whole-clause-refusal
 returns-in-Whole-clause-refusal g c = rw c.in-Whole.is c.shift_position.ensures.refusal
 
 pub returns-in-Whole-clause-found : goal.returns-in-Whole-clause-found
-returns-in-Whole-clause-found g c = subst (λ t. OnOk c.shift_position.result (AllHeld (tables_held t) (asked_of (shifted (plain_study (marked c.args.bench.now)) c.args.start)))) (sym c.in-Whole.is) c.shift_position.ensures.found
+returns-in-Whole-clause-found g c =
+    subst
+    (λ t. OnOk c.shift_position.result
+    (AllHeld (tables_held t) (asked_of (shifted (plain_study (marked c.args.bench.now)) c.args.start))))
+    (sym c.in-Whole.is) c.shift_position.ensures.found
 
 pub returns-in-Paged-clause-refusal : goal.returns-in-Paged-clause-refusal
 returns-in-Paged-clause-refusal g c = rw c.in-Paged.is c.shift_position-in-Paged.ensures.refusal
 
 pub returns-in-Paged-clause-found : goal.returns-in-Paged-clause-found
-returns-in-Paged-clause-found g c = subst (λ t. OnOk c.shift_position-in-Paged.result (AllHeld (tables_held t) (asked_of (shifted (plain_study (marked c.args.bench.now)) c.args.start)))) (sym c.in-Paged.is) c.shift_position-in-Paged.ensures.found
+returns-in-Paged-clause-found g c =
+    subst
+    (λ t. OnOk c.shift_position-in-Paged.result
+    (AllHeld (tables_held t) (asked_of (shifted (plain_study (marked c.args.bench.now)) c.args.start))))
+    (sym c.in-Paged.is) c.shift_position-in-Paged.ensures.found

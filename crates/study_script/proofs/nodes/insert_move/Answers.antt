@@ -1,7 +1,7 @@
 use Rattle.std.proofs.Common.{◌≡◌, ℕ, List, Ok, Err, refl, sym, subst}
 use Rattle.std.specs.Io.KnownBytes.{Appends}
 use Rattle.study_tablefile.specs.Taken.{TakesPrefix}
-use Rattle.study_tablefile.proofs.Wrote.{OnErr-known}
+use Rattle.study_tablefile.proofs.TextTaken.{OnErr-known}
 use Rattle.study_moves.specs.Rules.{after}
 use Rattle.study_marks.specs.Study.{plain_study, position_at}
 use Rattle.study_marks.specs.Kept.{marked}
@@ -11,10 +11,10 @@ use Rattle.study_script.specs.Names.{edit_words}
 use Rattle.study_script.specs.State.{Outside, quiet}
 use Rattle.study_script.specs.Held.{BrokenOff, tables_held, are_paged}
 use Rattle.study_script.specs.Replies.{accepted, refused_by, holding, inserted_text, IsMoveReply, IsInserted}
-use Rattle.study_script.proofs.Asked.{accepted_outside}
-use Rattle.study_script.proofs.Kept.{study_edited, study_same}
-use Rattle.study_script.proofs.Unmarked.{position_at-plain, inserted_said}
-use Rattle.study_script.proofs.Inserted.{insert_same, none_of, insert_refused}
+use Rattle.study_script.proofs.AskingEdits.{accepted_outside}
+use Rattle.study_script.proofs.HeldBehindReplies.{study_edited, study_same}
+use Rattle.study_script.proofs.PlainNodes.{position_at-plain, inserted_said}
+use Rattle.study_script.proofs.InsertReplies.{insert_same, none_of, insert_refused}
 use Rattle.study_board.specs.Position.{Position}
 use Rattle.std.specs.Prelude.{MatchOption, IfErr}
 use Rattle.study_marks.specs.Asked.{IsOutside}
@@ -31,7 +31,24 @@ returns-in_err-put_inserted-in-Ok-clause-err g c = λ s h.
     let asked = asked_at (after (position_at old steps) m) in
     let tables = c.args.tables.now in
     let others = c.insert_move.new.tables in
-    let part : BrokenOff (λ (o : Outside). IsMoveReply s o (plain_study (marked c.args.bench.now)) c.args.path.now (Ok c.args.m.now)) (g.W.Write.contents c.args.out.now) (g.W.Write.contents c.put_inserted.new.out) = (quiet, accepted (holding s new) said, subst (λ x. IsInserted s quiet old steps m x (accepted (holding s new) said)) (sym (none_of _ (insert_refusal {A = g.row.A.Denot} old steps m) (insert_refusal {A = Unit {0}} old steps m) (insert_same g.row.A.Denot (Unit {0}) old steps m) c.insert_move.result c.in-Ok.place c.insert_move.ensures.refusal c.in-Ok.is)) (accepted_outside s (tables_held tables) asked new said h.classes (subst (λ (p : Position). AllHeld (tables_held tables) (asked_at (after p m))) (sym (position_at-plain shown steps)) c.in-Ok.ensures.found)), subst (λ (t : List ℕ). TakesPrefix (g.W.Write.contents c.args.out.now) (g.W.Write.contents c.put_inserted.new.out) t) (inserted_said shown c.steps.result.now steps c.in-Ok.place c.args.start.now.position m c.steps.ensures c.in-Ok.ensures.place c.requires.at) c.in_err-put_inserted-in-Ok.ensures.err) in OnErr-known _ _ part
+    let part : BrokenOff (λ (o : Outside). IsMoveReply s o (plain_study (marked c.args.bench.now)) c.args.path.now
+    (Ok c.args.m.now)) (g.W.Write.contents c.args.out.now) (g.W.Write.contents c.put_inserted.new.out) = (
+      quiet,
+      accepted (holding s new) said,
+      subst (λ x. IsInserted s quiet old steps m x (accepted (holding s new) said))
+          (sym
+          (none_of _ (insert_refusal {A = g.row.A.Denot} old steps m) (insert_refusal {A = Unit {0}} old steps m)
+          (insert_same g.row.A.Denot (Unit {0}) old steps m) c.insert_move.result c.in-Ok.place
+          c.insert_move.ensures.refusal c.in-Ok.is))
+          (accepted_outside s (tables_held tables) asked new said h.classes
+          (subst (λ (p : Position). AllHeld (tables_held tables) (asked_at (after p m)))
+          (sym (position_at-plain shown steps)) c.in-Ok.ensures.found)),
+      subst
+          (λ (t : List ℕ). TakesPrefix (g.W.Write.contents c.args.out.now)
+          (g.W.Write.contents c.put_inserted.new.out) t)
+          (inserted_said shown c.steps.result.now steps c.in-Ok.place c.args.start.now.position m c.steps.ensures
+          c.in-Ok.ensures.place c.requires.at) c.in_err-put_inserted-in-Ok.ensures.err,
+    ) in OnErr-known _ _ part
 
 pub returns-in_ok-put_inserted-in-Ok-clause-ok : goal.returns-in_ok-put_inserted-in-Ok-clause-ok
 returns-in_ok-put_inserted-in-Ok-clause-ok g c = λ s h.
@@ -43,8 +60,25 @@ returns-in_ok-put_inserted-in-Ok-clause-ok g c = λ s h.
     let said = inserted_text old steps m in
     let asked = asked_at (after (position_at old steps) m) in
     let tables = c.args.tables.now in
-    let others = c.insert_move.new.tables in
-    (quiet, accepted (holding s new) said, subst (λ x. IsInserted s quiet old steps m x (accepted (holding s new) said)) (sym (none_of _ (insert_refusal {A = g.row.A.Denot} old steps m) (insert_refusal {A = Unit {0}} old steps m) (insert_same g.row.A.Denot (Unit {0}) old steps m) c.insert_move.result c.in-Ok.place c.insert_move.ensures.refusal c.in-Ok.is)) (accepted_outside s (tables_held tables) asked new said h.classes (subst (λ (p : Position). AllHeld (tables_held tables) (asked_at (after p m))) (sym (position_at-plain shown steps)) c.in-Ok.ensures.found)), subst (λ (t : List ℕ). Appends (g.W.Write.contents c.args.out.now) (g.W.Write.contents c.put_inserted.new.out) t) (inserted_said shown c.steps.result.now steps c.in-Ok.place c.args.start.now.position m c.steps.ensures c.in-Ok.ensures.place c.requires.at) c.in_ok-put_inserted-in-Ok.ensures.ok, study_edited g.P.PageSource.honest c.args.bench.now c.insert_move.new.bench tables others s new h c.in-Ok.ensures.edited (c.in-Ok.ensures.right h.values h.marks) (c.insert_move.ensures.honest h.values) c.insert_move.ensures.tables c.insert_move.ensures.mode, refl)
+    let others = c.insert_move.new.tables in (
+      quiet,
+      accepted (holding s new) said,
+      subst (λ x. IsInserted s quiet old steps m x (accepted (holding s new) said))
+          (sym (none_of _ (insert_refusal {A = g.row.A.Denot} old steps m) (insert_refusal {A = Unit {0}} old steps m)
+          (insert_same g.row.A.Denot (Unit {0}) old steps m) c.insert_move.result c.in-Ok.place
+          c.insert_move.ensures.refusal c.in-Ok.is))
+          (accepted_outside s (tables_held tables) asked new said h.classes
+          (subst (λ (p : Position). AllHeld (tables_held tables) (asked_at (after p m)))
+          (sym (position_at-plain shown steps)) c.in-Ok.ensures.found)),
+      subst
+          (λ (t : List ℕ). Appends (g.W.Write.contents c.args.out.now) (g.W.Write.contents c.put_inserted.new.out) t)
+          (inserted_said shown c.steps.result.now steps c.in-Ok.place c.args.start.now.position m c.steps.ensures
+          c.in-Ok.ensures.place c.requires.at) c.in_ok-put_inserted-in-Ok.ensures.ok,
+      study_edited g.P.PageSource.honest c.args.bench.now c.insert_move.new.bench tables others s new h
+          c.in-Ok.ensures.edited (c.in-Ok.ensures.right h.values h.marks) (c.insert_move.ensures.honest h.values)
+          c.insert_move.ensures.tables c.insert_move.ensures.mode,
+      refl,
+    )
 
 pub returns-in_err-refuse_edit-in-Err-clause-err : goal.returns-in_err-refuse_edit-in-Err-clause-err
 returns-in_err-refuse_edit-in-Err-clause-err g c = λ s h.
@@ -57,8 +91,16 @@ returns-in_err-refuse_edit-in-Err-clause-err g c = λ s h.
     let asked = asked_at (after (position_at old steps) m) in
     let tables = c.args.tables.now in
     let others = c.insert_move.new.tables in
-    let told = insert_refused s (tables_held tables) (are_paged tables) old steps m c.insert_move.result c.in-Err.refusal h.classes h.paged (subst (λ (p : Position). MatchOption (insert_refusal {A = g.row.A.Denot} old steps m) (IfErr c.insert_move.result (IsOutside (tables_held tables) (asked_at (after p m)))) (λ fault. c.insert_move.result ≡ Err fault)) (sym (position_at-plain shown steps)) c.insert_move.ensures.refusal) c.in-Err.is c.in-Err.ensures.device in
-    let part : BrokenOff (λ (o : Outside). IsMoveReply s o (plain_study (marked c.args.bench.now)) c.args.path.now (Ok c.args.m.now)) (g.W.Write.contents c.args.out.now) (g.W.Write.contents c.refuse_edit.new.out) = (told.0, refused_by s (edit_words c.in-Err.refusal), told.1, c.in_err-refuse_edit-in-Err.ensures.err) in OnErr-known _ _ part
+    let told = insert_refused s (tables_held tables) (are_paged tables) old steps m c.insert_move.result
+    c.in-Err.refusal h.classes h.paged
+    (subst (λ (p : Position). MatchOption (insert_refusal {A = g.row.A.Denot} old steps m)
+    (IfErr c.insert_move.result (IsOutside (tables_held tables) (asked_at (after p m))))
+    (λ fault. c.insert_move.result ≡ Err fault)) (sym (position_at-plain shown steps))
+    c.insert_move.ensures.refusal) c.in-Err.is c.in-Err.ensures.device in
+    let part : BrokenOff (λ (o : Outside). IsMoveReply s o (plain_study (marked c.args.bench.now)) c.args.path.now
+    (Ok c.args.m.now)) (g.W.Write.contents c.args.out.now) (g.W.Write.contents c.refuse_edit.new.out) =
+    (told.0, refused_by s (edit_words c.in-Err.refusal), told.1, c.in_err-refuse_edit-in-Err.ensures.err) in
+    OnErr-known _ _ part
 
 pub returns-in_ok-refuse_edit-in-Err-clause-ok : goal.returns-in_ok-refuse_edit-in-Err-clause-ok
 returns-in_ok-refuse_edit-in-Err-clause-ok g c = λ s h.
@@ -71,5 +113,18 @@ returns-in_ok-refuse_edit-in-Err-clause-ok g c = λ s h.
     let asked = asked_at (after (position_at old steps) m) in
     let tables = c.args.tables.now in
     let others = c.insert_move.new.tables in
-    let told = insert_refused s (tables_held tables) (are_paged tables) old steps m c.insert_move.result c.in-Err.refusal h.classes h.paged (subst (λ (p : Position). MatchOption (insert_refusal {A = g.row.A.Denot} old steps m) (IfErr c.insert_move.result (IsOutside (tables_held tables) (asked_at (after p m)))) (λ fault. c.insert_move.result ≡ Err fault)) (sym (position_at-plain shown steps)) c.insert_move.ensures.refusal) c.in-Err.is c.in-Err.ensures.device in
-    (told.0, refused_by s (edit_words c.in-Err.refusal), told.1, c.in_ok-refuse_edit-in-Err.ensures.ok, study_same g.P.PageSource.honest c.args.bench.now c.insert_move.new.bench tables others s h c.in-Err.ensures.same (c.insert_move.ensures.honest h.values) c.insert_move.ensures.tables c.insert_move.ensures.mode, refl)
+    let told = insert_refused s (tables_held tables) (are_paged tables) old steps m c.insert_move.result
+    c.in-Err.refusal h.classes h.paged
+    (subst (λ (p : Position). MatchOption (insert_refusal {A = g.row.A.Denot} old steps m)
+    (IfErr c.insert_move.result (IsOutside (tables_held tables) (asked_at (after p m))))
+    (λ fault. c.insert_move.result ≡ Err fault)) (sym (position_at-plain shown steps))
+    c.insert_move.ensures.refusal) c.in-Err.is c.in-Err.ensures.device in (
+      told.0,
+      refused_by s (edit_words c.in-Err.refusal),
+      told.1,
+      c.in_ok-refuse_edit-in-Err.ensures.ok,
+      study_same g.P.PageSource.honest c.args.bench.now c.insert_move.new.bench tables others s h
+          c.in-Err.ensures.same (c.insert_move.ensures.honest h.values) c.insert_move.ensures.tables
+          c.insert_move.ensures.mode,
+      refl,
+    )

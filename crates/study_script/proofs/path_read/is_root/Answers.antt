@@ -14,4 +14,5 @@ unfolding steps_of
 returns-clause-places c = search rules
 
 pub returns-clause-form : goal.returns-clause-form
-returns-clause-form c = λ other. let e : c.eq.result ≡ bytes_eq c.args.path.now (codes "root") = search rules in other_form c.args.path.now c.requires (sym e ∙ other)
+returns-clause-form c = λ other. let e : c.eq.result ≡ bytes_eq c.args.path.now (codes "root") = search rules in
+    other_form c.args.path.now c.requires (sym e ∙ other)

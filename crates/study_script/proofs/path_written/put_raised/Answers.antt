@@ -7,7 +7,19 @@ use Rattle.study_script.proofs.PathText.{raised_some}
 use Rattle.study_script.proofs.path_written.put_raised.Goals as goal
 
 pub returns-clause-ok : goal.returns-clause-ok
-returns-clause-ok g c = subst (λ (t : List ℕ). OnOk c.put_child.result (Appends (g.W.Write.contents c.args.out.now) (g.W.Write.contents c.put_child.new.out) t)) (sym (raised_some c.args.steps.now c.in-Some.front.now c.in-Some.last.now c.in-Some.ensures.cases.0 ∙ ap (λ (n : ℕ). path_text (c.in-Some.front.now ++ n ∷ [])) (sym c.saturating_sub.ensures))) c.put_child.ensures.ok
+returns-clause-ok g c =
+    subst
+    (λ (t : List ℕ). OnOk c.put_child.result
+    (Appends (g.W.Write.contents c.args.out.now) (g.W.Write.contents c.put_child.new.out) t))
+    (sym (raised_some c.args.steps.now c.in-Some.front.now c.in-Some.last.now c.in-Some.ensures.cases.0
+    ∙ ap (λ (n : ℕ). path_text (c.in-Some.front.now ++ n ∷ [])) (sym c.saturating_sub.ensures)))
+    c.put_child.ensures.ok
 
 pub returns-clause-err : goal.returns-clause-err
-returns-clause-err g c = subst (λ (t : List ℕ). OnErr c.put_child.result (TakesPrefix (g.W.Write.contents c.args.out.now) (g.W.Write.contents c.put_child.new.out) t)) (sym (raised_some c.args.steps.now c.in-Some.front.now c.in-Some.last.now c.in-Some.ensures.cases.0 ∙ ap (λ (n : ℕ). path_text (c.in-Some.front.now ++ n ∷ [])) (sym c.saturating_sub.ensures))) c.put_child.ensures.err
+returns-clause-err g c =
+    subst
+    (λ (t : List ℕ). OnErr c.put_child.result
+    (TakesPrefix (g.W.Write.contents c.args.out.now) (g.W.Write.contents c.put_child.new.out) t))
+    (sym (raised_some c.args.steps.now c.in-Some.front.now c.in-Some.last.now c.in-Some.ensures.cases.0
+    ∙ ap (λ (n : ℕ). path_text (c.in-Some.front.now ++ n ∷ [])) (sym c.saturating_sub.ensures)))
+    c.put_child.ensures.err

@@ -1,11 +1,13 @@
-use Rattle.study_tablefile.proofs.Wrote.{TakesPrefix-first, TakesPrefix-second, OnErr-known}
+use Rattle.study_tablefile.proofs.TextTaken.{TakesPrefix-first, TakesPrefix-second, OnErr-known}
 use Rattle.std.proofs.lemmas.Result.{on_err_weaker}
 use Rattle.study_script.specs.Names.{words_of, name_text, argument_of, argument_text}
 use Rattle.study_script.proofs.reply.put_words.Goals as goal
 
 pub returns-in_err-put-clause-err : goal.returns-in_err-put-clause-err
 unfolding words_of
-returns-in_err-put-clause-err g c = let name = rw c.name.ensures at c.in_err-put.ensures.err in OnErr-known _ _ (TakesPrefix-first (g.W.Write.contents c.args.out.now) (g.W.Write.contents c.put.new.out) (name_text c.args.refusal) (argument_text (argument_of c.args.refusal)) name)
+returns-in_err-put-clause-err g c = let name = rw c.name.ensures at c.in_err-put.ensures.err in
+    OnErr-known _ _ (TakesPrefix-first (g.W.Write.contents c.args.out.now) (g.W.Write.contents c.put.new.out)
+    (name_text c.args.refusal) (argument_text (argument_of c.args.refusal)) name)
 
 pub returns-clause-err : goal.returns-clause-err
 unfolding words_of

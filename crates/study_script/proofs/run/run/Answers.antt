@@ -4,7 +4,17 @@ use Rattle.study_script.specs.Stored.{shelf_of}
 use Rattle.study_script.proofs.run.run.Goals as goal
 
 pub returns : goal.returns
-returns g c = λ honest. c.run_in.ensures.outcome (begun_state (shelf_of g.S.TableStore.files g.S.TableStore.headers c.args.store.now) (is_some c.args.settings.pages)) (record {
-  held = record { board = refl; marks = tt; values = c.in-Ok-no_tables.ensures.none.values; classes = c.in-Ok-no_tables.ensures.none.none; paged = c.in-Ok-no_tables.ensures.mode };
-  seen = record { is_honest = honest; known = record { files_known = λ _. refl; headers_known = λ _. refl } };
-})
+returns g c =
+    λ honest. c.run_in.ensures.outcome
+    (begun_state (shelf_of g.S.TableStore.files g.S.TableStore.headers c.args.store.now)
+    (is_some c.args.settings.pages)) (record {
+      held =
+          record {
+            board = refl;
+            marks = tt;
+            values = c.in-Ok-no_tables.ensures.none.values;
+            classes = c.in-Ok-no_tables.ensures.none.none;
+            paged = c.in-Ok-no_tables.ensures.mode;
+          };
+      seen = record { is_honest = honest; known = record { files_known = λ _. refl; headers_known = λ _. refl } };
+    })

@@ -1,21 +1,26 @@
 use Rattle.std.proofs.Common.{◌≡◌, ◌+◌, true, false, cond, ◌≤◌, [], sym, ap, ◌∙◌, subst, arith}
 use Rattle.study_script.specs.Replies.{IsReply}
 use Rattle.study_script.specs.Held.{Answered, BrokenOff}
-use Rattle.study_script.proofs.Taken.{has_more, has_none, gave-more, gave-same}
-use Rattle.study_script.proofs.Ran.{Ran, RanOn-more, ran_ends, ran_long, ran_many, ran_read, ran_write}
+use Rattle.study_script.proofs.LineTaken.{has_more, has_none, gave-more, gave-same}
+use Rattle.study_script.proofs.FirstLines.{Ran, RanOn-more, ran_ends, ran_long, ran_many, ran_read, ran_write}
 use Rattle.study_script.proofs.run.run_in.Goals as goal
 use Rattle.study_script.proofs.run.run_in.Goals.{then-was_refused, else-was_refused}
 
 pub returns-in-Err-TooLong-clause-outcome : goal.returns-in-Err-TooLong-clause-outcome
 returns-in-Err-TooLong-clause-outcome g c = λ first h.
     let on = c.loop-n.invariant.0 first h in
-    ran_long (g.R.Read.remaining c.read.new.script) (g.R.Read.remaining c.args.script.now) (g.R.Read.remaining c.loop-n.script) (g.W.Write.contents c.args.out.now) (g.W.Write.contents c.loop-n.out) first on.state c.loop-n.n c.loop-n.refused on.ran (c.in-Err-TooLong.ensures.long cc) c.loop-n-test.true
+    ran_long (g.R.Read.remaining c.read.new.script) (g.R.Read.remaining c.args.script.now)
+    (g.R.Read.remaining c.loop-n.script) (g.W.Write.contents c.args.out.now) (g.W.Write.contents c.loop-n.out)
+    first on.state c.loop-n.n c.loop-n.refused on.ran (c.in-Err-TooLong.ensures.long cc) c.loop-n-test.true
 
 pub returns-in-Ok-false-clause-outcome : goal.returns-in-Ok-false-clause-outcome
 returns-in-Ok-false-clause-outcome g c = λ first h.
     let on = c.loop-n.invariant.0 first h in
     let none = rw c.in-Ok-false.field-0-test at c.in-Ok-false.ensures.line in
-    ran_ends (g.R.Read.remaining c.read.new.script) (g.R.Read.remaining c.args.script.now) (g.R.Read.remaining c.loop-n.script) (g.R.Read.remaining c.read.new.script) (g.W.Write.contents c.args.out.now) (g.W.Write.contents c.loop-n.out) first on.state c.read.new.self c.loop-n.n c.loop-n.refused on.ran none (omega arith)
+    ran_ends (g.R.Read.remaining c.read.new.script) (g.R.Read.remaining c.args.script.now)
+    (g.R.Read.remaining c.loop-n.script) (g.R.Read.remaining c.read.new.script)
+    (g.W.Write.contents c.args.out.now) (g.W.Write.contents c.loop-n.out) first on.state c.read.new.self
+    c.loop-n.n c.loop-n.refused on.ran none (omega arith)
 
 pub returns-in-Err-clause-outcome : goal.returns-in-Err-clause-outcome
 returns-in-Err-clause-outcome g c = λ first h.
@@ -25,7 +30,11 @@ returns-in-Err-clause-outcome g c = λ first h.
     let new = g.W.Write.contents c.answer.new.out in
     let some = rw c.in-Ok-true.field-0-test at c.in-Ok-true.ensures.line in
     let part : BrokenOff (IsReply on.state line) mid new = rw c.as_slice.ensures at (c.in-Err.ensures.err on.state on.held) in
-    ran_write (g.R.Read.remaining c.args.script.now) (g.R.Read.remaining c.loop-n.script) (g.R.Read.remaining c.read.new.script) (g.W.Write.contents c.args.out.now) mid new first on.state line c.loop-n.n c.loop-n.refused on.ran some c.in-Ok-true.ensures.short c.loop-n-test.true (gave-more (g.R.Read.remaining c.args.script.now) (g.R.Read.remaining c.loop-n.script) (g.R.Read.remaining c.read.new.script) c.loop-n.n 1 c.loop-n.invariant.2 c.in-Ok-true.ensures.one_feed) part
+    ran_write (g.R.Read.remaining c.args.script.now) (g.R.Read.remaining c.loop-n.script)
+    (g.R.Read.remaining c.read.new.script) (g.W.Write.contents c.args.out.now) mid new first on.state line
+    c.loop-n.n c.loop-n.refused on.ran some c.in-Ok-true.ensures.short c.loop-n-test.true
+    (gave-more (g.R.Read.remaining c.args.script.now) (g.R.Read.remaining c.loop-n.script)
+    (g.R.Read.remaining c.read.new.script) c.loop-n.n 1 c.loop-n.invariant.2 c.in-Ok-true.ensures.one_feed) part
 
 pub loop-n-preserved : goal.loop-n-preserved
 loop-n-preserved g c =
@@ -41,10 +50,16 @@ loop-n-preserved g c =
     let below : cond c.in-Ok.was_refused 1 0 ≤ 1 = elim c.in-Ok.was_refused as (λ b. cond b 1 0 ≤ 1) [ true ↦ omega arith | false ↦ omega arith ] in (
       λ first h.
           let on = c.loop-n.invariant.0 first h in
-          let said : Answered (IsReply on.state line) (g.D.Desk.holds c.answer.new.self) mid new c.in-Ok.was_refused = rw c.as_slice.ensures at (c.in-Ok.ensures.ok on.state on.held) in
-          RanOn-more (g.D.Desk.holds c.loop-n.desk) (g.D.Desk.holds c.answer.new.self) (g.R.Read.remaining c.args.script.now) (g.R.Read.remaining c.loop-n.script) (g.R.Read.remaining c.read.new.script) (g.W.Write.contents c.args.out.now) mid new first line c.loop-n.n c.loop-n.refused c.if-was_refused.refused c.in-Ok.was_refused on some c.in-Ok-true.ensures.short said counted,
+          let said : Answered (IsReply on.state line) (g.D.Desk.holds c.answer.new.self) mid new
+          c.in-Ok.was_refused = rw c.as_slice.ensures at (c.in-Ok.ensures.ok on.state on.held) in
+          RanOn-more (g.D.Desk.holds c.loop-n.desk) (g.D.Desk.holds c.answer.new.self)
+          (g.R.Read.remaining c.args.script.now) (g.R.Read.remaining c.loop-n.script)
+          (g.R.Read.remaining c.read.new.script) (g.W.Write.contents c.args.out.now) mid new first line c.loop-n.n
+          c.loop-n.refused c.if-was_refused.refused c.in-Ok.was_refused on some c.in-Ok-true.ensures.short said
+          counted,
       omega arith,
-      gave-more (g.R.Read.remaining c.args.script.now) (g.R.Read.remaining c.loop-n.script) (g.R.Read.remaining c.read.new.script) c.loop-n.n 1 c.loop-n.invariant.2 c.in-Ok-true.ensures.one_feed,
+      gave-more (g.R.Read.remaining c.args.script.now) (g.R.Read.remaining c.loop-n.script)
+          (g.R.Read.remaining c.read.new.script) c.loop-n.n 1 c.loop-n.invariant.2 c.in-Ok-true.ensures.one_feed,
     )
 
 pub returns-in-Ok-None-clause-outcome : goal.returns-in-Ok-None-clause-outcome
@@ -57,7 +72,9 @@ returns-in-Ok-None-clause-outcome g c = λ first h.
     let new = g.W.Write.contents c.loop-n.out in
     let at : c.loop-n.n ≡ 100000 = omega arith in
     let ran = subst (λ k. Ran script now old new first on.state k c.loop-n.refused) at on.ran in
-    ran_ends (g.R.Read.remaining c.read_byte.new.script) script now (g.R.Read.remaining c.read_byte.new.script) old new first on.state [] 100000 c.loop-n.refused ran (has_none now (g.R.Read.remaining c.read_byte.new.script) end.0 end.1) (omega arith)
+    ran_ends (g.R.Read.remaining c.read_byte.new.script) script now (g.R.Read.remaining c.read_byte.new.script) old
+    new first on.state [] 100000 c.loop-n.refused ran
+    (has_none now (g.R.Read.remaining c.read_byte.new.script) end.0 end.1) (omega arith)
 
 pub returns-in-Ok-Some-clause-outcome : goal.returns-in-Ok-Some-clause-outcome
 returns-in-Ok-Some-clause-outcome g c = λ first h.
@@ -69,7 +86,8 @@ returns-in-Ok-Some-clause-outcome g c = λ first h.
     let new = g.W.Write.contents c.loop-n.out in
     let at : c.loop-n.n ≡ 100000 = omega arith in
     let ran = subst (λ k. Ran script now old new first on.state k c.loop-n.refused) at on.ran in
-    ran_many (g.R.Read.remaining c.read_byte.new.script) script now old new first on.state c.loop-n.refused ran (has_more now (g.R.Read.remaining c.read_byte.new.script) c.in-Ok-Some.field-0-0 some)
+    ran_many (g.R.Read.remaining c.read_byte.new.script) script now old new first on.state c.loop-n.refused ran
+    (has_more now (g.R.Read.remaining c.read_byte.new.script) c.in-Ok-Some.field-0-0 some)
 
 pub returns-in-Err-Device-clause-outcome : goal.returns-in-Err-Device-clause-outcome
 returns-in-Err-Device-clause-outcome g c = λ first h.
@@ -77,4 +95,6 @@ returns-in-Err-Device-clause-outcome g c = λ first h.
     let script = g.R.Read.remaining c.args.script.now in
     let now = g.R.Read.remaining c.loop-n.script in
     let left = g.R.Read.remaining c.read.new.script in
-    ran_read left script now (g.W.Write.contents c.args.out.now) (g.W.Write.contents c.loop-n.out) first on.state c.loop-n.n c.loop-n.refused on.ran (omega arith) (gave-same script now left c.loop-n.n c.loop-n.invariant.2 (c.in-Err-Device.ensures.no_feed cc))
+    ran_read left script now (g.W.Write.contents c.args.out.now) (g.W.Write.contents c.loop-n.out) first on.state
+    c.loop-n.n c.loop-n.refused on.ran (omega arith)
+    (gave-same script now left c.loop-n.n c.loop-n.invariant.2 (c.in-Err-Device.ensures.no_feed cc))

@@ -1,12 +1,12 @@
 use Rattle.std.proofs.Common.{refl}
-use Rattle.study_tablefile.proofs.Wrote.{OnErr-known}
+use Rattle.study_tablefile.proofs.TextTaken.{OnErr-known}
 use Rattle.study_marks.specs.Asked.{asked_at}
 use Rattle.study_script.specs.Words.{stipulation_text}
 use Rattle.study_script.specs.Names.{edit_words}
 use Rattle.study_script.specs.State.{Outside, quiet, start}
 use Rattle.study_script.specs.Held.{BrokenOff, tables_held, are_paged}
 use Rattle.study_script.specs.Replies.{accepted, refused_by, holding, new_study, IsStipulateReply}
-use Rattle.study_script.proofs.Asked.{refused_outside, accepted_outside}
+use Rattle.study_script.proofs.AskingEdits.{refused_outside, accepted_outside}
 use Rattle.study_script.proofs.Boards.{study_made, board_same}
 use Rattle.study_script.proofs.starts.make_study.Goals as goal
 
@@ -17,7 +17,14 @@ returns-in_err-put_stipulation-in-Ok-clause-err g c = λ s h.
     let said = stipulation_text c.args.stipulation.now in
     let tables = c.args.tables.now in
     let others = c.new_bench.new.tables in
-    let part : BrokenOff (λ (o : Outside). IsStipulateReply s o (start c.args.start) c.args.stipulation.now) (g.W.Write.contents c.args.out.now) (g.W.Write.contents c.put_stipulation.new.out) = (quiet, accepted (holding s new) said, accepted_outside s (tables_held tables) asked new said h.classes c.in-Ok.ensures.found, c.in_err-put_stipulation-in-Ok.ensures.err) in OnErr-known _ _ part
+    let part : BrokenOff (λ (o : Outside). IsStipulateReply s o (start c.args.start) c.args.stipulation.now)
+    (g.W.Write.contents c.args.out.now) (g.W.Write.contents c.put_stipulation.new.out) = (
+      quiet,
+      accepted (holding s new) said,
+      accepted_outside s (tables_held tables) asked new said h.classes
+          c.in-Ok.ensures.found,
+      c.in_err-put_stipulation-in-Ok.ensures.err,
+    ) in OnErr-known _ _ part
 
 pub returns-in_ok-put_stipulation-in-Ok-clause-ok : goal.returns-in_ok-put_stipulation-in-Ok-clause-ok
 returns-in_ok-put_stipulation-in-Ok-clause-ok g c = λ s h.
@@ -25,8 +32,17 @@ returns-in_ok-put_stipulation-in-Ok-clause-ok g c = λ s h.
     let new = new_study c.args.start c.args.stipulation.now in
     let said = stipulation_text c.args.stipulation.now in
     let tables = c.args.tables.now in
-    let others = c.new_bench.new.tables in
-    (quiet, accepted (holding s new) said, accepted_outside s (tables_held tables) asked new said h.classes c.in-Ok.ensures.found, c.in_ok-put_stipulation-in-Ok.ensures.ok, study_made g.P.PageSource.honest c.args.board.now c.in-Ok.bench tables others s new h c.in-Ok.ensures.made (c.in-Ok.ensures.right h.values) (c.new_bench.ensures.honest h.values) c.new_bench.ensures.tables c.new_bench.ensures.mode, refl)
+    let others = c.new_bench.new.tables in (
+      quiet,
+      accepted (holding s new) said,
+      accepted_outside s (tables_held tables) asked new said h.classes
+          c.in-Ok.ensures.found,
+      c.in_ok-put_stipulation-in-Ok.ensures.ok,
+      study_made g.P.PageSource.honest
+          c.args.board.now c.in-Ok.bench tables others s new h c.in-Ok.ensures.made (c.in-Ok.ensures.right h.values)
+          (c.new_bench.ensures.honest h.values) c.new_bench.ensures.tables c.new_bench.ensures.mode,
+      refl,
+    )
 
 pub returns-in_err-refuse_edit-in-Err-clause-err : goal.returns-in_err-refuse_edit-in-Err-clause-err
 returns-in_err-refuse_edit-in-Err-clause-err g c = λ s h.
@@ -35,8 +51,12 @@ returns-in_err-refuse_edit-in-Err-clause-err g c = λ s h.
     let said = stipulation_text c.args.stipulation.now in
     let tables = c.args.tables.now in
     let others = c.new_bench.new.tables in
-    let told = refused_outside g.row.A.Denot s (tables_held tables) (are_paged tables) asked new said c.in-Err.refusal h.classes h.paged c.in-Err.ensures.refusal c.in-Err.ensures.device in
-    let part : BrokenOff (λ (o : Outside). IsStipulateReply s o (start c.args.start) c.args.stipulation.now) (g.W.Write.contents c.args.out.now) (g.W.Write.contents c.refuse_edit.new.out) = (told.0, refused_by s (edit_words c.in-Err.refusal), told.1, c.in_err-refuse_edit-in-Err.ensures.err) in OnErr-known _ _ part
+    let told = refused_outside g.row.A.Denot s (tables_held tables) (are_paged tables) asked new said
+    c.in-Err.refusal h.classes h.paged c.in-Err.ensures.refusal c.in-Err.ensures.device in
+    let part : BrokenOff (λ (o : Outside). IsStipulateReply s o (start c.args.start) c.args.stipulation.now)
+    (g.W.Write.contents c.args.out.now) (g.W.Write.contents c.refuse_edit.new.out) =
+    (told.0, refused_by s (edit_words c.in-Err.refusal), told.1, c.in_err-refuse_edit-in-Err.ensures.err) in
+    OnErr-known _ _ part
 
 pub returns-in_ok-refuse_edit-in-Err-clause-ok : goal.returns-in_ok-refuse_edit-in-Err-clause-ok
 returns-in_ok-refuse_edit-in-Err-clause-ok g c = λ s h.
@@ -45,5 +65,13 @@ returns-in_ok-refuse_edit-in-Err-clause-ok g c = λ s h.
     let said = stipulation_text c.args.stipulation.now in
     let tables = c.args.tables.now in
     let others = c.new_bench.new.tables in
-    let told = refused_outside g.row.A.Denot s (tables_held tables) (are_paged tables) asked new said c.in-Err.refusal h.classes h.paged c.in-Err.ensures.refusal c.in-Err.ensures.device in
-    (told.0, refused_by s (edit_words c.in-Err.refusal), told.1, c.in_ok-refuse_edit-in-Err.ensures.ok, board_same g.P.PageSource.honest c.args.board.now tables others s h (c.new_bench.ensures.honest h.values) c.new_bench.ensures.tables c.new_bench.ensures.mode, refl)
+    let told = refused_outside g.row.A.Denot s (tables_held tables) (are_paged tables) asked new said
+    c.in-Err.refusal h.classes h.paged c.in-Err.ensures.refusal c.in-Err.ensures.device in (
+      told.0,
+      refused_by s (edit_words c.in-Err.refusal),
+      told.1,
+      c.in_ok-refuse_edit-in-Err.ensures.ok,
+      board_same g.P.PageSource.honest c.args.board.now tables others s h (c.new_bench.ensures.honest h.values)
+          c.new_bench.ensures.tables c.new_bench.ensures.mode,
+      refl,
+    )

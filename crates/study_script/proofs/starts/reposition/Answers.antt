@@ -2,7 +2,7 @@ use Rattle.std.proofs.Common.{◌≡◌, ℕ, List, refl, ◌∙◌, subst}
 use Rattle.std.specs.Prelude.{codes}
 use Rattle.std.specs.Io.KnownBytes.{Appends}
 use Rattle.study_tablefile.specs.Taken.{TakesPrefix}
-use Rattle.study_tablefile.proofs.Wrote.{OnErr-known}
+use Rattle.study_tablefile.proofs.TextTaken.{OnErr-known}
 use Rattle.study_notation.specs.FenSpelling.{fen_text}
 use Rattle.study_marks.specs.Study.{plain_study}
 use Rattle.study_marks.specs.Kept.{marked}
@@ -13,8 +13,8 @@ use Rattle.study_script.specs.Names.{edit_words}
 use Rattle.study_script.specs.State.{quiet}
 use Rattle.study_script.specs.Held.{tables_held, are_paged}
 use Rattle.study_script.specs.Replies.{accepted, refused_by, holding}
-use Rattle.study_script.proofs.Asked.{refused_outside, accepted_outside}
-use Rattle.study_script.proofs.Kept.{study_edited, study_same}
+use Rattle.study_script.proofs.AskingEdits.{refused_outside, accepted_outside}
+use Rattle.study_script.proofs.HeldBehindReplies.{study_edited, study_same}
 use Rattle.study_script.specs.Held.{BrokenOff}
 use Rattle.study_script.specs.State.{Outside, study}
 use Rattle.study_script.specs.Replies.{IsPositionReply}
@@ -28,7 +28,16 @@ returns-in_err-put_line-in-Ok-clause-err g c = λ s h.
     let asked = asked_at start.position in
     let tables = c.args.tables.now in
     let text : c.as_bytes.result.now ≡ fen_text start = c.as_bytes.ensures.value ∙ c.as_str.ensures.value ∙ c.write_fen-text.ensures in
-    let part : BrokenOff (λ (o : Outside). IsPositionReply s o (study (plain_study (marked c.args.bench.now))) start) (g.W.Write.contents c.args.out.now) (g.W.Write.contents c.put_line.new.out) = (quiet, accepted (holding s new) said, accepted_outside s (tables_held tables) asked new said h.classes c.in-Ok.ensures.found, subst (λ (t : List ℕ). TakesPrefix (g.W.Write.contents c.args.out.now) (g.W.Write.contents c.put_line.new.out) (line_text (codes "position ") t)) text c.in_err-put_line-in-Ok.ensures.err) in OnErr-known _ _ part
+    let part : BrokenOff (λ (o : Outside). IsPositionReply s o (study (plain_study (marked c.args.bench.now)))
+    start) (g.W.Write.contents c.args.out.now) (g.W.Write.contents c.put_line.new.out) = (
+      quiet,
+      accepted (holding s new) said,
+      accepted_outside s (tables_held tables) asked new said h.classes
+          c.in-Ok.ensures.found,
+      subst
+          (λ (t : List ℕ). TakesPrefix (g.W.Write.contents c.args.out.now) (g.W.Write.contents c.put_line.new.out)
+          (line_text (codes "position ") t)) text c.in_err-put_line-in-Ok.ensures.err,
+    ) in OnErr-known _ _ part
 
 pub returns-in_ok-put_line-in-Ok-clause-ok : goal.returns-in_ok-put_line-in-Ok-clause-ok
 returns-in_ok-put_line-in-Ok-clause-ok g c = λ s h.
@@ -41,8 +50,11 @@ returns-in_ok-put_line-in-Ok-clause-ok g c = λ s h.
       quiet,
       accepted (holding s new) said,
       accepted_outside s (tables_held tables) asked new said h.classes c.in-Ok.ensures.found,
-      subst (λ (t : List ℕ). Appends (g.W.Write.contents c.args.out.now) (g.W.Write.contents c.put_line.new.out) (line_text (codes "position ") t)) text c.in_ok-put_line-in-Ok.ensures.ok,
-      study_edited g.P.PageSource.honest c.args.bench.now c.set_position.new.bench tables c.set_position.new.tables s new h c.in-Ok.ensures.edited (c.in-Ok.ensures.right h.values) (c.set_position.ensures.honest h.values) c.set_position.ensures.tables c.set_position.ensures.mode,
+      subst (λ (t : List ℕ). Appends (g.W.Write.contents c.args.out.now) (g.W.Write.contents c.put_line.new.out)
+          (line_text (codes "position ") t)) text c.in_ok-put_line-in-Ok.ensures.ok,
+      study_edited g.P.PageSource.honest c.args.bench.now c.set_position.new.bench tables c.set_position.new.tables
+          s new h c.in-Ok.ensures.edited (c.in-Ok.ensures.right h.values) (c.set_position.ensures.honest h.values)
+          c.set_position.ensures.tables c.set_position.ensures.mode,
       refl,
     )
 
@@ -53,8 +65,12 @@ returns-in_err-refuse_edit-in-Err-clause-err g c = λ s h.
     let said = line_text (codes "position ") (fen_text start) in
     let asked = asked_at start.position in
     let tables = c.args.tables.now in
-    let out = refused_outside g.row.A.Denot s (tables_held tables) (are_paged tables) asked new said c.in-Err.refusal h.classes h.paged c.in-Err.ensures.refusal c.in-Err.ensures.device in
-    let part : BrokenOff (λ (o : Outside). IsPositionReply s o (study (plain_study (marked c.args.bench.now))) start) (g.W.Write.contents c.args.out.now) (g.W.Write.contents c.refuse_edit.new.out) = (out.0, refused_by s (edit_words c.in-Err.refusal), out.1, c.in_err-refuse_edit-in-Err.ensures.err) in OnErr-known _ _ part
+    let out = refused_outside g.row.A.Denot s (tables_held tables) (are_paged tables) asked new said
+    c.in-Err.refusal h.classes h.paged c.in-Err.ensures.refusal c.in-Err.ensures.device in
+    let part : BrokenOff (λ (o : Outside). IsPositionReply s o (study (plain_study (marked c.args.bench.now)))
+    start) (g.W.Write.contents c.args.out.now) (g.W.Write.contents c.refuse_edit.new.out) =
+    (out.0, refused_by s (edit_words c.in-Err.refusal), out.1, c.in_err-refuse_edit-in-Err.ensures.err) in
+    OnErr-known _ _ part
 
 pub returns-in_ok-refuse_edit-in-Err-clause-ok : goal.returns-in_ok-refuse_edit-in-Err-clause-ok
 returns-in_ok-refuse_edit-in-Err-clause-ok g c = λ s h.
@@ -63,11 +79,14 @@ returns-in_ok-refuse_edit-in-Err-clause-ok g c = λ s h.
     let said = line_text (codes "position ") (fen_text start) in
     let asked = asked_at start.position in
     let tables = c.args.tables.now in
-    let out = refused_outside g.row.A.Denot s (tables_held tables) (are_paged tables) asked new said c.in-Err.refusal h.classes h.paged c.in-Err.ensures.refusal c.in-Err.ensures.device in (
+    let out = refused_outside g.row.A.Denot s (tables_held tables) (are_paged tables) asked new said
+    c.in-Err.refusal h.classes h.paged c.in-Err.ensures.refusal c.in-Err.ensures.device in (
       out.0,
       refused_by s (edit_words c.in-Err.refusal),
       out.1,
       c.in_ok-refuse_edit-in-Err.ensures.ok,
-      study_same g.P.PageSource.honest c.args.bench.now c.set_position.new.bench tables c.set_position.new.tables s h c.in-Err.ensures.same (c.set_position.ensures.honest h.values) c.set_position.ensures.tables c.set_position.ensures.mode,
+      study_same g.P.PageSource.honest c.args.bench.now c.set_position.new.bench tables c.set_position.new.tables s
+          h c.in-Err.ensures.same (c.set_position.ensures.honest h.values) c.set_position.ensures.tables
+          c.set_position.ensures.mode,
       refl,
     )

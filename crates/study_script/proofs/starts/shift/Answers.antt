@@ -2,7 +2,7 @@ use Rattle.std.proofs.Common.{◌≡◌, ℕ, List, refl, sym, ◌∙◌, subst}
 use Rattle.std.specs.Prelude.{codes}
 use Rattle.std.specs.Io.KnownBytes.{Appends}
 use Rattle.study_tablefile.specs.Taken.{TakesPrefix}
-use Rattle.study_tablefile.proofs.Wrote.{OnErr-known}
+use Rattle.study_tablefile.proofs.TextTaken.{OnErr-known}
 use Rattle.study_notation.specs.FenSpelling.{fen_text}
 use Rattle.study_marks.specs.Study.{plain_study}
 use Rattle.study_marks.specs.Kept.{marked}
@@ -13,9 +13,9 @@ use Rattle.study_script.specs.Names.{edit_words}
 use Rattle.study_script.specs.State.{quiet}
 use Rattle.study_script.specs.Held.{tables_held, are_paged}
 use Rattle.study_script.specs.Replies.{accepted, refused_by, holding}
-use Rattle.study_script.proofs.Asked.{accepted_outside}
-use Rattle.study_script.proofs.Shifted.{unbroken, shift_refused}
-use Rattle.study_script.proofs.Kept.{study_edited, study_same}
+use Rattle.study_script.proofs.AskingEdits.{accepted_outside}
+use Rattle.study_script.proofs.ShiftReplies.{unbroken, shift_refused}
+use Rattle.study_script.proofs.HeldBehindReplies.{study_edited, study_same}
 use Rattle.study_script.specs.Held.{BrokenOff}
 use Rattle.study_script.specs.State.{Outside}
 use Rattle.study_script.specs.Replies.{IsShiftReply}
@@ -31,7 +31,17 @@ returns-in_err-put_line-in-Ok-clause-err g c = λ s h.
     let asked = asked_of new in
     let tables = c.args.tables.now in
     let text : c.as_bytes.result.now ≡ fen_text start = c.as_bytes.ensures.value ∙ c.as_str.ensures.value ∙ c.write_fen-text.ensures in
-    let part : BrokenOff (λ (o : Outside). IsShiftReply s o old start reason) (g.W.Write.contents c.args.out.now) (g.W.Write.contents c.put_line.new.out) = (quiet, accepted (holding s new) said, subst (λ x. IsShiftReply s quiet old start x (accepted (holding s new) said)) (sym (unbroken (Unit {0}) (marked c.args.bench.now) start c.in-Ok.ensures.broken)) (accepted_outside s (tables_held tables) asked new said h.classes c.in-Ok.ensures.found), subst (λ (t : List ℕ). TakesPrefix (g.W.Write.contents c.args.out.now) (g.W.Write.contents c.put_line.new.out) (line_text (codes "shift ") t)) text c.in_err-put_line-in-Ok.ensures.err) in OnErr-known _ _ part
+    let part : BrokenOff (λ (o : Outside). IsShiftReply s o old start reason) (g.W.Write.contents c.args.out.now)
+    (g.W.Write.contents c.put_line.new.out) = (
+      quiet,
+      accepted (holding s new) said,
+      subst (λ x. IsShiftReply s quiet old start x (accepted (holding s new) said))
+          (sym (unbroken (Unit {0}) (marked c.args.bench.now) start c.in-Ok.ensures.broken))
+          (accepted_outside s (tables_held tables) asked new said h.classes c.in-Ok.ensures.found),
+      subst
+          (λ (t : List ℕ). TakesPrefix (g.W.Write.contents c.args.out.now) (g.W.Write.contents c.put_line.new.out)
+          (line_text (codes "shift ") t)) text c.in_err-put_line-in-Ok.ensures.err,
+    ) in OnErr-known _ _ part
 
 pub returns-in_ok-put_line-in-Ok-clause-ok : goal.returns-in_ok-put_line-in-Ok-clause-ok
 returns-in_ok-put_line-in-Ok-clause-ok g c = λ s h.
@@ -45,9 +55,14 @@ returns-in_ok-put_line-in-Ok-clause-ok g c = λ s h.
     let text : c.as_bytes.result.now ≡ fen_text start = c.as_bytes.ensures.value ∙ c.as_str.ensures.value ∙ c.write_fen-text.ensures in (
       quiet,
       accepted (holding s new) said,
-      subst (λ x. IsShiftReply s quiet old start x (accepted (holding s new) said)) (sym (unbroken (Unit {0}) (marked c.args.bench.now) start c.in-Ok.ensures.broken)) (accepted_outside s (tables_held tables) asked new said h.classes c.in-Ok.ensures.found),
-      subst (λ (t : List ℕ). Appends (g.W.Write.contents c.args.out.now) (g.W.Write.contents c.put_line.new.out) (line_text (codes "shift ") t)) text c.in_ok-put_line-in-Ok.ensures.ok,
-      study_edited g.P.PageSource.honest c.args.bench.now c.shift_position.new.bench tables c.shift_position.new.tables s new h c.in-Ok.ensures.edited (c.in-Ok.ensures.right h.values) (c.shift_position.ensures.honest h.values) c.shift_position.ensures.tables c.shift_position.ensures.mode,
+      subst (λ x. IsShiftReply s quiet old start x (accepted (holding s new) said))
+          (sym (unbroken (Unit {0}) (marked c.args.bench.now) start c.in-Ok.ensures.broken))
+          (accepted_outside s (tables_held tables) asked new said h.classes c.in-Ok.ensures.found),
+      subst (λ (t : List ℕ). Appends (g.W.Write.contents c.args.out.now) (g.W.Write.contents c.put_line.new.out)
+          (line_text (codes "shift ") t)) text c.in_ok-put_line-in-Ok.ensures.ok,
+      study_edited g.P.PageSource.honest c.args.bench.now c.shift_position.new.bench tables
+          c.shift_position.new.tables s new h c.in-Ok.ensures.edited (c.in-Ok.ensures.right h.values)
+          (c.shift_position.ensures.honest h.values) c.shift_position.ensures.tables c.shift_position.ensures.mode,
       refl,
     )
 
@@ -60,8 +75,12 @@ returns-in_err-refuse_edit-in-Err-clause-err g c = λ s h.
     let said = line_text (codes "shift ") (fen_text start) in
     let asked = asked_of new in
     let tables = c.args.tables.now in
-    let out = shift_refused g.row.A.Denot s (tables_held tables) (are_paged tables) old start c.in-Err.refusal h.classes h.paged c.in-Err.ensures.refusal c.in-Err.ensures.device in
-    let part : BrokenOff (λ (o : Outside). IsShiftReply s o old start reason) (g.W.Write.contents c.args.out.now) (g.W.Write.contents c.refuse_edit.new.out) = (out.0, refused_by s (edit_words c.in-Err.refusal), out.1, c.in_err-refuse_edit-in-Err.ensures.err) in OnErr-known _ _ part
+    let out = shift_refused g.row.A.Denot s (tables_held tables) (are_paged tables) old start c.in-Err.refusal
+    h.classes h.paged c.in-Err.ensures.refusal c.in-Err.ensures.device in
+    let part : BrokenOff (λ (o : Outside). IsShiftReply s o old start reason) (g.W.Write.contents c.args.out.now)
+    (g.W.Write.contents c.refuse_edit.new.out) =
+    (out.0, refused_by s (edit_words c.in-Err.refusal), out.1, c.in_err-refuse_edit-in-Err.ensures.err) in
+    OnErr-known _ _ part
 
 pub returns-in_ok-refuse_edit-in-Err-clause-ok : goal.returns-in_ok-refuse_edit-in-Err-clause-ok
 returns-in_ok-refuse_edit-in-Err-clause-ok g c = λ s h.
@@ -72,11 +91,14 @@ returns-in_ok-refuse_edit-in-Err-clause-ok g c = λ s h.
     let said = line_text (codes "shift ") (fen_text start) in
     let asked = asked_of new in
     let tables = c.args.tables.now in
-    let out = shift_refused g.row.A.Denot s (tables_held tables) (are_paged tables) old start c.in-Err.refusal h.classes h.paged c.in-Err.ensures.refusal c.in-Err.ensures.device in (
+    let out = shift_refused g.row.A.Denot s (tables_held tables) (are_paged tables) old start c.in-Err.refusal
+    h.classes h.paged c.in-Err.ensures.refusal c.in-Err.ensures.device in (
       out.0,
       refused_by s (edit_words c.in-Err.refusal),
       out.1,
       c.in_ok-refuse_edit-in-Err.ensures.ok,
-      study_same g.P.PageSource.honest c.args.bench.now c.shift_position.new.bench tables c.shift_position.new.tables s h c.in-Err.ensures.same (c.shift_position.ensures.honest h.values) c.shift_position.ensures.tables c.shift_position.ensures.mode,
+      study_same g.P.PageSource.honest c.args.bench.now c.shift_position.new.bench tables
+          c.shift_position.new.tables s h c.in-Err.ensures.same (c.shift_position.ensures.honest h.values)
+          c.shift_position.ensures.tables c.shift_position.ensures.mode,
       refl,
     )

@@ -10,4 +10,9 @@ returns-in-Built-clause-err g c = rw c.in-Built.is c.put_built.ensures.err
 
 pub returns-in-Loaded-clause-err : goal.returns-in-Loaded-clause-err
 returns-in-Loaded-clause-err g c =
-    rw c.in-Loaded.is (subst (λ (n : ℕ). OnErr c.put_size.result (TakesPrefix (g.W.Write.contents c.args.out.now) (g.W.Write.contents c.put_size.new.out) (codes "loaded " ++ (name_of c.in-Loaded.class ++ line_text (codes " cells ") (decimal n))))) c.cells.ensures c.put_size.ensures.err)
+    rw c.in-Loaded.is
+    (subst
+    (λ (n : ℕ). OnErr c.put_size.result
+    (TakesPrefix (g.W.Write.contents c.args.out.now) (g.W.Write.contents c.put_size.new.out)
+    (codes "loaded " ++ (name_of c.in-Loaded.class ++ line_text (codes " cells ") (decimal n)))))
+    c.cells.ensures c.put_size.ensures.err)

@@ -1,4 +1,4 @@
-use Rattle.study_tablefile.proofs.Wrote.{OnErr-known}
+use Rattle.study_tablefile.proofs.TextTaken.{OnErr-known}
 use Rattle.study_script.proofs.told.tell.Goals as goal
 
 pub returns-in_err-refuse-in-Err-clause-err : goal.returns-in_err-refuse-in-Err-clause-err

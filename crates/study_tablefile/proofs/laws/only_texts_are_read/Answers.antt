@@ -1,4 +1,4 @@
-use Rattle.study_tablefile.proofs.Only.{text_of_read, complete_when_read}
+use Rattle.study_tablefile.proofs.TablesRead.{text_of_read, complete_when_read}
 use Rattle.study_tablefile.proofs.laws.only_texts_are_read.Goals as goal
 
 pub returns-clause-text : goal.returns-clause-text

@@ -1,4 +1,4 @@
-use Rattle.study_tablefile.proofs.Again.{whole_again}
+use Rattle.study_tablefile.proofs.ReadAgain.{whole_again}
 use Rattle.study_tablefile.proofs.laws.pages_are_whole.Goals as goal
 
 pub returns : goal.returns

@@ -1,4 +1,4 @@
-use Rattle.study_tablefile.proofs.Again.{read_again}
+use Rattle.study_tablefile.proofs.ReadAgain.{read_again}
 use Rattle.study_tablefile.proofs.laws.tables_are_read_again.Goals as goal
 
 pub returns : goal.returns

@@ -15,7 +15,8 @@ slice_range-put_mid : (a k n : ℕ) (xs ys : List ℕ) → a ≤ length xs → n
 slice_range-put_mid a k n xs ys within fits =
     let same : (a + n) - a ≡ n = omega arith in
     let after = post_of a k xs in
-    ap (take ((a + n) - a)) (drop_at (take a xs) (ys ++ after) a (length-take-le a xs within)) ∙ ap (λ m. take m (ys ++ after)) same ∙ take-append-le n ys after fits
+    ap (take ((a + n) - a)) (drop_at (take a xs) (ys ++ after) a (length-take-le a xs within))
+    ∙ ap (λ m. take m (ys ++ after)) same ∙ take-append-le n ys after fits
 
 pub loop-filled-preserved : goal.loop-filled-preserved
 loop-filled-preserved g c =
@@ -23,5 +24,11 @@ loop-filled-preserved g c =
     let room = length c.loop-filled.buf - from in
     let within = c.loop-filled.invariant.1 in
     let part = slice_range-put_mid from room c.in-Ok.n c.loop-filled.buf c.read.new.buf within c.in-Ok.ensures.bound.0 in
-    let joined = take_split from (from + c.in-Ok.n) c.loop-filled.buf (put_mid from room c.loop-filled.buf c.read.new.buf) (omega arith) (take-put_mid_below _ _ _ _ _ (le_refl _) within) in
-    (search rules, search rules, subst (Consumes _ _) (ap (λ l. take from c.loop-filled.buf ++ l) (sym part) ∙ joined) (Consumes-trans _ _ _ _ _ c.loop-filled.invariant.2 c.in-Ok.ensures.bytes.0))
+    let joined =
+    take_split from (from + c.in-Ok.n) c.loop-filled.buf (put_mid from room c.loop-filled.buf c.read.new.buf)
+    (omega arith) (take-put_mid_below _ _ _ _ _ (le_refl _) within) in (
+      search rules,
+      search rules,
+      subst (Consumes _ _) (ap (λ l. take from c.loop-filled.buf ++ l) (sym part)
+          ∙ joined) (Consumes-trans _ _ _ _ _ c.loop-filled.invariant.2 c.in-Ok.ensures.bytes.0),
+    )

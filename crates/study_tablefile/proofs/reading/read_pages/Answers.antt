@@ -1,12 +1,14 @@
 use Rattle.std.proofs.Common.{◌≡◌, suc, ◌+◌, ◌-◌, rules, arith, inl, inr, ◌∙◌}
 use Rattle.study_tablefile.specs.File.{pages_of}
-use Rattle.study_tablefile.proofs.Known.{pages_stop, pages_step, IfErr-given}
+use Rattle.study_tablefile.proofs.BytesGiven.{pages_stop, pages_step, IfErr-given}
 use Rattle.study_tablefile.proofs.reading.read_pages.Goals as goal
 
 pub returns-in_err-read_page-clause-fault : goal.returns-in_err-read_page-clause-fault
 returns-in_err-read_page-clause-fault g c bytes e =
     let (rest, now, same) = c.loop-number.invariant.read bytes e in
-    let more : pages_of c.args.class - c.loop-number.number ≡ suc (pages_of c.args.class - (c.loop-number.number + 1)) = omega (arith, c.pages-count.ensures, c.loop-number-test.true) in
+    let more : pages_of c.args.class - c.loop-number.number
+    ≡ suc (pages_of c.args.class - (c.loop-number.number + 1)) =
+    omega (arith, c.pages-count.ensures, c.loop-number-test.true) in
     IfErr-given c.from_residual.result c.in_err-read_page.field-0.0 _ (search rules) (elim (c.in_err-read_page.ensures.fault rest now) [
       | inl device ↦ inl device
       | inr fault ↦ inr (same ∙ pages_stop c.args.class c.args.version c.loop-number.number _ _ _ _ rest _ c.fields-fields.ensures more fault)
@@ -14,7 +16,9 @@ returns-in_err-read_page-clause-fault g c bytes e =
 
 pub loop-number-preserved : goal.loop-number-preserved
 loop-number-preserved g c =
-    let more : pages_of c.args.class - c.loop-number.number ≡ suc (pages_of c.args.class - (c.loop-number.number + 1)) = omega (arith, c.pages-count.ensures, c.loop-number-test.true) in
+    let more : pages_of c.args.class - c.loop-number.number
+    ≡ suc (pages_of c.args.class - (c.loop-number.number + 1)) =
+    omega (arith, c.pages-count.ensures, c.loop-number-test.true) in
     record {
       counted = omega (arith, c.pages-count.ensures, c.loop-number-test.true);
       len = omega (arith, c.in_ok-read_page.ensures.len, c.loop-number.invariant.len);

@@ -9,7 +9,8 @@ invariant-loop-number g l = record {
   len : vec_len l.cells ≡ 4096 * l.number;
   room : 4096 * pages_of l.fn.class ≤ vec_capacity l.cells;
   read : (bytes : List ℕ) → g.R.Read.remaining l.fn.input ≡ Some bytes → (rest : List ℕ) × (g.R.Read.remaining l.input ≡ Some rest)
-      × (pages_read l.fn.class l.fn.version 0 (pages_of l.fn.class) [] bytes ≡ pages_read l.fn.class l.fn.version l.number (pages_of l.fn.class - l.number) l.cells.items rest);
+      × (pages_read l.fn.class l.fn.version 0 (pages_of l.fn.class) [] bytes ≡ pages_read l.fn.class l.fn.version
+      l.number (pages_of l.fn.class - l.number) l.cells.items rest);
 }
 
 abbrev pub decreases-loop-number : goal.decreases-loop-number

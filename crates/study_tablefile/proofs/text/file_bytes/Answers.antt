@@ -1,5 +1,5 @@
 use Rattle.std.proofs.Common.{sym, ap, ◌+◌, ◌*◌, ℕ, ◌∙◌}
-use Rattle.study_tablefile.proofs.Again.{text_length}
+use Rattle.study_tablefile.proofs.ReadAgain.{text_length}
 use Rattle.study_tablefile.proofs.text.file_bytes.Goals as goal
 
 pub returns-clause-text : goal.returns-clause-text

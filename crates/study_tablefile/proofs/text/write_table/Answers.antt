@@ -1,7 +1,7 @@
 use Rattle.std.proofs.Common.{◌<◌, length, sym, ◌∙◌, arith, rules}
 use Rattle.std.proofs.lemmas.Bool.{eqb-false}
-use Rattle.study_tablefile.proofs.Wrote.{OnErr-known}
-use Rattle.study_tablefile.proofs.Pages.{header_stops, header_wrote, page_stops, page_wrote, number_fits}
+use Rattle.study_tablefile.proofs.TextTaken.{OnErr-known}
+use Rattle.study_tablefile.proofs.PagesWritten.{header_stops, header_wrote, page_stops, page_wrote, number_fits}
 use Rattle.study_tablefile.proofs.text.write_table.Goals as goal
 
 pub returns-in_err-put_header-clause-err : goal.returns-in_err-put_header-clause-err
@@ -16,13 +16,20 @@ pub returns-in_err-put_page-clause-err : goal.returns-in_err-put_page-clause-err
 returns-in_err-put_page-clause-err g c =
     let ne = eqb-false (length c.loop-rest.rest.now) 0 (sym c.is_empty.ensures ∙ c.loop-rest-test.true) in
     let some : 0 < length c.loop-rest.rest.now = omega arith in
-    OnErr-known c.from_residual-in_err-put_page.result _ (page_stops _ _ _ c.args.table.now c.loop-rest.number c.loop-rest.invariant.0 c.min.result _ c.loop-rest.rest.now _ c.loop-rest.invariant.1 some (search rules) (search rules) c.split_at.ensures.front c.in_err-put_page.ensures.err)
+    OnErr-known c.from_residual-in_err-put_page.result _
+    (page_stops _ _ _ c.args.table.now c.loop-rest.number c.loop-rest.invariant.0 c.min.result _
+    c.loop-rest.rest.now _ c.loop-rest.invariant.1 some (search rules) (search rules) c.split_at.ensures.front
+    c.in_err-put_page.ensures.err)
 
 pub overflow_add-number : goal.overflow_add-number
-overflow_add-number g c = let few = number_fits _ _ c.args.table.now c.loop-rest.number c.loop-rest.invariant.0 c.loop-rest.rest.now c.loop-rest.invariant.1 in omega arith
+overflow_add-number g c =
+    let few = number_fits _ _ c.args.table.now c.loop-rest.number c.loop-rest.invariant.0 c.loop-rest.rest.now
+    c.loop-rest.invariant.1 in omega arith
 
 pub loop-rest-preserved : goal.loop-rest-preserved
 loop-rest-preserved g c =
     let ne = eqb-false (length c.loop-rest.rest.now) 0 (sym c.is_empty.ensures ∙ c.loop-rest-test.true) in
     let some : 0 < length c.loop-rest.rest.now = omega arith in
-    page_wrote _ _ _ c.args.table.now c.loop-rest.number c.loop-rest.invariant.0 c.min.result _ c.loop-rest.rest.now _ _ c.loop-rest.invariant.1 some (search rules) (search rules) c.split_at.ensures.front c.split_at.ensures.back c.in_ok-put_page.ensures.ok
+    page_wrote _ _ _ c.args.table.now c.loop-rest.number c.loop-rest.invariant.0 c.min.result _ c.loop-rest.rest.now
+    _ _ c.loop-rest.invariant.1 some (search rules) (search rules) c.split_at.ensures.front
+    c.split_at.ensures.back c.in_ok-put_page.ensures.ok

@@ -1,5 +1,5 @@
 use Rattle.std.proofs.Common.{ℕ, length}
-use Rattle.study_tablefile.proofs.Pages.{Left}
+use Rattle.study_tablefile.proofs.PagesWritten.{Left}
 use Rattle.study_tablefile.proofs.text.write_table.Given as goal
 
 abbrev pub invariant-loop-rest : goal.invariant-loop-rest

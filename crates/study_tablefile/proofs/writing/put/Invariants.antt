@@ -1,5 +1,5 @@
 use Rattle.std.proofs.Common.{length}
-use Rattle.study_tablefile.proofs.Wrote.{Wrote}
+use Rattle.study_tablefile.proofs.TextTaken.{Wrote}
 use Rattle.study_tablefile.proofs.writing.put.Given as goal
 
 abbrev pub invariant-loop-rest : goal.invariant-loop-rest

@@ -1,6 +1,6 @@
 use Rattle.std.proofs.Common.{arith, ◌≤◌, ◌+◌, ap}
 use Rattle.study_tree.specs.Forest.{forest_of, nodes_in, nodes_from}
-use Rattle.study_tree.proofs.Places.{nodes_from-le}
+use Rattle.study_tree.proofs.PathSteps.{nodes_from-le}
 use Rattle.study_tree.proofs.node.+count_in.Goals as goal
 
 pub count_in-requires : goal.count_in-requires

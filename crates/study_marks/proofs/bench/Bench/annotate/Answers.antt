@@ -14,34 +14,48 @@ use Rattle.study_marks.specs.Bench.{kept_of}
 use Rattle.study_marks.specs.Renewal.{told_tree}
 use Rattle.study_marks.specs.Told.{AllAreTold}
 use Rattle.study_marks.specs.Whole.{retold_tree}
-use Rattle.study_marks.proofs.Benches.{counted-later}
+use Rattle.study_marks.proofs.BenchEdits.{counted-later}
 use Rattle.study_marks.proofs.Readers.{size-marked}
-use Rattle.study_marks.proofs.Rewritten.{restarted, shifted-study, shifted-plain, shifted-right, asked-shifted, same-refusal, refusal-asked}
+use Rattle.study_marks.proofs.BenchRewritten.{restarted, shifted-study, shifted-plain, shifted-right, asked-shifted, same-refusal, refusal-asked}
 use Rattle.study_marks.proofs.bench.Bench.annotate.Goals as goal
 
 pub returns-in_err-all-clause-refusal : goal.returns-in_err-all-clause-refusal
 returns-in_err-all-clause-refusal g c =
     let b = kept_of c.self.inside.start c.self.inside.stipulation c.self.inside.tags c.self.inside.tree in
     let same = asked-shifted b c.args.self.now c.args.start c.self.view_is in
-    same-refusal c.from_residual.result c.in_err-all.field-0.0 (g.V.Values.held c.args.values.now) (asked_of (shifted (plain_study (marked c.args.self.now)) c.args.start)) c.from_residual.ensures.1
+    same-refusal c.from_residual.result c.in_err-all.field-0.0 (g.V.Values.held c.args.values.now)
+    (asked_of (shifted (plain_study (marked c.args.self.now)) c.args.start)) c.from_residual.ensures.1
     (subst (λ (ps : List Position). IsOutside (g.V.Values.held c.args.values.now) ps c.in_err-all.field-0.0) same c.in_err-all.ensures.refusal)
 
 pub returns-in_err-all-clause-asked : goal.returns-in_err-all-clause-asked
 returns-in_err-all-clause-asked g c =
     let b = kept_of c.self.inside.start c.self.inside.stipulation c.self.inside.tags c.self.inside.tree in
     let same = asked-shifted b c.args.self.now c.args.start c.self.view_is in
-    refusal-asked c.from_residual.result c.in_err-all.field-0.0 (length (asked_of (shifted (plain_study (marked c.args.self.now)) c.args.start))) (g.V.Values.asked_of c.args.values.now) (g.V.Values.asked_of c.gather.new.values) c.from_residual.ensures.1
-    (subst (λ (ps : List Position). HasStopped (is_of_tables c.in_err-all.field-0.0) (length ps) (g.V.Values.asked_of c.args.values.now) (g.V.Values.asked_of c.gather.new.values)) same c.in_err-all.ensures.asked)
+    refusal-asked c.from_residual.result c.in_err-all.field-0.0
+    (length (asked_of (shifted (plain_study (marked c.args.self.now)) c.args.start)))
+    (g.V.Values.asked_of c.args.values.now) (g.V.Values.asked_of c.gather.new.values) c.from_residual.ensures.1
+    (subst (λ (ps : List Position). HasStopped (is_of_tables c.in_err-all.field-0.0) (length ps)
+    (g.V.Values.asked_of c.args.values.now) (g.V.Values.asked_of c.gather.new.values)) same
+    c.in_err-all.ensures.asked)
 
 pub invariant_of-self : goal.invariant_of-self
 invariant_of-self g c =
     let b = kept_of c.self.inside.start c.self.inside.stipulation c.self.inside.tags c.self.inside.tree in
     let u = plain_tree c.write_all.new.tree in
     let told : told_tree u ≡ retold_tree c.as_slice.result.now (told_tree b.study.tree) = c.write_all.ensures.told in
-    let aim : c.aim_of-aim.result ≡ aim_of (restarted b.study c.args.start u) = c.aim_of-aim.ensures ∙ ap (λ s. record { goal = c.self.inside.stipulation.goal; hero_first = same_side c.self.inside.stipulation.hero s }) c.to_move.ensures in
+    let aim : c.aim_of-aim.result ≡ aim_of (restarted b.study c.args.start u) =
+    c.aim_of-aim.ensures
+    ∙ ap
+    (λ s. record {
+      goal = c.self.inside.stipulation.goal;
+      hero_first = same_side c.self.inside.stipulation.hero
+          s;
+    }) c.to_move.ensures in
     let right : AllAddUp (aim_of (restarted b.study c.args.start u)) u = subst (λ (a : Aim). AllAddUp a u) aim c.write_all.ensures.right in
     let valid : IsValid c.args.start.position = search rules in
-    let legal : IsPlayable c.args.start.position b.study.tree.below = subst (λ (k : Kept). IsPlayable c.args.start.position k.study.tree.below) (sym c.self.view_is) c.requires.playable in
+    let legal : IsPlayable c.args.start.position b.study.tree.below =
+    subst (λ (k : Kept). IsPlayable c.args.start.position k.study.tree.below) (sym c.self.view_is)
+    c.requires.playable in
     (shifted-study c.as_slice.result.now b c.args.start u 0 told valid legal c.self.invariant.0, right)
 
 pub returns-clause-found : goal.returns-clause-found
@@ -55,17 +69,26 @@ returns-clause-edited g c =
     let b = kept_of c.self.inside.start c.self.inside.stipulation c.self.inside.tags c.self.inside.tree in
     let u = plain_tree c.write_all.new.tree in
     let told : told_tree u ≡ retold_tree c.as_slice.result.now (told_tree b.study.tree) = c.write_all.ensures.told in
-    shifted-plain c.as_slice.result.now b c.args.start u (counted c.write_all.new.tree.relabelled) told ∙ ap (λ (k : Kept). shifted (plain_study (marked k)) c.args.start) c.self.view_is
+    shifted-plain c.as_slice.result.now b c.args.start u (counted c.write_all.new.tree.relabelled) told
+    ∙ ap (λ (k : Kept). shifted (plain_study (marked k)) c.args.start) c.self.view_is
 
 pub returns-clause-right : goal.returns-clause-right
 returns-clause-right g c =
     let b = kept_of c.self.inside.start c.self.inside.stipulation c.self.inside.tags c.self.inside.tree in
     let u = plain_tree c.write_all.new.tree in
     let told : told_tree u ≡ retold_tree c.as_slice.result.now (told_tree b.study.tree) = c.write_all.ensures.told in
-    let aim : c.aim_of-aim.result ≡ aim_of (restarted b.study c.args.start u) = c.aim_of-aim.ensures ∙ ap (λ s. record { goal = c.self.inside.stipulation.goal; hero_first = same_side c.self.inside.stipulation.hero s }) c.to_move.ensures in
+    let aim : c.aim_of-aim.result ≡ aim_of (restarted b.study c.args.start u) =
+    c.aim_of-aim.ensures
+    ∙ ap
+    (λ s. record {
+      goal = c.self.inside.stipulation.goal;
+      hero_first = same_side c.self.inside.stipulation.hero
+          s;
+    }) c.to_move.ensures in
     let right : AllAddUp (aim_of (restarted b.study c.args.start u)) u = subst (λ (a : Aim). AllAddUp a u) aim c.write_all.ensures.right in
     λ h. shifted-right c.as_slice.result.now b c.args.start u (counted c.write_all.new.tree.relabelled) told right
-    (subst (λ (ts : List Told). AllAreTold c.args.start.position (retold_tree ts (told_tree b.study.tree))) (sym c.as_slice.ensures.value) (c.in_ok-all.ensures.game h))
+    (subst (λ (ts : List Told). AllAreTold c.args.start.position (retold_tree ts (told_tree b.study.tree)))
+    (sym c.as_slice.ensures.value) (c.in_ok-all.ensures.game h))
 
 pub returns-clause-relabelled : goal.returns-clause-relabelled
 returns-clause-relabelled g c =

@@ -1,10 +1,12 @@
 use Rattle.std.proofs.Common.{◌≡◌, take}
-use Rattle.study_marks.proofs.Runs.{IsRun}
+use Rattle.study_marks.proofs.EditLists.{IsRun}
 use Rattle.study_marks.proofs.bench.Bench.apply_all.Given as goal
 
 -- the first edits are applied
 abbrev pub invariant-loop-edit : goal.invariant-loop-edit
 invariant-loop-edit g l = record {
-  run : IsRun (g.V.Values.held l.fn.values) (g.V.Values.held l.values) (g.V.Values.is_honest l.fn.values) (g.V.Values.is_honest l.values) (g.V.Values.asked_of l.fn.values) (g.V.Values.asked_of l.values) (g.V.Values.failed_of l.fn.values) (g.V.Values.failed_of l.values) l.fn.self l.self (take l.edit-index l.edits);
+  run : IsRun (g.V.Values.held l.fn.values) (g.V.Values.held l.values) (g.V.Values.is_honest l.fn.values)
+      (g.V.Values.is_honest l.values) (g.V.Values.asked_of l.fn.values) (g.V.Values.asked_of l.values)
+      (g.V.Values.failed_of l.fn.values) (g.V.Values.failed_of l.values) l.fn.self l.self (take l.edit-index l.edits);
   done : l.done ≡ l.edit-index;
 }

@@ -1,4 +1,4 @@
-use Rattle.study_marks.proofs.Inserts.{tables-answer}
+use Rattle.study_marks.proofs.InsertedMoves.{tables-answer}
 use Rattle.study_marks.proofs.bench.Bench.set_position.Goals as goal
 
 pub returns-in_err-told-clause-takes_no_memory : goal.returns-in_err-told-clause-takes_no_memory

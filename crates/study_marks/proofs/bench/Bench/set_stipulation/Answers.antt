@@ -9,9 +9,9 @@ use Rattle.study_marks.specs.Kept.{Kept, marked, IsRight, AllAddUp}
 use Rattle.study_marks.specs.Edits.{stipulated}
 use Rattle.study_marks.specs.Asked.{counted_times}
 use Rattle.study_marks.specs.Bench.{kept_of}
-use Rattle.study_marks.proofs.Benches.{counted-later}
+use Rattle.study_marks.proofs.BenchEdits.{counted-later}
 use Rattle.study_marks.proofs.Readers.{size-marked}
-use Rattle.study_marks.proofs.Rewritten.{told-kept, restipulated, stipulated-study, stipulated-plain, stipulated-right}
+use Rattle.study_marks.proofs.BenchRewritten.{told-kept, restipulated, stipulated-study, stipulated-plain, stipulated-right}
 use Rattle.study_marks.proofs.bench.Bench.set_stipulation.Goals as goal
 
 pub write_all-requires : goal.write_all-requires
@@ -20,22 +20,35 @@ write_all-requires g c = record { shallow = c.self.invariant.0.shallow }
 pub invariant_of-self : goal.invariant_of-self
 invariant_of-self g c =
     let b = kept_of c.self.inside.start c.self.inside.stipulation c.self.inside.tags c.self.inside.tree in
-    let aim : c.aim_of-aim.result ≡ aim_of (restipulated b.study c.args.stipulation (plain_tree c.write_all.new.tree)) = c.aim_of-aim.ensures ∙ ap (λ s. record { goal = c.args.stipulation.goal; hero_first = same_side c.args.stipulation.hero s }) c.to_move.ensures in (
-      stipulated-study b.study c.args.stipulation (plain_tree c.write_all.new.tree) (told-kept b.study.tree (plain_tree c.write_all.new.tree) c.write_all.ensures.told) c.self.invariant.0,
+    let aim : c.aim_of-aim.result
+    ≡ aim_of (restipulated b.study c.args.stipulation (plain_tree c.write_all.new.tree)) =
+    c.aim_of-aim.ensures
+    ∙ ap (λ s. record { goal = c.args.stipulation.goal; hero_first = same_side c.args.stipulation.hero s })
+    c.to_move.ensures in (
+      stipulated-study b.study c.args.stipulation (plain_tree c.write_all.new.tree)
+          (told-kept b.study.tree (plain_tree c.write_all.new.tree) c.write_all.ensures.told) c.self.invariant.0,
       subst (λ (a : Aim). AllAddUp a (plain_tree c.write_all.new.tree)) aim c.write_all.ensures.right,
     )
 
 pub returns-clause-edited : goal.returns-clause-edited
 returns-clause-edited g c =
     let b = kept_of c.self.inside.start c.self.inside.stipulation c.self.inside.tags c.self.inside.tree in
-    stipulated-plain b c.args.stipulation (plain_tree c.write_all.new.tree) (counted c.write_all.new.tree.relabelled) (told-kept b.study.tree (plain_tree c.write_all.new.tree) c.write_all.ensures.told)
+    stipulated-plain b c.args.stipulation (plain_tree c.write_all.new.tree)
+    (counted c.write_all.new.tree.relabelled)
+    (told-kept b.study.tree (plain_tree c.write_all.new.tree) c.write_all.ensures.told)
     ∙ ap (λ (k : Kept). stipulated (plain_study (marked k)) c.args.stipulation) c.self.view_is
 
 pub returns-clause-right : goal.returns-clause-right
 returns-clause-right g c h =
     let b = kept_of c.self.inside.start c.self.inside.stipulation c.self.inside.tags c.self.inside.tree in
-    let aim : c.aim_of-aim.result ≡ aim_of (restipulated b.study c.args.stipulation (plain_tree c.write_all.new.tree)) = c.aim_of-aim.ensures ∙ ap (λ s. record { goal = c.args.stipulation.goal; hero_first = same_side c.args.stipulation.hero s }) c.to_move.ensures in
-    stipulated-right b c.args.stipulation (plain_tree c.write_all.new.tree) (counted c.write_all.new.tree.relabelled) (told-kept b.study.tree (plain_tree c.write_all.new.tree) c.write_all.ensures.told)
+    let aim : c.aim_of-aim.result
+    ≡ aim_of (restipulated b.study c.args.stipulation (plain_tree c.write_all.new.tree)) =
+    c.aim_of-aim.ensures
+    ∙ ap (λ s. record { goal = c.args.stipulation.goal; hero_first = same_side c.args.stipulation.hero s })
+    c.to_move.ensures in
+    stipulated-right b c.args.stipulation (plain_tree c.write_all.new.tree)
+    (counted c.write_all.new.tree.relabelled)
+    (told-kept b.study.tree (plain_tree c.write_all.new.tree) c.write_all.ensures.told)
     (subst (λ (a : Aim). AllAddUp a (plain_tree c.write_all.new.tree)) aim c.write_all.ensures.right) (subst IsRight (sym c.self.view_is) h)
 
 pub returns-clause-relabelled : goal.returns-clause-relabelled

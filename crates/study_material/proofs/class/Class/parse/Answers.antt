@@ -1,8 +1,8 @@
-use Rattle.std.proofs.Common.{rules, sym, ◌∙◌}
+use Rattle.std.proofs.Common.{rules}
 use Rattle.std.proofs.lemmas.List.Elements.{All-more}
 use Rattle.study_material.specs.declared.class.Class.TheVariants.{KK}
 use Rattle.study_material.specs.Class.{class_list, IsNameOf}
-use Rattle.study_material.proofs.Names.{other_name, no_class}
+use Rattle.study_material.proofs.ClassNames.{other_name, no_class}
 use Rattle.study_material.proofs.class.Class.parse.Goals as goal
 
 pub loop-class-preserved : goal.loop-class-preserved

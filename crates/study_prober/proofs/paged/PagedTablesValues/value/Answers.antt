@@ -4,29 +4,38 @@ use Rattle.study_prober.specs.Cache.{key_at}
 use Rattle.study_prober.specs.Paged.{Paged, held_of}
 use Rattle.study_index.specs.Found.{index_of}
 use Rattle.study_prober.specs.Sources.{IsGivenPage}
-use Rattle.study_prober.proofs.Given.{put_seen, fewer_seen, on_err}
-use Rattle.study_prober.proofs.Again.{again_seen}
-use Rattle.study_prober.proofs.Answered.{answered}
-use Rattle.study_prober.proofs.Kept.{no_table_by, stays_right_at}
+use Rattle.study_prober.proofs.GivenPages.{put_seen, fewer_seen, on_err}
+use Rattle.study_prober.proofs.KeptCells.{again_seen}
+use Rattle.study_prober.proofs.PagedAnswers.{answered}
+use Rattle.study_prober.proofs.HeldSources.{no_table_by, stays_right_at}
 use Rattle.study_prober.proofs.Tables.{one_class}
 use Rattle.study_prober.proofs.paged.PagedTablesValues.value.Goals as goal
 
 pub returns-clause-stays_honest : goal.returns-clause-stays_honest
 returns-clause-stays_honest g c =
-    stays_right_at g.S.PageSource.honest c.args.self.now.sources c.self.inside.sources.items c.probe-answer.new.sources.items (ap (λ (w : Paged g.row.S.Denot). w.sources) c.self.view_is) c.probe-answer.ensures.sources
+    stays_right_at g.S.PageSource.honest c.args.self.now.sources c.self.inside.sources.items
+    c.probe-answer.new.sources.items (ap (λ (w : Paged g.row.S.Denot). w.sources) c.self.view_is)
+    c.probe-answer.ensures.sources
 
 pub returns-clause-no_table : goal.returns-clause-no_table
 returns-clause-no_table g c = λ d. no_table_by _ _ (ap (λ (w : Paged g.row.S.Denot). held_of w.sources d) c.self.view_is) (c.probe-answer.ensures.no_table d)
 
 pub returns-clause-whole : goal.returns-clause-whole
-returns-clause-whole g c = λ d h t n of held. c.probe-answer.ensures.whole d h t n of (ap (λ (w : Paged g.row.S.Denot). held_of w.sources d) c.self.view_is ∙ held)
+returns-clause-whole g c =
+    λ d h t n of held. c.probe-answer.ensures.whole d h t n of
+    (ap (λ (w : Paged g.row.S.Denot). held_of w.sources d) c.self.view_is ∙ held)
 
 pub returns-clause-failed : goal.returns-clause-failed
-returns-clause-failed g c = λ d h k of before. c.probe-answer.ensures.failed d h k of (ap (λ (w : Paged g.row.S.Denot). held_of w.sources d) c.self.view_is ∙ before)
+returns-clause-failed g c =
+    λ d h k of before. c.probe-answer.ensures.failed d h k of
+    (ap (λ (w : Paged g.row.S.Denot). held_of w.sources d) c.self.view_is ∙ before)
 
 pub returns-clause-again : goal.returns-clause-again
 returns-clause-again g c = λ d of.
-    again_seen (λ v. v.items) c.self.inside.sources.items c.probe-answer.new.sources.items c.args.self.now.sources c.self.inside.kept.entries c.args.self.now.kept c.probe-answer.result d (index_of c.args.p.now) (ap (λ (w : Paged g.row.S.Denot). w.sources) c.self.view_is) (ap (λ (w : Paged g.row.S.Denot). w.kept) c.self.view_is) (c.probe-answer.ensures.again d of)
+    again_seen (λ v. v.items) c.self.inside.sources.items c.probe-answer.new.sources.items c.args.self.now.sources
+    c.self.inside.kept.entries c.args.self.now.kept c.probe-answer.result d (index_of c.args.p.now)
+    (ap (λ (w : Paged g.row.S.Denot). w.sources) c.self.view_is)
+    (ap (λ (w : Paged g.row.S.Denot). w.kept) c.self.view_is) (c.probe-answer.ensures.again d of)
 
 pub returns-clause-read : goal.returns-clause-read
 returns-clause-read g c = λ d h of was. c.probe-answer.ensures.read d h of (ap (λ (w : Paged g.row.S.Denot). held_of w.sources d) c.self.view_is ∙ was)
@@ -36,12 +45,18 @@ returns-clause-unread g c = λ d h f of was. c.probe-answer.ensures.unread d h f
 
 pub returns-clause-put : goal.returns-clause-put
 returns-clause-put g c = λ d h of was.
-    put_seen (λ v. v.items) (λ k cells. (k ≡ key_at d (index_of c.args.p.now)) × IsGivenPage g.S.PageSource.gives h (index_of c.args.p.now / 4096) cells) c.self.inside.kept.entries c.probe-answer.new.pages.entries c.args.self.now.kept
-    (ap (λ (w : Paged g.row.S.Denot). w.kept) c.self.view_is) (c.probe-answer.ensures.put d h of (ap (λ (w : Paged g.row.S.Denot). held_of w.sources d) c.self.view_is ∙ was))
+    put_seen (λ v. v.items) (λ k cells. (k ≡ key_at d (index_of c.args.p.now))
+    × IsGivenPage g.S.PageSource.gives h (index_of c.args.p.now / 4096) cells) c.self.inside.kept.entries
+    c.probe-answer.new.pages.entries c.args.self.now.kept
+    (ap (λ (w : Paged g.row.S.Denot). w.kept) c.self.view_is)
+    (c.probe-answer.ensures.put d h of (ap (λ (w : Paged g.row.S.Denot). held_of w.sources d) c.self.view_is
+    ∙ was))
 
 pub returns-clause-refused : goal.returns-clause-refused
 returns-clause-refused g c =
-    on_err c.probe-answer.result _ _ (fewer_seen (λ v. v.items) c.self.inside.kept.entries c.probe-answer.new.pages.entries c.args.self.now.kept (ap (λ (w : Paged g.row.S.Denot). w.kept) c.self.view_is)) c.probe-answer.ensures.refused
+    on_err c.probe-answer.result _ _
+    (fewer_seen (λ v. v.items) c.self.inside.kept.entries c.probe-answer.new.pages.entries c.args.self.now.kept
+    (ap (λ (w : Paged g.row.S.Denot). w.kept) c.self.view_is)) c.probe-answer.ensures.refused
 
 pub returns-clause-alike : goal.returns-clause-alike
 returns-clause-alike g c = λ d h k was now. c.probe-answer.ensures.alike d h k (ap (λ (w : Paged g.row.S.Denot). held_of w.sources d) c.self.view_is ∙ was) now
@@ -51,7 +66,8 @@ returns-clause-given g c = λ d of.
     let same = ap (λ (w : Paged g.row.S.Denot). held_of w.sources d) c.self.view_is in
     let probed = c.probe-answer.ensures in
     answered g.S.PageSource.gives d (index_of c.args.p.now) (held_of c.args.self.now.sources d) c.probe-answer.result
-    (λ b told. let none = (probed.no_table b).0 told in sym same ∙ ap (λ (x : Class). held_of c.self.inside.sources.items x) (one_class d b c.args.p.now of none.0) ∙ none.1)
+    (λ b told. let none = (probed.no_table b).0 told in sym same
+    ∙ ap (λ (x : Class). held_of c.self.inside.sources.items x) (one_class d b c.args.p.now of none.0) ∙ none.1)
     (λ none. (probed.no_table d).1 (of, same ∙ none))
     (λ h was. probed.read d h of (same ∙ was))
     (λ h f was. probed.unread d h f of (same ∙ was))

@@ -7,7 +7,8 @@ use Rattle.study_prober.proofs.Tables.{one_class, same_table, table_class, some_
 use Rattle.study_prober.proofs.whole.WholeTablesValues.value.Goals as goal
 
 pub at-requires : goal.at-requires
-at-requires g c = table_class c.self.inside.tables c.class_of-class.result.0 c.args.p.now c.in-Some.table.now c.in-Some.ensures.closed c.class_of-class.ensures.class c.in-Some.ensures.value
+at-requires g c = table_class c.self.inside.tables c.class_of-class.result.0 c.args.p.now c.in-Some.table.now
+    c.in-Some.ensures.closed c.class_of-class.ensures.class c.in-Some.ensures.value
 
 pub returns-clause-game : goal.returns-clause-game
 returns-clause-game g c = λ right.
@@ -25,11 +26,13 @@ pub returns-clause-told : goal.returns-clause-told
 returns-clause-told g c = λ d t of is.
     let same = ap (λ (w : Whole). w.tables) c.self.view_is in
     let found = subst (λ (held : List (Option Table)). Some c.in-Some.table.now ≡ table_of held c.class_of-class.result.0) same c.in-Some.ensures.value in
-    let table = same_table c.args.self.now.tables d c.class_of-class.result.0 t c.in-Some.table.now (one_class d c.class_of-class.result.0 c.args.p.now of c.class_of-class.ensures.class) found is in
+    let table = same_table c.args.self.now.tables d c.class_of-class.result.0 t c.in-Some.table.now
+    (one_class d c.class_of-class.result.0 c.args.p.now of c.class_of-class.ensures.class) found is in
     ap (λ v. Ok v) (c.at.ensures.told ∙ ap (λ (u : Table). value_of (get_or u.cells (index_of c.args.p.now) 0)) table)
 
 pub returns-clause-given : goal.returns-clause-given
 returns-clause-given g c =
     let same = ap (λ (w : Whole). w.tables) c.self.view_is in
     let found = subst (λ (held : List (Option Table)). Some c.in-Some.table.now ≡ table_of held c.class_of-class.result.0) same c.in-Some.ensures.value in
-    cell_told c.args.self.now.tables c.class_of-class.result.0 c.args.p.now (Some c.in-Some.table.now) _ c.class_of-class.ensures.class found (ap (λ v. Ok v) c.at.ensures.told)
+    cell_told c.args.self.now.tables c.class_of-class.result.0 c.args.p.now (Some c.in-Some.table.now) _
+    c.class_of-class.ensures.class found (ap (λ v. Ok v) c.at.ensures.told)

@@ -4,16 +4,19 @@ use Rattle.study_retro.proofs.class_game.ClassGameGame.place.Goals as goal
 pub returns-then-place_of : goal.returns-then-place_of
 returns-then-place_of g c =
     place_home c.args.self.now.tables.now c.args.self.now.class c.class_of-class.result.0 c.args.at.now c.args.self.now.closed c.class_of-class.ensures.class
-    c.place_of.result c.place_of-2.result c.index.result c.requires.valid c.place_of.ensures.value c.place_of-2.ensures.value c.if-place_of.true c.index.ensures.least
+    c.place_of.result c.place_of-2.result c.index.result c.requires.valid c.place_of.ensures.value
+    c.place_of-2.ensures.value c.if-place_of.true c.index.ensures.least
 
 pub at-requires : goal.at-requires
 at-requires g c =
-    table_class c.args.self.now.tables.now c.args.self.now.class c.class_of-class.result.0 c.args.at.now c.args.self.now.closed c.class_of-class.ensures.class c.in-Some.table.now c.in-Some.ensures.value
+    table_class c.args.self.now.tables.now c.args.self.now.class c.class_of-class.result.0 c.args.at.now
+    c.args.self.now.closed c.class_of-class.ensures.class c.in-Some.table.now c.in-Some.ensures.value
 
 pub unreachable-requires : goal.unreachable-requires
 unreachable-requires g c =
     table_held c.args.self.now.tables.now c.args.self.now.class c.class_of-class.result.0 c.args.at.now c.args.self.now.closed c.class_of-class.ensures.class
-    c.place_of.result c.place_of-2.result c.place_of.ensures.value c.place_of-2.ensures.value c.if-place_of.false c.args.self.now.ready c.requires c.in-None.ensures.value
+    c.place_of.result c.place_of-2.result c.place_of.ensures.value c.place_of-2.ensures.value c.if-place_of.false
+    c.args.self.now.ready c.requires c.in-None.ensures.value
 
 pub returns : goal.returns
 returns g c = (

@@ -10,4 +10,7 @@ pub invariant_of-self : goal.invariant_of-self
 invariant_of-self g c =
     closed_with c.self.inside.tables.items c.args.table c.place_of.result c.first_missing.result c.self.invariant c.class-class.ensures.complete
     (c.place_of.ensures.value ∙ ap place_of c.class-class.ensures.value)
-    (c.first_missing.ensures ∙ ap (λ (x : Class). first_missing c.args.self.now (needs_of x)) c.class-class.ensures.value ∙ ap (λ (held : List (Option Table)). first_missing held (needs_of c.args.table.class)) (sym c.self.view_is)) c.in_default.is
+    (c.first_missing.ensures ∙ ap (λ (x : Class). first_missing c.args.self.now (needs_of x))
+    c.class-class.ensures.value
+    ∙ ap (λ (held : List (Option Table)). first_missing held (needs_of c.args.table.class))
+    (sym c.self.view_is)) c.in_default.is

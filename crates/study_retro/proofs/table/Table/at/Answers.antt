@@ -15,11 +15,13 @@ pub returns-clause-told : goal.returns-clause-told
 returns-clause-told g c =
     let seen : Table = record { class = c.self.inside.class; cells = c.self.inside.cells.items } in
     let is : seen ≡ c.args.self.now = c.self.view_is in
-    at_told seen c.args.self.now c.args.p.now c.index.result c.as_slice.result.now c.value_at.result is c.men-men.ensures.valid c.index.ensures.least c.as_slice.ensures.value c.value_at.ensures
+    at_told seen c.args.self.now c.args.p.now c.index.result c.as_slice.result.now c.value_at.result is
+    c.men-men.ensures.valid c.index.ensures.least c.as_slice.ensures.value c.value_at.ensures
 
 pub returns-clause-right : goal.returns-clause-right
 returns-clause-right g c =
     let seen : Table = record { class = c.self.inside.class; cells = c.self.inside.cells.items } in
     let is : seen ≡ c.args.self.now = c.self.view_is in
     at_value c.args.self.now c.args.p.now c.value_at.result (subst IsComplete is c.self.invariant) c.men-men.ensures.valid c.requires
-    (at_told seen c.args.self.now c.args.p.now c.index.result c.as_slice.result.now c.value_at.result is c.men-men.ensures.valid c.index.ensures.least c.as_slice.ensures.value c.value_at.ensures)
+    (at_told seen c.args.self.now c.args.p.now c.index.result c.as_slice.result.now c.value_at.result is
+    c.men-men.ensures.valid c.index.ensures.least c.as_slice.ensures.value c.value_at.ensures)

@@ -1,6 +1,6 @@
 use Rattle.std.proofs.Common.{sym, ◌∙◌, ap}
 use Rattle.study_tree.specs.Tree.{plain_tree}
-use Rattle.study_tree.proofs.Shown.{has-step, is_some-copied}
+use Rattle.study_tree.proofs.ShownTrees.{has-step, is_some-copied}
 use Rattle.study_tree.proofs.tree.Tree.has.Goals as goal
 
 pub returns-in-Some : goal.returns-in-Some

@@ -1,0 +1,130 @@
+-- A bench with the same nodes, and labels written anew.
+use Rattle.std.proofs.Common.{◌≡◌, ℕ, ◌+◌, List, [], ◌++◌, refl, sym, ap, ◌∙◌, subst}
+use Rattle.study_board.specs.Position.{Position, IsValid}
+use Rattle.study_moves.specs.Rules.{after}
+use Rattle.study_tree.specs.Forest.{Forest, none, more, nodes_in}
+use Rattle.study_tree.specs.Tree.{Plain}
+use Rattle.study_notation.specs.declared.start.Start.{Start}
+use Rattle.study_marks.specs.declared.label.Label.{Label}
+use Rattle.study_marks.specs.declared.label.Told.{Told}
+use Rattle.study_marks.specs.declared.stipulation.Stipulation.{Stipulation}
+use Rattle.study_marks.specs.Study.{Study, plain_study, mapped, IsPlayable}
+use Rattle.study_marks.specs.Goals.{aim_of}
+use Rattle.study_marks.specs.Edits.{stipulated, shifted}
+use Rattle.study_marks.specs.Asked.{asked_at, asked_below, asked_of, IsOutside, HasAsked, HasStopped, is_of_tables}
+use Rattle.study_marks.specs.declared.fault.Refusal.{Refusal}
+use Rattle.study_material.specs.declared.class.Class.{Class}
+use Rattle.std.specs.Prelude.{Bool, Result, Ok, Err, IfErr, IsErrAnd}
+use Rattle.study_marks.specs.Whole.{retold, retold_tree}
+use Rattle.study_marks.specs.declared.mark.Mark.{Mark}
+use Rattle.study_marks.proofs.SameShape.{IsPlayable-mapped, mapped-IsPlayable}
+use Rattle.study_marks.specs.Kept.{Kept, marked, IsStudy, IsRight, AllAddUp}
+use Rattle.study_marks.specs.Told.{AllAreTold}
+use Rattle.study_marks.specs.Renewal.{told_tree}
+use Rattle.study_marks.proofs.BenchEdits.{bare, bare-marked, bare-told, Fits, fits, study}
+use Rattle.study_marks.proofs.MarksShown.{AllAreTold-right, right-told}
+
+-- the study with another stipulation and other labels
+abbrev pub restipulated : Study Label → Stipulation → Plain Label → Study Label
+restipulated s stipulation u = record { start = s.start; stipulation = stipulation; tags = s.tags; tree = u }
+
+same-bare : (t u : Plain Label) → told_tree u ≡ told_tree t → bare u ≡ bare t
+same-bare t u e = sym (bare-told u) ∙ ap bare e ∙ bare-told t
+
+pub stipulated-study : (s : Study Label) (stipulation : Stipulation) (u : Plain Label)
+    → told_tree u ≡ told_tree s.tree → IsStudy s → IsStudy (restipulated s stipulation u)
+stipulated-study s stipulation u e h =
+    let x = study s u h (subst (Fits s.start.position) (sym (same-bare s.tree u e)) (fits s h)) in
+    record { valid = x.valid; playable = x.playable; distinct = x.distinct; shallow = x.shallow; printed = x.printed }
+
+pub stipulated-plain : (k : Kept) (stipulation : Stipulation) (u : Plain Label) (n : ℕ) → told_tree u ≡ told_tree k.study.tree
+    → plain_study (marked (record { study = restipulated k.study stipulation u; relabelled = n })) ≡ stipulated (plain_study (marked k)) stipulation
+stipulated-plain k stipulation u n e =
+    ap (λ x. record { start = k.study.start; stipulation = stipulation; tags = k.study.tags; tree = x })
+    (bare-marked (record { study = restipulated k.study stipulation u; relabelled = n }) ∙ same-bare k.study.tree u e ∙ sym (bare-marked k))
+
+pub stipulated-right : (k : Kept) (stipulation : Stipulation) (u : Plain Label) (n : ℕ)
+    → told_tree u ≡ told_tree k.study.tree → AllAddUp (aim_of (restipulated k.study stipulation u)) u → IsRight k
+    → IsRight (record { study = restipulated k.study stipulation u; relabelled = n })
+stipulated-right k stipulation u n e s h =
+    right-told (record { study = restipulated k.study stipulation u; relabelled = n }) s
+    (subst (AllAreTold k.study.start.position) (sym e) (AllAreTold-right k h))
+
+-- what an empty list tells
+retold-none : (n : ℕ) (f : Forest Told) → retold [] n f ≡ f
+retold-none n none = refl
+retold-none n (more m t b r) = ap (λ x. more m t x (retold [] (n + 1 + nodes_in b) r)) (retold-none (n + 1) b)
+    ∙ ap (more m t b) (retold-none (n + 1 + nodes_in b) r)
+
+pub told-kept : (t u : Plain Label) → told_tree u ≡ retold_tree [] (told_tree t) → told_tree u ≡ told_tree t
+told-kept t u e = e ∙ ap (λ f. record { label = t.label.told; below = f }) (retold-none 1 (told_tree t).below)
+
+-- what any list tells changes no node
+bare-retold : (all : List Told) (n : ℕ) (f : Forest Told) → mapped (λ (x : Told). tt {0}) (retold all n f) ≡ mapped (λ (x : Told). tt {0}) f
+bare-retold all n none = refl
+bare-retold all n (more m t b r) =
+    ap (λ x. more m tt x (mapped (λ (y : Told). tt {0}) (retold all (n + 1 + nodes_in b) r)))
+    (bare-retold all (n + 1) b) ∙ ap (more m tt (mapped (λ (y : Told). tt {0}) b))
+    (bare-retold all (n + 1 + nodes_in b) r)
+
+bare-rewritten : (all : List Told) (t u : Plain Label) → told_tree u ≡ retold_tree all (told_tree t) → bare u ≡ bare t
+bare-rewritten all t u e = sym (bare-told u) ∙ ap bare e ∙ ap (λ f. record { label = tt; below = f }) (bare-retold all 1 (told_tree t).below) ∙ bare-told t
+
+-- the study with another start and other labels
+abbrev pub restarted : Study Label → Start → Plain Label → Study Label
+restarted s start u = record { start = start; stipulation = s.stipulation; tags = s.tags; tree = u }
+
+module _ (all : List Told) (k : Kept) (start : Start) (u : Plain Label) (n : ℕ) (e : told_tree u ≡ retold_tree all (told_tree k.study.tree)) where
+  pub shifted-study : IsValid start.position → IsPlayable start.position k.study.tree.below → IsStudy k.study → IsStudy (restarted k.study start u)
+  shifted-study valid legal h =
+      let x = study k.study u h (subst (Fits k.study.start.position) (sym (bare-rewritten all k.study.tree u e)) (fits k.study h)) in
+      record {
+        valid = valid;
+        playable = IsPlayable-mapped (λ _. tt {0}) start.position u.below
+            (subst (λ (t : Plain (Unit {0})). IsPlayable start.position t.below)
+            (sym (bare-rewritten all k.study.tree u e))
+            (mapped-IsPlayable (λ _. tt {0}) start.position k.study.tree.below legal));
+        distinct = x.distinct;
+        shallow = x.shallow;
+        printed = x.printed;
+      }
+
+  pub shifted-plain : plain_study (marked (record { study = restarted k.study start u; relabelled = n })) ≡ shifted (plain_study (marked k)) start
+  shifted-plain =
+      ap (λ x. record { start = start; stipulation = k.study.stipulation; tags = k.study.tags; tree = x })
+      (bare-marked (record { study = restarted k.study start u; relabelled = n }) ∙ bare-rewritten all k.study.tree u e ∙ sym (bare-marked k))
+
+  pub shifted-right : AllAddUp (aim_of (restarted k.study start u)) u
+      → AllAreTold start.position (retold_tree all (told_tree k.study.tree))
+      → IsRight (record { study = restarted k.study start u; relabelled = n })
+  shifted-right s h = right-told (record { study = restarted k.study start u; relabelled = n }) s (subst (AllAreTold start.position) (sym e) h)
+
+-- what is asked of a study with this start
+asked-mapped : {L M : Type 0} (g : L → M) (p : Position) (f : Forest L) → asked_below p (mapped g f) ≡ asked_below p f
+asked-mapped g p none = refl
+asked-mapped g p (more m l b r) =
+    ap (λ x. asked_at (after p m) ++ (x ++ asked_below p (mapped g r))) (asked-mapped g (after p m) b)
+    ∙ ap (λ x. asked_at (after p m) ++ (asked_below (after p m) b ++ x)) (asked-mapped g p r)
+
+pub asked-shifted : (b k : Kept) (start : Start) → b ≡ k
+    → asked_at start.position ++ asked_below start.position b.study.tree.below
+    ≡ asked_of (shifted (plain_study (marked k)) start)
+asked-shifted b k start same =
+    ap (λ x. asked_at start.position ++ x)
+    (sym (asked-mapped (λ (l : Label). tt {0}) start.position b.study.tree.below)
+    ∙ ap (λ (t : Plain (Unit {0})). asked_below start.position t.below) (sym (bare-marked b)))
+    ∙ ap (λ (x : Kept). asked_of (shifted (plain_study (marked x)) start)) same
+
+pub asked-plain : (s : Study Mark) → asked_of (plain_study s) ≡ asked_of s
+asked-plain s = ap (λ x. asked_at s.start.position ++ x) (asked-mapped (λ (x : Mark). tt {0}) s.start.position s.tree.below)
+
+-- an answer that hands a refusal on
+pub same-refusal : {T A : Type 0} (r : Result T (Refusal A)) (f : Refusal A) (held : Class → Bool)
+    (asked : List Position) → IsErrAnd r (λ x. x ≡ f) → IsOutside held asked f → IfErr r (IsOutside held asked)
+same-refusal (Ok x) f held asked e h = absurd e
+same-refusal {A = A} (Err x) f held asked e h = subst (IsOutside {A = A} held asked) (sym e) h
+
+pub refusal-asked : {T A : Type 0} (r : Result T (Refusal A)) (f : Refusal A) (n old new : ℕ)
+    → IsErrAnd r (λ x. x ≡ f) → HasStopped (is_of_tables f) n old new → HasAsked n r old new
+refusal-asked (Ok x) f n old new e h = absurd e
+refusal-asked {A = A} (Err x) f n old new e h = subst (λ (y : Refusal A). HasStopped (is_of_tables y) n old new) (sym e) h

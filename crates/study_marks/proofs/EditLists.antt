@@ -1,0 +1,160 @@
+-- A list of edits, one after the other.
+use Rattle.std.proofs.Common.{◌≡◌, ℕ, ◌+◌, ◌<◌, ◌⊎◌, List, [], ◌∷◌, ◌++◌, length, take, get_or, Bool}
+use Rattle.std.proofs.Common.{Option, Some, None, zero, suc, refl, sym, ap, ◌∙◌, subst, arith}
+use Rattle.std.specs.Prelude.{MatchOption, Ok, Err}
+use Rattle.study_board.specs.Position.{Position}
+use Rattle.study_material.specs.declared.class.Class.{Class}
+use Rattle.study_moves.specs.Rules.{after}
+use Rattle.study_marks.specs.declared.fault.Refusal.{Refusal}
+use Rattle.study_marks.specs.declared.fault.Refusal.TheVariants.{NoSuchNode, RootNotAllowed, AlreadyFirst, IllegalMove}
+use Rattle.study_marks.specs.declared.fault.Refusal.TheVariants.{AlreadyThere, TooDeep, TreeFull, ShiftBroken, TagText}
+use Rattle.study_marks.specs.declared.fault.Refusal.TheVariants.{OutOfMemory, NoTable, TableRead}
+use Rattle.study_marks.specs.declared.edit.Edit.{Edit}
+use Rattle.study_marks.specs.declared.edit.Edit.TheVariants as edits
+use Rattle.study_marks.specs.Study.{plain_study, position_at}
+use Rattle.study_marks.specs.Asked.{asked_at, asked_of, IsOutside, HasStopped, is_of_tables, counted_times}
+use Rattle.study_marks.specs.Edits.{Plainly, shifted, edited, edited_by, insert_refusal, shift_refusal}
+use Rattle.study_marks.specs.Kept.{Kept, marked, IsRight}
+use Rattle.study_marks.specs.Stop.{questions_of, IsRefusalOf, IsAccepted, AreAccepted, labels_after, labels_by, IsStopped, asked_by, HasAskedUpTo, IsApplied}
+use Rattle.study_marks.proofs.ValuesAsked.{missing-same}
+use Rattle.study_marks.proofs.PositionsListed.{AreHeld-same, take-one}
+
+-- tables that are held at one time are held at another
+outside-same : {A : Type 0} (held now : Class → Bool) (ps : List Position) (r : Refusal A)
+    → ((c : Class) → now c ≡ held c) → IsOutside now ps r → IsOutside held ps r
+outside-same held now ps OutOfMemory same h = h
+outside-same held now ps (NoTable c) same h = missing-same held now ps c same h
+outside-same held now ps (TableRead f) same h = h
+outside-same held now ps NoSuchNode same h = h
+outside-same held now ps RootNotAllowed same h = h
+outside-same held now ps AlreadyFirst same h = h
+outside-same held now ps IllegalMove same h = h
+outside-same held now ps (AlreadyThere k) same h = h
+outside-same held now ps TooDeep same h = h
+outside-same held now ps TreeFull same h = h
+outside-same held now ps (ShiftBroken steps) same h = h
+outside-same held now ps TagText same h = h
+
+match-same : {A : Type 0} (held now : Class → Bool) (ps : List Position) (r : Refusal A) (o : Option (Refusal A))
+    (Q : Refusal A → Type 0) → ((c : Class) → now c ≡ held c) → MatchOption o (IsOutside now ps r) Q
+    → MatchOption o (IsOutside held ps r) Q
+match-same held now ps r None Q same h = outside-same held now ps r same h
+match-same held now ps r (Some x) Q same h = h
+
+refusal-same : {A : Type 0} (held now : Class → Bool) (s : Plainly) (e : Edit A) (r : Refusal A)
+    → ((c : Class) → now c ≡ held c) → IsRefusalOf now s e r → IsRefusalOf held s e r
+refusal-same held now s (edits.Position start) r same h = outside-same held now (asked_at start.position) r same h
+refusal-same held now s (edits.Shift start) r same h =
+    match-same held now (asked_of (shifted s start)) r (shift_refusal s start) (λ fault. (r ≡ fault)
+    ⊎ (r ≡ OutOfMemory)) same h
+refusal-same held now s (edits.Stipulate stipulation) r same h = h
+refusal-same held now s (edits.Insert steps m) r same h =
+    match-same held now (asked_at (after (position_at s steps) m)) r (insert_refusal s steps m) (λ fault. r ≡ fault)
+    same h
+refusal-same held now s (edits.Delete steps) r same h = h
+refusal-same held now s (edits.Promote steps) r same h = h
+refusal-same held now s (edits.Tag name text) r same h = h
+
+accepted-same : {A : Type 0} (held now : Class → Bool) (s : Plainly) (e : Edit A) → ((c : Class) → now c ≡ held c) → IsAccepted now s e → IsAccepted held s e
+accepted-same held now s e same h = record { allowed = h.allowed; found = record { each = AreHeld-same held now (questions_of s e) same h.found.each } }
+
+-- one edit more
+module _ {A : Type 0} where
+  edited-more : (s : Plainly) (es : List (Edit A)) (e : Edit A) → edited_by s (es ++ e ∷ []) ≡ edited (edited_by s es) e
+  edited-more s [] e = refl
+  edited-more s (x ∷ es) e = edited-more (edited s x) es e
+
+  accepted-more : (held : Class → Bool) (s : Plainly) (es : List (Edit A)) (e : Edit A) → AreAccepted held s es
+      → IsAccepted held (edited_by s es) e → AreAccepted held s (es ++ e ∷ [])
+  accepted-more held s [] e h k = (k, tt)
+  accepted-more held s (x ∷ es) e h k = (h.0, accepted-more held (edited s x) es e h.1 k)
+
+  labels-more : (s : Plainly) (es : List (Edit A)) (e : Edit A) (n : ℕ) → labels_by s (es ++ e ∷ []) n ≡ labels_after (edited_by s es) e (labels_by s es n)
+  labels-more s [] e n = refl
+  labels-more s (x ∷ es) e n = labels-more (edited s x) es e (labels_after s x n)
+
+  asked-more : (s : Plainly) (es : List (Edit A)) (e : Edit A) (n : ℕ)
+      → asked_by s (es ++ e ∷ []) n ≡ counted_times (length (questions_of (edited_by s es) e)) (asked_by s es n)
+  asked-more s [] e n = refl
+  asked-more s (x ∷ es) e n = asked-more (edited s x) es e (counted_times (length (questions_of s x)) n)
+
+  stopped-at : (held : Class → Bool) (s : Plainly) (es : List (Edit A)) (i : ℕ) (e : Edit A) (r : Refusal A)
+      → i < length es → e ≡ get_or es i e → IsRefusalOf held (edited_by s (take i es)) e r → IsStopped held s es i r
+  stopped-at held s [] i e r short is h = absurd (omega (arith, short))
+  stopped-at held s (x ∷ es) zero e r short is h = subst (λ y. IsRefusalOf held s y r) is h
+  stopped-at held s (x ∷ es) (suc i) e r short is h = stopped-at held (edited s x) es i e r (omega (arith, short)) is h
+
+  asked-at : (s : Plainly) (es : List (Edit A)) (i : ℕ) (e : Edit A) (r : Refusal A) (old new : ℕ) → i < length es → e ≡ get_or es i e
+      → HasStopped (is_of_tables r) (length (questions_of (edited_by s (take i es)) e)) (asked_by s (take i es) old) new → HasAskedUpTo s es i r old new
+  asked-at s [] i e r old new short is h = absurd (omega (arith, short))
+  asked-at s (x ∷ es) zero e r old new short is h = subst (λ y. HasStopped (is_of_tables r) (length (questions_of s y)) old new) is h
+  asked-at s (x ∷ es) (suc i) e r old new short is h =
+      asked-at (edited s x) es i e r (counted_times (length (questions_of s x)) old) new (omega (arith, short)) is h
+
+-- What these edits, all accepted, did.
+pub record IsRun {A : Type 0} (held held_now : Class → Bool) (honest honest_now : Type 0)
+    (asked asked_now failed failed_now : ℕ) (old new : Kept) (es : List (Edit A)) : Type 0 where
+  pub accepted : AreAccepted held (plain_study (marked old)) es
+  pub edit : plain_study (marked new) ≡ edited_by (plain_study (marked old)) es
+  pub right : honest → IsRight old → IsRight new
+  pub labels : new.relabelled ≡ labels_by (plain_study (marked old)) es old.relabelled
+  pub counts : asked_now ≡ asked_by (plain_study (marked old)) es asked
+  pub failures : failed_now ≡ failed
+  pub stays : honest → honest_now
+  pub tables : (c : Class) → held_now c ≡ held c
+  pub same : es ≡ [] → new ≡ old
+
+pub run-none : {A : Type 0} (held : Class → Bool) (honest : Type 0) (asked failed : ℕ) (old : Kept)
+    → IsRun {A = A} held held honest honest asked asked failed failed old old []
+run-none held honest asked failed old = record {
+  accepted = tt;
+  edit = refl;
+  right = λ h k. k;
+  labels = refl;
+  counts = refl;
+  failures = refl;
+  stays = λ h. h;
+  tables = λ c. refl;
+  same = λ e. refl;
+}
+
+module _ {A : Type 0} (held mid now : Class → Bool) (honest honest_mid honest_now : Type 0)
+    (asked asked_mid asked_now failed failed_mid failed_now : ℕ) (old between new : Kept) (xs : List (Edit A)) (i : ℕ)
+    (e : Edit A)
+    (h : IsRun held mid honest honest_mid asked asked_mid failed failed_mid old between (take i xs)) (short : i < length xs) (is : e ≡ get_or xs i e) where
+  abbrev s : Plainly
+  s = plain_study (marked old)
+
+  abbrev es : List (Edit A)
+  es = take i xs
+
+  pub run-next : IsApplied mid now honest_mid honest_now asked_mid asked_now failed_mid failed_now between new e
+      (Ok tt) → IsRun held now honest honest_now asked asked_now failed failed_now old new (take (i + 1) xs)
+  run-next k = subst (λ ys. IsRun held now honest honest_now asked asked_now failed failed_now old new ys) (sym (take-one xs i e short is)) (record {
+    accepted = accepted-more held s es e h.accepted (accepted-same held mid (edited_by s es) e h.tables (subst (λ x. IsAccepted mid x e) h.edit k.accepted));
+    edit = k.edit ∙ ap (λ x. edited x e) h.edit ∙ sym (edited-more s es e);
+    right = λ a b. k.right (h.stays a) (h.right a b);
+    labels = k.labels ∙ ap (λ x. labels_after x e between.relabelled) h.edit ∙ ap (labels_after (edited_by s es) e)
+        h.labels ∙ sym (labels-more s es e old.relabelled);
+    counts = k.counts ∙ ap (λ x. counted_times (length (questions_of x e)) asked_mid) h.edit
+        ∙ ap (counted_times (length (questions_of (edited_by s es) e))) h.counts ∙ sym (asked-more s es e asked);
+    failures = k.failures ∙ h.failures;
+    stays = λ a. k.stays (h.stays a);
+    tables = λ c. k.tables c ∙ h.tables c;
+    same = λ none. absurd (some es none);
+  })
+    where
+      some : (ys : List (Edit A)) → ys ++ e ∷ [] ≡ [] → ⊥
+      some [] z = let no : e ∷ [] ≡ [] = z in cc
+      some (y ∷ ys) z = let no : y ∷ (ys ++ e ∷ []) ≡ [] = z in cc
+
+  module _ (r : Refusal A) (k : IsApplied mid now honest_mid honest_now asked_mid asked_now failed_mid failed_now between new e (Err r)) where
+    pub run-refusal : IsStopped held s xs i r
+    run-refusal =
+        stopped-at held s xs i e r short is
+        (refusal-same held mid (edited_by s es) e r h.tables (subst (λ x. IsRefusalOf mid x e r) h.edit k.refusal))
+
+    pub run-asked : HasAskedUpTo s xs i r asked asked_now
+    run-asked = asked-at s xs i e r asked asked_now short is
+        (subst (λ n. HasStopped (is_of_tables r) (length (questions_of (edited_by s es) e)) n asked_now) h.counts
+        (subst (λ x. HasStopped (is_of_tables r) (length (questions_of x e)) asked_mid asked_now) h.edit k.counts))

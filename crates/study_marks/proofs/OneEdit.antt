@@ -1,0 +1,162 @@
+-- One edit of a bench, as a value.
+use Rattle.std.proofs.Common.{◌≡◌, ℕ, ◌+◌, List, length, Bool, true, false, Option, Some, None, refl, sym, ap, ◌∙◌, subst, arith}
+use Rattle.std.specs.Prelude.{if◌then◌else◌, MatchOption, Result, Ok, Err, IfErr, OnOk, OnErr, IsErrAnd}
+use Rattle.study_material.specs.declared.class.Class.{Class}
+use Rattle.study_moves.specs.declared.moves.Move.{Move}
+use Rattle.study_moves.specs.Rules.{after}
+use Rattle.study_notation.specs.declared.start.Start.{Start}
+use Rattle.study_board.specs.Counts.{counted}
+use Rattle.study_tree.specs.Tree.{size_of}
+use Rattle.study_marks.specs.declared.fault.Refusal.{Refusal}
+use Rattle.study_marks.specs.declared.edit.Edit.{Edit}
+use Rattle.study_marks.specs.declared.edit.Edit.TheVariants as edits
+use Rattle.study_marks.specs.declared.mark.Mark.{Mark}
+use Rattle.study_marks.specs.declared.stipulation.Stipulation.{Stipulation}
+use Rattle.study_marks.specs.Study.{plain_study, position_at}
+use Rattle.study_marks.specs.Asked.{asked_at, asked_of, AllHeld, IsOutside, HasAsked, HasStopped, is_of_tables, is_of_device, counted_times, failures_after}
+use Rattle.study_marks.specs.Edits.{shifted, stipulated, inserted, broken, broken_from, insert_refusal, shift_refusal}
+use Rattle.study_marks.specs.Kept.{Kept, marked, IsRight}
+use Rattle.study_marks.specs.Stop.{IsShiftRefusal, IsAccepted, IsApplied}
+use Rattle.study_marks.proofs.SameShape.{nodes_in-mapped}
+use Rattle.study_marks.proofs.StartShifted.{broken-marked}
+
+same-size : (k : Kept) → size_of (marked k).tree ≡ size_of (plain_study (marked k)).tree
+same-size k = ap (λ n. 1 + n) (sym (nodes_in-mapped (λ (x : Mark). tt {0}) (marked k).tree.below))
+
+none-asked : (b : Bool) (n : ℕ) → HasStopped b 0 n n
+none-asked true n = (0, omega arith, refl)
+none-asked false n = refl
+
+module _ {A : Type 0} (held held_now : Class → Bool) (honest honest_now : Type 0) (asked asked_now failed failed_now : ℕ) (old new : Kept) where
+  applied-as : (e same : Edit A) (r : Result (Unit {0}) (Refusal A)) → e ≡ same
+      → IsApplied held held_now honest honest_now asked asked_now failed failed_now old new same r
+      → IsApplied held held_now honest honest_now asked asked_now failed failed_now old new e r
+  applied-as e same r is h = subst (λ x. IsApplied held held_now honest honest_now asked asked_now failed failed_now old new x r) (sym is) h
+
+  -- a move is not inserted
+  refused-so : (o : Option (Refusal A)) (P : Type 0) (f : Refusal A) (T : Type 0)
+      → MatchOption o P (λ g. (let r : Result T (Refusal A) = Err f in r) ≡ Err g) → MatchOption o P (λ g. f ≡ g)
+  refused-so None P f T h = h
+  refused-so (Some g) P f T h = let same : (let r : Result T (Refusal A) = Err f in r) ≡ Err g = h in cc
+
+  pub insert-refused : (e : Edit A) (steps : List ℕ) (m : Move) (f : Refusal A) (r : Result (Unit {0}) (Refusal A))
+      → e ≡ edits.Insert steps m → IsErrAnd r (λ x. x ≡ f)
+      → MatchOption (insert_refusal (plain_study (marked old)) steps m)
+      (IsOutside held (asked_at (after (position_at (marked old) steps) m)) f)
+      (λ g. (let x : Result ℕ (Refusal A) = Err f in x) ≡ Err g)
+      → position_at (marked old) steps ≡ position_at (plain_study (marked old)) steps
+      → HasStopped (is_of_tables f) (length (asked_at (after (position_at (marked old) steps) m))) asked asked_now
+      → failed_now ≡ (if is_of_device f then counted failed else failed)
+      → (honest → honest_now) → ((c : Class) → held_now c ≡ held c) → new ≡ old
+      → IsApplied held held_now honest honest_now asked asked_now failed failed_now old new e r
+  insert-refused e steps m f (Ok x) is way refusal place counts failures stays tables same = absurd way
+  insert-refused e steps m f (Err x) is way refusal place counts failures stays tables same =
+      applied-as e (edits.Insert steps m) (Err x) is
+      (subst (λ y. IsApplied held held_now honest honest_now asked asked_now failed failed_now old new
+      (edits.Insert steps m) (Err y)) (sym way) (record {
+        refusal =
+            subst
+            (λ p. MatchOption (insert_refusal (plain_study (marked old)) steps m)
+            (IsOutside held (asked_at (after p m)) f) (λ g. f ≡ g)) place
+            (refused-so (insert_refusal (plain_study (marked old)) steps m)
+            (IsOutside held (asked_at (after (position_at (marked old) steps) m)) f) f ℕ refusal);
+        accepted = tt;
+        edit = tt;
+        right = λ a b. tt;
+        labels = tt;
+        counts = subst (λ p. HasStopped (is_of_tables f) (length (asked_at (after p m))) asked asked_now) place counts;
+        failures = failures;
+        stays = stays;
+        tables = tables;
+        same = same;
+      }))
+
+  -- it is inserted
+  not-refused : (o : Option (Refusal A)) (P : Type 0) (k : ℕ) → MatchOption o P (λ g. (let x : Result ℕ (Refusal A) = Ok k in x) ≡ Err g) → o ≡ None
+  not-refused None P k h = refl
+  not-refused (Some g) P k h = let no : (let x : Result ℕ (Refusal A) = Ok k in x) ≡ Err g = h in absurd cc
+
+  pub insert-accepted : (e : Edit A) (steps : List ℕ) (m : Move) (k : ℕ) (P : Type 0) → e ≡ edits.Insert steps m
+      → MatchOption (insert_refusal (plain_study (marked old)) steps m) P (λ g. (let x : Result ℕ (Refusal A) = Ok k in x) ≡ Err g)
+      → position_at (marked old) steps ≡ position_at (plain_study (marked old)) steps
+      → AllHeld held (asked_at (after (position_at (marked old) steps) m))
+      → plain_study (marked new) ≡ inserted (plain_study (marked old)) steps m
+      → (honest → IsRight old → IsRight new)
+      → new.relabelled ≡ counted_times (length steps + 2) old.relabelled
+      → asked_now ≡ counted_times (length (asked_at (after (position_at (marked old) steps) m))) asked
+      → failed_now ≡ failed → (honest → honest_now) → ((c : Class) → held_now c ≡ held c)
+      → IsApplied held held_now honest honest_now asked asked_now failed failed_now old new e (Ok tt)
+  insert-accepted e steps m k P is refusal place found edit right labels counts failures stays tables =
+      applied-as e (edits.Insert steps m) (Ok tt) is (record {
+        refusal = tt;
+        accepted =
+            record {
+              allowed = not-refused (insert_refusal (plain_study (marked old)) steps m) P k refusal;
+              found = subst (λ p. AllHeld held (asked_at (after p m))) place found;
+            };
+        edit = edit;
+        right = right;
+        labels = labels;
+        counts = subst (λ p. asked_now ≡ counted_times (length (asked_at (after p m))) asked) place counts;
+        failures = failures;
+        stays = stays;
+        tables = tables;
+        same = tt;
+      })
+
+  -- another start
+  pub shift-applied : (e : Edit A) (start copied : Start) (r : Result (Unit {0}) (Refusal A)) → e ≡ edits.Shift start → copied ≡ start
+      → OnOk r (broken_from 0 copied.position (marked old).tree.below ≡ None)
+      → IfErr r (IsShiftRefusal held (asked_of (shifted (plain_study (marked old)) copied)) (shift_refusal (plain_study (marked old)) copied))
+      → OnOk r (AllHeld held (asked_of (shifted (plain_study (marked old)) copied)))
+      → OnOk r (plain_study (marked new) ≡ shifted (plain_study (marked old)) copied) → (honest → OnOk r (IsRight new))
+      → OnOk r (new.relabelled ≡ counted_times (size_of (marked old).tree) old.relabelled)
+      → HasAsked (length (asked_of (shifted (plain_study (marked old)) copied))) r asked asked_now → failed_now ≡ failures_after r failed
+      → (honest → honest_now) → ((c : Class) → held_now c ≡ held c) → OnErr r (new ≡ old)
+      → IsApplied held held_now honest honest_now asked asked_now failed failed_now old new e r
+  shift-applied e start copied r is e2 broken_at refusal found edit right labels counts failures stays tables same =
+      applied-as e (edits.Shift copied) r (is ∙ ap edits.Shift (sym e2)) (record {
+        refusal = refusal;
+        accepted = go r broken_at found;
+        edit = edit;
+        right = λ h k. right h;
+        labels = sized r labels;
+        counts = counts;
+        failures = failures;
+        stays = stays;
+        tables = tables;
+        same = same;
+      })
+    where
+      go : (r : Result (Unit {0}) (Refusal A))
+          → OnOk r (broken_from 0 copied.position (marked old).tree.below ≡ None)
+          → OnOk r (AllHeld held (asked_of (shifted (plain_study (marked old)) copied)))
+          → OnOk r (IsAccepted {A = A} held (plain_study (marked old)) (edits.Shift copied))
+      go (Ok x) h k = record { allowed = ap (broken {A = A}) (broken-marked old copied.position ∙ h); found = k }
+      go (Err x) h k = tt
+
+      sized : (r : Result (Unit {0}) (Refusal A))
+          → OnOk r (new.relabelled ≡ counted_times (size_of (marked old).tree) old.relabelled)
+          → OnOk r (new.relabelled ≡ counted_times (size_of (plain_study (marked old)).tree) old.relabelled)
+      sized (Ok x) h = h ∙ ap (λ n. counted_times n old.relabelled) (same-size old)
+      sized (Err x) h = tt
+
+  -- another stipulation
+  pub stipulation-applied : (e : Edit A) (stipulation : Stipulation) → e ≡ edits.Stipulate stipulation
+      → plain_study (marked new) ≡ stipulated (plain_study (marked old)) stipulation
+      → (IsRight old → IsRight new) → new.relabelled ≡ counted_times (size_of (marked old).tree) old.relabelled
+      → asked_now ≡ asked → failed_now ≡ failed → (honest → honest_now)
+      → ((c : Class) → held_now c ≡ held c) → IsApplied held held_now honest honest_now asked asked_now failed failed_now old new e (Ok tt)
+  stipulation-applied e stipulation is edit right labels counts failures stays tables =
+      applied-as e (edits.Stipulate stipulation) (Ok tt) is (record {
+        refusal = tt;
+        accepted = record { allowed = refl; found = record { each = tt } };
+        edit = edit;
+        right = λ h k. right k;
+        labels = labels ∙ ap (λ n. counted_times n old.relabelled) (same-size old);
+        counts = counts;
+        failures = failures;
+        stays = stays;
+        tables = tables;
+        same = tt;
+      })

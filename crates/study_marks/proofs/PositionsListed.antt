@@ -1,0 +1,288 @@
+-- Positions listed in written order, what is asked of them, and what is told.
+use Rattle.std.proofs.Common.{◌≡◌, ℕ, ◌+◌, ◌<◌, ◌≤◌, List, [], ◌∷◌, ◌++◌, length, get_or, take, drop}
+use Rattle.std.proofs.Common.{Bool, true, false, Some, Result, Ok, Err, is_ok, refl, sym, ap, ◌∙◌}
+use Rattle.std.proofs.Common.{arith, zero, suc, subst, inl, inr, append_assoc, length-append}
+use Rattle.std.specs.Prelude.{IfErr, IsErrAnd}
+use Rattle.study_board.specs.Position.{Position}
+use Rattle.study_material.specs.declared.class.Class.{Class}
+use Rattle.study_moves.specs.declared.moves.Move.{Move}
+use Rattle.study_moves.specs.Rules.{is_legal, after}
+use Rattle.study_prober.specs.declared.values.ProbeFault.{ProbeFault}
+use Rattle.study_prober.specs.declared.values.ProbeFault.TheVariants as probe
+use Rattle.study_tree.specs.Forest.{Forest, none, more, Twig, nodes_in}
+use Rattle.study_tree.specs.Edits.{node_in, width}
+use Rattle.study_tree.specs.Tree.{Plain, spot_at}
+use Rattle.study_marks.specs.declared.label.Label.{Label}
+use Rattle.study_marks.specs.declared.label.Told.{Told}
+use Rattle.study_marks.specs.Study.{mapped, IsPlayable}
+use Rattle.study_marks.specs.Bench.{played_by}
+use Rattle.study_marks.specs.Asked.{asked_at, asked_below, AreHeld, IsFirstMissing, counted_times}
+use Rattle.study_marks.specs.Told.{IsToldOf, AreTold, AllAreTold, IsUntold, WasAsked}
+use Rattle.study_marks.specs.Renewal.{told_tree, below_at}
+use Rattle.study_marks.specs.Whole.{told_in, retold, retold_tree, firsts, positions_in, asked_each, AreToldOf}
+use Rattle.study_marks.proofs.ValuesAsked.{missing-same}
+use Rattle.study_marks.proofs.FirstIllegalMove.{here}
+use Rattle.study_marks.proofs.LabelsWritten.{nth, below-further, below-nth, firsts-all, counted_times-sum}
+
+append-none : {X : Type 0} (xs : List X) → xs ++ [] ≡ xs
+append-none [] = refl
+append-none (x ∷ xs) = ap (λ ys. x ∷ ys) (append-none xs)
+
+-- the positions of the first nodes, and of one more
+IsPlayable-nth : (p : Position) (f : Forest Label) (k : ℕ) (u : Twig Label) → node_in f k [] ≡ Some u
+    → IsPlayable p f → (is_legal p u.played ≡ true) × IsPlayable (after p u.played) u.below
+IsPlayable-nth p none k u e h = let no : ⊥ = cc in absurd no
+IsPlayable-nth p (more m l b r) zero u e h =
+    subst (λ (x : Twig Label). (is_legal p x.played ≡ true) × IsPlayable (after p x.played) x.below)
+    (let s : record { played = m; label = l; below = b } ≡ u = cc in s) (h.0, h.1)
+IsPlayable-nth p (more m l b r) (suc k) u e h = IsPlayable-nth p r k u e h.2
+
+positions-next : (p : Position) (f : Forest Label) (k : ℕ) (u : Twig Label) → node_in f k [] ≡ Some u
+    → positions_in p (firsts (suc k) f) ≡ positions_in p (firsts k f)
+    ++ (after p u.played ∷ positions_in (after p u.played) u.below)
+positions-next p none k u e = let no : ⊥ = cc in absurd no
+positions-next p (more m l b r) zero u e =
+    ap (λ x. after p m ∷ x) (append-none (positions_in (after p m) b))
+    ∙ ap (λ (x : Twig Label). after p x.played ∷ positions_in (after p x.played) x.below) (let s : record { played = m; label = l; below = b } ≡ u = cc in s)
+positions-next p (more m l b r) (suc k) u e =
+    ap (λ x. after p m ∷ (positions_in (after p m) b ++ x)) (positions-next p r k u e)
+    ∙ ap (λ x. after p m ∷ x)
+    (sym (append_assoc (positions_in (after p m) b) (positions_in p (firsts k r))
+    (after p u.played ∷ positions_in (after p u.played) u.below)))
+
+-- in the terms of the loop
+module _ (p : Position) (t : Plain Label) (ks : List ℕ) (k : ℕ) where
+  pub legal-child : (m : Move) → k < width (below_at t.below ks) → played_by (spot_at t (ks ++ k ∷ [])) ≡ Some m → IsPlayable p (below_at t.below ks)
+      → (is_legal p m ≡ true) × IsPlayable (after p m) (below_at t.below (ks ++ k ∷ []))
+  legal-child m left e h =
+      let w = nth (below_at t.below ks) k left in
+      let x = IsPlayable-nth p (below_at t.below ks) k w.0 w.1 h in
+      let same = here p t ks k m left e in
+      let under = below-further t.below ks k ∙ below-nth (below_at t.below ks) k w.0 w.1 in (
+        ap (is_legal p) (sym same) ∙ x.0,
+        subst (λ n. IsPlayable (after p n) (below_at t.below (ks ++ k ∷ []))) same
+            (subst (λ f. IsPlayable (after p w.0.played) f) (sym under) x.1),
+      )
+
+  pub listed-next : (m : Move) (next : Position) (push : List ℕ) (old all one new : List Position)
+      → k < width (below_at t.below ks) → played_by (spot_at t (ks ++ k ∷ [])) ≡ Some m → next ≡ after p m
+      → push ≡ ks ++ k ∷ []
+      → all ≡ old ++ positions_in p (firsts k (below_at t.below ks)) → one ≡ all ++ next ∷ [] → new ≡ one ++ positions_in next (below_at t.below push)
+      → new ≡ old ++ positions_in p (firsts (k + 1) (below_at t.below ks))
+  listed-next m next push old all one new left e en ep h one_is new_is =
+      let w = nth (below_at t.below ks) k left in
+      let same = here p t ks k m left e in
+      let under = below-further t.below ks k ∙ below-nth (below_at t.below ks) k w.0 w.1 in
+      let first : List Position = positions_in p (firsts k (below_at t.below ks)) in
+      let child : next ∷ positions_in next (below_at t.below push) ≡ after p w.0.played ∷ positions_in (after p w.0.played) w.0.below =
+      ap (λ x. x ∷ positions_in x (below_at t.below push)) (en ∙ ap (after p) (sym same))
+      ∙ ap (λ (f : Forest Label). after p w.0.played ∷ positions_in (after p w.0.played) f) (ap (below_at t.below) ep ∙ under) in
+      new_is ∙ ap (λ x. x ++ positions_in next (below_at t.below push)) one_is ∙ append_assoc all (next ∷ []) (positions_in next (below_at t.below push))
+      ∙ ap (λ x. all ++ x) child ∙ ap (λ x. x ++ (after p w.0.played ∷ positions_in (after p w.0.played) w.0.below)) h
+      ∙ append_assoc old first (after p w.0.played ∷ positions_in (after p w.0.played) w.0.below)
+      ∙ ap (λ x. old ++ x) (sym (positions-next p (below_at t.below ks) k w.0 w.1))
+      ∙ ap (λ i. old ++ positions_in p (firsts i (below_at t.below ks))) (let z : suc k ≡ k + 1 = omega arith in z)
+
+  pub listed-all : (old all : List Position) → width (below_at t.below ks) ≤ k
+      → all ≡ old ++ positions_in p (firsts k (below_at t.below ks))
+      → all ≡ old ++ positions_in p (below_at t.below ks)
+  listed-all old all full h = h ∙ ap (λ (f : Forest Label). old ++ positions_in p f) (firsts-all k (below_at t.below ks) full)
+
+pub listed-none : (p : Position) (f : Forest Label) (old : List Position) → old ≡ old ++ positions_in p (firsts 0 f)
+listed-none p f old = sym (append-none old)
+
+pub playable-at : (p q : Position) (t : Plain Label) (push path : List ℕ) → p ≡ q → push ≡ path
+    → IsPlayable q (below_at t.below path) → IsPlayable p (below_at t.below push)
+playable-at p q t push path e way h = subst (λ x. IsPlayable x (below_at t.below push)) (sym e) (subst (λ x. IsPlayable q (below_at t.below x)) (sym way) h)
+
+-- what is asked of a list of positions
+asked_each-append : (ps qs : List Position) → asked_each (ps ++ qs) ≡ asked_each ps ++ asked_each qs
+asked_each-append [] qs = refl
+asked_each-append (p ∷ ps) qs = ap (λ x. asked_at p ++ x) (asked_each-append ps qs) ∙ sym (append_assoc (asked_at p) (asked_each ps) (asked_each qs))
+
+asked-positions : (p : Position) (f : Forest Label) → asked_each (positions_in p f) ≡ asked_below p f
+asked-positions p none = refl
+asked-positions p (more m l b r) =
+    ap (λ x. asked_at (after p m) ++ x) (asked_each-append (positions_in (after p m) b) (positions_in p r)
+    ∙ ap (λ x. x ++ asked_each (positions_in p r)) (asked-positions (after p m) b) ∙ ap (λ x. asked_below (after p m) b ++ x) (asked-positions p r))
+
+pub asked-tree : (p : Position) (f : Forest Label) (ps : List Position) → ps ≡ p ∷ positions_in p f → asked_each ps ≡ asked_at p ++ asked_below p f
+asked-tree p f ps e = ap asked_each e ∙ ap (λ x. asked_at p ++ x) (asked-positions p f)
+
+-- tables that are held, and the first that is not
+AreHeld-append : (held : Class → Bool) (xs ys : List Position) → AreHeld held xs → AreHeld held ys → AreHeld held (xs ++ ys)
+AreHeld-append held [] ys h k = k
+AreHeld-append held (x ∷ xs) ys h k = (h.0, AreHeld-append held xs ys h.1 k)
+
+pub AreHeld-same : (held now : Class → Bool) (xs : List Position) → ((d : Class) → now d ≡ held d) → AreHeld now xs → AreHeld held xs
+AreHeld-same held now [] same h = tt
+AreHeld-same held now (x ∷ xs) same h = ((λ c o. sym (same c) ∙ h.0 c o), AreHeld-same held now xs same h.1)
+
+missing-front : (held : Class → Bool) (xs ys : List Position) (c : Class) → IsFirstMissing held xs c → IsFirstMissing held (xs ++ ys) c
+missing-front held [] ys c h = absurd h
+missing-front held (x ∷ xs) ys c (inl h) = inl h
+missing-front held (x ∷ xs) ys c (inr h) = inr (h.0, missing-front held xs ys c h.1)
+
+missing-back : (held : Class → Bool) (xs ys : List Position) (c : Class) → AreHeld held xs → IsFirstMissing held ys c → IsFirstMissing held (xs ++ ys) c
+missing-back held [] ys c h k = k
+missing-back held (x ∷ xs) ys c h k = inr (h.0, missing-back held xs ys c h.1 k)
+
+untold-middle : (held now : Class → Bool) (xs ys zs : List Position) (f : ProbeFault)
+    → ((d : Class) → now d ≡ held d) → AreHeld held xs → IsUntold now ys f → IsUntold held (xs ++ (ys ++ zs)) f
+untold-middle held now xs ys zs (probe.NoTable c) same h k =
+    missing-back held xs (ys ++ zs) c h (missing-front held ys zs c (missing-same held now ys c same k))
+untold-middle held now xs ys zs (probe.TableRead x) same h k = tt
+untold-middle held now xs ys zs (probe.PageDamaged c n) same h k = tt
+
+AreToldOf-append : (ps qs : List Position) (ts us : List Told) → AreToldOf ps ts → AreToldOf qs us → AreToldOf (ps ++ qs) (ts ++ us)
+AreToldOf-append [] qs [] us h k = k
+AreToldOf-append [] qs (t ∷ ts) us h k = absurd h
+AreToldOf-append (p ∷ ps) qs [] us h k = absurd h
+AreToldOf-append (p ∷ ps) qs (t ∷ ts) us h k = (h.0, AreToldOf-append ps qs ts us h.1 k)
+
+-- What was asked and told when all these positions were asked: by tables that are held, over the counts of questions and of failures, at the beginning and now.
+pub record IsAsked (held now : Class → Bool) (asked asked_now failed failed_now : ℕ) (honest honest_now : Type 0)
+    (ps : List Position) (was all : List Told) : Type 0 where
+  pub tables : (c : Class) → now c ≡ held c
+  pub found : AreHeld held (asked_each ps)
+  pub counts : asked_now ≡ counted_times (length (asked_each ps)) asked
+  pub failures : failed_now ≡ failed
+  pub stays : honest → honest_now
+  pub told : honest → (ts : List Told) × AreToldOf ps ts × (all ≡ was ++ ts)
+
+pub asked-none : (held : Class → Bool) (asked failed : ℕ) (honest : Type 0) (was : List Told)
+    → IsAsked held held asked asked failed failed honest honest [] was was
+asked-none held asked failed honest was = record {
+  tables = λ c. refl;
+  found = tt;
+  counts = refl;
+  failures = refl;
+  stays = λ h. h;
+  told = λ h. ([], tt, sym (append-none was));
+}
+
+pub asked-next : (held mid now : Class → Bool) (asked asked_mid asked_now failed failed_mid failed_now : ℕ)
+    (honest honest_mid honest_now : Type 0) (ps : List Position) (p : Position) (was all new : List Told)
+    → IsAsked held mid asked asked_mid failed failed_mid honest honest_mid ps was all
+    → ((c : Class) → now c ≡ mid c) → AreHeld mid (asked_at p)
+    → asked_now ≡ counted_times (length (asked_at p)) asked_mid → failed_now ≡ failed_mid
+    → (honest_mid → honest_now)
+    → (honest_mid → (t : Told) × IsToldOf p t × (new ≡ all ++ t ∷ []))
+    → IsAsked held now asked asked_now failed failed_now honest honest_now (ps ++ p ∷ []) was new
+asked-next held mid now asked asked_mid asked_now failed failed_mid failed_now honest honest_mid honest_now ps p was
+    all new h tables found counts failures stays told = record {
+      tables = λ c. tables c ∙ h.tables c;
+      found = subst (AreHeld held) (sym one) (AreHeld-append held (asked_each ps) (asked_at p) h.found (AreHeld-same held mid (asked_at p) h.tables found));
+      counts = counts ∙ ap (counted_times (length (asked_at p))) h.counts ∙ sym (counted_times-sum (length (asked_each ps)) (length (asked_at p)) asked)
+          ∙ ap (λ n. counted_times n asked) (sym (ap length one ∙ length-append (asked_each ps) (asked_at p)));
+      failures = failures ∙ h.failures;
+      stays = λ k. stays (h.stays k);
+      told = λ k. let x = h.told k in let y = told (h.stays k) in
+          (x.0 ++ y.0 ∷ [], AreToldOf-append ps (p ∷ []) x.0 (y.0 ∷ []) x.1 (y.1, tt), y.2 ∙ ap (λ z. z ++ y.0 ∷ []) x.2 ∙ append_assoc was x.0 (y.0 ∷ []));
+    }
+  where
+    one : asked_each (ps ++ p ∷ []) ≡ asked_each ps ++ asked_at p
+    one = asked_each-append ps (p ∷ []) ∙ ap (λ x. asked_each ps ++ x) (append-none (asked_at p))
+
+-- the position at an index
+pub split-at : {X : Type 0} (xs : List X) (i : ℕ) (x : X) → i < length xs → x ≡ get_or xs i x → xs ≡ take i xs ++ x ∷ drop (suc i) xs
+split-at [] i x h e = absurd (omega (arith, h))
+split-at (y ∷ ys) zero x h e = ap (λ z. z ∷ ys) (sym e)
+split-at (y ∷ ys) (suc i) x h e = ap (λ z. y ∷ z) (split-at ys i x (omega (arith, h)) e)
+
+pub take-one : {X : Type 0} (xs : List X) (i : ℕ) (x : X) → i < length xs → x ≡ get_or xs i x → take (i + 1) xs ≡ take i xs ++ x ∷ []
+take-one {X = X} xs i x h e = ap (λ n. take n xs) (let z : i + 1 ≡ suc i = omega arith in z) ∙ go xs i h e
+  where
+    go : (xs : List X) (i : ℕ) → i < length xs → x ≡ get_or xs i x → take (suc i) xs ≡ take i xs ++ x ∷ []
+    go [] i h e = absurd (omega (arith, h))
+    go (y ∷ ys) zero h e = ap (λ z. z ∷ []) (sym e)
+    go (y ∷ ys) (suc i) h e = ap (λ z. y ∷ z) (go ys i (omega (arith, h)) e)
+
+-- where one is not told
+module _ (held mid : Class → Bool) (asked asked_mid failed failed_mid : ℕ) (honest honest_mid : Type 0)
+    (xs : List Position) (i : ℕ) (p : Position) (was all : List Told)
+    (h : IsAsked held mid asked asked_mid failed failed_mid honest honest_mid (take i xs) was all) (short : i < length xs) (is : p ≡ get_or xs i p) where
+  middle : asked_each xs ≡ asked_each (take i xs) ++ (asked_at p ++ asked_each (drop (suc i) xs))
+  middle = ap asked_each (split-at xs i p short is) ∙ asked_each-append (take i xs) (p ∷ drop (suc i) xs)
+
+  pub untold-at : (f : ProbeFault) → IsUntold mid (asked_at p) f → IsUntold held (asked_each xs) f
+  untold-at f k =
+      subst (λ ps. IsUntold held ps f) (sym middle)
+      (untold-middle held mid (asked_each (take i xs)) (asked_at p) (asked_each (drop (suc i) xs)) f h.tables
+      h.found k)
+
+  pub asked-at : (new : ℕ) → WasAsked (length (asked_at p)) false asked_mid new → WasAsked (length (asked_each xs)) false asked new
+  asked-at new k =
+      let n = length (asked_each (take i xs)) in
+      let long : length (asked_each xs) ≡ n + (length (asked_at p) + length (asked_each (drop (suc i) xs))) =
+      ap length middle ∙ length-append (asked_each (take i xs)) (asked_at p ++ asked_each (drop (suc i) xs))
+      ∙ ap (λ m. n + m) (length-append (asked_at p) (asked_each (drop (suc i) xs))) in
+      (n + k.0, omega (arith, k.1, long), k.2 ∙ ap (counted_times k.0) h.counts ∙ sym (counted_times-sum n k.0 asked))
+
+-- an answer that hands a fault on
+pub same-fault : {T : Type 0} (r : Result T ProbeFault) (f : ProbeFault) (P : ProbeFault → Type 0) → IsErrAnd r (λ x. x ≡ f) → P f → IfErr r P
+same-fault (Ok x) f P e h = absurd e
+same-fault (Err x) f P e h = subst P (sym e) h
+
+pub fault-asked : {T : Type 0} (r : Result T ProbeFault) (f : ProbeFault) (n old new : ℕ) → IsErrAnd r (λ x. x ≡ f)
+    → WasAsked n false old new → WasAsked n (is_ok r) old new
+fault-asked (Ok x) f n old new e h = absurd e
+fault-asked (Err x) f n old new e h = h
+
+-- what is told of all nodes
+AreAt : List Told → ℕ → List Position → Type 0
+AreAt all n [] = Unit {0}
+AreAt all n (p ∷ ps) = ((d : Told) → IsToldOf p (told_in all n d)) × AreAt all (suc n) ps
+
+at-later : (t : Told) (all : List Told) (n : ℕ) (ps : List Position) → AreAt all n ps → AreAt (t ∷ all) (suc n) ps
+unfolding AreAt
+at-later t all n [] h = tt
+at-later t all n (p ∷ ps) h = (h.0, at-later t all (suc n) ps h.1)
+
+at-told : (ps : List Position) (ts : List Told) → AreToldOf ps ts → AreAt ts 0 ps
+unfolding AreAt
+at-told [] ts h = tt
+at-told (p ∷ ps) [] h = absurd h
+at-told (p ∷ ps) (t ∷ ts) h = ((λ d. h.0), at-later t ts 0 ps (at-told ps ts h.1))
+
+at-append : (all : List Told) (n j : ℕ) (ps qs : List Position) → AreAt all n (ps ++ qs) → j ≡ n + length ps → AreAt all n ps × AreAt all j qs
+unfolding AreAt
+at-append all n j [] qs h e = (tt, subst (λ x. AreAt all x qs) (let z : n ≡ j = omega (arith, e) in z) h)
+at-append all n j (p ∷ ps) qs h e = let x = at-append all (suc n) j ps qs h.1 (omega (arith, e)) in ((h.0, x.0), x.1)
+
+length-positions : {L : Type 0} (p : Position) (f : Forest L) → length (positions_in p f) ≡ nodes_in f
+length-positions p none = refl
+length-positions p (more m l b r) =
+    omega (
+      arith,
+      length-append (positions_in (after p m) b) (positions_in p r),
+      length-positions (after p m) b,
+      length-positions p r,
+    )
+
+positions-mapped : {L M : Type 0} (g : L → M) (p : Position) (f : Forest L) → positions_in p (mapped g f) ≡ positions_in p f
+positions-mapped g p none = refl
+positions-mapped g p (more m l b r) =
+    ap (λ x. after p m ∷ (x ++ positions_in p (mapped g r))) (positions-mapped g (after p m) b)
+    ∙ ap (λ x. after p m ∷ (positions_in (after p m) b ++ x)) (positions-mapped g p r)
+
+retold-told : (all : List Told) (p : Position) (n : ℕ) (f : Forest Told) → AreAt all n (positions_in p f) → AreTold p (retold all n f)
+unfolding AreAt
+retold-told all p n none h = tt
+retold-told all p n (more m t b r) h =
+    let e : n + 1 + nodes_in b ≡ suc n + length (positions_in (after p m) b) = omega (arith, length-positions (after p m) b) in
+    let x = at-append all (suc n) (n + 1 + nodes_in b) (positions_in (after p m) b) (positions_in p r) h.1 e in (
+      h.0 t,
+      retold-told all (after p m) (n + 1) b
+          (subst (λ i. AreAt all i (positions_in (after p m) b)) (let z : suc n ≡ n + 1 = omega arith in z) x.0),
+      retold-told all p (n + 1 + nodes_in b) r x.1,
+    )
+
+pub told-everywhere : (p : Position) (t : Plain Label) (ps : List Position) (all : List Told)
+    → ps ≡ p ∷ positions_in p t.below → ((ts : List Told) × AreToldOf ps ts × (all ≡ [] ++ ts))
+    → AllAreTold p (retold_tree all (told_tree t))
+unfolding AreAt
+told-everywhere p t ps all e h =
+    let told : AreToldOf (p ∷ positions_in p t.below) all = subst (λ x. AreToldOf x all) e (subst (AreToldOf ps) (sym h.2) h.1) in
+    let at = at-told (p ∷ positions_in p t.below) all told in
+    (at.0 t.label.told, retold-told all p 1 (told_tree t).below (subst (AreAt all 1) (sym (positions-mapped (λ (l : Label). l.told) p t.below)) at.1))

@@ -1,0 +1,91 @@
+-- Values asked one after the other.
+use Rattle.std.proofs.Common.{◌≡◌, ℕ, ◌+◌, ◌≤◌, ◌<◌, List, [], ◌∷◌, ◌++◌, map, length, Bool, true}
+use Rattle.std.proofs.Common.{false, inl, inr, Result, Ok, Err, refl, sym, ap, ◌∙◌, arith, suc, subst}
+use Rattle.std.proofs.Common.{is_ok, OnOk, IfErr, IsErrOf, ◌↔◌, append_assoc, length-append}
+use Rattle.std.specs.List.{All}
+use Rattle.std.proofs.lemmas.Bool.{false≢true}
+use Rattle.study_board.specs.Position.{Position}
+use Rattle.study_material.specs.declared.class.Class.{Class}
+use Rattle.study_material.specs.Class.{IsOf}
+use Rattle.study_moves.specs.declared.moves.Move.{Move}
+use Rattle.study_moves.specs.Rules.{is_legal, after}
+use Rattle.study_retro.specs.declared.value.Value.{Value}
+use Rattle.study_retro.specs.declared.value.Value.TheVariants.{Win, Loss, Draw}
+use Rattle.study_retro.specs.Game.{IsValueOf}
+use Rattle.study_prober.specs.declared.values.ProbeFault.{ProbeFault}
+use Rattle.study_prober.specs.declared.values.ProbeFault.TheVariants as probe
+use Rattle.study_board.specs.Counts.{counted}
+use Rattle.study_marks.specs.Annotated.{AreValuesAfter}
+use Rattle.study_marks.specs.Tally.{Tally, tally_of, with_value, with_last_value, joined}
+use Rattle.study_marks.specs.Asked.{IsHeld, IsFirstMissing, counted_times}
+use Rattle.study_marks.specs.Told.{IsUntold, WasAsked}
+
+-- one value more, counted before or after
+joined-with : (t u : Tally) (v : Value) → joined (with_last_value t v) u ≡ joined t (with_value v u)
+joined-with t u (Win n) = refl
+joined-with t u (Loss n) = ap (λ ms. record { mates = ms; draws = t.draws + u.draws }) (append_assoc t.mates (n ∷ []) u.mates)
+joined-with t u Draw =
+    let sum : t.draws + 1 + u.draws ≡ t.draws + (1 + u.draws) = omega arith in
+    ap (λ n. record { mates = t.mates ++ u.mates; draws = n }) sum
+
+-- the values after the moves are in the tally
+abbrev pub AreCounted : Position → List Move → Tally → Tally → Type 0
+AreCounted p ms old new = (all : List Value) × AreValuesAfter p ms all × (new ≡ joined old (tally_of all))
+
+pub counted-more : {T : Type 0} (p : Position) (m : Move) (ms rest : List Move) (v : Value) (old mid new : Tally)
+    (r : Result T ProbeFault) → ms ≡ m ∷ rest → IsValueOf (after p m) v → mid ≡ with_last_value old v
+    → OnOk r (AreCounted p rest mid new) → OnOk r (AreCounted p ms old new)
+counted-more p m ms rest v old mid new (Ok x) e g t h =
+    subst (λ (l : List Move). AreCounted p l old new) (sym e)
+    (v ∷ h.0, (g, h.1), h.2 ∙ ap (λ u. joined u (tally_of h.0)) t ∙ joined-with old (tally_of h.0) v)
+counted-more p m ms rest v old mid new (Err f) e g t h = tt
+
+-- tables that are held
+pub held-told : {V : Type 0} (held : Class → Bool) (p : Position) (r : Result V ProbeFault) (v : V) → r ≡ Ok v
+    → ((c : Class) → IsErrOf r (probe.NoTable c) ↔ (IsOf c p × (held c ≡ false))) → IsHeld held p
+held-told held p r v e h c o = go (held c) refl
+  where
+    go : (b : Bool) → held c ≡ b → held c ≡ true
+    go true k = k
+    go false k =
+        let one : r ≡ Err (probe.NoTable c) = (h c).1 (o, k) in
+        let two : is_ok r ≡ true = ap is_ok e in
+        let no : false ≡ true = sym (ap is_ok one) ∙ two in absurd (false≢true no)
+
+pub missing-same : (held now : Class → Bool) (ps : List Position) (c : Class) → ((d : Class) → now d ≡ held d)
+    → IsFirstMissing now ps c → IsFirstMissing held ps c
+missing-same held now [] c same h = h
+missing-same held now (p ∷ ps) c same (inl h) = inl (h.0, sym (same c) ∙ h.1)
+missing-same held now (p ∷ ps) c same (inr h) = inr ((λ d o. sym (same d) ∙ h.0 d o), missing-same held now ps c same h.1)
+
+pub untold-later : (held now : Class → Bool) (p : Position) (ps : List Position) (f : ProbeFault) → IsHeld held p
+    → ((d : Class) → now d ≡ held d) → IsUntold now ps f → IsUntold held (p ∷ ps) f
+untold-later held now p ps (probe.NoTable c) k same h = inr (k, missing-same held now ps c same h)
+untold-later held now p ps (probe.TableRead x) k same h = tt
+untold-later held now p ps (probe.PageDamaged c n) k same h = tt
+
+pub untold-more : {T V : Type 0} (held now : Class → Bool) (p : Position) (ps : List Position)
+    (a : Result V ProbeFault) (v : V) (r : Result T ProbeFault) → a ≡ Ok v
+    → ((c : Class) → IsErrOf a (probe.NoTable c) ↔ (IsOf c p × (held c ≡ false))) → ((d : Class) → now d ≡ held d)
+    → IfErr r (IsUntold now ps) → IfErr r (IsUntold held (p ∷ ps))
+untold-more held now p ps a v (Ok x) e k same h = tt
+untold-more held now p ps a v (Err f) e k same h = untold-later held now p ps f (held-told held p a v e k) same h
+
+-- how many were asked
+pub asked-more : (n : ℕ) (b : Bool) (old mid new : ℕ) → mid ≡ counted old → WasAsked n b mid new → WasAsked (suc n) b old new
+asked-more n true old mid new e h = h ∙ ap (counted_times n) e
+asked-more n false old mid new e h = (suc h.0, (let z : suc h.0 ≤ suc n = omega (arith, h.1) in z), h.2 ∙ ap (counted_times h.0) e)
+
+-- the moves that are left are legal
+pub legal-rest : (p : Position) (m : Move) (ms rest : List Move) → ms ≡ m ∷ rest → All (λ n. is_legal p n ≡ true) ms → All (λ n. is_legal p n ≡ true) rest
+legal-rest p m ms rest e h = λ k d i. subst (λ l. All (λ n. is_legal p n ≡ true) l) e h (suc k) d (let z : suc k < length (m ∷ rest) = omega (arith, i) in z)
+
+pub room-with : (t : Tally) (v : Value) (n : ℕ) → length t.mates + t.draws + suc n ≤ 256
+    → length (with_last_value t v).mates + (with_last_value t v).draws + n ≤ 256
+room-with t (Win k) n h = omega (arith, h)
+room-with t (Loss k) n h = let long : length (t.mates ++ k ∷ []) ≡ length t.mates + 1 = length-append t.mates (k ∷ []) in omega (arith, h, long)
+room-with t Draw n h = omega (arith, h)
+
+pub length-map : {A B : Type 0} (f : A → B) (xs : List A) → length (map f xs) ≡ length xs
+length-map f [] = refl
+length-map f (x ∷ xs) = ap suc (length-map f xs)

@@ -1,0 +1,49 @@
+-- The replies to edits that ask the tables.
+use Rattle.std.proofs.Common.{◌≡◌, ℕ, Bool, List, [], ◌∷◌, refl, sym, ◌∙◌, inl, inr}
+use Rattle.study_board.specs.Position.{Position}
+use Rattle.study_material.specs.declared.class.Class.{Class}
+use Rattle.study_marks.specs.declared.fault.Refusal.{Refusal as EditRefusal}
+use Rattle.study_marks.specs.declared.fault.Refusal.TheVariants as edit
+use Rattle.study_marks.specs.Asked.{IsHeld, AreHeld, AllHeld, IsFirstMissing, IsOutside}
+use Rattle.study_marks.specs.Edits.{Plainly}
+use Rattle.study_script.specs.Names.{edit_words}
+use Rattle.study_script.specs.State.{State, is_among, Outside, quiet, no_room, unread}
+use Rattle.study_script.specs.Replies.{accepted, refused_by, holding, missing, found, IsAskedReply}
+use Rattle.study_script.specs.Held.{IsToldBy}
+
+-- the same classes are held
+held-same : (h k : Class → Bool) (p : Position) → ((c : Class) → h c ≡ k c) → IsHeld h p → IsHeld k p
+held-same h k p e held c is = sym (e c) ∙ held c is
+
+are_held-same : (h k : Class → Bool) (ps : List Position) → ((c : Class) → h c ≡ k c) → AreHeld h ps → AreHeld k ps
+are_held-same h k [] e held = tt
+are_held-same h k (p ∷ ps) e held = (held-same h k p e held.0, are_held-same h k ps e held.1)
+
+missing-same : (h k : Class → Bool) (ps : List Position) (c : Class) → ((d : Class) → h d ≡ k d) → IsFirstMissing h ps c → IsFirstMissing k ps c
+missing-same h k [] c e m = absurd m
+missing-same h k (p ∷ ps) c e (inl m) = inl (m.0, sym (e c) ∙ m.1)
+missing-same h k (p ∷ ps) c e (inr m) = inr (held-same h k p e m.0, missing-same h k ps c e m.1)
+
+-- an edit that is refused for what is outside has that reply
+pub refused_outside : (A : Type 0) (s : State) (held : Class → Bool) (paged : Bool) (asked : List Position)
+    (new : Plainly) (text : List ℕ) (refusal : EditRefusal A) → ((c : Class) → held c ≡ is_among s.classes c)
+    → paged ≡ s.paged → IsOutside held asked refusal → IsToldBy paged refusal
+    → (o : Outside) × IsAskedReply s o asked new text (refused_by s (edit_words refusal))
+refused_outside A s held paged asked new text edit.OutOfMemory e m out told = (no_room, refl)
+refused_outside A s held paged asked new text (edit.NoTable c) e m out told = (quiet, missing c (missing-same held (is_among s.classes) asked c e out) refl)
+refused_outside A s held paged asked new text (edit.TableRead fault) e m out told = (unread fault, (sym m ∙ told, out, refl))
+refused_outside A s held paged asked new text edit.NoSuchNode e m out told = absurd out
+refused_outside A s held paged asked new text edit.RootNotAllowed e m out told = absurd out
+refused_outside A s held paged asked new text edit.AlreadyFirst e m out told = absurd out
+refused_outside A s held paged asked new text edit.IllegalMove e m out told = absurd out
+refused_outside A s held paged asked new text (edit.AlreadyThere k) e m out told = absurd out
+refused_outside A s held paged asked new text edit.TooDeep e m out told = absurd out
+refused_outside A s held paged asked new text edit.TreeFull e m out told = absurd out
+refused_outside A s held paged asked new text (edit.ShiftBroken steps) e m out told = absurd out
+refused_outside A s held paged asked new text edit.TagText e m out told = absurd out
+
+-- an edit that is accepted found all that it asked
+pub accepted_outside : (s : State) (held : Class → Bool) (asked : List Position) (new : Plainly) (text : List ℕ)
+    → ((c : Class) → held c ≡ is_among s.classes c) → AllHeld held asked
+    → IsAskedReply s quiet asked new text (accepted (holding s new) text)
+accepted_outside s held asked new text e all = found (record { each = are_held-same held (is_among s.classes) asked e all.each }) refl

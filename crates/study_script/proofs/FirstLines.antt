@@ -1,0 +1,218 @@
+-- A run over the first lines of a script.
+use Rattle.std.proofs.Common.{◌≡◌, ℕ, zero, suc, ◌+◌, ◌-◌, ◌<◌, ◌≤◌, Bool, true, false, cond}
+use Rattle.std.proofs.Common.{List, [], ◌∷◌, ◌++◌, length, take, drop, Option, Some, None, Ok}
+use Rattle.std.proofs.Common.{Err, refl, sym, ap, subst, ◌∙◌, arith, append_assoc}
+use Rattle.std.specs.Prelude.{slice_get, IfSome}
+use Rattle.std.proofs.lemmas.List.{append-nil, length-drop}
+use Rattle.std.proofs.lemmas.List.Sums.{sum_by-append}
+use Rattle.std.proofs.KnownBytes.{Appends-nil, Appends-trans}
+use Rattle.std.specs.Io.KnownBytes.{Appends}
+use Rattle.study_script.specs.declared.run.RunFault.TheVariants.{ReadDevice, WriteDevice, LineTooLong, TooManyLines}
+use Rattle.study_script.specs.Lines.{lines_of, TakesLine, BeginsLong, GaveFeeds}
+use Rattle.study_script.proofs.LineTaken.{HasMore}
+use Rattle.study_script.specs.State.{State, Outside}
+use Rattle.study_script.specs.Replies.{Reply, Answer, IsReply, AreReplies, replies_text}
+use Rattle.study_script.specs.Held.{Answered, BrokenOff}
+use Rattle.study_script.specs.Outcome.{AreShort, error_count, state_after, Outcome}
+
+-- ---- one reply more
+
+are-more : (s : State) (lines : List (List ℕ)) (replies : List Answer) (line : List ℕ) (o : Outside) (reply : Reply)
+    → AreReplies s lines replies → IsReply (state_after s replies) line o reply
+    → AreReplies s (lines ++ line ∷ []) (replies ++ (o, reply) ∷ [])
+are-more s [] [] line o reply h r = (r, tt)
+are-more s [] (x ∷ replies) line o reply h r = absurd h
+are-more s (l ∷ lines) [] line o reply h r = absurd h
+are-more s (l ∷ lines) (x ∷ replies) line o reply h r = (h.0, are-more x.1.state lines replies line o reply h.1 r)
+
+state_after-more : (s : State) (replies : List Answer) (answer : Answer) → state_after s (replies ++ answer ∷ []) ≡ answer.1.state
+state_after-more s [] answer = refl
+state_after-more s (x ∷ replies) answer = state_after-more x.1.state replies answer
+
+text-more : (replies : List Answer) (answer : Answer) → replies_text (replies ++ answer ∷ []) ≡ replies_text replies ++ answer.1.text
+text-more [] answer = append-nil answer.1.text
+text-more (x ∷ replies) answer = ap (λ (t : List ℕ). x.1.text ++ t) (text-more replies answer)
+    ∙ sym (append_assoc x.1.text (replies_text replies) answer.1.text)
+
+errors-more : (replies : List Answer) (answer : Answer) → error_count (replies ++ answer ∷ []) ≡ error_count replies + cond answer.1.refused 1 0
+errors-more replies answer = omega (arith, sum_by-append (λ (a : Answer). cond a.1.refused 1 0) replies (answer ∷ []))
+
+short-more : (lines : List (List ℕ)) (line : List ℕ) → AreShort lines → length line ≤ 1024 → AreShort (lines ++ line ∷ [])
+short-more [] line h k = (k, tt)
+short-more (l ∷ lines) line h k = (h.0, short-more lines line h.1 k)
+
+-- ---- the first line that is left
+
+first_left : (all left : List (List ℕ)) (n : ℕ) (x : List ℕ) → drop n all ≡ x ∷ left → (n < length all)
+    × (take (suc n) all ≡ take n all ++ x ∷ []) × (drop (suc n) all ≡ left) × (slice_get all n ≡ Some x)
+first_left [] left zero x e = absurd cc
+first_left [] left (suc n) x e = absurd cc
+first_left (a ∷ all) left zero x e = let h : a ≡ x = cc in
+    let t : all ≡ left = cc in (omega arith, ap (λ (y : List ℕ). y ∷ []) h, t, ap (λ (y : List ℕ). Some y) h)
+first_left (a ∷ all) left (suc n) x e =
+    let r = first_left all left n x e in
+    let lt = r.0 in
+    (omega arith, ap (λ (xs : List (List ℕ)). a ∷ xs) r.1, r.2, r.3)
+
+none_left : (all : List (List ℕ)) (n : ℕ) → n ≤ length all → drop n all ≡ [] → (take n all ≡ all) × (n ≡ length all)
+none_left [] zero le e = (refl, refl)
+none_left [] (suc n) le e = absurd (omega arith)
+none_left (a ∷ all) zero le e = absurd cc
+none_left (a ∷ all) (suc n) le e = let r = none_left all n (omega arith) e in let k = r.1 in (ap (λ (xs : List (List ℕ)). a ∷ xs) r.0, omega arith)
+
+-- ---- the first n lines are answered
+
+pub record RanOver (all left : List (List ℕ)) (old new : Option (List ℕ)) (first : State) (s : State) (n refused : ℕ) : Type 0 where
+  pub left_is : drop n all ≡ left
+  pub within : n ≤ length all
+  pub short : AreShort (take n all)
+  pub replies : List Answer
+  pub are : AreReplies first (take n all) replies
+  pub written : Appends old new (replies_text replies)
+  pub state_is : s ≡ state_after first replies
+  pub refused_is : refused ≡ error_count replies
+
+abbrev pub RanKnown : Option (List ℕ) → Option (List ℕ) → Option (List ℕ) → Option (List ℕ) → State → State → ℕ → ℕ → Type 0
+RanKnown None now old new first s n refused = Unit {0}
+RanKnown (Some bs) None old new first s n refused = ⊥
+RanKnown (Some bs) (Some rest) old new first s n refused = RanOver (lines_of bs) (lines_of rest) old new first s n refused
+
+pub record Ran (script now old new : Option (List ℕ)) (first : State) (s : State) (n refused : ℕ) : Type 0 where
+  pub known : RanKnown script now old new first s n refused
+
+pub ran_none : (script out : Option (List ℕ)) (first : State) → Ran script script out out first first 0 0
+ran_none None out first = record { known = tt }
+ran_none (Some bs) out first =
+    record {
+      known = record {
+        left_is = refl;
+        within = omega arith;
+        short = tt;
+        replies = [];
+        are = tt;
+        written = Appends-nil out;
+        state_is = refl;
+        refused_is = refl;
+      };
+    }
+
+pub ran_more : (script now next old mid new : Option (List ℕ)) (first : State) (s : State) (line : List ℕ)
+    (o : Outside) (reply : Reply) (n refused refused' : ℕ) → Ran script now old mid first s n refused
+    → TakesLine now next true line → length line ≤ 1024
+    → IsReply s line o reply → Appends mid new reply.text → refused' ≡ refused + cond reply.refused 1 0
+    → Ran script next old new first reply.state (n + 1) refused'
+ran_more None now next old mid new first s line o reply n refused refused' r t short is wrote k = record { known = tt }
+ran_more (Some bs) None next old mid new first s line o reply n refused refused' r t short is wrote k = absurd r.known
+ran_more (Some bs) (Some rest) None old mid new first s line o reply n refused refused' r t short is wrote k = absurd t
+ran_more (Some bs) (Some rest) (Some rest') old mid new first s line o reply n refused refused' r t short is wrote k =
+    let v = r.known in
+    let all = lines_of bs in
+    let f = first_left all (lines_of rest') n line (v.left_is ∙ t) in
+    let e : n + 1 ≡ suc n = omega arith in
+    let grown : take (n + 1) all ≡ take n all ++ line ∷ [] = ap (λ i. take i all) e ∙ f.1 in
+    let lt = f.0 in
+    record {
+      known = record {
+        left_is = ap (λ i. drop i all) e ∙ f.2;
+        within = omega arith;
+        short = rw grown (short-more (take n all) line v.short short);
+        replies = v.replies ++ (o, reply) ∷ [];
+        are = rw grown (are-more first (take n all) v.replies line o reply v.are (subst (λ (h : State). IsReply h line o reply) v.state_is is));
+        written = rw (text-more v.replies (o, reply)) (Appends-trans old mid new (replies_text v.replies) reply.text v.written wrote);
+        state_is = sym (state_after-more first v.replies (o, reply));
+        refused_is = k ∙ ap (λ i. i + cond reply.refused 1 0) v.refused_is ∙ sym (errors-more v.replies (o, reply));
+      };
+    }
+
+-- ---- the ends of a run
+
+pub ran_ends : (left script now next old new : Option (List ℕ)) (first : State) (s : State) (line : List ℕ)
+    (n refused : ℕ) → Ran script now old new first s n refused → TakesLine now next false line → n ≤ 100000
+    → IfSome script (λ bytes. Outcome first bytes left old new (Ok (record { lines = n; refused = refused })))
+ran_ends left None now next old new first s line n refused r t le = tt
+ran_ends left (Some bs) None next old new first s line n refused r t le = absurd r.known
+ran_ends left (Some bs) (Some rest) None old new first s line n refused r t le = absurd t
+ran_ends left (Some bs) (Some rest) (Some rest') old new first s line n refused r t le =
+    let v = r.known in
+    let d = none_left (lines_of bs) n v.within (v.left_is ∙ t) in
+    let e = d.1 in
+    (omega arith, subst AreShort d.0 v.short, v.replies, subst (λ (ls : List (List ℕ)). AreReplies first ls v.replies) d.0 v.are, v.written, e, v.refused_is)
+
+pub ran_long : (left script now old new : Option (List ℕ)) (first : State) (s : State) (n refused : ℕ)
+    → Ran script now old new first s n refused → BeginsLong now → n < 100000
+    → IfSome script (λ bytes. Outcome first bytes left old new (Err (LineTooLong (n + 1))))
+ran_long left None now old new first s n refused r t lt = tt
+ran_long left (Some bs) None old new first s n refused r t lt = absurd r.known
+ran_long left (Some bs) (Some rest) old new first s n refused r (line, more, is, long) lt =
+    let v = r.known in
+    let f = first_left (lines_of bs) more n line (v.left_is ∙ is) in
+    let e : n + 1 - 1 ≡ n = omega arith in
+    (omega arith, omega arith, rw (e, f.3) long, (rw e v.short, v.replies, rw e v.are, v.written))
+
+pub ran_read : (left script now old new : Option (List ℕ)) (first : State) (s : State) (n refused : ℕ)
+    → Ran script now old new first s n refused → n ≤ 100000 → GaveFeeds script left n
+    → IfSome script (λ bytes. Outcome first bytes left old new (Err ReadDevice))
+ran_read left None now old new first s n refused r le g = tt
+ran_read left (Some bs) None old new first s n refused r le g = absurd r.known
+ran_read left (Some bs) (Some rest) old new first s n refused r le g = let v = r.known in (n, le, v.within, g, (v.short, v.replies, v.are, v.written))
+
+more_left : (all left : List (List ℕ)) (n : ℕ) → drop n all ≡ left → 0 < length left → n < length all
+more_left all left n e some = omega (arith, length-drop n all, ap length e)
+
+pub ran_many : (left script now old new : Option (List ℕ)) (first : State) (s : State) (refused : ℕ)
+    → Ran script now old new first s 100000 refused → HasMore now
+    → IfSome script (λ bytes. Outcome first bytes left old new (Err TooManyLines))
+ran_many left None now old new first s refused r t = tt
+ran_many left (Some bs) None old new first s refused r t = absurd r.known
+ran_many left (Some bs) (Some rest) old new first s refused r t =
+    let v = r.known in
+    (more_left (lines_of bs) (lines_of rest) 100000 v.left_is t, (v.short, v.replies, v.are, v.written))
+
+pub ran_write : (script now next old mid new : Option (List ℕ)) (first : State) (s : State) (line : List ℕ)
+    (n refused : ℕ) → Ran script now old mid first s n refused → TakesLine now next true line → length line ≤ 1024
+    → n < 100000 → GaveFeeds script next (n + 1)
+    → BrokenOff (IsReply s line) mid new → IfSome script (λ bytes. Outcome first bytes next old new (Err WriteDevice))
+ran_write None now next old mid new first s line n refused r t short lt g p = tt
+ran_write (Some bs) None next old mid new first s line n refused r t short lt g p = absurd r.known
+ran_write (Some bs) (Some rest) None old mid new first s line n refused r t short lt g p = absurd t
+ran_write (Some bs) (Some rest) (Some rest') old mid new first s line n refused r t short lt g (o, reply, is, part) =
+    let v = r.known in
+    let all = lines_of bs in
+    let f = first_left all (lines_of rest') n line (v.left_is ∙ t) in
+    let e : n + 1 ≡ suc n = omega arith in (
+      n,
+      lt,
+      g,
+      sym (ap (λ i. drop i all) e ∙ f.2),
+      rw f.3 (
+        v.short,
+        short,
+        v.replies,
+        v.are,
+        mid,
+        v.written,
+        o,
+        reply,
+        subst (λ (h : State). IsReply h line o reply) v.state_is is,
+        part,
+      ),
+    )
+
+-- ---- what the loop of a run knows
+
+-- over a store that is honest: the lines so far are answered, what is held is their state, and the store is honest still
+pub record RanOn (holds : State → Type 0) (script now old new : Option (List ℕ)) (first : State) (n refused : ℕ) : Type 0 where
+  pub state : State
+  pub ran : Ran script now old new first state n refused
+  pub held : holds state
+
+pub RanOn-more : (holds holds' : State → Type 0) (script now next old mid new : Option (List ℕ)) (first : State)
+    (line : List ℕ) (n refused refused' : ℕ) (was_refused : Bool) (r : RanOn holds script now old mid first n refused)
+    → TakesLine now next true line → length line ≤ 1024
+    → Answered (IsReply r.state line) holds' mid new was_refused → refused' ≡ refused + cond was_refused 1 0
+    → RanOn holds' script next old new first (n + 1) refused'
+RanOn-more holds holds' script now next old mid new first line n refused refused' w r t short (o, reply, is, wrote, held, same) k = record {
+  state = reply.state;
+  ran = ran_more script now next old mid new first r.state line o reply n refused refused' r.ran t short is wrote (k ∙ ap (λ b. refused + cond b 1 0) same);
+  held = held;
+}

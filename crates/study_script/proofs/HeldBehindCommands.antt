@@ -1,0 +1,201 @@
+-- What is held behind a command that leaves the store alone.
+use Rattle.std.proofs.Common.{◌≡◌, ℕ, Bool, true, false, List, Option, Some, None, Result, Ok, Err, refl, sym, ap, subst, ◌∙◌}
+use Rattle.std.specs.Prelude.{IfOk, codes}
+use Rattle.study_board.specs.Position.{Position}
+use Rattle.study_moves.specs.declared.moves.Move.{Move}
+use Rattle.study_material.specs.declared.class.Class.{Class}
+use Rattle.study_retro.specs.Table.{Table}
+use Rattle.study_notation.specs.declared.start.Start.{Start}
+use Rattle.study_notation.specs.declared.fault.FenFault.{FenFault}
+use Rattle.study_notation.specs.declared.fault.SanFault.{SanFault}
+use Rattle.study_notation.specs.Matching.{move_of}
+use Rattle.study_tree.specs.Tree.{has_spot}
+use Rattle.study_marks.specs.declared.stipulation.Stipulation.{Stipulation}
+use Rattle.study_marks.specs.declared.fault.Refusal.{Refusal as EditRefusal}
+use Rattle.study_marks.specs.Study.{position_at}
+use Rattle.study_marks.specs.Asked.{asked_of}
+use Rattle.study_marks.specs.Edits.{Plainly, shifted, shift_refusal, insert_refusal}
+use Rattle.study_notation.specs.FenSpelling.{fen_text}
+use Rattle.study_script.specs.Words.{line_text}
+use Rattle.study_script.specs.declared.command.FenWord.{FenWord}
+use Rattle.study_script.specs.declared.command.FenWord.TheVariants.{Position as PositionWord, Shift}
+use Rattle.study_script.specs.declared.store.StoreFault.{StoreFault}
+use Rattle.study_script.specs.declared.board.Board.{Board as HeldBoard}
+use Rattle.study_script.specs.declared.tables.Tables.{Tables}
+use Rattle.study_script.specs.State.{State, Board, empty, start, study, is_among, Outside, quiet, no_path}
+use Rattle.study_script.specs.State.{no_room, no_room_for, unread, unopened, cut_off, file, header}
+use Rattle.study_script.specs.Replies.{Reply, IsValued, missing, found, IsAskedReply, IsPositionReply}
+use Rattle.study_script.specs.Replies.{IsShiftReply, IsStartReply, IsStipulateReply, IsInserted}
+use Rattle.study_script.specs.Replies.{IsMoveReply, IsMoveReplyAt, IsInsertReply}
+use Rattle.study_script.specs.Held.{Holds, HoldsBoard, HoldsFrom, HoldsTables, TablesFrom, Answered}
+use Rattle.study_script.specs.Stored.{StoreSeen}
+use Rattle.study_script.specs.Desk.{DeskHolds}
+
+-- ---- replies that leave the mode, and what is known of the store
+
+pub record IsBeside (s t : State) : Type 0 where
+  pub paged : t.paged ≡ s.paged
+  pub shelf : t.shelf ≡ s.shelf
+
+beside : (s : State) (r reply : Reply) → IsBeside s r.state → reply ≡ r → IsBeside s reply.state
+beside s r reply h e = subst (λ (x : Reply). IsBeside s x.state) (sym e) h
+
+same_side : (s : State) → IsBeside s s
+same_side s = record { paged = refl; shelf = refl }
+
+valued : (s : State) (asked : List Position) (new : Plainly) (text : List ℕ) (reply : Reply) → IsValued s asked new text reply → IsBeside s reply.state
+valued s asked new text reply (missing c m e) = beside s _ reply (same_side s) e
+valued s asked new text reply (found all e) = beside s _ reply (record { paged = refl; shelf = refl }) e
+
+asked_beside : (s : State) (o : Outside) (asked : List Position) (new : Plainly) (text : List ℕ) (reply : Reply)
+    → IsAskedReply s o asked new text reply → IsBeside s reply.state
+asked_beside s no_room asked new text reply h = beside s _ reply (same_side s) h
+asked_beside s (unread fault) asked new text reply h = beside s _ reply (same_side s) h.2
+asked_beside s quiet asked new text reply h = valued s asked new text reply h
+asked_beside s no_path asked new text reply h = valued s asked new text reply h
+asked_beside s (no_room_for bytes) asked new text reply h = valued s asked new text reply h
+asked_beside s (unopened fault) asked new text reply h = valued s asked new text reply h
+asked_beside s cut_off asked new text reply h = valued s asked new text reply h
+asked_beside s (file bytes) asked new text reply h = valued s asked new text reply h
+asked_beside s (header told) asked new text reply h = valued s asked new text reply h
+
+position_beside : (s : State) (o : Outside) (b : Board) (new : Start) (reply : Reply) → IsPositionReply s o b new reply → IsBeside s reply.state
+position_beside s o empty new reply h = beside s _ reply (record { paged = refl; shelf = refl }) h
+position_beside s o (start old) new reply h = beside s _ reply (record { paged = refl; shelf = refl }) h
+position_beside s o (study old) new reply h = asked_beside s o _ _ _ reply h
+
+shift_asked : (s : State) (o : Outside) (old : Plainly) (new : Start) (reply : Reply)
+    → IsAskedReply s o (asked_of (shifted old new)) (shifted old new) (line_text (codes "shift ") (fen_text new))
+    reply → IsBeside s reply.state
+shift_asked s o old new reply h = asked_beside s o (asked_of (shifted old new)) (shifted old new) (line_text (codes "shift ") (fen_text new)) reply h
+
+shift_beside : (s : State) (o : Outside) (old : Plainly) (new : Start) (r : Option (EditRefusal (Unit {0})))
+    (reply : Reply) → IsShiftReply s o old new r reply → IsBeside s reply.state
+shift_beside s no_room old new (Some refusal) reply h = beside s _ reply (same_side s) h
+shift_beside s quiet old new (Some refusal) reply h = beside s _ reply (same_side s) h
+shift_beside s no_path old new (Some refusal) reply h = beside s _ reply (same_side s) h
+shift_beside s (no_room_for bytes) old new (Some refusal) reply h = beside s _ reply (same_side s) h
+shift_beside s (unread fault) old new (Some refusal) reply h = beside s _ reply (same_side s) h
+shift_beside s (unopened fault) old new (Some refusal) reply h = beside s _ reply (same_side s) h
+shift_beside s cut_off old new (Some refusal) reply h = beside s _ reply (same_side s) h
+shift_beside s (file bytes) old new (Some refusal) reply h = beside s _ reply (same_side s) h
+shift_beside s (header told) old new (Some refusal) reply h = beside s _ reply (same_side s) h
+shift_beside s no_room old new None reply h = shift_asked s no_room old new reply h
+shift_beside s quiet old new None reply h = shift_asked s quiet old new reply h
+shift_beside s no_path old new None reply h = shift_asked s no_path old new reply h
+shift_beside s (no_room_for bytes) old new None reply h = shift_asked s (no_room_for bytes) old new reply h
+shift_beside s (unread fault) old new None reply h = shift_asked s (unread fault) old new reply h
+shift_beside s (unopened fault) old new None reply h = shift_asked s (unopened fault) old new reply h
+shift_beside s cut_off old new None reply h = shift_asked s cut_off old new reply h
+shift_beside s (file bytes) old new None reply h = shift_asked s (file bytes) old new reply h
+shift_beside s (header told) old new None reply h = shift_asked s (header told) old new reply h
+
+pub start_beside : (s : State) (word : FenWord) (b : Board) (read : Result Start FenFault) (o : Outside)
+    (reply : Reply) → IsStartReply s o word b read reply → IsBeside s reply.state
+start_beside s PositionWord b (Err fault) o reply h = beside s _ reply (same_side s) h
+start_beside s PositionWord b (Ok new) o reply h = position_beside s o b new reply h
+start_beside s Shift (study old) (Err fault) o reply h = beside s _ reply (same_side s) h
+start_beside s Shift (study old) (Ok new) o reply h = shift_beside s o old new (shift_refusal old new) reply h
+start_beside s Shift empty read o reply h = beside s _ reply (same_side s) h
+start_beside s Shift (start old) read o reply h = beside s _ reply (same_side s) h
+
+pub stipulate_beside : (s : State) (b : Board) (new : Stipulation) (o : Outside) (reply : Reply) → IsStipulateReply s o b new reply → IsBeside s reply.state
+stipulate_beside s empty new o reply h = beside s _ reply (same_side s) h
+stipulate_beside s (start from) new o reply h = asked_beside s o _ _ _ reply h
+stipulate_beside s (study old) new o reply h = beside s _ reply (record { paged = refl; shelf = refl }) h
+
+inserted_beside : (s : State) (o : Outside) (old : Plainly) (steps : List ℕ) (m : Move)
+    (r : Option (EditRefusal (Unit {0}))) (reply : Reply) → IsInserted s o old steps m r reply
+    → IsBeside s reply.state
+inserted_beside s o old steps m (Some refusal) reply h = beside s _ reply (same_side s) h
+inserted_beside s o old steps m None reply h = asked_beside s o _ _ _ reply h
+
+moved_beside : (s : State) (o : Outside) (old : Plainly) (steps : List ℕ) (read : Result Move SanFault)
+    (reply : Reply) → IsMoveReply s o old steps read reply → IsBeside s reply.state
+moved_beside s o old steps (Err fault) reply h = beside s _ reply (same_side s) h
+moved_beside s o old steps (Ok m) reply h = inserted_beside s o old steps m (insert_refusal old steps m) reply h
+
+at_beside : (s : State) (o : Outside) (old : Plainly) (steps san : List ℕ) (b : Bool) (reply : Reply)
+    → IsMoveReplyAt s o old steps san b reply → IsBeside s reply.state
+at_beside s o old steps san false reply h = beside s _ reply (same_side s) h
+at_beside s o old steps san true reply h = moved_beside s o old steps (move_of (position_at old steps) san) reply h
+
+pub insert_beside : (s : State) (b : Board) (steps san : List ℕ) (o : Outside) (reply : Reply) → IsInsertReply s o b steps san reply → IsBeside s reply.state
+insert_beside s empty steps san o reply h = beside s _ reply (same_side s) h
+insert_beside s (start from) steps san o reply h = beside s _ reply (same_side s) h
+insert_beside s (study old) steps san no_path reply h = beside s _ reply (same_side s) h
+insert_beside s (study old) steps san quiet reply h = at_beside s quiet old steps san (has_spot old.tree steps) reply h
+insert_beside s (study old) steps san no_room reply h = at_beside s no_room old steps san (has_spot old.tree steps) reply h
+insert_beside s (study old) steps san (no_room_for bytes) reply h = at_beside s (no_room_for bytes) old steps san (has_spot old.tree steps) reply h
+insert_beside s (study old) steps san (unread fault) reply h = at_beside s (unread fault) old steps san (has_spot old.tree steps) reply h
+insert_beside s (study old) steps san (unopened fault) reply h = at_beside s (unopened fault) old steps san (has_spot old.tree steps) reply h
+insert_beside s (study old) steps san cut_off reply h = at_beside s cut_off old steps san (has_spot old.tree steps) reply h
+insert_beside s (study old) steps san (file bytes) reply h = at_beside s (file bytes) old steps san (has_spot old.tree steps) reply h
+insert_beside s (study old) steps san (header told) reply h = at_beside s (header told) old steps san (has_spot old.tree steps) reply h
+
+-- ---- what is held
+
+-- what is held behind a reply, by the reply
+pub ok_kept : {E : Type 0} (I J : Outside → Reply → Type 0) (H K : State → Type 0) (r : Result Bool E)
+    (old new : Option (List ℕ)) → ((o : Outside) (p : Reply) → I o p → J o p)
+    → ((o : Outside) (p : Reply) → I o p → H p.state → K p.state) → IfOk r (Answered I H old new)
+    → IfOk r (Answered J K old new)
+ok_kept I J H K (Ok b) old new f g (o, reply, i, a, h, e) = (o, reply, f o reply i, a, g o reply i h, e)
+ok_kept I J H K (Err e) old new f g h = tt
+
+pub board_held : {P A : Type 0} (honest : P → Table → ℕ → Type 0) (b : HeldBoard A) (t : Tables P A) (s : State) → Holds honest b t s → HoldsBoard b s
+board_held honest b t s h = record { board = h.board; marks = h.marks }
+
+pub tables_there : {P A : Type 0} (honest : P → Table → ℕ → Type 0) (b : HeldBoard A) (t : Tables P A) (s : State) → Holds honest b t s → HoldsTables honest t s
+tables_there honest b t s h = record { values = h.values; classes = h.classes; paged = h.paged }
+
+module _ {S : Type 0} (stores : S → Bool → Type 0) (files headers : S → Class → Option (Result (List ℕ) StoreFault)) where
+  store_same : (store : S) (s t : State) → IsBeside s t → StoreSeen stores files headers store s → StoreSeen stores files headers store t
+  store_same store s t e k = record {
+    is_honest = subst (stores store) (sym e.paged) k.is_honest;
+    known =
+        record {
+          files_known = λ c. k.known.files_known c ∙ ap (λ x. x.files c) (sym e.shelf);
+          headers_known = λ c.
+              k.known.headers_known c ∙ ap (λ x. x.headers c) (sym e.shelf);
+        };
+  }
+
+module _ {S P A : Type 0} (sources : P → Table → ℕ → Type 0) (stores : S → Bool → Type 0) (files headers : S → Class
+    → Option (Result (List ℕ) StoreFault)) where
+  -- behind an edit that asks the tables
+  pub desk_edited : (b c : HeldBoard A) (t u : Tables P A) (store : S) (s new : State)
+      → DeskHolds sources stores files headers b t store s → IsBeside s new → Holds sources c u new
+      → DeskHolds sources stores files headers c u store new
+  desk_edited b c t u store s new d e h = record { held = h; seen = store_same stores files headers store s new e d.seen }
+
+  -- behind a command of the board alone
+  pub desk_board : (b c : HeldBoard A) (t : Tables P A) (store : S) (s new : State)
+      → DeskHolds sources stores files headers b t store s → HoldsFrom s c new
+      → DeskHolds sources stores files headers c t store new
+  desk_board b c t store s new d h = record {
+    held = record {
+      board = h.holds.board;
+      marks = h.holds.marks;
+      values = d.held.values;
+      classes = λ x. d.held.classes x ∙ ap (λ xs. is_among xs x) (sym h.classes);
+      paged = d.held.paged ∙ sym h.paged;
+    };
+    seen = store_same stores files headers store s new (record { paged = h.paged; shelf = h.shelf }) d.seen;
+  }
+
+  -- behind a command of a class
+  pub desk_class : (b : HeldBoard A) (t u : Tables P A) (store other : S) (s new : State)
+      → DeskHolds sources stores files headers b t store s → TablesFrom sources s u new
+      × StoreSeen stores files headers other new → DeskHolds sources stores files headers b u other new
+  desk_class b t u store other s new d h = record {
+    held =
+        record {
+          board = d.held.board ∙ sym h.0.board;
+          marks = d.held.marks;
+          values = h.0.holds.values;
+          classes = h.0.holds.classes;
+          paged = h.0.holds.paged;
+        };
+    seen = h.1;
+  }

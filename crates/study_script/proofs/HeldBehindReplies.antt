@@ -1,0 +1,127 @@
+-- What is held behind a reply.
+use Rattle.std.proofs.Common.{◌≡◌, ℕ, ◌+◌, ◌*◌, ◌<◌, ◌≤◌, Bool, List, Option, Some, None, Result, refl, sym, ap, subst, ◌∙◌}
+use Rattle.std.specs.Prelude.{IfSome, IfNone, IfOk, OnErr}
+use Rattle.std.proofs.lemmas.Result.{IfOk-weaker, on_err_weaker}
+use Rattle.study_board.specs.Position.{Position}
+use Rattle.study_moves.specs.Game.{MatesWithin}
+use Rattle.study_marks.specs.Study.{plain_study}
+use Rattle.study_marks.specs.Kept.{Kept, marked, IsRight}
+use Rattle.study_notation.specs.declared.start.Start.{Start}
+use Rattle.study_marks.specs.Edits.{Plainly}
+use Rattle.std.specs.Option.{option_map}
+use Rattle.study_material.specs.declared.class.Class.{Class}
+use Rattle.study_retro.specs.Table.{Table}
+use Rattle.study_tree.specs.Tree.{Spot}
+use Rattle.study_marks.specs.declared.mark.Mark.{Mark}
+use Rattle.study_script.specs.declared.refusal.Refusal.TheVariants.{NoSuchNode}
+use Rattle.study_script.specs.declared.tables.Tables.{Tables}
+use Rattle.study_script.specs.Words.{mark_text}
+use Rattle.study_script.specs.declared.board.Board.{Board as HeldBoard}
+use Rattle.study_script.specs.declared.board.Board.TheVariants as held
+use Rattle.study_script.specs.State.{State, empty, start, study, Outside}
+use Rattle.study_script.specs.Replies.{Reply, accepted, refused, holding, marked_reply, IsSolution}
+use Rattle.study_script.specs.Held.{board_seen, Holds, tables_honest, tables_held, are_paged, HoldsBoard}
+use Rattle.study_script.specs.Held.{HoldsFrom, HoldsBench, HoldsBenchFrom, Answered, BrokenOff}
+
+module _ {A : Type 0} where
+  pub board_kept : (b : HeldBoard A) (s : State) → HoldsBoard b s → HoldsFrom s b s
+  board_kept b s h = record { holds = h; classes = refl; paged = refl; shelf = refl }
+
+  -- what is held is what the board is
+  pub empty_seen : (b : HeldBoard A) (s : State) → b ≡ held.Empty → HoldsBoard b s → empty ≡ s.board
+  empty_seen b s e h = ap board_seen (sym e) ∙ h.board
+
+  pub start_seen : (b : HeldBoard A) (from : Start) (s : State) → b ≡ held.Start from → HoldsBoard b s → start from ≡ s.board
+  start_seen b from s e h = ap board_seen (sym e) ∙ h.board
+
+  pub study_seen : (b : HeldBoard A) (k : Kept) (s : State) → b ≡ held.Study k → HoldsBoard b s → study (plain_study (marked k)) ≡ s.board
+  study_seen b k s e h = ap board_seen (sym e) ∙ h.board
+
+  -- a board that is the study is held as a study
+  pub bench_of : (b : HeldBoard A) (k : Kept) (s : State) → b ≡ held.Study k → HoldsBoard b s → HoldsBench k s
+  bench_of b k s e h = let t = subst (λ (x : HeldBoard A). HoldsBoard x s) e h in record { board = t.board; marks = t.marks }
+
+  pub board_of : (b : HeldBoard A) (k : Kept) (old s : State) → b ≡ held.Study k → HoldsBenchFrom old k s → HoldsFrom old b s
+  board_of b k old s e h =
+      record {
+        holds = subst (λ (x : HeldBoard A). HoldsBoard x s) (sym e)
+            (record { board = h.holds.board; marks = h.holds.marks });
+        classes = h.classes;
+        paged = h.paged;
+        shelf = h.shelf;
+      }
+
+pub bench_kept : (k : Kept) (s : State) → HoldsBench k s → HoldsBenchFrom s k s
+bench_kept k s h = record { holds = h; classes = refl; paged = refl; shelf = refl }
+
+-- a study that was edited is held behind an accepted edit
+pub bench_edited : (k : Kept) (s : State) (new : Plainly) → plain_study (marked k) ≡ new → IsRight k → HoldsBenchFrom s k (holding s new)
+bench_edited k s new e r = record { holds = record { board = ap study e; marks = r }; classes = refl; paged = refl; shelf = refl }
+
+-- a study that stays is held behind a refused edit
+pub bench_same : (k old : Kept) (s : State) → k ≡ old → HoldsBench old s → HoldsBenchFrom s k s
+bench_same k old s e h = record { holds = subst (λ (x : Kept). HoldsBench x s) (sym e) h; classes = refl; paged = refl; shelf = refl }
+
+module _ {I J : Outside → Reply → Type 0} {H K : State → Type 0} where
+  pub answered_weaker : (old new : Option (List ℕ)) (b : Bool) → ((o : Outside) (r : Reply) → I o r → J o r)
+      → ((t : State) → H t → K t) → Answered I H old new b → Answered J K old new b
+  answered_weaker old new b f g (o, reply, i, a, h, e) = (o, reply, f o reply i, a, g reply.state h, e)
+
+  pub ok_weaker : {E : Type 0} (r : Result Bool E) (old new : Option (List ℕ))
+      → ((o : Outside) (p : Reply) → I o p → J o p) → ((t : State) → H t → K t) → IfOk r (Answered I H old new)
+      → IfOk r (Answered J K old new)
+  ok_weaker r old new f g h = IfOk-weaker r (Answered I H old new) (Answered J K old new) (λ b. answered_weaker old new b f g) h
+
+module _ {I J : Outside → Reply → Type 0} where
+  pub err_weaker : {T E : Type 0} (r : Result T E) (old new : Option (List ℕ))
+      → ((o : Outside) (p : Reply) → I o p → J o p) → OnErr r (BrokenOff I old new) → OnErr r (BrokenOff J old new)
+  err_weaker r old new f h = on_err_weaker r (λ (o, reply, i, t). (o, reply, f o reply i, t)) h
+
+-- the clauses of `solve`
+pub solution_of : (p : Position) (count : ℕ) (plies : Option ℕ) → IfSome plies (λ n. MatesWithin n p)
+    → IfSome plies (λ n. (k : ℕ) → k < n → ¬ (MatesWithin k p)) → IfSome plies (λ n. n + 1 ≤ 2 * count)
+    → IfNone plies ((n : ℕ) → n + 1 ≤ 2 * count → ¬ (MatesWithin n p)) → IsSolution p count plies
+solution_of p count None forced least within none = none
+solution_of p count (Some n) forced least within none = ((forced, least), within)
+
+-- `mark` tells the label of the node
+pub mark_told : (s : State) (steps : List ℕ) (spot : Option (Spot Mark)) (m : Mark)
+    → Some m ≡ option_map (λ (x : Spot Mark). x.label) spot
+    → accepted s (mark_text steps m) ≡ marked_reply s steps spot
+mark_told s steps None m e = absurd cc
+mark_told s steps (Some x) m e = let same : m ≡ x.label = cc in ap (λ (l : Mark). accepted s (mark_text steps l)) same
+
+pub mark_missing : (s : State) (steps : List ℕ) (spot : Option (Spot Mark))
+    → ◌≡◌ {A = Option Mark} None (option_map (λ (x : Spot Mark). x.label) spot)
+    → refused s NoSuchNode ≡ marked_reply s steps spot
+mark_missing s steps None e = refl
+mark_missing s steps (Some x) e = absurd cc
+
+module _ {P A : Type 0} where
+  -- a study that was edited, and tables that were asked
+  pub study_edited : (honest : P → Table → ℕ → Type 0) (old k : Kept) (t u : Tables P A) (s : State) (new : Plainly)
+      → Holds honest (held.Study old) t s → plain_study (marked k) ≡ new → IsRight k → tables_honest honest u
+      → ((c : Class) → tables_held u c ≡ tables_held t c) → are_paged u ≡ are_paged t → Holds honest (held.Study k) u (holding s new)
+  study_edited honest old k t u s new h e r v same mode =
+      record {
+        board = ap study e;
+        marks = r;
+        values = v;
+        classes = λ c. same c ∙ h.classes c;
+        paged = mode
+            ∙ h.paged;
+      }
+
+  -- a study that stays, and tables that were asked
+  pub study_same : (honest : P → Table → ℕ → Type 0) (old k : Kept) (t u : Tables P A) (s : State)
+      → Holds honest (held.Study old) t s → k ≡ old → tables_honest honest u
+      → ((c : Class) → tables_held u c ≡ tables_held t c) → are_paged u ≡ are_paged t → Holds honest (held.Study k) u s
+  study_same honest old k t u s h e v same mode =
+      record {
+        board = subst (λ (x : Kept). study (plain_study (marked x)) ≡ s.board) (sym e) h.board;
+        marks = subst IsRight (sym e) h.marks;
+        values = v;
+        classes = λ c. same c ∙ h.classes c;
+        paged = mode
+            ∙ h.paged;
+      }
