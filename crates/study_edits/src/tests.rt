@@ -90,24 +90,33 @@ const WHITE_WINS: Stipulation = Stipulation {
     goal: Goal::Win,
 };
 
-/// A win in one that has 22 moves; a stalemate; the two exchanged, and one deleted.
+/// A win in one that has 22 moves, and a stalemate, each a child of the root.
+fn queen_study<'a, A: Allocator>(
+    rt: &impl Abort,
+    alloc: &'a A,
+    values: &mut WholeTables<'a, A>,
+) -> Bench<'a, A> {
+    let first = start(rt, "k7/8/1K6/8/8/8/8/6Q1 w - - 0 1");
+    let mut bench = Bench::new(alloc, first, WHITE_WINS, values)
+        .ok()
+        .expect(rt, "a bench");
+    assert_eq!(rt; bench.relabelled(), 1);
+    let asked = values.asked().saturating_add(2);
+    assert!(rt; insert(rt, alloc, &mut bench, &[], "Qg8", values).ok() == Some(0));
+    assert!(rt; insert(rt, alloc, &mut bench, &[], "Qh2", values).ok() == Some(1));
+    assert_eq!(rt; (bench.relabelled(), values.asked()), (5, asked));
+    bench
+}
+
+/// The mate is a dual with 21 others, the stalemate a mistake, whichever stands first.
 #[test]
 fn a_dual_and_a_mistake(rt: HostRuntime) {
     let alloc = rt.alloc();
     let mut values = tables(&rt, &alloc, [Class::KK, Class::KQK].as_slice());
-    let first = start(&rt, "k7/8/1K6/8/8/8/8/6Q1 w - - 0 1");
-    let mut bench = Bench::new(&alloc, first, WHITE_WINS, &mut values)
-        .ok()
-        .expect(&rt, "a bench");
-    assert_eq!(rt; bench.relabelled(), 1);
-    let asked = values.asked().saturating_add(2);
-    assert!(rt; insert(&rt, &alloc, &mut bench, &[], "Qg8", &mut values).ok() == Some(0));
-    assert!(rt; insert(&rt, &alloc, &mut bench, &[], "Qh2", &mut values).ok() == Some(1));
-    assert_eq!(rt; (bench.relabelled(), values.asked()), (5, asked));
-    assert_eq!(rt;
-        mark(&rt, &alloc, &bench, &[]),
-        told(Value::Win(1), None, 1)
-    );
+    let mut bench = queen_study(&rt, &alloc, &mut values);
+    let asked = values.asked();
+    let root = told(Value::Win(1), None, 1);
+    assert_eq!(rt; mark(&rt, &alloc, &bench, &[]), root);
     assert_eq!(rt;
         mark(&rt, &alloc, &bench, &[0]),
         told(Value::Loss(0), Some(MoveMark::Dual(21)), 1)
@@ -117,11 +126,18 @@ fn a_dual_and_a_mistake(rt: HostRuntime) {
         told(Value::Draw, Some(MoveMark::Mistake), 1)
     );
     assert!(rt; bench.promote(&path(&rt, &alloc, &[1])).is_ok());
-    assert_eq!(rt;
-        mark(&rt, &alloc, &bench, &[]),
-        told(Value::Win(1), None, 1)
-    );
-    assert_eq!(rt; bench.relabelled(), 6);
+    assert_eq!(rt; mark(&rt, &alloc, &bench, &[]), root);
+    assert_eq!(rt; (bench.relabelled(), values.asked()), (6, asked));
+}
+
+/// The stalemate first and the mate deleted; then a draw is the goal, and the stalemate is one of 25 ways to it.
+#[test]
+fn deleted_under_another_goal(rt: HostRuntime) {
+    let alloc = rt.alloc();
+    let mut values = tables(&rt, &alloc, [Class::KK, Class::KQK].as_slice());
+    let mut bench = queen_study(&rt, &alloc, &mut values);
+    let asked = values.asked();
+    assert!(rt; bench.promote(&path(&rt, &alloc, &[1])).is_ok());
     assert!(rt; bench.delete(&path(&rt, &alloc, &[1])).is_ok());
     assert_eq!(rt; (bench.relabelled(), values.asked()), (7, asked));
     assert_eq!(rt;
@@ -140,9 +156,9 @@ fn a_dual_and_a_mistake(rt: HostRuntime) {
     assert_eq!(rt; bench.relabelled(), 9);
 }
 
-/// Black draws by the one move that takes the rook; and the rows of a shift.
+/// Black draws by the one move that takes the rook.
 #[test]
-fn shifts_and_failures(rt: HostRuntime) {
+fn a_rook_taken(rt: HostRuntime) {
     let alloc = rt.alloc();
     let mut values = tables(&rt, &alloc, [Class::KK, Class::KRK].as_slice());
     let first = start(&rt, "8/8/8/8/8/8/1R1K4/k7 b - - 0 1");
@@ -159,8 +175,18 @@ fn shifts_and_failures(rt: HostRuntime) {
         told(Value::Draw, Some(MoveMark::Only), 0)
     );
     assert_eq!(rt; mark(&rt, &alloc, &bench, &[]), told(Value::Draw, None, 0));
+}
 
-    bench.set_stipulation(WHITE_WINS);
+/// Another position clears the tree; a value that is not told leaves all as it was; a shift keeps the tree, or is refused.
+#[test]
+fn shifts_and_failures(rt: HostRuntime) {
+    let alloc = rt.alloc();
+    let mut values = tables(&rt, &alloc, [Class::KK, Class::KRK].as_slice());
+    let kings = start(&rt, "8/8/8/8/8/8/3K4/k7 w - - 0 1");
+    let mut bench = Bench::new(&alloc, kings, WHITE_WINS, &mut values)
+        .ok()
+        .expect(&rt, "a bench");
+    assert!(rt; insert(&rt, &alloc, &mut bench, &[], "Kc2", &mut values).ok() == Some(0));
     let first = start(&rt, "k7/8/1K6/8/8/8/8/7R w - - 0 1");
     assert!(rt; bench.set_position(first, &mut values).is_ok());
     assert_eq!(rt; (bench.size(), bench.relabelled()), (1, 1));

@@ -128,6 +128,26 @@ fn tables_of_up_to_three_men(rt: HostRuntime) {
     }
 }
 
+/// A rook against a knight: five million cells, with the deepest mate in 40 moves.
+#[test]
+fn rook_against_knight(rt: HostRuntime) {
+    let alloc = rt.alloc();
+    let mut tables = TableSet::new(&alloc).ok().expect(&rt, "a set");
+    for class in [Class::KK, Class::KRK, Class::KNK] {
+        let _report = built(&rt, &alloc, &mut tables, class);
+    }
+    let (table, report) = table_of(&rt, &alloc, &tables, Class::KRKN);
+    assert_eq!(rt; report.cells, 5_242_880);
+    assert_eq!(rt; report.deepest_win, Some(79));
+    assert_eq!(rt; report.deepest_loss, Some(80));
+    assert!(rt;
+        is_digest(
+            table.cells(),
+            "f353322202ada647a9d51aac5b2f766639a86c03e1793313f7775d72b84f1fec"
+        )
+    );
+}
+
 /// A table is refused where its needs are not held, or where it is held already; it is handed back, and the set is as it was.
 #[test]
 fn needs_come_first(rt: HostRuntime) {
