@@ -111,8 +111,8 @@ fn man(slot: &Slot, square: u32) -> Man {
 /// The position of these men, the square behind the pawn of the side that is not to move being passed.
 fn placed_behind(men: &[Man], to_move: Side) -> Option<Position> {
     match behind(to_move.other(), men) {
-        None => Position::new(men, to_move, None),
-        Some(number) if number < 64 => Position::new(men, to_move, Some(Square(number))),
+        None => Position::told(men, to_move, None),
+        Some(number) if number < 64 => Position::told(men, to_move, Some(Square(number))),
         Some(_) => None,
     }
 }
@@ -131,7 +131,7 @@ fn numbered(
     } else if passed {
         placed_behind(men, to_move)
     } else {
-        Position::new(men, to_move, None)
+        Position::told(men, to_move, None)
     }
 }
 

@@ -1,17 +1,20 @@
 //! The positions of numbers.
-ghost use Rattle.std.specs.Prelude.{◌≡◌, ◌+◌, ◌*◌, ◌/◌, ◌%◌, ◌≤◌, ◌<◌, ◌↔◌, ◌⊎◌, IsTrue, length, IfSome, IfNone, None};
+ghost use Rattle.std.specs.Prelude.{◌≡◌, ◌&&◌, true, ◌+◌, ◌*◌, ◌/◌, ◌%◌, ◌≤◌, ◌<◌, ◌↔◌, ◌⊎◌, IsTrue, length, IfSome, IfNone, None};
 ghost use Rattle.std.specs.List.{All};
-ghost use Rattle.study_board.specs.Position.{Position as Seen, in_order};
+ghost use Rattle.study_board.specs.Position.{Position as Seen, has_one_king, in_order};
+ghost use Rattle.study_board.specs.declared.men.Side.TheVariants.{White, Black};
 ghost use Rattle.study_material.specs.Class.{lists_of};
 ghost use Rattle.study_index.specs.Number.{places, cells_of};
 ghost use Rattle.study_index.specs.Found.{position_at};
-ghost use Rattle.study_index.specs.Decoded.{IsDecoded, AreSlots, slots_of, listed, slots_have_pawn, man, head, side_of, told_men, told_side, behind, passed_behind, IsPlaced, IsFaulty, HasLeast};
+ghost use Rattle.study_index.specs.Decoded.{IsDecoded, AreSlots, slots_of, listed, slots_have_pawn};
+ghost use Rattle.study_index.specs.Decoded.{man, head, side_of, told_men, told_side, behind};
+ghost use Rattle.study_index.specs.Decoded.{passed_behind, IsPlaced, IsFaulty, HasLeast};
 ghost use Rattle.study_board.specs.Men.{other_side};
 
 use crate::least::least_of;
 use crate::passing::{behind, is_live};
 use arrayvec::ArrayVec;
-use study_board::{Kind, Man, Position, Side, Square, first_fault, place};
+use study_board::{Kind, Man, Position, Side, Square, is_faulty, place};
 use study_material::Class;
 
 /// What man fills a place in the order of a class.
@@ -116,11 +119,13 @@ fn in_order(men: &[Man]) -> ArrayVec<Man, 4>
 /// The position of these men, if they are one.
 #[inline(always)]
 fn placed(men: &[Man], to_move: Side, passed: Option<Square>) -> Option<Position>
+    requires few { length men.now ≤ 4 }
+    requires kings { (has_one_king men.now White && has_one_king men.now Black) ≡ true }
     ensures some { IfSome result (λ q. IsPlaced men.now to_move passed q) }
     ensures none { IfNone result (IsFaulty men.now to_move passed) }
 {
     let square = passed;
-    if let Some(_) = first_fault(men, to_move, square) {
+    if is_faulty(men, to_move, square) {
         return None;
     }
     let list = in_order(men);
@@ -130,6 +135,8 @@ fn placed(men: &[Man], to_move: Side, passed: Option<Square>) -> Option<Position
 
 /// The position of these men, if they are one, the square behind the pawn of the side that is not to move being passed.
 fn placed_behind(men: &[Man], to_move: Side) -> Option<Position>
+    requires few { length men.now ≤ 4 }
+    requires kings { (has_one_king men.now White && has_one_king men.now Black) ≡ true }
     ensures some { IfSome result (λ q. IsPlaced men.now to_move (behind (other_side to_move) men.now) q) }
     ensures none { IfNone result (IsFaulty men.now to_move (behind (other_side to_move) men.now)) }
 {
@@ -157,7 +164,8 @@ fn is_least(pawns: bool, to_move: Side, n: u32, men: &[Man]) -> bool
 /// The position of these men, if they are one and `n` is their least number.
 #[inline(always)]
 fn numbered(pawns: bool, to_move: Side, n: u32, passed: bool, men: &[Man]) -> Option<Position>
-    requires { length men.now ≤ 4 }
+    requires few { length men.now ≤ 4 }
+    requires kings { (has_one_king men.now White && has_one_king men.now Black) ≡ true }
     ensures some { IfSome result (λ q. IsPlaced men.now to_move (passed_behind passed to_move men.now) q × HasLeast pawns to_move n men.now) }
     ensures none { IfNone result (IsFaulty men.now to_move (passed_behind passed to_move men.now) ⊎ (HasLeast pawns to_move n men.now → ⊥)) }
 {
@@ -175,8 +183,14 @@ fn numbered(pawns: bool, to_move: Side, n: u32, passed: bool, men: &[Man]) -> Op
 #[inline(always)]
 fn read_off(slots: &[Slot], n: u32, passed: bool) -> Option<Position>
     requires { AreSlots slots.now }
-    ensures some { IfSome result (λ q. IsPlaced (told_men slots.now n) (told_side slots.now n) (passed_behind passed (told_side slots.now n) (told_men slots.now n)) q × HasLeast (slots_have_pawn slots.now) (told_side slots.now n) n (told_men slots.now n)) }
-    ensures none { IfNone result (IsFaulty (told_men slots.now n) (told_side slots.now n) (passed_behind passed (told_side slots.now n) (told_men slots.now n)) ⊎ (HasLeast (slots_have_pawn slots.now) (told_side slots.now n) n (told_men slots.now n) → ⊥)) }
+    ensures some { IfSome result
+        (λ q. IsPlaced (told_men slots.now n) (told_side slots.now n)
+        (passed_behind passed (told_side slots.now n) (told_men slots.now n)) q
+        × HasLeast (slots_have_pawn slots.now) (told_side slots.now n) n (told_men slots.now n)) }
+    ensures none { IfNone result
+        (IsFaulty (told_men slots.now n) (told_side slots.now n)
+        (passed_behind passed (told_side slots.now n) (told_men slots.now n))
+        ⊎ (HasLeast (slots_have_pawn slots.now) (told_side slots.now n) n (told_men slots.now n) → ⊥)) }
 {
     let pawns = has_pawn(slots);
     let side = side_of(head(slots, n) / places(pawns));

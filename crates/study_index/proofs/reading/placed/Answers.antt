@@ -1,26 +1,26 @@
-use Rattle.std.proofs.Common.{◌<◌, arith, sym, subst, List, ap, ◌∙◌}
+use Rattle.std.proofs.Common.{◌≡◌, ◌<◌, false, true, sym, subst, List, ap, refl, ◌∙◌}
+use Rattle.std.specs.Prelude.{Option, Some, None, is_some}
 use Rattle.std.specs.List.{All}
-use borrow.Author.Tests.{ltb-false}
+use Rattle.study_board.specs.declared.fault.PositionFault.{PositionFault}
 use Rattle.study_board.specs.declared.men.Man.{Man}
-use Rattle.study_board.proofs.Order.{IsPermutation-in_order}
-use Rattle.study_board.proofs.Valid.{IsFaultless-from_first, valid_in_order}
+use Rattle.study_board.proofs.MenInOrder.{IsPermutation-in_order}
+use Rattle.study_board.proofs.Valid.{valid_in_order}
 use Rattle.study_index.proofs.reading.placed.Goals as goal
 
-pub in_order-list-requires : goal.in_order-list-requires
-in_order-list-requires c =
-    let none = sym c.first_fault.ensures ∙ c.in_default.is in
-    omega (arith, ltb-false _ _ (IsFaultless-from_first _ _ _ none).few)
+no-fault : (o : Option PositionFault) → is_some o ≡ false → o ≡ None
+no-fault None e = refl
+no-fault (Some x) e = let no : true ≡ false = e in cc
 
 pub of-position-requires : goal.of-position-requires
 of-position-requires c =
-    let none = sym c.first_fault.ensures ∙ c.in_default.is in
+    let none = no-fault _ (sym c.is_faulty.ensures ∙ c.if-is_faulty.false) in
     let e = c.in_order-list.ensures.value in
     let all = subst (λ (l : List Man). All (λ m. m.at < 64) l) e c.in_order-list.ensures.on_board in
     rw e (valid_in_order c.args.men.now c.args.to_move c.args.passed all none)
 
 pub returns-clause-some : goal.returns-clause-some
 returns-clause-some c =
-    let none = sym c.first_fault.ensures ∙ c.in_default.is in
+    let none = no-fault _ (sym c.is_faulty.ensures ∙ c.if-is_faulty.false) in
     let e = c.in_order-list.ensures.value in
     let all = subst (λ (l : List Man). All (λ m. m.at < 64) l) e c.in_order-list.ensures.on_board in
     let is = c.of-position.ensures.value in

@@ -1,0 +1,122 @@
+-- The men that a number tells are few, and each side has one king among them.
+use Rattle.std.proofs.Common.{◌≡◌, ℕ, ◌<◌, ◌≤◌, ◌&&◌, Bool, true, false, cond, List, [], ◌∷◌, length, slice_index_or, refl, arith}
+use Rattle.std.specs.List.{count_by}
+use Rattle.study_board.specs.declared.men.Side.{Side}
+use Rattle.study_board.specs.declared.men.Side.TheVariants.{White, Black}
+use Rattle.study_board.specs.declared.men.Kind.{Kind}
+use Rattle.study_board.specs.declared.men.Kind.TheVariants.{King, Queen, Rook, Bishop, Knight, Pawn}
+use Rattle.study_board.specs.declared.men.Man.{Man}
+use Rattle.study_board.specs.Men.{same_side, same_kind, is_man}
+use Rattle.study_board.specs.Position.{has_one_king}
+use Rattle.study_board.proofs.Lists.{count_by-cons}
+use Rattle.study_index.specs.declared.reading.Slot.{Slot}
+use Rattle.study_index.specs.Filling.{slot_number}
+use Rattle.study_index.specs.Decoded.{number_of_slot, AreSlots, man}
+
+white_king : (side : Side) (kind : Kind) → slot_number side kind ≡ 0 → (side ≡ White) × (kind ≡ King)
+white_king White King e = (refl, refl)
+white_king White Queen e = absurd (omega (arith, e))
+white_king White Rook e = absurd (omega (arith, e))
+white_king White Bishop e = absurd (omega (arith, e))
+white_king White Knight e = absurd (omega (arith, e))
+white_king White Pawn e = absurd (omega (arith, e))
+white_king Black King e = absurd (omega (arith, e))
+white_king Black Queen e = absurd (omega (arith, e))
+white_king Black Rook e = absurd (omega (arith, e))
+white_king Black Bishop e = absurd (omega (arith, e))
+white_king Black Knight e = absurd (omega (arith, e))
+white_king Black Pawn e = absurd (omega (arith, e))
+
+black_king : (side : Side) (kind : Kind) → slot_number side kind ≡ 1 → (side ≡ Black) × (kind ≡ King)
+black_king Black King e = (refl, refl)
+black_king Black Queen e = absurd (omega (arith, e))
+black_king Black Rook e = absurd (omega (arith, e))
+black_king Black Bishop e = absurd (omega (arith, e))
+black_king Black Knight e = absurd (omega (arith, e))
+black_king Black Pawn e = absurd (omega (arith, e))
+black_king White King e = absurd (omega (arith, e))
+black_king White Queen e = absurd (omega (arith, e))
+black_king White Rook e = absurd (omega (arith, e))
+black_king White Bishop e = absurd (omega (arith, e))
+black_king White Knight e = absurd (omega (arith, e))
+black_king White Pawn e = absurd (omega (arith, e))
+
+no_king : (side : Side) (kind : Kind) → 1 < slot_number side kind → same_kind kind King ≡ false
+no_king White King h = absurd (omega (arith, h))
+no_king Black King h = absurd (omega (arith, h))
+no_king White Queen h = refl
+no_king White Rook h = refl
+no_king White Bishop h = refl
+no_king White Knight h = refl
+no_king White Pawn h = refl
+no_king Black Queen h = refl
+no_king Black Rook h = refl
+no_king Black Bishop h = refl
+no_king Black Knight h = refl
+no_king Black Pawn h = refl
+
+never : (b : Bool) (x y : ℕ) → cond (b && false) x y ≡ y
+never true x y = refl
+never false x y = refl
+
+pub NoKings : List Man → Type 0
+NoKings men = (side : Side) → count_by (is_man side King) men ≡ 0
+
+pub NoKings-further : (s : Slot) (x : ℕ) (men : List Man) → 1 < number_of_slot s → NoKings men → NoKings (man s x ∷ men)
+unfolding NoKings
+NoKings-further s x men h none side =
+    rw (count_by-cons (is_man side King) (man s x) men, none side, no_king s.side s.kind h) (rw (never (same_side s.side side) 1 0) refl)
+
+pub NoKings-none : NoKings []
+unfolding NoKings
+NoKings-none side = refl
+
+pub kings : (k b : Slot) (x y : ℕ) (men : List Man) → number_of_slot k ≡ 0 → number_of_slot b ≡ 1 → NoKings men
+    → (has_one_king (man k x ∷ man b y ∷ men) White && has_one_king (man k x ∷ man b y ∷ men) Black) ≡ true
+unfolding NoKings has_one_king
+kings k b x y men hk hb none =
+    rw (
+      count_by-cons (is_man White King) (man k x) (man b y ∷ men),
+      count_by-cons (is_man White King) (man b y) men,
+      count_by-cons (is_man Black King) (man k x) (man b y ∷ men),
+      count_by-cons (is_man Black King) (man b y) men,
+      none White,
+      none Black,
+      (white_king k.side k.kind hk).0,
+      (white_king k.side k.kind hk).1,
+      (black_king b.side b.kind hb).0,
+      (black_king b.side b.kind hb).1,
+    ) refl
+
+-- the first two slots are those of the kings, and no other is
+pub first_slot : (slots : List Slot) (d : Slot) → AreSlots slots → number_of_slot (slice_index_or slots 0 d) ≡ 0
+first_slot [] d h = elim h [ ]
+first_slot (k ∷ []) d h = elim h [ ]
+first_slot (k ∷ b ∷ []) d h = h.0
+first_slot (k ∷ b ∷ x ∷ []) d h = h.0
+first_slot (k ∷ b ∷ x ∷ y ∷ []) d h = h.0
+first_slot (k ∷ b ∷ x ∷ y ∷ _ ∷ _) d h = elim h [ ]
+
+pub second_slot : (slots : List Slot) (d : Slot) → AreSlots slots → number_of_slot (slice_index_or slots 1 d) ≡ 1
+second_slot [] d h = elim h [ ]
+second_slot (k ∷ []) d h = elim h [ ]
+second_slot (k ∷ b ∷ []) d h = h.1
+second_slot (k ∷ b ∷ x ∷ []) d h = h.1
+second_slot (k ∷ b ∷ x ∷ y ∷ []) d h = h.1
+second_slot (k ∷ b ∷ x ∷ y ∷ _ ∷ _) d h = elim h [ ]
+
+pub third_slot : (slots : List Slot) (d : Slot) → AreSlots slots → 3 ≤ length slots → 1 < number_of_slot (slice_index_or slots 2 d)
+third_slot [] d h few = elim h [ ]
+third_slot (k ∷ []) d h few = elim h [ ]
+third_slot (k ∷ b ∷ []) d h few = absurd (omega (arith, few))
+third_slot (k ∷ b ∷ x ∷ []) d h few = h.2
+third_slot (k ∷ b ∷ x ∷ y ∷ []) d h few = h.2
+third_slot (k ∷ b ∷ x ∷ y ∷ _ ∷ _) d h few = elim h [ ]
+
+pub fourth_slot : (slots : List Slot) (d : Slot) → AreSlots slots → 4 ≤ length slots → 1 < number_of_slot (slice_index_or slots 3 d)
+fourth_slot [] d h few = elim h [ ]
+fourth_slot (k ∷ []) d h few = elim h [ ]
+fourth_slot (k ∷ b ∷ []) d h few = absurd (omega (arith, few))
+fourth_slot (k ∷ b ∷ x ∷ []) d h few = absurd (omega (arith, few))
+fourth_slot (k ∷ b ∷ x ∷ y ∷ []) d h few = omega (arith, h.2, h.3)
+fourth_slot (k ∷ b ∷ x ∷ y ∷ _ ∷ _) d h few = elim h [ ]
