@@ -289,7 +289,7 @@ fn mate_in_one(rt: HostRuntime) {
     assert_eq!(rt; values.asked(), asked);
 }
 
-/// Mate in two and in three moves.
+/// Mate in two moves; as a win, any goes.
 #[test]
 fn mate_in_two(rt: HostRuntime) {
     let alloc = rt.alloc();

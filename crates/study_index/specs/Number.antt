@@ -1,4 +1,4 @@
--- The numbers of a position, and its index, the least of them.
+-- The numbers of a position, and its index: the least of them, with the bit where a capture in passing is legal.
 use Rattle.std.specs.Prelude.{◌≡◌, ℕ, ◌+◌, ◌*◌, ◌%◌, ◌^◌, ◌≤◌, Bool, true, false, not, ◌&&◌, ◌||◌, ◌==◌}
 use Rattle.std.specs.Prelude.{nat_lt, nat_le, List, [], ◌∷◌, length, Option, Some, None, if◌then◌else◌}
 use Rattle.std.specs.List.{list_any}
@@ -22,7 +22,8 @@ use Rattle.study_index.specs.Filling.{IsFilling}
 abbrev pub has_pawn : List Man → Bool
 has_pawn men = list_any is_pawn men
 
--- how many squares of the triangle a1, d1, d4 have their places before those of this rank, less its first file
+-- what is added to a square's file for its place in the triangle a1, d1, d4: how many squares are on the ranks below,
+-- less the rank's first file there
 abbrev pub places_before : ℕ → ℕ
 places_before n = if n == 0 then 0 else (if n == 1 then 3 else (if n == 2 then 5 else 6))
 

@@ -1,7 +1,7 @@
 //! Laws over the definitions, which tables rest on: functions that do nothing.
 ghost use Rattle.study_index.specs.Laws.{PositionsHaveAnIndex, NumbersAreRead, ClassesAreNumbered, AlikeAgree};
 
-/// The index of a valid position is the least of its numbers, and no other is.
+/// The index of a valid position is the least of its numbers, with the bit of a capture in passing, and no other is.
 pub fn positions_have_an_index()
     ensures { PositionsHaveAnIndex }
 {}

@@ -234,7 +234,7 @@ fn least_of_four(
     least_at(pawns, to_move, colours, is_like(c, d), &squares)
 }
 
-/// The least number of the images of a position. The passed square is not looked at.
+/// The least number of the images of a position that its class admits. The passed square is not looked at.
 fn least_number(p: &Position) -> u32
     ensures least { IsLeastNumber p.now result }
     ensures value { result ≡ least_number p.now }
@@ -248,8 +248,8 @@ fn least_number(p: &Position) -> u32
     }
 }
 
-/// The number of a position in the tables of its class: the least number of its images, and 16,777,216 more where a
-/// capture in passing is legal.
+/// The number of a position in the tables of its class: the least number of the images that the class admits, and
+/// 16,777,216 more where a capture in passing is legal.
 #[tactic(auto, unfolding(crate::specs::Found::index_of))]
 pub fn index(p: &Position) -> u32
     ensures least { IsIndex p.now result }

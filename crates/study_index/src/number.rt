@@ -7,7 +7,7 @@ ghost use Rattle.study_index.specs.Squares.{counted_at, number_at};
 use crate::turn::turned;
 use study_board::{Kind, Man, Side, Square, Symmetry};
 
-// The places of the ranks below, in the triangle a1, d1, d4.
+// What is added to a file for its square's place in the triangle a1, d1, d4.
 #[inline]
 fn places_before(rank: u8) -> u8
     ensures value { result ≡ places_before rank }

@@ -10,10 +10,11 @@ use Rattle.study_material.specs.declared.class.Class.{Class}
 use Rattle.study_material.specs.Lists.{Lists, of, put_kind, exchanged, ordered}
 use Rattle.study_material.specs.Class.{lists_of, class_list, same_lists, IsOf}
 
--- by number of men, then by number of pawns
+-- how many pawns
 abbrev pub pawns_of : List Kind → ℕ
 pawns_of xs = count_by (λ k. same_kind k Pawn) xs
 
+-- by number of men, then by number of pawns
 abbrev pub size : Class → ℕ
 size c = 8 * (length (lists_of c).white + length (lists_of c).black) + (pawns_of (lists_of c).white + pawns_of (lists_of c).black)
 

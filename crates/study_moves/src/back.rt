@@ -33,7 +33,7 @@ pub fn earlier(q: &Position) -> ArrayVec<Position, 192>
 }
 
 /// Each legal move, neither a capture nor a promotion, that can have led to this position from one without a passed
-/// square.
+/// square, passed squares left out: a double step is listed too where this position does not tell of it.
 pub fn last_moves(q: &Position) -> ArrayVec<Move, 192>
     ensures exact { (m : AMove) → Contains result.items m ↔ CanHaveLed q.now m }
     ensures once { AllPairs (λ m n. m ≢ n) result.items }

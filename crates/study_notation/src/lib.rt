@@ -2,7 +2,7 @@
 //!
 //! `read_fen` answers the start that a text spells, or the first fault of the text; `read_san` the
 //! one legal move that a text means, or why there is none. `write_fen` and `write_san` give the one
-//! text for each. What is written is read again: `fen_is_read_again` and `san_is_read_again` in
+//! text for each. What is written is read again, as long as the counts have at most four digits: `fen_is_read_again` and `san_is_read_again` in
 //! `laws` are these theorems. No call takes memory.
 #![tactic(auto)]
 

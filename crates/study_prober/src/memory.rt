@@ -63,7 +63,7 @@ impl<V: Values> Values for FailingValues<V> {
         ensures not_asked { FailsNext V.held self.old p.now → self.new.values ≡ self.old.values }
         ensures same { self.new.fails_at ≡ self.old.fails_at }
 
-        // Any other question goes to the values, once, and what they answer is told.
+        // Any other question goes to the values, once, and what is told is what they may answer.
         ensures passed { (FailsNext V.held self.old p.now → ⊥) → V.gives self.old.values p.now result }
         ensures asked_on { (FailsNext V.held self.old p.now → ⊥) → V.asked_of self.new.values ≡ counted (V.asked_of self.old.values) }
         ensures failures_on { (FailsNext V.held self.old p.now → ⊥)

@@ -100,7 +100,7 @@ impl<'a, S: PageSource, A: Allocator> PagedTables<'a, S, A> {
         // Each class has a place from the first source on.
         ensures places { OnOk result (length self.new.sources ≡ 36) }
 
-        // There is a last state of the source, which has failed once more where its header is not read, and only there.
+        // Of a source whose states tell their failures: the last has one more where its header is not read, and only there.
         ensures last { (last : S) × AreHonestAlike S.honest source last × (S.failed last ≡ unread_after (S.failed source) result) }
 
         // Of a source that is honest for a table the header is never refused, and a class is the table's.

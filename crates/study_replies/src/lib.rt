@@ -1,4 +1,5 @@
-//! Scripts and their replies. There is nothing here but tests: what they expect comes from outside of this program.
+//! Scripts and their replies. There is nothing here but tests: what they expect comes from outside of this
+//! program, but for replies of one run that are compared with those of another.
 #![tactic(auto)]
 
 #[cfg(test)]

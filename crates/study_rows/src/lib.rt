@@ -1,4 +1,5 @@
-//! Worked examples that cross crates. There is nothing here but tests: what they expect comes from outside of this program.
+//! Worked examples that cross crates. There is nothing here but tests: what they expect comes from outside of
+//! this program, or from another of its calls that is compared with them.
 #![tactic(auto)]
 
 #[cfg(test)]

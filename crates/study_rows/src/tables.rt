@@ -28,7 +28,7 @@ fn table_of<'a, A: Allocator>(
     build(class, tables, room).ok().expect(rt, "a table")
 }
 
-/// A digest in hexadecimal digits.
+/// Whether the cells have this SHA-256, in hexadecimal digits.
 fn is_digest(cells: &[u8], wanted: &str) -> bool {
     let mut hasher = Sha256::new();
     hasher.update(cells);

@@ -94,7 +94,7 @@ fn no_tables<'a, P: PageSource, A: Allocator>(
     }
 }
 
-/// Answers each line of a script, by any desk. It takes no memory.
+/// Answers each line of a script, by any desk. Its room for a line is given, so it never ends for want of memory.
 pub fn run_in<R: Read, W: Write, D: Desk, A: Allocator>(
     line: &mut Line<'_, A>,
     script: &mut R,

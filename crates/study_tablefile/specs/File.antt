@@ -25,7 +25,7 @@ is_known v c = not (v == 1) || not (has_both_pawns (lists_of c))
 abbrev pub IsVersionOf : Class → ℕ → Type 0
 IsVersionOf c v = (is_version v ≡ true) × (is_known v c ≡ true)
 
--- the 32 fields of a header: the mark, the version, the cells of a page, the cells of the class, its name, 8 zero bytes
+-- the 32 bytes of a header's fields: the mark, the version, the cells of a page, the cells of the class, its name, 8 zero bytes
 unfoldable pub fields_text : Class → ℕ → List ℕ
 fields_text c v =
     codes "STUDYDTM" ++ little_bytes 2 v ++ little_bytes 2 4096 ++ little_bytes 4 (cells_of c) ++ class_field c ++ replicate 8 0
