@@ -1,4 +1,4 @@
-//! All that the readers show of a study.
+//! What the readers show of a study, and whether two studies show the same.
 use arrayvec::ArrayString;
 use std::alloc::{AllocError, Allocator, Global};
 use std::process::Abort;
@@ -64,7 +64,8 @@ pub fn rows_of<A: Allocator>(alloc: Global, bench: &Bench<'_, A>) -> Result<Vec<
     Ok(rows)
 }
 
-/// All that the readers show of a study. No contract: tests alone call it, to compare two studies.
+/// What the readers show of a study; of its tags, whether Event is set.
+/// No contract: tests alone call it, to compare two studies.
 pub fn picture_of<A: Allocator>(rt: &impl Abort, alloc: Global, bench: &Bench<'_, A>) -> Picture {
     Picture {
         rows: rows_of(alloc, bench).ok().expect(rt, "rows"),
