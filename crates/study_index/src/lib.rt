@@ -14,11 +14,6 @@ mod reading;
 mod swap;
 mod turn;
 
-pub use laws::{alike_agree, classes_are_numbered, numbers_are_read, positions_have_an_index};
+pub use laws::{alike_mates_agree, classes_are_numbered, numbers_are_read, positions_have_an_index};
 pub use least::index;
 pub use reading::{cells, decode};
-
-#[cfg(test)]
-mod samples;
-#[cfg(test)]
-mod tests;

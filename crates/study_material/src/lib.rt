@@ -15,6 +15,3 @@ pub use fault::ClassFault;
 pub use laws::{moves_lead_into_needs, needs_come_first, positions_have_one_class};
 pub use material::class_of;
 pub use reached::{needs, order};
-
-#[cfg(test)]
-mod tests;

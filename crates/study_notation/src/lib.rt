@@ -19,8 +19,6 @@ mod san_parts;
 mod san_reader;
 mod san_writer;
 mod start;
-#[cfg(test)]
-mod tests;
 pub mod words;
 
 pub use fault::{FenFault, SanFault};

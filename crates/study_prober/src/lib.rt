@@ -19,6 +19,3 @@ pub use fault::PagedFault;
 pub use paged::PagedTables;
 pub use values::{ProbeFault, Values};
 pub use whole::WholeTables;
-
-#[cfg(test)]
-mod tests;

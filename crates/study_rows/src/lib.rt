@@ -11,4 +11,6 @@ mod pages;
 #[cfg(test)]
 mod pgn;
 #[cfg(test)]
+mod probes;
+#[cfg(test)]
 mod tables;

@@ -117,7 +117,6 @@ fn tables_of_up_to_three_men(rt: HostRuntime) {
         assert_eq!(rt; report.deepest_win, win);
         assert_eq!(rt; report.deepest_loss, loss);
         assert_eq!(rt; report.examined, examined);
-        assert!(rt; report.examined < 24 * u64::from(count));
         match tables.table(class) {
             None => assert!(rt; false, "not held"),
             Some(table) => {

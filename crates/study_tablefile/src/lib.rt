@@ -21,6 +21,3 @@ pub use reading::read_table;
 pub use source::{Header, PageSource, page_cells, read_header};
 pub use text::{file_bytes, write_table};
 pub use writing::put;
-
-#[cfg(test)]
-mod tests;

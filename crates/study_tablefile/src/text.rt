@@ -74,7 +74,7 @@ pub fn page_digest(fields: &[u8; 32], number: u32, cells: &[u8]) -> [u8; 32]
 
 /// The cells of a page, with zero bytes behind the last one.
 #[tactic(auto, using(crate::proofs::Lists::padded_front), unfolding(crate::specs::File::page_cells_of))]
-fn page_cells(cells: &[u8]) -> [u8; 4096]
+fn padded_cells(cells: &[u8]) -> [u8; 4096]
     requires { length cells.now ≤ 4096 }
     ensures { result ≡ page_cells_of cells.now }
 {
@@ -106,7 +106,7 @@ fn put_page<W: Write>(
     ensures ok { OnOk result (Appends (W.contents out.old) (W.contents out.new) (page_text fields.now number (page_cells_of cells.now))) }
     ensures err { OnErr result (TakesPrefix (W.contents out.old) (W.contents out.new) (page_text fields.now number (page_cells_of cells.now))) }
 {
-    let cells = page_cells(cells);
+    let cells = padded_cells(cells);
     put(out, cells.as_slice())?;
     put(
         out,

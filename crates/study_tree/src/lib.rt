@@ -8,8 +8,6 @@ mod fault;
 mod laws;
 mod node;
 mod path;
-#[cfg(test)]
-mod tests;
 mod tree;
 
 pub use fault::TreeFault;

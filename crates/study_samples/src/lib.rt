@@ -1,0 +1,21 @@
+//! Tests of the lower crates by samples from outside: positions and their faults, moves, FEN and SAN, classes, numbers of
+//! positions, files of tables; and trees edit by edit, with memory that ends. There is nothing here but tests: a crate with
+//! tests is proved twice, so they stand apart.
+#![tactic(auto)]
+
+#[cfg(test)]
+mod board;
+#[cfg(test)]
+mod index;
+#[cfg(test)]
+mod material;
+#[cfg(test)]
+mod moves;
+#[cfg(test)]
+mod notation;
+#[cfg(test)]
+mod samples;
+#[cfg(test)]
+mod tablefile;
+#[cfg(test)]
+mod tree;

@@ -1,0 +1,377 @@
+//! The text of a table, read back and damaged.
+mod devices;
+mod sizes;
+
+use sha2::{Digest, Sha256};
+use std::alloc::Allocator;
+use std::process::Abort;
+use std::test::Fail;
+use study_index::cells;
+use study_material::Class;
+use study_retro::Table;
+use study_tablefile::memory::{MemoryReader, MemorySource, MemoryWriter, WhenFull};
+use study_tablefile::{
+    DeviceFailed, FileFault, PageSource, SourceFault, file_bytes, page_cells, put, read_header,
+    read_table, write_table,
+};
+
+/// The fields of KK, which has 1,280 cells, in version 1.
+const KK_BEFORE: &[u8] =
+    b"STUDYDTM\x01\x00\x00\x10\x00\x05\x00\x00KK\x00\x00\x00\x00\x00\x00\x00\x00\x00\x00\x00\x00\x00\x00";
+
+/// The fields of KK in version 2, which is written.
+const KK: &[u8] =
+    b"STUDYDTM\x02\x00\x00\x10\x00\x05\x00\x00KK\x00\x00\x00\x00\x00\x00\x00\x00\x00\x00\x00\x00\x00\x00";
+
+/// The fields of KRK, which has 81,920 cells, in version 2.
+const KRK: &[u8] =
+    b"STUDYDTM\x02\x00\x00\x10\x00\x40\x01\x00KRK\x00\x00\x00\x00\x00\x00\x00\x00\x00\x00\x00\x00\x00";
+
+/// The fields of KPKP, which has 33,554,432 cells, in version 2.
+const KPKP: &[u8] =
+    b"STUDYDTM\x02\x00\x00\x10\x00\x00\x00\x02KPKP\x00\x00\x00\x00\x00\x00\x00\x00\x00\x00\x00\x00";
+
+/// The SHA-256 of some bytes.
+fn digest(bytes: &[u8]) -> [u8; 32] {
+    let mut hasher = Sha256::new();
+    hasher.update(bytes);
+    hasher.finalize()
+}
+
+/// The digest of page 0: over the fields of the header, the page's number in 4 bytes, and its cells.
+fn first_digest(fields: &[u8], cells: &[u8]) -> [u8; 32] {
+    let number = [0u8; 4];
+    let mut hasher = Sha256::new();
+    hasher.update(fields);
+    hasher.update(number.as_slice());
+    hasher.update(cells);
+    hasher.finalize()
+}
+
+/// A table of zero cells.
+fn zero_table<'a, A: Allocator>(rt: &impl Abort, alloc: &'a A, class: Class) -> Table<'a, A> {
+    let zeros = vec![in alloc; 0u8; cells(class) as usize]
+        .ok()
+        .expect(rt, "cells");
+    Table::from_cells(class, zeros)
+}
+
+/// The fault of a text.
+fn fault<A: Allocator>(alloc: &A, text: &[u8]) -> Option<FileFault> {
+    read_table(alloc, &mut MemoryReader::new(text)).err()
+}
+
+/// The first 32 bytes that are written of the table of zero cells of a class.
+fn first_bytes<'a, A: Allocator>(rt: &impl Abort, alloc: &'a A, class: Class) -> Vec<u8, &'a A> {
+    let table = zero_table(rt, alloc, class);
+    let mut writer = MemoryWriter::with_room(alloc, 32, WhenFull::Fail);
+    assert_eq!(rt; write_table(&table, &mut writer), Err(FileFault::Device));
+    writer.taken
+}
+
+/// The fields of the file of KRK as the description of the format prints them.
+#[test]
+fn fields_of_krk(rt: HostRuntime) {
+    let alloc = rt.alloc();
+    assert_eq!(rt; first_bytes(&rt, &alloc, Class::KRK).as_slice(), KRK);
+}
+
+/// The fields of the file of KPKP.
+#[test]
+fn fields_of_kpkp(rt: HostRuntime) {
+    let alloc = rt.alloc();
+    assert_eq!(rt; first_bytes(&rt, &alloc, Class::KPKP).as_slice(), KPKP);
+}
+
+/// The header of these fields: the fields and their digest.
+fn header_of<'a, A: Allocator>(rt: &impl Abort, alloc: &'a A, fields: &[u8]) -> Vec<u8, &'a A> {
+    let mut writer = MemoryWriter::new(alloc);
+    for part in [fields, digest(fields).as_slice()] {
+        assert!(rt; put(&mut writer, part).is_ok());
+    }
+    writer.taken
+}
+
+/// A pawn against a pawn is known from version 2 on; of the other classes both versions are read.
+#[test]
+fn versions_of_headers(rt: HostRuntime) {
+    let alloc = rt.alloc();
+    for (fields, want) in [
+        (
+            b"STUDYDTM\x01\x00\x00\x10\x00\x00\x00\x02KPKP\x00\x00\x00\x00\x00\x00\x00\x00\x00\x00\x00\x00".as_slice(),
+            FileFault::ClassUnknown,
+        ),
+        (KPKP, FileFault::Cut),
+        (
+            b"STUDYDTM\x03\x00\x00\x10\x00\x00\x00\x02KPKP\x00\x00\x00\x00\x00\x00\x00\x00\x00\x00\x00\x00".as_slice(),
+            FileFault::Version(3),
+        ),
+        (
+            b"STUDYDTM\x01\x00\x00\x10\x00\x00\x00\x01KQKP\x00\x00\x00\x00\x00\x00\x00\x00\x00\x00\x00\x00".as_slice(),
+            FileFault::Cut,
+        ),
+        (
+            b"STUDYDTM\x00\x00\x00\x10\x00\x40\x01\x00KRK\x00\x00\x00\x00\x00\x00\x00\x00\x00\x00\x00\x00\x00".as_slice(),
+            FileFault::Version(0),
+        ),
+    ] {
+        let text = header_of(&rt, &alloc, fields);
+        assert_eq!(rt; fault(&alloc, text.as_slice()), Some(want));
+    }
+}
+
+/// A header of these fields, and a page of KK under the digest that other fields ask for.
+fn one_page<'a, A: Allocator>(
+    rt: &impl Abort,
+    alloc: &'a A,
+    fields: &[u8],
+    others: &[u8],
+    page: &[u8],
+) -> Vec<u8, &'a A> {
+    let mut writer = MemoryWriter::new(alloc);
+    for part in [
+        fields,
+        digest(fields).as_slice(),
+        page,
+        first_digest(others, page).as_slice(),
+    ] {
+        assert!(rt; put(&mut writer, part).is_ok());
+    }
+    writer.taken
+}
+
+/// A text of version 1 is read, and what is read is written in version 2. Its pages do not pass under a header of version 2.
+#[test]
+fn first_version_is_read(rt: HostRuntime) {
+    let alloc = rt.alloc();
+    let page = [0u8; 4096];
+    let text = one_page(&rt, &alloc, KK_BEFORE, KK_BEFORE, page.as_slice());
+    let table = read_table(&alloc, &mut MemoryReader::new(text.as_slice()))
+        .ok()
+        .expect(&rt, "read");
+    let mut again = MemoryWriter::new(&alloc);
+    assert_eq!(rt; write_table(&table, &mut again), Ok(()));
+    let wanted = text_of_kk(&rt, &alloc);
+    assert!(rt; again.taken.as_slice() == wanted.as_slice());
+    let mixed = one_page(&rt, &alloc, KK, KK_BEFORE, page.as_slice());
+    assert_eq!(rt;
+        fault(&alloc, mixed.as_slice()),
+        Some(FileFault::PageDamaged(0))
+    );
+}
+
+/// The text of a table with zero cells.
+fn text_of<'a, A: Allocator>(rt: &impl Abort, alloc: &'a A, class: Class) -> Vec<u8, &'a A> {
+    let table = zero_table(rt, alloc, class);
+    let mut writer = MemoryWriter::new(alloc);
+    assert!(rt; write_table(&table, &mut writer).is_ok());
+    writer.taken
+}
+
+/// The text of the table of KK with zero cells, as the description of the format tells it.
+fn text_of_kk<'a, A: Allocator>(rt: &impl Abort, alloc: &'a A) -> Vec<u8, &'a A> {
+    let page = [0u8; 4096];
+    let text = one_page(rt, alloc, KK, KK, page.as_slice());
+    assert!(rt; text.len() == 4192);
+    text
+}
+
+/// The number of bytes of a file of each size.
+#[test]
+fn bytes_of_files(rt: HostRuntime) {
+    for (class, bytes) in [
+        (Class::KK, 4_192u32),
+        (Class::KRK, 82_624),
+        (Class::KPK, 264_256),
+        (Class::KBBK, 5_283_904),
+        (Class::KQKP, 16_908_352),
+        (Class::KPKP, 33_816_640),
+    ] {
+        assert_eq!(rt; file_bytes(class), bytes);
+    }
+}
+
+/// A text with one bit turned.
+fn turn(text: &mut [u8], place: usize, bit: u8) {
+    if let Some(byte) = text.get_mut(place) {
+        *byte ^= bit;
+    }
+}
+
+/// What a turned bit is, by its place and the version that is read then.
+fn fault_of_place(place: usize, version: u16) -> FileFault {
+    match place {
+        0..=7 => FileFault::NotATable,
+        8..=9 => FileFault::Version(version),
+        16..=23 => FileFault::ClassUnknown,
+        10..=63 => FileFault::HeaderDamaged,
+        _ => FileFault::PageDamaged(0),
+    }
+}
+
+/// Each front of a text is cut off.
+#[test]
+fn fronts_are_cut_off(rt: HostRuntime) {
+    let alloc = rt.alloc();
+    let text = text_of_kk(&rt, &alloc);
+    assert_eq!(rt; fault(&alloc, text.as_slice()), None);
+    for length in 0..4192usize {
+        let (front, _) = text.as_slice().split_at(length.min(text.len()));
+        assert_eq!(rt; fault(&alloc, front), Some(FileFault::Cut), "{length}");
+    }
+}
+
+/// Each turned bit is found and named by its place.
+#[test]
+fn damage_is_named(rt: HostRuntime) -> Result<(), Fail> {
+    let alloc = rt.alloc();
+    let mut text = text_of_kk(&rt, &alloc);
+    for place in 0..4192usize {
+        for bit in [1u8, 2, 4, 8, 16, 32, 64, 128] {
+            let version = match place {
+                8 => 2 ^ bit as u16,
+                _ => 2 + 256 * bit as u16,
+            };
+            turn(text.as_mut_slice(), place, bit);
+            let want = fault_of_place(place, version);
+            assert_eq!(rt; fault(&alloc, text.as_slice()), Some(want), "{place}");
+            turn(text.as_mut_slice(), place, bit);
+        }
+    }
+    text.push(0)?;
+    assert_eq!(rt;
+        fault(&alloc, text.as_slice()),
+        Some(FileFault::TrailingBytes)
+    );
+    let mut failing = MemoryReader::failing_after(text.as_slice(), 100);
+    assert_eq!(rt;
+        read_table(&alloc, &mut failing).err(),
+        Some(FileFault::Device)
+    );
+    Ok(())
+}
+
+/// A writer that is full before the end has taken a front of the text, whatever it answers then.
+#[test]
+fn writers_stop(rt: HostRuntime) {
+    let alloc = rt.alloc();
+    let text = text_of_kk(&rt, &alloc);
+    let table = zero_table(&rt, &alloc, Class::KK);
+    for room in 0..4192usize {
+        for when_full in [WhenFull::Fail, WhenFull::TakeNothing] {
+            let mut writer = MemoryWriter::with_room(&alloc, room, when_full);
+            assert_eq!(rt; write_table(&table, &mut writer), Err(FileFault::Device));
+            let (front, _) = text.as_slice().split_at(room.min(text.len()));
+            assert!(rt; writer.taken.as_slice() == front, "{room}");
+        }
+    }
+}
+
+/// The pages of a text, one by one, from a source that fails when it is told.
+#[test]
+fn pages_one_by_one(rt: HostRuntime) -> Result<(), Fail> {
+    let alloc = rt.alloc();
+    let table = zero_table(&rt, &alloc, Class::KK);
+    let mut writer = MemoryWriter::new(&alloc);
+    assert_eq!(rt; write_table(&table, &mut writer), Ok(()));
+    let text = writer.taken;
+    let mut source = MemorySource {
+        text: text.as_slice(),
+        asked: 0,
+        fails_at: Some(1),
+        failures: 0,
+    };
+    let mut bytes = [0u8; 64];
+    assert_eq!(rt; source.header(&mut bytes), Ok(()));
+    let header = read_header(&bytes).ok().expect(&rt, "a header");
+    assert_eq!(rt; header.class, Class::KK);
+    let mut page = [0u8; 4128];
+    assert_eq!(rt; source.page(0, &mut page), Err(SourceFault::Device));
+    assert_eq!(rt; source.page(0, &mut page), Ok(()));
+    assert!(rt; page_cells(&header, 0, &page));
+    assert!(rt; !page_cells(&header, 1, &page));
+    assert_eq!(rt; source.page(1, &mut page), Err(SourceFault::Short));
+    assert_eq!(rt; source.failures(), 2);
+    Ok(())
+}
+
+/// A cell behind the last one that is not zero, under the digest that it asks for.
+#[test]
+fn padding_is_looked_at(rt: HostRuntime) {
+    let alloc = rt.alloc();
+    let mut page = [0u8; 4096];
+    page[2000] = 1;
+    let text = one_page(&rt, &alloc, KK, KK, page.as_slice());
+    assert_eq!(rt; fault(&alloc, text.as_slice()), Some(FileFault::Padding));
+}
+
+/// A header with some fields changed and the digest made anew has the first fault in the order of the fields.
+#[test]
+fn headers_are_looked_at_in_order(rt: HostRuntime) {
+    let alloc = rt.alloc();
+    for (changes, want) in [
+        ([(7usize, 0u8), (8, 9)], FileFault::NotATable),
+        ([(8, 9), (16, 0)], FileFault::Version(9)),
+        ([(9, 1), (10, 1)], FileFault::Version(258)),
+        ([(17, b'P'), (19, b'P')], FileFault::HeaderDamaged),
+        ([(16, b'k'), (12, 1)], FileFault::ClassUnknown),
+        ([(8, 1), (24, 1)], FileFault::HeaderDamaged),
+        ([(8, 1), (8, 1)], FileFault::Cut),
+        ([(10, 1), (10, 1)], FileFault::HeaderDamaged),
+        ([(12, 1), (13, 0x40)], FileFault::HeaderDamaged),
+        ([(24, 1), (31, 0)], FileFault::HeaderDamaged),
+    ] {
+        let mut fields = KRK.to_vec(&alloc).ok().expect(&rt, "memory");
+        for (place, byte) in changes {
+            if let Some(field) = fields.as_mut_slice().get_mut(place) {
+                *field = byte;
+            }
+        }
+        let text = header_of(&rt, &alloc, fields.as_slice());
+        assert_eq!(rt; fault(&alloc, text.as_slice()), Some(want));
+    }
+}
+
+/// A text of 20 pages whose pages 3 and 4 have changed places.
+fn exchanged<'a, A: Allocator>(rt: &impl Abort, alloc: &'a A, text: &[u8]) -> Vec<u8, &'a A> {
+    assert!(rt; text.len() == 82_624);
+    let (front, pages) = text.split_at(64 + 3 * 4128);
+    let (third, behind) = pages.split_at(4128);
+    let (fourth, rest) = behind.split_at(4128);
+    let mut writer = MemoryWriter::new(alloc);
+    for part in [front, fourth, third, rest] {
+        assert!(rt; put(&mut writer, part).is_ok());
+    }
+    writer.taken
+}
+
+/// The texts of faults.
+#[test]
+fn faults_are_told(rt: HostRuntime) -> Result<(), Fail> {
+    for (fault, want) in [
+        (FileFault::Version(9), "version 9 of the file is not known"),
+        (FileFault::PageDamaged(3), "page 3 of the file is damaged"),
+    ] {
+        let text = format!(in rt.alloc(); "{fault}")?;
+        assert_eq!(rt; text.as_str(), want);
+    }
+    let short = SourceFault::Short;
+    let text = format!(in rt.alloc(); "{short}: {DeviceFailed}")?;
+    assert_eq!(rt;
+        text.as_str(),
+        "the file of a table is too short: a device failed"
+    );
+    Ok(())
+}
+
+/// Of two pages that have changed places the first is told.
+#[test]
+fn exchanged_pages_are_found(rt: HostRuntime) {
+    let alloc = rt.alloc();
+    let text = text_of(&rt, &alloc, Class::KRK);
+    let wrong = exchanged(&rt, &alloc, text.as_slice());
+    assert_eq!(rt;
+        fault(&alloc, wrong.as_slice()),
+        Some(FileFault::PageDamaged(3))
+    );
+}
