@@ -326,8 +326,8 @@ fn mate_in_two(rt: HostRuntime) {
     assert_eq!(rt; bench.relabelled(), 10);
     bench.set_stipulation(WHITE_WINS);
     assert_eq!(rt;
-        mark(&rt, &alloc, &bench, &[0, 0, 0]).on_move.is_some(),
-        true
+        mark(&rt, &alloc, &bench, &[0, 0, 0]),
+        told(Value::Loss(0), Some(MoveMark::Dual(18)), 1)
     );
     assert_eq!(rt; (bench.relabelled(), values.asked()), (14, asked));
 }

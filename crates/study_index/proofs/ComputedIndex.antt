@@ -20,7 +20,7 @@ use Rattle.study_index.specs.declared.reading.Slot.{Slot}
 use Rattle.study_index.specs.Number.{IsLeastNumber, IsIndex, places, numbers_of, cells_of, without_bit}
 use Rattle.study_index.specs.Decoded.{IsDecoded, AreSlots, slots_of, slots_have_pawn, men_of, told_men, listed, man}
 use borrow.Author.Tests.{ltb-true}
-use Rattle.study_index.specs.Found.{least_number, index_of, told, is_entry, position_at}
+use Rattle.study_index.specs.Found.{least_number, index_of, told, is_entry, position_numbered}
 use Rattle.study_index.proofs.ClassLaws.{below}
 use Rattle.study_index.proofs.ClassSlots.{AreSlots-class, is_cell-below, number_below}
 use Rattle.study_index.proofs.TurnedNumbers.{least_is}
@@ -115,8 +115,8 @@ one_told c n q d =
 abbrev test : Class → ℕ → Position → Bool
 test c n r = nat_lt n (cells_of c) && is_none (first_fault r.men r.to_move r.passed) && (index_of r == n)
 
-pub decoded_told : (c : Class) (n : ℕ) (q : Position) → IsDecoded c n q → position_at c n ≡ Some q
-unfolding position_at
+pub decoded_told : (c : Class) (n : ℕ) (q : Position) → IsDecoded c n q → position_numbered c n ≡ Some q
+unfolding position_numbered
 decoded_told c n q d =
     let lt : nat_lt n (cells_of c) ≡ true = small n (cells_of c) (below c n q d) in
     let none : is_none (first_fault q.men q.to_move q.passed) ≡ true = ap (λ o. is_none o) d.valid.faultless in
@@ -130,8 +130,8 @@ decoded_told c n q d =
     at_test true e = refl
     at_test false e = absurd (false≢true e)
 
-pub told_decoded : (c : Class) (n : ℕ) (q : Position) → position_at c n ≡ Some q → IsDecoded c n q
-unfolding position_at
+pub told_decoded : (c : Class) (n : ℕ) (q : Position) → position_numbered c n ≡ Some q → IsDecoded c n q
+unfolding position_numbered
 told_decoded c n q e = by_test (is_entry c n) refl e
   where
     no_fault : (o : Option PositionFault) → is_none o ≡ true → o ≡ None

@@ -61,7 +61,7 @@ pub record IsDecodedAt (slots : List Slot) (n : ℕ) (q : Position) : Type 0 whe
 abbrev pub IsDecoded : Class → ℕ → Position → Type 0
 IsDecoded c n q = IsDecodedAt (slots_of c) n q
 
--- ---- how a number is read: the men, their squares and the side that it tells, as `position_at` names them
+-- ---- how a number is read: the men, their squares and the side that it tells, as `position_numbered` names them
 
 -- slots in order, two to four, the kings first
 abbrev pub number_of_slot : Slot → ℕ

@@ -42,5 +42,5 @@ abbrev pub is_entry : Class → ℕ → Bool
 is_entry c n = nat_lt n (cells_of c) && is_none (first_fault (told c n).men (told c n).to_move (told c n).passed) && (index_of (told c n) == n)
 
 -- the position that a number of the class reads as
-unfoldable pub position_at : Class → ℕ → Option Position
-position_at c n = if is_entry c n then Some (told c n) else None
+unfoldable pub position_numbered : Class → ℕ → Option Position
+position_numbered c n = if is_entry c n then Some (told c n) else None

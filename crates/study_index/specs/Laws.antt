@@ -12,7 +12,7 @@ use Rattle.study_material.specs.Class.{lists_of, IsOf}
 use Rattle.study_material.specs.Needs.{LeadsOn}
 use Rattle.study_index.specs.Number.{IsIndex, cells_of}
 use Rattle.study_index.specs.Decoded.{IsDecoded}
-use Rattle.study_index.specs.Found.{index_of, position_at}
+use Rattle.study_index.specs.Found.{index_of, position_numbered}
 
 -- positions that are alike, the colours kept where the lists of the class are equal
 pub record AreAlikeIn (c : Class) (p q : Position) : Type 0 where
@@ -38,7 +38,7 @@ PositionsHaveAnIndex = (p : Position) → IsValid p → HasIndex p
 
 -- the position of a number as a function
 abbrev pub NumbersAreRead : Type 0
-NumbersAreRead = (c : Class) (n : ℕ) (q : Position) → (position_at c n ≡ Some q) ↔ IsDecoded c n q
+NumbersAreRead = (c : Class) (n : ℕ) (q : Position) → (position_numbered c n ≡ Some q) ↔ IsDecoded c n q
 
 -- the laws of a class: the index of a position is below its cells, and what is read off it is an image of the bare position, and alike to
 -- it; alike positions have one index and move alike

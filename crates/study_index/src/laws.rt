@@ -18,6 +18,6 @@ pub fn classes_are_numbered()
 {}
 
 /// Positions that are alike are of one class, and forced mates agree on them.
-pub fn alike_agree()
+pub fn alike_mates_agree()
     ensures { AlikeAgree }
 {}

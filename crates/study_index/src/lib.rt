@@ -14,6 +14,8 @@ mod reading;
 mod swap;
 mod turn;
 
-pub use laws::{alike_mates_agree, classes_are_numbered, numbers_are_read, positions_have_an_index};
+pub use laws::{
+    alike_mates_agree, classes_are_numbered, numbers_are_read, positions_have_an_index,
+};
 pub use least::index;
 pub use reading::{cells, decode};

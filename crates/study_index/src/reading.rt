@@ -5,7 +5,7 @@ ghost use Rattle.study_board.specs.Position.{Position as Seen, has_one_king, in_
 ghost use Rattle.study_board.specs.declared.men.Side.TheVariants.{White, Black};
 ghost use Rattle.study_material.specs.Class.{lists_of};
 ghost use Rattle.study_index.specs.Number.{places, cells_of};
-ghost use Rattle.study_index.specs.Found.{position_at};
+ghost use Rattle.study_index.specs.Found.{position_numbered};
 ghost use Rattle.study_index.specs.Decoded.{IsDecoded, AreSlots, slots_of, listed, slots_have_pawn};
 ghost use Rattle.study_index.specs.Decoded.{man, head, side_of, told_men, told_side, behind};
 ghost use Rattle.study_index.specs.Decoded.{passed_behind, IsPlaced, IsFaulty, HasLeast};
@@ -263,7 +263,7 @@ fn read_passing(class: Class, n: u32) -> Option<Position>
 pub fn decode(class: Class, n: u32) -> Option<Position>
     ensures some { IfSome result (IsDecoded class n) }
     ensures none { IfNone result ((q : Seen) → IsDecoded class n q → ⊥) }
-    ensures value { result ≡ position_at class n }
+    ensures value { result ≡ position_numbered class n }
 {
     if n >= cells(class) {
         None

@@ -15,7 +15,7 @@ use Rattle.study_retro.specs.declared.value.Value.{Value}
 use Rattle.study_retro.specs.Game.{IsValueOf}
 use Rattle.study_moves.specs.LegalList.{legal_list}
 use Rattle.study_notation.specs.Matching.{same_promotion}
-use Rattle.study_moves.specs.Order.{place_of}
+use Rattle.study_moves.specs.Order.{move_place}
 use Rattle.study_moves.proofs.LegalLists.{in_legal, AscendsFrom-legal_list}
 use Rattle.study_moves.proofs.AscendingKeys.{IsIn, AscendsFrom}
 use Rattle.study_marks.specs.declared.mark.MoveMark.TheVariants.{Only, Dual}
@@ -47,17 +47,17 @@ same_move-one m n h =
     ∙ ap (λ z. record { origin = n.origin; target = z; promoted = m.promoted }) (eqb-true m.target n.target y.1)
     ∙ ap (λ z. record { origin = n.origin; target = n.target; promoted = z }) (promotions-one m.promoted n.promoted x.1)
 
-apart : (m n : Move) → (place_of m ≡ place_of n → ⊥) → same_move m n ≡ false
+apart : (m n : Move) → (move_place m ≡ move_place n → ⊥) → same_move m n ≡ false
 apart m n h = go (same_move m n) refl
   where
     go : (b : Bool) → same_move m n ≡ b → same_move m n ≡ false
     go false e = e
-    go true e = absurd (h (ap place_of (same_move-one m n e)))
+    go true e = absurd (h (ap move_place (same_move-one m n e)))
 
-in-least : (lo : ℕ) (ms : List Move) (m : Move) → AscendsFrom place_of lo ms → IsIn m ms → lo ≤ place_of m
+in-least : (lo : ℕ) (ms : List Move) (m : Move) → AscendsFrom move_place lo ms → IsIn m ms → lo ≤ move_place m
 in-least lo [] m h i = absurd i
-in-least lo (n ∷ ms) m h (inl e) = omega (arith, h.0, ap place_of e)
-in-least lo (n ∷ ms) m h (inr i) = omega (arith, h.0, in-least (place_of n + 1) ms m h.1 i)
+in-least lo (n ∷ ms) m h (inl e) = omega (arith, h.0, ap move_place e)
+in-least lo (n ∷ ms) m h (inr i) = omega (arith, h.0, in-least (move_place n + 1) ms m h.1 i)
 
 -- 1 where a truth value says so
 abbrev one_if : Bool → ℕ
@@ -75,16 +75,16 @@ module _ (a : Aim) (d : ℕ) (p : Position) (m : Move) where
       let other : counts (same_move m n) (holds a d v) ≡ one_if (holds a d v) = ap (λ b. counts b (holds a d v)) e in
       omega (arith, count_by-cons (holds a d) v vs, h, other)
 
-  no-more : (lo : ℕ) (ms : List Move) (vs : List Value) → AscendsFrom place_of lo ms → place_of m < lo
+  no-more : (lo : ℕ) (ms : List Move) (vs : List Value) → AscendsFrom move_place lo ms → move_place m < lo
       → AreValuesAfter p ms vs → count_by (holds a d) vs ≡ others_that_hold a d m ms vs + 0
   no-more lo [] [] h less k = refl
   no-more lo [] (v ∷ vs) h less k = absurd k
   no-more lo (n ∷ ms) [] h less k = absurd k
   no-more lo (n ∷ ms) (v ∷ vs) h less k =
-      counted-one v vs ms n 0 (apart m n (λ e. absurd (omega (arith, h.0, less, e)))) (no-more (place_of n + 1) ms vs h.1 (omega (arith, h.0, less)) k.1)
+      counted-one v vs ms n 0 (apart m n (λ e. absurd (omega (arith, h.0, less, e)))) (no-more (move_place n + 1) ms vs h.1 (omega (arith, h.0, less)) k.1)
 
   once : EachHasAtMostOneValue → (lo : ℕ) (ms : List Move) (vs : List Value) (w : Value)
-      → AscendsFrom place_of lo ms → IsIn m ms → AreValuesAfter p ms vs → IsValueOf (after p m) w → holds a d w ≡ true
+      → AscendsFrom move_place lo ms → IsIn m ms → AreValuesAfter p ms vs → IsValueOf (after p m) w → holds a d w ≡ true
       → count_by (holds a d) vs ≡ others_that_hold a d m ms vs + 1
   once law lo [] vs w h i k game held = absurd i
   once law lo (n ∷ ms) [] w h i k game held = absurd k
@@ -93,10 +93,10 @@ module _ (a : Aim) (d : ℕ) (p : Position) (m : Move) where
       let one : one_if (holds a d v) ≡ 1 = ap (λ x. one_if (holds a d x)) same ∙ ap one_if held in
       let mine : counts (same_move m n) (holds a d v) ≡ 0 =
       ap (λ x. counts (same_move m x) (holds a d v)) e ∙ ap (λ b. counts b (holds a d v)) (same_move-refl m) in
-      omega (arith, count_by-cons (holds a d) v vs, one, mine, no-more (place_of n + 1) ms vs h.1 (omega (arith, ap place_of e)) k.1)
+      omega (arith, count_by-cons (holds a d) v vs, one, mine, no-more (move_place n + 1) ms vs h.1 (omega (arith, ap move_place e)) k.1)
   once law lo (n ∷ ms) (v ∷ vs) w h (inr i) k game held =
-      counted-one v vs ms n 1 (apart m n (λ e. absurd (omega (arith, in-least (place_of n + 1) ms m h.1 i, e))))
-      (once law (place_of n + 1) ms vs w h.1 i k.1 game held)
+      counted-one v vs ms n 1 (apart m n (λ e. absurd (omega (arith, in-least (move_place n + 1) ms m h.1 i, e))))
+      (once law (move_place n + 1) ms vs w h.1 i k.1 game held)
 
 only-or-dual : (n k : ℕ) → n ≡ k + 1 → only_or_dual n ≡ (if k == 0 then Only else Dual k)
 only-or-dual n zero e = ap only_or_dual (let z : n ≡ 1 = omega (arith, e) in z)

@@ -16,15 +16,15 @@ use Rattle.study_marks.specs.Asked.{asked_at, asked_of, IsOutside, HasStopped, i
 use Rattle.study_marks.specs.Edits.{Plainly, shifted, edited, edited_by, insert_refusal, shift_refusal}
 use Rattle.study_marks.specs.Kept.{Kept, marked, IsRight}
 use Rattle.study_marks.specs.Stop.{questions_of, IsRefusalOf, IsAccepted, AreAccepted, labels_after, labels_by, IsStopped, asked_by, HasAskedUpTo, IsApplied}
-use Rattle.study_marks.proofs.ValuesAsked.{missing-same}
-use Rattle.study_marks.proofs.PositionsListed.{AreHeld-same, take-one}
+use Rattle.study_marks.proofs.ValuesAsked.{missing-same, unread-same}
+use Rattle.study_marks.proofs.PositionsListed.{AreTablesHeld-same, take-one}
 
 -- tables that are held at one time are held at another
 outside-same : {A : Type 0} (held now : Class → Bool) (ps : List Position) (r : Refusal A)
     → ((c : Class) → now c ≡ held c) → IsOutside now ps r → IsOutside held ps r
 outside-same held now ps OutOfMemory same h = h
 outside-same held now ps (NoTable c) same h = missing-same held now ps c same h
-outside-same held now ps (TableRead f) same h = h
+outside-same held now ps (TableRead f) same h = unread-same held now ps f same h
 outside-same held now ps NoSuchNode same h = h
 outside-same held now ps RootNotAllowed same h = h
 outside-same held now ps AlreadyFirst same h = h
@@ -56,7 +56,7 @@ refusal-same held now s (edits.Promote steps) r same h = h
 refusal-same held now s (edits.Tag name text) r same h = h
 
 accepted-same : {A : Type 0} (held now : Class → Bool) (s : Plainly) (e : Edit A) → ((c : Class) → now c ≡ held c) → IsAccepted now s e → IsAccepted held s e
-accepted-same held now s e same h = record { allowed = h.allowed; found = record { each = AreHeld-same held now (questions_of s e) same h.found.each } }
+accepted-same held now s e same h = record { allowed = h.allowed; found = record { each = AreTablesHeld-same held now (questions_of s e) same h.found.each } }
 
 -- one edit more
 module _ {A : Type 0} where

@@ -202,8 +202,8 @@ refused-before {A = A} {U = U} k steps path m r f answer P way e h a =
 pub outside-told : (A : Type 0) (held : Class → Bool) (asked : List Position) (f : ProbeFault)
     → IsUntold held asked f → IsOutside {A = A} held asked (refused_by f)
 outside-told A held asked (probe.NoTable c) h = h
-outside-told A held asked (probe.TableRead x) h = tt
-outside-told A held asked (probe.PageDamaged c n) h = tt
+outside-told A held asked (probe.TableRead x) h = h
+outside-told A held asked (probe.PageDamaged c n) h = h
 
 pub outside-answer : {A T : Type 0} (held : Class → Bool) (asked : List Position) (f : ProbeFault)
     (r : Result T (Refusal A)) → IsErrAnd r (λ x. x ≡ refused_by f) → IsUntold held asked f

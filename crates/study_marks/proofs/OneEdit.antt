@@ -23,10 +23,6 @@ use Rattle.study_marks.proofs.StartShifted.{broken-marked}
 same-size : (k : Kept) → size_of (marked k).tree ≡ size_of (plain_study (marked k)).tree
 same-size k = ap (λ n. 1 + n) (sym (nodes_in-mapped (λ (x : Mark). tt {0}) (marked k).tree.below))
 
-none-asked : (b : Bool) (n : ℕ) → HasStopped b 0 n n
-none-asked true n = (0, omega arith, refl)
-none-asked false n = refl
-
 module _ {A : Type 0} (held held_now : Class → Bool) (honest honest_now : Type 0) (asked asked_now failed failed_now : ℕ) (old new : Kept) where
   applied-as : (e same : Edit A) (r : Result (Unit {0}) (Refusal A)) → e ≡ same
       → IsApplied held held_now honest honest_now asked asked_now failed failed_now old new same r

@@ -1,7 +1,7 @@
 -- Positions listed in written order, what is asked of them, and what is told.
 use Rattle.std.proofs.Common.{◌≡◌, ℕ, ◌+◌, ◌<◌, ◌≤◌, List, [], ◌∷◌, ◌++◌, length, get_or, take, drop}
 use Rattle.std.proofs.Common.{Bool, true, false, Some, Result, Ok, Err, is_ok, refl, sym, ap, ◌∙◌}
-use Rattle.std.proofs.Common.{arith, zero, suc, subst, inl, inr, append_assoc, length-append}
+use Rattle.std.proofs.Common.{◌⊎◌, arith, zero, suc, subst, inl, inr, append_assoc, length-append}
 use Rattle.std.specs.Prelude.{IfErr, IsErrAnd}
 use Rattle.study_board.specs.Position.{Position}
 use Rattle.study_material.specs.declared.class.Class.{Class}
@@ -16,11 +16,11 @@ use Rattle.study_marks.specs.declared.label.Label.{Label}
 use Rattle.study_marks.specs.declared.label.Told.{Told}
 use Rattle.study_marks.specs.Study.{mapped, IsPlayable}
 use Rattle.study_marks.specs.Bench.{played_by}
-use Rattle.study_marks.specs.Asked.{asked_at, asked_below, AreHeld, IsFirstMissing, counted_times}
+use Rattle.study_marks.specs.Asked.{asked_at, asked_below, AreTablesHeld, IsFirstMissing, IsFaultAt, IsFirstUnread, counted_times}
 use Rattle.study_marks.specs.Told.{IsToldOf, AreTold, AllAreTold, IsUntold, WasAsked}
 use Rattle.study_marks.specs.Renewal.{told_tree, below_at}
 use Rattle.study_marks.specs.Whole.{told_in, retold, retold_tree, firsts, positions_in, asked_each, AreToldOf}
-use Rattle.study_marks.proofs.ValuesAsked.{missing-same}
+use Rattle.study_marks.proofs.ValuesAsked.{missing-same, unread-same}
 use Rattle.study_marks.proofs.FirstIllegalMove.{here}
 use Rattle.study_marks.proofs.LabelsWritten.{nth, below-further, below-nth, firsts-all, counted_times-sum}
 
@@ -110,29 +110,44 @@ pub asked-tree : (p : Position) (f : Forest Label) (ps : List Position) → ps �
 asked-tree p f ps e = ap asked_each e ∙ ap (λ x. asked_at p ++ x) (asked-positions p f)
 
 -- tables that are held, and the first that is not
-AreHeld-append : (held : Class → Bool) (xs ys : List Position) → AreHeld held xs → AreHeld held ys → AreHeld held (xs ++ ys)
-AreHeld-append held [] ys h k = k
-AreHeld-append held (x ∷ xs) ys h k = (h.0, AreHeld-append held xs ys h.1 k)
+AreTablesHeld-append : (held : Class → Bool) (xs ys : List Position) → AreTablesHeld held xs → AreTablesHeld held ys → AreTablesHeld held (xs ++ ys)
+AreTablesHeld-append held [] ys h k = k
+AreTablesHeld-append held (x ∷ xs) ys h k = (h.0, AreTablesHeld-append held xs ys h.1 k)
 
-pub AreHeld-same : (held now : Class → Bool) (xs : List Position) → ((d : Class) → now d ≡ held d) → AreHeld now xs → AreHeld held xs
-AreHeld-same held now [] same h = tt
-AreHeld-same held now (x ∷ xs) same h = ((λ c o. sym (same c) ∙ h.0 c o), AreHeld-same held now xs same h.1)
+pub AreTablesHeld-same : (held now : Class → Bool) (xs : List Position) → ((d : Class) → now d ≡ held d) → AreTablesHeld now xs → AreTablesHeld held xs
+AreTablesHeld-same held now [] same h = tt
+AreTablesHeld-same held now (x ∷ xs) same h = ((λ c o. sym (same c) ∙ h.0 c o), AreTablesHeld-same held now xs same h.1)
 
 missing-front : (held : Class → Bool) (xs ys : List Position) (c : Class) → IsFirstMissing held xs c → IsFirstMissing held (xs ++ ys) c
 missing-front held [] ys c h = absurd h
 missing-front held (x ∷ xs) ys c (inl h) = inl h
 missing-front held (x ∷ xs) ys c (inr h) = inr (h.0, missing-front held xs ys c h.1)
 
-missing-back : (held : Class → Bool) (xs ys : List Position) (c : Class) → AreHeld held xs → IsFirstMissing held ys c → IsFirstMissing held (xs ++ ys) c
+missing-back : (held : Class → Bool) (xs ys : List Position) (c : Class) → AreTablesHeld held xs → IsFirstMissing held ys c → IsFirstMissing held (xs ++ ys) c
 missing-back held [] ys c h k = k
 missing-back held (x ∷ xs) ys c h k = inr (h.0, missing-back held xs ys c h.1 k)
 
+unread-front : (held : Class → Bool) (xs ys : List Position) (f : ProbeFault) → IsFirstUnread held xs f
+    → IsFirstUnread held (xs ++ ys) f
+unread-front held [] ys f h = absurd h
+unread-front held (x ∷ xs) ys f h =
+    (h.0, elim h.1 [ inl here ↦ inl here | inr there ↦ inr (unread-front held xs ys f there) ])
+
+unread-back : (held : Class → Bool) (xs ys : List Position) (f : ProbeFault) → AreTablesHeld held xs
+    → IsFirstUnread held ys f → IsFirstUnread held (xs ++ ys) f
+unread-back held [] ys f h k = k
+unread-back held (x ∷ xs) ys f h k = (h.0, inr (unread-back held xs ys f h.1 k))
+
 untold-middle : (held now : Class → Bool) (xs ys zs : List Position) (f : ProbeFault)
-    → ((d : Class) → now d ≡ held d) → AreHeld held xs → IsUntold now ys f → IsUntold held (xs ++ (ys ++ zs)) f
+    → ((d : Class) → now d ≡ held d) → AreTablesHeld held xs → IsUntold now ys f → IsUntold held (xs ++ (ys ++ zs)) f
 untold-middle held now xs ys zs (probe.NoTable c) same h k =
     missing-back held xs (ys ++ zs) c h (missing-front held ys zs c (missing-same held now ys c same k))
-untold-middle held now xs ys zs (probe.TableRead x) same h k = tt
-untold-middle held now xs ys zs (probe.PageDamaged c n) same h k = tt
+untold-middle held now xs ys zs (probe.TableRead x) same h k =
+    let f = probe.TableRead x in
+    unread-back held xs (ys ++ zs) f h (unread-front held ys zs f (unread-same held now ys f same k))
+untold-middle held now xs ys zs (probe.PageDamaged c n) same h k =
+    let f = probe.PageDamaged c n in
+    unread-back held xs (ys ++ zs) f h (unread-front held ys zs f (unread-same held now ys f same k))
 
 AreToldOf-append : (ps qs : List Position) (ts us : List Told) → AreToldOf ps ts → AreToldOf qs us → AreToldOf (ps ++ qs) (ts ++ us)
 AreToldOf-append [] qs [] us h k = k
@@ -144,7 +159,7 @@ AreToldOf-append (p ∷ ps) qs (t ∷ ts) us h k = (h.0, AreToldOf-append ps qs 
 pub record IsAsked (held now : Class → Bool) (asked asked_now failed failed_now : ℕ) (honest honest_now : Type 0)
     (ps : List Position) (was all : List Told) : Type 0 where
   pub tables : (c : Class) → now c ≡ held c
-  pub found : AreHeld held (asked_each ps)
+  pub found : AreTablesHeld held (asked_each ps)
   pub counts : asked_now ≡ counted_times (length (asked_each ps)) asked
   pub failures : failed_now ≡ failed
   pub stays : honest → honest_now
@@ -164,7 +179,7 @@ asked-none held asked failed honest was = record {
 pub asked-next : (held mid now : Class → Bool) (asked asked_mid asked_now failed failed_mid failed_now : ℕ)
     (honest honest_mid honest_now : Type 0) (ps : List Position) (p : Position) (was all new : List Told)
     → IsAsked held mid asked asked_mid failed failed_mid honest honest_mid ps was all
-    → ((c : Class) → now c ≡ mid c) → AreHeld mid (asked_at p)
+    → ((c : Class) → now c ≡ mid c) → AreTablesHeld mid (asked_at p)
     → asked_now ≡ counted_times (length (asked_at p)) asked_mid → failed_now ≡ failed_mid
     → (honest_mid → honest_now)
     → (honest_mid → (t : Told) × IsToldOf p t × (new ≡ all ++ t ∷ []))
@@ -172,7 +187,8 @@ pub asked-next : (held mid now : Class → Bool) (asked asked_mid asked_now fail
 asked-next held mid now asked asked_mid asked_now failed failed_mid failed_now honest honest_mid honest_now ps p was
     all new h tables found counts failures stays told = record {
       tables = λ c. tables c ∙ h.tables c;
-      found = subst (AreHeld held) (sym one) (AreHeld-append held (asked_each ps) (asked_at p) h.found (AreHeld-same held mid (asked_at p) h.tables found));
+      found = subst (AreTablesHeld held) (sym one)
+          (AreTablesHeld-append held (asked_each ps) (asked_at p) h.found (AreTablesHeld-same held mid (asked_at p) h.tables found));
       counts = counts ∙ ap (counted_times (length (asked_at p))) h.counts ∙ sym (counted_times-sum (length (asked_each ps)) (length (asked_at p)) asked)
           ∙ ap (λ n. counted_times n asked) (sym (ap length one ∙ length-append (asked_each ps) (asked_at p)));
       failures = failures ∙ h.failures;
@@ -217,7 +233,9 @@ module _ (held mid : Class → Bool) (asked asked_mid failed failed_mid : ℕ) (
       let long : length (asked_each xs) ≡ n + (length (asked_at p) + length (asked_each (drop (suc i) xs))) =
       ap length middle ∙ length-append (asked_each (take i xs)) (asked_at p ++ asked_each (drop (suc i) xs))
       ∙ ap (λ m. n + m) (length-append (asked_at p) (asked_each (drop (suc i) xs))) in
-      (n + k.0, omega (arith, k.1, long), k.2 ∙ ap (counted_times k.0) h.counts ∙ sym (counted_times-sum n k.0 asked))
+      let sum : n + suc k.0 ≡ suc (n + k.0) = omega arith in
+      let count = k.2 ∙ ap (counted_times (suc k.0)) h.counts ∙ sym (counted_times-sum n (suc k.0) asked) in
+      (n + k.0, omega (arith, k.1, long), subst (λ m. new ≡ counted_times m asked) sum count)
 
 -- an answer that hands a fault on
 pub same-fault : {T : Type 0} (r : Result T ProbeFault) (f : ProbeFault) (P : ProbeFault → Type 0) → IsErrAnd r (λ x. x ≡ f) → P f → IfErr r P

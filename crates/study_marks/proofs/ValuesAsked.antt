@@ -1,5 +1,5 @@
 -- Values asked one after the other.
-use Rattle.std.proofs.Common.{◌≡◌, ℕ, ◌+◌, ◌≤◌, ◌<◌, List, [], ◌∷◌, ◌++◌, map, length, Bool, true}
+use Rattle.std.proofs.Common.{◌≡◌, ℕ, ◌+◌, ◌≤◌, ◌<◌, ◌/◌, ◌⊎◌, List, [], ◌∷◌, ◌++◌, map, length, Bool, true}
 use Rattle.std.proofs.Common.{false, inl, inr, Result, Ok, Err, refl, sym, ap, ◌∙◌, arith, suc, subst}
 use Rattle.std.proofs.Common.{is_ok, OnOk, IfErr, IsErrOf, ◌↔◌, append_assoc, length-append}
 use Rattle.std.specs.List.{All}
@@ -17,7 +17,8 @@ use Rattle.study_prober.specs.declared.values.ProbeFault.TheVariants as probe
 use Rattle.study_board.specs.Counts.{counted}
 use Rattle.study_marks.specs.Annotated.{AreValuesAfter}
 use Rattle.study_marks.specs.Tally.{Tally, tally_of, with_value, with_last_value, joined}
-use Rattle.study_marks.specs.Asked.{IsHeld, IsFirstMissing, counted_times}
+use Rattle.study_index.specs.Found.{index_of}
+use Rattle.study_marks.specs.Asked.{IsTableHeld, IsFirstMissing, IsFaultAt, IsFirstUnread, counted_times}
 use Rattle.study_marks.specs.Told.{IsUntold, WasAsked}
 
 -- one value more, counted before or after
@@ -42,7 +43,7 @@ counted-more p m ms rest v old mid new (Err f) e g t h = tt
 
 -- tables that are held
 pub held-told : {V : Type 0} (held : Class → Bool) (p : Position) (r : Result V ProbeFault) (v : V) → r ≡ Ok v
-    → ((c : Class) → IsErrOf r (probe.NoTable c) ↔ (IsOf c p × (held c ≡ false))) → IsHeld held p
+    → ((c : Class) → IsErrOf r (probe.NoTable c) ↔ (IsOf c p × (held c ≡ false))) → IsTableHeld held p
 held-told held p r v e h c o = go (held c) refl
   where
     go : (b : Bool) → held c ≡ b → held c ≡ true
@@ -58,11 +59,44 @@ missing-same held now [] c same h = h
 missing-same held now (p ∷ ps) c same (inl h) = inl (h.0, sym (same c) ∙ h.1)
 missing-same held now (p ∷ ps) c same (inr h) = inr ((λ d o. sym (same d) ∙ h.0 d o), missing-same held now ps c same h.1)
 
-pub untold-later : (held now : Class → Bool) (p : Position) (ps : List Position) (f : ProbeFault) → IsHeld held p
+pub unread-same : (held now : Class → Bool) (ps : List Position) (f : ProbeFault) → ((d : Class) → now d ≡ held d)
+    → IsFirstUnread now ps f → IsFirstUnread held ps f
+unread-same held now [] f same h = h
+unread-same held now (p ∷ ps) f same h = (
+  (λ d o. sym (same d) ∙ h.0 d o),
+  elim h.1 [ inl here ↦ inl here | inr there ↦ inr (unread-same held now ps f same there) ],
+)
+
+-- a fault that is not a missing table is of a table that is held
+unread-held : {V : Type 0} (held : Class → Bool) (p : Position) (r : Result V ProbeFault) (f : ProbeFault) → r ≡ Err f
+    → ((c : Class) → f ≡ probe.NoTable c → ⊥)
+    → ((c : Class) → IsErrOf r (probe.NoTable c) ↔ (IsOf c p × (held c ≡ false))) → IsTableHeld held p
+unread-held held p r f e other h c o = go (held c) refl
+  where
+    go : (b : Bool) → held c ≡ b → held c ≡ true
+    go true k = k
+    go false k =
+        let one : r ≡ Err (probe.NoTable c) = (h c).1 (o, k) in
+        let two : Err f ≡ Err (probe.NoTable c) = sym e ∙ one in
+        let three : f ≡ probe.NoTable c = cc in absurd (other c three)
+
+-- the first of some values is not told
+pub untold-here : {V : Type 0} (held : Class → Bool) (p : Position) (ps : List Position) (r : Result V ProbeFault)
+    (f : ProbeFault) → r ≡ Err f → ((c : Class) → IsErrOf r (probe.NoTable c) ↔ (IsOf c p × (held c ≡ false)))
+    → ((c : Class) (n : ℕ) → IsErrOf r (probe.PageDamaged c n) → IsOf c p × (n ≡ index_of p / 4096))
+    → IsUntold held (p ∷ ps) f
+untold-here held p ps r (probe.NoTable c) e h d = inl ((h c).0 e)
+untold-here held p ps r (probe.TableRead x) e h d =
+    (unread-held held p r (probe.TableRead x) e (λ c is. let no : ⊥ = cc in no) h, inl tt)
+untold-here held p ps r (probe.PageDamaged c n) e h d =
+    (unread-held held p r (probe.PageDamaged c n) e (λ b is. let no : ⊥ = cc in no) h, inl (d c n e))
+
+pub untold-later : (held now : Class → Bool) (p : Position) (ps : List Position) (f : ProbeFault) → IsTableHeld held p
     → ((d : Class) → now d ≡ held d) → IsUntold now ps f → IsUntold held (p ∷ ps) f
 untold-later held now p ps (probe.NoTable c) k same h = inr (k, missing-same held now ps c same h)
-untold-later held now p ps (probe.TableRead x) k same h = tt
-untold-later held now p ps (probe.PageDamaged c n) k same h = tt
+untold-later held now p ps (probe.TableRead x) k same h = (k, inr (unread-same held now ps (probe.TableRead x) same h))
+untold-later held now p ps (probe.PageDamaged c n) k same h =
+    (k, inr (unread-same held now ps (probe.PageDamaged c n) same h))
 
 pub untold-more : {T V : Type 0} (held now : Class → Bool) (p : Position) (ps : List Position)
     (a : Result V ProbeFault) (v : V) (r : Result T ProbeFault) → a ≡ Ok v
@@ -74,7 +108,7 @@ untold-more held now p ps a v (Err f) e k same h = untold-later held now p ps f 
 -- how many were asked
 pub asked-more : (n : ℕ) (b : Bool) (old mid new : ℕ) → mid ≡ counted old → WasAsked n b mid new → WasAsked (suc n) b old new
 asked-more n true old mid new e h = h ∙ ap (counted_times n) e
-asked-more n false old mid new e h = (suc h.0, (let z : suc h.0 ≤ suc n = omega (arith, h.1) in z), h.2 ∙ ap (counted_times h.0) e)
+asked-more n false old mid new e h = (suc h.0, (let z : suc h.0 < suc n = omega (arith, h.1) in z), h.2 ∙ ap (counted_times (suc h.0)) e)
 
 -- the moves that are left are legal
 pub legal-rest : (p : Position) (m : Move) (ms rest : List Move) → ms ≡ m ∷ rest → All (λ n. is_legal p n ≡ true) ms → All (λ n. is_legal p n ≡ true) rest

@@ -1,10 +1,11 @@
 -- Which values an edit asks, and what a refusal tells of them.
-use Rattle.std.specs.Prelude.{◌≡◌, ℕ, ◌≤◌, Bool, true, false, ◌⊎◌, List, [], ◌∷◌, ◌++◌, map, zero, suc, Result, Ok, Err, if◌then◌else◌}
+use Rattle.std.specs.Prelude.{◌≡◌, ℕ, ◌<◌, ◌/◌, Bool, true, false, ◌⊎◌, List, [], ◌∷◌, ◌++◌, map, zero, suc, Result, Ok, Err, if◌then◌else◌}
 use Rattle.study_board.specs.Position.{Position}
 use Rattle.study_moves.specs.Rules.{after}
 use Rattle.study_material.specs.declared.class.Class.{Class}
 use Rattle.study_material.specs.Class.{IsOf}
 use Rattle.study_moves.specs.LegalList.{legal_list}
+use Rattle.study_index.specs.Found.{index_of}
 use Rattle.study_prober.specs.declared.values.ProbeFault.{ProbeFault}
 use Rattle.study_prober.specs.declared.values.ProbeFault.TheVariants as probe
 use Rattle.study_tree.specs.Forest.{Forest, none, more}
@@ -29,33 +30,39 @@ module _ {L : Type 0} where
   asked_of s = asked_at s.start.position ++ asked_below s.start.position s.tree.below
 
 -- a table of the position's class is held
-abbrev pub IsHeld : (Class → Bool) → Position → Type 0
-IsHeld held p = (c : Class) → IsOf c p → held c ≡ true
+abbrev pub IsTableHeld : (Class → Bool) → Position → Type 0
+IsTableHeld held p = (c : Class) → IsOf c p → held c ≡ true
 
-abbrev pub AreHeld : (Class → Bool) → List Position → Type 0
-AreHeld held [] = Unit {0}
-AreHeld held (p ∷ ps) = IsHeld held p × AreHeld held ps
+abbrev pub AreTablesHeld : (Class → Bool) → List Position → Type 0
+AreTablesHeld held [] = Unit {0}
+AreTablesHeld held (p ∷ ps) = IsTableHeld held p × AreTablesHeld held ps
 
 -- tables of the classes of all these positions are held
 pub record AllHeld (held : Class → Bool) (asked : List Position) : Type 0 where
-  pub each : AreHeld held asked
+  pub each : AreTablesHeld held asked
 
 -- the class of the first position of which no table is held
 abbrev pub IsFirstMissing : (Class → Bool) → List Position → Class → Type 0
 IsFirstMissing held [] c = ⊥
-IsFirstMissing held (p ∷ ps) c = (IsOf c p × (held c ≡ false)) ⊎ (IsHeld held p × IsFirstMissing held ps c)
+IsFirstMissing held (p ∷ ps) c = (IsOf c p × (held c ≡ false)) ⊎ (IsTableHeld held p × IsFirstMissing held ps c)
 
-abbrev pub IsDeviceFault : ProbeFault → Type 0
-IsDeviceFault (probe.NoTable c) = ⊥
-IsDeviceFault (probe.TableRead f) = Unit {0}
-IsDeviceFault (probe.PageDamaged c n) = Unit {0}
+-- what can be told of a position in place of its value: a device's fault, or damage of the page in which its cell stands
+abbrev pub IsFaultAt : Position → ProbeFault → Type 0
+IsFaultAt p (probe.NoTable c) = ⊥
+IsFaultAt p (probe.TableRead f) = Unit {0}
+IsFaultAt p (probe.PageDamaged c n) = IsOf c p × (n ≡ index_of p / 4096)
+
+-- the fault of the first position whose value is not told; its table, and those of all before it, are held
+abbrev pub IsFirstUnread : (Class → Bool) → List Position → ProbeFault → Type 0
+IsFirstUnread held [] f = ⊥
+IsFirstUnread held (p ∷ ps) f = IsTableHeld held p × (IsFaultAt p f ⊎ IsFirstUnread held ps f)
 
 module _ {A : Type 0} where
   -- what is refused after the plain study's own reasons: for want of memory, or of the first of these values that was not told
   abbrev pub IsOutside : (Class → Bool) → List Position → Refusal A → Type 0
   IsOutside held asked OutOfMemory = Unit {0}
   IsOutside held asked (NoTable c) = IsFirstMissing held asked c
-  IsOutside held asked (TableRead f) = IsDeviceFault f
+  IsOutside held asked (TableRead f) = IsFirstUnread held asked f
   IsOutside held asked NoSuchNode = ⊥
   IsOutside held asked RootNotAllowed = ⊥
   IsOutside held asked AlreadyFirst = ⊥
@@ -101,13 +108,14 @@ abbrev pub counted_times : ℕ → ℕ → ℕ
 counted_times zero n = n
 counted_times (suc k) n = counted_times k (counted n)
 
--- values were asked up to one that was not told, or none was asked
+-- values were asked up to one that was not told, behind some that were, or none was asked
 abbrev pub HasStopped : Bool → ℕ → ℕ → ℕ → Type 0
-HasStopped true n old new = (k : ℕ) × (k ≤ n) × (new ≡ counted_times k old)
+HasStopped true n old new = (k : ℕ) × (k < n) × (new ≡ counted_times (suc k) old)
 HasStopped false n old new = new ≡ old
 
 module _ {T A : Type 0} where
-  -- how many values were asked: as many as there are; fewer, or all, where one was not told; none where the edit was refused before
+  -- how many values were asked: as many as there are; at least one and at most these where one was not told; none where the
+  -- edit was refused before
   abbrev pub HasAsked : ℕ → Result T (Refusal A) → ℕ → ℕ → Type 0
   HasAsked n (Ok x) old new = new ≡ counted_times n old
   HasAsked n (Err e) old new = HasStopped (is_of_tables e) n old new

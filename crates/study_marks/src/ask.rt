@@ -8,7 +8,7 @@ ghost use Rattle.study_moves.specs.LegalList.{legal_list};
 ghost use Rattle.study_retro.specs.declared.value.Value.{Value as AValue};
 ghost use Rattle.study_marks.specs.Annotated.{AreValuesAfter};
 ghost use Rattle.study_marks.specs.Tally.{tally_of, joined};
-ghost use Rattle.study_marks.specs.Asked.{asked_at, AreHeld};
+ghost use Rattle.study_marks.specs.Asked.{asked_at, AreTablesHeld};
 ghost use Rattle.study_marks.specs.Told.{IsToldOf, IsUntold, WasAsked, failures_told};
 
 use crate::label::Told;
@@ -41,7 +41,7 @@ fn ask_after<V: Values>(
     ensures game { V.is_honest values.old → OnOk result ((all : List AValue) × AreValuesAfter p.now moves.now all
         × (tally.new ≡ joined tally.old (tally_of all))) }
     ensures untold { IfErr result (IsUntold (V.held values.old) (map (after p.now) moves.now)) }
-    ensures held { OnOk result (AreHeld (V.held values.old) (map (after p.now) moves.now)) }
+    ensures held { OnOk result (AreTablesHeld (V.held values.old) (map (after p.now) moves.now)) }
     ensures asked { WasAsked (length moves.now) (is_ok result) (V.asked_of values.old) (V.asked_of values.new) }
     ensures failures { V.failed_of values.new ≡ failures_told result (V.failed_of values.old) }
     ensures honest { V.is_honest values.old → V.is_honest values.new }
@@ -66,7 +66,7 @@ fn ask_after<V: Values>(
 pub fn ask<V: Values>(p: &Position, values: &mut V) -> Result<Told, ProbeFault>
     ensures game { V.is_honest values.old → IfOk result (IsToldOf p.now) }
     ensures untold { IfErr result (IsUntold (V.held values.old) (asked_at p.now)) }
-    ensures held { OnOk result (AreHeld (V.held values.old) (asked_at p.now)) }
+    ensures held { OnOk result (AreTablesHeld (V.held values.old) (asked_at p.now)) }
     ensures asked { WasAsked (length (asked_at p.now)) (is_ok result) (V.asked_of values.old) (V.asked_of values.new) }
     ensures failures { V.failed_of values.new ≡ failures_told result (V.failed_of values.old) }
     ensures honest { V.is_honest values.old → V.is_honest values.new }

@@ -25,7 +25,7 @@ use crate::gather::gather;
 use crate::label::Label;
 use crate::marking::aim_of;
 use crate::stipulation::Stipulation;
-use crate::tag::{TagName, place_of};
+use crate::tag::{TagName, tag_place};
 use crate::treework::{add_and_renew, raise_and_renew, remove_and_renew};
 use crate::walk::position_at as node_position;
 use crate::whole::{find_broken, write_all};
@@ -328,7 +328,7 @@ impl<'a, A: Allocator> Bench<'a, A> {
 fn put_text(tags: &mut [Option<ArrayString<64>>; 6], name: TagName, text: ArrayString<64>)
     ensures { map text_of tags.new ≡ slice_set (map text_of tags.old) (place_of_tag name) (Some text.bytes) }
 {
-    tags[place_of(name)] = Some(text);
+    tags[tag_place(name)] = Some(text);
 }
 
 /// The refusal of a shift that breaks the move at the path.

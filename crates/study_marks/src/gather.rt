@@ -5,7 +5,7 @@ ghost use Rattle.study_tree.specs.Tree.{plain_tree, has_spot};
 ghost use Rattle.study_marks.specs.declared.label.Told.{Told as ATold};
 ghost use Rattle.study_tree.specs.Edits.{IsWithin};
 ghost use Rattle.study_marks.specs.Study.{IsPlayable};
-ghost use Rattle.study_marks.specs.Asked.{asked_at, asked_below, AreHeld, IsOutside, HasAsked, failures_after};
+ghost use Rattle.study_marks.specs.Asked.{asked_at, asked_below, AreTablesHeld, IsOutside, HasAsked, failures_after};
 ghost use Rattle.study_marks.specs.Told.{IsToldOf, AllAreTold, IsUntold, WasAsked, failures_told};
 ghost use Rattle.study_marks.specs.Renewal.{told_tree, below_at};
 ghost use Rattle.study_marks.specs.Whole.{positions_in, asked_each, AreToldOf, retold_tree};
@@ -87,7 +87,7 @@ fn ask_one<'a, A: Allocator, V: Values>(
     requires room { vec_len all.old < vec_capacity all.old }
     ensures game { V.is_honest values.old → OnOk result ((t : ATold) × IsToldOf p.now t × (all.new.items ≡ all.old.items ++ t ∷ [])) }
     ensures untold { IfErr result (IsUntold (V.held values.old) (asked_at p.now)) }
-    ensures held { OnOk result (AreHeld (V.held values.old) (asked_at p.now)) }
+    ensures held { OnOk result (AreTablesHeld (V.held values.old) (asked_at p.now)) }
     ensures asked { WasAsked (length (asked_at p.now)) (is_ok result) (V.asked_of values.old) (V.asked_of values.new) }
     ensures failures { V.failed_of values.new ≡ failures_told result (V.failed_of values.old) }
     ensures honest { V.is_honest values.old → V.is_honest values.new }
@@ -109,7 +109,7 @@ fn ask_each<'a, A: Allocator, V: Values>(
     requires room { vec_len all.old + length positions.now ≤ vec_capacity all.old }
     ensures game { V.is_honest values.old → OnOk result ((told : List ATold) × AreToldOf positions.now told × (all.new.items ≡ all.old.items ++ told)) }
     ensures untold { IfErr result (IsUntold (V.held values.old) (asked_each positions.now)) }
-    ensures held { OnOk result (AreHeld (V.held values.old) (asked_each positions.now)) }
+    ensures held { OnOk result (AreTablesHeld (V.held values.old) (asked_each positions.now)) }
     ensures asked { WasAsked (length (asked_each positions.now)) (is_ok result) (V.asked_of values.old) (V.asked_of values.new) }
     ensures failures { V.failed_of values.new ≡ failures_told result (V.failed_of values.old) }
     ensures honest { V.is_honest values.old → V.is_honest values.new }
@@ -133,7 +133,7 @@ pub fn gather<'a, A: Allocator, V: Values>(
     requires playable { IsPlayable position.now (plain_tree tree.now).below }
     ensures game { V.is_honest values.old → IfOk result (λ all. AllAreTold position.now (retold_tree all.items (told_tree (plain_tree tree.now)))) }
     ensures refusal { IfErr result (IsOutside (V.held values.old) (asked_at position.now ++ asked_below position.now (plain_tree tree.now).below)) }
-    ensures found { OnOk result (AreHeld (V.held values.old) (asked_at position.now ++ asked_below position.now (plain_tree tree.now).below)) }
+    ensures found { OnOk result (AreTablesHeld (V.held values.old) (asked_at position.now ++ asked_below position.now (plain_tree tree.now).below)) }
     ensures asked { HasAsked (length (asked_at position.now ++ asked_below position.now (plain_tree tree.now).below)) result
         (V.asked_of values.old) (V.asked_of values.new) }
     ensures failures { V.failed_of values.new ≡ failures_after result (V.failed_of values.old) }

@@ -9,7 +9,7 @@ use Rattle.study_board.specs.declared.men.Kind.TheVariants.{King, Queen, Rook, B
 use Rattle.study_board.specs.Position.{Position, IsValid, in_check}
 use Rattle.study_moves.specs.declared.moves.Move.{Move}
 use Rattle.study_moves.specs.Rules.{is_legal, is_choice, reaches_end}
-use Rattle.study_moves.specs.Order.{place_of, IsBefore}
+use Rattle.study_moves.specs.Order.{move_place, IsBefore}
 use Rattle.study_moves.specs.Game.{IsMate, HasNoMove}
 use Rattle.study_moves.proofs.MenOfList.{found_among, All-among}
 use Rattle.study_moves.proofs.NoMoveBetween.{HasMover-from_is_legal}
@@ -21,30 +21,30 @@ use Rattle.study_moves.proofs.AscendingKeys.{AscendsFrom-pairs, Spans-append, sa
 
 -- what each of a range of numbers gives, one after another
 spans_range : (f : ℕ → List Move) (c base : ℕ)
-    → ((k : ℕ) → Spans place_of (base + c * k) (base + c * (k + 1)) (f k)) → (start n : ℕ)
-    → Spans place_of (base + c * start) (base + c * (start + n)) (flat_map f (range_with_len start n))
+    → ((k : ℕ) → Spans move_place (base + c * k) (base + c * (k + 1)) (f k)) → (start n : ℕ)
+    → Spans move_place (base + c * start) (base + c * (start + n)) (flat_map f (range_with_len start n))
 spans_range f c base h start zero = let e : base + c * start ≤ base + c * (start + 0) = omega arith in e
 spans_range f c base h start (suc n) =
     let e : base + c * (start + 1 + n) ≡ base + c * (start + suc n) = ap (λ k. base + c * k) (omega arith) in
-    subst (λ hi. Spans place_of (base + c * start) hi (flat_map f (range_with_len start (suc n)))) e
-    (Spans-append place_of (base + c * start) (base + c * (start + 1)) (base + c * (start + 1 + n)) (f start)
+    subst (λ hi. Spans move_place (base + c * start) hi (flat_map f (range_with_len start (suc n)))) e
+    (Spans-append move_place (base + c * start) (base + c * (start + 1)) (base + c * (start + 1 + n)) (f start)
     (flat_map f (range_with_len (start + 1) n)) (h start) (spans_range f c base h (start + 1) n))
 
-spans_between : (a x : ℕ) → Spans place_of (512 * a + 8 * x) (512 * a + 8 * (x + 1)) (moves_between a x)
+spans_between : (a x : ℕ) → Spans move_place (512 * a + 8 * x) (512 * a + 8 * (x + 1)) (moves_between a x)
 spans_between a x = (omega arith, (omega arith, (omega arith, (omega arith, (omega arith, omega arith)))))
 
-spans_from : (a : ℕ) → Spans place_of (0 + 512 * a) (0 + 512 * (a + 1)) (moves_from a)
+spans_from : (a : ℕ) → Spans move_place (0 + 512 * a) (0 + 512 * (a + 1)) (moves_from a)
 spans_from a =
     let lo : 512 * a + 8 * 0 ≡ 0 + 512 * a = omega arith in
     let hi : 512 * a + 8 * (0 + 64) ≡ 0 + 512 * (a + 1) = omega arith in
-    subst (λ l. Spans place_of l (0 + 512 * (a + 1)) (moves_from a)) lo
-    (subst (λ u. Spans place_of (512 * a + 8 * 0) u (moves_from a)) hi
+    subst (λ l. Spans move_place l (0 + 512 * (a + 1)) (moves_from a)) lo
+    (subst (λ u. Spans move_place (512 * a + 8 * 0) u (moves_from a)) hi
     (spans_range (moves_between a) 8 (512 * a) (spans_between a) 0 64))
 
-pub AscendsFrom-all_moves : AscendsFrom place_of 0 all_moves
+pub AscendsFrom-all_moves : AscendsFrom move_place 0 all_moves
 unfolding all_moves
 AscendsFrom-all_moves =
-    AscendsFrom-spans place_of (0 + 512 * 0) (0 + 512 * (0 + 64)) (flat_map moves_from (range_with_len 0 64))
+    AscendsFrom-spans move_place (0 + 512 * 0) (0 + 512 * (0 + 64)) (flat_map moves_from (range_with_len 0 64))
     (spans_range moves_from 512 0 spans_from 0 64)
 
 in_range : (f : ℕ → List Move) (m : Move) (start n k : ℕ) → start ≤ k → k < start + n → IsIn m (f k) → IsIn m (flat_map f (range_with_len start n))
@@ -102,15 +102,15 @@ is_legal-in p m i = (IsIn-filter (is_legal p) all_moves m i).1
 pub legal_list_exact : (p : Position) (m : Move) → IsValid p → Contains (legal_list p) m ↔ (is_legal p m ≡ true)
 legal_list_exact p m valid = (λ c. is_legal-in p m (IsIn-from_Contains m (legal_list p) c), λ e. Contains-from_in m (legal_list p) (in_legal p m valid e))
 
-pub AscendsFrom-legal_list : (p : Position) → AscendsFrom place_of 0 (legal_list p)
+pub AscendsFrom-legal_list : (p : Position) → AscendsFrom move_place 0 (legal_list p)
 unfolding legal_list
-AscendsFrom-legal_list p = AscendsFrom-filter place_of (is_legal p) 0 all_moves AscendsFrom-all_moves
+AscendsFrom-legal_list p = AscendsFrom-filter move_place (is_legal p) 0 all_moves AscendsFrom-all_moves
 
 -- an ordered list of exactly the legal moves is the list
 pub legal_list_is : (p : Position) (xs : List Move) → IsValid p
     → ((m : Move) → Contains xs m ↔ (is_legal p m ≡ true)) → AllPairs IsBefore xs → xs ≡ legal_list p
 legal_list_is p xs valid legal ordered =
-    same_list place_of 0 0 xs (legal_list p) (AscendsFrom-pairs place_of 0 xs (λ k d lt. omega arith) ordered) (AscendsFrom-legal_list p)
+    same_list move_place 0 0 xs (legal_list p) (AscendsFrom-pairs move_place 0 xs (λ k d lt. omega arith) ordered) (AscendsFrom-legal_list p)
     (λ m i. in_legal p m valid ((legal m).0 (Contains-from_in m xs i))) (λ m i. IsIn-from_Contains m xs ((legal m).1 (is_legal-in p m i)))
 
 empty_or : (p : Position) (xs : List Move) → ((m : Move) → IsIn m xs → is_legal p m ≡ true)

@@ -13,7 +13,7 @@ use Rattle.study_notation.specs.declared.fault.FenFault.TheVariants.{KingCount, 
 use Rattle.study_notation.specs.declared.start.Start.{Start}
 use Rattle.study_notation.specs.Words.{words}
 use Rattle.study_notation.specs.Fen.{fields_of, squares_of, is_rank, placement, placement_fault, position_of, count_of, start_of}
-use Rattle.study_notation.specs.FenSpelling.{rank_text, ranks_text, placement_text}
+use Rattle.study_notation.specs.FenSpelling.{rank_field, ranks_text, placement_text}
 use Rattle.study_moves.specs.declared.moves.Move.{Move}
 use Rattle.study_moves.specs.Rules.{is_legal, is_legal_for, can_go, goes, has_side, men_after, stays, is_en_passant, pawn_steps, pawn_double_steps, pawn_takes}
 use Rattle.study_notation.specs.San.{san_text}
@@ -45,7 +45,7 @@ four_fields = refl
 
 -- (a whole `fen_text` does not compute: the digits of a number are closed in std)
 written : placement_text row_2.position.men ≡ codes "k7/8/2K5/8/8/8/8/7R"
-unfolding placement_text ranks_text rank_text
+unfolding placement_text ranks_text rank_field
 written = refl
 
 -- row 11: two knights that reach e2 from two files; a pinned knight is no rival

@@ -21,7 +21,7 @@ use Rattle.study_board.specs.declared.men.Man.{Man}
 use Rattle.study_notation.specs.Fen.{placement_fault, position_of, is_run, is_known, is_rank}
 use Rattle.study_notation.specs.Fen.{is_digit, squares, squares_of, men_from, placement}
 use Rattle.study_notation.specs.Fen.{side_of, passed_of, count_of, fields_of, start_of}
-use Rattle.study_notation.specs.FenSpelling.{man_letter, piece_on, row, run, spelled, rank_text, ranks_text, placement_text, side_text, passed_text, fen_text}
+use Rattle.study_notation.specs.FenSpelling.{man_letter, piece_on, row, run, spelled, rank_field, ranks_text, placement_text, side_text, passed_text, fen_text}
 use Rattle.std.specs.List.{All}
 use Rattle.std.proofs.lemmas.List.Elements.{All-head, All-tail}
 use Rattle.study_board.specs.Position.{IsValid, AllAbove, IsAscending, could_be_passed, passed_possible}
@@ -147,49 +147,49 @@ known-spelled n (Some p ∷ cells) le =
     (and_from (is_known l) (list_all is_known (spelled 0 cells)) ((letter_again p.side p.kind).1)
     (known-spelled 0 cells (omega arith)))
 
-rank_squares : (men : List Man) (rank : ℕ) → squares (rank_text men rank) ≡ row men (8 * rank) 8
-unfolding rank_text
+rank_squares : (men : List Man) (rank : ℕ) → squares (rank_field men rank) ≡ row men (8 * rank) 8
+unfolding rank_field
 rank_squares men rank = squares-spelled 0 (row men (8 * rank) 8) (omega arith)
 
-rank_is : (men : List Man) (rank : ℕ) → is_rank (rank_text men rank) ≡ true
-unfolding is_rank rank_text
-rank_is men rank = and_from (list_all is_known (rank_text men rank)) (eqb (length (squares (rank_text men rank))) 8)
+rank_is : (men : List Man) (rank : ℕ) → is_rank (rank_field men rank) ≡ true
+unfolding is_rank rank_field
+rank_is men rank = and_from (list_all is_known (rank_field men rank)) (eqb (length (squares (rank_field men rank))) 8)
     (known-spelled 0 (row men (8 * rank) 8) (omega arith))
-    (eq-eqb (length (squares (rank_text men rank))) 8 (ap length (rank_squares men rank)))
+    (eq-eqb (length (squares (rank_field men rank))) 8 (ap length (rank_squares men rank)))
 
-rank_above : (men : List Man) (rank : ℕ) → Above 47 (rank_text men rank)
-unfolding rank_text
+rank_above : (men : List Man) (rank : ℕ) → Above 47 (rank_field men rank)
+unfolding rank_field
 rank_above men rank = spelled-above 0 (row men (8 * rank) 8)
 
 -- ---- the placement
 
 abbrev pub parts : List Man → ℕ → List (List ℕ)
-parts men zero = rank_text men 0 ∷ []
-parts men (suc k) = rank_text men (suc k) ∷ parts men k
+parts men zero = rank_field men 0 ∷ []
+parts men (suc k) = rank_field men (suc k) ∷ parts men k
 
 ranks_split : (men : List Man) (k : ℕ) → slice_split is_stroke (ranks_text men k) ≡ parts men k
 unfolding ranks_text
-ranks_split men zero = split_whole is_stroke (rank_text men 0) (Lacks-above 47 (rank_text men 0) (rank_above men 0))
+ranks_split men zero = split_whole is_stroke (rank_field men 0) (Lacks-above 47 (rank_field men 0) (rank_above men 0))
 ranks_split men (suc k) =
-    split_cut is_stroke (rank_text men (suc k)) 47 (ranks_text men k)
-    (Lacks-above 47 (rank_text men (suc k)) (rank_above men (suc k))) refl
-    ∙ ap (λ (ps : List (List ℕ)). rank_text men (suc k) ∷ ps) (ranks_split men k)
+    split_cut is_stroke (rank_field men (suc k)) 47 (ranks_text men k)
+    (Lacks-above 47 (rank_field men (suc k)) (rank_above men (suc k))) refl
+    ∙ ap (λ (ps : List (List ℕ)). rank_field men (suc k) ∷ ps) (ranks_split men k)
 
 ranks_above : (men : List Man) (k : ℕ) → Above 32 (ranks_text men k)
 unfolding ranks_text
-ranks_above men zero = Above-weaker 32 47 (rank_text men 0) (omega arith) (rank_above men 0)
+ranks_above men zero = Above-weaker 32 47 (rank_field men 0) (omega arith) (rank_above men 0)
 ranks_above men (suc k) =
-    Above-append 32 (rank_text men (suc k)) (47 ∷ ranks_text men k)
-    (Above-weaker 32 47 (rank_text men (suc k)) (omega arith) (rank_above men (suc k)))
+    Above-append 32 (rank_field men (suc k)) (47 ∷ ranks_text men k)
+    (Above-weaker 32 47 (rank_field men (suc k)) (omega arith) (rank_above men (suc k)))
     (omega arith, ranks_above men k)
 
 all_ranks : (men : List Man) (k : ℕ) → list_all is_rank (parts men k) ≡ true
 all_ranks men zero = rw (rank_is men 0) refl
-all_ranks men (suc k) = and_from (is_rank (rank_text men (suc k))) (list_all is_rank (parts men k)) (rank_is men (suc k)) (all_ranks men k)
+all_ranks men (suc k) = and_from (is_rank (rank_field men (suc k))) (list_all is_rank (parts men k)) (rank_is men (suc k)) (all_ranks men k)
 
-rows_of : (men : List Man) (rs : List ℕ) → flat_map squares (map (rank_text men) rs) ≡ flat_map (λ r. row men (8 * r) 8) rs
+rows_of : (men : List Man) (rs : List ℕ) → flat_map squares (map (rank_field men) rs) ≡ flat_map (λ r. row men (8 * r) 8) rs
 rows_of men [] = refl
-rows_of men (r ∷ rs) = ap (λ (xs : List (Option Piece)). xs ++ flat_map squares (map (rank_text men) rs))
+rows_of men (r ∷ rs) = ap (λ (xs : List (Option Piece)). xs ++ flat_map squares (map (rank_field men) rs))
     (rank_squares men r) ∙ ap (λ (xs : List (Option Piece)). row men (8 * r) 8 ++ xs) (rows_of men rs)
 
 all_rows : (men : List Man) → flat_map squares (reverse (parts men 7)) ≡ row men 0 64
@@ -314,14 +314,14 @@ passed_word (Some at) = ((omega arith, (omega arith, tt)), omega arith)
 count_word : (n : ℕ) → n ≤ 9999 → Above 32 (decimal n) × (0 < length (decimal n))
 count_word n le = let is = decimal_is_IsNumeral n (omega arith) in (digits_above (decimal n) is.0.1, decimal_nonempty n (omega arith))
 
-rank_long : (men : List Man) (rank : ℕ) → 0 < length (rank_text men rank)
-rank_long men rank = elim (rank_text men rank) as (λ (t : List ℕ). squares t ≡ row men (8 * rank) 8 → 0 < length t)
+rank_long : (men : List Man) (rank : ℕ) → 0 < length (rank_field men rank)
+rank_long men rank = elim (rank_field men rank) as (λ (t : List ℕ). squares t ≡ row men (8 * rank) 8 → 0 < length t)
     [ [] ↦ λ e. absurd cc | b ∷ bs ↦ λ e. omega arith ] (rank_squares men rank)
 
 ranks_long : (men : List Man) (k : ℕ) → 0 < length (ranks_text men k)
 unfolding ranks_text
 ranks_long men zero = rank_long men 0
-ranks_long men (suc k) = omega (arith, length-append (rank_text men (suc k)) (47 ∷ ranks_text men k))
+ranks_long men (suc k) = omega (arith, length-append (rank_field men (suc k)) (47 ∷ ranks_text men k))
 
 placement_word : (men : List Man) → Above 32 (placement_text men) × (0 < length (placement_text men))
 unfolding placement_text

@@ -12,7 +12,7 @@ use Rattle.study_board.specs.EqualLaws.{side_self, sides_equal, kind_self, kinds
 use Rattle.study_board.specs.Position.{Position, IsValid, man_at}
 use Rattle.study_moves.specs.declared.moves.Move.{Move}
 use Rattle.study_moves.specs.Rules.{is_legal, is_pawn, is_choice, reaches_end}
-use Rattle.study_moves.specs.Order.{place_of}
+use Rattle.study_moves.specs.Order.{move_place}
 use Rattle.study_moves.proofs.HowMenGo.{IsCapture}
 use Rattle.study_moves.proofs.MenOfList.{IsAmong, found_among, list_any-from, some_among}
 use Rattle.study_moves.proofs.NoMoveBetween.{IsMoveOf, HasMover-from_is_legal}
@@ -269,7 +269,7 @@ alone_matches p m man valid e here =
     let both : Some found.0 ≡ Some man = sym found.1.here ∙ here in
     let same : found.0 ≡ man = cc in
     let h : IsMove p man m = subst (λ (z : Man). IsMove p z m) same found.1 in
-    alone place_of 0 (matches p (san_for p man m)) (legal_list p) m (AscendsFrom-legal_list p)
+    alone move_place 0 (matches p (san_for p man m)) (legal_list p) m (AscendsFrom-legal_list p)
     (in_legal p m valid e) (matches_at p (san_for p man m) man m here ∙ itself p man m h)
     (λ n i t.
     let k = IsMove-from p n (is_legal-in p n i) in

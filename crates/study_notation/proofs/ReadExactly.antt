@@ -4,7 +4,7 @@ use Rattle.std.specs.Prelude.{◌↔◌, Result, Ok, Err, if◌then◌else◌}
 use Rattle.std.specs.List.{filter}
 use Rattle.study_board.specs.Position.{Position, IsValid}
 use Rattle.study_moves.specs.declared.moves.Move.{Move}
-use Rattle.study_moves.specs.Order.{place_of}
+use Rattle.study_moves.specs.Order.{move_place}
 use Rattle.study_notation.specs.declared.san.San.{San}
 use Rattle.study_notation.specs.declared.fault.SanFault.{SanFault}
 use Rattle.study_notation.specs.declared.fault.SanFault.TheVariants.{NotSan, CastlingLeftOut, NoSuchMove, Ambiguous}
@@ -24,11 +24,11 @@ pub record Tells (r : Result Move SanFault) (san : Type 0) (M : Move → Type 0)
   pub left_out : (r ≡ Err CastlingLeftOut) ↔ (¬ san × (castling ≡ true))
   pub not_san : (r ≡ Err NotSan) ↔ (¬ san × (castling ≡ false))
 
-differ : (lo : ℕ) (m n : Move) (ms : List Move) → AscendsFrom place_of lo (m ∷ n ∷ ms) → m ≡ n → ⊥
-differ lo m n ms h e = let lt = h.1.0 in let same : place_of m ≡ place_of n = ap place_of e in absurd (omega arith)
+differ : (lo : ℕ) (m n : Move) (ms : List Move) → AscendsFrom move_place lo (m ∷ n ∷ ms) → m ≡ n → ⊥
+differ lo m n ms h e = let lt = h.1.0 in let same : move_place m ≡ move_place n = ap move_place e in absurd (omega arith)
 
 told_by_list : (ms : List Move) (san : Type 0) (M : Move → Type 0) (castling : Bool) → san
-    → AscendsFrom place_of 0 ms → ((m : Move) → M m → IsIn m ms) → ((m : Move) → IsIn m ms → M m)
+    → AscendsFrom move_place 0 ms → ((m : Move) → M m → IsIn m ms) → ((m : Move) → IsIn m ms → M m)
     → Tells (picked ms) san M castling
 told_by_list [] san M castling s h into out = record {
   one = λ m. (λ e. absurd (let no : ⊥ = cc in no), λ a. absurd (into m a.0));
@@ -92,7 +92,7 @@ exactly p text valid = go (san_of text) refl
     go (Some s) e =
         let said = (parts_spelled text s).0 e in
         told_by_list (filter (matches p s) (legal_list p)) (IsSan text) (Matches p text) (is_castling text) (s, said)
-        (AscendsFrom-filter place_of (matches p s) 0 (legal_list p) (AscendsFrom-legal_list p))
+        (AscendsFrom-filter move_place (matches p s) 0 (legal_list p) (AscendsFrom-legal_list p))
         (λ m a.
         let both : Some a.1.0 ≡ Some s = sym ((parts_spelled text a.1.0).1 a.1.1) ∙ e in
         let same : a.1.0 ≡ s = cc in

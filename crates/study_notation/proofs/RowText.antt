@@ -6,13 +6,13 @@ use Rattle.std.proofs.lemmas.Bool.{eqb-true, ne_eqb, cases_Bool}
 use Rattle.std.proofs.lemmas.List.{append-nil}
 use Rattle.study_notation.specs.declared.placement.Piece.{Piece}
 use Rattle.study_board.specs.declared.men.Man.{Man}
-use Rattle.study_notation.specs.FenSpelling.{man_letter, piece_on, row, run, spelled, rank_text, ranks_text, placement_text}
+use Rattle.study_notation.specs.FenSpelling.{man_letter, piece_on, row, run, spelled, rank_field, ranks_text, placement_text}
 
 unfoldable pub rest_text : List Man → ℕ → ℕ → ℕ → List ℕ
 rest_text men at n empty = spelled empty (row men at n)
 
-pub rest_init : (men : List Man) (rank at : ℕ) → at ≡ 8 * rank → rest_text men at 8 0 ≡ rank_text men rank
-unfolding rest_text rank_text
+pub rest_init : (men : List Man) (rank at : ℕ) → at ≡ 8 * rank → rest_text men at 8 0 ≡ rank_field men rank
+unfolding rest_text rank_field
 rest_init men rank at e = ap (λ k. spelled 0 (row men k 8)) e
 
 pub rest_none : (men : List Man) (at at' n m empty : ℕ) → n ≡ m + 1 → at' ≡ at + 1 → piece_on men at ≡ None
@@ -106,19 +106,19 @@ occupied-add men at (suc n) k =
     (elim (piece_on men at) as (λ o. count (o ∷ row men (at + 1) (n + k)) ≡ count (o ∷ row men (at + 1) n) + count
     (row men (at + 1 + n) k)) [ None ↦ others | Some p ↦ omega (arith, others) ])
 
-length-rank_text : (men : List Man) (rank : ℕ) → length (rank_text men rank) ≤ 1 + 2 * occupied men (8 * rank) 8
-unfolding rank_text occupied
-length-rank_text men rank = length-spelled 0 (row men (8 * rank) 8)
+length-rank_field : (men : List Man) (rank : ℕ) → length (rank_field men rank) ≤ 1 + 2 * occupied men (8 * rank) 8
+unfolding rank_field occupied
+length-rank_field men rank = length-spelled 0 (row men (8 * rank) 8)
 
 pub length-ranks_text : (men : List Man) (k : ℕ) → length (ranks_text men k) ≤ 2 * k + 1 + 2 * occupied men 0 (8 * (k + 1))
 unfolding ranks_text
-length-ranks_text men zero = omega (arith, length-rank_text men 0)
+length-ranks_text men zero = omega (arith, length-rank_field men 0)
 length-ranks_text men (suc k) =
     let e : 8 * (suc k + 1) ≡ 8 * (k + 1) + 8 = omega arith in
     let f : 0 + 8 * (k + 1) ≡ 8 * suc k = omega arith in
     let sum = occupied-add men 0 (8 * (k + 1)) 8 in
     let there : occupied men (0 + 8 * (k + 1)) 8 ≡ occupied men (8 * suc k) 8 = ap (λ a. occupied men a 8) f in
-    rw e (omega (arith, sum, there, length-append (rank_text men (suc k)) (47 ∷ ranks_text men k), length-rank_text men (suc k), length-ranks_text men k))
+    rw e (omega (arith, sum, there, length-append (rank_field men (suc k)) (47 ∷ ranks_text men k), length-rank_field men (suc k), length-ranks_text men k))
 
 pub length-placement_text : (men : List Man) → length men ≤ 4 → length (placement_text men) ≤ 23
 unfolding placement_text
@@ -129,18 +129,18 @@ unfoldable pub below : List Man → ℕ → List ℕ
 below men zero = []
 below men (suc k) = 47 ∷ ranks_text men k
 
-pub ranks_below : (men : List Man) (k : ℕ) → ranks_text men k ≡ rank_text men k ++ below men k
+pub ranks_below : (men : List Man) (k : ℕ) → ranks_text men k ≡ rank_field men k ++ below men k
 unfolding ranks_text below
-ranks_below men zero = sym (append-nil (rank_text men 0))
+ranks_below men zero = sym (append-nil (rank_field men 0))
 ranks_below men (suc k) = refl
 
-pub below_step : (men : List Man) (n k : ℕ) → n ≡ k + 1 → below men n ≡ 47 ∷ (rank_text men k ++ below men k)
+pub below_step : (men : List Man) (n k : ℕ) → n ≡ k + 1 → below men n ≡ 47 ∷ (rank_field men k ++ below men k)
 unfolding below
 below_step men n k e =
     let e2 : n ≡ suc k = omega arith in
     ap (below men) e2 ∙ ap (λ (t : List ℕ). 47 ∷ t) (ranks_below men k)
 
-pub placement_below : (men : List Man) → placement_text men ≡ rank_text men 7 ++ below men 7
+pub placement_below : (men : List Man) → placement_text men ≡ rank_field men 7 ++ below men 7
 unfolding placement_text
 placement_below men = ranks_below men 7
 
@@ -176,10 +176,10 @@ some_written out out1 out2 total men at at' n m empty l p e e' some le o1 o2 inv
 
 -- a rank is written
 pub below_written : (out out1 out2 total : List ℕ) (men : List Man) (n k : ℕ) → n ≡ k + 1 → out1 ≡ out ++ 47 ∷ []
-    → out2 ≡ out1 ++ rank_text men k → out ++ below men n ≡ total → out2 ++ below men k ≡ total
+    → out2 ≡ out1 ++ rank_field men k → out ++ below men n ≡ total → out2 ++ below men k ≡ total
 below_written out out1 out2 total men n k e o1 o2 inv =
-    rw (o2, o1) (append_assoc (out ++ 47 ∷ []) (rank_text men k) (below men k) ∙ append_assoc out (47 ∷ [])
-    (rank_text men k ++ below men k) ∙ ap (λ (t : List ℕ). out ++ t) (sym (below_step men n k e)) ∙ inv)
+    rw (o2, o1) (append_assoc (out ++ 47 ∷ []) (rank_field men k) (below men k) ∙ append_assoc out (47 ∷ [])
+    (rank_field men k ++ below men k) ∙ ap (λ (t : List ℕ). out ++ t) (sym (below_step men n k e)) ∙ inv)
 
-pub len_below : (men : List Man) (n k : ℕ) → n ≡ k + 1 → length (below men n) ≡ 1 + length (rank_text men k) + length (below men k)
-len_below men n k e = omega (arith, ap length (below_step men n k e), length-append (rank_text men k) (below men k))
+pub len_below : (men : List Man) (n k : ℕ) → n ≡ k + 1 → length (below men n) ≡ 1 + length (rank_field men k) + length (below men k)
+len_below men n k e = omega (arith, ap length (below_step men n k e), length-append (rank_field men k) (below men k))

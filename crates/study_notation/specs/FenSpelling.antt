@@ -34,13 +34,13 @@ spelled n [] = run n
 spelled n (None ∷ cells) = spelled (n + 1) cells
 spelled n (Some p ∷ cells) = run n ++ (man_letter p.side p.kind ∷ spelled 0 cells)
 
-unfoldable pub rank_text : List Man → ℕ → List ℕ
-rank_text men rank = spelled 0 (row men (8 * rank) 8)
+unfoldable pub rank_field : List Man → ℕ → List ℕ
+rank_field men rank = spelled 0 (row men (8 * rank) 8)
 
 -- this rank, and behind a stroke those below it
 unfoldable pub ranks_text : List Man → ℕ → List ℕ
-ranks_text men zero = rank_text men 0
-ranks_text men (suc k) = rank_text men (suc k) ++ (47 ∷ ranks_text men k)
+ranks_text men zero = rank_field men 0
+ranks_text men (suc k) = rank_field men (suc k) ++ (47 ∷ ranks_text men k)
 
 unfoldable pub placement_text : List Man → List ℕ
 placement_text men = ranks_text men 7

@@ -1,7 +1,7 @@
 //! Writing a FEN text.
 ghost use Rattle.std.specs.Prelude.{◌≡◌, ◌<◌, ◌≤◌, ◌+◌, ◌*◌, ◌++◌, ◌∷◌, [], length, decimal};
 ghost use Rattle.arrayvec.specs.ArrayString.{array_string_len};
-ghost use Rattle.study_notation.specs.FenSpelling.{man_letter, piece_on, run, rank_text, placement_text, side_text, square_text, passed_text, fen_text};
+ghost use Rattle.study_notation.specs.FenSpelling.{man_letter, piece_on, run, rank_field, placement_text, side_text, square_text, passed_text, fen_text};
 
 use crate::Start;
 use crate::placement::Piece;
@@ -68,8 +68,8 @@ fn push_run(out: &mut ArrayString<64>, n: u8)
 // The squares of a rank.
 fn write_rank(out: &mut ArrayString<64>, men: &[Man], rank: u8)
     requires low { rank < 8 }
-    requires room { array_string_len out.old + length (rank_text men.now rank) ≤ 64 }
-    ensures { out.new.bytes ≡ out.old.bytes ++ rank_text men.now rank }
+    requires room { array_string_len out.old + length (rank_field men.now rank) ≤ 64 }
+    ensures { out.new.bytes ≡ out.old.bytes ++ rank_field men.now rank }
 {
     let mut empty = 0u8;
     for file in 0..8u8 {

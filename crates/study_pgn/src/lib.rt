@@ -18,4 +18,5 @@ mod writing;
 
 pub use fault::PgnFault;
 pub use laws::lines_are_greedy;
+pub use tags::tag_name;
 pub use writing::write_pgn;

@@ -4,7 +4,7 @@ use Rattle.std.proofs.lemmas.Bool.{false≢true}
 use Rattle.std.proofs.lemmas.Bool.Decides.{nat_tests}
 use Rattle.std.specs.Prelude.{Result, Ok, Err, Some, None, IfErr, IsErrAnd, IsErrOf, MatchOption}
 use Rattle.study_material.specs.declared.class.Class.{Class}
-use Rattle.study_retro.specs.Table.{place_of}
+use Rattle.study_retro.specs.Table.{class_place}
 use Rattle.study_tablefile.specs.declared.fault.SourceFault.{SourceFault}
 use Rattle.study_tablefile.specs.declared.fault.SourceFault.TheVariants.{Device}
 use Rattle.study_tablefile.specs.declared.fault.FileFault.{FileFault}
@@ -36,11 +36,11 @@ alike n m f = grind (arith, nat_tests)
 other_fault : (c d : Class) → (d ≡ c → ⊥) → class_fault c (Ok d) ≡ Some (OtherClass d)
 other_fault c d f = elim (same_class d c) [
   | inl e ↦ absurd (f e)
-  | inr far ↦ rw (differ (place_of d) (place_of c) far) refl
+  | inr far ↦ rw (differ (class_place d) (class_place c) far) refl
 ]
 
 no_fault : (c d : Class) → d ≡ c → class_fault c (Ok d) ≡ None
-no_fault c d e = rw (alike (place_of d) (place_of c) (ap place_of e)) refl
+no_fault c d e = rw (alike (class_place d) (class_place c) (ap class_place e)) refl
 
 -- a header was told: the fault is the class's
 pub fault_told : (May : Result (List ℕ) SourceFault → Type 0) (held : Bool) (c : Class) (h : Header) (r : Result (Unit {0}) PagedFault) → held ≡ false

@@ -5,7 +5,7 @@ use Rattle.std.specs.Prelude.{Option, Some, is_some, Result, Ok, Err, IfOk, OnEr
 use Rattle.std.proofs.lemmas.Bool.{false≢true}
 use Rattle.study_material.specs.declared.class.Class.{Class}
 use Rattle.study_retro.specs.declared.value.Value.{Value}
-use Rattle.study_retro.specs.Table.{Table, place_of}
+use Rattle.study_retro.specs.Table.{Table, class_place}
 use Rattle.study_tablefile.specs.declared.fault.SourceFault.{SourceFault}
 use Rattle.study_tablefile.specs.declared.source.Header.{Header}
 use Rattle.study_tablefile.specs.Source.{Question, of_page, is_whole_page}
@@ -32,8 +32,8 @@ module _ {S : Type 0} (gives : S → Question → Result (List ℕ) SourceFault 
 
   -- what two states of one source that is held may answer
   pub alike_after : (xs : List (Option (HeldSource S))) (c d : Class) (h k i j : HeldSource S)
-      → place_of c < length xs → held_of xs c ≡ Some h → GiveAlike gives h.source k.source
-      → held_of xs d ≡ Some i → held_of (set xs (place_of c) (Some k)) d ≡ Some j → GiveAlike gives i.source j.source
+      → class_place c < length xs → held_of xs c ≡ Some h → GiveAlike gives h.source k.source
+      → held_of xs d ≡ Some i → held_of (set xs (class_place c) (Some k)) d ≡ Some j → GiveAlike gives i.source j.source
   alike_after xs c d h k i j small is alike was now = elim (held_either xs c d k j small now) [
     | inl same ↦
         let one : h ≡ i = some_same h i (sym is ∙ ap (λ (x : Class). held_of xs x) same.0 ∙ was) in
@@ -61,19 +61,19 @@ module _ {S : Type 0} (gives : S → Question → Result (List ℕ) SourceFault 
   module _ {V : Type 0} (cells : V → List ℕ) where
     -- a source was asked, and at most a page of it is kept more
     pub given_after : (xs : List (Option (HeldSource S))) (kept kept' : List (PageKey × V)) (c : Class)
-        (h k : HeldSource S) → AreGiven gives cells xs kept → place_of c < length xs → held_of xs c ≡ Some h
+        (h k : HeldSource S) → AreGiven gives cells xs kept → class_place c < length xs → held_of xs c ≡ Some h
         → h.header.class ≡ c
         → k.header ≡ h.header → GiveAlike gives h.source k.source
-        → ((e : PageKey × V) → Contains kept' e → Contains kept e ⊎ ((e.0.class ≡ place_of c) × IsGivenPage gives h e.0.number (cells e.1)))
-        → AreGiven gives cells (set xs (place_of c) (Some k)) kept'
+        → ((e : PageKey × V) → Contains kept' e → Contains kept e ⊎ ((e.0.class ≡ class_place c) × IsGivenPage gives h e.0.number (cells e.1)))
+        → AreGiven gives cells (set xs (class_place c) (Some k)) kept'
     given_after xs kept kept' c h k was small is of_class header alike more = record { given = after }
       where
-        after : (e : PageKey × V) (d : Class) (j : HeldSource S) → Contains kept' e → e.0.class ≡ place_of d
-            → held_of (set xs (place_of c) (Some k)) d ≡ Some j → IsGivenPage gives j e.0.number (cells e.1)
+        after : (e : PageKey × V) (d : Class) (j : HeldSource S) → Contains kept' e → e.0.class ≡ class_place d
+            → held_of (set xs (class_place c) (Some k)) d ≡ Some j → IsGivenPage gives j e.0.number (cells e.1)
         after e d j i at now = elim (held_either xs c d k j small now) [
           | inl same ↦
               let here : IsGivenPage gives h e.0.number (cells e.1) = elim (more e i) [
-                | inl old ↦ was.given e c h old (at ∙ ap place_of (sym same.0)) is
+                | inl old ↦ was.given e c h old (at ∙ ap class_place (sym same.0)) is
                 | inr new ↦ new.1
               ] in
               subst (λ (x : HeldSource S). IsGivenPage gives x e.0.number (cells e.1)) same.1 (page_on h k e.0.number (cells e.1) header alike here)
@@ -87,10 +87,10 @@ module _ {S : Type 0} (gives : S → Question → Result (List ℕ) SourceFault 
     pub given_with : (honest : S → Table → ℕ → Type 0) (xs : List (Option (HeldSource S)))
         (kept : List (PageKey × V)) (c : Class) (k : HeldSource S) → IsKept honest cells xs kept
         → AreGiven gives cells xs kept
-        → is_some (held_of xs c) ≡ false → place_of c < length (places xs) → AreGiven gives cells (set (places xs) (place_of c) (Some k)) kept
+        → is_some (held_of xs c) ≡ false → class_place c < length (places xs) → AreGiven gives cells (set (places xs) (class_place c) (Some k)) kept
     given_with honest xs kept c k kept_was was none room = record {
       given = λ e d j i at now. elim (held_either (places xs) c d k j room now) [
-        | inl same ↦ absurd (false≢true (sym none ∙ kept_was.held e c i (at ∙ ap place_of (sym same.0))))
+        | inl same ↦ absurd (false≢true (sym none ∙ kept_was.held e c i (at ∙ ap class_place (sym same.0))))
         | inr far ↦ was.given e d j i at (sym (held_placed xs d) ∙ far.1)
       ];
     }

@@ -5,16 +5,16 @@ use Rattle.std.specs.Prelude.{Option, Some, None, is_some}
 use Rattle.std.proofs.lemmas.List.{get_or-set_same, get_or-set_other, length-set, length-replicate, get_or-replicate, get_or_past, get_or_default}
 use Rattle.std.proofs.lemmas.Bool.{cases_lt, false≢true}
 use Rattle.study_material.specs.declared.class.Class.{Class}
-use Rattle.study_retro.specs.Table.{Table, place_of}
-use Rattle.study_retro.proofs.SetLemmas.{place_of-injective}
+use Rattle.study_retro.specs.Table.{Table, class_place}
+use Rattle.study_retro.proofs.SetLemmas.{class_place-injective}
 use Rattle.study_prober.specs.declared.cache.PageKey.{PageKey}
 use Rattle.study_tablefile.specs.declared.source.Header.{Header}
 use Rattle.study_prober.specs.declared.held.HeldSource.{HeldSource}
 use Rattle.study_prober.specs.Sources.{IsHeaderOf, GivesRight, AreHonestAlike, cells_on_page}
 use Rattle.study_prober.specs.Paged.{held_of, places, IsKept, SourcesAreRight, IsSameSource}
 
-pub same_class : (c d : Class) → (c ≡ d) ⊎ (place_of c ≢ place_of d)
-same_class c d = elim (same_number (place_of c) (place_of d)) [ inl e ↦ inl (place_of-injective c d e) | inr f ↦ inr f ]
+pub same_class : (c d : Class) → (c ≡ d) ⊎ (class_place c ≢ class_place d)
+same_class c d = elim (same_number (class_place c) (class_place d)) [ inl e ↦ inl (class_place-injective c d e) | inr f ↦ inr f ]
   where
     same_number : (n m : ℕ) → (n ≡ m) ⊎ (n ≢ m)
     same_number n m = grind arith
@@ -26,25 +26,26 @@ none_read {X} o m i = elim (cases_lt i m) [
 ]
 
 module _ {S : Type 0} where
-  pub held_same : (xs : List (Option (HeldSource S))) (c : Class) (o : Option (HeldSource S)) → place_of c < length xs → held_of (set xs (place_of c) o) c ≡ o
-  held_same xs c o small = get_or-set_same xs (place_of c) o None small
+  pub held_same : (xs : List (Option (HeldSource S))) (c : Class) (o : Option (HeldSource S)) → class_place c < length xs
+      → held_of (set xs (class_place c) o) c ≡ o
+  held_same xs c o small = get_or-set_same xs (class_place c) o None small
 
   -- what an index of a class's place gives
   pub held_at : (xs : List (Option (HeldSource S))) (c : Class) (i : ℕ) (o : Option (HeldSource S))
-      (h : HeldSource S) → i ≡ place_of c → i < length xs → o ≡ get_or xs i o → o ≡ Some h → (place_of c < length xs)
+      (h : HeldSource S) → i ≡ class_place c → i < length xs → o ≡ get_or xs i o → o ≡ Some h → (class_place c < length xs)
       × (held_of xs c ≡ Some h)
   held_at xs c i o h at small is e = (rw (← at) small, rw (← at) (get_or_default xs i None o small ∙ sym is ∙ e))
 
   pub held_other : (xs : List (Option (HeldSource S))) (c d : Class) (o : Option (HeldSource S))
-      → place_of c ≢ place_of d → held_of (set xs (place_of c) o) d ≡ held_of xs d
-  held_other xs c d o far = get_or-set_other xs (place_of c) (place_of d) o None (λ e. far (sym e))
+      → class_place c ≢ class_place d → held_of (set xs (class_place c) o) d ≡ held_of xs d
+  held_other xs c d o far = get_or-set_other xs (class_place c) (class_place d) o None (λ e. far (sym e))
 
   pub held_placed : (xs : List (Option (HeldSource S))) (c : Class) → held_of (places xs) c ≡ held_of xs c
-  held_placed [] c = none_read {X = Option (HeldSource S)} None 36 (place_of c)
+  held_placed [] c = none_read {X = Option (HeldSource S)} None 36 (class_place c)
   held_placed (o ∷ os) c = refl
 
-  pub none_past : (xs : List (Option (HeldSource S))) (c : Class) → length xs ≤ place_of c → held_of xs c ≡ None
-  none_past xs c past = get_or_past xs (place_of c) None past
+  pub none_past : (xs : List (Option (HeldSource S))) (c : Class) → length xs ≤ class_place c → held_of xs c ≡ None
+  none_past xs c past = get_or_past xs (class_place c) None past
 
   pub places_length : (xs : List (Option (HeldSource S))) → (length xs ≢ 0 → length xs ≡ 36) → length (places xs) ≡ 36
   places_length [] some = length-replicate {A = Option (HeldSource S)} 36 None
@@ -71,18 +72,18 @@ module _ {S : Type 0} where
   )
 
   -- what stands at a class after one place is written
-  pub held_either : (xs : List (Option (HeldSource S))) (c d : Class) (k j : HeldSource S) → place_of c < length xs
-      → held_of (set xs (place_of c) (Some k)) d ≡ Some j → ((c ≡ d) × (k ≡ j))
-      ⊎ ((place_of c ≢ place_of d) × (held_of xs d ≡ Some j))
+  pub held_either : (xs : List (Option (HeldSource S))) (c d : Class) (k j : HeldSource S) → class_place c < length xs
+      → held_of (set xs (class_place c) (Some k)) d ≡ Some j → ((c ≡ d) × (k ≡ j))
+      ⊎ ((class_place c ≢ class_place d) × (held_of xs d ≡ Some j))
   held_either xs c d k j small e = elim (same_class c d) [
-    | inl same ↦ inl (same, some_same k j (sym (held_same xs c (Some k) small) ∙ ap (λ (x : Class). held_of (set xs (place_of c) (Some k)) x) same ∙ e))
+    | inl same ↦ inl (same, some_same k j (sym (held_same xs c (Some k) small) ∙ ap (λ (x : Class). held_of (set xs (class_place c) (Some k)) x) same ∙ e))
     | inr far ↦ inr (far, sym (held_other xs c d (Some k) far) ∙ e)
   ]
 
-  pub is_held_after : (xs : List (Option (HeldSource S))) (c d : Class) (k : HeldSource S) → place_of c < length xs
-      → is_some (held_of xs d) ≡ true → is_some (held_of (set xs (place_of c) (Some k)) d) ≡ true
+  pub is_held_after : (xs : List (Option (HeldSource S))) (c d : Class) (k : HeldSource S) → class_place c < length xs
+      → is_some (held_of xs d) ≡ true → is_some (held_of (set xs (class_place c) (Some k)) d) ≡ true
   is_held_after xs c d k small was = elim (same_class c d) [
-    | inl same ↦ subst (λ (x : Class). is_some (held_of (set xs (place_of c) (Some k)) x) ≡ true) same (is_some-is _ k (held_same xs c (Some k) small))
+    | inl same ↦ subst (λ (x : Class). is_some (held_of (set xs (class_place c) (Some k)) x) ≡ true) same (is_some-is _ k (held_same xs c (Some k) small))
     | inr far ↦ ap (λ (o : Option (HeldSource S)). is_some o) (held_other xs c d (Some k) far) ∙ was
   ]
 
@@ -102,12 +103,12 @@ module _ {S : Type 0} where
     same_of o p h k e f header alike = rw e (rw f (header, alike))
 
     -- one source was asked
-    pub same_after : (xs : List (Option (HeldSource S))) (c d : Class) (h k : HeldSource S) → place_of c < length xs
+    pub same_after : (xs : List (Option (HeldSource S))) (c d : Class) (h k : HeldSource S) → class_place c < length xs
         → held_of xs c ≡ Some h → k.header ≡ h.header → AreHonestAlike honest h.source k.source
-        → IsSameSource honest (held_of xs d) (held_of (set xs (place_of c) (Some k)) d)
+        → IsSameSource honest (held_of xs d) (held_of (set xs (class_place c) (Some k)) d)
     same_after xs c d h k small is header alike = elim (same_class c d) [
       | inl same ↦ subst
-          (λ (x : Class). IsSameSource honest (held_of xs x) (held_of (set xs (place_of c) (Some k)) x)) same
+          (λ (x : Class). IsSameSource honest (held_of xs x) (held_of (set xs (class_place c) (Some k)) x)) same
           (same_of _ _ h k is (held_same xs c (Some k) small) header alike)
       | inr far ↦ same_by _ _ (held_other xs c d (Some k) far)
     ]
@@ -161,7 +162,7 @@ module _ {S : Type 0} where
       -- a page after a call: one that was kept before, or one of the source that was asked
       abbrev pub IsPageOf : List (PageKey × V) → HeldSource S → PageKey × V → Type 0
       IsPageOf kept h e = Contains kept e
-          ⊎ ((e.0.class ≡ place_of h.header.class)
+          ⊎ ((e.0.class ≡ class_place h.header.class)
           × ((t : Table) → honest h.source t h.header.version → t.class ≡ h.header.class
           → cells e.1 ≡ cells_on_page t e.0.number))
 
@@ -172,7 +173,7 @@ module _ {S : Type 0} where
 
       -- a source was asked, and at most a page of it is kept more
       module _ (xs : List (Option (HeldSource S))) (kept kept' : List (PageKey × V)) (c : Class)
-          (h k : HeldSource S) (was : IsKept honest cells xs kept) (small : place_of c < length xs)
+          (h k : HeldSource S) (was : IsKept honest cells xs kept) (small : class_place c < length xs)
           (is : held_of xs c ≡ Some h)
           (header : k.header ≡ h.header) (alike : AreHonestAlike honest h.source k.source) (more : (e : PageKey × V)
           → Contains kept' e → IsPageOf kept h e) where
@@ -180,7 +181,7 @@ module _ {S : Type 0} where
         of_class = (was.header c h is).class
 
         ys : List (Option (HeldSource S))
-        ys = set xs (place_of c) (Some k)
+        ys = set xs (class_place c) (Some k)
 
         from_old : (d : Class) (j : HeldSource S) (t : Table) → held_of ys d ≡ Some j
             → honest j.source t j.header.version → (i : HeldSource S) × (held_of xs d ≡ Some i)
@@ -205,33 +206,33 @@ module _ {S : Type 0} where
           | inr far ↦ was.header d j far.1
         ]
 
-        held_after : (e : PageKey × V) (d : Class) → Contains kept' e → e.0.class ≡ place_of d → is_some (held_of ys d) ≡ true
+        held_after : (e : PageKey × V) (d : Class) → Contains kept' e → e.0.class ≡ class_place d → is_some (held_of ys d) ≡ true
         unfolding ys
         held_after e d i at = is_held_after xs c d k small (elim (more e i) [
           | inl old ↦ was.held e d old at
           | inr new ↦ is_some-is (held_of xs d) h
               (subst (λ (x : Class). held_of xs x ≡ Some h)
-              (place_of-injective c d (ap place_of (sym of_class) ∙ sym new.0 ∙ at)) is)
+              (class_place-injective c d (ap class_place (sym of_class) ∙ sym new.0 ∙ at)) is)
         ])
 
         right_after : (d : Class) (j : HeldSource S) (t : Table) → held_of ys d ≡ Some j
             → honest j.source t j.header.version → t.class ≡ d → (e : PageKey × V) → Contains kept' e
-            → e.0.class ≡ place_of t.class → cells e.1 ≡ cells_on_page t e.0.number
+            → e.0.class ≡ class_place t.class → cells e.1 ≡ cells_on_page t e.0.number
         right_after d j t e gives of page i at =
             let old = from_old d j t e gives in
             elim (more page i) [
               | inl before ↦ (was.right d old.0 t old.1 old.2 of).is page before at
               | inr new ↦
-                  let same : t.class ≡ h.header.class = place_of-injective t.class h.header.class (sym at ∙ new.0) in
+                  let same : t.class ≡ h.header.class = class_place-injective t.class h.header.class (sym at ∙ new.0) in
                   let here : c ≡ d = sym of_class ∙ sym same ∙ of in
                   let one : h ≡ old.0 = some_same h old.0 (sym is ∙ ap (λ (x : Class). held_of xs x) here ∙ old.1) in
                   new.1 t (subst (λ (x : HeldSource S). honest x.source t x.header.version) (sym one) old.2) same
             ]
 
-        pub kept_after : IsKept honest cells (set xs (place_of c) (Some k)) kept'
+        pub kept_after : IsKept honest cells (set xs (class_place c) (Some k)) kept'
         unfolding ys
         kept_after = record {
-          some = λ n. length-set xs (place_of c) (Some k) ∙ was.some (λ e. n (length-set xs (place_of c) (Some k) ∙ e));
+          some = λ n. length-set xs (class_place c) (Some k) ∙ was.some (λ e. n (length-set xs (class_place c) (Some k) ∙ e));
           header = header_after;
           held = held_after;
           right = λ d j t e gives of. record { is = right_after d j t e gives of };
@@ -240,27 +241,27 @@ module _ {S : Type 0} where
       -- a source is added
       module _ (xs : List (Option (HeldSource S))) (kept : List (PageKey × V)) (c : Class) (k : HeldSource S)
           (was : IsKept honest cells xs kept) (none : is_some (held_of xs c) ≡ false) (header : IsHeaderOf k.header c)
-          (small : place_of c < 36) where
+          (small : class_place c < 36) where
         long : length (places xs) ≡ 36
         long = places_length xs was.some
 
-        room : place_of c < length (places xs)
+        room : class_place c < length (places xs)
         room = omega (arith, long)
 
         zs : List (Option (HeldSource S))
-        zs = set (places xs) (place_of c) (Some k)
+        zs = set (places xs) (class_place c) (Some k)
 
-        either : (d : Class) (j : HeldSource S) → held_of zs d ≡ Some j → ((c ≡ d) × (k ≡ j)) ⊎ ((place_of c ≢ place_of d) × (held_of xs d ≡ Some j))
+        either : (d : Class) (j : HeldSource S) → held_of zs d ≡ Some j → ((c ≡ d) × (k ≡ j)) ⊎ ((class_place c ≢ class_place d) × (held_of xs d ≡ Some j))
         unfolding zs
         either d j e = elim (held_either (places xs) c d k j room e) [
           | inl same ↦ inl same
           | inr far ↦ inr (far.0, sym (held_placed xs d) ∙ far.1)
         ]
 
-        pub kept_with : IsKept honest cells (set (places xs) (place_of c) (Some k)) kept
+        pub kept_with : IsKept honest cells (set (places xs) (class_place c) (Some k)) kept
         unfolding zs
         kept_with = record {
-          some = λ n. length-set (places xs) (place_of c) (Some k) ∙ long;
+          some = λ n. length-set (places xs) (class_place c) (Some k) ∙ long;
           header = λ d j e. elim (either d j e) [
             | inl same ↦ subst (λ (x : HeldSource S). IsHeaderOf x.header d) same.1 (subst (λ (x : Class). IsHeaderOf k.header x) same.0 header)
             | inr far ↦ was.header d j far.1
@@ -268,14 +269,14 @@ module _ {S : Type 0} where
           held = λ e d i at. is_held_after (places xs) c d k room (ap (λ (o : Option (HeldSource S)). is_some o) (held_placed xs d) ∙ was.held e d i at);
           right = λ d j t e gives of. record {
             is = λ page i at. elim (either d j e) [
-              | inl same ↦ absurd (false≢true (sym none ∙ was.held page c i (at ∙ ap place_of (of ∙ sym same.0))))
+              | inl same ↦ absurd (false≢true (sym none ∙ was.held page c i (at ∙ ap class_place (of ∙ sym same.0))))
               | inr far ↦ (was.right d j t far.1 gives of).is page i at
             ];
           };
         }
 
         pub right_with : SourcesAreRight honest xs → GivesRight honest k.source k.header.version c
-            → SourcesAreRight honest (set (places xs) (place_of c) (Some k))
+            → SourcesAreRight honest (set (places xs) (class_place c) (Some k))
         unfolding zs
         right_with all right = record {
           right = λ d j e. elim (either d j e) [

@@ -9,7 +9,7 @@ use Rattle.lru.proofs.CallerLemmas.{Contains-lookup}
 use Rattle.study_material.specs.declared.class.Class.{Class}
 use Rattle.study_retro.specs.declared.value.Value.{Value}
 use Rattle.study_retro.specs.Cells.{value_of}
-use Rattle.study_retro.specs.Table.{Table, place_of}
+use Rattle.study_retro.specs.Table.{Table, class_place}
 use Rattle.study_prober.specs.declared.cache.PageKey.{PageKey}
 use Rattle.study_prober.specs.declared.held.HeldSource.{HeldSource}
 use Rattle.study_prober.specs.declared.values.ProbeFault.{ProbeFault}
@@ -46,7 +46,7 @@ module _ {S V : Type 0} (honest : S → Table → ℕ → Type 0) (cells : V →
 
 module _ {S V : Type 0} (cells : V → List ℕ) (xs : List (Option (HeldSource S))) (kept : List (PageKey × V)) (r : Result Value ProbeFault) where
   -- the source that was not asked stands where it stood
-  pub again_at : (b c d : Class) (i m n : ℕ) (h k : HeldSource S) → i ≡ place_of c → held_of xs c ≡ Some h → b ≡ d → m ≡ n
+  pub again_at : (b c d : Class) (i m n : ℕ) (h k : HeldSource S) → i ≡ class_place c → held_of xs c ≡ Some h → b ≡ d → m ≡ n
       → IfSome (kept_cell cells kept b m) (λ x. (r ≡ Ok (value_of x)) × (k ≡ h))
       → IsAgain cells xs (set xs i (Some k)) kept r d n
   again_at b c d i m n h k at is same number told =
@@ -56,8 +56,8 @@ module _ {S V : Type 0} (cells : V → List ℕ) (xs : List (Option (HeldSource 
       then_some Told (λ x. (r ≡ Ok (value_of x)) × (set xs i (Some k) ≡ xs)) (kept_cell cells kept d n)
       (λ x t. (
         t.0,
-        ap (λ (j : ℕ). set xs j (Some k)) at ∙ ap (λ (o : Option (HeldSource S)). set xs (place_of c) o)
-            (ap (λ (y : HeldSource S). Some y) t.1 ∙ sym is) ∙ set-get_or xs (place_of c) None,
+        ap (λ (j : ℕ). set xs j (Some k)) at ∙ ap (λ (o : Option (HeldSource S)). set xs (class_place c) o)
+            (ap (λ (y : HeldSource S). Some y) t.1 ∙ sym is) ∙ set-get_or xs (class_place c) None,
       )) of_number
 
 cell_of : {V : Type 0} (cells : V → List ℕ) (i : ℕ) (o : Option V) → cell_at (λ xs. xs) i (option_map cells o) ≡ cell_at cells i o

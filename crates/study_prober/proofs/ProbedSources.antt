@@ -11,7 +11,7 @@ use Rattle.study_retro.specs.declared.value.Value.{Value}
 use Rattle.study_retro.specs.Cells.{value_of}
 use Rattle.study_retro.specs.Game.{IsValueOf}
 use Rattle.study_retro.specs.Sound.{IsRight}
-use Rattle.study_retro.specs.Table.{Table, IsComplete, place_of}
+use Rattle.study_retro.specs.Table.{Table, IsComplete, class_place}
 use Rattle.study_retro.proofs.SoundLemmas.{at_value}
 use Rattle.study_tablefile.specs.declared.source.Header.{Header}
 use Rattle.study_board.specs.Counts.{counted}
@@ -61,15 +61,15 @@ module _ {S : Type 0} where
         gives) (of ∙ same ∙ sym (was.header c h is).class) complete d n told
 
   pub failed_at : (failed : S → ℕ) (xs : List (Option (HeldSource S))) (c d : Class) (i : ℕ)
-      (h before k after : HeldSource S) (r : Result Value ProbeFault) → i ≡ place_of c → place_of c < length xs
+      (h before k after : HeldSource S) (r : Result Value ProbeFault) → i ≡ class_place c → class_place c < length xs
       → held_of xs c ≡ Some h → d ≡ c
       → held_of xs d ≡ Some before → held_of (set xs i (Some k)) d ≡ Some after
       → failed k.source ≡ (if is_read_fault r then counted (failed h.source) else failed h.source)
       → failed after.source ≡ (if is_read_fault r then counted (failed before.source) else failed before.source)
   failed_at failed xs c d i h before k after r at small is same was now count =
       let one : before ≡ h = same_held xs c d h before is same was in
-      let place : held_of (set xs (place_of c) (Some k)) c ≡ Some after =
-      ap (λ (x : Class). held_of (set xs (place_of c) (Some k)) x) (sym same)
+      let place : held_of (set xs (class_place c) (Some k)) c ≡ Some after =
+      ap (λ (x : Class). held_of (set xs (class_place c) (Some k)) x) (sym same)
       ∙ ap (λ (m : ℕ). held_of (set xs m (Some k)) d) (sym at) ∙ now in
       let new : k ≡ after = some_same k after (sym (held_same xs c (Some k) small) ∙ place) in
       rw one (subst (λ (x : HeldSource S). failed x.source ≡ (if is_read_fault r then counted (failed h.source) else failed h.source)) new count)

@@ -2,7 +2,7 @@
 use Rattle.std.specs.Prelude.{ℕ, ◌==◌, ◌/◌, ◌%◌, Bool, ◌&&◌, List, slice_get, Option, Some, None}
 use Rattle.std.specs.Map.{lookup}
 use Rattle.study_material.specs.declared.class.Class.{Class}
-use Rattle.study_retro.specs.Table.{place_of}
+use Rattle.study_retro.specs.Table.{class_place}
 use Rattle.study_prober.specs.declared.cache.PageKey.{PageKey}
 
 -- two keys are one
@@ -11,7 +11,7 @@ same_key a b = (a.class == b.class) && (a.number == b.number)
 
 -- the page of a class in which the cell of a number stands
 abbrev pub key_at : Class → ℕ → PageKey
-key_at c n = record { class = place_of c; number = n / 4096 }
+key_at c n = record { class = class_place c; number = n / 4096 }
 
 -- the cell of a page, if there is one
 abbrev pub cell_at : {V : Type 0} → (V → List ℕ) → ℕ → Option V → Option ℕ

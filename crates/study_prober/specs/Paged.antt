@@ -6,7 +6,7 @@ use Rattle.study_material.specs.declared.class.Class.{Class}
 use Rattle.study_material.specs.Class.{IsOf}
 use Rattle.study_index.specs.Found.{index_of}
 use Rattle.study_retro.specs.Cells.{value_of}
-use Rattle.study_retro.specs.Table.{Table, place_of}
+use Rattle.study_retro.specs.Table.{Table, class_place}
 use Rattle.study_prober.specs.declared.cache.PageKey.{PageKey}
 use Rattle.study_prober.specs.declared.held.HeldSource.{HeldSource}
 use Rattle.study_prober.specs.Sources.{GivesOf, HonestOf, IsHeaderOf, IsGivenPage, IsAnswerFrom, AreOf, GivesRight, AreHonestAlike}
@@ -24,7 +24,7 @@ pub record Paged (S : Type 0) : Type 0 where
 
 -- what is held for a class, if anything is
 abbrev pub held_of : {S : Type 0} → List (Option (HeldSource S)) → Class → Option (HeldSource S)
-held_of sources c = slice_index_or sources (place_of c) None
+held_of sources c = slice_index_or sources (class_place c) None
 
 -- a place for each class, from the first source on
 abbrev pub places : {S : Type 0} → List (Option (HeldSource S)) → List (Option (HeldSource S))
@@ -36,12 +36,12 @@ places (o ∷ os) = o ∷ os
 pub record IsKept {S V : Type 0} (honest : HonestOf S) (cells : V → List ℕ) (sources : List (Option (HeldSource S))) (kept : List (PageKey × V)) : Type 0 where
   pub some : length sources ≢ 0 → length sources ≡ 36
   pub header : (c : Class) (h : HeldSource S) → held_of sources c ≡ Some h → IsHeaderOf h.header c
-  pub held : (e : PageKey × V) (c : Class) → Contains kept e → e.0.class ≡ place_of c → is_some (held_of sources c) ≡ true
+  pub held : (e : PageKey × V) (c : Class) → Contains kept e → e.0.class ≡ class_place c → is_some (held_of sources c) ≡ true
   pub right : (c : Class) (h : HeldSource S) (t : Table) → held_of sources c ≡ Some h → honest h.source t h.header.version → t.class ≡ c → AreOf cells kept t
 
 -- each page that is kept is one that its source may give, and has passed its check
 pub record AreGiven {S V : Type 0} (gives : GivesOf S) (cells : V → List ℕ) (sources : List (Option (HeldSource S))) (kept : List (PageKey × V)) : Type 0 where
-  pub given : (e : PageKey × V) (c : Class) (h : HeldSource S) → Contains kept e → e.0.class ≡ place_of c
+  pub given : (e : PageKey × V) (c : Class) (h : HeldSource S) → Contains kept e → e.0.class ≡ class_place c
       → held_of sources c ≡ Some h → IsGivenPage gives h e.0.number (cells e.1)
 
 -- each source gives the file of a right table of its class

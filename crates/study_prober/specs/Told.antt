@@ -1,7 +1,7 @@
 -- Why a source is not held.
 use Rattle.std.specs.Prelude.{◌≡◌, ℕ, ◌==◌, List, Bool, true, false, ⊤, Option, Some, None, Result, Ok, Err, IfErr, IsErrOf, MatchOption, if◌then◌else◌}
 use Rattle.study_material.specs.declared.class.Class.{Class}
-use Rattle.study_retro.specs.Table.{Table, place_of}
+use Rattle.study_retro.specs.Table.{Table, class_place}
 use Rattle.study_tablefile.specs.declared.fault.SourceFault.{SourceFault}
 use Rattle.study_tablefile.specs.declared.fault.FileFault.{FileFault}
 use Rattle.study_tablefile.specs.declared.source.Header.{Header}
@@ -25,7 +25,7 @@ MayAnswer gives honest source told = gives source of_header told × MayTell hone
 
 abbrev pub class_fault : Class → Result Class FileFault → Option PagedFault
 class_fault c (Err fault) = Some (BadHeader fault)
-class_fault c (Ok d) = if place_of d == place_of c then None else Some (OtherClass d)
+class_fault c (Ok d) = if class_place d == class_place c then None else Some (OtherClass d)
 
 abbrev pub header_fault : Class → Result (List ℕ) SourceFault → Option PagedFault
 header_fault c (Err fault) = Some (TableRead fault)

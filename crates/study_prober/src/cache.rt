@@ -2,7 +2,7 @@
 ghost use Rattle.std.specs.Prelude.{◌≡◌, ◌<◌, ◌⊎◌, take, Contains, IfSome, OnOk, OnErr, slice_index};
 ghost use Rattle.std.specs.Map.{lookup};
 ghost use Rattle.lru.specs.LruCache.{promoted, put_entries};
-ghost use Rattle.study_retro.specs.Table.{place_of};
+ghost use Rattle.study_retro.specs.Table.{class_place};
 ghost use Rattle.study_prober.specs.Cache.{same_key, key_at, cell_at};
 
 use lru::{DefaultHasher, LruCache};
@@ -22,7 +22,7 @@ pub type Pages<'a, A> = LruCache<PageKey, Vec<u8, &'a A>, DefaultHasher, &'a A>;
 
 /// The place of a class in the class list.
 pub fn place(class: Class) -> u8
-    ensures value { result ≡ place_of class }
+    ensures value { result ≡ class_place class }
     ensures small { result < 36 }
 {
     class as u8

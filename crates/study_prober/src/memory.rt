@@ -1,7 +1,8 @@
 //! Values that fail where a test wants it.
-ghost use Rattle.std.specs.Prelude.{◌≡◌, ◌↔◌, Some, Err, false, IfOk, IsErrOf, if◌then◌else◌};
+ghost use Rattle.std.specs.Prelude.{◌≡◌, ◌↔◌, ◌/◌, ℕ, Some, Err, false, IfOk, IsErrOf, if◌then◌else◌};
 ghost use Rattle.study_material.specs.declared.class.Class.{Class as AClass};
 ghost use Rattle.study_material.specs.Class.{IsOf};
+ghost use Rattle.study_index.specs.Found.{index_of};
 ghost use Rattle.study_retro.specs.Game.{IsValueOf};
 ghost use Rattle.study_board.specs.Counts.{counted};
 ghost use Rattle.study_prober.specs.Values.{faults_after};
@@ -56,6 +57,8 @@ impl<V: Values> Values for FailingValues<V> {
         ensures stays_honest { V.is_honest self.old.values → V.is_honest self.new.values }
         ensures given { IsFailingAnswer V.held V.gives self.old p.now result }
         ensures no_table { (c : AClass) → IsErrOf result (ProbeFault.NoTable c) ↔ (IsOf c p.now × (V.held self.old.values c ≡ false)) }
+        ensures damaged { (c : AClass) (n : ℕ) → IsErrOf result (ProbeFault.PageDamaged c n)
+            → IsOf c p.now × (n ≡ index_of p.now / 4096) }
         ensures same_tables { (c : AClass) → V.held self.new.values c ≡ V.held self.old.values c }
         ensures asked { self.new.asked ≡ counted self.old.asked }
         ensures failures { self.new.failures ≡ faults_after self.old.failures result }

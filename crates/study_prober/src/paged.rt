@@ -7,7 +7,7 @@ ghost use Rattle.study_material.specs.Class.{IsOf};
 ghost use Rattle.study_index.specs.Found.{index_of};
 ghost use Rattle.study_retro.specs.Cells.{value_of};
 ghost use Rattle.study_retro.specs.Game.{IsValueOf};
-ghost use Rattle.study_retro.specs.Table.{Table as Seen, IsComplete, place_of};
+ghost use Rattle.study_retro.specs.Table.{Table as Seen, IsComplete, class_place};
 ghost use Rattle.study_board.specs.Counts.{counted};
 ghost use Rattle.study_tablefile.specs.Source.{of_page};
 ghost use Rattle.study_tablefile.specs.File.{IsVersionOf};
@@ -19,7 +19,7 @@ ghost use Rattle.study_prober.specs.Sources.{AreHonestAlike, GiveAlike, HasBadPa
 ghost use Rattle.study_prober.specs.Sources.{IsHeaderOf, PutsNone, PutsOnly, failed_after};
 ghost use Rattle.study_prober.specs.Paged.{SourcesAreRight, AreGiven, IsKept, IsPageFor, IsPagedAnswer, IsSameSource, IsToldAgain, held_of, places};
 ghost use Rattle.study_prober.specs.Values.{faults_after};
-ghost use Rattle.study_prober.specs.Told.{IsRefusedBy, MayAnswer, paged_fault, unread_after};
+ghost use Rattle.study_prober.specs.Told.{IsRefusedBy, MayAnswer, paged_fault};
 
 use crate::cache::{Pages, place};
 use crate::fault::PagedFault;
@@ -93,15 +93,12 @@ impl<'a, S: PageSource, A: Allocator> PagedTables<'a, S, A> {
             × ((t : Seen) (v : ℕ) → IsVersionOf t.class v → S.honest source t v → h.header.version ≡ v)
             × AreHonestAlike S.honest source h.source × GiveAlike S.gives source h.source
             × (S.failed h.source ≡ S.failed source)
-            × (self.new ≡ record self.old { sources = slice_set (places self.old.sources) (place_of class) (Some h) })
+            × (self.new ≡ record self.old { sources = slice_set (places self.old.sources) (class_place class) (Some h) })
             ) }
         ensures same { OnErr result (self.new ≡ self.old) }
 
         // Each class has a place from the first source on.
         ensures places { OnOk result (length self.new.sources ≡ 36) }
-
-        // Of a source whose states tell their failures: the last has one more where its header is not read, and only there.
-        ensures last { (last : S) × AreHonestAlike S.honest source last × (S.failed last ≡ unread_after (S.failed source) result) }
 
         // Of a source that is honest for a table the header is never refused, and a class is the table's.
         ensures header { (t : Seen) (v : ℕ) (e : AFileFault) → IsVersionOf t.class v → S.honest source t v

@@ -1,8 +1,9 @@
 //! What answers the values of positions.
-ghost use Rattle.std.specs.Prelude.{◌≡◌, ◌↔◌, ℕ, Bool, false, IfOk, IsErrOf};
+ghost use Rattle.std.specs.Prelude.{◌≡◌, ◌↔◌, ◌/◌, ℕ, Bool, false, IfOk, IsErrOf};
 ghost use Rattle.study_board.specs.Position.{Position as APosition};
 ghost use Rattle.study_material.specs.declared.class.Class.{Class as AClass};
 ghost use Rattle.study_material.specs.Class.{IsOf};
+ghost use Rattle.study_index.specs.Found.{index_of};
 ghost use Rattle.study_retro.specs.Game.{IsValueOf};
 ghost use Rattle.study_board.specs.Counts.{counted};
 ghost use Rattle.study_prober.specs.Values.{ProbeAnswer, faults_after};
@@ -67,6 +68,8 @@ pub trait Values: Drop {
         ensures stays_honest { is_honest self.old → is_honest self.new }
         ensures given { gives self.old p.now result }
         ensures no_table { (c : AClass) → IsErrOf result (ProbeFault.NoTable c) ↔ (IsOf c p.now × (held self.old c ≡ false)) }
+        ensures damaged { (c : AClass) (n : ℕ) → IsErrOf result (ProbeFault.PageDamaged c n)
+            → IsOf c p.now × (n ≡ index_of p.now / 4096) }
         ensures same_tables { (c : AClass) → held self.new c ≡ held self.old c }
         ensures asked { asked_of self.new ≡ counted (asked_of self.old) }
         ensures failures { failed_of self.new ≡ faults_after (failed_of self.old) result };

@@ -1,12 +1,12 @@
 //! Values from tables in memory.
-ghost use Rattle.std.specs.Prelude.{◌≡◌, ◌↔◌, false, is_some, Some, Ok, IsOk, IfOk, OnOk, OnErr, IfErr};
+ghost use Rattle.std.specs.Prelude.{◌≡◌, ◌↔◌, ◌/◌, ℕ, false, is_some, Some, Ok, IsOk, IfOk, OnOk, OnErr, IfErr};
 ghost use Rattle.std.specs.Prelude.{IsErrAnd, IsErrOf, MatchOption, slice_index, slice_set};
 ghost use Rattle.study_material.specs.declared.class.Class.{Class as AClass};
 ghost use Rattle.study_material.specs.Class.{IsOf};
 ghost use Rattle.study_index.specs.Found.{index_of};
 ghost use Rattle.study_retro.specs.Cells.{value_of};
 ghost use Rattle.study_retro.specs.Game.{IsValueOf};
-ghost use Rattle.study_retro.specs.Table.{Table as Seen, place_of, table_of};
+ghost use Rattle.study_retro.specs.Table.{Table as Seen, class_place, table_of};
 ghost use Rattle.study_retro.specs.Set.{add_fault};
 ghost use Rattle.study_retro.specs.Sound.{IsRight};
 ghost use Rattle.study_board.specs.Counts.{counted};
@@ -54,7 +54,7 @@ impl<'a, A: Allocator> WholeTables<'a, A> {
     pub fn add(&mut self, table: Table<'a, A>) -> Result<(), AddRefused<'a, A>>
         ensures fault { MatchOption (add_fault self.old.tables table.entry.class) (IsOk result) (λ fault. IsErrAnd result (λ e. e.fault ≡ fault)) }
         ensures added { OnOk result (
-            self.new ≡ record self.old { tables = slice_set self.old.tables (place_of table.entry.class) (Some table.entry) }
+            self.new ≡ record self.old { tables = slice_set self.old.tables (class_place table.entry.class) (Some table.entry) }
             ) }
         ensures same { OnErr result (self.new ≡ self.old) }
         ensures handed_back { IfErr result (λ e. e.table ≡ table.entry) }
@@ -80,6 +80,8 @@ impl<'a, A: Allocator> Values for WholeTables<'a, A> {
         ensures stays_honest { TablesAreRight self.old.tables → TablesAreRight self.new.tables }
         ensures given { IsCellAnswer self.old.tables p.now result }
         ensures no_table { (c : AClass) → IsErrOf result (ProbeFault.NoTable c) ↔ (IsOf c p.now × (is_some (table_of self.old.tables c) ≡ false)) }
+        ensures damaged { (c : AClass) (n : ℕ) → IsErrOf result (ProbeFault.PageDamaged c n)
+            → IsOf c p.now × (n ≡ index_of p.now / 4096) }
         ensures same_tables { (c : AClass) → is_some (table_of self.new.tables c) ≡ is_some (table_of self.old.tables c) }
         ensures asked { self.new.asked ≡ counted self.old.asked }
         ensures failures { 0 ≡ faults_after 0 result }

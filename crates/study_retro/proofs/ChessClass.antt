@@ -19,7 +19,7 @@ use Rattle.study_index.specs.Laws.{AreAlikeIn}
 use Rattle.study_index.proofs.ClassLaws.{below, entry, numbered, same_class, same_index, alike_back, alike_move, same_game}
 use Rattle.study_retro.specs.Cells.{distance_of, value_of}
 use Rattle.study_retro.specs.Class.{IsClass}
-use Rattle.study_index.specs.Found.{index_of, position_at}
+use Rattle.study_index.specs.Found.{index_of, position_numbered}
 use Rattle.study_retro.specs.Table.{Table, table_of, IsClosed}
 use Rattle.study_material.specs.Class.{is_of, class_in, class_found}
 use Rattle.study_material.proofs.Classes.{IsOf-is_of, is_of-IsOf}
@@ -76,7 +76,7 @@ of_class_after c p q h (inl k) = inl (same_class p q c h k)
 of_class_after c p q h (inr k) = inr (k.0, k.1, same_class p q k.0 h k.2)
 
 pub chess_class : (c : Class) (held : List (Option Table)) → IsClosed held
-    → IsClass Leads IsMate (λ p. LeadsOn c p) (is_of c) index_of (value_in held) (position_at c) (cells_of c) (AreAlikeIn c)
+    → IsClass Leads IsMate (λ p. LeadsOn c p) (is_of c) index_of (value_in held) (position_numbered c) (cells_of c) (AreAlikeIn c)
 chess_class c held closed = record {
   stuck = λ p q m l. m.1 l.0 l.1;
   below = λ n p e. below c n p (told_decoded c n p e);

@@ -27,7 +27,7 @@ use Rattle.study_material.specs.Lists.{Lists, lists, ordered}
 use Rattle.study_material.specs.Class.{IsOf}
 use Rattle.study_index.specs.Number.{IsIndex, with_bit, without_bit}
 use Rattle.study_index.specs.Decoded.{slots_of, told_men, told_side}
-use Rattle.study_index.specs.Found.{index_of, told, is_entry, position_at}
+use Rattle.study_index.specs.Found.{index_of, told, is_entry, position_numbered}
 use Rattle.study_index.specs.Laws.{AreAlikeIn}
 use Rattle.study_index.proofs.ClassLaws.{entry, numbered, same_class, same_index, alike_back, alike_move}
 use Rattle.study_index.proofs.ComputedIndex.{IsIndex-index_of, index_of-only, told_decoded, decoded_told}
@@ -157,8 +157,8 @@ small_index p v u =
     let is : index_of p ≡ without_bit (index_of p) = h.is ∙ ap (λ (b : Bool). with_bit b (without_bit (index_of p))) dead in
     subst (λ (n : ℕ). n < 16777216) (sym is) h.small
 
-position_is : (c : Class) (n : ℕ) (q : Position) → position_at c n ≡ Some q → q ≡ told c n
-unfolding position_at
+position_is : (c : Class) (n : ℕ) (q : Position) → position_numbered c n ≡ Some q → q ≡ told c n
+unfolding position_numbered
 position_is c n q e = by_entry (is_entry c n) e
   where
     by_entry : (b : Bool) → cond b (Some (told c n)) None ≡ Some q → q ≡ told c n
@@ -172,7 +172,7 @@ unpassed_same x e = ap (λ (o : Option ℕ). let r : Position = record { men = x
 record IsLed (c : Class) (r : Position) (n : ℕ) : Type 0 where
   pub from : Position
   pub to : Position
-  pub at : position_at c (index_of r) ≡ Some from
+  pub at : position_numbered c (index_of r) ≡ Some from
   pub unpassed : from.passed ≡ None
   pub leads : Leads from to
   pub home : IsOf c to
@@ -180,22 +180,22 @@ record IsLed (c : Class) (r : Position) (n : ℕ) : Type 0 where
 
 module _ (c : Class) where
   -- numbers that differ in the bit alone tell the same men and side to move
-  same_plain : (k : ℕ) (o p : Position) → position_at c k ≡ Some o → position_at c (k + 16777216) ≡ Some p → without_passed p ≡ without_passed o
+  same_plain : (k : ℕ) (o p : Position) → position_numbered c k ≡ Some o → position_numbered c (k + 16777216) ≡ Some p → without_passed p ≡ without_passed o
   same_plain k o p e f =
       let plain : ℕ → Position = λ j. record { men = in_order (told_men (slots_of c) j); to_move = told_side (slots_of c) j; passed = None } in
       let bit : without_bit (k + 16777216) ≡ without_bit k = omega arith in
       ap without_passed (position_is c (k + 16777216) p f) ∙ ap plain bit ∙ sym (ap without_passed (position_is c k o e))
 
-  lands_home : (n : ℕ) (q r : Position) (m : Move) → position_at c n ≡ Some q → LeadsQuietly r m q → IsOf c (after r m)
+  lands_home : (n : ℕ) (q r : Position) (m : Move) → position_numbered c n ≡ Some q → LeadsQuietly r m q → IsOf c (after r m)
   lands_home n q r m e b =
       let d = entry c n q (told_decoded c n q e) in
       d.of_class ∙ ap (λ (y : Position). ordered (lists y.men)) (sym b.leads)
 
-  starts_home : (n : ℕ) (q r : Position) (m : Move) → position_at c n ≡ Some q → LeadsQuietly r m q → IsOf c r
+  starts_home : (n : ℕ) (q r : Position) (m : Move) → position_numbered c n ≡ Some q → LeadsQuietly r m q → IsOf c r
   starts_home n q r m e b =
       lands_home n q r m e b ∙ ap (λ (l : Lists). ordered l) (quiet_lists r m b.valid b.legal (unpassing r m b.valid b.legal b.unpassed) b.quiet)
 
-  IsLed-from : (n : ℕ) (q r : Position) (m : Move) → position_at c n ≡ Some q → LeadsQuietly r m q → index_of (after r m) ≡ n → IsLed c r n
+  IsLed-from : (n : ℕ) (q r : Position) (m : Move) → position_numbered c n ≡ Some q → LeadsQuietly r m q → index_of (after r m) ≡ n → IsLed c r n
   IsLed-from n q r m e b lands =
       let x = after r m in
       let vx : IsValid x = IsValid-after r m b.valid b.legal in
@@ -217,8 +217,8 @@ module _ (c : Class) where
       }
 
   -- with its live passed square, the same position leads there too
-  twin_leads : (n : ℕ) (r o p t : Position) → position_at c (index_of r) ≡ Some o → o.passed ≡ None → Leads o t
-      → IsOf c t → position_at c (index_of r + 16777216) ≡ Some p → Leads p t
+  twin_leads : (n : ℕ) (r o p t : Position) → position_numbered c (index_of r) ≡ Some o → o.passed ≡ None → Leads o t
+      → IsOf c t → position_numbered c (index_of r + 16777216) ≡ Some p → Leads p t
   twin_leads n r o p t e u l home f =
       let m = l.0 in
       let d = entry c (index_of r) o (told_decoded c (index_of r) o e) in
@@ -240,25 +240,26 @@ module _ (c : Class) where
       )
 
   -- the numbers before a number lead to it
-  pub before_leads : (n i : ℕ) (q : Position) (m : Move) → position_at c n ≡ Some q → IsNumberBefore c q n m i
-      → LeadsTo Leads (is_of c) index_of (position_at c) i n
+  pub before_leads : (n i : ℕ) (q : Position) (m : Move) → position_numbered c n ≡ Some q → IsNumberBefore c q n m i
+      → LeadsTo Leads (is_of c) index_of (position_numbered c) i n
   before_leads n i q m e b =
       let t = IsLed-from n q b.from m e b.leads b.lands in
       elim b.is [
-        | inl s ↦ (t.from, t.to, subst (λ (k : ℕ). position_at c k ≡ Some t.from) (sym s) t.at, t.leads, is_of-IsOf c t.to t.home, t.lands)
+        | inl s ↦ (t.from, t.to, subst (λ (k : ℕ). position_numbered c k ≡ Some t.from) (sym s) t.at, t.leads, is_of-IsOf c t.to t.home, t.lands)
         | inr s ↦ (
           s.1.0,
           t.to,
           s.1.1,
           twin_leads n b.from t.from s.1.0 t.to t.at t.unpassed t.leads t.home
-              (subst (λ (k : ℕ). position_at c k ≡ Some s.1.0) s.0 s.1.1),
+              (subst (λ (k : ℕ). position_numbered c k ≡ Some s.1.0) s.0 s.1.1),
           is_of-IsOf c t.to t.home,
           t.lands,
         )
       ]
 
   -- and no others do
-  pub leads_before : (n i : ℕ) (q : Position) → position_at c n ≡ Some q → LeadsTo Leads (is_of c) index_of (position_at c) i n → ComesBefore c q n i
+  pub leads_before : (n i : ℕ) (q : Position) → position_numbered c n ≡ Some q
+      → LeadsTo Leads (is_of c) index_of (position_numbered c) i n → ComesBefore c q n i
   leads_before n i q e t =
       let d = entry c i t.0 (told_decoded c i t.0 t.2) in
       let m = t.3.0 in
@@ -268,7 +269,7 @@ module _ (c : Class) where
       let ox : IsOf c x = subst (λ (y : Position). IsOf c y) (sym t.3.2) (IsOf-is_of c t.1 t.4) in
       let ix : index_of x ≡ n = ap index_of t.3.2 ∙ t.5 in
       let p = numbered c x (index_of x) vx ox (IsIndex-index_of x vx) in
-      let there : position_at c n ≡ Some p.0 = subst (λ (k : ℕ). position_at c k ≡ Some p.0) ix (decoded_told c (index_of x) p.0 p.1) in
+      let there : position_numbered c n ≡ Some p.0 = subst (λ (k : ℕ). position_numbered c k ≡ Some p.0) ix (decoded_told c (index_of x) p.0 p.1) in
       let same : p.0 ≡ q = (let f : Some p.0 ≡ Some q = sym there ∙ e in cc) in
       let h : AreAlikeIn c x q = subst (λ (y : Position). AreAlikeIn c x y) same (alike_back c p.0 x p.2) in
       let has = HasMover-from_is_legal t.0 m l in
@@ -295,20 +296,20 @@ module _ (c : Class) where
       }
     where
       by_live : (b : Bool) {k : ℕ} → i ≡ with_bit b (without_bit i) → without_bit i ≡ k → (i ≡ k)
-          ⊎ (i ≡ k + 16777216) × ((p : Position) × (position_at c i ≡ Some p))
+          ⊎ (i ≡ k + 16777216) × ((p : Position) × (position_numbered c i ≡ Some p))
       by_live true f g = inr (omega (arith, f, g), (t.0, t.2))
       by_live false f g = inl (f ∙ g)
 
   -- a number that something leads to is one of a position
-  pub leads_numbered : (n i : ℕ) → LeadsTo Leads (is_of c) index_of (position_at c) i n → (q : Position) × (position_at c n ≡ Some q)
+  pub leads_numbered : (n i : ℕ) → LeadsTo Leads (is_of c) index_of (position_numbered c) i n → (q : Position) × (position_numbered c n ≡ Some q)
   leads_numbered n i t =
       let d = entry c i t.0 (told_decoded c i t.0 t.2) in
       let vx : IsValid t.1 = subst IsValid t.3.2 (IsValid-after t.0 t.3.0 d.valid t.3.1) in
       let p = numbered c t.1 (index_of t.1) vx (IsOf-is_of c t.1 t.4) (IsIndex-index_of t.1 vx) in
-      (p.0, subst (λ (k : ℕ). position_at c k ≡ Some p.0) t.5 (decoded_told c (index_of t.1) p.0 p.1))
+      (p.0, subst (λ (k : ℕ). position_numbered c k ≡ Some p.0) t.5 (decoded_told c (index_of t.1) p.0 p.1))
 
   -- a quiet move stays in the class
-  pub quiet_home : (n : ℕ) (p : Position) (m : Move) → position_at c n ≡ Some p → is_legal p m ≡ true
+  pub quiet_home : (n : ℕ) (p : Position) (m : Move) → position_numbered c n ≡ Some p → is_legal p m ≡ true
       → m.promoted ≡ None → p.passed ≡ None → man_at p.men m.target ≡ None → is_of c (after p m) ≡ true
   quiet_home n p m e l o u none =
       let d = entry c n p (told_decoded c n p e) in
@@ -316,7 +317,7 @@ module _ (c : Class) where
       (d.of_class ∙ ap (λ (k : Lists). ordered k)
       (sym (quiet_lists p m d.valid l (unpassing p m d.valid l u) (unoccupied p.men m.target none, o))))
 
-  pub numbered_index : (n : ℕ) (q : Position) → position_at c n ≡ Some q → index_of q ≡ n
+  pub numbered_index : (n : ℕ) (q : Position) → position_numbered c n ≡ Some q → index_of q ≡ n
   numbered_index n q e = let d = entry c n q (told_decoded c n q e) in sym (index_of-only q n d.valid d.index)
 
   module _ (q : Position) (number : ℕ) (m : Move) (k : ℕ) (h : IsPlainNumber q number m k) (old : List ℕ) where
@@ -325,7 +326,7 @@ module _ (c : Class) where
 
     -- the plain number was added
     pub one_added : (new : List ℕ) → new ≡ old ++ k ∷ []
-        → ((p : Position) × (position_at c (k + 16777216) ≡ Some p) → ⊥) → (n : ℕ) → Contains new n ↔ Contains old n
+        → ((p : Position) × (position_numbered c (k + 16777216) ≡ Some p) → ⊥) → (n : ℕ) → Contains new n ↔ Contains old n
         ⊎ IsNumberBefore c q number m n
     one_added new e none n = (
       λ i. elim (Contains-push_cases old k n (subst (λ (xs : List ℕ). Contains xs n) e i)) [
@@ -339,12 +340,15 @@ module _ (c : Class) where
         back (inl i) = Contains-append_left old (k ∷ []) n i
         back (inr b) = elim b.is [
           | inl s ↦ subst (λ (x : ℕ). Contains (old ++ k ∷ []) x) (sym (s ∙ h.only b.from b.leads)) (Contains-push old k)
-          | inr s ↦ absurd (none (s.1.0, subst (λ (x : ℕ). position_at c x ≡ Some s.1.0) (s.0 ∙ ap (λ (x : ℕ). x + 16777216) (h.only b.from b.leads)) s.1.1))
+          | inr s ↦ absurd (none (
+            s.1.0,
+            subst (λ (x : ℕ). position_numbered c x ≡ Some s.1.0) (s.0 ∙ ap (λ (x : ℕ). x + 16777216) (h.only b.from b.leads)) s.1.1,
+          ))
         ]
 
     -- so was the number with the bit
     pub two_added : (new : List ℕ) → new ≡ (old ++ k ∷ []) ++ (k + 16777216) ∷ [] → (p : Position)
-        × (position_at c (k + 16777216) ≡ Some p) → (n : ℕ) → Contains new n ↔ Contains old n
+        × (position_numbered c (k + 16777216) ≡ Some p) → (n : ℕ) → Contains new n ↔ Contains old n
         ⊎ IsNumberBefore c q number m n
     two_added new e some n = (
       λ i. elim (Contains-push_cases (old ++ k ∷ []) (k + 16777216) n (subst (λ (xs : List ℕ). Contains xs n) e i)) [

@@ -11,7 +11,7 @@ use Rattle.study_material.specs.Class.{IsOf}
 use Rattle.study_material.specs.Needs.{LeadsOn, needs_of}
 use Rattle.study_index.specs.Number.{IsIndex, cells_of}
 use Rattle.study_index.proofs.ComputedIndex.{index_of-only}
-use Rattle.study_index.specs.Found.{index_of, position_at}
+use Rattle.study_index.specs.Found.{index_of, position_numbered}
 use Rattle.study_index.specs.Laws.{AreAlikeIn}
 use Rattle.study_retro.specs.declared.value.Value.{Value}
 use Rattle.study_retro.specs.Forced.{IsGame}
@@ -36,11 +36,11 @@ value-from_cell : (o : Option Position) (c : ℕ) → IsRightCell Leads IsMate o
 value-from_cell None c h = h
 value-from_cell (Some p) c h = IsValueOf-from_game p (value_of c) h
 
-pub AreRight-from : (t : Table) → IsRight t → AreRight Leads IsMate (position_at t.class) (cells_of t.class) t.cells
-AreRight-from t r n l = cell-from_value (position_at t.class n) (slice_index t.cells n) (r.tells n l)
+pub AreRight-from : (t : Table) → IsRight t → AreRight Leads IsMate (position_numbered t.class) (cells_of t.class) t.cells
+AreRight-from t r n l = cell-from_value (position_numbered t.class n) (slice_index t.cells n) (r.tells n l)
 
-pub IsRight-from : (t : Table) → AreRight Leads IsMate (position_at t.class) (cells_of t.class) t.cells → IsRight t
-IsRight-from t r = record { tells = λ n l. value-from_cell (position_at t.class n) (slice_index t.cells n) (r n l) }
+pub IsRight-from : (t : Table) → AreRight Leads IsMate (position_numbered t.class) (cells_of t.class) t.cells → IsRight t
+IsRight-from t r = record { tells = λ n l. value-from_cell (position_numbered t.class n) (slice_index t.cells n) (r n l) }
 
 -- a right table tells the game's value of each position of its class
 pub at_right : (t : Table) → IsComplete t → IsRight t → (p : Position) → IsValid p → IsOf t.class p → IsValueOf p (value_of (slice_index t.cells (index_of p)))
@@ -93,14 +93,14 @@ at_value u p v complete valid of_class e right = subst (λ (x : Value). IsValueO
 
 -- where right cells are told, a right table is
 pub table_right : (t : Table) (c : Class) (cells : List ℕ) → c ≡ t.class → cells ≡ t.cells
-    → AreRight Leads IsMate (position_at c) (cells_of c) cells → IsRight t
+    → AreRight Leads IsMate (position_numbered c) (cells_of c) cells → IsRight t
 table_right t c cells e f h =
-    IsRight-from t (subst (λ (xs : List ℕ). AreRight Leads IsMate (position_at t.class) (cells_of t.class) xs) f
-    (subst (λ (d : Class). AreRight Leads IsMate (position_at d) (cells_of d) cells) e h))
+    IsRight-from t (subst (λ (xs : List ℕ). AreRight Leads IsMate (position_numbered t.class) (cells_of t.class) xs) f
+    (subst (λ (d : Class). AreRight Leads IsMate (position_numbered d) (cells_of d) cells) e h))
 
 pub right_cells : (t : Table) (c : Class) (cells : List ℕ) → c ≡ t.class → cells ≡ t.cells → IsRight t
-    → AreRight Leads IsMate (position_at c) (cells_of c) cells
+    → AreRight Leads IsMate (position_numbered c) (cells_of c) cells
 right_cells t c cells e f h =
-    subst (λ (xs : List ℕ). AreRight Leads IsMate (position_at c) (cells_of c) xs) (sym f)
-    (subst (λ (d : Class). AreRight Leads IsMate (position_at d) (cells_of d) t.cells) (sym e)
+    subst (λ (xs : List ℕ). AreRight Leads IsMate (position_numbered c) (cells_of c) xs) (sym f)
+    (subst (λ (d : Class). AreRight Leads IsMate (position_numbered d) (cells_of d) t.cells) (sym e)
     (AreRight-from t h))

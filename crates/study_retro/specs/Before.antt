@@ -5,7 +5,7 @@ use Rattle.study_moves.specs.declared.moves.Move.{Move}
 use Rattle.study_moves.specs.Rules.{after}
 use Rattle.study_moves.specs.Quiet.{LeadsQuietly}
 use Rattle.study_material.specs.declared.class.Class.{Class}
-use Rattle.study_index.specs.Found.{index_of, position_at}
+use Rattle.study_index.specs.Found.{index_of, position_numbered}
 
 -- the move leads from a position without a passed square to the number's, and n is the number of that position, or of the one with the
 -- same men in which a capture in passing is legal
@@ -13,7 +13,7 @@ pub record IsNumberBefore (c : Class) (q : Position) (number : ℕ) (m : Move) (
   pub from : Position
   pub leads : LeadsQuietly from m q
   pub lands : index_of (after from m) ≡ number
-  pub is : (n ≡ index_of from) ⊎ (n ≡ index_of from + 16777216) × ((p : Position) × (position_at c n ≡ Some p))
+  pub is : (n ≡ index_of from) ⊎ (n ≡ index_of from + 16777216) × ((p : Position) × (position_numbered c n ≡ Some p))
 
 -- n is the number of the one position without a passed square from which the move leads to the number's
 pub record IsPlainNumber (q : Position) (number : ℕ) (m : Move) (n : ℕ) : Type 0 where

@@ -6,7 +6,7 @@ use Rattle.study_moves.specs.Game.{IsMate}
 use Rattle.study_material.specs.declared.class.Class.{Class}
 use Rattle.study_material.specs.Needs.{LeadsOn}
 use Rattle.study_index.specs.Number.{cells_of}
-use Rattle.study_index.specs.Found.{index_of, position_at}
+use Rattle.study_index.specs.Found.{index_of, position_numbered}
 use Rattle.study_index.specs.Laws.{AreAlikeIn}
 use Rattle.study_material.specs.Class.{is_of}
 use Rattle.study_retro.specs.Game.{value_in}
@@ -20,7 +20,7 @@ class_game c held = record {
   after = after;
   mate = IsMate;
   size = cells_of c;
-  position = position_at c;
+  position = position_numbered c;
   home = is_of c;
   index = index_of;
   known = LeadsOn c;

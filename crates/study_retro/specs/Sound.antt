@@ -6,7 +6,7 @@ use Rattle.study_material.specs.declared.class.Class.{Class}
 use Rattle.study_material.specs.Class.{IsOf}
 use Rattle.study_material.specs.Needs.{needs_of}
 use Rattle.study_index.specs.Number.{cells_of}
-use Rattle.study_index.specs.Found.{position_at}
+use Rattle.study_index.specs.Found.{position_numbered}
 use Rattle.study_retro.specs.Cells.{distance_of, value_of}
 use Rattle.study_retro.specs.declared.value.Value.{Value}
 use Rattle.study_retro.specs.Game.{IsValueOf}
@@ -19,7 +19,7 @@ TellsValue (Some p) cell = IsValueOf p (value_of cell)
 
 -- each cell does
 pub record IsRight (t : Table) : Type 0 where
-  pub tells : (n : ℕ) → n < cells_of t.class → TellsValue (position_at t.class n) (slice_index t.cells n)
+  pub tells : (n : ℕ) → n < cells_of t.class → TellsValue (position_numbered t.class n) (slice_index t.cells n)
 
 -- the held tables that a class needs are right
 pub record NeedsAreRight (held : List (Option Table)) (c : Class) : Type 0 where

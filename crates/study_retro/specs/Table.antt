@@ -20,47 +20,47 @@ pub record IsComplete (t : Table) : Type 0 where
   pub bytes : All (λ c. c < 256) t.cells
 
 -- the place of a class in the class list
-abbrev pub place_of : Class → ℕ
-place_of KK = 0
-place_of KQK = 1
-place_of KRK = 2
-place_of KBK = 3
-place_of KNK = 4
-place_of KPK = 5
-place_of KQQK = 6
-place_of KQRK = 7
-place_of KQBK = 8
-place_of KQNK = 9
-place_of KQPK = 10
-place_of KRRK = 11
-place_of KRBK = 12
-place_of KRNK = 13
-place_of KRPK = 14
-place_of KBBK = 15
-place_of KBNK = 16
-place_of KBPK = 17
-place_of KNNK = 18
-place_of KNPK = 19
-place_of KPPK = 20
-place_of KQKQ = 21
-place_of KQKR = 22
-place_of KQKB = 23
-place_of KQKN = 24
-place_of KQKP = 25
-place_of KRKR = 26
-place_of KRKB = 27
-place_of KRKN = 28
-place_of KRKP = 29
-place_of KBKB = 30
-place_of KBKN = 31
-place_of KBKP = 32
-place_of KNKN = 33
-place_of KNKP = 34
-place_of KPKP = 35
+abbrev pub class_place : Class → ℕ
+class_place KK = 0
+class_place KQK = 1
+class_place KRK = 2
+class_place KBK = 3
+class_place KNK = 4
+class_place KPK = 5
+class_place KQQK = 6
+class_place KQRK = 7
+class_place KQBK = 8
+class_place KQNK = 9
+class_place KQPK = 10
+class_place KRRK = 11
+class_place KRBK = 12
+class_place KRNK = 13
+class_place KRPK = 14
+class_place KBBK = 15
+class_place KBNK = 16
+class_place KBPK = 17
+class_place KNNK = 18
+class_place KNPK = 19
+class_place KPPK = 20
+class_place KQKQ = 21
+class_place KQKR = 22
+class_place KQKB = 23
+class_place KQKN = 24
+class_place KQKP = 25
+class_place KRKR = 26
+class_place KRKB = 27
+class_place KRKN = 28
+class_place KRKP = 29
+class_place KBKB = 30
+class_place KBKN = 31
+class_place KBKP = 32
+class_place KNKN = 33
+class_place KNKP = 34
+class_place KPKP = 35
 
 -- the table of a class, if it is held: a set has a place for each class
 abbrev pub table_of : List (Option Table) → Class → Option Table
-table_of held c = slice_index_or held (place_of c) None
+table_of held c = slice_index_or held (class_place c) None
 
 -- all classes that the class needs are held
 abbrev pub IsReady : List (Option Table) → Class → Type 0

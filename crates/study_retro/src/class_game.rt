@@ -4,7 +4,7 @@ ghost use Rattle.study_retro.specs.Table.{IsReady, IsClosed};
 use crate::earlier::numbers_before;
 use crate::game::{Game, Place};
 use crate::set::TableSet;
-use crate::table::place_of;
+use crate::table::class_place;
 use arrayvec::ArrayVec;
 use std::alloc::Allocator;
 use study_board::Position;
@@ -61,7 +61,7 @@ impl<'t, 'a, A: Allocator> Game for ClassGame<'t, 'a, A> {
 
     fn place(&self, at: &Position) -> Place {
         let (class, _) = class_of(at);
-        if place_of(class) == place_of(self.class) {
+        if class_place(class) == class_place(self.class) {
             return Place::Cell(index(at));
         }
         match self.tables.table(class) {

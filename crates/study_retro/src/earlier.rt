@@ -4,7 +4,7 @@ ghost use Rattle.arrayvec.specs.ArrayVec.{array_vec_len};
 ghost use Rattle.study_board.specs.Position.{Position as Seen};
 ghost use Rattle.study_moves.specs.Rules.{after};
 ghost use Rattle.study_moves.specs.Quiet.{LeadsQuietly, CanHaveLed};
-ghost use Rattle.study_index.specs.Found.{index_of, position_at};
+ghost use Rattle.study_index.specs.Found.{index_of, position_numbered};
 ghost use Rattle.study_retro.specs.Before.{IsPlainNumber, IsNumberBefore, ComesBefore};
 
 use arrayvec::ArrayVec;
@@ -15,7 +15,7 @@ use study_moves::{Move, last_moves, played, taken_back};
 
 /// The numbers of the positions from which a quiet move leads to the position of this number.
 pub fn numbers_before(class: Class, at: &Position, number: u32) -> ArrayVec<u32, 384>
-    requires { position_at class number ≡ Some at.now }
+    requires { position_numbered class number ≡ Some at.now }
     ensures { (n : ℕ) → Contains result.items n ↔ ComesBefore class at.now number n }
 {
     let moves = last_moves(at);
@@ -28,7 +28,7 @@ pub fn numbers_before(class: Class, at: &Position, number: u32) -> ArrayVec<u32,
 
 // Adds the numbers of the positions from which this move leads to the position of this number.
 fn add_before(class: Class, at: &Position, number: u32, by: &Move, list: &mut ArrayVec<u32, 384>)
-    requires at { position_at class number ≡ Some at.now }
+    requires at { position_numbered class number ≡ Some at.now }
     requires by { CanHaveLed at.now by.now }
     requires room { array_vec_len list.old ≤ 382 }
     ensures few { array_vec_len list.new ≤ array_vec_len list.old + 2 }
@@ -76,7 +76,7 @@ fn leads_to(at: &Position, from: &Position, by: Move, number: u32) -> bool
 
 #[inline]
 fn is_numbered(class: Class, number: u32) -> bool
-    ensures { IsTrue result ↔ ((p : Seen) × (position_at class number ≡ Some p)) }
+    ensures { IsTrue result ↔ ((p : Seen) × (position_numbered class number ≡ Some p)) }
 {
     decode(class, number).is_some()
 }

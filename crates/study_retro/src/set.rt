@@ -3,10 +3,10 @@ ghost use Rattle.std.specs.Prelude.{◌≡◌, ◌≢◌, ◌↔◌, Some, None,
 ghost use Rattle.std.specs.Option.{option_copied};
 ghost use Rattle.study_material.specs.declared.class.Class.{Class as AClass};
 ghost use Rattle.study_material.specs.Needs.{needs_of};
-ghost use Rattle.study_retro.specs.Table.{Table as Seen, table_of, place_of, IsReady, IsClosed};
+ghost use Rattle.study_retro.specs.Table.{Table as Seen, table_of, class_place, IsReady, IsClosed};
 ghost use Rattle.study_retro.specs.Set.{first_missing, add_fault};
 
-use crate::table::{Table, place_of};
+use crate::table::{Table, class_place};
 use std::alloc::{AllocError, Allocator};
 use std::marker::Model;
 use study_material::{Class, needs};
@@ -62,7 +62,7 @@ impl<'a, A: Allocator> TableSet<'a, A> {
         ensures value { option_copied result ≡ table_of self.now class }
         ensures closed { IsClosed self.now }
     {
-        self.tables[place_of(class)].as_ref()
+        self.tables[class_place(class)].as_ref()
     }
 
     /// Whether the table of a class is held.
@@ -95,7 +95,7 @@ impl<'a, A: Allocator> TableSet<'a, A> {
     /// Adds a table whose class is not held and whose needs are; any other is handed back.
     pub fn add(&mut self, table: Table<'a, A>) -> Result<(), AddRefused<'a, A>>
         ensures fault { MatchOption (add_fault self.old table.entry.class) (IsOk result) (λ fault. IsErrAnd result (λ e. e.fault ≡ fault)) }
-        ensures added { OnOk result (self.new ≡ slice_set self.old (place_of table.entry.class) (Some table.entry)) }
+        ensures added { OnOk result (self.new ≡ slice_set self.old (class_place table.entry.class) (Some table.entry)) }
         ensures same { OnErr result (self.new ≡ self.old) }
         ensures handed_back { IfErr result (λ e. e.table ≡ table.entry) }
     {
@@ -112,7 +112,7 @@ impl<'a, A: Allocator> TableSet<'a, A> {
                 table,
             });
         }
-        self.tables[place_of(class)] = Some(table);
+        self.tables[class_place(class)] = Some(table);
         Ok(())
     }
 }

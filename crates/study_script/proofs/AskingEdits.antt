@@ -1,21 +1,22 @@
 -- The replies to edits that ask the tables.
-use Rattle.std.proofs.Common.{◌≡◌, ℕ, Bool, List, [], ◌∷◌, refl, sym, ◌∙◌, inl, inr}
+use Rattle.std.proofs.Common.{◌≡◌, ℕ, ◌⊎◌, Bool, true, List, [], ◌∷◌, refl, sym, ◌∙◌, inl, inr}
 use Rattle.study_board.specs.Position.{Position}
 use Rattle.study_material.specs.declared.class.Class.{Class}
+use Rattle.study_prober.specs.declared.values.ProbeFault.{ProbeFault}
 use Rattle.study_marks.specs.declared.fault.Refusal.{Refusal as EditRefusal}
 use Rattle.study_marks.specs.declared.fault.Refusal.TheVariants as edit
-use Rattle.study_marks.specs.Asked.{IsHeld, AreHeld, AllHeld, IsFirstMissing, IsOutside}
+use Rattle.study_marks.specs.Asked.{IsTableHeld, AreTablesHeld, AllHeld, IsFirstMissing, IsFaultAt, IsFirstUnread, IsOutside, is_of_tables}
 use Rattle.study_marks.specs.Edits.{Plainly}
 use Rattle.study_script.specs.Names.{edit_words}
 use Rattle.study_script.specs.State.{State, is_among, Outside, quiet, no_room, unread}
-use Rattle.study_script.specs.Replies.{accepted, refused_by, holding, missing, found, IsAskedReply}
+use Rattle.study_script.specs.Replies.{accepted, refused_as, holding, missing, found, IsAskingReply, IsAskedReply}
 use Rattle.study_script.specs.Held.{IsToldBy}
 
 -- the same classes are held
-held-same : (h k : Class → Bool) (p : Position) → ((c : Class) → h c ≡ k c) → IsHeld h p → IsHeld k p
+held-same : (h k : Class → Bool) (p : Position) → ((c : Class) → h c ≡ k c) → IsTableHeld h p → IsTableHeld k p
 held-same h k p e held c is = sym (e c) ∙ held c is
 
-are_held-same : (h k : Class → Bool) (ps : List Position) → ((c : Class) → h c ≡ k c) → AreHeld h ps → AreHeld k ps
+are_held-same : (h k : Class → Bool) (ps : List Position) → ((c : Class) → h c ≡ k c) → AreTablesHeld h ps → AreTablesHeld k ps
 are_held-same h k [] e held = tt
 are_held-same h k (p ∷ ps) e held = (held-same h k p e held.0, are_held-same h k ps e held.1)
 
@@ -24,14 +25,20 @@ missing-same h k [] c e m = absurd m
 missing-same h k (p ∷ ps) c e (inl m) = inl (m.0, sym (e c) ∙ m.1)
 missing-same h k (p ∷ ps) c e (inr m) = inr (held-same h k p e m.0, missing-same h k ps c e m.1)
 
+unread-same : (h k : Class → Bool) (ps : List Position) (f : ProbeFault) → ((d : Class) → h d ≡ k d) → IsFirstUnread h ps f → IsFirstUnread k ps f
+unread-same h k [] f e m = absurd m
+unread-same h k (p ∷ ps) f e m =
+    (held-same h k p e m.0, elim m.1 [ inl here ↦ inl here | inr there ↦ inr (unread-same h k ps f e there) ])
+
 -- an edit that is refused for what is outside has that reply
 pub refused_outside : (A : Type 0) (s : State) (held : Class → Bool) (paged : Bool) (asked : List Position)
     (new : Plainly) (text : List ℕ) (refusal : EditRefusal A) → ((c : Class) → held c ≡ is_among s.classes c)
     → paged ≡ s.paged → IsOutside held asked refusal → IsToldBy paged refusal
-    → (o : Outside) × IsAskedReply s o asked new text (refused_by s (edit_words refusal))
+    → (o : Outside) × IsAskedReply s o asked new text (refused_as s (edit_words refusal))
 refused_outside A s held paged asked new text edit.OutOfMemory e m out told = (no_room, refl)
 refused_outside A s held paged asked new text (edit.NoTable c) e m out told = (quiet, missing c (missing-same held (is_among s.classes) asked c e out) refl)
-refused_outside A s held paged asked new text (edit.TableRead fault) e m out told = (unread fault, (sym m ∙ told, out, refl))
+refused_outside A s held paged asked new text (edit.TableRead fault) e m out told =
+    (unread fault, (sym m ∙ told, unread-same held (is_among s.classes) asked fault e out, refl))
 refused_outside A s held paged asked new text edit.NoSuchNode e m out told = absurd out
 refused_outside A s held paged asked new text edit.RootNotAllowed e m out told = absurd out
 refused_outside A s held paged asked new text edit.AlreadyFirst e m out told = absurd out
@@ -41,6 +48,26 @@ refused_outside A s held paged asked new text edit.TooDeep e m out told = absurd
 refused_outside A s held paged asked new text edit.TreeFull e m out told = absurd out
 refused_outside A s held paged asked new text (edit.ShiftBroken steps) e m out told = absurd out
 refused_outside A s held paged asked new text edit.TagText e m out told = absurd out
+
+-- the same of an edit that takes no memory
+pub refused_asking : (A : Type 0) (s : State) (held : Class → Bool) (paged : Bool) (asked : List Position)
+    (new : Plainly) (text : List ℕ) (refusal : EditRefusal A) → ((c : Class) → held c ≡ is_among s.classes c)
+    → paged ≡ s.paged → IsOutside held asked refusal → IsToldBy paged refusal → is_of_tables refusal ≡ true
+    → (o : Outside) × IsAskingReply s o asked new text (refused_as s (edit_words refusal))
+refused_asking A s held paged asked new text edit.OutOfMemory e m out told of_tables = let absent : ⊥ = cc in absurd absent
+refused_asking A s held paged asked new text (edit.NoTable c) e m out told of_tables =
+    (quiet, missing c (missing-same held (is_among s.classes) asked c e out) refl)
+refused_asking A s held paged asked new text (edit.TableRead fault) e m out told of_tables =
+    (unread fault, (sym m ∙ told, unread-same held (is_among s.classes) asked fault e out, refl))
+refused_asking A s held paged asked new text edit.NoSuchNode e m out told of_tables = absurd out
+refused_asking A s held paged asked new text edit.RootNotAllowed e m out told of_tables = absurd out
+refused_asking A s held paged asked new text edit.AlreadyFirst e m out told of_tables = absurd out
+refused_asking A s held paged asked new text edit.IllegalMove e m out told of_tables = absurd out
+refused_asking A s held paged asked new text (edit.AlreadyThere k) e m out told of_tables = absurd out
+refused_asking A s held paged asked new text edit.TooDeep e m out told of_tables = absurd out
+refused_asking A s held paged asked new text edit.TreeFull e m out told of_tables = absurd out
+refused_asking A s held paged asked new text (edit.ShiftBroken steps) e m out told of_tables = absurd out
+refused_asking A s held paged asked new text edit.TagText e m out told of_tables = absurd out
 
 -- an edit that is accepted found all that it asked
 pub accepted_outside : (s : State) (held : Class → Bool) (asked : List Position) (new : Plainly) (text : List ℕ)

@@ -6,11 +6,11 @@ use Rattle.study_tablefile.specs.Taken.{TakesPrefix}
 use Rattle.study_prober.specs.Paged.{Paged}
 use Rattle.study_script.specs.declared.tables.Tables.{Tables}
 use Rattle.study_script.specs.declared.tables.Tables.TheVariants as held
-use Rattle.study_script.specs.declared.command.ClassWord.{ClassWord}
-use Rattle.study_script.specs.declared.command.ClassWord.TheVariants.{Build, Load, Save, Verify}
+use Rattle.study_command.specs.declared.command.ClassWord.{ClassWord}
+use Rattle.study_command.specs.declared.command.ClassWord.TheVariants.{Build, Load, Save, Verify}
 use Rattle.study_material.specs.declared.class.Class.{Class}
 use Rattle.study_material.specs.Needs.{needs_of}
-use Rattle.study_retro.specs.Table.{Table, IsComplete, place_of, table_of}
+use Rattle.study_retro.specs.Table.{Table, IsComplete, class_place, table_of}
 use Rattle.study_retro.specs.Set.{first_missing}
 use Rattle.study_retro.specs.Sound.{IsRight, HasFarPosition}
 use Rattle.study_retro.specs.Report.{IsGreatest, win_of}
@@ -27,9 +27,9 @@ use Rattle.study_script.specs.declared.told.Told.{Told}
 use Rattle.study_script.specs.declared.told.Told.TheVariants.{Built, Loaded, Saved, Verified}
 use Rattle.study_script.specs.State.{State, is_among, first_lacking, written_anew, IsGiven, IsOpened}
 use Rattle.study_script.specs.State.{Outside, quiet, no_room, no_room_for, unopened, cut_off, file}
-use Rattle.study_script.specs.Replies.{Reply, refused, refused_by, with_class, built, too_far, IsBuildReply}
+use Rattle.study_script.specs.Replies.{Reply, refused, refused_as, with_class, built, too_far, IsBuildReply}
 use Rattle.study_script.specs.Replies.{IsLoadReply, IsNamedReply, IsTableReply, IsClassReply, IsClassReplyIn}
-use Rattle.study_script.specs.Replies.{class_named, wants_whole, save_reply, verify_reply}
+use Rattle.study_script.specs.Replies.{class_told, wants_whole, save_reply, verify_reply}
 use Rattle.study_script.specs.Names.{words_of}
 use Rattle.study_script.specs.Stored.{IsRightFile, GivesBytes}
 use Rattle.study_script.specs.Told.{told_text, told_reply, Decided, HoldsWhole, HoldsPaged, WholeFrom, IsFileRefusal}
@@ -108,33 +108,33 @@ module _ (w : Whole) (s : State) (h : HoldsWhole w s) (c : Class) where
     load_refused seen refusal e f (inl (fault, given, is)) = (
       unopened fault,
       s,
-      rw (among false e, first None f) (given, ap (refused_by s) is),
+      rw (among false e, first None f) (given, ap (refused_as s) is),
       (whole_kept w s h, seen),
     )
     load_refused seen refusal e f (inr (inl (is_open, is))) =
-        (cut_off, s, rw (among false e, first None f) (is_open, ap (refused_by s) is), (whole_kept w s h, seen))
+        (cut_off, s, rw (among false e, first None f) (is_open, ap (refused_as s) is), (whole_kept w s h, seen))
     load_refused seen refusal e f (inr (inr (inl (bytes, given, has, is)))) = (
       no_room_for bytes,
       s,
-      rw (among false e, first None f) (given, has, ap (refused_by s) is),
+      rw (among false e, first None f) (given, has, ap (refused_as s) is),
       (whole_kept w s h, seen),
     )
     load_refused seen refusal e f (inr (inr (inr (bytes, fault, given, read, is)))) = (
       file bytes,
       s,
-      rw (among false e, first None f) (given, rw read (ap (refused_by s) is)),
+      rw (among false e, first None f) (given, rw read (ap (refused_as s) is)),
       (whole_kept w s h, seen),
     )
 
     pub load_other : Seen s → (bytes : List ℕ) (t : Table) → is_some (table_of w.tables c) ≡ false
         → first_missing w.tables (needs_of c) ≡ None → IsGiven (s.shelf.files c) (Ok bytes) → table_read bytes ≡ Ok t
-        → eqb (place_of t.class) (place_of c) ≡ false
+        → eqb (class_place t.class) (class_place c) ≡ false
         → Decided (λ o. IsLoadReply s o c (is_among s.classes c) (first_lacking s.classes c)) (λ t. WholeFrom s w t × Seen t) (Err (OtherClass t.class))
     load_other seen bytes t e f given read other = (file bytes, s, rw (among false e, first None f) (given, rw (read, other) refl), (whole_kept w s h, seen))
 
     pub load_done : Seen (with_class s c) → (v : Whole) (bytes : List ℕ) (t : Table)
         → is_some (table_of w.tables c) ≡ false → first_missing w.tables (needs_of c) ≡ None
-        → IsGiven (s.shelf.files c) (Ok bytes) → table_read bytes ≡ Ok t → eqb (place_of t.class) (place_of c) ≡ true
+        → IsGiven (s.shelf.files c) (Ok bytes) → table_read bytes ≡ Ok t → eqb (class_place t.class) (class_place c) ≡ true
         → WholeFrom s v (with_class s c)
         → Decided (λ o. IsLoadReply s o c (is_among s.classes c) (first_lacking s.classes c))
         (λ t. WholeFrom s v t × Seen t) (Ok (Loaded c))
@@ -189,7 +189,7 @@ module _ {P A : Type 0} where
 
 -- whole tables are asked by any word
 pub asked_whole : (s : State) (o : Outside) (word : ClassWord) (name : List ℕ) (reply : Reply) → false ≡ s.paged
-    → IsNamedReply s o word (class_named name) reply → IsClassReply s o word name reply
+    → IsNamedReply s o word (class_told name) reply → IsClassReply s o word name reply
 asked_whole s o word name reply e h = subst (λ b. IsClassReplyIn s o word name b reply) (sym (by_word word s.paged e)) h
   where
     by_word : (w : ClassWord) (p : Bool) → false ≡ p → wants_whole w && p ≡ false
@@ -206,12 +206,12 @@ refused_paged s word name e (inr (inl k)) = subst (λ w. IsClassReply s quiet w 
 refused_paged s word name e (inr (inr k)) = subst (λ w. IsClassReply s quiet w name (refused s PagedMode)) (sym k) (rw (← e) refl)
 
 -- a name that is none
-pub not_named : (s : State) (o : Outside) (word : ClassWord) (name : List ℕ) → class_named name ≡ None
-    → IsNamedReply s o word (class_named name) (refused s NotAClass)
+pub not_named : (s : State) (o : Outside) (word : ClassWord) (name : List ℕ) → class_told name ≡ None
+    → IsNamedReply s o word (class_told name) (refused s NotAClass)
 not_named s o word name e = rw e refl
 
 pub named_as : (s : State) (o : Outside) (word : ClassWord) (name : List ℕ) (c : Class) (reply : Reply)
-    → class_named name ≡ Some c → IsTableReply s o word c reply → IsNamedReply s o word (class_named name) reply
+    → class_told name ≡ Some c → IsTableReply s o word c reply → IsNamedReply s o word (class_told name) reply
 named_as s o word name c reply e i = rw e i
 
 -- ---- what was decided is written

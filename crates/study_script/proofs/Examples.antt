@@ -11,34 +11,34 @@ use Rattle.study_tablefile.specs.declared.fault.FileFault.TheVariants.{Version}
 use Rattle.study_marks.specs.declared.mark.MoveMark.TheVariants.{Dual}
 use Rattle.study_marks.specs.declared.stipulation.Goal.TheVariants.{MateIn}
 use Rattle.study_marks.specs.declared.tag.TagName.TheVariants.{Event}
-use Rattle.study_script.specs.declared.command.FenWord.TheVariants.{Position}
-use Rattle.study_script.specs.declared.command.ClassWord.TheVariants.{Build}
-use Rattle.study_script.specs.declared.command.FormFault.TheVariants.{BadByte, UnknownCommand, BadArguments, UnknownStipulation, UnknownTag}
+use Rattle.study_command.specs.declared.command.FenWord.TheVariants.{Position}
+use Rattle.study_command.specs.declared.command.ClassWord.TheVariants.{Build}
+use Rattle.study_command.specs.declared.command.FormFault.TheVariants.{BadByte, UnknownCommand, BadArguments, UnknownStipulation, UnknownTag}
 use Rattle.study_script.specs.declared.refusal.Refusal.TheVariants.{NoTable, AlreadyThere, File, TableReadPage}
-use Rattle.study_script.specs.Lines.{lines_of}
-use Rattle.study_script.specs.Paths.{place_of, is_path, is_path_word, steps_of, path_text}
-use Rattle.study_script.specs.Asking.{Asks, of_start, of_class, stipulate, insert, tag, solve, trimmed, asked_of, word_of, command_of}
+use Rattle.study_command.specs.Lines.{script_lines}
+use Rattle.study_command.specs.Paths.{place_told, is_path, is_path_word, steps_of, path_text}
+use Rattle.study_command.specs.Asking.{Asks, of_start, of_class, stipulate, insert, tag, solve, trimmed, asked_of, word_of, command_of}
 use Rattle.study_script.specs.Names.{words_of}
-use Rattle.study_script.specs.Words.{stipulation_text, mark_text, solve_text, insert_text, built_text, loaded_text, saved_text, verified_text}
+use Rattle.study_script.specs.Words.{stipulation_words, mark_text, solve_text, insert_text, built_text, loaded_text, saved_text, verified_text}
 
 -- ---- lines
 
 -- a line feed that ends the script begins no line
-ends : lines_of (codes "a\n") ≡ codes "a" ∷ []
-unfolding lines_of
+ends : script_lines (codes "a\n") ≡ codes "a" ∷ []
+unfolding script_lines
 ends = refl
 
-none : lines_of [] ≡ []
-unfolding lines_of
+none : script_lines [] ≡ []
+unfolding script_lines
 none = refl
 
-empty_line : lines_of (codes "\n\nb") ≡ [] ∷ [] ∷ codes "b" ∷ []
-unfolding lines_of
+empty_line : script_lines (codes "\n\nb") ≡ [] ∷ [] ∷ codes "b" ∷ []
+unfolding script_lines
 empty_line = refl
 
 -- one carriage return belongs to the line end, also at the end of the script
-returns_dropped : lines_of (codes "a\r\nb\r\r\nc\r") ≡ codes "a" ∷ codes "b\r" ∷ codes "c" ∷ []
-unfolding lines_of
+returns_dropped : script_lines (codes "a\r\nb\r\r\nc\r") ≡ codes "a" ∷ codes "b\r" ∷ codes "c" ∷ []
+unfolding script_lines
 returns_dropped = refl
 
 -- ---- commands
@@ -89,11 +89,11 @@ unfolding command_of words behind_word word_of asked_of is_path_word is_path ste
 of_insert = refl
 
 of_mate : ◌≡◌ {A = Asks} (command_of (codes "stipulate black mate 001")) (Ok (Some (stipulate (record { hero = Black; goal = MateIn 1 }))))
-unfolding command_of words behind_word word_of asked_of place_of
+unfolding command_of words behind_word word_of asked_of place_told
 of_mate = refl
 
 no_mate : ◌≡◌ {A = Asks} (command_of (codes "stipulate white mate 128")) (Err UnknownStipulation)
-unfolding command_of words behind_word word_of asked_of place_of
+unfolding command_of words behind_word word_of asked_of place_told
 no_mate = refl
 
 no_goal : ◌≡◌ {A = Asks} (command_of (codes "stipulate")) (Err UnknownStipulation)
@@ -139,7 +139,7 @@ damaged : words_of (TableReadPage 0) ≡ codes "TableRead Page 0"
 unfolding words_of digits
 damaged = refl
 
-to_mate : stipulation_text (record { hero = White; goal = MateIn 2 }) ≡ codes "stipulate White to mate in 2\n"
+to_mate : stipulation_words (record { hero = White; goal = MateIn 2 }) ≡ codes "stipulate White to mate in 2\n"
 unfolding digits
 to_mate = refl
 

@@ -8,8 +8,8 @@ use Rattle.std.proofs.lemmas.List.Sums.{sum_by-append}
 use Rattle.std.proofs.KnownBytes.{Appends-nil, Appends-trans}
 use Rattle.std.specs.Io.KnownBytes.{Appends}
 use Rattle.study_script.specs.declared.run.RunFault.TheVariants.{ReadDevice, WriteDevice, LineTooLong, TooManyLines}
-use Rattle.study_script.specs.Lines.{lines_of, TakesLine, BeginsLong, GaveFeeds}
-use Rattle.study_script.proofs.LineTaken.{HasMore}
+use Rattle.study_command.specs.Lines.{script_lines, TakesLine, BeginsLong, GaveFeeds}
+use Rattle.study_command.proofs.LineTaken.{HasMore}
 use Rattle.study_script.specs.State.{State, Outside}
 use Rattle.study_script.specs.Replies.{Reply, Answer, IsReply, AreReplies, replies_text}
 use Rattle.study_script.specs.Held.{Answered, BrokenOff}
@@ -75,7 +75,7 @@ pub record RanOver (all left : List (List ℕ)) (old new : Option (List ℕ)) (f
 abbrev pub RanKnown : Option (List ℕ) → Option (List ℕ) → Option (List ℕ) → Option (List ℕ) → State → State → ℕ → ℕ → Type 0
 RanKnown None now old new first s n refused = Unit {0}
 RanKnown (Some bs) None old new first s n refused = ⊥
-RanKnown (Some bs) (Some rest) old new first s n refused = RanOver (lines_of bs) (lines_of rest) old new first s n refused
+RanKnown (Some bs) (Some rest) old new first s n refused = RanOver (script_lines bs) (script_lines rest) old new first s n refused
 
 pub record Ran (script now old new : Option (List ℕ)) (first : State) (s : State) (n refused : ℕ) : Type 0 where
   pub known : RanKnown script now old new first s n refused
@@ -106,8 +106,8 @@ ran_more (Some bs) None next old mid new first s line o reply n refused refused'
 ran_more (Some bs) (Some rest) None old mid new first s line o reply n refused refused' r t short is wrote k = absurd t
 ran_more (Some bs) (Some rest) (Some rest') old mid new first s line o reply n refused refused' r t short is wrote k =
     let v = r.known in
-    let all = lines_of bs in
-    let f = first_left all (lines_of rest') n line (v.left_is ∙ t) in
+    let all = script_lines bs in
+    let f = first_left all (script_lines rest') n line (v.left_is ∙ t) in
     let e : n + 1 ≡ suc n = omega arith in
     let grown : take (n + 1) all ≡ take n all ++ line ∷ [] = ap (λ i. take i all) e ∙ f.1 in
     let lt = f.0 in
@@ -134,7 +134,7 @@ ran_ends left (Some bs) None next old new first s line n refused r t le = absurd
 ran_ends left (Some bs) (Some rest) None old new first s line n refused r t le = absurd t
 ran_ends left (Some bs) (Some rest) (Some rest') old new first s line n refused r t le =
     let v = r.known in
-    let d = none_left (lines_of bs) n v.within (v.left_is ∙ t) in
+    let d = none_left (script_lines bs) n v.within (v.left_is ∙ t) in
     let e = d.1 in
     (omega arith, subst AreShort d.0 v.short, v.replies, subst (λ (ls : List (List ℕ)). AreReplies first ls v.replies) d.0 v.are, v.written, e, v.refused_is)
 
@@ -145,16 +145,17 @@ ran_long left None now old new first s n refused r t lt = tt
 ran_long left (Some bs) None old new first s n refused r t lt = absurd r.known
 ran_long left (Some bs) (Some rest) old new first s n refused r (line, more, is, long) lt =
     let v = r.known in
-    let f = first_left (lines_of bs) more n line (v.left_is ∙ is) in
+    let f = first_left (script_lines bs) more n line (v.left_is ∙ is) in
     let e : n + 1 - 1 ≡ n = omega arith in
     (omega arith, omega arith, rw (e, f.3) long, (rw e v.short, v.replies, rw e v.are, v.written))
 
 pub ran_read : (left script now old new : Option (List ℕ)) (first : State) (s : State) (n refused : ℕ)
-    → Ran script now old new first s n refused → n ≤ 100000 → GaveFeeds script left n
+    → Ran script now old new first s n refused → n ≤ 100000 → GaveFeeds script left n → GaveFeeds now left 0
     → IfSome script (λ bytes. Outcome first bytes left old new (Err ReadDevice))
-ran_read left None now old new first s n refused r le g = tt
-ran_read left (Some bs) None old new first s n refused r le g = absurd r.known
-ran_read left (Some bs) (Some rest) old new first s n refused r le g = let v = r.known in (n, le, v.within, g, (v.short, v.replies, v.are, v.written))
+ran_read left None now old new first s n refused r le g h = tt
+ran_read left (Some bs) None old new first s n refused r le g h = absurd r.known
+ran_read left (Some bs) (Some rest) old new first s n refused r le g h =
+    let v = r.known in (n, le, v.within, g, rest, v.left_is, h, (v.short, v.replies, v.are, v.written))
 
 more_left : (all left : List (List ℕ)) (n : ℕ) → drop n all ≡ left → 0 < length left → n < length all
 more_left all left n e some = omega (arith, length-drop n all, ap length e)
@@ -166,7 +167,7 @@ ran_many left None now old new first s refused r t = tt
 ran_many left (Some bs) None old new first s refused r t = absurd r.known
 ran_many left (Some bs) (Some rest) old new first s refused r t =
     let v = r.known in
-    (more_left (lines_of bs) (lines_of rest) 100000 v.left_is t, (v.short, v.replies, v.are, v.written))
+    (more_left (script_lines bs) (script_lines rest) 100000 v.left_is t, (v.short, v.replies, v.are, v.written))
 
 pub ran_write : (script now next old mid new : Option (List ℕ)) (first : State) (s : State) (line : List ℕ)
     (n refused : ℕ) → Ran script now old mid first s n refused → TakesLine now next true line → length line ≤ 1024
@@ -177,8 +178,8 @@ ran_write (Some bs) None next old mid new first s line n refused r t short lt g 
 ran_write (Some bs) (Some rest) None old mid new first s line n refused r t short lt g p = absurd t
 ran_write (Some bs) (Some rest) (Some rest') old mid new first s line n refused r t short lt g (o, reply, is, part) =
     let v = r.known in
-    let all = lines_of bs in
-    let f = first_left all (lines_of rest') n line (v.left_is ∙ t) in
+    let all = script_lines bs in
+    let f = first_left all (script_lines rest') n line (v.left_is ∙ t) in
     let e : n + 1 ≡ suc n = omega arith in (
       n,
       lt,

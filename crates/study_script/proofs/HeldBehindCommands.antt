@@ -16,15 +16,15 @@ use Rattle.study_marks.specs.Study.{position_at}
 use Rattle.study_marks.specs.Asked.{asked_of}
 use Rattle.study_marks.specs.Edits.{Plainly, shifted, shift_refusal, insert_refusal}
 use Rattle.study_notation.specs.FenSpelling.{fen_text}
-use Rattle.study_script.specs.Words.{line_text}
-use Rattle.study_script.specs.declared.command.FenWord.{FenWord}
-use Rattle.study_script.specs.declared.command.FenWord.TheVariants.{Position as PositionWord, Shift}
+use Rattle.study_script.specs.Words.{reply_line}
+use Rattle.study_command.specs.declared.command.FenWord.{FenWord}
+use Rattle.study_command.specs.declared.command.FenWord.TheVariants.{Position as PositionWord, Shift}
 use Rattle.study_script.specs.declared.store.StoreFault.{StoreFault}
 use Rattle.study_script.specs.declared.board.Board.{Board as HeldBoard}
 use Rattle.study_script.specs.declared.tables.Tables.{Tables}
 use Rattle.study_script.specs.State.{State, Board, empty, start, study, is_among, Outside, quiet, no_path}
 use Rattle.study_script.specs.State.{no_room, no_room_for, unread, unopened, cut_off, file, header}
-use Rattle.study_script.specs.Replies.{Reply, IsValued, missing, found, IsAskedReply, IsPositionReply}
+use Rattle.study_script.specs.Replies.{Reply, IsValued, missing, found, IsAskingReply, IsAskedReply, IsPositionReply}
 use Rattle.study_script.specs.Replies.{IsShiftReply, IsStartReply, IsStipulateReply, IsInserted}
 use Rattle.study_script.specs.Replies.{IsMoveReply, IsMoveReplyAt, IsInsertReply}
 use Rattle.study_script.specs.Held.{Holds, HoldsBoard, HoldsFrom, HoldsTables, TablesFrom, Answered}
@@ -47,6 +47,18 @@ valued : (s : State) (asked : List Position) (new : Plainly) (text : List ℕ) (
 valued s asked new text reply (missing c m e) = beside s _ reply (same_side s) e
 valued s asked new text reply (found all e) = beside s _ reply (record { paged = refl; shelf = refl }) e
 
+asking_beside : (s : State) (o : Outside) (asked : List Position) (new : Plainly) (text : List ℕ) (reply : Reply)
+    → IsAskingReply s o asked new text reply → IsBeside s reply.state
+asking_beside s (unread fault) asked new text reply h = beside s _ reply (same_side s) h.2
+asking_beside s no_room asked new text reply h = valued s asked new text reply h
+asking_beside s quiet asked new text reply h = valued s asked new text reply h
+asking_beside s no_path asked new text reply h = valued s asked new text reply h
+asking_beside s (no_room_for bytes) asked new text reply h = valued s asked new text reply h
+asking_beside s (unopened fault) asked new text reply h = valued s asked new text reply h
+asking_beside s cut_off asked new text reply h = valued s asked new text reply h
+asking_beside s (file bytes) asked new text reply h = valued s asked new text reply h
+asking_beside s (header told) asked new text reply h = valued s asked new text reply h
+
 asked_beside : (s : State) (o : Outside) (asked : List Position) (new : Plainly) (text : List ℕ) (reply : Reply)
     → IsAskedReply s o asked new text reply → IsBeside s reply.state
 asked_beside s no_room asked new text reply h = beside s _ reply (same_side s) h
@@ -62,12 +74,12 @@ asked_beside s (header told) asked new text reply h = valued s asked new text re
 position_beside : (s : State) (o : Outside) (b : Board) (new : Start) (reply : Reply) → IsPositionReply s o b new reply → IsBeside s reply.state
 position_beside s o empty new reply h = beside s _ reply (record { paged = refl; shelf = refl }) h
 position_beside s o (start old) new reply h = beside s _ reply (record { paged = refl; shelf = refl }) h
-position_beside s o (study old) new reply h = asked_beside s o _ _ _ reply h
+position_beside s o (study old) new reply h = asking_beside s o _ _ _ reply h
 
 shift_asked : (s : State) (o : Outside) (old : Plainly) (new : Start) (reply : Reply)
-    → IsAskedReply s o (asked_of (shifted old new)) (shifted old new) (line_text (codes "shift ") (fen_text new))
+    → IsAskedReply s o (asked_of (shifted old new)) (shifted old new) (reply_line (codes "shift ") (fen_text new))
     reply → IsBeside s reply.state
-shift_asked s o old new reply h = asked_beside s o (asked_of (shifted old new)) (shifted old new) (line_text (codes "shift ") (fen_text new)) reply h
+shift_asked s o old new reply h = asked_beside s o (asked_of (shifted old new)) (shifted old new) (reply_line (codes "shift ") (fen_text new)) reply h
 
 shift_beside : (s : State) (o : Outside) (old : Plainly) (new : Start) (r : Option (EditRefusal (Unit {0})))
     (reply : Reply) → IsShiftReply s o old new r reply → IsBeside s reply.state
@@ -101,7 +113,7 @@ start_beside s Shift (start old) read o reply h = beside s _ reply (same_side s)
 
 pub stipulate_beside : (s : State) (b : Board) (new : Stipulation) (o : Outside) (reply : Reply) → IsStipulateReply s o b new reply → IsBeside s reply.state
 stipulate_beside s empty new o reply h = beside s _ reply (same_side s) h
-stipulate_beside s (start from) new o reply h = asked_beside s o _ _ _ reply h
+stipulate_beside s (start from) new o reply h = asking_beside s o _ _ _ reply h
 stipulate_beside s (study old) new o reply h = beside s _ reply (record { paged = refl; shelf = refl }) h
 
 inserted_beside : (s : State) (o : Outside) (old : Plainly) (steps : List ℕ) (m : Move)

@@ -13,20 +13,20 @@ use Rattle.study_material.specs.declared.class.Class.TheVariants.{KQKB, KQKN, KQ
 use Rattle.study_material.specs.declared.class.Class.TheVariants.{KBKB, KBKN, KBKP, KNKN, KNKP, KPKP}
 use Rattle.study_material.specs.Class.{name_of}
 use Rattle.study_material.specs.Needs.{needs_of}
-use Rattle.study_retro.specs.Table.{Table, IsClosed, IsReady, place_of, table_of}
+use Rattle.study_retro.specs.Table.{Table, IsClosed, IsReady, class_place, table_of}
 use Rattle.study_retro.specs.Set.{first_missing, add_fault}
 use Rattle.study_retro.specs.Sound.{IsRight, NeedsAreRight}
 use Rattle.study_prober.specs.Whole.{Whole, TablesAreRight}
 use Rattle.study_prober.proofs.HeldSources.{same_class}
 use Rattle.study_script.specs.declared.store.StoreFault.{StoreFault}
 use Rattle.study_script.specs.State.{State, Shelf, is_among, forgotten, written_anew}
-use Rattle.study_script.specs.Replies.{with_class, class_named}
+use Rattle.study_script.specs.Replies.{with_class, class_told}
 use Rattle.study_script.specs.Stored.{StoreSeen}
 use Rattle.study_script.specs.Told.{HoldsWhole, WholeFrom}
 
 -- ---- classes and their places
 
-pub place_below : (c : Class) → place_of c < 36
+pub place_below : (c : Class) → class_place c < 36
 place_below KK = omega arith
 place_below KQK = omega arith
 place_below KRK = omega arith
@@ -65,44 +65,44 @@ place_below KNKP = omega arith
 place_below KPKP = omega arith
 
 -- the class of a name
-pub class_named-name_of : (c : Class) → class_named (name_of c) ≡ Some c
-unfolding name_of class_named
-class_named-name_of KK = refl
-class_named-name_of KQK = refl
-class_named-name_of KRK = refl
-class_named-name_of KBK = refl
-class_named-name_of KNK = refl
-class_named-name_of KPK = refl
-class_named-name_of KQQK = refl
-class_named-name_of KQRK = refl
-class_named-name_of KQBK = refl
-class_named-name_of KQNK = refl
-class_named-name_of KQPK = refl
-class_named-name_of KRRK = refl
-class_named-name_of KRBK = refl
-class_named-name_of KRNK = refl
-class_named-name_of KRPK = refl
-class_named-name_of KBBK = refl
-class_named-name_of KBNK = refl
-class_named-name_of KBPK = refl
-class_named-name_of KNNK = refl
-class_named-name_of KNPK = refl
-class_named-name_of KPPK = refl
-class_named-name_of KQKQ = refl
-class_named-name_of KQKR = refl
-class_named-name_of KQKB = refl
-class_named-name_of KQKN = refl
-class_named-name_of KQKP = refl
-class_named-name_of KRKR = refl
-class_named-name_of KRKB = refl
-class_named-name_of KRKN = refl
-class_named-name_of KRKP = refl
-class_named-name_of KBKB = refl
-class_named-name_of KBKN = refl
-class_named-name_of KBKP = refl
-class_named-name_of KNKN = refl
-class_named-name_of KNKP = refl
-class_named-name_of KPKP = refl
+pub class_told-name_of : (c : Class) → class_told (name_of c) ≡ Some c
+unfolding name_of class_told
+class_told-name_of KK = refl
+class_told-name_of KQK = refl
+class_told-name_of KRK = refl
+class_told-name_of KBK = refl
+class_told-name_of KNK = refl
+class_told-name_of KPK = refl
+class_told-name_of KQQK = refl
+class_told-name_of KQRK = refl
+class_told-name_of KQBK = refl
+class_told-name_of KQNK = refl
+class_told-name_of KQPK = refl
+class_told-name_of KRRK = refl
+class_told-name_of KRBK = refl
+class_told-name_of KRNK = refl
+class_told-name_of KRPK = refl
+class_told-name_of KBBK = refl
+class_told-name_of KBNK = refl
+class_told-name_of KBPK = refl
+class_told-name_of KNNK = refl
+class_told-name_of KNPK = refl
+class_told-name_of KPPK = refl
+class_told-name_of KQKQ = refl
+class_told-name_of KQKR = refl
+class_told-name_of KQKB = refl
+class_told-name_of KQKN = refl
+class_told-name_of KQKP = refl
+class_told-name_of KRKR = refl
+class_told-name_of KRKB = refl
+class_told-name_of KRKN = refl
+class_told-name_of KRKP = refl
+class_told-name_of KBKB = refl
+class_told-name_of KBKN = refl
+class_told-name_of KBKP = refl
+class_told-name_of KNKN = refl
+class_told-name_of KNKP = refl
+class_told-name_of KPKP = refl
 
 same_place : (n m : ℕ) → n ≡ m → eqb n m ≡ true
 same_place n m e = grind (arith, nat_tests)
@@ -110,11 +110,11 @@ same_place n m e = grind (arith, nat_tests)
 other_place : (n m : ℕ) → n ≢ m → eqb n m ≡ false
 other_place n m e = grind (arith, nat_tests)
 
-pub same_at : (c d : Class) → c ≡ d → eqb (place_of c) (place_of d) ≡ true
-same_at c d e = same_place (place_of c) (place_of d) (ap place_of e)
+pub same_at : (c d : Class) → c ≡ d → eqb (class_place c) (class_place d) ≡ true
+same_at c d e = same_place (class_place c) (class_place d) (ap class_place e)
 
-pub other_at : (c d : Class) → (c ≡ d → ⊥) → eqb (place_of c) (place_of d) ≡ false
-other_at c d f = other_place (place_of c) (place_of d) (λ k. elim (same_class c d) [ inl e ↦ f e | inr g ↦ g k ])
+pub other_at : (c d : Class) → (c ≡ d → ⊥) → eqb (class_place c) (class_place d) ≡ false
+other_at c d f = other_place (class_place c) (class_place d) (λ k. elim (same_class c d) [ inl e ↦ f e | inr g ↦ g k ])
 
 pub among_with : (c d : Class) (cs : List Class) (b : Bool) → is_among cs d ≡ b → (c ≡ d → ⊥) → b ≡ is_among (c ∷ cs) d
 among_with c d cs b e f = rw (other_at c d f) (sym e)
@@ -145,13 +145,13 @@ pub may_add : (held : List (Option Table)) (c d : Class) → d ≡ c → is_some
 may_add held c d same e f = rw (same, e, f) refl
 
 module _ (held : List (Option Table)) (t : Table) (full : length held ≡ 36) where
-  here : (d : Class) → d ≡ t.class → table_of (set held (place_of t.class) (Some t)) d ≡ Some t
-  here d e = rw e (get_or-set_same held (place_of t.class) (Some t) None (let small = place_below t.class in omega (arith, full, small)))
+  here : (d : Class) → d ≡ t.class → table_of (set held (class_place t.class) (Some t)) d ≡ Some t
+  here d e = rw e (get_or-set_same held (class_place t.class) (Some t) None (let small = place_below t.class in omega (arith, full, small)))
 
-  there : (d : Class) → place_of d ≢ place_of t.class → table_of (set held (place_of t.class) (Some t)) d ≡ table_of held d
-  there d f = get_or-set_other held (place_of t.class) (place_of d) (Some t) None f
+  there : (d : Class) → class_place d ≢ class_place t.class → table_of (set held (class_place t.class) (Some t)) d ≡ table_of held d
+  there d f = get_or-set_other held (class_place t.class) (class_place d) (Some t) None f
 
-  right_with : TablesAreRight held → IsRight t → TablesAreRight (set held (place_of t.class) (Some t))
+  right_with : TablesAreRight held → IsRight t → TablesAreRight (set held (class_place t.class) (Some t))
   right_with all right = record {
     right = λ d u e. elim (same_class d t.class) [
       | inl k ↦ let same : Some t ≡ Some u = sym (here d k) ∙ e in let one : t ≡ u = cc in subst IsRight one right
@@ -160,19 +160,20 @@ module _ (held : List (Option Table)) (t : Table) (full : length held ≡ 36) wh
   }
 
   classes_with : (cs : List Class) → ((d : Class) → is_some (table_of held d) ≡ is_among cs d) → (d : Class)
-      → is_some (table_of (set held (place_of t.class) (Some t)) d) ≡ is_among (t.class ∷ cs) d
+      → is_some (table_of (set held (class_place t.class) (Some t)) d) ≡ is_among (t.class ∷ cs) d
   classes_with cs e d = elim (same_class d t.class) [
     | inl k ↦ ap (λ (o : Option Table). is_some o) (here d k) ∙ among_head t.class d cs (sym k)
-    | inr f ↦ ap (λ (o : Option Table). is_some o) (there d f) ∙ among_with t.class d cs (is_some (table_of held d)) (sym (e d)) (λ k. f (ap place_of (sym k)))
+    | inr f ↦ ap (λ (o : Option Table). is_some o) (there d f)
+        ∙ among_with t.class d cs (is_some (table_of held d)) (sym (e d)) (λ k. f (ap class_place (sym k)))
   ]
 
 -- the table is held then, and it is right
 pub whole_with : (w v : Whole) (s : State) (t : Table) (c : Class) → IsClosed w.tables → HoldsWhole w s → IsRight t
-    → t.class ≡ c → v ≡ record w { tables = set w.tables (place_of t.class) (Some t) }
+    → t.class ≡ c → v ≡ record w { tables = set w.tables (class_place t.class) (Some t) }
     → WholeFrom s v (with_class s c)
 whole_with w v s t c closed h right same e =
     subst (λ (x : Whole). WholeFrom s x (with_class s c)) (sym e)
-    (subst (λ (k : Class). WholeFrom s (record w { tables = set w.tables (place_of t.class) (Some t) })
+    (subst (λ (k : Class). WholeFrom s (record w { tables = set w.tables (class_place t.class) (Some t) })
     (with_class s k)) same (record {
       holds =
           record {
@@ -252,8 +253,8 @@ module _ {S : Type 0} where
   store_anew honest files headers old new s c stays f k h = record {
     is_honest = stays s.paged h.is_honest;
     known = record {
-      files_known = λ d. f d ∙ alike (eqb (place_of d) (place_of c)) (files old d) (s.shelf.files d) (h.known.files_known d);
-      headers_known = λ d. k d ∙ alike (eqb (place_of d) (place_of c)) (headers old d) (s.shelf.headers d) (h.known.headers_known d);
+      files_known = λ d. f d ∙ alike (eqb (class_place d) (class_place c)) (files old d) (s.shelf.files d) (h.known.files_known d);
+      headers_known = λ d. k d ∙ alike (eqb (class_place d) (class_place c)) (headers old d) (s.shelf.headers d) (h.known.headers_known d);
     };
   }
     where

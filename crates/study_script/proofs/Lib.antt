@@ -1,11 +1,7 @@
 mod Examples
-pub mod Printable
-pub mod SpacesAtEnd
-pub mod LineTaken
 pub mod FirstLines
 pub mod AskingEdits
 pub mod PathText
-pub mod PathRead
 pub mod SilentEdits
 pub mod HeldBehindReplies
 pub mod ShiftReplies
@@ -13,7 +9,6 @@ pub mod Boards
 pub mod PlainNodes
 pub mod InsertReplies
 pub mod HeldBehindCommands
-pub mod LinesAgain
 pub mod OneReply
 pub mod HeldTables
 pub mod ClassReplies

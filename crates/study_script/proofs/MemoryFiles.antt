@@ -2,31 +2,32 @@
 use Rattle.std.proofs.Common.{◌≡◌, ◌≢◌, Bool, true, false, cond, List, length, set, Option, None, sym, ap, subst, ◌∙◌, inl, inr, arith}
 use Rattle.std.proofs.lemmas.List.{get_or-set_same, get_or-set_other}
 use Rattle.study_material.specs.declared.class.Class.{Class}
-use Rattle.study_retro.specs.Table.{place_of}
+use Rattle.study_retro.specs.Table.{class_place}
 use Rattle.study_prober.proofs.HeldSources.{same_class}
 use Rattle.study_script.specs.declared.memory.MemoryFile.{MemoryFile}
 use Rattle.study_script.specs.declared.memory.MemoryFile.TheVariants.{Written}
 use Rattle.study_script.specs.State.{forgotten}
-use Rattle.study_script.specs.Memory.{file_at, IsHonestFile}
+use Rattle.study_script.specs.Memory.{memory_file, IsHonestFile}
 use Rattle.study_script.proofs.HeldTables.{place_below, same_at, other_at}
 
 module _ (files : List MemoryFile) (c : Class) (full : length files ≡ 36) where
-  written_at : (d : Class) → c ≡ d → file_at (set files (place_of c) Written) d ≡ Written
-  written_at d e = subst (λ (k : Class). file_at (set files (place_of c) Written) k ≡ Written) e
-      (get_or-set_same files (place_of c) Written _ (let small = place_below c in omega (arith, full, small)))
+  written_at : (d : Class) → c ≡ d → memory_file (set files (class_place c) Written) d ≡ Written
+  written_at d e = subst (λ (k : Class). memory_file (set files (class_place c) Written) k ≡ Written) e
+      (get_or-set_same files (class_place c) Written _ (let small = place_below c in omega (arith, full, small)))
 
-  kept_at : (d : Class) → place_of c ≢ place_of d → file_at (set files (place_of c) Written) d ≡ file_at files d
-  kept_at d f = get_or-set_other files (place_of c) (place_of d) Written _ (λ e. f (sym e))
+  kept_at : (d : Class) → class_place c ≢ class_place d → memory_file (set files (class_place c) Written) d ≡ memory_file files d
+  kept_at d f = get_or-set_other files (class_place c) (class_place d) Written _ (λ e. f (sym e))
 
   -- what is known of a file that is opened to be written is forgotten
   pub known_anew : {T : Type 0} (known : MemoryFile → Option T) → known Written ≡ None → (d : Class)
-      → known (file_at (set files (place_of c) Written) d) ≡ forgotten c (λ k. known (file_at files k)) d
+      → known (memory_file (set files (class_place c) Written) d) ≡ forgotten c (λ k. known (memory_file files k)) d
   known_anew known none d = elim (same_class c d) [
-    | inl e ↦ ap known (written_at d e) ∙ none ∙ sym (ap (λ b. cond b None (known (file_at files d))) (same_at d c (sym e)))
-    | inr f ↦ ap known (kept_at d f) ∙ sym (ap (λ b. cond b None (known (file_at files d))) (other_at d c (λ e. f (ap place_of (sym e)))))
+    | inl e ↦ ap known (written_at d e) ∙ none ∙ sym (ap (λ b. cond b None (known (memory_file files d))) (same_at d c (sym e)))
+    | inr f ↦ ap known (kept_at d f) ∙ sym (ap (λ b. cond b None (known (memory_file files d))) (other_at d c (λ e. f (ap class_place (sym e)))))
   ]
 
-  pub honest_anew : (b : Bool) → ((d : Class) → IsHonestFile b (file_at files d)) → (d : Class) → IsHonestFile b (file_at (set files (place_of c) Written) d)
+  pub honest_anew : (b : Bool) → ((d : Class) → IsHonestFile b (memory_file files d)) → (d : Class)
+      → IsHonestFile b (memory_file (set files (class_place c) Written) d)
   honest_anew b h d = elim (same_class c d) [
     | inl e ↦ rw (written_at d e) (written b)
     | inr f ↦ rw (kept_at d f) (h d)

@@ -11,7 +11,7 @@ use Rattle.study_moves.specs.Game.{IsWon}
 use Rattle.study_moves.specs.Laws.{EachHasAtMostOneValue}
 use Rattle.study_material.specs.declared.class.Class.{Class}
 use Rattle.study_index.specs.Number.{cells_of}
-use Rattle.study_index.specs.Found.{position_at, index_of}
+use Rattle.study_index.specs.Found.{position_numbered, index_of}
 use Rattle.study_retro.specs.declared.value.Value.{Value}
 use Rattle.study_retro.specs.Cells.{distance_of, value_of}
 use Rattle.study_retro.specs.Table.{Table, IsComplete}
@@ -28,34 +28,34 @@ use Rattle.study_tree.specs.Tree.{has_spot, spot_at}
 use Rattle.study_marks.specs.declared.mark.Mark.{Mark}
 use Rattle.study_marks.specs.declared.stipulation.Stipulation.{Stipulation}
 use Rattle.study_marks.specs.declared.fault.Refusal.{Refusal as EditRefusal}
-use Rattle.study_marks.specs.Study.{Study, position_at as node_position}
+use Rattle.study_marks.specs.Study.{Study, position_at}
 use Rattle.study_marks.specs.Edits.{Plainly, shifted, shift_refusal, insert_refusal}
-use Rattle.study_marks.specs.Asked.{asked_of, AreHeld, IsFirstMissing}
+use Rattle.study_marks.specs.Asked.{asked_of, AreTablesHeld, IsFirstMissing}
 use Rattle.study_marks.specs.Laws.{AnnotationsAreUnique}
 use Rattle.study_marks.proofs.OneAnnotation.{one-value}
 use Rattle.study_pgn.specs.Pgn.{pgn_text}
-use Rattle.study_script.specs.declared.command.FenWord.{FenWord}
-use Rattle.study_script.specs.declared.command.FenWord.TheVariants.{Position as PositionWord, Shift}
-use Rattle.study_script.specs.declared.command.NodeWord.TheVariants.{Moves, Fen}
-use Rattle.study_script.specs.declared.command.StudyWord.{StudyWord}
-use Rattle.study_script.specs.declared.command.StudyWord.TheVariants.{Delete, Promote, Mark as MarkWord}
-use Rattle.study_script.specs.declared.command.ClassWord.{ClassWord}
-use Rattle.study_script.specs.declared.command.ClassWord.TheVariants.{Build, Load, Save, Verify}
+use Rattle.study_command.specs.declared.command.FenWord.{FenWord}
+use Rattle.study_command.specs.declared.command.FenWord.TheVariants.{Position as PositionWord, Shift}
+use Rattle.study_command.specs.declared.command.NodeWord.TheVariants.{Moves, Fen}
+use Rattle.study_command.specs.declared.command.StudyWord.{StudyWord}
+use Rattle.study_command.specs.declared.command.StudyWord.TheVariants.{Delete, Promote, Mark as MarkWord}
+use Rattle.study_command.specs.declared.command.ClassWord.{ClassWord}
+use Rattle.study_command.specs.declared.command.ClassWord.TheVariants.{Build, Load, Save, Verify}
 use Rattle.study_script.specs.declared.refusal.Refusal.{Refusal}
 use Rattle.study_script.specs.declared.refusal.Refusal.TheVariants.{NoTable}
-use Rattle.study_script.specs.Asking.{Asked, of_start, at_node, at_study, of_class, stipulate, insert, tag, solve, pgn, Asks, command_of}
+use Rattle.study_command.specs.Asking.{Asked, of_start, at_node, at_study, of_class, stipulate, insert, tag, solve, pgn, Asks, command_of}
 use Rattle.study_script.specs.State.{State, Board, empty, start, study, is_among, first_lacking, Outside, quiet}
 use Rattle.study_script.specs.State.{no_path, no_room, no_room_for, unread, unopened, cut_off, file, header}
 use Rattle.std.specs.Prelude.{◌==◌, ◌%◌, ◌&&◌, codes}
 use Rattle.study_notation.specs.FenSpelling.{fen_text}
 use Rattle.study_material.specs.Class.{IsOf}
-use Rattle.study_script.specs.Words.{line_text, built_text, solve_text}
+use Rattle.study_script.specs.Words.{reply_line, built_text, solve_text}
 use Rattle.study_script.specs.Replies.{Reply, Answer, accepted, refused, with_class, IsValued, missing, found}
-use Rattle.study_script.specs.Replies.{IsAskedReply, IsPositionReply, IsShiftReply, IsStartReply, IsStipulateReply}
+use Rattle.study_script.specs.Replies.{IsAskingReply, IsAskedReply, IsPositionReply, IsShiftReply, IsStartReply, IsStipulateReply}
 use Rattle.study_script.specs.Replies.{IsInserted, IsMoveReply, IsMoveReplyAt, IsInsertReply, start_found}
 use Rattle.study_script.specs.Replies.{IsSolution, IsSolveReply, marked_reply, Annotated, IsStudyReply, IsStudyReplyAt}
 use Rattle.study_script.specs.Replies.{IsPgnReply, IsBuilt, built, too_far, IsBuildReply, IsLoadReply, IsOpenReply}
-use Rattle.study_script.specs.Replies.{IsLoadIn, IsTableReply, IsNamedReply, class_named, wants_whole, IsClassReplyIn}
+use Rattle.study_script.specs.Replies.{IsLoadIn, IsTableReply, IsNamedReply, class_told, wants_whole, IsClassReplyIn}
 use Rattle.study_script.specs.Replies.{IsReplyTo, IsReplyWhere, AreReplies}
 use Rattle.study_script.specs.Laws.{AreUnique}
 
@@ -65,7 +65,7 @@ one r a b e f = e ∙ sym f
 
 -- ---- values that are asked
 
-missing_held : (held : Class → Bool) (ps : List Position) (c : Class) → IsFirstMissing held ps c → AreHeld held ps → ⊥
+missing_held : (held : Class → Bool) (ps : List Position) (c : Class) → IsFirstMissing held ps c → AreTablesHeld held ps → ⊥
 missing_held held [] c m all = absurd m
 missing_held held (p ∷ ps) c (inl m) all = true≢false (sym (all.0 c m.0) ∙ m.1)
 missing_held held (p ∷ ps) c (inr m) all = missing_held held ps c m.1 all.1
@@ -85,6 +85,18 @@ valued_once s asked new text a b (missing c m e) (found all f) = absurd (missing
 valued_once s asked new text a b (found all e) (missing d n f) = absurd (missing_held (is_among s.classes) asked d n all.each)
 valued_once s asked new text a b (found all e) (found more f) = e ∙ sym f
 
+asking_once : (s : State) (o : Outside) (asked : List Position) (new : Plainly) (text : List ℕ) (a b : Reply)
+    → IsAskingReply s o asked new text a → IsAskingReply s o asked new text b → a ≡ b
+asking_once s quiet asked new text a b h k = valued_once s asked new text a b h k
+asking_once s no_path asked new text a b h k = valued_once s asked new text a b h k
+asking_once s no_room asked new text a b h k = valued_once s asked new text a b h k
+asking_once s (no_room_for bytes) asked new text a b h k = valued_once s asked new text a b h k
+asking_once s (unread fault) asked new text a b h k = h.2 ∙ sym k.2
+asking_once s (unopened fault) asked new text a b h k = valued_once s asked new text a b h k
+asking_once s cut_off asked new text a b h k = valued_once s asked new text a b h k
+asking_once s (file bytes) asked new text a b h k = valued_once s asked new text a b h k
+asking_once s (header told) asked new text a b h k = valued_once s asked new text a b h k
+
 asked_once : (s : State) (o : Outside) (asked : List Position) (new : Plainly) (text : List ℕ) (a b : Reply)
     → IsAskedReply s o asked new text a → IsAskedReply s o asked new text b → a ≡ b
 asked_once s quiet asked new text a b h k = valued_once s asked new text a b h k
@@ -102,44 +114,44 @@ asked_once s (header told) asked new text a b h k = valued_once s asked new text
 position_once : (s : State) (o : Outside) (at : Board) (new : Start) (a b : Reply) → IsPositionReply s o at new a → IsPositionReply s o at new b → a ≡ b
 position_once s o empty new a b h k = h ∙ sym k
 position_once s o (start old) new a b h k = h ∙ sym k
-position_once s o (study old) new a b h k = asked_once s o _ _ _ a b h k
+position_once s o (study old) new a b h k = asking_once s o _ _ _ a b h k
 
 shift_once : (s : State) (o : Outside) (old : Plainly) (new : Start) (r : Option (EditRefusal (Unit {0})))
     (a b : Reply) → IsShiftReply s o old new r a → IsShiftReply s o old new r b → a ≡ b
 shift_once s quiet old new (Some refusal) a b h k = h ∙ sym k
-shift_once s quiet old new None a b h k = asked_once s quiet (asked_of (shifted old new)) (shifted old new) (line_text (codes "shift ") (fen_text new)) a b h k
+shift_once s quiet old new None a b h k = asked_once s quiet (asked_of (shifted old new)) (shifted old new) (reply_line (codes "shift ") (fen_text new)) a b h k
 shift_once s no_path old new (Some refusal) a b h k = h ∙ sym k
 shift_once s no_path old new None a b h k =
-    asked_once s no_path (asked_of (shifted old new)) (shifted old new) (line_text (codes "shift ") (fen_text new))
+    asked_once s no_path (asked_of (shifted old new)) (shifted old new) (reply_line (codes "shift ") (fen_text new))
     a b h k
 shift_once s no_room old new (Some refusal) a b h k = h ∙ sym k
 shift_once s no_room old new None a b h k =
-    asked_once s no_room (asked_of (shifted old new)) (shifted old new) (line_text (codes "shift ") (fen_text new))
+    asked_once s no_room (asked_of (shifted old new)) (shifted old new) (reply_line (codes "shift ") (fen_text new))
     a b h k
 shift_once s (no_room_for bytes) old new (Some refusal) a b h k = h ∙ sym k
 shift_once s (no_room_for bytes) old new None a b h k =
     asked_once s (no_room_for bytes) (asked_of (shifted old new)) (shifted old new)
-    (line_text (codes "shift ") (fen_text new)) a b h k
+    (reply_line (codes "shift ") (fen_text new)) a b h k
 shift_once s (unread fault) old new (Some refusal) a b h k = h ∙ sym k
 shift_once s (unread fault) old new None a b h k =
     asked_once s (unread fault) (asked_of (shifted old new)) (shifted old new)
-    (line_text (codes "shift ") (fen_text new)) a b h k
+    (reply_line (codes "shift ") (fen_text new)) a b h k
 shift_once s (unopened fault) old new (Some refusal) a b h k = h ∙ sym k
 shift_once s (unopened fault) old new None a b h k =
     asked_once s (unopened fault) (asked_of (shifted old new)) (shifted old new)
-    (line_text (codes "shift ") (fen_text new)) a b h k
+    (reply_line (codes "shift ") (fen_text new)) a b h k
 shift_once s cut_off old new (Some refusal) a b h k = h ∙ sym k
 shift_once s cut_off old new None a b h k =
-    asked_once s cut_off (asked_of (shifted old new)) (shifted old new) (line_text (codes "shift ") (fen_text new))
+    asked_once s cut_off (asked_of (shifted old new)) (shifted old new) (reply_line (codes "shift ") (fen_text new))
     a b h k
 shift_once s (file bytes) old new (Some refusal) a b h k = h ∙ sym k
 shift_once s (file bytes) old new None a b h k =
     asked_once s (file bytes) (asked_of (shifted old new)) (shifted old new)
-    (line_text (codes "shift ") (fen_text new)) a b h k
+    (reply_line (codes "shift ") (fen_text new)) a b h k
 shift_once s (header told) old new (Some refusal) a b h k = h ∙ sym k
 shift_once s (header told) old new None a b h k =
     asked_once s (header told) (asked_of (shifted old new)) (shifted old new)
-    (line_text (codes "shift ") (fen_text new)) a b h k
+    (reply_line (codes "shift ") (fen_text new)) a b h k
 
 start_once : (s : State) (o : Outside) (word : FenWord) (at : Board) (read : Result Start FenFault) (a b : Reply)
     → IsStartReply s o word at read a → IsStartReply s o word at read b → a ≡ b
@@ -153,7 +165,7 @@ start_once s o Shift (start old) read a b h k = h ∙ sym k
 stipulate_once : (s : State) (o : Outside) (at : Board) (new : Stipulation) (a b : Reply)
     → IsStipulateReply s o at new a → IsStipulateReply s o at new b → a ≡ b
 stipulate_once s o empty new a b h k = h ∙ sym k
-stipulate_once s o (start from) new a b h k = asked_once s o _ _ _ a b h k
+stipulate_once s o (start from) new a b h k = asking_once s o _ _ _ a b h k
 stipulate_once s o (study old) new a b h k = h ∙ sym k
 
 -- ---- nodes
@@ -172,7 +184,7 @@ moved_once s o old steps (Ok m) a b h k = inserted_once s o old steps m (insert_
 move_at_once : (s : State) (o : Outside) (old : Plainly) (steps san : List ℕ) (there : Bool) (a b : Reply)
     → IsMoveReplyAt s o old steps san there a → IsMoveReplyAt s o old steps san there b → a ≡ b
 move_at_once s o old steps san false a b h k = h ∙ sym k
-move_at_once s o old steps san true a b h k = moved_once s o old steps (move_of (node_position old steps) san) a b h k
+move_at_once s o old steps san true a b h k = moved_once s o old steps (move_of (position_at old steps) san) a b h k
 
 insert_once : (s : State) (o : Outside) (at : Board) (steps san : List ℕ) (a b : Reply)
     → IsInsertReply s o at steps san a → IsInsertReply s o at steps san b → a ≡ b
@@ -260,12 +272,12 @@ module _ (one_value : EachHasAtMostOneValue) where
       let length_u : length u.cells ≡ cells_of c = complete.size ∙ ap cells_of f in
       let lt : n < length t.cells = h.inside in
       let inside : n < cells_of c = omega (arith, size) in
-      let first = subst (λ (d : Class). n < cells_of d → TellsValue (position_at d n) (slice_index t.cells n)) e (right.tells n) inside in
-      let second = subst (λ (d : Class). n < cells_of d → TellsValue (position_at d n) (slice_index u.cells n)) f (good.tells n) inside in
+      let first = subst (λ (d : Class). n < cells_of d → TellsValue (position_numbered d n) (slice_index t.cells n)) e (right.tells n) inside in
+      let second = subst (λ (d : Class). n < cells_of d → TellsValue (position_numbered d n) (slice_index u.cells n)) f (good.tells n) inside in
       record {
         cell = n;
         inside = omega (arith, length_u);
-        is = ap win_of (told_once (position_at c n) (slice_index u.cells n) (slice_index t.cells n) second first)
+        is = ap win_of (told_once (position_numbered c n) (slice_index u.cells n) (slice_index t.cells n) second first)
             ∙ h.is;
       }
 
@@ -377,7 +389,7 @@ module _ (one_value : EachHasAtMostOneValue) (one_annotation : AnnotationsAreUni
   class_once : (s : State) (o : Outside) (word : ClassWord) (name : List ℕ) (refuses : Bool) (a b : Reply)
       → IsClassReplyIn s o word name refuses a → IsClassReplyIn s o word name refuses b → a ≡ b
   class_once s o word name true a b h k = h ∙ sym k
-  class_once s o word name false a b h k = named_once s o word (class_named name) a b h k
+  class_once s o word name false a b h k = named_once s o word (class_told name) a b h k
 
   -- ---- lines
 

@@ -4,7 +4,7 @@ use Rattle.std.proofs.Common.{Result, Ok, Err, refl, sym, ap, subst, ◌∙◌, 
 use Rattle.std.specs.Prelude.{MatchOption, IfErr}
 use Rattle.std.proofs.lemmas.List.{length-set}
 use Rattle.study_material.specs.declared.class.Class.{Class}
-use Rattle.study_retro.specs.Table.{Table, place_of}
+use Rattle.study_retro.specs.Table.{Table, class_place}
 use Rattle.study_tablefile.specs.declared.fault.SourceFault.{SourceFault}
 use Rattle.study_prober.specs.declared.fault.PagedFault.{PagedFault}
 use Rattle.study_prober.specs.declared.fault.PagedFault.TheVariants as fault_of
@@ -16,7 +16,7 @@ use Rattle.study_prober.proofs.HeldSources.{same_class, held_same, held_other, h
 use Rattle.study_script.specs.declared.store.StoreFault.{StoreFault}
 use Rattle.study_script.specs.declared.refusal.Refusal.TheVariants.{AlreadyHeld}
 use Rattle.study_script.specs.declared.told.Told.TheVariants.{Loaded}
-use Rattle.study_script.specs.State.{State, is_among, IsGiven, IsOpened, IsTold, quiet, no_room_for, unopened, header}
+use Rattle.study_script.specs.State.{State, is_among, IsGiven, IsOpened, IsGivenAs, quiet, no_room_for, unopened, header}
 use Rattle.study_script.specs.Replies.{refused, with_class, opened, IsOpenReply}
 use Rattle.study_script.specs.Names.{of_store, of_paged}
 use Rattle.study_script.specs.Stored.{IsRightSource}
@@ -28,7 +28,7 @@ use Rattle.study_script.proofs.HeldTables.{place_below, among_with, among_head}
 -- a header is told as the store is known to give it
 pub told_is : (May : Result (List ℕ) SourceFault → Type 0) (known : Option (Result (List ℕ) StoreFault))
     (told : Result (List ℕ) SourceFault) → May told → IsOpened known
-    → ((bytes : List ℕ) → May (Ok bytes) → IsGiven known (Ok bytes)) → IsTold known told
+    → ((bytes : List ℕ) → May (Ok bytes) → IsGiven known (Ok bytes)) → IsGivenAs known told
 told_is May known (Ok bytes) may is_open given = given bytes may
 told_is May known (Err fault) may is_open given = is_open
 
@@ -61,13 +61,13 @@ module _ {P : Type 0} (honest : P → Table → ℕ → Type 0) (w : Paged P) (s
   open_unopened seen fault e given = (unopened fault, s, rw (among false e) (given, refl), (h, refl, seen))
 
   pub open_done : (v : Paged P) (told : Result (List ℕ) SourceFault) → Seen (with_class s c)
-      → HoldsPaged honest v (with_class s c) → is_some (held_of w.sources c) ≡ false → IsTold (s.shelf.headers c) told
+      → HoldsPaged honest v (with_class s c) → is_some (held_of w.sources c) ≡ false → IsGivenAs (s.shelf.headers c) told
       → paged_fault false c told ≡ None
       → Decided (λ o. IsOpenReply s o c (is_among s.classes c)) (λ t. HoldsPaged honest v t × (t.board ≡ s.board) × Seen t) (Ok (Loaded c))
   open_done v told seen holds e is_told none = (header told, with_class s c, rw (among false e) (is_told, ap (opened s c) (sym none)), (holds, refl, seen))
 
   pub open_refused : (v : Paged P) (told : Result (List ℕ) SourceFault) (fault : PagedFault) → v ≡ w → Seen s
-      → is_some (held_of w.sources c) ≡ false → IsTold (s.shelf.headers c) told
+      → is_some (held_of w.sources c) ≡ false → IsGivenAs (s.shelf.headers c) told
       → MatchOption (paged_fault false c told) (fault ≡ fault_of.OutOfMemory)
       (λ f. ◌≡◌ {A = Result (Unit {0}) PagedFault} (Err fault) (Err f))
       → Decided (λ o. IsOpenReply s o c (is_among s.classes c)) (λ t. HoldsPaged honest v t × (t.board ≡ s.board)
@@ -77,7 +77,7 @@ module _ {P : Type 0} (honest : P → Table → ℕ → Type 0) (w : Paged P) (s
       kept : HoldsPaged honest v s
       kept = subst (λ (x : Paged P). HoldsPaged honest x s) (sym same) h
 
-      no_room : (t : Result (List ℕ) SourceFault) → IsTold (s.shelf.headers c) t → paged_fault false c t ≡ None → fault ≡ fault_of.OutOfMemory
+      no_room : (t : Result (List ℕ) SourceFault) → IsGivenAs (s.shelf.headers c) t → paged_fault false c t ≡ None → fault ≡ fault_of.OutOfMemory
           → Decided (λ o. IsOpenReply s o c (is_among s.classes c)) (λ u. HoldsPaged honest v u × (u.board ≡ s.board) × Seen u) (Err (of_paged fault))
       no_room (Ok bytes) given none is = (
         no_room_for bytes,
@@ -111,21 +111,21 @@ module _ {P : Type 0} (honest : P → Table → ℕ → Type 0) where
 
   pub paged_with : (w v : Paged P) (s : State) (c : Class) (x : HeldSource P) → HoldsPaged honest w s
       → SourcesAreRight honest v.sources → length v.sources ≡ 36
-      → v ≡ record w { sources = set (places w.sources) (place_of c) (Some x) } → HoldsPaged honest v (with_class s c)
+      → v ≡ record w { sources = set (places w.sources) (class_place c) (Some x) } → HoldsPaged honest v (with_class s c)
   paged_with w v s c x h right long is = record { values = right; classes = classes; by_pages = h.by_pages }
     where
-      sources : v.sources ≡ set (places w.sources) (place_of c) (Some x)
+      sources : v.sources ≡ set (places w.sources) (class_place c) (Some x)
       sources = ap (λ (u : Paged P). u.sources) is
 
-      within : place_of c < length (places w.sources)
-      within = let small = place_below c in omega (arith, small, sym (length-set (places w.sources) (place_of c) (Some x)) ∙ ap length (sym sources) ∙ long)
+      within : class_place c < length (places w.sources)
+      within = let small = place_below c in omega (arith, small, sym (length-set (places w.sources) (class_place c) (Some x)) ∙ ap length (sym sources) ∙ long)
 
       classes : (d : Class) → is_some (held_of v.sources d) ≡ is_among (c ∷ s.classes) d
       classes d = ap (λ (xs : List (Option (HeldSource P))). is_some (held_of xs d)) sources ∙ elim (same_class c d) [
         | inl e ↦ ap (λ (o : Option (HeldSource P)). is_some o)
-            (subst (λ (k : Class). held_of (set (places w.sources) (place_of c) (Some x)) k ≡ Some x) e
+            (subst (λ (k : Class). held_of (set (places w.sources) (class_place c) (Some x)) k ≡ Some x) e
             (held_same (places w.sources) c (Some x) within)) ∙ among_head c d s.classes e
         | inr f ↦ ap (λ (o : Option (HeldSource P)). is_some o)
             (held_other (places w.sources) c d (Some x) f ∙ held_placed w.sources d) ∙ among_with c d s.classes
-            (is_some (held_of w.sources d)) (sym (h.classes d)) (λ e. f (ap place_of e))
+            (is_some (held_of w.sources d)) (sym (h.classes d)) (λ e. f (ap class_place e))
       ]

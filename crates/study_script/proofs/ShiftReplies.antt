@@ -13,8 +13,8 @@ use Rattle.study_marks.specs.Stop.{IsShiftRefusal}
 use Rattle.study_marks.specs.Edits.{Plainly, before, broken_from, broken, shifted, shift_refusal}
 use Rattle.study_script.specs.Names.{edit_words}
 use Rattle.study_script.specs.State.{State, is_among, Outside, quiet, no_path, no_room, no_room_for, unread, unopened, cut_off, file, header}
-use Rattle.study_script.specs.Replies.{Reply, refused_by, IsAskedReply, IsShiftReply}
-use Rattle.study_script.specs.Words.{line_text}
+use Rattle.study_script.specs.Replies.{Reply, refused_as, IsAskedReply, IsShiftReply}
+use Rattle.study_script.specs.Words.{reply_line}
 use Rattle.study_script.specs.Held.{IsToldBy}
 use Rattle.study_script.proofs.AskingEdits.{refused_outside}
 use Rattle.study_notation.specs.FenSpelling.{fen_text}
@@ -35,7 +35,7 @@ unbroken A s new e = ap (broken {A = A}) (broken_mapped (λ _. tt) 0 new.positio
 
 -- a shift that is legal is an edit that asks tables
 pub unbroken_reply : (s : State) (o : Outside) (old : Plainly) (new : Start) (reply : Reply)
-    → IsAskedReply s o (asked_of (shifted old new)) (shifted old new) (line_text (codes "shift ") (fen_text new))
+    → IsAskedReply s o (asked_of (shifted old new)) (shifted old new) (reply_line (codes "shift ") (fen_text new))
     reply → IsShiftReply s o old new None reply
 unbroken_reply s quiet old new reply h = h
 unbroken_reply s no_path old new reply h = h
@@ -51,16 +51,16 @@ unbroken_reply s (header told) old new reply h = h
 shift_refused_at : (A : Type 0) (s : State) (held : Class → Bool) (paged : Bool) (old : Plainly) (new : Start)
     (b : Option (List ℕ)) (r : EditRefusal A) → ((c : Class) → held c ≡ is_among s.classes c) → paged ≡ s.paged
     → IsShiftRefusal held (asked_of (shifted old new)) (broken {A = A} b) r → IsToldBy paged r → (o : Outside)
-    × IsShiftReply s o old new (broken {A = Unit {0}} b) (refused_by s (edit_words r))
+    × IsShiftReply s o old new (broken {A = Unit {0}} b) (refused_as s (edit_words r))
 shift_refused_at A s held paged old new None r e m out told =
-    let x = refused_outside A s held paged (asked_of (shifted old new)) (shifted old new) (line_text (codes "shift ") (fen_text new)) r e m out told in
-    (x.0, unbroken_reply s x.0 old new (refused_by s (edit_words r)) x.1)
-shift_refused_at A s held paged old new (Some steps) r e m (inl is) told = (quiet, ap (λ (x : EditRefusal A). refused_by s (edit_words x)) is)
-shift_refused_at A s held paged old new (Some steps) r e m (inr is) told = (no_room, ap (λ (x : EditRefusal A). refused_by s (edit_words x)) is)
+    let x = refused_outside A s held paged (asked_of (shifted old new)) (shifted old new) (reply_line (codes "shift ") (fen_text new)) r e m out told in
+    (x.0, unbroken_reply s x.0 old new (refused_as s (edit_words r)) x.1)
+shift_refused_at A s held paged old new (Some steps) r e m (inl is) told = (quiet, ap (λ (x : EditRefusal A). refused_as s (edit_words x)) is)
+shift_refused_at A s held paged old new (Some steps) r e m (inr is) told = (no_room, ap (λ (x : EditRefusal A). refused_as s (edit_words x)) is)
 
 pub shift_refused : (A : Type 0) (s : State) (held : Class → Bool) (paged : Bool) (old : Plainly) (new : Start)
     (r : EditRefusal A) → ((c : Class) → held c ≡ is_among s.classes c) → paged ≡ s.paged
     → IsShiftRefusal held (asked_of (shifted old new)) (shift_refusal {A = A} old new) r → IsToldBy paged r
     → (o : Outside) × IsShiftReply s o old new (shift_refusal {A = Unit {0}} old new)
-    (refused_by s (edit_words r))
+    (refused_as s (edit_words r))
 shift_refused A s held paged old new r e m out told = shift_refused_at A s held paged old new (broken_from 0 new.position old.tree.below) r e m out told

@@ -8,7 +8,7 @@ use Rattle.study_marks.specs.declared.fault.Refusal.{Refusal as EditRefusal}
 use Rattle.study_marks.specs.Edits.{Plainly, there, is_tag_text, delete_refusal, promote_refusal, tag_refusal}
 use Rattle.study_script.specs.Names.{edit_words}
 use Rattle.study_script.specs.State.{State}
-use Rattle.study_script.specs.Replies.{accepted, refused_by, holding, edit_reply}
+use Rattle.study_script.specs.Replies.{accepted, refused_as, holding, edit_reply}
 
 -- two reasons are told in the same words
 abbrev pub SameWords : {A B : Type 0} → Option (EditRefusal A) → Option (EditRefusal B) → Type 0
@@ -39,14 +39,14 @@ module _ {T A B : Type 0} where
 
 -- a refused edit has the reply of the definition
 reply_refused : (s : State) (y : Option (EditRefusal (Unit {0}))) (words : List ℕ) (new : Plainly) (text : List ℕ)
-    → MatchOption y (⊥) (λ f. words ≡ edit_words f) → refused_by s words ≡ edit_reply s y new text
+    → MatchOption y (⊥) (λ f. words ≡ edit_words f) → refused_as s words ≡ edit_reply s y new text
 reply_refused s None words new text m = absurd m
-reply_refused s (Some f) words new text m = ap (refused_by s) m
+reply_refused s (Some f) words new text m = ap (refused_as s) m
 
 module _ {T A : Type 0} where
   pub edit_refused : (s : State) (x : Option (EditRefusal A)) (y : Option (EditRefusal (Unit {0}))) (new : Plainly)
       (text : List ℕ) → SameWords x y → (r : Result T (EditRefusal A)) (e : EditRefusal A)
-      → MatchOption x (IsOk r) (λ f. r ≡ Err f) → r ≡ Err e → refused_by s (edit_words e) ≡ edit_reply s y new text
+      → MatchOption x (IsOk r) (λ f. r ≡ Err f) → r ≡ Err e → refused_as s (edit_words e) ≡ edit_reply s y new text
   edit_refused s x y new text same r e m is = reply_refused s y (edit_words e) new text (refused_same s x y same r e m is)
 
   pub edit_accepted : (s : State) (x : Option (EditRefusal A)) (y : Option (EditRefusal (Unit {0}))) (new : Plainly)

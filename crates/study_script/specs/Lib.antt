@@ -1,6 +1,3 @@
-pub mod Paths
-pub mod Asking
-pub mod Lines
 pub mod State
 pub mod Stored
 pub mod Names

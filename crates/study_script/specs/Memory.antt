@@ -1,7 +1,7 @@
 -- What is known of a store in memory, which is all that it gives.
 use Rattle.std.specs.Prelude.{◌≡◌, ℕ, Bool, true, false, List, take, slice_index_or, Option, Some, None, Result, Ok, Err}
 use Rattle.study_material.specs.declared.class.Class.{Class}
-use Rattle.study_retro.specs.Table.{Table, IsComplete, place_of}
+use Rattle.study_retro.specs.Table.{Table, IsComplete, class_place}
 use Rattle.study_retro.specs.Sound.{IsRight}
 use Rattle.study_tablefile.specs.File.{IsVersionOf, table_text}
 use Rattle.study_script.specs.declared.store.StoreFault.{StoreFault}
@@ -11,8 +11,8 @@ use Rattle.study_script.specs.declared.memory.MemoryFile.TheVariants.{Absent, Cl
 use Rattle.study_script.specs.Stored.{IsRightFile}
 
 -- the file of a class
-abbrev pub file_at : List MemoryFile → Class → MemoryFile
-file_at files c = slice_index_or files (place_of c) Absent
+abbrev pub memory_file : List MemoryFile → Class → MemoryFile
+memory_file files c = slice_index_or files (class_place c) Absent
 
 -- what a file gives from front to back; of one that was written nothing is known
 abbrev pub file_known : MemoryFile → Option (Result (List ℕ) StoreFault)

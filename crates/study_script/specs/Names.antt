@@ -12,9 +12,9 @@ use Rattle.study_prober.specs.declared.values.ProbeFault.{ProbeFault}
 use Rattle.study_prober.specs.declared.values.ProbeFault.TheVariants as probe
 use Rattle.study_prober.specs.declared.fault.PagedFault.{PagedFault}
 use Rattle.study_prober.specs.declared.fault.PagedFault.TheVariants as paged
-use Rattle.study_script.specs.declared.command.FormFault.{FormFault}
-use Rattle.study_script.specs.declared.command.FormFault.TheVariants as form
-use Rattle.study_script.specs.Paths.{path_text}
+use Rattle.study_command.specs.declared.command.FormFault.{FormFault}
+use Rattle.study_command.specs.declared.command.FormFault.TheVariants as form
+use Rattle.study_command.specs.Paths.{path_text}
 use Rattle.study_marks.specs.declared.fault.Refusal.{Refusal as EditRefusal}
 use Rattle.study_marks.specs.declared.fault.Refusal.TheVariants as edit
 use Rattle.study_script.specs.declared.store.StoreFault.{StoreFault}

@@ -7,7 +7,7 @@ use Rattle.study_tablefile.specs.Taken.{TakesPrefix}
 use Rattle.study_script.specs.declared.run.Summary.{Summary}
 use Rattle.study_script.specs.declared.run.RunFault.{RunFault}
 use Rattle.study_script.specs.declared.run.RunFault.TheVariants.{ReadDevice, WriteDevice, LineTooLong, TooManyLines, OutOfMemory}
-use Rattle.study_script.specs.Lines.{lines_of, GaveFeeds}
+use Rattle.study_command.specs.Lines.{script_lines, GaveFeeds}
 use Rattle.study_script.specs.State.{State, empty, Shelf, Outside}
 use Rattle.study_script.specs.Replies.{Reply, Answer, IsReply, AreReplies, replies_text}
 
@@ -42,23 +42,26 @@ AreBrokenOff first lines line old new =
 -- these lines are what a reader has left
 abbrev pub AreLeft : Option (List ℕ) → List (List ℕ) → Type 0
 AreLeft None lines = ⊥
-AreLeft (Some rest) lines = lines_of rest ≡ lines
+AreLeft (Some rest) lines = script_lines rest ≡ lines
 
 -- what is held at the beginning, the bytes of a script, what the reader has left of them, what the writer had and has, and what the run answers
 abbrev pub Outcome : State → List ℕ → Option (List ℕ) → Option (List ℕ) → Option (List ℕ) → Result Summary RunFault → Type 0
 Outcome first script left old new (Ok summary) =
-    (length (lines_of script) ≤ 100000) × AreShort (lines_of script)
-    × (replies : List Answer) × AreReplies first (lines_of script) replies × Appends old new (replies_text replies)
-    × (summary.lines ≡ length (lines_of script)) × (summary.refused ≡ error_count replies)
--- each line whose end was read is answered; no line behind these was begun
-Outcome first script left old new (Err ReadDevice) = (n : ℕ) × (n ≤ 100000) × (n ≤ length (lines_of script))
-    × GaveFeeds (Some script) left n × AreAnswered first (take n (lines_of script)) old new
+    (length (script_lines script) ≤ 100000) × AreShort (script_lines script)
+    × (replies : List Answer) × AreReplies first (script_lines script) replies × Appends old new (replies_text replies)
+    × (summary.lines ≡ length (script_lines script)) × (summary.refused ≡ error_count replies)
+-- exactly the lines whose ends were read are answered: the device failed within the one behind them
+Outcome first script left old new (Err ReadDevice) = (n : ℕ) × (n ≤ 100000) × (n ≤ length (script_lines script))
+    × GaveFeeds (Some script) left n
+    × (rest : List ℕ) × (drop n (script_lines script) ≡ script_lines rest) × GaveFeeds (Some rest) left 0
+    × AreAnswered first (take n (script_lines script)) old new
 -- where the writer failed, the lines behind the one whose reply it broke off are left
 Outcome first script left old new (Err WriteDevice) =
-    (n : ℕ) × (n < 100000) × GaveFeeds (Some script) left (n + 1) × AreLeft left (drop (n + 1) (lines_of script))
-    × IsSomeAnd (slice_get (lines_of script) n) (λ line. AreBrokenOff first (take n (lines_of script)) line old new)
+    (n : ℕ) × (n < 100000) × GaveFeeds (Some script) left (n + 1) × AreLeft left (drop (n + 1) (script_lines script))
+    × IsSomeAnd (slice_get (script_lines script) n) (λ line. AreBrokenOff first (take n (script_lines script)) line old new)
 Outcome first script left old new (Err (LineTooLong n)) = (0 < n) × (n ≤ 100000)
-    × IsSomeAnd (slice_get (lines_of script) (n - 1)) (λ line. 1024 < length line)
-    × AreAnswered first (take (n - 1) (lines_of script)) old new
-Outcome first script left old new (Err TooManyLines) = (100000 < length (lines_of script)) × AreAnswered first (take 100000 (lines_of script)) old new
-Outcome first script left old new (Err OutOfMemory) = Keeps old new
+    × IsSomeAnd (slice_get (script_lines script) (n - 1)) (λ line. 1024 < length line)
+    × AreAnswered first (take (n - 1) (script_lines script)) old new
+Outcome first script left old new (Err TooManyLines) = (100000 < length (script_lines script)) × AreAnswered first (take 100000 (script_lines script)) old new
+-- memory is taken before anything is read or written
+Outcome first script left old new (Err OutOfMemory) = Keeps old new × (left ≡ Some script)

@@ -9,7 +9,7 @@ use Rattle.study_moves.specs.Rules.{after}
 use Rattle.study_moves.specs.Game.{MatesWithin, IsWon}
 use Rattle.study_material.specs.declared.class.Class.{Class}
 use Rattle.study_material.specs.Class.{name_of, class_list}
-use Rattle.study_retro.specs.Table.{Table, IsComplete, place_of}
+use Rattle.study_retro.specs.Table.{Table, IsComplete, class_place}
 use Rattle.study_retro.specs.Sound.{IsRight, HasFarPosition}
 use Rattle.study_retro.specs.Report.{IsGreatest, win_of}
 use Rattle.study_tablefile.specs.declared.fault.FileFault.{FileFault}
@@ -35,19 +35,19 @@ use Rattle.study_marks.specs.Study.{Study, plain_study, position_at}
 use Rattle.study_marks.specs.Annotated.{IsAnnotated}
 use Rattle.study_marks.specs.Edits.{Plainly, positioned, shifted, stipulated, inserted, deleted, promoted, tagged}
 use Rattle.study_marks.specs.Edits.{insert_refusal, delete_refusal, promote_refusal, shift_refusal, tag_refusal}
-use Rattle.study_marks.specs.Asked.{asked_at, asked_of, IsFirstMissing, AllHeld, IsDeviceFault}
+use Rattle.study_marks.specs.Asked.{asked_at, asked_of, IsFirstMissing, IsFirstUnread, AllHeld}
 use Rattle.study_marks.specs.Bench.{start_at}
 use Rattle.study_pgn.specs.Pgn.{pgn_text}
-use Rattle.study_script.specs.declared.command.FenWord.{FenWord}
-use Rattle.study_script.specs.declared.command.FenWord.TheVariants.{Position as PositionWord, Shift}
-use Rattle.study_script.specs.declared.command.NodeWord.{NodeWord}
-use Rattle.study_script.specs.declared.command.NodeWord.TheVariants.{Moves, Fen as FenAt}
-use Rattle.study_script.specs.declared.command.StudyWord.{StudyWord}
-use Rattle.study_script.specs.declared.command.StudyWord.TheVariants.{Delete, Promote, Mark as MarkWord}
-use Rattle.study_script.specs.declared.command.ClassWord.{ClassWord}
-use Rattle.study_script.specs.declared.command.ClassWord.TheVariants.{Build, Load, Save, Verify}
-use Rattle.study_script.specs.Paths.{path_text}
-use Rattle.study_script.specs.Asking.{Asked, of_start, at_node, at_study, of_class, stipulate, insert, tag, solve, pgn, Asks, command_of}
+use Rattle.study_command.specs.declared.command.FenWord.{FenWord}
+use Rattle.study_command.specs.declared.command.FenWord.TheVariants.{Position as PositionWord, Shift}
+use Rattle.study_command.specs.declared.command.NodeWord.{NodeWord}
+use Rattle.study_command.specs.declared.command.NodeWord.TheVariants.{Moves, Fen as FenAt}
+use Rattle.study_command.specs.declared.command.StudyWord.{StudyWord}
+use Rattle.study_command.specs.declared.command.StudyWord.TheVariants.{Delete, Promote, Mark as MarkWord}
+use Rattle.study_command.specs.declared.command.ClassWord.{ClassWord}
+use Rattle.study_command.specs.declared.command.ClassWord.TheVariants.{Build, Load, Save, Verify}
+use Rattle.study_command.specs.Paths.{path_text}
+use Rattle.study_command.specs.Asking.{Asked, of_start, at_node, at_study, of_class, stipulate, insert, tag, solve, pgn, Asks, command_of}
 use Rattle.study_script.specs.declared.refusal.Refusal.{Refusal}
 use Rattle.study_script.specs.declared.refusal.Refusal.TheVariants.{Form, NoPosition, NoStudy, OutOfMemory}
 use Rattle.study_script.specs.declared.refusal.Refusal.TheVariants.{PagedMode, NotAClass, NoSuchNode, Fen, San}
@@ -55,9 +55,10 @@ use Rattle.study_script.specs.declared.refusal.Refusal.TheVariants.{NoTable, Mis
 use Rattle.study_script.specs.declared.refusal.Refusal.TheVariants.{Device, File, DistanceTooLarge}
 use Rattle.study_script.specs.Names.{words_of, edit_words, of_probe, of_paged, of_store}
 use Rattle.study_script.specs.State.{Board, empty, start, study, State, is_among, first_lacking}
-use Rattle.study_script.specs.State.{IsGiven, IsOpened, IsTold, written_anew, Outside, no_path, no_room}
+use Rattle.study_script.specs.State.{IsGiven, IsOpened, IsGivenAs, written_anew, Outside, no_path, no_room}
 use Rattle.study_script.specs.State.{no_room_for, unread, unopened, cut_off, file, header}
-use Rattle.study_script.specs.Words.{line_text, stipulation_text, tag_name, mark_text, moves_text, solve_text}
+use Rattle.study_pgn.specs.Tags.{tag_name}
+use Rattle.study_script.specs.Words.{reply_line, stipulation_words, mark_text, moves_text, solve_text}
 use Rattle.study_script.specs.Words.{insert_text, built_text, loaded_text, saved_text, verified_text}
 
 -- the reply to a line: its bytes, what is held behind the line, and whether the line is refused
@@ -70,11 +71,11 @@ abbrev pub accepted : State → List ℕ → Reply
 accepted s text = record { text = text; state = s; refused = false }
 
 -- a refused line changes nothing
-abbrev pub refused_by : State → List ℕ → Reply
-refused_by s words = record { text = line_text (codes "error ") words; state = s; refused = true }
+abbrev pub refused_as : State → List ℕ → Reply
+refused_as s words = record { text = reply_line (codes "error ") words; state = s; refused = true }
 
 abbrev pub refused : State → Refusal → Reply
-refused s refusal = refused_by s (words_of refusal)
+refused s refusal = refused_as s (words_of refusal)
 
 -- with another study
 abbrev pub holding : State → Plainly → State
@@ -85,30 +86,34 @@ holding s new = record s { board = study new }
 -- an edit that asks no value: the first reason to refuse it, or the study after it
 abbrev pub edit_reply : State → Option (EditRefusal (Unit {0})) → Plainly → List ℕ → Reply
 edit_reply s None new text = accepted (holding s new) text
-edit_reply s (Some refusal) new text = refused_by s (edit_words refusal)
+edit_reply s (Some refusal) new text = refused_as s (edit_words refusal)
 
 -- the values of these positions are asked: a table is missing, or the study is the new one
 pub data IsValued (s : State) (asked : List Position) (new : Plainly) (text : List ℕ) (reply : Reply) : Type 0 where
   missing : (c : Class) → IsFirstMissing (is_among s.classes) asked c → reply ≡ refused s (NoTable c) → IsValued s asked new text reply
   found : AllHeld (is_among s.classes) asked → reply ≡ accepted (holding s new) text → IsValued s asked new text reply
 
--- an edit that takes memory, and then asks the values of these positions; a page is read only where tables are read by pages
+-- an edit that asks the values of these positions; a page is read only where tables are read by pages
+abbrev pub IsAskingReply : State → Outside → List Position → Plainly → List ℕ → Reply → Type 0
+IsAskingReply s (unread fault) asked new text reply = (s.paged ≡ true) × IsFirstUnread (is_among s.classes) asked fault × (reply ≡ refused s (of_probe fault))
+IsAskingReply s _ asked new text reply = IsValued s asked new text reply
+
+-- the same, where memory is taken before
 abbrev pub IsAskedReply : State → Outside → List Position → Plainly → List ℕ → Reply → Type 0
 IsAskedReply s no_room asked new text reply = reply ≡ refused s OutOfMemory
-IsAskedReply s (unread fault) asked new text reply = (s.paged ≡ true) × IsDeviceFault fault × (reply ≡ refused s (of_probe fault))
-IsAskedReply s _ asked new text reply = IsValued s asked new text reply
+IsAskedReply s o asked new text reply = IsAskingReply s o asked new text reply
 
 -- `position`: without a study the start is held, and no table is asked
 abbrev pub IsPositionReply : State → Outside → Board → Start → Reply → Type 0
-IsPositionReply s o empty new reply = reply ≡ accepted (record s { board = start new }) (line_text (codes "position ") (fen_text new))
-IsPositionReply s o (start old) new reply = reply ≡ accepted (record s { board = start new }) (line_text (codes "position ") (fen_text new))
-IsPositionReply s o (study old) new reply = IsAskedReply s o (asked_at new.position) (positioned old new) (line_text (codes "position ") (fen_text new)) reply
+IsPositionReply s o empty new reply = reply ≡ accepted (record s { board = start new }) (reply_line (codes "position ") (fen_text new))
+IsPositionReply s o (start old) new reply = reply ≡ accepted (record s { board = start new }) (reply_line (codes "position ") (fen_text new))
+IsPositionReply s o (study old) new reply = IsAskingReply s o (asked_at new.position) (positioned old new) (reply_line (codes "position ") (fen_text new)) reply
 
 -- `shift`: a move of the tree is not legal, which may also be told as want of memory for its path
 abbrev pub IsShiftReply : State → Outside → Plainly → Start → Option (EditRefusal (Unit {0})) → Reply → Type 0
 IsShiftReply s no_room old new (Some refusal) reply = reply ≡ refused s OutOfMemory
-IsShiftReply s _ old new (Some refusal) reply = reply ≡ refused_by s (edit_words refusal)
-IsShiftReply s o old new None reply = IsAskedReply s o (asked_of (shifted old new)) (shifted old new) (line_text (codes "shift ") (fen_text new)) reply
+IsShiftReply s _ old new (Some refusal) reply = reply ≡ refused_as s (edit_words refusal)
+IsShiftReply s o old new None reply = IsAskedReply s o (asked_of (shifted old new)) (shifted old new) (reply_line (codes "shift ") (fen_text new)) reply
 
 abbrev pub IsStartReply : State → Outside → FenWord → Board → Result Start FenFault → Reply → Type 0
 IsStartReply s o PositionWord board (Err fault) reply = reply ≡ refused s (Fen fault)
@@ -130,21 +135,21 @@ new_study from stipulation = record {
 -- `stipulate` makes the study, or changes its stipulation
 abbrev pub IsStipulateReply : State → Outside → Board → Stipulation → Reply → Type 0
 IsStipulateReply s o empty new reply = reply ≡ refused s NoPosition
-IsStipulateReply s o (start from) new reply = IsAskedReply s o (asked_at from.position) (new_study from new) (stipulation_text new) reply
-IsStipulateReply s o (study old) new reply = reply ≡ accepted (holding s (stipulated old new)) (stipulation_text new)
+IsStipulateReply s o (start from) new reply = IsAskingReply s o (asked_at from.position) (new_study from new) (stipulation_words new) reply
+IsStipulateReply s o (study old) new reply = reply ≡ accepted (holding s (stipulated old new)) (stipulation_words new)
 
 -- `tag`
 abbrev pub tag_reply : State → Board → TagName → List ℕ → Reply
 tag_reply s empty name text = refused s NoStudy
 tag_reply s (start from) name text = refused s NoStudy
-tag_reply s (study old) name text = edit_reply s (tag_refusal text) (tagged old name text) (line_text (codes "tag ") (tag_name name))
+tag_reply s (study old) name text = edit_reply s (tag_refusal text) (tagged old name text) (reply_line (codes "tag ") (tag_name name))
 
 -- `insert`: the node, then the move, then the edit; the reply has the path of the new node
 abbrev pub inserted_text : Plainly → List ℕ → Move → List ℕ
 inserted_text old steps m = insert_text (steps ++ children_at old.tree.below steps ∷ []) (move_text (position_at old steps) m)
 
 abbrev pub IsInserted : State → Outside → Plainly → List ℕ → Move → Option (EditRefusal (Unit {0})) → Reply → Type 0
-IsInserted s o old steps m (Some refusal) reply = reply ≡ refused_by s (edit_words refusal)
+IsInserted s o old steps m (Some refusal) reply = reply ≡ refused_as s (edit_words refusal)
 IsInserted s o old steps m None reply = IsAskedReply s o (asked_at (after (position_at old steps) m)) (inserted old steps m) (inserted_text old steps m) reply
 
 abbrev pub IsMoveReply : State → Outside → Plainly → List ℕ → Result Move SanFault → Reply → Type 0
@@ -187,7 +192,7 @@ moves_reply s (Ok at) = accepted s (moves_text at.position)
 moves_reply s (Err refusal) = refused s refusal
 
 abbrev pub fen_reply : State → Result Start Refusal → Reply
-fen_reply s (Ok at) = accepted s (line_text (codes "fen ") (fen_text at))
+fen_reply s (Ok at) = accepted s (reply_line (codes "fen ") (fen_text at))
 fen_reply s (Err refusal) = refused s refusal
 
 -- the side to move mates in so many plies against every defence, and not sooner; with None, not within that many moves of its own
@@ -221,9 +226,9 @@ raised (k ∷ j ∷ js) = k ∷ raised (j ∷ js)
 -- `delete`, `promote` and `mark`
 abbrev pub IsStudyReply : State → StudyWord → Plainly → List ℕ → Reply → Type 0
 IsStudyReply s Delete old steps reply =
-    reply ≡ edit_reply s (delete_refusal old steps) (deleted old steps) (line_text (codes "delete ") (path_text steps))
+    reply ≡ edit_reply s (delete_refusal old steps) (deleted old steps) (reply_line (codes "delete ") (path_text steps))
 IsStudyReply s Promote old steps reply =
-    reply ≡ edit_reply s (promote_refusal old steps) (promoted old steps) (line_text (codes "promote ") (path_text (raised steps)))
+    reply ≡ edit_reply s (promote_refusal old steps) (promoted old steps) (reply_line (codes "promote ") (path_text (raised steps)))
 IsStudyReply s MarkWord old steps reply = IsMarkReply s old steps reply
 
 abbrev pub IsStudyReplyAt : State → Outside → StudyWord → Board → List ℕ → Reply → Type 0
@@ -265,7 +270,7 @@ IsBuildReply s _ c false None reply = IsBuilt s c reply
 -- what a file that is read whole comes to
 abbrev pub loaded : State → Class → Result Table FileFault → Reply
 loaded s c (Err fault) = refused s (File fault)
-loaded s c (Ok t) = if place_of t.class == place_of c then accepted (with_class s c) (loaded_text c) else refused s (OtherClass t.class)
+loaded s c (Ok t) = if class_place t.class == class_place c then accepted (with_class s c) (loaded_text c) else refused s (OtherClass t.class)
 
 abbrev pub IsLoadReply : State → Outside → Class → Bool → Option Class → Reply → Type 0
 IsLoadReply s o c true lacking reply = reply ≡ refused s (AlreadyHeld c)
@@ -286,7 +291,7 @@ IsOpenReply s o c true reply = reply ≡ refused s (AlreadyHeld c)
 IsOpenReply s (unopened fault) c false reply = IsGiven (s.shelf.headers c) (Err fault) × (reply ≡ refused s (of_store fault))
 IsOpenReply s (no_room_for bytes) c false reply =
     IsGiven (s.shelf.headers c) (Ok bytes) × (paged_fault false c (Ok bytes) ≡ None) × (reply ≡ refused s OutOfMemory)
-IsOpenReply s (header told) c false reply = IsTold (s.shelf.headers c) told × (reply ≡ opened s c (paged_fault false c told))
+IsOpenReply s (header told) c false reply = IsGivenAs (s.shelf.headers c) told × (reply ≡ opened s c (paged_fault false c told))
 IsOpenReply s _ c false reply = ⊥
 
 -- `save`: every fault of the store is one of its device; what the file gives is not known any more
@@ -317,8 +322,8 @@ IsNamedReply s o word None reply = reply ≡ refused s NotAClass
 IsNamedReply s o word (Some c) reply = IsTableReply s o word c reply
 
 -- the class of a name
-unfoldable pub class_named : List ℕ → Option Class
-class_named name = find (λ c. bytes_eq name (name_of c)) class_list
+unfoldable pub class_told : List ℕ → Option Class
+class_told name = find (λ c. bytes_eq name (name_of c)) class_list
 
 -- all of these but `load` want whole tables
 abbrev pub wants_whole : ClassWord → Bool
@@ -327,7 +332,7 @@ wants_whole _ = true
 
 abbrev pub IsClassReplyIn : State → Outside → ClassWord → List ℕ → Bool → Reply → Type 0
 IsClassReplyIn s o word name true reply = reply ≡ refused s PagedMode
-IsClassReplyIn s o word name false reply = IsNamedReply s o word (class_named name) reply
+IsClassReplyIn s o word name false reply = IsNamedReply s o word (class_told name) reply
 
 abbrev pub IsClassReply : State → Outside → ClassWord → List ℕ → Reply → Type 0
 IsClassReply s o word name reply = IsClassReplyIn s o word name (wants_whole word && s.paged) reply

@@ -3,7 +3,7 @@ use Rattle.std.specs.Prelude.{◌≡◌, ℕ, ◌==◌, Bool, not, List, find, O
 use Rattle.std.specs.List.{list_any}
 use Rattle.study_material.specs.declared.class.Class.{Class}
 use Rattle.study_material.specs.Needs.{needs_of}
-use Rattle.study_retro.specs.Table.{place_of}
+use Rattle.study_retro.specs.Table.{class_place}
 use Rattle.study_tablefile.specs.declared.fault.SourceFault.{SourceFault}
 use Rattle.study_prober.specs.declared.values.ProbeFault.{ProbeFault}
 use Rattle.study_notation.specs.declared.start.Start.{Start}
@@ -24,7 +24,7 @@ pub record Shelf : Type 0 where
 
 -- nothing is known any more of a class, whose file may have been written anew
 abbrev pub forgotten : {T : Type 0} → Class → (Class → Option T) → Class → Option T
-forgotten c known d = if place_of d == place_of c then None else known d
+forgotten c known d = if class_place d == class_place c then None else known d
 
 abbrev pub shelf_without : Shelf → Class → Shelf
 shelf_without shelf c = record { files = forgotten c shelf.files; headers = forgotten c shelf.headers }
@@ -48,16 +48,16 @@ IsOpened (Some (Ok gives)) = Unit {0}
 IsOpened (Some (Err fault)) = ⊥
 
 -- a header is told as it is known, where it is told; a device may fail at each call
-abbrev pub IsTold : Option (Result (List ℕ) StoreFault) → Result (List ℕ) SourceFault → Type 0
-IsTold known (Ok bytes) = IsGiven known (Ok bytes)
-IsTold known (Err fault) = IsOpened known
+abbrev pub IsGivenAs : Option (Result (List ℕ) StoreFault) → Result (List ℕ) SourceFault → Type 0
+IsGivenAs known (Ok bytes) = IsGiven known (Ok bytes)
+IsGivenAs known (Err fault) = IsOpened known
 
 -- the file of the class is written anew: what it gives is not known any more
 abbrev pub written_anew : State → Class → State
 written_anew s c = record s { shelf = shelf_without s.shelf c }
 
 abbrev pub is_among : List Class → Class → Bool
-is_among cs c = list_any (λ d. place_of d == place_of c) cs
+is_among cs c = list_any (λ d. class_place d == class_place c) cs
 
 -- the first class that the class needs and that is not among these
 abbrev pub first_lacking : List Class → Class → Option Class

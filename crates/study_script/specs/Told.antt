@@ -10,7 +10,7 @@ use Rattle.study_script.specs.declared.told.Told.{Told}
 use Rattle.study_script.specs.declared.told.Told.TheVariants.{Built, Loaded, Saved, Verified}
 use Rattle.study_script.specs.declared.refusal.Refusal.{Refusal}
 use Rattle.study_script.specs.Names.{words_of, of_store}
-use Rattle.study_script.specs.Words.{line_text, built_text, loaded_text, saved_text, verified_text}
+use Rattle.study_script.specs.Words.{reply_line, built_text, loaded_text, saved_text, verified_text}
 use Rattle.study_tablefile.specs.declared.fault.FileFault.{FileFault}
 use Rattle.study_tablefile.specs.Reading.{table_read, HasHeader}
 use Rattle.study_script.specs.declared.store.StoreFault.{StoreFault}
@@ -29,7 +29,7 @@ done_text (Verified c false) = codes "verified " ++ name_of c ++ codes " no\n"
 -- or to one that is refused
 abbrev pub told_text : Result Told Refusal → List ℕ
 told_text (Ok told) = done_text told
-told_text (Err refusal) = line_text (codes "error ") (words_of refusal)
+told_text (Err refusal) = reply_line (codes "error ") (words_of refusal)
 
 -- the reply that leaves this state behind
 abbrev pub told_reply : State → Result Told Refusal → Reply

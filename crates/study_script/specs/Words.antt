@@ -1,8 +1,6 @@
 -- The words of replies.
 use Rattle.std.specs.Prelude.{ℕ, List, [], ◌∷◌, ◌++◌, length, Option, Some, None, codes, decimal, if◌then◌else◌}
 use Rattle.std.specs.List.{flat_map}
-use Rattle.study_board.specs.declared.men.Side.{Side}
-use Rattle.study_board.specs.declared.men.Side.TheVariants.{White, Black}
 use Rattle.study_board.specs.Position.{Position, in_check}
 use Rattle.study_moves.specs.declared.moves.Move.{Move}
 use Rattle.study_material.specs.declared.class.Class.{Class}
@@ -18,41 +16,27 @@ use Rattle.study_marks.specs.declared.stipulation.Stipulation.{Stipulation}
 use Rattle.study_marks.specs.declared.mark.MoveMark.{MoveMark}
 use Rattle.study_marks.specs.declared.mark.MoveMark.TheVariants.{Only, Dual, Mistake, Idle, Reply}
 use Rattle.study_marks.specs.declared.mark.Mark.{Mark}
-use Rattle.study_marks.specs.declared.tag.TagName.{TagName}
-use Rattle.study_marks.specs.declared.tag.TagName.TheVariants as tag
-use Rattle.study_script.specs.Paths.{path_text}
+use Rattle.study_pgn.specs.Values.{side_name}
+use Rattle.study_command.specs.Paths.{path_text}
 
 -- words and a line feed
-abbrev pub line_text : List ℕ → List ℕ → List ℕ
-line_text front back = front ++ (back ++ 10 ∷ [])
+abbrev pub reply_line : List ℕ → List ℕ → List ℕ
+reply_line front back = front ++ (back ++ 10 ∷ [])
 
--- `White`
-abbrev pub side_name : Side → List ℕ
-side_name White = codes "White"
-side_name Black = codes "Black"
-
-abbrev pub goal_text : Goal → List ℕ
-goal_text Win = codes "win"
-goal_text Draw = codes "draw"
-goal_text (MateIn k) = codes "mate in " ++ decimal k
+abbrev pub goal_words : Goal → List ℕ
+goal_words Win = codes "win"
+goal_words Draw = codes "draw"
+goal_words (MateIn k) = codes "mate in " ++ decimal k
 
 -- `stipulate White to win`
-abbrev pub stipulation_text : Stipulation → List ℕ
-stipulation_text s = codes "stipulate " ++ side_name s.hero ++ line_text (codes " to ") (goal_text s.goal)
-
-abbrev pub tag_name : TagName → List ℕ
-tag_name tag.Event = codes "Event"
-tag_name tag.Site = codes "Site"
-tag_name tag.Date = codes "Date"
-tag_name tag.Round = codes "Round"
-tag_name tag.White = codes "White"
-tag_name tag.Black = codes "Black"
+abbrev pub stipulation_words : Stipulation → List ℕ
+stipulation_words s = codes "stipulate " ++ side_name s.hero ++ reply_line (codes " to ") (goal_words s.goal)
 
 -- `win 1`
-abbrev pub value_text : Value → List ℕ
-value_text (value.Win n) = codes "win " ++ decimal n
-value_text (value.Loss n) = codes "loss " ++ decimal n
-value_text value.Draw = codes "draw"
+abbrev pub value_words : Value → List ℕ
+value_words (value.Win n) = codes "win " ++ decimal n
+value_words (value.Loss n) = codes "loss " ++ decimal n
+value_words value.Draw = codes "draw"
 
 -- `dual 21`
 abbrev pub on_move_text : Option MoveMark → List ℕ
@@ -66,7 +50,7 @@ on_move_text (Some Reply) = codes "reply"
 -- `mark 0 loss 0 dual 21 faults 1`
 abbrev pub mark_text : List ℕ → Mark → List ℕ
 mark_text steps m =
-    codes "mark " ++ (path_text steps ++ (32 ∷ (value_text m.value ++ (32 ∷ (on_move_text m.on_move ++ line_text (codes " faults ") (decimal m.faults))))))
+    codes "mark " ++ (path_text steps ++ (32 ∷ (value_words m.value ++ (32 ∷ (on_move_text m.on_move ++ reply_line (codes " faults ") (decimal m.faults))))))
 
 -- the moves, each behind a space
 abbrev pub moves_listed : Position → List Move → List ℕ
@@ -74,18 +58,18 @@ moves_listed p ms = flat_map (λ m. 32 ∷ move_text p m) ms
 
 abbrev pub list_text : Position → List Move → List ℕ
 list_text p [] = if in_check p.men p.to_move then codes "moves 0 mate\n" else codes "moves 0 stalemate\n"
-list_text p (m ∷ ms) = codes "moves " ++ line_text (decimal (length (m ∷ ms))) (moves_listed p (m ∷ ms))
+list_text p (m ∷ ms) = codes "moves " ++ reply_line (decimal (length (m ∷ ms))) (moves_listed p (m ∷ ms))
 
 abbrev pub moves_text : Position → List ℕ
 moves_text p = list_text p (legal_list p)
 
 abbrev pub solve_text : Option ℕ → List ℕ
 solve_text None = codes "solve none\n"
-solve_text (Some plies) = line_text (codes "solve plies ") (decimal plies)
+solve_text (Some plies) = reply_line (codes "solve plies ") (decimal plies)
 
 -- `insert 0.1 Qg8#`
 abbrev pub insert_text : List ℕ → List ℕ → List ℕ
-insert_text steps san = codes "insert " ++ path_text steps ++ line_text (codes " ") san
+insert_text steps san = codes "insert " ++ path_text steps ++ reply_line (codes " ") san
 
 abbrev pub win_text : Option ℕ → List ℕ
 win_text None = codes "-"
@@ -93,15 +77,15 @@ win_text (Some plies) = decimal plies
 
 -- `built KQK cells 81920 win 19`
 abbrev pub built_text : Class → Option ℕ → List ℕ
-built_text c win = codes "built " ++ (name_of c ++ (codes " cells " ++ (decimal (cells_of c) ++ line_text (codes " win ") (win_text win))))
+built_text c win = codes "built " ++ (name_of c ++ (codes " cells " ++ (decimal (cells_of c) ++ reply_line (codes " win ") (win_text win))))
 
 -- `loaded KRK cells 81920`
 abbrev pub loaded_text : Class → List ℕ
-loaded_text c = codes "loaded " ++ name_of c ++ line_text (codes " cells ") (decimal (cells_of c))
+loaded_text c = codes "loaded " ++ name_of c ++ reply_line (codes " cells ") (decimal (cells_of c))
 
 -- `saved KRK bytes 82624`
 abbrev pub saved_text : Class → ℕ → List ℕ
-saved_text c bytes = codes "saved " ++ name_of c ++ line_text (codes " bytes ") (decimal bytes)
+saved_text c bytes = codes "saved " ++ name_of c ++ reply_line (codes " bytes ") (decimal bytes)
 
 -- `verified KRK yes`
 abbrev pub verified_text : Class → List ℕ

@@ -1,15 +1,13 @@
 //! What a line does: its reply, and what is held behind it.
 ghost use Rattle.std.specs.Prelude.{◌≡◌, IfOk, OnErr};
-ghost use Rattle.study_script.specs.Asking.{command_seen};
+ghost use Rattle.study_command.specs.Asking.{command_seen};
 ghost use Rattle.study_script.specs.State.{State};
 ghost use Rattle.study_script.specs.Replies.{IsReply, IsReplyTo};
 ghost use Rattle.study_script.specs.Held.{Answered, BrokenOff};
 ghost use Rattle.study_script.specs.Desk.{DeskHolds};
 
-use crate::asking::read_command;
 use crate::board::Board;
 use crate::classes::of_class;
-use crate::command::Command;
 use crate::nodes::{at_node, at_study, insert, set_tag, tell_pgn, tell_solution};
 use crate::refusal::Refusal;
 use crate::reply::refuse;
@@ -18,6 +16,8 @@ use crate::store::TableStore;
 use crate::tables::Tables;
 use std::alloc::Allocator;
 use std::io::Write;
+use study_command::command::Command;
+use study_command::read_command;
 use study_tablefile::DeviceFailed;
 
 /// Writes the reply to a line, keeps what is held behind it, and tells whether the line was refused.

@@ -2,23 +2,23 @@
 ghost use Rattle.std.specs.Prelude.{◌≡◌, ◌↔◌, ◌&&◌, ◌==◌, ℕ, List, Option, Some, None, Ok, false, is_some, slice_set, IfOk, IfErr, IfSome, IsTrue, OnErr};
 ghost use Rattle.study_retro.specs.Sound.{IsRight, NeedsAreRight};
 ghost use Rattle.study_retro.specs.Set.{add_fault};
-ghost use Rattle.study_retro.specs.Table.{table_of, place_of, IsClosed, IsComplete};
+ghost use Rattle.study_retro.specs.Table.{table_of, class_place, IsClosed, IsComplete};
 ghost use Rattle.study_tablefile.specs.Reading.{table_read};
 ghost use Rattle.study_script.specs.State.{State, is_among, first_lacking, IsGiven};
 ghost use Rattle.study_script.specs.Names.{of_store, of_paged};
 ghost use Rattle.study_script.specs.Replies.{IsClassReply, IsNamedReply, IsBuildReply, IsLoadReply};
-ghost use Rattle.study_script.specs.Replies.{IsOpenReply, save_reply, verify_reply, refused, class_named};
+ghost use Rattle.study_script.specs.Replies.{IsOpenReply, save_reply, verify_reply, refused, class_told};
 ghost use Rattle.study_script.specs.Held.{HoldsTables, TablesFrom, Answered, BrokenOff};
 ghost use Rattle.study_script.specs.Stored.{StoreSeen};
 ghost use Rattle.study_script.specs.Told.{Decided, HoldsWhole, HoldsPaged, WholeFrom, IsFileRefusal};
 
-use crate::command::ClassWord;
 use crate::refusal::Refusal;
 use crate::store::{StoreFault, TableStore};
 use crate::tables::Tables;
 use crate::told::{Told, tell};
 use std::alloc::Allocator;
 use std::io::Write;
+use study_command::command::ClassWord;
 use study_index::cells;
 use study_material::Class;
 use study_prober::{PagedFault, PagedTables, Values, WholeTables};
@@ -62,7 +62,7 @@ fn in_whole<'a, S: TableStore, A: Allocator>(
     name: &str,
 ) -> Result<Told, Refusal>
     ensures { (s : State) → HoldsWhole tables.old s → StoreSeen S.honest S.files S.headers store.old s
-        → Decided (λ o. IsNamedReply s o word (class_named name.now))
+        → Decided (λ o. IsNamedReply s o word (class_told name.now))
         (λ t. HoldsWhole tables.new t × (t.board ≡ s.board) × StoreSeen S.honest S.files S.headers store.new t) result }
 {
     let class = class_of_name(name)?;
@@ -95,10 +95,10 @@ fn in_pages<'a, S: TableStore, A: Allocator>(
     }
 }
 
-#[tactic(auto, unfolding(crate::specs::Replies::class_named))]
+#[tactic(auto, unfolding(crate::specs::Replies::class_told))]
 fn class_of_name(name: &str) -> Result<Class, Refusal>
-    ensures ok { IfOk result (λ c. class_named name.now ≡ Some c) }
-    ensures err { IfErr result (λ e. (e ≡ Refusal.NotAClass) × (class_named name.now ≡ None)) }
+    ensures ok { IfOk result (λ c. class_told name.now ≡ Some c) }
+    ensures err { IfErr result (λ e. (e ≡ Refusal.NotAClass) × (class_told name.now ≡ None)) }
 {
     match Class::parse(name) {
         Ok(class) => Ok(class),
@@ -141,7 +141,7 @@ fn is_held<'a, A: Allocator>(tables: &WholeTables<'a, A>, class: Class) -> bool
 // Holds a table whose class is not held, and whose needs are.
 fn hold<'a, A: Allocator>(tables: &mut WholeTables<'a, A>, table: Table<'a, A>)
     requires { add_fault tables.old.tables table.class ≡ None }
-    ensures held { tables.new ≡ record tables.old { tables = slice_set tables.old.tables (place_of table.entry.class) (Some table.entry) } }
+    ensures held { tables.new ≡ record tables.old { tables = slice_set tables.old.tables (class_place table.entry.class) (Some table.entry) } }
     ensures complete { IsComplete table.entry }
 {
     let _class = table.class();

@@ -1,12 +1,12 @@
 //! Edits of the study that ask the tables, whichever they are.
-ghost use Rattle.std.specs.Prelude.{◌≡◌, Err, None, MatchOption, IfErr, IfOk, OnOk, OnErr};
+ghost use Rattle.std.specs.Prelude.{◌≡◌, Err, None, true, MatchOption, IfErr, IfOk, OnOk, OnErr};
 ghost use Rattle.study_material.specs.declared.class.Class.{Class as AClass};
 ghost use Rattle.study_marks.specs.Study.{plain_study};
 ghost use Rattle.study_marks.specs.Kept.{marked, IsRight};
 ghost use Rattle.study_moves.specs.Rules.{after};
 ghost use Rattle.study_tree.specs.Edits.{children_at};
 ghost use Rattle.study_marks.specs.Study.{position_at};
-ghost use Rattle.study_marks.specs.Asked.{asked_at, asked_of, AllHeld, IsOutside};
+ghost use Rattle.study_marks.specs.Asked.{asked_at, asked_of, is_of_tables, AllHeld, IsOutside};
 ghost use Rattle.study_marks.specs.Stop.{IsShiftRefusal};
 ghost use Rattle.study_marks.specs.Edits.{broken_from, positioned, shifted, inserted, shift_refusal, insert_refusal};
 ghost use Rattle.study_script.specs.Replies.{new_study};
@@ -28,6 +28,7 @@ pub fn set_position<'a, P: PageSource, A: Allocator>(
 ) -> Result<(), Refusal<'a, A>>
     ensures refusal { IfErr result (IsOutside (tables_held tables.old) (asked_at start.position)) }
     ensures device { IfErr result (IsToldBy (are_paged tables.old)) }
+    ensures takes_no_memory { IfErr result (λ e. is_of_tables e ≡ true) }
     ensures found { OnOk result (AllHeld (tables_held tables.old) (asked_at start.position)) }
     ensures edited { OnOk result (plain_study (marked bench.new) ≡ positioned (plain_study (marked bench.old)) start) }
     ensures right { tables_honest P.honest tables.old → OnOk result (IsRight bench.new) }
@@ -101,6 +102,7 @@ pub fn new_bench<'a, P: PageSource, A: Allocator>(
 ) -> Result<Bench<'a, A>, Refusal<'a, A>>
     ensures refusal { IfErr result (IsOutside (tables_held tables.old) (asked_at start.position)) }
     ensures device { IfErr result (IsToldBy (are_paged tables.old)) }
+    ensures takes_no_memory { IfErr result (λ e. is_of_tables e ≡ true) }
     ensures found { OnOk result (AllHeld (tables_held tables.old) (asked_at start.position)) }
     ensures made { IfOk result (λ b. plain_study (marked b) ≡ new_study start stipulation) }
     ensures right { tables_honest P.honest tables.old → IfOk result IsRight }

@@ -1,5 +1,5 @@
 //! What holds of every script, whoever answers it.
-ghost use Rattle.study_script.specs.Laws.{AreUnique, AreReadAgain, AreReadAgainBehindReturns};
+ghost use Rattle.study_script.specs.Laws.{AreUnique};
 
 use study_marks::annotations_are_unique;
 use study_moves::values_are_unique;
@@ -12,9 +12,3 @@ pub fn replies_are_unique()
     annotations_are_unique();
     values_are_unique();
 }
-
-/// Lines that are written one under another are the lines of that script, whichever of the two line ends they have.
-pub fn lines_are_read_again()
-    ensures feeds { AreReadAgain }
-    ensures returns { AreReadAgainBehindReturns }
-{}

@@ -5,19 +5,14 @@
 #![tactic(auto)]
 
 mod answer;
-mod asking;
 pub mod board;
 mod classes;
-mod command;
 pub mod desk;
 mod edits;
 pub mod laws;
-pub mod lines;
 pub mod memory;
 mod nodes;
-mod path_read;
 mod path_written;
-mod paths;
 mod refusal;
 mod reply;
 pub mod run;
@@ -25,4 +20,3 @@ mod starts;
 pub mod store;
 pub mod tables;
 mod told;
-mod words;

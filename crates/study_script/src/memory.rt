@@ -1,8 +1,8 @@
 //! A store of tables in memory, which fails where a test wants it.
 ghost use Rattle.std.specs.Prelude.{◌≡◌, None, length, slice_set, IfOk, IfErr};
-ghost use Rattle.study_retro.specs.Table.{place_of};
+ghost use Rattle.study_retro.specs.Table.{class_place};
 ghost use Rattle.study_material.specs.declared.class.Class.{Class as AClass};
-ghost use Rattle.study_script.specs.Memory.{file_at, file_known, header_known, IsHonestFile, IsFaultOf};
+ghost use Rattle.study_script.specs.Memory.{memory_file, file_known, header_known, IsHonestFile, IsFaultOf};
 
 use crate::store::{StoreFault, TableStore};
 use std::alloc::Allocator;
@@ -41,8 +41,9 @@ pub struct MemoryStore<'f, 'w, 'a, A: Allocator> {
 impl<'f, 'w, 'a, A: Allocator> MemoryStore<'f, 'w, 'a, A> {
     /// A store without files, whose devices do not fail.
     pub fn new(writers: &'w [RefCell<MemoryWriter<'a, A>>]) -> Self
-        ensures files { (c : AClass) → file_at result.files c ≡ MemoryFile.Absent }
+        ensures files { (c : AClass) → memory_file result.files c ≡ MemoryFile.Absent }
         ensures plan { (result.fails_after ≡ None) × (result.fails_at ≡ None) }
+        ensures writers { (result.writers ≡ writers.entry) × (result.opened ≡ 0) }
     {
         MemoryStore {
             files: [MemoryFile::Absent; 36],
@@ -55,16 +56,17 @@ impl<'f, 'w, 'a, A: Allocator> MemoryStore<'f, 'w, 'a, A> {
 
     /// Lays out the file of a class, in place of what was there.
     pub fn put(&mut self, class: Class, file: MemoryFile<'f>)
-        ensures files { self.new.files ≡ slice_set self.old.files (place_of class) file.entry }
+        ensures files { self.new.files ≡ slice_set self.old.files (class_place class) file.entry }
         ensures places { length self.old.files ≡ 36 }
         ensures plan { (self.new.fails_after ≡ self.old.fails_after) × (self.new.fails_at ≡ self.old.fails_at) }
+        ensures writers { (self.new.writers ≡ self.old.writers) × (self.new.opened ≡ self.old.opened) }
     {
         self.files[class as usize] = file;
     }
 
     fn bytes(&self, class: Class) -> Result<&'f [u8], StoreFault>
-        ensures ok { IfOk result (λ bytes. file_at self.now.files class ≡ MemoryFile.Bytes bytes) }
-        ensures err { IfErr result (λ fault. IsFaultOf fault (file_at self.now.files class)) }
+        ensures ok { IfOk result (λ bytes. memory_file self.now.files class ≡ MemoryFile.Bytes bytes) }
+        ensures err { IfErr result (λ fault. IsFaultOf fault (memory_file self.now.files class)) }
     {
         match self.files[class as usize] {
             MemoryFile::Bytes(bytes) => Ok(bytes),
@@ -81,11 +83,11 @@ impl<'f, 'w, 'a, A: Allocator> TableStore for MemoryStore<'f, 'w, 'a, A> {
 
     type Pages = MemorySource<'f>;
 
-    ghost honest = { λ s by_pages. (c : AClass) → IsHonestFile by_pages (file_at s.files c) };
+    ghost honest = { λ s by_pages. (c : AClass) → IsHonestFile by_pages (memory_file s.files c) };
 
-    ghost files = { λ s c. file_known (file_at s.files c) };
+    ghost files = { λ s c. file_known (memory_file s.files c) };
 
-    ghost headers = { λ s c. header_known (file_at s.files c) };
+    ghost headers = { λ s c. header_known (memory_file s.files c) };
 
     fn reader(&mut self, class: Class) -> Result<MemoryReader<'f>, StoreFault> {
         let text = self.bytes(class)?;

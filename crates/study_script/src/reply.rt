@@ -6,11 +6,12 @@ ghost use Rattle.study_moves.specs.Rules.{is_legal};
 ghost use Rattle.study_moves.specs.LegalList.{legal_list};
 ghost use Rattle.study_notation.specs.Written.{move_text};
 ghost use Rattle.study_tablefile.specs.Taken.{TakesPrefix};
-ghost use Rattle.study_script.specs.Paths.{path_text};
+ghost use Rattle.study_command.specs.Paths.{path_text};
 ghost use Rattle.study_script.specs.Names.{argument_text, words_of, edit_words, of_probe};
-ghost use Rattle.study_script.specs.Words.{line_text, moves_listed, list_text, moves_text};
-ghost use Rattle.study_script.specs.Words.{solve_text, stipulation_text, side_name, goal_text};
-ghost use Rattle.study_script.specs.Words.{tag_name, value_text, on_move_text, mark_text};
+ghost use Rattle.study_script.specs.Words.{reply_line, moves_listed, list_text, moves_text};
+ghost use Rattle.study_pgn.specs.Values.{side_name};
+ghost use Rattle.study_script.specs.Words.{solve_text, stipulation_words, goal_words};
+ghost use Rattle.study_script.specs.Words.{value_words, on_move_text, mark_text};
 
 use crate::path_written::put_path;
 use crate::refusal::{Argument, Refusal};
@@ -19,7 +20,7 @@ use itoa::Buffer;
 use std::alloc::Allocator;
 use std::io::Write;
 use study_board::{Position, Side};
-use study_marks::{Goal, Mark, MoveMark, Refusal as EditRefusal, Stipulation, TagName};
+use study_marks::{Goal, Mark, MoveMark, Refusal as EditRefusal, Stipulation};
 use study_moves::{Move, in_check, legal_moves};
 use study_notation::write_san;
 use study_prober::ProbeFault;
@@ -28,8 +29,8 @@ use study_tablefile::{DeviceFailed, put};
 
 /// Writes words and a line feed.
 pub fn put_line<W: Write>(out: &mut W, front: &[u8], back: &[u8]) -> Result<(), DeviceFailed>
-    ensures ok { OnOk result (Appends (W.contents out.old) (W.contents out.new) (line_text front.now back.now)) }
-    ensures err { OnErr result (TakesPrefix (W.contents out.old) (W.contents out.new) (line_text front.now back.now)) }
+    ensures ok { OnOk result (Appends (W.contents out.old) (W.contents out.new) (reply_line front.now back.now)) }
+    ensures err { OnErr result (TakesPrefix (W.contents out.old) (W.contents out.new) (reply_line front.now back.now)) }
 {
     put(out, front)?;
     put(out, back)?;
@@ -38,8 +39,8 @@ pub fn put_line<W: Write>(out: &mut W, front: &[u8], back: &[u8]) -> Result<(), 
 
 /// Writes the reply to a refused line.
 pub fn refuse<W: Write>(out: &mut W, refusal: Refusal) -> Result<(), DeviceFailed>
-    ensures ok { OnOk result (Appends (W.contents out.old) (W.contents out.new) (line_text (codes "error ") (words_of refusal))) }
-    ensures err { OnErr result (TakesPrefix (W.contents out.old) (W.contents out.new) (line_text (codes "error ") (words_of refusal))) }
+    ensures ok { OnOk result (Appends (W.contents out.old) (W.contents out.new) (reply_line (codes "error ") (words_of refusal))) }
+    ensures err { OnErr result (TakesPrefix (W.contents out.old) (W.contents out.new) (reply_line (codes "error ") (words_of refusal))) }
 {
     put(out, b"error ")?;
     put_words(out, refusal)?;
@@ -159,8 +160,8 @@ pub fn refuse_edit<'a, W: Write, A: Allocator>(
     out: &mut W,
     refusal: EditRefusal<'a, A>,
 ) -> Result<(), DeviceFailed>
-    ensures ok { OnOk result (Appends (W.contents out.old) (W.contents out.new) (line_text (codes "error ") (edit_words refusal.entry))) }
-    ensures err { OnErr result (TakesPrefix (W.contents out.old) (W.contents out.new) (line_text (codes "error ") (edit_words refusal.entry))) }
+    ensures ok { OnOk result (Appends (W.contents out.old) (W.contents out.new) (reply_line (codes "error ") (edit_words refusal.entry))) }
+    ensures err { OnErr result (TakesPrefix (W.contents out.old) (W.contents out.new) (reply_line (codes "error ") (edit_words refusal.entry))) }
 {
     match refusal {
         EditRefusal::NoSuchNode => refuse(out, Refusal::NoSuchNode),
@@ -191,9 +192,9 @@ pub fn of_probe(fault: ProbeFault) -> Refusal
 
 fn refuse_shift<W: Write>(out: &mut W, steps: &[u16]) -> Result<(), DeviceFailed>
     ensures ok { OnOk result (Appends (W.contents out.old) (W.contents out.new)
-        (line_text (codes "error ") (codes "ShiftBroken " ++ path_text steps.now))) }
+        (reply_line (codes "error ") (codes "ShiftBroken " ++ path_text steps.now))) }
     ensures err { OnErr result (TakesPrefix (W.contents out.old) (W.contents out.new)
-        (line_text (codes "error ") (codes "ShiftBroken " ++ path_text steps.now))) }
+        (reply_line (codes "error ") (codes "ShiftBroken " ++ path_text steps.now))) }
 {
     put(out, b"error ShiftBroken ")?;
     put_path(out, steps)?;
@@ -202,8 +203,8 @@ fn refuse_shift<W: Write>(out: &mut W, steps: &[u16]) -> Result<(), DeviceFailed
 
 /// Writes a stipulation.
 pub fn put_stipulation<W: Write>(out: &mut W, stipulation: Stipulation) -> Result<(), DeviceFailed>
-    ensures ok { OnOk result (Appends (W.contents out.old) (W.contents out.new) (stipulation_text stipulation)) }
-    ensures err { OnErr result (TakesPrefix (W.contents out.old) (W.contents out.new) (stipulation_text stipulation)) }
+    ensures ok { OnOk result (Appends (W.contents out.old) (W.contents out.new) (stipulation_words stipulation)) }
+    ensures err { OnErr result (TakesPrefix (W.contents out.old) (W.contents out.new) (stipulation_words stipulation)) }
 {
     put(out, b"stipulate ")?;
     put_side(out, stipulation.hero)?;
@@ -223,8 +224,8 @@ fn put_side<W: Write>(out: &mut W, side: Side) -> Result<(), DeviceFailed>
 }
 
 fn put_goal<W: Write>(out: &mut W, goal: Goal) -> Result<(), DeviceFailed>
-    ensures ok { OnOk result (Appends (W.contents out.old) (W.contents out.new) (goal_text goal)) }
-    ensures err { OnErr result (TakesPrefix (W.contents out.old) (W.contents out.new) (goal_text goal)) }
+    ensures ok { OnOk result (Appends (W.contents out.old) (W.contents out.new) (goal_words goal)) }
+    ensures err { OnErr result (TakesPrefix (W.contents out.old) (W.contents out.new) (goal_words goal)) }
 {
     match goal {
         Goal::Win => put(out, b"win"),
@@ -250,8 +251,8 @@ pub fn put_mark<W: Write>(out: &mut W, steps: &[u16], mark: &Mark) -> Result<(),
 }
 
 fn put_value<W: Write>(out: &mut W, value: Value) -> Result<(), DeviceFailed>
-    ensures ok { OnOk result (Appends (W.contents out.old) (W.contents out.new) (value_text value)) }
-    ensures err { OnErr result (TakesPrefix (W.contents out.old) (W.contents out.new) (value_text value)) }
+    ensures ok { OnOk result (Appends (W.contents out.old) (W.contents out.new) (value_words value)) }
+    ensures err { OnErr result (TakesPrefix (W.contents out.old) (W.contents out.new) (value_words value)) }
 {
     match value {
         Value::Win(n) => put_counted(out, b"win ", n as usize),
@@ -281,18 +282,4 @@ fn put_counted<W: Write>(out: &mut W, word: &[u8], number: usize) -> Result<(), 
 {
     put(out, word)?;
     put_number(out, number)
-}
-
-/// The name of a tag.
-pub fn tag_name(name: TagName) -> &'static [u8]
-    ensures { result.now ≡ tag_name name }
-{
-    match name {
-        TagName::Event => b"Event",
-        TagName::Site => b"Site",
-        TagName::Date => b"Date",
-        TagName::Round => b"Round",
-        TagName::White => b"White",
-        TagName::Black => b"Black",
-    }
 }

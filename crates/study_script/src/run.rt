@@ -7,11 +7,11 @@ ghost use Rattle.study_script.specs.State.{State};
 
 use crate::board::Board;
 use crate::desk::{Desk, StudyDesk};
-use crate::lines::{Line, LineFault, read_byte};
 use crate::store::TableStore;
 use crate::tables::Tables;
 use std::alloc::{AllocError, Allocator};
 use std::io::{Read, Write};
+use study_command::lines::{Line, LineFault, read_byte};
 use study_prober::{PagedTables, WholeTables};
 use study_retro::TableSet;
 use study_tablefile::PageSource;

@@ -3,7 +3,7 @@ ghost use Rattle.std.specs.Prelude.{◌≡◌, false, codes, IfOk, OnOk, OnErr};
 ghost use Rattle.std.specs.Io.KnownBytes.{Appends};
 ghost use Rattle.study_notation.specs.FenSpelling.{fen_text};
 ghost use Rattle.study_tablefile.specs.Taken.{TakesPrefix};
-ghost use Rattle.study_script.specs.Words.{line_text, stipulation_text};
+ghost use Rattle.study_script.specs.Words.{reply_line, stipulation_words};
 ghost use Rattle.study_marks.specs.Edits.{shift_refusal, stipulated};
 ghost use Rattle.study_script.specs.State.{State, study, start as begun};
 ghost use Rattle.study_script.specs.Replies.{IsStartReply, IsPositionReply, IsShiftReply, IsStipulateReply};
@@ -14,13 +14,13 @@ ghost use Rattle.study_marks.specs.Kept.{marked, IsRight};
 ghost use Rattle.study_script.specs.Held.{Holds, Answered, BrokenOff};
 
 use crate::board::Board;
-use crate::command::FenWord;
 use crate::edits;
 use crate::refusal::Refusal;
 use crate::reply::{put_line, put_stipulation, refuse, refuse_edit};
 use crate::tables::Tables;
 use std::alloc::Allocator;
 use std::io::Write;
+use study_command::command::FenWord;
 use study_marks::{Bench, Stipulation};
 use study_notation::{Start, read_fen, write_fen};
 use study_tablefile::{DeviceFailed, PageSource};
@@ -141,8 +141,8 @@ fn hold_start<'a, W: Write, A: Allocator>(
 ) -> Result<bool, DeviceFailed>
     ensures held { OnOk result (board.new ≡ held.Start start) }
     ensures accepts { IfOk result (λ refused. refused ≡ false) }
-    ensures ok { OnOk result (Appends (W.contents out.old) (W.contents out.new) (line_text (codes "position ") (fen_text start))) }
-    ensures err { OnErr result (TakesPrefix (W.contents out.old) (W.contents out.new) (line_text (codes "position ") (fen_text start))) }
+    ensures ok { OnOk result (Appends (W.contents out.old) (W.contents out.new) (reply_line (codes "position ") (fen_text start))) }
+    ensures err { OnErr result (TakesPrefix (W.contents out.old) (W.contents out.new) (reply_line (codes "position ") (fen_text start))) }
 {
     let text = write_fen(&start);
     *board = Board::Start(start);
@@ -239,8 +239,8 @@ fn restipulate<'a, W: Write, A: Allocator>(
     ensures edited { plain_study (marked bench.new) ≡ stipulated (plain_study (marked bench.old)) stipulation.now }
     ensures right { IsRight bench.old → IsRight bench.new }
     ensures accepts { IfOk result (λ refused. refused ≡ false) }
-    ensures ok { OnOk result (Appends (W.contents out.old) (W.contents out.new) (stipulation_text stipulation.now)) }
-    ensures err { OnErr result (TakesPrefix (W.contents out.old) (W.contents out.new) (stipulation_text stipulation.now)) }
+    ensures ok { OnOk result (Appends (W.contents out.old) (W.contents out.new) (stipulation_words stipulation.now)) }
+    ensures err { OnErr result (TakesPrefix (W.contents out.old) (W.contents out.new) (stipulation_words stipulation.now)) }
 {
     bench.set_stipulation(*stipulation);
     put_stipulation(out, *stipulation)?;

@@ -3,7 +3,7 @@ ghost use Rattle.std.specs.Prelude.{◌≡◌, ◌++◌, codes, decimal, is_err,
 ghost use Rattle.std.specs.Io.KnownBytes.{Appends};
 ghost use Rattle.study_material.specs.Class.{name_of};
 ghost use Rattle.study_tablefile.specs.Taken.{TakesPrefix};
-ghost use Rattle.study_script.specs.Words.{line_text, built_text};
+ghost use Rattle.study_script.specs.Words.{reply_line, built_text};
 ghost use Rattle.study_script.specs.Told.{done_text, told_text};
 
 use crate::refusal::Refusal;
@@ -82,10 +82,10 @@ fn put_counts<W: Write>(
 ) -> Result<(), DeviceFailed>
     ensures ok { OnOk result
         (Appends (W.contents out.old) (W.contents out.new)
-        (codes "built " ++ (name.now ++ (codes " cells " ++ (cells.now ++ line_text (codes " win ") win.now))))) }
+        (codes "built " ++ (name.now ++ (codes " cells " ++ (cells.now ++ reply_line (codes " win ") win.now))))) }
     ensures err { OnErr result
         (TakesPrefix (W.contents out.old) (W.contents out.new)
-        (codes "built " ++ (name.now ++ (codes " cells " ++ (cells.now ++ line_text (codes " win ") win.now))))) }
+        (codes "built " ++ (name.now ++ (codes " cells " ++ (cells.now ++ reply_line (codes " win ") win.now))))) }
 {
     put(out, b"built ")?;
     put(out, name)?;
@@ -102,8 +102,8 @@ fn put_size<W: Write>(
     label: &[u8],
     number: u32,
 ) -> Result<(), DeviceFailed>
-    ensures ok { OnOk result (Appends (W.contents out.old) (W.contents out.new) (word.now ++ (name_of class ++ line_text label.now (decimal number)))) }
-    ensures err { OnErr result (TakesPrefix (W.contents out.old) (W.contents out.new) (word.now ++ (name_of class ++ line_text label.now (decimal number)))) }
+    ensures ok { OnOk result (Appends (W.contents out.old) (W.contents out.new) (word.now ++ (name_of class ++ reply_line label.now (decimal number)))) }
+    ensures err { OnErr result (TakesPrefix (W.contents out.old) (W.contents out.new) (word.now ++ (name_of class ++ reply_line label.now (decimal number)))) }
 {
     let mut buffer = Buffer::new();
     put_words(
@@ -122,8 +122,8 @@ fn put_words<W: Write>(
     label: &[u8],
     number: &[u8],
 ) -> Result<(), DeviceFailed>
-    ensures ok { OnOk result (Appends (W.contents out.old) (W.contents out.new) (word.now ++ (name.now ++ line_text label.now number.now))) }
-    ensures err { OnErr result (TakesPrefix (W.contents out.old) (W.contents out.new) (word.now ++ (name.now ++ line_text label.now number.now))) }
+    ensures ok { OnOk result (Appends (W.contents out.old) (W.contents out.new) (word.now ++ (name.now ++ reply_line label.now number.now))) }
+    ensures err { OnErr result (TakesPrefix (W.contents out.old) (W.contents out.new) (word.now ++ (name.now ++ reply_line label.now number.now))) }
 {
     put(out, word)?;
     put(out, name)?;

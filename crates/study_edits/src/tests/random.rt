@@ -189,11 +189,8 @@ fn check<A: Allocator, V: Values>(
             _ => None,
         };
         assert!(rt; mark.value == seen.value && mark.on_move == marked);
-        let fault = match marked {
-            Some(MoveMark::Dual(_)) => true,
-            Some(MoveMark::Mistake) => !seen.hero,
-            _ => false,
-        };
+        let slip = !seen.hero && marked == Some(MoveMark::Mistake);
+        let fault = slip || matches!(marked, Some(MoveMark::Dual(_)));
         assert!(rt; faulty.push(fault).is_ok() && line.push(seen).is_ok());
     }
     for (place, row) in rows.as_slice().iter().enumerate() {

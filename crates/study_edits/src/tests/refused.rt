@@ -5,7 +5,7 @@ use linked_list_allocator::LocalHeap;
 use std::alloc::{AllocError, Allocator, Global};
 use std::process::Abort;
 use std::test::Fail;
-use study_marks::{Bench, Edit, Refusal};
+use study_marks::{Bench, Edit, Refusal, TagName};
 use study_material::Class;
 use study_moves::Move;
 use study_notation::Start;
@@ -355,6 +355,7 @@ fn values_that_fail(rt: HostRuntime) {
             let mut edits = bush_edits(&rt, &alloc, alloc);
             edits.truncate(if call == 0 { 7 } else { BUSH });
             assert!(rt; bench.apply_all(edits.as_slice(), &mut values).is_ok());
+            assert!(rt; bench.set_tag(TagName::Event, "Corners").is_ok());
             let was = picture_of(&rt, alloc, &bench);
             let failures = values.failures();
             let asked = values.asked();

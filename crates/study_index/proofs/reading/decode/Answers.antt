@@ -3,7 +3,7 @@ use Rattle.study_board.specs.Position.{Position}
 use Rattle.study_material.specs.declared.class.Class.{Class}
 use Rattle.study_index.specs.Number.{cells_of}
 use Rattle.study_index.specs.Decoded.{IsDecoded}
-use Rattle.study_index.specs.Found.{position_at}
+use Rattle.study_index.specs.Found.{position_numbered}
 use Rattle.study_index.proofs.ClassLaws.{below}
 use Rattle.study_index.proofs.ComputedIndex.{decoded_told, told_decoded}
 use Rattle.study_index.proofs.reading.decode.Goals as goal
@@ -11,11 +11,11 @@ use Rattle.study_index.proofs.reading.decode.Goals as goal
 none_above : (c : Class) (n m : ℕ) → m ≡ cells_of c → m ≤ n → (q : Position) → IsDecoded c n q → ⊥
 none_above c n m e l q d = (let b = below c n q d in omega arith)
 
-as_function : (c : Class) (n : ℕ) (o : Option Position) → IfSome o (IsDecoded c n) → IfNone o ((q : Position) → IsDecoded c n q → ⊥) → o ≡ position_at c n
+as_function : (c : Class) (n : ℕ) (o : Option Position) → IfSome o (IsDecoded c n) → IfNone o ((q : Position) → IsDecoded c n q → ⊥) → o ≡ position_numbered c n
 as_function c n (Some q) h k = sym (decoded_told c n q h)
-as_function c n None h k = by_read (position_at c n) refl
+as_function c n None h k = by_read (position_numbered c n) refl
   where
-    by_read : (o : Option Position) → position_at c n ≡ o → None ≡ o
+    by_read : (o : Option Position) → position_numbered c n ≡ o → None ≡ o
     by_read None e = refl
     by_read (Some q) e = absurd (k q (told_decoded c n q e))
 

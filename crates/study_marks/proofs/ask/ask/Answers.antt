@@ -1,10 +1,20 @@
-use Rattle.std.proofs.Common.{◌≡◌, List, map, length, ap, sym, ◌∙◌, subst, false}
+use Rattle.std.proofs.Common.{◌≡◌, List, map, length, ℕ, suc, ◌<◌, arith, ap, sym, ◌∙◌, subst, false}
 use Rattle.study_moves.specs.declared.moves.Move.{Move}
 use Rattle.study_moves.specs.Rules.{after}
 use Rattle.study_moves.specs.LegalList.{legal_list}
 use Rattle.study_marks.specs.Told.{IsUntold, WasAsked}
-use Rattle.study_marks.proofs.ValuesAsked.{held-told, untold-later, asked-more, length-map}
+use Rattle.study_marks.proofs.ValuesAsked.{held-told, untold-here, untold-later, asked-more, length-map}
 use Rattle.study_marks.proofs.ask.ask.Goals as goal
+
+pub returns-in-Err-clause-untold : goal.returns-in-Err-clause-untold
+returns-in-Err-clause-untold g c =
+    untold-here (g.V.Values.held c.args.values.now) c.args.p.now (map (after c.args.p.now) (legal_list c.args.p.now))
+    c.value.result c.in-Err.fault c.in-Err.is c.value.ensures.no_table c.value.ensures.damaged
+
+pub returns-in-Err-clause-asked : goal.returns-in-Err-clause-asked
+returns-in-Err-clause-asked g c =
+    let many = length (map (after c.args.p.now) (legal_list c.args.p.now)) in
+    (0, (let z : 0 < suc many = omega arith in z), c.value.ensures.asked)
 
 pub returns-in-Err-ask_after-clause-untold : goal.returns-in-Err-ask_after-clause-untold
 returns-in-Err-ask_after-clause-untold g c =

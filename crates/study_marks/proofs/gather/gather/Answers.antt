@@ -2,7 +2,7 @@ use Rattle.std.proofs.Common.{◌++◌, List, length, false, ap, ◌∙◌, subs
 use Rattle.study_board.specs.Position.{Position}
 use Rattle.study_tree.specs.Tree.{plain_tree}
 use Rattle.study_marks.specs.declared.label.Told.{Told}
-use Rattle.study_marks.specs.Asked.{asked_at, asked_below, AreHeld, counted_times}
+use Rattle.study_marks.specs.Asked.{asked_at, asked_below, AreTablesHeld, counted_times}
 use Rattle.study_marks.specs.Told.{IsUntold, WasAsked}
 use Rattle.study_marks.proofs.InsertedMoves.{outside-answer, asked-answer}
 use Rattle.study_marks.proofs.PositionsListed.{asked-tree, told-everywhere}
@@ -34,7 +34,7 @@ pub returns-clause-found : goal.returns-clause-found
 returns-clause-found g c =
     let same = asked-tree c.args.position.now (plain_tree c.args.tree.now).below c.as_slice.result.now (c.as_slice.ensures.value ∙ c.in-Ok.ensures) in
     let asked = asked_at c.args.position.now ++ asked_below c.args.position.now (plain_tree c.args.tree.now).below in
-    subst (λ (ps : List Position). AreHeld (g.V.Values.held c.args.values.now) ps) same c.in_ok-ask_each.ensures.held
+    subst (λ (ps : List Position). AreTablesHeld (g.V.Values.held c.args.values.now) ps) same c.in_ok-ask_each.ensures.held
 
 pub returns-clause-asked : goal.returns-clause-asked
 returns-clause-asked g c =

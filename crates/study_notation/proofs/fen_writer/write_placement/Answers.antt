@@ -1,6 +1,6 @@
 use Rattle.std.proofs.Common.{◌≡◌, ℕ, ◌+◌, ◌-◌, ◌++◌, List, length, sym, ap, ◌∙◌, arith, length-append}
 use Rattle.std.proofs.lemmas.List.{append-nil}
-use Rattle.study_notation.specs.FenSpelling.{rank_text, placement_text}
+use Rattle.study_notation.specs.FenSpelling.{rank_field, placement_text}
 use Rattle.study_notation.proofs.RowText.{below, placement_below, below_none, below_written, len_below, length-placement_text}
 use Rattle.study_notation.proofs.fen_writer.write_placement.Goals as goal
 
@@ -11,14 +11,14 @@ write_rank-requires-clause-room c =
       ap length c.requires.empty,
       length-placement_text c.args.men.now c.requires.few,
       ap length (placement_below c.args.men.now),
-      length-append (rank_text c.args.men.now 7)
+      length-append (rank_field c.args.men.now 7)
           (below c.args.men.now 7),
     )
 
 pub loop-down-init : goal.loop-down-init
 loop-down-init c =
     ap (λ (t : List ℕ). t ++ below c.args.men.now 7)
-    (c.write_rank.ensures ∙ ap (λ (t : List ℕ). t ++ rank_text c.args.men.now 7) c.requires.empty)
+    (c.write_rank.ensures ∙ ap (λ (t : List ℕ). t ++ rank_field c.args.men.now 7) c.requires.empty)
     ∙ sym (placement_below c.args.men.now)
 
 pub push_byte-requires-clause-room : goal.push_byte-requires-clause-room

@@ -1,5 +1,5 @@
 use Rattle.std.proofs.Common.{ℕ, ◌+◌, ◌*◌, ◌-◌, ◌++◌, List, length, sym, ap, ◌∙◌, arith, length-append}
-use Rattle.study_notation.specs.FenSpelling.{run, rank_text}
+use Rattle.study_notation.specs.FenSpelling.{run, rank_field}
 use Rattle.study_notation.proofs.RowText.{rest_text, rest_init, rest_none, rest_end, len_both, len_some, some_written}
 use Rattle.study_notation.proofs.fen_writer.write_rank.Goals as goal
 use Rattle.study_notation.proofs.fen_writer.write_rank.Goals.{in-None, in-Some}
@@ -17,7 +17,7 @@ push_run-requires-clause-room c =
       c.requires.room,
       len_both c.loop-file.out.bytes
           (rest_text c.args.men.now (8 * c.args.rank + c.loop-file.file) (8 - c.loop-file.file) c.loop-file.empty)
-          c.args.out.now.bytes (rank_text c.args.men.now c.args.rank) c.loop-file.invariant.0,
+          c.args.out.now.bytes (rank_field c.args.men.now c.args.rank) c.loop-file.invariant.0,
       len_some c.args.men.now
           at (at + 1) n m c.loop-file.empty c.in-Some.piece (omega arith) (omega arith) (sym c.in-Some.ensures),
     )
@@ -32,7 +32,7 @@ push_byte-requires-clause-room c =
       c.requires.room,
       len_both c.loop-file.out.bytes
           (rest_text c.args.men.now (8 * c.args.rank + c.loop-file.file) (8 - c.loop-file.file) c.loop-file.empty)
-          c.args.out.now.bytes (rank_text c.args.men.now c.args.rank) c.loop-file.invariant.0,
+          c.args.out.now.bytes (rank_field c.args.men.now c.args.rank) c.loop-file.invariant.0,
       ap length c.push_run.ensures,
       length-append c.loop-file.out.bytes (run c.loop-file.empty),
       len_some c.args.men.now at (at + 1) n m c.loop-file.empty c.in-Some.piece (omega arith) (omega arith)
@@ -55,7 +55,7 @@ loop-file-preserved c =
       )
       | in-Some w ↦ rw (w.out-is, w.empty-is) (
         some_written c.loop-file.out.bytes w.push_run.new.out.bytes w.push_byte.new.out.bytes
-            (c.args.out.now.bytes ++ rank_text men c.args.rank) men at at' n m c.loop-file.empty w.letter_of.result
+            (c.args.out.now.bytes ++ rank_field men c.args.rank) men at at' n m c.loop-file.empty w.letter_of.result
             w.in-Some.piece (omega arith) (omega arith) (sym w.in-Some.ensures) w.letter_of.ensures.value
             w.push_run.ensures w.push_byte.ensures.bytes c.loop-file.invariant.0,
         omega arith,
@@ -69,7 +69,7 @@ push_run-requires-2-clause-room c =
       c.requires.room,
       len_both c.loop-file.out.bytes
           (rest_text c.args.men.now (8 * c.args.rank + c.loop-file.file) (8 - c.loop-file.file) c.loop-file.empty)
-          c.args.out.now.bytes (rank_text c.args.men.now c.args.rank) c.loop-file.invariant.0,
+          c.args.out.now.bytes (rank_field c.args.men.now c.args.rank) c.loop-file.invariant.0,
       ap length (rest_end c.args.men.now (8 * c.args.rank + c.loop-file.file) (8 - c.loop-file.file)
           c.loop-file.empty (omega arith)),
     )

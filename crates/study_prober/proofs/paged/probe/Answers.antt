@@ -1,6 +1,6 @@
 use Rattle.std.proofs.Common.{inl, inr, ◌≡◌, ◌≤◌, ◌/◌, ℕ, length, rules, sym, ◌∙◌, ap, subst}
 use Rattle.std.specs.Prelude.{None}
-use Rattle.study_retro.specs.Table.{place_of}
+use Rattle.study_retro.specs.Table.{class_place}
 use Rattle.study_prober.specs.declared.cache.PageKey.{PageKey}
 use Rattle.study_prober.specs.declared.held.HeldSource.{HeldSource}
 use Rattle.study_prober.specs.Cache.{key_at}
@@ -8,7 +8,7 @@ use Rattle.study_prober.specs.Paged.{held_of}
 use Rattle.study_index.specs.Found.{index_of}
 use Rattle.study_material.specs.declared.class.Class.{Class}
 use Rattle.study_material.specs.Class.{IsOf}
-use Rattle.study_retro.proofs.SetLemmas.{place_of-injective}
+use Rattle.study_retro.proofs.SetLemmas.{class_place-injective}
 use Rattle.study_prober.proofs.HeldSources.{header_own, held_other, none_past, kept_after, same_after, held_at}
 use Rattle.study_prober.proofs.KeptCells.{again_none, again_at}
 use Rattle.study_prober.proofs.Tables.{one_class}
@@ -95,7 +95,7 @@ pub returns-in-Some-clause-others : goal.returns-in-Some-clause-others
 returns-in-Some-clause-others g c = λ d far.
     rw c.place-at.ensures.value
     (held_other c.args.sources.now.items c.class_of-class.result.0 d _
-    (λ e. far (subst (λ (x : Class). IsOf x c.args.p.now) (place_of-injective c.class_of-class.result.0 d e)
+    (λ e. far (subst (λ (x : Class). IsOf x c.args.p.now) (class_place-injective c.class_of-class.result.0 d e)
     c.class_of-class.ensures.class)))
 
 pub returns-then-len-at-clause-again : goal.returns-then-len-at-clause-again
@@ -136,7 +136,7 @@ returns-in-Some-clause-read g c = λ d h of was.
     read_at g.S.PageSource.gives c.in-Some.held h c.index.result (index_of c.args.p.now) c.value_in.result one
     c.index.ensures.value
     (c.value_in.ensures.read (λ e i at. c.requires.given.given e c.class_of-class.result.0 c.in-Some.held i
-    (at ∙ ap place_of own) is.1))
+    (at ∙ ap class_place own) is.1))
 
 pub returns-in-Some-clause-given : goal.returns-in-Some-clause-given
 returns-in-Some-clause-given g c =
@@ -149,7 +149,7 @@ returns-in-Some-clause-given g c =
     (λ e i. elim (c.value_in.ensures.given e i) [
       | inl old ↦ inl old
       | inr new ↦ inr (
-        ap (λ (k : PageKey). k.class) new.0 ∙ ap place_of own,
+        ap (λ (k : PageKey). k.class) new.0 ∙ ap class_place own,
         subst (λ (k : PageKey). IsGivenPage g.S.PageSource.gives c.in-Some.held k.number e.1.items) (sym new.0)
             new.1,
       )

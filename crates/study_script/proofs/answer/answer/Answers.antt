@@ -2,7 +2,7 @@ use Rattle.std.proofs.Common.{[], Ok, refl, sym, subst}
 use Rattle.std.proofs.KnownBytes.{Appends-nil}
 use Rattle.study_tablefile.proofs.TextTaken.{OnErr-known}
 use Rattle.study_script.specs.declared.refusal.Refusal.TheVariants.{Form}
-use Rattle.study_script.specs.Asking.{Asks, seen}
+use Rattle.study_command.specs.Asking.{Asks, seen}
 use Rattle.study_script.specs.State.{quiet}
 use Rattle.study_script.specs.Held.{BrokenOff}
 use Rattle.study_script.specs.Replies.{accepted, refused, IsReplyWhere, IsReply}

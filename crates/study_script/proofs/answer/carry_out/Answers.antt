@@ -1,7 +1,7 @@
 use Rattle.std.proofs.Common.{sym, ap, subst}
 use Rattle.study_notation.specs.Fen.{start_of}
-use Rattle.study_script.specs.Paths.{steps_of}
-use Rattle.study_script.specs.Asking.{Asked, of_start, at_node, at_study, of_class, stipulate, insert, tag, solve, pgn, command_seen}
+use Rattle.study_command.specs.Paths.{steps_of}
+use Rattle.study_command.specs.Asking.{Asked, of_start, at_node, at_study, of_class, stipulate, insert, tag, solve, pgn, command_seen}
 use Rattle.study_script.specs.State.{State, Outside}
 use Rattle.study_script.specs.Held.{Holds, HoldsFrom, TablesFrom}
 use Rattle.study_script.specs.Stored.{StoreSeen}

@@ -1,8 +1,8 @@
 use Rattle.std.proofs.Common.{rules, ◌≡◌, Err, refl, sym, subst}
 use Rattle.study_script.specs.State.{quiet}
 use Rattle.study_script.specs.Replies.{IsClassReply, refused}
-use Rattle.study_script.specs.declared.command.ClassWord.{ClassWord}
-use Rattle.study_script.specs.declared.command.ClassWord.TheVariants.{Load}
+use Rattle.study_command.specs.declared.command.ClassWord.{ClassWord}
+use Rattle.study_command.specs.declared.command.ClassWord.TheVariants.{Load}
 use Rattle.study_script.specs.declared.refusal.Refusal.TheVariants.{NotAClass}
 use Rattle.study_script.proofs.ClassReplies.{not_named, refused_paged}
 use Rattle.study_script.proofs.classes.in_pages.Goals as goal

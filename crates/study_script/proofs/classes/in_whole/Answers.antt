@@ -1,9 +1,9 @@
 use Rattle.std.proofs.Common.{rules, ◌≡◌, Err, refl, sym, subst, ◌∙◌}
 use Rattle.study_script.specs.Stored.{StoreSeen}
 use Rattle.study_script.specs.State.{quiet, is_among, first_lacking}
-use Rattle.study_script.specs.Replies.{class_named, IsNamedReply, IsBuildReply, IsTableReply, verify_reply}
+use Rattle.study_script.specs.Replies.{class_told, IsNamedReply, IsBuildReply, IsTableReply, verify_reply}
 use Rattle.study_script.specs.declared.refusal.Refusal.TheVariants.{NotAClass}
-use Rattle.study_script.specs.declared.command.ClassWord.{ClassWord}
+use Rattle.study_command.specs.declared.command.ClassWord.{ClassWord}
 use Rattle.study_script.specs.Told.{WholeFrom, HoldsWhole}
 use Rattle.study_script.proofs.HeldTables.{store_of}
 use Rattle.study_script.proofs.ClassReplies.{not_named, named_as, decided_weaker}
@@ -18,7 +18,7 @@ pub returns-in-Build : goal.returns-in-Build
 returns-in-Build g c = λ s h seen.
     decided_weaker (λ o. IsBuildReply s o c.in_ok-class.class (is_among s.classes c.in_ok-class.class)
     (first_lacking s.classes c.in_ok-class.class))
-    (λ o. IsNamedReply s o c.args.word (class_named c.args.name.now)) (WholeFrom s c.build_class.new.tables)
+    (λ o. IsNamedReply s o c.args.word (class_told c.args.name.now)) (WholeFrom s c.build_class.new.tables)
     (λ t. HoldsWhole c.build_class.new.tables t × (t.board ≡ s.board)
     × StoreSeen g.S.TableStore.honest g.S.TableStore.files g.S.TableStore.headers c.args.store.now t)
     c.build_class.result
@@ -34,7 +34,7 @@ returns-in-Build g c = λ s h seen.
 pub returns-in-Verify : goal.returns-in-Verify
 returns-in-Verify g c = λ s h seen.
     decided_weaker (λ o reply. reply ≡ verify_reply s c.in_ok-class.class (is_among s.classes c.in_ok-class.class))
-    (λ o. IsNamedReply s o c.args.word (class_named c.args.name.now)) (WholeFrom s c.args.tables.now)
+    (λ o. IsNamedReply s o c.args.word (class_told c.args.name.now)) (WholeFrom s c.args.tables.now)
     (λ t. HoldsWhole c.args.tables.now t × (t.board ≡ s.board)
     × StoreSeen g.S.TableStore.honest g.S.TableStore.files g.S.TableStore.headers c.args.store.now t)
     c.verify_class.result

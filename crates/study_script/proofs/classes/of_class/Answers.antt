@@ -1,6 +1,6 @@
 use Rattle.std.proofs.Common.{◌≡◌}
 use Rattle.study_script.specs.Stored.{StoreSeen}
-use Rattle.study_script.specs.Replies.{IsClassReply, IsNamedReply, class_named}
+use Rattle.study_script.specs.Replies.{IsClassReply, IsNamedReply, class_told}
 use Rattle.study_script.specs.declared.tables.Tables.TheVariants as held
 use Rattle.study_script.specs.Told.{HoldsWhole, HoldsPaged}
 use Rattle.study_script.specs.Held.{TablesFrom}
@@ -12,7 +12,7 @@ returns-in-Whole-clause-ok g c = λ s h seen.
     let w = c.in-Whole.whole in
     let whole = whole_of g.S.Pages.PageSource.honest c.args.tables.now w s c.in-Whole.is h in
     let new = c.in_whole-told.new in
-    let decided = decided_weaker (λ o. IsNamedReply s o c.args.word (class_named c.args.name.now))
+    let decided = decided_weaker (λ o. IsNamedReply s o c.args.word (class_told c.args.name.now))
     (λ o. IsClassReply s o c.args.word c.args.name.now) (λ t. HoldsWhole new.tables t × (t.board ≡ s.board)
     × StoreSeen g.S.TableStore.honest g.S.TableStore.files g.S.TableStore.headers new.store t)
     (λ t. TablesFrom {A = g.row.A.Denot} g.S.Pages.PageSource.honest s (held.Whole new.tables) t
@@ -30,7 +30,7 @@ returns-in-Whole-clause-err g c = λ s h seen.
     let w = c.in-Whole.whole in
     let whole = whole_of g.S.Pages.PageSource.honest c.args.tables.now w s c.in-Whole.is h in
     let new = c.in_whole-told.new in
-    let decided = decided_weaker (λ o. IsNamedReply s o c.args.word (class_named c.args.name.now))
+    let decided = decided_weaker (λ o. IsNamedReply s o c.args.word (class_told c.args.name.now))
     (λ o. IsClassReply s o c.args.word c.args.name.now) (λ t. HoldsWhole new.tables t × (t.board ≡ s.board)
     × StoreSeen g.S.TableStore.honest g.S.TableStore.files g.S.TableStore.headers new.store t)
     (λ t. TablesFrom {A = g.row.A.Denot} g.S.Pages.PageSource.honest s (held.Whole new.tables) t

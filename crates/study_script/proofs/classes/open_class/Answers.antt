@@ -4,7 +4,7 @@ use Rattle.study_tablefile.specs.File.{IsVersionOf}
 use Rattle.study_tablefile.specs.Source.{of_header}
 use Rattle.study_prober.specs.Told.{paged_fault}
 use Rattle.study_script.specs.declared.store.StoreFault.{StoreFault}
-use Rattle.study_script.specs.State.{IsGiven, IsTold}
+use Rattle.study_script.specs.State.{IsGiven, IsGivenAs}
 use Rattle.study_script.specs.Stored.{StoreSeen}
 use Rattle.study_script.proofs.HeldTables.{store_same, store_with}
 use Rattle.study_script.proofs.PagedReplies.{told_is, accepted_none, open_held, open_unopened, open_done, open_refused, gives, paged_with}
@@ -33,7 +33,7 @@ returns-in-Ok-add g c = λ s h seen.
     let seen' = store_same g.S.TableStore.honest g.S.TableStore.files g.S.TableStore.headers c.args.store.now
     c.pages.new.self s c.pages.ensures.stays c.pages.ensures.files c.pages.ensures.headers seen in
     let told = c.in-Ok-add.ensures.fault.0 in
-    let is_told = subst (λ (k : Option (Result (List ℕ) StoreFault)). IsTold k told) known
+    let is_told = subst (λ (k : Option (Result (List ℕ) StoreFault)). IsGivenAs k told) known
     (told_is (g.S.Pages.PageSource.gives c.in-Ok.source of_header)
     (g.S.TableStore.headers c.args.store.now c.args.class) told (c.in-Ok-add.ensures.fault.1 lacks).0
     (c.in-Ok.ensures.opened refl) c.in-Ok.ensures.given) in
@@ -60,7 +60,7 @@ returns-in-Err-add g c = λ s h seen.
     let seen' = store_same g.S.TableStore.honest g.S.TableStore.files g.S.TableStore.headers c.args.store.now
     c.pages.new.self s c.pages.ensures.stays c.pages.ensures.files c.pages.ensures.headers seen in
     let told = c.in-Err-add.ensures.fault.0 in
-    let is_told = subst (λ (k : Option (Result (List ℕ) StoreFault)). IsTold k told) known
+    let is_told = subst (λ (k : Option (Result (List ℕ) StoreFault)). IsGivenAs k told) known
     (told_is (g.S.Pages.PageSource.gives c.in-Ok.source of_header)
     (g.S.TableStore.headers c.args.store.now c.args.class) told (c.in-Err-add.ensures.fault.1 lacks).0
     (c.in-Ok.ensures.opened refl) c.in-Ok.ensures.given) in

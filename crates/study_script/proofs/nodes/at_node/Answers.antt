@@ -1,7 +1,7 @@
 use Rattle.std.proofs.Common.{sym, subst}
-use Rattle.study_script.specs.declared.command.NodeWord.{NodeWord}
-use Rattle.study_script.specs.declared.command.NodeWord.TheVariants.{Moves, Fen}
-use Rattle.study_script.specs.Paths.{steps_of}
+use Rattle.study_command.specs.declared.command.NodeWord.{NodeWord}
+use Rattle.study_command.specs.declared.command.NodeWord.TheVariants.{Moves, Fen}
+use Rattle.study_command.specs.Paths.{steps_of}
 use Rattle.study_script.specs.State.{Outside}
 use Rattle.study_script.specs.Held.{HoldsFrom}
 use Rattle.study_script.specs.Replies.{IsNodeReply}

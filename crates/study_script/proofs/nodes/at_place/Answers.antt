@@ -1,8 +1,8 @@
 use Rattle.std.proofs.Common.{sym, subst}
 use Rattle.study_marks.specs.Study.{plain_study}
 use Rattle.study_marks.specs.Kept.{marked}
-use Rattle.study_script.specs.declared.command.StudyWord.{StudyWord}
-use Rattle.study_script.specs.declared.command.StudyWord.TheVariants.{Delete, Promote, Mark}
+use Rattle.study_command.specs.declared.command.StudyWord.{StudyWord}
+use Rattle.study_command.specs.declared.command.StudyWord.TheVariants.{Delete, Promote, Mark}
 use Rattle.study_script.specs.State.{Outside}
 use Rattle.study_script.specs.Held.{HoldsBenchFrom}
 use Rattle.study_script.specs.Replies.{IsStudyReply}

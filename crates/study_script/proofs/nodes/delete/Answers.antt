@@ -6,15 +6,15 @@ use Rattle.study_tablefile.proofs.TextTaken.{OnErr-known}
 use Rattle.study_marks.specs.Study.{plain_study}
 use Rattle.study_marks.specs.Kept.{marked}
 use Rattle.study_marks.specs.Edits.{deleted, delete_refusal}
-use Rattle.study_script.specs.Words.{line_text}
+use Rattle.study_script.specs.Words.{reply_line}
 use Rattle.study_script.specs.Names.{edit_words}
 use Rattle.study_script.specs.State.{quiet}
-use Rattle.study_script.specs.Paths.{path_text}
-use Rattle.study_script.specs.Replies.{accepted, refused_by, holding}
+use Rattle.study_command.specs.Paths.{path_text}
+use Rattle.study_script.specs.Replies.{accepted, refused_as, holding}
 use Rattle.study_script.proofs.SilentEdits.{edit_accepted, edit_refused, delete_same}
 use Rattle.study_script.proofs.HeldBehindReplies.{bench_edited, bench_same}
 use Rattle.study_script.specs.Held.{BrokenOff}
-use Rattle.study_script.specs.declared.command.StudyWord.TheVariants.{Delete}
+use Rattle.study_command.specs.declared.command.StudyWord.TheVariants.{Delete}
 use Rattle.study_script.specs.State.{Outside}
 use Rattle.study_script.specs.Replies.{IsStudyReply}
 use Rattle.study_script.proofs.nodes.delete.Goals as goal
@@ -23,7 +23,7 @@ pub returns-in_err-put_node-in-Ok-clause-err : goal.returns-in_err-put_node-in-O
 returns-in_err-put_node-in-Ok-clause-err g c = λ s h.
     let old = plain_study (marked c.args.bench.now) in
     let new = deleted old c.args.path.now in
-    let text = line_text (codes "delete ") (path_text c.args.path.now) in
+    let text = reply_line (codes "delete ") (path_text c.args.path.now) in
     let why = delete_refusal {A = g.row.A.Denot} old c.args.path.now in
     let reason = delete_refusal {A = Unit {0}} old c.args.path.now in
     let alike = delete_same g.row.A.Denot (Unit {0}) old c.args.path.now in
@@ -35,7 +35,7 @@ returns-in_err-put_node-in-Ok-clause-err g c = λ s h.
           c.delete.ensures.refusal c.in-Ok.is,
       subst
           (λ (t : List ℕ). TakesPrefix (g.W.Write.contents c.args.out.now) (g.W.Write.contents c.put_node.new.out)
-          (line_text (codes "delete ") (path_text t))) c.steps.ensures c.in_err-put_node-in-Ok.ensures.err,
+          (reply_line (codes "delete ") (path_text t))) c.steps.ensures c.in_err-put_node-in-Ok.ensures.err,
     ) in
     OnErr-known _ _ part
 
@@ -43,7 +43,7 @@ pub returns-in_ok-put_node-in-Ok-clause-ok : goal.returns-in_ok-put_node-in-Ok-c
 returns-in_ok-put_node-in-Ok-clause-ok g c = λ s h.
     let old = plain_study (marked c.args.bench.now) in
     let new = deleted old c.args.path.now in
-    let text = line_text (codes "delete ") (path_text c.args.path.now) in
+    let text = reply_line (codes "delete ") (path_text c.args.path.now) in
     let why = delete_refusal {A = g.row.A.Denot} old c.args.path.now in
     let reason = delete_refusal {A = Unit {0}} old c.args.path.now in
     let alike = delete_same g.row.A.Denot (Unit {0}) old c.args.path.now in (
@@ -52,7 +52,7 @@ returns-in_ok-put_node-in-Ok-clause-ok g c = λ s h.
       edit_accepted s why reason new text alike c.delete.result _
           c.delete.ensures.refusal c.in-Ok.is,
       subst (λ (t : List ℕ). Appends (g.W.Write.contents c.args.out.now) (g.W.Write.contents c.put_node.new.out)
-          (line_text (codes "delete ") (path_text t))) c.steps.ensures c.in_ok-put_node-in-Ok.ensures.ok,
+          (reply_line (codes "delete ") (path_text t))) c.steps.ensures c.in_ok-put_node-in-Ok.ensures.ok,
       bench_edited c.delete.new.self s new c.in-Ok.ensures.edited (c.in-Ok.ensures.right h.marks),
       refl,
     )
@@ -61,14 +61,14 @@ pub returns-in_err-refuse_edit-in-Err-clause-err : goal.returns-in_err-refuse_ed
 returns-in_err-refuse_edit-in-Err-clause-err g c = λ s h.
     let old = plain_study (marked c.args.bench.now) in
     let new = deleted old c.args.path.now in
-    let text = line_text (codes "delete ") (path_text c.args.path.now) in
+    let text = reply_line (codes "delete ") (path_text c.args.path.now) in
     let why = delete_refusal {A = g.row.A.Denot} old c.args.path.now in
     let reason = delete_refusal {A = Unit {0}} old c.args.path.now in
     let alike = delete_same g.row.A.Denot (Unit {0}) old c.args.path.now in
     let part : BrokenOff (λ (o : Outside). IsStudyReply s Delete old c.args.path.now)
     (g.W.Write.contents c.args.out.now) (g.W.Write.contents c.refuse_edit.new.out) = (
       quiet,
-      refused_by s (edit_words c.in-Err.refusal),
+      refused_as s (edit_words c.in-Err.refusal),
       edit_refused s why reason new text alike c.delete.result
           c.in-Err.refusal c.delete.ensures.refusal c.in-Err.is,
       c.in_err-refuse_edit-in-Err.ensures.err,
@@ -79,12 +79,12 @@ pub returns-in_ok-refuse_edit-in-Err-clause-ok : goal.returns-in_ok-refuse_edit-
 returns-in_ok-refuse_edit-in-Err-clause-ok g c = λ s h.
     let old = plain_study (marked c.args.bench.now) in
     let new = deleted old c.args.path.now in
-    let text = line_text (codes "delete ") (path_text c.args.path.now) in
+    let text = reply_line (codes "delete ") (path_text c.args.path.now) in
     let why = delete_refusal {A = g.row.A.Denot} old c.args.path.now in
     let reason = delete_refusal {A = Unit {0}} old c.args.path.now in
     let alike = delete_same g.row.A.Denot (Unit {0}) old c.args.path.now in (
       quiet,
-      refused_by s (edit_words c.in-Err.refusal),
+      refused_as s (edit_words c.in-Err.refusal),
       edit_refused s why reason new text alike c.delete.result
           c.in-Err.refusal c.delete.ensures.refusal c.in-Err.is,
       c.in_ok-refuse_edit-in-Err.ensures.ok,

@@ -10,7 +10,7 @@ use Rattle.study_marks.specs.Edits.{inserted, insert_refusal}
 use Rattle.study_script.specs.Names.{edit_words}
 use Rattle.study_script.specs.State.{Outside, quiet}
 use Rattle.study_script.specs.Held.{BrokenOff, tables_held, are_paged}
-use Rattle.study_script.specs.Replies.{accepted, refused_by, holding, inserted_text, IsMoveReply, IsInserted}
+use Rattle.study_script.specs.Replies.{accepted, refused_as, holding, inserted_text, IsMoveReply, IsInserted}
 use Rattle.study_script.proofs.AskingEdits.{accepted_outside}
 use Rattle.study_script.proofs.HeldBehindReplies.{study_edited, study_same}
 use Rattle.study_script.proofs.PlainNodes.{position_at-plain, inserted_said}
@@ -99,7 +99,7 @@ returns-in_err-refuse_edit-in-Err-clause-err g c = λ s h.
     c.insert_move.ensures.refusal) c.in-Err.is c.in-Err.ensures.device in
     let part : BrokenOff (λ (o : Outside). IsMoveReply s o (plain_study (marked c.args.bench.now)) c.args.path.now
     (Ok c.args.m.now)) (g.W.Write.contents c.args.out.now) (g.W.Write.contents c.refuse_edit.new.out) =
-    (told.0, refused_by s (edit_words c.in-Err.refusal), told.1, c.in_err-refuse_edit-in-Err.ensures.err) in
+    (told.0, refused_as s (edit_words c.in-Err.refusal), told.1, c.in_err-refuse_edit-in-Err.ensures.err) in
     OnErr-known _ _ part
 
 pub returns-in_ok-refuse_edit-in-Err-clause-ok : goal.returns-in_ok-refuse_edit-in-Err-clause-ok
@@ -120,7 +120,7 @@ returns-in_ok-refuse_edit-in-Err-clause-ok g c = λ s h.
     (λ fault. c.insert_move.result ≡ Err fault)) (sym (position_at-plain shown steps))
     c.insert_move.ensures.refusal) c.in-Err.is c.in-Err.ensures.device in (
       told.0,
-      refused_by s (edit_words c.in-Err.refusal),
+      refused_as s (edit_words c.in-Err.refusal),
       told.1,
       c.in_ok-refuse_edit-in-Err.ensures.ok,
       study_same g.P.PageSource.honest c.args.bench.now c.insert_move.new.bench tables others s h

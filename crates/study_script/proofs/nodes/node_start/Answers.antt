@@ -1,6 +1,6 @@
 use Rattle.std.proofs.Common.{◌≡◌, ℕ, List, refl, subst}
 use Rattle.study_marks.specs.Kept.{marked}
-use Rattle.study_script.specs.Paths.{steps_of}
+use Rattle.study_command.specs.Paths.{steps_of}
 use Rattle.study_script.specs.State.{quiet, no_path}
 use Rattle.study_script.proofs.PlainNodes.{node_found}
 use Rattle.study_marks.specs.Bench.{start_at}

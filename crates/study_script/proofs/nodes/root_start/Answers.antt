@@ -1,5 +1,5 @@
 use Rattle.std.proofs.Common.{◌≡◌, ℕ, List, length, rules, refl, subst}
-use Rattle.study_script.specs.Paths.{steps_of}
+use Rattle.study_command.specs.Paths.{steps_of}
 use Rattle.study_script.specs.State.{quiet, no_path}
 use Rattle.study_script.proofs.PlainNodes.{root_found, root_alone}
 use Rattle.study_script.proofs.nodes.root_start.Goals as goal

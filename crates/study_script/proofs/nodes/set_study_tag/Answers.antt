@@ -6,10 +6,11 @@ use Rattle.study_tablefile.proofs.TextTaken.{OnErr-known}
 use Rattle.study_marks.specs.Study.{plain_study}
 use Rattle.study_marks.specs.Kept.{marked}
 use Rattle.study_marks.specs.Edits.{tagged, tag_refusal}
-use Rattle.study_script.specs.Words.{line_text, tag_name}
+use Rattle.study_pgn.specs.Tags.{tag_name}
+use Rattle.study_script.specs.Words.{reply_line}
 use Rattle.study_script.specs.Names.{edit_words}
 use Rattle.study_script.specs.State.{quiet}
-use Rattle.study_script.specs.Replies.{accepted, refused_by, holding}
+use Rattle.study_script.specs.Replies.{accepted, refused_as, holding}
 use Rattle.study_script.proofs.SilentEdits.{edit_accepted, edit_refused, tag_same}
 use Rattle.study_script.proofs.HeldBehindReplies.{bench_edited, bench_same}
 use Rattle.study_script.specs.Held.{BrokenOff}
@@ -21,7 +22,7 @@ pub returns-in_err-put_line-in-Ok-clause-err : goal.returns-in_err-put_line-in-O
 returns-in_err-put_line-in-Ok-clause-err g c = λ s h.
     let old = plain_study (marked c.args.bench.now) in
     let new = tagged old c.args.name c.args.text.now in
-    let text = line_text (codes "tag ") (tag_name c.args.name) in
+    let text = reply_line (codes "tag ") (tag_name c.args.name) in
     let why = tag_refusal {A = g.row.A.Denot} c.args.text.now in
     let reason = tag_refusal {A = Unit {0}} c.args.text.now in
     let alike = tag_same g.row.A.Denot (Unit {0}) c.args.text.now in
@@ -33,7 +34,7 @@ returns-in_err-put_line-in-Ok-clause-err g c = λ s h.
           c.set_tag.ensures.refusal c.in-Ok.is,
       subst
           (λ (t : List ℕ). TakesPrefix (g.W.Write.contents c.args.out.now) (g.W.Write.contents c.put_line.new.out)
-          (line_text (codes "tag ") t)) c.tag_name.ensures c.in_err-put_line-in-Ok.ensures.err,
+          (reply_line (codes "tag ") t)) c.tag_name.ensures c.in_err-put_line-in-Ok.ensures.err,
     ) in
     OnErr-known _ _ part
 
@@ -41,7 +42,7 @@ pub returns-in_ok-put_line-in-Ok-clause-ok : goal.returns-in_ok-put_line-in-Ok-c
 returns-in_ok-put_line-in-Ok-clause-ok g c = λ s h.
     let old = plain_study (marked c.args.bench.now) in
     let new = tagged old c.args.name c.args.text.now in
-    let text = line_text (codes "tag ") (tag_name c.args.name) in
+    let text = reply_line (codes "tag ") (tag_name c.args.name) in
     let why = tag_refusal {A = g.row.A.Denot} c.args.text.now in
     let reason = tag_refusal {A = Unit {0}} c.args.text.now in
     let alike = tag_same g.row.A.Denot (Unit {0}) c.args.text.now in (
@@ -50,7 +51,7 @@ returns-in_ok-put_line-in-Ok-clause-ok g c = λ s h.
       edit_accepted s why reason new text alike c.set_tag.result _
           c.set_tag.ensures.refusal c.in-Ok.is,
       subst (λ (t : List ℕ). Appends (g.W.Write.contents c.args.out.now) (g.W.Write.contents c.put_line.new.out)
-          (line_text (codes "tag ") t)) c.tag_name.ensures c.in_ok-put_line-in-Ok.ensures.ok,
+          (reply_line (codes "tag ") t)) c.tag_name.ensures c.in_ok-put_line-in-Ok.ensures.ok,
       bench_edited c.set_tag.new.self s new c.in-Ok.ensures.edited (c.in-Ok.ensures.right h.marks),
       refl,
     )
@@ -59,14 +60,14 @@ pub returns-in_err-refuse_edit-in-Err-clause-err : goal.returns-in_err-refuse_ed
 returns-in_err-refuse_edit-in-Err-clause-err g c = λ s h.
     let old = plain_study (marked c.args.bench.now) in
     let new = tagged old c.args.name c.args.text.now in
-    let text = line_text (codes "tag ") (tag_name c.args.name) in
+    let text = reply_line (codes "tag ") (tag_name c.args.name) in
     let why = tag_refusal {A = g.row.A.Denot} c.args.text.now in
     let reason = tag_refusal {A = Unit {0}} c.args.text.now in
     let alike = tag_same g.row.A.Denot (Unit {0}) c.args.text.now in
     let part : BrokenOff (λ (o : Outside) (reply : Reply). reply ≡ tag_reply s (study old) c.args.name
     c.args.text.now) (g.W.Write.contents c.args.out.now) (g.W.Write.contents c.refuse_edit.new.out) = (
       quiet,
-      refused_by s (edit_words c.in-Err.refusal),
+      refused_as s (edit_words c.in-Err.refusal),
       edit_refused s why reason new text alike
           c.set_tag.result c.in-Err.refusal c.set_tag.ensures.refusal c.in-Err.is,
       c.in_err-refuse_edit-in-Err.ensures.err,
@@ -76,12 +77,12 @@ pub returns-in_ok-refuse_edit-in-Err-clause-ok : goal.returns-in_ok-refuse_edit-
 returns-in_ok-refuse_edit-in-Err-clause-ok g c = λ s h.
     let old = plain_study (marked c.args.bench.now) in
     let new = tagged old c.args.name c.args.text.now in
-    let text = line_text (codes "tag ") (tag_name c.args.name) in
+    let text = reply_line (codes "tag ") (tag_name c.args.name) in
     let why = tag_refusal {A = g.row.A.Denot} c.args.text.now in
     let reason = tag_refusal {A = Unit {0}} c.args.text.now in
     let alike = tag_same g.row.A.Denot (Unit {0}) c.args.text.now in (
       quiet,
-      refused_by s (edit_words c.in-Err.refusal),
+      refused_as s (edit_words c.in-Err.refusal),
       edit_refused s why reason new text alike c.set_tag.result
           c.in-Err.refusal c.set_tag.ensures.refusal c.in-Err.is,
       c.in_ok-refuse_edit-in-Err.ensures.ok,

@@ -1,5 +1,5 @@
 use Rattle.std.proofs.Common.{ap, ◌∙◌}
-use Rattle.study_script.specs.Paths.{steps_of}
+use Rattle.study_command.specs.Paths.{steps_of}
 use Rattle.study_script.specs.State.{Board, quiet}
 use Rattle.study_script.specs.Replies.{start_found}
 use Rattle.study_script.proofs.HeldBehindReplies.{empty_seen, start_seen, study_seen}

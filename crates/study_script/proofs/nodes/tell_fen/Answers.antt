@@ -4,8 +4,8 @@ use Rattle.std.specs.Io.KnownBytes.{Appends}
 use Rattle.study_tablefile.specs.Taken.{TakesPrefix}
 use Rattle.study_tablefile.proofs.TextTaken.{OnErr-known}
 use Rattle.study_notation.specs.FenSpelling.{fen_text}
-use Rattle.study_script.specs.Paths.{steps_of}
-use Rattle.study_script.specs.Words.{line_text}
+use Rattle.study_command.specs.Paths.{steps_of}
+use Rattle.study_script.specs.Words.{reply_line}
 use Rattle.study_script.specs.State.{Outside}
 use Rattle.study_script.specs.Held.{BrokenOff}
 use Rattle.study_script.specs.Replies.{Reply, accepted, refused, start_found, fen_reply}
@@ -18,20 +18,20 @@ returns-in_err-put_line-in-Ok-clause-err g c = λ s h. let found = c.start_at.en
     (λ (o : Outside) (r : Reply). r ≡ fen_reply s (start_found o s.board (steps_of c.args.path.now)))
     (g.W.Write.contents c.args.out.now) (g.W.Write.contents c.put_line.new.out) = (
       found.0,
-      accepted s (line_text (codes "fen ") (fen_text c.in-Ok.start)),
+      accepted s (reply_line (codes "fen ") (fen_text c.in-Ok.start)),
       ap (fen_reply s) (sym c.in-Ok.is ∙ found.1),
       subst (λ (t : List ℕ). TakesPrefix (g.W.Write.contents c.args.out.now) (g.W.Write.contents c.put_line.new.out)
-          (line_text (codes "fen ") t)) (c.as_bytes.ensures.value ∙ c.as_str.ensures.value ∙ c.write_fen-text.ensures)
+          (reply_line (codes "fen ") t)) (c.as_bytes.ensures.value ∙ c.as_str.ensures.value ∙ c.write_fen-text.ensures)
           c.in_err-put_line-in-Ok.ensures.err,
     ) in OnErr-known _ _ part
 
 pub returns-in_ok-put_line-in-Ok-clause-ok : goal.returns-in_ok-put_line-in-Ok-clause-ok
 returns-in_ok-put_line-in-Ok-clause-ok g c = λ s h. let found = c.start_at.ensures s h in (
   found.0,
-  accepted s (line_text (codes "fen ") (fen_text c.in-Ok.start)),
+  accepted s (reply_line (codes "fen ") (fen_text c.in-Ok.start)),
   ap (fen_reply s) (sym c.in-Ok.is ∙ found.1),
   subst (λ (t : List ℕ). Appends (g.W.Write.contents c.args.out.now) (g.W.Write.contents c.put_line.new.out)
-      (line_text (codes "fen ") t)) (c.as_bytes.ensures.value ∙ c.as_str.ensures.value ∙ c.write_fen-text.ensures)
+      (reply_line (codes "fen ") t)) (c.as_bytes.ensures.value ∙ c.as_str.ensures.value ∙ c.write_fen-text.ensures)
       c.in_ok-put_line-in-Ok.ensures.ok,
   board_kept c.args.board.now s h,
   refl,

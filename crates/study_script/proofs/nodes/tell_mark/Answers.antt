@@ -10,7 +10,7 @@ use Rattle.study_script.specs.State.{quiet}
 use Rattle.study_script.specs.Replies.{accepted, refused}
 use Rattle.study_script.proofs.HeldBehindReplies.{bench_kept, mark_told, mark_missing}
 use Rattle.study_script.specs.Held.{BrokenOff}
-use Rattle.study_script.specs.declared.command.StudyWord.TheVariants.{Mark}
+use Rattle.study_command.specs.declared.command.StudyWord.TheVariants.{Mark}
 use Rattle.study_script.specs.State.{Outside}
 use Rattle.study_script.specs.Replies.{IsStudyReply}
 use Rattle.study_marks.specs.Study.{plain_study}

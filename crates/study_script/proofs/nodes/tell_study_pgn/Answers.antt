@@ -7,7 +7,7 @@ use Rattle.study_marks.specs.Kept.{marked}
 use Rattle.study_pgn.specs.Pgn.{pgn_text}
 use Rattle.study_script.specs.declared.refusal.Refusal.TheVariants.{OutOfMemory}
 use Rattle.study_script.specs.Names.{words_of}
-use Rattle.study_script.specs.Words.{line_text}
+use Rattle.study_script.specs.Words.{reply_line}
 use Rattle.study_script.specs.State.{quiet, no_room}
 use Rattle.study_script.specs.Replies.{accepted, refused}
 use Rattle.study_script.proofs.HeldBehindReplies.{bench_kept}
@@ -40,7 +40,7 @@ returns-in_err-refuse-in-Err-OutOfMemory-clause-err g c =
       refused s OutOfMemory,
       refl,
       subst (λ w. TakesPrefix (g.W.Write.contents w) (g.W.Write.contents c.refuse.new.out)
-          (line_text (codes "error ") (words_of OutOfMemory))) (c.in-Err-OutOfMemory.ensures.memory cc)
+          (reply_line (codes "error ") (words_of OutOfMemory))) (c.in-Err-OutOfMemory.ensures.memory cc)
           c.in_err-refuse-in-Err-OutOfMemory.ensures.err,
     ) in OnErr-known _ _ part
 
@@ -51,7 +51,7 @@ returns-in_ok-refuse-in-Err-OutOfMemory-clause-ok g c =
       refused s OutOfMemory,
       refl,
       subst (λ w. Appends (g.W.Write.contents w) (g.W.Write.contents c.refuse.new.out)
-          (line_text (codes "error ") (words_of OutOfMemory))) (c.in-Err-OutOfMemory.ensures.memory cc)
+          (reply_line (codes "error ") (words_of OutOfMemory))) (c.in-Err-OutOfMemory.ensures.memory cc)
           c.in_ok-refuse-in-Err-OutOfMemory.ensures.ok,
       bench_kept c.args.bench.now s h,
       refl,

@@ -1,7 +1,7 @@
 use Rattle.std.proofs.Common.{◌≡◌, ◌+◌, true, false, cond, ◌≤◌, [], sym, ap, ◌∙◌, subst, arith}
 use Rattle.study_script.specs.Replies.{IsReply}
 use Rattle.study_script.specs.Held.{Answered, BrokenOff}
-use Rattle.study_script.proofs.LineTaken.{has_more, has_none, gave-more, gave-same}
+use Rattle.study_command.proofs.LineTaken.{has_more, has_none, gave-more, gave-same}
 use Rattle.study_script.proofs.FirstLines.{Ran, RanOn-more, ran_ends, ran_long, ran_many, ran_read, ran_write}
 use Rattle.study_script.proofs.run.run_in.Goals as goal
 use Rattle.study_script.proofs.run.run_in.Goals.{then-was_refused, else-was_refused}
@@ -97,4 +97,4 @@ returns-in-Err-Device-clause-outcome g c = λ first h.
     let left = g.R.Read.remaining c.read.new.script in
     ran_read left script now (g.W.Write.contents c.args.out.now) (g.W.Write.contents c.loop-n.out) first on.state
     c.loop-n.n c.loop-n.refused on.ran (omega arith)
-    (gave-same script now left c.loop-n.n c.loop-n.invariant.2 (c.in-Err-Device.ensures.no_feed cc))
+    (gave-same script now left c.loop-n.n c.loop-n.invariant.2 (c.in-Err-Device.ensures.no_feed cc)) (c.in-Err-Device.ensures.no_feed cc)

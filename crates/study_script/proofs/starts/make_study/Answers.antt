@@ -1,12 +1,12 @@
 use Rattle.std.proofs.Common.{refl}
 use Rattle.study_tablefile.proofs.TextTaken.{OnErr-known}
 use Rattle.study_marks.specs.Asked.{asked_at}
-use Rattle.study_script.specs.Words.{stipulation_text}
+use Rattle.study_script.specs.Words.{stipulation_words}
 use Rattle.study_script.specs.Names.{edit_words}
 use Rattle.study_script.specs.State.{Outside, quiet, start}
 use Rattle.study_script.specs.Held.{BrokenOff, tables_held, are_paged}
-use Rattle.study_script.specs.Replies.{accepted, refused_by, holding, new_study, IsStipulateReply}
-use Rattle.study_script.proofs.AskingEdits.{refused_outside, accepted_outside}
+use Rattle.study_script.specs.Replies.{accepted, refused_as, holding, new_study, IsStipulateReply}
+use Rattle.study_script.proofs.AskingEdits.{refused_asking, accepted_outside}
 use Rattle.study_script.proofs.Boards.{study_made, board_same}
 use Rattle.study_script.proofs.starts.make_study.Goals as goal
 
@@ -14,7 +14,7 @@ pub returns-in_err-put_stipulation-in-Ok-clause-err : goal.returns-in_err-put_st
 returns-in_err-put_stipulation-in-Ok-clause-err g c = λ s h.
     let asked = asked_at c.args.start.position in
     let new = new_study c.args.start c.args.stipulation.now in
-    let said = stipulation_text c.args.stipulation.now in
+    let said = stipulation_words c.args.stipulation.now in
     let tables = c.args.tables.now in
     let others = c.new_bench.new.tables in
     let part : BrokenOff (λ (o : Outside). IsStipulateReply s o (start c.args.start) c.args.stipulation.now)
@@ -30,7 +30,7 @@ pub returns-in_ok-put_stipulation-in-Ok-clause-ok : goal.returns-in_ok-put_stipu
 returns-in_ok-put_stipulation-in-Ok-clause-ok g c = λ s h.
     let asked = asked_at c.args.start.position in
     let new = new_study c.args.start c.args.stipulation.now in
-    let said = stipulation_text c.args.stipulation.now in
+    let said = stipulation_words c.args.stipulation.now in
     let tables = c.args.tables.now in
     let others = c.new_bench.new.tables in (
       quiet,
@@ -48,27 +48,27 @@ pub returns-in_err-refuse_edit-in-Err-clause-err : goal.returns-in_err-refuse_ed
 returns-in_err-refuse_edit-in-Err-clause-err g c = λ s h.
     let asked = asked_at c.args.start.position in
     let new = new_study c.args.start c.args.stipulation.now in
-    let said = stipulation_text c.args.stipulation.now in
+    let said = stipulation_words c.args.stipulation.now in
     let tables = c.args.tables.now in
     let others = c.new_bench.new.tables in
-    let told = refused_outside g.row.A.Denot s (tables_held tables) (are_paged tables) asked new said
-    c.in-Err.refusal h.classes h.paged c.in-Err.ensures.refusal c.in-Err.ensures.device in
+    let told = refused_asking g.row.A.Denot s (tables_held tables) (are_paged tables) asked new said
+    c.in-Err.refusal h.classes h.paged c.in-Err.ensures.refusal c.in-Err.ensures.device c.in-Err.ensures.takes_no_memory in
     let part : BrokenOff (λ (o : Outside). IsStipulateReply s o (start c.args.start) c.args.stipulation.now)
     (g.W.Write.contents c.args.out.now) (g.W.Write.contents c.refuse_edit.new.out) =
-    (told.0, refused_by s (edit_words c.in-Err.refusal), told.1, c.in_err-refuse_edit-in-Err.ensures.err) in
+    (told.0, refused_as s (edit_words c.in-Err.refusal), told.1, c.in_err-refuse_edit-in-Err.ensures.err) in
     OnErr-known _ _ part
 
 pub returns-in_ok-refuse_edit-in-Err-clause-ok : goal.returns-in_ok-refuse_edit-in-Err-clause-ok
 returns-in_ok-refuse_edit-in-Err-clause-ok g c = λ s h.
     let asked = asked_at c.args.start.position in
     let new = new_study c.args.start c.args.stipulation.now in
-    let said = stipulation_text c.args.stipulation.now in
+    let said = stipulation_words c.args.stipulation.now in
     let tables = c.args.tables.now in
     let others = c.new_bench.new.tables in
-    let told = refused_outside g.row.A.Denot s (tables_held tables) (are_paged tables) asked new said
-    c.in-Err.refusal h.classes h.paged c.in-Err.ensures.refusal c.in-Err.ensures.device in (
+    let told = refused_asking g.row.A.Denot s (tables_held tables) (are_paged tables) asked new said
+    c.in-Err.refusal h.classes h.paged c.in-Err.ensures.refusal c.in-Err.ensures.device c.in-Err.ensures.takes_no_memory in (
       told.0,
-      refused_by s (edit_words c.in-Err.refusal),
+      refused_as s (edit_words c.in-Err.refusal),
       told.1,
       c.in_ok-refuse_edit-in-Err.ensures.ok,
       board_same g.P.PageSource.honest c.args.board.now tables others s h (c.new_bench.ensures.honest h.values)

@@ -1,7 +1,7 @@
 use Rattle.std.proofs.Common.{sym, subst}
 use Rattle.study_notation.specs.Fen.{start_of}
-use Rattle.study_script.specs.declared.command.FenWord.{FenWord}
-use Rattle.study_script.specs.declared.command.FenWord.TheVariants.{Position, Shift}
+use Rattle.study_command.specs.declared.command.FenWord.{FenWord}
+use Rattle.study_command.specs.declared.command.FenWord.TheVariants.{Position, Shift}
 use Rattle.study_script.specs.State.{Outside}
 use Rattle.study_script.specs.Held.{Holds}
 use Rattle.study_script.specs.Replies.{IsStartReply}

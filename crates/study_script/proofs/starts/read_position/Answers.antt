@@ -3,7 +3,7 @@ use Rattle.study_tablefile.proofs.TextTaken.{OnErr-known}
 use Rattle.study_notation.specs.declared.start.Start.{Start}
 use Rattle.study_notation.specs.declared.fault.FenFault.{FenFault}
 use Rattle.study_notation.specs.Fen.{start_of}
-use Rattle.study_script.specs.declared.command.FenWord.TheVariants.{Position}
+use Rattle.study_command.specs.declared.command.FenWord.TheVariants.{Position}
 use Rattle.study_script.specs.declared.refusal.Refusal.TheVariants.{Fen}
 use Rattle.study_script.specs.State.{Outside, quiet}
 use Rattle.study_script.specs.Held.{Holds, BrokenOff}

@@ -8,12 +8,12 @@ use Rattle.study_marks.specs.Study.{plain_study}
 use Rattle.study_marks.specs.Kept.{marked}
 use Rattle.study_marks.specs.Asked.{asked_at}
 use Rattle.study_marks.specs.Edits.{positioned}
-use Rattle.study_script.specs.Words.{line_text}
+use Rattle.study_script.specs.Words.{reply_line}
 use Rattle.study_script.specs.Names.{edit_words}
 use Rattle.study_script.specs.State.{quiet}
 use Rattle.study_script.specs.Held.{tables_held, are_paged}
-use Rattle.study_script.specs.Replies.{accepted, refused_by, holding}
-use Rattle.study_script.proofs.AskingEdits.{refused_outside, accepted_outside}
+use Rattle.study_script.specs.Replies.{accepted, refused_as, holding}
+use Rattle.study_script.proofs.AskingEdits.{refused_asking, accepted_outside}
 use Rattle.study_script.proofs.HeldBehindReplies.{study_edited, study_same}
 use Rattle.study_script.specs.Held.{BrokenOff}
 use Rattle.study_script.specs.State.{Outside, study}
@@ -24,7 +24,7 @@ pub returns-in_err-put_line-in-Ok-clause-err : goal.returns-in_err-put_line-in-O
 returns-in_err-put_line-in-Ok-clause-err g c = λ s h.
     let start = c.args.start in
     let new = positioned (plain_study (marked c.args.bench.now)) start in
-    let said = line_text (codes "position ") (fen_text start) in
+    let said = reply_line (codes "position ") (fen_text start) in
     let asked = asked_at start.position in
     let tables = c.args.tables.now in
     let text : c.as_bytes.result.now ≡ fen_text start = c.as_bytes.ensures.value ∙ c.as_str.ensures.value ∙ c.write_fen-text.ensures in
@@ -36,14 +36,14 @@ returns-in_err-put_line-in-Ok-clause-err g c = λ s h.
           c.in-Ok.ensures.found,
       subst
           (λ (t : List ℕ). TakesPrefix (g.W.Write.contents c.args.out.now) (g.W.Write.contents c.put_line.new.out)
-          (line_text (codes "position ") t)) text c.in_err-put_line-in-Ok.ensures.err,
+          (reply_line (codes "position ") t)) text c.in_err-put_line-in-Ok.ensures.err,
     ) in OnErr-known _ _ part
 
 pub returns-in_ok-put_line-in-Ok-clause-ok : goal.returns-in_ok-put_line-in-Ok-clause-ok
 returns-in_ok-put_line-in-Ok-clause-ok g c = λ s h.
     let start = c.args.start in
     let new = positioned (plain_study (marked c.args.bench.now)) start in
-    let said = line_text (codes "position ") (fen_text start) in
+    let said = reply_line (codes "position ") (fen_text start) in
     let asked = asked_at start.position in
     let tables = c.args.tables.now in
     let text : c.as_bytes.result.now ≡ fen_text start = c.as_bytes.ensures.value ∙ c.as_str.ensures.value ∙ c.write_fen-text.ensures in (
@@ -51,7 +51,7 @@ returns-in_ok-put_line-in-Ok-clause-ok g c = λ s h.
       accepted (holding s new) said,
       accepted_outside s (tables_held tables) asked new said h.classes c.in-Ok.ensures.found,
       subst (λ (t : List ℕ). Appends (g.W.Write.contents c.args.out.now) (g.W.Write.contents c.put_line.new.out)
-          (line_text (codes "position ") t)) text c.in_ok-put_line-in-Ok.ensures.ok,
+          (reply_line (codes "position ") t)) text c.in_ok-put_line-in-Ok.ensures.ok,
       study_edited g.P.PageSource.honest c.args.bench.now c.set_position.new.bench tables c.set_position.new.tables
           s new h c.in-Ok.ensures.edited (c.in-Ok.ensures.right h.values) (c.set_position.ensures.honest h.values)
           c.set_position.ensures.tables c.set_position.ensures.mode,
@@ -62,27 +62,27 @@ pub returns-in_err-refuse_edit-in-Err-clause-err : goal.returns-in_err-refuse_ed
 returns-in_err-refuse_edit-in-Err-clause-err g c = λ s h.
     let start = c.args.start in
     let new = positioned (plain_study (marked c.args.bench.now)) start in
-    let said = line_text (codes "position ") (fen_text start) in
+    let said = reply_line (codes "position ") (fen_text start) in
     let asked = asked_at start.position in
     let tables = c.args.tables.now in
-    let out = refused_outside g.row.A.Denot s (tables_held tables) (are_paged tables) asked new said
-    c.in-Err.refusal h.classes h.paged c.in-Err.ensures.refusal c.in-Err.ensures.device in
+    let out = refused_asking g.row.A.Denot s (tables_held tables) (are_paged tables) asked new said
+    c.in-Err.refusal h.classes h.paged c.in-Err.ensures.refusal c.in-Err.ensures.device c.in-Err.ensures.takes_no_memory in
     let part : BrokenOff (λ (o : Outside). IsPositionReply s o (study (plain_study (marked c.args.bench.now)))
     start) (g.W.Write.contents c.args.out.now) (g.W.Write.contents c.refuse_edit.new.out) =
-    (out.0, refused_by s (edit_words c.in-Err.refusal), out.1, c.in_err-refuse_edit-in-Err.ensures.err) in
+    (out.0, refused_as s (edit_words c.in-Err.refusal), out.1, c.in_err-refuse_edit-in-Err.ensures.err) in
     OnErr-known _ _ part
 
 pub returns-in_ok-refuse_edit-in-Err-clause-ok : goal.returns-in_ok-refuse_edit-in-Err-clause-ok
 returns-in_ok-refuse_edit-in-Err-clause-ok g c = λ s h.
     let start = c.args.start in
     let new = positioned (plain_study (marked c.args.bench.now)) start in
-    let said = line_text (codes "position ") (fen_text start) in
+    let said = reply_line (codes "position ") (fen_text start) in
     let asked = asked_at start.position in
     let tables = c.args.tables.now in
-    let out = refused_outside g.row.A.Denot s (tables_held tables) (are_paged tables) asked new said
-    c.in-Err.refusal h.classes h.paged c.in-Err.ensures.refusal c.in-Err.ensures.device in (
+    let out = refused_asking g.row.A.Denot s (tables_held tables) (are_paged tables) asked new said
+    c.in-Err.refusal h.classes h.paged c.in-Err.ensures.refusal c.in-Err.ensures.device c.in-Err.ensures.takes_no_memory in (
       out.0,
-      refused_by s (edit_words c.in-Err.refusal),
+      refused_as s (edit_words c.in-Err.refusal),
       out.1,
       c.in_ok-refuse_edit-in-Err.ensures.ok,
       study_same g.P.PageSource.honest c.args.bench.now c.set_position.new.bench tables c.set_position.new.tables s

@@ -5,7 +5,7 @@ use Rattle.study_notation.specs.FenSpelling.{fen_text}
 use Rattle.study_marks.specs.Study.{plain_study}
 use Rattle.study_marks.specs.Kept.{marked}
 use Rattle.study_script.specs.declared.board.Board.TheVariants as held
-use Rattle.study_script.specs.Words.{line_text}
+use Rattle.study_script.specs.Words.{reply_line}
 use Rattle.study_script.specs.State.{Board, Outside, quiet, start, study}
 use Rattle.study_script.specs.Held.{Holds}
 use Rattle.study_script.specs.Replies.{accepted, IsPositionReply}
@@ -41,10 +41,10 @@ pub returns-in-Empty-clause-ok : goal.returns-in-Empty-clause-ok
 returns-in-Empty-clause-ok g c = λ s h. accepted_ok (λ (o : Outside). IsPositionReply s o s.board c.args.start)
     (Holds g.P.PageSource.honest c.hold_start.new.board c.args.tables.now) c.hold_start.result
     (record s { board = start c.args.start }) (g.W.Write.contents c.args.out.now)
-    (g.W.Write.contents c.hold_start.new.out) (line_text (codes "position ") (fen_text c.args.start)) quiet
+    (g.W.Write.contents c.hold_start.new.out) (reply_line (codes "position ") (fen_text c.args.start)) quiet
     (subst
     (λ (x : Board). IsPositionReply s quiet x c.args.start
-    (accepted (record s { board = start c.args.start }) (line_text (codes "position ") (fen_text c.args.start))))
+    (accepted (record s { board = start c.args.start }) (reply_line (codes "position ") (fen_text c.args.start))))
     (seen_of g.P.PageSource.honest c.args.board.now held.Empty c.args.tables.now s c.in-Empty.is h) refl)
     c.hold_start.ensures.ok
     (on_ok_weaker _ (λ e. start_held g.P.PageSource.honest c.args.board.now c.hold_start.new.board c.args.tables.now s
@@ -53,10 +53,10 @@ returns-in-Empty-clause-ok g c = λ s h. accepted_ok (λ (o : Outside). IsPositi
 pub returns-in-Empty-clause-err : goal.returns-in-Empty-clause-err
 returns-in-Empty-clause-err g c = λ s h. accepted_err (λ (o : Outside). IsPositionReply s o s.board c.args.start)
     c.hold_start.result (record s { board = start c.args.start }) (g.W.Write.contents c.args.out.now)
-    (g.W.Write.contents c.hold_start.new.out) (line_text (codes "position ") (fen_text c.args.start)) quiet
+    (g.W.Write.contents c.hold_start.new.out) (reply_line (codes "position ") (fen_text c.args.start)) quiet
     (subst
     (λ (x : Board). IsPositionReply s quiet x c.args.start
-    (accepted (record s { board = start c.args.start }) (line_text (codes "position ") (fen_text c.args.start))))
+    (accepted (record s { board = start c.args.start }) (reply_line (codes "position ") (fen_text c.args.start))))
     (seen_of g.P.PageSource.honest c.args.board.now held.Empty c.args.tables.now s c.in-Empty.is h) refl)
     c.hold_start.ensures.err
 
@@ -64,10 +64,10 @@ pub returns-in-Start-clause-ok : goal.returns-in-Start-clause-ok
 returns-in-Start-clause-ok g c = λ s h. accepted_ok (λ (o : Outside). IsPositionReply s o s.board c.args.start)
     (Holds g.P.PageSource.honest c.hold_start-in-Start.new.board c.args.tables.now) c.hold_start-in-Start.result
     (record s { board = start c.args.start }) (g.W.Write.contents c.args.out.now)
-    (g.W.Write.contents c.hold_start-in-Start.new.out) (line_text (codes "position ") (fen_text c.args.start)) quiet
+    (g.W.Write.contents c.hold_start-in-Start.new.out) (reply_line (codes "position ") (fen_text c.args.start)) quiet
     (subst
     (λ (x : Board). IsPositionReply s quiet x c.args.start
-    (accepted (record s { board = start c.args.start }) (line_text (codes "position ") (fen_text c.args.start))))
+    (accepted (record s { board = start c.args.start }) (reply_line (codes "position ") (fen_text c.args.start))))
     (seen_of g.P.PageSource.honest c.args.board.now (held.Start c.in-Start.field-0) c.args.tables.now s
     c.in-Start.is h) refl) c.hold_start-in-Start.ensures.ok
     (on_ok_weaker _ (λ e. start_held g.P.PageSource.honest c.args.board.now c.hold_start-in-Start.new.board
@@ -77,9 +77,9 @@ returns-in-Start-clause-ok g c = λ s h. accepted_ok (λ (o : Outside). IsPositi
 pub returns-in-Start-clause-err : goal.returns-in-Start-clause-err
 returns-in-Start-clause-err g c = λ s h. accepted_err (λ (o : Outside). IsPositionReply s o s.board c.args.start)
     c.hold_start-in-Start.result (record s { board = start c.args.start }) (g.W.Write.contents c.args.out.now)
-    (g.W.Write.contents c.hold_start-in-Start.new.out) (line_text (codes "position ") (fen_text c.args.start)) quiet
+    (g.W.Write.contents c.hold_start-in-Start.new.out) (reply_line (codes "position ") (fen_text c.args.start)) quiet
     (subst
     (λ (x : Board). IsPositionReply s quiet x c.args.start
-    (accepted (record s { board = start c.args.start }) (line_text (codes "position ") (fen_text c.args.start))))
+    (accepted (record s { board = start c.args.start }) (reply_line (codes "position ") (fen_text c.args.start))))
     (seen_of g.P.PageSource.honest c.args.board.now (held.Start c.in-Start.field-0) c.args.tables.now s
     c.in-Start.is h) refl) c.hold_start-in-Start.ensures.err

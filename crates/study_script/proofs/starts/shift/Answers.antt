@@ -8,11 +8,11 @@ use Rattle.study_marks.specs.Study.{plain_study}
 use Rattle.study_marks.specs.Kept.{marked}
 use Rattle.study_marks.specs.Asked.{asked_of}
 use Rattle.study_marks.specs.Edits.{shifted, shift_refusal}
-use Rattle.study_script.specs.Words.{line_text}
+use Rattle.study_script.specs.Words.{reply_line}
 use Rattle.study_script.specs.Names.{edit_words}
 use Rattle.study_script.specs.State.{quiet}
 use Rattle.study_script.specs.Held.{tables_held, are_paged}
-use Rattle.study_script.specs.Replies.{accepted, refused_by, holding}
+use Rattle.study_script.specs.Replies.{accepted, refused_as, holding}
 use Rattle.study_script.proofs.AskingEdits.{accepted_outside}
 use Rattle.study_script.proofs.ShiftReplies.{unbroken, shift_refused}
 use Rattle.study_script.proofs.HeldBehindReplies.{study_edited, study_same}
@@ -27,7 +27,7 @@ returns-in_err-put_line-in-Ok-clause-err g c = λ s h.
     let old = plain_study (marked c.args.bench.now) in
     let new = shifted old start in
     let reason = shift_refusal {A = Unit {0}} old start in
-    let said = line_text (codes "shift ") (fen_text start) in
+    let said = reply_line (codes "shift ") (fen_text start) in
     let asked = asked_of new in
     let tables = c.args.tables.now in
     let text : c.as_bytes.result.now ≡ fen_text start = c.as_bytes.ensures.value ∙ c.as_str.ensures.value ∙ c.write_fen-text.ensures in
@@ -40,7 +40,7 @@ returns-in_err-put_line-in-Ok-clause-err g c = λ s h.
           (accepted_outside s (tables_held tables) asked new said h.classes c.in-Ok.ensures.found),
       subst
           (λ (t : List ℕ). TakesPrefix (g.W.Write.contents c.args.out.now) (g.W.Write.contents c.put_line.new.out)
-          (line_text (codes "shift ") t)) text c.in_err-put_line-in-Ok.ensures.err,
+          (reply_line (codes "shift ") t)) text c.in_err-put_line-in-Ok.ensures.err,
     ) in OnErr-known _ _ part
 
 pub returns-in_ok-put_line-in-Ok-clause-ok : goal.returns-in_ok-put_line-in-Ok-clause-ok
@@ -49,7 +49,7 @@ returns-in_ok-put_line-in-Ok-clause-ok g c = λ s h.
     let old = plain_study (marked c.args.bench.now) in
     let new = shifted old start in
     let reason = shift_refusal {A = Unit {0}} old start in
-    let said = line_text (codes "shift ") (fen_text start) in
+    let said = reply_line (codes "shift ") (fen_text start) in
     let asked = asked_of new in
     let tables = c.args.tables.now in
     let text : c.as_bytes.result.now ≡ fen_text start = c.as_bytes.ensures.value ∙ c.as_str.ensures.value ∙ c.write_fen-text.ensures in (
@@ -59,7 +59,7 @@ returns-in_ok-put_line-in-Ok-clause-ok g c = λ s h.
           (sym (unbroken (Unit {0}) (marked c.args.bench.now) start c.in-Ok.ensures.broken))
           (accepted_outside s (tables_held tables) asked new said h.classes c.in-Ok.ensures.found),
       subst (λ (t : List ℕ). Appends (g.W.Write.contents c.args.out.now) (g.W.Write.contents c.put_line.new.out)
-          (line_text (codes "shift ") t)) text c.in_ok-put_line-in-Ok.ensures.ok,
+          (reply_line (codes "shift ") t)) text c.in_ok-put_line-in-Ok.ensures.ok,
       study_edited g.P.PageSource.honest c.args.bench.now c.shift_position.new.bench tables
           c.shift_position.new.tables s new h c.in-Ok.ensures.edited (c.in-Ok.ensures.right h.values)
           (c.shift_position.ensures.honest h.values) c.shift_position.ensures.tables c.shift_position.ensures.mode,
@@ -72,14 +72,14 @@ returns-in_err-refuse_edit-in-Err-clause-err g c = λ s h.
     let old = plain_study (marked c.args.bench.now) in
     let new = shifted old start in
     let reason = shift_refusal {A = Unit {0}} old start in
-    let said = line_text (codes "shift ") (fen_text start) in
+    let said = reply_line (codes "shift ") (fen_text start) in
     let asked = asked_of new in
     let tables = c.args.tables.now in
     let out = shift_refused g.row.A.Denot s (tables_held tables) (are_paged tables) old start c.in-Err.refusal
     h.classes h.paged c.in-Err.ensures.refusal c.in-Err.ensures.device in
     let part : BrokenOff (λ (o : Outside). IsShiftReply s o old start reason) (g.W.Write.contents c.args.out.now)
     (g.W.Write.contents c.refuse_edit.new.out) =
-    (out.0, refused_by s (edit_words c.in-Err.refusal), out.1, c.in_err-refuse_edit-in-Err.ensures.err) in
+    (out.0, refused_as s (edit_words c.in-Err.refusal), out.1, c.in_err-refuse_edit-in-Err.ensures.err) in
     OnErr-known _ _ part
 
 pub returns-in_ok-refuse_edit-in-Err-clause-ok : goal.returns-in_ok-refuse_edit-in-Err-clause-ok
@@ -88,13 +88,13 @@ returns-in_ok-refuse_edit-in-Err-clause-ok g c = λ s h.
     let old = plain_study (marked c.args.bench.now) in
     let new = shifted old start in
     let reason = shift_refusal {A = Unit {0}} old start in
-    let said = line_text (codes "shift ") (fen_text start) in
+    let said = reply_line (codes "shift ") (fen_text start) in
     let asked = asked_of new in
     let tables = c.args.tables.now in
     let out = shift_refused g.row.A.Denot s (tables_held tables) (are_paged tables) old start c.in-Err.refusal
     h.classes h.paged c.in-Err.ensures.refusal c.in-Err.ensures.device in (
       out.0,
-      refused_by s (edit_words c.in-Err.refusal),
+      refused_as s (edit_words c.in-Err.refusal),
       out.1,
       c.in_ok-refuse_edit-in-Err.ensures.ok,
       study_same g.P.PageSource.honest c.args.bench.now c.shift_position.new.bench tables

@@ -5,7 +5,7 @@ use Rattle.study_notation.specs.declared.fault.FenFault.{FenFault}
 use Rattle.study_notation.specs.Fen.{start_of}
 use Rattle.study_marks.specs.Study.{plain_study}
 use Rattle.study_marks.specs.Kept.{marked}
-use Rattle.study_script.specs.declared.command.FenWord.TheVariants.{Shift}
+use Rattle.study_command.specs.declared.command.FenWord.TheVariants.{Shift}
 use Rattle.study_script.specs.declared.board.Board.TheVariants as held
 use Rattle.study_script.specs.declared.refusal.Refusal.TheVariants.{Fen}
 use Rattle.study_script.specs.State.{Outside, quiet, study}

@@ -5,7 +5,7 @@ use Rattle.study_marks.specs.Kept.{marked}
 use Rattle.study_marks.specs.Edits.{stipulated}
 use Rattle.study_script.specs.declared.board.Board.TheVariants as held
 use Rattle.study_script.specs.declared.refusal.Refusal.TheVariants.{NoPosition}
-use Rattle.study_script.specs.Words.{stipulation_text}
+use Rattle.study_script.specs.Words.{stipulation_words}
 use Rattle.study_script.specs.State.{Board, Outside, quiet, start}
 use Rattle.study_script.specs.Held.{Holds, BrokenOff}
 use Rattle.study_script.specs.Replies.{accepted, refused, holding, IsStipulateReply}
@@ -19,11 +19,11 @@ returns-in-Study-clause-ok g c =
     (Holds g.P.PageSource.honest (held.Study c.restipulate.new.bench) c.args.tables.now) c.restipulate.result
     (holding s (stipulated (plain_study (marked c.in-Study.bench)) c.args.stipulation.now))
     (g.W.Write.contents c.args.out.now) (g.W.Write.contents c.restipulate.new.out)
-    (stipulation_text c.args.stipulation.now) quiet
+    (stipulation_words c.args.stipulation.now) quiet
     (subst
     (λ (x : Board). IsStipulateReply s quiet x c.args.stipulation.now
     (accepted (holding s (stipulated (plain_study (marked c.in-Study.bench)) c.args.stipulation.now))
-    (stipulation_text c.args.stipulation.now)))
+    (stipulation_words c.args.stipulation.now)))
     (seen_of g.P.PageSource.honest c.args.board.now (held.Study c.in-Study.bench) c.args.tables.now s
     c.in-Study.is h) refl) c.restipulate.ensures.ok
     (on_ok_known _ (study_held g.P.PageSource.honest c.in-Study.bench c.restipulate.new.bench c.args.tables.now s
@@ -38,11 +38,11 @@ returns-in-Study-clause-err g c =
     λ s h. accepted_err (λ (o : Outside). IsStipulateReply s o s.board c.args.stipulation.now) c.restipulate.result
     (holding s (stipulated (plain_study (marked c.in-Study.bench)) c.args.stipulation.now))
     (g.W.Write.contents c.args.out.now) (g.W.Write.contents c.restipulate.new.out)
-    (stipulation_text c.args.stipulation.now) quiet
+    (stipulation_words c.args.stipulation.now) quiet
     (subst
     (λ (x : Board). IsStipulateReply s quiet x c.args.stipulation.now
     (accepted (holding s (stipulated (plain_study (marked c.in-Study.bench)) c.args.stipulation.now))
-    (stipulation_text c.args.stipulation.now)))
+    (stipulation_words c.args.stipulation.now)))
     (seen_of g.P.PageSource.honest c.args.board.now (held.Study c.in-Study.bench) c.args.tables.now s
     c.in-Study.is h) refl) c.restipulate.ensures.err
 

@@ -4,16 +4,16 @@ use Rattle.study_material.specs.declared.class.Class.{Class}
 use Rattle.study_material.specs.Class.{name_of}
 use Rattle.study_index.specs.Number.{cells_of}
 use Rattle.study_tablefile.specs.Taken.{TakesPrefix}
-use Rattle.study_script.specs.Words.{line_text, win_text, built_text}
+use Rattle.study_script.specs.Words.{reply_line, win_text, built_text}
 use Rattle.study_script.proofs.told.put_built.Goals as goal
 
 built_as : (c : Class) (win : Option ℕ) (name cells w : List ℕ) → name ≡ name_of c → cells ≡ decimal (cells_of c)
-    → w ≡ win_text win → codes "built " ++ (name ++ (codes " cells " ++ (cells ++ line_text (codes " win ") w)))
+    → w ≡ win_text win → codes "built " ++ (name ++ (codes " cells " ++ (cells ++ reply_line (codes " win ") w)))
     ≡ built_text c win
 built_as c win name cells w e f k =
-    ap (λ (t : List ℕ). codes "built " ++ (t ++ (codes " cells " ++ (cells ++ line_text (codes " win ") w)))) e
-    ∙ ap (λ (t : List ℕ). codes "built " ++ (name_of c ++ (codes " cells " ++ (t ++ line_text (codes " win ") w)))) f
-    ∙ ap (λ (t : List ℕ). codes "built " ++ (name_of c ++ (codes " cells " ++ (decimal (cells_of c) ++ line_text (codes " win ") t)))) k
+    ap (λ (t : List ℕ). codes "built " ++ (t ++ (codes " cells " ++ (cells ++ reply_line (codes " win ") w)))) e
+    ∙ ap (λ (t : List ℕ). codes "built " ++ (name_of c ++ (codes " cells " ++ (t ++ reply_line (codes " win ") w)))) f
+    ∙ ap (λ (t : List ℕ). codes "built " ++ (name_of c ++ (codes " cells " ++ (decimal (cells_of c) ++ reply_line (codes " win ") t)))) k
 
 pub returns-in-None-clause-err : goal.returns-in-None-clause-err
 returns-in-None-clause-err g c =

@@ -2,7 +2,7 @@ use Rattle.std.proofs.Common.{ℕ, ◌++◌, subst}
 use Rattle.std.specs.Prelude.{codes, decimal, OnErr}
 use Rattle.study_material.specs.Class.{name_of}
 use Rattle.study_tablefile.specs.Taken.{TakesPrefix}
-use Rattle.study_script.specs.Words.{line_text}
+use Rattle.study_script.specs.Words.{reply_line}
 use Rattle.study_script.proofs.told.put_done.Goals as goal
 
 pub returns-in-Built-clause-err : goal.returns-in-Built-clause-err
@@ -14,5 +14,5 @@ returns-in-Loaded-clause-err g c =
     (subst
     (λ (n : ℕ). OnErr c.put_size.result
     (TakesPrefix (g.W.Write.contents c.args.out.now) (g.W.Write.contents c.put_size.new.out)
-    (codes "loaded " ++ (name_of c.in-Loaded.class ++ line_text (codes " cells ") (decimal n)))))
+    (codes "loaded " ++ (name_of c.in-Loaded.class ++ reply_line (codes " cells ") (decimal n)))))
     c.cells.ensures c.put_size.ensures.err)

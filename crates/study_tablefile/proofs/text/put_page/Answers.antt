@@ -9,7 +9,7 @@ unfolding page_text
 returns-in_err-put-clause-err g c =
     let cells = page_cells_of c.args.cells.now in
     OnErr-known c.from_residual.result _ (stops_first _ _ (page_text c.args.fields.now c.args.number cells) _ cells
-    (page_digest c.args.fields.now c.args.number cells) refl (c.as_slice.ensures ∙ c.page_cells-cells.ensures)
+    (page_digest c.args.fields.now c.args.number cells) refl (c.as_slice.ensures ∙ c.padded_cells-cells.ensures)
     c.in_err-put.ensures.err)
 
 pub returns-clause-err : goal.returns-clause-err
@@ -17,7 +17,7 @@ unfolding page_text
 returns-clause-err g c =
     let cells = page_cells_of c.args.cells.now in
     let digest = c.as_slice-3.ensures ∙ c.page_digest.ensures ∙ ap (page_digest c.args.fields.now c.args.number)
-    (c.as_slice-2.ensures ∙ c.page_cells-cells.ensures) in
+    (c.as_slice-2.ensures ∙ c.padded_cells-cells.ensures) in
     on_err_weaker c.put-2.result (λ h. stops_second _ _ _ (page_text c.args.fields.now c.args.number cells) _ _
     cells (page_digest c.args.fields.now c.args.number cells) refl
-    (c.as_slice.ensures ∙ c.page_cells-cells.ensures) digest c.in_ok-put.ensures.ok h) c.put-2.ensures.err
+    (c.as_slice.ensures ∙ c.padded_cells-cells.ensures) digest c.in_ok-put.ensures.ok h) c.put-2.ensures.err

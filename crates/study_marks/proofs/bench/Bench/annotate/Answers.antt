@@ -9,7 +9,7 @@ use Rattle.study_marks.specs.Study.{plain_study, IsPlayable}
 use Rattle.study_marks.specs.Goals.{aim_of}
 use Rattle.study_marks.specs.Kept.{Kept, marked, AllAddUp}
 use Rattle.study_marks.specs.Edits.{shifted}
-use Rattle.study_marks.specs.Asked.{asked_of, AreHeld, IsOutside, HasStopped, is_of_tables, counted_times}
+use Rattle.study_marks.specs.Asked.{asked_of, AreTablesHeld, IsOutside, HasStopped, is_of_tables, counted_times}
 use Rattle.study_marks.specs.Bench.{kept_of}
 use Rattle.study_marks.specs.Renewal.{told_tree}
 use Rattle.study_marks.specs.Told.{AllAreTold}
@@ -62,7 +62,7 @@ pub returns-clause-found : goal.returns-clause-found
 returns-clause-found g c =
     let b = kept_of c.self.inside.start c.self.inside.stipulation c.self.inside.tags c.self.inside.tree in
     let same = asked-shifted b c.args.self.now c.args.start c.self.view_is in
-    record { each = subst (λ (ps : List Position). AreHeld (g.V.Values.held c.args.values.now) ps) same c.in_ok-all.ensures.found }
+    record { each = subst (λ (ps : List Position). AreTablesHeld (g.V.Values.held c.args.values.now) ps) same c.in_ok-all.ensures.found }
 
 pub returns-clause-edited : goal.returns-clause-edited
 returns-clause-edited g c =

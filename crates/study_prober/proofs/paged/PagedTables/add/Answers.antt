@@ -11,16 +11,13 @@ use Rattle.study_prober.specs.Told.{MayAnswer}
 use Rattle.study_prober.proofs.GivenPages.{given_with}
 use Rattle.std.proofs.lemmas.List.{length-set}
 use Rattle.study_prober.proofs.Faults.{fault_held, fault_other, fault_none, only_memory}
-use Rattle.study_prober.proofs.HeldSources.{alike_refl, kept_with, places_length, right_with, gives_more}
+use Rattle.study_prober.proofs.HeldSources.{kept_with, places_length, right_with, gives_more}
 use Rattle.study_prober.proofs.paged.PagedTables.add.Goals as goal
 
 pub returns-then-holds-clause-fault : goal.returns-then-holds-clause-fault
 returns-then-holds-clause-fault g c =
     fault_held (MayAnswer g.S.PageSource.gives g.S.PageSource.honest c.args.source)
     (is_some (held_of c.args.self.now.sources c.args.class)) c.args.class (sym c.holds.ensures ∙ c.if-holds.true)
-
-pub returns-then-holds-clause-last : goal.returns-then-holds-clause-last
-returns-then-holds-clause-last g c = (c.args.source, alike_refl g.S.PageSource.honest c.args.source, refl)
 
 pub returns-then-ne-clause-fault : goal.returns-then-ne-clause-fault
 returns-then-ne-clause-fault g c =

@@ -1,15 +1,15 @@
 use Rattle.std.proofs.Common.{◌∙◌, sym, ap, List, Option}
 use Rattle.study_material.specs.declared.class.Class.{Class}
 use Rattle.study_material.specs.Needs.{needs_of}
-use Rattle.study_retro.specs.Table.{Table, place_of}
+use Rattle.study_retro.specs.Table.{Table, class_place}
 use Rattle.study_retro.specs.Set.{first_missing}
 use Rattle.study_retro.proofs.SetLemmas.{closed_with}
 use Rattle.study_retro.proofs.set.TableSet.add.Goals as goal
 
 pub invariant_of-self : goal.invariant_of-self
 invariant_of-self g c =
-    closed_with c.self.inside.tables.items c.args.table c.place_of.result c.first_missing.result c.self.invariant c.class-class.ensures.complete
-    (c.place_of.ensures.value ∙ ap place_of c.class-class.ensures.value)
+    closed_with c.self.inside.tables.items c.args.table c.class_place.result c.first_missing.result c.self.invariant c.class-class.ensures.complete
+    (c.class_place.ensures.value ∙ ap class_place c.class-class.ensures.value)
     (c.first_missing.ensures ∙ ap (λ (x : Class). first_missing c.args.self.now (needs_of x))
     c.class-class.ensures.value
     ∙ ap (λ (held : List (Option Table)). first_missing held (needs_of c.args.table.class))

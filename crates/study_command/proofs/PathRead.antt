@@ -1,0 +1,34 @@
+-- Words that are read as paths.
+use Rattle.std.proofs.Common.{◌≡◌, ℕ, ◌+◌, ◌<◌, ◌≤◌, true, false, slice_index, take, drop, List, [], ◌∷◌, ◌++◌, length, Some, refl, ap, ◌∙◌, arith}
+use Rattle.std.specs.Prelude.{codes, ◌==◌}
+use Rattle.std.specs.List.{All}
+use Rattle.std.proofs.lemmas.List.{length-take}
+use Rattle.std.proofs.lemmas.Grind.{common_steps}
+use Rattle.std.proofs.lemmas.List.Splits.{slice_split_at, slice_split_none}
+use Rattle.std.specs.List.{list_all}
+use Rattle.std.specs.Str.{bytes_eq}
+use Rattle.std.specs.Str.Parse.{digits_value}
+use Rattle.study_command.specs.Paths.{is_place, place_told, places_in, is_path, is_path_word}
+
+-- a path that is not `root` has places
+pub other_form : (word : List ℕ) → is_path_word word ≡ true → bytes_eq word (codes "root") ≡ false → list_all is_place (places_in word) ≡ true
+unfolding is_path_word is_path
+other_form word h e = rw e at h
+
+pub place_is : (part : List ℕ) → is_place part ≡ true → place_told part ≡ Some (digits_value 10 part)
+unfolding place_told
+place_is part h = rw h refl
+
+-- what stands before the first point, and behind it
+pub cut_at : (word : List ℕ) (i : ℕ) → i < length word → slice_index word i ≡ 46
+    → ((k : ℕ) → k < i → (slice_index word k == 46) ≡ false)
+    → places_in word ≡ take i word ∷ places_in (drop (i + 1) word)
+cut_at word i lt point others =
+    let is_point = λ (b : ℕ). b == 46 in
+    let front : All (λ b. is_point b ≡ false) (take i word) = λ k d less. let other =
+    others k (omega (arith, length-take i word)) in grind (arith, common_steps) in
+    let whole : word ≡ take i word ++ slice_index word i ∷ drop (i + 1) word = grind (arith, common_steps) in
+    ap places_in whole ∙ slice_split_at is_point (take i word) (slice_index word i) (drop (i + 1) word) front (ap is_point point)
+
+pub cut_none : (word : List ℕ) (i : ℕ) → length word ≤ i → ((k : ℕ) → k < i → (slice_index word k == 46) ≡ false) → places_in word ≡ word ∷ []
+cut_none word i le others = slice_split_none (λ b. b == 46) word (λ k d less. let other = others k (omega arith) in grind (arith, common_steps))

@@ -1,0 +1,4 @@
+pub mod Paths
+pub mod Asking
+pub mod Lines
+pub mod Laws

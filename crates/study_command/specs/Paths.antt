@@ -1,0 +1,40 @@
+-- Paths as they are written in a script.
+use Rattle.std.specs.Prelude.{ℕ, Bool, ◌&&◌, ◌||◌, ◌==◌, nat_le, List, [], ◌∷◌, ◌++◌, length, map, codes, decimal, Option, Some, None, if◌then◌else◌}
+use Rattle.std.specs.List.{list_all, slice_split}
+use Rattle.std.specs.Str.{bytes_eq}
+use Rattle.std.specs.Str.Parse.{digits_value}
+use Rattle.study_notation.specs.Fen.{is_digit}
+
+-- one to three digits
+abbrev pub is_place : List ℕ → Bool
+is_place part = nat_le 1 (length part) && nat_le (length part) 3 && list_all is_digit part
+
+-- the number that one to three digits spell
+unfoldable pub place_told : List ℕ → Option ℕ
+place_told part = if is_place part then Some (digits_value 10 part) else None
+
+-- what stands between points
+abbrev pub places_in : List ℕ → List (List ℕ)
+places_in word = slice_split (λ b. b == 46) word
+
+-- child places joined by `.`
+unfoldable pub is_path : List ℕ → Bool
+is_path word = list_all is_place (places_in word)
+
+-- `root`, or a path
+unfoldable pub is_path_word : List ℕ → Bool
+is_path_word word = bytes_eq word (codes "root") || is_path word
+
+-- the places of the path, from the root on
+unfoldable pub steps_of : List ℕ → List ℕ
+steps_of word = if bytes_eq word (codes "root") then [] else map (digits_value 10) (places_in word)
+
+-- the places behind the first one, each behind a point
+abbrev pub more_places : List ℕ → List ℕ
+more_places [] = []
+more_places (k ∷ ks) = 46 ∷ (decimal k ++ more_places ks)
+
+-- how a path is printed: without leading zeros
+unfoldable pub path_text : List ℕ → List ℕ
+path_text [] = codes "root"
+path_text (k ∷ ks) = decimal k ++ more_places ks

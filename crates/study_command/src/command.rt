@@ -1,0 +1,97 @@
+//! The commands of a script.
+ghost use Rattle.std.specs.Prelude.{◌≡◌, ◌≤◌, true};
+ghost use Rattle.study_command.specs.Paths.{is_path_word};
+
+use study_marks::{Stipulation, TagName};
+use thiserror::Error;
+
+/// Commands that take a start.
+#[derive(Clone, Copy, Debug, PartialEq, Eq)]
+pub enum FenWord {
+    Position,
+    Shift,
+}
+
+/// Commands that take a node and nothing else, and need no study.
+#[derive(Clone, Copy, Debug, PartialEq, Eq)]
+pub enum NodeWord {
+    Moves,
+    Fen,
+}
+
+/// Commands that take a node of a study and nothing else.
+#[derive(Clone, Copy, Debug, PartialEq, Eq)]
+pub enum StudyWord {
+    Delete,
+    Promote,
+    Mark,
+}
+
+/// Commands that take a class of material.
+#[derive(Clone, Copy, Debug, PartialEq, Eq)]
+pub enum ClassWord {
+    Build,
+    Load,
+    Save,
+    Verify,
+}
+
+/// The first words of lines that ask for something.
+#[derive(Clone, Copy, Debug, PartialEq, Eq)]
+pub enum Word {
+    OfStart(FenWord),
+    AtNode(NodeWord),
+    AtStudy(StudyWord),
+    OfClass(ClassWord),
+    Stipulate,
+    Insert,
+    Tag,
+    Solve,
+    Pgn,
+}
+
+/// Why a line is no command: in this order, but that words behind `stipulate` of whatever number are no stipulation, and
+/// that the name of a tag is looked at before its text.
+#[derive(Clone, Copy, Debug, PartialEq, Eq, Error)]
+pub enum FormFault {
+    #[error("a byte outside printable ASCII")]
+    BadByte,
+    #[error("no such command")]
+    UnknownCommand,
+    #[error("the words behind the command are not of its form")]
+    BadArguments,
+    #[error("no such stipulation")]
+    UnknownStipulation,
+    #[error("no such tag")]
+    UnknownTag,
+}
+
+/// How many moves the side to move has for a forced mate: 1 to 3.
+#[derive(Clone, Copy, Debug, PartialEq, Eq)]
+pub struct MoveCount {
+    pub number: u8,
+    ghost low: { 1 ≤ number },
+    ghost high: { number ≤ 3 },
+}
+
+/// A path as it is written: `root`, or places of one to three digits joined by `.`.
+#[derive(Clone, Copy)]
+pub struct PathWord<'a> {
+    pub word: &'a [u8],
+    ghost form: { is_path_word word.now ≡ true },
+}
+
+/// A line that has a reply and no fault of form. Texts have no spaces at their ends.
+#[derive(Clone, Copy)]
+pub enum Command<'a> {
+    OfStart(FenWord, &'a str),
+    AtNode(NodeWord, PathWord<'a>),
+    AtStudy(StudyWord, PathWord<'a>),
+    /// With the name of a class, which may be none.
+    OfClass(ClassWord, &'a str),
+    Stipulate(Stipulation),
+    Insert(PathWord<'a>, &'a str),
+    Tag(TagName, &'a str),
+    Solve(MoveCount, PathWord<'a>),
+    Pgn,
+}

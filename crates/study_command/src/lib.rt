@@ -1,0 +1,16 @@
+//! What a line of a script asks for.
+//!
+//! `Line` reads the lines of a script one by one, `read_command` tells what a line asks for, or the first fault of its form,
+//! and `read_path` turns a path as it is written into places of children.
+#![tactic(auto)]
+
+mod asking;
+pub mod command;
+pub mod laws;
+pub mod lines;
+mod path_read;
+mod paths;
+mod words;
+
+pub use asking::read_command;
+pub use path_read::read_path;

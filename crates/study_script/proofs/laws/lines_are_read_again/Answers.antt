@@ -1,5 +1,0 @@
-use Rattle.study_script.proofs.LinesAgain.{lines-again, lines-again_returns}
-use Rattle.study_script.proofs.laws.lines_are_read_again.Goals as goal
-
-pub returns : goal.returns
-returns c = record { feeds = lines-again; returns = lines-again_returns }
