@@ -103,7 +103,7 @@ men_of pawns slots n = []
 abbrev pub side_of : ℕ → Side
 side_of n = if n == 0 then White else Black
 
--- the number is below the numbers of the class
+-- the number is below the numbers of the class (not part of any public contract)
 abbrev pub is_cell : List Slot → ℕ → Bool
 is_cell slots n = nat_lt (head slots n / places (slots_have_pawn slots)) 2
 

@@ -1,5 +1,5 @@
 //! The image of a square by its bits: the file in the low three, the rank in the high three.
-ghost use Rattle.std.specs.Prelude.{◌≡◌, ◌<◌, cond};
+ghost use Rattle.std.specs.Prelude.{◌≡◌, cond};
 ghost use Rattle.study_board.specs.Symmetry.{turned_square};
 ghost use Rattle.study_index.specs.Bits.{crossed, turned_bits};
 

@@ -1,5 +1,5 @@
 -- One edit of a bench, as a value.
-use Rattle.std.proofs.Common.{◌≡◌, ℕ, ◌+◌, List, length, Bool, true, false, Option, Some, None, refl, sym, ap, ◌∙◌, subst, arith}
+use Rattle.std.proofs.Common.{◌≡◌, ℕ, ◌+◌, List, length, Bool, Option, Some, None, refl, sym, ap, ◌∙◌, subst}
 use Rattle.std.specs.Prelude.{if◌then◌else◌, MatchOption, Result, Ok, Err, IfErr, OnOk, OnErr, IsErrAnd}
 use Rattle.study_material.specs.declared.class.Class.{Class}
 use Rattle.study_moves.specs.declared.moves.Move.{Move}

@@ -1,7 +1,7 @@
 -- Positions listed in written order, what is asked of them, and what is told.
 use Rattle.std.proofs.Common.{◌≡◌, ℕ, ◌+◌, ◌<◌, ◌≤◌, List, [], ◌∷◌, ◌++◌, length, get_or, take, drop}
 use Rattle.std.proofs.Common.{Bool, true, false, Some, Result, Ok, Err, is_ok, refl, sym, ap, ◌∙◌}
-use Rattle.std.proofs.Common.{◌⊎◌, arith, zero, suc, subst, inl, inr, append_assoc, length-append}
+use Rattle.std.proofs.Common.{arith, zero, suc, subst, inl, inr, append_assoc, length-append}
 use Rattle.std.specs.Prelude.{IfErr, IsErrAnd}
 use Rattle.study_board.specs.Position.{Position}
 use Rattle.study_material.specs.declared.class.Class.{Class}
@@ -16,7 +16,7 @@ use Rattle.study_marks.specs.declared.label.Label.{Label}
 use Rattle.study_marks.specs.declared.label.Told.{Told}
 use Rattle.study_marks.specs.Study.{mapped, IsPlayable}
 use Rattle.study_marks.specs.Bench.{played_by}
-use Rattle.study_marks.specs.Asked.{asked_at, asked_below, AreTablesHeld, IsFirstMissing, IsFaultAt, IsFirstUnread, counted_times}
+use Rattle.study_marks.specs.Asked.{asked_at, asked_below, AreTablesHeld, IsFirstMissing, IsFirstUnread, counted_times}
 use Rattle.study_marks.specs.Told.{IsToldOf, AreTold, AllAreTold, IsUntold, WasAsked}
 use Rattle.study_marks.specs.Renewal.{told_tree, below_at}
 use Rattle.study_marks.specs.Whole.{told_in, retold, retold_tree, firsts, positions_in, asked_each, AreToldOf}

@@ -1,5 +1,5 @@
 -- Values asked one after the other.
-use Rattle.std.proofs.Common.{◌≡◌, ℕ, ◌+◌, ◌≤◌, ◌<◌, ◌/◌, ◌⊎◌, List, [], ◌∷◌, ◌++◌, map, length, Bool, true}
+use Rattle.std.proofs.Common.{◌≡◌, ℕ, ◌+◌, ◌≤◌, ◌<◌, ◌/◌, List, [], ◌∷◌, ◌++◌, map, length, Bool, true}
 use Rattle.std.proofs.Common.{false, inl, inr, Result, Ok, Err, refl, sym, ap, ◌∙◌, arith, suc, subst}
 use Rattle.std.proofs.Common.{is_ok, OnOk, IfErr, IsErrOf, ◌↔◌, append_assoc, length-append}
 use Rattle.std.specs.List.{All}
@@ -18,7 +18,7 @@ use Rattle.study_board.specs.Counts.{counted}
 use Rattle.study_marks.specs.Annotated.{AreValuesAfter}
 use Rattle.study_marks.specs.Tally.{Tally, tally_of, with_value, with_last_value, joined}
 use Rattle.study_index.specs.Found.{index_of}
-use Rattle.study_marks.specs.Asked.{IsTableHeld, IsFirstMissing, IsFaultAt, IsFirstUnread, counted_times}
+use Rattle.study_marks.specs.Asked.{IsTableHeld, IsFirstMissing, IsFirstUnread, counted_times}
 use Rattle.study_marks.specs.Told.{IsUntold, WasAsked}
 
 -- one value more, counted before or after

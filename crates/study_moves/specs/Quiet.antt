@@ -40,7 +40,7 @@ pub record CanHaveLed (q : Position) (m : Move) : Type 0 where
 abbrev pub set_back : Man → ℕ → Man
 set_back man a = record { side = man.side; kind = man.kind; at = a }
 
--- the men, and the position, before a quiet move of the man from a square
+-- the men, and the position, before a quiet move of the man from a square (not part of any public contract)
 unfoldable pub men_before : List Man → Man → ℕ → List Man
 men_before men man a = placed (set_back man a) (filter (stays None man a) men)
 

@@ -1,5 +1,5 @@
 //! The positions before a quiet move: one that takes no man and promotes none.
-ghost use Rattle.std.specs.Prelude.{◌≡◌, ◌≢◌, ℕ, ◌<◌, ◌≤◌, ◌+◌, ◌⊎◌, ◌↔◌, ◌&&◌, ◌==◌, true, not, Some};
+ghost use Rattle.std.specs.Prelude.{◌≡◌, ◌≢◌, ℕ, ◌<◌, ◌≤◌, ◌+◌, ◌⊎◌, ◌↔◌, ◌&&◌, ◌==◌, true, Some};
 ghost use Rattle.std.specs.List.{Contains, AllPairs};
 ghost use Rattle.arrayvec.specs.ArrayVec.{array_vec_len};
 ghost use Rattle.study_moves.specs.declared.moves.Move.{Move as AMove};

@@ -1,4 +1,4 @@
--- What a contract sees of the fields of a text.
+-- Not part of any public contract: what a clause sees of the fields of a text.
 use Rattle.study_notation.specs.Fen.{Fields}
 use Rattle.study_notation.specs.declared.fields.FieldTexts.{FieldTexts}
 

@@ -1,5 +1,5 @@
 //! Values from pages of tables, read as they are asked and kept as far as there is room.
-ghost use Rattle.std.specs.Prelude.{◌≡◌, ◌≤◌, ◌/◌, ◌↔◌, ⊤, ℕ, List, Option, Result, [], Some};
+ghost use Rattle.std.specs.Prelude.{◌≡◌, ◌≤◌, ◌/◌, ◌↔◌, ℕ, List, Option, Result, [], Some};
 ghost use Rattle.std.specs.Prelude.{None, Ok, Err, true, false, is_some, IfOk, OnOk, OnErr};
 ghost use Rattle.std.specs.Prelude.{IsErrOf, length, slice_index, slice_set, replicate};
 ghost use Rattle.study_material.specs.declared.class.Class.{Class as AClass};

@@ -1,5 +1,5 @@
 //! Sets of tables, in which each table has the tables that it needs.
-ghost use Rattle.std.specs.Prelude.{◌≡◌, ◌≢◌, ◌↔◌, Some, None, IfOk, IfErr, IsOk, IsSome, IsTrue, OnOk, OnErr, IsErrAnd, MatchOption, List, Option, slice_set};
+ghost use Rattle.std.specs.Prelude.{◌≡◌, ◌↔◌, Some, None, IfOk, IfErr, IsOk, IsSome, IsTrue, OnOk, OnErr, IsErrAnd, MatchOption, List, Option, slice_set};
 ghost use Rattle.std.specs.Option.{option_copied};
 ghost use Rattle.study_material.specs.declared.class.Class.{Class as AClass};
 ghost use Rattle.study_material.specs.Needs.{needs_of};

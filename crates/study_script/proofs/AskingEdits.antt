@@ -1,11 +1,11 @@
 -- The replies to edits that ask the tables.
-use Rattle.std.proofs.Common.{◌≡◌, ℕ, ◌⊎◌, Bool, true, List, [], ◌∷◌, refl, sym, ◌∙◌, inl, inr}
+use Rattle.std.proofs.Common.{◌≡◌, ℕ, Bool, true, List, [], ◌∷◌, refl, sym, ◌∙◌, inl, inr}
 use Rattle.study_board.specs.Position.{Position}
 use Rattle.study_material.specs.declared.class.Class.{Class}
 use Rattle.study_prober.specs.declared.values.ProbeFault.{ProbeFault}
 use Rattle.study_marks.specs.declared.fault.Refusal.{Refusal as EditRefusal}
 use Rattle.study_marks.specs.declared.fault.Refusal.TheVariants as edit
-use Rattle.study_marks.specs.Asked.{IsTableHeld, AreTablesHeld, AllHeld, IsFirstMissing, IsFaultAt, IsFirstUnread, IsOutside, is_of_tables}
+use Rattle.study_marks.specs.Asked.{IsTableHeld, AreTablesHeld, AllHeld, IsFirstMissing, IsFirstUnread, IsOutside, is_of_tables}
 use Rattle.study_marks.specs.Edits.{Plainly}
 use Rattle.study_script.specs.Names.{edit_words}
 use Rattle.study_script.specs.State.{State, is_among, Outside, quiet, no_room, unread}

@@ -1,5 +1,5 @@
 //! What a line does: its reply, and what is held behind it.
-ghost use Rattle.std.specs.Prelude.{◌≡◌, IfOk, OnErr};
+ghost use Rattle.std.specs.Prelude.{IfOk, OnErr};
 ghost use Rattle.study_command.specs.Asking.{command_seen};
 ghost use Rattle.study_script.specs.State.{State};
 ghost use Rattle.study_script.specs.Replies.{IsReply, IsReplyTo};

@@ -1,5 +1,4 @@
 //! Laws over the definitions, stated by functions that do nothing.
-ghost use Rattle.std.specs.Prelude.{◌≡◌, ◌∷◌};
 ghost use Rattle.study_tree.specs.Laws.{EditsAreOfRows, NodesAreOfRows, PlacesAreShown, RowsAreWritten};
 
 /// An edit of a tree is an edit of its rows in written order: add last puts a row after the parent's block, remove

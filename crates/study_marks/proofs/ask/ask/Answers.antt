@@ -1,4 +1,4 @@
-use Rattle.std.proofs.Common.{◌≡◌, List, map, length, ℕ, suc, ◌<◌, arith, ap, sym, ◌∙◌, subst, false}
+use Rattle.std.proofs.Common.{◌≡◌, List, map, length, suc, ◌<◌, arith, ap, sym, ◌∙◌, subst, false}
 use Rattle.study_moves.specs.declared.moves.Move.{Move}
 use Rattle.study_moves.specs.Rules.{after}
 use Rattle.study_moves.specs.LegalList.{legal_list}

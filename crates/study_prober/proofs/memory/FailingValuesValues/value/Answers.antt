@@ -1,4 +1,4 @@
-use Rattle.std.proofs.Common.{◌≡◌, Err, IsErrOf, subst}
+use Rattle.std.proofs.Common.{Err, IsErrOf, subst}
 use Rattle.study_prober.specs.Values.{ProbeAnswer}
 use Rattle.study_prober.specs.declared.values.ProbeFault.TheVariants.{TableRead, PageDamaged}
 use Rattle.study_tablefile.specs.declared.fault.SourceFault.TheVariants.{Device}
