@@ -12,7 +12,10 @@
 top=$(cd "$(dirname "$0")/.." && pwd); examples="$top/examples"
 mode=${1:-small}; dir=${2:+$(realpath "$2")}
 program=${STUDYBENCH:-$top/crates/studybench/out/studybench}
-[ -x "$program" ] || (cd "$top/crates/studybench" && rt run < /dev/null) > /dev/null 2>&1 || { echo "studybench is not built: cd crates/studybench && rt check"; exit 2; }
+[ -x "$program" ] || (cd "$top/crates/studybench" && rt run < /dev/null) > /dev/null 2>&1 || {
+    echo "studybench is not built: cd crates/studybench && rt check"
+    exit 2
+}
 empty=$(mktemp -d); trap 'rm -rf "$empty"' EXIT
 same=0; differ=0
 for script in "$examples"/*.script; do

@@ -89,10 +89,12 @@ mate='position k7/8/1K6/8/8/8/8/7R w - - 0 1\n'
 mkfifo "$work/pipe"
 (cd "$work" && (sleep 1; printf '%b' "$mate") | timeout 60 "$program" > pipe 2> err; echo $? > status) & before=$!
 : < "$work/pipe"; wait "$before"; expect "output that nobody reads" 3 "$(cat "$work/status")" "studybench: WriteDevice" "$(cat "$work/err")" "" ""
-(cd "$work" && timeout 60 "$program" < . > out 2> err); expect "input that is a folder" 3 $? "studybench: ReadDevice" "$(cat "$work/err")" "" "$(cat "$work/out")"
+(cd "$work" && timeout 60 "$program" < . > out 2> err)
+expect "input that is a folder" 3 $? "studybench: ReadDevice" "$(cat "$work/err")" "" "$(cat "$work/out")"
 (cd "$work" && timeout 60 "$program" <&- > out 2> err); expect "closed input" 3 $? "studybench: ReadDevice" "$(cat "$work/err")" "" "$(cat "$work/out")"
 (cd "$work" && timeout 60 "$program" --help > /dev/full 2> err); expect "help to a full device" 3 $? "studybench: WriteDevice" "$(cat "$work/err")" "" ""
-(cd "$work" && timeout 60 "$program" --help < /dev/null 2> err | grep -c PATH > out); expect "help" 0 ${PIPESTATUS[0]} "" "$(cat "$work/err")" yes "$([ "$(cat "$work/out")" -gt 5 ] && echo yes)"
+(cd "$work" && timeout 60 "$program" --help < /dev/null > out 2> err); was=$?
+expect "help" 0 $was "" "$(cat "$work/err")" yes "$([ "$(grep -c PATH "$work/out")" -gt 5 ] && echo yes)"
 for words in "--pages 0" "--pages 4097" "--pages x" "--pages" "--bad" "a.script"; do
     (cd "$work" && timeout 60 "$program" $words < /dev/null > out 2> err); was=$?
     expect "$words" 2 $was yes "$(grep -q '^error: ' "$work/err" && echo yes)" "" "$(cat "$work/out")"

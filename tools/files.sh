@@ -17,8 +17,11 @@ unread() { printf '%s' "${place}error TableRead $1\nerror NoStudy\n"; }
 # Saved by one run, loaded by others.
 run "built and saved" 0 "" "${kk}saved KK bytes 4192\n${krk}saved KRK bytes 82624\n" "build KK\nsave KK\nbuild KRK\nsave KRK\n" --tables "$tables"
 expect "sizes of files" "4192 82624" "$(echo $(stat -c %s "$tables/KK.dtm" "$tables/KRK.dtm"))" "" "" "" ""
-run "loaded and verified" 1 "" "error MissingTable KK\nloaded KK cells 1280\n${loaded}verified KRK yes\nverified KK yes\n${marked}error NoFile\n" "load KRK\nload KK\nload KRK\nverify KRK\nverify KK\n${study}load KQK\n" --tables "$tables"
-run "read by one page" 1 "" "error PagedMode\n${loaded}error PagedMode\nerror PagedMode\n${marked}" "build KK\nload KRK\nverify KRK\nsave KRK\n$study" --tables "$tables" --pages 1
+run "loaded and verified" 1 "" \
+    "error MissingTable KK\nloaded KK cells 1280\n${loaded}verified KRK yes\nverified KK yes\n${marked}error NoFile\n" \
+    "load KRK\nload KK\nload KRK\nverify KRK\nverify KK\n${study}load KQK\n" --tables "$tables"
+run "read by one page" 1 "" "error PagedMode\n${loaded}error PagedMode\nerror PagedMode\n${marked}" \
+    "build KK\nload KRK\nverify KRK\nsave KRK\n$study" --tables "$tables" --pages 1
 run "saved again" 0 "" "loaded KK cells 1280\n${loaded}saved KRK bytes 82624\n" "load KK\nload KRK\nsave KRK\n" --tables "$tables"
 run "loaded again" 0 "" "$kk${loaded}verified KRK yes\n" "build KK\nload KRK\nverify KRK\n" --tables "$tables"
 
@@ -55,7 +58,8 @@ damaged "no file" 'rm "$file"' "error NoFile" "error NoFile" ""
 damaged "a link to itself" 'rm "$file"; ln -s KRK.dtm "$file"' "error Device" "error Device" ""
 
 # Folders that are not there, or are none; a file and a folder that may not be written or read.
-run "a folder that is not there" 1 "" "error NoFile\n${kk}error Device\nbuilt KQK cells 81920 win 19\n" "load KK\nbuild KK\nsave KK\nbuild KQK\n" --tables "$work/absent"
+run "a folder that is not there" 1 "" "error NoFile\n${kk}error Device\nbuilt KQK cells 81920 win 19\n" \
+    "load KK\nbuild KK\nsave KK\nbuild KQK\n" --tables "$work/absent"
 run "the same by one page" 1 "" "error NoFile\n" "load KK\n" --tables "$work/absent" --pages 1
 : > "$work/file"
 refused="error Device\n${kk}error Device\nverified KK yes\n"; tried="load KK\nbuild KK\nsave KK\nverify KK\n"
@@ -75,7 +79,8 @@ if [ -z "$as" ] || $as "$program" < /dev/null 2> /dev/null; then
     run "a folder without permission" 1 "" "$refused" "$tried" --tables "$work/closed"
     chmod 444 "$work/shut/KK.dtm"; chmod 555 "$work/shut"
     run "a file that may only be read" 1 "" "loaded KK cells 1280\nerror Device\nverified KK yes\n" "load KK\nsave KK\nverify KK\n" --tables "$work/shut"
-    run "a folder that may only be read" 1 "" "loaded KK cells 1280\n${krk}error Device\nverified KRK yes\n" "load KK\nbuild KRK\nsave KRK\nverify KRK\n" --tables "$work/shut"
+    run "a folder that may only be read" 1 "" "loaded KK cells 1280\n${krk}error Device\nverified KRK yes\n" \
+        "load KK\nbuild KRK\nsave KRK\nverify KRK\n" --tables "$work/shut"
     chmod 755 "$work/shut" "$work/closed"
 else
     echo "not run: files without permission, since root is not bound by them and setpriv is not there"

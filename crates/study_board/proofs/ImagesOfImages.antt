@@ -1,4 +1,5 @@
 -- Symmetries after one another, and images of images.
+use Rattle.study_board.specs.Men.{is_pawn}
 use Rattle.std.proofs.Common.{◌≡◌, ℕ, ◌<◌, ◌==◌, Bool, true, false, not, cond, ◌&&◌, ◌||◌, List, [], ◌∷◌, Option, Some, None, refl, sym, ◌∙◌, ap, arith, subst}
 use Rattle.std.specs.List.{list_any}
 use Rattle.std.proofs.lemmas.Bool.{false≢true}
@@ -8,8 +9,8 @@ use Rattle.study_board.specs.declared.men.Side.TheVariants.{White, Black}
 use Rattle.study_board.specs.declared.symmetry.Symmetry.{Symmetry}
 use Rattle.study_board.specs.Geometry.{rank_of, file_of}
 use Rattle.study_board.specs.Position.{Position, IsValid, AllAbove, IsAscending, passed_possible}
-use Rattle.study_board.specs.Symmetry.{mirrored, turned_square, turned_side, turned_man, turned_men, turned_passed, image, is_pawn, keeps_pawns, admits}
-use Rattle.study_board.specs.Images.{differ, turns_file, turns_rank, symmetry_of, joined, back, IsImage, AreClosedUnderImages}
+use Rattle.study_board.specs.Symmetry.{mirrored, turned_square, turned_side, turned_man, turned_men, turned_passed, image, keeps_pawns, admits}
+use Rattle.study_board.specs.Images.{differ, turns_file, turns_rank, symmetry_of, composed, back, IsImage, AreClosedUnderImages}
 use Rattle.study_board.proofs.MenInOrder.{NoneBelow}
 use Rattle.study_board.proofs.Valid.{IsFaultless-from_first}
 use Rattle.study_board.proofs.Ascending.{IsAscending-placed, none_at}
@@ -65,7 +66,7 @@ turns_rank-of false true a false = refl
 turns_rank-of false false a true = refl
 turns_rank-of false false a false = refl
 
-pub turned_square-joined : (s t : Symmetry) (x : ℕ) → x < 64 → turned_square t (turned_square s x) ≡ turned_square (joined s t) x
+pub turned_square-joined : (s t : Symmetry) (x : ℕ) → x < 64 → turned_square t (turned_square s x) ≡ turned_square (composed s t) x
 turned_square-joined s t x lx =
     let on = turned_small s x lx in
     let d = differ s.diagonal t.diagonal in
@@ -82,11 +83,11 @@ turned_square-joined s t x lx =
     ∙ rw (file_of-image s x lx, rank_of-image s x lx)
     (twice_file s.diagonal t.diagonal (turns_rank s) (turns_file s) (turns_rank t) (rank_of x) (file_of x)
     (rank_small x lx) (file_small x)) in
-    let g : file_of (turned_square (joined s t) x) ≡ mirrored a (cond d (rank_of x) (file_of x)) =
-    file_of-image (joined s t) x lx ∙ ap (λ m. mirrored m (cond d (rank_of x) (file_of x))) (turns_file-of d c a b) in
-    let q : rank_of (turned_square (joined s t) x) ≡ mirrored b (cond d (file_of x) (rank_of x)) =
-    rank_of-image (joined s t) x lx ∙ ap (λ m. mirrored m (cond d (file_of x) (rank_of x))) (turns_rank-of d c a b) in
-    square_same (turned_square t (turned_square s x)) (turned_square (joined s t) x) (f ∙ sym g) (r ∙ sym q)
+    let g : file_of (turned_square (composed s t) x) ≡ mirrored a (cond d (rank_of x) (file_of x)) =
+    file_of-image (composed s t) x lx ∙ ap (λ m. mirrored m (cond d (rank_of x) (file_of x))) (turns_file-of d c a b) in
+    let q : rank_of (turned_square (composed s t) x) ≡ mirrored b (cond d (file_of x) (rank_of x)) =
+    rank_of-image (composed s t) x lx ∙ ap (λ m. mirrored m (cond d (file_of x) (rank_of x))) (turns_rank-of d c a b) in
+    square_same (turned_square t (turned_square s x)) (turned_square (composed s t) x) (f ∙ sym g) (r ∙ sym q)
 
 turned_side-twice : (a b : Bool) (side : Side) → turned_side b (turned_side a side) ≡ turned_side (differ a b) side
 turned_side-twice true true White = refl
@@ -94,7 +95,7 @@ turned_side-twice true true Black = refl
 turned_side-twice true false side = refl
 turned_side-twice false b side = refl
 
-turned_man-joined : (s t : Symmetry) (m : Man) → m.at < 64 → turned_man t (turned_man s m) ≡ turned_man (joined s t) m
+turned_man-joined : (s t : Symmetry) (m : Man) → m.at < 64 → turned_man t (turned_man s m) ≡ turned_man (composed s t) m
 turned_man-joined s t m on = rw (turned_side-twice s.colours t.colours m.side, turned_square-joined s t m.at on)
 
 -- what the laws of images ask of a position: less than to be valid
@@ -129,18 +130,18 @@ apart_turned s x xs up h =
     any_turned s (λ y. y.at == turned_square s x.at) (λ y. y.at == x.at) (λ m l. turned_apart s m.at x.at l.on (h.0).on) xs h.1 ∙ none_at x.at xs up.0
 
 pub turned_men-joined : (s t : Symmetry) (xs : List Man) → IsAscending xs → Each (IsSeated s) xs
-    → Each (IsSeated t) xs → turned_men t (turned_men s xs) ≡ turned_men (joined s t) xs
+    → Each (IsSeated t) xs → turned_men t (turned_men s xs) ≡ turned_men (composed s t) xs
 turned_men-joined s t [] up h k = refl
 turned_men-joined s t (x ∷ xs) up h k =
     let on = turned_small s x.at (h.0).on in
     placed_turned t (turned_man s x) on (turned_men s xs) (seated_turned s t xs h.1 k.1) (apart_turned s x xs up h)
     ∙ rw (turned_man-joined s t x (h.0).on, turned_men-joined s t xs up.1 h.1 k.1)
 
-pub image_joined : (s t : Symmetry) (p : Position) → IsTurnable s p → IsTurnable t p → image t (image s p) ≡ image (joined s t) p
+pub image_joined : (s t : Symmetry) (p : Position) → IsTurnable s p → IsTurnable t p → image t (image s p) ≡ image (composed s t) p
 image_joined s t p h k =
     rw (turned_men-joined s t p.men h.ordered h.seats k.seats, turned_side-twice s.colours t.colours p.to_move, passed p.passed h.passed)
   where
-    passed : (q : Option ℕ) → IsOnBoard q → turned_passed t (turned_passed s q) ≡ turned_passed (joined s t) q
+    passed : (q : Option ℕ) → IsOnBoard q → turned_passed t (turned_passed s q) ≡ turned_passed (composed s t) q
     passed None e = refl
     passed (Some x) e = ap (λ n. Some n) (turned_square-joined s t x e)
 
@@ -184,10 +185,10 @@ image_unturned p up = rw (turned_men-unturned p.men up, passed p.passed)
     passed None = refl
     passed (Some x) = ap (λ n. Some n) (turned_square-unturned x)
 
-joined_back : (s : Symmetry) → joined s (back s) ≡ unturned
+joined_back : (s : Symmetry) → composed s (back s) ≡ unturned
 joined_back s = by_parts s.files s.ranks s.diagonal s.colours
   where
-    by_parts : (f r d c : Bool) → (let u : Symmetry = record { files = f; ranks = r; diagonal = d; colours = c } in joined u (back u) ≡ unturned)
+    by_parts : (f r d c : Bool) → (let u : Symmetry = record { files = f; ranks = r; diagonal = d; colours = c } in composed u (back u) ≡ unturned)
     by_parts true true true true = refl
     by_parts true true true false = refl
     by_parts true true false true = refl
@@ -216,13 +217,13 @@ keeps_back s e = by_parts s.files s.ranks s.diagonal s.colours e
     by_parts f false false true e = refl
     by_parts f false false false e = refl
 
-keeps_joined : (s t : Symmetry) → keeps_pawns s ≡ true → keeps_pawns t ≡ true → keeps_pawns (joined s t) ≡ true
+keeps_joined : (s t : Symmetry) → keeps_pawns s ≡ true → keeps_pawns t ≡ true → keeps_pawns (composed s t) ≡ true
 keeps_joined s t a b = by_parts s.files s.ranks s.diagonal s.colours t.files t.ranks t.diagonal t.colours a b
   where
     by_parts : (f r d c f' r' d' c' : Bool) → (not r && not d) ≡ true → (not r' && not d') ≡ true
         → (let u : Symmetry = record { files = f; ranks = r; diagonal = d; colours = c } in
         let w : Symmetry = record { files = f'; ranks = r'; diagonal = d'; colours = c' } in keeps_pawns
-        (joined u w) ≡ true)
+        (composed u w) ≡ true)
     by_parts f true d c f' r' d' c' a b = absurd (false≢true a)
     by_parts f false true c f' r' d' c' a b = absurd (false≢true a)
     by_parts f false false c f' true d' c' a b = absurd (false≢true b)
@@ -242,10 +243,10 @@ admits_where p k k' f = go (not (list_any is_pawn p.men))
 pub admits_back : (s : Symmetry) (p : Position) → admits p s ≡ true → admits p (back s) ≡ true
 admits_back s p = admits_where p (keeps_pawns s) (keeps_pawns (back s)) (keeps_back s)
 
-pub admits_joined : (s t : Symmetry) (p : Position) → admits p s ≡ true → admits p t ≡ true → admits p (joined s t) ≡ true
+pub admits_joined : (s t : Symmetry) (p : Position) → admits p s ≡ true → admits p t ≡ true → admits p (composed s t) ≡ true
 admits_joined s t p = go (list_any is_pawn p.men)
   where
-    go : (b : Bool) → (not b || keeps_pawns s) ≡ true → (not b || keeps_pawns t) ≡ true → (not b || keeps_pawns (joined s t)) ≡ true
+    go : (b : Bool) → (not b || keeps_pawns s) ≡ true → (not b || keeps_pawns t) ≡ true → (not b || keeps_pawns (composed s t)) ≡ true
     go true a b = keeps_joined s t a b
     go false a b = refl
 
@@ -296,7 +297,7 @@ pub IsImage-trans : (p q r : Position) → IsValid p → IsImage p q → IsImage
 IsImage-trans p q r v h k =
     let a : admits p k.by ≡ true = sym (admits_image h.by k.by p v h.admitted) ∙ subst (λ (x : Position). admits x k.by ≡ true) h.is k.admitted in
     record {
-      by = joined h.by k.by;
+      by = composed h.by k.by;
       admitted = admits_joined h.by k.by p h.admitted a;
       is = k.is ∙ ap (λ x. image k.by x) h.is ∙ image_joined h.by k.by p (IsTurnable-from_valid h.by p v h.admitted) (IsTurnable-from_valid k.by p v a);
     }

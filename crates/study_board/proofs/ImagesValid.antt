@@ -15,11 +15,11 @@ use Rattle.study_board.specs.declared.men.Kind.{Kind}
 use Rattle.study_board.specs.declared.men.Kind.TheVariants.{King, Queen, Rook, Bishop, Knight, Pawn}
 use Rattle.study_board.specs.declared.symmetry.Symmetry.{Symmetry}
 use Rattle.study_board.specs.Geometry.{rank_of, strictly_between}
-use Rattle.study_board.specs.Men.{same_side, other_side, same_kind, is_man, is_blocked, reaches, bears_on, is_attacked}
+use Rattle.study_board.specs.Men.{same_side, other_side, same_kind, is_man, is_blocked, reaches, bears_on, is_attacked, is_pawn}
 use Rattle.study_board.specs.Position.{Position, IsValid, AllAbove, IsAscending, placed, man_at, is_occupied}
 use Rattle.study_board.specs.Position.{is_empty, has_man, has_square_twice, has_one_king, is_end_pawn}
 use Rattle.study_board.specs.Position.{has_end_pawn, in_check, could_be_passed, passed_possible}
-use Rattle.study_board.specs.Symmetry.{mirrored, turned_square, turned_side, turned_man, turned_men, turned_passed, image, is_pawn, keeps_pawns, admits}
+use Rattle.study_board.specs.Symmetry.{mirrored, turned_square, turned_side, turned_man, turned_men, turned_passed, image, keeps_pawns, admits}
 use Rattle.study_board.proofs.Lists.{or_false, not_true, count_by-cons, list_any_weaker}
 use Rattle.study_board.proofs.MenInOrder.{IsSortedByAt, NoneBelow, NoneBelow-less, IsSortedByAt-placed}
 use Rattle.study_board.proofs.Valid.{IsFaultless, IsFaultless-from_first, first_fault-from_IsFaultless, IsAscending-from_sorted}

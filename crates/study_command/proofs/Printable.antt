@@ -5,7 +5,8 @@ use Rattle.std.specs.List.{list_all, prefix_len, slice_split, onto_first}
 use Rattle.std.specs.Str.{IsAscii}
 use Rattle.std.proofs.lemmas.Bool.{leb-true, cases_Bool}
 use Rattle.study_notation.specs.Words.{is_space, words, begun_word, behind_word}
-use Rattle.study_command.specs.Asking.{is_printable, ended, trimmed}
+use Rattle.study_marks.specs.Edits.{is_printable}
+use Rattle.study_command.specs.Asking.{ended, trimmed}
 
 pub both : (x y : Bool) → (x && y) ≡ true → (x ≡ true) × (y ≡ true)
 both true y e = (refl, e)

@@ -6,6 +6,7 @@ use Rattle.std.specs.Str.{bytes_eq}
 use Rattle.study_notation.specs.Words.{words, is_space, begun_word, behind_word}
 use Rattle.study_board.specs.declared.men.Side.{Side}
 use Rattle.study_board.specs.declared.men.Side.TheVariants.{White, Black}
+use Rattle.study_marks.specs.Edits.{is_printable}
 use Rattle.study_marks.specs.declared.stipulation.Goal.{Goal}
 use Rattle.study_marks.specs.declared.stipulation.Goal.TheVariants.{Win, Draw, MateIn}
 use Rattle.study_marks.specs.declared.stipulation.Stipulation.{Stipulation}
@@ -46,10 +47,6 @@ abbrev pub Asks : Type 0
 Asks = Result (Option Asked) FormFault
 
 -- ---- words and texts
-
--- from 0x20 to 0x7e
-abbrev pub is_printable : ℕ → Bool
-is_printable b = nat_le 32 b && nat_le b 126
 
 -- without the spaces at the end
 abbrev pub ended : List ℕ → List ℕ
@@ -134,9 +131,9 @@ tag_told word =
 -- ---- the commands
 
 -- the arguments of a command, or none of its form
-abbrev pub needed : Option Asked → Asks
-needed None = Err BadArguments
-needed (Some asked) = Ok (Some asked)
+abbrev pub arguments_needed : Option Asked → Asks
+arguments_needed None = Err BadArguments
+arguments_needed (Some asked) = Ok (Some asked)
 
 abbrev pub with_text : (List ℕ → Asked) → Option (List ℕ) → Option Asked
 with_text asked None = None
@@ -179,16 +176,16 @@ pgn_asked [] = Some pgn
 pgn_asked (word ∷ more) = None
 
 -- the first word of a line, and what follows it
-unfoldable pub asked_of : Word → List ℕ → Asks
-asked_of (OfStart word) rest = needed (with_text (of_start word) (text_told rest))
-asked_of (AtNode word) rest = needed (with_text (at_node word) (path_in (one_word (words rest))))
-asked_of (AtStudy word) rest = needed (with_text (at_study word) (path_in (one_word (words rest))))
-asked_of (OfClass word) rest = needed (with_text (of_class word) (one_word (words rest)))
-asked_of Stipulate rest = stipulate_asked (stipulation_of (words rest))
-asked_of Insert rest = needed (insert_asked (two_words (words rest)))
-asked_of Tag rest = tag_asked rest (words rest)
-asked_of Solve rest = needed (solve_asked (two_words (words rest)))
-asked_of Pgn rest = needed (pgn_asked (words rest))
+unfoldable pub word_asked : Word → List ℕ → Asks
+word_asked (OfStart word) rest = arguments_needed (with_text (of_start word) (text_told rest))
+word_asked (AtNode word) rest = arguments_needed (with_text (at_node word) (path_in (one_word (words rest))))
+word_asked (AtStudy word) rest = arguments_needed (with_text (at_study word) (path_in (one_word (words rest))))
+word_asked (OfClass word) rest = arguments_needed (with_text (of_class word) (one_word (words rest)))
+word_asked Stipulate rest = stipulate_asked (stipulation_of (words rest))
+word_asked Insert rest = arguments_needed (insert_asked (two_words (words rest)))
+word_asked Tag rest = tag_asked rest (words rest)
+word_asked Solve rest = arguments_needed (solve_asked (two_words (words rest)))
+word_asked Pgn rest = arguments_needed (pgn_asked (words rest))
 
 unfoldable pub word_of : List ℕ → Option Word
 word_of word =
@@ -218,18 +215,18 @@ begins_comment (b ∷ bs) = b == 35
 
 abbrev pub asked_with : Option Word → List ℕ → Asks
 asked_with None rest = Err UnknownCommand
-asked_with (Some word) rest = asked_of word rest
+asked_with (Some word) rest = word_asked word rest
 
-abbrev pub asked_by : List ℕ → List (List ℕ) → Asks
-asked_by line [] = Ok None
-asked_by line (first ∷ arguments) =
+abbrev pub line_asked : List ℕ → List (List ℕ) → Asks
+line_asked line [] = Ok None
+line_asked line (first ∷ arguments) =
     if begins_comment first then Ok None
     else (if not (list_all is_printable line) then Err BadByte
     else asked_with (word_of first) (behind_word line))
 
 -- nothing is asked by a line of spaces, or by one that begins, behind spaces, with `#`
 unfoldable pub command_of : List ℕ → Asks
-command_of line = asked_by line (words line)
+command_of line = line_asked line (words line)
 
 -- ---- what a contract sees of a command that was read
 
@@ -250,7 +247,7 @@ command_seen (command.Tag name text) = tag name text.now
 command_seen (command.Solve count path) = solve count.number (path_seen path)
 command_seen command.Pgn = pgn
 
-abbrev pub seen : Result (Option Command) FormFault → Asks
-seen (Ok None) = Ok None
-seen (Ok (Some command)) = Ok (Some (command_seen command))
-seen (Err fault) = Err fault
+abbrev pub line_seen : Result (Option Command) FormFault → Asks
+line_seen (Ok None) = Ok None
+line_seen (Ok (Some command)) = Ok (Some (command_seen command))
+line_seen (Err fault) = Err fault

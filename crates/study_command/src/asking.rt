@@ -3,10 +3,11 @@ ghost use Rattle.std.specs.Prelude.{◌≡◌, true};
 ghost use Rattle.std.specs.Option.{option_map};
 ghost use Rattle.std.specs.List.{list_all};
 ghost use Rattle.study_notation.specs.Words.{words};
-ghost use Rattle.study_command.specs.Asking.{is_printable, count_told, mate_moves_of, side_told, goal_of};
+ghost use Rattle.study_marks.specs.Edits.{is_printable};
+ghost use Rattle.study_command.specs.Asking.{count_told, mate_moves_of, side_told, goal_of};
 ghost use Rattle.study_command.specs.Asking.{stipulation_of, tag_told, insert_asked, solve_asked, pgn_asked};
-ghost use Rattle.study_command.specs.Asking.{tag_asked, path_in, one_word, two_words, needed, asked_of, word_of};
-ghost use Rattle.study_command.specs.Asking.{begins_comment, command_of, seen, count_seen, path_seen};
+ghost use Rattle.study_command.specs.Asking.{tag_asked, path_in, one_word, two_words, arguments_needed, word_asked, word_of};
+ghost use Rattle.study_command.specs.Asking.{begins_comment, command_of, line_seen, count_seen, path_seen};
 
 use crate::command::{
     ClassWord, Command, FenWord, FormFault, MoveCount, NodeWord, PathWord, StudyWord, Word,
@@ -20,7 +21,7 @@ use study_notation::words::next_word;
 /// What the line asks for: nothing in a comment or between words, else a command, or the first fault of form.
 #[tactic(auto, using(crate::proofs::Printable::printable_behind), unfolding(crate::specs::Asking::command_of))]
 pub fn read_command(line: &[u8]) -> Result<Option<Command<'_>>, FormFault>
-    ensures { seen result ≡ command_of line.now }
+    ensures { line_seen result ≡ command_of line.now }
 {
     let Some((first, rest)) = next_word(line) else {
         return Ok(None);
@@ -88,10 +89,10 @@ fn read_word(word: &[u8]) -> Option<Word>
 }
 
 // What follows the first word. A text is not empty, and all other arguments are words.
-#[tactic(auto, unfolding(crate::specs::Asking::asked_of))]
+#[tactic(auto, unfolding(crate::specs::Asking::word_asked))]
 fn read_arguments(word: Word, rest: &[u8]) -> Result<Option<Command<'_>>, FormFault>
     requires { list_all is_printable rest.now ≡ true }
-    ensures { seen result ≡ asked_of word rest.now }
+    ensures { line_seen result ≡ word_asked word rest.now }
 {
     match word {
         Word::OfStart(word) => match read_text(rest) {
@@ -138,7 +139,7 @@ fn read_name(rest: &[u8]) -> Option<&str>
 
 fn read_insert(rest: &[u8]) -> Result<Option<Command<'_>>, FormFault>
     requires { list_all is_printable rest.now ≡ true }
-    ensures { seen result ≡ needed (insert_asked (two_words (words rest.now))) }
+    ensures { line_seen result ≡ arguments_needed (insert_asked (two_words (words rest.now))) }
 {
     let Some((path, san)) = read_two_words(rest) else {
         return Err(FormFault::BadArguments);
@@ -150,7 +151,7 @@ fn read_insert(rest: &[u8]) -> Result<Option<Command<'_>>, FormFault>
 }
 
 fn read_solve(rest: &[u8]) -> Result<Option<Command<'_>>, FormFault>
-    ensures { seen result ≡ needed (solve_asked (two_words (words rest.now))) }
+    ensures { line_seen result ≡ arguments_needed (solve_asked (two_words (words rest.now))) }
 {
     let Some((count, path)) = read_two_words(rest) else {
         return Err(FormFault::BadArguments);
@@ -162,7 +163,7 @@ fn read_solve(rest: &[u8]) -> Result<Option<Command<'_>>, FormFault>
 }
 
 fn read_pgn(rest: &[u8]) -> Result<Option<Command<'_>>, FormFault>
-    ensures { seen result ≡ needed (pgn_asked (words rest.now)) }
+    ensures { line_seen result ≡ arguments_needed (pgn_asked (words rest.now)) }
 {
     if next_word(rest).is_some() {
         return Err(FormFault::BadArguments);
@@ -173,7 +174,7 @@ fn read_pgn(rest: &[u8]) -> Result<Option<Command<'_>>, FormFault>
 #[tactic(auto, using(crate::proofs::Printable::printable_behind))]
 fn read_tag(rest: &[u8]) -> Result<Option<Command<'_>>, FormFault>
     requires { list_all is_printable rest.now ≡ true }
-    ensures { seen result ≡ tag_asked rest.now (words rest.now) }
+    ensures { line_seen result ≡ tag_asked rest.now (words rest.now) }
 {
     let Some((name, rest)) = next_word(rest) else {
         return Err(FormFault::BadArguments);

@@ -1,12 +1,13 @@
 //! Texts, single words and numbers behind a command.
 ghost use Rattle.std.specs.Prelude.{◌≡◌, ◌≤◌, true, take, length, IfSome};
 ghost use Rattle.std.specs.Option.{option_map};
-ghost use Rattle.std.specs.List.{list_all, prefix_len};
-ghost use Rattle.study_notation.specs.Words.{words, is_space};
-ghost use Rattle.study_command.specs.Asking.{is_printable, ended, trimmed, text_told, one_word, two_words};
+ghost use Rattle.std.specs.List.{list_all};
+ghost use Rattle.study_notation.specs.Words.{words};
+ghost use Rattle.study_marks.specs.Edits.{is_printable};
+ghost use Rattle.study_command.specs.Asking.{ended, trimmed, text_told, one_word, two_words};
 
 use std::str;
-use study_notation::words::next_word;
+use study_notation::words::{next_word, space_len};
 
 /// Printable ASCII as a text.
 pub fn as_text(bytes: &[u8]) -> &str
@@ -36,13 +37,6 @@ fn ended_len(text: &[u8]) -> usize
         n -= 1;
     }
     n
-}
-
-fn space_len(text: &[u8]) -> usize
-    ensures value { result ≡ prefix_len is_space text.now }
-    ensures within { result ≤ length text.now }
-{
-    text.iter().take_while(|b| **b == b' ').count()
 }
 
 /// A text without the spaces at both ends.

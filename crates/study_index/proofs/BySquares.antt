@@ -10,9 +10,9 @@ use Rattle.study_board.specs.Images.{differ}
 use Rattle.study_board.specs.Symmetry.{turned_square, turned_man, mirrored}
 use Rattle.study_index.specs.Filling.{man_slot_number}
 use Rattle.study_index.specs.Found.{put, sorted}
-use Rattle.study_index.specs.Number.{place, places, side_number, counted_on, number}
-use Rattle.study_index.specs.Chosen.{chosen, exchanged, are_like, falls, turned_number, least, least_by, least_of}
-use Rattle.study_index.specs.Squares.{key, put_key, squares_of, brought, counted_at, number_at, exchanged_at, falls_at, least_turned, least_at}
+use Rattle.study_index.specs.Number.{place, listed_count, side_number, counted_on, number}
+use Rattle.study_index.specs.Chosen.{chosen, last_two_exchanged, are_like, falls, turned_number, least, least_by, least_of}
+use Rattle.study_index.specs.Squares.{key, put_key, squares_of_keys, brought, counted_at, number_at, exchanged_at, falls_at, least_turned, least_at}
 
 abbrev pub AreOnBoard : List Man → Type 0
 AreOnBoard [] = Unit {0}
@@ -70,14 +70,14 @@ module _ (pawns : Bool) (to_move : Side) (t u : Symmetry) (same : TakeSame t u) 
   unfolding number_at turned_number number
   number_men [] h = refl
   number_men (k ∷ ms) h =
-      ap (λ x. option_map (λ q. counted_at (turned_square t) (side_number to_move * places pawns + q) (map square ms)) (place pawns x)) (same k.at h.0)
+      ap (λ x. option_map (λ q. counted_at (turned_square t) (side_number to_move * listed_count pawns + q) (map square ms)) (place pawns x)) (same k.at h.0)
       ∙ by_place (place pawns (turned_square u k.at))
     where
       by_place : (o : Option ℕ)
-          → option_map (λ q. counted_at (turned_square t) (side_number to_move * places pawns + q) (map square ms)) o
-          ≡ option_map (λ q. counted_on (side_number to_move * places pawns + q) (map (turned_man u) ms)) o
+          → option_map (λ q. counted_at (turned_square t) (side_number to_move * listed_count pawns + q) (map square ms)) o
+          ≡ option_map (λ q. counted_on (side_number to_move * listed_count pawns + q) (map (turned_man u) ms)) o
       by_place None = refl
-      by_place (Some q) = ap (λ n. Some n) (counted_men (side_number to_move * places pawns + q) ms h.1)
+      by_place (Some q) = ap (λ n. Some n) (counted_men (side_number to_move * listed_count pawns + q) ms h.1)
 
   falls_men : (ms : List Man) → AreOnBoard ms → falls_at (turned_square t) (map square ms) ≡ falls u ms
   falls_men [] h = refl
@@ -90,7 +90,7 @@ module _ (pawns : Bool) (to_move : Side) (t u : Symmetry) (same : TakeSame t u) 
       lesser i j k l e f = rw (e, f) refl
   falls_men (a ∷ b ∷ x ∷ y ∷ z ∷ ms) h = refl
 
-exchanged_men : (ms : List Man) → exchanged_at (map square ms) ≡ map square (exchanged ms)
+exchanged_men : (ms : List Man) → exchanged_at (map square ms) ≡ map square (last_two_exchanged ms)
 exchanged_men [] = refl
 exchanged_men (a ∷ []) = refl
 exchanged_men (a ∷ b ∷ []) = refl
@@ -98,7 +98,7 @@ exchanged_men (a ∷ b ∷ x ∷ []) = refl
 exchanged_men (a ∷ b ∷ x ∷ y ∷ []) = refl
 exchanged_men (a ∷ b ∷ x ∷ y ∷ z ∷ ms) = refl
 
-AreOnBoard-exchanged : (ms : List Man) → AreOnBoard ms → AreOnBoard (exchanged ms)
+AreOnBoard-exchanged : (ms : List Man) → AreOnBoard ms → AreOnBoard (last_two_exchanged ms)
 AreOnBoard-exchanged [] h = h
 AreOnBoard-exchanged (a ∷ []) h = h
 AreOnBoard-exchanged (a ∷ b ∷ []) h = h
@@ -115,7 +115,7 @@ unfolding least_turned least_by
 least_by_squares pawns to_move t u same ms h =
     let n = number_men pawns to_move t u same ms h in
     let e = ap (λ xs. number_at pawns to_move (turned_square t) xs) (exchanged_men ms) ∙ number_men pawns to_move t
-    u same (exchanged ms) (AreOnBoard-exchanged ms h) in
+    u same (last_two_exchanged ms) (AreOnBoard-exchanged ms h) in
     ap
     (λ f. cond (are_like u.colours ms)
     (cond f (number_at pawns to_move (turned_square t) (exchanged_at (map square ms)))
@@ -177,7 +177,7 @@ pub more_keys : (c : Bool) (m : Man) (ms : List Man) (k : ℕ) (ks xs : List ℕ
     → AreOnBoard ms → ks ≡ put_key k xs → xs ≡ map (key c) (sorted c ms) → ks ≡ map (key c) (sorted c (m ∷ ms))
 more_keys c m ms k ks xs d l h e f = e ∙ ap (λ n. put_key n xs) d ∙ ap (λ z. put_key (key c m) z) f ∙ keys-put c m (sorted c ms) l (AreOnBoard-sorted c ms h)
 
-squares-keys : (c : Bool) (ms : List Man) → AreOnBoard ms → squares_of (map (key c) ms) ≡ map square ms
+squares-keys : (c : Bool) (ms : List Man) → AreOnBoard ms → squares_of_keys (map (key c) ms) ≡ map square ms
 squares-keys c [] h = refl
 squares-keys c (m ∷ ms) h = rw (key-square c m h.0) (ap (λ xs. m.at ∷ xs) (squares-keys c ms h.1))
 
@@ -196,10 +196,10 @@ like-keys c (a ∷ b ∷ x ∷ y ∷ z ∷ ms) h = refl
 
 -- the least number of men by their keys, sorted
 pub least_of_keys : (pawns : Bool) (to_move : Side) (c : Bool) (ms : List Man) (ks : List ℕ) → AreOnBoard ms → ks ≡ map (key c) (sorted c ms)
-    → least_at pawns to_move c (like_keys ks) (squares_of ks) ≡ least_of pawns to_move c (sorted c ms)
+    → least_at pawns to_move c (like_keys ks) (squares_of_keys ks) ≡ least_of pawns to_move c (sorted c ms)
 least_of_keys pawns to_move c ms ks h e =
     let on = AreOnBoard-sorted c ms h in
-    ap (λ xs. least_at pawns to_move c (like_keys xs) (squares_of xs)) e
+    ap (λ xs. least_at pawns to_move c (like_keys xs) (squares_of_keys xs)) e
     ∙ both _ _ _ _ (like-keys c (sorted c ms) on) (squares-keys c (sorted c ms) on)
     ∙ least_of_squares pawns to_move c (sorted c ms) on
   where

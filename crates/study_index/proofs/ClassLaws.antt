@@ -26,11 +26,11 @@ use Rattle.study_moves.proofs.BareImages.{bare_image}
 use Rattle.study_moves.proofs.AfterMove.{IsValid-after}
 use Rattle.study_moves.proofs.AlikePositions.{admits_after, admits_bare}
 use Rattle.study_material.specs.declared.class.Class.{Class}
-use Rattle.study_material.specs.Lists.{Lists, of, exchanged, lists, ordered, is_exchanged, is_swapped}
+use Rattle.study_material.specs.Lists.{Lists, of, lists_exchanged, lists, ordered, is_exchanged, is_swapped}
 use Rattle.study_material.specs.Class.{lists_of, IsOf}
 use Rattle.study_material.proofs.ClassOfImage.{ordered-image, swapped-image, compare_lists, black_first, white_first, equal}
 use Rattle.study_index.specs.Filling.{IsFilling}
-use Rattle.study_index.specs.Number.{number, places, kinds_have_pawn, has_both_pawns, numbers_of, cells_of}
+use Rattle.study_index.specs.Number.{number, listed_count, kinds_have_pawn, has_both_pawns, numbers_of, cells_of}
 use Rattle.study_index.specs.Number.{with_bit, has_bit, without_bit, IsLeastNumber, IsIndex}
 use Rattle.study_index.specs.Decoded.{slots_of, passed_behind, IsDecoded}
 use Rattle.study_index.specs.Laws.{AreAlikeIn}
@@ -46,7 +46,7 @@ live_cells : (c : Class) → lists_of c ≡ of (Pawn ∷ []) (Pawn ∷ []) → c
 live_cells c e = ap cells_for e
   where
     numbers_for : Lists → ℕ
-    numbers_for l = 2 * places (kinds_have_pawn l.white || kinds_have_pawn l.black) * 64 ^ (1 + length l.white + length l.black)
+    numbers_for l = 2 * listed_count (kinds_have_pawn l.white || kinds_have_pawn l.black) * 64 ^ (1 + length l.white + length l.black)
 
     cells_for : Lists → ℕ
     cells_for l = cond (has_both_pawns l) (2 * numbers_for l) (numbers_for l)
@@ -116,7 +116,7 @@ entry c n q d =
 equal_lists : (c : Class) (p : Position) → IsOf c p → (lists p.men).white ≡ (lists p.men).black → (lists_of c).white ≡ (lists_of c).black
 equal_lists c p o e = subst (λ (l : Lists). l.white ≡ l.black) (sym o) (by_test (is_exchanged (lists p.men)))
   where
-    by_test : (b : Bool) → (let l : Lists = cond b (exchanged (lists p.men)) (lists p.men) in l.white ≡ l.black)
+    by_test : (b : Bool) → (let l : Lists = cond b (lists_exchanged (lists p.men)) (lists p.men) in l.white ≡ l.black)
     by_test true = sym e
     by_test false = e
 
@@ -132,7 +132,7 @@ keeps_swapped p e = by_lists (lists p.men) e
           | equal f g s ↦ f
         ]
       where
-        same : (l : Lists) → l.white ≡ l.black → exchanged l ≡ l
+        same : (l : Lists) → l.white ≡ l.black → lists_exchanged l ≡ l
         same l e = rw e refl
 
 pub same_class : (p q : Position) (c : Class) → AreAlike p q → IsOf c p → IsOf c q
@@ -247,7 +247,8 @@ told_passed q xs false v own f e = not_live_passed q own e
 equal_back : (c : Class) (p : Position) → IsOf c p → (lists_of c).white ≡ (lists_of c).black → (lists p.men).white ≡ (lists p.men).black
 equal_back c p o e = by_test (is_exchanged (lists p.men)) (subst (λ (l : Lists). l.white ≡ l.black) o e)
   where
-    by_test : (b : Bool) → (let l : Lists = cond b (exchanged (lists p.men)) (lists p.men) in l.white ≡ l.black) → (lists p.men).white ≡ (lists p.men).black
+    by_test : (b : Bool) → (let l : Lists = cond b (lists_exchanged (lists p.men)) (lists p.men) in l.white ≡ l.black)
+        → (lists p.men).white ≡ (lists p.men).black
     by_test true e = sym e
     by_test false e = e
 

@@ -17,10 +17,10 @@ use Rattle.study_board.proofs.Valid.{IsFaultless-from_first, IsAscending-from_so
 use Rattle.study_material.specs.declared.class.Class.{Class}
 use Rattle.study_material.specs.Lists.{is_swapped}
 use Rattle.study_index.specs.declared.reading.Slot.{Slot}
-use Rattle.study_index.specs.Number.{IsLeastNumber, IsIndex, places, numbers_of, cells_of, without_bit}
+use Rattle.study_index.specs.Number.{IsLeastNumber, IsIndex, listed_count, numbers_of, cells_of, without_bit}
 use Rattle.study_index.specs.Decoded.{IsDecoded, AreSlots, slots_of, slots_have_pawn, men_of, told_men, listed, man}
 use borrow.Author.Tests.{ltb-true}
-use Rattle.study_index.specs.Found.{least_number, index_of, told, is_entry, position_numbered}
+use Rattle.study_index.specs.Found.{least_number, index_of, position_told, is_entry, position_numbered}
 use Rattle.study_index.proofs.ClassLaws.{below}
 use Rattle.study_index.proofs.ClassSlots.{AreSlots-class, is_cell-below, number_below}
 use Rattle.study_index.proofs.TurnedNumbers.{least_is}
@@ -43,7 +43,7 @@ IsIndex-index_of p v = record { number = least_number p; least = IsLeastNumber-l
 pub index_of-only : (p : Position) (n : ℕ) → IsValid p → IsIndex p n → n ≡ index_of p
 index_of-only p n v i = IsIndex-unique p n (index_of p) i (IsIndex-index_of p v)
 
-listed_small : (pawns : Bool) (q : ℕ) → q < places pawns → listed pawns q < 64
+listed_small : (pawns : Bool) (q : ℕ) → q < listed_count pawns → listed pawns q < 64
 unfolding listed
 listed_small true q l = omega arith
 listed_small false q l = small (nat_lt q 4) (nat_lt q 7) (nat_lt q 9) refl refl refl
@@ -54,7 +54,7 @@ listed_small false q l = small (nat_lt q 4) (nat_lt q 7) (nat_lt q 9) refl refl 
     small false false true e f g = omega arith
     small false false false e f g = omega arith
 
-mod_small : (pawns : Bool) (h : ℕ) → h % places pawns < places pawns
+mod_small : (pawns : Bool) (h : ℕ) → h % listed_count pawns < listed_count pawns
 mod_small true h = omega arith
 mod_small false h = omega arith
 
@@ -64,53 +64,54 @@ OnBoard m = m.at < 64
 one_on : (s : Slot) (x : ℕ) (xs : List Man) → x < 64 → All OnBoard xs → All OnBoard (man s x ∷ xs)
 one_on s x xs l h = All-cons OnBoard (man s x) xs l h
 
-one_more : (s : Slot) (pawns : Bool) (q : ℕ) (xs : List Man) → q < places pawns → All OnBoard xs → All OnBoard (man s (listed pawns q) ∷ xs)
+one_more : (s : Slot) (pawns : Bool) (q : ℕ) (xs : List Man) → q < listed_count pawns → All OnBoard xs → All OnBoard (man s (listed pawns q) ∷ xs)
 one_more s pawns q xs l h = one_on s (listed pawns q) xs (listed_small pawns q l) h
 
 on_board : (pawns : Bool) (slots : List Slot) (n : ℕ) → AreSlots slots → All OnBoard (men_of pawns slots n)
 on_board pawns (k ∷ b ∷ []) n a =
     let last = man b (n % 64) ∷ [] in
-    one_more k pawns (n / 64 % places pawns) last (mod_small pawns (n / 64)) (one_on b (n % 64) [] (omega arith) (All-nil OnBoard))
+    one_more k pawns (n / 64 % listed_count pawns) last (mod_small pawns (n / 64)) (one_on b (n % 64) [] (omega arith) (All-nil OnBoard))
 on_board pawns (k ∷ b ∷ x ∷ []) n a =
     let last = man x (n % 64) ∷ [] in
     let further = man b (n / 64 % 64) ∷ last in
-    one_more k pawns (n / 64 / 64 % places pawns) further (mod_small pawns (n / 64 / 64))
+    one_more k pawns (n / 64 / 64 % listed_count pawns) further (mod_small pawns (n / 64 / 64))
     (one_on b (n / 64 % 64) last (omega arith) (one_on x (n % 64) [] (omega arith) (All-nil OnBoard)))
 on_board pawns (k ∷ b ∷ x ∷ y ∷ []) n a =
     let last = man y (n % 64) ∷ [] in
     let third = man x (n / 64 % 64) ∷ last in
     let further = man b (n / 64 / 64 % 64) ∷ third in
-    one_more k pawns (n / 64 / 64 / 64 % places pawns) further (mod_small pawns (n / 64 / 64 / 64))
+    one_more k pawns (n / 64 / 64 / 64 % listed_count pawns) further (mod_small pawns (n / 64 / 64 / 64))
     (one_on b (n / 64 / 64 % 64) third (omega arith) (one_on x (n / 64 % 64) last (omega arith) (one_on y (n % 64) [] (omega arith) (All-nil OnBoard))))
 on_board pawns [] n a = absurd a
 on_board pawns (k ∷ []) n a = absurd a
 on_board pawns (k ∷ b ∷ x ∷ y ∷ z ∷ fs) n a = absurd a
 
 -- men in order that have no fault are a position
-valid_told : (c : Class) (n : ℕ) → first_fault (told c n).men (told c n).to_move (told c n).passed ≡ None → IsValid (told c n)
+valid_told : (c : Class) (n : ℕ) → first_fault (position_told c n).men (position_told c n).to_move (position_told c n).passed ≡ None
+    → IsValid (position_told c n)
 valid_told c n e =
     let men = told_men (slots_of c) (without_bit n) in
     record {
       ordered =
           IsAscending-from_sorted (in_order men) (IsSortedByAt-in_order men)
-          (IsFaultless-from_first (in_order men) (told c n).to_move (told c n).passed e).once;
+          (IsFaultless-from_first (in_order men) (position_told c n).to_move (position_told c n).passed e).once;
       on_board = All-permutation OnBoard men (in_order men) (IsPermutation-in_order men)
           (on_board (slots_have_pawn (slots_of c)) (slots_of c) (without_bit n) (AreSlots-class c));
       faultless = e;
     }
 
 -- what is decoded is what is told
-one_told : (c : Class) (n : ℕ) (q : Position) → IsDecoded c n q → told c n ≡ q
+one_told : (c : Class) (n : ℕ) (q : Position) → IsDecoded c n q → position_told c n ≡ q
 one_told c n q d =
     let men = told_men (slots_of c) (without_bit n) in
     let o = IsOfMen-decoded (slots_of c) n q (AreSlots-class c) d in
     let same : IsPermutation q.men (in_order men) =
     IsPermutation-trans q.men men (in_order men) (IsPermutation-sym men q.men o.same)
     (IsPermutation-in_order men) in
-    let none : first_fault (in_order men) (told c n).to_move (told c n).passed ≡ None =
-    sym (first_fault_same men (in_order men) (IsPermutation-in_order men) (told c n).to_move (told c n).passed)
+    let none : first_fault (in_order men) (position_told c n).to_move (position_told c n).passed ≡ None =
+    sym (first_fault_same men (in_order men) (IsPermutation-in_order men) (position_told c n).to_move (position_told c n).passed)
     ∙ told_fault (slots_of c) n q o ∙ d.valid.faultless in
-    same_position (told c n) q (valid_told c n none) d.valid (IsPermutation-sym q.men (in_order men) same) (sym o.move) (sym o.passed)
+    same_position (position_told c n) q (valid_told c n none) d.valid (IsPermutation-sym q.men (in_order men) same) (sym o.move) (sym o.passed)
 
 abbrev test : Class → ℕ → Position → Bool
 test c n r = nat_lt n (cells_of c) && is_none (first_fault r.men r.to_move r.passed) && (index_of r == n)
@@ -138,10 +139,10 @@ told_decoded c n q e = by_test (is_entry c n) refl e
     no_fault None e = refl
     no_fault (Some f) e = absurd (false≢true e)
 
-    by_test : (b : Bool) → is_entry c n ≡ b → cond b (Some (told c n)) None ≡ Some q → IsDecoded c n q
+    by_test : (b : Bool) → is_entry c n ≡ b → cond b (Some (position_told c n)) None ≡ Some q → IsDecoded c n q
     by_test false f e = absurd (let no : None ≡ Some q = e in cc)
     by_test true f e =
-        let r = told c n in
+        let r = position_told c n in
         let men = told_men (slots_of c) (without_bit n) in
         let a = and_parts (nat_lt n (cells_of c) && is_none (first_fault r.men r.to_move r.passed)) (index_of r == n) f in
         let b = and_parts (nat_lt n (cells_of c)) (is_none (first_fault r.men r.to_move r.passed)) a.0 in

@@ -19,7 +19,7 @@ use Rattle.study_board.proofs.Lists.{count_by-cons}
 use Rattle.study_board.proofs.Valid.{IsFaultless-from_first}
 use Rattle.study_index.specs.Filling.{slot_number, man_slot_number, NoneBefore, IsInSlots, IsFilling}
 use Rattle.study_board.specs.Symmetry.{turned_side}
-use Rattle.study_index.specs.Chosen.{exchanged, are_like}
+use Rattle.study_index.specs.Chosen.{last_two_exchanged, are_like}
 
 -- an element, by recursion
 abbrev pub In : Man → List Man → Type 0
@@ -233,7 +233,7 @@ HasKings-from_filling c men xs m f =
     kings_of c xs f.in_slots (in_slot-permutation c 0 men xs f.each_once ∙ m.first) (in_slot-permutation c 1 men xs f.each_once ∙ m.second)
 
 pub fillings_of : (c : Bool) (men xs ys : List Man) → IsMaterial c men → IsFilling c men xs → IsFilling c men ys
-    → (ys ≡ xs) ⊎ ((are_like c xs ≡ true) × (ys ≡ exchanged xs))
+    → (ys ≡ xs) ⊎ ((are_like c xs ≡ true) × (ys ≡ last_two_exchanged xs))
 fillings_of c men xs ys m f g =
     let k = HasKings-from_filling c men xs m f in
     let l = HasKings-from_filling c men ys m g in
@@ -349,7 +349,7 @@ IsMaterial-from_valid c p v =
 swap_tail : (x y : Man) → IsPermutation (x ∷ y ∷ []) (y ∷ x ∷ [])
 swap_tail x y = IsPermutation-append_comm (x ∷ []) (y ∷ [])
 
-pub exchanged-fills : (c : Bool) (men xs : List Man) → are_like c xs ≡ true → IsFilling c men xs → IsFilling c men (exchanged xs)
+pub exchanged-fills : (c : Bool) (men xs : List Man) → are_like c xs ≡ true → IsFilling c men xs → IsFilling c men (last_two_exchanged xs)
 exchanged-fills c men (a ∷ b ∷ x ∷ y ∷ []) e f =
     let d : man_slot_number c x ≡ man_slot_number c y = grind (arith, nat_tests) in
     let s = f.in_slots in

@@ -7,7 +7,7 @@ use Rattle.study_board.specs.declared.men.Kind.{Kind}
 use Rattle.study_board.specs.declared.men.Kind.TheVariants.{King, Queen, Rook, Bishop, Knight, Pawn}
 use Rattle.study_board.specs.declared.men.Man.{Man}
 use Rattle.study_board.specs.Men.{same_side}
-use Rattle.study_material.specs.Lists.{kind_place, put_kind, is_other, kinds_of, comes_before, is_swapped}
+use Rattle.study_material.specs.Lists.{kind_place, put_kind, is_other_than_king, kinds_of, comes_before, is_swapped}
 use Rattle.study_index.specs.Weights.{weight, balanced, balance, balance_of}
 
 weights : List Kind → ℕ
@@ -46,7 +46,7 @@ IsWeighed balance white len black = balance + white ≡ 10 * len + black
 weighed : (men : List Man) → IsWeighed (balance_of men) (weights (kinds_of White men)) (length men) (weights (kinds_of Black men))
 unfolding weights
 weighed [] = refl
-weighed (m ∷ ms) = by_side m.side (is_other m) (weighed ms)
+weighed (m ∷ ms) = by_side m.side (is_other_than_king m) (weighed ms)
   where
     by_side : (s : Side) (b : Bool) → IsWeighed (balance_of ms) (weights (kinds_of White ms)) (length ms) (weights (kinds_of Black ms))
         → IsWeighed (cond b (balanced s (weight m.kind)) 10 + balance_of ms)
@@ -57,14 +57,14 @@ weighed (m ∷ ms) = by_side m.side (is_other m) (weighed ms)
     by_side Black true h = omega (arith, h, weights-put m.kind (kinds_of Black ms))
     by_side Black false h = omega (arith, h)
 
-counted : (men : List Man) → length (kinds_of White men) + length (kinds_of Black men) ≡ length (filter is_other men)
+counted : (men : List Man) → length (kinds_of White men) + length (kinds_of Black men) ≡ length (filter is_other_than_king men)
 counted [] = refl
-counted (m ∷ ms) = by_side m.side (is_other m) (counted ms)
+counted (m ∷ ms) = by_side m.side (is_other_than_king m) (counted ms)
   where
-    by_side : (s : Side) (b : Bool) → length (kinds_of White ms) + length (kinds_of Black ms) ≡ length (filter is_other ms)
+    by_side : (s : Side) (b : Bool) → length (kinds_of White ms) + length (kinds_of Black ms) ≡ length (filter is_other_than_king ms)
         → length (cond (same_side s White && b) (put_kind m.kind (kinds_of White ms)) (kinds_of White ms))
         + length (cond (same_side s Black && b) (put_kind m.kind (kinds_of Black ms)) (kinds_of Black ms))
-        ≡ length (cond b (m ∷ filter is_other ms) (filter is_other ms))
+        ≡ length (cond b (m ∷ filter is_other_than_king ms) (filter is_other_than_king ms))
     by_side White true h = omega (arith, h, length-put m.kind (kinds_of White ms))
     by_side White false h = h
     by_side Black true h = omega (arith, h, length-put m.kind (kinds_of Black ms))
@@ -139,7 +139,7 @@ heavier (x ∷ y ∷ z ∷ zs) bs l = absurd (omega arith)
 heavier_side : (n len white black : ℕ) → n + white ≡ 10 * len + black → nat_lt (10 * len) n ≡ nat_lt white black
 heavier_side n len white black e = grind (arith, nat_tests)
 
-pub swapped_by_weights : (men : List Man) → length (filter is_other men) ≤ 2 → nat_lt (10 * length men) (balance_of men) ≡ is_swapped men
+pub swapped_by_weights : (men : List Man) → length (filter is_other_than_king men) ≤ 2 → nat_lt (10 * length men) (balance_of men) ≡ is_swapped men
 swapped_by_weights men l =
     heavier_side (balance_of men) (length men) (weights (kinds_of White men)) (weights (kinds_of Black men)) (weighed men)
     ∙ heavier (kinds_of White men) (kinds_of Black men) (omega (arith, counted men, l))

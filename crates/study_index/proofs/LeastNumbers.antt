@@ -13,8 +13,8 @@ use Rattle.study_board.specs.Position.{Position, IsValid}
 use Rattle.study_board.specs.declared.symmetry.Symmetry.{Symmetry}
 use Rattle.study_board.specs.Symmetry.{turned_square, turned_side, turned_man}
 use Rattle.study_index.specs.Filling.{IsFilling}
-use Rattle.study_index.specs.Number.{place, number, has_pawn, counted_on, places, side_number}
-use Rattle.study_index.specs.Chosen.{chosen, exchanged, are_like, falls, least, least_by, least_of, turned_number}
+use Rattle.study_index.specs.Number.{place, number, has_pawn, counted_on, listed_count, side_number}
+use Rattle.study_index.specs.Chosen.{chosen, last_two_exchanged, are_like, falls, least, least_by, least_of, turned_number}
 use Rattle.study_index.proofs.Fillings.{IsMaterial, IsMaterial-from_valid, HasKings-from_filling, fillings_of, exchanged-fills}
 use Rattle.study_index.proofs.Symmetries.{admitted, chosen-only, some-listed, chosen-admitted, chosen-colours, chosen-pawns}
 
@@ -62,8 +62,8 @@ IsLeast-both S T (Some x) (Some y) h k =
 
 -- of like men the one on the lower square comes first in the lesser number
 least-falls : (pawns : Bool) (side : Side) (t : Symmetry) (xs : List Man) → are_like t.colours xs ≡ true
-    → least (turned_number pawns side t xs) (turned_number pawns side t (exchanged xs))
-    ≡ cond (falls t xs) (turned_number pawns side t (exchanged xs)) (turned_number pawns side t xs)
+    → least (turned_number pawns side t xs) (turned_number pawns side t (last_two_exchanged xs))
+    ≡ cond (falls t xs) (turned_number pawns side t (last_two_exchanged xs)) (turned_number pawns side t xs)
 unfolding turned_number number
 least-falls pawns side t (a ∷ b ∷ x ∷ y ∷ []) e = by_place (place pawns (turned_square t a.at)) (turned_square t x.at) (turned_square t y.at)
   where
@@ -89,17 +89,17 @@ least-falls pawns side t (a ∷ b ∷ x ∷ y ∷ []) e = by_place (place pawns 
 
     by_place : (o : Option ℕ) (u w : ℕ)
         → least
-        (option_map (λ q. (((side_number side * places pawns + q) * 64 + turned_square t b.at) * 64 + u) * 64 + w)
+        (option_map (λ q. (((side_number side * listed_count pawns + q) * 64 + turned_square t b.at) * 64 + u) * 64 + w)
         o)
-        (option_map (λ q. (((side_number side * places pawns + q) * 64 + turned_square t b.at) * 64 + w) * 64 + u)
+        (option_map (λ q. (((side_number side * listed_count pawns + q) * 64 + turned_square t b.at) * 64 + w) * 64 + u)
         o)
         ≡ cond (nat_lt w u)
-        (option_map (λ q. (((side_number side * places pawns + q) * 64 + turned_square t b.at) * 64 + w) * 64 + u)
+        (option_map (λ q. (((side_number side * listed_count pawns + q) * 64 + turned_square t b.at) * 64 + w) * 64 + u)
         o)
-        (option_map (λ q. (((side_number side * places pawns + q) * 64 + turned_square t b.at) * 64 + u) * 64 + w)
+        (option_map (λ q. (((side_number side * listed_count pawns + q) * 64 + turned_square t b.at) * 64 + u) * 64 + w)
         o)
     by_place None u w = none (nat_lt w u)
-    by_place (Some q) u w = some ((side_number side * places pawns + q) * 64 + turned_square t b.at) u w (nat_lt w u) refl
+    by_place (Some q) u w = some ((side_number side * listed_count pawns + q) * 64 + turned_square t b.at) u w (nat_lt w u) refl
 least-falls pawns side t [] e = absurd (false≢true e)
 least-falls pawns side t (a ∷ []) e = absurd (false≢true e)
 least-falls pawns side t (a ∷ b ∷ []) e = absurd (false≢true e)
@@ -114,33 +114,33 @@ module _ (pawns : Bool) (side : Side) (t : Symmetry) (men xs : List Man) (m : Is
   to_one e n h = elim (fillings_of t.colours men xs h.filling m f h.fills)
       [ inl d ↦ subst (λ ys. at_filling ys n) d h.is | inr d ↦ absurd (false≢true (sym e ∙ d.0)) ]
 
-  to_two : (n : ℕ) → IsNumberBy pawns side t men n → at_filling xs n ⊎ at_filling (exchanged xs) n
+  to_two : (n : ℕ) → IsNumberBy pawns side t men n → at_filling xs n ⊎ at_filling (last_two_exchanged xs) n
   to_two n h = elim (fillings_of t.colours men xs h.filling m f h.fills)
       [ inl d ↦ inl (subst (λ ys. at_filling ys n) d h.is) | inr d ↦ inr (subst (λ ys. at_filling ys n) d.1 h.is) ]
 
   from_one : (n : ℕ) → at_filling xs n → IsNumberBy pawns side t men n
   from_one n e = record { filling = xs; fills = f; is = e }
 
-  from_two : are_like t.colours xs ≡ true → (n : ℕ) → at_filling xs n ⊎ at_filling (exchanged xs) n → IsNumberBy pawns side t men n
+  from_two : are_like t.colours xs ≡ true → (n : ℕ) → at_filling xs n ⊎ at_filling (last_two_exchanged xs) n → IsNumberBy pawns side t men n
   from_two a n (inl e) = from_one n e
-  from_two a n (inr e) = record { filling = exchanged xs; fills = exchanged-fills t.colours men xs a f; is = e }
+  from_two a n (inr e) = record { filling = last_two_exchanged xs; fills = exchanged-fills t.colours men xs a f; is = e }
 
   pub IsLeast-least_by : IsLeast (IsNumberBy pawns side t men) (least_by pawns side t xs)
   unfolding least_by
   IsLeast-least_by =
       let go : (b : Bool) → are_like t.colours xs ≡ b
       → IsLeast (IsNumberBy pawns side t men)
-      (cond b (cond (falls t xs) (turned_number pawns side t (exchanged xs)) (turned_number pawns side t xs))
+      (cond b (cond (falls t xs) (turned_number pawns side t (last_two_exchanged xs)) (turned_number pawns side t xs))
       (turned_number pawns side t xs)) =
       λ b. elim b as (λ v. are_like t.colours xs ≡ v
       → IsLeast (IsNumberBy pawns side t men)
-      (cond v (cond (falls t xs) (turned_number pawns side t (exchanged xs)) (turned_number pawns side t xs))
+      (cond v (cond (falls t xs) (turned_number pawns side t (last_two_exchanged xs)) (turned_number pawns side t xs))
       (turned_number pawns side t xs))) [
-        | true ↦ λ e. IsLeast-same (λ n. at_filling xs n ⊎ at_filling (exchanged xs) n) (IsNumberBy pawns side t men) (from_two e) to_two _
-            (subst (λ r. IsLeast (λ n. at_filling xs n ⊎ at_filling (exchanged xs) n) r) (least-falls pawns side t xs e)
-            (IsLeast-both (at_filling xs) (at_filling (exchanged xs)) (turned_number pawns side t xs)
-            (turned_number pawns side t (exchanged xs)) (IsLeast-one (turned_number pawns side t xs))
-            (IsLeast-one (turned_number pawns side t (exchanged xs)))))
+        | true ↦ λ e. IsLeast-same (λ n. at_filling xs n ⊎ at_filling (last_two_exchanged xs) n) (IsNumberBy pawns side t men) (from_two e) to_two _
+            (subst (λ r. IsLeast (λ n. at_filling xs n ⊎ at_filling (last_two_exchanged xs) n) r) (least-falls pawns side t xs e)
+            (IsLeast-both (at_filling xs) (at_filling (last_two_exchanged xs)) (turned_number pawns side t xs)
+            (turned_number pawns side t (last_two_exchanged xs)) (IsLeast-one (turned_number pawns side t xs))
+            (IsLeast-one (turned_number pawns side t (last_two_exchanged xs)))))
         | false ↦ λ e. IsLeast-same (at_filling xs) (IsNumberBy pawns side t men) from_one (to_one e)
             (turned_number pawns side t xs) (IsLeast-one (turned_number pawns side t xs))
       ]
@@ -152,7 +152,7 @@ same_king : (c : Bool) (men : List Man) (k : Man) (rest ys : List Man) → IsMat
 same_king c men k rest ys m f g = elim (fillings_of c men (k ∷ rest) ys m f g)
     [ inl e ↦ (rest, e) | inr e ↦ (let h = head_exchanged c k rest e.0 in (h.0, e.1 ∙ h.1)) ]
   where
-    head_exchanged : (c : Bool) (k : Man) (rest : List Man) → are_like c (k ∷ rest) ≡ true → (rest' : List Man) × (exchanged (k ∷ rest) ≡ k ∷ rest')
+    head_exchanged : (c : Bool) (k : Man) (rest : List Man) → are_like c (k ∷ rest) ≡ true → (rest' : List Man) × (last_two_exchanged (k ∷ rest) ≡ k ∷ rest')
     head_exchanged c k [] e = ([], refl)
     head_exchanged c k (a ∷ []) e = (_, refl)
     head_exchanged c k (a ∷ b ∷ []) e = (_, refl)
@@ -164,8 +164,9 @@ number-listed : (pawns : Bool) (side : Side) (t : Symmetry) (k : Man) (rest : Li
     → turned_number pawns side t (k ∷ rest) ≡ Some n → (q : ℕ) × (place pawns (turned_square t k.at) ≡ Some q)
 unfolding turned_number number
 number-listed pawns side t k rest n e =
-    let go : (o : Option ℕ) → option_map (λ q. counted_on (side_number side * places pawns + q) (map (turned_man t) rest)) o ≡ Some n → (q : ℕ) × (o ≡ Some q) =
-    λ o. elim o as (λ v. option_map (λ q. counted_on (side_number side * places pawns + q) (map (turned_man t) rest)) v ≡ Some n → (q : ℕ) × (v ≡ Some q))
+    let go : (o : Option ℕ) → option_map (λ q. counted_on (side_number side * listed_count pawns + q) (map (turned_man t) rest)) o ≡ Some n
+    → (q : ℕ) × (o ≡ Some q) =
+    λ o. elim o as (λ v. option_map (λ q. counted_on (side_number side * listed_count pawns + q) (map (turned_man t) rest)) v ≡ Some n → (q : ℕ) × (v ≡ Some q))
     [ None ↦ λ d. cc | Some q ↦ λ d. (q, refl) ]
     in go (place pawns (turned_square t k.at)) e
 
@@ -228,7 +229,7 @@ module _ (c : Bool) (p : Position) (k : Man) (rest : List Man) (v : IsValid p) (
   listed_number d q e =
       let t = chosen pawns d c k.at in
       let b : c ≡ t.colours = sym (chosen-colours pawns d c k.at) in
-      let n = counted_on (side_number side * places pawns + q) (map (turned_man t) rest) in
+      let n = counted_on (side_number side * listed_count pawns + q) (map (turned_man t) rest) in
       (n, record { filling = k ∷ rest; fills = subst (λ b. IsFilling b p.men (k ∷ rest)) b f; is = rw e refl })
 
   pub some_number : (n : ℕ) × IsNumberOf c p n

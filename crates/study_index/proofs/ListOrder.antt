@@ -10,7 +10,7 @@ use Rattle.study_board.specs.declared.men.Kind.TheVariants.{King, Queen, Rook, B
 use Rattle.study_board.specs.Men.{same_side}
 use Rattle.study_board.specs.Position.{Position, IsValid}
 use Rattle.study_material.specs.declared.class.Class.{Class}
-use Rattle.study_material.specs.Lists.{Lists, of, put_kind, kinds_of, lists, is_other}
+use Rattle.study_material.specs.Lists.{Lists, of, put_kind, kinds_of, lists, is_other_than_king}
 use Rattle.study_material.specs.Class.{lists_of}
 use Rattle.study_material.proofs.KindCounts.{kinds_of-IsPermutation, lists-IsPermutation}
 use Rattle.study_index.specs.declared.reading.Slot.{Slot}
@@ -46,20 +46,20 @@ second_slot Black King e = refl
 second_slot White King e = absurd (omega arith)
 second_slot _ _ e = absurd (omega arith)
 
-first_king : (s : Side) (k : Kind) (a : ℕ) → slot_number s k ≡ 0 → is_other (record { side = s; kind = k; at = a }) ≡ false
+first_king : (s : Side) (k : Kind) (a : ℕ) → slot_number s k ≡ 0 → is_other_than_king (record { side = s; kind = k; at = a }) ≡ false
 first_king White King a e = refl
 first_king Black King a e = absurd (omega arith)
 first_king _ _ a e = absurd (omega arith)
 
-second_king : (s : Side) (k : Kind) (a : ℕ) → slot_number s k ≡ 1 → is_other (record { side = s; kind = k; at = a }) ≡ false
+second_king : (s : Side) (k : Kind) (a : ℕ) → slot_number s k ≡ 1 → is_other_than_king (record { side = s; kind = k; at = a }) ≡ false
 second_king Black King a e = refl
 second_king White King a e = absurd (omega arith)
 second_king _ _ a e = absurd (omega arith)
 
-past_king : (side : Side) (m : Man) (xs : List Man) → is_other m ≡ false → kinds_of side (m ∷ xs) ≡ kinds_of side xs
+past_king : (side : Side) (m : Man) (xs : List Man) → is_other_than_king m ≡ false → kinds_of side (m ∷ xs) ≡ kinds_of side xs
 past_king side m xs e = by_side (same_side m.side side)
   where
-    by_side : (b : Bool) → cond (b && is_other m) (put_kind m.kind (kinds_of side xs)) (kinds_of side xs) ≡ kinds_of side xs
+    by_side : (b : Bool) → cond (b && is_other_than_king m) (put_kind m.kind (kinds_of side xs)) (kinds_of side xs) ≡ kinds_of side xs
     by_side true = rw e refl
     by_side false = refl
 

@@ -14,11 +14,11 @@ use Rattle.study_board.specs.declared.men.Side.TheVariants.{White, Black}
 use Rattle.study_board.specs.declared.men.Kind.{Kind}
 use Rattle.study_board.specs.declared.men.Kind.TheVariants.{Pawn}
 use Rattle.study_board.specs.Geometry.{file_of, rank_of}
-use Rattle.study_board.specs.Men.{same_side, other_side, is_man}
+use Rattle.study_board.specs.Men.{same_side, other_side, is_man, is_pawn}
 use Rattle.study_board.specs.Position.{Position, IsValid, could_be_passed, has_man, is_empty, passed_possible}
 use Rattle.study_board.proofs.Valid.{IsFaultless-from_first}
 use Rattle.study_moves.specs.declared.moves.Move.{Move}
-use Rattle.study_moves.specs.Rules.{is_pawn, is_en_passant, is_square, is_legal}
+use Rattle.study_moves.specs.Rules.{is_en_passant, is_square, is_legal}
 use Rattle.study_moves.specs.Bare.{is_taken, is_live, without_passed, bare}
 use Rattle.study_index.specs.Decoded.{square_behind, behind}
 use Rattle.study_moves.proofs.MenOfList.{IsAmong, some_among, same_square, found_among}

@@ -16,9 +16,9 @@ chosen false false colours s = record { files = nat_lt 3 (file_of s); ranks = di
 chosen false true colours s = record { files = differ colours (nat_lt 3 (file_of s)); ranks = nat_lt 3 (rank_of s); diagonal = true; colours = colours }
 
 -- the last two of four men exchanged
-abbrev pub exchanged : List Man → List Man
-exchanged (a ∷ b ∷ x ∷ y ∷ []) = a ∷ b ∷ y ∷ x ∷ []
-exchanged xs = xs
+abbrev pub last_two_exchanged : List Man → List Man
+last_two_exchanged (a ∷ b ∷ x ∷ y ∷ []) = a ∷ b ∷ y ∷ x ∷ []
+last_two_exchanged xs = xs
 
 -- the last two of four men are of one slot
 abbrev pub are_like : Bool → List Man → Bool
@@ -43,7 +43,7 @@ falls t xs = false
 -- the least number by one symmetry, where like men can be exchanged
 unfoldable pub least_by : Bool → Side → Symmetry → List Man → Option ℕ
 least_by pawns to_move t men =
-    if are_like t.colours men then (if falls t men then turned_number pawns to_move t (exchanged men) else turned_number pawns to_move t men)
+    if are_like t.colours men then (if falls t men then turned_number pawns to_move t (last_two_exchanged men) else turned_number pawns to_move t men)
     else turned_number pawns to_move t men
 
 -- the least number by the symmetries that bring the first man, the white king, to a listed square

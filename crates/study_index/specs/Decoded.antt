@@ -17,7 +17,7 @@ use Rattle.study_material.specs.Class.{lists_of}
 use Rattle.study_index.specs.declared.reading.Slot.{Slot}
 use Rattle.study_index.specs.Chosen.{least_of}
 use Rattle.study_index.specs.Filling.{IsFilling, slot_number}
-use Rattle.study_index.specs.Number.{number, places, has_pawn, has_bit, without_bit, IsIndex}
+use Rattle.study_index.specs.Number.{number, listed_count, has_pawn, has_bit, without_bit, IsIndex}
 
 -- what slot a man fills
 abbrev pub slot_filled : Man → Slot
@@ -93,26 +93,26 @@ head slots n = n
 
 -- the men on the squares that the number tells
 abbrev pub men_of : Bool → List Slot → ℕ → List Man
-men_of pawns (k ∷ b ∷ []) n = man k (listed pawns (n / 64 % places pawns)) ∷ man b (n % 64) ∷ []
+men_of pawns (k ∷ b ∷ []) n = man k (listed pawns (n / 64 % listed_count pawns)) ∷ man b (n % 64) ∷ []
 men_of pawns (k ∷ b ∷ x ∷ []) n =
-    man k (listed pawns (n / 64 / 64 % places pawns)) ∷ man b (n / 64 % 64) ∷ man x (n % 64) ∷ []
+    man k (listed pawns (n / 64 / 64 % listed_count pawns)) ∷ man b (n / 64 % 64) ∷ man x (n % 64) ∷ []
 men_of pawns (k ∷ b ∷ x ∷ y ∷ []) n =
-    man k (listed pawns (n / 64 / 64 / 64 % places pawns)) ∷ man b (n / 64 / 64 % 64) ∷ man x (n / 64 % 64) ∷ man y (n % 64) ∷ []
+    man k (listed pawns (n / 64 / 64 / 64 % listed_count pawns)) ∷ man b (n / 64 / 64 % 64) ∷ man x (n / 64 % 64) ∷ man y (n % 64) ∷ []
 men_of pawns slots n = []
 
-abbrev pub side_of : ℕ → Side
-side_of n = if n == 0 then White else Black
+abbrev pub side_numbered : ℕ → Side
+side_numbered n = if n == 0 then White else Black
 
 -- the number is below the numbers of the class (not part of any public contract)
 abbrev pub is_cell : List Slot → ℕ → Bool
-is_cell slots n = nat_lt (head slots n / places (slots_have_pawn slots)) 2
+is_cell slots n = nat_lt (head slots n / listed_count (slots_have_pawn slots)) 2
 
 -- the men and the side to move that a number tells
 abbrev pub told_men : List Slot → ℕ → List Man
 told_men slots n = men_of (slots_have_pawn slots) slots n
 
 abbrev pub told_side : List Slot → ℕ → Side
-told_side slots n = side_of (head slots n / places (slots_have_pawn slots))
+told_side slots n = side_numbered (head slots n / listed_count (slots_have_pawn slots))
 
 -- the least number of men who stand in the order of their slots
 abbrev pub HasLeast : Bool → Side → ℕ → List Man → Type 0

@@ -31,16 +31,18 @@ unfoldable pub index_of : Position → ℕ
 index_of p = with_bit (is_live p) (least_number p)
 
 -- the position of the men, the side and the passed square that a number tells
-abbrev pub told : Class → ℕ → Position
-told c n = record {
+abbrev pub position_told : Class → ℕ → Position
+position_told c n = record {
   men = in_order (told_men (slots_of c) (without_bit n));
   to_move = told_side (slots_of c) (without_bit n);
   passed = passed_behind (has_bit n) (told_side (slots_of c) (without_bit n)) (told_men (slots_of c) (without_bit n));
 }
 
 abbrev pub is_entry : Class → ℕ → Bool
-is_entry c n = nat_lt n (cells_of c) && is_none (first_fault (told c n).men (told c n).to_move (told c n).passed) && (index_of (told c n) == n)
+is_entry c n = nat_lt n (cells_of c)
+    && is_none (first_fault (position_told c n).men (position_told c n).to_move (position_told c n).passed)
+    && (index_of (position_told c n) == n)
 
 -- the position that a number of the class reads as
 unfoldable pub position_numbered : Class → ℕ → Option Position
-position_numbered c n = if is_entry c n then Some (told c n) else None
+position_numbered c n = if is_entry c n then Some (position_told c n) else None

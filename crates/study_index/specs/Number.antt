@@ -10,9 +10,9 @@ use Rattle.study_board.specs.declared.men.Kind.TheVariants.{Pawn}
 use Rattle.study_board.specs.declared.men.Man.{Man}
 use Rattle.study_board.specs.declared.symmetry.Symmetry.{Symmetry}
 use Rattle.study_board.specs.Geometry.{file_of, rank_of}
-use Rattle.study_board.specs.Men.{same_kind}
+use Rattle.study_board.specs.Men.{same_kind, is_pawn}
 use Rattle.study_board.specs.Position.{Position}
-use Rattle.study_board.specs.Symmetry.{is_pawn, image, admits}
+use Rattle.study_board.specs.Symmetry.{image, admits}
 use Rattle.study_material.specs.declared.class.Class.{Class}
 use Rattle.study_moves.specs.Bare.{is_live}
 use Rattle.study_material.specs.Lists.{Lists, is_swapped}
@@ -34,9 +34,9 @@ place false s =
     if nat_lt (file_of s) 4 && not (nat_lt (file_of s) (rank_of s)) then Some (places_before (rank_of s) + file_of s) else None
 
 -- how many squares are listed
-abbrev pub places : Bool → ℕ
-places true = 32
-places false = 10
+abbrev pub listed_count : Bool → ℕ
+listed_count true = 32
+listed_count false = 10
 
 abbrev pub side_number : Side → ℕ
 side_number White = 0
@@ -51,7 +51,7 @@ counted_on n (x ∷ xs) = counted_on (n * 64 + x.at) xs
 unfoldable pub number : Bool → Side → List Man → Option ℕ
 number pawns to_move [] = None
 number pawns to_move (k ∷ rest) =
-    option_map (λ q. counted_on (side_number to_move * places pawns + q) rest) (place pawns k.at)
+    option_map (λ q. counted_on (side_number to_move * listed_count pawns + q) rest) (place pawns k.at)
 
 -- a number of the position: that of a filling with the men of an image, the colours swapped where the class asks for it
 pub record IsNumber (p : Position) (n : ℕ) : Type 0 where
@@ -96,7 +96,7 @@ has_both_pawns l = kinds_have_pawn l.white && kinds_have_pawn l.black
 
 -- two sides to move, the white king's places, 64 squares for each further man
 abbrev pub numbers_of : Class → ℕ
-numbers_of c = 2 * places (class_has_pawn c) * 64 ^ (1 + length (lists_of c).white + length (lists_of c).black)
+numbers_of c = 2 * listed_count (class_has_pawn c) * 64 ^ (1 + length (lists_of c).white + length (lists_of c).black)
 
 -- how many cells the table of a class has: those of the numbers, twice where the bit can be set
 abbrev pub cells_of : Class → ℕ

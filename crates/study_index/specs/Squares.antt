@@ -7,7 +7,7 @@ use Rattle.study_board.specs.declared.symmetry.Symmetry.{Symmetry}
 use Rattle.study_board.specs.Geometry.{file_of, rank_of}
 use Rattle.study_board.specs.Symmetry.{turned_square}
 use Rattle.study_index.specs.Filling.{man_slot_number}
-use Rattle.study_index.specs.Number.{place, places, side_number}
+use Rattle.study_index.specs.Number.{place, listed_count, side_number}
 use Rattle.study_index.specs.Chosen.{least}
 
 -- the slot and the square of a man in one number
@@ -20,8 +20,8 @@ put_key k [] = k ∷ []
 put_key k (x ∷ xs) = if nat_le (x / 64) (k / 64) then x ∷ put_key k xs else k ∷ x ∷ xs
 
 -- the squares of keys
-abbrev pub squares_of : List ℕ → List ℕ
-squares_of ks = map (λ k. k % 64) ks
+abbrev pub squares_of_keys : List ℕ → List ℕ
+squares_of_keys ks = map (λ k. k % 64) ks
 
 -- the symmetry that leaves the colours alone and takes squares where the chosen one takes them
 unfoldable pub brought : Bool → Bool → Bool → ℕ → Symmetry
@@ -37,7 +37,7 @@ counted_at turn n (x ∷ xs) = counted_at turn (n * 64 + turn x) xs
 unfoldable pub number_at : Bool → Side → (ℕ → ℕ) → List ℕ → Option ℕ
 number_at pawns to_move turn [] = None
 number_at pawns to_move turn (k ∷ rest) =
-    option_map (λ q. counted_at turn (side_number to_move * places pawns + q) rest) (place pawns (turn k))
+    option_map (λ q. counted_at turn (side_number to_move * listed_count pawns + q) rest) (place pawns (turn k))
 
 abbrev pub exchanged_at : List ℕ → List ℕ
 exchanged_at (a ∷ b ∷ x ∷ y ∷ []) = a ∷ b ∷ y ∷ x ∷ []

@@ -5,7 +5,7 @@ use Rattle.study_board.specs.declared.men.Side.TheVariants.{White, Black}
 use Rattle.study_board.specs.declared.men.Kind.{Kind}
 use Rattle.study_board.specs.declared.men.Kind.TheVariants.{King, Queen, Rook, Bishop, Knight, Pawn}
 use Rattle.study_board.specs.declared.men.Man.{Man}
-use Rattle.study_material.specs.Lists.{is_other}
+use Rattle.study_material.specs.Lists.{is_other_than_king}
 
 abbrev pub weight : Kind → ℕ
 weight Queen = 9
@@ -21,7 +21,7 @@ balanced White n = 10 - n
 balanced Black n = 10 + n
 
 abbrev pub balance : Man → ℕ
-balance m = if is_other m then balanced m.side (weight m.kind) else 10
+balance m = if is_other_than_king m then balanced m.side (weight m.kind) else 10
 
 abbrev pub balance_of : List Man → ℕ
 balance_of [] = 0

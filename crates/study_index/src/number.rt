@@ -1,7 +1,8 @@
 //! The number of a filling.
+ghost use Rattle.study_board.specs.Men.{is_pawn};
 ghost use Rattle.std.specs.Prelude.{◌≡◌, ◌+◌, ◌*◌, ◌^◌, ◌≤◌, ◌<◌, length, IfSome};
-ghost use Rattle.study_board.specs.Symmetry.{turned_square, is_pawn};
-ghost use Rattle.study_index.specs.Number.{place, places, side_number, has_pawn, places_before};
+ghost use Rattle.study_board.specs.Symmetry.{turned_square};
+ghost use Rattle.study_index.specs.Number.{place, listed_count, side_number, has_pawn, places_before};
 ghost use Rattle.study_index.specs.Squares.{counted_at, number_at};
 
 use crate::turn::turned;
@@ -26,7 +27,7 @@ fn places_before(rank: u8) -> u8
 #[tactic(auto, unfolding(crate::specs::Number::place))]
 pub fn place(pawns: bool, s: Square) -> Option<u8>
     ensures value { result ≡ place pawns s }
-    ensures small { IfSome result (λ q. q < places pawns) }
+    ensures small { IfSome result (λ q. q < listed_count pawns) }
 {
     let (file, rank) = (s.file(), s.rank());
     if pawns {
@@ -102,9 +103,11 @@ fn side_number(side: Side) -> u32
     }
 }
 
+/// On how many squares the white king may stand in a number.
 #[inline]
-fn places(pawns: bool) -> u32
-    ensures value { result ≡ places pawns }
+pub fn listed_count(pawns: bool) -> u32
+    ensures value { result ≡ listed_count pawns }
+    ensures some { 0 < result }
     ensures small { result ≤ 32 }
 {
     if pawns { 32 } else { 10 }
@@ -123,7 +126,7 @@ pub fn number(pawns: bool, to_move: Side, t: Symmetry, squares: &[Square]) -> Op
             None => None,
             Some(q) => Some(counted_on(
                 t,
-                side_number(to_move) * places(pawns) + u32::from(q),
+                side_number(to_move) * listed_count(pawns) + u32::from(q),
                 rest,
             )),
         },

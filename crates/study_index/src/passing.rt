@@ -1,33 +1,20 @@
 //! Captures in passing: whether one is legal, and the square that is passed.
 ghost use Rattle.std.specs.Prelude.{◌≡◌, ◌&&◌, ◌+◌, ◌-◌, find, Some, None};
-ghost use Rattle.study_moves.specs.Rules.{is_square, is_en_passant, is_legal};
+ghost use Rattle.study_moves.specs.Rules.{is_en_passant, is_legal};
 ghost use Rattle.study_moves.specs.Bare.{is_live, is_taken};
 ghost use Rattle.study_board.specs.Men.{is_man};
 ghost use Rattle.study_board.specs.declared.men.Kind.TheVariants.{Pawn};
 ghost use Rattle.study_index.specs.Decoded.{square_behind, behind};
 
 use study_board::{Kind, Man, Position, Side, Square};
-use study_moves::{Move, is_legal};
-
-#[inline]
-fn is_square(square: Option<Square>, x: Square) -> bool
-    ensures { result ≡ is_square square x }
-{
-    match square {
-        None => false,
-        Some(s) => s.number() == x.number(),
-    }
-}
+use study_moves::{Move, is_en_passant, is_legal};
 
 // Whether the man is a pawn that captures on the passed square by a legal move.
 #[inline]
-#[tactic(auto, unfolding(study_moves::specs::Rules::is_en_passant))]
 fn captures(p: &Position, man: &Man, x: Square) -> bool
     ensures { result ≡ (is_en_passant p.now.passed man.now x && is_legal p.now (record { origin = man.now.at; target = x; promoted = None })) }
 {
-    man.kind.is(Kind::Pawn)
-        && !(man.at.file() == x.file())
-        && is_square(p.passed(), x)
+    is_en_passant(p.passed(), man, x)
         && is_legal(
             p,
             Move {

@@ -1,20 +1,19 @@
 //! The positions of numbers.
 ghost use Rattle.std.specs.Prelude.{◌≡◌, ◌&&◌, true, ◌+◌, ◌*◌, ◌/◌, ◌%◌, ◌≤◌, ◌<◌, ◌↔◌, ◌⊎◌, IsTrue, length, IfSome, IfNone, None};
-ghost use Rattle.std.specs.List.{All};
 ghost use Rattle.study_board.specs.Position.{Position as Seen, has_one_king, in_order};
 ghost use Rattle.study_board.specs.declared.men.Side.TheVariants.{White, Black};
 ghost use Rattle.study_material.specs.Class.{lists_of};
-ghost use Rattle.study_index.specs.Number.{places, cells_of};
+ghost use Rattle.study_index.specs.Number.{listed_count, cells_of};
 ghost use Rattle.study_index.specs.Found.{position_numbered};
 ghost use Rattle.study_index.specs.Decoded.{IsDecoded, AreSlots, slots_of, listed, slots_have_pawn};
-ghost use Rattle.study_index.specs.Decoded.{man, head, side_of, told_men, told_side, behind};
+ghost use Rattle.study_index.specs.Decoded.{man, head, side_numbered, told_men, told_side, behind};
 ghost use Rattle.study_index.specs.Decoded.{passed_behind, IsPlaced, IsFaulty, HasLeast};
 ghost use Rattle.study_board.specs.Men.{other_side};
 
 use crate::least::least_of;
+use crate::number::listed_count;
 use crate::passing::{behind, is_live};
-use arrayvec::ArrayVec;
-use study_board::{Kind, Man, Position, Side, Square, is_faulty, place};
+use study_board::{Kind, Man, Position, Side, Square, in_order, is_faulty};
 use study_material::Class;
 
 /// What man fills a place in the order of a class.
@@ -34,7 +33,7 @@ fn has_pawn(slots: &[Slot]) -> bool
 #[inline]
 #[tactic(auto, unfolding(crate::specs::Decoded::listed))]
 fn listed(pawns: bool, place: u32) -> Square
-    requires { place < places pawns }
+    requires { place < listed_count pawns }
     ensures value { result ≡ listed pawns place }
 {
     let number = if pawns {
@@ -52,14 +51,6 @@ fn listed(pawns: bool, place: u32) -> Square
 }
 
 #[inline]
-fn places(pawns: bool) -> u32
-    ensures value { result ≡ places pawns }
-    ensures some { 0 < result }
-{
-    if pawns { 32 } else { 10 }
-}
-
-#[inline]
 fn man(slot: &Slot, square: u32) -> Man
     requires { square < 64 }
     ensures { result ≡ man slot.now square }
@@ -73,12 +64,12 @@ fn man(slot: &Slot, square: u32) -> Man
 
 #[inline]
 fn king(pawns: bool, slot: &Slot, head: u32) -> Man
-    ensures { result ≡ man slot.now (listed pawns (head % places pawns)) }
+    ensures { result ≡ man slot.now (listed pawns (head % listed_count pawns)) }
 {
     Man {
         side: slot.side,
         kind: slot.kind,
-        at: listed(pawns, head % places(pawns)),
+        at: listed(pawns, head % listed_count(pawns)),
     }
 }
 
@@ -96,24 +87,10 @@ fn head(slots: &[Slot], n: u32) -> u32
 }
 
 #[inline]
-fn side_of(n: u32) -> Side
-    ensures { result ≡ side_of n }
+fn side_numbered(n: u32) -> Side
+    ensures { result ≡ side_numbered n }
 {
     if n == 0 { Side::White } else { Side::Black }
-}
-
-/// The men in ascending order of their squares.
-#[inline(always)]
-fn in_order(men: &[Man]) -> ArrayVec<Man, 4>
-    requires { length men.now ≤ 4 }
-    ensures value { result.items ≡ in_order men.now }
-    ensures on_board { All (λ m. m.at < 64) result.items }
-{
-    let mut list = ArrayVec::new();
-    for m in men {
-        place(&mut list, *m);
-    }
-    list
 }
 
 /// The position of these men, if they are one.
@@ -193,7 +170,7 @@ fn read_off(slots: &[Slot], n: u32, passed: bool) -> Option<Position>
         ⊎ (HasLeast (slots_have_pawn slots.now) (told_side slots.now n) n (told_men slots.now n) → ⊥)) }
 {
     let pawns = has_pawn(slots);
-    let side = side_of(head(slots, n) / places(pawns));
+    let side = side_numbered(head(slots, n) / listed_count(pawns));
     match slots {
         [k, b] => {
             let men = [king(pawns, k, n / 64), man(b, n % 64)];

@@ -22,7 +22,7 @@ use Rattle.study_marks.specs.Study.{Study, mapped, mapped_tree, plain_study, IsP
 use Rattle.study_marks.specs.Goals.{aim_of}
 use Rattle.study_marks.specs.Edits.{deleted, promoted, delete_refusal, promote_refusal}
 use Rattle.study_marks.specs.Asked.{counted_times}
-use Rattle.study_marks.specs.Kept.{Kept, shown, marked, IsStudy, IsRight, AllAddUp}
+use Rattle.study_marks.specs.Kept.{Kept, shown, marked, IsStudy, IsKeptRight, AllAddUp}
 use Rattle.study_marks.specs.Told.{AllAreTold}
 use Rattle.study_marks.specs.Renewal.{told_tree}
 use Rattle.study_marks.proofs.SameShape.{mapped-mapped, mapped-without, mapped-moved_up, has_node-mapped}
@@ -204,14 +204,14 @@ told-moved_up p t [] h = h
 told-moved_up p t (k ∷ ks) h = (h.0, AreTold-raised p t.below k ks h.1)
 
 pub removed-right : (k : Kept) (u : Plain Label) (n : ℕ) (ks : List ℕ)
-    → told_tree u ≡ without (told_tree k.study.tree) ks → AllAddUp (aim_of k.study) u → IsRight k
-    → IsRight (record { study = with_tree k.study u; relabelled = n })
+    → told_tree u ≡ without (told_tree k.study.tree) ks → AllAddUp (aim_of k.study) u → IsKeptRight k
+    → IsKeptRight (record { study = with_tree k.study u; relabelled = n })
 removed-right k u n ks e s h = right-told (record { study = with_tree k.study u; relabelled = n }) s
     (subst (AllAreTold k.study.start.position) (sym e) (told-without k.study.start.position (told_tree k.study.tree) ks (AllAreTold-right k h)))
 
 pub raised-right : (k : Kept) (u : Plain Label) (n : ℕ) (ks : List ℕ)
-    → told_tree u ≡ moved_up (told_tree k.study.tree) ks → AllAddUp (aim_of k.study) u → IsRight k
-    → IsRight (record { study = with_tree k.study u; relabelled = n })
+    → told_tree u ≡ moved_up (told_tree k.study.tree) ks → AllAddUp (aim_of k.study) u → IsKeptRight k
+    → IsKeptRight (record { study = with_tree k.study u; relabelled = n })
 raised-right k u n ks e s h = right-told (record { study = with_tree k.study u; relabelled = n }) s
     (subst (AllAreTold k.study.start.position) (sym e) (told-moved_up k.study.start.position (told_tree k.study.tree) ks (AllAreTold-right k h)))
 

@@ -11,14 +11,14 @@ use Rattle.study_marks.specs.declared.stipulation.Stipulation.{Stipulation}
 use Rattle.study_marks.specs.Study.{Study, plain_study, mapped, IsPlayable}
 use Rattle.study_marks.specs.Goals.{aim_of}
 use Rattle.study_marks.specs.Edits.{stipulated, shifted}
-use Rattle.study_marks.specs.Asked.{asked_at, asked_below, asked_of, IsOutside, HasAsked, HasStopped, is_of_tables}
+use Rattle.study_marks.specs.Asked.{asked_at, asked_below, positions_asked, IsOutside, HasAsked, HasStopped, is_of_tables}
 use Rattle.study_marks.specs.declared.fault.Refusal.{Refusal}
 use Rattle.study_material.specs.declared.class.Class.{Class}
 use Rattle.std.specs.Prelude.{Bool, Result, Ok, Err, IfErr, IsErrAnd}
 use Rattle.study_marks.specs.Whole.{retold, retold_tree}
 use Rattle.study_marks.specs.declared.mark.Mark.{Mark}
 use Rattle.study_marks.proofs.SameShape.{IsPlayable-mapped, mapped-IsPlayable}
-use Rattle.study_marks.specs.Kept.{Kept, marked, IsStudy, IsRight, AllAddUp}
+use Rattle.study_marks.specs.Kept.{Kept, marked, IsStudy, IsKeptRight, AllAddUp}
 use Rattle.study_marks.specs.Told.{AllAreTold}
 use Rattle.study_marks.specs.Renewal.{told_tree}
 use Rattle.study_marks.proofs.BenchEdits.{bare, bare-marked, bare-told, Fits, fits, study}
@@ -44,8 +44,8 @@ stipulated-plain k stipulation u n e =
     (bare-marked (record { study = restipulated k.study stipulation u; relabelled = n }) ∙ same-bare k.study.tree u e ∙ sym (bare-marked k))
 
 pub stipulated-right : (k : Kept) (stipulation : Stipulation) (u : Plain Label) (n : ℕ)
-    → told_tree u ≡ told_tree k.study.tree → AllAddUp (aim_of (restipulated k.study stipulation u)) u → IsRight k
-    → IsRight (record { study = restipulated k.study stipulation u; relabelled = n })
+    → told_tree u ≡ told_tree k.study.tree → AllAddUp (aim_of (restipulated k.study stipulation u)) u → IsKeptRight k
+    → IsKeptRight (record { study = restipulated k.study stipulation u; relabelled = n })
 stipulated-right k stipulation u n e s h =
     right-told (record { study = restipulated k.study stipulation u; relabelled = n }) s
     (subst (AllAreTold k.study.start.position) (sym e) (AllAreTold-right k h))
@@ -96,7 +96,7 @@ module _ (all : List Told) (k : Kept) (start : Start) (u : Plain Label) (n : ℕ
 
   pub shifted-right : AllAddUp (aim_of (restarted k.study start u)) u
       → AllAreTold start.position (retold_tree all (told_tree k.study.tree))
-      → IsRight (record { study = restarted k.study start u; relabelled = n })
+      → IsKeptRight (record { study = restarted k.study start u; relabelled = n })
   shifted-right s h = right-told (record { study = restarted k.study start u; relabelled = n }) s (subst (AllAreTold start.position) (sym e) h)
 
 -- what is asked of a study with this start
@@ -108,14 +108,14 @@ asked-mapped g p (more m l b r) =
 
 pub asked-shifted : (b k : Kept) (start : Start) → b ≡ k
     → asked_at start.position ++ asked_below start.position b.study.tree.below
-    ≡ asked_of (shifted (plain_study (marked k)) start)
+    ≡ positions_asked (shifted (plain_study (marked k)) start)
 asked-shifted b k start same =
     ap (λ x. asked_at start.position ++ x)
     (sym (asked-mapped (λ (l : Label). tt {0}) start.position b.study.tree.below)
     ∙ ap (λ (t : Plain (Unit {0})). asked_below start.position t.below) (sym (bare-marked b)))
-    ∙ ap (λ (x : Kept). asked_of (shifted (plain_study (marked x)) start)) same
+    ∙ ap (λ (x : Kept). positions_asked (shifted (plain_study (marked x)) start)) same
 
-pub asked-plain : (s : Study Mark) → asked_of (plain_study s) ≡ asked_of s
+pub asked-plain : (s : Study Mark) → positions_asked (plain_study s) ≡ positions_asked s
 asked-plain s = ap (λ x. asked_at s.start.position ++ x) (asked-mapped (λ (x : Mark). tt {0}) s.start.position s.tree.below)
 
 -- an answer that hands a refusal on

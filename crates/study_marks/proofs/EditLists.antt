@@ -12,10 +12,11 @@ use Rattle.study_marks.specs.declared.fault.Refusal.TheVariants.{OutOfMemory, No
 use Rattle.study_marks.specs.declared.edit.Edit.{Edit}
 use Rattle.study_marks.specs.declared.edit.Edit.TheVariants as edits
 use Rattle.study_marks.specs.Study.{plain_study, position_at}
-use Rattle.study_marks.specs.Asked.{asked_at, asked_of, IsOutside, HasStopped, is_of_tables, counted_times}
+use Rattle.study_marks.specs.Asked.{asked_at, positions_asked, IsOutside, HasStopped, is_of_tables, counted_times}
 use Rattle.study_marks.specs.Edits.{Plainly, shifted, edited, edited_by, insert_refusal, shift_refusal}
-use Rattle.study_marks.specs.Kept.{Kept, marked, IsRight}
-use Rattle.study_marks.specs.Stop.{questions_of, IsRefusalOf, IsAccepted, AreAccepted, labels_after, labels_by, IsStopped, asked_by, HasAskedUpTo, IsApplied}
+use Rattle.study_marks.specs.Kept.{Kept, marked, IsKeptRight}
+use Rattle.study_marks.specs.Stop.{questions_of, IsRefusalOf, IsAccepted, AreAccepted, labels_after, labels_by}
+use Rattle.study_marks.specs.Stop.{IsStopped, asked_after_edits, HasAskedUpTo, IsApplied}
 use Rattle.study_marks.proofs.ValuesAsked.{missing-same, unread-same}
 use Rattle.study_marks.proofs.PositionsListed.{AreTablesHeld-same, take-one}
 
@@ -45,7 +46,7 @@ refusal-same : {A : Type 0} (held now : Class → Bool) (s : Plainly) (e : Edit 
     → ((c : Class) → now c ≡ held c) → IsRefusalOf now s e r → IsRefusalOf held s e r
 refusal-same held now s (edits.Position start) r same h = outside-same held now (asked_at start.position) r same h
 refusal-same held now s (edits.Shift start) r same h =
-    match-same held now (asked_of (shifted s start)) r (shift_refusal s start) (λ fault. (r ≡ fault)
+    match-same held now (positions_asked (shifted s start)) r (shift_refusal s start) (λ fault. (r ≡ fault)
     ⊎ (r ≡ OutOfMemory)) same h
 refusal-same held now s (edits.Stipulate stipulation) r same h = h
 refusal-same held now s (edits.Insert steps m) r same h =
@@ -74,7 +75,7 @@ module _ {A : Type 0} where
   labels-more s (x ∷ es) e n = labels-more (edited s x) es e (labels_after s x n)
 
   asked-more : (s : Plainly) (es : List (Edit A)) (e : Edit A) (n : ℕ)
-      → asked_by s (es ++ e ∷ []) n ≡ counted_times (length (questions_of (edited_by s es) e)) (asked_by s es n)
+      → asked_after_edits s (es ++ e ∷ []) n ≡ counted_times (length (questions_of (edited_by s es) e)) (asked_after_edits s es n)
   asked-more s [] e n = refl
   asked-more s (x ∷ es) e n = asked-more (edited s x) es e (counted_times (length (questions_of s x)) n)
 
@@ -85,7 +86,8 @@ module _ {A : Type 0} where
   stopped-at held s (x ∷ es) (suc i) e r short is h = stopped-at held (edited s x) es i e r (omega (arith, short)) is h
 
   asked-at : (s : Plainly) (es : List (Edit A)) (i : ℕ) (e : Edit A) (r : Refusal A) (old new : ℕ) → i < length es → e ≡ get_or es i e
-      → HasStopped (is_of_tables r) (length (questions_of (edited_by s (take i es)) e)) (asked_by s (take i es) old) new → HasAskedUpTo s es i r old new
+      → HasStopped (is_of_tables r) (length (questions_of (edited_by s (take i es)) e)) (asked_after_edits s (take i es) old) new
+      → HasAskedUpTo s es i r old new
   asked-at s [] i e r old new short is h = absurd (omega (arith, short))
   asked-at s (x ∷ es) zero e r old new short is h = subst (λ y. HasStopped (is_of_tables r) (length (questions_of s y)) old new) is h
   asked-at s (x ∷ es) (suc i) e r old new short is h =
@@ -96,9 +98,9 @@ pub record IsRun {A : Type 0} (held held_now : Class → Bool) (honest honest_no
     (asked asked_now failed failed_now : ℕ) (old new : Kept) (es : List (Edit A)) : Type 0 where
   pub accepted : AreAccepted held (plain_study (marked old)) es
   pub edit : plain_study (marked new) ≡ edited_by (plain_study (marked old)) es
-  pub right : honest → IsRight old → IsRight new
+  pub right : honest → IsKeptRight old → IsKeptRight new
   pub labels : new.relabelled ≡ labels_by (plain_study (marked old)) es old.relabelled
-  pub counts : asked_now ≡ asked_by (plain_study (marked old)) es asked
+  pub counts : asked_now ≡ asked_after_edits (plain_study (marked old)) es asked
   pub failures : failed_now ≡ failed
   pub stays : honest → honest_now
   pub tables : (c : Class) → held_now c ≡ held c

@@ -9,7 +9,7 @@ use Rattle.study_tree.specs.Forest.{Forest, none, more, Twig}
 use Rattle.study_tree.specs.Edits.{node_in, width}
 use Rattle.study_tree.specs.Tree.{Plain, spot_at, twig_spot, has_spot}
 use Rattle.study_marks.specs.declared.label.Label.{Label}
-use Rattle.study_marks.specs.Edits.{broken_from, before}
+use Rattle.study_marks.specs.Edits.{broken_from, first_path}
 use Rattle.study_marks.specs.Bench.{played_by}
 use Rattle.study_marks.specs.Study.{IsPlayable}
 use Rattle.study_marks.specs.Renewal.{below_at, skipped}
@@ -46,14 +46,14 @@ module _ (p : Position) (t : Plain Label) (ks : List ℕ) (k : ℕ) where
 
   from-here : (m : Move) (left : k < width (below_at t.below ks)) → played_by (spot_at t (ks ++ k ∷ [])) ≡ Some m → IsWhole p (below_at t.below ks) k
       → broken_from 0 p (below_at t.below ks)
-      ≡ (if is_legal p m then before k (broken_from 0 (after p m) (below_at t.below (ks ++ k ∷ [])))
+      ≡ (if is_legal p m then first_path k (broken_from 0 (after p m) (below_at t.below (ks ++ k ∷ [])))
       (broken_from (suc k) p (skipped (suc k) (below_at t.below ks))) else Some (k ∷ []))
   from-here m left e h = let w = nth (below_at t.below ks) k left in
       h ∙ ap (broken_from k p) (skipped-nth (below_at t.below ks) k w.0 w.1)
-      ∙ ap (λ x. if is_legal p x then before k (broken_from 0 (after p x) w.0.below)
+      ∙ ap (λ x. if is_legal p x then first_path k (broken_from 0 (after p x) w.0.below)
       (broken_from (suc k) p (skipped (suc k) (below_at t.below ks))) else Some (k ∷ [])) (here m left e)
       ∙ ap (λ x. if is_legal p m
-      then before k (broken_from 0 (after p m) x)
+      then first_path k (broken_from 0 (after p m) x)
       (broken_from (suc k) p (skipped (suc k) (below_at t.below ks))) else Some (k ∷ []))
       (sym (below-further t.below ks k ∙ below-nth (below_at t.below ks) k w.0 w.1))
 
@@ -62,7 +62,7 @@ module _ (p : Position) (t : Plain Label) (ks : List ℕ) (k : ℕ) where
       → IsWhole p (below_at t.below ks) k → is_legal p m ≡ false → broken_from 0 p (below_at t.below ks)
       ≡ Some (k ∷ [])
   broken-here m left e h foul = from-here m left e h
-      ∙ ap (λ b. if b then before k (broken_from 0 (after p m) (below_at t.below (ks ++ k ∷ [])))
+      ∙ ap (λ b. if b then first_path k (broken_from 0 (after p m) (below_at t.below (ks ++ k ∷ [])))
       (broken_from (suc k) p (skipped (suc k) (below_at t.below ks))) else Some (k ∷ [])) foul
 
   -- one below it is not
@@ -70,18 +70,18 @@ module _ (p : Position) (t : Plain Label) (ks : List ℕ) (k : ℕ) where
       → played_by (spot_at t (ks ++ k ∷ [])) ≡ Some m → IsWhole p (below_at t.below ks) k → is_legal p m ≡ true
       → broken_from 0 (after p m) (below_at t.below (ks ++ k ∷ [])) ≡ Some path → broken_from 0 p (below_at t.below ks) ≡ Some (k ∷ path)
   broken-below m path left e h fair under = from-here m left e h
-      ∙ ap (λ b. if b then before k (broken_from 0 (after p m) (below_at t.below (ks ++ k ∷ [])))
+      ∙ ap (λ b. if b then first_path k (broken_from 0 (after p m) (below_at t.below (ks ++ k ∷ [])))
       (broken_from (suc k) p (skipped (suc k) (below_at t.below ks))) else Some (k ∷ [])) fair
-      ∙ ap (λ o. before k o (broken_from (suc k) p (skipped (suc k) (below_at t.below ks)))) under
+      ∙ ap (λ o. first_path k o (broken_from (suc k) p (skipped (suc k) (below_at t.below ks)))) under
 
   -- all are legal
   pub whole-next : (m : Move) → k < width (below_at t.below ks) → played_by (spot_at t (ks ++ k ∷ [])) ≡ Some m
       → IsWhole p (below_at t.below ks) k → is_legal p m ≡ true
       → broken_from 0 (after p m) (below_at t.below (ks ++ k ∷ [])) ≡ None → IsWhole p (below_at t.below ks) (k + 1)
   whole-next m left e h fair under = subst (IsWhole p (below_at t.below ks)) (let z : suc k ≡ k + 1 = omega arith in z) (from-here m left e h
-      ∙ ap (λ b. if b then before k (broken_from 0 (after p m) (below_at t.below (ks ++ k ∷ [])))
+      ∙ ap (λ b. if b then first_path k (broken_from 0 (after p m) (below_at t.below (ks ++ k ∷ [])))
       (broken_from (suc k) p (skipped (suc k) (below_at t.below ks))) else Some (k ∷ [])) fair
-      ∙ ap (λ o. before k o (broken_from (suc k) p (skipped (suc k) (below_at t.below ks)))) under)
+      ∙ ap (λ o. first_path k o (broken_from (suc k) p (skipped (suc k) (below_at t.below ks)))) under)
 
   pub whole-all : width (below_at t.below ks) ≤ k → IsWhole p (below_at t.below ks) k → broken_from 0 p (below_at t.below ks) ≡ None
   whole-all all h = h ∙ ap (broken_from k p) (skipped-all k (below_at t.below ks) all)
@@ -112,12 +112,12 @@ pub whole-playable : (k : ℕ) (p : Position) (f : Forest Label) → broken_from
 whole-playable k p none h = tt
 whole-playable k p (more m l b r) h = go (is_legal p m) refl h (λ eb. whole-playable 0 (after p m) b eb) (λ er. whole-playable (suc k) p r er)
   where
-    under : is_legal p m ≡ true → (o : Option (List ℕ)) → broken_from 0 (after p m) b ≡ o → before k o (broken_from (suc k) p r) ≡ None
+    under : is_legal p m ≡ true → (o : Option (List ℕ)) → broken_from 0 (after p m) b ≡ o → first_path k o (broken_from (suc k) p r) ≡ None
         → (broken_from 0 (after p m) b ≡ None → IsPlayable (after p m) b) → (broken_from (suc k) p r ≡ None → IsPlayable p r) → IsPlayable p (more m l b r)
     under e None eb h first later = (e, first eb, later h)
     under e (Some path) eb h first later = let no : ⊥ = cc in absurd no
 
-    go : (c : Bool) → is_legal p m ≡ c → (if c then before k (broken_from 0 (after p m) b) (broken_from (suc k) p r) else Some (k ∷ [])) ≡ None
+    go : (c : Bool) → is_legal p m ≡ c → (if c then first_path k (broken_from 0 (after p m) b) (broken_from (suc k) p r) else Some (k ∷ [])) ≡ None
         → (broken_from 0 (after p m) b ≡ None → IsPlayable (after p m) b) → (broken_from (suc k) p r ≡ None → IsPlayable p r) → IsPlayable p (more m l b r)
     go false e h first later = let no : ⊥ = cc in absurd no
     go true e h first later = under e (broken_from 0 (after p m) b) refl h first later

@@ -22,7 +22,7 @@ use Rattle.study_marks.specs.declared.fault.Refusal.{Refusal}
 use Rattle.study_marks.specs.declared.fault.Refusal.TheVariants as refusal
 use Rattle.study_marks.specs.Study.{Study, plain_study, moves_to, position_after, position_at, place_at}
 use Rattle.study_marks.specs.Edits.{there, insert_refusal, inserted}
-use Rattle.study_marks.specs.Kept.{Kept, marked, IsStudy, IsRight, AllAddUp}
+use Rattle.study_marks.specs.Kept.{Kept, marked, IsStudy, IsKeptRight, AllAddUp}
 use Rattle.study_marks.specs.Goals.{aim_of}
 use Rattle.study_marks.specs.Asked.{IsOutside, HasAsked, HasStopped, is_of_tables, counted_times}
 use Rattle.study_marks.specs.Refused.{refused_by}
@@ -275,7 +275,7 @@ inserted-plain k u n ks m x e = same-plain k u n
 
 pub inserted-right : (k : Kept) (u : Plain Label) (n : ℕ) (ks : List ℕ) (m : Move) (x : Told)
     → told_tree u ≡ with_child (told_tree k.study.tree) ks m x → AllAddUp (aim_of k.study) u
-    → IsToldOf (after (position_at k.study ks) m) x → IsRight k → IsRight (record { study = with_tree k.study u; relabelled = n })
+    → IsToldOf (after (position_at k.study ks) m) x → IsKeptRight k → IsKeptRight (record { study = with_tree k.study u; relabelled = n })
 inserted-right k u n ks m x e s g h =
     let p = k.study.start.position in
     let old = AllAreTold-right k h in

@@ -17,11 +17,11 @@ use Rattle.study_marks.specs.declared.label.Label.{Label}
 use Rattle.study_marks.specs.declared.label.Told.{Told}
 use Rattle.study_marks.specs.declared.marking.Aim.{Aim}
 use Rattle.study_marks.specs.Study.{mapped, moves_to, position_after}
-use Rattle.study_marks.specs.Goals.{aim_of, hero_moves, holds, reaches, plies_of}
+use Rattle.study_marks.specs.Goals.{aim_of, hero_moves, holds, keeps_goal, plies_of}
 use Rattle.study_marks.specs.Marks.{mark_of, move_mark, faults_in}
 use Rattle.study_marks.specs.Annotated.{AreAnnotated}
 use Rattle.study_marks.specs.Tally.{tally_of}
-use Rattle.study_marks.specs.Kept.{Kept, held_by, kept_mark, shown, AreTallied, IsRight, own, all_faults, faults_below, AddUp, AllAddUp}
+use Rattle.study_marks.specs.Kept.{Kept, held_by, kept_mark, shown, AreTallied, IsKeptRight, own, all_faults, faults_below, AddUp, AllAddUp}
 use Rattle.study_marks.specs.Told.{IsToldOf, AreTold, AllAreTold}
 use Rattle.study_marks.specs.Renewal.{told_tree}
 
@@ -73,7 +73,7 @@ AreTold-annotated a d p v q none h t = tt
 AreTold-annotated a d p v q (more m l b r) h t =
     ((h.0, t.0), AreTold-annotated a (d + 1) (after p m) l.told.value l.told b h.3 t.1, AreTold-annotated a d p v q r h.4 t.2)
 
-pub AllAreTold-right : (k : Kept) → IsRight k → AllAreTold k.study.start.position (told_tree k.study.tree)
+pub AllAreTold-right : (k : Kept) → IsKeptRight k → AllAreTold k.study.start.position (told_tree k.study.tree)
 AllAreTold-right k h = (
   (h.marks.value, h.root),
   AreTold-annotated (aim_of k.study) 0 k.study.start.position
@@ -111,69 +111,69 @@ turn a d h = go (d % 2 == 0) refl a.hero_first h
         flip false e = refl
 
 -- the tally counts what holds, where the opponent is to move
-held-counted : (goal : Goal) (first : Bool) (d : ℕ) (vs : List Value) → held_by goal first d (tally_of vs) ≡ count_by (λ v. reaches goal first d false v) vs
+held-counted : (goal : Goal) (first : Bool) (d : ℕ) (vs : List Value) → held_by goal first d (tally_of vs) ≡ count_by (λ v. keeps_goal goal first d false v) vs
 held-counted Win first d [] = refl
 held-counted Win first d (values.Win n ∷ vs) =
-    let rest : length (tally_of vs).mates ≡ count_by (λ v. reaches Win first d false v) vs = held-counted Win first d vs in
-    let step : count_by (λ v. reaches Win first d false v) (values.Win n ∷ vs)
-    ≡ 0 + count_by (λ v. reaches Win first d false v) vs =
-    count_by-cons (λ v. reaches Win first d false v) (values.Win n) vs in
-    let sum : length (tally_of vs).mates ≡ count_by (λ v. reaches Win first d false v) (values.Win n ∷ vs) = omega (arith, rest, step) in sum
+    let rest : length (tally_of vs).mates ≡ count_by (λ v. keeps_goal Win first d false v) vs = held-counted Win first d vs in
+    let step : count_by (λ v. keeps_goal Win first d false v) (values.Win n ∷ vs)
+    ≡ 0 + count_by (λ v. keeps_goal Win first d false v) vs =
+    count_by-cons (λ v. keeps_goal Win first d false v) (values.Win n) vs in
+    let sum : length (tally_of vs).mates ≡ count_by (λ v. keeps_goal Win first d false v) (values.Win n ∷ vs) = omega (arith, rest, step) in sum
 held-counted Win first d (values.Loss n ∷ vs) =
-    let rest : length (tally_of vs).mates ≡ count_by (λ v. reaches Win first d false v) vs = held-counted Win first d vs in
-    let step : count_by (λ v. reaches Win first d false v) (values.Loss n ∷ vs)
-    ≡ 1 + count_by (λ v. reaches Win first d false v) vs =
-    count_by-cons (λ v. reaches Win first d false v) (values.Loss n) vs in
-    let sum : suc (length (tally_of vs).mates) ≡ count_by (λ v. reaches Win first d false v) (values.Loss n ∷ vs) = omega (arith, rest, step) in sum
+    let rest : length (tally_of vs).mates ≡ count_by (λ v. keeps_goal Win first d false v) vs = held-counted Win first d vs in
+    let step : count_by (λ v. keeps_goal Win first d false v) (values.Loss n ∷ vs)
+    ≡ 1 + count_by (λ v. keeps_goal Win first d false v) vs =
+    count_by-cons (λ v. keeps_goal Win first d false v) (values.Loss n) vs in
+    let sum : suc (length (tally_of vs).mates) ≡ count_by (λ v. keeps_goal Win first d false v) (values.Loss n ∷ vs) = omega (arith, rest, step) in sum
 held-counted Win first d (values.Draw ∷ vs) =
-    let rest : length (tally_of vs).mates ≡ count_by (λ v. reaches Win first d false v) vs = held-counted Win first d vs in
-    let step : count_by (λ v. reaches Win first d false v) (values.Draw ∷ vs)
-    ≡ 0 + count_by (λ v. reaches Win first d false v) vs =
-    count_by-cons (λ v. reaches Win first d false v) (values.Draw) vs in
-    let sum : length (tally_of vs).mates ≡ count_by (λ v. reaches Win first d false v) (values.Draw ∷ vs) = omega (arith, rest, step) in sum
+    let rest : length (tally_of vs).mates ≡ count_by (λ v. keeps_goal Win first d false v) vs = held-counted Win first d vs in
+    let step : count_by (λ v. keeps_goal Win first d false v) (values.Draw ∷ vs)
+    ≡ 0 + count_by (λ v. keeps_goal Win first d false v) vs =
+    count_by-cons (λ v. keeps_goal Win first d false v) (values.Draw) vs in
+    let sum : length (tally_of vs).mates ≡ count_by (λ v. keeps_goal Win first d false v) (values.Draw ∷ vs) = omega (arith, rest, step) in sum
 held-counted Draw first d [] = refl
 held-counted Draw first d (values.Win n ∷ vs) =
-    let rest : length (tally_of vs).mates + (tally_of vs).draws ≡ count_by (λ v. reaches Draw first d false v) vs = held-counted Draw first d vs in
-    let step : count_by (λ v. reaches Draw first d false v) (values.Win n ∷ vs)
-    ≡ 0 + count_by (λ v. reaches Draw first d false v) vs =
-    count_by-cons (λ v. reaches Draw first d false v) (values.Win n) vs in
-    let sum : length (tally_of vs).mates + (tally_of vs).draws ≡ count_by (λ v. reaches Draw first d false v)
+    let rest : length (tally_of vs).mates + (tally_of vs).draws ≡ count_by (λ v. keeps_goal Draw first d false v) vs = held-counted Draw first d vs in
+    let step : count_by (λ v. keeps_goal Draw first d false v) (values.Win n ∷ vs)
+    ≡ 0 + count_by (λ v. keeps_goal Draw first d false v) vs =
+    count_by-cons (λ v. keeps_goal Draw first d false v) (values.Win n) vs in
+    let sum : length (tally_of vs).mates + (tally_of vs).draws ≡ count_by (λ v. keeps_goal Draw first d false v)
     (values.Win n ∷ vs) = omega (arith, rest, step) in sum
 held-counted Draw first d (values.Loss n ∷ vs) =
-    let rest : length (tally_of vs).mates + (tally_of vs).draws ≡ count_by (λ v. reaches Draw first d false v) vs = held-counted Draw first d vs in
-    let step : count_by (λ v. reaches Draw first d false v) (values.Loss n ∷ vs)
-    ≡ 1 + count_by (λ v. reaches Draw first d false v) vs =
-    count_by-cons (λ v. reaches Draw first d false v) (values.Loss n) vs in
-    let sum : suc (length (tally_of vs).mates) + (tally_of vs).draws ≡ count_by (λ v. reaches Draw first d false v)
+    let rest : length (tally_of vs).mates + (tally_of vs).draws ≡ count_by (λ v. keeps_goal Draw first d false v) vs = held-counted Draw first d vs in
+    let step : count_by (λ v. keeps_goal Draw first d false v) (values.Loss n ∷ vs)
+    ≡ 1 + count_by (λ v. keeps_goal Draw first d false v) vs =
+    count_by-cons (λ v. keeps_goal Draw first d false v) (values.Loss n) vs in
+    let sum : suc (length (tally_of vs).mates) + (tally_of vs).draws ≡ count_by (λ v. keeps_goal Draw first d false v)
     (values.Loss n ∷ vs) = omega (arith, rest, step) in sum
 held-counted Draw first d (values.Draw ∷ vs) =
-    let rest : length (tally_of vs).mates + (tally_of vs).draws ≡ count_by (λ v. reaches Draw first d false v) vs = held-counted Draw first d vs in
-    let step : count_by (λ v. reaches Draw first d false v) (values.Draw ∷ vs)
-    ≡ 1 + count_by (λ v. reaches Draw first d false v) vs =
-    count_by-cons (λ v. reaches Draw first d false v) (values.Draw) vs in
-    let sum : length (tally_of vs).mates + (1 + (tally_of vs).draws) ≡ count_by (λ v. reaches Draw first d false v)
+    let rest : length (tally_of vs).mates + (tally_of vs).draws ≡ count_by (λ v. keeps_goal Draw first d false v) vs = held-counted Draw first d vs in
+    let step : count_by (λ v. keeps_goal Draw first d false v) (values.Draw ∷ vs)
+    ≡ 1 + count_by (λ v. keeps_goal Draw first d false v) vs =
+    count_by-cons (λ v. keeps_goal Draw first d false v) (values.Draw) vs in
+    let sum : length (tally_of vs).mates + (1 + (tally_of vs).draws) ≡ count_by (λ v. keeps_goal Draw first d false v)
     (values.Draw ∷ vs) = omega (arith, rest, step) in sum
 held-counted (MateIn k) first d [] = refl
 held-counted (MateIn k) first d (values.Win n ∷ vs) =
     let rest : count_by (λ n. nat_le (d + n) (plies_of first k)) (tally_of vs).mates
-    ≡ count_by (λ v. reaches (MateIn k) first d false v) vs = held-counted (MateIn k) first d vs in
-    let step : count_by (λ v. reaches (MateIn k) first d false v) (values.Win n ∷ vs)
-    ≡ 0 + count_by (λ v. reaches (MateIn k) first d false v) vs =
-    count_by-cons (λ v. reaches (MateIn k) first d false v) (values.Win n) vs in
+    ≡ count_by (λ v. keeps_goal (MateIn k) first d false v) vs = held-counted (MateIn k) first d vs in
+    let step : count_by (λ v. keeps_goal (MateIn k) first d false v) (values.Win n ∷ vs)
+    ≡ 0 + count_by (λ v. keeps_goal (MateIn k) first d false v) vs =
+    count_by-cons (λ v. keeps_goal (MateIn k) first d false v) (values.Win n) vs in
     let sum : count_by (λ n. nat_le (d + n) (plies_of first k)) (tally_of vs).mates
-    ≡ count_by (λ v. reaches (MateIn k) first d false v) (values.Win n ∷ vs) = omega (arith, rest, step) in sum
+    ≡ count_by (λ v. keeps_goal (MateIn k) first d false v) (values.Win n ∷ vs) = omega (arith, rest, step) in sum
 held-counted (MateIn k) first d (values.Loss n ∷ vs) =
     count_by-cons (λ n. nat_le (d + n) (plies_of first k)) n (tally_of vs).mates
     ∙ ap (λ c. (if nat_le (d + n) (plies_of first k) then 1 else 0) + c) (held-counted (MateIn k) first d vs)
-    ∙ sym (count_by-cons (λ v. reaches (MateIn k) first d false v) (values.Loss n) vs)
+    ∙ sym (count_by-cons (λ v. keeps_goal (MateIn k) first d false v) (values.Loss n) vs)
 held-counted (MateIn k) first d (values.Draw ∷ vs) =
     let rest : count_by (λ n. nat_le (d + n) (plies_of first k)) (tally_of vs).mates
-    ≡ count_by (λ v. reaches (MateIn k) first d false v) vs = held-counted (MateIn k) first d vs in
-    let step : count_by (λ v. reaches (MateIn k) first d false v) (values.Draw ∷ vs)
-    ≡ 0 + count_by (λ v. reaches (MateIn k) first d false v) vs =
-    count_by-cons (λ v. reaches (MateIn k) first d false v) (values.Draw) vs in
+    ≡ count_by (λ v. keeps_goal (MateIn k) first d false v) vs = held-counted (MateIn k) first d vs in
+    let step : count_by (λ v. keeps_goal (MateIn k) first d false v) (values.Draw ∷ vs)
+    ≡ 0 + count_by (λ v. keeps_goal (MateIn k) first d false v) vs =
+    count_by-cons (λ v. keeps_goal (MateIn k) first d false v) (values.Draw) vs in
     let sum : count_by (λ n. nat_le (d + n) (plies_of first k)) (tally_of vs).mates
-    ≡ count_by (λ v. reaches (MateIn k) first d false v) (values.Draw ∷ vs) = omega (arith, rest, step) in sum
+    ≡ count_by (λ v. keeps_goal (MateIn k) first d false v) (values.Draw ∷ vs) = omega (arith, rest, step) in sum
 
 -- the mark by what is kept is the one by all values
 mark_of-opponent : (before after : Bool) (n k : ℕ) → mark_of false before after n ≡ mark_of false before after k
@@ -194,7 +194,7 @@ kept-move a d q all w e = go (hero_moves a d) refl
         ≡ mark_of (hero_moves a d) (holds a d q.value) (holds a (d + 1) w) counted
     go true h =
         let same : held ≡ counted = ap (held_by a.goal a.hero_first (d + 1)) e ∙ held-counted a.goal a.hero_first (d + 1) all
-        ∙ ap (λ b. count_by (λ v. reaches a.goal a.hero_first (d + 1) b v) all) (sym (turn a d h)) in
+        ∙ ap (λ b. count_by (λ v. keeps_goal a.goal a.hero_first (d + 1) b v) all) (sym (turn a d h)) in
         ap (mark_of (hero_moves a d) (holds a d q.value) (holds a (d + 1) w)) same
     go false h = subst (λ b. mark_of b (holds a d q.value) (holds a (d + 1) w) held ≡ mark_of b (holds a d q.value) (holds a (d + 1) w) counted) (sym h)
         (mark_of-opponent (holds a d q.value) (holds a (d + 1) w) held counted)
@@ -227,7 +227,7 @@ AreAnnotated-told a d p q (more m l b r) s h t = (
 )
 
 -- from what is told, and faults that add up, to marks that are right
-pub right-told : (k : Kept) → AllAddUp (aim_of k.study) k.study.tree → AllAreTold k.study.start.position (told_tree k.study.tree) → IsRight k
+pub right-told : (k : Kept) → AllAddUp (aim_of k.study) k.study.tree → AllAreTold k.study.start.position (told_tree k.study.tree) → IsKeptRight k
 right-told k s t = record {
   marks = record {
     value = t.0.0;

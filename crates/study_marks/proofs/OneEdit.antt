@@ -13,9 +13,10 @@ use Rattle.study_marks.specs.declared.edit.Edit.TheVariants as edits
 use Rattle.study_marks.specs.declared.mark.Mark.{Mark}
 use Rattle.study_marks.specs.declared.stipulation.Stipulation.{Stipulation}
 use Rattle.study_marks.specs.Study.{plain_study, position_at}
-use Rattle.study_marks.specs.Asked.{asked_at, asked_of, AllHeld, IsOutside, HasAsked, HasStopped, is_of_tables, is_of_device, counted_times, failures_after}
+use Rattle.study_marks.specs.Asked.{asked_at, positions_asked, AllHeld, IsOutside, HasAsked, HasStopped}
+use Rattle.study_marks.specs.Asked.{is_of_tables, is_of_device, counted_times, failures_after}
 use Rattle.study_marks.specs.Edits.{shifted, stipulated, inserted, broken, broken_from, insert_refusal, shift_refusal}
-use Rattle.study_marks.specs.Kept.{Kept, marked, IsRight}
+use Rattle.study_marks.specs.Kept.{Kept, marked, IsKeptRight}
 use Rattle.study_marks.specs.Stop.{IsShiftRefusal, IsAccepted, IsApplied}
 use Rattle.study_marks.proofs.SameShape.{nodes_in-mapped}
 use Rattle.study_marks.proofs.StartShifted.{broken-marked}
@@ -77,7 +78,7 @@ module _ {A : Type 0} (held held_now : Class → Bool) (honest honest_now : Type
       → position_at (marked old) steps ≡ position_at (plain_study (marked old)) steps
       → AllHeld held (asked_at (after (position_at (marked old) steps) m))
       → plain_study (marked new) ≡ inserted (plain_study (marked old)) steps m
-      → (honest → IsRight old → IsRight new)
+      → (honest → IsKeptRight old → IsKeptRight new)
       → new.relabelled ≡ counted_times (length steps + 2) old.relabelled
       → asked_now ≡ counted_times (length (asked_at (after (position_at (marked old) steps) m))) asked
       → failed_now ≡ failed → (honest → honest_now) → ((c : Class) → held_now c ≡ held c)
@@ -103,11 +104,11 @@ module _ {A : Type 0} (held held_now : Class → Bool) (honest honest_now : Type
   -- another start
   pub shift-applied : (e : Edit A) (start copied : Start) (r : Result (Unit {0}) (Refusal A)) → e ≡ edits.Shift start → copied ≡ start
       → OnOk r (broken_from 0 copied.position (marked old).tree.below ≡ None)
-      → IfErr r (IsShiftRefusal held (asked_of (shifted (plain_study (marked old)) copied)) (shift_refusal (plain_study (marked old)) copied))
-      → OnOk r (AllHeld held (asked_of (shifted (plain_study (marked old)) copied)))
-      → OnOk r (plain_study (marked new) ≡ shifted (plain_study (marked old)) copied) → (honest → OnOk r (IsRight new))
+      → IfErr r (IsShiftRefusal held (positions_asked (shifted (plain_study (marked old)) copied)) (shift_refusal (plain_study (marked old)) copied))
+      → OnOk r (AllHeld held (positions_asked (shifted (plain_study (marked old)) copied)))
+      → OnOk r (plain_study (marked new) ≡ shifted (plain_study (marked old)) copied) → (honest → OnOk r (IsKeptRight new))
       → OnOk r (new.relabelled ≡ counted_times (size_of (marked old).tree) old.relabelled)
-      → HasAsked (length (asked_of (shifted (plain_study (marked old)) copied))) r asked asked_now → failed_now ≡ failures_after r failed
+      → HasAsked (length (positions_asked (shifted (plain_study (marked old)) copied))) r asked asked_now → failed_now ≡ failures_after r failed
       → (honest → honest_now) → ((c : Class) → held_now c ≡ held c) → OnErr r (new ≡ old)
       → IsApplied held held_now honest honest_now asked asked_now failed failed_now old new e r
   shift-applied e start copied r is e2 broken_at refusal found edit right labels counts failures stays tables same =
@@ -126,7 +127,7 @@ module _ {A : Type 0} (held held_now : Class → Bool) (honest honest_now : Type
     where
       go : (r : Result (Unit {0}) (Refusal A))
           → OnOk r (broken_from 0 copied.position (marked old).tree.below ≡ None)
-          → OnOk r (AllHeld held (asked_of (shifted (plain_study (marked old)) copied)))
+          → OnOk r (AllHeld held (positions_asked (shifted (plain_study (marked old)) copied)))
           → OnOk r (IsAccepted {A = A} held (plain_study (marked old)) (edits.Shift copied))
       go (Ok x) h k = record { allowed = ap (broken {A = A}) (broken-marked old copied.position ∙ h); found = k }
       go (Err x) h k = tt
@@ -140,7 +141,7 @@ module _ {A : Type 0} (held held_now : Class → Bool) (honest honest_now : Type
   -- another stipulation
   pub stipulation-applied : (e : Edit A) (stipulation : Stipulation) → e ≡ edits.Stipulate stipulation
       → plain_study (marked new) ≡ stipulated (plain_study (marked old)) stipulation
-      → (IsRight old → IsRight new) → new.relabelled ≡ counted_times (size_of (marked old).tree) old.relabelled
+      → (IsKeptRight old → IsKeptRight new) → new.relabelled ≡ counted_times (size_of (marked old).tree) old.relabelled
       → asked_now ≡ asked → failed_now ≡ failed → (honest → honest_now)
       → ((c : Class) → held_now c ≡ held c) → IsApplied held held_now honest honest_now asked asked_now failed failed_now old new e (Ok tt)
   stipulation-applied e stipulation is edit right labels counts failures stays tables =

@@ -13,7 +13,7 @@ use Rattle.study_marks.specs.declared.label.Label.{Label}
 use Rattle.study_marks.specs.declared.mark.Mark.{Mark}
 use Rattle.study_marks.specs.Study.{mapped, plain_study, IsPlayable}
 use Rattle.study_marks.specs.Asked.{IsOutside}
-use Rattle.study_marks.specs.Edits.{before, broken_from, broken, shift_refusal}
+use Rattle.study_marks.specs.Edits.{first_path, broken_from, broken, shift_refusal}
 use Rattle.study_marks.specs.Kept.{Kept, marked}
 use Rattle.study_marks.specs.Renewal.{below_at}
 use Rattle.study_marks.specs.Stop.{IsShiftRefusal}
@@ -23,8 +23,8 @@ use Rattle.study_marks.proofs.FirstIllegalMove.{whole-playable}
 broken-mapped : {L M : Type 0} (g : L → M) (k : ℕ) (p : Position) (f : Forest L) → broken_from k p (mapped g f) ≡ broken_from k p f
 broken-mapped g k p none = refl
 broken-mapped g k p (more m l b r) =
-    ap (λ x. if is_legal p m then before k x (broken_from (suc k) p (mapped g r)) else Some (k ∷ [])) (broken-mapped g 0 (after p m) b)
-    ∙ ap (λ x. if is_legal p m then before k (broken_from 0 (after p m) b) x else Some (k ∷ [])) (broken-mapped g (suc k) p r)
+    ap (λ x. if is_legal p m then first_path k x (broken_from (suc k) p (mapped g r)) else Some (k ∷ [])) (broken-mapped g 0 (after p m) b)
+    ∙ ap (λ x. if is_legal p m then first_path k (broken_from 0 (after p m) b) x else Some (k ∷ [])) (broken-mapped g (suc k) p r)
 
 -- the first broken move is that of the study which is shown
 pub broken-shown : (b k : Kept) (p : Position) (steps : List ℕ) → b ≡ k → steps ≡ []

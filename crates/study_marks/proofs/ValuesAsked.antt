@@ -16,13 +16,13 @@ use Rattle.study_prober.specs.declared.values.ProbeFault.{ProbeFault}
 use Rattle.study_prober.specs.declared.values.ProbeFault.TheVariants as probe
 use Rattle.study_board.specs.Counts.{counted}
 use Rattle.study_marks.specs.Annotated.{AreValuesAfter}
-use Rattle.study_marks.specs.Tally.{Tally, tally_of, with_value, with_last_value, joined}
+use Rattle.study_marks.specs.Tally.{Tally, tally_of, with_value, with_last_value, tallies_joined}
 use Rattle.study_index.specs.Found.{index_of}
 use Rattle.study_marks.specs.Asked.{IsTableHeld, IsFirstMissing, IsFirstUnread, counted_times}
 use Rattle.study_marks.specs.Told.{IsUntold, WasAsked}
 
 -- one value more, counted before or after
-joined-with : (t u : Tally) (v : Value) → joined (with_last_value t v) u ≡ joined t (with_value v u)
+joined-with : (t u : Tally) (v : Value) → tallies_joined (with_last_value t v) u ≡ tallies_joined t (with_value v u)
 joined-with t u (Win n) = refl
 joined-with t u (Loss n) = ap (λ ms. record { mates = ms; draws = t.draws + u.draws }) (append_assoc t.mates (n ∷ []) u.mates)
 joined-with t u Draw =
@@ -31,14 +31,14 @@ joined-with t u Draw =
 
 -- the values after the moves are in the tally
 abbrev pub AreCounted : Position → List Move → Tally → Tally → Type 0
-AreCounted p ms old new = (all : List Value) × AreValuesAfter p ms all × (new ≡ joined old (tally_of all))
+AreCounted p ms old new = (all : List Value) × AreValuesAfter p ms all × (new ≡ tallies_joined old (tally_of all))
 
 pub counted-more : {T : Type 0} (p : Position) (m : Move) (ms rest : List Move) (v : Value) (old mid new : Tally)
     (r : Result T ProbeFault) → ms ≡ m ∷ rest → IsValueOf (after p m) v → mid ≡ with_last_value old v
     → OnOk r (AreCounted p rest mid new) → OnOk r (AreCounted p ms old new)
 counted-more p m ms rest v old mid new (Ok x) e g t h =
     subst (λ (l : List Move). AreCounted p l old new) (sym e)
-    (v ∷ h.0, (g, h.1), h.2 ∙ ap (λ u. joined u (tally_of h.0)) t ∙ joined-with old (tally_of h.0) v)
+    (v ∷ h.0, (g, h.1), h.2 ∙ ap (λ u. tallies_joined u (tally_of h.0)) t ∙ joined-with old (tally_of h.0) v)
 counted-more p m ms rest v old mid new (Err f) e g t h = tt
 
 -- tables that are held

@@ -26,8 +26,8 @@ module _ {L : Type 0} where
   asked_below p none = []
   asked_below p (more m l b r) = asked_at (after p m) ++ (asked_below (after p m) b ++ asked_below p r)
 
-  abbrev pub asked_of : Study L → List Position
-  asked_of s = asked_at s.start.position ++ asked_below s.start.position s.tree.below
+  abbrev pub positions_asked : Study L → List Position
+  positions_asked s = asked_at s.start.position ++ asked_below s.start.position s.tree.below
 
 -- a table of the position's class is held
 abbrev pub IsTableHeld : (Class → Bool) → Position → Type 0

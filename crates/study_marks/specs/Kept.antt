@@ -64,7 +64,7 @@ AreTallied p none = Unit {0}
 AreTallied p (more m l b r) = IsTallied (after p m) l.told.tally × AreTallied (after p m) b × AreTallied p r
 
 -- The marks are those of annotating from scratch, and so is what is kept to find them.
-pub record IsRight (k : Kept) : Type 0 where
+pub record IsKeptRight (k : Kept) : Type 0 where
   pub marks : IsAnnotated (marked k)
   pub root : IsTallied k.study.start.position k.study.tree.label.told.tally
   pub tallies : AreTallied k.study.start.position k.study.tree.below

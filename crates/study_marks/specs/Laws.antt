@@ -26,8 +26,8 @@ AnnotationsAreUnique = (s t : Study Mark) → IsAnnotated s → IsAnnotated t �
 -- The edits of a plain study are edits of its rows in written order: another position keeps the root's row alone,
 -- another start keeps all rows, an inserted move is a row after the block of its parent,
 -- a deleted one takes its block away, and a promoted one lets its block change places with that of the sibling before it.
-abbrev pub EditsAreOfRows : Type 0
-EditsAreOfRows =
+abbrev pub StudyEditsAreOfRows : Type 0
+StudyEditsAreOfRows =
     ((s : Plainly) (start : Start) → rows (positioned s start).tree ≡ take 1 (rows s.tree))
     × ((s : Plainly) (start : Start) → rows (shifted s start).tree ≡ rows s.tree)
     × ((s : Plainly) (steps : List ℕ) (m : Move) → rows (inserted s steps m).tree ≡ rows_with_child (rows s.tree) steps m tt)

@@ -12,15 +12,16 @@ use Rattle.study_marks.specs.declared.edit.Edit.{Edit}
 use Rattle.study_marks.specs.declared.edit.Edit.TheVariants as edits
 use Rattle.study_marks.specs.declared.edit.Stopped.{Stopped}
 use Rattle.study_marks.specs.Study.{plain_study, position_at}
-use Rattle.study_marks.specs.Asked.{asked_at, asked_of, AllHeld, IsOutside, HasAsked, HasStopped, is_of_tables, is_of_device, counted_times, failures_after}
+use Rattle.study_marks.specs.Asked.{asked_at, positions_asked, AllHeld, IsOutside, HasAsked, HasStopped}
+use Rattle.study_marks.specs.Asked.{is_of_tables, is_of_device, counted_times, failures_after}
 use Rattle.study_marks.specs.Edits.{Plainly, shifted, edited, edit_refusal, insert_refusal, delete_refusal, promote_refusal, shift_refusal, tag_refusal}
-use Rattle.study_marks.specs.Kept.{Kept, marked, IsRight}
+use Rattle.study_marks.specs.Kept.{Kept, marked, IsKeptRight}
 
 module _ {A : Type 0} where
   -- the positions whose values an edit of this study asks
   abbrev pub questions_of : Plainly → Edit A → List Position
   questions_of s (edits.Position start) = asked_at start.position
-  questions_of s (edits.Shift start) = asked_of (shifted s start)
+  questions_of s (edits.Shift start) = positions_asked (shifted s start)
   questions_of s (edits.Stipulate stipulation) = []
   questions_of s (edits.Insert steps m) = asked_at (after (position_at s steps) m)
   questions_of s (edits.Delete steps) = []
@@ -34,7 +35,7 @@ module _ {A : Type 0} where
   -- the edit of this study may be refused so
   abbrev pub IsRefusalOf : (Class → Bool) → Plainly → Edit A → Refusal A → Type 0
   IsRefusalOf held s (edits.Position start) r = IsOutside held (asked_at start.position) r
-  IsRefusalOf held s (edits.Shift start) r = IsShiftRefusal held (asked_of (shifted s start)) (shift_refusal s start) r
+  IsRefusalOf held s (edits.Shift start) r = IsShiftRefusal held (positions_asked (shifted s start)) (shift_refusal s start) r
   IsRefusalOf held s (edits.Stipulate stipulation) r = ⊥
   IsRefusalOf held s (edits.Insert steps m) r =
       MatchOption (insert_refusal s steps m) (IsOutside held (asked_at (after (position_at s steps) m)) r) (λ fault. r ≡ fault)
@@ -77,9 +78,9 @@ module _ {A : Type 0} where
   IsStopped held s (e ∷ es) (suc n) r = IsStopped held (edited s e) es n r
 
   -- how many values were asked: all of each accepted edit, and up to one that was not told of the refused one
-  abbrev pub asked_by : Plainly → List (Edit A) → ℕ → ℕ
-  asked_by s [] n = n
-  asked_by s (e ∷ es) n = asked_by (edited s e) es (counted_times (length (questions_of s e)) n)
+  abbrev pub asked_after_edits : Plainly → List (Edit A) → ℕ → ℕ
+  asked_after_edits s [] n = n
+  asked_after_edits s (e ∷ es) n = asked_after_edits (edited s e) es (counted_times (length (questions_of s e)) n)
 
   abbrev pub HasAskedUpTo : Plainly → List (Edit A) → ℕ → Refusal A → ℕ → ℕ → Type 0
   HasAskedUpTo s [] n r old new = ⊥
@@ -87,7 +88,7 @@ module _ {A : Type 0} where
   HasAskedUpTo s (e ∷ es) (suc n) r old new = HasAskedUpTo (edited s e) es n r (counted_times (length (questions_of s e)) old) new
 
   abbrev pub HasAskedBy : Plainly → List (Edit A) → Result (Unit {0}) (Stopped A) → ℕ → ℕ → Type 0
-  HasAskedBy s es (Ok x) old new = new ≡ asked_by s es old
+  HasAskedBy s es (Ok x) old new = new ≡ asked_after_edits s es old
   HasAskedBy s es (Err stop) old new = HasAskedUpTo s es stop.done stop.refusal old new
 
   -- the count of failures rises exactly where a device is refused
@@ -103,7 +104,7 @@ module _ {A : Type 0} where
     pub refusal : IfErr r (IsRefusalOf held (plain_study (marked old)) e)
     pub accepted : OnOk r (IsAccepted held (plain_study (marked old)) e)
     pub edit : OnOk r (plain_study (marked new) ≡ edited (plain_study (marked old)) e)
-    pub right : honest → IsRight old → OnOk r (IsRight new)
+    pub right : honest → IsKeptRight old → OnOk r (IsKeptRight new)
     pub labels : OnOk r (new.relabelled ≡ labels_after (plain_study (marked old)) e old.relabelled)
     pub counts : HasAsked (length (questions_of (plain_study (marked old)) e)) r asked asked_now
     pub failures : failed_now ≡ failures_after r failed

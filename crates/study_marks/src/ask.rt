@@ -1,33 +1,19 @@
 //! Values asked.
 ghost use Rattle.std.specs.Prelude.{◌≡◌, ◌+◌, ◌≤◌, true, List, length, map, is_ok, OnOk, IfOk, IfErr};
 ghost use Rattle.std.specs.List.{All};
-ghost use Rattle.study_board.specs.Position.{IsValid};
 ghost use Rattle.study_material.specs.declared.class.Class.{Class as AClass};
 ghost use Rattle.study_moves.specs.Rules.{is_legal, after};
-ghost use Rattle.study_moves.specs.LegalList.{legal_list};
 ghost use Rattle.study_retro.specs.declared.value.Value.{Value as AValue};
 ghost use Rattle.study_marks.specs.Annotated.{AreValuesAfter};
-ghost use Rattle.study_marks.specs.Tally.{tally_of, joined};
+ghost use Rattle.study_marks.specs.Tally.{tally_of, tallies_joined};
 ghost use Rattle.study_marks.specs.Asked.{asked_at, AreTablesHeld};
 ghost use Rattle.study_marks.specs.Told.{IsToldOf, IsUntold, WasAsked, failures_told};
 
 use crate::label::Told;
 use crate::tally::Tally;
-use arrayvec::ArrayVec;
 use study_board::Position;
 use study_moves::{Move, legal_moves, played};
 use study_prober::{ProbeFault, Values};
-
-/// The legal moves in their order.
-fn legal_list(p: &Position) -> ArrayVec<Move, 256>
-    ensures moves { result.items ≡ legal_list p.now }
-    ensures legal { All (λ m. is_legal p.now m ≡ true) result.items }
-    ensures few { length result.items ≤ 256 }
-    ensures valid { IsValid p.now }
-{
-    let _valid = p.men();
-    legal_moves(p)
-}
 
 /// Asks the values after these moves, and adds them to the tally.
 fn ask_after<V: Values>(
@@ -39,7 +25,7 @@ fn ask_after<V: Values>(
     requires legal { All (λ m. is_legal p.now m ≡ true) moves.now }
     requires room { length tally.old.mates + tally.old.draws + length moves.now ≤ 256 }
     ensures game { V.is_honest values.old → OnOk result ((all : List AValue) × AreValuesAfter p.now moves.now all
-        × (tally.new ≡ joined tally.old (tally_of all))) }
+        × (tally.new ≡ tallies_joined tally.old (tally_of all))) }
     ensures untold { IfErr result (IsUntold (V.held values.old) (map (after p.now) moves.now)) }
     ensures held { OnOk result (AreTablesHeld (V.held values.old) (map (after p.now) moves.now)) }
     ensures asked { WasAsked (length moves.now) (is_ok result) (V.asked_of values.old) (V.asked_of values.new) }
@@ -75,7 +61,7 @@ pub fn ask<V: Values>(p: &Position, values: &mut V) -> Result<Told, ProbeFault>
     match values.value(p) {
         Err(fault) => Err(fault),
         Ok(value) => {
-            let moves = legal_list(p);
+            let moves = legal_moves(p);
             let mut tally = Tally::new();
             match ask_after(p, moves.as_slice(), values, &mut tally) {
                 Err(fault) => Err(fault),

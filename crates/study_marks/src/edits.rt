@@ -8,12 +8,12 @@ ghost use Rattle.study_tree.specs.Edits.{children_at};
 ghost use Rattle.study_tree.specs.Tree.{size_of};
 ghost use Rattle.study_marks.specs.Bench.{text_of};
 ghost use Rattle.study_marks.specs.Study.{plain_study, position_at, place_of_tag, IsPlayable};
-ghost use Rattle.study_marks.specs.Kept.{marked, IsRight};
-ghost use Rattle.study_marks.specs.Asked.{asked_at, asked_of, is_of_tables, AllHeld, IsOutside, HasAsked, failures_after, counted_times};
+ghost use Rattle.study_marks.specs.Kept.{marked, IsKeptRight};
+ghost use Rattle.study_marks.specs.Asked.{asked_at, positions_asked, is_of_tables, AllHeld, IsOutside, HasAsked, failures_after, counted_times};
 ghost use Rattle.study_marks.specs.Stop.{IsShiftRefusal, IsStopped, AreAccepted, accepted_of, labels_by, HasAskedBy, failures_stopped, IsApplied};
 ghost use Rattle.study_marks.specs.Edits.{broken_from, positioned, shifted, stipulated, inserted, deleted};
 ghost use Rattle.study_marks.specs.Edits.{promoted, tagged, edited_by, insert_refusal, delete_refusal};
-ghost use Rattle.study_marks.specs.Edits.{promote_refusal, shift_refusal, is_printed, is_tag_text, tag_refusal};
+ghost use Rattle.study_marks.specs.Edits.{promote_refusal, shift_refusal, is_printable, is_tag_text, tag_refusal};
 ghost use Rattle.std.specs.List.{list_all};
 
 use crate::ask::ask;
@@ -54,7 +54,7 @@ impl<'a, A: Allocator> Bench<'a, A> {
           tags = None ∷ None ∷ None ∷ None ∷ None ∷ None ∷ [];
           tree = record { label = tt; below = none };
         }) }
-        ensures right { V.is_honest values.old → IfOk result IsRight }
+        ensures right { V.is_honest values.old → IfOk result IsKeptRight }
         ensures relabelled { IfOk result (λ b. b.relabelled ≡ 1) }
         ensures asked { HasAsked (length (asked_at start.position)) result (V.asked_of values.old) (V.asked_of values.new) }
         ensures failures { V.failed_of values.new ≡ failures_after result (V.failed_of values.old) }
@@ -81,7 +81,7 @@ impl<'a, A: Allocator> Bench<'a, A> {
         ensures takes_no_memory { IfErr result (λ e. is_of_tables e ≡ true) }
         ensures found { OnOk result (AllHeld (V.held values.old) (asked_at start.position)) }
         ensures edited { OnOk result (plain_study (marked self.new) ≡ positioned (plain_study (marked self.old)) start) }
-        ensures right { V.is_honest values.old → OnOk result (IsRight self.new) }
+        ensures right { V.is_honest values.old → OnOk result (IsKeptRight self.new) }
         ensures relabelled { OnOk result (self.new.relabelled ≡ 1) }
         ensures asked { HasAsked (length (asked_at start.position)) result (V.asked_of values.old) (V.asked_of values.new) }
         ensures failures { V.failed_of values.new ≡ failures_after result (V.failed_of values.old) }
@@ -102,13 +102,14 @@ impl<'a, A: Allocator> Bench<'a, A> {
         values: &mut V,
     ) -> Result<(), Refusal<'a, A>>
         ensures broken { OnOk result (broken_from 0 start.position (marked self.old).tree.below ≡ None) }
-        ensures refusal { IfErr result (IsShiftRefusal (V.held values.old) (asked_of (shifted (plain_study (marked self.old)) start))
+        ensures refusal { IfErr result (IsShiftRefusal (V.held values.old) (positions_asked (shifted (plain_study (marked self.old)) start))
             (shift_refusal (plain_study (marked self.old)) start)) }
         ensures edited { OnOk result (plain_study (marked self.new) ≡ shifted (plain_study (marked self.old)) start) }
-        ensures right { V.is_honest values.old → OnOk result (IsRight self.new) }
+        ensures right { V.is_honest values.old → OnOk result (IsKeptRight self.new) }
         ensures relabelled { OnOk result (self.new.relabelled ≡ counted_times (size_of (marked self.old).tree) self.old.relabelled) }
-        ensures found { OnOk result (AllHeld (V.held values.old) (asked_of (shifted (plain_study (marked self.old)) start))) }
-        ensures asked { HasAsked (length (asked_of (shifted (plain_study (marked self.old)) start))) result (V.asked_of values.old) (V.asked_of values.new) }
+        ensures found { OnOk result (AllHeld (V.held values.old) (positions_asked (shifted (plain_study (marked self.old)) start))) }
+        ensures asked { HasAsked (length (positions_asked (shifted (plain_study (marked self.old)) start))) result
+            (V.asked_of values.old) (V.asked_of values.new) }
         ensures failures { V.failed_of values.new ≡ failures_after result (V.failed_of values.old) }
         ensures honest { V.is_honest values.old → V.is_honest values.new }
         ensures tables { (c : AClass) → V.held values.new c ≡ V.held values.old c }
@@ -134,7 +135,7 @@ impl<'a, A: Allocator> Bench<'a, A> {
         ensures found { OnOk result (AllHeld (V.held values.old) (asked_at (after (position_at (marked self.old) path.now) m))) }
         ensures edited { OnOk result (plain_study (marked self.new) ≡ inserted (plain_study (marked self.old)) path.now m) }
         ensures place { IfOk result (λ k. k ≡ children_at (marked self.old).tree.below path.now) }
-        ensures right { V.is_honest values.old → IsRight self.old → OnOk result (IsRight self.new) }
+        ensures right { V.is_honest values.old → IsKeptRight self.old → OnOk result (IsKeptRight self.new) }
         ensures relabelled { OnOk result (self.new.relabelled ≡ counted_times (length path.now + 2) self.old.relabelled) }
         ensures asked { HasAsked (length (asked_at (after (position_at (marked self.old) path.now) m))) result (V.asked_of values.old) (V.asked_of values.new) }
         ensures failures { V.failed_of values.new ≡ failures_after result (V.failed_of values.old) }
@@ -156,7 +157,7 @@ impl<'a, A: Allocator> Bench<'a, A> {
     /// Another stipulation.
     pub fn set_stipulation(&mut self, stipulation: Stipulation)
         ensures edited { plain_study (marked self.new) ≡ stipulated (plain_study (marked self.old)) stipulation }
-        ensures right { IsRight self.old → IsRight self.new }
+        ensures right { IsKeptRight self.old → IsKeptRight self.new }
         ensures relabelled { self.new.relabelled ≡ counted_times (size_of (marked self.old).tree) self.old.relabelled }
     {
         let aim = aim_of(&stipulation, self.start.position.to_move());
@@ -168,7 +169,7 @@ impl<'a, A: Allocator> Bench<'a, A> {
     pub fn delete(&mut self, path: &Path<'a, A>) -> Result<(), Refusal<'a, A>>
         ensures refusal { MatchOption (delete_refusal (plain_study (marked self.old)) path.now) (IsOk result) (λ fault. result ≡ Err fault) }
         ensures edited { OnOk result (plain_study (marked self.new) ≡ deleted (plain_study (marked self.old)) path.now) }
-        ensures right { IsRight self.old → OnOk result (IsRight self.new) }
+        ensures right { IsKeptRight self.old → OnOk result (IsKeptRight self.new) }
         ensures relabelled { OnOk result (self.new.relabelled ≡ counted_times (length path.now) self.old.relabelled) }
         ensures same { OnErr result (self.new ≡ self.old) }
     {
@@ -181,7 +182,7 @@ impl<'a, A: Allocator> Bench<'a, A> {
     pub fn promote(&mut self, path: &Path<'a, A>) -> Result<(), Refusal<'a, A>>
         ensures refusal { MatchOption (promote_refusal (plain_study (marked self.old)) path.now) (IsOk result) (λ fault. result ≡ Err fault) }
         ensures edited { OnOk result (plain_study (marked self.new) ≡ promoted (plain_study (marked self.old)) path.now) }
-        ensures right { IsRight self.old → OnOk result (IsRight self.new) }
+        ensures right { IsKeptRight self.old → OnOk result (IsKeptRight self.new) }
         ensures relabelled { OnOk result (self.new.relabelled ≡ counted_times (length path.now) self.old.relabelled) }
         ensures same { OnErr result (self.new ≡ self.old) }
     {
@@ -194,7 +195,7 @@ impl<'a, A: Allocator> Bench<'a, A> {
     pub fn set_tag(&mut self, name: TagName, text: &str) -> Result<(), Refusal<'a, A>>
         ensures refusal { MatchOption (tag_refusal text.now) (IsOk result) (λ fault. result ≡ Err fault) }
         ensures edited { OnOk result (plain_study (marked self.new) ≡ tagged (plain_study (marked self.old)) name text.now) }
-        ensures right { IsRight self.old → OnOk result (IsRight self.new) }
+        ensures right { IsKeptRight self.old → OnOk result (IsKeptRight self.new) }
         ensures relabelled { self.new.relabelled ≡ self.old.relabelled }
         ensures same { OnErr result (self.new ≡ self.old) }
     {
@@ -212,12 +213,12 @@ impl<'a, A: Allocator> Bench<'a, A> {
 
     /// Asks every value anew.
     pub fn reannotate<V: Values>(&mut self, values: &mut V) -> Result<(), Refusal<'a, A>>
-        ensures refusal { IfErr result (IsOutside (V.held values.old) (asked_of (marked self.old))) }
+        ensures refusal { IfErr result (IsOutside (V.held values.old) (positions_asked (marked self.old))) }
         ensures study { OnOk result (plain_study (marked self.new) ≡ plain_study (marked self.old)) }
-        ensures right { V.is_honest values.old → OnOk result (IsRight self.new) }
+        ensures right { V.is_honest values.old → OnOk result (IsKeptRight self.new) }
         ensures relabelled { OnOk result (self.new.relabelled ≡ counted_times (size_of (marked self.old).tree) self.old.relabelled) }
-        ensures found { OnOk result (AllHeld (V.held values.old) (asked_of (marked self.old))) }
-        ensures asked { HasAsked (length (asked_of (marked self.old))) result (V.asked_of values.old) (V.asked_of values.new) }
+        ensures found { OnOk result (AllHeld (V.held values.old) (positions_asked (marked self.old))) }
+        ensures asked { HasAsked (length (positions_asked (marked self.old))) result (V.asked_of values.old) (V.asked_of values.new) }
         ensures failures { V.failed_of values.new ≡ failures_after result (V.failed_of values.old) }
         ensures honest { V.is_honest values.old → V.is_honest values.new }
         ensures tables { (c : AClass) → V.held values.new c ≡ V.held values.old c }
@@ -236,7 +237,7 @@ impl<'a, A: Allocator> Bench<'a, A> {
         ensures stopped { IfErr result (λ s. IsStopped (V.held values.old) (plain_study (marked self.old)) edits.now s.done s.refusal) }
         ensures accepted { AreAccepted (V.held values.old) (plain_study (marked self.old)) (accepted_of result edits.now) }
         ensures edited { plain_study (marked self.new) ≡ edited_by (plain_study (marked self.old)) (accepted_of result edits.now) }
-        ensures right { V.is_honest values.old → IsRight self.old → IsRight self.new }
+        ensures right { V.is_honest values.old → IsKeptRight self.old → IsKeptRight self.new }
         ensures relabelled { self.new.relabelled ≡ labels_by (plain_study (marked self.old)) (accepted_of result edits.now) self.old.relabelled }
         ensures asked { HasAskedBy (plain_study (marked self.old)) edits.now result (V.asked_of values.old) (V.asked_of values.new) }
         ensures failures { V.failed_of values.new ≡ failures_stopped result (V.failed_of values.old) }
@@ -282,12 +283,13 @@ impl<'a, A: Allocator> Bench<'a, A> {
     /// all labels.
     fn annotate<V: Values>(&mut self, start: Start, values: &mut V) -> Result<(), Refusal<'a, A>>
         requires playable { IsPlayable start.position self.old.study.tree.below }
-        ensures refusal { IfErr result (IsOutside (V.held values.old) (asked_of (shifted (plain_study (marked self.old)) start))) }
-        ensures found { OnOk result (AllHeld (V.held values.old) (asked_of (shifted (plain_study (marked self.old)) start))) }
+        ensures refusal { IfErr result (IsOutside (V.held values.old) (positions_asked (shifted (plain_study (marked self.old)) start))) }
+        ensures found { OnOk result (AllHeld (V.held values.old) (positions_asked (shifted (plain_study (marked self.old)) start))) }
         ensures edited { OnOk result (plain_study (marked self.new) ≡ shifted (plain_study (marked self.old)) start) }
-        ensures right { V.is_honest values.old → OnOk result (IsRight self.new) }
+        ensures right { V.is_honest values.old → OnOk result (IsKeptRight self.new) }
         ensures relabelled { OnOk result (self.new.relabelled ≡ counted_times (size_of (marked self.old).tree) self.old.relabelled) }
-        ensures asked { HasAsked (length (asked_of (shifted (plain_study (marked self.old)) start))) result (V.asked_of values.old) (V.asked_of values.new) }
+        ensures asked { HasAsked (length (positions_asked (shifted (plain_study (marked self.old)) start))) result
+            (V.asked_of values.old) (V.asked_of values.new) }
         ensures failures { V.failed_of values.new ≡ failures_after result (V.failed_of values.old) }
         ensures honest { V.is_honest values.old → V.is_honest values.new }
         ensures tables { (c : AClass) → V.held values.new c ≡ V.held values.old c }
@@ -353,7 +355,7 @@ fn is_tag_text(text: &[u8]) -> bool
 
 /// Whether all these bytes print.
 fn are_printed(text: &[u8]) -> bool
-    ensures { result ≡ list_all is_printed text.now }
+    ensures { result ≡ list_all is_printable text.now }
 {
     text.iter().all(|b| 32 <= *b && *b <= 126)
 }

@@ -1,5 +1,5 @@
 //! Laws over the definitions, stated by functions that do nothing.
-ghost use Rattle.study_marks.specs.Laws.{AnnotationsAreUnique, DualCountsOthers, EditsAreOfRows, FaultsAreOfRows};
+ghost use Rattle.study_marks.specs.Laws.{AnnotationsAreUnique, DualCountsOthers, StudyEditsAreOfRows, FaultsAreOfRows};
 
 use study_moves::values_are_unique;
 
@@ -12,7 +12,7 @@ pub fn annotations_are_unique()
 
 /// The edits of a plain study are edits of its rows in written order.
 pub fn edits_in_rows()
-    ensures { EditsAreOfRows }
+    ensures { StudyEditsAreOfRows }
 {
     study_tree::edits_in_rows::<()>();
 }

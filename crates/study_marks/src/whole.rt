@@ -17,6 +17,7 @@ ghost use Rattle.study_marks.specs.Whole.{told_in, retold_tree, refreshed};
 use crate::label::{Label, Told};
 use crate::marking::{Aim, hero_moves, own_faults};
 use crate::renew::share;
+use crate::walk::move_to;
 use arrayvec::ArrayVec;
 use std::alloc::Allocator;
 use study_board::Position;
@@ -34,16 +35,6 @@ pub fn children_of<'a, A: Allocator>(tree: &Tree<'a, Label, A>, steps: &[u16]) -
     match tree.node(steps) {
         None => 0,
         Some(node) => node.children,
-    }
-}
-
-/// The move that led to the node.
-fn move_to<'a, A: Allocator>(tree: &Tree<'a, Label, A>, steps: &[u16]) -> Option<Move>
-    ensures { result ≡ played_by (spot_at (plain_tree tree.now) steps.now) }
-{
-    match tree.node(steps) {
-        None => None,
-        Some(node) => node.played,
     }
 }
 

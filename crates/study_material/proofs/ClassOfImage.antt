@@ -16,7 +16,7 @@ use Rattle.study_board.specs.Symmetry.{turned_side, turned_man, turned_men}
 use Rattle.study_board.specs.Images.{differ}
 use Rattle.study_board.proofs.Coordinates.{same_side-turned}
 use Rattle.study_board.proofs.MenInOrder.{IsPermutation-placed}
-use Rattle.study_material.specs.Lists.{Lists, of, kind_place, kinds_of, lists, is_earlier, comes_before, exchanged, is_exchanged, ordered, is_swapped}
+use Rattle.study_material.specs.Lists.{Lists, of, kind_place, kinds_of, lists, is_earlier, comes_before, lists_exchanged, is_exchanged, ordered, is_swapped}
 use Rattle.study_material.proofs.KindCounts.{lists-IsPermutation}
 
 -- the men of an image are the men turned
@@ -31,7 +31,7 @@ kinds_of-turned t side (x ∷ xs) = rw (same_side-turned t.colours x.side side, 
 
 -- the lists, exchanged or not
 abbrev pub turned_lists : Bool → Lists → Lists
-turned_lists true l = exchanged l
+turned_lists true l = lists_exchanged l
 turned_lists false l = l
 
 lists-turned : (t : Symmetry) (xs : List Man) → lists (map (turned_man t) xs) ≡ turned_lists t.colours (lists xs)
@@ -43,7 +43,7 @@ lists-turned t xs = by_colours t.colours (λ side. kinds_of-turned t side xs)
     by_colours true h = both (h Black) (h White)
       where
         both : kinds_of White (map (turned_man t) xs) ≡ kinds_of Black xs → kinds_of Black (map (turned_man t) xs)
-            ≡ kinds_of White xs → lists (map (turned_man t) xs) ≡ exchanged (lists xs)
+            ≡ kinds_of White xs → lists (map (turned_man t) xs) ≡ lists_exchanged (lists xs)
         both e f = rw (e, f) refl
     by_colours false h = both (h White) (h Black)
       where
@@ -192,19 +192,19 @@ neither xs ys e f =
 
 -- either list comes first, or they are equal
 pub data IsCompared (l : Lists) : Type 0 where
-  black_first : is_exchanged l ≡ true → is_exchanged (exchanged l) ≡ false → IsCompared l
-  white_first : is_exchanged l ≡ false → is_exchanged (exchanged l) ≡ true → IsCompared l
-  equal : is_exchanged l ≡ false → is_exchanged (exchanged l) ≡ false → l.white ≡ l.black → IsCompared l
+  black_first : is_exchanged l ≡ true → is_exchanged (lists_exchanged l) ≡ false → IsCompared l
+  white_first : is_exchanged l ≡ false → is_exchanged (lists_exchanged l) ≡ true → IsCompared l
+  equal : is_exchanged l ≡ false → is_exchanged (lists_exchanged l) ≡ false → l.white ≡ l.black → IsCompared l
 
 pub compare_lists : (l : Lists) → IsCompared l
-compare_lists l = by_tests (is_exchanged l) (is_exchanged (exchanged l)) refl refl
+compare_lists l = by_tests (is_exchanged l) (is_exchanged (lists_exchanged l)) refl refl
   where
-    by_tests : (b w : Bool) → is_exchanged l ≡ b → is_exchanged (exchanged l) ≡ w → IsCompared l
+    by_tests : (b w : Bool) → is_exchanged l ≡ b → is_exchanged (lists_exchanged l) ≡ w → IsCompared l
     by_tests true w e f = black_first e (not_both l.black l.white e)
     by_tests false true e f = white_first e f
     by_tests false false e f = equal e f (neither l.white l.black f e)
 
-pub ordered-exchanged : (l : Lists) → ordered (exchanged l) ≡ ordered l
+pub ordered-exchanged : (l : Lists) → ordered (lists_exchanged l) ≡ ordered l
 ordered-exchanged l = elim (compare_lists l)
     [ black_first e f ↦ rw (f, e) refl | white_first e f ↦ rw (f, e) refl | equal e f s ↦ rw (f, e) (same l.white l.black s) ]
   where

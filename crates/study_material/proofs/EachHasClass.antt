@@ -10,7 +10,7 @@ use Rattle.study_board.specs.declared.men.Kind.TheVariants.{King, Queen, Rook, B
 use Rattle.study_board.specs.Men.{same_kind}
 use Rattle.study_board.specs.Position.{Position, IsValid}
 use Rattle.study_material.specs.declared.class.Class.{Class}
-use Rattle.study_material.specs.Lists.{Lists, of, lists, ordered, is_other}
+use Rattle.study_material.specs.Lists.{Lists, of, lists, ordered, is_other_than_king}
 use Rattle.study_material.specs.Class.{lists_of, class_list, same_lists, IsOf}
 use Rattle.study_material.proofs.Classes.{first, same_lists-equal}
 use Rattle.study_material.proofs.MenBesideKings.{lists-others, none_king, few_others}
@@ -67,5 +67,5 @@ class_of_others (a ∷ b ∷ x ∷ xs) l h = absurd (omega arith)
 
 pub class_exists : (p : Position) → IsValid p → (c : Class) × IsOf c p
 class_exists p v =
-    let r = class_of_others (filter is_other p.men) (few_others p v) (none_king p.men) in
+    let r = class_of_others (filter is_other_than_king p.men) (few_others p v) (none_king p.men) in
     (r.0, r.1 ∙ ap (λ l. ordered l) (lists-others p.men))

@@ -8,7 +8,7 @@ use Rattle.study_board.specs.declared.men.Kind.TheVariants.{King, Queen, Rook, B
 use Rattle.study_material.specs.declared.class.Class.TheVariants.{KPK, KQPK, KQKR}
 use Rattle.study_material.specs.Lists.{of, lists, comes_before, is_swapped, ordered}
 use Rattle.study_material.specs.Class.{lists_of}
-use Rattle.study_material.specs.Needs.{promoted, reached}
+use Rattle.study_material.specs.Needs.{lists_promoted, reached}
 
 abbrev man : Side → Kind → ℕ → Man
 man s k a = record { side = s; kind = k; at = a }
@@ -36,5 +36,5 @@ pawn : reached (lists_of KPK) ≡ of (Queen ∷ []) [] ∷ of (Rook ∷ []) [] �
 pawn = refl
 
 -- one of two pawns is promoted
-one_promoted : promoted (Rook ∷ Pawn ∷ []) ≡ (Queen ∷ Rook ∷ []) ∷ (Rook ∷ Rook ∷ []) ∷ (Rook ∷ Bishop ∷ []) ∷ (Rook ∷ Knight ∷ []) ∷ []
+one_promoted : lists_promoted (Rook ∷ Pawn ∷ []) ≡ (Queen ∷ Rook ∷ []) ∷ (Rook ∷ Rook ∷ []) ∷ (Rook ∷ Bishop ∷ []) ∷ (Rook ∷ Knight ∷ []) ∷ []
 one_promoted = refl

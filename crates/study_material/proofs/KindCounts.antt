@@ -10,7 +10,7 @@ use Rattle.study_board.specs.declared.men.Kind.{Kind}
 use Rattle.study_board.specs.declared.men.Kind.TheVariants.{King, Queen, Rook, Bishop, Knight, Pawn}
 use Rattle.study_board.specs.Men.{is_man}
 use Rattle.study_board.proofs.Lists.{count_by-cons}
-use Rattle.study_material.specs.Lists.{of, kind_place, put_kind, kinds_of, lists, is_other}
+use Rattle.study_material.specs.Lists.{of, kind_place, put_kind, kinds_of, lists, is_other_than_king}
 
 -- how many men of a side and a kind
 abbrev pub many : Side → Kind → List Man → ℕ
@@ -147,10 +147,10 @@ lists-IsPermutation xs ys p = rw (kinds_of-IsPermutation White xs ys p, kinds_of
 abbrev pub many_of : Side → List Man → ℕ
 many_of side xs = many side Queen xs + many side Rook xs + many side Bishop xs + many side Knight xs + many side Pawn xs
 
-one_counted : (s : Side) (k : Kind) (a : ℕ) (xs : List Man) → many_of White xs + many_of Black xs ≡ length (filter is_other xs)
+one_counted : (s : Side) (k : Kind) (a : ℕ) (xs : List Man) → many_of White xs + many_of Black xs ≡ length (filter is_other_than_king xs)
     → many_of White (record { side = s; kind = k; at = a } ∷ xs) + many_of Black
     (record { side = s; kind = k; at = a } ∷ xs)
-    ≡ length (filter is_other (record { side = s; kind = k; at = a } ∷ xs))
+    ≡ length (filter is_other_than_king (record { side = s; kind = k; at = a } ∷ xs))
 one_counted White King a xs h = h
 one_counted White Queen a xs h = omega (arith, h)
 one_counted White Rook a xs h = omega (arith, h)
@@ -164,12 +164,13 @@ one_counted Black Bishop a xs h = omega (arith, h)
 one_counted Black Knight a xs h = omega (arith, h)
 one_counted Black Pawn a xs h = omega (arith, h)
 
-pub many_others : (xs : List Man) → many_of White xs + many_of Black xs ≡ length (filter is_other xs)
+pub many_others : (xs : List Man) → many_of White xs + many_of Black xs ≡ length (filter is_other_than_king xs)
 many_others [] = refl
 many_others (x ∷ xs) = one_counted x.side x.kind x.at xs (many_others xs)
 
 -- of at most two men, a pawn of each side
-pub two_pawns : (xs : List Man) → length (filter is_other xs) ≤ 2 → 1 ≤ many White Pawn xs → 1 ≤ many Black Pawn xs → lists xs ≡ of (Pawn ∷ []) (Pawn ∷ [])
+pub two_pawns : (xs : List Man) → length (filter is_other_than_king xs) ≤ 2 → 1 ≤ many White Pawn xs → 1 ≤ many Black Pawn xs
+    → lists xs ≡ of (Pawn ∷ []) (Pawn ∷ [])
 two_pawns xs few white black =
     let all = many_others xs in
     both (kinds_of White xs) (kinds_of Black xs)

@@ -13,14 +13,14 @@ use Rattle.study_board.specs.declared.men.Side.TheVariants.{White, Black}
 use Rattle.study_board.specs.declared.men.Kind.{Kind}
 use Rattle.study_board.specs.declared.men.Kind.TheVariants.{King, Queen, Rook, Bishop, Knight, Pawn}
 use Rattle.study_board.specs.Geometry.{file_of, rank_of}
-use Rattle.study_board.specs.Men.{same_side, same_kind, is_man}
+use Rattle.study_board.specs.Men.{same_side, same_kind, is_man, is_pawn}
 use Rattle.study_board.specs.Position.{Position, IsValid, IsAscending, is_empty, is_occupied, has_man}
 use Rattle.study_board.specs.Position.{could_be_passed, passed_possible, has_end_pawn, is_end_pawn}
 use Rattle.study_board.proofs.Lists.{not_true}
 use Rattle.study_board.proofs.Valid.{IsFaultless-from_first}
 use Rattle.study_board.proofs.Ascending.{IsAscending-filter}
 use Rattle.study_moves.specs.declared.moves.Move.{Move}
-use Rattle.study_moves.specs.Rules.{is_pawn, is_en_passant, is_square, has_side, stays, moved, is_legal, after, is_choice, is_officer, reaches_end, last_rank}
+use Rattle.study_moves.specs.Rules.{is_en_passant, is_square, has_side, stays, moved, is_legal, after, is_choice, is_officer, reaches_end, last_rank}
 use Rattle.study_moves.specs.Alike.{Leads}
 use Rattle.study_moves.proofs.MenOfList.{IsAmong, none_among, IsAmong-filter, found_among}
 use Rattle.study_moves.proofs.NoMoveBetween.{HasMover-from_is_legal}

@@ -6,9 +6,9 @@ use Rattle.std.proofs.lemmas.Bool.{false≢true}
 use Rattle.study_board.specs.declared.men.Kind.{Kind}
 use Rattle.study_board.specs.declared.men.Kind.TheVariants.{Pawn}
 use Rattle.study_material.specs.declared.class.Class.{Class}
-use Rattle.study_material.specs.Lists.{Lists, of, kind_place, put_kind, exchanged, ordered, is_exchanged}
+use Rattle.study_material.specs.Lists.{Lists, of, kind_place, put_kind, lists_exchanged, ordered, is_exchanged}
 use Rattle.study_material.specs.Class.{lists_of, same_lists}
-use Rattle.study_material.specs.Needs.{by_size, without_one, any_kind, is_pawn, no_pawn, officers, promoted, pairs}
+use Rattle.study_material.specs.Needs.{by_size, without_one, any_kind, is_pawn_kind, no_pawn, officers, lists_promoted, pairs}
 use Rattle.study_material.specs.Needs.{reached_by_white, reached, ordered_reached, has_lists, needs_of}
 use Rattle.study_material.proofs.Classes.{same_lists-self, is_in-Contains}
 use Rattle.study_material.proofs.NeedsTables.{size_table, by_size_is}
@@ -70,10 +70,10 @@ In-without p k (x ∷ xs) e = by_place (nat_lt (kind_place x) (kind_place k)) (p
         later false i = i
     by_place false d i = first (p k) e
 
-pub In-promoted : (k : Kind) (l : List Kind) → In k officers → In (put_kind k l) (promoted (put_kind Pawn l))
+pub In-promoted : (k : Kind) (l : List Kind) → In k officers → In (put_kind k l) (lists_promoted (put_kind Pawn l))
 In-promoted k l i =
-    In-flat_map (λ l. map (λ k. put_kind k l) officers) l (put_kind k l) (without_one is_pawn (put_kind Pawn l))
-    (In-without is_pawn Pawn l refl) (In-map (λ k. put_kind k l) k officers i)
+    In-flat_map (λ l. map (λ k. put_kind k l) officers) l (put_kind k l) (without_one is_pawn_kind (put_kind Pawn l))
+    (In-without is_pawn_kind Pawn l refl) (In-map (λ k. put_kind k l) k officers i)
 
 pub In-pairs : (x y : List Kind) (xs ys : List (List Kind)) → In x xs → In y ys → In (of x y) (pairs xs ys)
 In-pairs x y xs ys i j = In-flat_map (λ x. map (λ y. of x y) ys) x (of x y) xs i (In-map (λ y. of x y) y ys j)
@@ -89,28 +89,28 @@ pub promoted_by_white : (w b : List Kind) (k : Kind) → In k officers → In (o
 promoted_by_white w b k i =
     In-left _ _ _
     (In-right _ (pairs (put_kind Pawn w ∷ []) (without_one any_kind b)) _
-    (In-pairs (put_kind k w) b (promoted (put_kind Pawn w)) (b ∷ []) (In-promoted k w i) (inl refl)))
+    (In-pairs (put_kind k w) b (lists_promoted (put_kind Pawn w)) (b ∷ []) (In-promoted k w i) (inl refl)))
 
 pub both_by_white : (w b : List Kind) (k j : Kind) → In k officers → no_pawn j ≡ true
     → In (of (put_kind k w) b) (reached_by_white (of (put_kind Pawn w) (put_kind j b)))
 both_by_white w b k j i e =
-    In-right _ (pairs (put_kind Pawn w ∷ []) (without_one any_kind (put_kind j b)) ++ pairs (promoted (put_kind Pawn w)) (put_kind j b ∷ [])) _
-    (In-pairs (put_kind k w) b (promoted (put_kind Pawn w)) (without_one no_pawn (put_kind j b)) (In-promoted k w i) (In-without no_pawn j b e))
+    In-right _ (pairs (put_kind Pawn w ∷ []) (without_one any_kind (put_kind j b)) ++ pairs (lists_promoted (put_kind Pawn w)) (put_kind j b ∷ [])) _
+    (In-pairs (put_kind k w) b (lists_promoted (put_kind Pawn w)) (without_one no_pawn (put_kind j b)) (In-promoted k w i) (In-without no_pawn j b e))
 
 -- what is reached by White's move, and by Black's
 pub by_white : (l m : Lists) → In m (reached_by_white l) → In m (reached l)
-by_white l m i = In-left m (reached_by_white l) (map exchanged (reached_by_white (exchanged l))) i
+by_white l m i = In-left m (reached_by_white l) (map lists_exchanged (reached_by_white (lists_exchanged l))) i
 
-pub by_black : (l m : Lists) → In m (reached_by_white (exchanged l)) → In (exchanged m) (reached l)
-by_black l m i = In-right (exchanged m) (reached_by_white l) (map exchanged (reached_by_white (exchanged l)))
-    (In-map exchanged m (reached_by_white (exchanged l)) i)
+pub by_black : (l m : Lists) → In m (reached_by_white (lists_exchanged l)) → In (lists_exchanged m) (reached l)
+by_black l m i = In-right (lists_exchanged m) (reached_by_white l) (map lists_exchanged (reached_by_white (lists_exchanged l)))
+    (In-map lists_exchanged m (reached_by_white (lists_exchanged l)) i)
 
 -- the same of the lists exchanged
-exchanged_reached : (l m : Lists) → In m (reached l) → In (exchanged m) (reached (exchanged l))
-exchanged_reached l m i = elim (In-cases m (reached_by_white l) (map exchanged (reached_by_white (exchanged l))) i) [
-  | inl j ↦ by_black (exchanged l) m j
-  | inr j ↦ (let r = In-unmapped exchanged m (reached_by_white (exchanged l)) j in
-      subst (λ n. In n (reached (exchanged l))) (sym (ap exchanged r.2)) (by_white (exchanged l) r.0 r.1))
+exchanged_reached : (l m : Lists) → In m (reached l) → In (lists_exchanged m) (reached (lists_exchanged l))
+exchanged_reached l m i = elim (In-cases m (reached_by_white l) (map lists_exchanged (reached_by_white (lists_exchanged l))) i) [
+  | inl j ↦ by_black (lists_exchanged l) m j
+  | inr j ↦ (let r = In-unmapped lists_exchanged m (reached_by_white (lists_exchanged l)) j in
+      subst (λ n. In n (reached (lists_exchanged l))) (sym (ap lists_exchanged r.2)) (by_white (lists_exchanged l) r.0 r.1))
 ]
 
 list_any-In : {X : Type 0} (p : X → Bool) (z : X) (xs : List X) → In z xs → p z ≡ true → list_any p xs ≡ true
@@ -136,7 +136,7 @@ Contains-filter p cs d k e = go cs k.0 k.1 k.2
 
 -- a class whose lists are reached is needed
 pub needed : (c d : Class) (l m : Lists) → lists_of c ≡ ordered l → lists_of d ≡ ordered m → In m (reached l)
-    → ordered (exchanged m) ≡ ordered m → Contains (needs_of c) d
+    → ordered (lists_exchanged m) ≡ ordered m → Contains (needs_of c) d
 unfolding needs_of ordered_reached
 needed c d l m e f i same =
     let r = by_order (is_exchanged l) in
@@ -147,6 +147,6 @@ needed c d l m e f i same =
     (subst (λ ds. Contains ds d) (sym by_size_is) (is_in-Contains size_table d (in_size_table d)))
     (list_any-In (λ k. same_lists k (lists_of d)) (lists_of d) (map ordered (reached (lists_of c))) here (same_lists-self (lists_of d)))
   where
-    by_order : (b : Bool) → (n : Lists) × In n (reached (cond b (exchanged l) l)) × (ordered n ≡ ordered m)
-    by_order true = (exchanged m, exchanged_reached l m i, same)
+    by_order : (b : Bool) → (n : Lists) × In n (reached (cond b (lists_exchanged l) l)) × (ordered n ≡ ordered m)
+    by_order true = (lists_exchanged m, exchanged_reached l m i, same)
     by_order false = (m, i, refl)

@@ -30,13 +30,13 @@ put_kind k [] = k ∷ []
 put_kind k (x ∷ xs) = if nat_lt (kind_place x) (kind_place k) then x ∷ put_kind k xs else k ∷ x ∷ xs
 
 -- a man other than a king
-abbrev pub is_other : Man → Bool
-is_other m = not (same_kind m.kind King)
+abbrev pub is_other_than_king : Man → Bool
+is_other_than_king m = not (same_kind m.kind King)
 
 -- the kinds of a side's men other than its king, in list order
 abbrev pub kinds_of : Side → List Man → List Kind
 kinds_of side [] = []
-kinds_of side (m ∷ ms) = if same_side m.side side && is_other m then put_kind m.kind (kinds_of side ms) else kinds_of side ms
+kinds_of side (m ∷ ms) = if same_side m.side side && is_other_than_king m then put_kind m.kind (kinds_of side ms) else kinds_of side ms
 
 abbrev pub lists : List Man → Lists
 lists men = of (kinds_of White men) (kinds_of Black men)
@@ -52,8 +52,8 @@ is_earlier (x ∷ xs) (y ∷ ys) =
 abbrev pub comes_before : List Kind → List Kind → Bool
 comes_before xs ys = nat_lt (length ys) (length xs) || ((length xs == length ys) && is_earlier xs ys)
 
-abbrev pub exchanged : Lists → Lists
-exchanged l = of l.black l.white
+abbrev pub lists_exchanged : Lists → Lists
+lists_exchanged l = of l.black l.white
 
 -- Black's list comes first
 abbrev pub is_exchanged : Lists → Bool
@@ -61,7 +61,7 @@ is_exchanged l = comes_before l.black l.white
 
 -- the lists, exchanged where Black's comes first
 abbrev pub ordered : Lists → Lists
-ordered l = if is_exchanged l then exchanged l else l
+ordered l = if is_exchanged l then lists_exchanged l else l
 
 -- the colours are swapped to reach the class
 abbrev pub is_swapped : List Man → Bool

@@ -7,7 +7,7 @@ use Rattle.study_board.specs.Men.{same_kind}
 use Rattle.study_board.specs.Position.{Position, IsValid}
 use Rattle.study_moves.specs.Alike.{Leads}
 use Rattle.study_material.specs.declared.class.Class.{Class}
-use Rattle.study_material.specs.Lists.{Lists, of, put_kind, exchanged, ordered}
+use Rattle.study_material.specs.Lists.{Lists, of, put_kind, lists_exchanged, ordered}
 use Rattle.study_material.specs.Class.{lists_of, class_list, same_lists, IsOf}
 
 -- how many pawns
@@ -35,18 +35,18 @@ without_one p (x ∷ xs) = if p x then xs ∷ map (λ l. x ∷ l) (without_one p
 abbrev pub any_kind : Kind → Bool
 any_kind k = true
 
-abbrev pub is_pawn : Kind → Bool
-is_pawn k = same_kind k Pawn
+abbrev pub is_pawn_kind : Kind → Bool
+is_pawn_kind k = same_kind k Pawn
 
 abbrev pub no_pawn : Kind → Bool
-no_pawn k = not (is_pawn k)
+no_pawn k = not (is_pawn_kind k)
 
 abbrev pub officers : List Kind
 officers = Queen ∷ Rook ∷ Bishop ∷ Knight ∷ []
 
 -- the lists with a pawn promoted
-abbrev pub promoted : List Kind → List (List Kind)
-promoted xs = flat_map (λ l. map (λ k. put_kind k l) officers) (without_one is_pawn xs)
+abbrev pub lists_promoted : List Kind → List (List Kind)
+lists_promoted xs = flat_map (λ l. map (λ k. put_kind k l) officers) (without_one is_pawn_kind xs)
 
 -- each list of the first beside each of the second
 abbrev pub pairs : List (List Kind) → List (List Kind) → List Lists
@@ -56,12 +56,12 @@ pairs xs ys = flat_map (λ x. map (λ y. of x y) ys) xs
 abbrev pub reached_by_white : Lists → List Lists
 reached_by_white l =
     pairs (l.white ∷ []) (without_one any_kind l.black)
-    ++ pairs (promoted l.white) (l.black ∷ [])
-    ++ pairs (promoted l.white) (without_one no_pawn l.black)
+    ++ pairs (lists_promoted l.white) (l.black ∷ [])
+    ++ pairs (lists_promoted l.white) (without_one no_pawn l.black)
 
 -- the same by either side
 abbrev pub reached : Lists → List Lists
-reached l = reached_by_white l ++ map exchanged (reached_by_white (exchanged l))
+reached l = reached_by_white l ++ map lists_exchanged (reached_by_white (lists_exchanged l))
 
 -- what is reached, Black's list exchanged with White's where it comes first
 unfoldable pub ordered_reached : Class → List Lists

@@ -2,7 +2,7 @@
 ghost use Rattle.std.specs.Prelude.{◌≡◌, ◌≤◌, true, false, [], ◌∷◌, filter, length};
 ghost use Rattle.study_board.specs.Men.{same_kind};
 ghost use Rattle.study_board.specs.declared.men.Kind.TheVariants.{King};
-ghost use Rattle.study_material.specs.Lists.{of, put_kind, comes_before, ordered, is_other, is_swapped, lists};
+ghost use Rattle.study_material.specs.Lists.{of, put_kind, comes_before, ordered, is_other_than_king, is_swapped, lists};
 ghost use Rattle.std.specs.List.{All};
 ghost use Rattle.study_material.specs.Class.{lists_of, IsOf};
 
@@ -46,7 +46,7 @@ fn class_of_others(men: &[Man]) -> (Class, bool)
 #[inline]
 fn others(men: &[Man]) -> ArrayVec<Man, 4>
     requires { length men.now ≤ 4 }
-    ensures { result.items ≡ filter is_other men.now }
+    ensures { result.items ≡ filter is_other_than_king men.now }
 {
     let mut others = ArrayVec::new();
     for m in men {

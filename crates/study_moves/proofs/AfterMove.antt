@@ -14,7 +14,7 @@ use Rattle.study_board.specs.declared.men.Side.{Side}
 use Rattle.study_board.specs.declared.men.Side.TheVariants.{White, Black}
 use Rattle.study_board.specs.declared.men.Kind.TheVariants.{King, Pawn}
 use Rattle.study_board.specs.Geometry.{file_of, rank_of, ranks_apart}
-use Rattle.study_board.specs.Men.{same_side, other_side, same_kind, is_man, is_attacked, bears_on}
+use Rattle.study_board.specs.Men.{same_side, other_side, same_kind, is_man, is_attacked, bears_on, is_pawn}
 use Rattle.study_board.specs.Position.{Position, IsValid, IsAscending, man_at, is_occupied}
 use Rattle.study_board.specs.Position.{is_empty, has_man, has_one_king, is_end_pawn, has_end_pawn}
 use Rattle.study_board.specs.Position.{in_check, could_be_passed, passed_possible}
@@ -27,7 +27,7 @@ use Rattle.study_board.proofs.Valid.{IsFaultless, IsFaultless-from_first, first_
 use Rattle.std.proofs.lemmas.List.Sorted.{length_permutation}
 use Rattle.study_moves.specs.declared.moves.Move.{Move}
 use Rattle.study_moves.specs.Rules.{is_legal, is_legal_for, can_go, has_side, is_square, men_after}
-use Rattle.study_moves.specs.Rules.{stays, moved, jumped, after_by, after, is_en_passant, is_pawn}
+use Rattle.study_moves.specs.Rules.{stays, moved, jumped, after_by, after, is_en_passant}
 use Rattle.study_moves.specs.Rules.{half_way, is_choice, reaches_end, last_rank}
 use Rattle.study_moves.proofs.MenFound.{fewer_stay}
 use Rattle.study_moves.proofs.NoMoveBetween.{IsMoveOf, HasMover-from_is_legal}

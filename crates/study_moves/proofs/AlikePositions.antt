@@ -1,11 +1,12 @@
 -- Moves and mates are kept along positions that are alike.
+use Rattle.study_board.specs.Men.{is_pawn}
 use Rattle.std.proofs.Common.{◌≡◌, Bool, true, false, not, cond, ◌||◌, List, [], ◌∷◌, refl, sym, ◌∙◌, ap, subst}
 use Rattle.std.specs.List.{list_any, filter}
 use Rattle.std.proofs.lemmas.Bool.{false≢true}
 use Rattle.study_board.specs.declared.men.Man.{Man}
 use Rattle.study_board.specs.declared.symmetry.Symmetry.{Symmetry}
 use Rattle.study_board.specs.Position.{Position, IsValid}
-use Rattle.study_board.specs.Symmetry.{image, admits, is_pawn, keeps_pawns}
+use Rattle.study_board.specs.Symmetry.{image, admits, keeps_pawns}
 use Rattle.study_board.proofs.ImagesValid.{list_any-placed}
 use Rattle.study_board.proofs.ImagesOfImages.{IsTurnable-from_valid, IsImage-sym}
 use Rattle.study_moves.specs.declared.moves.Move.{Move}

@@ -12,14 +12,14 @@ use Rattle.study_board.specs.declared.men.Side.{Side}
 use Rattle.study_board.specs.declared.men.Side.TheVariants.{White, Black}
 use Rattle.study_board.specs.declared.men.Kind.{Kind}
 use Rattle.study_board.specs.Geometry.{file_of, rank_of, files_apart}
-use Rattle.study_board.specs.Men.{same_side, other_side, pawn_captures, is_rank_ahead, bears_on}
+use Rattle.study_board.specs.Men.{same_side, other_side, pawn_captures, is_rank_ahead, bears_on, is_pawn}
 use Rattle.study_board.specs.Position.{Position, IsValid, is_occupied, is_empty, in_check, man_at, placed, could_be_passed, passed_possible}
 use Rattle.study_board.proofs.Lists.{not_true, list_any_weaker}
 use Rattle.study_board.proofs.Valid.{IsFaultless-from_first, first_fault-from_IsFaultless}
 use Rattle.study_board.proofs.Coordinates.{and_under, eqb_then}
 use Rattle.study_moves.specs.declared.moves.Move.{Move}
 use Rattle.study_moves.specs.Rules.{has_side, is_square, is_ahead, starting_rank, last_rank, half_way}
-use Rattle.study_moves.specs.Rules.{pawn_steps, pawn_double_steps, pawn_takes, is_pawn, goes}
+use Rattle.study_moves.specs.Rules.{pawn_steps, pawn_double_steps, pawn_takes, goes}
 use Rattle.study_moves.specs.Rules.{is_choice, reaches_end, is_en_passant, stays, moved, men_after}
 use Rattle.study_moves.specs.Rules.{can_go, is_legal_for, is_legal, after_by, after}
 use Rattle.study_moves.specs.Game.{HasNoMove, IsMate, IsStalemate, MatesWithin, IsMatedWithin}

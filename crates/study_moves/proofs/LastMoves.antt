@@ -22,7 +22,7 @@ use Rattle.study_board.specs.EqualLaws.{sides_equal}
 use Rattle.study_board.specs.Sets.{has}
 use Rattle.study_board.proofs.SetBits.{has-zero}
 use Rattle.study_moves.specs.declared.moves.Move.{Move}
-use Rattle.study_moves.specs.Quiet.{LeadsQuietly, IsEarlier, CanHaveLed, IsMoveFrom, IsLastMove, move_from, before, came_from}
+use Rattle.study_moves.specs.Quiet.{LeadsQuietly, IsEarlier, CanHaveLed, IsMoveFrom, IsLastMove, move_from, position_before, came_from}
 use Rattle.study_moves.proofs.MenOfList.{IsAmong, above_among}
 use Rattle.study_moves.proofs.QuietChecks.{same_side-self}
 use Rattle.study_moves.proofs.QuietBack.{CameFrom, LeadsQuietly-before, IsTakenBack-from, same_move}
@@ -316,8 +316,8 @@ module _ (q : Position) (valid : IsValid q) (men : List Man) (same : men ≡ q.m
           let o = h.3 in
           let P : List Man → Type 0 = λ xs. IsAmong man xs in
           let came : CameFrom q man o.0 = record { among = subst P whole h.1; his = h.2; on = o.1; came = o.2 } in
-          let L : Move → Type 0 = λ n. LeadsQuietly (before q man o.0) n q in
-          record { from = before q man o.0; leads = subst L (sym o.3) (LeadsQuietly-before q valid man o.0 came) }
+          let L : Move → Type 0 = λ n. LeadsQuietly (position_before q man o.0) n q in
+          record { from = position_before q man o.0; leads = subst L (sym o.3) (LeadsQuietly-before q valid man o.0 came) }
 
       listed : CanHaveLed q m → Contains now m
       listed h =

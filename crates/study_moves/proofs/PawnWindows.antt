@@ -8,9 +8,9 @@ use Rattle.std.proofs.lemmas.Bool.Decides.{nat_tests}
 use Rattle.study_board.specs.declared.men.Man.{Man}
 use Rattle.study_board.specs.declared.men.Side.{Side}
 use Rattle.study_board.specs.declared.men.Side.TheVariants.{White, Black}
-use Rattle.study_board.specs.Men.{pawn_captures}
+use Rattle.study_board.specs.Men.{pawn_captures, is_pawn}
 use Rattle.study_board.specs.Position.{man_at, AllAbove, IsAscending}
-use Rattle.study_moves.specs.Rules.{goes, is_pawn, pawn_steps, pawn_double_steps, pawn_takes, is_ahead}
+use Rattle.study_moves.specs.Rules.{goes, pawn_steps, pawn_double_steps, pawn_takes, is_ahead}
 
 equal_from : (a b : ℕ) → (a == b) ≡ true → a ≡ b
 equal_from a b e = grind (arith, nat_tests)

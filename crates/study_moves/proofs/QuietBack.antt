@@ -10,7 +10,7 @@ use Rattle.study_board.specs.declared.men.Side.{Side}
 use Rattle.study_board.specs.declared.men.Side.TheVariants.{White, Black}
 use Rattle.study_board.specs.declared.men.Kind.{Kind}
 use Rattle.study_board.specs.declared.men.Kind.TheVariants.{King}
-use Rattle.study_board.specs.Men.{same_side, other_side, is_man}
+use Rattle.study_board.specs.Men.{same_side, other_side, is_man, is_pawn}
 use Rattle.study_board.specs.Position.{Position, IsValid, IsAscending, is_occupied, placed, man_at, has_one_king, has_end_pawn, is_end_pawn, in_check}
 use Rattle.study_board.specs.EqualLaws.{sides_equal}
 use Rattle.study_board.proofs.Ascending.{IsAscending-filter, IsAscending-placed}
@@ -18,9 +18,9 @@ use Rattle.study_board.proofs.MenInOrder.{All-placed}
 use Rattle.study_board.proofs.ImagesValid.{list_any-placed, count_by-placed, length-placed}
 use Rattle.study_board.proofs.Valid.{IsFaultless, IsFaultless-from_first, first_fault-from_IsFaultless}
 use Rattle.study_moves.specs.declared.moves.Move.{Move}
-use Rattle.study_moves.specs.Rules.{is_legal, is_pawn, goes, stays, men_after, after, is_choice, reaches_end}
+use Rattle.study_moves.specs.Rules.{is_legal, goes, stays, men_after, after, is_choice, reaches_end}
 use Rattle.study_moves.specs.Bare.{without_passed}
-use Rattle.study_moves.specs.Quiet.{LeadsQuietly, move_from, set_back, men_before, before, pawn_comes, comes, was_check, came_from}
+use Rattle.study_moves.specs.Quiet.{LeadsQuietly, move_from, set_back, men_before, position_before, pawn_comes, comes, was_check, came_from}
 use Rattle.study_moves.proofs.MenFound.{fewer_stay}
 use Rattle.study_moves.proofs.MenOfList.{IsAmong, above_among, list_any-from, list_any-none, none_among, IsAmong-filter}
 use Rattle.study_moves.proofs.MenOfList.{found_among, All-among, same_square, has_square_twice-ascending}
@@ -136,7 +136,7 @@ module _ (q : Position) (valid : IsValid q) (man : Man) (a : ℕ) (h : CameFrom 
       let long = length-placed z ys in
       le-ltb 4 (length (placed z ys)) (omega arith)
 
-  pub IsValid-before : IsValid (before q man a)
+  pub IsValid-before : IsValid (position_before q man a)
   IsValid-before =
       let f = faultless q valid in
       let now : IsFaultless (men_before q.men man a) (other_side q.to_move) None = record {
@@ -157,14 +157,14 @@ module _ (q : Position) (valid : IsValid q) (man : Man) (a : ℕ) (h : CameFrom 
   abbrev pub onward : Move
   onward = move_from man a
 
-  played_on : men_after (before q man a) z onward ≡ q.men
+  played_on : men_after (position_before q man a) z onward ≡ q.men
   unfolding men_after men_before
   played_on = back_and_forth q.men man a movable
 
-  onward_legal : is_legal (before q man a) onward ≡ true
+  onward_legal : is_legal (position_before q man a) onward ≡ true
   unfolding is_legal
   onward_legal =
-      let b = before q man a in
+      let b = position_before q man a in
       let here = man_at_origin q.men man a movable in
       let mine : same_side man.side (other_side q.to_move) ≡ true = rw h.his (same_side-self (other_side q.to_move)) in
       let none = no_side_there (men_before q.men man a) (other_side q.to_move) man.at (target_is_empty q.men man a movable) in
@@ -173,13 +173,13 @@ module _ (q : Position) (valid : IsValid q) (man : Man) (a : ℕ) (h : CameFrom 
       let safe : in_check (men_after b z onward) (other_side q.to_move) ≡ false = rw played_on (faultless q valid).safe in
       rw (lt-ltb man.at 64 on_square, here) (legal_from b z onward mine (going q.men man a movable comes_so) none choice safe)
 
-  leads_on : without_passed (after (before q man a) onward) ≡ without_passed q
+  leads_on : without_passed (after (position_before q man a) onward) ≡ without_passed q
   unfolding after
   leads_on =
       let here = man_at_origin q.men man a movable in
       rw (here, played_on, other_twice q.to_move) refl
 
-  pub LeadsQuietly-before : LeadsQuietly (before q man a) onward q
+  pub LeadsQuietly-before : LeadsQuietly (position_before q man a) onward q
   LeadsQuietly-before = record {
     valid = IsValid-before;
     unpassed = refl;
@@ -193,7 +193,7 @@ pub record IsTakenBack (q : Position) (m : Move) (p : Position) : Type 0 where
   pub man : Man
   pub origin : ℕ
   pub came : CameFrom q man origin
-  pub is : p ≡ before q man origin
+  pub is : p ≡ position_before q man origin
   pub by : m ≡ move_from man origin
 
 quiet_men : (p : Position) (man : Man) (m : Move) → p.passed ≡ None → m.promoted ≡ None → men_after p man m ≡ men_before p.men man m.target
@@ -324,7 +324,7 @@ man_at-among (x ∷ xs) man h (inr i) =
 pub record IsTakenFrom (q : Position) (m : Move) (man : Man) (p : Position) : Type 0 where
   pub came : CameFrom q man m.origin
   pub by : m ≡ move_from man m.origin
-  pub is : p ≡ before q man m.origin
+  pub is : p ≡ position_before q man m.origin
 
 pub mover_there : (q : Position) (m : Move) (p : Position) → IsValid q → LeadsQuietly p m q → (man : Man) × (man_at q.men m.target ≡ Some man)
 mover_there q m p valid e =
@@ -343,7 +343,7 @@ taken_from q m p man valid here e =
     record {
       came = subst (λ (x : Man). CameFrom q x m.origin) same (subst (λ (o : ℕ). CameFrom q t.man o) from t.came);
       by = t.by ∙ ap (λ (o : ℕ). move_from t.man o) from ∙ ap (λ (x : Man). move_from x m.origin) same;
-      is = t.is ∙ ap (λ (o : ℕ). before q t.man o) from ∙ ap (λ (x : Man). before q x m.origin) same;
+      is = t.is ∙ ap (λ (o : ℕ). position_before q t.man o) from ∙ ap (λ (x : Man). position_before q x m.origin) same;
     }
 
 -- a position before tells the move

@@ -8,12 +8,12 @@ use Rattle.study_board.specs.declared.men.Side.TheVariants.{White, Black}
 use Rattle.study_board.specs.declared.men.Kind.{Kind}
 use Rattle.study_board.specs.declared.men.Kind.TheVariants.{King, Queen, Rook, Bishop, Knight, Pawn}
 use Rattle.study_board.specs.Geometry.{strictly_between, rank_of, file_of}
-use Rattle.study_board.specs.Men.{same_side, same_kind, other_side, is_blocked, bears_on, pawn_captures}
+use Rattle.study_board.specs.Men.{same_side, same_kind, other_side, is_blocked, bears_on, pawn_captures, is_pawn}
 use Rattle.study_board.specs.Position.{is_empty, is_end_pawn}
 use Rattle.study_board.specs.Sets.{reaches_if, is_blocked_past}
 use Rattle.study_board.proofs.MenInOrder.{IsPermutation-placed}
 use Rattle.study_board.proofs.Faults.{list_any_same, is_blocked_same}
-use Rattle.study_moves.specs.Rules.{is_ahead, starting_rank, half_way, pawn_steps, pawn_double_steps, pawn_takes, is_pawn, goes, stays, reaches_end, last_rank}
+use Rattle.study_moves.specs.Rules.{is_ahead, starting_rank, half_way, pawn_steps, pawn_double_steps, pawn_takes, goes, stays, reaches_end, last_rank}
 use Rattle.study_moves.specs.Quiet.{set_back, men_before, first_rank, pawn_comes, comes}
 use Rattle.study_moves.proofs.SafeTargets.{none_passed}
 use Rattle.study_moves.proofs.BearsBothWays.{between-both, reaches-both, eqb-both}

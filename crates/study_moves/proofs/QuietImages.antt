@@ -5,9 +5,9 @@ use Rattle.study_board.specs.declared.men.Man.{Man}
 use Rattle.study_board.specs.declared.men.Side.{Side}
 use Rattle.study_board.specs.declared.men.Kind.{Kind}
 use Rattle.study_board.specs.declared.symmetry.Symmetry.{Symmetry}
-use Rattle.study_board.specs.Men.{is_man}
+use Rattle.study_board.specs.Men.{is_man, is_pawn}
 use Rattle.study_board.specs.Position.{Position, IsValid, man_at}
-use Rattle.study_board.specs.Symmetry.{image, admits, is_pawn, keeps_pawns, turned_passed}
+use Rattle.study_board.specs.Symmetry.{image, admits, keeps_pawns, turned_passed}
 use Rattle.study_board.proofs.ImagesValid.{is_occupied-turned, valid_image}
 use Rattle.study_board.proofs.ImagesOfImages.{IsTurnable, IsTurnable-from_valid}
 use Rattle.study_moves.specs.declared.moves.Move.{Move}

@@ -13,7 +13,7 @@ use Rattle.study_board.specs.declared.men.Kind.{Kind}
 use Rattle.study_board.specs.declared.men.Kind.TheVariants.{King, Queen, Rook, Bishop, Knight, Pawn}
 use Rattle.study_board.specs.declared.symmetry.Symmetry.{Symmetry}
 use Rattle.study_board.specs.Geometry.{file_of, rank_of, ranks_apart, files_apart}
-use Rattle.study_board.specs.Men.{same_side, other_side, same_kind, pawn_captures, is_rank_ahead, bears_on}
+use Rattle.study_board.specs.Men.{same_side, other_side, same_kind, pawn_captures, is_rank_ahead, bears_on, is_pawn}
 use Rattle.study_board.specs.Position.{Position, is_empty, in_check, man_at}
 use Rattle.study_board.specs.Symmetry.{mirrored, turned_square, turned_side, turned_man, turned_men, turned_passed, image}
 use Rattle.study_board.proofs.Coordinates.{and_under, eqb_then, KeepsPawns, eqb-mirrored, file_small}
@@ -27,7 +27,7 @@ use Rattle.study_board.proofs.Ascending.{IsAscending-filter, IsAscending-placed}
 use Rattle.study_board.proofs.ImagesOfImages.{IsOnBoard, IsTurnable}
 use Rattle.study_moves.specs.declared.moves.Move.{Move}
 use Rattle.study_moves.specs.Rules.{has_side, is_square, is_ahead, starting_rank, last_rank, half_way}
-use Rattle.study_moves.specs.Rules.{pawn_steps, pawn_double_steps, pawn_takes, is_pawn, goes, is_officer}
+use Rattle.study_moves.specs.Rules.{pawn_steps, pawn_double_steps, pawn_takes, goes, is_officer}
 use Rattle.study_moves.specs.Rules.{is_choice, reaches_end, is_en_passant, stays, moved, men_after}
 use Rattle.study_moves.specs.Rules.{can_go, is_legal_for, is_legal, jumped, after_by, after}
 use Rattle.study_moves.specs.Symmetry.{image_move}

@@ -6,11 +6,11 @@ use Rattle.study_board.specs.declared.men.Side.TheVariants.{White, Black}
 use Rattle.study_board.specs.declared.men.Kind.TheVariants.{King}
 use Rattle.study_board.specs.declared.men.Man.{Man}
 use Rattle.study_board.specs.Geometry.{rank_of}
-use Rattle.study_board.specs.Men.{other_side, is_man, bears_on}
+use Rattle.study_board.specs.Men.{other_side, is_man, bears_on, is_pawn}
 use Rattle.study_board.specs.Position.{Position, IsValid, is_occupied, is_empty, placed}
 use Rattle.study_board.specs.Sets.{bears_past}
 use Rattle.study_moves.specs.declared.moves.Move.{Move}
-use Rattle.study_moves.specs.Rules.{is_legal, after, is_pawn, is_ahead, starting_rank, half_way, stays}
+use Rattle.study_moves.specs.Rules.{is_legal, after, is_ahead, starting_rank, half_way, stays}
 use Rattle.study_moves.specs.Bare.{without_passed}
 use Rattle.study_moves.specs.Safety.{threatened_past}
 
@@ -44,8 +44,8 @@ set_back man a = record { side = man.side; kind = man.kind; at = a }
 unfoldable pub men_before : List Man → Man → ℕ → List Man
 men_before men man a = placed (set_back man a) (filter (stays None man a) men)
 
-abbrev pub before : Position → Man → ℕ → Position
-before q man a = record { men = men_before q.men man a; to_move = other_side q.to_move; passed = None }
+abbrev pub position_before : Position → Man → ℕ → Position
+position_before q man a = record { men = men_before q.men man a; to_move = other_side q.to_move; passed = None }
 
 abbrev pub first_rank : Side → ℕ
 first_rank White = 0

@@ -18,7 +18,7 @@ use Rattle.study_board.specs.declared.men.Kind.{Kind}
 use Rattle.study_board.specs.declared.men.Kind.TheVariants.{King, Queen, Rook, Bishop, Knight, Pawn}
 use Rattle.study_notation.specs.declared.placement.Piece.{Piece}
 use Rattle.study_board.specs.declared.men.Man.{Man}
-use Rattle.study_notation.specs.Fen.{placement_fault, position_of, is_run, is_known, is_rank}
+use Rattle.study_notation.specs.Fen.{placement_fault, position_of, is_run, is_placement_byte, is_rank}
 use Rattle.study_notation.specs.Fen.{is_digit, squares, squares_of, men_from, placement}
 use Rattle.study_notation.specs.Fen.{side_of, passed_of, count_of, fields_of, start_of}
 use Rattle.study_notation.specs.FenSpelling.{man_letter, piece_on, row, run, spelled, rank_field, ranks_text, placement_text, side_text, passed_text, fen_text}
@@ -80,7 +80,7 @@ letter-above Black Bishop = omega arith
 letter-above Black Knight = omega arith
 letter-above Black Pawn = omega arith
 
-letter_again : (s : Side) (k : Kind) → (squares_of (man_letter s k) ≡ Some (record { side = s; kind = k }) ∷ []) × (is_known (man_letter s k) ≡ true)
+letter_again : (s : Side) (k : Kind) → (squares_of (man_letter s k) ≡ Some (record { side = s; kind = k }) ∷ []) × (is_placement_byte (man_letter s k) ≡ true)
 unfolding squares_of
 letter_again White King = (refl, refl)
 letter_again White Queen = (refl, refl)
@@ -111,7 +111,7 @@ squares-run n le =
           rw (miss, digit_run n (eqb-false n 0 miss) le, e) (append-nil (replicate n None))
     ]
 
-known-run : (n : ℕ) → n ≤ 8 → list_all is_known (run n) ≡ true
+known-run : (n : ℕ) → n ≤ 8 → list_all is_placement_byte (run n) ≡ true
 known-run n le =
     elim (cases_Bool (eqb n 0)) [
       | inl hit ↦ rw hit refl
@@ -137,14 +137,14 @@ squares-spelled n (Some p ∷ cells) le =
     ∙ ap (λ (xs : List (Option Piece)). replicate n None ++ (xs ++ squares (spelled 0 cells))) ((letter_again p.side p.kind).0)
     ∙ ap (λ (xs : List (Option Piece)). replicate n None ++ (Some p ∷ xs)) (squares-spelled 0 cells (omega arith))
 
-known-spelled : (n : ℕ) (cells : List (Option Piece)) → n + length cells ≤ 8 → list_all is_known (spelled n cells) ≡ true
+known-spelled : (n : ℕ) (cells : List (Option Piece)) → n + length cells ≤ 8 → list_all is_placement_byte (spelled n cells) ≡ true
 known-spelled n [] le = known-run n (omega arith)
 known-spelled n (None ∷ cells) le = known-spelled (n + 1) cells (omega arith)
 known-spelled n (Some p ∷ cells) le =
     let l = man_letter p.side p.kind in
-    list_all-append is_known (run n) (l ∷ spelled 0 cells) ∙ and_from (list_all is_known (run n))
-    (is_known l && list_all is_known (spelled 0 cells)) (known-run n (omega arith))
-    (and_from (is_known l) (list_all is_known (spelled 0 cells)) ((letter_again p.side p.kind).1)
+    list_all-append is_placement_byte (run n) (l ∷ spelled 0 cells) ∙ and_from (list_all is_placement_byte (run n))
+    (is_placement_byte l && list_all is_placement_byte (spelled 0 cells)) (known-run n (omega arith))
+    (and_from (is_placement_byte l) (list_all is_placement_byte (spelled 0 cells)) ((letter_again p.side p.kind).1)
     (known-spelled 0 cells (omega arith)))
 
 rank_squares : (men : List Man) (rank : ℕ) → squares (rank_field men rank) ≡ row men (8 * rank) 8
@@ -153,7 +153,7 @@ rank_squares men rank = squares-spelled 0 (row men (8 * rank) 8) (omega arith)
 
 rank_is : (men : List Man) (rank : ℕ) → is_rank (rank_field men rank) ≡ true
 unfolding is_rank rank_field
-rank_is men rank = and_from (list_all is_known (rank_field men rank)) (eqb (length (squares (rank_field men rank))) 8)
+rank_is men rank = and_from (list_all is_placement_byte (rank_field men rank)) (eqb (length (squares (rank_field men rank))) 8)
     (known-spelled 0 (row men (8 * rank) 8) (omega arith))
     (eq-eqb (length (squares (rank_field men rank))) 8 (ap length (rank_squares men rank)))
 

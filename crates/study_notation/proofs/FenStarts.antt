@@ -19,7 +19,7 @@ use Rattle.study_board.specs.Position.{Position, IsValid, IsAscending, in_check,
 use Rattle.study_notation.specs.declared.start.Start.{Start}
 use Rattle.study_notation.specs.declared.fault.FenFault.{FenFault}
 use Rattle.study_notation.specs.declared.placement.Piece.{Piece}
-use Rattle.study_notation.specs.Fen.{◌>>=◌, refuse, refuse_any, needed, fields_of, is_rank, squares}
+use Rattle.study_notation.specs.Fen.{◌>>=◌, refuse, refuse_any, field_needed, fields_of, is_rank, squares}
 use Rattle.study_notation.specs.Fen.{men_from, placement, placement_fault, side_of, is_dash}
 use Rattle.study_notation.specs.Fen.{passed_of, position_of, is_digit, count_of, start_of}
 use Rattle.study_notation.specs.Words.{words}
@@ -33,7 +33,7 @@ bind_ok : {A B : Type 0} (r : Result A FenFault) (f : A → Result B FenFault) (
 bind_ok (Ok x) f y e = (x, refl, e)
 bind_ok (Err k) f y e = absurd (let bad : ⊥ = cc in bad)
 
-needed_ok : {A : Type 0} (o : Option A) (k : FenFault) (x : A) → needed o k ≡ Ok x → o ≡ Some x
+needed_ok : {A : Type 0} (o : Option A) (k : FenFault) (x : A) → field_needed o k ≡ Ok x → o ≡ Some x
 needed_ok None k x e = absurd (let bad : ⊥ = cc in bad)
 needed_ok (Some y) k x e = cc
 
@@ -146,20 +146,20 @@ ok_is x y e = cc
 pub read_is : (text : List ℕ) (s : Start) → start_of text ≡ Ok s → IsRead s
 unfolding start_of
 read_is text s e =
-    let fields = bind_ok (needed (fields_of (words text)) _) _ s e in
+    let fields = bind_ok (field_needed (fields_of (words text)) _) _ s e in
     let f = fields.0 in
-    let placed = bind_ok (needed (placement f.placement) _) _ s fields.2 in
+    let placed = bind_ok (field_needed (placement f.placement) _) _ s fields.2 in
     let men = placed.0 in
     let is_placement = needed_ok _ _ men placed.1 in
     let whole = bind_ok (refuse_any (placement_fault men)) _ s placed.2 in
-    let sided = bind_ok (needed (side_of f.side) _) _ s whole.2 in
+    let sided = bind_ok (field_needed (side_of f.side) _) _ s whole.2 in
     let side = sided.0 in
     let safe = bind_ok (refuse (in_check men (other_side side)) _) _ s sided.2 in
     let castling = bind_ok (refuse (not (is_dash f.castling)) _) _ s safe.2 in
-    let jumped = bind_ok (needed (passed_of f.passed) _) _ s castling.2 in
-    let made = bind_ok (needed (position_of men side jumped.0) _) _ s jumped.2 in
-    let clock = bind_ok (needed (count_of f.clock) _) _ s made.2 in
-    let number = bind_ok (needed (count_of f.number) _) _ s clock.2 in
+    let jumped = bind_ok (field_needed (passed_of f.passed) _) _ s castling.2 in
+    let made = bind_ok (field_needed (position_of men side jumped.0) _) _ s jumped.2 in
+    let clock = bind_ok (field_needed (count_of f.clock) _) _ s made.2 in
+    let number = bind_ok (field_needed (count_of f.number) _) _ s clock.2 in
     let n = number.0 in
     let start : Start = record { position = made.0; clock = clock.0; number = cond (n == 0) 1 n } in
     let counted = one_or_more n (count_low f.number n (needed_ok _ _ n number.1)) in

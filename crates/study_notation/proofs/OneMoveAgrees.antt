@@ -7,11 +7,11 @@ use Rattle.study_board.specs.declared.men.Side.{Side}
 use Rattle.study_board.specs.declared.men.Kind.{Kind}
 use Rattle.study_board.specs.declared.men.Kind.TheVariants.{Pawn}
 use Rattle.study_board.specs.Geometry.{file_of, rank_of}
-use Rattle.study_board.specs.Men.{same_side, same_kind, is_man}
+use Rattle.study_board.specs.Men.{same_side, same_kind, is_man, is_pawn}
 use Rattle.study_board.specs.EqualLaws.{side_self, sides_equal, kind_self, kinds_equal}
 use Rattle.study_board.specs.Position.{Position, IsValid, man_at}
 use Rattle.study_moves.specs.declared.moves.Move.{Move}
-use Rattle.study_moves.specs.Rules.{is_legal, is_pawn, is_choice, reaches_end}
+use Rattle.study_moves.specs.Rules.{is_legal, is_choice, reaches_end}
 use Rattle.study_moves.specs.Order.{move_place}
 use Rattle.study_moves.proofs.HowMenGo.{IsCapture}
 use Rattle.study_moves.proofs.MenOfList.{IsAmong, found_among, list_any-from, some_among}

@@ -10,14 +10,14 @@ use Rattle.std.proofs.lemmas.List.Concat.{flat_map-append}
 use Rattle.std.proofs.lemmas.List.Splits.{length-slice_split}
 use Rattle.study_notation.specs.declared.placement.Piece.{Piece}
 use Rattle.study_board.specs.declared.men.Man.{Man}
-use Rattle.study_notation.specs.Fen.{is_run, is_known, is_rank, placement, squares, squares_of, men_from}
+use Rattle.study_notation.specs.Fen.{is_run, is_placement_byte, is_rank, placement, squares, squares_of, men_from}
 
 abbrev pub is_stroke : ℕ → Bool
 is_stroke b = eqb b 47
 
-pub rank_bad : (part : List ℕ) (i : ℕ) → i < length part → is_known (get_or part i 0) ≡ false → is_rank part ≡ false
+pub rank_bad : (part : List ℕ) (i : ℕ) → i < length part → is_placement_byte (get_or part i 0) ≡ false → is_rank part ≡ false
 unfolding is_rank
-rank_bad part i lt bad = rw (list_all_at is_known part i 0 lt bad) refl
+rank_bad part i lt bad = rw (list_all_at is_placement_byte part i 0 lt bad) refl
 
 pub rank_long : (part : List ℕ) (i : ℕ) → 8 < length (squares (take i part)) → is_rank part ≡ false
 unfolding is_rank
@@ -28,7 +28,7 @@ rank_long part i long =
     ap length whole ∙ length-append (squares (take i part)) (squares (drop i part)) in
     and_right _ _ (ne_eqb (length (squares part)) 8 (λ e. omega arith))
 
-pub rank_is : (part : List ℕ) → list_all is_known part ≡ true → is_rank part ≡ eqb (length (squares part)) 8
+pub rank_is : (part : List ℕ) → list_all is_placement_byte part ≡ true → is_rank part ≡ eqb (length (squares part)) 8
 unfolding is_rank
 rank_is part h = rw h refl
 
@@ -80,7 +80,7 @@ split_none text j i e lt miss h =
 
 -- the first i bytes of a part are known, and fill so many squares
 pub record RankSoFar (part : List ℕ) (i file : ℕ) : Type 0 where
-  pub known : list_all is_known (take i part) ≡ true
+  pub known : list_all is_placement_byte (take i part) ≡ true
   pub file_is : file ≡ length (squares (take i part))
   pub fits : file ≤ 8
 
@@ -90,9 +90,9 @@ length-men_from n (None ∷ cells) = omega (arith, length-men_from (n + 1) cells
 length-men_from n (Some p ∷ cells) = omega (arith, length-men_from (n + 1) cells)
 
 pub rank_stops : (part : List ℕ) (i file : ℕ) → i < length part → RankSoFar part i file
-    → (is_known (get_or part i 0) ≡ true → 8 < file + length (squares_of (get_or part i 0))) → false ≡ is_rank part
+    → (is_placement_byte (get_or part i 0) ≡ true → 8 < file + length (squares_of (get_or part i 0))) → false ≡ is_rank part
 rank_stops part i file lt so_far h =
-    elim (cases_Bool (is_known (get_or part i 0))) [
+    elim (cases_Bool (is_placement_byte (get_or part i 0))) [
       | inl good ↦ sym
           (rank_long part (i + 1)
           (omega (
@@ -106,10 +106,11 @@ rank_stops part i file lt so_far h =
     ]
 
 pub rank_goes : (part : List ℕ) (i file next : ℕ) → i < length part → RankSoFar part i file
-    → is_known (get_or part i 0) ≡ true → next ≡ file + length (squares_of (get_or part i 0)) → next ≤ 8
+    → is_placement_byte (get_or part i 0) ≡ true → next ≡ file + length (squares_of (get_or part i 0)) → next ≤ 8
     → RankSoFar part (i + 1) next
 rank_goes part i file next lt so_far good next_is fits = record {
-  known = list_all_more is_known part i 0 lt ∙ and_from (list_all is_known (take i part)) (is_known (get_or part i 0)) so_far.known good;
+  known = list_all_more is_placement_byte part i 0 lt
+      ∙ and_from (list_all is_placement_byte (take i part)) (is_placement_byte (get_or part i 0)) so_far.known good;
   file_is = omega (arith, next_is, so_far.file_is, ap length (squares_more part i lt), length-append (squares (take i part)) (squares_of (get_or part i 0)));
   fits = fits;
 }
@@ -128,7 +129,7 @@ pub rank_done : (part : List ℕ) (i file : ℕ) → length part ≤ i → RankS
 rank_done part i file le so_far =
     let whole : take i part ≡ part = take_all i part le in
     let file_is : file ≡ length (squares part) = so_far.file_is ∙ ap (λ (p : List ℕ). length (squares p)) whole in
-    ap (λ n. eqb n 8) file_is ∙ sym (rank_is part (ap (list_all is_known) (sym whole) ∙ so_far.known))
+    ap (λ n. eqb n 8) file_is ∙ sym (rank_is part (ap (list_all is_placement_byte) (sym whole) ∙ so_far.known))
 
 pub men_done : (part : List ℕ) (i first : ℕ) (old : List Man) → length part ≤ i
     → old ++ men_from first (squares (take i part)) ≡ old ++ men_from first (squares part)
@@ -163,7 +164,7 @@ all_is parts part b e = list_all-append is_rank parts (part ∷ []) ∙ ap (λ x
 
 pub rank_len : (part : List ℕ) → is_rank part ≡ true → length (squares part) ≡ 8
 unfolding is_rank
-rank_len part e = eqb-true _ _ ((and_parts (list_all is_known part) (eqb (length (squares part)) 8) e).1)
+rank_len part e = eqb-true _ _ ((and_parts (list_all is_placement_byte part) (eqb (length (squares part)) 8) e).1)
 
 pub placed_step : (rank : ℕ) (men : List Man) (parts : List (List ℕ)) (part : List ℕ) → is_rank part ≡ true
     → placed rank men (parts ++ part ∷ []) ≡ placed (rank + 1) (men ++ men_from (8 * rank) (squares part)) parts

@@ -6,10 +6,10 @@ use Rattle.study_board.specs.declared.men.Man.{Man}
 use Rattle.study_board.specs.declared.men.Side.{Side}
 use Rattle.study_board.specs.declared.men.Side.TheVariants.{White, Black}
 use Rattle.study_board.specs.Geometry.{file_of, rank_of, files_apart}
-use Rattle.study_board.specs.Men.{same_side, other_side, pawn_captures}
+use Rattle.study_board.specs.Men.{same_side, other_side, pawn_captures, is_pawn}
 use Rattle.study_board.specs.Position.{Position, is_occupied, is_empty}
 use Rattle.study_moves.specs.Rules.{has_side, is_square, is_ahead, starting_rank, half_way, pawn_steps}
-use Rattle.study_moves.specs.Rules.{pawn_double_steps, pawn_takes, is_pawn, goes, is_en_passant}
+use Rattle.study_moves.specs.Rules.{pawn_double_steps, pawn_takes, goes, is_en_passant}
 use Rattle.study_moves.proofs.HowMenGo.{IsAheadBy, IsStep, IsDoubleStep, IsCapture, pawn_ways}
 use Rattle.study_moves.proofs.MenOfList.{IsAmong, list_any-from, some_among}
 use Rattle.study_moves.specs.LegalList.{takes}

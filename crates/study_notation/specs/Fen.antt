@@ -65,8 +65,8 @@ piece_of b =
 abbrev pub is_run : ℕ → Bool
 is_run b = nat_le 49 b && nat_le b 56
 
-abbrev pub is_known : ℕ → Bool
-is_known b = is_run b || is_some (piece_of b)
+abbrev pub is_placement_byte : ℕ → Bool
+is_placement_byte b = is_run b || is_some (piece_of b)
 
 -- a digit stands for so many empty squares, a letter for one man, any other byte for nothing
 unfoldable pub squares_of : ℕ → List (Option Piece)
@@ -77,7 +77,7 @@ squares part = flat_map squares_of part
 
 -- digits and letters that fill eight squares
 unfoldable pub is_rank : List ℕ → Bool
-is_rank part = list_all is_known part && length (squares part) == 8
+is_rank part = list_all is_placement_byte part && length (squares part) == 8
 
 -- the men on ascending squares, the first of which has the number n
 abbrev pub men_from : ℕ → List (Option Piece) → List Man
@@ -152,20 +152,20 @@ abbrev pub refuse_any : Option FenFault → Result (Unit {0}) FenFault
 refuse_any None = Ok tt
 refuse_any (Some e) = Err e
 
-abbrev pub needed : {A : Type 0} → Option A → FenFault → Result A FenFault
-needed None e = Err e
-needed (Some x) e = Ok x
+abbrev pub field_needed : {A : Type 0} → Option A → FenFault → Result A FenFault
+field_needed None e = Err e
+field_needed (Some x) e = Ok x
 
 unfoldable pub start_of : List ℕ → Result Start FenFault
 start_of text = do
-  f ← needed (fields_of (words text)) FieldCount
-  men ← needed (placement f.placement) Placement
+  f ← field_needed (fields_of (words text)) FieldCount
+  men ← field_needed (placement f.placement) Placement
   _ ← refuse_any (placement_fault men)
-  side ← needed (side_of f.side) SideField
+  side ← field_needed (side_of f.side) SideField
   _ ← refuse (in_check men (other_side side)) OpponentInCheck
   _ ← refuse (not (is_dash f.castling)) Castling
-  passed ← needed (passed_of f.passed) EnPassantField
-  position ← needed (position_of men side passed) EnPassantImpossible
-  clock ← needed (count_of f.clock) Clock
-  number ← needed (count_of f.number) MoveNumber
+  passed ← field_needed (passed_of f.passed) EnPassantField
+  position ← field_needed (position_of men side passed) EnPassantImpossible
+  clock ← field_needed (count_of f.clock) Clock
+  number ← field_needed (count_of f.number) MoveNumber
   Ok (record { position = position; clock = clock; number = if number == 0 then 1 else number })

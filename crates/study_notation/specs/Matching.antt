@@ -4,10 +4,9 @@ use Rattle.std.specs.Option.{option_map_or}
 use Rattle.study_board.specs.declared.men.Kind.{Kind}
 use Rattle.study_board.specs.declared.men.Man.{Man}
 use Rattle.study_board.specs.Geometry.{file_of, rank_of}
-use Rattle.study_board.specs.Men.{same_kind}
+use Rattle.study_board.specs.Men.{same_kind, is_pawn}
 use Rattle.study_board.specs.Position.{Position, man_at}
 use Rattle.study_moves.specs.declared.moves.Move.{Move}
-use Rattle.study_moves.specs.Rules.{is_pawn}
 use Rattle.study_notation.specs.declared.san.San.{San}
 use Rattle.study_notation.specs.declared.fault.SanFault.{SanFault}
 use Rattle.study_notation.specs.declared.fault.SanFault.TheVariants.{NotSan, CastlingLeftOut, NoSuchMove, Ambiguous}

@@ -1,11 +1,12 @@
 -- The start after a legal move.
+use Rattle.study_board.specs.Men.{is_pawn}
 use Rattle.std.specs.Prelude.{ℕ, ◌+◌, Bool, false, ◌||◌, nat_lt, if◌then◌else◌}
 use Rattle.std.specs.Option.{option_map_or}
 use Rattle.study_board.specs.declared.men.Side.{Side}
 use Rattle.study_board.specs.declared.men.Side.TheVariants.{White, Black}
 use Rattle.study_board.specs.Position.{Position, man_at}
 use Rattle.study_moves.specs.declared.moves.Move.{Move}
-use Rattle.study_moves.specs.Rules.{is_pawn, after}
+use Rattle.study_moves.specs.Rules.{after}
 use Rattle.study_notation.specs.declared.start.Start.{Start}
 use Rattle.study_moves.specs.LegalList.{takes}
 

@@ -1,10 +1,11 @@
 //! Writing a FEN text.
 ghost use Rattle.std.specs.Prelude.{◌≡◌, ◌<◌, ◌≤◌, ◌+◌, ◌*◌, ◌++◌, ◌∷◌, [], length, decimal};
 ghost use Rattle.arrayvec.specs.ArrayString.{array_string_len};
-ghost use Rattle.study_notation.specs.FenSpelling.{man_letter, piece_on, run, rank_field, placement_text, side_text, square_text, passed_text, fen_text};
+ghost use Rattle.study_notation.specs.FenSpelling.{man_letter, piece_on, run, rank_field, placement_text, side_text, passed_text, fen_text};
 
 use crate::Start;
 use crate::placement::Piece;
+use crate::pushing::{push_byte, push_square};
 use arrayvec::ArrayString;
 use itoa::Buffer;
 use study_board::{Kind, Man, Side, Square};
@@ -45,15 +46,6 @@ fn find_piece(men: &[Man], at: u8) -> Option<Piece>
     None
 }
 
-fn push_byte(out: &mut ArrayString<64>, b: u8)
-    requires ascii { b < 128 }
-    requires room { array_string_len out.old < 64 }
-    ensures bytes { out.new.bytes ≡ out.old.bytes ++ b ∷ [] }
-    ensures len { array_string_len out.new ≡ array_string_len out.old + 1 }
-{
-    out.push(char::from(b));
-}
-
 // One digit for a run of empty squares.
 fn push_run(out: &mut ArrayString<64>, n: u8)
     requires small { n ≤ 8 }
@@ -92,15 +84,6 @@ fn push_number(out: &mut ArrayString<64>, n: u16)
 {
     let mut buffer = Buffer::new();
     out.push_str(buffer.format(n));
-}
-
-fn push_square(out: &mut ArrayString<64>, at: Square)
-    requires room { array_string_len out.old + 2 ≤ 64 }
-    ensures bytes { out.new.bytes ≡ out.old.bytes ++ square_text at }
-    ensures len { array_string_len out.new ≤ array_string_len out.old + 2 }
-{
-    push_byte(out, b'a' + at.file());
-    push_byte(out, b'1' + at.rank());
 }
 
 fn push_passed(out: &mut ArrayString<64>, passed: Option<Square>)

@@ -2,7 +2,7 @@
 ghost use Rattle.std.specs.Prelude.{◌≡◌, true, ◌<◌, ◌≤◌, ◌+◌, ◌++◌, ◌∷◌, [], length, IsTrue, IfSome, IfNone};
 ghost use Rattle.std.specs.Option.{option_map};
 ghost use Rattle.arrayvec.specs.ArrayVec.{array_vec_len};
-ghost use Rattle.study_notation.specs.Fen.{piece_of, parts_of, is_run, is_known, is_rank, squares, squares_of, men_from, placement};
+ghost use Rattle.study_notation.specs.Fen.{piece_of, parts_of, is_run, is_placement_byte, is_rank, squares, squares_of, men_from, placement};
 
 use arrayvec::ArrayVec;
 use study_board::{Kind, Man, Side, Square};
@@ -49,10 +49,10 @@ fn read_square(men: &mut ArrayVec<Man, 64>, b: u8, first: u8, file: u8) -> Optio
     requires low { first ≤ 56 }
     requires inside { file ≤ 8 }
     requires room { array_vec_len men.old ≤ first + file }
-    ensures known { IfSome result (λ _. is_known b ≡ true) }
+    ensures known { IfSome result (λ _. is_placement_byte b ≡ true) }
     ensures next { IfSome result (λ next. (next ≡ file + length (squares_of b)) × (next ≤ 8)) }
     ensures added { IfSome result (λ _. men.new.items ≡ men.old.items ++ men_from (first + file) (squares_of b)) }
-    ensures none { IfNone result ((is_known b ≡ true) → 8 < file + length (squares_of b)) }
+    ensures none { IfNone result ((is_placement_byte b ≡ true) → 8 < file + length (squares_of b)) }
 {
     if is_run(b) {
         let next = file + (b - b'0');

@@ -76,7 +76,8 @@ fn agrees(p: &Position, san: &San, man: &Man, m: &Move) -> bool
         && fits_takes(san.takes, takes(p, man, m.target), man.kind.is(Kind::Pawn))
 }
 
-fn same_promotion(a: Option<Kind>, b: Option<Kind>) -> bool
+/// Whether two promotions are one.
+pub fn same_promotion(a: Option<Kind>, b: Option<Kind>) -> bool
     ensures { result ≡ same_promotion a b }
 {
     match (a, b) {

@@ -1,14 +1,14 @@
 //! Writing a SAN text.
-ghost use Rattle.std.specs.Prelude.{◌≡◌, ◌<◌, ◌≤◌, ◌+◌, ◌++◌, ◌∷◌, [], true, Some, IfSome};
+ghost use Rattle.std.specs.Prelude.{◌≡◌, ◌<◌, ◌≤◌, ◌+◌, ◌++◌, [], true, Some, IfSome};
 ghost use Rattle.arrayvec.specs.ArrayString.{array_string_len};
 ghost use Rattle.study_board.specs.Position.{man_at};
 ghost use Rattle.study_moves.specs.Rules.{is_legal};
-ghost use Rattle.study_notation.specs.FenSpelling.{square_text};
 ghost use Rattle.study_notation.specs.San.{kind_text, file_text, rank_text, takes_text, promotion_text, san_text};
 ghost use Rattle.study_moves.specs.LegalList.{is_mate};
 ghost use Rattle.study_notation.specs.Written.{is_rival, has_rival, has_file_rival, gives_file, gives_rank, GivesOne, san_for, check_text, move_text};
 
 use crate::captures::takes;
+use crate::pushing::{push_byte, push_square};
 use crate::san::San;
 use arrayvec::ArrayString;
 use study_board::{Kind, Man, Position, Square};
@@ -45,15 +45,6 @@ fn push_san(out: &mut ArrayString<8>, san: &San)
     push_takes(out, san.takes);
     push_square(out, san.target);
     push_promotion(out, san.promoted);
-}
-
-fn push_byte(out: &mut ArrayString<8>, b: u8)
-    requires ascii { b < 128 }
-    requires room { array_string_len out.old < 8 }
-    ensures bytes { out.new.bytes ≡ out.old.bytes ++ b ∷ [] }
-    ensures len { array_string_len out.new ≡ array_string_len out.old + 1 }
-{
-    out.push(char::from(b));
 }
 
 fn push_kind(out: &mut ArrayString<8>, kind: Kind)
@@ -95,15 +86,6 @@ fn push_takes(out: &mut ArrayString<8>, takes: bool)
     if takes {
         push_byte(out, b'x');
     }
-}
-
-fn push_square(out: &mut ArrayString<8>, at: Square)
-    requires { array_string_len out.old ≤ 6 }
-    ensures bytes { out.new.bytes ≡ out.old.bytes ++ square_text at }
-    ensures len { array_string_len out.new ≡ array_string_len out.old + 2 }
-{
-    push_byte(out, b'a' + at.file());
-    push_byte(out, b'1' + at.rank());
 }
 
 fn push_promotion(out: &mut ArrayString<8>, promoted: Option<Kind>)

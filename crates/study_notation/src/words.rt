@@ -16,7 +16,8 @@ pub fn next_word(line: &[u8]) -> Option<(&[u8], &[u8])>
     Some(text.split_at(word_len(text)))
 }
 
-fn space_len(text: &[u8]) -> usize
+/// How many spaces the text begins with.
+pub fn space_len(text: &[u8]) -> usize
     ensures value { result ≡ prefix_len is_space text.now }
     ensures within { result ≤ length text.now }
 {

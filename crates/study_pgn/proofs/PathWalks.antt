@@ -1,4 +1,5 @@
 -- Walks along paths, and the text of what follows a node, child by child.
+use Rattle.study_marks.specs.Renewal.{below_at}
 use Rattle.std.proofs.Common.{◌≡◌, ℕ, zero, suc, ◌<◌, ◌≤◌, true, List, [], ◌∷◌, ◌++◌, Option, Some, None, refl, sym, ap, subst, ◌∙◌, arith}
 use Rattle.std.specs.Prelude.{IfSome, codes}
 use Rattle.study_board.specs.Position.{Position}
@@ -11,7 +12,6 @@ use Rattle.study_tree.specs.Tree.{Plain, Spot, spot_at, twig_spot}
 use Rattle.study_marks.specs.declared.mark.Mark.{Mark}
 use Rattle.study_marks.specs.Study.{IsPlayable}
 use Rattle.study_pgn.specs.Moves.{words_of_move, following, variations}
-use Rattle.study_pgn.specs.Walk.{below_at}
 
 if_some : {T : Type 0} (o : Option T) (P Q : T → Type 0) → ((t : T) → P t → Q t) → IfSome o P → IfSome o Q
 if_some None P Q f h = tt

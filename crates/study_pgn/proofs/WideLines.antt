@@ -5,7 +5,7 @@ use Rattle.std.proofs.lemmas.List.{append-nil}
 use Rattle.std.proofs.lemmas.Bool.{cases_Bool}
 use Rattle.std.specs.List.{flat_map}
 use Rattle.study_pgn.specs.Lines.{line_text, filled, lines_of, lines_text}
-use Rattle.study_pgn.specs.Walk.{piece, next}
+use Rattle.study_pgn.specs.Walk.{further_word, next}
 
 abbrev pub ended : List (List ℕ) → List ℕ
 ended line = line_text line ++ 10 ∷ []
@@ -50,6 +50,6 @@ unfolding tail
 tail_none n [] e = refl
 tail_none n (w ∷ ws) e = absurd (omega (arith, e))
 
-pub tail_more : (n : ℕ) (w : List ℕ) (ws : List (List ℕ)) → tail n (w ∷ ws) ≡ piece n w ++ tail (next n w) ws
+pub tail_more : (n : ℕ) (w : List ℕ) (ws : List (List ℕ)) → tail n (w ∷ ws) ≡ further_word n w ++ tail (next n w) ws
 unfolding tail
 tail_more n w ws = elim (cases_Bool (leb (n + 1 + length w) 79)) [ inl fits ↦ rw fits refl | inr over ↦ rw over refl ]

@@ -1,6 +1,6 @@
 //! The opening comment.
 ghost use Rattle.std.specs.Prelude.{◌≡◌, ◌++◌, OnOk};
-ghost use Rattle.study_marks.specs.Goals.{hero_mates, hero_loses, is_right};
+ghost use Rattle.study_marks.specs.Goals.{is_right};
 ghost use Rattle.study_marks.specs.Study.{Study};
 ghost use Rattle.study_marks.specs.declared.mark.Mark.{Mark as AMark};
 ghost use Rattle.study_marks.specs.Verdict.{verdict};
@@ -10,7 +10,7 @@ use crate::text::Text;
 use crate::values::{add_value, side_name};
 use std::alloc::{AllocError, Allocator};
 use study_board::Side;
-use study_marks::{Goal, Mark, Stipulation};
+use study_marks::{Goal, Mark, Stipulation, hero_loses, hero_mates};
 use study_retro::Value;
 
 fn add_goal<A: Allocator>(text: &mut Text<'_, A>, goal: Goal) -> Result<(), AllocError>
@@ -23,28 +23,6 @@ fn add_goal<A: Allocator>(text: &mut Text<'_, A>, goal: Goal) -> Result<(), Allo
             text.add(b" to mate in ")?;
             text.add_number(moves.count() as u32)
         }
-    }
-}
-
-// In how many plies the hero mates, who is the side to move or not.
-fn hero_mates(to_move: bool, value: Value) -> Option<u8>
-    ensures { result ≡ hero_mates to_move value }
-{
-    match value {
-        Value::Win(plies) if to_move => Some(plies),
-        Value::Loss(plies) if !to_move => Some(plies),
-        _ => None,
-    }
-}
-
-// Whether the hero is mated.
-fn hero_loses(to_move: bool, value: Value) -> bool
-    ensures { result ≡ hero_loses to_move value }
-{
-    match value {
-        Value::Win(_) => !to_move,
-        Value::Loss(_) => to_move,
-        Value::Draw => false,
     }
 }
 

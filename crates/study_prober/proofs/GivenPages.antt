@@ -13,7 +13,7 @@ use Rattle.study_prober.specs.declared.cache.PageKey.{PageKey}
 use Rattle.study_prober.specs.declared.held.HeldSource.{HeldSource}
 use Rattle.study_prober.specs.declared.values.ProbeFault.{ProbeFault}
 use Rattle.study_prober.specs.Sources.{IsGivenPage, HasBadPage, IsReadFrom, GiveAlike}
-use Rattle.study_prober.specs.Paged.{held_of, places, IsKept, AreGiven}
+use Rattle.study_prober.specs.Paged.{held_of, places_for_classes, IsKept, AreGiven}
 use Rattle.study_prober.proofs.HeldSources.{held_either, held_placed, some_same}
 
 module _ {S : Type 0} (gives : S → Question → Result (List ℕ) SourceFault → Type 0) where
@@ -87,9 +87,10 @@ module _ {S : Type 0} (gives : S → Question → Result (List ℕ) SourceFault 
     pub given_with : (honest : S → Table → ℕ → Type 0) (xs : List (Option (HeldSource S)))
         (kept : List (PageKey × V)) (c : Class) (k : HeldSource S) → IsKept honest cells xs kept
         → AreGiven gives cells xs kept
-        → is_some (held_of xs c) ≡ false → class_place c < length (places xs) → AreGiven gives cells (set (places xs) (class_place c) (Some k)) kept
+        → is_some (held_of xs c) ≡ false → class_place c < length (places_for_classes xs)
+        → AreGiven gives cells (set (places_for_classes xs) (class_place c) (Some k)) kept
     given_with honest xs kept c k kept_was was none room = record {
-      given = λ e d j i at now. elim (held_either (places xs) c d k j room now) [
+      given = λ e d j i at now. elim (held_either (places_for_classes xs) c d k j room now) [
         | inl same ↦ absurd (false≢true (sym none ∙ kept_was.held e c i (at ∙ ap class_place (sym same.0))))
         | inr far ↦ was.given e d j i at (sym (held_placed xs d) ∙ far.1)
       ];

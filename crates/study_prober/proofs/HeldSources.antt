@@ -11,7 +11,7 @@ use Rattle.study_prober.specs.declared.cache.PageKey.{PageKey}
 use Rattle.study_tablefile.specs.declared.source.Header.{Header}
 use Rattle.study_prober.specs.declared.held.HeldSource.{HeldSource}
 use Rattle.study_prober.specs.Sources.{IsHeaderOf, GivesRight, AreHonestAlike, cells_on_page}
-use Rattle.study_prober.specs.Paged.{held_of, places, IsKept, SourcesAreRight, IsSameSource}
+use Rattle.study_prober.specs.Paged.{held_of, places_for_classes, IsKept, SourcesAreRight, IsSameSource}
 
 pub same_class : (c d : Class) → (c ≡ d) ⊎ (class_place c ≢ class_place d)
 same_class c d = elim (same_number (class_place c) (class_place d)) [ inl e ↦ inl (class_place-injective c d e) | inr f ↦ inr f ]
@@ -40,14 +40,14 @@ module _ {S : Type 0} where
       → class_place c ≢ class_place d → held_of (set xs (class_place c) o) d ≡ held_of xs d
   held_other xs c d o far = get_or-set_other xs (class_place c) (class_place d) o None (λ e. far (sym e))
 
-  pub held_placed : (xs : List (Option (HeldSource S))) (c : Class) → held_of (places xs) c ≡ held_of xs c
+  pub held_placed : (xs : List (Option (HeldSource S))) (c : Class) → held_of (places_for_classes xs) c ≡ held_of xs c
   held_placed [] c = none_read {X = Option (HeldSource S)} None 36 (class_place c)
   held_placed (o ∷ os) c = refl
 
   pub none_past : (xs : List (Option (HeldSource S))) (c : Class) → length xs ≤ class_place c → held_of xs c ≡ None
   none_past xs c past = get_or_past xs (class_place c) None past
 
-  pub places_length : (xs : List (Option (HeldSource S))) → (length xs ≢ 0 → length xs ≡ 36) → length (places xs) ≡ 36
+  pub places_length : (xs : List (Option (HeldSource S))) → (length xs ≢ 0 → length xs ≡ 36) → length (places_for_classes xs) ≡ 36
   places_length [] some = length-replicate {A = Option (HeldSource S)} 36 None
   places_length (o ∷ os) some = some (λ e. absurd (omega (arith, e)))
 
@@ -242,31 +242,32 @@ module _ {S : Type 0} where
       module _ (xs : List (Option (HeldSource S))) (kept : List (PageKey × V)) (c : Class) (k : HeldSource S)
           (was : IsKept honest cells xs kept) (none : is_some (held_of xs c) ≡ false) (header : IsHeaderOf k.header c)
           (small : class_place c < 36) where
-        long : length (places xs) ≡ 36
+        long : length (places_for_classes xs) ≡ 36
         long = places_length xs was.some
 
-        room : class_place c < length (places xs)
+        room : class_place c < length (places_for_classes xs)
         room = omega (arith, long)
 
         zs : List (Option (HeldSource S))
-        zs = set (places xs) (class_place c) (Some k)
+        zs = set (places_for_classes xs) (class_place c) (Some k)
 
         either : (d : Class) (j : HeldSource S) → held_of zs d ≡ Some j → ((c ≡ d) × (k ≡ j)) ⊎ ((class_place c ≢ class_place d) × (held_of xs d ≡ Some j))
         unfolding zs
-        either d j e = elim (held_either (places xs) c d k j room e) [
+        either d j e = elim (held_either (places_for_classes xs) c d k j room e) [
           | inl same ↦ inl same
           | inr far ↦ inr (far.0, sym (held_placed xs d) ∙ far.1)
         ]
 
-        pub kept_with : IsKept honest cells (set (places xs) (class_place c) (Some k)) kept
+        pub kept_with : IsKept honest cells (set (places_for_classes xs) (class_place c) (Some k)) kept
         unfolding zs
         kept_with = record {
-          some = λ n. length-set (places xs) (class_place c) (Some k) ∙ long;
+          some = λ n. length-set (places_for_classes xs) (class_place c) (Some k) ∙ long;
           header = λ d j e. elim (either d j e) [
             | inl same ↦ subst (λ (x : HeldSource S). IsHeaderOf x.header d) same.1 (subst (λ (x : Class). IsHeaderOf k.header x) same.0 header)
             | inr far ↦ was.header d j far.1
           ];
-          held = λ e d i at. is_held_after (places xs) c d k room (ap (λ (o : Option (HeldSource S)). is_some o) (held_placed xs d) ∙ was.held e d i at);
+          held = λ e d i at. is_held_after (places_for_classes xs) c d k room
+              (ap (λ (o : Option (HeldSource S)). is_some o) (held_placed xs d) ∙ was.held e d i at);
           right = λ d j t e gives of. record {
             is = λ page i at. elim (either d j e) [
               | inl same ↦ absurd (false≢true (sym none ∙ was.held page c i (at ∙ ap class_place (of ∙ sym same.0))))
@@ -276,7 +277,7 @@ module _ {S : Type 0} where
         }
 
         pub right_with : SourcesAreRight honest xs → GivesRight honest k.source k.header.version c
-            → SourcesAreRight honest (set (places xs) (class_place c) (Some k))
+            → SourcesAreRight honest (set (places_for_classes xs) (class_place c) (Some k))
         unfolding zs
         right_with all right = record {
           right = λ d j e. elim (either d j e) [

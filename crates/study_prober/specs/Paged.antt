@@ -27,9 +27,9 @@ abbrev pub held_of : {S : Type 0} → List (Option (HeldSource S)) → Class →
 held_of sources c = slice_index_or sources (class_place c) None
 
 -- a place for each class, from the first source on
-abbrev pub places : {S : Type 0} → List (Option (HeldSource S)) → List (Option (HeldSource S))
-places [] = replicate 36 None
-places (o ∷ os) = o ∷ os
+abbrev pub places_for_classes : {S : Type 0} → List (Option (HeldSource S)) → List (Option (HeldSource S))
+places_for_classes [] = replicate 36 None
+places_for_classes (o ∷ os) = o ∷ os
 
 -- each source has the header of its class, each page that is kept is of a source that is held, and for whatever table a source is
 -- honest in the version of its header, its pages that are kept are the table's

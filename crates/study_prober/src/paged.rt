@@ -17,7 +17,7 @@ ghost use Rattle.study_prober.specs.Cache.{kept_cell};
 ghost use Rattle.study_prober.specs.declared.held.HeldSource.{HeldSource as AHeld};
 ghost use Rattle.study_prober.specs.Sources.{AreHonestAlike, GiveAlike, HasBadPage, IsReadFrom, GivesRight};
 ghost use Rattle.study_prober.specs.Sources.{IsHeaderOf, PutsNone, PutsOnly, failed_after};
-ghost use Rattle.study_prober.specs.Paged.{SourcesAreRight, AreGiven, IsKept, IsPageFor, IsPagedAnswer, IsSameSource, IsToldAgain, held_of, places};
+ghost use Rattle.study_prober.specs.Paged.{SourcesAreRight, AreGiven, IsKept, IsPageFor, IsPagedAnswer, IsSameSource, IsToldAgain, held_of, places_for_classes};
 ghost use Rattle.study_prober.specs.Values.{faults_after};
 ghost use Rattle.study_prober.specs.Told.{IsRefusedBy, MayAnswer, paged_fault};
 
@@ -93,7 +93,7 @@ impl<'a, S: PageSource, A: Allocator> PagedTables<'a, S, A> {
             × ((t : Seen) (v : ℕ) → IsVersionOf t.class v → S.honest source t v → h.header.version ≡ v)
             × AreHonestAlike S.honest source h.source × GiveAlike S.gives source h.source
             × (S.failed h.source ≡ S.failed source)
-            × (self.new ≡ record self.old { sources = slice_set (places self.old.sources) (class_place class) (Some h) })
+            × (self.new ≡ record self.old { sources = slice_set (places_for_classes self.old.sources) (class_place class) (Some h) })
             ) }
         ensures same { OnErr result (self.new ≡ self.old) }
 
@@ -140,7 +140,7 @@ fn make_places<'a, S: Drop, A: Allocator>(
     sources: &mut Vec<Option<HeldSource<S>>, &'a A>,
     alloc: &'a A,
 ) -> Result<(), AllocError>
-    ensures made { OnOk result (sources.new.items ≡ places sources.old.items) }
+    ensures made { OnOk result (sources.new.items ≡ places_for_classes sources.old.items) }
     ensures same { OnErr result (sources.new ≡ sources.old) }
 {
     if sources.is_empty() {

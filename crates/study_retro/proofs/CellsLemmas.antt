@@ -7,7 +7,7 @@ use Rattle.study_retro.specs.declared.value.Value.TheVariants.{Win}
 use Rattle.std.proofs.lemmas.Bool.{eqb-true}
 use Rattle.std.proofs.lemmas.List.{take_more}
 use Rattle.std.proofs.lemmas.List.Elements.{Contains-push_cases}
-use Rattle.study_retro.specs.Forced.{Leads}
+use Rattle.study_retro.specs.Forced.{LeadsBy}
 use Rattle.study_retro.specs.Back.{IsWonCell, TellsWins, IsLostBy, AreAdded, AreDropped}
 
 pub not_won-zero : (k c : ℕ) → c ≡ 0 → IsWonCell k c → ⊥
@@ -87,7 +87,7 @@ at_place (y ∷ ys) x c = by_index (λ h. at_place ys x h) c.0 c.1 c.2
 pub lost_listed : {P M : Type 0} (legal : P → M → Type 0) (after : P → M → P) (labels : P → Value) (k : ℕ) (p : P)
     (ms : List M) → ((m : M) → legal p m → Contains ms m) → ((m : M) → Contains ms m → legal p m)
     → ((m : M) → Contains ms m → (n : ℕ) × (labels (after p m) ≡ Win n) × (n ≤ k)) → (e : Bool) → e ≡ (length ms == 0)
-    → (IsTrue (not e) → IsLostBy (Leads legal after) labels k p) × (IsLostBy (Leads legal after) labels k p → IsTrue (not e))
+    → (IsTrue (not e) → IsLostBy (LeadsBy legal after) labels k p) × (IsLostBy (LeadsBy legal after) labels k p → IsTrue (not e))
 lost_listed legal after labels k p [] all only each false q = absurd (let no : false ≡ true = q in cc)
 lost_listed legal after labels k p [] all only each true q = (
   λ t. absurd (let no : false ≡ true = t in cc),

@@ -6,7 +6,7 @@ use Rattle.std.proofs.lemmas.List.Elements.{Contains-push, Contains-push_cases, 
 use Rattle.study_retro.specs.declared.value.Value.{Value}
 use Rattle.study_retro.specs.declared.value.Value.TheVariants.{Win, Loss, Draw}
 use Rattle.study_retro.specs.Tally.{lost_with, won_with, drawn_with, given_by}
-use Rattle.study_retro.specs.Forced.{Leads, Gives, GivesOutside}
+use Rattle.study_retro.specs.Forced.{LeadsBy, Gives, GivesOutside}
 use Rattle.study_retro.proofs.TallyLemmas.{IsTally, IsTally-empty, IsTally-push, Gives-given_by}
 
 -- xs has those of the moves that pass
@@ -82,9 +82,9 @@ pub GivesOutside-given_by : {P M : Type 0} (legal : P → M → Type 0) (after :
     (f : P → Value) (p : P) (ms : List M) → ((m : M) → legal p m → Contains ms m)
     → ((m : M) → Contains ms m → legal p m)
     → (lost won : Option ℕ) (drawn : Bool) → IsTallyOf (λ m. home (after p m) ≡ false) (λ m. f (after p m)) ms lost
-    won drawn → GivesOutside (Leads legal after) home f p (given_by false lost won drawn)
+    won drawn → GivesOutside (LeadsBy legal after) home f p (given_by false lost won drawn)
 GivesOutside-given_by {P} {M} legal after home f p ms all only lost won drawn t =
-    Gives-leads (Leads out after) (λ a b. Leads legal after a b × (home b ≡ false)) (λ a. ⊥) f p
+    Gives-leads (LeadsBy out after) (λ a b. LeadsBy legal after a b × (home b ≡ false)) (λ a. ⊥) f p
     (λ q l. ((l.0, l.1.0, l.2), subst (λ (b : P). home b ≡ false) l.2 l.1.1))
     (λ q l. (l.0.0, (l.0.1, subst (λ (b : P). home b ≡ false) (sym l.0.2) l.1), l.0.2))
     (given_by false lost won drawn)

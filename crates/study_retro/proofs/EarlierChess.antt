@@ -1,4 +1,5 @@
 -- What leads to the position of a number, by the positions before a quiet move.
+use Rattle.study_board.specs.Men.{is_pawn}
 use Rattle.std.proofs.Common.{◌≡◌, ℕ, ◌+◌, ◌<◌, ◌⊎◌, inl, inr, arith, Bool, true, false, cond, not, ◌||◌, ◌↔◌}
 use Rattle.std.proofs.Common.{List, [], ◌∷◌, ◌++◌, Contains, Option, Some, None, refl, sym, ◌∙◌, ap, subst}
 use Rattle.std.proofs.lemmas.Bool.{false≢true, false_from_ne_true}
@@ -7,7 +8,7 @@ use Rattle.study_board.specs.declared.men.Man.{Man}
 use Rattle.study_board.specs.Position.{Position, IsValid, man_at, is_empty, in_order}
 use Rattle.study_board.proofs.Valid.{IsFaultless-from_first, first_fault-from_IsFaultless}
 use Rattle.study_board.specs.declared.symmetry.Symmetry.{Symmetry}
-use Rattle.study_board.specs.Symmetry.{image, admits, keeps_pawns, is_pawn}
+use Rattle.study_board.specs.Symmetry.{image, admits, keeps_pawns}
 use Rattle.study_board.proofs.ImagesValid.{valid_image}
 use Rattle.study_board.proofs.ImagesOfImages.{IsTurnable-from_valid}
 use Rattle.study_moves.specs.declared.moves.Move.{Move}
@@ -27,7 +28,7 @@ use Rattle.study_material.specs.Lists.{Lists, lists, ordered}
 use Rattle.study_material.specs.Class.{IsOf}
 use Rattle.study_index.specs.Number.{IsIndex, with_bit, without_bit}
 use Rattle.study_index.specs.Decoded.{slots_of, told_men, told_side}
-use Rattle.study_index.specs.Found.{index_of, told, is_entry, position_numbered}
+use Rattle.study_index.specs.Found.{index_of, position_told, is_entry, position_numbered}
 use Rattle.study_index.specs.Laws.{AreAlikeIn}
 use Rattle.study_index.proofs.ClassLaws.{entry, numbered, same_class, same_index, alike_back, alike_move}
 use Rattle.study_index.proofs.ComputedIndex.{IsIndex-index_of, index_of-only, told_decoded, decoded_told}
@@ -157,12 +158,12 @@ small_index p v u =
     let is : index_of p ≡ without_bit (index_of p) = h.is ∙ ap (λ (b : Bool). with_bit b (without_bit (index_of p))) dead in
     subst (λ (n : ℕ). n < 16777216) (sym is) h.small
 
-position_is : (c : Class) (n : ℕ) (q : Position) → position_numbered c n ≡ Some q → q ≡ told c n
+position_is : (c : Class) (n : ℕ) (q : Position) → position_numbered c n ≡ Some q → q ≡ position_told c n
 unfolding position_numbered
 position_is c n q e = by_entry (is_entry c n) e
   where
-    by_entry : (b : Bool) → cond b (Some (told c n)) None ≡ Some q → q ≡ told c n
-    by_entry true k = let no : Some (told c n) ≡ Some q = k in cc
+    by_entry : (b : Bool) → cond b (Some (position_told c n)) None ≡ Some q → q ≡ position_told c n
+    by_entry true k = let no : Some (position_told c n) ≡ Some q = k in cc
     by_entry false k = absurd (let no : None ≡ Some q = k in cc)
 
 unpassed_same : (x : Position) → x.passed ≡ None → without_passed x ≡ x

@@ -16,16 +16,16 @@ use Rattle.study_board.specs.declared.men.Kind.{Kind}
 use Rattle.study_board.specs.declared.men.Kind.TheVariants.{King, Queen, Rook, Bishop, Knight, Pawn}
 use Rattle.study_board.specs.EqualLaws.{kinds_equal}
 use Rattle.study_board.specs.Geometry.{file_of, rank_of}
-use Rattle.study_board.specs.Men.{same_side, other_side, is_man}
+use Rattle.study_board.specs.Men.{same_side, other_side, is_man, is_pawn}
 use Rattle.study_board.specs.Position.{Position, IsValid, AllAbove, IsAscending, is_occupied, has_man, man_at}
 use Rattle.study_moves.specs.declared.moves.Move.{Move}
-use Rattle.study_moves.specs.Rules.{is_pawn, is_en_passant, is_square, has_side, stays, moved, is_legal, after, is_choice, is_officer, reaches_end, last_rank}
+use Rattle.study_moves.specs.Rules.{is_en_passant, is_square, has_side, stays, moved, is_legal, after, is_choice, is_officer, reaches_end, last_rank}
 use Rattle.study_moves.specs.Quiet.{IsQuiet}
 use Rattle.study_moves.proofs.MenOfList.{IsAmong, none_among, some_among, found_among}
 use Rattle.study_moves.proofs.NoMoveBetween.{HasMover-from_is_legal}
 use Rattle.study_moves.proofs.AfterMove.{IsMoveFrom-is_legal, IsValid-after, en_passant_pawn}
 use Rattle.study_material.specs.declared.class.Class.{Class}
-use Rattle.study_material.specs.Lists.{Lists, kind_place, put_kind, kinds_of, lists, ordered, exchanged, is_exchanged}
+use Rattle.study_material.specs.Lists.{Lists, kind_place, put_kind, kinds_of, lists, ordered, lists_exchanged, is_exchanged}
 use Rattle.study_material.specs.Class.{IsOf}
 use Rattle.study_material.proofs.KindCounts.{lists-IsPermutation}
 use Rattle.study_material.proofs.MenBesideKings.{one_king}
@@ -63,7 +63,7 @@ both l = sum_by weight_of l.white + sum_by weight_of l.black
 both-ordered : (l : Lists) → both (ordered l) ≡ both l
 both-ordered l = by_test (is_exchanged l)
   where
-    by_test : (b : Bool) → both (cond b (exchanged l) l) ≡ both l
+    by_test : (b : Bool) → both (cond b (lists_exchanged l) l) ≡ both l
     by_test true = omega arith
     by_test false = refl
 

@@ -7,7 +7,7 @@ use Rattle.study_retro.specs.declared.value.Value.{Value}
 use Rattle.study_retro.specs.declared.value.Value.TheVariants.{Win, Loss, Draw}
 use Rattle.std.proofs.lemmas.List.{take_more}
 use Rattle.study_retro.specs.Tally.{lost_with, won_with, drawn_with, given_by}
-use Rattle.study_retro.specs.Forced.{Leads, Gives, HasLoss, HasOnlyWins, HasDraw}
+use Rattle.study_retro.specs.Forced.{LeadsBy, Gives, HasLoss, HasOnlyWins, HasDraw}
 
 -- one of the moves has the value
 abbrev pub Seen : {M : Type 0} → (M → Value) → List M → Value → Type 0
@@ -138,13 +138,13 @@ module _ {P M : Type 0} (legal : P → M → Type 0) (after : P → M → P) (ma
   abbrev Found : Value → Type 0
   Found v = Seen (λ m. labels (after p m)) ms v
 
-  move_of : (v : Value) (s : Found v) → Leads legal after p (after p s.0)
+  move_of : (v : Value) (s : Found v) → LeadsBy legal after p (after p s.0)
   move_of v s = (s.0, only s.0 s.1, refl)
 
-  found : (q : P) (v : Value) → Leads legal after p q → labels q ≡ v → Found v
+  found : (q : P) (v : Value) → LeadsBy legal after p q → labels q ≡ v → Found v
   found q v l e = (l.0, all l.0 l.1, ap labels l.2 ∙ e)
 
-  given-lost : (n : ℕ) → IsNearest (λ m. labels (after p m)) ms (Some n) → HasLoss (Leads legal after) labels p n
+  given-lost : (n : ℕ) → IsNearest (λ m. labels (after p m)) ms (Some n) → HasLoss (LeadsBy legal after) labels p n
   given-lost n h = record {
     to = after p h.0.0;
     move = move_of (Loss n) h.0;
@@ -152,14 +152,14 @@ module _ {P M : Type 0} (legal : P → M → Type 0) (after : P → M → P) (ma
     least = λ q m l e. h.1 m (found q (Loss m) l e);
   }
 
-  given-drawn : ((n : ℕ) → Found (Loss n) → ⊥) → Found Draw → HasDraw (Leads legal after) mate labels p
+  given-drawn : ((n : ℕ) → Found (Loss n) → ⊥) → Found Draw → HasDraw (LeadsBy legal after) mate labels p
   given-drawn unlost s = record {
     no_loss = λ q m l e. unlost m (found q (Loss m) l e);
     holds = inl (after p s.0, move_of Draw s, s.2);
   }
 
   given-won : (n : ℕ) → ((k : ℕ) → Found (Loss k) → ⊥) → (Found Draw → ⊥)
-      → IsFarthest (λ m. labels (after p m)) ms (Some n) → HasOnlyWins (Leads legal after) labels p n
+      → IsFarthest (λ m. labels (after p m)) ms (Some n) → HasOnlyWins (LeadsBy legal after) labels p n
   given-won n unlost undrawn h = record {
     to = after p h.0.0;
     move = move_of (Win n) h.0;
@@ -167,12 +167,12 @@ module _ {P M : Type 0} (legal : P → M → Type 0) (after : P → M → P) (ma
     each = λ q l. by_value q l (labels q) refl;
   }
     where
-      by_value : (q : P) → Leads legal after p q → (v : Value) → labels q ≡ v → (m : ℕ) × (labels q ≡ Win m) × (m ≤ n)
+      by_value : (q : P) → LeadsBy legal after p q → (v : Value) → labels q ≡ v → (m : ℕ) × (labels q ≡ Win m) × (m ≤ n)
       by_value q l (Win m) e = (m, e, h.1 m (found q (Win m) l e))
       by_value q l (Loss m) e = absurd (unlost m (found q (Loss m) l e))
       by_value q l Draw e = absurd (undrawn (found q Draw l e))
 
-  none_found : ((n : ℕ) → Found (Loss n) → ⊥) → (Found Draw → ⊥) → ((n : ℕ) → Found (Win n) → ⊥) → (q : P) → Leads legal after p q → ⊥
+  none_found : ((n : ℕ) → Found (Loss n) → ⊥) → (Found Draw → ⊥) → ((n : ℕ) → Found (Win n) → ⊥) → (q : P) → LeadsBy legal after p q → ⊥
   none_found unlost undrawn unwon q l = by_value (labels q) refl
     where
       by_value : (v : Value) → labels q ≡ v → ⊥
@@ -181,11 +181,11 @@ module _ {P M : Type 0} (legal : P → M → Type 0) (after : P → M → P) (ma
       by_value Draw e = undrawn (found q Draw l e)
 
   abbrev Given : Value → Type 0
-  Given v = Gives (Leads legal after) mate labels p v
+  Given v = Gives (LeadsBy legal after) mate labels p v
 
   pub Gives-given_by : (mated : Bool) (lost won : Option ℕ) (drawn : Bool) → IsTrue mated ↔ mate p
       → IsTally (λ m. labels (after p m)) ms lost won drawn
-      → Gives (Leads legal after) mate labels p (given_by mated lost won drawn)
+      → Gives (LeadsBy legal after) mate labels p (given_by mated lost won drawn)
   Gives-given_by mated (Some n) won drawn tells t = subst (λ (k : ℕ). Given (Win k)) (sym (add-one n)) (given-lost n t.nearest)
   Gives-given_by mated None won true tells t = given-drawn t.nearest t.draw
   Gives-given_by mated None (Some n) false tells t = subst (λ (k : ℕ). Given (Loss k)) (sym (add-one n)) (given-won n t.nearest t.draw t.farthest)

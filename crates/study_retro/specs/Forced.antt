@@ -70,8 +70,8 @@ pub record IsRightBelow {P : Type 0} (leads : P → P → Type 0) (mate : P → 
   pub lost : (n : ℕ) → n < k → v ≡ Loss n → Mated leads mate p n
 
 -- a legal move leads from p to q
-abbrev pub Leads : {P M : Type 0} → (P → M → Type 0) → (P → M → P) → P → P → Type 0
-Leads {P} {M} legal after p q = (m : M) × legal p m × (after p m ≡ q)
+abbrev pub LeadsBy : {P M : Type 0} → (P → M → Type 0) → (P → M → P) → P → P → Type 0
+LeadsBy {P} {M} legal after p q = (m : M) × legal p m × (after p m ≡ q)
 
 -- what the labels after p's moves out of the class give alone
 abbrev pub GivesOutside : {P : Type 0} → (P → P → Type 0) → (P → Bool) → (P → Value) → P → Value → Type 0

@@ -3,7 +3,7 @@ use Rattle.std.specs.Prelude.{◌≡◌, ◌≢◌, ℕ, ◌+◌, ◌<◌, Bool,
 use Rattle.study_moves.specs.declared.moves.Move.{Move}
 use Rattle.study_retro.specs.declared.value.Value.{Value}
 use Rattle.study_retro.specs.declared.game.Place.{Place}
-use Rattle.study_retro.specs.Forced.{Leads, Mated, Gives, GivesOutside}
+use Rattle.study_retro.specs.Forced.{LeadsBy, Mated, Gives, GivesOutside}
 use Rattle.study_retro.specs.Cells.{label_of}
 use Rattle.study_retro.specs.Class.{IsClass}
 use Rattle.study_retro.specs.Places.{IsPlace}
@@ -32,7 +32,7 @@ pub record Numbered (P : Type 0) : Type 1 where
 module _ {P : Type 0} where
   -- a legal move leads from one position to the other
   abbrev pub leads_in : Numbered P → P → P → Type 0
-  leads_in g = Leads g.legal g.after
+  leads_in g = LeadsBy g.legal g.after
 
   -- the laws that numbers, moves and images obey
   abbrev pub IsNumberedClass : Numbered P → Type 0

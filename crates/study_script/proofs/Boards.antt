@@ -7,7 +7,7 @@ use Rattle.study_material.specs.declared.class.Class.{Class}
 use Rattle.study_retro.specs.Table.{Table}
 use Rattle.study_notation.specs.declared.start.Start.{Start}
 use Rattle.study_marks.specs.Study.{plain_study}
-use Rattle.study_marks.specs.Kept.{Kept, marked, IsRight}
+use Rattle.study_marks.specs.Kept.{Kept, marked, IsKeptRight}
 use Rattle.study_marks.specs.Edits.{Plainly}
 use Rattle.study_script.specs.declared.tables.Tables.{Tables}
 use Rattle.study_script.specs.declared.board.Board.{Board as HeldBoard}
@@ -32,7 +32,7 @@ module _ {P A : Type 0} where
 
   -- a study is held that asked no table
   pub study_held : (honest : P → Table → ℕ → Type 0) (old k : Kept) (t : Tables P A) (s : State) (new : Plainly)
-      → plain_study (marked k) ≡ new → IsRight k → Holds honest (held.Study old) t s
+      → plain_study (marked k) ≡ new → IsKeptRight k → Holds honest (held.Study old) t s
       → Holds honest (held.Study k) t (holding s new)
   study_held honest old k t s new e r h = record { board = ap study e; marks = r; values = h.values; classes = h.classes; paged = h.paged }
 
@@ -72,7 +72,7 @@ module _ {I J : Outside → Reply → Type 0} where
 module _ {P A : Type 0} where
   -- a study is held that was made by asking tables
   pub study_made : (honest : P → Table → ℕ → Type 0) (b : HeldBoard A) (k : Kept) (t u : Tables P A) (s : State)
-      (new : Plainly) → Holds honest b t s → plain_study (marked k) ≡ new → IsRight k → tables_honest honest u
+      (new : Plainly) → Holds honest b t s → plain_study (marked k) ≡ new → IsKeptRight k → tables_honest honest u
       → ((c : Class) → tables_held u c ≡ tables_held t c) → are_paged u ≡ are_paged t → Holds honest (held.Study k) u (holding s new)
   study_made honest b k t u s new h e r v same mode =
       record {

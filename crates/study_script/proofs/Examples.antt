@@ -17,7 +17,7 @@ use Rattle.study_command.specs.declared.command.FormFault.TheVariants.{BadByte, 
 use Rattle.study_script.specs.declared.refusal.Refusal.TheVariants.{NoTable, AlreadyThere, File, TableReadPage}
 use Rattle.study_command.specs.Lines.{script_lines}
 use Rattle.study_command.specs.Paths.{place_told, is_path, is_path_word, steps_of, path_text}
-use Rattle.study_command.specs.Asking.{Asks, of_start, of_class, stipulate, insert, tag, solve, trimmed, asked_of, word_of, command_of}
+use Rattle.study_command.specs.Asking.{Asks, of_start, of_class, stipulate, insert, tag, solve, trimmed, word_asked, word_of, command_of}
 use Rattle.study_script.specs.Names.{words_of}
 use Rattle.study_script.specs.Words.{stipulation_words, mark_text, solve_text, insert_text, built_text, loaded_text, saved_text, verified_text}
 
@@ -56,61 +56,61 @@ unfolding command_of words word_of
 unknown = refl
 
 of_position : ◌≡◌ {A = Asks} (command_of (codes "position  k7 ")) (Ok (Some (of_start Position (codes "k7"))))
-unfolding command_of words behind_word word_of asked_of trimmed
+unfolding command_of words behind_word word_of word_asked trimmed
 of_position = refl
 
 -- a class is looked at behind the mode
 of_build : ◌≡◌ {A = Asks} (command_of (codes "build KX")) (Ok (Some (of_class Build (codes "KX"))))
-unfolding command_of words behind_word word_of asked_of
+unfolding command_of words behind_word word_of word_asked
 of_build = refl
 
 of_solve : ◌≡◌ {A = Asks} (command_of (codes "solve 3 0.12.003")) (Ok (Some (solve 3 (0 ∷ 12 ∷ 3 ∷ []))))
-unfolding command_of words behind_word word_of asked_of is_path_word is_path steps_of
+unfolding command_of words behind_word word_of word_asked is_path_word is_path steps_of
 of_solve = refl
 
 four : ◌≡◌ {A = Asks} (command_of (codes "solve 4 root")) (Err BadArguments)
-unfolding command_of words behind_word word_of asked_of is_path_word steps_of
+unfolding command_of words behind_word word_of word_asked is_path_word steps_of
 four = refl
 
 two_digits : ◌≡◌ {A = Asks} (command_of (codes "solve 01 root")) (Err BadArguments)
-unfolding command_of words behind_word word_of asked_of is_path_word steps_of
+unfolding command_of words behind_word word_of word_asked is_path_word steps_of
 two_digits = refl
 
 no_place : ◌≡◌ {A = Asks} (command_of (codes "moves 0.")) (Err BadArguments)
-unfolding command_of words behind_word word_of asked_of is_path_word is_path
+unfolding command_of words behind_word word_of word_asked is_path_word is_path
 no_place = refl
 
 long_place : ◌≡◌ {A = Asks} (command_of (codes "moves 1234")) (Err BadArguments)
-unfolding command_of words behind_word word_of asked_of is_path_word is_path
+unfolding command_of words behind_word word_of word_asked is_path_word is_path
 long_place = refl
 
 of_insert : ◌≡◌ {A = Asks} (command_of (codes "insert 000.1 Qh2")) (Ok (Some (insert (0 ∷ 1 ∷ []) (codes "Qh2"))))
-unfolding command_of words behind_word word_of asked_of is_path_word is_path steps_of
+unfolding command_of words behind_word word_of word_asked is_path_word is_path steps_of
 of_insert = refl
 
 of_mate : ◌≡◌ {A = Asks} (command_of (codes "stipulate black mate 001")) (Ok (Some (stipulate (record { hero = Black; goal = MateIn 1 }))))
-unfolding command_of words behind_word word_of asked_of place_told
+unfolding command_of words behind_word word_of word_asked place_told
 of_mate = refl
 
 no_mate : ◌≡◌ {A = Asks} (command_of (codes "stipulate white mate 128")) (Err UnknownStipulation)
-unfolding command_of words behind_word word_of asked_of place_told
+unfolding command_of words behind_word word_of word_asked place_told
 no_mate = refl
 
 no_goal : ◌≡◌ {A = Asks} (command_of (codes "stipulate")) (Err UnknownStipulation)
-unfolding command_of words behind_word word_of asked_of
+unfolding command_of words behind_word word_of word_asked
 no_goal = refl
 
 -- a name is looked at before its text
 no_tag : ◌≡◌ {A = Asks} (command_of (codes "tag Foo")) (Err UnknownTag)
-unfolding command_of words behind_word word_of asked_of trimmed
+unfolding command_of words behind_word word_of word_asked trimmed
 no_tag = refl
 
 no_text : ◌≡◌ {A = Asks} (command_of (codes "tag Event")) (Err BadArguments)
-unfolding command_of words behind_word word_of asked_of trimmed
+unfolding command_of words behind_word word_of word_asked trimmed
 no_text = refl
 
 of_tag : ◌≡◌ {A = Asks} (command_of (codes "tag Event  a b ")) (Ok (Some (tag Event (codes "a b"))))
-unfolding command_of words behind_word word_of asked_of trimmed
+unfolding command_of words behind_word word_of word_asked trimmed
 of_tag = refl
 
 -- ---- replies

@@ -13,7 +13,7 @@ use Rattle.study_tree.specs.Tree.{has_spot}
 use Rattle.study_marks.specs.declared.stipulation.Stipulation.{Stipulation}
 use Rattle.study_marks.specs.declared.fault.Refusal.{Refusal as EditRefusal}
 use Rattle.study_marks.specs.Study.{position_at}
-use Rattle.study_marks.specs.Asked.{asked_of}
+use Rattle.study_marks.specs.Asked.{positions_asked}
 use Rattle.study_marks.specs.Edits.{Plainly, shifted, shift_refusal, insert_refusal}
 use Rattle.study_notation.specs.FenSpelling.{fen_text}
 use Rattle.study_script.specs.Words.{reply_line}
@@ -77,9 +77,9 @@ position_beside s o (start old) new reply h = beside s _ reply (record { paged =
 position_beside s o (study old) new reply h = asking_beside s o _ _ _ reply h
 
 shift_asked : (s : State) (o : Outside) (old : Plainly) (new : Start) (reply : Reply)
-    → IsAskedReply s o (asked_of (shifted old new)) (shifted old new) (reply_line (codes "shift ") (fen_text new))
+    → IsAskedReply s o (positions_asked (shifted old new)) (shifted old new) (reply_line (codes "shift ") (fen_text new))
     reply → IsBeside s reply.state
-shift_asked s o old new reply h = asked_beside s o (asked_of (shifted old new)) (shifted old new) (reply_line (codes "shift ") (fen_text new)) reply h
+shift_asked s o old new reply h = asked_beside s o (positions_asked (shifted old new)) (shifted old new) (reply_line (codes "shift ") (fen_text new)) reply h
 
 shift_beside : (s : State) (o : Outside) (old : Plainly) (new : Start) (r : Option (EditRefusal (Unit {0})))
     (reply : Reply) → IsShiftReply s o old new r reply → IsBeside s reply.state

@@ -5,7 +5,7 @@ use Rattle.std.proofs.lemmas.Result.{IfOk-weaker, on_err_weaker}
 use Rattle.study_board.specs.Position.{Position}
 use Rattle.study_moves.specs.Game.{MatesWithin}
 use Rattle.study_marks.specs.Study.{plain_study}
-use Rattle.study_marks.specs.Kept.{Kept, marked, IsRight}
+use Rattle.study_marks.specs.Kept.{Kept, marked, IsKeptRight}
 use Rattle.study_notation.specs.declared.start.Start.{Start}
 use Rattle.study_marks.specs.Edits.{Plainly}
 use Rattle.std.specs.Option.{option_map}
@@ -55,7 +55,7 @@ pub bench_kept : (k : Kept) (s : State) → HoldsBench k s → HoldsBenchFrom s 
 bench_kept k s h = record { holds = h; classes = refl; paged = refl; shelf = refl }
 
 -- a study that was edited is held behind an accepted edit
-pub bench_edited : (k : Kept) (s : State) (new : Plainly) → plain_study (marked k) ≡ new → IsRight k → HoldsBenchFrom s k (holding s new)
+pub bench_edited : (k : Kept) (s : State) (new : Plainly) → plain_study (marked k) ≡ new → IsKeptRight k → HoldsBenchFrom s k (holding s new)
 bench_edited k s new e r = record { holds = record { board = ap study e; marks = r }; classes = refl; paged = refl; shelf = refl }
 
 -- a study that stays is held behind a refused edit
@@ -100,7 +100,7 @@ mark_missing s steps (Some x) e = absurd cc
 module _ {P A : Type 0} where
   -- a study that was edited, and tables that were asked
   pub study_edited : (honest : P → Table → ℕ → Type 0) (old k : Kept) (t u : Tables P A) (s : State) (new : Plainly)
-      → Holds honest (held.Study old) t s → plain_study (marked k) ≡ new → IsRight k → tables_honest honest u
+      → Holds honest (held.Study old) t s → plain_study (marked k) ≡ new → IsKeptRight k → tables_honest honest u
       → ((c : Class) → tables_held u c ≡ tables_held t c) → are_paged u ≡ are_paged t → Holds honest (held.Study k) u (holding s new)
   study_edited honest old k t u s new h e r v same mode =
       record {
@@ -119,7 +119,7 @@ module _ {P A : Type 0} where
   study_same honest old k t u s h e v same mode =
       record {
         board = subst (λ (x : Kept). study (plain_study (marked x)) ≡ s.board) (sym e) h.board;
-        marks = subst IsRight (sym e) h.marks;
+        marks = subst IsKeptRight (sym e) h.marks;
         values = v;
         classes = λ c. same c ∙ h.classes c;
         paged = mode

@@ -30,7 +30,7 @@ use Rattle.study_marks.specs.declared.stipulation.Stipulation.{Stipulation}
 use Rattle.study_marks.specs.declared.fault.Refusal.{Refusal as EditRefusal}
 use Rattle.study_marks.specs.Study.{Study, position_at}
 use Rattle.study_marks.specs.Edits.{Plainly, shifted, shift_refusal, insert_refusal}
-use Rattle.study_marks.specs.Asked.{asked_of, AreTablesHeld, IsFirstMissing}
+use Rattle.study_marks.specs.Asked.{positions_asked, AreTablesHeld, IsFirstMissing}
 use Rattle.study_marks.specs.Laws.{AnnotationsAreUnique}
 use Rattle.study_marks.proofs.OneAnnotation.{one-value}
 use Rattle.study_pgn.specs.Pgn.{pgn_text}
@@ -119,38 +119,39 @@ position_once s o (study old) new a b h k = asking_once s o _ _ _ a b h k
 shift_once : (s : State) (o : Outside) (old : Plainly) (new : Start) (r : Option (EditRefusal (Unit {0})))
     (a b : Reply) → IsShiftReply s o old new r a → IsShiftReply s o old new r b → a ≡ b
 shift_once s quiet old new (Some refusal) a b h k = h ∙ sym k
-shift_once s quiet old new None a b h k = asked_once s quiet (asked_of (shifted old new)) (shifted old new) (reply_line (codes "shift ") (fen_text new)) a b h k
+shift_once s quiet old new None a b h k =
+    asked_once s quiet (positions_asked (shifted old new)) (shifted old new) (reply_line (codes "shift ") (fen_text new)) a b h k
 shift_once s no_path old new (Some refusal) a b h k = h ∙ sym k
 shift_once s no_path old new None a b h k =
-    asked_once s no_path (asked_of (shifted old new)) (shifted old new) (reply_line (codes "shift ") (fen_text new))
+    asked_once s no_path (positions_asked (shifted old new)) (shifted old new) (reply_line (codes "shift ") (fen_text new))
     a b h k
 shift_once s no_room old new (Some refusal) a b h k = h ∙ sym k
 shift_once s no_room old new None a b h k =
-    asked_once s no_room (asked_of (shifted old new)) (shifted old new) (reply_line (codes "shift ") (fen_text new))
+    asked_once s no_room (positions_asked (shifted old new)) (shifted old new) (reply_line (codes "shift ") (fen_text new))
     a b h k
 shift_once s (no_room_for bytes) old new (Some refusal) a b h k = h ∙ sym k
 shift_once s (no_room_for bytes) old new None a b h k =
-    asked_once s (no_room_for bytes) (asked_of (shifted old new)) (shifted old new)
+    asked_once s (no_room_for bytes) (positions_asked (shifted old new)) (shifted old new)
     (reply_line (codes "shift ") (fen_text new)) a b h k
 shift_once s (unread fault) old new (Some refusal) a b h k = h ∙ sym k
 shift_once s (unread fault) old new None a b h k =
-    asked_once s (unread fault) (asked_of (shifted old new)) (shifted old new)
+    asked_once s (unread fault) (positions_asked (shifted old new)) (shifted old new)
     (reply_line (codes "shift ") (fen_text new)) a b h k
 shift_once s (unopened fault) old new (Some refusal) a b h k = h ∙ sym k
 shift_once s (unopened fault) old new None a b h k =
-    asked_once s (unopened fault) (asked_of (shifted old new)) (shifted old new)
+    asked_once s (unopened fault) (positions_asked (shifted old new)) (shifted old new)
     (reply_line (codes "shift ") (fen_text new)) a b h k
 shift_once s cut_off old new (Some refusal) a b h k = h ∙ sym k
 shift_once s cut_off old new None a b h k =
-    asked_once s cut_off (asked_of (shifted old new)) (shifted old new) (reply_line (codes "shift ") (fen_text new))
+    asked_once s cut_off (positions_asked (shifted old new)) (shifted old new) (reply_line (codes "shift ") (fen_text new))
     a b h k
 shift_once s (file bytes) old new (Some refusal) a b h k = h ∙ sym k
 shift_once s (file bytes) old new None a b h k =
-    asked_once s (file bytes) (asked_of (shifted old new)) (shifted old new)
+    asked_once s (file bytes) (positions_asked (shifted old new)) (shifted old new)
     (reply_line (codes "shift ") (fen_text new)) a b h k
 shift_once s (header told) old new (Some refusal) a b h k = h ∙ sym k
 shift_once s (header told) old new None a b h k =
-    asked_once s (header told) (asked_of (shifted old new)) (shifted old new)
+    asked_once s (header told) (positions_asked (shifted old new)) (shifted old new)
     (reply_line (codes "shift ") (fen_text new)) a b h k
 
 start_once : (s : State) (o : Outside) (word : FenWord) (at : Board) (read : Result Start FenFault) (a b : Reply)

@@ -10,7 +10,7 @@ use Rattle.study_prober.specs.declared.fault.PagedFault.{PagedFault}
 use Rattle.study_prober.specs.declared.fault.PagedFault.TheVariants as fault_of
 use Rattle.study_prober.specs.declared.held.HeldSource.{HeldSource}
 use Rattle.study_prober.specs.Sources.{GivesRight}
-use Rattle.study_prober.specs.Paged.{Paged, held_of, places, SourcesAreRight}
+use Rattle.study_prober.specs.Paged.{Paged, held_of, places_for_classes, SourcesAreRight}
 use Rattle.study_prober.specs.Told.{paged_fault}
 use Rattle.study_prober.proofs.HeldSources.{same_class, held_same, held_other, held_placed}
 use Rattle.study_script.specs.declared.store.StoreFault.{StoreFault}
@@ -111,21 +111,22 @@ module _ {P : Type 0} (honest : P → Table → ℕ → Type 0) where
 
   pub paged_with : (w v : Paged P) (s : State) (c : Class) (x : HeldSource P) → HoldsPaged honest w s
       → SourcesAreRight honest v.sources → length v.sources ≡ 36
-      → v ≡ record w { sources = set (places w.sources) (class_place c) (Some x) } → HoldsPaged honest v (with_class s c)
+      → v ≡ record w { sources = set (places_for_classes w.sources) (class_place c) (Some x) } → HoldsPaged honest v (with_class s c)
   paged_with w v s c x h right long is = record { values = right; classes = classes; by_pages = h.by_pages }
     where
-      sources : v.sources ≡ set (places w.sources) (class_place c) (Some x)
+      sources : v.sources ≡ set (places_for_classes w.sources) (class_place c) (Some x)
       sources = ap (λ (u : Paged P). u.sources) is
 
-      within : class_place c < length (places w.sources)
-      within = let small = place_below c in omega (arith, small, sym (length-set (places w.sources) (class_place c) (Some x)) ∙ ap length (sym sources) ∙ long)
+      within : class_place c < length (places_for_classes w.sources)
+      within = let small = place_below c in
+          omega (arith, small, sym (length-set (places_for_classes w.sources) (class_place c) (Some x)) ∙ ap length (sym sources) ∙ long)
 
       classes : (d : Class) → is_some (held_of v.sources d) ≡ is_among (c ∷ s.classes) d
       classes d = ap (λ (xs : List (Option (HeldSource P))). is_some (held_of xs d)) sources ∙ elim (same_class c d) [
         | inl e ↦ ap (λ (o : Option (HeldSource P)). is_some o)
-            (subst (λ (k : Class). held_of (set (places w.sources) (class_place c) (Some x)) k ≡ Some x) e
-            (held_same (places w.sources) c (Some x) within)) ∙ among_head c d s.classes e
+            (subst (λ (k : Class). held_of (set (places_for_classes w.sources) (class_place c) (Some x)) k ≡ Some x) e
+            (held_same (places_for_classes w.sources) c (Some x) within)) ∙ among_head c d s.classes e
         | inr f ↦ ap (λ (o : Option (HeldSource P)). is_some o)
-            (held_other (places w.sources) c d (Some x) f ∙ held_placed w.sources d) ∙ among_with c d s.classes
+            (held_other (places_for_classes w.sources) c d (Some x) f ∙ held_placed w.sources d) ∙ among_with c d s.classes
             (is_some (held_of w.sources d)) (sym (h.classes d)) (λ e. f (ap class_place e))
       ]

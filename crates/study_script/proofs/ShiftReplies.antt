@@ -8,9 +8,9 @@ use Rattle.study_notation.specs.declared.start.Start.{Start}
 use Rattle.study_tree.specs.Forest.{Forest, none, more}
 use Rattle.study_marks.specs.declared.fault.Refusal.{Refusal as EditRefusal}
 use Rattle.study_marks.specs.Study.{Study, mapped, plain_study}
-use Rattle.study_marks.specs.Asked.{asked_of}
+use Rattle.study_marks.specs.Asked.{positions_asked}
 use Rattle.study_marks.specs.Stop.{IsShiftRefusal}
-use Rattle.study_marks.specs.Edits.{Plainly, before, broken_from, broken, shifted, shift_refusal}
+use Rattle.study_marks.specs.Edits.{Plainly, first_path, broken_from, broken, shifted, shift_refusal}
 use Rattle.study_script.specs.Names.{edit_words}
 use Rattle.study_script.specs.State.{State, is_among, Outside, quiet, no_path, no_room, no_room_for, unread, unopened, cut_off, file, header}
 use Rattle.study_script.specs.Replies.{Reply, refused_as, IsAskedReply, IsShiftReply}
@@ -25,8 +25,9 @@ module _ {L M : Type 0} where
   broken_mapped : (f : L → M) (k : ℕ) (p : Position) (t : Forest L) → broken_from k p (mapped f t) ≡ broken_from k p t
   broken_mapped f k p none = refl
   broken_mapped f k p (more m l b r) =
-      ap (λ (x : Option (List ℕ)). if is_legal p m then before k x (broken_from (suc k) p (mapped f r)) else Some (k ∷ [])) (broken_mapped f 0 (after p m) b)
-      ∙ ap (λ (y : Option (List ℕ)). if is_legal p m then before k (broken_from 0 (after p m) b) y else Some (k ∷ [])) (broken_mapped f (suc k) p r)
+      ap (λ (x : Option (List ℕ)). if is_legal p m then first_path k x (broken_from (suc k) p (mapped f r)) else Some (k ∷ []))
+      (broken_mapped f 0 (after p m) b)
+      ∙ ap (λ (y : Option (List ℕ)). if is_legal p m then first_path k (broken_from 0 (after p m) b) y else Some (k ∷ [])) (broken_mapped f (suc k) p r)
 
 -- no move of the tree is broken
 pub unbroken : {L : Type 0} (A : Type 0) (s : Study L) (new : Start) → broken_from 0 new.position s.tree.below
@@ -35,7 +36,7 @@ unbroken A s new e = ap (broken {A = A}) (broken_mapped (λ _. tt) 0 new.positio
 
 -- a shift that is legal is an edit that asks tables
 pub unbroken_reply : (s : State) (o : Outside) (old : Plainly) (new : Start) (reply : Reply)
-    → IsAskedReply s o (asked_of (shifted old new)) (shifted old new) (reply_line (codes "shift ") (fen_text new))
+    → IsAskedReply s o (positions_asked (shifted old new)) (shifted old new) (reply_line (codes "shift ") (fen_text new))
     reply → IsShiftReply s o old new None reply
 unbroken_reply s quiet old new reply h = h
 unbroken_reply s no_path old new reply h = h
@@ -50,17 +51,17 @@ unbroken_reply s (header told) old new reply h = h
 -- a refused shift has that reply
 shift_refused_at : (A : Type 0) (s : State) (held : Class → Bool) (paged : Bool) (old : Plainly) (new : Start)
     (b : Option (List ℕ)) (r : EditRefusal A) → ((c : Class) → held c ≡ is_among s.classes c) → paged ≡ s.paged
-    → IsShiftRefusal held (asked_of (shifted old new)) (broken {A = A} b) r → IsToldBy paged r → (o : Outside)
+    → IsShiftRefusal held (positions_asked (shifted old new)) (broken {A = A} b) r → IsToldBy paged r → (o : Outside)
     × IsShiftReply s o old new (broken {A = Unit {0}} b) (refused_as s (edit_words r))
 shift_refused_at A s held paged old new None r e m out told =
-    let x = refused_outside A s held paged (asked_of (shifted old new)) (shifted old new) (reply_line (codes "shift ") (fen_text new)) r e m out told in
+    let x = refused_outside A s held paged (positions_asked (shifted old new)) (shifted old new) (reply_line (codes "shift ") (fen_text new)) r e m out told in
     (x.0, unbroken_reply s x.0 old new (refused_as s (edit_words r)) x.1)
 shift_refused_at A s held paged old new (Some steps) r e m (inl is) told = (quiet, ap (λ (x : EditRefusal A). refused_as s (edit_words x)) is)
 shift_refused_at A s held paged old new (Some steps) r e m (inr is) told = (no_room, ap (λ (x : EditRefusal A). refused_as s (edit_words x)) is)
 
 pub shift_refused : (A : Type 0) (s : State) (held : Class → Bool) (paged : Bool) (old : Plainly) (new : Start)
     (r : EditRefusal A) → ((c : Class) → held c ≡ is_among s.classes c) → paged ≡ s.paged
-    → IsShiftRefusal held (asked_of (shifted old new)) (shift_refusal {A = A} old new) r → IsToldBy paged r
+    → IsShiftRefusal held (positions_asked (shifted old new)) (shift_refusal {A = A} old new) r → IsToldBy paged r
     → (o : Outside) × IsShiftReply s o old new (shift_refusal {A = Unit {0}} old new)
     (refused_as s (edit_words r))
 shift_refused A s held paged old new r e m out told = shift_refused_at A s held paged old new (broken_from 0 new.position old.tree.below) r e m out told

@@ -14,7 +14,7 @@ use Rattle.study_prober.specs.Paged.{SourcesAreRight, IsPagedAnswer, held_of}
 use Rattle.study_marks.specs.declared.fault.Refusal.{Refusal as EditRefusal}
 use Rattle.study_marks.specs.declared.fault.Refusal.TheVariants as edit
 use Rattle.study_marks.specs.Study.{plain_study}
-use Rattle.study_marks.specs.Kept.{Kept, marked, IsRight}
+use Rattle.study_marks.specs.Kept.{Kept, marked, IsKeptRight}
 use Rattle.study_script.specs.declared.board.Board.{Board as HeldBoard}
 use Rattle.study_script.specs.declared.board.Board.TheVariants as held
 use Rattle.study_script.specs.declared.tables.Tables.{Tables}
@@ -33,7 +33,7 @@ module _ {A : Type 0} where
   abbrev pub IsMarked : HeldBoard A → Type 0
   IsMarked held.Empty = Unit {0}
   IsMarked (held.Start s) = Unit {0}
-  IsMarked (held.Study b) = IsRight b
+  IsMarked (held.Study b) = IsKeptRight b
 
 module _ {P A : Type 0} where
   -- each value that is told is the game's
@@ -86,7 +86,7 @@ module _ {A : Type 0} where
 -- the study that is held
 pub record HoldsBench (b : Kept) (s : State) : Type 0 where
   pub board : study (plain_study (marked b)) ≡ s.board
-  pub marks : IsRight b
+  pub marks : IsKeptRight b
 
 pub record HoldsBenchFrom (old : State) (b : Kept) (s : State) : Type 0 where
   pub holds : HoldsBench b s

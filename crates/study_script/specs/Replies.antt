@@ -35,7 +35,7 @@ use Rattle.study_marks.specs.Study.{Study, plain_study, position_at}
 use Rattle.study_marks.specs.Annotated.{IsAnnotated}
 use Rattle.study_marks.specs.Edits.{Plainly, positioned, shifted, stipulated, inserted, deleted, promoted, tagged}
 use Rattle.study_marks.specs.Edits.{insert_refusal, delete_refusal, promote_refusal, shift_refusal, tag_refusal}
-use Rattle.study_marks.specs.Asked.{asked_at, asked_of, IsFirstMissing, IsFirstUnread, AllHeld}
+use Rattle.study_marks.specs.Asked.{asked_at, positions_asked, IsFirstMissing, IsFirstUnread, AllHeld}
 use Rattle.study_marks.specs.Bench.{start_at}
 use Rattle.study_pgn.specs.Pgn.{pgn_text}
 use Rattle.study_command.specs.declared.command.FenWord.{FenWord}
@@ -113,7 +113,7 @@ IsPositionReply s o (study old) new reply = IsAskingReply s o (asked_at new.posi
 abbrev pub IsShiftReply : State → Outside → Plainly → Start → Option (EditRefusal (Unit {0})) → Reply → Type 0
 IsShiftReply s no_room old new (Some refusal) reply = reply ≡ refused s OutOfMemory
 IsShiftReply s _ old new (Some refusal) reply = reply ≡ refused_as s (edit_words refusal)
-IsShiftReply s o old new None reply = IsAskedReply s o (asked_of (shifted old new)) (shifted old new) (reply_line (codes "shift ") (fen_text new)) reply
+IsShiftReply s o old new None reply = IsAskedReply s o (positions_asked (shifted old new)) (shifted old new) (reply_line (codes "shift ") (fen_text new)) reply
 
 abbrev pub IsStartReply : State → Outside → FenWord → Board → Result Start FenFault → Reply → Type 0
 IsStartReply s o PositionWord board (Err fault) reply = reply ≡ refused s (Fen fault)

@@ -2,11 +2,11 @@
 ghost use Rattle.std.specs.Prelude.{◌≡◌, Err, None, true, MatchOption, IfErr, IfOk, OnOk, OnErr};
 ghost use Rattle.study_material.specs.declared.class.Class.{Class as AClass};
 ghost use Rattle.study_marks.specs.Study.{plain_study};
-ghost use Rattle.study_marks.specs.Kept.{marked, IsRight};
+ghost use Rattle.study_marks.specs.Kept.{marked, IsKeptRight};
 ghost use Rattle.study_moves.specs.Rules.{after};
 ghost use Rattle.study_tree.specs.Edits.{children_at};
 ghost use Rattle.study_marks.specs.Study.{position_at};
-ghost use Rattle.study_marks.specs.Asked.{asked_at, asked_of, is_of_tables, AllHeld, IsOutside};
+ghost use Rattle.study_marks.specs.Asked.{asked_at, positions_asked, is_of_tables, AllHeld, IsOutside};
 ghost use Rattle.study_marks.specs.Stop.{IsShiftRefusal};
 ghost use Rattle.study_marks.specs.Edits.{broken_from, positioned, shifted, inserted, shift_refusal, insert_refusal};
 ghost use Rattle.study_script.specs.Replies.{new_study};
@@ -31,7 +31,7 @@ pub fn set_position<'a, P: PageSource, A: Allocator>(
     ensures takes_no_memory { IfErr result (λ e. is_of_tables e ≡ true) }
     ensures found { OnOk result (AllHeld (tables_held tables.old) (asked_at start.position)) }
     ensures edited { OnOk result (plain_study (marked bench.new) ≡ positioned (plain_study (marked bench.old)) start) }
-    ensures right { tables_honest P.honest tables.old → OnOk result (IsRight bench.new) }
+    ensures right { tables_honest P.honest tables.old → OnOk result (IsKeptRight bench.new) }
     ensures same { OnErr result (bench.new ≡ bench.old) }
     ensures honest { tables_honest P.honest tables.old → tables_honest P.honest tables.new }
     ensures tables { (c : AClass) → tables_held tables.new c ≡ tables_held tables.old c }
@@ -49,13 +49,13 @@ pub fn shift_position<'a, P: PageSource, A: Allocator>(
     start: Start,
     tables: &mut Tables<'a, P, A>,
 ) -> Result<(), Refusal<'a, A>>
-    ensures refusal { IfErr result (IsShiftRefusal (tables_held tables.old) (asked_of (shifted (plain_study (marked bench.old)) start))
+    ensures refusal { IfErr result (IsShiftRefusal (tables_held tables.old) (positions_asked (shifted (plain_study (marked bench.old)) start))
         (shift_refusal (plain_study (marked bench.old)) start)) }
     ensures broken { OnOk result (broken_from 0 start.position (marked bench.old).tree.below ≡ None) }
     ensures device { IfErr result (IsToldBy (are_paged tables.old)) }
-    ensures found { OnOk result (AllHeld (tables_held tables.old) (asked_of (shifted (plain_study (marked bench.old)) start))) }
+    ensures found { OnOk result (AllHeld (tables_held tables.old) (positions_asked (shifted (plain_study (marked bench.old)) start))) }
     ensures edited { OnOk result (plain_study (marked bench.new) ≡ shifted (plain_study (marked bench.old)) start) }
-    ensures right { tables_honest P.honest tables.old → OnOk result (IsRight bench.new) }
+    ensures right { tables_honest P.honest tables.old → OnOk result (IsKeptRight bench.new) }
     ensures same { OnErr result (bench.new ≡ bench.old) }
     ensures honest { tables_honest P.honest tables.old → tables_honest P.honest tables.new }
     ensures tables { (c : AClass) → tables_held tables.new c ≡ tables_held tables.old c }
@@ -81,7 +81,7 @@ pub fn insert_move<'a, P: PageSource, A: Allocator>(
     ensures found { OnOk result (AllHeld (tables_held tables.old) (asked_at (after (position_at (marked bench.old) path.now) m))) }
     ensures edited { OnOk result (plain_study (marked bench.new) ≡ inserted (plain_study (marked bench.old)) path.now m) }
     ensures place { IfOk result (λ k. k ≡ children_at (marked bench.old).tree.below path.now) }
-    ensures right { tables_honest P.honest tables.old → IsRight bench.old → OnOk result (IsRight bench.new) }
+    ensures right { tables_honest P.honest tables.old → IsKeptRight bench.old → OnOk result (IsKeptRight bench.new) }
     ensures same { OnErr result (bench.new ≡ bench.old) }
     ensures honest { tables_honest P.honest tables.old → tables_honest P.honest tables.new }
     ensures tables { (c : AClass) → tables_held tables.new c ≡ tables_held tables.old c }
@@ -105,7 +105,7 @@ pub fn new_bench<'a, P: PageSource, A: Allocator>(
     ensures takes_no_memory { IfErr result (λ e. is_of_tables e ≡ true) }
     ensures found { OnOk result (AllHeld (tables_held tables.old) (asked_at start.position)) }
     ensures made { IfOk result (λ b. plain_study (marked b) ≡ new_study start stipulation) }
-    ensures right { tables_honest P.honest tables.old → IfOk result IsRight }
+    ensures right { tables_honest P.honest tables.old → IfOk result IsKeptRight }
     ensures honest { tables_honest P.honest tables.old → tables_honest P.honest tables.new }
     ensures tables { (c : AClass) → tables_held tables.new c ≡ tables_held tables.old c }
     ensures mode { are_paged tables.new ≡ are_paged tables.old }

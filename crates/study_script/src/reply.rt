@@ -3,7 +3,6 @@ ghost use Rattle.std.specs.Prelude.{◌≡◌, ◌++◌, ◌∷◌, [], true, co
 ghost use Rattle.std.specs.Io.KnownBytes.{Appends};
 ghost use Rattle.std.specs.List.{All};
 ghost use Rattle.study_moves.specs.Rules.{is_legal};
-ghost use Rattle.study_moves.specs.LegalList.{legal_list};
 ghost use Rattle.study_notation.specs.Written.{move_text};
 ghost use Rattle.study_tablefile.specs.Taken.{TakesPrefix};
 ghost use Rattle.study_command.specs.Paths.{path_text};
@@ -15,7 +14,6 @@ ghost use Rattle.study_script.specs.Words.{value_words, on_move_text, mark_text}
 
 use crate::path_written::put_path;
 use crate::refusal::{Argument, Refusal};
-use arrayvec::ArrayVec;
 use itoa::Buffer;
 use std::alloc::Allocator;
 use std::io::Write;
@@ -76,7 +74,7 @@ pub fn list_moves<W: Write>(out: &mut W, p: &Position) -> Result<(), DeviceFaile
     ensures ok { OnOk result (Appends (W.contents out.old) (W.contents out.new) (moves_text p.now)) }
     ensures err { OnErr result (TakesPrefix (W.contents out.old) (W.contents out.new) (moves_text p.now)) }
 {
-    let moves = legal_list(p);
+    let moves = legal_moves(p);
     put_list(out, p, moves.as_slice())
 }
 
@@ -92,14 +90,6 @@ fn put_list<W: Write>(out: &mut W, p: &Position, moves: &[Move]) -> Result<(), D
     put_number(out, moves.len())?;
     put_moves(out, p, moves)?;
     put(out, b"\n")
-}
-
-fn legal_list(p: &Position) -> ArrayVec<Move, 256>
-    ensures value { result.items ≡ legal_list p.now }
-    ensures legal { All (λ m. is_legal p.now m ≡ true) result.items }
-{
-    let _men = p.men();
-    legal_moves(p)
 }
 
 fn put_no_moves<W: Write>(out: &mut W, p: &Position) -> Result<(), DeviceFailed>

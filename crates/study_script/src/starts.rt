@@ -10,7 +10,7 @@ ghost use Rattle.study_script.specs.Replies.{IsStartReply, IsPositionReply, IsSh
 ghost use Rattle.study_notation.specs.Fen.{start_of};
 ghost use Rattle.study_script.specs.declared.board.Board.TheVariants as held;
 ghost use Rattle.study_marks.specs.Study.{plain_study};
-ghost use Rattle.study_marks.specs.Kept.{marked, IsRight};
+ghost use Rattle.study_marks.specs.Kept.{marked, IsKeptRight};
 ghost use Rattle.study_script.specs.Held.{Holds, Answered, BrokenOff};
 
 use crate::board::Board;
@@ -237,7 +237,7 @@ fn restipulate<'a, W: Write, A: Allocator>(
     out: &mut W,
 ) -> Result<bool, DeviceFailed>
     ensures edited { plain_study (marked bench.new) ≡ stipulated (plain_study (marked bench.old)) stipulation.now }
-    ensures right { IsRight bench.old → IsRight bench.new }
+    ensures right { IsKeptRight bench.old → IsKeptRight bench.new }
     ensures accepts { IfOk result (λ refused. refused ≡ false) }
     ensures ok { OnOk result (Appends (W.contents out.old) (W.contents out.new) (stipulation_words stipulation.now)) }
     ensures err { OnErr result (TakesPrefix (W.contents out.old) (W.contents out.new) (stipulation_words stipulation.now)) }

@@ -57,6 +57,7 @@ fn build_one<'a, A: Allocator>(
 }
 
 /// Builds all tables that a class needs, and its own.
+/// No contract: it measures, and what it prints is read by people alone.
 pub fn measure(rt: HostRuntime, class: Class) -> io::Result<()> {
     let alloc = rt.alloc();
     let mut tables = TableSet::new(&alloc)?;

@@ -10,7 +10,7 @@ use Rattle.study_material.specs.declared.class.Class.{Class}
 use Rattle.study_material.specs.Class.{class_list}
 use Rattle.study_tablefile.specs.declared.fault.FileFault.{FileFault}
 use Rattle.study_tablefile.specs.declared.fault.FileFault.TheVariants.{PageDamaged}
-use Rattle.study_tablefile.specs.File.{class_field, is_known, fields_text, page_digest}
+use Rattle.study_tablefile.specs.File.{class_field, is_known_version, fields_text, page_digest}
 use Rattle.study_tablefile.specs.Reading.{class_named, version_of, class_read, page_fault, pages_read, table_behind, table_read, unless, IsShort}
 
 -- ---- lists
@@ -34,9 +34,9 @@ found_known known test c (x ∷ xs) h = by_tests (known x) (test x) refl h (λ r
     by_tests true false e f rest = rest f
     by_tests false b e f rest = rest f
 
-pub named_known : (v : ℕ) (field : List ℕ) (c : Class) → class_named v field ≡ Some c → is_known v c ≡ true
+pub named_known : (v : ℕ) (field : List ℕ) (c : Class) → class_named v field ≡ Some c → is_known_version v c ≡ true
 unfolding class_named
-named_known v field c h = found_known (is_known v) (λ d. bytes_eq field (class_field d)) c class_list h
+named_known v field c h = found_known (is_known_version v) (λ d. bytes_eq field (class_field d)) c class_list h
 
 -- ---- known bytes
 

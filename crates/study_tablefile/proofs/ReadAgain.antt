@@ -20,7 +20,7 @@ use Rattle.study_material.specs.Class.{name_of}
 use Rattle.study_index.specs.Number.{cells_of}
 use Rattle.study_retro.specs.Table.{Table, IsComplete}
 use Rattle.study_tablefile.specs.declared.fault.FileFault.{FileFault}
-use Rattle.study_tablefile.specs.File.{class_field, is_version, is_known, IsVersionOf, fields_text, header_text}
+use Rattle.study_tablefile.specs.File.{class_field, is_version, is_known_version, IsVersionOf, fields_text, header_text}
 use Rattle.study_tablefile.specs.File.{page_cells_of, page_digest, page_text, pages_of, pages_text, table_text}
 use Rattle.study_tablefile.specs.Reading.{class_named, class_checked, version_of, class_read, page_fault, pages_read, table_end, table_read, unless}
 use Rattle.study_tablefile.specs.declared.fault.SourceFault.{SourceFault}
@@ -105,7 +105,7 @@ text_length t c v e =
 same_bytes : (xs ys : List ℕ) → xs ≡ ys → bytes_eq xs ys ≡ true
 same_bytes xs ys e = (bytes_eq-Decides xs ys).1 e
 
-first_again : (c : Class) → is_known 1 c ≡ true → class_read (header_text c 1) ≡ class_checked 1 (header_text c 1) (Some c)
+first_again : (c : Class) → is_known_version 1 c ≡ true → class_read (header_text c 1) ≡ class_checked 1 (header_text c 1) (Some c)
 unfolding class_read class_named header_text fields_text class_field name_of
 first_again KK h = refl
 first_again KQK h = refl
@@ -189,7 +189,7 @@ versions v e = elim (or_cases (v == 1) (v == 2) e) [ inl a ↦ inl (eqb-true v 1
 class_again : (c : Class) (v : ℕ) → IsVersionOf c v → class_read (header_text c v) ≡ class_checked v (header_text c v) (Some c)
 class_again c v h = elim (versions v h.0) [
   | inl e ↦ subst (λ (w : ℕ). class_read (header_text c w) ≡ class_checked w (header_text c w) (Some c)) (sym e)
-      (first_again c (ap (λ w. is_known w c) (sym e) ∙ h.1))
+      (first_again c (ap (λ w. is_known_version w c) (sym e) ∙ h.1))
   | inr e ↦ subst (λ (w : ℕ). class_read (header_text c w) ≡ class_checked w (header_text c w) (Some c)) (sym e) (second_again c)
 ]
 

@@ -19,11 +19,11 @@ abbrev pub is_version : ℕ → Bool
 is_version v = (v == 1) || (v == 2)
 
 -- whether files of a version that is read can be of the class: in version 1 no pawn stood against a pawn
-abbrev pub is_known : ℕ → Class → Bool
-is_known v c = not (v == 1) || not (has_both_pawns (lists_of c))
+abbrev pub is_known_version : ℕ → Class → Bool
+is_known_version v c = not (v == 1) || not (has_both_pawns (lists_of c))
 
 abbrev pub IsVersionOf : Class → ℕ → Type 0
-IsVersionOf c v = (is_version v ≡ true) × (is_known v c ≡ true)
+IsVersionOf c v = (is_version v ≡ true) × (is_known_version v c ≡ true)
 
 -- the 32 bytes of a header's fields: the mark, the version, the cells of a page, the cells of the class, its name, 8 zero bytes
 unfoldable pub fields_text : Class → ℕ → List ℕ

@@ -12,11 +12,11 @@ use Rattle.study_tablefile.specs.declared.fault.FileFault.{FileFault}
 use Rattle.study_tablefile.specs.declared.fault.FileFault.TheVariants.{Cut, NotATable, Version, ClassUnknown}
 use Rattle.study_tablefile.specs.declared.fault.FileFault.TheVariants.{HeaderDamaged, PageDamaged, Padding}
 use Rattle.study_tablefile.specs.declared.fault.FileFault.TheVariants.{TrailingBytes}
-use Rattle.study_tablefile.specs.File.{class_field, is_version, is_known, fields_text, page_digest, pages_of}
+use Rattle.study_tablefile.specs.File.{class_field, is_version, is_known_version, fields_text, page_digest, pages_of}
 
 -- the class of files of the version that is written in 8 bytes, if there is one
 unfoldable pub class_named : ℕ → List ℕ → Option Class
-class_named v field = find (λ c. is_known v c && bytes_eq field (class_field c)) class_list
+class_named v field = find (λ c. is_known_version v c && bytes_eq field (class_field c)) class_list
 
 -- the header against that of its class: the fields, and their digest
 abbrev pub class_checked : ℕ → List ℕ → Option Class → Result Class FileFault

@@ -5,7 +5,7 @@ ghost use Rattle.sha2.specs.Sha256.{sha256};
 ghost use Rattle.std.specs.Str.{bytes_eq};
 ghost use Rattle.std.specs.Io.KnownBytes.{Consumes};
 ghost use Rattle.study_index.specs.Number.{cells_of};
-ghost use Rattle.study_tablefile.specs.File.{is_known, IsVersionOf, class_field, fields_text, page_digest, pages_of, table_text};
+ghost use Rattle.study_tablefile.specs.File.{is_known_version, IsVersionOf, class_field, fields_text, page_digest, pages_of, table_text};
 ghost use Rattle.study_tablefile.specs.Reading.{class_named, version_of, class_read, page_fault, table_end, pages_read, table_read, IsShort, HasHeader};
 ghost use Rattle.study_tablefile.specs.declared.fault.FileFault.TheVariants.{Cut, Device, OutOfMemory, TrailingBytes};
 
@@ -36,8 +36,8 @@ fn fill<R: Read>(input: &mut R, buf: &mut [u8]) -> Result<(), FileFault>
 }
 
 /// Whether files of a version can be of the class.
-fn is_known(version: u16, class: Class) -> bool
-    ensures { result ≡ is_known version class }
+fn is_known_version(version: u16, class: Class) -> bool
+    ensures { result ≡ is_known_version version class }
 {
     match class {
         Class::KPKP => version != 1,
@@ -47,10 +47,10 @@ fn is_known(version: u16, class: Class) -> bool
 
 /// Whether files of the version can be of the class, and this is its name in the field of a header.
 fn is_named(version: u16, field: &[u8], class: Class) -> bool
-    ensures { result ≡ (is_known version class && bytes_eq field.now (class_field class)) }
+    ensures { result ≡ (is_known_version version class && bytes_eq field.now (class_field class)) }
 {
     let name = class_field(class);
-    is_known(version, class) && field == name.as_slice()
+    is_known_version(version, class) && field == name.as_slice()
 }
 
 /// The class that is written in the field of a header.

@@ -8,7 +8,7 @@ use Rattle.std.specs.Prelude.{if◌then◌else◌, not, nat_eq}
 use Rattle.std.proofs.lemmas.Bool.{eqb-false}
 use Rattle.study_tree.specs.declared.fault.TreeFault.TheVariants.{NoSuchNode, AlreadyFirst}
 use Rattle.study_tree.specs.Tree.{Plain, with_child, without, with_label, moved_up, move_up_refusal}
-use Rattle.study_tree.specs.Rows.{Row, Cut, rows_in, rows, around, cut_at, replaced, exchanged}
+use Rattle.study_tree.specs.Rows.{Row, Cut, rows_in, rows, around, cut_at, replaced, blocks_exchanged}
 use Rattle.study_tree.specs.Rows.{with_last_row, with_first_label, rows_with_child, rows_without}
 use Rattle.study_tree.specs.Rows.{rows_with_label, rows_moved_up, sibling_before, place_before}
 use Rattle.study_tree.proofs.RowBlocks.{row, cut_below, later, cut-none, cut-here, cut-down, cut-next}
@@ -140,22 +140,22 @@ refusal-none true true a b h = let no : ⊥ = cc in absurd no
 refusal-none true false a b h = (refl, refl)
 
 module _ {L : Type 0} where
-  exchanged-around : (x : List (Row L)) (e c : Cut L) (y : List (Row L)) → x ++ (exchanged e c ++ y) ≡ exchanged (around x e y) (around x c y)
+  exchanged-around : (x : List (Row L)) (e c : Cut L) (y : List (Row L)) → x ++ (blocks_exchanged e c ++ y) ≡ blocks_exchanged (around x e y) (around x c y)
   exchanged-around x e c y =
       ap (λ xs. x ++ xs)
       (append_assoc e.before (c.block ++ (e.block ++ c.after)) y
       ∙ ap (λ xs. e.before ++ xs) (append_assoc c.block (e.block ++ c.after) y ∙ ap (λ xs. c.block ++ xs) (append_assoc e.block c.after y)))
       ∙ sym (append_assoc x e.before (c.block ++ (e.block ++ (c.after ++ y))))
 
-  exchanged-later : (x : List (Row L)) (e c : Cut L) → x ++ exchanged e c ≡ exchanged (later x e) (later x c)
+  exchanged-later : (x : List (Row L)) (e c : Cut L) → x ++ blocks_exchanged e c ≡ blocks_exchanged (later x e) (later x c)
   exchanged-later x e c = sym (append_assoc x e.before (c.block ++ (e.block ++ c.after)))
 
-  exchanged-same : (e a c b : Cut L) → e ≡ a → c ≡ b → exchanged e c ≡ exchanged a b
-  exchanged-same e a c b p q = ap (λ x. exchanged x c) p ∙ ap (exchanged a) q
+  exchanged-same : (e a c b : Cut L) → e ≡ a → c ≡ b → blocks_exchanged e c ≡ blocks_exchanged a b
+  exchanged-same e a c b p q = ap (λ x. blocks_exchanged x c) p ∙ ap (blocks_exchanged a) q
 
   raised-rows : (d : ℕ) (f : Forest L) (k : ℕ) (ks : List ℕ) → IsTrue (has_node f (k ∷ ks)) → (last_place k ks ≡ 0 → ⊥)
       → rows_in d (place_edited raised_at f k ks)
-      ≡ exchanged (cut_below d (rows_in d f) (sibling_place k ks ∷ sibling_rest ks))
+      ≡ blocks_exchanged (cut_below d (rows_in d f) (sibling_place k ks ∷ sibling_rest ks))
       (cut_below d (rows_in d f) (k ∷ ks))
   raised-rows d none k ks found up = let no : ⊥ = cc in absurd no
   raised-rows d (more m l b r) zero [] found up = absurd (up refl)
@@ -185,4 +185,4 @@ module _ {L : Type 0} where
   moved-rows t (k ∷ ks) h =
       let open_to = refusal-none (has_node t.below (k ∷ ks)) (nat_eq (last_place k ks) 0) NoSuchNode AlreadyFirst h in
       ap (λ xs. root_row t.label ∷ xs) (raised-rows 1 t.below k ks open_to.0 (eqb-false (last_place k ks) 0 open_to.1))
-      ∙ ap (λ p. exchanged (cut_at (rows t) p) (cut_at (rows t) (k ∷ ks))) (sym (sibling-parts k ks))
+      ∙ ap (λ p. blocks_exchanged (cut_at (rows t) p) (cut_at (rows t) (k ∷ ks))) (sym (sibling-parts k ks))

@@ -19,15 +19,15 @@ module _ {L : Type 0} where
   tokens_of none = None ∷ []
   tokens_of (more m l b r) = Some (m, l) ∷ (tokens_of b ++ tokens_of r)
 
-  abbrev pub joined : Move → L → List (Forest L) → List (Forest L)
-  joined m l [] = []
-  joined m l (b ∷ []) = []
-  joined m l (b ∷ r ∷ fs) = more m l b r ∷ fs
+  abbrev pub forest_joined : Move → L → List (Forest L) → List (Forest L)
+  forest_joined m l [] = []
+  forest_joined m l (b ∷ []) = []
+  forest_joined m l (b ∷ r ∷ fs) = more m l b r ∷ fs
 
   abbrev pub forests_of : List (Option (Move × L)) → List (Forest L)
   forests_of [] = []
   forests_of (None ∷ ts) = none ∷ forests_of ts
-  forests_of (Some p ∷ ts) = joined p.0 p.1 (forests_of ts)
+  forests_of (Some p ∷ ts) = forest_joined p.0 p.1 (forests_of ts)
 
   abbrev pub first_forest : List (Forest L) → Forest L
   first_forest [] = none
@@ -36,8 +36,8 @@ module _ {L : Type 0} where
   pub forests_of-tokens_of : (f : Forest L) (ts : List (Option (Move × L))) → forests_of (tokens_of f ++ ts) ≡ f ∷ forests_of ts
   forests_of-tokens_of none ts = refl
   forests_of-tokens_of (more m l b r) ts =
-      ap (λ xs. joined m l (forests_of xs)) (append_assoc (tokens_of b) (tokens_of r) ts)
-      ∙ ap (joined m l) (forests_of-tokens_of b (tokens_of r ++ ts)) ∙ ap (λ fs. joined m l (b ∷ fs)) (forests_of-tokens_of r ts)
+      ap (λ xs. forest_joined m l (forests_of xs)) (append_assoc (tokens_of b) (tokens_of r) ts)
+      ∙ ap (forest_joined m l) (forests_of-tokens_of b (tokens_of r ++ ts)) ∙ ap (λ fs. forest_joined m l (b ∷ fs)) (forests_of-tokens_of r ts)
 
   pub first_forest-tokens_of : (f : Forest L) → first_forest (forests_of (tokens_of f)) ≡ f
   first_forest-tokens_of f = ap (λ ts. first_forest (forests_of ts)) (sym (append-nil (tokens_of f))) ∙ ap first_forest (forests_of-tokens_of f [])

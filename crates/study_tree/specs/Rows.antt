@@ -102,8 +102,8 @@ module _ {L : Type 0} where
   rows_without rs steps = replaced (λ block. []) (cut_at rs steps)
 
   -- move up: the block changes places with that of the sibling before it, which the earlier cut is at
-  abbrev pub exchanged : Cut L → Cut L → List (Row L)
-  exchanged earlier c = earlier.before ++ (c.block ++ (earlier.block ++ c.after))
+  abbrev pub blocks_exchanged : Cut L → Cut L → List (Row L)
+  blocks_exchanged earlier c = earlier.before ++ (c.block ++ (earlier.block ++ c.after))
 
   -- how many of the rows have depth d
   abbrev pub count_at : ℕ → List (Row L) → ℕ
@@ -127,4 +127,4 @@ sibling_before (k ∷ j ∷ js) = k ∷ sibling_before (j ∷ js)
 
 module _ {L : Type 0} where
   abbrev pub rows_moved_up : List (Row L) → List ℕ → List (Row L)
-  rows_moved_up rs steps = exchanged (cut_at rs (sibling_before steps)) (cut_at rs steps)
+  rows_moved_up rs steps = blocks_exchanged (cut_at rs (sibling_before steps)) (cut_at rs steps)

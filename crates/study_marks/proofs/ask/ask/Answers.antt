@@ -18,7 +18,7 @@ returns-in-Err-clause-asked g c =
 
 pub returns-in-Err-ask_after-clause-untold : goal.returns-in-Err-ask_after-clause-untold
 returns-in-Err-ask_after-clause-untold g c =
-    let moves : c.as_slice.result.now ≡ legal_list c.args.p.now = c.as_slice.ensures.value ∙ c.legal_list-moves.ensures.moves in
+    let moves : c.as_slice.result.now ≡ legal_list c.args.p.now = c.as_slice.ensures.value ∙ c.legal_moves-moves.ensures.listed in
     untold-later (g.V.Values.held c.args.values.now) (g.V.Values.held c.value.new.self) c.args.p.now
     (map (after c.args.p.now) (legal_list c.args.p.now)) c.in-Err-ask_after.fault
     (held-told (g.V.Values.held c.args.values.now) c.args.p.now c.value.result c.in-Ok.value c.in-Ok.is c.value.ensures.no_table) c.value.ensures.same_tables
@@ -27,7 +27,7 @@ returns-in-Err-ask_after-clause-untold g c =
 
 pub returns-in-Err-ask_after-clause-asked : goal.returns-in-Err-ask_after-clause-asked
 returns-in-Err-ask_after-clause-asked g c =
-    let moves : c.as_slice.result.now ≡ legal_list c.args.p.now = c.as_slice.ensures.value ∙ c.legal_list-moves.ensures.moves in
+    let moves : c.as_slice.result.now ≡ legal_list c.args.p.now = c.as_slice.ensures.value ∙ c.legal_moves-moves.ensures.listed in
     let long : length c.as_slice.result.now ≡ length (map (after c.args.p.now) (legal_list c.args.p.now)) =
     ap length moves ∙ sym (length-map (after c.args.p.now) (legal_list c.args.p.now)) in
     asked-more (length (map (after c.args.p.now) (legal_list c.args.p.now))) false

@@ -3,15 +3,15 @@ use Rattle.std.specs.List.{All}
 use Rattle.study_board.specs.declared.men.Man.{Man}
 use Rattle.study_board.specs.declared.men.Kind.TheVariants.{King}
 use Rattle.study_board.specs.Men.{same_kind}
-use Rattle.study_material.specs.Lists.{is_other, lists, ordered, is_exchanged}
+use Rattle.study_material.specs.Lists.{is_other_than_king, lists, ordered, is_exchanged}
 use Rattle.study_material.proofs.MenBesideKings.{lists-others, none_king, few_others}
 use Rattle.study_material.proofs.material.class_of.Goals as goal
 
 -- what is listed is the men beside the kings
-are_others : (xs ys zs men : List Man) → zs ≡ ys → ys ≡ filter is_other xs → xs ≡ men → zs ≡ filter is_other men
-are_others xs ys zs men e f g = e ∙ f ∙ ap (λ l. filter is_other l) g
+are_others : (xs ys zs men : List Man) → zs ≡ ys → ys ≡ filter is_other_than_king xs → xs ≡ men → zs ≡ filter is_other_than_king men
+are_others xs ys zs men e f g = e ∙ f ∙ ap (λ l. filter is_other_than_king l) g
 
-same_lists : (zs men : List Man) → zs ≡ filter is_other men → lists zs ≡ lists men
+same_lists : (zs men : List Man) → zs ≡ filter is_other_than_king men → lists zs ≡ lists men
 same_lists zs men e = ap (λ l. lists l) e ∙ lists-others men
 
 pub class_of_others-requires-clause-few : goal.class_of_others-requires-clause-few

@@ -1,6 +1,6 @@
 use Rattle.std.proofs.Common.{◌≡◌, ◌∙◌, sym, refl, subst}
 use Rattle.study_moves.specs.declared.moves.Move.{Move}
-use Rattle.study_moves.specs.Quiet.{LeadsQuietly, before}
+use Rattle.study_moves.specs.Quiet.{LeadsQuietly, position_before}
 use Rattle.study_moves.proofs.MenFound.{is_occupied-from_man_at}
 use Rattle.study_moves.proofs.QuietBack.{mover_there, taken_from, men_before_is, IsValid-before, LeadsQuietly-before}
 use Rattle.study_moves.proofs.back.taken_back.Goals as goal
@@ -33,7 +33,7 @@ returns-clause-before c =
     let q = c.args.q.now in
     let m = c.args.m in
     let t = taken_from q m c.requires.from c.in-Some.man c.men-now.ensures.valid (sym c.man_at.ensures ∙ c.in-Some.is) c.requires.leads in
-    let is : c.of.result ≡ before q c.in-Some.man m.origin =
+    let is : c.of.result ≡ position_before q c.in-Some.man m.origin =
     c.of.ensures.value
     ∙ rw (
       c.placed_among-men.ensures,
@@ -43,7 +43,7 @@ returns-clause-before c =
       c.on_origin.ensures,
       men_before_is q.men c.in-Some.man m.origin,
     ) refl in
-    let L : Move → Type 0 = λ n. LeadsQuietly (before q c.in-Some.man m.origin) n q in
+    let L : Move → Type 0 = λ n. LeadsQuietly (position_before q c.in-Some.man m.origin) n q in
     rw is (subst L (sym t.by) (LeadsQuietly-before q c.men-now.ensures.valid c.in-Some.man m.origin t.came))
 
 pub returns-clause-only : goal.returns-clause-only

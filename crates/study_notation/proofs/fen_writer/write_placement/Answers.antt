@@ -1,5 +1,6 @@
-use Rattle.std.proofs.Common.{◌≡◌, ℕ, ◌+◌, ◌-◌, ◌++◌, List, length, sym, ap, ◌∙◌, arith, length-append}
+use Rattle.std.proofs.Common.{◌≡◌, ◌<◌, ℕ, ◌+◌, ◌-◌, ◌++◌, List, length, sym, ap, ◌∙◌, arith, length-append}
 use Rattle.std.proofs.lemmas.List.{append-nil}
+use Rattle.arrayvec.specs.ArrayString.{array_string_len}
 use Rattle.study_notation.specs.FenSpelling.{rank_field, placement_text}
 use Rattle.study_notation.proofs.RowText.{below, placement_below, below_none, below_written, len_below, length-placement_text}
 use Rattle.study_notation.proofs.fen_writer.write_placement.Goals as goal
@@ -21,14 +22,15 @@ loop-down-init c =
     (c.write_rank.ensures ∙ ap (λ (t : List ℕ). t ++ rank_field c.args.men.now 7) c.requires.empty)
     ∙ sym (placement_below c.args.men.now)
 
-pub push_byte-requires-clause-room : goal.push_byte-requires-clause-room
-push_byte-requires-clause-room c =
-    omega (
+pub push_byte-requires : goal.push_byte-requires
+push_byte-requires c =
+    let room : array_string_len c.loop-down.out < 64 = omega (
       arith,
       length-placement_text c.args.men.now c.requires.few,
       ap length c.loop-down.invariant,
       length-append c.loop-down.out.bytes (below c.args.men.now (8 - c.loop-down.down)),
-    )
+    ) in
+    (omega arith, (omega arith, room))
 
 pub write_rank-requires-in-loop-down-clause-room : goal.write_rank-requires-in-loop-down-clause-room
 write_rank-requires-in-loop-down-clause-room c =

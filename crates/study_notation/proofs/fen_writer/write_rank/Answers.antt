@@ -1,4 +1,5 @@
-use Rattle.std.proofs.Common.{ℕ, ◌+◌, ◌*◌, ◌-◌, ◌++◌, List, length, sym, ap, ◌∙◌, arith, length-append}
+use Rattle.std.proofs.Common.{ℕ, ◌<◌, ◌+◌, ◌*◌, ◌-◌, ◌++◌, List, length, sym, ap, ◌∙◌, arith, length-append}
+use Rattle.arrayvec.specs.ArrayString.{array_string_len}
 use Rattle.study_notation.specs.FenSpelling.{run, rank_field}
 use Rattle.study_notation.proofs.RowText.{rest_text, rest_init, rest_none, rest_end, len_both, len_some, some_written}
 use Rattle.study_notation.proofs.fen_writer.write_rank.Goals as goal
@@ -22,12 +23,12 @@ push_run-requires-clause-room c =
           at (at + 1) n m c.loop-file.empty c.in-Some.piece (omega arith) (omega arith) (sym c.in-Some.ensures),
     )
 
-pub push_byte-requires-clause-room : goal.push_byte-requires-clause-room
-push_byte-requires-clause-room c =
+pub push_byte-requires : goal.push_byte-requires
+push_byte-requires c =
     let at = 8 * c.args.rank + c.loop-file.file in
     let n = 8 - c.loop-file.file in
     let m = 8 - (c.loop-file.file + 1) in
-    omega (
+    let room : array_string_len c.push_run.new.out < 64 = omega (
       arith,
       c.requires.room,
       len_both c.loop-file.out.bytes
@@ -37,7 +38,8 @@ push_byte-requires-clause-room c =
       length-append c.loop-file.out.bytes (run c.loop-file.empty),
       len_some c.args.men.now at (at + 1) n m c.loop-file.empty c.in-Some.piece (omega arith) (omega arith)
           (sym c.in-Some.ensures),
-    )
+    ) in
+    (omega arith, (c.letter_of.ensures.ascii, room))
 
 pub loop-file-preserved : goal.loop-file-preserved
 loop-file-preserved c =

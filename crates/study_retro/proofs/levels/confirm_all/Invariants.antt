@@ -1,5 +1,5 @@
 use Rattle.std.proofs.Common.{◌≡◌, ℕ, ◌+◌, ◌<◌, ◌≤◌, length, slice_index, Some}
-use Rattle.study_retro.specs.Forced.{Leads}
+use Rattle.study_retro.specs.Forced.{LeadsBy}
 use Rattle.study_retro.specs.Back.{AreDropped}
 use Rattle.study_retro.specs.Numbered.{OutsideIsRight, TellWins, IsMatedWithin}
 use Rattle.study_retro.proofs.levels.confirm_all.Given as goal
@@ -14,7 +14,7 @@ invariant-loop-number g l = record {
       → slice_index l.cells j ≡ l.level + 2 → IsMatedWithin (g.G.Game.numbered l.game) (l.level + 1) p;
   kept : OutsideIsRight (g.G.Game.numbered l.game) → TellWins (g.G.Game.numbered l.game) l.level l.initial.cells
       → (j : ℕ) → j < l.number → (p q : g.row.G-Position.Denot) → (g.G.Game.numbered l.game).position j ≡ Some p
-      → Leads (g.G.Game.numbered l.game).legal (g.G.Game.numbered l.game).after p q
+      → LeadsBy (g.G.Game.numbered l.game).legal (g.G.Game.numbered l.game).after p q
       → slice_index l.initial.cells j ≡ l.level + 2 → IsMatedWithin (g.G.Game.numbered l.game) (l.level + 1) p
       → slice_index l.cells j ≡ l.level + 2;
 }

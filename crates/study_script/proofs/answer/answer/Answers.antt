@@ -2,7 +2,7 @@ use Rattle.std.proofs.Common.{[], Ok, refl, sym, subst}
 use Rattle.std.proofs.KnownBytes.{Appends-nil}
 use Rattle.study_tablefile.proofs.TextTaken.{OnErr-known}
 use Rattle.study_script.specs.declared.refusal.Refusal.TheVariants.{Form}
-use Rattle.study_command.specs.Asking.{Asks, seen}
+use Rattle.study_command.specs.Asking.{Asks, line_seen}
 use Rattle.study_script.specs.State.{quiet}
 use Rattle.study_script.specs.Held.{BrokenOff}
 use Rattle.study_script.specs.Replies.{accepted, refused, IsReplyWhere, IsReply}
@@ -14,8 +14,8 @@ returns-in-Ok-None-clause-ok g c =
       quiet,
       accepted s [],
       subst (λ (x : Asks). IsReplyWhere s quiet x (accepted s []))
-          c.read_command.ensures (subst (λ x. IsReplyWhere s quiet (seen x) (accepted s [])) (sym c.in-Ok-None.is)
-          (subst (λ x. IsReplyWhere s quiet (seen (Ok x)) (accepted s [])) (sym c.in-Ok-None.field-0-is) refl)),
+          c.read_command.ensures (subst (λ x. IsReplyWhere s quiet (line_seen x) (accepted s [])) (sym c.in-Ok-None.is)
+          (subst (λ x. IsReplyWhere s quiet (line_seen (Ok x)) (accepted s [])) (sym c.in-Ok-None.field-0-is) refl)),
       Appends-nil (g.W.Write.contents c.args.out.now),
       d,
       refl,
@@ -28,7 +28,7 @@ returns-in_err-refuse-in-Err-clause-err g c =
       quiet,
       refused s (Form c.in-Err.fault),
       subst (λ (x : Asks). IsReplyWhere s quiet x (refused s (Form c.in-Err.fault))) c.read_command.ensures
-          (subst (λ x. IsReplyWhere s quiet (seen x) (refused s (Form c.in-Err.fault))) (sym c.in-Err.is) refl),
+          (subst (λ x. IsReplyWhere s quiet (line_seen x) (refused s (Form c.in-Err.fault))) (sym c.in-Err.is) refl),
       c.in_err-refuse-in-Err.ensures.err,
     ) in OnErr-known _ _ part
 
@@ -38,7 +38,7 @@ returns-in_ok-refuse-in-Err-clause-ok g c =
       quiet,
       refused s (Form c.in-Err.fault),
       subst (λ (x : Asks). IsReplyWhere s quiet x (refused s (Form c.in-Err.fault))) c.read_command.ensures
-          (subst (λ x. IsReplyWhere s quiet (seen x) (refused s (Form c.in-Err.fault))) (sym c.in-Err.is) refl),
+          (subst (λ x. IsReplyWhere s quiet (line_seen x) (refused s (Form c.in-Err.fault))) (sym c.in-Err.is) refl),
       c.in_ok-refuse-in-Err.ensures.ok,
       d,
       refl,

@@ -1,7 +1,7 @@
 use Rattle.std.proofs.Common.{sym, subst, OnOk}
 use Rattle.study_marks.specs.Study.{plain_study}
 use Rattle.study_marks.specs.Kept.{marked}
-use Rattle.study_marks.specs.Asked.{asked_of, AllHeld}
+use Rattle.study_marks.specs.Asked.{positions_asked, AllHeld}
 use Rattle.study_marks.specs.Edits.{shifted}
 use Rattle.study_script.specs.Held.{tables_held}
 use Rattle.study_script.proofs.edits.shift_position.Goals as goal
@@ -13,7 +13,7 @@ pub returns-in-Whole-clause-found : goal.returns-in-Whole-clause-found
 returns-in-Whole-clause-found g c =
     subst
     (λ t. OnOk c.shift_position.result
-    (AllHeld (tables_held t) (asked_of (shifted (plain_study (marked c.args.bench.now)) c.args.start))))
+    (AllHeld (tables_held t) (positions_asked (shifted (plain_study (marked c.args.bench.now)) c.args.start))))
     (sym c.in-Whole.is) c.shift_position.ensures.found
 
 pub returns-in-Paged-clause-refusal : goal.returns-in-Paged-clause-refusal
@@ -23,5 +23,5 @@ pub returns-in-Paged-clause-found : goal.returns-in-Paged-clause-found
 returns-in-Paged-clause-found g c =
     subst
     (λ t. OnOk c.shift_position-in-Paged.result
-    (AllHeld (tables_held t) (asked_of (shifted (plain_study (marked c.args.bench.now)) c.args.start))))
+    (AllHeld (tables_held t) (positions_asked (shifted (plain_study (marked c.args.bench.now)) c.args.start))))
     (sym c.in-Paged.is) c.shift_position-in-Paged.ensures.found

@@ -6,7 +6,7 @@ use Rattle.study_tablefile.proofs.TextTaken.{OnErr-known}
 use Rattle.study_notation.specs.FenSpelling.{fen_text}
 use Rattle.study_marks.specs.Study.{plain_study}
 use Rattle.study_marks.specs.Kept.{marked}
-use Rattle.study_marks.specs.Asked.{asked_of}
+use Rattle.study_marks.specs.Asked.{positions_asked}
 use Rattle.study_marks.specs.Edits.{shifted, shift_refusal}
 use Rattle.study_script.specs.Words.{reply_line}
 use Rattle.study_script.specs.Names.{edit_words}
@@ -28,7 +28,7 @@ returns-in_err-put_line-in-Ok-clause-err g c = λ s h.
     let new = shifted old start in
     let reason = shift_refusal {A = Unit {0}} old start in
     let said = reply_line (codes "shift ") (fen_text start) in
-    let asked = asked_of new in
+    let asked = positions_asked new in
     let tables = c.args.tables.now in
     let text : c.as_bytes.result.now ≡ fen_text start = c.as_bytes.ensures.value ∙ c.as_str.ensures.value ∙ c.write_fen-text.ensures in
     let part : BrokenOff (λ (o : Outside). IsShiftReply s o old start reason) (g.W.Write.contents c.args.out.now)
@@ -50,7 +50,7 @@ returns-in_ok-put_line-in-Ok-clause-ok g c = λ s h.
     let new = shifted old start in
     let reason = shift_refusal {A = Unit {0}} old start in
     let said = reply_line (codes "shift ") (fen_text start) in
-    let asked = asked_of new in
+    let asked = positions_asked new in
     let tables = c.args.tables.now in
     let text : c.as_bytes.result.now ≡ fen_text start = c.as_bytes.ensures.value ∙ c.as_str.ensures.value ∙ c.write_fen-text.ensures in (
       quiet,
@@ -73,7 +73,7 @@ returns-in_err-refuse_edit-in-Err-clause-err g c = λ s h.
     let new = shifted old start in
     let reason = shift_refusal {A = Unit {0}} old start in
     let said = reply_line (codes "shift ") (fen_text start) in
-    let asked = asked_of new in
+    let asked = positions_asked new in
     let tables = c.args.tables.now in
     let out = shift_refused g.row.A.Denot s (tables_held tables) (are_paged tables) old start c.in-Err.refusal
     h.classes h.paged c.in-Err.ensures.refusal c.in-Err.ensures.device in
@@ -89,7 +89,7 @@ returns-in_ok-refuse_edit-in-Err-clause-ok g c = λ s h.
     let new = shifted old start in
     let reason = shift_refusal {A = Unit {0}} old start in
     let said = reply_line (codes "shift ") (fen_text start) in
-    let asked = asked_of new in
+    let asked = positions_asked new in
     let tables = c.args.tables.now in
     let out = shift_refused g.row.A.Denot s (tables_held tables) (are_paged tables) old start c.in-Err.refusal
     h.classes h.paged c.in-Err.ensures.refusal c.in-Err.ensures.device in (

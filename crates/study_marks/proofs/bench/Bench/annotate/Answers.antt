@@ -9,7 +9,7 @@ use Rattle.study_marks.specs.Study.{plain_study, IsPlayable}
 use Rattle.study_marks.specs.Goals.{aim_of}
 use Rattle.study_marks.specs.Kept.{Kept, marked, AllAddUp}
 use Rattle.study_marks.specs.Edits.{shifted}
-use Rattle.study_marks.specs.Asked.{asked_of, AreTablesHeld, IsOutside, HasStopped, is_of_tables, counted_times}
+use Rattle.study_marks.specs.Asked.{positions_asked, AreTablesHeld, IsOutside, HasStopped, is_of_tables, counted_times}
 use Rattle.study_marks.specs.Bench.{kept_of}
 use Rattle.study_marks.specs.Renewal.{told_tree}
 use Rattle.study_marks.specs.Told.{AllAreTold}
@@ -24,7 +24,7 @@ returns-in_err-all-clause-refusal g c =
     let b = kept_of c.self.inside.start c.self.inside.stipulation c.self.inside.tags c.self.inside.tree in
     let same = asked-shifted b c.args.self.now c.args.start c.self.view_is in
     same-refusal c.from_residual.result c.in_err-all.field-0.0 (g.V.Values.held c.args.values.now)
-    (asked_of (shifted (plain_study (marked c.args.self.now)) c.args.start)) c.from_residual.ensures.1
+    (positions_asked (shifted (plain_study (marked c.args.self.now)) c.args.start)) c.from_residual.ensures.1
     (subst (λ (ps : List Position). IsOutside (g.V.Values.held c.args.values.now) ps c.in_err-all.field-0.0) same c.in_err-all.ensures.refusal)
 
 pub returns-in_err-all-clause-asked : goal.returns-in_err-all-clause-asked
@@ -32,7 +32,7 @@ returns-in_err-all-clause-asked g c =
     let b = kept_of c.self.inside.start c.self.inside.stipulation c.self.inside.tags c.self.inside.tree in
     let same = asked-shifted b c.args.self.now c.args.start c.self.view_is in
     refusal-asked c.from_residual.result c.in_err-all.field-0.0
-    (length (asked_of (shifted (plain_study (marked c.args.self.now)) c.args.start)))
+    (length (positions_asked (shifted (plain_study (marked c.args.self.now)) c.args.start)))
     (g.V.Values.asked_of c.args.values.now) (g.V.Values.asked_of c.gather.new.values) c.from_residual.ensures.1
     (subst (λ (ps : List Position). HasStopped (is_of_tables c.in_err-all.field-0.0) (length ps)
     (g.V.Values.asked_of c.args.values.now) (g.V.Values.asked_of c.gather.new.values)) same

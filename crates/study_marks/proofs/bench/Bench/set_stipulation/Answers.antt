@@ -5,7 +5,7 @@ use Rattle.study_tree.specs.Tree.{plain_tree, size_of}
 use Rattle.study_marks.specs.declared.marking.Aim.{Aim}
 use Rattle.study_marks.specs.Study.{plain_study}
 use Rattle.study_marks.specs.Goals.{aim_of}
-use Rattle.study_marks.specs.Kept.{Kept, marked, IsRight, AllAddUp}
+use Rattle.study_marks.specs.Kept.{Kept, marked, IsKeptRight, AllAddUp}
 use Rattle.study_marks.specs.Edits.{stipulated}
 use Rattle.study_marks.specs.Asked.{counted_times}
 use Rattle.study_marks.specs.Bench.{kept_of}
@@ -49,7 +49,7 @@ returns-clause-right g c h =
     stipulated-right b c.args.stipulation (plain_tree c.write_all.new.tree)
     (counted c.write_all.new.tree.relabelled)
     (told-kept b.study.tree (plain_tree c.write_all.new.tree) c.write_all.ensures.told)
-    (subst (λ (a : Aim). AllAddUp a (plain_tree c.write_all.new.tree)) aim c.write_all.ensures.right) (subst IsRight (sym c.self.view_is) h)
+    (subst (λ (a : Aim). AllAddUp a (plain_tree c.write_all.new.tree)) aim c.write_all.ensures.right) (subst IsKeptRight (sym c.self.view_is) h)
 
 pub returns-clause-relabelled : goal.returns-clause-relabelled
 returns-clause-relabelled g c =

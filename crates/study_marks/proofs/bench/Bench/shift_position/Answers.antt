@@ -2,7 +2,7 @@ use Rattle.std.proofs.Common.{refl, sym, ◌∙◌}
 use Rattle.study_marks.specs.Study.{plain_study}
 use Rattle.study_marks.specs.Kept.{marked}
 use Rattle.study_marks.specs.Edits.{shifted}
-use Rattle.study_marks.specs.Asked.{asked_of}
+use Rattle.study_marks.specs.Asked.{positions_asked}
 use Rattle.study_marks.specs.Bench.{kept_of}
 use Rattle.study_marks.proofs.StartShifted.{broken-shown, broken-marked, legal-shifted, shift-broken, shift-outside, on-ok}
 use Rattle.study_marks.proofs.bench.Bench.shift_position.Goals as goal
@@ -12,7 +12,7 @@ returns-then-find_broken-clause-refusal g c =
     let b = kept_of c.self.inside.start c.self.inside.stipulation c.self.inside.tags c.self.inside.tree in
     let x = c.if-find_broken.ensures.broken refl in
     shift-broken (g.V.Values.held c.args.values.now)
-    (asked_of (shifted (plain_study (marked c.args.self.now)) c.args.start)) b c.args.self.now c.args.start
+    (positions_asked (shifted (plain_study (marked c.args.self.now)) c.args.start)) b c.args.self.now c.args.start
     c.new-steps.result.items c.self.view_is c.new-steps.ensures
     x.0 c.find_broken.new.steps.items c.as_slice.result.now c.broken_at.result x.1 x.2 c.as_slice.ensures.value c.broken_at.ensures
 
@@ -35,6 +35,6 @@ returns-clause-refusal g c =
     let b = kept_of c.self.inside.start c.self.inside.stipulation c.self.inside.tags c.self.inside.tree in
     let whole = (c.if-find_broken.ensures.whole refl).0 in
     shift-outside (g.V.Values.held c.args.values.now)
-    (asked_of (shifted (plain_study (marked c.args.self.now)) c.args.start)) b c.args.self.now c.args.start
+    (positions_asked (shifted (plain_study (marked c.args.self.now)) c.args.start)) b c.args.self.now c.args.start
     c.new-steps.result.items c.self.view_is c.new-steps.ensures
     c.annotate.result whole c.annotate.ensures.refusal
