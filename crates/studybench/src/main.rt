@@ -4,6 +4,8 @@
 //! keeps the tables as files in a folder, and passes the standard streams on.
 #![tactic(auto)]
 
+#[cfg(test)]
+mod files;
 mod folder;
 mod options;
 
