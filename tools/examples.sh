@@ -3,7 +3,7 @@
 #
 #   tools/examples.sh              the studies whose tables have up to three men
 #   tools/examples.sh pawnless     those without a pawn, and those of up to three men
-#   tools/examples.sh all          all of them; each builds its own tables, which takes some minutes in all
+#   tools/examples.sh all          all of them; each builds its own tables, which takes a quarter of an hour in all
 #   tools/examples.sh load DIR     all of them over the files of tables in a folder, whole
 #   PAGES=N tools/examples.sh load DIR     the same by N pages
 #

@@ -75,8 +75,15 @@ def told_right(script, words, text, kind):
     return None, len(faults)
 
 
-def judge(script, words, answer, kind, how, front=None, once=True):
-    """What is wrong with a run, or None; and how many lines were refused for the fault."""
+def may_show_nowhere(words, kind, at, once):
+    """Whether want of memory need not be told. A page that finds no room is used and forgotten. And std's `collect`, which
+    takes over the words of the command line, asks again for less where its first question is refused: it comes behind one
+    question for each word, the program's name among them, one for the word that is not there, and one for their list."""
+    return kind == "alloc" and ("--pages" in words or (once and at == len(words) + 4))
+
+
+def judge(script, words, answer, kind, how, front=None, once=True, at=None):
+    """What is wrong with a run, or None; and how many lines were refused for the fault, the `at`-th of its kind."""
     text, status, error = answer
     if status == 3:
         stops = {"alloc": "OutOfMemory", "stdin": "ReadDevice", "stdout": "WriteDevice"}
@@ -95,8 +102,7 @@ def judge(script, words, answer, kind, how, front=None, once=True):
         wrong = f"status {status}"
     if wrong is None and how == "short" and faults:
         wrong = "a fault is told"
-    # A page that finds no room is used and forgotten: with pages, want of memory may show nowhere.
-    if wrong is None and how in ("fail", "nothing") and not faults and not (kind == "alloc" and "--pages" in words):
+    if wrong is None and how in ("fail", "nothing") and not faults and not may_show_nowhere(words, kind, at, once):
         wrong = "the fault is not told"
     if wrong is None and once and faults > 1:
         wrong = f"one fault is told {faults} times"
@@ -151,7 +157,7 @@ def sweep():
                 if kind == "stdin" and how == "fail":
                     whole = script[: 40 * (at - 1)].split(b"\n")[:-1]
                     front = len(commands(b"\n".join(whole)))
-                wrong, told = judge(script, words, answer, kind, how, front, "FAULT_ON" not in more)
+                wrong, told = judge(script, words, answer, kind, how, front, "FAULT_ON" not in more, at)
                 total += 1
                 tally = by_kind.setdefault(f"{kind} {how}{' from there on' if 'FAULT_ON' in more else ''}", [0, 0, 0])
                 tally[0] += 1

@@ -6,10 +6,10 @@ from pathlib import Path
 
 CRATES = Path(__file__).resolve().parent.parent / "crates"
 STARTS = """
-study_moves/specs/Game study_moves/specs/LegalList
+study_moves/specs/Game study_moves/specs/Order study_moves/specs/LegalList
 study_retro/specs/Game study_retro/specs/Sound
 study_marks/specs/Annotated study_marks/specs/Verdict study_marks/specs/Edits study_marks/specs/Kept
-study_pgn/specs/Pgn
+study_pgn/specs/Pgn study_tablefile/specs/Taken
 """
 IMPORT = re.compile(r"\s*use Rattle\.(study_\w+)\.specs\.([A-Z]\w*)\.")
 NO_DEFINITION = re.compile(r"\s*(use |--|$)")

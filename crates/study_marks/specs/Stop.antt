@@ -1,5 +1,5 @@
 -- A list of edits: what each accepted one asks, finds and writes, and where the list stops.
-use Rattle.std.specs.Prelude.{◌≡◌, ℕ, ◌+◌, ◌⊎◌, Bool, List, [], ◌∷◌, length, take, zero, suc, MatchOption}
+use Rattle.std.specs.Prelude.{◌≡◌, ℕ, ◌+◌, ◌⊎◌, Bool, List, [], ◌∷◌, length, zero, suc, MatchOption}
 use Rattle.std.specs.Prelude.{Option, None, Result, Ok, Err, IfErr, OnOk, OnErr, if◌then◌else◌}
 use Rattle.study_board.specs.Position.{Position}
 use Rattle.study_moves.specs.Rules.{after}
@@ -65,11 +65,6 @@ module _ {A : Type 0} where
   abbrev pub labels_by : Plainly → List (Edit A) → ℕ → ℕ
   labels_by s [] n = n
   labels_by s (e ∷ es) n = labels_by (edited s e) es (labels_after s e n)
-
-  -- the edits that were accepted
-  abbrev pub accepted_of : Result (Unit {0}) (Stopped A) → List (Edit A) → List (Edit A)
-  accepted_of (Ok x) es = es
-  accepted_of (Err s) es = take s.done es
 
   -- after so many of the edits, the next is refused so
   abbrev pub IsStopped : (Class → Bool) → Plainly → List (Edit A) → ℕ → Refusal A → Type 0

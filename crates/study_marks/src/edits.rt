@@ -10,9 +10,9 @@ ghost use Rattle.study_marks.specs.Bench.{text_of};
 ghost use Rattle.study_marks.specs.Study.{plain_study, position_at, place_of_tag, IsPlayable};
 ghost use Rattle.study_marks.specs.Kept.{marked, IsKeptRight};
 ghost use Rattle.study_marks.specs.Asked.{asked_at, positions_asked, is_of_tables, AllHeld, IsOutside, HasAsked, failures_after, counted_times};
-ghost use Rattle.study_marks.specs.Stop.{IsShiftRefusal, IsStopped, AreAccepted, accepted_of, labels_by, HasAskedBy, failures_stopped, IsApplied};
+ghost use Rattle.study_marks.specs.Stop.{IsShiftRefusal, IsStopped, AreAccepted, labels_by, HasAskedBy, failures_stopped, IsApplied};
 ghost use Rattle.study_marks.specs.Edits.{broken_from, positioned, shifted, stipulated, inserted, deleted};
-ghost use Rattle.study_marks.specs.Edits.{promoted, tagged, edited_by, insert_refusal, delete_refusal};
+ghost use Rattle.study_marks.specs.Edits.{promoted, tagged, edited_by, accepted_of, insert_refusal, delete_refusal};
 ghost use Rattle.study_marks.specs.Edits.{promote_refusal, shift_refusal, is_printable, is_tag_text, tag_refusal};
 ghost use Rattle.std.specs.List.{list_all};
 

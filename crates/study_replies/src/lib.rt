@@ -1,5 +1,5 @@
 //! Scripts and their replies. There is nothing here but tests: what they expect comes from outside of this
-//! program, but for replies of one run that are compared with those of another. No function has a contract: tests alone call it.
+//! program, but for replies of one run that are compared with those of another. No function says what it ensures: tests alone call it.
 #![tactic(auto)]
 
 #[cfg(test)]

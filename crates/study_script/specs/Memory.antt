@@ -1,4 +1,4 @@
--- What is known of a store in memory, which is all that it gives.
+-- What is known of a store in memory, which is all that it gives, but of a file that it was asked to write.
 use Rattle.std.specs.Prelude.{◌≡◌, ℕ, Bool, true, false, List, take, slice_index_or, Option, Some, None, Result, Ok, Err}
 use Rattle.study_material.specs.declared.class.Class.{Class}
 use Rattle.study_retro.specs.Table.{Table, IsComplete, class_place}

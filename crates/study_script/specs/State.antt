@@ -17,7 +17,8 @@ pub data Board : Type 0 where
   study : Plainly → Board
 
 -- What is known of what a store gives for each class: the bytes of its file, read from front to back, or the fault of opening it;
--- and the header that its source of pages tells, or the fault of opening it. Of a store in memory all is known, of a real one nothing.
+-- and the header that its source of pages tells, or the fault of opening it. Of a store in memory all is known but of a file that it
+-- was asked to write, of a real one nothing.
 pub record Shelf : Type 0 where
   pub files : Class → Option (Result (List ℕ) StoreFault)
   pub headers : Class → Option (Result (List ℕ) StoreFault)

@@ -26,7 +26,8 @@ const COMMANDS: &str = "Commands of a script, one a line:
   load CLASS            reads a table from its file
   verify CLASS          checks each cell of a table against the rules of chess
 PATH is 'root', or places of children from the root on, counted from 0: '0.1' is the second child of the first.
-A line that begins with # and an empty one have no reply; a refused line has the reply 'error NAME' and changes nothing.
+A line that begins with # and an empty one have no reply; a refused line has the reply 'error NAME' and changes nothing,
+but the file that a 'save' had begun when its device failed.
 
 Exit status: 0 no line was refused; 1 some line was; 2 the command line was; 3 the run stopped at a fault.";
 
