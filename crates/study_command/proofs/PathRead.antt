@@ -1,10 +1,10 @@
 -- Words that are read as paths.
-use Rattle.std.proofs.Common.{◌≡◌, ℕ, ◌+◌, ◌<◌, ◌≤◌, true, false, slice_index, take, drop, List, [], ◌∷◌, ◌++◌, length, Some, refl, ap, ◌∙◌, arith}
+use Rattle.std.proofs.Common.{◌≡◌, ℕ, ◌+◌, ◌<◌, ◌≤◌, true, false, slice_index, take, drop, List, [], ◌∷◌, ◌++◌, length, map, Some, refl, ap, ◌∙◌, arith}
 use Rattle.std.specs.Prelude.{codes, ◌==◌}
 use Rattle.std.specs.List.{All}
 use Rattle.std.proofs.lemmas.List.{length-take}
 use Rattle.std.proofs.lemmas.Grind.{common_steps}
-use Rattle.std.proofs.lemmas.List.Splits.{slice_split_at, slice_split_none}
+use Rattle.std.proofs.lemmas.List.Splits.{length-slice_split, slice_split_at, slice_split_none}
 use Rattle.std.specs.List.{list_all}
 use Rattle.std.specs.Str.{bytes_eq}
 use Rattle.std.specs.Str.Parse.{digits_value}
@@ -32,3 +32,11 @@ cut_at word i lt point others =
 
 pub cut_none : (word : List ℕ) (i : ℕ) → length word ≤ i → ((k : ℕ) → k < i → (slice_index word k == 46) ≡ false) → places_in word ≡ word ∷ []
 cut_none word i le others = slice_split_none (λ b. b == 46) word (λ k d less. let other = others k (omega arith) in grind (arith, common_steps))
+
+none_mapped : {A B : Type 0} (f : A → B) (xs : List A) → map f xs ≡ [] → length xs ≡ 0
+none_mapped f [] e = refl
+none_mapped f (x ∷ xs) e = absurd cc
+
+-- a word that is not `root` has a place
+pub some_place : (word : List ℕ) → map (digits_value 10) (places_in word) ≡ [] → ⊥
+some_place word e = let n = none_mapped (digits_value 10) (places_in word) e in omega (arith, n, length-slice_split (λ (b : ℕ). b == 46) word)

@@ -1,5 +1,5 @@
 //! Paths, read from a line.
-ghost use Rattle.std.specs.Prelude.{◌≡◌, ◌<◌, ◌++◌, ◌∷◌, [], true, false, length, map, IfOk, IfSome, MatchOption, OnOk};
+ghost use Rattle.std.specs.Prelude.{◌≡◌, ◌<◌, ◌++◌, ◌∷◌, [], true, false, length, map, IfOk, IsOk, IfSome, MatchOption, OnOk};
 ghost use Rattle.std.specs.List.{list_all};
 ghost use Rattle.std.specs.Str.Parse.{digits_value};
 ghost use Rattle.study_command.specs.Paths.{is_place, is_path_word, places_in, steps_of};
@@ -8,10 +8,11 @@ use crate::paths::read_place;
 use std::alloc::{AllocError, Allocator};
 use study_tree::Path;
 
-/// The path that is written so.
+/// The path that is written so. That of the root takes no memory.
 pub fn read_path<'a, A: Allocator>(alloc: &'a A, path: &[u8]) -> Result<Path<'a, A>, AllocError>
     requires { is_path_word path.now ≡ true }
-    ensures { IfOk result (λ p. p ≡ steps_of path.now) }
+    ensures path { IfOk result (λ p. p ≡ steps_of path.now) }
+    ensures root { steps_of path.now ≡ [] → IsOk result }
 {
     if is_root(path) {
         Ok(Path::root(alloc))

@@ -20,3 +20,4 @@ pub mod OneEdit
 pub mod EditLists
 pub mod FaultsOfBlocks
 pub mod DualCounts
+pub mod FaultsTold

@@ -1,5 +1,5 @@
 -- One edit of a bench, as a value.
-use Rattle.std.proofs.Common.{◌≡◌, ℕ, ◌+◌, List, length, Bool, Option, Some, None, refl, sym, ap, ◌∙◌, subst}
+use Rattle.std.proofs.Common.{◌≡◌, ℕ, ◌+◌, List, length, Bool, true, Option, Some, None, refl, sym, ap, ◌∙◌, subst}
 use Rattle.std.specs.Prelude.{if◌then◌else◌, MatchOption, Result, Ok, Err, IfErr, OnOk, OnErr, IsErrAnd}
 use Rattle.study_material.specs.declared.class.Class.{Class}
 use Rattle.study_moves.specs.declared.moves.Move.{Move}
@@ -15,7 +15,7 @@ use Rattle.study_marks.specs.declared.stipulation.Stipulation.{Stipulation}
 use Rattle.study_marks.specs.Study.{plain_study, position_at}
 use Rattle.study_marks.specs.Asked.{asked_at, positions_asked, AllHeld, IsOutside, HasAsked, HasStopped}
 use Rattle.study_marks.specs.Asked.{is_of_tables, is_of_device, counted_times, failures_after}
-use Rattle.study_marks.specs.Edits.{shifted, stipulated, inserted, broken, broken_from, insert_refusal, shift_refusal}
+use Rattle.study_marks.specs.Edits.{positioned, shifted, stipulated, inserted, broken, broken_from, insert_refusal, shift_refusal}
 use Rattle.study_marks.specs.Kept.{Kept, marked, IsKeptRight}
 use Rattle.study_marks.specs.Stop.{IsShiftRefusal, IsAccepted, IsApplied}
 use Rattle.study_marks.proofs.SameShape.{nodes_in-mapped}
@@ -137,6 +137,38 @@ module _ {A : Type 0} (held held_now : Class → Bool) (honest honest_now : Type
           → OnOk r (new.relabelled ≡ counted_times (size_of (plain_study (marked old)).tree) old.relabelled)
       sized (Ok x) h = h ∙ ap (λ n. counted_times n old.relabelled) (same-size old)
       sized (Err x) h = tt
+
+  -- a new position, whose values alone may refuse it
+  pub position-applied : (e : Edit A) (start copied : Start) (r : Result (Unit {0}) (Refusal A)) → e ≡ edits.Position start → copied ≡ start
+      → IfErr r (IsOutside held (asked_at copied.position)) → IfErr r (λ f. is_of_tables f ≡ true)
+      → OnOk r (AllHeld held (asked_at copied.position)) → OnOk r (plain_study (marked new) ≡ positioned (plain_study (marked old)) copied)
+      → (honest → OnOk r (IsKeptRight new)) → OnOk r (new.relabelled ≡ 1)
+      → HasAsked (length (asked_at copied.position)) r asked asked_now → failed_now ≡ failures_after r failed
+      → (honest → honest_now) → ((c : Class) → held_now c ≡ held c) → OnErr r (new ≡ old)
+      → IsApplied held held_now honest honest_now asked asked_now failed failed_now old new e r
+  position-applied e start copied r is e2 refusal of_tables found edit right labels counts failures stays tables same =
+      applied-as e (edits.Position copied) r (is ∙ ap edits.Position (sym e2)) (record {
+        refusal = both r refusal of_tables;
+        accepted = go r found;
+        edit = edit;
+        right = λ h k. right h;
+        labels = labels;
+        counts = counts;
+        failures = failures;
+        stays = stays;
+        tables = tables;
+        same = same;
+      })
+    where
+      both : (r : Result (Unit {0}) (Refusal A)) → IfErr r (IsOutside held (asked_at copied.position)) → IfErr r (λ f. is_of_tables f ≡ true)
+          → IfErr r (λ f. IsOutside held (asked_at copied.position) f × (is_of_tables f ≡ true))
+      both (Ok x) h k = tt
+      both (Err x) h k = (h, k)
+
+      go : (r : Result (Unit {0}) (Refusal A)) → OnOk r (AllHeld held (asked_at copied.position))
+          → OnOk r (IsAccepted {A = A} held (plain_study (marked old)) (edits.Position copied))
+      go (Ok x) h = record { allowed = refl; found = h }
+      go (Err x) h = tt
 
   -- another stipulation
   pub stipulation-applied : (e : Edit A) (stipulation : Stipulation) → e ≡ edits.Stipulate stipulation

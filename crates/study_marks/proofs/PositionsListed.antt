@@ -24,7 +24,7 @@ use Rattle.study_marks.proofs.ValuesAsked.{missing-same, unread-same}
 use Rattle.study_marks.proofs.FirstIllegalMove.{here}
 use Rattle.study_marks.proofs.LabelsWritten.{nth, below-further, below-nth, firsts-all, counted_times-sum}
 
-append-none : {X : Type 0} (xs : List X) → xs ++ [] ≡ xs
+pub append-none : {X : Type 0} (xs : List X) → xs ++ [] ≡ xs
 append-none [] = refl
 append-none (x ∷ xs) = ap (λ ys. x ∷ ys) (append-none xs)
 
@@ -96,7 +96,7 @@ pub playable-at : (p q : Position) (t : Plain Label) (push path : List ℕ) → 
 playable-at p q t push path e way h = subst (λ x. IsPlayable x (below_at t.below push)) (sym e) (subst (λ x. IsPlayable q (below_at t.below x)) (sym way) h)
 
 -- what is asked of a list of positions
-asked_each-append : (ps qs : List Position) → asked_each (ps ++ qs) ≡ asked_each ps ++ asked_each qs
+pub asked_each-append : (ps qs : List Position) → asked_each (ps ++ qs) ≡ asked_each ps ++ asked_each qs
 asked_each-append [] qs = refl
 asked_each-append (p ∷ ps) qs = ap (λ x. asked_at p ++ x) (asked_each-append ps qs) ∙ sym (append_assoc (asked_at p) (asked_each ps) (asked_each qs))
 

@@ -1,5 +1,5 @@
 -- A list of edits: what each accepted one asks, finds and writes, and where the list stops.
-use Rattle.std.specs.Prelude.{◌≡◌, ℕ, ◌+◌, ◌⊎◌, Bool, List, [], ◌∷◌, length, zero, suc, MatchOption}
+use Rattle.std.specs.Prelude.{◌≡◌, ℕ, ◌+◌, ◌⊎◌, Bool, true, List, [], ◌∷◌, length, take, zero, suc, MatchOption}
 use Rattle.std.specs.Prelude.{Option, None, Result, Ok, Err, IfErr, OnOk, OnErr, if◌then◌else◌}
 use Rattle.study_board.specs.Position.{Position}
 use Rattle.study_moves.specs.Rules.{after}
@@ -16,6 +16,8 @@ use Rattle.study_marks.specs.Asked.{asked_at, positions_asked, AllHeld, IsOutsid
 use Rattle.study_marks.specs.Asked.{is_of_tables, is_of_device, counted_times, failures_after}
 use Rattle.study_marks.specs.Edits.{Plainly, shifted, edited, edit_refusal, insert_refusal, delete_refusal, promote_refusal, shift_refusal, tag_refusal}
 use Rattle.study_marks.specs.Kept.{Kept, marked, IsKeptRight}
+use Rattle.study_marks.specs.Answers.{TellsFirstFault}
+use Rattle.study_prober.specs.Values.{ProbeAnswer}
 
 module _ {A : Type 0} where
   -- the positions whose values an edit of this study asks
@@ -32,9 +34,9 @@ module _ {A : Type 0} where
   abbrev pub IsShiftRefusal : (Class → Bool) → List Position → Option (Refusal A) → Refusal A → Type 0
   IsShiftRefusal held asked reason r = MatchOption reason (IsOutside held asked r) (λ fault. (r ≡ fault) ⊎ (r ≡ OutOfMemory))
 
-  -- the edit of this study may be refused so
+  -- the edit of this study may be refused so; a new position takes no memory
   abbrev pub IsRefusalOf : (Class → Bool) → Plainly → Edit A → Refusal A → Type 0
-  IsRefusalOf held s (edits.Position start) r = IsOutside held (asked_at start.position) r
+  IsRefusalOf held s (edits.Position start) r = IsOutside held (asked_at start.position) r × (is_of_tables r ≡ true)
   IsRefusalOf held s (edits.Shift start) r = IsShiftRefusal held (positions_asked (shifted s start)) (shift_refusal s start) r
   IsRefusalOf held s (edits.Stipulate stipulation) r = ⊥
   IsRefusalOf held s (edits.Insert steps m) r =
@@ -90,6 +92,19 @@ module _ {A : Type 0} where
   abbrev pub failures_stopped : Result (Unit {0}) (Stopped A) → ℕ → ℕ
   failures_stopped (Ok x) old = old
   failures_stopped (Err s) old = if is_of_device s.refusal then counted old else old
+
+  -- after so many of the edits, the next is refused with the fault of the first value that was not told, of values as they were then
+  abbrev pub StopsAtFault : {V : Type 0} → (V → Position → ProbeAnswer → Type 0) → (V → ℕ) → V → Plainly → List (Edit A) → ℕ → V → Refusal A → Type 0
+  StopsAtFault gives asked_of mid s [] n new r = ⊥
+  StopsAtFault gives asked_of mid s (e ∷ es) zero new r = TellsFirstFault gives asked_of mid (questions_of s e) new r
+  StopsAtFault gives asked_of mid s (e ∷ es) (suc n) new r = StopsAtFault gives asked_of mid (edited s e) es n new r
+
+  -- the values were asked what the accepted edits ask, and then what the refused one does, up to the first that was not told
+  pub record TellsStop {V : Type 0} (gives : V → Position → ProbeAnswer → Type 0) (asked_of : V → ℕ) (old new : V) (s : Plainly)
+      (es : List (Edit A)) (stop : Stopped A) : Type 0 where
+    pub mid : V
+    pub asked : asked_of mid ≡ asked_after_edits s (take stop.done es) (asked_of old)
+    pub first : StopsAtFault gives asked_of mid s es stop.done new stop.refusal
 
   -- Not part of any public contract: what one edit of a bench does, over tables that are held, values that are
   -- honest, and the counts of questions and of failures, before and now.

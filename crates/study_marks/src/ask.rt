@@ -8,6 +8,8 @@ ghost use Rattle.study_marks.specs.Annotated.{AreValuesAfter};
 ghost use Rattle.study_marks.specs.Tally.{tally_of, tallies_joined};
 ghost use Rattle.study_marks.specs.Asked.{asked_at, AreTablesHeld};
 ghost use Rattle.study_marks.specs.Told.{IsToldOf, IsUntold, WasAsked, failures_told};
+ghost use Rattle.study_prober.specs.Values.{IsNotDamage};
+ghost use Rattle.study_marks.specs.Answers.{IsFirstFault, WereTold};
 
 use crate::label::Told;
 use crate::tally::Tally;
@@ -28,6 +30,9 @@ fn ask_after<V: Values>(
         × (tally.new ≡ tallies_joined tally.old (tally_of all))) }
     ensures untold { IfErr result (IsUntold (V.held values.old) (map (after p.now) moves.now)) }
     ensures held { OnOk result (AreTablesHeld (V.held values.old) (map (after p.now) moves.now)) }
+    ensures told { OnOk result (WereTold V.gives V.asked_of values.old (map (after p.now) moves.now) values.new) }
+    ensures no_damage { V.is_honest values.old → IfErr result IsNotDamage }
+    ensures first { IfErr result (λ f. IsFirstFault V.gives V.asked_of values.old (map (after p.now) moves.now) f values.new) }
     ensures asked { WasAsked (length moves.now) (is_ok result) (V.asked_of values.old) (V.asked_of values.new) }
     ensures failures { V.failed_of values.new ≡ failures_told result (V.failed_of values.old) }
     ensures honest { V.is_honest values.old → V.is_honest values.new }
@@ -53,6 +58,9 @@ pub fn ask<V: Values>(p: &Position, values: &mut V) -> Result<Told, ProbeFault>
     ensures game { V.is_honest values.old → IfOk result (IsToldOf p.now) }
     ensures untold { IfErr result (IsUntold (V.held values.old) (asked_at p.now)) }
     ensures held { OnOk result (AreTablesHeld (V.held values.old) (asked_at p.now)) }
+    ensures told { OnOk result (WereTold V.gives V.asked_of values.old (asked_at p.now) values.new) }
+    ensures no_damage { V.is_honest values.old → IfErr result IsNotDamage }
+    ensures first { IfErr result (λ f. IsFirstFault V.gives V.asked_of values.old (asked_at p.now) f values.new) }
     ensures asked { WasAsked (length (asked_at p.now)) (is_ok result) (V.asked_of values.old) (V.asked_of values.new) }
     ensures failures { V.failed_of values.new ≡ failures_told result (V.failed_of values.old) }
     ensures honest { V.is_honest values.old → V.is_honest values.new }

@@ -10,11 +10,12 @@ ghost use Rattle.study_marks.specs.Bench.{text_of};
 ghost use Rattle.study_marks.specs.Study.{plain_study, position_at, place_of_tag, IsPlayable};
 ghost use Rattle.study_marks.specs.Kept.{marked, IsKeptRight};
 ghost use Rattle.study_marks.specs.Asked.{asked_at, positions_asked, is_of_tables, AllHeld, IsOutside, HasAsked, failures_after, counted_times};
-ghost use Rattle.study_marks.specs.Stop.{IsShiftRefusal, IsStopped, AreAccepted, labels_by, HasAskedBy, failures_stopped, IsApplied};
+ghost use Rattle.study_marks.specs.Stop.{IsShiftRefusal, IsStopped, TellsStop, questions_of, AreAccepted, labels_by, HasAskedBy, failures_stopped, IsApplied};
 ghost use Rattle.study_marks.specs.Edits.{broken_from, positioned, shifted, stipulated, inserted, deleted};
 ghost use Rattle.study_marks.specs.Edits.{promoted, tagged, edited_by, accepted_of, insert_refusal, delete_refusal};
 ghost use Rattle.study_marks.specs.Edits.{promote_refusal, shift_refusal, is_printable, is_tag_text, tag_refusal};
 ghost use Rattle.std.specs.List.{list_all};
+ghost use Rattle.study_marks.specs.Answers.{TellsFirstFault, IsUndamaged};
 
 use crate::ask::ask;
 use crate::bench::Bench;
@@ -47,6 +48,8 @@ impl<'a, A: Allocator> Bench<'a, A> {
     ) -> Result<Bench<'a, A>, Refusal<'a, A>>
         ensures refusal { IfErr result (IsOutside (V.held values.old) (asked_at start.position)) }
         ensures takes_no_memory { IfErr result (λ e. is_of_tables e ≡ true) }
+        ensures no_damage { V.is_honest values.old → IfErr result IsUndamaged }
+        ensures first { IfErr result (TellsFirstFault V.gives V.asked_of values.old (asked_at start.position) values.new) }
         ensures found { OnOk result (AllHeld (V.held values.old) (asked_at start.position)) }
         ensures made { IfOk result (λ b. plain_study (marked b) ≡ record {
           start = start;
@@ -79,6 +82,8 @@ impl<'a, A: Allocator> Bench<'a, A> {
     ) -> Result<(), Refusal<'a, A>>
         ensures refusal { IfErr result (IsOutside (V.held values.old) (asked_at start.position)) }
         ensures takes_no_memory { IfErr result (λ e. is_of_tables e ≡ true) }
+        ensures no_damage { V.is_honest values.old → IfErr result IsUndamaged }
+        ensures first { IfErr result (TellsFirstFault V.gives V.asked_of values.old (asked_at start.position) values.new) }
         ensures found { OnOk result (AllHeld (V.held values.old) (asked_at start.position)) }
         ensures edited { OnOk result (plain_study (marked self.new) ≡ positioned (plain_study (marked self.old)) start) }
         ensures right { V.is_honest values.old → OnOk result (IsKeptRight self.new) }
@@ -107,6 +112,8 @@ impl<'a, A: Allocator> Bench<'a, A> {
         ensures edited { OnOk result (plain_study (marked self.new) ≡ shifted (plain_study (marked self.old)) start) }
         ensures right { V.is_honest values.old → OnOk result (IsKeptRight self.new) }
         ensures relabelled { OnOk result (self.new.relabelled ≡ counted_times (size_of (marked self.old).tree) self.old.relabelled) }
+        ensures no_damage { V.is_honest values.old → IfErr result IsUndamaged }
+        ensures first { IfErr result (TellsFirstFault V.gives V.asked_of values.old (positions_asked (shifted (plain_study (marked self.old)) start)) values.new) }
         ensures found { OnOk result (AllHeld (V.held values.old) (positions_asked (shifted (plain_study (marked self.old)) start))) }
         ensures asked { HasAsked (length (positions_asked (shifted (plain_study (marked self.old)) start))) result
             (V.asked_of values.old) (V.asked_of values.new) }
@@ -132,6 +139,8 @@ impl<'a, A: Allocator> Bench<'a, A> {
         ensures refusal { MatchOption (insert_refusal (plain_study (marked self.old)) path.now m)
             (IfErr result (IsOutside (V.held values.old) (asked_at (after (position_at (marked self.old) path.now) m))))
             (λ fault. result ≡ Err fault) }
+        ensures no_damage { V.is_honest values.old → IfErr result IsUndamaged }
+        ensures first { IfErr result (TellsFirstFault V.gives V.asked_of values.old (asked_at (after (position_at (marked self.old) path.now) m)) values.new) }
         ensures found { OnOk result (AllHeld (V.held values.old) (asked_at (after (position_at (marked self.old) path.now) m))) }
         ensures edited { OnOk result (plain_study (marked self.new) ≡ inserted (plain_study (marked self.old)) path.now m) }
         ensures place { IfOk result (λ k. k ≡ children_at (marked self.old).tree.below path.now) }
@@ -217,6 +226,8 @@ impl<'a, A: Allocator> Bench<'a, A> {
         ensures study { OnOk result (plain_study (marked self.new) ≡ plain_study (marked self.old)) }
         ensures right { V.is_honest values.old → OnOk result (IsKeptRight self.new) }
         ensures relabelled { OnOk result (self.new.relabelled ≡ counted_times (size_of (marked self.old).tree) self.old.relabelled) }
+        ensures no_damage { V.is_honest values.old → IfErr result IsUndamaged }
+        ensures first { IfErr result (TellsFirstFault V.gives V.asked_of values.old (positions_asked (marked self.old)) values.new) }
         ensures found { OnOk result (AllHeld (V.held values.old) (positions_asked (marked self.old))) }
         ensures asked { HasAsked (length (positions_asked (marked self.old))) result (V.asked_of values.old) (V.asked_of values.new) }
         ensures failures { V.failed_of values.new ≡ failures_after result (V.failed_of values.old) }
@@ -235,6 +246,8 @@ impl<'a, A: Allocator> Bench<'a, A> {
         values: &mut V,
     ) -> Result<(), Stopped<'a, A>>
         ensures stopped { IfErr result (λ s. IsStopped (V.held values.old) (plain_study (marked self.old)) edits.now s.done s.refusal) }
+        ensures no_damage { V.is_honest values.old → IfErr result (λ s. IsUndamaged s.refusal) }
+        ensures first { IfErr result (TellsStop V.gives V.asked_of values.old values.new (plain_study (marked self.old)) edits.now) }
         ensures accepted { AreAccepted (V.held values.old) (plain_study (marked self.old)) (accepted_of result edits.now) }
         ensures edited { plain_study (marked self.new) ≡ edited_by (plain_study (marked self.old)) (accepted_of result edits.now) }
         ensures right { V.is_honest values.old → IsKeptRight self.old → IsKeptRight self.new }
@@ -284,6 +297,8 @@ impl<'a, A: Allocator> Bench<'a, A> {
     fn annotate<V: Values>(&mut self, start: Start, values: &mut V) -> Result<(), Refusal<'a, A>>
         requires playable { IsPlayable start.position self.old.study.tree.below }
         ensures refusal { IfErr result (IsOutside (V.held values.old) (positions_asked (shifted (plain_study (marked self.old)) start))) }
+        ensures no_damage { V.is_honest values.old → IfErr result IsUndamaged }
+        ensures first { IfErr result (TellsFirstFault V.gives V.asked_of values.old (positions_asked (shifted (plain_study (marked self.old)) start)) values.new) }
         ensures found { OnOk result (AllHeld (V.held values.old) (positions_asked (shifted (plain_study (marked self.old)) start))) }
         ensures edited { OnOk result (plain_study (marked self.new) ≡ shifted (plain_study (marked self.old)) start) }
         ensures right { V.is_honest values.old → OnOk result (IsKeptRight self.new) }
@@ -304,9 +319,11 @@ impl<'a, A: Allocator> Bench<'a, A> {
 
     /// One edit.
     fn apply<V: Values>(&mut self, edit: &Edit<'a, A>, values: &mut V) -> Result<(), Refusal<'a, A>>
-        ensures { IsApplied (V.held values.old) (V.held values.new) (V.is_honest values.old) (V.is_honest values.new)
+        ensures applied { IsApplied (V.held values.old) (V.held values.new) (V.is_honest values.old) (V.is_honest values.new)
             (V.asked_of values.old) (V.asked_of values.new) (V.failed_of values.old) (V.failed_of values.new)
             self.old self.new edit.now result }
+        ensures no_damage { V.is_honest values.old → IfErr result IsUndamaged }
+        ensures first { IfErr result (TellsFirstFault V.gives V.asked_of values.old (questions_of (plain_study (marked self.old)) edit.now) values.new) }
     {
         match edit {
             Edit::Position(start) => self.set_position(start.copied(), values),

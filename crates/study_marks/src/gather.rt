@@ -6,6 +6,8 @@ ghost use Rattle.study_marks.specs.declared.label.Told.{Told as ATold};
 ghost use Rattle.study_tree.specs.Edits.{IsWithin};
 ghost use Rattle.study_marks.specs.Study.{IsPlayable};
 ghost use Rattle.study_marks.specs.Asked.{asked_at, asked_below, AreTablesHeld, IsOutside, HasAsked, failures_after};
+ghost use Rattle.study_prober.specs.Values.{IsNotDamage};
+ghost use Rattle.study_marks.specs.Answers.{IsUndamaged, WereTold, IsFirstFault, TellsFirstFault};
 ghost use Rattle.study_marks.specs.Told.{IsToldOf, AllAreTold, IsUntold, WasAsked, failures_told};
 ghost use Rattle.study_marks.specs.Renewal.{told_tree, below_at};
 ghost use Rattle.study_marks.specs.Whole.{positions_in, asked_each, AreToldOf, retold_tree};
@@ -88,6 +90,9 @@ fn ask_one<'a, A: Allocator, V: Values>(
     ensures game { V.is_honest values.old → OnOk result ((t : ATold) × IsToldOf p.now t × (all.new.items ≡ all.old.items ++ t ∷ [])) }
     ensures untold { IfErr result (IsUntold (V.held values.old) (asked_at p.now)) }
     ensures held { OnOk result (AreTablesHeld (V.held values.old) (asked_at p.now)) }
+    ensures told { OnOk result (WereTold V.gives V.asked_of values.old (asked_at p.now) values.new) }
+    ensures no_damage { V.is_honest values.old → IfErr result IsNotDamage }
+    ensures first { IfErr result (λ f. IsFirstFault V.gives V.asked_of values.old (asked_at p.now) f values.new) }
     ensures asked { WasAsked (length (asked_at p.now)) (is_ok result) (V.asked_of values.old) (V.asked_of values.new) }
     ensures failures { V.failed_of values.new ≡ failures_told result (V.failed_of values.old) }
     ensures honest { V.is_honest values.old → V.is_honest values.new }
@@ -110,6 +115,8 @@ fn ask_each<'a, A: Allocator, V: Values>(
     ensures game { V.is_honest values.old → OnOk result ((told : List ATold) × AreToldOf positions.now told × (all.new.items ≡ all.old.items ++ told)) }
     ensures untold { IfErr result (IsUntold (V.held values.old) (asked_each positions.now)) }
     ensures held { OnOk result (AreTablesHeld (V.held values.old) (asked_each positions.now)) }
+    ensures no_damage { V.is_honest values.old → IfErr result IsNotDamage }
+    ensures first { IfErr result (λ f. IsFirstFault V.gives V.asked_of values.old (asked_each positions.now) f values.new) }
     ensures asked { WasAsked (length (asked_each positions.now)) (is_ok result) (V.asked_of values.old) (V.asked_of values.new) }
     ensures failures { V.failed_of values.new ≡ failures_told result (V.failed_of values.old) }
     ensures honest { V.is_honest values.old → V.is_honest values.new }
@@ -133,6 +140,8 @@ pub fn gather<'a, A: Allocator, V: Values>(
     requires playable { IsPlayable position.now (plain_tree tree.now).below }
     ensures game { V.is_honest values.old → IfOk result (λ all. AllAreTold position.now (retold_tree all.items (told_tree (plain_tree tree.now)))) }
     ensures refusal { IfErr result (IsOutside (V.held values.old) (asked_at position.now ++ asked_below position.now (plain_tree tree.now).below)) }
+    ensures no_damage { V.is_honest values.old → IfErr result IsUndamaged }
+    ensures first { IfErr result (TellsFirstFault V.gives V.asked_of values.old (asked_at position.now ++ asked_below position.now (plain_tree tree.now).below) values.new) }
     ensures found { OnOk result (AreTablesHeld (V.held values.old) (asked_at position.now ++ asked_below position.now (plain_tree tree.now).below)) }
     ensures asked { HasAsked (length (asked_at position.now ++ asked_below position.now (plain_tree tree.now).below)) result
         (V.asked_of values.old) (V.asked_of values.new) }

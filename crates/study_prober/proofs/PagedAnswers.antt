@@ -1,14 +1,18 @@
 -- What paged tables answer is what is held for the class of the position may answer.
 use Rattle.std.proofs.Common.{◌≡◌, ℕ, ◌/◌, List, refl, sym, ap}
-use Rattle.std.specs.Prelude.{Option, Some, None, Result, Ok, Err, IfOk, IsErrOf}
+use Rattle.std.specs.Prelude.{Option, Some, None, Result, Ok, Err, IfOk, IfErr, IsErrOf}
+use Rattle.study_board.specs.Position.{Position}
+use Rattle.study_material.specs.Class.{IsOf}
+use Rattle.study_index.specs.Found.{index_of}
+use Rattle.study_retro.specs.Table.{Table, IsComplete}
 use Rattle.study_material.specs.declared.class.Class.{Class}
 use Rattle.study_tablefile.specs.declared.fault.SourceFault.{SourceFault}
 use Rattle.study_tablefile.specs.Source.{Question, of_page}
 use Rattle.study_prober.specs.declared.held.HeldSource.{HeldSource}
 use Rattle.study_prober.specs.declared.values.ProbeFault.TheVariants.{NoTable, TableRead, PageDamaged}
-use Rattle.study_prober.specs.Values.{ProbeAnswer}
-use Rattle.study_prober.specs.Sources.{HasBadPage, IsReadFrom}
-use Rattle.study_prober.specs.Paged.{IsHeldAnswer}
+use Rattle.study_prober.specs.Values.{ProbeAnswer, IsNotDamage}
+use Rattle.study_prober.specs.Sources.{HonestOf, HasBadPage, IsReadFrom}
+use Rattle.study_prober.specs.Paged.{IsHeldAnswer, SourcesAreRight, held_of}
 use Rattle.study_prober.proofs.HeldSources.{some_none}
 
 pub answered : {S : Type 0} (gives : S → Question → Result (List ℕ) SourceFault → Type 0) (c : Class) (n : ℕ) (o : Option (HeldSource S)) (r : ProbeAnswer)
@@ -26,3 +30,19 @@ answered gives c n (Some h) (Err (NoTable d)) no_table none read unread damaged 
 answered gives c n (Some h) (Err (TableRead f)) no_table none read unread damaged bad = unread h f refl refl
 answered gives c n (Some h) (Err (PageDamaged d page)) no_table none read unread damaged bad =
     let at = damaged d page refl in (at.0, at.1, bad h page refl (ap (λ (x : Class). Err (PageDamaged x page)) at.0))
+
+-- sources that give right tables tell no damage
+pub undamaged : {S : Type 0} (honest : HonestOf S) (sources : List (Option (HeldSource S))) (p : Position) (r : ProbeAnswer)
+    → SourcesAreRight honest sources
+    → ((c : Class) → (IsOf c p × (held_of sources c ≡ None)) → IsErrOf r (NoTable c))
+    → ((c : Class) (h : HeldSource S) (t : Table) (n : ℕ) → IsOf c p → held_of sources c ≡ Some h → honest h.source t h.header.version
+    → t.class ≡ c → IsComplete t → IsErrOf r (PageDamaged c n) → ⊥)
+    → ((c : Class) (n : ℕ) → IsErrOf r (PageDamaged c n) → IsOf c p × (n ≡ index_of p / 4096)) → IfErr r IsNotDamage
+undamaged honest sources p (Ok v) all none whole damaged = tt
+undamaged honest sources p (Err (NoTable c)) all none whole damaged = tt
+undamaged honest sources p (Err (TableRead f)) all none whole damaged = tt
+undamaged {S = S} honest sources p (Err (PageDamaged c n)) all none whole damaged = go (held_of sources c) refl (damaged c n refl).0
+  where
+    go : (o : Option (HeldSource S)) → held_of sources c ≡ o → IsOf c p → ⊥
+    go None e of = let contrary : ◌≡◌ {A = ProbeAnswer} (Err (PageDamaged c n)) (Err (NoTable c)) = none c (of, e) in cc
+    go (Some h) e of = let right = all.right c h e in whole c h right.table n of e right.is_honest right.of_class right.complete refl

@@ -18,3 +18,9 @@ is_device_fault (Err (PageDamaged c n)) = true
 -- how many faults of a device there were after an answer
 abbrev pub faults_after : ℕ → ProbeAnswer → ℕ
 faults_after count answer = if is_device_fault answer then counted count else count
+
+-- no damage is told: the tables that are held are those that were asked for, and a device may fail
+abbrev pub IsNotDamage : ProbeFault → Type 0
+IsNotDamage (NoTable c) = Unit {0}
+IsNotDamage (TableRead f) = Unit {0}
+IsNotDamage (PageDamaged c n) = ⊥

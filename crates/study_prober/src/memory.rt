@@ -1,11 +1,11 @@
 //! Values that fail where a test wants it.
-ghost use Rattle.std.specs.Prelude.{◌≡◌, ◌↔◌, ◌/◌, ℕ, Some, Err, false, IfOk, IsErrOf};
+ghost use Rattle.std.specs.Prelude.{◌≡◌, ◌↔◌, ◌/◌, ℕ, Some, Err, false, IfOk, IfErr, IsErrOf};
 ghost use Rattle.study_material.specs.declared.class.Class.{Class as AClass};
 ghost use Rattle.study_material.specs.Class.{IsOf};
 ghost use Rattle.study_index.specs.Found.{index_of};
 ghost use Rattle.study_retro.specs.Game.{IsValueOf};
 ghost use Rattle.study_board.specs.Counts.{counted};
-ghost use Rattle.study_prober.specs.Values.{faults_after};
+ghost use Rattle.study_prober.specs.Values.{IsNotDamage, faults_after};
 
 use crate::values::{ProbeFault, Values, counted_fault};
 use study_board::Position;
@@ -54,6 +54,7 @@ impl<V: Values> Values for FailingValues<V> {
 
     fn value(&mut self, p: &Position) -> Result<Value, ProbeFault>
         ensures game { V.is_honest self.old.values → IfOk result (IsValueOf p.now) }
+        ensures no_damage { V.is_honest self.old.values → IfErr result IsNotDamage }
         ensures stays_honest { V.is_honest self.old.values → V.is_honest self.new.values }
         ensures given { IsFailingAnswer V.held V.gives self.old p.now result }
         ensures no_table { (c : AClass) → IsErrOf result (ProbeFault.NoTable c) ↔ (IsOf c p.now × (V.held self.old.values c ≡ false)) }

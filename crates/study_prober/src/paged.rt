@@ -1,6 +1,6 @@
 //! Values from pages of tables, read as they are asked and kept as far as there is room.
 ghost use Rattle.std.specs.Prelude.{◌≡◌, ◌≤◌, ◌/◌, ◌↔◌, ℕ, List, Option, Result, [], Some};
-ghost use Rattle.std.specs.Prelude.{None, Ok, Err, true, false, is_some, IfOk, OnOk, OnErr};
+ghost use Rattle.std.specs.Prelude.{None, Ok, Err, true, false, is_some, IfOk, IfErr, OnOk, OnErr};
 ghost use Rattle.std.specs.Prelude.{IsErrOf, length, slice_index, slice_set, replicate};
 ghost use Rattle.study_material.specs.declared.class.Class.{Class as AClass};
 ghost use Rattle.study_material.specs.Class.{IsOf};
@@ -18,7 +18,7 @@ ghost use Rattle.study_prober.specs.declared.held.HeldSource.{HeldSource as AHel
 ghost use Rattle.study_prober.specs.Sources.{AreHonestAlike, GiveAlike, HasBadPage, IsReadFrom, GivesRight};
 ghost use Rattle.study_prober.specs.Sources.{IsHeaderOf, PutsNone, PutsOnly, failed_after};
 ghost use Rattle.study_prober.specs.Paged.{SourcesAreRight, AreGiven, IsKept, IsPageFor, IsPagedAnswer, IsSameSource, IsToldAgain, held_of, places_for_classes};
-ghost use Rattle.study_prober.specs.Values.{faults_after};
+ghost use Rattle.study_prober.specs.Values.{IsNotDamage, faults_after};
 ghost use Rattle.study_prober.specs.Told.{IsRefusedBy, MayAnswer, paged_fault};
 
 use crate::cache::{Pages, place};
@@ -213,6 +213,7 @@ impl<'a, S: PageSource, A: Allocator> Values for PagedTables<'a, S, A> {
 
     fn value(&mut self, p: &Position) -> Result<Value, ProbeFault>
         ensures game { SourcesAreRight S.honest self.old.sources → IfOk result (IsValueOf p.now) }
+        ensures no_damage { SourcesAreRight S.honest self.old.sources → IfErr result IsNotDamage }
         ensures stays_honest { SourcesAreRight S.honest self.old.sources → SourcesAreRight S.honest self.new.sources }
         ensures given { IsPagedAnswer S.gives self.old.sources p.now result }
         ensures no_table { (c : AClass) → IsErrOf result (ProbeFault.NoTable c) ↔ (IsOf c p.now × (is_some (held_of self.old.sources c) ≡ false)) }

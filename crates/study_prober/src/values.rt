@@ -1,12 +1,12 @@
 //! What answers the values of positions.
-ghost use Rattle.std.specs.Prelude.{◌≡◌, ◌↔◌, ◌/◌, ℕ, Bool, false, IfOk, IsErrOf};
+ghost use Rattle.std.specs.Prelude.{◌≡◌, ◌↔◌, ◌/◌, ℕ, Bool, false, IfOk, IfErr, IsErrOf};
 ghost use Rattle.study_board.specs.Position.{Position as APosition};
 ghost use Rattle.study_material.specs.declared.class.Class.{Class as AClass};
 ghost use Rattle.study_material.specs.Class.{IsOf};
 ghost use Rattle.study_index.specs.Found.{index_of};
 ghost use Rattle.study_retro.specs.Game.{IsValueOf};
 ghost use Rattle.study_board.specs.Counts.{counted};
-ghost use Rattle.study_prober.specs.Values.{ProbeAnswer, faults_after};
+ghost use Rattle.study_prober.specs.Values.{ProbeAnswer, IsNotDamage, faults_after};
 
 use study_board::Position;
 use study_material::Class;
@@ -65,6 +65,7 @@ pub trait Values: Drop {
     /// The value of a position.
     fn value(&mut self, p: &Position) -> Result<Value, ProbeFault>
         ensures game { is_honest self.old → IfOk result (IsValueOf p.now) }
+        ensures no_damage { is_honest self.old → IfErr result IsNotDamage }
         ensures stays_honest { is_honest self.old → is_honest self.new }
         ensures given { gives self.old p.now result }
         ensures no_table { (c : AClass) → IsErrOf result (ProbeFault.NoTable c) ↔ (IsOf c p.now × (held self.old c ≡ false)) }

@@ -10,7 +10,7 @@ ghost use Rattle.study_retro.specs.Table.{Table as Seen, class_place, table_of};
 ghost use Rattle.study_retro.specs.Set.{add_fault};
 ghost use Rattle.study_retro.specs.Sound.{IsRight};
 ghost use Rattle.study_board.specs.Counts.{counted};
-ghost use Rattle.study_prober.specs.Values.{faults_after};
+ghost use Rattle.study_prober.specs.Values.{IsNotDamage, faults_after};
 ghost use Rattle.study_prober.specs.Whole.{TablesAreRight, IsCellAnswer, Whole};
 
 use crate::values::{ProbeFault, Values};
@@ -77,6 +77,7 @@ impl<'a, A: Allocator> Values for WholeTables<'a, A> {
 
     fn value(&mut self, p: &Position) -> Result<Value, ProbeFault>
         ensures game { TablesAreRight self.old.tables → IfOk result (IsValueOf p.now) }
+        ensures no_damage { TablesAreRight self.old.tables → IfErr result IsNotDamage }
         ensures stays_honest { TablesAreRight self.old.tables → TablesAreRight self.new.tables }
         ensures given { IsCellAnswer self.old.tables p.now result }
         ensures no_table { (c : AClass) → IsErrOf result (ProbeFault.NoTable c) ↔ (IsOf c p.now × (is_some (table_of self.old.tables c) ≡ false)) }

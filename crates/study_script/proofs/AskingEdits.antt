@@ -3,9 +3,11 @@ use Rattle.std.proofs.Common.{◌≡◌, ℕ, Bool, true, List, [], ◌∷◌, r
 use Rattle.study_board.specs.Position.{Position}
 use Rattle.study_material.specs.declared.class.Class.{Class}
 use Rattle.study_prober.specs.declared.values.ProbeFault.{ProbeFault}
+use Rattle.study_prober.specs.declared.values.ProbeFault.TheVariants as probe
 use Rattle.study_marks.specs.declared.fault.Refusal.{Refusal as EditRefusal}
 use Rattle.study_marks.specs.declared.fault.Refusal.TheVariants as edit
 use Rattle.study_marks.specs.Asked.{IsTableHeld, AreTablesHeld, AllHeld, IsFirstMissing, IsFirstUnread, IsOutside, is_of_tables}
+use Rattle.study_marks.specs.Answers.{IsUndamaged}
 use Rattle.study_marks.specs.Edits.{Plainly}
 use Rattle.study_script.specs.Names.{edit_words}
 use Rattle.study_script.specs.State.{State, is_among, Outside, quiet, no_room, unread}
@@ -30,44 +32,53 @@ unread-same h k [] f e m = absurd m
 unread-same h k (p ∷ ps) f e m =
     (held-same h k p e m.0, elim m.1 [ inl here ↦ inl here | inr there ↦ inr (unread-same h k ps f e there) ])
 
+-- a table that is missing is not told as a fault of reading
+missing-unread : (held : Class → Bool) (ps : List Position) (c : Class) → IsFirstUnread held ps (probe.NoTable c) → ⊥
+missing-unread held [] c m = m
+missing-unread held (p ∷ ps) c m = elim m.1 [ inl here ↦ here | inr there ↦ missing-unread held ps c there ]
+
 -- an edit that is refused for what is outside has that reply
 pub refused_outside : (A : Type 0) (s : State) (held : Class → Bool) (paged : Bool) (asked : List Position)
     (new : Plainly) (text : List ℕ) (refusal : EditRefusal A) → ((c : Class) → held c ≡ is_among s.classes c)
-    → paged ≡ s.paged → IsOutside held asked refusal → IsToldBy paged refusal
+    → paged ≡ s.paged → IsOutside held asked refusal → IsToldBy paged refusal → IsUndamaged refusal
     → (o : Outside) × IsAskedReply s o asked new text (refused_as s (edit_words refusal))
-refused_outside A s held paged asked new text edit.OutOfMemory e m out told = (no_room, refl)
-refused_outside A s held paged asked new text (edit.NoTable c) e m out told = (quiet, missing c (missing-same held (is_among s.classes) asked c e out) refl)
-refused_outside A s held paged asked new text (edit.TableRead fault) e m out told =
-    (unread fault, (sym m ∙ told, unread-same held (is_among s.classes) asked fault e out, refl))
-refused_outside A s held paged asked new text edit.NoSuchNode e m out told = absurd out
-refused_outside A s held paged asked new text edit.RootNotAllowed e m out told = absurd out
-refused_outside A s held paged asked new text edit.AlreadyFirst e m out told = absurd out
-refused_outside A s held paged asked new text edit.IllegalMove e m out told = absurd out
-refused_outside A s held paged asked new text (edit.AlreadyThere k) e m out told = absurd out
-refused_outside A s held paged asked new text edit.TooDeep e m out told = absurd out
-refused_outside A s held paged asked new text edit.TreeFull e m out told = absurd out
-refused_outside A s held paged asked new text (edit.ShiftBroken steps) e m out told = absurd out
-refused_outside A s held paged asked new text edit.TagText e m out told = absurd out
+refused_outside A s held paged asked new text edit.OutOfMemory e m out told clean = (no_room, refl)
+refused_outside A s held paged asked new text (edit.NoTable c) e m out told clean = (quiet, missing c (missing-same held (is_among s.classes) asked c e out) refl)
+refused_outside A s held paged asked new text (edit.TableRead (probe.TableRead x)) e m out told clean =
+    (unread (probe.TableRead x), (sym m ∙ told, unread-same held (is_among s.classes) asked (probe.TableRead x) e out, refl))
+refused_outside A s held paged asked new text (edit.TableRead (probe.PageDamaged c n)) e m out told clean = absurd clean
+refused_outside A s held paged asked new text (edit.TableRead (probe.NoTable c)) e m out told clean = absurd (missing-unread held asked c out)
+refused_outside A s held paged asked new text edit.NoSuchNode e m out told clean = absurd out
+refused_outside A s held paged asked new text edit.RootNotAllowed e m out told clean = absurd out
+refused_outside A s held paged asked new text edit.AlreadyFirst e m out told clean = absurd out
+refused_outside A s held paged asked new text edit.IllegalMove e m out told clean = absurd out
+refused_outside A s held paged asked new text (edit.AlreadyThere k) e m out told clean = absurd out
+refused_outside A s held paged asked new text edit.TooDeep e m out told clean = absurd out
+refused_outside A s held paged asked new text edit.TreeFull e m out told clean = absurd out
+refused_outside A s held paged asked new text (edit.ShiftBroken steps) e m out told clean = absurd out
+refused_outside A s held paged asked new text edit.TagText e m out told clean = absurd out
 
 -- the same of an edit that takes no memory
 pub refused_asking : (A : Type 0) (s : State) (held : Class → Bool) (paged : Bool) (asked : List Position)
     (new : Plainly) (text : List ℕ) (refusal : EditRefusal A) → ((c : Class) → held c ≡ is_among s.classes c)
-    → paged ≡ s.paged → IsOutside held asked refusal → IsToldBy paged refusal → is_of_tables refusal ≡ true
+    → paged ≡ s.paged → IsOutside held asked refusal → IsToldBy paged refusal → IsUndamaged refusal → is_of_tables refusal ≡ true
     → (o : Outside) × IsAskingReply s o asked new text (refused_as s (edit_words refusal))
-refused_asking A s held paged asked new text edit.OutOfMemory e m out told of_tables = let absent : ⊥ = cc in absurd absent
-refused_asking A s held paged asked new text (edit.NoTable c) e m out told of_tables =
+refused_asking A s held paged asked new text edit.OutOfMemory e m out told clean of_tables = let absent : ⊥ = cc in absurd absent
+refused_asking A s held paged asked new text (edit.NoTable c) e m out told clean of_tables =
     (quiet, missing c (missing-same held (is_among s.classes) asked c e out) refl)
-refused_asking A s held paged asked new text (edit.TableRead fault) e m out told of_tables =
-    (unread fault, (sym m ∙ told, unread-same held (is_among s.classes) asked fault e out, refl))
-refused_asking A s held paged asked new text edit.NoSuchNode e m out told of_tables = absurd out
-refused_asking A s held paged asked new text edit.RootNotAllowed e m out told of_tables = absurd out
-refused_asking A s held paged asked new text edit.AlreadyFirst e m out told of_tables = absurd out
-refused_asking A s held paged asked new text edit.IllegalMove e m out told of_tables = absurd out
-refused_asking A s held paged asked new text (edit.AlreadyThere k) e m out told of_tables = absurd out
-refused_asking A s held paged asked new text edit.TooDeep e m out told of_tables = absurd out
-refused_asking A s held paged asked new text edit.TreeFull e m out told of_tables = absurd out
-refused_asking A s held paged asked new text (edit.ShiftBroken steps) e m out told of_tables = absurd out
-refused_asking A s held paged asked new text edit.TagText e m out told of_tables = absurd out
+refused_asking A s held paged asked new text (edit.TableRead (probe.TableRead x)) e m out told clean of_tables =
+    (unread (probe.TableRead x), (sym m ∙ told, unread-same held (is_among s.classes) asked (probe.TableRead x) e out, refl))
+refused_asking A s held paged asked new text (edit.TableRead (probe.PageDamaged c n)) e m out told clean of_tables = absurd clean
+refused_asking A s held paged asked new text (edit.TableRead (probe.NoTable c)) e m out told clean of_tables = absurd (missing-unread held asked c out)
+refused_asking A s held paged asked new text edit.NoSuchNode e m out told clean of_tables = absurd out
+refused_asking A s held paged asked new text edit.RootNotAllowed e m out told clean of_tables = absurd out
+refused_asking A s held paged asked new text edit.AlreadyFirst e m out told clean of_tables = absurd out
+refused_asking A s held paged asked new text edit.IllegalMove e m out told clean of_tables = absurd out
+refused_asking A s held paged asked new text (edit.AlreadyThere k) e m out told clean of_tables = absurd out
+refused_asking A s held paged asked new text edit.TooDeep e m out told clean of_tables = absurd out
+refused_asking A s held paged asked new text edit.TreeFull e m out told clean of_tables = absurd out
+refused_asking A s held paged asked new text (edit.ShiftBroken steps) e m out told clean of_tables = absurd out
+refused_asking A s held paged asked new text edit.TagText e m out told clean of_tables = absurd out
 
 -- an edit that is accepted found all that it asked
 pub accepted_outside : (s : State) (held : Class → Bool) (asked : List Position) (new : Plainly) (text : List ℕ)

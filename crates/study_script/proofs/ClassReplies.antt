@@ -1,6 +1,6 @@
 -- What each command of a class comes to is its reply.
 use Rattle.std.proofs.Common.{◌≡◌, ◌⊎◌, ℕ, Bool, true, false, eqb, List, Option, Some, None, Result, Ok, Err, refl, sym, ap, subst, ◌∙◌, inl, inr, is_some}
-use Rattle.std.specs.Prelude.{◌&&◌, is_err, IfOk, OnOk, OnErr}
+use Rattle.std.specs.Prelude.{◌&&◌, is_err, IfOk, IfSome, OnOk, OnErr}
 use Rattle.std.specs.Io.KnownBytes.{Appends}
 use Rattle.study_tablefile.specs.Taken.{TakesPrefix}
 use Rattle.study_prober.specs.Paged.{Paged}
@@ -28,10 +28,10 @@ use Rattle.study_script.specs.declared.told.Told.TheVariants.{Built, Loaded, Sav
 use Rattle.study_script.specs.State.{State, is_among, first_lacking, written_anew, IsGiven, IsOpened}
 use Rattle.study_script.specs.State.{Outside, quiet, no_room, no_room_for, unopened, cut_off, file}
 use Rattle.study_script.specs.Replies.{Reply, refused, refused_as, with_class, built, too_far, IsBuildReply}
-use Rattle.study_script.specs.Replies.{IsLoadReply, IsNamedReply, IsTableReply, IsClassReply, IsClassReplyIn}
+use Rattle.study_script.specs.Replies.{IsLoadReply, IsNamedReply, IsTableReply, IsClassReply, IsClassReplyIn, IsOpenReply, IsLoadIn}
 use Rattle.study_script.specs.Replies.{class_told, wants_whole, save_reply, verify_reply}
 use Rattle.study_script.specs.Names.{words_of}
-use Rattle.study_script.specs.Stored.{IsRightFile, GivesBytes}
+use Rattle.study_script.specs.Stored.{IsRightFile, GivesBytes, IsTrustedClass}
 use Rattle.study_script.specs.Told.{told_text, told_reply, Decided, HoldsWhole, HoldsPaged, WholeFrom, IsFileRefusal}
 use Rattle.study_script.specs.Held.{HoldsTables, TablesFrom, Answered, BrokenOff}
 use Rattle.study_script.proofs.HeldTables.{lacking, whole_kept}
@@ -272,3 +272,17 @@ file_refusal known (Some bytes) fault refusal right given why same = elim (why b
 
 pub memory_words : (fault : FileFault) → fault ≡ file_fault.OutOfMemory → words_of OutOfMemory ≡ words_of (File fault)
 memory_words fault e = sym ((file_words fault OutOfMemory).1 e)
+
+-- a class that a line loads is trusted
+pub trust_of : (trusted : Class → Bool) (word : ClassWord) (name : List ℕ) (c : Class) → word ≡ Load → class_told name ≡ Some c
+    → IsTrustedClass trusted word name → trusted c ≡ true
+trust_of trusted word name c is told may =
+    subst (λ (o : Option Class). IfSome o (λ k. trusted k ≡ true)) told (subst (λ (w : ClassWord). IsTrustedClass trusted w name) is may)
+
+pub open_as : (s : State) (o : Outside) (name : List ℕ) (c : Class) (r : Reply) → class_told name ≡ Some c → true ≡ s.paged
+    → IsOpenReply s o c (is_among s.classes c) r → IsClassReply s o Load name r
+open_as s o name c r told paged i = subst (λ (x : Option Class). IsNamedReply s o Load x r) (sym told) (subst (λ (b : Bool). IsLoadIn s o b c r) paged i)
+
+pub load_as : (s : State) (o : Outside) (c : Class) (r : Reply) → false ≡ s.paged
+    → IsLoadReply s o c (is_among s.classes c) (first_lacking s.classes c) r → IsTableReply s o Load c r
+load_as s o c r whole i = subst (λ (b : Bool). IsLoadIn s o b c r) whole i

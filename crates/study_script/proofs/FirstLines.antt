@@ -13,7 +13,10 @@ use Rattle.study_command.proofs.LineTaken.{HasMore}
 use Rattle.study_script.specs.State.{State, Outside}
 use Rattle.study_script.specs.Replies.{Reply, Answer, IsReply, AreReplies, replies_text}
 use Rattle.study_script.specs.Held.{Answered, BrokenOff}
-use Rattle.study_script.specs.Outcome.{AreShort, error_count, state_after, Outcome}
+use Rattle.std.specs.List.{AllByRecursion}
+use Rattle.study_material.specs.declared.class.Class.{Class}
+use Rattle.study_script.specs.Stored.{IsTrusted, AreTrusted}
+use Rattle.study_script.specs.Outcome.{AreShort, error_count, state_after, Outcome, Shape}
 
 -- ---- one reply more
 
@@ -217,3 +220,116 @@ RanOn-more holds holds' script now next old mid new first line n refused refused
   ran = ran_more script now next old mid new first r.state line o reply n refused refused' r.ran t short is wrote (k ∙ ap (λ b. refused + cond b 1 0) same);
   held = held;
 }
+
+-- ---- whatever is replied
+
+-- n lines were read, and none of them is too long
+pub record Went (all left : List (List ℕ)) (n : ℕ) : Type 0 where
+  pub left_is : drop n all ≡ left
+  pub within : n ≤ length all
+  pub short : AreShort (take n all)
+
+abbrev pub WentKnown : Option (List ℕ) → Option (List ℕ) → ℕ → Type 0
+WentKnown None now n = Unit {0}
+WentKnown (Some bs) None n = ⊥
+WentKnown (Some bs) (Some rest) n = Went (script_lines bs) (script_lines rest) n
+
+pub record Gone (script now : Option (List ℕ)) (n : ℕ) : Type 0 where
+  pub known : WentKnown script now n
+
+pub gone_none : (script : Option (List ℕ)) → Gone script script 0
+gone_none None = record { known = tt }
+gone_none (Some bs) = record { known = record { left_is = refl; within = omega arith; short = tt } }
+
+pub gone_more : (script now next : Option (List ℕ)) (line : List ℕ) (n : ℕ) → Gone script now n
+    → TakesLine now next true line → length line ≤ 1024 → Gone script next (n + 1)
+gone_more None now next line n r t short = record { known = tt }
+gone_more (Some bs) None next line n r t short = absurd r.known
+gone_more (Some bs) (Some rest) None line n r t short = absurd t
+gone_more (Some bs) (Some rest) (Some rest') line n r t short =
+    let v = r.known in
+    let all = script_lines bs in
+    let f = first_left all (script_lines rest') n line (v.left_is ∙ t) in
+    let e : n + 1 ≡ suc n = omega arith in
+    let grown : take (n + 1) all ≡ take n all ++ line ∷ [] = ap (λ i. take i all) e ∙ f.1 in
+    let lt = f.0 in
+    record {
+      known = record {
+        left_is = ap (λ i. drop i all) e ∙ f.2;
+        within = omega arith;
+        short = rw grown (short-more (take n all) line v.short short);
+      };
+    }
+
+pub gone_ends : (left script now next : Option (List ℕ)) (line : List ℕ) (n refused : ℕ) → Gone script now n
+    → TakesLine now next false line → n ≤ 100000 → refused ≤ n
+    → IfSome script (λ bytes. Shape bytes left (Ok (record { lines = n; refused = refused })))
+gone_ends left None now next line n refused r t le few = tt
+gone_ends left (Some bs) None next line n refused r t le few = absurd r.known
+gone_ends left (Some bs) (Some rest) None line n refused r t le few = absurd t
+gone_ends left (Some bs) (Some rest) (Some rest') line n refused r t le few =
+    let v = r.known in
+    let d = none_left (script_lines bs) n v.within (v.left_is ∙ t) in
+    let e = d.1 in
+    (omega arith, subst AreShort d.0 v.short, e, few)
+
+pub gone_long : (left script now : Option (List ℕ)) (n : ℕ) → Gone script now n → BeginsLong now → n < 100000
+    → IfSome script (λ bytes. Shape bytes left (Err (LineTooLong (n + 1))))
+gone_long left None now n r t lt = tt
+gone_long left (Some bs) None n r t lt = absurd r.known
+gone_long left (Some bs) (Some rest) n r (line, more, is, long) lt =
+    let v = r.known in
+    let f = first_left (script_lines bs) more n line (v.left_is ∙ is) in
+    let e : n + 1 - 1 ≡ n = omega arith in
+    (omega arith, omega arith, rw e v.short, rw (e, f.3) long)
+
+pub gone_read : (left script now : Option (List ℕ)) (n : ℕ) → Gone script now n → n ≤ 100000 → GaveFeeds script left n
+    → IfSome script (λ bytes. Shape bytes left (Err ReadDevice))
+gone_read left None now n r le g = tt
+gone_read left (Some bs) None n r le g = absurd r.known
+gone_read left (Some bs) (Some rest) n r le g = let v = r.known in (n, le, v.within, g, v.short)
+
+pub gone_many : (left script now : Option (List ℕ)) → Gone script now 100000 → HasMore now
+    → IfSome script (λ bytes. Shape bytes left (Err TooManyLines))
+gone_many left None now r t = tt
+gone_many left (Some bs) None r t = absurd r.known
+gone_many left (Some bs) (Some rest) r t =
+    let v = r.known in (more_left (script_lines bs) (script_lines rest) 100000 v.left_is t, v.short)
+
+pub gone_write : (script now next : Option (List ℕ)) (line : List ℕ) (n : ℕ) → Gone script now n
+    → TakesLine now next true line → length line ≤ 1024 → n < 100000
+    → IfSome script (λ bytes. Shape bytes next (Err WriteDevice))
+gone_write None now next line n r t short lt = tt
+gone_write (Some bs) None next line n r t short lt = absurd r.known
+gone_write (Some bs) (Some rest) None line n r t short lt = absurd t
+gone_write (Some bs) (Some rest) (Some rest') line n r t short lt =
+    let v = r.known in
+    let all = script_lines bs in
+    let f = first_left all (script_lines rest') n line (v.left_is ∙ t) in
+    let e : n + 1 ≡ suc n = omega arith in
+    let grown : take (n + 1) all ≡ take n all ++ line ∷ [] = ap (λ i. take i all) e ∙ f.1 in
+    (n, lt, f.0, rw grown (short-more (take n all) line v.short short), sym (ap (λ i. drop i all) e ∙ f.2))
+
+-- ---- lines that are trusted
+
+held_at : (P : List ℕ → Type 0) (all more : List (List ℕ)) (n : ℕ) (x : List ℕ) → AllByRecursion P all → drop n all ≡ x ∷ more → P x
+held_at P [] more zero x h e = absurd cc
+held_at P [] more (suc n) x h e = absurd cc
+held_at P (a ∷ all) more zero x h e = let k : a ≡ x = cc in subst P k h.0
+held_at P (a ∷ all) more (suc n) x h e = held_at P all more n x h.1 e
+
+-- the line that is read next is one of the script's
+pub next_trusted : (trusted : Class → Bool) (script now next : Option (List ℕ)) (line : List ℕ) (n : ℕ) (bytes : List ℕ)
+    → Gone script now n → TakesLine now next true line → script ≡ Some bytes → AreTrusted trusted bytes
+    → IsTrusted trusted line
+next_trusted trusted script now next line n bytes g t e h = go now next (subst (λ (o : Option (List ℕ)). Gone o now n) e g) t
+  where
+    go : (now next : Option (List ℕ)) → Gone (Some bytes) now n → TakesLine now next true line → IsTrusted trusted line
+    go None next g t = absurd g.known
+    go (Some rest) None g t = absurd t
+    go (Some rest) (Some rest') g t = held_at (IsTrusted trusted) (script_lines bytes) (script_lines rest') n line h (g.known.left_is ∙ t)
+
+-- a premise on the bytes of a script
+pub with_trust : (script : Option (List ℕ)) (P Q : List ℕ → Type 0) → ((bytes : List ℕ) → script ≡ Some bytes → Q bytes → IfSome script P) → IfSome script (λ bytes. Q bytes → P bytes)
+with_trust None P Q f = tt
+with_trust (Some bytes) P Q f = λ q. f bytes refl q

@@ -1,5 +1,5 @@
 -- What is held behind a command that leaves the store alone.
-use Rattle.std.proofs.Common.{◌≡◌, ℕ, Bool, true, false, List, Option, Some, None, Result, Ok, Err, refl, sym, ap, subst, ◌∙◌}
+use Rattle.std.proofs.Common.{◌≡◌, ℕ, Bool, true, false, List, Option, Some, None, Result, Ok, Err, refl, sym, ap, subst, ◌∙◌, [], ◌∷◌}
 use Rattle.std.specs.Prelude.{IfOk, codes}
 use Rattle.study_board.specs.Position.{Position}
 use Rattle.study_moves.specs.declared.moves.Move.{Move}
@@ -23,6 +23,7 @@ use Rattle.study_script.specs.declared.store.StoreFault.{StoreFault}
 use Rattle.study_script.specs.declared.board.Board.{Board as HeldBoard}
 use Rattle.study_script.specs.declared.tables.Tables.{Tables}
 use Rattle.study_script.specs.State.{State, Board, empty, start, study, is_among, Outside, quiet, no_path}
+use Rattle.study_prober.specs.declared.values.ProbeFault.TheVariants as probe
 use Rattle.study_script.specs.State.{no_room, no_room_for, unread, unopened, cut_off, file, header}
 use Rattle.study_script.specs.Replies.{Reply, IsValued, missing, found, IsAskingReply, IsAskedReply, IsPositionReply}
 use Rattle.study_script.specs.Replies.{IsShiftReply, IsStartReply, IsStipulateReply, IsInserted}
@@ -49,7 +50,9 @@ valued s asked new text reply (found all e) = beside s _ reply (record { paged =
 
 asking_beside : (s : State) (o : Outside) (asked : List Position) (new : Plainly) (text : List ℕ) (reply : Reply)
     → IsAskingReply s o asked new text reply → IsBeside s reply.state
-asking_beside s (unread fault) asked new text reply h = beside s _ reply (same_side s) h.2
+asking_beside s (unread (probe.TableRead f)) asked new text reply h = beside s _ reply (same_side s) h.2
+asking_beside s (unread (probe.PageDamaged c n)) asked new text reply h = absurd h
+asking_beside s (unread (probe.NoTable c)) asked new text reply h = absurd h
 asking_beside s no_room asked new text reply h = valued s asked new text reply h
 asking_beside s quiet asked new text reply h = valued s asked new text reply h
 asking_beside s no_path asked new text reply h = valued s asked new text reply h
@@ -62,7 +65,7 @@ asking_beside s (header told) asked new text reply h = valued s asked new text r
 asked_beside : (s : State) (o : Outside) (asked : List Position) (new : Plainly) (text : List ℕ) (reply : Reply)
     → IsAskedReply s o asked new text reply → IsBeside s reply.state
 asked_beside s no_room asked new text reply h = beside s _ reply (same_side s) h
-asked_beside s (unread fault) asked new text reply h = beside s _ reply (same_side s) h.2
+asked_beside s (unread fault) asked new text reply h = asking_beside s (unread fault) asked new text reply h
 asked_beside s quiet asked new text reply h = valued s asked new text reply h
 asked_beside s no_path asked new text reply h = valued s asked new text reply h
 asked_beside s (no_room_for bytes) asked new text reply h = valued s asked new text reply h
@@ -135,7 +138,8 @@ at_beside s o old steps san true reply h = moved_beside s o old steps (move_of (
 pub insert_beside : (s : State) (b : Board) (steps san : List ℕ) (o : Outside) (reply : Reply) → IsInsertReply s o b steps san reply → IsBeside s reply.state
 insert_beside s empty steps san o reply h = beside s _ reply (same_side s) h
 insert_beside s (start from) steps san o reply h = beside s _ reply (same_side s) h
-insert_beside s (study old) steps san no_path reply h = beside s _ reply (same_side s) h
+insert_beside s (study old) [] san no_path reply h = at_beside s no_path old [] san (has_spot old.tree []) reply h
+insert_beside s (study old) (k ∷ ks) san no_path reply h = beside s _ reply (same_side s) h
 insert_beside s (study old) steps san quiet reply h = at_beside s quiet old steps san (has_spot old.tree steps) reply h
 insert_beside s (study old) steps san no_room reply h = at_beside s no_room old steps san (has_spot old.tree steps) reply h
 insert_beside s (study old) steps san (no_room_for bytes) reply h = at_beside s (no_room_for bytes) old steps san (has_spot old.tree steps) reply h

@@ -8,6 +8,7 @@ use Rattle.study_tree.specs.Tree.{has_spot, size_of}
 use Rattle.study_marks.specs.Study.{position_at, place_at}
 use Rattle.study_marks.specs.declared.fault.Refusal.{Refusal as EditRefusal}
 use Rattle.study_marks.specs.Asked.{asked_at, IsOutside}
+use Rattle.study_marks.specs.Answers.{IsUndamaged}
 use Rattle.study_marks.specs.Edits.{Plainly, inserted, insert_refusal}
 use Rattle.study_script.specs.Names.{edit_words}
 use Rattle.study_script.specs.State.{State, is_among, Outside, study, quiet, no_path, no_room, no_room_for, unread, unopened, cut_off, file, header}
@@ -43,16 +44,16 @@ module _ {T A : Type 0} where
       → (r : Result T (EditRefusal A)) (e : EditRefusal A) → ((c : Class) → held c ≡ is_among s.classes c)
       → paged ≡ s.paged
       → MatchOption x (IfErr r (IsOutside held (asked_at (after (position_at old steps) m)))) (λ f. r ≡ Err f)
-      → r ≡ Err e → IsToldBy paged e → (o : Outside) × IsInserted s o old steps m y (refused_as s (edit_words e))
-  insert_refused_by s held paged old steps m None None same r e h p match is told =
+      → r ≡ Err e → IsToldBy paged e → IsUndamaged e → (o : Outside) × IsInserted s o old steps m y (refused_as s (edit_words e))
+  insert_refused_by s held paged old steps m None None same r e h p match is told clean =
       refused_outside A s held paged (asked_at (after (position_at old steps) m)) (inserted old steps m)
       (inserted_text old steps m) e h p
       (subst
       (λ (z : Result T (EditRefusal A)). IfErr z (IsOutside held (asked_at (after (position_at old steps) m))))
-      is match) told
-  insert_refused_by s held paged old steps m None (Some b) same r e h p match is told = absurd same
-  insert_refused_by s held paged old steps m (Some a) None same r e h p match is told = absurd same
-  insert_refused_by s held paged old steps m (Some a) (Some b) same r e h p match is told = (quiet, ap (refused_as s) (err_same r e a is match ∙ same))
+      is match) told clean
+  insert_refused_by s held paged old steps m None (Some b) same r e h p match is told clean = absurd same
+  insert_refused_by s held paged old steps m (Some a) None same r e h p match is told clean = absurd same
+  insert_refused_by s held paged old steps m (Some a) (Some b) same r e h p match is told clean = (quiet, ap (refused_as s) (err_same r e a is match ∙ same))
 
   -- a refused `insert` has that reply
   pub insert_refused : (s : State) (held : Class → Bool) (paged : Bool) (old : Plainly) (steps : List ℕ) (m : Move)
@@ -60,11 +61,11 @@ module _ {T A : Type 0} where
       → paged ≡ s.paged
       → MatchOption (insert_refusal {A = A} old steps m)
       (IfErr r (IsOutside held (asked_at (after (position_at old steps) m)))) (λ f. r ≡ Err f) → r ≡ Err e
-      → IsToldBy paged e → (o : Outside) × IsInserted s o old steps m (insert_refusal {A = Unit {0}} old steps m)
+      → IsToldBy paged e → IsUndamaged e → (o : Outside) × IsInserted s o old steps m (insert_refusal {A = Unit {0}} old steps m)
       (refused_as s (edit_words e))
-  insert_refused s held paged old steps m r e h p match is told =
+  insert_refused s held paged old steps m r e h p match is told clean =
       insert_refused_by s held paged old steps m (insert_refusal {A = A} old steps m)
-      (insert_refusal {A = Unit {0}} old steps m) (insert_same A (Unit {0}) old steps m) r e h p match is told
+      (insert_refusal {A = Unit {0}} old steps m) (insert_same A (Unit {0}) old steps m) r e h p match is told clean
 
 -- ---- a reply where there was memory for the path
 

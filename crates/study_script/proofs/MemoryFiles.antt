@@ -26,11 +26,11 @@ module _ (files : List MemoryFile) (c : Class) (full : length files ≡ 36) wher
     | inr f ↦ ap known (kept_at d f) ∙ sym (ap (λ b. cond b None (known (memory_file files d))) (other_at d c (λ e. f (ap class_place (sym e)))))
   ]
 
-  pub honest_anew : (b : Bool) → ((d : Class) → IsHonestFile b (memory_file files d)) → (d : Class)
+  pub honest_anew : (b : Bool) (d : Class) → IsHonestFile b (memory_file files d)
       → IsHonestFile b (memory_file (set files (class_place c) Written) d)
-  honest_anew b h d = elim (same_class c d) [
+  honest_anew b d h = elim (same_class c d) [
     | inl e ↦ rw (written_at d e) (written b)
-    | inr f ↦ rw (kept_at d f) (h d)
+    | inr f ↦ rw (kept_at d f) h
   ]
     where
       written : (b : Bool) → IsHonestFile b Written

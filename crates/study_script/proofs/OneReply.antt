@@ -45,6 +45,7 @@ use Rattle.study_script.specs.declared.refusal.Refusal.{Refusal}
 use Rattle.study_script.specs.declared.refusal.Refusal.TheVariants.{NoTable}
 use Rattle.study_command.specs.Asking.{Asked, of_start, at_node, at_study, of_class, stipulate, insert, tag, solve, pgn, Asks, command_of}
 use Rattle.study_script.specs.State.{State, Board, empty, start, study, is_among, first_lacking, Outside, quiet}
+use Rattle.study_prober.specs.declared.values.ProbeFault.TheVariants as probe
 use Rattle.study_script.specs.State.{no_path, no_room, no_room_for, unread, unopened, cut_off, file, header}
 use Rattle.std.specs.Prelude.{◌==◌, ◌%◌, ◌&&◌, codes}
 use Rattle.study_notation.specs.FenSpelling.{fen_text}
@@ -91,7 +92,9 @@ asking_once s quiet asked new text a b h k = valued_once s asked new text a b h 
 asking_once s no_path asked new text a b h k = valued_once s asked new text a b h k
 asking_once s no_room asked new text a b h k = valued_once s asked new text a b h k
 asking_once s (no_room_for bytes) asked new text a b h k = valued_once s asked new text a b h k
-asking_once s (unread fault) asked new text a b h k = h.2 ∙ sym k.2
+asking_once s (unread (probe.TableRead f)) asked new text a b h k = h.2 ∙ sym k.2
+asking_once s (unread (probe.PageDamaged c n)) asked new text a b h k = absurd h
+asking_once s (unread (probe.NoTable c)) asked new text a b h k = absurd h
 asking_once s (unopened fault) asked new text a b h k = valued_once s asked new text a b h k
 asking_once s cut_off asked new text a b h k = valued_once s asked new text a b h k
 asking_once s (file bytes) asked new text a b h k = valued_once s asked new text a b h k
@@ -103,7 +106,7 @@ asked_once s quiet asked new text a b h k = valued_once s asked new text a b h k
 asked_once s no_path asked new text a b h k = valued_once s asked new text a b h k
 asked_once s no_room asked new text a b h k = h ∙ sym k
 asked_once s (no_room_for bytes) asked new text a b h k = valued_once s asked new text a b h k
-asked_once s (unread fault) asked new text a b h k = h.2 ∙ sym k.2
+asked_once s (unread fault) asked new text a b h k = asking_once s (unread fault) asked new text a b h k
 asked_once s (unopened fault) asked new text a b h k = valued_once s asked new text a b h k
 asked_once s cut_off asked new text a b h k = valued_once s asked new text a b h k
 asked_once s (file bytes) asked new text a b h k = valued_once s asked new text a b h k
@@ -192,7 +195,8 @@ insert_once : (s : State) (o : Outside) (at : Board) (steps san : List ℕ) (a b
 insert_once s o empty steps san a b h k = h ∙ sym k
 insert_once s o (start from) steps san a b h k = h ∙ sym k
 insert_once s quiet (study old) steps san a b h k = move_at_once s quiet old steps san (has_spot old.tree steps) a b h k
-insert_once s no_path (study old) steps san a b h k = h ∙ sym k
+insert_once s no_path (study old) [] san a b h k = move_at_once s no_path old [] san (has_spot old.tree []) a b h k
+insert_once s no_path (study old) (j ∷ js) san a b h k = h ∙ sym k
 insert_once s no_room (study old) steps san a b h k = move_at_once s no_room old steps san (has_spot old.tree steps) a b h k
 insert_once s (no_room_for bytes) (study old) steps san a b h k = move_at_once s (no_room_for bytes) old steps san (has_spot old.tree steps) a b h k
 insert_once s (unread fault) (study old) steps san a b h k = move_at_once s (unread fault) old steps san (has_spot old.tree steps) a b h k
@@ -236,7 +240,8 @@ module _ (one_annotation : AnnotationsAreUnique) where
   study_at_once s o word empty steps a b h k = h ∙ sym k
   study_at_once s o word (start from) steps a b h k = h ∙ sym k
   study_at_once s quiet word (study old) steps a b h k = study_once s word old steps a b h k
-  study_at_once s no_path word (study old) steps a b h k = h ∙ sym k
+  study_at_once s no_path word (study old) [] a b h k = study_once s word old [] a b h k
+  study_at_once s no_path word (study old) (j ∷ js) a b h k = h ∙ sym k
   study_at_once s no_room word (study old) steps a b h k = study_once s word old steps a b h k
   study_at_once s (no_room_for bytes) word (study old) steps a b h k = study_once s word old steps a b h k
   study_at_once s (unread fault) word (study old) steps a b h k = study_once s word old steps a b h k

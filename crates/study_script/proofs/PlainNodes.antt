@@ -13,11 +13,13 @@ use Rattle.study_tree.specs.Edits.{has_node, children_at}
 use Rattle.study_tree.specs.Tree.{has_spot}
 use Rattle.study_marks.specs.Study.{Study, mapped, plain_study, moves_to, position_after, start_along, position_at}
 use Rattle.study_marks.specs.Bench.{start_at}
+use Rattle.study_marks.specs.Edits.{Plainly}
+use Rattle.study_command.specs.declared.command.StudyWord.{StudyWord}
 use Rattle.study_script.specs.declared.refusal.Refusal.{Refusal}
-use Rattle.study_script.specs.declared.refusal.Refusal.TheVariants.{NoSuchNode}
-use Rattle.study_script.specs.State.{start, quiet}
+use Rattle.study_script.specs.declared.refusal.Refusal.TheVariants.{NoSuchNode, OutOfMemory}
+use Rattle.study_script.specs.State.{State, start, study, quiet, no_path}
 use Rattle.study_script.specs.Words.{insert_text}
-use Rattle.study_script.specs.Replies.{inserted_text, named, start_found}
+use Rattle.study_script.specs.Replies.{refused, inserted_text, named, start_found, IsStudyReplyAt, IsInsertReply}
 
 module _ {L M : Type 0} where
   has_node-mapped : (f : L → M) (t : Forest L) (ks : List ℕ) → has_node (mapped f t) ks ≡ has_node t ks
@@ -104,3 +106,23 @@ root_found from st (k ∷ ks) empty e = absurd (omega arith)
 pub root_alone : (from : Start) (ks : List ℕ) → (length ks ≡ 0 → ⊥) → ◌≡◌ {A = Result Start Refusal} (Err NoSuchNode) (start_found quiet (start from) ks)
 root_alone from [] some = absurd (some refl)
 root_alone from (k ∷ ks) some = refl
+
+-- ---- no memory for a path that is not the root's
+
+pub no_path_start : (from : Start) (ks : List ℕ) → (ks ≡ [] → ⊥) → ◌≡◌ {A = Result Start Refusal} (Err OutOfMemory) (start_found no_path (start from) ks)
+no_path_start from [] some = absurd (some refl)
+no_path_start from (k ∷ ks) some = refl
+
+pub no_path_study : (old : Plainly) (ks : List ℕ) → (ks ≡ [] → ⊥) → ◌≡◌ {A = Result Start Refusal} (Err OutOfMemory) (start_found no_path (study old) ks)
+no_path_study old [] some = absurd (some refl)
+no_path_study old (k ∷ ks) some = refl
+
+pub no_path_word : (s : State) (word : StudyWord) (old : Plainly) (ks : List ℕ) → (ks ≡ [] → ⊥)
+    → IsStudyReplyAt s no_path word (study old) ks (refused s OutOfMemory)
+no_path_word s word old [] some = absurd (some refl)
+no_path_word s word old (k ∷ ks) some = refl
+
+pub no_path_insert : (s : State) (old : Plainly) (ks san : List ℕ) → (ks ≡ [] → ⊥)
+    → IsInsertReply s no_path (study old) ks san (refused s OutOfMemory)
+no_path_insert s old [] san some = absurd (some refl)
+no_path_insert s old (k ∷ ks) san some = refl

@@ -9,6 +9,7 @@ use Rattle.study_tree.specs.Forest.{Forest, none, more}
 use Rattle.study_marks.specs.declared.fault.Refusal.{Refusal as EditRefusal}
 use Rattle.study_marks.specs.Study.{Study, mapped, plain_study}
 use Rattle.study_marks.specs.Asked.{positions_asked}
+use Rattle.study_marks.specs.Answers.{IsUndamaged}
 use Rattle.study_marks.specs.Stop.{IsShiftRefusal}
 use Rattle.study_marks.specs.Edits.{Plainly, first_path, broken_from, broken, shifted, shift_refusal}
 use Rattle.study_script.specs.Names.{edit_words}
@@ -51,17 +52,17 @@ unbroken_reply s (header told) old new reply h = h
 -- a refused shift has that reply
 shift_refused_at : (A : Type 0) (s : State) (held : Class → Bool) (paged : Bool) (old : Plainly) (new : Start)
     (b : Option (List ℕ)) (r : EditRefusal A) → ((c : Class) → held c ≡ is_among s.classes c) → paged ≡ s.paged
-    → IsShiftRefusal held (positions_asked (shifted old new)) (broken {A = A} b) r → IsToldBy paged r → (o : Outside)
+    → IsShiftRefusal held (positions_asked (shifted old new)) (broken {A = A} b) r → IsToldBy paged r → IsUndamaged r → (o : Outside)
     × IsShiftReply s o old new (broken {A = Unit {0}} b) (refused_as s (edit_words r))
-shift_refused_at A s held paged old new None r e m out told =
-    let x = refused_outside A s held paged (positions_asked (shifted old new)) (shifted old new) (reply_line (codes "shift ") (fen_text new)) r e m out told in
+shift_refused_at A s held paged old new None r e m out told clean =
+    let x = refused_outside A s held paged (positions_asked (shifted old new)) (shifted old new) (reply_line (codes "shift ") (fen_text new)) r e m out told clean in
     (x.0, unbroken_reply s x.0 old new (refused_as s (edit_words r)) x.1)
-shift_refused_at A s held paged old new (Some steps) r e m (inl is) told = (quiet, ap (λ (x : EditRefusal A). refused_as s (edit_words x)) is)
-shift_refused_at A s held paged old new (Some steps) r e m (inr is) told = (no_room, ap (λ (x : EditRefusal A). refused_as s (edit_words x)) is)
+shift_refused_at A s held paged old new (Some steps) r e m (inl is) told clean = (quiet, ap (λ (x : EditRefusal A). refused_as s (edit_words x)) is)
+shift_refused_at A s held paged old new (Some steps) r e m (inr is) told clean = (no_room, ap (λ (x : EditRefusal A). refused_as s (edit_words x)) is)
 
 pub shift_refused : (A : Type 0) (s : State) (held : Class → Bool) (paged : Bool) (old : Plainly) (new : Start)
     (r : EditRefusal A) → ((c : Class) → held c ≡ is_among s.classes c) → paged ≡ s.paged
-    → IsShiftRefusal held (positions_asked (shifted old new)) (shift_refusal {A = A} old new) r → IsToldBy paged r
+    → IsShiftRefusal held (positions_asked (shifted old new)) (shift_refusal {A = A} old new) r → IsToldBy paged r → IsUndamaged r
     → (o : Outside) × IsShiftReply s o old new (shift_refusal {A = Unit {0}} old new)
     (refused_as s (edit_words r))
-shift_refused A s held paged old new r e m out told = shift_refused_at A s held paged old new (broken_from 0 new.position old.tree.below) r e m out told
+shift_refused A s held paged old new r e m out told clean = shift_refused_at A s held paged old new (broken_from 0 new.position old.tree.below) r e m out told clean

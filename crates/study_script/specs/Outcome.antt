@@ -65,3 +65,16 @@ Outcome first script left old new (Err (LineTooLong n)) = (0 < n) × (n ≤ 1000
 Outcome first script left old new (Err TooManyLines) = (100000 < length (script_lines script)) × AreAnswered first (take 100000 (script_lines script)) old new
 -- memory is taken before anything is read or written
 Outcome first script left old new (Err OutOfMemory) = Keeps old new × (left ≡ Some script)
+
+-- the same without what is replied, of any desk and any store: the bytes of a script, what the reader has left of them, and what the run answers
+abbrev pub Shape : List ℕ → Option (List ℕ) → Result Summary RunFault → Type 0
+Shape script left (Ok summary) = (length (script_lines script) ≤ 100000) × AreShort (script_lines script)
+    × (summary.lines ≡ length (script_lines script)) × (summary.refused ≤ summary.lines)
+Shape script left (Err ReadDevice) = (n : ℕ) × (n ≤ 100000) × (n ≤ length (script_lines script)) × GaveFeeds (Some script) left n
+    × AreShort (take n (script_lines script))
+Shape script left (Err WriteDevice) = (n : ℕ) × (n < 100000) × (n < length (script_lines script))
+    × AreShort (take (n + 1) (script_lines script)) × AreLeft left (drop (n + 1) (script_lines script))
+Shape script left (Err (LineTooLong n)) = (0 < n) × (n ≤ 100000) × AreShort (take (n - 1) (script_lines script))
+    × IsSomeAnd (slice_get (script_lines script) (n - 1)) (λ line. 1024 < length line)
+Shape script left (Err TooManyLines) = (100000 < length (script_lines script)) × AreShort (take 100000 (script_lines script))
+Shape script left (Err OutOfMemory) = left ≡ Some script

@@ -17,6 +17,7 @@ use Rattle.study_tablefile.specs.File.{pages_of}
 use Rattle.study_tablefile.specs.Reading.{HasHeader, table_read}
 use Rattle.study_prober.specs.declared.fault.PagedFault.{PagedFault}
 use Rattle.study_prober.specs.Told.{paged_fault}
+use Rattle.study_prober.specs.declared.values.ProbeFault.TheVariants as probe
 use Rattle.study_notation.specs.declared.start.Start.{Start}
 use Rattle.study_notation.specs.declared.fault.FenFault.{FenFault}
 use Rattle.study_notation.specs.declared.fault.SanFault.{SanFault}
@@ -93,9 +94,13 @@ pub data IsValued (s : State) (asked : List Position) (new : Plainly) (text : Li
   missing : (c : Class) → IsFirstMissing (is_among s.classes) asked c → reply ≡ refused s (NoTable c) → IsValued s asked new text reply
   found : AllHeld (is_among s.classes) asked → reply ≡ accepted (holding s new) text → IsValued s asked new text reply
 
--- an edit that asks the values of these positions; a page is read only where tables are read by pages
+-- an edit that asks the values of these positions; a page is read only where tables are read by pages, where a device may fail. No page
+-- is damaged: each table that is held is a right one
 abbrev pub IsAskingReply : State → Outside → List Position → Plainly → List ℕ → Reply → Type 0
-IsAskingReply s (unread fault) asked new text reply = (s.paged ≡ true) × IsFirstUnread (is_among s.classes) asked fault × (reply ≡ refused s (of_probe fault))
+IsAskingReply s (unread (probe.TableRead f)) asked new text reply =
+    (s.paged ≡ true) × IsFirstUnread (is_among s.classes) asked (probe.TableRead f) × (reply ≡ refused s (of_probe (probe.TableRead f)))
+IsAskingReply s (unread (probe.PageDamaged c n)) asked new text reply = ⊥
+IsAskingReply s (unread (probe.NoTable c)) asked new text reply = ⊥
 IsAskingReply s _ asked new text reply = IsValued s asked new text reply
 
 -- the same, where memory is taken before
@@ -163,7 +168,8 @@ IsMoveReplyAt s o old steps san true reply = IsMoveReply s o old steps (move_of 
 abbrev pub IsInsertReply : State → Outside → Board → List ℕ → List ℕ → Reply → Type 0
 IsInsertReply s o empty steps san reply = reply ≡ refused s NoStudy
 IsInsertReply s o (start from) steps san reply = reply ≡ refused s NoStudy
-IsInsertReply s no_path (study old) steps san reply = reply ≡ refused s OutOfMemory
+IsInsertReply s no_path (study old) [] san reply = IsMoveReplyAt s no_path old [] san (has_spot old.tree []) reply
+IsInsertReply s no_path (study old) (k ∷ ks) san reply = reply ≡ refused s OutOfMemory
 IsInsertReply s o (study old) steps san reply = IsMoveReplyAt s o old steps san (has_spot old.tree steps) reply
 
 -- ---- nodes
@@ -179,11 +185,13 @@ start_of_node (start from) [] = Ok from
 start_of_node (start from) (k ∷ ks) = Err NoSuchNode
 start_of_node (study old) steps = named (start_at old steps)
 
--- the same, where there may be no memory for the path; without a position none is asked
+-- the same, where there may be no memory for the path, of which the root's takes none; without a position none is asked
 abbrev pub start_found : Outside → Board → List ℕ → Result Start Refusal
 start_found o empty steps = Err NoPosition
-start_found no_path (start from) steps = Err OutOfMemory
-start_found no_path (study old) steps = Err OutOfMemory
+start_found no_path (start from) [] = Ok from
+start_found no_path (start from) (k ∷ ks) = Err OutOfMemory
+start_found no_path (study old) [] = named (start_at old [])
+start_found no_path (study old) (k ∷ ks) = Err OutOfMemory
 start_found _ board steps = start_of_node board steps
 
 -- `moves` and `fen`
@@ -234,7 +242,8 @@ IsStudyReply s MarkWord old steps reply = IsMarkReply s old steps reply
 abbrev pub IsStudyReplyAt : State → Outside → StudyWord → Board → List ℕ → Reply → Type 0
 IsStudyReplyAt s o word empty steps reply = reply ≡ refused s NoStudy
 IsStudyReplyAt s o word (start from) steps reply = reply ≡ refused s NoStudy
-IsStudyReplyAt s no_path word (study old) steps reply = reply ≡ refused s OutOfMemory
+IsStudyReplyAt s no_path word (study old) [] reply = IsStudyReply s word old [] reply
+IsStudyReplyAt s no_path word (study old) (k ∷ ks) reply = reply ≡ refused s OutOfMemory
 IsStudyReplyAt s _ word (study old) steps reply = IsStudyReply s word old steps reply
 
 abbrev pub IsNodeReply : State → Outside → NodeWord → List ℕ → Reply → Type 0

@@ -1,5 +1,5 @@
 -- Stores of tables: the files that are right, and what a script knows of its store.
-use Rattle.std.specs.Prelude.{◌≡◌, ℕ, Bool, List, Option, Some, None, Result, Ok}
+use Rattle.std.specs.Prelude.{◌≡◌, ℕ, Bool, true, List, Option, Some, None, Result, Ok, Err, IfSome}
 use Rattle.study_material.specs.declared.class.Class.{Class}
 use Rattle.study_script.specs.declared.store.StoreFault.{StoreFault}
 use Rattle.study_retro.specs.Table.{Table, IsComplete}
@@ -8,6 +8,12 @@ use Rattle.study_tablefile.specs.File.{IsVersionOf}
 use Rattle.study_tablefile.specs.Reading.{table_read}
 use Rattle.study_script.specs.State.{State, Shelf}
 use Rattle.study_script.specs.Held.{KnowsStore}
+use Rattle.study_command.specs.declared.command.ClassWord.{ClassWord}
+use Rattle.study_command.specs.declared.command.ClassWord.TheVariants.{Load}
+use Rattle.std.specs.List.{AllByRecursion}
+use Rattle.study_command.specs.Lines.{script_lines}
+use Rattle.study_command.specs.Asking.{Asked, of_class, Asks, command_of}
+use Rattle.study_script.specs.Replies.{class_told}
 
 -- a reader tells its bytes, and what they read as, if a table, is right
 abbrev pub IsRightFile : Option (List ℕ) → Type 0
@@ -38,3 +44,31 @@ module _ {S : Type 0} where
   -- all that is known of a store
   abbrev pub shelf_of : (S → Class → Option (Result (List ℕ) StoreFault)) → (S → Class → Option (Result (List ℕ) StoreFault)) → S → Shelf
   shelf_of files headers store = record { files = files store; headers = headers store }
+
+-- ---- trust: which classes' files are right
+
+-- the files of the classes that are trusted are right, by pages or whole
+abbrev pub HonestOn : {S : Type 0} → (Class → Bool) → (S → Bool → Class → Type 0) → S → Bool → Type 0
+HonestOn trusted honest store by_pages = (c : Class) → trusted c ≡ true → honest store by_pages c
+
+-- what loads a table loads that of a class that is trusted; nothing else asks for trust
+abbrev pub IsTrustedClass : (Class → Bool) → ClassWord → List ℕ → Type 0
+IsTrustedClass trusted Load name = IfSome (class_told name) (λ c. trusted c ≡ true)
+IsTrustedClass trusted _ name = Unit {0}
+
+abbrev pub IsTrustedAsked : (Class → Bool) → Asked → Type 0
+IsTrustedAsked trusted (of_class word name) = IsTrustedClass trusted word name
+IsTrustedAsked trusted _ = Unit {0}
+
+abbrev pub IsTrustedAsk : (Class → Bool) → Asks → Type 0
+IsTrustedAsk trusted (Ok None) = Unit {0}
+IsTrustedAsk trusted (Ok (Some asked)) = IsTrustedAsked trusted asked
+IsTrustedAsk trusted (Err fault) = Unit {0}
+
+-- a line that loads a table loads that of a class that is trusted
+abbrev pub IsTrusted : (Class → Bool) → List ℕ → Type 0
+IsTrusted trusted line = IsTrustedAsk trusted (command_of line)
+
+-- so does each line of a script
+abbrev pub AreTrusted : (Class → Bool) → List ℕ → Type 0
+AreTrusted trusted script = AllByRecursion (IsTrusted trusted) (script_lines script)

@@ -1,10 +1,12 @@
 //! What a line does: its reply, and what is held behind it.
-ghost use Rattle.std.specs.Prelude.{IfOk, OnErr};
+ghost use Rattle.std.specs.Prelude.{Bool, IfOk, OnErr};
 ghost use Rattle.study_command.specs.Asking.{command_seen};
 ghost use Rattle.study_script.specs.State.{State};
 ghost use Rattle.study_script.specs.Replies.{IsReply, IsReplyTo};
 ghost use Rattle.study_script.specs.Held.{Answered, BrokenOff};
 ghost use Rattle.study_script.specs.Desk.{DeskHolds};
+ghost use Rattle.study_material.specs.declared.class.Class.{Class as AClass};
+ghost use Rattle.study_script.specs.Stored.{HonestOn, IsTrusted, IsTrustedAsked};
 
 use crate::board::Board;
 use crate::classes::of_class;
@@ -29,10 +31,12 @@ pub fn answer<'a, W: Write, S: TableStore, A: Allocator>(
     line: &[u8],
     out: &mut W,
 ) -> Result<bool, DeviceFailed>
-    ensures ok { (s : State) → DeskHolds S.Pages.honest S.honest S.files S.headers board.old tables.old store.old s
-        → IfOk result (Answered (IsReply s line.now) (DeskHolds S.Pages.honest S.honest S.files S.headers board.new tables.new store.new)
+    ensures ok { (trusted : AClass → Bool) (s : State) → IsTrusted trusted line.now
+        → DeskHolds S.Pages.honest (HonestOn trusted S.honest) S.files S.headers board.old tables.old store.old s
+        → IfOk result (Answered (IsReply s line.now) (DeskHolds S.Pages.honest (HonestOn trusted S.honest) S.files S.headers board.new tables.new store.new)
         (W.contents out.old) (W.contents out.new)) }
-    ensures err { (s : State) → DeskHolds S.Pages.honest S.honest S.files S.headers board.old tables.old store.old s
+    ensures err { (trusted : AClass → Bool) (s : State) → IsTrusted trusted line.now
+        → DeskHolds S.Pages.honest (HonestOn trusted S.honest) S.files S.headers board.old tables.old store.old s
         → OnErr result (BrokenOff (IsReply s line.now) (W.contents out.old) (W.contents out.new)) }
 {
     match read_command(line) {
@@ -53,10 +57,12 @@ fn carry_out<'a, W: Write, S: TableStore, A: Allocator>(
     command: &Command<'_>,
     out: &mut W,
 ) -> Result<bool, DeviceFailed>
-    ensures ok { (s : State) → DeskHolds S.Pages.honest S.honest S.files S.headers board.old tables.old store.old s
+    ensures ok { (trusted : AClass → Bool) (s : State) → IsTrustedAsked trusted (command_seen command.now)
+        → DeskHolds S.Pages.honest (HonestOn trusted S.honest) S.files S.headers board.old tables.old store.old s
         → IfOk result (Answered (λ o. IsReplyTo s o (command_seen command.now))
-        (DeskHolds S.Pages.honest S.honest S.files S.headers board.new tables.new store.new) (W.contents out.old) (W.contents out.new)) }
-    ensures err { (s : State) → DeskHolds S.Pages.honest S.honest S.files S.headers board.old tables.old store.old s
+        (DeskHolds S.Pages.honest (HonestOn trusted S.honest) S.files S.headers board.new tables.new store.new) (W.contents out.old) (W.contents out.new)) }
+    ensures err { (trusted : AClass → Bool) (s : State) → IsTrustedAsked trusted (command_seen command.now)
+        → DeskHolds S.Pages.honest (HonestOn trusted S.honest) S.files S.headers board.old tables.old store.old s
         → OnErr result (BrokenOff (λ o. IsReplyTo s o (command_seen command.now)) (W.contents out.old) (W.contents out.new)) }
 {
     match command {

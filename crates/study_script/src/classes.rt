@@ -1,5 +1,5 @@
 //! Classes of material: `build`, `load`, `save` and `verify`.
-ghost use Rattle.std.specs.Prelude.{◌≡◌, ◌↔◌, ℕ, List, Option, Some, None, Ok, false, is_some, slice_set, IfOk, IfErr, IfSome, IsTrue, OnErr};
+ghost use Rattle.std.specs.Prelude.{◌≡◌, ◌↔◌, ℕ, Bool, true, List, Option, Some, None, Ok, false, is_some, slice_set, IfOk, IfErr, IfSome, IsTrue, OnErr};
 ghost use Rattle.study_retro.specs.Sound.{IsRight, NeedsAreRight};
 ghost use Rattle.study_retro.specs.Set.{add_fault};
 ghost use Rattle.study_retro.specs.Table.{table_of, class_place, IsClosed, IsComplete};
@@ -9,7 +9,8 @@ ghost use Rattle.study_script.specs.Names.{of_store, of_paged};
 ghost use Rattle.study_script.specs.Replies.{IsClassReply, IsNamedReply, IsBuildReply, IsLoadReply};
 ghost use Rattle.study_script.specs.Replies.{IsOpenReply, save_reply, verify_reply, refused, class_told};
 ghost use Rattle.study_script.specs.Held.{HoldsTables, TablesFrom, Answered, BrokenOff};
-ghost use Rattle.study_script.specs.Stored.{StoreSeen};
+ghost use Rattle.study_material.specs.declared.class.Class.{Class as AClass};
+ghost use Rattle.study_script.specs.Stored.{StoreSeen, HonestOn, IsTrustedClass};
 ghost use Rattle.study_script.specs.Told.{Decided, HoldsWhole, HoldsPaged, WholeFrom, IsFileRefusal};
 
 use crate::refusal::Refusal;
@@ -34,11 +35,13 @@ pub fn of_class<'a, W: Write, S: TableStore, A: Allocator>(
     name: &str,
     out: &mut W,
 ) -> Result<bool, DeviceFailed>
-    ensures ok { (s : State) → HoldsTables S.Pages.honest tables.old s → StoreSeen S.honest S.files S.headers store.old s
+    ensures ok { (trusted : AClass → Bool) (s : State) → IsTrustedClass trusted word name.now
+        → HoldsTables S.Pages.honest tables.old s → StoreSeen (HonestOn trusted S.honest) S.files S.headers store.old s
         → IfOk result (Answered (λ o. IsClassReply s o word name.now)
-        (λ t. TablesFrom S.Pages.honest s tables.new t × StoreSeen S.honest S.files S.headers store.new t)
+        (λ t. TablesFrom S.Pages.honest s tables.new t × StoreSeen (HonestOn trusted S.honest) S.files S.headers store.new t)
         (W.contents out.old) (W.contents out.new)) }
-    ensures err { (s : State) → HoldsTables S.Pages.honest tables.old s → StoreSeen S.honest S.files S.headers store.old s
+    ensures err { (trusted : AClass → Bool) (s : State) → IsTrustedClass trusted word name.now
+        → HoldsTables S.Pages.honest tables.old s → StoreSeen (HonestOn trusted S.honest) S.files S.headers store.old s
         → OnErr result (BrokenOff (λ o. IsClassReply s o word name.now) (W.contents out.old) (W.contents out.new)) }
 {
     match tables {
@@ -61,9 +64,10 @@ fn in_whole<'a, S: TableStore, A: Allocator>(
     word: ClassWord,
     name: &str,
 ) -> Result<Told, Refusal>
-    ensures { (s : State) → HoldsWhole tables.old s → StoreSeen S.honest S.files S.headers store.old s
+    ensures { (trusted : AClass → Bool) (s : State) → IsTrustedClass trusted word name.now
+        → HoldsWhole tables.old s → StoreSeen (HonestOn trusted S.honest) S.files S.headers store.old s
         → Decided (λ o. IsNamedReply s o word (class_told name.now))
-        (λ t. HoldsWhole tables.new t × (t.board ≡ s.board) × StoreSeen S.honest S.files S.headers store.new t) result }
+        (λ t. HoldsWhole tables.new t × (t.board ≡ s.board) × StoreSeen (HonestOn trusted S.honest) S.files S.headers store.new t) result }
 {
     let class = class_of_name(name)?;
     match word {
@@ -81,9 +85,10 @@ fn in_pages<'a, S: TableStore, A: Allocator>(
     word: ClassWord,
     name: &str,
 ) -> Result<Told, Refusal>
-    ensures { (s : State) → HoldsPaged S.Pages.honest tables.old s → StoreSeen S.honest S.files S.headers store.old s
+    ensures { (trusted : AClass → Bool) (s : State) → IsTrustedClass trusted word name.now
+        → HoldsPaged S.Pages.honest tables.old s → StoreSeen (HonestOn trusted S.honest) S.files S.headers store.old s
         → Decided (λ o. IsClassReply s o word name.now)
-        (λ t. HoldsPaged S.Pages.honest tables.new t × (t.board ≡ s.board) × StoreSeen S.honest S.files S.headers store.new t)
+        (λ t. HoldsPaged S.Pages.honest tables.new t × (t.board ≡ s.board) × StoreSeen (HonestOn trusted S.honest) S.files S.headers store.new t)
         result }
 {
     match word {
@@ -156,9 +161,9 @@ fn load_class<'a, S: TableStore, A: Allocator>(
     store: &mut S,
     class: Class,
 ) -> Result<Told, Refusal>
-    ensures { (s : State) → HoldsWhole tables.old s → StoreSeen S.honest S.files S.headers store.old s
+    ensures { (trusted : AClass → Bool) (s : State) → trusted class ≡ true → HoldsWhole tables.old s → StoreSeen (HonestOn trusted S.honest) S.files S.headers store.old s
         → Decided (λ o. IsLoadReply s o class (is_among s.classes class) (first_lacking s.classes class))
-        (λ t. WholeFrom s tables.new t × StoreSeen S.honest S.files S.headers store.new t) result }
+        (λ t. WholeFrom s tables.new t × StoreSeen (HonestOn trusted S.honest) S.files S.headers store.new t) result }
 {
     if is_held(tables, class) {
         return Err(Refusal::AlreadyHeld(class));
@@ -180,10 +185,10 @@ fn table_in_file<'a, S: TableStore, A: Allocator>(
     store: &mut S,
     class: Class,
 ) -> Result<Table<'a, A>, Refusal>
-    ensures read { S.honest store.old false
+    ensures read { S.honest store.old false class
         → IfOk result (λ t. (bytes : List ℕ) × IsGiven (S.files store.old class) (Ok bytes) × (table_read bytes ≡ Ok t) × IsRight t) }
-    ensures refused { S.honest store.old false → IfErr result (λ refusal. IsFileRefusal (S.files store.old class) refusal) }
-    ensures store { (s : State) → StoreSeen S.honest S.files S.headers store.old s → StoreSeen S.honest S.files S.headers store.new s }
+    ensures refused { S.honest store.old false class → IfErr result (λ refusal. IsFileRefusal (S.files store.old class) refusal) }
+    ensures store { (trusted : AClass → Bool) (s : State) → StoreSeen (HonestOn trusted S.honest) S.files S.headers store.old s → StoreSeen (HonestOn trusted S.honest) S.files S.headers store.new s }
 {
     let mut reader = match store.reader(class) {
         Ok(reader) => reader,
@@ -211,9 +216,9 @@ fn open_class<'a, S: TableStore, A: Allocator>(
     store: &mut S,
     class: Class,
 ) -> Result<Told, Refusal>
-    ensures { (s : State) → HoldsPaged S.Pages.honest tables.old s → StoreSeen S.honest S.files S.headers store.old s
+    ensures { (trusted : AClass → Bool) (s : State) → trusted class ≡ true → HoldsPaged S.Pages.honest tables.old s → StoreSeen (HonestOn trusted S.honest) S.files S.headers store.old s
         → Decided (λ o. IsOpenReply s o class (is_among s.classes class))
-        (λ t. HoldsPaged S.Pages.honest tables.new t × (t.board ≡ s.board) × StoreSeen S.honest S.files S.headers store.new t)
+        (λ t. HoldsPaged S.Pages.honest tables.new t × (t.board ≡ s.board) × StoreSeen (HonestOn trusted S.honest) S.files S.headers store.new t)
         result }
 {
     if tables.holds(class) {
@@ -246,9 +251,9 @@ fn save_class<'a, S: TableStore, A: Allocator>(
     store: &mut S,
     class: Class,
 ) -> Result<Told, Refusal>
-    ensures { (s : State) → HoldsWhole tables.now s → StoreSeen S.honest S.files S.headers store.old s
+    ensures { (trusted : AClass → Bool) (s : State) → HoldsWhole tables.now s → StoreSeen (HonestOn trusted S.honest) S.files S.headers store.old s
         → Decided (λ o reply. reply ≡ save_reply s o class (is_among s.classes class))
-        (λ t. HoldsWhole tables.now t × (t.board ≡ s.board) × StoreSeen S.honest S.files S.headers store.new t) result }
+        (λ t. HoldsWhole tables.now t × (t.board ≡ s.board) × StoreSeen (HonestOn trusted S.honest) S.files S.headers store.new t) result }
 {
     let Some(table) = tables.tables().table(class) else {
         return Err(Refusal::NoTable(class));

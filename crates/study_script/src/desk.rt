@@ -1,8 +1,10 @@
 //! What answers the lines of a script.
-ghost use Rattle.std.specs.Prelude.{IfOk, OnErr};
+ghost use Rattle.std.specs.Prelude.{Bool, IfOk, OnErr};
+ghost use Rattle.study_material.specs.declared.class.Class.{Class as AClass};
 ghost use Rattle.study_script.specs.State.{State as AState};
 ghost use Rattle.study_script.specs.Replies.{IsReply};
 ghost use Rattle.study_script.specs.Held.{Answered, BrokenOff};
+ghost use Rattle.study_script.specs.Stored.{IsTrusted};
 
 use crate::answer;
 use crate::board::Board;
@@ -14,13 +16,15 @@ use study_tablefile::DeviceFailed;
 
 /// Answers lines one by one, and holds what a script holds.
 pub trait Desk {
-    /// What is held is this state; its marks are right, its values and its store are honest.
-    ghost holds: { Self → AState → Type 0 };
+    /// What is held is this state; its marks are right, its values are honest, and so is its store for each class that is trusted.
+    ghost holds: { Self → (AClass → Bool) → AState → Type 0 };
 
     /// Writes the reply to a line, keeps what is held behind it, and tells whether the line was refused.
     fn answer<W: Write>(&mut self, line: &[u8], out: &mut W) -> Result<bool, DeviceFailed>
-        ensures ok { (s : AState) → holds self.old s → IfOk result (Answered (IsReply s line.now) (holds self.new) (W.contents out.old) (W.contents out.new)) }
-        ensures err { (s : AState) → holds self.old s → OnErr result (BrokenOff (IsReply s line.now) (W.contents out.old) (W.contents out.new)) };
+        ensures ok { (trusted : AClass → Bool) (s : AState) → IsTrusted trusted line.now → holds self.old trusted s
+            → IfOk result (Answered (IsReply s line.now) (holds self.new trusted) (W.contents out.old) (W.contents out.new)) }
+        ensures err { (trusted : AClass → Bool) (s : AState) → IsTrusted trusted line.now → holds self.old trusted s
+            → OnErr result (BrokenOff (IsReply s line.now) (W.contents out.old) (W.contents out.new)) };
 }
 
 /// The desk of a script: what it works on, the tables that it holds, and the store of their files.
@@ -34,8 +38,9 @@ pub struct StudyDesk<'a, 's, S: TableStore, A: Allocator> {
 
 impl<'a, 's, S: TableStore, A: Allocator> Desk for StudyDesk<'a, 's, S, A> {
     ghost use Rattle.study_script.specs.Desk.{DeskHolds};
+    ghost use Rattle.study_script.specs.Stored.{HonestOn};
 
-    ghost holds = { λ d s. DeskHolds S.Pages.honest S.honest S.files S.headers d.board d.tables d.store.now s };
+    ghost holds = { λ d trusted s. DeskHolds S.Pages.honest (HonestOn trusted S.honest) S.files S.headers d.board d.tables d.store.now s };
 
     fn answer<W: Write>(&mut self, line: &[u8], out: &mut W) -> Result<bool, DeviceFailed> {
         answer::answer(

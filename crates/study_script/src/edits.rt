@@ -8,9 +8,10 @@ ghost use Rattle.study_tree.specs.Edits.{children_at};
 ghost use Rattle.study_marks.specs.Study.{position_at};
 ghost use Rattle.study_marks.specs.Asked.{asked_at, positions_asked, is_of_tables, AllHeld, IsOutside};
 ghost use Rattle.study_marks.specs.Stop.{IsShiftRefusal};
+ghost use Rattle.study_marks.specs.Answers.{IsUndamaged, TellsFirstFault};
 ghost use Rattle.study_marks.specs.Edits.{broken_from, positioned, shifted, inserted, shift_refusal, insert_refusal};
 ghost use Rattle.study_script.specs.Replies.{new_study};
-ghost use Rattle.study_script.specs.Held.{tables_held, tables_honest, are_paged, IsToldBy};
+ghost use Rattle.study_script.specs.Held.{tables_held, tables_honest, tables_give, tables_asked, are_paged, IsToldBy};
 
 use crate::tables::Tables;
 use std::alloc::Allocator;
@@ -29,6 +30,8 @@ pub fn set_position<'a, P: PageSource, A: Allocator>(
     ensures refusal { IfErr result (IsOutside (tables_held tables.old) (asked_at start.position)) }
     ensures device { IfErr result (IsToldBy (are_paged tables.old)) }
     ensures takes_no_memory { IfErr result (λ e. is_of_tables e ≡ true) }
+    ensures first { IfErr result (TellsFirstFault (tables_give P.gives) tables_asked tables.old (asked_at start.position) tables.new) }
+    ensures no_damage { tables_honest P.honest tables.old → IfErr result IsUndamaged }
     ensures found { OnOk result (AllHeld (tables_held tables.old) (asked_at start.position)) }
     ensures edited { OnOk result (plain_study (marked bench.new) ≡ positioned (plain_study (marked bench.old)) start) }
     ensures right { tables_honest P.honest tables.old → OnOk result (IsKeptRight bench.new) }
@@ -53,6 +56,8 @@ pub fn shift_position<'a, P: PageSource, A: Allocator>(
         (shift_refusal (plain_study (marked bench.old)) start)) }
     ensures broken { OnOk result (broken_from 0 start.position (marked bench.old).tree.below ≡ None) }
     ensures device { IfErr result (IsToldBy (are_paged tables.old)) }
+    ensures first { IfErr result (TellsFirstFault (tables_give P.gives) tables_asked tables.old (positions_asked (shifted (plain_study (marked bench.old)) start)) tables.new) }
+    ensures no_damage { tables_honest P.honest tables.old → IfErr result IsUndamaged }
     ensures found { OnOk result (AllHeld (tables_held tables.old) (positions_asked (shifted (plain_study (marked bench.old)) start))) }
     ensures edited { OnOk result (plain_study (marked bench.new) ≡ shifted (plain_study (marked bench.old)) start) }
     ensures right { tables_honest P.honest tables.old → OnOk result (IsKeptRight bench.new) }
@@ -78,6 +83,8 @@ pub fn insert_move<'a, P: PageSource, A: Allocator>(
         (IfErr result (IsOutside (tables_held tables.old) (asked_at (after (position_at (marked bench.old) path.now) m))))
         (λ fault. result ≡ Err fault) }
     ensures device { IfErr result (IsToldBy (are_paged tables.old)) }
+    ensures first { IfErr result (TellsFirstFault (tables_give P.gives) tables_asked tables.old (asked_at (after (position_at (marked bench.old) path.now) m)) tables.new) }
+    ensures no_damage { tables_honest P.honest tables.old → IfErr result IsUndamaged }
     ensures found { OnOk result (AllHeld (tables_held tables.old) (asked_at (after (position_at (marked bench.old) path.now) m))) }
     ensures edited { OnOk result (plain_study (marked bench.new) ≡ inserted (plain_study (marked bench.old)) path.now m) }
     ensures place { IfOk result (λ k. k ≡ children_at (marked bench.old).tree.below path.now) }
@@ -103,6 +110,8 @@ pub fn new_bench<'a, P: PageSource, A: Allocator>(
     ensures refusal { IfErr result (IsOutside (tables_held tables.old) (asked_at start.position)) }
     ensures device { IfErr result (IsToldBy (are_paged tables.old)) }
     ensures takes_no_memory { IfErr result (λ e. is_of_tables e ≡ true) }
+    ensures first { IfErr result (TellsFirstFault (tables_give P.gives) tables_asked tables.old (asked_at start.position) tables.new) }
+    ensures no_damage { tables_honest P.honest tables.old → IfErr result IsUndamaged }
     ensures found { OnOk result (AllHeld (tables_held tables.old) (asked_at start.position)) }
     ensures made { IfOk result (λ b. plain_study (marked b) ≡ new_study start stipulation) }
     ensures right { tables_honest P.honest tables.old → IfOk result IsKeptRight }

@@ -83,7 +83,7 @@ impl<'f, 'w, 'a, A: Allocator> TableStore for MemoryStore<'f, 'w, 'a, A> {
 
     type Pages = MemorySource<'f>;
 
-    ghost honest = { λ s by_pages. (c : AClass) → IsHonestFile by_pages (memory_file s.files c) };
+    ghost honest = { λ s by_pages c. IsHonestFile by_pages (memory_file s.files c) };
 
     ghost files = { λ s c. file_known (memory_file s.files c) };
 

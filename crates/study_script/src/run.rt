@@ -1,8 +1,9 @@
 //! A run over a whole script.
-ghost use Rattle.std.specs.Prelude.{◌≡◌, ◌≤◌, Err, is_some, IfOk, IfSome};
+ghost use Rattle.std.specs.Prelude.{◌≡◌, ◌≤◌, Err, is_some, IfOk, IfSome, Bool};
 ghost use Rattle.study_script.specs.Held.{Begun, are_paged};
-ghost use Rattle.study_script.specs.Outcome.{Outcome, begun_state};
-ghost use Rattle.study_script.specs.Stored.{shelf_of};
+ghost use Rattle.study_script.specs.Outcome.{Outcome, Shape, begun_state};
+ghost use Rattle.study_material.specs.declared.class.Class.{Class as AClass};
+ghost use Rattle.study_script.specs.Stored.{shelf_of, HonestOn, AreTrusted};
 ghost use Rattle.study_script.specs.State.{State};
 
 use crate::board::Board;
@@ -50,7 +51,8 @@ pub enum RunFault {
 
 /// Answers each line of a script over a store of tables. All memory but that of the commands is taken before the first line.
 ///
-/// The premise is on the store alone: each table that it gives, by pages or whole as the settings say, is right.
+/// The premise is on what the script loads alone: each file that a `load` line names gives a right table, by pages or whole as the
+/// settings say. Of a script that loads nothing it asks nothing, whatever its store.
 pub fn run<'a, R: Read, W: Write, S: TableStore, A: Allocator>(
     alloc: &'a A,
     script: &mut R,
@@ -59,9 +61,10 @@ pub fn run<'a, R: Read, W: Write, S: TableStore, A: Allocator>(
     settings: Settings,
 ) -> Result<Summary, RunFault>
     requires { IfSome settings.pages (λ n. (1 ≤ n) × (n ≤ 4096)) }
-    ensures { S.honest store.old (is_some settings.pages)
+    ensures shape { IfSome (R.remaining script.old) (λ bytes. Shape bytes (R.remaining script.new) result) }
+    ensures outcome { (trusted : AClass → Bool) → HonestOn trusted S.honest store.old (is_some settings.pages)
         → IfSome (R.remaining script.old)
-        (λ bytes. Outcome (begun_state (shelf_of S.files S.headers store.old) (is_some settings.pages)) bytes
+        (λ bytes. AreTrusted trusted bytes → Outcome (begun_state (shelf_of S.files S.headers store.old) (is_some settings.pages)) bytes
         (R.remaining script.new) (W.contents out.old) (W.contents out.new) result) }
 {
     let Ok(mut line) = Line::new(alloc) else {
@@ -101,9 +104,10 @@ pub fn run_in<R: Read, W: Write, D: Desk, A: Allocator>(
     out: &mut W,
     desk: &mut D,
 ) -> Result<Summary, RunFault>
-    ensures outcome { (first : State) → D.holds desk.old first
+    ensures outcome { (trusted : AClass → Bool) (first : State) → D.holds desk.old trusted first
         → IfSome (R.remaining script.old)
-        (λ bytes. Outcome first bytes (R.remaining script.new) (W.contents out.old) (W.contents out.new) result) }
+        (λ bytes. AreTrusted trusted bytes → Outcome first bytes (R.remaining script.new) (W.contents out.old) (W.contents out.new) result) }
+    ensures shape { IfSome (R.remaining script.old) (λ bytes. Shape bytes (R.remaining script.new) result) }
     ensures takes_no_memory { ¬ (result ≡ Err RunFault.OutOfMemory) }
 {
     let mut refused = 0u32;

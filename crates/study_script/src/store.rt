@@ -28,8 +28,8 @@ pub trait TableStore {
 
     type Pages: PageSource + Drop;
 
-    /// Each table that is read from its files, now and after any calls, is right: by pages, or from front to back.
-    ghost honest: { Self → Bool → Type 0 };
+    /// Each table that is read from the file of this class, now and after any calls, is right: by pages, or from front to back.
+    ghost honest: { Self → Bool → AClass → Type 0 };
 
     /// What is known of each class's file: its bytes from front to back, or the fault of opening it.
     ghost files: { Self → AClass → Option (Result (List ℕ) AStoreFault) };
@@ -39,27 +39,27 @@ pub trait TableStore {
 
     /// Opens a file to be read from front to back.
     fn reader(&mut self, class: Class) -> Result<Self::Reader, StoreFault>
-        ensures right { honest self.old false → IfOk result (λ r. IsRightFile (Self.Reader.remaining r)) }
+        ensures right { honest self.old false class → IfOk result (λ r. IsRightFile (Self.Reader.remaining r)) }
         ensures given { MatchResult result (λ r. GivesBytes (files self.old class) (Self.Reader.remaining r))
             (λ fault. IsGiven (files self.old class) (Err fault)) }
-        ensures stays { (by_pages : Bool) → honest self.old by_pages → honest self.new by_pages }
+        ensures stays { (by_pages : Bool) (c : AClass) → honest self.old by_pages c → honest self.new by_pages c }
         ensures files { (c : AClass) → files self.new c ≡ files self.old c }
         ensures headers { (c : AClass) → headers self.new c ≡ headers self.old c };
 
     /// Opens a file to be written from its beginning. What the class's file and source give is not known any more.
     fn writer(&mut self, class: Class) -> Result<Self::Writer, StoreFault>
-        ensures stays { (by_pages : Bool) → honest self.old by_pages → honest self.new by_pages }
+        ensures stays { (by_pages : Bool) (c : AClass) → honest self.old by_pages c → honest self.new by_pages c }
         ensures files { (c : AClass) → files self.new c ≡ forgotten class (files self.old) c }
         ensures headers { (c : AClass) → headers self.new c ≡ forgotten class (headers self.old) c };
 
     /// Opens a file to be read by pages.
     fn pages(&mut self, class: Class) -> Result<Self::Pages, StoreFault>
         ensures opened { IsOk result → IsOpened (headers self.old class) }
-        ensures right { honest self.old true → IfOk result (λ source. IsRightSource Self.Pages.honest source) }
+        ensures right { honest self.old true class → IfOk result (λ source. IsRightSource Self.Pages.honest source) }
         ensures given { MatchResult result (λ source. (bytes : List ℕ) → Self.Pages.gives source of_header (Ok bytes)
             → IsGiven (headers self.old class) (Ok bytes))
             (λ fault. IsGiven (headers self.old class) (Err fault)) }
-        ensures stays { (by_pages : Bool) → honest self.old by_pages → honest self.new by_pages }
+        ensures stays { (by_pages : Bool) (c : AClass) → honest self.old by_pages c → honest self.new by_pages c }
         ensures files { (c : AClass) → files self.new c ≡ files self.old c }
         ensures headers { (c : AClass) → headers self.new c ≡ headers self.old c };
 }

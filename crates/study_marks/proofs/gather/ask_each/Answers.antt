@@ -3,6 +3,9 @@ use Rattle.study_board.specs.Position.{Position}
 use Rattle.study_marks.specs.Told.{IsUntold}
 use Rattle.study_marks.specs.Whole.{asked_each}
 use Rattle.study_marks.proofs.PositionsListed.{IsAsked, asked-next, take-one, untold-at, asked-at, same-fault, fault-asked}
+use Rattle.study_prober.specs.Values.{IsNotDamage}
+use Rattle.study_marks.specs.Answers.{IsFirstFault}
+use Rattle.study_marks.proofs.FaultsTold.{told-next, first-at}
 use Rattle.study_marks.proofs.gather.ask_each.Goals as goal
 
 pub returns-in_err-ask_one-clause-untold : goal.returns-in_err-ask_one-clause-untold
@@ -33,5 +36,22 @@ loop-p-preserved g c = record {
       c.in_ok-ask_one.ensures.tables c.in_ok-ask_one.ensures.held c.in_ok-ask_one.ensures.asked
       c.in_ok-ask_one.ensures.failures
       c.in_ok-ask_one.ensures.honest c.in_ok-ask_one.ensures.game);
+  told =
+      told-next g.V.Values.gives g.V.Values.asked_of c.args.values.now c.loop-p.values c.ask_one.new.values c.args.positions.now
+      c.loop-p.p-index c.p-item.result c.loop-p-test.true c.p-item.is c.loop-p.invariant.told c.in_ok-ask_one.ensures.told;
   room = omega (arith, c.loop-p.invariant.room, c.in_ok-ask_one.ensures.len, c.in_ok-ask_one.ensures.capacity);
 }
+
+pub returns-in_err-ask_one-clause-first : goal.returns-in_err-ask_one-clause-first
+returns-in_err-ask_one-clause-first g c =
+    same-fault c.from_residual.result c.in_err-ask_one.field-0.0
+    (λ f. IsFirstFault g.V.Values.gives g.V.Values.asked_of c.args.values.now (asked_each c.args.positions.now) f c.ask_one.new.values)
+    c.from_residual.ensures.1
+    (first-at g.V.Values.gives g.V.Values.asked_of c.args.values.now c.loop-p.values c.ask_one.new.values c.args.positions.now
+    c.loop-p.p-index c.p-item.result c.in_err-ask_one.field-0.0 c.loop-p-test.true c.p-item.is c.loop-p.invariant.told
+    c.in_err-ask_one.ensures.first)
+
+pub returns-in_err-ask_one-clause-no_damage : goal.returns-in_err-ask_one-clause-no_damage
+returns-in_err-ask_one-clause-no_damage g c = λ h.
+    same-fault c.from_residual.result c.in_err-ask_one.field-0.0 IsNotDamage c.from_residual.ensures.1
+    (c.in_err-ask_one.ensures.no_damage (c.loop-p.invariant.asked.stays h))

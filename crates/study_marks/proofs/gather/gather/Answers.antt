@@ -6,6 +6,8 @@ use Rattle.study_marks.specs.Asked.{asked_at, asked_below, AreTablesHeld, counte
 use Rattle.study_marks.specs.Told.{IsUntold, WasAsked}
 use Rattle.study_marks.proofs.InsertedMoves.{outside-answer, asked-answer}
 use Rattle.study_marks.proofs.PositionsListed.{asked-tree, told-everywhere}
+use Rattle.study_marks.specs.Answers.{IsFirstFault}
+use Rattle.study_marks.proofs.FaultsTold.{first-answer, undamaged-answer}
 use Rattle.study_marks.proofs.gather.gather.Goals as goal
 
 pub returns-in_err-ask_each-clause-refusal : goal.returns-in_err-ask_each-clause-refusal
@@ -41,3 +43,16 @@ returns-clause-asked g c =
     let same = asked-tree c.args.position.now (plain_tree c.args.tree.now).below c.as_slice.result.now (c.as_slice.ensures.value ∙ c.in-Ok.ensures) in
     let asked = asked_at c.args.position.now ++ asked_below c.args.position.now (plain_tree c.args.tree.now).below in
     c.in_ok-ask_each.ensures.asked ∙ ap (λ (ps : List Position). counted_times (length ps) (g.V.Values.asked_of c.args.values.now)) same
+
+pub returns-in_err-ask_each-clause-first : goal.returns-in_err-ask_each-clause-first
+returns-in_err-ask_each-clause-first g c =
+    let same = asked-tree c.args.position.now (plain_tree c.args.tree.now).below c.as_slice.result.now (c.as_slice.ensures.value ∙ c.in-Ok.ensures) in
+    let asked = asked_at c.args.position.now ++ asked_below c.args.position.now (plain_tree c.args.tree.now).below in
+    first-answer g.V.Values.gives g.V.Values.asked_of c.args.values.now asked c.ask_each.new.values c.in_err-ask_each.field-0.0
+    c.from_residual.result c.from_residual.ensures.1
+    (subst (λ (ps : List Position). IsFirstFault g.V.Values.gives g.V.Values.asked_of c.args.values.now ps
+    c.in_err-ask_each.field-0.0 c.ask_each.new.values) same c.in_err-ask_each.ensures.first)
+
+pub returns-in_err-ask_each-clause-no_damage : goal.returns-in_err-ask_each-clause-no_damage
+returns-in_err-ask_each-clause-no_damage g c = λ h.
+    undamaged-answer c.in_err-ask_each.field-0.0 c.from_residual.result c.from_residual.ensures.1 (c.in_err-ask_each.ensures.no_damage h)

@@ -1,16 +1,19 @@
-use Rattle.std.proofs.Common.{[], Ok, refl, sym, subst}
+use Rattle.std.proofs.Common.{◌≡◌, [], Ok, Some, refl, sym, ap, subst, ◌∙◌}
+use Rattle.std.specs.Prelude.{IfOk, OnErr}
 use Rattle.std.proofs.KnownBytes.{Appends-nil}
 use Rattle.study_tablefile.proofs.TextTaken.{OnErr-known}
 use Rattle.study_script.specs.declared.refusal.Refusal.TheVariants.{Form}
-use Rattle.study_command.specs.Asking.{Asks, line_seen}
+use Rattle.study_command.specs.Asking.{Asks, line_seen, command_of, command_seen}
 use Rattle.study_script.specs.State.{quiet}
-use Rattle.study_script.specs.Held.{BrokenOff}
+use Rattle.study_script.specs.Held.{Answered, BrokenOff}
 use Rattle.study_script.specs.Replies.{accepted, refused, IsReplyWhere, IsReply}
+use Rattle.study_script.specs.Stored.{HonestOn, IsTrustedAsk}
+use Rattle.study_script.specs.Desk.{DeskHolds}
 use Rattle.study_script.proofs.answer.answer.Goals as goal
 
 pub returns-in-Ok-None-clause-ok : goal.returns-in-Ok-None-clause-ok
 returns-in-Ok-None-clause-ok g c =
-    λ s d. (
+    λ trusted s may d. (
       quiet,
       accepted s [],
       subst (λ (x : Asks). IsReplyWhere s quiet x (accepted s []))
@@ -23,7 +26,7 @@ returns-in-Ok-None-clause-ok g c =
 
 pub returns-in_err-refuse-in-Err-clause-err : goal.returns-in_err-refuse-in-Err-clause-err
 returns-in_err-refuse-in-Err-clause-err g c =
-    λ s d. let part : BrokenOff (IsReply s c.args.line.now) (g.W.Write.contents c.args.out.now)
+    λ trusted s may d. let part : BrokenOff (IsReply s c.args.line.now) (g.W.Write.contents c.args.out.now)
     (g.W.Write.contents c.refuse.new.out) = (
       quiet,
       refused s (Form c.in-Err.fault),
@@ -34,7 +37,7 @@ returns-in_err-refuse-in-Err-clause-err g c =
 
 pub returns-in_ok-refuse-in-Err-clause-ok : goal.returns-in_ok-refuse-in-Err-clause-ok
 returns-in_ok-refuse-in-Err-clause-ok g c =
-    λ s d. (
+    λ trusted s may d. (
       quiet,
       refused s (Form c.in-Err.fault),
       subst (λ (x : Asks). IsReplyWhere s quiet x (refused s (Form c.in-Err.fault))) c.read_command.ensures
@@ -43,3 +46,21 @@ returns-in_ok-refuse-in-Err-clause-ok g c =
       d,
       refl,
     )
+
+pub returns-in-Ok-Some-clause-ok : goal.returns-in-Ok-Some-clause-ok
+returns-in-Ok-Some-clause-ok g c = λ trusted s may d.
+    let seen : command_of c.args.line.now ≡ Ok (Some (command_seen c.in-Ok-Some.command)) =
+    sym c.read_command.ensures ∙ ap line_seen (c.in-Ok-Some.is ∙ ap Ok c.in-Ok-Some.field-0-is) in
+    subst (λ (x : Asks). IfOk c.carry_out.result (Answered (λ o. IsReplyWhere s o x)
+    (DeskHolds g.S.Pages.PageSource.honest (HonestOn trusted g.S.TableStore.honest) g.S.TableStore.files g.S.TableStore.headers
+    c.carry_out.new.board c.carry_out.new.tables c.carry_out.new.store)
+    (g.W.Write.contents c.args.out.now) (g.W.Write.contents c.carry_out.new.out))) (sym seen)
+    (c.carry_out.ensures.ok trusted s (subst (λ (x : Asks). IsTrustedAsk trusted x) seen may) d)
+
+pub returns-in-Ok-Some-clause-err : goal.returns-in-Ok-Some-clause-err
+returns-in-Ok-Some-clause-err g c = λ trusted s may d.
+    let seen : command_of c.args.line.now ≡ Ok (Some (command_seen c.in-Ok-Some.command)) =
+    sym c.read_command.ensures ∙ ap line_seen (c.in-Ok-Some.is ∙ ap Ok c.in-Ok-Some.field-0-is) in
+    subst (λ (x : Asks). OnErr c.carry_out.result (BrokenOff (λ o. IsReplyWhere s o x)
+    (g.W.Write.contents c.args.out.now) (g.W.Write.contents c.carry_out.new.out))) (sym seen)
+    (c.carry_out.ensures.err trusted s (subst (λ (x : Asks). IsTrustedAsk trusted x) seen may) d)

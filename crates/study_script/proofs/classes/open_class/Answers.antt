@@ -5,40 +5,40 @@ use Rattle.study_tablefile.specs.Source.{of_header}
 use Rattle.study_prober.specs.Told.{paged_fault}
 use Rattle.study_script.specs.declared.store.StoreFault.{StoreFault}
 use Rattle.study_script.specs.State.{IsGiven, IsGivenAs}
-use Rattle.study_script.specs.Stored.{StoreSeen}
+use Rattle.study_script.specs.Stored.{HonestOn, StoreSeen}
 use Rattle.study_script.proofs.HeldTables.{store_same, store_with}
 use Rattle.study_script.proofs.PagedReplies.{told_is, accepted_none, open_held, open_unopened, open_done, open_refused, gives, paged_with}
 use Rattle.study_script.proofs.classes.open_class.Goals as goal
 
 pub returns-then-holds : goal.returns-then-holds
-returns-then-holds g c = λ s h seen.
+returns-then-holds g c = λ trusted s may h seen.
     open_held g.S.Pages.PageSource.honest c.args.tables.now s h c.args.class
-    (StoreSeen g.S.TableStore.honest g.S.TableStore.files g.S.TableStore.headers c.args.store.now) seen
+    (StoreSeen (HonestOn trusted g.S.TableStore.honest) g.S.TableStore.files g.S.TableStore.headers c.args.store.now) seen
     (sym c.holds.ensures ∙ c.if-holds.true)
 
 pub returns-in-Err : goal.returns-in-Err
-returns-in-Err g c = λ s h seen.
+returns-in-Err g c = λ trusted s may h seen.
     rw c.of_store.ensures (open_unopened g.S.Pages.PageSource.honest c.args.tables.now s h c.args.class
-    (StoreSeen g.S.TableStore.honest g.S.TableStore.files g.S.TableStore.headers c.pages.new.self)
-    (store_same g.S.TableStore.honest g.S.TableStore.files g.S.TableStore.headers c.args.store.now c.pages.new.self
-    s c.pages.ensures.stays c.pages.ensures.files c.pages.ensures.headers seen) c.in-Err.fault
+    (StoreSeen (HonestOn trusted g.S.TableStore.honest) g.S.TableStore.files g.S.TableStore.headers c.pages.new.self)
+    (store_same (HonestOn trusted g.S.TableStore.honest) g.S.TableStore.files g.S.TableStore.headers c.args.store.now c.pages.new.self
+    s (λ b all k is. c.pages.ensures.stays b k (all k is)) c.pages.ensures.files c.pages.ensures.headers seen) c.in-Err.fault
     (sym c.holds.ensures ∙ c.if-holds.false)
     (subst (λ (k : Option (Result (List ℕ) StoreFault)). IsGiven k (Err c.in-Err.fault)) (seen.known.headers_known c.args.class) c.in-Err.ensures.given))
 
 pub returns-in-Ok-add : goal.returns-in-Ok-add
-returns-in-Ok-add g c = λ s h seen.
+returns-in-Ok-add g c = λ trusted s may h seen.
     let honest = g.S.Pages.PageSource.honest in
     let lacks = sym c.holds.ensures ∙ c.if-holds.false in
     let known = seen.known.headers_known c.args.class in
-    let seen' = store_same g.S.TableStore.honest g.S.TableStore.files g.S.TableStore.headers c.args.store.now
-    c.pages.new.self s c.pages.ensures.stays c.pages.ensures.files c.pages.ensures.headers seen in
+    let seen' = store_same (HonestOn trusted g.S.TableStore.honest) g.S.TableStore.files g.S.TableStore.headers c.args.store.now
+    c.pages.new.self s (λ b all k is. c.pages.ensures.stays b k (all k is)) c.pages.ensures.files c.pages.ensures.headers seen in
     let told = c.in-Ok-add.ensures.fault.0 in
     let is_told = subst (λ (k : Option (Result (List ℕ) StoreFault)). IsGivenAs k told) known
     (told_is (g.S.Pages.PageSource.gives c.in-Ok.source of_header)
     (g.S.TableStore.headers c.args.store.now c.args.class) told (c.in-Ok-add.ensures.fault.1 lacks).0
     (c.in-Ok.ensures.opened refl) c.in-Ok.ensures.given) in
     let none = accepted_none (paged_fault false c.args.class told) c.in-Ok-add.field-0 (rw lacks at c.in-Ok-add.ensures.fault.2) in
-    let source = c.in-Ok.ensures.right (subst (λ (b : Bool). g.S.TableStore.honest c.args.store.now b) (sym h.by_pages) seen.is_honest) in
+    let source = c.in-Ok.ensures.right (subst (λ (b : Bool). g.S.TableStore.honest c.args.store.now b c.args.class) (sym h.by_pages) (seen.is_honest c.args.class may)) in
     let own = c.in-Ok-add.ensures.own source.table source.version source.known source.is_honest in
     let right =
     c.in-Ok-add.ensures.honest source.version
@@ -46,19 +46,19 @@ returns-in-Ok-add g c = λ s h seen.
     (gives honest c.in-Ok.source c.args.class source own) in
     let added = c.in-Ok-add.ensures.added in
     open_done honest c.args.tables.now s h c.args.class
-    (StoreSeen g.S.TableStore.honest g.S.TableStore.files g.S.TableStore.headers c.pages.new.self) c.add.new.self
+    (StoreSeen (HonestOn trusted g.S.TableStore.honest) g.S.TableStore.files g.S.TableStore.headers c.pages.new.self) c.add.new.self
     told
-    (store_with g.S.TableStore.honest g.S.TableStore.files g.S.TableStore.headers c.pages.new.self s c.args.class
+    (store_with (HonestOn trusted g.S.TableStore.honest) g.S.TableStore.files g.S.TableStore.headers c.pages.new.self s c.args.class
     seen') (paged_with honest c.args.tables.now c.add.new.self s c.args.class added.0 h right
     c.in-Ok-add.ensures.places added.6) lacks is_told none
 
 pub returns-in-Err-add : goal.returns-in-Err-add
-returns-in-Err-add g c = λ s h seen.
+returns-in-Err-add g c = λ trusted s may h seen.
     let honest = g.S.Pages.PageSource.honest in
     let lacks = sym c.holds.ensures ∙ c.if-holds.false in
     let known = seen.known.headers_known c.args.class in
-    let seen' = store_same g.S.TableStore.honest g.S.TableStore.files g.S.TableStore.headers c.args.store.now
-    c.pages.new.self s c.pages.ensures.stays c.pages.ensures.files c.pages.ensures.headers seen in
+    let seen' = store_same (HonestOn trusted g.S.TableStore.honest) g.S.TableStore.files g.S.TableStore.headers c.args.store.now
+    c.pages.new.self s (λ b all k is. c.pages.ensures.stays b k (all k is)) c.pages.ensures.files c.pages.ensures.headers seen in
     let told = c.in-Err-add.ensures.fault.0 in
     let is_told = subst (λ (k : Option (Result (List ℕ) StoreFault)). IsGivenAs k told) known
     (told_is (g.S.Pages.PageSource.gives c.in-Ok.source of_header)
@@ -66,6 +66,6 @@ returns-in-Err-add g c = λ s h seen.
     (c.in-Ok.ensures.opened refl) c.in-Ok.ensures.given) in
     rw c.of_paged.ensures
     (open_refused honest c.args.tables.now s h c.args.class
-    (StoreSeen g.S.TableStore.honest g.S.TableStore.files g.S.TableStore.headers c.pages.new.self)
+    (StoreSeen (HonestOn trusted g.S.TableStore.honest) g.S.TableStore.files g.S.TableStore.headers c.pages.new.self)
     c.add.new.self told c.in-Err-add.fault c.in-Err-add.ensures.same seen' lacks is_told
     (rw lacks at c.in-Err-add.ensures.fault.2))

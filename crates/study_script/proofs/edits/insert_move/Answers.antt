@@ -4,6 +4,7 @@ use Rattle.study_marks.specs.Study.{position_at}
 use Rattle.study_marks.specs.Kept.{marked}
 use Rattle.study_marks.specs.Asked.{asked_at, AllHeld}
 use Rattle.study_script.specs.Held.{tables_held}
+use Rattle.study_script.proofs.TablesFaults.{whole_told, paged_told}
 use Rattle.study_script.proofs.edits.insert_move.Goals as goal
 
 pub returns-in-Whole-clause-refusal : goal.returns-in-Whole-clause-refusal
@@ -25,3 +26,11 @@ returns-in-Paged-clause-found g c =
     (λ t. OnOk c.insert-in-Paged.result
     (AllHeld (tables_held t) (asked_at (after (position_at (marked c.args.bench.now) c.args.path.now) c.args.m))))
     (sym c.in-Paged.is) c.insert-in-Paged.ensures.found
+
+pub returns-in-Whole-clause-first : goal.returns-in-Whole-clause-first
+returns-in-Whole-clause-first g c = whole_told g.P.PageSource.gives c.args.tables.now c.in-Whole.tables c.insert.new.values
+    (asked_at (after (position_at (marked c.args.bench.now) c.args.path.now) c.args.m)) c.insert.result c.in-Whole.is c.insert.ensures.first
+
+pub returns-in-Paged-clause-first : goal.returns-in-Paged-clause-first
+returns-in-Paged-clause-first g c = paged_told g.P.PageSource.gives c.args.tables.now c.in-Paged.tables c.insert-in-Paged.new.values
+    (asked_at (after (position_at (marked c.args.bench.now) c.args.path.now) c.args.m)) c.insert-in-Paged.result c.in-Paged.is c.insert-in-Paged.ensures.first

@@ -1,6 +1,7 @@
 use Rattle.std.proofs.Common.{sym, subst, OnOk}
 use Rattle.study_marks.specs.Asked.{asked_at, AllHeld}
 use Rattle.study_script.specs.Held.{tables_held}
+use Rattle.study_script.proofs.TablesFaults.{whole_told, paged_told}
 use Rattle.study_script.proofs.edits.set_position.Goals as goal
 
 pub returns-in-Whole-clause-refusal : goal.returns-in-Whole-clause-refusal
@@ -18,3 +19,11 @@ pub returns-in-Paged-clause-found : goal.returns-in-Paged-clause-found
 returns-in-Paged-clause-found g c =
     subst (λ t. OnOk c.set_position-in-Paged.result (AllHeld (tables_held t) (asked_at c.args.start.position)))
     (sym c.in-Paged.is) c.set_position-in-Paged.ensures.found
+
+pub returns-in-Whole-clause-first : goal.returns-in-Whole-clause-first
+returns-in-Whole-clause-first g c = whole_told g.P.PageSource.gives c.args.tables.now c.in-Whole.tables c.set_position.new.values
+    (asked_at c.args.start.position) c.set_position.result c.in-Whole.is c.set_position.ensures.first
+
+pub returns-in-Paged-clause-first : goal.returns-in-Paged-clause-first
+returns-in-Paged-clause-first g c = paged_told g.P.PageSource.gives c.args.tables.now c.in-Paged.tables c.set_position-in-Paged.new.values
+    (asked_at c.args.start.position) c.set_position-in-Paged.result c.in-Paged.is c.set_position-in-Paged.ensures.first

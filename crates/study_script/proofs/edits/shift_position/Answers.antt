@@ -4,6 +4,7 @@ use Rattle.study_marks.specs.Kept.{marked}
 use Rattle.study_marks.specs.Asked.{positions_asked, AllHeld}
 use Rattle.study_marks.specs.Edits.{shifted}
 use Rattle.study_script.specs.Held.{tables_held}
+use Rattle.study_script.proofs.TablesFaults.{whole_told, paged_told}
 use Rattle.study_script.proofs.edits.shift_position.Goals as goal
 
 pub returns-in-Whole-clause-refusal : goal.returns-in-Whole-clause-refusal
@@ -25,3 +26,11 @@ returns-in-Paged-clause-found g c =
     (λ t. OnOk c.shift_position-in-Paged.result
     (AllHeld (tables_held t) (positions_asked (shifted (plain_study (marked c.args.bench.now)) c.args.start))))
     (sym c.in-Paged.is) c.shift_position-in-Paged.ensures.found
+
+pub returns-in-Whole-clause-first : goal.returns-in-Whole-clause-first
+returns-in-Whole-clause-first g c = whole_told g.P.PageSource.gives c.args.tables.now c.in-Whole.tables c.shift_position.new.values
+    (positions_asked (shifted (plain_study (marked c.args.bench.now)) c.args.start)) c.shift_position.result c.in-Whole.is c.shift_position.ensures.first
+
+pub returns-in-Paged-clause-first : goal.returns-in-Paged-clause-first
+returns-in-Paged-clause-first g c = paged_told g.P.PageSource.gives c.args.tables.now c.in-Paged.tables c.shift_position-in-Paged.new.values
+    (positions_asked (shifted (plain_study (marked c.args.bench.now)) c.args.start)) c.shift_position-in-Paged.result c.in-Paged.is c.shift_position-in-Paged.ensures.first

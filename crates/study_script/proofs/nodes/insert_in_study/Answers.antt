@@ -9,7 +9,9 @@ use Rattle.study_command.specs.Paths.{steps_of}
 use Rattle.study_script.specs.State.{Outside, no_path, study}
 use Rattle.study_script.specs.Held.{Holds, BrokenOff}
 use Rattle.study_script.specs.Replies.{refused, IsMoveReplyAt, IsInsertReply}
+use Rattle.std.proofs.lemmas.Bool.{false≢true}
 use Rattle.study_script.proofs.Boards.{ok_told, err_told}
+use Rattle.study_script.proofs.PlainNodes.{no_path_insert}
 use Rattle.study_script.proofs.InsertReplies.{with_path}
 use Rattle.study_script.proofs.nodes.insert_in_study.Goals as goal
 
@@ -24,7 +26,7 @@ returns-in-Ok-clause-ok g c =
     (g.W.Write.contents c.args.out.now) (g.W.Write.contents c.insert_at.new.out)
     (λ o r i. with_path s (plain_study (marked c.args.bench.now)) (steps_of c.args.path.now) c.args.san.now o r
     (subst (λ (x : List ℕ). IsMoveReplyAt s o (plain_study (marked c.args.bench.now)) x c.args.san.now
-    (has_spot (plain_study (marked c.args.bench.now)).tree x) r) c.in-Ok.ensures i)) (λ t m. m)
+    (has_spot (plain_study (marked c.args.bench.now)).tree x) r) c.in-Ok.ensures.path i)) (λ t m. m)
     (c.insert_at.ensures.ok s h)
 
 pub returns-in-Ok-clause-err : goal.returns-in-Ok-clause-err
@@ -36,7 +38,7 @@ returns-in-Ok-clause-err g c =
     (g.W.Write.contents c.insert_at.new.out)
     (λ o r i. with_path s (plain_study (marked c.args.bench.now)) (steps_of c.args.path.now) c.args.san.now o r
     (subst (λ (x : List ℕ). IsMoveReplyAt s o (plain_study (marked c.args.bench.now)) x c.args.san.now
-    (has_spot (plain_study (marked c.args.bench.now)).tree x) r) c.in-Ok.ensures i))
+    (has_spot (plain_study (marked c.args.bench.now)).tree x) r) c.in-Ok.ensures.path i))
     (c.insert_at.ensures.err s h)
 
 pub returns-in_err-refuse-in-Err-clause-err : goal.returns-in_err-refuse-in-Err-clause-err
@@ -45,7 +47,7 @@ returns-in_err-refuse-in-Err-clause-err g c =
     let part : BrokenOff (λ (o : Outside). IsInsertReply s o (study (plain_study (marked c.args.bench.now)))
     (steps_of c.args.path.now) c.args.san.now) (g.W.Write.contents c.args.out.now)
     (g.W.Write.contents c.refuse.new.out) =
-    (no_path, refused s OutOfMemory, refl, c.in_err-refuse-in-Err.ensures.err) in OnErr-known _ _ part
+    (no_path, refused s OutOfMemory, (no_path_insert s (plain_study (marked c.args.bench.now)) (steps_of c.args.path.now) c.args.san.now (λ e. false≢true (c.in-Err.ensures.root e))), c.in_err-refuse-in-Err.ensures.err) in OnErr-known _ _ part
 
 pub returns-in_ok-refuse-in-Err-clause-ok : goal.returns-in_ok-refuse-in-Err-clause-ok
-returns-in_ok-refuse-in-Err-clause-ok g c = λ s h. (no_path, refused s OutOfMemory, refl, c.in_ok-refuse-in-Err.ensures.ok, h, refl)
+returns-in_ok-refuse-in-Err-clause-ok g c = λ s h. (no_path, refused s OutOfMemory, (no_path_insert s (plain_study (marked c.args.bench.now)) (steps_of c.args.path.now) c.args.san.now (λ e. false≢true (c.in-Err.ensures.root e))), c.in_ok-refuse-in-Err.ensures.ok, h, refl)

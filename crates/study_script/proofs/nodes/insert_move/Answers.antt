@@ -96,7 +96,7 @@ returns-in_err-refuse_edit-in-Err-clause-err g c = λ s h.
     (subst (λ (p : Position). MatchOption (insert_refusal {A = g.row.A.Denot} old steps m)
     (IfErr c.insert_move.result (IsOutside (tables_held tables) (asked_at (after p m))))
     (λ fault. c.insert_move.result ≡ Err fault)) (sym (position_at-plain shown steps))
-    c.insert_move.ensures.refusal) c.in-Err.is c.in-Err.ensures.device in
+    c.insert_move.ensures.refusal) c.in-Err.is c.in-Err.ensures.device (c.in-Err.ensures.no_damage h.values) in
     let part : BrokenOff (λ (o : Outside). IsMoveReply s o (plain_study (marked c.args.bench.now)) c.args.path.now
     (Ok c.args.m.now)) (g.W.Write.contents c.args.out.now) (g.W.Write.contents c.refuse_edit.new.out) =
     (told.0, refused_as s (edit_words c.in-Err.refusal), told.1, c.in_err-refuse_edit-in-Err.ensures.err) in
@@ -118,7 +118,7 @@ returns-in_ok-refuse_edit-in-Err-clause-ok g c = λ s h.
     (subst (λ (p : Position). MatchOption (insert_refusal {A = g.row.A.Denot} old steps m)
     (IfErr c.insert_move.result (IsOutside (tables_held tables) (asked_at (after p m))))
     (λ fault. c.insert_move.result ≡ Err fault)) (sym (position_at-plain shown steps))
-    c.insert_move.ensures.refusal) c.in-Err.is c.in-Err.ensures.device in (
+    c.insert_move.ensures.refusal) c.in-Err.is c.in-Err.ensures.device (c.in-Err.ensures.no_damage h.values) in (
       told.0,
       refused_as s (edit_words c.in-Err.refusal),
       told.1,

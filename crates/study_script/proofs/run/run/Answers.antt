@@ -3,9 +3,9 @@ use Rattle.study_script.specs.Outcome.{begun_state}
 use Rattle.study_script.specs.Stored.{shelf_of}
 use Rattle.study_script.proofs.run.run.Goals as goal
 
-pub returns : goal.returns
-returns g c =
-    λ honest. c.run_in.ensures.outcome
+pub returns-clause-outcome : goal.returns-clause-outcome
+returns-clause-outcome g c =
+    λ trusted honest. c.run_in.ensures.outcome trusted
     (begun_state (shelf_of g.S.TableStore.files g.S.TableStore.headers c.args.store.now)
     (is_some c.args.settings.pages)) (record {
       held =

@@ -52,7 +52,8 @@ returns-in_err-refuse_edit-in-Err-clause-err g c = λ s h.
     let tables = c.args.tables.now in
     let others = c.new_bench.new.tables in
     let told = refused_asking g.row.A.Denot s (tables_held tables) (are_paged tables) asked new said
-    c.in-Err.refusal h.classes h.paged c.in-Err.ensures.refusal c.in-Err.ensures.device c.in-Err.ensures.takes_no_memory in
+    c.in-Err.refusal h.classes h.paged c.in-Err.ensures.refusal c.in-Err.ensures.device
+    (c.in-Err.ensures.no_damage h.values) c.in-Err.ensures.takes_no_memory in
     let part : BrokenOff (λ (o : Outside). IsStipulateReply s o (start c.args.start) c.args.stipulation.now)
     (g.W.Write.contents c.args.out.now) (g.W.Write.contents c.refuse_edit.new.out) =
     (told.0, refused_as s (edit_words c.in-Err.refusal), told.1, c.in_err-refuse_edit-in-Err.ensures.err) in
@@ -66,7 +67,8 @@ returns-in_ok-refuse_edit-in-Err-clause-ok g c = λ s h.
     let tables = c.args.tables.now in
     let others = c.new_bench.new.tables in
     let told = refused_asking g.row.A.Denot s (tables_held tables) (are_paged tables) asked new said
-    c.in-Err.refusal h.classes h.paged c.in-Err.ensures.refusal c.in-Err.ensures.device c.in-Err.ensures.takes_no_memory in (
+    c.in-Err.refusal h.classes h.paged c.in-Err.ensures.refusal c.in-Err.ensures.device
+    (c.in-Err.ensures.no_damage h.values) c.in-Err.ensures.takes_no_memory in (
       told.0,
       refused_as s (edit_words c.in-Err.refusal),
       told.1,

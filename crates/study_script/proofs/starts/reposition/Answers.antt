@@ -66,7 +66,8 @@ returns-in_err-refuse_edit-in-Err-clause-err g c = λ s h.
     let asked = asked_at start.position in
     let tables = c.args.tables.now in
     let out = refused_asking g.row.A.Denot s (tables_held tables) (are_paged tables) asked new said
-    c.in-Err.refusal h.classes h.paged c.in-Err.ensures.refusal c.in-Err.ensures.device c.in-Err.ensures.takes_no_memory in
+    c.in-Err.refusal h.classes h.paged c.in-Err.ensures.refusal c.in-Err.ensures.device
+    (c.in-Err.ensures.no_damage h.values) c.in-Err.ensures.takes_no_memory in
     let part : BrokenOff (λ (o : Outside). IsPositionReply s o (study (plain_study (marked c.args.bench.now)))
     start) (g.W.Write.contents c.args.out.now) (g.W.Write.contents c.refuse_edit.new.out) =
     (out.0, refused_as s (edit_words c.in-Err.refusal), out.1, c.in_err-refuse_edit-in-Err.ensures.err) in
@@ -80,7 +81,8 @@ returns-in_ok-refuse_edit-in-Err-clause-ok g c = λ s h.
     let asked = asked_at start.position in
     let tables = c.args.tables.now in
     let out = refused_asking g.row.A.Denot s (tables_held tables) (are_paged tables) asked new said
-    c.in-Err.refusal h.classes h.paged c.in-Err.ensures.refusal c.in-Err.ensures.device c.in-Err.ensures.takes_no_memory in (
+    c.in-Err.refusal h.classes h.paged c.in-Err.ensures.refusal c.in-Err.ensures.device
+    (c.in-Err.ensures.no_damage h.values) c.in-Err.ensures.takes_no_memory in (
       out.0,
       refused_as s (edit_words c.in-Err.refusal),
       out.1,

@@ -76,7 +76,7 @@ returns-in_err-refuse_edit-in-Err-clause-err g c = λ s h.
     let asked = positions_asked new in
     let tables = c.args.tables.now in
     let out = shift_refused g.row.A.Denot s (tables_held tables) (are_paged tables) old start c.in-Err.refusal
-    h.classes h.paged c.in-Err.ensures.refusal c.in-Err.ensures.device in
+    h.classes h.paged c.in-Err.ensures.refusal c.in-Err.ensures.device (c.in-Err.ensures.no_damage h.values) in
     let part : BrokenOff (λ (o : Outside). IsShiftReply s o old start reason) (g.W.Write.contents c.args.out.now)
     (g.W.Write.contents c.refuse_edit.new.out) =
     (out.0, refused_as s (edit_words c.in-Err.refusal), out.1, c.in_err-refuse_edit-in-Err.ensures.err) in
@@ -92,7 +92,7 @@ returns-in_ok-refuse_edit-in-Err-clause-ok g c = λ s h.
     let asked = positions_asked new in
     let tables = c.args.tables.now in
     let out = shift_refused g.row.A.Denot s (tables_held tables) (are_paged tables) old start c.in-Err.refusal
-    h.classes h.paged c.in-Err.ensures.refusal c.in-Err.ensures.device in (
+    h.classes h.paged c.in-Err.ensures.refusal c.in-Err.ensures.device (c.in-Err.ensures.no_damage h.values) in (
       out.0,
       refused_as s (edit_words c.in-Err.refusal),
       out.1,

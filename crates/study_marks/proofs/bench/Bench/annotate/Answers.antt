@@ -17,6 +17,8 @@ use Rattle.study_marks.specs.Whole.{retold_tree}
 use Rattle.study_marks.proofs.BenchEdits.{counted-later}
 use Rattle.study_marks.proofs.Readers.{size-marked}
 use Rattle.study_marks.proofs.BenchRewritten.{restarted, shifted-study, shifted-plain, shifted-right, asked-shifted, same-refusal, refusal-asked}
+use Rattle.study_marks.specs.Answers.{TellsFirstFault}
+use Rattle.study_marks.proofs.FaultsTold.{same-first, same-undamaged}
 use Rattle.study_marks.proofs.bench.Bench.annotate.Goals as goal
 
 pub returns-in_err-all-clause-refusal : goal.returns-in_err-all-clause-refusal
@@ -102,3 +104,17 @@ returns-clause-asked g c =
     let b = kept_of c.self.inside.start c.self.inside.stipulation c.self.inside.tags c.self.inside.tree in
     let same = asked-shifted b c.args.self.now c.args.start c.self.view_is in
     c.in_ok-all.ensures.asked ∙ ap (λ (ps : List Position). counted_times (length ps) (g.V.Values.asked_of c.args.values.now)) same
+
+pub returns-in_err-all-clause-first : goal.returns-in_err-all-clause-first
+returns-in_err-all-clause-first g c =
+    let b = kept_of c.self.inside.start c.self.inside.stipulation c.self.inside.tags c.self.inside.tree in
+    let same = asked-shifted b c.args.self.now c.args.start c.self.view_is in
+    same-first g.V.Values.gives g.V.Values.asked_of c.args.values.now
+    (positions_asked (shifted (plain_study (marked c.args.self.now)) c.args.start)) c.gather.new.values c.from_residual.result
+    c.in_err-all.field-0.0 c.from_residual.ensures.1
+    (subst (λ (ps : List Position). TellsFirstFault g.V.Values.gives g.V.Values.asked_of c.args.values.now ps c.gather.new.values
+    c.in_err-all.field-0.0) same c.in_err-all.ensures.first)
+
+pub returns-in_err-all-clause-no_damage : goal.returns-in_err-all-clause-no_damage
+returns-in_err-all-clause-no_damage g c = λ h.
+    same-undamaged c.in_err-all.field-0.0 c.from_residual.result c.from_residual.ensures.1 (c.in_err-all.ensures.no_damage h)

@@ -1,8 +1,9 @@
-use Rattle.std.proofs.Common.{ℕ, sym, subst, arith}
+use Rattle.std.proofs.Common.{◌≡◌, ℕ, take, sym, subst, arith}
 use Rattle.study_marks.specs.Study.{plain_study}
 use Rattle.study_marks.specs.Kept.{marked}
-use Rattle.study_marks.specs.Stop.{IsStopped, HasAskedUpTo}
-use Rattle.study_marks.proofs.EditLists.{run-next, run-refusal, run-asked}
+use Rattle.study_marks.specs.Stop.{IsStopped, HasAskedUpTo, StopsAtFault, asked_after_edits, questions_of}
+use Rattle.study_marks.specs.Answers.{TellsFirstFault}
+use Rattle.study_marks.proofs.EditLists.{run-next, run-refusal, run-asked, tells-at}
 use Rattle.study_marks.proofs.bench.Bench.apply_all.Goals as goal
 
 pub returns-in-Err-clause-stopped : goal.returns-in-Err-clause-stopped
@@ -11,7 +12,7 @@ returns-in-Err-clause-stopped g c =
     c.args.edits.now n c.in-Err.refusal) (sym c.loop-edit.invariant.done)
     (run-refusal _ _ _ _ _ _ _ _ _ _ _ _ c.args.self.now c.loop-edit.self c.apply.new.self c.args.edits.now
     c.loop-edit.edit-index c.edit-item.result c.loop-edit.invariant.run c.loop-edit-test.true c.edit-item.is
-    c.in-Err.refusal c.in-Err.ensures)
+    c.in-Err.refusal c.in-Err.ensures.applied)
 
 pub returns-in-Err-clause-asked : goal.returns-in-Err-clause-asked
 returns-in-Err-clause-asked g c =
@@ -20,12 +21,25 @@ returns-in-Err-clause-asked g c =
     (sym c.loop-edit.invariant.done)
     (run-asked _ _ _ _ _ _ _ _ _ _ _ _ c.args.self.now c.loop-edit.self c.apply.new.self c.args.edits.now
     c.loop-edit.edit-index c.edit-item.result c.loop-edit.invariant.run c.loop-edit-test.true c.edit-item.is
-    c.in-Err.refusal c.in-Err.ensures)
+    c.in-Err.refusal c.in-Err.ensures.applied)
 
 pub loop-edit-preserved : goal.loop-edit-preserved
 loop-edit-preserved g c = record {
   run = run-next _ _ _ _ _ _ _ _ _ _ _ _ c.args.self.now c.loop-edit.self c.apply.new.self c.args.edits.now
       c.loop-edit.edit-index c.edit-item.result c.loop-edit.invariant.run c.loop-edit-test.true c.edit-item.is
-      c.in_default.ensures;
+      c.in_default.ensures.applied;
   done = omega (arith, c.loop-edit.invariant.done);
+}
+
+pub returns-in-Err-clause-first : goal.returns-in-Err-clause-first
+returns-in-Err-clause-first g c = record {
+  mid = c.loop-edit.values;
+  asked = subst (λ (n : ℕ). g.V.Values.asked_of c.loop-edit.values ≡ asked_after_edits (plain_study (marked c.args.self.now)) (take n c.args.edits.now)
+      (g.V.Values.asked_of c.args.values.now)) (sym c.loop-edit.invariant.done) c.loop-edit.invariant.run.counts;
+  first = subst (λ (n : ℕ). StopsAtFault g.V.Values.gives g.V.Values.asked_of c.loop-edit.values (plain_study (marked c.args.self.now))
+      c.args.edits.now n c.apply.new.values c.in-Err.refusal) (sym c.loop-edit.invariant.done)
+      (tells-at g.V.Values.gives g.V.Values.asked_of c.loop-edit.values c.apply.new.values (plain_study (marked c.args.self.now)) c.args.edits.now
+      c.loop-edit.edit-index c.edit-item.result c.in-Err.refusal c.loop-edit-test.true c.edit-item.is
+      (subst (λ x. TellsFirstFault g.V.Values.gives g.V.Values.asked_of c.loop-edit.values (questions_of x c.edit-item.result) c.apply.new.values
+      c.in-Err.refusal) c.loop-edit.invariant.run.edit c.in-Err.ensures.first));
 }

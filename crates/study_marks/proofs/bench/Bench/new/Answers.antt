@@ -1,5 +1,16 @@
+use Rattle.study_marks.specs.Asked.{asked_at}
 use Rattle.study_marks.proofs.InsertedMoves.{tables-answer}
+use Rattle.study_marks.proofs.FaultsTold.{first-answer, undamaged-answer}
 use Rattle.study_marks.proofs.bench.Bench.new.Goals as goal
 
 pub returns-in_err-told-clause-takes_no_memory : goal.returns-in_err-told-clause-takes_no_memory
 returns-in_err-told-clause-takes_no_memory g c = tables-answer c.in_err-told.field-0.0 c.from_residual.result c.from_residual.ensures.1
+
+pub returns-in_err-told-clause-first : goal.returns-in_err-told-clause-first
+returns-in_err-told-clause-first g c =
+    first-answer g.V.Values.gives g.V.Values.asked_of c.args.values.now (asked_at c.args.start.position) c.ask.new.values
+    c.in_err-told.field-0.0 c.from_residual.result c.from_residual.ensures.1 c.in_err-told.ensures.first
+
+pub returns-in_err-told-clause-no_damage : goal.returns-in_err-told-clause-no_damage
+returns-in_err-told-clause-no_damage g c = λ h.
+    undamaged-answer c.in_err-told.field-0.0 c.from_residual.result c.from_residual.ensures.1 (c.in_err-told.ensures.no_damage h)

@@ -6,6 +6,7 @@ use Rattle.study_marks.specs.Kept.{Kept, marked}
 use Rattle.study_marks.specs.Edits.{shifted}
 use Rattle.study_marks.specs.Asked.{positions_asked, AllHeld, IsOutside, HasAsked}
 use Rattle.study_marks.proofs.BenchRewritten.{asked-plain}
+use Rattle.study_marks.specs.Answers.{TellsFirstFault}
 use Rattle.study_marks.proofs.bench.Bench.reannotate.Goals as goal
 
 pub returns-clause-refusal : goal.returns-clause-refusal
@@ -29,3 +30,11 @@ returns-clause-asked g c =
     ap (λ s. positions_asked (shifted (plain_study (marked c.args.self.now)) s)) start ∙ asked-plain (marked c.args.self.now) in
     subst (λ (ps : List Position). HasAsked (length ps) c.annotate.result (g.V.Values.asked_of c.args.values.now)
     (g.V.Values.asked_of c.annotate.new.values)) same c.annotate.ensures.asked
+
+pub returns-clause-first : goal.returns-clause-first
+returns-clause-first g c =
+    let start : c.copied-start.result ≡ c.args.self.now.study.start = c.copied-start.ensures ∙ ap (λ (k : Kept). k.study.start) c.self.view_is in
+    let same : positions_asked (shifted (plain_study (marked c.args.self.now)) c.copied-start.result) ≡ positions_asked (marked c.args.self.now) =
+    ap (λ s. positions_asked (shifted (plain_study (marked c.args.self.now)) s)) start ∙ asked-plain (marked c.args.self.now) in
+    subst (λ (ps : List Position). IfErr c.annotate.result (TellsFirstFault g.V.Values.gives g.V.Values.asked_of
+    c.args.values.now ps c.annotate.new.values)) same c.annotate.ensures.first

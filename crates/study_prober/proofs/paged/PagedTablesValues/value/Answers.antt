@@ -1,12 +1,12 @@
-use Rattle.std.proofs.Common.{◌≡◌, ◌/◌, ◌∙◌, ap, sym}
+use Rattle.std.proofs.Common.{◌≡◌, ◌/◌, ◌∙◌, ap, sym, subst}
 use Rattle.study_material.specs.declared.class.Class.{Class}
 use Rattle.study_prober.specs.Cache.{key_at}
-use Rattle.study_prober.specs.Paged.{Paged, held_of}
+use Rattle.study_prober.specs.Paged.{Paged, SourcesAreRight, held_of}
 use Rattle.study_index.specs.Found.{index_of}
 use Rattle.study_prober.specs.Sources.{IsGivenPage}
 use Rattle.study_prober.proofs.GivenPages.{put_seen, fewer_seen, on_err}
 use Rattle.study_prober.proofs.KeptCells.{again_seen}
-use Rattle.study_prober.proofs.PagedAnswers.{answered}
+use Rattle.study_prober.proofs.PagedAnswers.{answered, undamaged}
 use Rattle.study_prober.proofs.HeldSources.{no_table_by, stays_right_at}
 use Rattle.study_prober.proofs.Tables.{one_class}
 use Rattle.study_prober.proofs.paged.PagedTablesValues.value.Goals as goal
@@ -73,3 +73,10 @@ returns-clause-given g c = λ d of.
     (λ h f was. probed.unread d h f of (same ∙ was))
     (λ b page told. let at = probed.damaged b page told in (one_class b d c.args.p.now at.0 of, at.1))
     (λ h page was. probed.not_whole d h page (same ∙ was))
+
+pub returns-clause-no_damage : goal.returns-clause-no_damage
+returns-clause-no_damage g c = λ right.
+    let probed = c.probe-answer.ensures in
+    undamaged g.S.PageSource.honest c.self.inside.sources.items c.args.p.now c.probe-answer.result
+    (subst (λ (w : Paged g.row.S.Denot). SourcesAreRight g.S.PageSource.honest w.sources) (sym c.self.view_is) right)
+    (λ d. (probed.no_table d).1) probed.whole probed.damaged

@@ -1,5 +1,4 @@
 use Rattle.std.proofs.Common.{List, refl, sym, ap, subst, ◌∙◌}
-use Rattle.study_material.specs.declared.class.Class.{Class}
 use Rattle.study_script.specs.declared.memory.MemoryFile.{MemoryFile}
 use Rattle.study_script.specs.Memory.{memory_file, file_known, header_known, IsHonestFile}
 use Rattle.study_script.proofs.MemoryFiles.{known_anew, honest_anew}
@@ -7,8 +6,8 @@ use Rattle.study_script.proofs.memory.MemoryStoreTableStore.writer.Goals as goal
 
 pub returns-in-None-clause-stays : goal.returns-in-None-clause-stays
 returns-in-None-clause-stays g c =
-    λ b h. subst (λ (fs : List MemoryFile). (d : Class) → IsHonestFile b (memory_file fs d)) (sym c.put.ensures.files)
-    (honest_anew c.args.self.now.files c.args.class c.put.ensures.places b h)
+    λ b d h. subst (λ (fs : List MemoryFile). IsHonestFile b (memory_file fs d)) (sym c.put.ensures.files)
+    (honest_anew c.args.self.now.files c.args.class c.put.ensures.places b d h)
 
 pub returns-in-None-clause-files : goal.returns-in-None-clause-files
 returns-in-None-clause-files g c = λ d. ap (λ (fs : List MemoryFile). file_known (memory_file fs d)) c.put.ensures.files
@@ -21,8 +20,8 @@ returns-in-None-clause-headers g c =
 
 pub returns-in-Some-clause-stays : goal.returns-in-Some-clause-stays
 returns-in-Some-clause-stays g c =
-    λ b h. subst (λ (fs : List MemoryFile). (d : Class) → IsHonestFile b (memory_file fs d)) (sym c.put.ensures.files)
-    (honest_anew c.args.self.now.files c.args.class c.put.ensures.places b h)
+    λ b d h. subst (λ (fs : List MemoryFile). IsHonestFile b (memory_file fs d)) (sym c.put.ensures.files)
+    (honest_anew c.args.self.now.files c.args.class c.put.ensures.places b d h)
 
 pub returns-in-Some-clause-files : goal.returns-in-Some-clause-files
 returns-in-Some-clause-files g c = λ d. ap (λ (fs : List MemoryFile). file_known (memory_file fs d)) c.put.ensures.files
