@@ -1,8 +1,8 @@
 //! Studies as PGN.
 //!
 //! `write_pgn` gives a writer the PGN text of a study, to the letter: the tags, the stipulation with its verdict, and
-//! the tree of moves with their marks, in lines of at most 79 characters. The text is made whole before the first byte
-//! is written.
+//! the tree of moves with their marks, in lines of at most 79 characters (a longer word makes a line of its own). The
+//! text is made whole before the first byte is written.
 #![tactic(auto)]
 
 mod fault;
