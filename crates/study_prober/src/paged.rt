@@ -96,6 +96,7 @@ impl<'a, S: PageSource, A: Allocator> PagedTables<'a, S, A> {
             × (self.new ≡ record self.old { sources = slice_set (places_for_classes self.old.sources) (class_place class) (Some h) })
             ) }
         ensures same { OnErr result (self.new ≡ self.old) }
+        ensures takes_no_memory { ¬ (length self.old.sources ≡ 0) → IsErrOf result PagedFault.OutOfMemory → ⊥ }
 
         // Each class has a place from the first source on.
         ensures places { OnOk result (length self.new.sources ≡ 36) }
@@ -142,6 +143,7 @@ fn make_places<'a, S: Drop, A: Allocator>(
 ) -> Result<(), AllocError>
     ensures made { OnOk result (sources.new.items ≡ places_for_classes sources.old.items) }
     ensures same { OnErr result (sources.new ≡ sources.old) }
+    ensures there { ¬ (length sources.old.items ≡ 0) → OnErr result ⊥ }
 {
     if sources.is_empty() {
         *sources = no_sources(alloc)?;
