@@ -283,6 +283,8 @@ impl<'a> PageSource for MemorySource<'a> {
 
     ghost failed = { λ s. s.failures };
 
+    ghost asked = { λ s. s.asked };
+
     #[tactic(auto, using(crate::proofs::ReadAgain::header_given))]
     fn header(&mut self, into: &mut [u8; 64]) -> Result<(), SourceFault>
         ensures ok { (t : Seen) (v : ℕ) → self.old.text.now ≡ table_text t v → OnOk result (into.new ≡ header_text t.class v) }
