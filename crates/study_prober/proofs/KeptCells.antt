@@ -64,15 +64,25 @@ cell_of : {V : Type 0} (cells : V → List ℕ) (i : ℕ) (o : Option V) → cel
 cell_of cells i None = refl
 cell_of cells i (Some v) = refl
 
+-- a cell of pages as a contract sees them
+pub cell_seen : {V : Type 0} (cells : V → List ℕ) (kept : List (PageKey × V)) (c : Class) (n : ℕ)
+    → kept_cell (λ xs. xs) (map (λ e. (e.0, cells e.1)) kept) c n ≡ kept_cell cells kept c n
+cell_seen cells kept c n =
+    let test = same_key (key_at c n) in
+    ap (λ (o : Option (List ℕ)). cell_at (λ xs. xs) (n % 4096) o) (lookup-map_values cells test kept)
+    ∙ cell_of cells (n % 4096) (lookup test kept)
+
+pub none_seen : {V : Type 0} (cells : V → List ℕ) (kept : List (PageKey × V)) (seen : List (PageKey × List ℕ)) (c : Class) (n : ℕ)
+    → map (λ e. (e.0, cells e.1)) kept ≡ seen → kept_cell (λ xs. xs) seen c n ≡ None → kept_cell cells kept c n ≡ None
+none_seen cells kept seen c n view none =
+    sym (cell_seen cells kept c n) ∙ ap (λ (es : List (PageKey × List ℕ)). kept_cell (λ xs. xs) es c n) view ∙ none
+
 -- the same, of pages as a contract sees them
 pub again_seen : {S V : Type 0} (cells : V → List ℕ) (xs ys zs : List S) (kept : List (PageKey × V))
     (seen : List (PageKey × List ℕ)) (r : Result Value ProbeFault) (c : Class) (n : ℕ)
     → xs ≡ zs → map (λ e. (e.0, cells e.1)) kept ≡ seen → IsAgain cells xs ys kept r c n → IsAgain (λ cells. cells) zs ys seen r c n
 again_seen cells xs ys zs kept seen r c n same view told =
-    let test = same_key (key_at c n) in
     let Seen : ℕ → Type 0 = λ x. (r ≡ Ok (value_of x)) × (ys ≡ zs) in
-    let cell : kept_cell (λ xs. xs) (map (λ e. (e.0, cells e.1)) kept) c n ≡ kept_cell cells kept c n =
-    ap (λ (o : Option (List ℕ)). cell_at (λ xs. xs) (n % 4096) o) (lookup-map_values cells test kept)
-    ∙ cell_of cells (n % 4096) (lookup test kept) in
     let at_cell = then_some (λ x. (r ≡ Ok (value_of x)) × (ys ≡ xs)) Seen (kept_cell cells kept c n) (λ x t. (t.0, t.1 ∙ same)) told in
-    subst (λ (es : List (PageKey × List ℕ)). IfSome (kept_cell (λ xs. xs) es c n) Seen) view (subst (λ (o : Option ℕ). IfSome o Seen) (sym cell) at_cell)
+    subst (λ (es : List (PageKey × List ℕ)). IfSome (kept_cell (λ xs. xs) es c n) Seen) view
+    (subst (λ (o : Option ℕ). IfSome o Seen) (sym (cell_seen cells kept c n)) at_cell)

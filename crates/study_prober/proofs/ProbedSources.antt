@@ -1,6 +1,6 @@
 -- What a probe tells of the source that it asked.
 use Rattle.std.proofs.Common.{◌≡◌, ℕ, ◌<◌, List, length, set, get_or, refl, sym, ap, ◌∙◌, subst}
-use Rattle.std.specs.Prelude.{Option, Some, Result, Ok, Err, IfOk, IsErrOf, if◌then◌else◌}
+use Rattle.std.specs.Prelude.{Option, Some, Result, Ok, Err, IfOk, IsErrOf}
 use Rattle.study_board.specs.Position.{Position, IsValid}
 use Rattle.study_material.specs.declared.class.Class.{Class}
 use Rattle.study_material.specs.Class.{IsOf}
@@ -14,12 +14,11 @@ use Rattle.study_retro.specs.Sound.{IsRight}
 use Rattle.study_retro.specs.Table.{Table, IsComplete, class_place}
 use Rattle.study_retro.proofs.SoundLemmas.{at_value}
 use Rattle.study_tablefile.specs.declared.source.Header.{Header}
-use Rattle.study_board.specs.Counts.{counted}
 use Rattle.study_prober.specs.declared.cache.PageKey.{PageKey}
 use Rattle.study_prober.specs.declared.held.HeldSource.{HeldSource}
 use Rattle.study_prober.specs.declared.values.ProbeFault.{ProbeFault}
 use Rattle.study_prober.specs.declared.values.ProbeFault.TheVariants.{PageDamaged}
-use Rattle.study_prober.specs.Sources.{IsHeaderOf, AreOf, is_read_fault}
+use Rattle.study_prober.specs.Sources.{IsHeaderOf, AreOf}
 use Rattle.study_prober.specs.Paged.{held_of, IsKept, SourcesAreRight}
 use Rattle.study_prober.proofs.HeldSources.{held_same, some_same}
 
@@ -60,19 +59,19 @@ module _ {S : Type 0} where
         (subst (λ (x : HeldSource S). honest x.source t x.header.version) (same_held xs c d h k is same held)
         gives) (of ∙ same ∙ sym (was.header c h is).class) complete d n told
 
-  pub failed_at : (failed : S → ℕ) (xs : List (Option (HeldSource S))) (c d : Class) (i : ℕ)
-      (h before k after : HeldSource S) (r : Result Value ProbeFault) → i ≡ class_place c → class_place c < length xs
+  -- a count of the source of a class, before and after the source at a place was asked
+  pub count_at : (count : S → ℕ) (step : ℕ → ℕ) (xs : List (Option (HeldSource S))) (c d : Class) (i : ℕ)
+      (h before k after : HeldSource S) → i ≡ class_place c → class_place c < length xs
       → held_of xs c ≡ Some h → d ≡ c
       → held_of xs d ≡ Some before → held_of (set xs i (Some k)) d ≡ Some after
-      → failed k.source ≡ (if is_read_fault r then counted (failed h.source) else failed h.source)
-      → failed after.source ≡ (if is_read_fault r then counted (failed before.source) else failed before.source)
-  failed_at failed xs c d i h before k after r at small is same was now count =
+      → count k.source ≡ step (count h.source) → count after.source ≡ step (count before.source)
+  count_at count step xs c d i h before k after at small is same was now counts =
       let one : before ≡ h = same_held xs c d h before is same was in
       let place : held_of (set xs (class_place c) (Some k)) c ≡ Some after =
       ap (λ (x : Class). held_of (set xs (class_place c) (Some k)) x) (sym same)
       ∙ ap (λ (m : ℕ). held_of (set xs m (Some k)) d) (sym at) ∙ now in
       let new : k ≡ after = some_same k after (sym (held_same xs c (Some k) small) ∙ place) in
-      rw one (subst (λ (x : HeldSource S). failed x.source ≡ (if is_read_fault r then counted (failed h.source) else failed h.source)) new count)
+      rw one (subst (λ (x : HeldSource S). count x.source ≡ step (count h.source)) new counts)
 
 value_right : (t : Table) (c : Class) (p : Position) (r : Result Value ProbeFault) → t.class ≡ c → IsComplete t
     → IsRight t → IsValid p → IsOf c p → IfOk r (λ v. v ≡ value_of (get_or t.cells (index_of p) 0))

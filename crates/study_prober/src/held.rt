@@ -1,6 +1,7 @@
 //! Sources of pages, each with what its header says, and the cells of their tables.
-ghost use Rattle.std.specs.Prelude.{◌≡◌, ◌<◌, ◌/◌, ℕ, List, Result, Err, IfOk, OnOk, OnErr, IsErrOf, Contains, slice_index, take};
+ghost use Rattle.std.specs.Prelude.{◌≡◌, ◌<◌, ◌/◌, ℕ, List, Result, Err, None, IfOk, OnOk, OnErr, IsErrOf, Contains, slice_index, take};
 ghost use Rattle.study_material.specs.declared.class.Class.{Class as AClass};
+ghost use Rattle.study_board.specs.Counts.{counted};
 ghost use Rattle.study_retro.specs.Cells.{value_of};
 ghost use Rattle.study_retro.specs.Table.{Table as Seen, IsComplete, class_place};
 ghost use Rattle.study_index.specs.Number.{cells_of};
@@ -31,6 +32,7 @@ pub struct HeldSource<S> {
 pub fn header_of<S: PageSource>(source: &mut S) -> Result<Header, PagedFault>
     ensures same { AreHonestAlike S.honest source.old source.new }
     ensures count { S.failed source.new ≡ unread_after (S.failed source.old) result }
+    ensures asked { S.asked source.new ≡ counted (S.asked source.old) }
     ensures alike { GiveAlike S.gives source.old source.new }
     ensures told { (told : Result (List ℕ) ASourceFault) × MayAnswer S.gives S.honest source.old told × IsTold told result }
     ensures header { IfOk result (λ h. IsHeaderOf h h.class) }
@@ -59,6 +61,7 @@ impl<S: PageSource> HeldSource<S> {
         ensures not_whole { (c : AClass) (n : ℕ) → IsErrOf result (ProbeFault.PageDamaged c n) → HasBadPage S.gives self.old number }
         ensures no_table { (c : AClass) → IsErrOf result (ProbeFault.NoTable c) → ⊥ }
         ensures failed { S.failed self.new.source ≡ failed_after (S.failed self.old.source) result }
+        ensures asked { S.asked self.new.source ≡ counted (S.asked self.old.source) }
     {
         self.source.page(number, into)?;
         if page_cells(&self.header, number, into) {
@@ -90,6 +93,7 @@ fn read_value<'a, S: PageSource, A: Allocator>(
     ensures damaged { (c : AClass) (n : ℕ) → IsErrOf result (ProbeFault.PageDamaged c n) → (c ≡ held.old.header.class) × (n ≡ key.number) }
     ensures no_table { (c : AClass) → IsErrOf result (ProbeFault.NoTable c) → ⊥ }
     ensures failed { S.failed held.new.source ≡ failed_after (S.failed held.old.source) result }
+    ensures asked { S.asked held.new.source ≡ counted (S.asked held.old.source) }
     ensures more { PutsOnly (λ k v. (k ≡ key) × ((t : Seen) → S.honest held.old.source t held.old.header.version → t.class ≡ held.old.header.class
         → v.items ≡ cells_on_page t key.number)) pages.old.entries pages.new.entries }
     ensures given { PutsOnly (λ k v. (k ≡ key) × IsGivenPage S.gives held.old key.number v.items) pages.old.entries pages.new.entries }
@@ -124,6 +128,8 @@ pub fn value_in<'a, S: PageSource, A: Allocator>(
     ensures damaged { (c : AClass) (n : ℕ) → IsErrOf result (ProbeFault.PageDamaged c n) → (c ≡ held.old.header.class) × (n ≡ number / 4096) }
     ensures no_table { (c : AClass) → IsErrOf result (ProbeFault.NoTable c) → ⊥ }
     ensures failed { S.failed held.new.source ≡ failed_after (S.failed held.old.source) result }
+    ensures once { kept_cell (λ v. v.items) pages.old.entries held.old.header.class number ≡ None
+        → S.asked held.new.source ≡ counted (S.asked held.old.source) }
     ensures more { PutsOnly (λ k v. (k.class ≡ class_place held.old.header.class)
         × ((t : Seen) → S.honest held.old.source t held.old.header.version → t.class ≡ held.old.header.class
         → v.items ≡ cells_on_page t k.number)) pages.old.entries pages.new.entries }

@@ -94,8 +94,10 @@ impl<'a, S: PageSource, A: Allocator> PagedTables<'a, S, A> {
             × AreHonestAlike S.honest source h.source × GiveAlike S.gives source h.source
             × (S.failed h.source ≡ S.failed source)
             × (self.new ≡ record self.old { sources = slice_set (places_for_classes self.old.sources) (class_place class) (Some h) })
+            × (S.asked h.source ≡ counted (S.asked source))
             ) }
         ensures same { OnErr result (self.new ≡ self.old) }
+        ensures takes_no_memory { ¬ (length self.old.sources ≡ 0) → IsErrOf result PagedFault.OutOfMemory → ⊥ }
 
         // Each class has a place from the first source on.
         ensures places { OnOk result (length self.new.sources ≡ 36) }
@@ -142,6 +144,7 @@ fn make_places<'a, S: Drop, A: Allocator>(
 ) -> Result<(), AllocError>
     ensures made { OnOk result (sources.new.items ≡ places_for_classes sources.old.items) }
     ensures same { OnErr result (sources.new ≡ sources.old) }
+    ensures there { ¬ (length sources.old.items ≡ 0) → OnErr result ⊥ }
 {
     if sources.is_empty() {
         *sources = no_sources(alloc)?;
@@ -183,6 +186,8 @@ fn probe<'a, S: PageSource, A: Allocator>(
         → IfOk result (IsReadFrom S.gives h (index_of p.now)) }
     ensures failed { (c : AClass) (h k : AHeld S) → IsOf c p.now → held_of sources.old.items c ≡ Some h → held_of sources.new.items c ≡ Some k
         → S.failed k.source ≡ failed_after (S.failed h.source) result }
+    ensures once { (c : AClass) (h k : AHeld S) → IsOf c p.now → held_of sources.old.items c ≡ Some h → held_of sources.new.items c ≡ Some k
+        → kept_cell (λ v. v.items) pages.old.entries c (index_of p.now) ≡ None → S.asked k.source ≡ counted (S.asked h.source) }
     ensures others { (c : AClass) → (IsOf c p.now → ⊥) → held_of sources.new.items c ≡ held_of sources.old.items c }
     ensures again { (c : AClass) → IsOf c p.now
         → IsToldAgain (kept_cell (λ v. v.items) pages.old.entries c (index_of p.now)) result sources.old.items sources.new.items }
@@ -252,13 +257,17 @@ impl<'a, S: PageSource, A: Allocator> Values for PagedTables<'a, S, A> {
             → S.failed k.source ≡ failed_after (S.failed h.source) result }
         ensures others { (c : AClass) → (IsOf c p.now → ⊥) → held_of self.new.sources c ≡ held_of self.old.sources c }
         ensures room { self.new.room ≡ self.old.room }
+        ensures few { length self.new.kept ≤ self.new.room }
 
-        // A cell of a page that is kept is told without its source.
+        // A cell of a page that is kept is told without its source; for any other its source is asked once.
         ensures again { (c : AClass) → IsOf c p.now
             → IsToldAgain (kept_cell (λ cells. cells) self.old.kept c (index_of p.now)) result self.old.sources self.new.sources }
+        ensures once { (c : AClass) (h k : AHeld S) → IsOf c p.now → held_of self.old.sources c ≡ Some h → held_of self.new.sources c ≡ Some k
+            → kept_cell (λ cells. cells) self.old.kept c (index_of p.now) ≡ None → S.asked k.source ≡ counted (S.asked h.source) }
     {
         self.asked = self.asked.saturating_add(1);
         let answer = probe(&mut self.sources, &mut self.kept, self.alloc, p);
+        let _few = self.kept.len();
         self.failed = counted_fault(self.failed, &answer);
         answer
     }

@@ -344,6 +344,7 @@ fn lists(rt: HostRuntime) {
 #[derive(Drop)]
 struct NoPages {
     header: [u8; 64],
+    asked: u64,
     failures: u64,
 }
 
@@ -354,7 +355,10 @@ impl PageSource for NoPages {
 
     ghost failed = { λ s. s.failures };
 
+    ghost asked = { λ s. s.asked };
+
     fn header(&mut self, into: &mut [u8; 64]) -> Result<(), SourceFault> {
+        self.asked = self.asked.saturating_add(1);
         into.copy_from_slice(self.header.as_slice());
         Ok(())
     }
@@ -368,6 +372,7 @@ impl PageSource for NoPages {
         };
         let answer = source.page(n, into);
         let failures = source.failures;
+        self.asked = self.asked.saturating_add(1);
         self.failures = failures;
         answer
     }
@@ -384,6 +389,7 @@ fn no_pages(rt: &impl Abort, text: &[u8]) -> NoPages {
     header.copy_from_slice(front);
     NoPages {
         header,
+        asked: 0,
         failures: 0,
     }
 }

@@ -46,7 +46,8 @@ struct File {
 
 impl File {
     fn turn(&mut self, place: usize)
-        ensures { self.new.failures ≡ self.old.failures }
+        ensures asked { self.new.asked ≡ self.old.asked }
+        ensures failures { self.new.failures ≡ self.old.failures }
     {
         if let Some(byte) = self.text.as_mut_slice().get_mut(place) {
             *byte ^= 1;
@@ -54,7 +55,8 @@ impl File {
     }
 
     fn memory(&self) -> MemorySource<'_>
-        ensures { result.failures ≡ self.now.failures }
+        ensures asked { result.asked ≡ self.now.asked }
+        ensures failures { result.failures ≡ self.now.failures }
     {
         MemorySource {
             text: self.text.as_slice(),
@@ -71,6 +73,8 @@ impl PageSource for File {
     ghost gives = { λ _ _ _. ⊤ };
 
     ghost failed = { λ s. s.failures };
+
+    ghost asked = { λ s. s.asked };
 
     fn header(&mut self, into: &mut [u8; 64]) -> Result<(), SourceFault> {
         let mut source = self.memory();
@@ -164,6 +168,44 @@ fn king_and_rook_by_one_page(rt: HostRuntime) {
     }
     assert!(rt; 40_000 < count && tables.asked() == count && whole.asked() == count);
     assert!(rt; tables.failures() == 0 && whole.failures() == 0);
+}
+
+/// How many questions fail where all pages of a class are asked for twice, and the source fails once, after it gave each page.
+fn failures_at_the_second_turn(rt: &impl Abort, alloc: Global, class: Class, room: u16) -> u64 {
+    let table = table_of(rt, &alloc, class, 0);
+    let pages = cells(class).div_ceil(4096);
+    let mut file = file_of(rt, alloc, &table);
+    file.fails_at = Some(1 + u64::from(pages));
+    let mut tables = paged(rt, &alloc, room, class, file);
+    let mut refused = 0u64;
+    for _ in 0..2u8 {
+        for page in 0..pages {
+            let p = position_on(rt, class, page);
+            if !is_value(&mut tables, &table, &p) {
+                refused = refused.saturating_add(1);
+            }
+        }
+    }
+    assert!(rt; tables.asked() == 2 * u64::from(pages));
+    assert!(rt; tables.failures() == refused);
+    refused
+}
+
+/// With room for all 20 pages none is read again, however much more room there is; with less, one is.
+#[test]
+fn kept_pages_are_not_read_again(rt: HostRuntime) {
+    let alloc = rt.alloc();
+    for (room, failures) in [(1u16, 1u64), (19, 1), (20, 0), (40, 0), (4096, 0)] {
+        let found = failures_at_the_second_turn(&rt, alloc, Class::KRK, room);
+        assert_eq!(rt; found, failures, "{room}");
+    }
+}
+
+/// The most room there can be holds all 4,096 pages of a class.
+#[test]
+fn room_for_a_whole_class(rt: HostRuntime) {
+    let failures = failures_at_the_second_turn(&rt, rt.alloc(), Class::KQKP, 4096);
+    assert_eq!(rt; failures, 0);
 }
 
 /// A class that is not held has no table, with pages and without.

@@ -251,7 +251,21 @@ fn damage_is_named(rt: HostRuntime) -> Result<(), Fail> {
     Ok(())
 }
 
-/// A writer that is full before the end has taken a front of the text, whatever it answers then.
+/// The table is not written; the writer took a prefix of the text, and was not asked again.
+fn stops<A: Allocator>(
+    rt: &impl Abort,
+    table: &Table<'_, A>,
+    writer: &mut MemoryWriter<'_, A>,
+    text: &[u8],
+) {
+    assert_eq!(rt; write_table(table, writer), Err(FileFault::Device));
+    let (front, _) = text.split_at(writer.room.min(text.len()));
+    assert!(rt; writer.taken.as_slice() == front, "{}", writer.room);
+    assert_eq!(rt; writer.errors, 1, "{}", writer.room);
+}
+
+/// A writer that is full before the end has taken a prefix of the text, whatever it answers then, and whether or not it
+/// would go on.
 #[test]
 fn writers_stop(rt: HostRuntime) {
     let alloc = rt.alloc();
@@ -259,10 +273,10 @@ fn writers_stop(rt: HostRuntime) {
     let table = zero_table(&rt, &alloc, Class::KK);
     for room in 0..4192usize {
         for when_full in [WhenFull::Fail, WhenFull::TakeNothing] {
-            let mut writer = MemoryWriter::with_room(&alloc, room, when_full);
-            assert_eq!(rt; write_table(&table, &mut writer), Err(FileFault::Device));
-            let (front, _) = text.as_slice().split_at(room.min(text.len()));
-            assert!(rt; writer.taken.as_slice() == front, "{room}");
+            let mut full = MemoryWriter::with_room(&alloc, room, when_full);
+            stops(&rt, &table, &mut full, text.as_slice());
+            let mut recovers = MemoryWriter::full_once(&alloc, room, when_full);
+            stops(&rt, &table, &mut recovers, text.as_slice());
         }
     }
 }
@@ -364,14 +378,14 @@ fn faults_are_told(rt: HostRuntime) -> Result<(), Fail> {
     Ok(())
 }
 
-/// Of two pages that have changed places the first is told.
+/// Of two pages that have changed places the first is told, and nothing after it is read.
 #[test]
 fn exchanged_pages_are_found(rt: HostRuntime) {
     let alloc = rt.alloc();
     let text = text_of(&rt, &alloc, Class::KRK);
     let wrong = exchanged(&rt, &alloc, text.as_slice());
-    assert_eq!(rt;
-        fault(&alloc, wrong.as_slice()),
-        Some(FileFault::PageDamaged(3))
-    );
+    let mut reader = MemoryReader::new(wrong.as_slice());
+    let answer = read_table(&alloc, &mut reader).err();
+    assert_eq!(rt; answer, Some(FileFault::PageDamaged(3)));
+    assert_eq!(rt; reader.given, 64 + 4 * 4128);
 }

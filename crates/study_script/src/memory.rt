@@ -95,6 +95,8 @@ impl<'f, 'w, 'a, A: Allocator> TableStore for MemoryStore<'f, 'w, 'a, A> {
             text,
             given: 0,
             fails_after: self.fails_after,
+            recovers: false,
+            errors: 0,
         })
     }
 

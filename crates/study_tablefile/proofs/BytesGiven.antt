@@ -2,10 +2,10 @@
 use Rattle.std.proofs.Common.{◌≡◌, ℕ, suc, ◌+◌, ◌<◌, Bool, true, false, ◌&&◌, nat_lt, List, [], ◌∷◌, ◌++◌, length}
 use Rattle.std.proofs.Common.{take, drop, find, slice_index_or, slice_set, Option, Some, None, Result, Err, IfErr}
 use Rattle.std.proofs.Common.{if◌then◌else◌, refl, sym, ap, subst, ◌∙◌, arith, length-append, length-drop}
-use Rattle.std.specs.Io.KnownBytes.{Consumes}
+use Rattle.std.specs.Io.KnownBytes.{Consumes, Keeps, IsAtEnd}
 use Rattle.std.specs.Str.{bytes_eq}
 use Rattle.std.proofs.lemmas.Bool.{le-ltb}
-use Rattle.std.proofs.lemmas.List.{take_at, drop_at, drop_more, take-append-le, drop-append-le}
+use Rattle.std.proofs.lemmas.List.{take_at, drop_at, drop_more, drop-drop, take-append-le, drop-append-le}
 use Rattle.study_material.specs.declared.class.Class.{Class}
 use Rattle.study_material.specs.Class.{class_list}
 use Rattle.study_tablefile.specs.declared.fault.FileFault.{FileFault}
@@ -45,6 +45,24 @@ pub consumed : (a b : Option (List ℕ)) (front bytes : List ℕ) (n : ℕ) → 
 consumed None b front bytes n e h k = cc
 consumed (Some xs) None front bytes n e h k = absurd h
 consumed (Some xs) (Some ys) front bytes n e h k = let same : xs ≡ bytes = cc in (ys, refl, sym same ∙ h)
+
+-- the bytes that are left after some that were read
+pub left_after : (a b : Option (List ℕ)) (front bytes : List ℕ) (from n : ℕ) → length front ≡ n → Consumes a b front → a ≡ Some (drop from bytes)
+    → b ≡ Some (drop (from + n) bytes)
+left_after a b front bytes from n e h k =
+    let (rest, next, whole) = consumed a b front (drop from bytes) n e h k in
+    next ∙ ap (λ (l : List ℕ). Some l) (sym (drop_at front rest n e) ∙ ap (λ (l : List ℕ). drop n l) (sym whole) ∙ drop-drop n from bytes)
+
+pub left_kept : (a b : Option (List ℕ)) (bytes : List ℕ) → Keeps a b → a ≡ Some bytes → b ≡ Some bytes
+left_kept None b bytes h e = cc
+left_kept (Some xs) None bytes h e = absurd h
+left_kept (Some xs) (Some ys) bytes h e = ap (λ (l : List ℕ). Some l) h ∙ e
+
+-- at the end of known bytes none is left
+pub left_none : (a b : Option (List ℕ)) (front bytes : List ℕ) → Consumes a b front → IsAtEnd b → a ≡ Some bytes → b ≡ Some []
+left_none None b front bytes h none e = cc
+left_none (Some xs) None front bytes h none e = absurd h
+left_none (Some xs) (Some ys) front bytes h none e = ap (λ (l : List ℕ). Some l) none
 
 pub short_bytes : (a : Option (List ℕ)) (bytes : List ℕ) (n : ℕ) → IsShort a n → a ≡ Some bytes → length bytes < n
 short_bytes None bytes n h e = cc

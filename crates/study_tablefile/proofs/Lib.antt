@@ -5,3 +5,4 @@ pub mod PagesWritten
 pub mod BytesGiven
 pub mod ReadAgain
 pub mod TablesRead
+pub mod StoppedAt

@@ -1,5 +1,5 @@
 -- How bytes read as a table: from front to back, up to the first fault.
-use Rattle.std.specs.Prelude.{◌≡◌, ℕ, zero, suc, ◌+◌, ◌<◌, ◌==◌, nat_lt, not, ◌&&◌, List, [], ◌++◌, length, take, drop}
+use Rattle.std.specs.Prelude.{◌≡◌, ℕ, zero, suc, ◌+◌, ◌*◌, ◌<◌, ◌≤◌, ◌==◌, nat_lt, not, ◌&&◌, List, [], ◌++◌, length, take, drop}
 use Rattle.std.specs.Prelude.{replicate, codes, find, Option, Some, None, Result, Ok, Err, if◌then◌else◌, ⊤}
 use Rattle.std.specs.Str.{bytes_eq}
 use Rattle.sha2.specs.Sha256.{sha256}
@@ -11,7 +11,7 @@ use Rattle.study_retro.specs.Table.{Table}
 use Rattle.study_tablefile.specs.declared.fault.FileFault.{FileFault}
 use Rattle.study_tablefile.specs.declared.fault.FileFault.TheVariants.{Cut, NotATable, Version, ClassUnknown}
 use Rattle.study_tablefile.specs.declared.fault.FileFault.TheVariants.{HeaderDamaged, PageDamaged, Padding}
-use Rattle.study_tablefile.specs.declared.fault.FileFault.TheVariants.{TrailingBytes}
+use Rattle.study_tablefile.specs.declared.fault.FileFault.TheVariants.{TrailingBytes, OutOfMemory, Device}
 use Rattle.study_tablefile.specs.File.{class_field, is_version, is_known_version, fields_text, page_digest, pages_of}
 
 -- the class of files of the version that is written in 8 bytes, if there is one
@@ -77,3 +77,26 @@ IsShort (Some bytes) n = length bytes < n
 -- the bytes begin with the header of a class
 abbrev pub HasHeader : List ℕ → Type 0
 HasHeader bytes = (c : Class) × (class_read (take 64 bytes) ≡ Ok c)
+
+-- how many pages follow a header, by the class that it is of
+abbrev pub pages_after : Result Class FileFault → ℕ
+pages_after (Err fault) = 0
+pages_after (Ok c) = pages_of c
+
+-- so many bytes of a file of so many pages are read when a fault is told: a file that is cut off is read to its end, any other up to
+-- the end of the part that is wrong; a device fails within the header and the pages, or where they end
+abbrev pub IsReadBefore : List ℕ → ℕ → FileFault → ℕ → Type 0
+IsReadBefore bytes pages Cut n = length bytes ≤ n
+IsReadBefore bytes pages NotATable n = n ≡ 64
+IsReadBefore bytes pages (Version v) n = n ≡ 64
+IsReadBefore bytes pages ClassUnknown n = n ≡ 64
+IsReadBefore bytes pages HeaderDamaged n = n ≡ 64
+IsReadBefore bytes pages OutOfMemory n = n ≡ 64
+IsReadBefore bytes pages (PageDamaged p) n = n ≡ 64 + 4128 * (p + 1)
+IsReadBefore bytes pages Padding n = n ≡ 64 + 4128 * pages
+IsReadBefore bytes pages TrailingBytes n = n ≡ 64 + 4128 * pages + 1
+IsReadBefore bytes pages Device n = n ≤ 64 + 4128 * pages
+
+-- what is left of the bytes of a file of so many pages when a fault is told
+abbrev pub IsToldAt : List ℕ → ℕ → Option (List ℕ) → FileFault → Type 0
+IsToldAt bytes pages left fault = (n : ℕ) × IsReadBefore bytes pages fault n × (left ≡ Some (drop n bytes))

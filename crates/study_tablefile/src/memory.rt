@@ -1,8 +1,9 @@
 //! A reader and a writer in memory that go byte by byte and fail where a test wants it.
-ghost use Rattle.std.specs.Prelude.{◌≡◌, ℕ, ◌<◌, ◌↔◌, [], Some, None, Ok, Err, length, take};
+ghost use Rattle.std.specs.Prelude.{◌≡◌, ℕ, ◌<◌, ◌↔◌, [], Some, None, Ok, Err, true, false, length, take};
 ghost use Rattle.std.specs.Prelude.{drop, vec_len, ◌≤◌, ◌⊎◌, IsOk, IsErr, IsErrOf, IfOk, IfErr};
 ghost use Rattle.std.specs.Prelude.{OnOk, OnErr, MatchResult, ◌≢◌, ◌+◌, ◌-◌, ◌*◌, ◌^◌};
 ghost use Rattle.study_board.specs.Counts.{counted};
+ghost use Rattle.study_tablefile.specs.Devices.{fails_still};
 ghost use Rattle.study_tablefile.specs.Source.{page_of, IsAnswerOf, of_header, of_page};
 ghost use Rattle.study_tablefile.specs.File.{header_text, pages_of, table_text};
 ghost use Rattle.study_retro.specs.Table.{Table as Seen};
@@ -16,6 +17,13 @@ use std::alloc::Allocator;
 use std::io;
 use std::io::{ErrorKind, Read, Write};
 
+/// Whether a device fails where its plan says so: each time, or once if it recovers.
+fn fails_still(recovers: bool, errors: u64) -> bool
+    ensures { result ≡ fails_still recovers errors }
+{
+    !recovers || errors == 0
+}
+
 /// A reader of bytes in memory that gives one byte a call.
 #[derive(Drop)]
 pub struct MemoryReader<'a> {
@@ -24,6 +32,10 @@ pub struct MemoryReader<'a> {
     pub given: usize,
     /// Where it fails: reads answer an error once so many bytes were given.
     pub fails_after: Option<usize>,
+    /// Whether it goes on after its first error.
+    pub recovers: bool,
+    /// How many errors it answered. The count stays at the last value of its type.
+    pub errors: u64,
 }
 
 impl<'a> MemoryReader<'a> {
@@ -31,25 +43,47 @@ impl<'a> MemoryReader<'a> {
     pub fn new(text: &'a [u8]) -> Self
         ensures text { result.text.now ≡ text.now }
         ensures given { result.given ≡ 0 }
-        ensures plan { result.fails_after ≡ None }
+        ensures plan { (result.fails_after ≡ None) × (result.recovers ≡ false) }
+        ensures errors { result.errors ≡ 0 }
     {
         MemoryReader {
             text,
             given: 0,
             fails_after: None,
+            recovers: false,
+            errors: 0,
         }
     }
 
-    /// A reader that gives so many bytes of the text and then fails.
+    /// A reader that gives so many bytes of the text and then fails, however often it is asked.
     pub fn failing_after(text: &'a [u8], count: usize) -> Self
         ensures text { result.text.now ≡ text.now }
         ensures given { result.given ≡ 0 }
-        ensures fails { result.fails_after ≡ Some count }
+        ensures plan { (result.fails_after ≡ Some count) × (result.recovers ≡ false) }
+        ensures errors { result.errors ≡ 0 }
     {
         MemoryReader {
             text,
             given: 0,
             fails_after: Some(count),
+            recovers: false,
+            errors: 0,
+        }
+    }
+
+    /// A reader that gives so many bytes of the text, then fails once, and gives the rest when it is asked again.
+    pub fn failing_once(text: &'a [u8], count: usize) -> Self
+        ensures text { result.text.now ≡ text.now }
+        ensures given { result.given ≡ 0 }
+        ensures plan { (result.fails_after ≡ Some count) × (result.recovers ≡ true) }
+        ensures errors { result.errors ≡ 0 }
+    {
+        MemoryReader {
+            text,
+            given: 0,
+            fails_after: Some(count),
+            recovers: true,
+            errors: 0,
         }
     }
 }
@@ -62,11 +96,15 @@ impl<'a> Read for MemoryReader<'a> {
         ensures bound { ReadsAtMost result buf.new }
         ensures bytes { ReadConsumes (Some (drop self.old.given self.old.text.now)) (Some (drop self.new.given self.new.text.now)) result buf.new }
         ensures few { IfOk result (λ n. n ≤ 1) }
+        ensures given { MatchResult result (λ n. self.new.given ≡ self.old.given + n) (λ e. self.new.given ≡ self.old.given) }
         ensures text { self.new.text.now ≡ self.old.text.now }
-        ensures plan { self.new.fails_after ≡ self.old.fails_after }
-        ensures fails { IsErr result ↔ (self.old.fails_after ≡ Some self.old.given) }
+        ensures plan { (self.new.fails_after ≡ self.old.fails_after) × (self.new.recovers ≡ self.old.recovers) }
+        ensures fails { IsErr result ↔ ((self.old.fails_after ≡ Some self.old.given) × (fails_still self.old.recovers self.old.errors ≡ true)) }
+        ensures errors { OnErr result (self.new.errors ≡ counted self.old.errors) }
+        ensures no_error { OnOk result (self.new.errors ≡ self.old.errors) }
     {
-        if self.fails_after == Some(self.given) {
+        if self.fails_after == Some(self.given) && fails_still(self.recovers, self.errors) {
+            self.errors = self.errors.saturating_add(1);
             return Err(io::Error::from(ErrorKind::Other));
         }
         if buf.is_empty() || self.given >= self.text.len() {
@@ -92,6 +130,10 @@ pub struct MemoryWriter<'a, A: Allocator> {
     /// How many bytes it takes at most.
     pub room: usize,
     pub when_full: WhenFull,
+    /// Whether it goes on after it was full once.
+    pub recovers: bool,
+    /// How often it answered an error, or took nothing of bytes that it was given. The count stays at the last value of its type.
+    pub errors: u64,
 }
 
 impl<'a, A: Allocator> MemoryWriter<'a, A> {
@@ -99,25 +141,41 @@ impl<'a, A: Allocator> MemoryWriter<'a, A> {
     pub fn new(alloc: &'a A) -> Self
         ensures taken { result.taken.items ≡ [] }
         ensures room { result.room ≡ 2 ^ 64 - 1 }
-        ensures when_full { result.when_full ≡ WhenFull.Fail }
+        ensures when_full { (result.when_full ≡ WhenFull.Fail) × (result.recovers ≡ false) }
+        ensures errors { result.errors ≡ 0 }
     {
-        MemoryWriter {
-            taken: Vec::new(alloc),
-            room: usize::MAX,
-            when_full: WhenFull::Fail,
-        }
+        MemoryWriter::with_room(alloc, usize::MAX, WhenFull::Fail)
     }
 
-    /// A writer that takes so many bytes, and then fails or takes nothing.
+    /// A writer that takes so many bytes, and then fails or takes nothing, however often it is asked.
     pub fn with_room(alloc: &'a A, room: usize, when_full: WhenFull) -> Self
         ensures taken { result.taken.items ≡ [] }
         ensures room { result.room ≡ room }
-        ensures when_full { result.when_full ≡ when_full }
+        ensures when_full { (result.when_full ≡ when_full) × (result.recovers ≡ false) }
+        ensures errors { result.errors ≡ 0 }
     {
         MemoryWriter {
             taken: Vec::new(alloc),
             room,
             when_full,
+            recovers: false,
+            errors: 0,
+        }
+    }
+
+    /// A writer that takes so many bytes, then fails or takes nothing once, and takes the rest when it is asked again.
+    pub fn full_once(alloc: &'a A, room: usize, when_full: WhenFull) -> Self
+        ensures taken { result.taken.items ≡ [] }
+        ensures room { result.room ≡ room }
+        ensures when_full { (result.when_full ≡ when_full) × (result.recovers ≡ true) }
+        ensures errors { result.errors ≡ 0 }
+    {
+        MemoryWriter {
+            taken: Vec::new(alloc),
+            room,
+            when_full,
+            recovers: true,
+            errors: 0,
         }
     }
 }
@@ -128,29 +186,41 @@ impl<'a, A: Allocator> Write for MemoryWriter<'a, A> {
     fn write(&mut self, buf: &[u8]) -> io::Result<usize>
         ensures bound { WritesAtMost result buf.now }
         ensures bytes { WriteAppends (Some self.old.taken.items) (Some self.new.taken.items) result buf.now }
-        ensures takes { 0 < length buf.now → vec_len self.old.taken < self.old.room → IfOk result (λ n. n ≡ 1) }
-        ensures full { 0 < length buf.now → self.old.room ≤ vec_len self.old.taken
+        ensures takes { 0 < length buf.now → vec_len self.old.taken < self.old.room ⊎ (fails_still self.old.recovers self.old.errors ≡ false)
+            → IfOk result (λ n. n ≡ 1) }
+        ensures full { 0 < length buf.now → self.old.room ≤ vec_len self.old.taken → fails_still self.old.recovers self.old.errors ≡ true
             → MatchResult result (λ n. (n ≡ 0) × (self.old.when_full ≡ WhenFull.TakeNothing))
             (λ e. self.old.when_full ≡ WhenFull.Fail) }
-        ensures plan { (self.new.room ≡ self.old.room) × (self.new.when_full ≡ self.old.when_full) }
+        ensures plan { (self.new.room ≡ self.old.room) × (self.new.when_full ≡ self.old.when_full) × (self.new.recovers ≡ self.old.recovers) }
         ensures fails { IfErr result (λ e. (error_kind e ≡ ErrorKind.OutOfMemory)
-            ⊎ ((self.old.room ≤ vec_len self.old.taken) × (self.old.when_full ≡ WhenFull.Fail))) }
+            ⊎ ((self.old.room ≤ vec_len self.old.taken) × (self.old.when_full ≡ WhenFull.Fail) × (fails_still self.old.recovers self.old.errors ≡ true))) }
+        ensures errors { OnErr result (self.new.errors ≡ counted self.old.errors) }
+        ensures nothing { 0 < length buf.now → IfOk result (λ n. n ≡ 0 → self.new.errors ≡ counted self.old.errors) }
+        ensures no_error { IfOk result (λ n. 0 < n ⊎ (length buf.now ≡ 0) → self.new.errors ≡ self.old.errors) }
     {
         if buf.is_empty() {
             return Ok(0);
         }
-        if self.taken.len() >= self.room {
+        if self.taken.len() >= self.room && fails_still(self.recovers, self.errors) {
+            self.errors = self.errors.saturating_add(1);
             return match self.when_full {
                 WhenFull::Fail => Err(io::Error::from(ErrorKind::Other)),
                 WhenFull::TakeNothing => Ok(0),
             };
         }
-        self.taken.push(buf[0])?;
-        Ok(1)
+        match self.taken.push(buf[0]) {
+            Ok(()) => Ok(1),
+            Err(refused) => {
+                self.errors = self.errors.saturating_add(1);
+                Err(io::Error::from(refused))
+            }
+        }
     }
 
     fn flush(&mut self) -> io::Result<()>
         ensures bytes { Keeps (Some self.old.taken.items) (Some self.new.taken.items) }
+        ensures plan { (self.new.room ≡ self.old.room) × (self.new.when_full ≡ self.old.when_full) × (self.new.recovers ≡ self.old.recovers) }
+        ensures errors { self.new.errors ≡ self.old.errors }
         ensures succeeds { IsOk result }
     {
         Ok(())
@@ -212,6 +282,8 @@ impl<'a> PageSource for MemorySource<'a> {
     ghost gives = { λ s q a. IsAnswerOf s.text.now s.fails_at q a };
 
     ghost failed = { λ s. s.failures };
+
+    ghost asked = { λ s. s.asked };
 
     #[tactic(auto, using(crate::proofs::ReadAgain::header_given))]
     fn header(&mut self, into: &mut [u8; 64]) -> Result<(), SourceFault>

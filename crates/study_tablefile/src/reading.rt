@@ -7,6 +7,7 @@ ghost use Rattle.std.specs.Io.KnownBytes.{Consumes};
 ghost use Rattle.study_index.specs.Number.{cells_of};
 ghost use Rattle.study_tablefile.specs.File.{is_known_version, IsVersionOf, class_field, fields_text, page_digest, pages_of, table_text};
 ghost use Rattle.study_tablefile.specs.Reading.{class_named, version_of, class_read, page_fault, table_end, pages_read, table_read, IsShort, HasHeader};
+ghost use Rattle.study_tablefile.specs.Reading.{pages_after, IsReadBefore, IsToldAt};
 ghost use Rattle.study_tablefile.specs.declared.fault.FileFault.TheVariants.{Cut, Device, OutOfMemory, TrailingBytes};
 
 use crate::fault::FileFault;
@@ -23,6 +24,8 @@ fn fill<R: Read>(input: &mut R, buf: &mut [u8]) -> Result<(), FileFault>
     ensures len { length buf.new ≡ length buf.old }
     ensures ok { OnOk result (Consumes (R.remaining input.old) (R.remaining input.new) buf.new) }
     ensures fault { IfErr result (λ e. (e ≡ Device) ⊎ ((e ≡ Cut) × IsShort (R.remaining input.old) (length buf.old))) }
+    ensures stops { (bytes : List ℕ) (from pages : ℕ) → R.remaining input.old ≡ Some (drop from bytes) → from + length buf.old ≤ 64 + 4128 * pages
+        → IfErr result (IsToldAt bytes pages (R.remaining input.new)) }
 {
     let mut filled = 0usize;
     while filled < buf.len() {
@@ -89,6 +92,7 @@ pub fn version_of(header: &[u8; 64]) -> u16
 #[tactic(auto, unfolding(crate::specs::Reading::class_read))]
 pub fn read_class(header: &[u8; 64]) -> Result<Class, FileFault>
     ensures read { result ≡ class_read header.now }
+    ensures whole { (bytes : List ℕ) (pages : ℕ) → IfErr result (λ e. IsReadBefore bytes pages e 64) }
 {
     let mark = &header[..8];
     if mark != b"STUDYDTM".as_slice() {
@@ -142,6 +146,8 @@ fn read_page<'a, A: Allocator, R: Read>(
         → OnOk result ((R.remaining input.new ≡ Some (drop 4128 bytes))
         × (cells.new.items ≡ cells.old.items ++ take 4096 bytes) × (page_fault fields.now number bytes ≡ None)) }
     ensures fault { (bytes : List ℕ) → R.remaining input.old ≡ Some bytes → IfErr result (λ e. (e ≡ Device) ⊎ (page_fault fields.now number bytes ≡ Some e)) }
+    ensures stops { (bytes : List ℕ) (pages : ℕ) → R.remaining input.old ≡ Some (drop (64 + 4128 * number) bytes) → number < pages
+        → IfErr result (IsToldAt bytes pages (R.remaining input.new)) }
 {
     let mut page = [0u8; 4128];
     fill(input, &mut page)?;
@@ -167,6 +173,10 @@ fn read_pages<'a, A: Allocator, R: Read>(
         × (pages_read class version 0 (pages_of class) [] bytes ≡ table_end class cells.new.items rest)) }
     ensures fault { (bytes : List ℕ) → R.remaining input.old ≡ Some bytes
         → IfErr result (λ e. (e ≡ Device) ⊎ (pages_read class version 0 (pages_of class) [] bytes ≡ Err e)) }
+    ensures ends { (bytes : List ℕ) → R.remaining input.old ≡ Some (drop 64 bytes)
+        → OnOk result (R.remaining input.new ≡ Some (drop (64 + 4128 * pages_of class) bytes)) }
+    ensures stops { (bytes : List ℕ) → R.remaining input.old ≡ Some (drop 64 bytes)
+        → IfErr result (IsToldAt bytes (pages_of class) (R.remaining input.new)) }
 {
     let fields = fields(class, version);
     let count = pages(class);
@@ -192,6 +202,9 @@ pub fn is_padding(bytes: &[u8]) -> bool
 fn at_end<R: Read>(input: &mut R) -> Result<(), FileFault>
     ensures ok { (bytes : List ℕ) → R.remaining input.old ≡ Some bytes → OnOk result (length bytes ≡ 0) }
     ensures fault { (bytes : List ℕ) → R.remaining input.old ≡ Some bytes → IfErr result (λ e. (e ≡ Device) ⊎ ((e ≡ TrailingBytes) × (0 < length bytes))) }
+    ensures ends { (bytes : List ℕ) → R.remaining input.old ≡ Some bytes → OnOk result (R.remaining input.new ≡ Some []) }
+    ensures stops { (bytes : List ℕ) (pages : ℕ) → R.remaining input.old ≡ Some (drop (64 + 4128 * pages) bytes)
+        → IfErr result (IsToldAt bytes pages (R.remaining input.new)) }
 {
     let mut next = [0u8; 1];
     match input.read(&mut next) {
@@ -212,6 +225,9 @@ fn finish<'a, A: Allocator, R: Read>(
     requires full { vec_len all < cells_of class + 4096 }
     ensures ok { (bytes : List ℕ) → R.remaining input.old ≡ Some bytes → IfOk result (λ t. table_end class all.entry.items bytes ≡ Ok t) }
     ensures fault { (bytes : List ℕ) → R.remaining input.old ≡ Some bytes → IfErr result (λ e. (e ≡ Device) ⊎ (table_end class all.entry.items bytes ≡ Err e)) }
+    ensures ends { (bytes : List ℕ) → R.remaining input.old ≡ Some bytes → OnOk result (R.remaining input.new ≡ Some []) }
+    ensures stops { (bytes : List ℕ) → R.remaining input.old ≡ Some (drop (64 + 4128 * pages_of class) bytes)
+        → IfErr result (IsToldAt bytes (pages_of class) (R.remaining input.new)) }
 {
     let count = cells(class) as usize;
     let (_, padding) = all.as_slice().split_at(count);
@@ -233,6 +249,11 @@ pub fn read_table<'a, A: Allocator, R: Read>(
     ensures ok { (bytes : List ℕ) → R.remaining input.old ≡ Some bytes → IfOk result (λ t. table_read bytes ≡ Ok t) }
     ensures fault { (bytes : List ℕ) → R.remaining input.old ≡ Some bytes
         → IfErr result (λ e. (e ≡ Device) ⊎ ((e ≡ OutOfMemory) × HasHeader bytes) ⊎ (table_read bytes ≡ Err e)) }
+
+    // A table is read to the end of its file, and no byte is read after the part that is wrong.
+    ensures ends { (bytes : List ℕ) → R.remaining input.old ≡ Some bytes → OnOk result (R.remaining input.new ≡ Some []) }
+    ensures stops { (bytes : List ℕ) → R.remaining input.old ≡ Some bytes
+        → IfErr result (IsToldAt bytes (pages_after (class_read (take 64 bytes))) (R.remaining input.new)) }
 {
     let mut header = [0; 64];
     fill(input, &mut header)?;

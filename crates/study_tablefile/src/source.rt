@@ -66,6 +66,9 @@ pub trait PageSource: Drop {
 
     ghost failed: { Self → ℕ };
 
+    /// How many headers and pages it was asked for, whatever it answered. The count stays at the last value of its type.
+    ghost asked: { Self → ℕ };
+
     /// The header of the file.
     fn header(&mut self, into: &mut [u8; 64]) -> Result<(), SourceFault>
         ensures ok { (t : Seen) (v : ℕ) → honest self.old t v → OnOk result (into.new ≡ header_text t.class v) }
@@ -75,6 +78,7 @@ pub trait PageSource: Drop {
         ensures gave { (q : Question) (a : Result (List ℕ) ASourceFault) → gives self.new q a → gives self.old q a }
         ensures stays { (t : Seen) (v : ℕ) → honest self.old t v → honest self.new t v }
         ensures back { (t : Seen) (v : ℕ) → honest self.new t v → honest self.old t v }
+        ensures asked { asked self.new ≡ counted (asked self.old) }
         ensures no_failure { OnOk result (failed self.new ≡ failed self.old) }
         ensures failure { OnErr result (failed self.new ≡ counted (failed self.old)) };
 
@@ -87,6 +91,7 @@ pub trait PageSource: Drop {
         ensures gave { (q : Question) (a : Result (List ℕ) ASourceFault) → gives self.new q a → gives self.old q a }
         ensures stays { (t : Seen) (v : ℕ) → honest self.old t v → honest self.new t v }
         ensures back { (t : Seen) (v : ℕ) → honest self.new t v → honest self.old t v }
+        ensures asked { asked self.new ≡ counted (asked self.old) }
         ensures no_failure { OnOk result (failed self.new ≡ failed self.old) }
         ensures failure { OnErr result (failed self.new ≡ counted (failed self.old)) };
 

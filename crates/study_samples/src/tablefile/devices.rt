@@ -1,6 +1,7 @@
 //! Devices that fail once, and heaps that are too small.
 use super::{text_of, text_of_kk};
 use linked_list_allocator::LocalHeap;
+use std::alloc::Allocator;
 use std::io::{Read, Write};
 use std::process::Abort;
 use std::test::Fail;
@@ -10,9 +11,21 @@ use study_tablefile::{
     DeviceFailed, FileFault, PageSource, SourceFault, page_cells, put, read_header, read_table,
 };
 
-/// Readers and writers fail, or are full, where they are told.
+/// Writes three letters, and compares the answer, what was taken, and that the writer was asked no more after it was full.
+fn put_letters<A: Allocator>(
+    rt: &impl Abort,
+    writer: &mut MemoryWriter<'_, A>,
+    want: Result<(), DeviceFailed>,
+    taken: &str,
+) {
+    assert_eq!(rt; put(writer, b"abc"), want, "{taken}");
+    assert_eq!(rt; writer.taken.as_slice(), taken.as_bytes());
+    assert_eq!(rt; writer.errors, want.is_err() as u64, "{taken}");
+}
+
+/// Writers fail, or take nothing, where they are told, each time or once.
 #[test]
-fn devices_fail_where_they_are_told(rt: HostRuntime) -> Result<(), Fail> {
+fn writers_fail_where_they_are_told(rt: HostRuntime) {
     let alloc = rt.alloc();
     for when_full in [WhenFull::Fail, WhenFull::TakeNothing] {
         for (room, want, taken) in [
@@ -20,37 +33,87 @@ fn devices_fail_where_they_are_told(rt: HostRuntime) -> Result<(), Fail> {
             (2, Err(DeviceFailed), "ab"),
             (3, Ok(()), "abc"),
         ] {
-            let mut writer = MemoryWriter::with_room(&alloc, room, when_full);
-            assert_eq!(rt; put(&mut writer, b"abc"), want, "at {room}");
-            assert_eq!(rt; writer.taken.as_slice(), taken.as_bytes(), "at {room}");
+            let mut full = MemoryWriter::with_room(&alloc, room, when_full);
+            put_letters(&rt, &mut full, want, taken);
+            let again = put(&mut full, b"d");
+            assert_eq!(rt; again, Err(DeviceFailed), "at {room}");
+            assert_eq!(rt; full.errors, want.is_err() as u64 + 1);
+
+            let mut recovers = MemoryWriter::full_once(&alloc, room, when_full);
+            put_letters(&rt, &mut recovers, want, taken);
+            let again = put(&mut recovers, b"d");
+            assert_eq!(rt;
+                again,
+                want.map_or(Ok(()), |_| Err(DeviceFailed)),
+                "at {room}"
+            );
+            assert_eq!(rt; recovers.errors, 1);
         }
     }
     let mut full = MemoryWriter::with_room(&alloc, 0, WhenFull::Fail);
     assert_eq!(rt; put(&mut full, b""), Ok(()));
-    assert!(rt; full.flush().is_ok());
+    assert!(rt; full.flush().is_ok() && full.errors == 0);
+}
 
-    let mut text = Vec::new(alloc);
+/// Readers fail where they are told, each time or once.
+#[test]
+fn readers_fail_where_they_are_told(rt: HostRuntime) -> Result<(), Fail> {
+    let mut text = Vec::new(rt.alloc());
     assert_eq!(rt; MemoryReader::new(b"abc").read_to_end(&mut text)?, 3);
     assert_eq!(rt; text.as_slice(), b"abc".as_slice());
     let mut failing = MemoryReader::failing_after(b"abc", 2);
     assert!(rt; failing.read_to_end(&mut text).is_err());
+    assert!(rt; failing.read_to_end(&mut text).is_err());
     assert_eq!(rt; text.as_slice(), b"abcab".as_slice());
+    assert_eq!(rt; failing.errors, 2);
+    let mut recovers = MemoryReader::failing_once(b"abc", 2);
+    assert!(rt; recovers.read_to_end(&mut text).is_err());
+    assert_eq!(rt; recovers.read_to_end(&mut text)?, 1);
+    assert_eq!(rt; text.as_slice(), b"abcababc".as_slice());
+    assert_eq!(rt; recovers.errors, 1);
     Ok(())
 }
 
-/// A reader that fails after so many bytes, at the end too.
+/// The device's failure is told after so many bytes, and the reader is not asked again.
+fn fails_after<A: Allocator>(
+    rt: &impl Abort,
+    alloc: &A,
+    reader: &mut MemoryReader<'_>,
+    count: usize,
+) {
+    let answer = read_table(alloc, reader).err();
+    assert_eq!(rt; answer, Some(FileFault::Device), "{count}");
+    assert_eq!(rt; reader.given, count);
+    assert_eq!(rt; reader.errors, 1, "{count}");
+}
+
+/// A reader that fails after so many bytes, at the end too, whether or not it would go on.
 #[test]
 fn readers_fail(rt: HostRuntime) {
     let alloc = rt.alloc();
     let text = text_of_kk(&rt, &alloc);
+    let bytes = text.as_slice();
     for count in 0..=4192usize {
-        let mut reader = MemoryReader::failing_after(text.as_slice(), count);
-        let answer = read_table(&alloc, &mut reader).err();
-        assert_eq!(rt; answer, Some(FileFault::Device), "{count}");
-        assert_eq!(rt; reader.given, count);
+        let mut fails = MemoryReader::failing_after(bytes, count);
+        fails_after(&rt, &alloc, &mut fails, count);
+        let mut recovers = MemoryReader::failing_once(bytes, count);
+        fails_after(&rt, &alloc, &mut recovers, count);
     }
-    let mut reader = MemoryReader::failing_after(text.as_slice(), 4193);
+    let mut reader = MemoryReader::failing_after(bytes, 4193);
     assert!(rt; read_table(&alloc, &mut reader).is_ok());
+    assert_eq!(rt; reader.errors, 0);
+}
+
+/// A writer that finds no memory for a byte has failed once.
+#[test]
+fn writers_without_memory(rt: HostRuntime) -> Result<(), Fail> {
+    let heap = LocalHeap::new(rt.alloc(), 256)?;
+    let text = [7u8; 1024];
+    let mut writer = MemoryWriter::new(&heap);
+    assert_eq!(rt; put(&mut writer, text.as_slice()), Err(DeviceFailed));
+    assert_eq!(rt; writer.errors, 1);
+    assert!(rt; 0 < writer.taken.len() && writer.taken.len() < 256);
+    Ok(())
 }
 
 /// Question 0 asks for the header, and the others ask for the pages in turn.

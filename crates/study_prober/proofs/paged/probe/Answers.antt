@@ -12,9 +12,11 @@ use Rattle.study_retro.proofs.SetLemmas.{class_place-injective}
 use Rattle.study_prober.proofs.HeldSources.{header_own, held_other, none_past, kept_after, same_after, held_at}
 use Rattle.study_prober.proofs.KeptCells.{again_none, again_at}
 use Rattle.study_prober.proofs.Tables.{one_class}
-use Rattle.study_prober.specs.Sources.{IsGivenPage}
+use Rattle.study_prober.specs.Sources.{IsGivenPage, failed_after}
 use Rattle.study_prober.proofs.GivenPages.{given_after, alike_after, one_held, read_at, unread_at, bad_at}
-use Rattle.study_prober.proofs.ProbedSources.{number_in, told_at, whole_at, failed_at, game_at}
+use Rattle.study_board.specs.Counts.{counted}
+use Rattle.study_prober.specs.Cache.{kept_cell}
+use Rattle.study_prober.proofs.ProbedSources.{number_in, told_at, whole_at, count_at, game_at}
 use Rattle.study_prober.proofs.paged.probe.Goals as goal
 
 pub value_in-requires-clause-header : goal.value_in-requires-clause-header
@@ -78,8 +80,8 @@ pub returns-in-Some-clause-failed : goal.returns-in-Some-clause-failed
 returns-in-Some-clause-failed g c = λ d h k of before after.
     let is = held_at c.args.sources.now.items c.class_of-class.result.0 c.place-at.result c.index_mut.result.now
     c.in-Some.held c.place-at.ensures.value (search rules) c.index_mut.ensures.value c.in-Some.is in
-    failed_at g.S.PageSource.failed c.args.sources.now.items c.class_of-class.result.0 d c.place-at.result
-    c.in-Some.held h c.value_in.new.held k c.value_in.result c.place-at.ensures.value is.0 is.1
+    count_at g.S.PageSource.failed (λ count. failed_after count c.value_in.result) c.args.sources.now.items
+    c.class_of-class.result.0 d c.place-at.result c.in-Some.held h c.value_in.new.held k c.place-at.ensures.value is.0 is.1
     (one_class d c.class_of-class.result.0 c.args.p.now of c.class_of-class.ensures.class) before after
     c.value_in.ensures.failed
 
@@ -195,3 +197,14 @@ returns-in-Some-clause-not_whole g c = λ d h n was told.
     let own : d ≡ c.class_of-class.result.0 = at.0 ∙ (c.requires.kept.header c.class_of-class.result.0 c.in-Some.held is.1).class in
     let one = one_held g.S.PageSource.gives c.args.sources.now.items c.class_of-class.result.0 d c.in-Some.held h is.1 own was in
     bad_at g.S.PageSource.gives c.in-Some.held h _ n one (sym at.1) (c.value_in.ensures.not_whole d n told)
+
+pub returns-in-Some-clause-once : goal.returns-in-Some-clause-once
+returns-in-Some-clause-once g c = λ d h k of before after unkept.
+    let is = held_at c.args.sources.now.items c.class_of-class.result.0 c.place-at.result c.index_mut.result.now
+    c.in-Some.held c.place-at.ensures.value (search rules) c.index_mut.ensures.value c.in-Some.is in
+    let own = (c.requires.kept.header c.class_of-class.result.0 c.in-Some.held is.1).class in
+    let here = one_class d c.class_of-class.result.0 c.args.p.now of c.class_of-class.ensures.class in
+    let none = ap (λ (x : Class). kept_cell (λ v. v.items) c.args.pages.now.entries x c.index.result) (own ∙ sym here)
+    ∙ ap (λ (m : ℕ). kept_cell (λ v. v.items) c.args.pages.now.entries d m) c.index.ensures.value ∙ unkept in
+    count_at g.S.PageSource.asked counted c.args.sources.now.items c.class_of-class.result.0 d c.place-at.result
+    c.in-Some.held h c.value_in.new.held k c.place-at.ensures.value is.0 is.1 here before after (c.value_in.ensures.once none)

@@ -4,6 +4,7 @@ use Rattle.std.specs.Io.KnownBytes.{Consumes}
 use Rattle.std.proofs.KnownBytes.{Consumes-trans}
 use borrow.Rule.Slice.PartMut.{put_mid, post_of}
 use lib.Seq.{take-add, take-append-le}
+use Rattle.study_tablefile.proofs.StoppedAt.{cut_at, failed_at}
 use Rattle.study_tablefile.proofs.reading.fill.Goals as goal
 
 take_split : (a b : ℕ) (old new : List ℕ) → a ≤ b → take a new ≡ take a old → take a old ++ slice_range new a b ≡ take b new
@@ -32,3 +33,18 @@ loop-filled-preserved g c =
       subst (Consumes _ _) (ap (λ l. take from c.loop-filled.buf ++ l) (sym part)
           ∙ joined) (Consumes-trans _ _ _ _ _ c.loop-filled.invariant.2 c.in-Ok.ensures.bytes.0),
     )
+
+pub returns-in-Ok-eq0-clause-stops : goal.returns-in-Ok-eq0-clause-stops
+returns-in-Ok-eq0-clause-stops g c bytes from pages e within =
+    let filled = c.loop-filled.filled in
+    let size = length-take-le filled c.loop-filled.buf c.loop-filled.invariant.1 in
+    let read = c.in-Ok-eq0.ensures.bytes in
+    cut_at _ _ _ (take filled c.loop-filled.buf) (take c.in-Ok-eq0.field-0 c.read.new.buf) bytes from filled pages size
+    c.loop-filled.invariant.2 e read.0 (read.1 (search rules) (search rules))
+
+pub returns-in-Err-clause-stops : goal.returns-in-Err-clause-stops
+returns-in-Err-clause-stops g c bytes from pages e within =
+    let filled = c.loop-filled.filled in
+    let size = length-take-le filled c.loop-filled.buf c.loop-filled.invariant.1 in
+    failed_at _ _ _ (take filled c.loop-filled.buf) bytes from filled (length c.args.buf.now) pages size
+    c.loop-filled.invariant.2 e c.in-Err.ensures.bytes (omega (arith, c.loop-filled.invariant.0, c.loop-filled.invariant.1)) within

@@ -1,4 +1,4 @@
-use Rattle.std.proofs.Common.{◌≡◌, ◌≤◌, ◌*◌, ◌-◌, ℕ, List, [], Some, vec_len, vec_capacity}
+use Rattle.std.proofs.Common.{◌≡◌, ◌≤◌, ◌+◌, ◌*◌, ◌-◌, ℕ, List, [], drop, Some, vec_len, vec_capacity}
 use Rattle.study_tablefile.specs.File.{pages_of}
 use Rattle.study_tablefile.specs.Reading.{pages_read}
 use Rattle.study_tablefile.proofs.reading.read_pages.Given as goal
@@ -11,6 +11,7 @@ invariant-loop-number g l = record {
   read : (bytes : List ℕ) → g.R.Read.remaining l.fn.input ≡ Some bytes → (rest : List ℕ) × (g.R.Read.remaining l.input ≡ Some rest)
       × (pages_read l.fn.class l.fn.version 0 (pages_of l.fn.class) [] bytes ≡ pages_read l.fn.class l.fn.version
       l.number (pages_of l.fn.class - l.number) l.cells.items rest);
+  stands : (bytes : List ℕ) → g.R.Read.remaining l.fn.input ≡ Some (drop 64 bytes) → g.R.Read.remaining l.input ≡ Some (drop (64 + 4128 * l.number) bytes);
 }
 
 abbrev pub decreases-loop-number : goal.decreases-loop-number

@@ -1,10 +1,12 @@
-use Rattle.std.proofs.Common.{rules, arith, [], refl, sym, ap, inl, inr, ◌∙◌}
+use Rattle.std.proofs.Common.{rules, arith, [], take, refl, sym, ap, subst, inl, inr, ◌∙◌, Result}
 use Rattle.std.proofs.lemmas.Result.{IfOk-weaker, IfErr-weaker}
-use Rattle.study_tablefile.specs.Reading.{version_of, class_read, pages_read, table_behind}
+use Rattle.study_material.specs.declared.class.Class.{Class}
+use Rattle.study_tablefile.specs.declared.fault.FileFault.{FileFault}
+use Rattle.study_tablefile.specs.Reading.{version_of, class_read, pages_read, table_behind, pages_after, IsToldAt}
 use Rattle.study_tablefile.proofs.ClassBounds.{pages_hold, pages_full}
 use Rattle.study_tablefile.specs.File.{pages_of}
 use Rattle.study_tablefile.proofs.TablesRead.{text_of_read}
-use Rattle.study_tablefile.proofs.BytesGiven.{header_known, IfErr-given}
+use Rattle.study_tablefile.proofs.BytesGiven.{header_known, left_after, IfErr-given}
 use Rattle.study_tablefile.proofs.reading.read_table.Goals as goal
 
 pub returns-in_err-class-clause-fault : goal.returns-in_err-class-clause-fault
@@ -66,3 +68,33 @@ returns-clause-fault g c bytes e =
           ∙ ap (λ v. pages_read c.in_ok-class.class v 0 (pages_of c.in_ok-class.class) [] rest)
           (sym c.version_of-version.ensures) ∙ all ∙ fault))
     ]) (c.finish.ensures.fault last after)
+
+pub returns-in_err-fill-clause-stops : goal.returns-in_err-fill-clause-stops
+returns-in_err-fill-clause-stops g c bytes e =
+    IfErr-given c.from_residual.result c.in_err-fill.field-0.0 _ (search rules)
+    (c.in_err-fill.ensures.stops bytes 0 (pages_after (class_read (take 64 bytes))) e (omega arith))
+
+pub returns-in_err-class-clause-stops : goal.returns-in_err-class-clause-stops
+returns-in_err-class-clause-stops g c bytes e =
+    let rest = left_after _ _ c.fill.new.buf bytes 0 64 c.fill.ensures.len c.in_ok-fill.ensures.ok e in
+    IfErr-given c.from_residual-in_err-class.result c.in_err-class.field-0.0 _ (search rules)
+    (64, c.in_err-class.ensures.whole bytes (pages_after (class_read (take 64 bytes))), rest)
+
+pub returns-in-Err-clause-stops : goal.returns-in-Err-clause-stops
+returns-in-Err-clause-stops g c bytes e = (64, refl, left_after _ _ c.fill.new.buf bytes 0 64 c.fill.ensures.len c.in_ok-fill.ensures.ok e)
+
+pub returns-in_err-read_pages-clause-stops : goal.returns-in_err-read_pages-clause-stops
+returns-in_err-read_pages-clause-stops g c bytes e =
+    let rest = left_after _ _ c.fill.new.buf bytes 0 64 c.fill.ensures.len c.in_ok-fill.ensures.ok e in
+    let (last, now, read, front) = header_known _ _ c.fill.new.buf bytes c.fill.ensures.len c.in_ok-fill.ensures.ok e in
+    IfErr-given c.from_residual-in_err-read_pages.result c.in_err-read_pages.field-0.0 _ (search rules)
+    (subst (λ (r : Result Class FileFault). IsToldAt bytes (pages_after r) (g.R.Read.remaining c.read_pages.new.input) c.in_err-read_pages.field-0.0)
+    (c.in_ok-class.ensures.read ∙ ap class_read (sym front)) (c.in_err-read_pages.ensures.stops bytes rest))
+
+pub returns-clause-stops : goal.returns-clause-stops
+returns-clause-stops g c bytes e =
+    let rest = left_after _ _ c.fill.new.buf bytes 0 64 c.fill.ensures.len c.in_ok-fill.ensures.ok e in
+    let (last, now, read, front) = header_known _ _ c.fill.new.buf bytes c.fill.ensures.len c.in_ok-fill.ensures.ok e in
+    IfErr-weaker c.finish.result _ _
+    (λ f h. subst (λ (r : Result Class FileFault). IsToldAt bytes (pages_after r) (g.R.Read.remaining c.finish.new.input) f)
+    (c.in_ok-class.ensures.read ∙ ap class_read (sym front)) h) (c.finish.ensures.stops bytes (c.in_ok-read_pages.ensures.ends bytes rest))

@@ -73,6 +73,7 @@ returns-clause-added g c =
       c.in_ok-header.ensures.alike,
       c.in_ok-header.ensures.count,
       rw (← c.self.view_is) (rw c.in_ok-make_places.ensures.made (rw c.place.ensures.value refl)),
+      c.in_ok-header.ensures.asked,
     )
 
 pub returns-clause-honest : goal.returns-clause-honest

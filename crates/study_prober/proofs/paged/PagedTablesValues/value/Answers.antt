@@ -5,7 +5,7 @@ use Rattle.study_prober.specs.Paged.{Paged, SourcesAreRight, held_of}
 use Rattle.study_index.specs.Found.{index_of}
 use Rattle.study_prober.specs.Sources.{IsGivenPage}
 use Rattle.study_prober.proofs.GivenPages.{put_seen, fewer_seen, on_err}
-use Rattle.study_prober.proofs.KeptCells.{again_seen}
+use Rattle.study_prober.proofs.KeptCells.{again_seen, none_seen}
 use Rattle.study_prober.proofs.PagedAnswers.{answered, undamaged}
 use Rattle.study_prober.proofs.HeldSources.{no_table_by, stays_right_at}
 use Rattle.study_prober.proofs.Tables.{one_class}
@@ -80,3 +80,10 @@ returns-clause-no_damage g c = λ right.
     undamaged g.S.PageSource.honest c.self.inside.sources.items c.args.p.now c.probe-answer.result
     (subst (λ (w : Paged g.row.S.Denot). SourcesAreRight g.S.PageSource.honest w.sources) (sym c.self.view_is) right)
     (λ d. (probed.no_table d).1) probed.whole probed.damaged
+
+pub returns-clause-once : goal.returns-clause-once
+returns-clause-once g c = λ d h k of before after none.
+    c.probe-answer.ensures.once d h k of
+    (ap (λ (w : Paged g.row.S.Denot). held_of w.sources d) c.self.view_is ∙ before) after
+    (none_seen (λ v. v.items) c.self.inside.kept.entries c.args.self.now.kept d (index_of c.args.p.now)
+    (ap (λ (w : Paged g.row.S.Denot). w.kept) c.self.view_is) none)

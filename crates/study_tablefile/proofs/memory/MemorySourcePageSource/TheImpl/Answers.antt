@@ -14,6 +14,7 @@ header-tells g x c = record {
       (subst (λ (plan : Option ℕ). IsAnswerOf c.new.self.now.text.now plan q a) c.ensures.plan h);
   stays = λ t v h. c.ensures.text ∙ h;
   back = λ t v h. sym c.ensures.text ∙ h;
+  asked = c.ensures.asked;
   no_failure = c.ensures.no_failure;
   failure = c.ensures.failure;
 }
@@ -29,6 +30,7 @@ page-tells g x c = record {
       (subst (λ (plan : Option ℕ). IsAnswerOf c.new.self.now.text.now plan q a) c.ensures.plan h);
   stays = λ t v h. c.ensures.text ∙ h;
   back = λ t v h. sym c.ensures.text ∙ h;
+  asked = c.ensures.asked;
   no_failure = c.ensures.no_failure;
   failure = c.ensures.failure;
 }
