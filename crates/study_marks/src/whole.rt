@@ -10,8 +10,8 @@ ghost use Rattle.study_marks.specs.Edits.{broken_from};
 ghost use Rattle.study_marks.specs.Bench.{played_by};
 ghost use Rattle.study_marks.specs.Asked.{counted_times};
 ghost use Rattle.study_marks.specs.Goals.{hero_moves};
-ghost use Rattle.study_marks.specs.Kept.{own, faults_below, AllAddUp};
-ghost use Rattle.study_marks.specs.Renewal.{told_tree, below_at};
+ghost use Rattle.study_marks.specs.Kept.{own, faults_below, AllAddUp, told_tree};
+ghost use Rattle.study_marks.specs.Renewal.{below_at};
 ghost use Rattle.study_marks.specs.Whole.{told_in, retold_tree, refreshed};
 
 use crate::label::{Label, Told};

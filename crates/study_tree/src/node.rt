@@ -101,19 +101,20 @@ pub fn reserve_below<'a, L, A: Allocator>(
     }
 }
 
-/// Gives the node another label: the one at place `first`, and then along the rest of the path.
-pub fn relabel_below<'a, L: Drop, A: Allocator>(
+/// Gives the node another label: the one at place `first`, and then along the rest of the path. The label is exchanged
+/// with the node's own and passed by reference, so that the way down takes no stack for it.
+pub fn relabel_below<'a, L, A: Allocator>(
     children: &mut Vec<Node<'a, L, A>, &'a A>,
     first: u16,
     rest: &[u16],
-    label: L,
+    label: &mut L,
 )
     requires found { IsTrue (has_node (forest_of children.old.items) (first ∷ rest.now)) }
-    ensures { plain (forest_of children.new.items) ≡ place_edited (labelled_at label) (plain (forest_of children.old.items)) first rest.now }
+    ensures { plain (forest_of children.new.items) ≡ place_edited (labelled_at label.old) (plain (forest_of children.old.items)) first rest.now }
 {
     let child = &mut children[first as usize];
     match rest.split_first() {
-        None => child.label = label,
+        None => std::mem::swap(&mut child.label, label),
         Some((next, rest)) => relabel_below(&mut child.children, *next, rest, label),
     }
 }
