@@ -165,7 +165,13 @@ impl<'a, L: Drop, A: Allocator> Tree<'a, L, A> {
         ensures same_count { OnErr result (self.new.relabelled ≡ self.old.relabelled) }
     {
         self.check_child(steps)?;
-        let place = add_below(self.alloc, &mut self.children, steps, played, label)?;
+        let place = add_below(
+            self.alloc,
+            &mut self.children,
+            steps,
+            played,
+            &mut Some(label),
+        )?;
         self.size += 1;
         self.relabelled = self.relabelled.saturating_add(1);
         Ok(place)
