@@ -7,11 +7,13 @@ error and the replies before it are a front of the undisturbed ones. A read or w
 nothing; one that is interrupted is made again, or is a fault of the device."""
 import os
 import re
+import resource
 import subprocess
 import sys
 
 TOP, WORK, PROGRAM = (os.environ[name] for name in ("FAULTS_TOP", "FAULTS_WORK", "FAULTS_PROGRAM"))
 RUNS = int(os.environ["FAULTS_RUNS"])
+STACK = 131072  # what a new process has at once, so that no later growth of the stack can be refused
 TOLD = {
     "alloc": ("error OutOfMemory",),
     "fileread": ("error Device", "error TableRead Device"),
@@ -22,13 +24,14 @@ TOLD = {
 undisturbed = {}
 
 
-def run(script, words=(), **faults):
-    """The replies, the status and standard error of one run."""
+def run(script, words=(), limit=None, **faults):
+    """The replies, the status and standard error of one run, under a limit of the system (its kind and bytes) if one is given."""
     environment = dict(os.environ, **{name: str(value) for name, value in faults.items()})
     if faults:
         environment["LD_PRELOAD"] = f"{WORK}/fault.so"
     try:
-        done = subprocess.run([PROGRAM, *words], input=script, capture_output=True, env=environment, timeout=60)
+        done = subprocess.run([PROGRAM, *words], input=script, capture_output=True, env=environment, timeout=60,
+                              preexec_fn=limit and (lambda: resource.setrlimit(limit[0], (limit[1], limit[1]))))
         return done.stdout, done.returncode, done.stderr.decode()
     except subprocess.TimeoutExpired:
         return b"", "no end within a minute", ""
@@ -176,6 +179,52 @@ def sweep():
     return bad
 
 
+def deep_script():
+    """A line of 256 plies, the deepest that there is, with a move beside each, and every command that goes through it."""
+    line, path = ["build KK", "position 8/8/8/k7/8/8/8/K7 w - - 0 1", "stipulate white draw"], []
+    for ply in range(256):
+        step = (ply // 2 + 1) % 14
+        file = "abcdefgh"[step if step < 8 else 14 - step]
+        line.append(f"insert {'.'.join(path) or 'root'} K{file}{'51'[ply % 2 == 0]}")
+        path.append("0")
+    deep, above = ".".join(path), ".".join(path[:-1])
+    line += [f"mark {deep}", f"moves {above}", f"fen {deep}", "stipulate white win", "stipulate black mate 100", "stipulate white draw",
+             "shift 8/8/8/k7/8/8/8/K7 w - - 7 9", f"insert {above} Ka6", f"insert {above} Kb6", f"promote {above}.1",
+             f"delete {above}.2", "pgn", f"delete {'.'.join(path[:100])}", "pgn", "position 8/8/8/8/k7/8/8/K7 w - - 0 1", "pgn"]
+    return "\n".join(line).encode() + b"\n"
+
+
+def squeeze():
+    """The deepest tree under limits of the stack and of the address space: never a signal, and never a wrong reply."""
+    script, bad = deep_script(), 0
+    whole = run(script)
+    if whole[1] != 0 or b"error" in whole[0]:
+        print(f"WRONG deep: status {whole[1]}, {whole[0].count(b'error')} lines refused, {whole[2].strip()}")
+        return 1
+    answer = run(script, limit=(resource.RLIMIT_STACK, STACK))
+    if answer != whole:
+        print(f"WRONG deep: with a stack of {STACK} bytes status {answer[1]}")
+        bad += 1
+    floor = 4096
+    while run(b"", limit=(resource.RLIMIT_AS, floor))[1] != 0:
+        floor += 4096
+    limit, refused, runs = floor, 0, 0
+    while True:
+        answer = run(script, limit=(resource.RLIMIT_AS, limit))
+        runs += 1
+        wrong, told = judge(script, (), answer, "alloc", "limit", once=False)
+        refused += told > 0
+        if wrong:
+            bad += 1
+            print(f"WRONG deep: with {limit} bytes of addresses: {wrong}")
+        if answer == whole:
+            break
+        limit += 4096
+    print(f"deepest tree: a stack of {STACK} bytes; {runs} limits of addresses from {floor} to {limit} bytes, "
+          f"{refused} with lines refused for want of memory, {bad} wrong")
+    return bad
+
+
 def tried(numbers):
     """`rt try --fail-alloc N`: the program is interpreted, and its checks are made as it runs."""
     script = b"load KK\nload KQK\n" + b"\n".join(open(f"{TOP}/crates/studybench/stdin", "rb").read().split(b"\n")[2:])
@@ -195,4 +244,5 @@ def tried(numbers):
     return bad
 
 
-sys.exit(1 if (sweep() if sys.argv[1] == "sweep" else tried(sys.argv[2:])) else 0)
+TASKS = {"sweep": sweep, "squeeze": squeeze}
+sys.exit(1 if (TASKS[sys.argv[1]]() if sys.argv[1] in TASKS else tried(sys.argv[2:])) else 0)

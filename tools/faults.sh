@@ -2,7 +2,8 @@
 # Puts faults of the outside into runs of the program, one fault a run, and names each reply that is not the right one.
 #
 #   tools/faults.sh            the built program: memory, reads, writes, opened files and places in them that fail, are cut
-#                              short or are broken off, then whole devices and tools/files.sh; some minutes
+#                              short or are broken off, then the deepest tree under limits of stack and addresses, whole
+#                              devices and tools/files.sh; some minutes
 #   tools/faults.sh try [N ..] `rt try --fail-alloc N` over the small scripts, for each N (default 3 19 35 51); slow
 #
 # FAULTS_RUNS=N bounds the runs of one script with one kind of fault (default 24): where there are more places for the fault,
@@ -81,6 +82,7 @@ off_t lseek(int fd, off_t where, int from) {
 END
 cc -shared -fPIC -O1 -fno-builtin -o "$work/fault.so" "$work/fault.c" || { echo "cc is needed for the library of faults"; exit 2; }
 python3 "$top/tools/faults.py" sweep; swept=$?
+python3 "$top/tools/faults.py" squeeze; squeezed=$?
 
 # Whole devices.
 mate='position k7/8/1K6/8/8/8/8/7R w - - 0 1\n'
@@ -122,4 +124,4 @@ while_read "a table without a byte" ': > "$work/live/KRK.dtm"' "error TableRead 
 while_read "a byte turned" 'printf "\\377" | dd of="$work/live/KRK.dtm" bs=1 seek=$((64 + 4128 * 5 + 63)) conv=notrunc 2> /dev/null' "error TableRead Page 5"
 echo "$cases cases of whole devices, $wrong wrong"
 "$top/tools/files.sh"; filed=$?
-[ $swept = 0 ] && [ $wrong = 0 ] && [ $filed = 0 ]
+[ $swept = 0 ] && [ $squeezed = 0 ] && [ $wrong = 0 ] && [ $filed = 0 ]
