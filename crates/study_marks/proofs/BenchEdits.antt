@@ -22,9 +22,8 @@ use Rattle.study_marks.specs.Study.{Study, mapped, mapped_tree, plain_study, IsP
 use Rattle.study_marks.specs.Goals.{aim_of}
 use Rattle.study_marks.specs.Edits.{deleted, promoted, delete_refusal, promote_refusal}
 use Rattle.study_marks.specs.Asked.{counted_times}
-use Rattle.study_marks.specs.Kept.{Kept, shown, marked, IsStudy, IsKeptRight, AllAddUp}
+use Rattle.study_marks.specs.Kept.{Kept, shown, marked, IsStudy, IsKeptRight, AllAddUp, told_tree}
 use Rattle.study_marks.specs.Told.{AllAreTold}
-use Rattle.study_marks.specs.Renewal.{told_tree}
 use Rattle.study_marks.proofs.SameShape.{mapped-mapped, mapped-without, mapped-moved_up, has_node-mapped}
 use Rattle.study_marks.proofs.SameShape.{IsPlayable-mapped, mapped-IsPlayable, AreDistinct-mapped}
 use Rattle.study_marks.proofs.SameShape.{mapped-AreDistinct, IsWithin-mapped, mapped-IsWithin}

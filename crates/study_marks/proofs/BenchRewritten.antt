@@ -18,9 +18,8 @@ use Rattle.std.specs.Prelude.{Bool, Result, Ok, Err, IfErr, IsErrAnd}
 use Rattle.study_marks.specs.Whole.{retold, retold_tree}
 use Rattle.study_marks.specs.declared.mark.Mark.{Mark}
 use Rattle.study_marks.proofs.SameShape.{IsPlayable-mapped, mapped-IsPlayable}
-use Rattle.study_marks.specs.Kept.{Kept, marked, IsStudy, IsKeptRight, AllAddUp}
+use Rattle.study_marks.specs.Kept.{Kept, marked, IsStudy, IsKeptRight, AllAddUp, told_tree}
 use Rattle.study_marks.specs.Told.{AllAreTold}
-use Rattle.study_marks.specs.Renewal.{told_tree}
 use Rattle.study_marks.proofs.BenchEdits.{bare, bare-marked, bare-told, Fits, fits, study}
 use Rattle.study_marks.proofs.MarksShown.{AllAreTold-right, right-told}
 

@@ -17,8 +17,10 @@ use Rattle.study_marks.specs.Edits.{Plainly, shifted, edited, edited_by, insert_
 use Rattle.study_prober.specs.Values.{ProbeAnswer}
 use Rattle.study_marks.specs.Answers.{TellsFirstFault}
 use Rattle.study_marks.specs.Stop.{StopsAtFault}
-use Rattle.study_marks.specs.Kept.{Kept, marked, IsKeptRight}
-use Rattle.study_marks.specs.Stop.{questions_of, IsRefusalOf, IsAccepted, AreAccepted, labels_after, labels_by}
+use Rattle.study_tree.specs.Tree.{Plain}
+use Rattle.study_marks.specs.declared.label.Told.{Told}
+use Rattle.study_marks.specs.Kept.{Kept, marked, told_tree, IsKeptRight}
+use Rattle.study_marks.specs.Stop.{questions_of, IsKeptAfter, AreKeptAfter, IsRefusalOf, IsAccepted, AreAccepted, labels_after, labels_by}
 use Rattle.study_marks.specs.Stop.{IsStopped, asked_after_edits, HasAskedUpTo, IsApplied}
 use Rattle.study_marks.proofs.ValuesAsked.{missing-same, unread-same}
 use Rattle.study_marks.proofs.PositionsListed.{AreTablesHeld-same, take-one}
@@ -82,6 +84,11 @@ module _ {A : Type 0} where
   asked-more s [] e n = refl
   asked-more s (x ∷ es) e n = asked-more (edited s x) es e (counted_times (length (questions_of s x)) n)
 
+  kept-more : (t : Plain Told) (es : List (Edit A)) (e : Edit A) (u v : Plain Told) → AreKeptAfter t es u → IsKeptAfter u e v
+      → AreKeptAfter t (es ++ e ∷ []) v
+  kept-more t [] e u v h k = (v, subst (λ x. IsKeptAfter x e v) h k, refl)
+  kept-more t (x ∷ es) e u v h k = (h.0, h.1, kept-more h.0 es e u v h.2 k)
+
   stopped-at : (held : Class → Bool) (s : Plainly) (es : List (Edit A)) (i : ℕ) (e : Edit A) (r : Refusal A)
       → i < length es → e ≡ get_or es i e → IsRefusalOf held (edited_by s (take i es)) e r → IsStopped held s es i r
   stopped-at held s [] i e r short is h = absurd (omega (arith, short))
@@ -109,6 +116,7 @@ pub record IsRun {A : Type 0} (held held_now : Class → Bool) (honest honest_no
   pub accepted : AreAccepted held (plain_study (marked old)) es
   pub edit : plain_study (marked new) ≡ edited_by (plain_study (marked old)) es
   pub right : honest → IsKeptRight old → IsKeptRight new
+  pub kept : AreKeptAfter (told_tree old.study.tree) es (told_tree new.study.tree)
   pub labels : new.relabelled ≡ labels_by (plain_study (marked old)) es old.relabelled
   pub counts : asked_now ≡ asked_after_edits (plain_study (marked old)) es asked
   pub failures : failed_now ≡ failed
@@ -122,6 +130,7 @@ run-none held honest asked failed old = record {
   accepted = tt;
   edit = refl;
   right = λ h k. k;
+  kept = refl;
   labels = refl;
   counts = refl;
   failures = refl;
@@ -146,6 +155,7 @@ module _ {A : Type 0} (held mid now : Class → Bool) (honest honest_mid honest_
     accepted = accepted-more held s es e h.accepted (accepted-same held mid (edited_by s es) e h.tables (subst (λ x. IsAccepted mid x e) h.edit k.accepted));
     edit = k.edit ∙ ap (λ x. edited x e) h.edit ∙ sym (edited-more s es e);
     right = λ a b. k.right (h.stays a) (h.right a b);
+    kept = kept-more (told_tree old.study.tree) es e (told_tree between.study.tree) (told_tree new.study.tree) h.kept k.kept;
     labels = k.labels ∙ ap (λ x. labels_after x e between.relabelled) h.edit ∙ ap (labels_after (edited_by s es) e)
         h.labels ∙ sym (labels-more s es e old.relabelled);
     counts = k.counts ∙ ap (λ x. counted_times (length (questions_of x e)) asked_mid) h.edit

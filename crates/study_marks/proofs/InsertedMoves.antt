@@ -22,11 +22,10 @@ use Rattle.study_marks.specs.declared.fault.Refusal.{Refusal}
 use Rattle.study_marks.specs.declared.fault.Refusal.TheVariants as refusal
 use Rattle.study_marks.specs.Study.{Study, plain_study, moves_to, position_after, position_at, place_at}
 use Rattle.study_marks.specs.Edits.{there, insert_refusal, inserted}
-use Rattle.study_marks.specs.Kept.{Kept, marked, IsStudy, IsKeptRight, AllAddUp}
+use Rattle.study_marks.specs.Kept.{Kept, marked, IsStudy, IsKeptRight, AllAddUp, told_tree}
 use Rattle.study_marks.specs.Goals.{aim_of}
 use Rattle.study_marks.specs.Asked.{IsOutside, HasAsked, HasStopped, is_of_tables, counted_times}
 use Rattle.study_marks.specs.Refused.{refused_by}
-use Rattle.study_marks.specs.Renewal.{told_tree}
 use Rattle.study_marks.specs.Told.{IsToldOf, IsUntold, WasAsked, AllAreTold}
 use Rattle.study_marks.proofs.SameShape.{has_node-mapped, moves_to-mapped, place_at-mapped, nodes_in-mapped}
 use Rattle.study_marks.proofs.PathRenewed.{spot-there, there-spot}

@@ -16,8 +16,8 @@ use Rattle.study_marks.specs.Asked.{counted_times}
 use Rattle.study_tree.proofs.TreeDepth.{within-length}
 use Rattle.study_marks.specs.Study.{mapped}
 use Rattle.study_marks.specs.Goals.{hero_moves}
-use Rattle.study_marks.specs.Kept.{own, all_faults, faults_below, AddUp, AllAddUp}
-use Rattle.study_marks.specs.Renewal.{told_tree, below_at, share}
+use Rattle.study_marks.specs.Kept.{own, all_faults, faults_below, AddUp, AllAddUp, told_tree}
+use Rattle.study_marks.specs.Renewal.{below_at, share}
 use Rattle.study_marks.specs.Whole.{told_in, retold, retold_tree, refreshed, refreshed_to, firsts}
 use Rattle.study_marks.proofs.SameShape.{nodes_in-mapped}
 use Rattle.study_marks.proofs.PathRenewed.{below≤all, all≤nodes}

@@ -21,9 +21,8 @@ use Rattle.study_marks.specs.Goals.{aim_of, hero_moves, holds, keeps_goal, plies
 use Rattle.study_marks.specs.Marks.{mark_of, move_mark, faults_in}
 use Rattle.study_marks.specs.Annotated.{AreAnnotated}
 use Rattle.study_marks.specs.Tally.{tally_of}
-use Rattle.study_marks.specs.Kept.{Kept, held_by, kept_mark, shown, AreTallied, IsKeptRight, own, all_faults, faults_below, AddUp, AllAddUp}
+use Rattle.study_marks.specs.Kept.{Kept, held_by, kept_mark, shown, AreTallied, IsKeptRight, own, all_faults, faults_below, AddUp, AllAddUp, told_tree}
 use Rattle.study_marks.specs.Told.{IsToldOf, AreTold, AllAreTold}
-use Rattle.study_marks.specs.Renewal.{told_tree}
 
 -- edits keep what is told
 AreTold-with_last : (p : Position) (f : Forest Told) (m : Move) (x : Told) → AreTold p f → IsToldOf (after p m) x → AreTold p (with_last m x f)

@@ -6,7 +6,8 @@ use Rattle.study_moves.specs.declared.moves.Move.{Move}
 use Rattle.study_moves.specs.Rules.{after}
 use Rattle.study_notation.specs.declared.start.Start.{Start}
 use Rattle.study_board.specs.Counts.{counted}
-use Rattle.study_tree.specs.Tree.{size_of}
+use Rattle.study_tree.specs.Tree.{size_of, with_child}
+use Rattle.study_marks.specs.declared.label.Told.{Told}
 use Rattle.study_marks.specs.declared.fault.Refusal.{Refusal}
 use Rattle.study_marks.specs.declared.edit.Edit.{Edit}
 use Rattle.study_marks.specs.declared.edit.Edit.TheVariants as edits
@@ -16,7 +17,7 @@ use Rattle.study_marks.specs.Study.{plain_study, position_at}
 use Rattle.study_marks.specs.Asked.{asked_at, positions_asked, AllHeld, IsOutside, HasAsked, HasStopped}
 use Rattle.study_marks.specs.Asked.{is_of_tables, is_of_device, counted_times, failures_after}
 use Rattle.study_marks.specs.Edits.{positioned, shifted, stipulated, inserted, broken, broken_from, insert_refusal, shift_refusal}
-use Rattle.study_marks.specs.Kept.{Kept, marked, IsKeptRight}
+use Rattle.study_marks.specs.Kept.{Kept, marked, told_tree, IsKeptRight}
 use Rattle.study_marks.specs.Stop.{IsShiftRefusal, IsAccepted, IsApplied}
 use Rattle.study_marks.proofs.SameShape.{nodes_in-mapped}
 use Rattle.study_marks.proofs.StartShifted.{broken-marked}
@@ -60,6 +61,7 @@ module _ {A : Type 0} (held held_now : Class → Bool) (honest honest_now : Type
         accepted = tt;
         edit = tt;
         right = λ a b. tt;
+        kept = tt;
         labels = tt;
         counts = subst (λ p. HasStopped (is_of_tables f) (length (asked_at (after p m))) asked asked_now) place counts;
         failures = failures;
@@ -79,11 +81,12 @@ module _ {A : Type 0} (held held_now : Class → Bool) (honest honest_now : Type
       → AllHeld held (asked_at (after (position_at (marked old) steps) m))
       → plain_study (marked new) ≡ inserted (plain_study (marked old)) steps m
       → (honest → IsKeptRight old → IsKeptRight new)
+      → ((told : Told) × (told_tree new.study.tree ≡ with_child (told_tree old.study.tree) steps m told))
       → new.relabelled ≡ counted_times (length steps + 2) old.relabelled
       → asked_now ≡ counted_times (length (asked_at (after (position_at (marked old) steps) m))) asked
       → failed_now ≡ failed → (honest → honest_now) → ((c : Class) → held_now c ≡ held c)
       → IsApplied held held_now honest honest_now asked asked_now failed failed_now old new e (Ok tt)
-  insert-accepted e steps m k P is refusal place found edit right labels counts failures stays tables =
+  insert-accepted e steps m k P is refusal place found edit right kept labels counts failures stays tables =
       applied-as e (edits.Insert steps m) (Ok tt) is (record {
         refusal = tt;
         accepted =
@@ -93,6 +96,7 @@ module _ {A : Type 0} (held held_now : Class → Bool) (honest honest_now : Type
             };
         edit = edit;
         right = right;
+        kept = kept;
         labels = labels;
         counts = subst (λ p. asked_now ≡ counted_times (length (asked_at (after p m))) asked) place counts;
         failures = failures;
@@ -117,6 +121,7 @@ module _ {A : Type 0} (held held_now : Class → Bool) (honest honest_now : Type
         accepted = go r broken_at found;
         edit = edit;
         right = λ h k. right h;
+        kept = anew r;
         labels = sized r labels;
         counts = counts;
         failures = failures;
@@ -131,6 +136,10 @@ module _ {A : Type 0} (held held_now : Class → Bool) (honest honest_now : Type
           → OnOk r (IsAccepted {A = A} held (plain_study (marked old)) (edits.Shift copied))
       go (Ok x) h k = record { allowed = ap (broken {A = A}) (broken-marked old copied.position ∙ h); found = k }
       go (Err x) h k = tt
+
+      anew : (r : Result (Unit {0}) (Refusal A)) → OnOk r (Unit {0})
+      anew (Ok x) = tt
+      anew (Err x) = tt
 
       sized : (r : Result (Unit {0}) (Refusal A))
           → OnOk r (new.relabelled ≡ counted_times (size_of (marked old).tree) old.relabelled)
@@ -152,6 +161,7 @@ module _ {A : Type 0} (held held_now : Class → Bool) (honest honest_now : Type
         accepted = go r found;
         edit = edit;
         right = λ h k. right h;
+        kept = anew r;
         labels = labels;
         counts = counts;
         failures = failures;
@@ -160,6 +170,10 @@ module _ {A : Type 0} (held held_now : Class → Bool) (honest honest_now : Type
         same = same;
       })
     where
+      anew : (r : Result (Unit {0}) (Refusal A)) → OnOk r (Unit {0})
+      anew (Ok x) = tt
+      anew (Err x) = tt
+
       both : (r : Result (Unit {0}) (Refusal A)) → IfErr r (IsOutside held (asked_at copied.position)) → IfErr r (λ f. is_of_tables f ≡ true)
           → IfErr r (λ f. IsOutside held (asked_at copied.position) f × (is_of_tables f ≡ true))
       both (Ok x) h k = tt
@@ -173,15 +187,17 @@ module _ {A : Type 0} (held held_now : Class → Bool) (honest honest_now : Type
   -- another stipulation
   pub stipulation-applied : (e : Edit A) (stipulation : Stipulation) → e ≡ edits.Stipulate stipulation
       → plain_study (marked new) ≡ stipulated (plain_study (marked old)) stipulation
-      → (IsKeptRight old → IsKeptRight new) → new.relabelled ≡ counted_times (size_of (marked old).tree) old.relabelled
+      → (IsKeptRight old → IsKeptRight new) → told_tree new.study.tree ≡ told_tree old.study.tree
+      → new.relabelled ≡ counted_times (size_of (marked old).tree) old.relabelled
       → asked_now ≡ asked → failed_now ≡ failed → (honest → honest_now)
       → ((c : Class) → held_now c ≡ held c) → IsApplied held held_now honest honest_now asked asked_now failed failed_now old new e (Ok tt)
-  stipulation-applied e stipulation is edit right labels counts failures stays tables =
+  stipulation-applied e stipulation is edit right kept labels counts failures stays tables =
       applied-as e (edits.Stipulate stipulation) (Ok tt) is (record {
         refusal = tt;
         accepted = record { allowed = refl; found = record { each = tt } };
         edit = edit;
         right = λ h k. right k;
+        kept = kept;
         labels = labels ∙ ap (λ n. counted_times n old.relabelled) (same-size old);
         counts = counts;
         failures = failures;

@@ -14,8 +14,8 @@ use Rattle.study_marks.specs.declared.label.Told.{Told}
 use Rattle.study_marks.specs.declared.marking.Aim.{Aim}
 use Rattle.study_marks.specs.Study.{mapped}
 use Rattle.study_marks.specs.Goals.{hero_moves}
-use Rattle.study_marks.specs.Kept.{own, kept_mark, all_faults, faults_below, AddUp, AllAddUp}
-use Rattle.study_marks.specs.Renewal.{told_tree, share, AddUpBut, IsOff}
+use Rattle.study_marks.specs.Kept.{own, kept_mark, all_faults, faults_below, AddUp, AllAddUp, told_tree}
+use Rattle.study_marks.specs.Renewal.{share, AddUpBut, IsOff}
 use Rattle.study_marks.proofs.FaultSums.{faults_at, refaulted, refaulted-step, below-refaulted, below-deeper}
 
 -- a label written with other faults alone

@@ -15,7 +15,7 @@ use Rattle.study_marks.specs.declared.mark.Mark.{Mark}
 use Rattle.study_marks.specs.declared.label.Label.{Label}
 use Rattle.study_marks.specs.declared.label.Told.{Told}
 use Rattle.study_marks.specs.Tally.{Tally, tally_of}
-use Rattle.study_marks.specs.Study.{Study, IsPlayable, AreDistinct}
+use Rattle.study_marks.specs.Study.{Study, mapped_tree, IsPlayable, AreDistinct}
 use Rattle.study_marks.specs.declared.marking.Aim.{Aim}
 use Rattle.study_marks.specs.Goals.{aim_of, hero_moves, holds, plies_of}
 use Rattle.study_marks.specs.Marks.{mark_of, own_faults}
@@ -26,6 +26,10 @@ use Rattle.study_marks.specs.Edits.{is_tag_text}
 pub record Kept : Type 0 where
   pub study : Study Label
   pub relabelled : ℕ
+
+-- what is kept at the nodes, without the faults
+abbrev pub told_tree : Plain Label → Plain Told
+told_tree t = mapped_tree (λ l. l.told) t
 
 -- how many of the tallied moves lead to a position at depth d that holds, where the hero makes them
 abbrev pub held_by : Goal → Bool → ℕ → Tally → ℕ

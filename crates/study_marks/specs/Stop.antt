@@ -5,7 +5,8 @@ use Rattle.study_board.specs.Position.{Position}
 use Rattle.study_moves.specs.Rules.{after}
 use Rattle.study_material.specs.declared.class.Class.{Class}
 use Rattle.study_board.specs.Counts.{counted}
-use Rattle.study_tree.specs.Tree.{size_of}
+use Rattle.study_tree.specs.Tree.{Plain, size_of, with_child, without, moved_up}
+use Rattle.study_marks.specs.declared.label.Told.{Told}
 use Rattle.study_marks.specs.declared.fault.Refusal.{Refusal}
 use Rattle.study_marks.specs.declared.fault.Refusal.TheVariants.{OutOfMemory}
 use Rattle.study_marks.specs.declared.edit.Edit.{Edit}
@@ -15,7 +16,7 @@ use Rattle.study_marks.specs.Study.{plain_study, position_at}
 use Rattle.study_marks.specs.Asked.{asked_at, positions_asked, AllHeld, IsOutside, HasAsked, HasStopped}
 use Rattle.study_marks.specs.Asked.{is_of_tables, is_of_device, counted_times, failures_after}
 use Rattle.study_marks.specs.Edits.{Plainly, shifted, edited, edit_refusal, insert_refusal, delete_refusal, promote_refusal, shift_refusal, tag_refusal}
-use Rattle.study_marks.specs.Kept.{Kept, marked, IsKeptRight}
+use Rattle.study_marks.specs.Kept.{Kept, marked, IsKeptRight, told_tree}
 use Rattle.study_marks.specs.Answers.{TellsFirstFault}
 use Rattle.study_prober.specs.Values.{ProbeAnswer}
 
@@ -68,6 +69,21 @@ module _ {A : Type 0} where
   labels_by s [] n = n
   labels_by s (e ∷ es) n = labels_by (edited s e) es (labels_after s e n)
 
+  -- What is kept at the nodes after an edit, right or not: the nodes that stay keep theirs. A new position and a shift ask all
+  -- of it anew, and so does an insertion at its node.
+  abbrev pub IsKeptAfter : Plain Told → Edit A → Plain Told → Type 0
+  IsKeptAfter old (edits.Position start) new = Unit {0}
+  IsKeptAfter old (edits.Shift start) new = Unit {0}
+  IsKeptAfter old (edits.Stipulate stipulation) new = new ≡ old
+  IsKeptAfter old (edits.Insert steps m) new = (told : Told) × (new ≡ with_child old steps m told)
+  IsKeptAfter old (edits.Delete steps) new = new ≡ without old steps
+  IsKeptAfter old (edits.Promote steps) new = new ≡ moved_up old steps
+  IsKeptAfter old (edits.Tag name text) new = new ≡ old
+
+  abbrev pub AreKeptAfter : Plain Told → List (Edit A) → Plain Told → Type 0
+  AreKeptAfter old [] new = new ≡ old
+  AreKeptAfter old (e ∷ es) new = (mid : Plain Told) × IsKeptAfter old e mid × AreKeptAfter mid es new
+
   -- after so many of the edits, the next is refused so
   abbrev pub IsStopped : (Class → Bool) → Plainly → List (Edit A) → ℕ → Refusal A → Type 0
   IsStopped held s [] n r = ⊥
@@ -115,6 +131,7 @@ module _ {A : Type 0} where
     pub accepted : OnOk r (IsAccepted held (plain_study (marked old)) e)
     pub edit : OnOk r (plain_study (marked new) ≡ edited (plain_study (marked old)) e)
     pub right : honest → IsKeptRight old → OnOk r (IsKeptRight new)
+    pub kept : OnOk r (IsKeptAfter (told_tree old.study.tree) e (told_tree new.study.tree))
     pub labels : OnOk r (new.relabelled ≡ labels_after (plain_study (marked old)) e old.relabelled)
     pub counts : HasAsked (length (questions_of (plain_study (marked old)) e)) r asked asked_now
     pub failures : failed_now ≡ failures_after r failed

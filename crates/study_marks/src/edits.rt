@@ -8,9 +8,11 @@ ghost use Rattle.study_tree.specs.Edits.{children_at};
 ghost use Rattle.study_tree.specs.Tree.{size_of};
 ghost use Rattle.study_marks.specs.Bench.{text_of};
 ghost use Rattle.study_marks.specs.Study.{plain_study, position_at, place_of_tag, IsPlayable};
-ghost use Rattle.study_marks.specs.Kept.{marked, IsKeptRight};
+ghost use Rattle.study_tree.specs.Tree.{with_child, without, moved_up};
+ghost use Rattle.study_marks.specs.declared.label.Told.{Told as ATold};
+ghost use Rattle.study_marks.specs.Kept.{marked, told_tree, IsKeptRight};
 ghost use Rattle.study_marks.specs.Asked.{asked_at, positions_asked, is_of_tables, AllHeld, IsOutside, HasAsked, failures_after, counted_times};
-ghost use Rattle.study_marks.specs.Stop.{IsShiftRefusal, IsStopped, TellsStop, questions_of, AreAccepted, labels_by, HasAskedBy, failures_stopped, IsApplied};
+ghost use Rattle.study_marks.specs.Stop.{AreKeptAfter, IsShiftRefusal, IsStopped, TellsStop, questions_of, AreAccepted, labels_by, HasAskedBy, failures_stopped, IsApplied};
 ghost use Rattle.study_marks.specs.Edits.{broken_from, positioned, shifted, stipulated, inserted, deleted};
 ghost use Rattle.study_marks.specs.Edits.{promoted, tagged, edited_by, accepted_of, insert_refusal, delete_refusal};
 ghost use Rattle.study_marks.specs.Edits.{promote_refusal, shift_refusal, is_printable, is_tag_text, tag_refusal};
@@ -143,6 +145,7 @@ impl<'a, A: Allocator> Bench<'a, A> {
         ensures first { IfErr result (TellsFirstFault V.gives V.asked_of values.old (asked_at (after (position_at (marked self.old) path.now) m)) values.new) }
         ensures found { OnOk result (AllHeld (V.held values.old) (asked_at (after (position_at (marked self.old) path.now) m))) }
         ensures edited { OnOk result (plain_study (marked self.new) ≡ inserted (plain_study (marked self.old)) path.now m) }
+        ensures kept { OnOk result ((told : ATold) × (told_tree self.new.study.tree ≡ with_child (told_tree self.old.study.tree) path.now m told)) }
         ensures place { IfOk result (λ k. k ≡ children_at (marked self.old).tree.below path.now) }
         ensures right { V.is_honest values.old → IsKeptRight self.old → OnOk result (IsKeptRight self.new) }
         ensures relabelled { OnOk result (self.new.relabelled ≡ counted_times (length path.now + 2) self.old.relabelled) }
@@ -166,6 +169,7 @@ impl<'a, A: Allocator> Bench<'a, A> {
     /// Another stipulation.
     pub fn set_stipulation(&mut self, stipulation: Stipulation)
         ensures edited { plain_study (marked self.new) ≡ stipulated (plain_study (marked self.old)) stipulation }
+        ensures kept { told_tree self.new.study.tree ≡ told_tree self.old.study.tree }
         ensures right { IsKeptRight self.old → IsKeptRight self.new }
         ensures relabelled { self.new.relabelled ≡ counted_times (size_of (marked self.old).tree) self.old.relabelled }
     {
@@ -178,6 +182,7 @@ impl<'a, A: Allocator> Bench<'a, A> {
     pub fn delete(&mut self, path: &Path<'a, A>) -> Result<(), Refusal<'a, A>>
         ensures refusal { MatchOption (delete_refusal (plain_study (marked self.old)) path.now) (IsOk result) (λ fault. result ≡ Err fault) }
         ensures edited { OnOk result (plain_study (marked self.new) ≡ deleted (plain_study (marked self.old)) path.now) }
+        ensures kept { OnOk result (told_tree self.new.study.tree ≡ without (told_tree self.old.study.tree) path.now) }
         ensures right { IsKeptRight self.old → OnOk result (IsKeptRight self.new) }
         ensures relabelled { OnOk result (self.new.relabelled ≡ counted_times (length path.now) self.old.relabelled) }
         ensures same { OnErr result (self.new ≡ self.old) }
@@ -191,6 +196,7 @@ impl<'a, A: Allocator> Bench<'a, A> {
     pub fn promote(&mut self, path: &Path<'a, A>) -> Result<(), Refusal<'a, A>>
         ensures refusal { MatchOption (promote_refusal (plain_study (marked self.old)) path.now) (IsOk result) (λ fault. result ≡ Err fault) }
         ensures edited { OnOk result (plain_study (marked self.new) ≡ promoted (plain_study (marked self.old)) path.now) }
+        ensures kept { OnOk result (told_tree self.new.study.tree ≡ moved_up (told_tree self.old.study.tree) path.now) }
         ensures right { IsKeptRight self.old → OnOk result (IsKeptRight self.new) }
         ensures relabelled { OnOk result (self.new.relabelled ≡ counted_times (length path.now) self.old.relabelled) }
         ensures same { OnErr result (self.new ≡ self.old) }
@@ -204,6 +210,7 @@ impl<'a, A: Allocator> Bench<'a, A> {
     pub fn set_tag(&mut self, name: TagName, text: &str) -> Result<(), Refusal<'a, A>>
         ensures refusal { MatchOption (tag_refusal text.now) (IsOk result) (λ fault. result ≡ Err fault) }
         ensures edited { OnOk result (plain_study (marked self.new) ≡ tagged (plain_study (marked self.old)) name text.now) }
+        ensures kept { self.new.study.tree ≡ self.old.study.tree }
         ensures right { IsKeptRight self.old → OnOk result (IsKeptRight self.new) }
         ensures relabelled { self.new.relabelled ≡ self.old.relabelled }
         ensures same { OnErr result (self.new ≡ self.old) }
@@ -250,6 +257,7 @@ impl<'a, A: Allocator> Bench<'a, A> {
         ensures first { IfErr result (TellsStop V.gives V.asked_of values.old values.new (plain_study (marked self.old)) edits.now) }
         ensures accepted { AreAccepted (V.held values.old) (plain_study (marked self.old)) (accepted_of result edits.now) }
         ensures edited { plain_study (marked self.new) ≡ edited_by (plain_study (marked self.old)) (accepted_of result edits.now) }
+        ensures kept { AreKeptAfter (told_tree self.old.study.tree) (accepted_of result edits.now) (told_tree self.new.study.tree) }
         ensures right { V.is_honest values.old → IsKeptRight self.old → IsKeptRight self.new }
         ensures relabelled { self.new.relabelled ≡ labels_by (plain_study (marked self.old)) (accepted_of result edits.now) self.old.relabelled }
         ensures asked { HasAskedBy (plain_study (marked self.old)) edits.now result (V.asked_of values.old) (V.asked_of values.new) }

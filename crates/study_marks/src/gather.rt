@@ -9,7 +9,8 @@ ghost use Rattle.study_marks.specs.Asked.{asked_at, asked_below, AreTablesHeld, 
 ghost use Rattle.study_prober.specs.Values.{IsNotDamage};
 ghost use Rattle.study_marks.specs.Answers.{IsUndamaged, WereTold, IsFirstFault, TellsFirstFault};
 ghost use Rattle.study_marks.specs.Told.{IsToldOf, AllAreTold, IsUntold, WasAsked, failures_told};
-ghost use Rattle.study_marks.specs.Renewal.{told_tree, below_at};
+ghost use Rattle.study_marks.specs.Kept.{told_tree};
+ghost use Rattle.study_marks.specs.Renewal.{below_at};
 ghost use Rattle.study_marks.specs.Whole.{positions_in, asked_each, AreToldOf, retold_tree};
 
 use crate::ask::ask;

@@ -10,8 +10,8 @@ ghost use Rattle.study_marks.specs.Edits.{broken_from};
 ghost use Rattle.study_marks.specs.Bench.{played_by};
 ghost use Rattle.study_marks.specs.Asked.{counted_times};
 ghost use Rattle.study_marks.specs.Goals.{hero_moves};
-ghost use Rattle.study_marks.specs.Kept.{own, faults_below, AllAddUp};
-ghost use Rattle.study_marks.specs.Renewal.{told_tree, below_at};
+ghost use Rattle.study_marks.specs.Kept.{own, faults_below, AllAddUp, told_tree};
+ghost use Rattle.study_marks.specs.Renewal.{below_at};
 ghost use Rattle.study_marks.specs.Whole.{told_in, retold_tree, refreshed};
 
 use crate::label::{Label, Told};
@@ -84,6 +84,8 @@ pub fn find_broken<'a, A: Allocator>(
 }
 
 /// What is to be told of the node with this number: what the list tells, or what is told already where it is shorter.
+/// Not inlined, so that the recursion over the tree keeps one copy of it a ply on the stack.
+#[inline(never)]
 fn told_of<'a, A: Allocator>(
     tree: &Tree<'a, Label, A>,
     steps: &[u16],
@@ -102,24 +104,27 @@ fn told_of<'a, A: Allocator>(
     }
 }
 
-/// Writes the label of a node, other than the root, whose parent keeps `before`; says its faults, to which those below it are counted.
+/// Writes the label of a node, other than the root, whose parent keeps `before`; says its faults, to which those below it
+/// are counted. Not inlined, as `told_of`.
+#[inline(never)]
 fn write_label<'a, A: Allocator>(
     aim: &Aim,
     tree: &mut Tree<'a, Label, A>,
     steps: &[u16],
     depth: usize,
     before: &Told,
-    told: Told,
+    told: &Told,
     below: u32,
 ) -> u32
     requires found { IsTrue (has_spot (plain_tree tree.old) steps.now) }
     requires few { below ≤ 4096 }
     requires shallow { depth ≤ 256 }
-    ensures faults { result ≡ own aim.now depth before.now told.value + below }
-    ensures written { plain_tree tree.new ≡ with_label (plain_tree tree.old) steps.now (record { told = told; faults = result }) }
+    ensures faults { result ≡ own aim.now depth before.now told.now.value + below }
+    ensures written { plain_tree tree.new ≡ with_label (plain_tree tree.old) steps.now (record { told = told.now; faults = result }) }
     ensures count { tree.new.relabelled ≡ counted tree.old.relabelled }
 {
     let faults = own_faults(aim, depth, before, told.value) + below;
+    let told = told.copied();
     let _written = tree.relabel(steps, Label { told, faults });
     faults
 }
@@ -160,7 +165,7 @@ fn write_below<'a, A: Allocator>(
         steps.push(place);
         let child = told_of(tree, steps.as_slice(), all, next);
         let (below, beyond) = write_below(aim, tree, steps, &child, all, next + 1);
-        let own = write_label(aim, tree, steps.as_slice(), depth, told, child, below);
+        let own = write_label(aim, tree, steps.as_slice(), depth, told, &child, below);
         let _place = steps.pop();
         faults += share(aim, depth, place, own);
         next = beyond;

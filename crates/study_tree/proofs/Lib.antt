@@ -1,3 +1,4 @@
+pub mod Outcomes
 pub mod PathSteps
 pub mod ShownTrees
 pub mod PathEnds

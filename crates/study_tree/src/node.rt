@@ -1,5 +1,5 @@
 //! Nodes, and what a path leads to among them.
-ghost use Rattle.std.specs.Prelude.{◌≡◌, ◌+◌, ◌-◌, ◌<◌, ◌^◌, IsTrue, IsOk, IfOk, OnErr, OnOk, ◌∷◌, vec_len, vec_capacity};
+ghost use Rattle.std.specs.Prelude.{◌≡◌, ◌+◌, ◌-◌, ◌<◌, ◌^◌, IsTrue, IsOk, IfOk, IsSome, IfSome, OnErr, OnOk, [], ◌∷◌, vec_len, vec_capacity};
 ghost use Rattle.std.specs.Option.{option_copied};
 ghost use Rattle.study_tree.specs.Forest.{forest_of, nodes_in, nodes_from};
 ghost use Rattle.study_tree.specs.Edits.{has_node, node_in, add_last, children_at, plain, spare_at};
@@ -50,35 +50,53 @@ pub fn node_in<'n, 'a, L, A: Allocator>(
     }
 }
 
-/// Gives the node at the path one more child, the last, and says its place.
+/// Puts one more node last among siblings, and says its place.
+fn push_node<'a, L: Drop, A: Allocator>(
+    alloc: &'a A,
+    siblings: &mut Vec<Node<'a, L, A>, &'a A>,
+    played: Move,
+    label: L,
+) -> Result<u16, AllocError>
+    requires few { vec_len siblings.old < 2 ^ 16 }
+    ensures place { IfOk result (λ k. k ≡ vec_len siblings.old) }
+    ensures added { OnOk result (plain (forest_of siblings.new.items) ≡ add_last (plain (forest_of siblings.old.items)) [] played label) }
+    ensures room { 0 < vec_capacity siblings.old - vec_len siblings.old → IsOk result }
+    ensures err { OnErr result (siblings.new.items ≡ siblings.old.items) }
+{
+    let place = siblings.len() as u16;
+    siblings.push(Node {
+        played,
+        label,
+        children: Vec::new(alloc),
+    })?;
+    Ok(place)
+}
+
+/// Gives the node at the path one more child, the last, and says its place. The label is passed by reference, so that the
+/// way down takes no stack for it, and taken where the path ends.
 pub fn add_below<'a, L: Drop, A: Allocator>(
     alloc: &'a A,
     children: &mut Vec<Node<'a, L, A>, &'a A>,
     steps: &[u16],
     played: Move,
-    label: L,
+    label: &mut Option<L>,
 ) -> Result<u16, AllocError>
     requires found { IsTrue (has_node (forest_of children.old.items) steps.now) }
     requires few { children_at (forest_of children.old.items) steps.now < 2 ^ 16 }
+    requires given { IsSome label.old }
     ensures place { IfOk result (λ k. k ≡ children_at (forest_of children.old.items) steps.now) }
-    ensures added { IfOk result (λ k. plain (forest_of children.new.items) ≡ add_last (plain (forest_of children.old.items)) steps.now played label) }
+    ensures added { IfSome label.old (λ l. OnOk result (plain (forest_of children.new.items) ≡ add_last (plain (forest_of children.old.items)) steps.now played l)) }
     ensures room { 0 < spare_at (vec_capacity children.old - vec_len children.old) (forest_of children.old.items) steps.now → IsOk result }
     ensures err { OnErr result (plain (forest_of children.new.items) ≡ plain (forest_of children.old.items)) }
 {
     match steps.split_first() {
-        None => {
-            let place = children.len() as u16;
-            children.push(Node {
-                played,
-                label,
-                children: Vec::new(alloc),
-            })?;
-            Ok(place)
-        }
+        None => match label.take() {
+            None => unreachable!(),
+            Some(label) => push_node(alloc, children, played, label),
+        },
         Some((first, rest)) => {
             let child = &mut children[*first as usize];
-            let place = add_below(alloc, &mut child.children, rest, played, label)?;
-            Ok(place)
+            add_below(alloc, &mut child.children, rest, played, label)
         }
     }
 }
@@ -101,19 +119,20 @@ pub fn reserve_below<'a, L, A: Allocator>(
     }
 }
 
-/// Gives the node another label: the one at place `first`, and then along the rest of the path.
-pub fn relabel_below<'a, L: Drop, A: Allocator>(
+/// Gives the node another label: the one at place `first`, and then along the rest of the path. The label is exchanged
+/// with the node's own and passed by reference, so that the way down takes no stack for it.
+pub fn relabel_below<'a, L, A: Allocator>(
     children: &mut Vec<Node<'a, L, A>, &'a A>,
     first: u16,
     rest: &[u16],
-    label: L,
+    label: &mut L,
 )
     requires found { IsTrue (has_node (forest_of children.old.items) (first ∷ rest.now)) }
-    ensures { plain (forest_of children.new.items) ≡ place_edited (labelled_at label) (plain (forest_of children.old.items)) first rest.now }
+    ensures { plain (forest_of children.new.items) ≡ place_edited (labelled_at label.old) (plain (forest_of children.old.items)) first rest.now }
 {
     let child = &mut children[first as usize];
     match rest.split_first() {
-        None => child.label = label,
+        None => std::mem::swap(&mut child.label, label),
         Some((next, rest)) => relabel_below(&mut child.children, *next, rest, label),
     }
 }

@@ -165,14 +165,20 @@ impl<'a, L: Drop, A: Allocator> Tree<'a, L, A> {
         ensures same_count { OnErr result (self.new.relabelled ≡ self.old.relabelled) }
     {
         self.check_child(steps)?;
-        let place = add_below(self.alloc, &mut self.children, steps, played, label)?;
+        let place = add_below(
+            self.alloc,
+            &mut self.children,
+            steps,
+            played,
+            &mut Some(label),
+        )?;
         self.size += 1;
         self.relabelled = self.relabelled.saturating_add(1);
         Ok(place)
     }
 
     /// Writes the node's label.
-    pub fn relabel(&mut self, steps: &[u16], label: L) -> Result<(), TreeFault>
+    pub fn relabel(&mut self, steps: &[u16], mut label: L) -> Result<(), TreeFault>
         ensures refusal { MatchOption (label_refusal (plain_tree self.old) steps.now) (IsOk result) (λ fault. result ≡ Err fault) }
         ensures written { OnOk result (plain_tree self.new ≡ with_label (plain_tree self.old) steps.now label) }
         ensures count { OnOk result (self.new.relabelled ≡ counted self.old.relabelled) }
@@ -183,7 +189,7 @@ impl<'a, L: Drop, A: Allocator> Tree<'a, L, A> {
         }
         match steps.split_first() {
             None => self.label = label,
-            Some((first, rest)) => relabel_below(&mut self.children, *first, rest, label),
+            Some((first, rest)) => relabel_below(&mut self.children, *first, rest, &mut label),
         }
         self.relabelled = self.relabelled.saturating_add(1);
         Ok(())

@@ -21,10 +21,10 @@ pub returns-in-None : goal.returns-in-None
 returns-in-None g t c =
     let step = step_of c.args.children.now.items (c.args.first ∷ c.args.rest.now) c.args.first c.args.rest.now _
     c.index_mut-child.result.now c.requires.found refl c.child.view_is c.index_mut-child.ensures.value in
-    labelled-here step c.args.label _ c.in-None.ensures.cases refl refl refl
+    labelled-here step c.args.label.now _ c.in-None.ensures.cases refl c.swap.ensures.x_after refl
 
 pub returns-in-Some : goal.returns-in-Some
 returns-in-Some g t c =
     let step = step_of c.args.children.now.items (c.args.first ∷ c.args.rest.now) c.args.first c.args.rest.now _
     c.index_mut-child.result.now c.requires.found refl c.child.view_is c.index_mut-child.ensures.value in
-    place_edited-step step (labelled_at c.args.label) c.in-Some.next.now c.in-Some.rest.now _ c.in-Some.ensures.cases.0 refl refl c.relabel_below.ensures
+    place_edited-step step (labelled_at c.args.label.now) c.in-Some.next.now c.in-Some.rest.now _ c.in-Some.ensures.cases.0 refl refl c.relabel_below.ensures

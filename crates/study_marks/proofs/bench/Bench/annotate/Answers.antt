@@ -7,11 +7,10 @@ use Rattle.study_marks.specs.declared.label.Told.{Told}
 use Rattle.study_marks.specs.declared.marking.Aim.{Aim}
 use Rattle.study_marks.specs.Study.{plain_study, IsPlayable}
 use Rattle.study_marks.specs.Goals.{aim_of}
-use Rattle.study_marks.specs.Kept.{Kept, marked, AllAddUp}
+use Rattle.study_marks.specs.Kept.{Kept, marked, AllAddUp, told_tree}
 use Rattle.study_marks.specs.Edits.{shifted}
 use Rattle.study_marks.specs.Asked.{positions_asked, AreTablesHeld, IsOutside, HasStopped, is_of_tables, counted_times}
 use Rattle.study_marks.specs.Bench.{kept_of}
-use Rattle.study_marks.specs.Renewal.{told_tree}
 use Rattle.study_marks.specs.Told.{AllAreTold}
 use Rattle.study_marks.specs.Whole.{retold_tree}
 use Rattle.study_marks.proofs.BenchEdits.{counted-later}

@@ -45,7 +45,7 @@ returns-in-Stipulate-clause-applied g c =
     (g.V.Values.is_honest c.args.values.now) (g.V.Values.is_honest c.args.values.now)
     (g.V.Values.asked_of c.args.values.now) (g.V.Values.asked_of c.args.values.now)
     (g.V.Values.failed_of c.args.values.now) (g.V.Values.failed_of c.args.values.now) c.args.self.now
-    c.set_stipulation.new.self c.args.edit.now c.in-Stipulate.stipulation c.in-Stipulate.is e.edited e.right
+    c.set_stipulation.new.self c.args.edit.now c.in-Stipulate.stipulation c.in-Stipulate.is e.edited e.right e.kept
     e.relabelled refl refl (λ h. h) (λ k. refl)
 
 pub returns-in_ok-_place-in-Insert-clause-applied : goal.returns-in_ok-_place-in-Insert-clause-applied
@@ -59,7 +59,7 @@ returns-in_ok-_place-in-Insert-clause-applied g c =
     (g.V.Values.asked_of c.args.values.now) (g.V.Values.asked_of c.insert.new.values)
     (g.V.Values.failed_of c.args.values.now) (g.V.Values.failed_of c.insert.new.values) c.args.self.now
     c.insert.new.self c.args.edit.now c.in-Insert.path c.in-Insert.m c.in_ok-_place-in-Insert._place _
-    c.in-Insert.is e.refusal place e.found e.edited e.right e.relabelled e.asked e.failures e.honest e.tables
+    c.in-Insert.is e.refusal place e.found e.edited e.right e.kept e.relabelled e.asked e.failures e.honest e.tables
 
 pub returns-in_err-_place-in-Insert-clause-first : goal.returns-in_err-_place-in-Insert-clause-first
 returns-in_err-_place-in-Insert-clause-first g c =

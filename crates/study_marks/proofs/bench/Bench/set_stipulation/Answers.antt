@@ -5,7 +5,7 @@ use Rattle.study_tree.specs.Tree.{plain_tree, size_of}
 use Rattle.study_marks.specs.declared.marking.Aim.{Aim}
 use Rattle.study_marks.specs.Study.{plain_study}
 use Rattle.study_marks.specs.Goals.{aim_of}
-use Rattle.study_marks.specs.Kept.{Kept, marked, IsKeptRight, AllAddUp}
+use Rattle.study_marks.specs.Kept.{Kept, marked, told_tree, IsKeptRight, AllAddUp}
 use Rattle.study_marks.specs.Edits.{stipulated}
 use Rattle.study_marks.specs.Asked.{counted_times}
 use Rattle.study_marks.specs.Bench.{kept_of}
@@ -37,6 +37,12 @@ returns-clause-edited g c =
     (counted c.write_all.new.tree.relabelled)
     (told-kept b.study.tree (plain_tree c.write_all.new.tree) c.write_all.ensures.told)
     ∙ ap (λ (k : Kept). stipulated (plain_study (marked k)) c.args.stipulation) c.self.view_is
+
+pub returns-clause-kept : goal.returns-clause-kept
+returns-clause-kept g c =
+    let b = kept_of c.self.inside.start c.self.inside.stipulation c.self.inside.tags c.self.inside.tree in
+    told-kept b.study.tree (plain_tree c.write_all.new.tree) c.write_all.ensures.told
+    ∙ ap (λ (k : Kept). told_tree k.study.tree) c.self.view_is
 
 pub returns-clause-right : goal.returns-clause-right
 returns-clause-right g c h =
