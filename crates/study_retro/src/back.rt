@@ -5,6 +5,7 @@ ghost use Rattle.study_retro.specs.Numbered.{IsMatedAt, IsNumberedClass, LosesBy
 
 use crate::check::label;
 use crate::game::Game;
+use crate::stepped::{SteppedGame, TestedGame};
 use crate::value::Value;
 
 /// Sets a cell, where it tells of no mate so near.
@@ -30,7 +31,7 @@ pub fn put(cells: &mut [u8], number: u32, cell: u8)
 }
 
 /// A position that is lost in `level` plies: what leads to it is won in one more.
-pub fn go_back_from_loss<G: Game>(game: &G, cells: &mut [u8], number: u32, level: u8) -> u64
+pub fn lower_by_moves<G: Game>(game: &G, cells: &mut [u8], number: u32, level: u8) -> u64
     requires laws { IsNumberedClass (G.numbered game.now) }
     requires level { level < 254 }
     requires number { number < (G.numbered game.now).size }
@@ -74,7 +75,7 @@ fn is_won(value: Value, level: u8) -> bool
 }
 
 /// Whether the position of a number has a move, and each leads to a win within `level` plies.
-pub fn is_lost_at<G: Game>(game: &G, cells: &[u8], number: u32, level: u8) -> bool
+pub fn is_lost_by_moves<G: Game>(game: &G, cells: &[u8], number: u32, level: u8) -> bool
     requires laws { IsNumberedClass (G.numbered game.now) }
     requires number { number < (G.numbered game.now).size }
     requires cells { length cells.now ≡ (G.numbered game.now).size }
@@ -88,7 +89,7 @@ pub fn is_lost_at<G: Game>(game: &G, cells: &[u8], number: u32, level: u8) -> bo
 }
 
 /// Sets the cell of a number that tells of no mate, where each move leads to a win within `level` plies.
-pub fn deny<G: Game>(game: &G, cells: &mut [u8], number: u32, level: u8) -> u64
+pub fn deny<G: TestedGame>(game: &G, cells: &mut [u8], number: u32, level: u8) -> u64
     requires laws { IsNumberedClass (G.numbered game.now) }
     requires level { level < 254 }
     requires number { number < (G.numbered game.now).size }
@@ -99,14 +100,14 @@ pub fn deny<G: Game>(game: &G, cells: &mut [u8], number: u32, level: u8) -> u64
     if cells[number as usize] != 0 {
         return 0;
     }
-    if is_lost_at(game, cells, number, level) {
+    if game.is_lost_at(cells, number, level) {
         put(cells, number, level + 2);
     }
     1
 }
 
 /// Where the position of a number is won in `level` plies, what leads to it may be lost in one more.
-pub fn go_back_from_win<G: Game>(game: &G, cells: &mut [u8], number: u32, level: u8) -> u64
+pub fn go_back_from_win<G: SteppedGame>(game: &G, cells: &mut [u8], number: u32, level: u8) -> u64
     requires laws { IsNumberedClass (G.numbered game.now) }
     requires level { level < 254 }
     requires odd { level % 2 ≡ 1 }
@@ -118,13 +119,13 @@ pub fn go_back_from_win<G: Game>(game: &G, cells: &mut [u8], number: u32, level:
     if cells[number as usize] != level + 1 {
         return 0;
     }
-    deny_before(game, cells, number, level)
+    game.deny_before(cells, number, level)
 }
 
 /// Sets the cells of what leads to a number, where they tell of no mate and each move leads to a win within `level` plies.
 // Not inlined: the list of numbers would be cleared for each number of a level.
 #[inline(never)]
-fn deny_before<G: Game>(game: &G, cells: &mut [u8], number: u32, level: u8) -> u64
+pub fn deny_by_moves<G: TestedGame>(game: &G, cells: &mut [u8], number: u32, level: u8) -> u64
     requires laws { IsNumberedClass (G.numbered game.now) }
     requires level { level < 254 }
     requires number { number < (G.numbered game.now).size }

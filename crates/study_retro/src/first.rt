@@ -5,6 +5,7 @@ ghost use Rattle.study_retro.specs.Numbered.{CellIsHeld, CellsAreHeld, IsNumbere
 ghost use Rattle.study_retro.specs.Tally.{drawn_with, lost_with, won_with};
 
 use crate::game::{Game, Place};
+use crate::stepped::SteppedGame;
 use crate::tally::Tally;
 use crate::value::Value;
 
@@ -72,8 +73,8 @@ pub fn first_by(value: Value) -> First
     }
 }
 
-/// What a number begins with.
-pub fn first_of<G: Game>(game: &G, number: u32) -> First
+/// What a number begins with, by its moves.
+pub fn first_by_moves<G: Game>(game: &G, number: u32) -> First
     requires laws { IsNumberedClass (G.numbered game.now) }
     requires number { number < (G.numbered game.now).size }
     ensures { OutsideIsRight (G.numbered game.now) → CellIsHeld (G.numbered game.now) result.far 0 number result.cell }
@@ -94,14 +95,14 @@ pub fn first_of<G: Game>(game: &G, number: u32) -> First
 }
 
 /// What all numbers begin with, and whether some mate cannot be told.
-pub fn start<G: Game>(game: &G, cells: &mut [u8]) -> bool
+pub fn start<G: SteppedGame>(game: &G, cells: &mut [u8]) -> bool
     requires laws { IsNumberedClass (G.numbered game.now) }
     requires cells { length cells.old ≡ (G.numbered game.now).size }
     ensures { OutsideIsRight (G.numbered game.now) → CellsAreHeld (G.numbered game.now) result 0 cells.new }
 {
     let mut far = false;
     for number in 0..game.cells() {
-        let first = first_of(game, number);
+        let first = game.first(number);
         cells[number as usize] = first.cell;
         if first.far {
             far = true;

@@ -5,13 +5,13 @@ ghost use Rattle.study_retro.specs.Numbered.{CellsAreRight, EndsRight, HasFarMat
 ghost use Rattle.study_retro.specs.Numbered.{LossIsKept, LossIsTrue, LossesAreKept, LossesAreTrue, LossesGoBack};
 ghost use Rattle.study_retro.specs.Numbered.{OutsideIsRight, RaisesLevel, StepLeads, WhereWinsAreTold, WinsGoBack};
 
-use crate::back::{go_back_from_loss, go_back_from_win, is_lost_at, put};
+use crate::back::{go_back_from_win, put};
 use crate::check::first_other;
 use crate::first::start;
-use crate::game::Game;
+use crate::stepped::SteppedGame;
 
 /// Goes back from all positions that are lost in `level` plies.
-pub fn level_of_losses<G: Game>(game: &G, cells: &mut [u8], level: u8) -> u64
+pub fn level_of_losses<G: SteppedGame>(game: &G, cells: &mut [u8], level: u8) -> u64
     requires laws { IsNumberedClass (G.numbered game.now) }
     requires level { level < 254 }
     requires cells { length cells.old ≡ (G.numbered game.now).size }
@@ -21,7 +21,7 @@ pub fn level_of_losses<G: Game>(game: &G, cells: &mut [u8], level: u8) -> u64
     let mut examined = 0u64;
     for number in 0..game.cells() {
         if cells[number as usize] == level + 1 {
-            let more = go_back_from_loss(game, cells, number, level);
+            let more = game.lower_before(cells, number, level);
             examined = examined.saturating_add(more).saturating_add(1);
         }
     }
@@ -29,7 +29,7 @@ pub fn level_of_losses<G: Game>(game: &G, cells: &mut [u8], level: u8) -> u64
 }
 
 /// Looks at a number that a move out of the class makes due: its cell stays where it is lost in `level + 1` plies, and else is 0.
-pub fn confirm<G: Game>(game: &G, cells: &mut [u8], number: u32, level: u8) -> u64
+pub fn confirm<G: SteppedGame>(game: &G, cells: &mut [u8], number: u32, level: u8) -> u64
     requires laws { IsNumberedClass (G.numbered game.now) }
     requires level { level < 254 }
     requires number { number < (G.numbered game.now).size }
@@ -42,14 +42,14 @@ pub fn confirm<G: Game>(game: &G, cells: &mut [u8], number: u32, level: u8) -> u
     if cells[number as usize] != level + 2 {
         return 0;
     }
-    if !is_lost_at(game, cells, number, level) {
+    if !game.is_lost_at(cells, number, level) {
         put(cells, number, 0);
     }
     1
 }
 
 /// Looks at all numbers that moves out of the class make due.
-pub fn confirm_all<G: Game>(game: &G, cells: &mut [u8], level: u8) -> u64
+pub fn confirm_all<G: SteppedGame>(game: &G, cells: &mut [u8], level: u8) -> u64
     requires laws { IsNumberedClass (G.numbered game.now) }
     requires level { level < 254 }
     requires odd { level % 2 ≡ 1 }
@@ -66,7 +66,7 @@ pub fn confirm_all<G: Game>(game: &G, cells: &mut [u8], level: u8) -> u64
 }
 
 /// Goes back from all positions that are won in `level` plies.
-pub fn level_of_wins<G: Game>(game: &G, cells: &mut [u8], level: u8) -> u64
+pub fn level_of_wins<G: SteppedGame>(game: &G, cells: &mut [u8], level: u8) -> u64
     requires laws { IsNumberedClass (G.numbered game.now) }
     requires level { level < 254 }
     requires odd { level % 2 ≡ 1 }
@@ -82,7 +82,7 @@ pub fn level_of_wins<G: Game>(game: &G, cells: &mut [u8], level: u8) -> u64
 }
 
 /// One level.
-pub fn step<G: Game>(game: &G, cells: &mut [u8], level: u8) -> u64
+pub fn step<G: SteppedGame>(game: &G, cells: &mut [u8], level: u8) -> u64
     requires laws { IsNumberedClass (G.numbered game.now) }
     requires level { level < 254 }
     requires cells { length cells.old ≡ (G.numbered game.now).size }
@@ -116,7 +116,7 @@ pub struct Ended {
 }
 
 /// All levels.
-pub fn all_levels<G: Game>(game: &G, cells: &mut [u8]) -> Ended
+pub fn all_levels<G: SteppedGame>(game: &G, cells: &mut [u8]) -> Ended
     requires laws { IsNumberedClass (G.numbered game.now) }
     requires cells { length cells.old ≡ (G.numbered game.now).size }
     ensures held { RaisesLevel (G.numbered game.now) 0 254 cells.old cells.new }
@@ -147,7 +147,7 @@ pub struct Filled {
 }
 
 /// Fills cells with the values of a class, whatever they held.
-pub fn fill<G: Game>(game: &G, cells: &mut [u8]) -> Filled
+pub fn fill<G: SteppedGame>(game: &G, cells: &mut [u8]) -> Filled
     requires laws { IsNumberedClass (G.numbered game.now) }
     requires cells { length cells.old ≡ (G.numbered game.now).size }
     ensures right { OutsideIsRight (G.numbered game.now) → IsTrue result.fits → CellsAreRight (G.numbered game.now) cells.new }

@@ -16,6 +16,7 @@ mod game;
 mod levels;
 mod room;
 mod set;
+mod stepped;
 mod table;
 mod tally;
 mod value;

@@ -1,7 +1,7 @@
 use Rattle.std.proofs.Common.{◌≢◌, ℕ, ◌+◌, ◌<◌, ◌≤◌, List, slice_index, Contains, arith, sym, subst}
 use Rattle.std.proofs.lemmas.List.Elements.{Contains-get_or}
 use Rattle.study_retro.proofs.CellsLemmas.{at_place}
-use Rattle.study_retro.proofs.back.go_back_from_loss.Goals as goal
+use Rattle.study_retro.proofs.back.lower_by_moves.Goals as goal
 
 pub lower-requires-clause-number : goal.lower-requires-clause-number
 lower-requires-clause-number g c =

@@ -1,7 +1,7 @@
 use Rattle.std.proofs.Common.{◌≡◌, ◌≢◌, ℕ, ◌+◌, ◌<◌, ◌≤◌, length, slice_index}
 use Rattle.study_retro.specs.Back.{AreLowered}
 use Rattle.study_retro.specs.Numbered.{StepLeads}
-use Rattle.study_retro.proofs.back.go_back_from_loss.Given as goal
+use Rattle.study_retro.proofs.back.lower_by_moves.Given as goal
 
 abbrev pub invariant-loop-from : goal.invariant-loop-from
 invariant-loop-from g l = record {

@@ -2,7 +2,7 @@ use Rattle.std.proofs.Common.{◌≡◌, true, false, Option, sym, ◌∙◌, su
 use Rattle.study_retro.specs.Back.{IsHeldCell}
 use Rattle.study_retro.specs.Numbered.{leads_in}
 use Rattle.study_retro.proofs.FirstLemmas.{held-mate, held-first}
-use Rattle.study_retro.proofs.first.first_of.Goals as goal
+use Rattle.study_retro.proofs.first.first_by_moves.Goals as goal
 
 pub returns-then-is_mate : goal.returns-then-is_mate
 returns-then-is_mate g c = λ outer.

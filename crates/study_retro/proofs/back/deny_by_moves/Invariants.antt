@@ -1,7 +1,7 @@
 use Rattle.std.proofs.Common.{◌≡◌, ◌≢◌, ℕ, ◌+◌, ◌<◌, length, slice_index}
 use Rattle.study_retro.specs.Back.{AreAdded}
 use Rattle.study_retro.specs.Numbered.{OutsideIsRight, StepLeads, TellWins, IsMatedAt, IsMatedWithin}
-use Rattle.study_retro.proofs.back.deny_before.Given as goal
+use Rattle.study_retro.proofs.back.deny_by_moves.Given as goal
 
 abbrev pub invariant-loop-from : goal.invariant-loop-from
 invariant-loop-from g l = record {

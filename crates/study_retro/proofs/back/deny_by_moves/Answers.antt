@@ -2,7 +2,7 @@ use Rattle.std.proofs.Common.{◌≢◌, ℕ, ◌+◌, List, slice_index, Contai
 use Rattle.std.proofs.lemmas.List.Elements.{Contains-get_or}
 use Rattle.study_retro.specs.Numbered.{OutsideIsRight, StepLeads, TellWins, IsMatedAt, IsMatedWithin, leads_in}
 use Rattle.study_retro.proofs.CellsLemmas.{at_place, added-then, added-kept, added-tells}
-use Rattle.study_retro.proofs.back.deny_before.Goals as goal
+use Rattle.study_retro.proofs.back.deny_by_moves.Goals as goal
 
 pub deny-requires-clause-number : goal.deny-requires-clause-number
 deny-requires-clause-number g c =
