@@ -8,7 +8,7 @@ use Rattle.std.proofs.lemmas.Bool.{eqb-true}
 use Rattle.std.proofs.lemmas.List.{take_more}
 use Rattle.std.proofs.lemmas.List.Elements.{Contains-push_cases}
 use Rattle.study_retro.specs.Forced.{LeadsBy}
-use Rattle.study_retro.specs.Back.{IsWonCell, TellsWins, IsLostBy, AreAdded, AreDropped}
+use Rattle.study_retro.specs.Back.{IsWonCell, TellsWins, IsLostBy, AreAdded, AreDropped, AreLowered, IsSetBy}
 
 pub not_won-zero : (k c : ℕ) → c ≡ 0 → IsWonCell k c → ⊥
 not_won-zero k c e w = w.1 e
@@ -17,6 +17,31 @@ pub not_won-next : (k c : ℕ) → c ≡ k + 2 → IsWonCell k c → ⊥
 not_won-next k c e w = omega (arith, e, w.2)
 
 module _ (k : ℕ) where
+  pub lowered-then : (Why : ℕ → Type 0) (a b c : List ℕ) → AreLowered Why k a b → AreLowered Why k b c → AreLowered Why k a c
+  lowered-then Why a b c f g i = elim (g i) [
+    | inl same ↦ elim (f i) [ inl e ↦ inl (same ∙ e) | inr x ↦ inr (x.0, same ∙ x.1, x.2) ]
+    | inr y ↦ elim (f i) [
+      | inl e ↦ inr (y.0, y.1, subst (λ (n : ℕ). (n ≡ 0) ⊎ (k + 2 < n)) e y.2)
+      | inr x ↦ absurd (elim y.2 [ inl z ↦ omega (arith, x.1, z) | inr z ↦ omega (arith, x.1, z) ])
+    ]
+  ]
+
+  -- a cell of k + 1 was one before, and stays
+  pub lowered-back : (Why : ℕ → Type 0) (a b : List ℕ) → AreLowered Why k a b → (i : ℕ) → slice_index b i ≡ k + 1 → slice_index a i ≡ k + 1
+  lowered-back Why a b f i h = elim (f i) [ inl e ↦ sym e ∙ h | inr x ↦ absurd (omega (arith, x.1, h)) ]
+
+  pub lowered-same : (Why : ℕ → Type 0) (a b : List ℕ) → AreLowered Why k a b → (i : ℕ) → slice_index a i ≡ k + 1 → slice_index b i ≡ k + 1
+  lowered-same Why a b f i h = elim (f i) [
+    | inl e ↦ e ∙ h
+    | inr x ↦ absurd (elim x.2 [ inl z ↦ omega (arith, h, z) | inr z ↦ omega (arith, h, z) ])
+  ]
+
+  pub lowered-set : (Why : ℕ → Type 0) (a b : List ℕ) → AreLowered Why k a b → (i : ℕ) → IsSetBy (k + 2) a i → IsSetBy (k + 2) b i
+  lowered-set Why a b f i h = elim (f i) [
+    | inl e ↦ ((λ z. h.0 (sym e ∙ z)), (let l = h.1 in omega (arith, l, e)))
+    | inr x ↦ absurd (elim x.2 [ inl z ↦ h.0 z | inr z ↦ (let l = h.1 in omega (arith, l, z)) ])
+  ]
+
   pub added-then : (Why : ℕ → Type 0) (a b c : List ℕ) → AreAdded k Why a b → AreAdded k Why b c → AreAdded k Why a c
   added-then Why a b c f g i = elim (g i) [
     | inl same ↦ elim (f i) [ inl e ↦ inl (same ∙ e) | inr x ↦ inr (x.0, same ∙ x.1, x.2) ]

@@ -18,3 +18,4 @@ pub mod CellsLemmas
 pub mod DueTally
 pub mod QuietClass
 pub mod EarlierChess
+pub mod BlockLemmas

@@ -6,6 +6,7 @@ ghost use Rattle.study_retro.specs.Numbered.{LossIsKept, LossIsTrue, LossesAreKe
 ghost use Rattle.study_retro.specs.Numbered.{OutsideIsRight, RaisesLevel, StepLeads, WhereWinsAreTold, WinsGoBack};
 
 use crate::back::{go_back_from_win, put};
+use crate::blocks::{has_later, next_of};
 use crate::check::first_other;
 use crate::first::start;
 use crate::stepped::SteppedGame;
@@ -19,11 +20,12 @@ pub fn level_of_losses<G: SteppedGame>(game: &G, cells: &mut [u8], level: u8) ->
     ensures done { LossesGoBack (G.numbered game.now) level cells.old cells.new }
 {
     let mut examined = 0u64;
-    for number in 0..game.cells() {
-        if cells[number as usize] == level + 1 {
-            let more = game.lower_before(cells, number, level);
-            examined = examined.saturating_add(more).saturating_add(1);
-        }
+    let size = game.cells();
+    let mut number = next_of(cells, 0, level + 1);
+    while number < size {
+        let more = game.lower_before(cells, number, level);
+        examined = examined.saturating_add(more).saturating_add(1);
+        number = next_of(cells, number + 1, level + 1);
     }
     examined
 }
@@ -59,8 +61,11 @@ pub fn confirm_all<G: SteppedGame>(game: &G, cells: &mut [u8], level: u8) -> u64
     ensures kept { WhereWinsAreTold (G.numbered game.now) level cells.old (LossesAreKept (G.numbered game.now) level cells.old cells.new) }
 {
     let mut examined = 0u64;
-    for number in 0..game.cells() {
+    let size = game.cells();
+    let mut number = next_of(cells, 0, level + 2);
+    while number < size {
         examined = examined.saturating_add(confirm(game, cells, number, level));
+        number = next_of(cells, number + 1, level + 2);
     }
     examined
 }
@@ -75,8 +80,11 @@ pub fn level_of_wins<G: SteppedGame>(game: &G, cells: &mut [u8], level: u8) -> u
     ensures done { WhereWinsAreTold (G.numbered game.now) level cells.old (WinsGoBack (G.numbered game.now) level cells.old cells.new) }
 {
     let mut examined = 0u64;
-    for number in 0..game.cells() {
+    let size = game.cells();
+    let mut number = next_of(cells, 0, level + 1);
+    while number < size {
         examined = examined.saturating_add(go_back_from_win(game, cells, number, level));
+        number = next_of(cells, number + 1, level + 1);
     }
     examined
 }
@@ -94,18 +102,6 @@ pub fn step<G: SteppedGame>(game: &G, cells: &mut [u8], level: u8) -> u64
         let due = confirm_all(game, cells, level);
         due.saturating_add(level_of_wins(game, cells, level))
     }
-}
-
-/// Whether some cell tells of a mate in `level` plies or more.
-pub fn has_later(cells: &[u8], level: u8) -> bool
-    ensures { result ≡ false → (i : ℕ) → i < length cells.now → slice_index cells.now i ≤ level }
-{
-    for cell in cells {
-        if *cell > level {
-            return true;
-        }
-    }
-    false
 }
 
 /// What levels came to: whether they ended where no cell told of a mate to come, and how much they examined.

@@ -7,6 +7,7 @@
 #![tactic(auto)]
 
 mod back;
+mod blocks;
 mod builder;
 mod check;
 mod class_game;

@@ -1,4 +1,4 @@
-use Rattle.std.proofs.Common.{◌≡◌, ℕ, ◌+◌, ◌<◌, ◌≤◌, length, slice_index, Some}
+use Rattle.std.proofs.Common.{◌≡◌, ℕ, ◌+◌, ◌<◌, ◌≤◌, length, slice_index, Some, ◌-◌}
 use Rattle.study_retro.specs.Forced.{LeadsBy}
 use Rattle.study_retro.specs.Back.{AreDropped}
 use Rattle.study_retro.specs.Numbered.{OutsideIsRight, TellWins, IsMatedWithin}
@@ -6,6 +6,7 @@ use Rattle.study_retro.proofs.levels.confirm_all.Given as goal
 
 abbrev pub invariant-loop-number : goal.invariant-loop-number
 invariant-loop-number g l = record {
+  there : l.number ≤ (g.G.Game.numbered l.game).size;
   size : length l.cells ≡ (g.G.Game.numbered l.game).size;
   fall : AreDropped l.level l.initial.cells l.cells;
   rest : (j : ℕ) → l.number ≤ j → slice_index l.cells j ≡ slice_index l.initial.cells j;
@@ -18,3 +19,6 @@ invariant-loop-number g l = record {
       → slice_index l.initial.cells j ≡ l.level + 2 → IsMatedWithin (g.G.Game.numbered l.game) (l.level + 1) p
       → slice_index l.cells j ≡ l.level + 2;
 }
+
+abbrev pub decreases-loop-number : goal.decreases-loop-number
+decreases-loop-number g l = (g.G.Game.numbered l.game).size - l.number

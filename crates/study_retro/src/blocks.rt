@@ -1,0 +1,86 @@
+//! Cells looked at by blocks, all of a block at once.
+ghost use Rattle.std.specs.Prelude.{◌≡◌, ◌≢◌, ◌<◌, ◌≤◌, ◌^◌, ℕ, false, length, slice_index};
+
+// How many cells are looked at before what they tell is asked.
+const BLOCK: usize = 64;
+
+/// Whether some cell is this byte. The loop has no way out, so that many cells are compared at once.
+#[inline]
+fn has_byte(cells: &[u8], byte: u8) -> bool
+    ensures { result ≡ false → (i : ℕ) → i < length cells.now → slice_index cells.now i ≢ byte }
+{
+    let mut found = false;
+    for cell in cells {
+        if *cell == byte {
+            found = true;
+        }
+    }
+    found
+}
+
+/// Whether some cell is above this byte.
+#[inline]
+fn has_above(cells: &[u8], byte: u8) -> bool
+    ensures { result ≡ false → (i : ℕ) → i < length cells.now → slice_index cells.now i ≤ byte }
+{
+    let mut found = false;
+    for cell in cells {
+        if *cell > byte {
+            found = true;
+        }
+    }
+    found
+}
+
+/// A place from which no block of cells up to there has this byte.
+#[inline]
+fn block_of(cells: &[u8], from: usize, byte: u8) -> usize
+    requires from { from ≤ length cells.now }
+    requires small { length cells.now < 2 ^ 32 }
+    ensures above { from ≤ result }
+    ensures within { result ≤ length cells.now }
+    ensures none { (i : ℕ) → from ≤ i → i < result → slice_index cells.now i ≢ byte }
+{
+    let mut at = from;
+    while at + BLOCK <= cells.len() {
+        if has_byte(&cells[at..at + BLOCK], byte) {
+            return at;
+        }
+        at += BLOCK;
+    }
+    at
+}
+
+/// The first place, from one on, of a cell that is this byte; or the number of cells, where none is.
+pub fn next_of(cells: &[u8], from: u32, byte: u8) -> u32
+    requires from { from ≤ length cells.now }
+    requires small { length cells.now < 2 ^ 32 }
+    ensures above { from ≤ result }
+    ensures within { result ≤ length cells.now }
+    ensures none { (i : ℕ) → from ≤ i → i < result → slice_index cells.now i ≢ byte }
+    ensures here { result < length cells.now → slice_index cells.now result ≡ byte }
+{
+    let mut at = block_of(cells, from as usize, byte);
+    while at < cells.len() {
+        if cells[at] == byte {
+            return at as u32;
+        }
+        at += 1;
+    }
+    at as u32
+}
+
+/// Whether some cell tells of a mate in `level` plies or more.
+pub fn has_later(cells: &[u8], level: u8) -> bool
+    ensures { result ≡ false → (i : ℕ) → i < length cells.now → slice_index cells.now i ≤ level }
+{
+    let mut at = 0usize;
+    while at < cells.len() {
+        let end = cells.len().min(at.saturating_add(BLOCK));
+        if has_above(&cells[at..end], level) {
+            return true;
+        }
+        at = end;
+    }
+    false
+}
