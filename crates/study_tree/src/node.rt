@@ -1,5 +1,5 @@
 //! Nodes, and what a path leads to among them.
-ghost use Rattle.std.specs.Prelude.{◌≡◌, ◌+◌, ◌-◌, ◌<◌, ◌^◌, IsTrue, IsOk, IfOk, IsSome, IfSome, OnErr, OnOk, [], ◌∷◌, vec_len, vec_capacity};
+ghost use Rattle.std.specs.Prelude.{◌≡◌, ◌+◌, ◌-◌, ◌<◌, ◌^◌, IsTrue, IsOk, IfOk, IsSome, IfSome, OnErr, OnOk, [], ◌∷◌, vec_len, vec_capacity, remove, slice_index_or};
 ghost use Rattle.std.specs.Option.{option_copied};
 ghost use Rattle.study_tree.specs.Forest.{forest_of, nodes_in, nodes_from};
 ghost use Rattle.study_tree.specs.Edits.{has_node, node_in, add_last, children_at, plain, spare_at};
@@ -50,20 +50,27 @@ pub fn node_in<'n, 'a, L, A: Allocator>(
     }
 }
 
-/// Puts one more node last among siblings, and says its place.
+/// Puts one more node last among siblings, and says its place. Not inlined, so that the way down to it keeps no node on
+/// the stack.
+#[inline(never)]
 fn push_node<'a, L: Drop, A: Allocator>(
     alloc: &'a A,
     siblings: &mut Vec<Node<'a, L, A>, &'a A>,
     played: Move,
-    label: L,
+    label: &mut Option<L>,
 ) -> Result<u16, AllocError>
     requires few { vec_len siblings.old < 2 ^ 16 }
+    requires given { IsSome label.old }
     ensures place { IfOk result (λ k. k ≡ vec_len siblings.old) }
-    ensures added { OnOk result (plain (forest_of siblings.new.items) ≡ add_last (plain (forest_of siblings.old.items)) [] played label) }
+    ensures added { IfSome label.old (λ l. OnOk result (plain (forest_of siblings.new.items)
+        ≡ add_last (plain (forest_of siblings.old.items)) [] played l)) }
     ensures room { 0 < vec_capacity siblings.old - vec_len siblings.old → IsOk result }
     ensures err { OnErr result (siblings.new.items ≡ siblings.old.items) }
 {
     let place = siblings.len() as u16;
+    let Some(label) = label.take() else {
+        unreachable!()
+    };
     siblings.push(Node {
         played,
         label,
@@ -90,10 +97,7 @@ pub fn add_below<'a, L: Drop, A: Allocator>(
     ensures err { OnErr result (plain (forest_of children.new.items) ≡ plain (forest_of children.old.items)) }
 {
     match steps.split_first() {
-        None => match label.take() {
-            None => unreachable!(),
-            Some(label) => push_node(alloc, children, played, label),
-        },
+        None => push_node(alloc, children, played, label),
         Some((first, rest)) => {
             let child = &mut children[*first as usize];
             add_below(alloc, &mut child.children, rest, played, label)
@@ -137,6 +141,19 @@ pub fn relabel_below<'a, L, A: Allocator>(
     }
 }
 
+/// Takes the node at the place out. Not inlined, as `push_node`.
+#[inline(never)]
+fn take_node<'a, L, A: Allocator>(
+    siblings: &mut Vec<Node<'a, L, A>, &'a A>,
+    place: usize,
+) -> Node<'a, L, A>
+    requires there { place < vec_len siblings.old }
+    ensures value { result ≡ slice_index_or siblings.old.items place result }
+    ensures items { siblings.new.items ≡ remove siblings.old.items place }
+{
+    siblings.remove(place)
+}
+
 /// Takes the node out, with all below it.
 pub fn remove_below<'a, L, A: Allocator>(
     children: &mut Vec<Node<'a, L, A>, &'a A>,
@@ -148,7 +165,7 @@ pub fn remove_below<'a, L, A: Allocator>(
     ensures counted { nodes_in (forest_of children.new.items) + nodes_from result ≡ nodes_in (forest_of children.old.items) }
 {
     match rest.split_first() {
-        None => children.remove(first as usize),
+        None => take_node(children, first as usize),
         Some((next, rest)) => {
             let child = &mut children[first as usize];
             remove_below(&mut child.children, *next, rest)

@@ -7,9 +7,9 @@ use Rattle.study_tree.proofs.PathSteps.{same_plain-step, plain-push, below_edite
 use Rattle.study_tree.proofs.Outcomes.{if_ok-then, on_ok-then, on_err-then, if_some-then}
 use Rattle.study_tree.proofs.node.+add_below.Goals as goal
 
-pub push_node-requires : goal.push_node-requires
-push_node-requires g t c =
-    omega (arith, children_at-here c.args.children.now.items c.args.steps.now c.in-None.ensures.cases, c.requires.few)
+pub push_node-requires-clause-few : goal.push_node-requires-clause-few
+push_node-requires-clause-few g t c =
+    omega (arith, children_at-here c.args.children.now.items c.args.steps.now c.in-None.ensures.cases, c.requires.few, c.args.children.now.ok.0)
 
 pub index_mut-child-requires : goal.index_mut-child-requires
 index_mut-child-requires g t c =
@@ -23,8 +23,8 @@ add_below-requires g t c κs within =
     c.index_mut-child.ensures.value in
     (omega (arith, c.in-Some.ensures.cases.1, c.decreases), (within.0, (within.1, (has_node-step step c.requires.found, (omega (arith, children_at-step step), c.requires.given)))))
 
-pub returns-in-Some-take-clause-place : goal.returns-in-Some-take-clause-place
-returns-in-Some-take-clause-place g t c =
+pub returns-in-None-clause-place : goal.returns-in-None-clause-place
+returns-in-None-clause-place g t c =
     if_ok-then c.push_node.result
     (λ k h. omega (arith, h, children_at-here c.args.children.now.items c.args.steps.now c.in-None.ensures.cases, c.args.children.now.ok.0))
     c.push_node.ensures.place

@@ -12,8 +12,8 @@ index_mut-child-requires g t c =
       c.args.children.now.ok.0,
     )
 
-pub remove-requires : goal.remove-requires
-remove-requires g t c = omega (arith, has_node-within c.args.children.now.items c.args.first c.args.rest.now c.requires.found, c.args.children.now.ok.0)
+pub take_node-requires : goal.take_node-requires
+take_node-requires g t c = omega (arith, has_node-within c.args.children.now.items c.args.first c.args.rest.now c.requires.found, c.args.children.now.ok.0)
 
 pub remove_below-requires : goal.remove_below-requires
 remove_below-requires g t c κs within =
@@ -23,12 +23,12 @@ remove_below-requires g t c κs within =
 
 pub returns-in-None-clause-removed : goal.returns-in-None-clause-removed
 returns-in-None-clause-removed g t c =
-    ap (λ xs. plain (forest_of xs)) c.remove.ensures.items ∙ dropped-here c.args.children.now.items c.args.first c.args.rest.now c.in-None.ensures.cases
+    ap (λ xs. plain (forest_of xs)) c.take_node.ensures.items ∙ dropped-here c.args.children.now.items c.args.first c.args.rest.now c.in-None.ensures.cases
 
 pub returns-in-None-clause-counted : goal.returns-in-None-clause-counted
 returns-in-None-clause-counted g t c =
     let within = has_node-within c.args.children.now.items c.args.first c.args.rest.now c.requires.found in
-    rw c.remove.ensures.items (nodes_in-remove c.args.children.now.items c.args.first c.remove.result within c.remove.ensures.value)
+    rw c.take_node.ensures.items (nodes_in-remove c.args.children.now.items c.args.first c.take_node.result within c.take_node.ensures.value)
 
 pub returns-in-Some-clause-removed : goal.returns-in-Some-clause-removed
 returns-in-Some-clause-removed g t c =
