@@ -122,7 +122,7 @@ module _ {L : Type 0} where
   below-further (more m l b r) (suc j ∷ js) k = below-further r (j ∷ js) k
 
   -- edits at a path
-  edited-further : (g : Forest L → Forest L) (f : Forest L) (ks : List ℕ) (k : ℕ)
+  pub edited-further : (g : Forest L → Forest L) (f : Forest L) (ks : List ℕ) (k : ℕ)
       → below_edited g f (ks ++ k ∷ []) ≡ below_edited (λ x. below_edited g x (k ∷ [])) f ks
   edited-further g f [] k = refl
   edited-further g none (j ∷ js) k = refl

@@ -12,6 +12,7 @@ pub mod ValuesAsked
 pub mod ChildFound
 pub mod InsertedMoves
 pub mod LabelsWritten
+pub mod ToldToBe
 pub mod BenchRewritten
 pub mod FirstIllegalMove
 pub mod PositionsListed

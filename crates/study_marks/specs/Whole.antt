@@ -1,5 +1,5 @@
 -- Not part of any public contract: what is told of all nodes anew, and the faults that are counted anew from it. Nodes are numbered in written order.
-use Rattle.std.specs.Prelude.{ℕ, ◌+◌, List, [], ◌∷◌, ◌++◌, zero, suc, slice_index_or}
+use Rattle.std.specs.Prelude.{ℕ, ◌+◌, ◌-◌, List, [], ◌∷◌, ◌++◌, zero, suc, length, take, slice_index_or}
 use Rattle.study_board.specs.Position.{Position}
 use Rattle.study_moves.specs.Rules.{after}
 use Rattle.study_tree.specs.Forest.{Forest, none, more, nodes_in}
@@ -9,12 +9,21 @@ use Rattle.study_marks.specs.declared.label.Told.{Told}
 use Rattle.study_marks.specs.declared.marking.Aim.{Aim}
 use Rattle.study_marks.specs.Goals.{hero_moves}
 use Rattle.study_marks.specs.Kept.{own, faults_below}
+use Rattle.study_marks.specs.Renewal.{told_at}
 use Rattle.study_marks.specs.Asked.{asked_at}
 use Rattle.study_marks.specs.Told.{IsToldOf}
 
 -- what the list tells of node n; where the list is shorter, what is told of the node already
 abbrev pub told_in : List Told → ℕ → Told → Told
 told_in all n t = slice_index_or all n t
+
+-- what is to be told of the path's node, which is node n
+abbrev pub told_to_be : List Told → ℕ → Plain Label → List ℕ → Told
+told_to_be all n t ks = told_in all n (told_at t.label.told t.below ks)
+
+-- the path to the parent
+abbrev pub parent_path : List ℕ → List ℕ
+parent_path ks = take (length ks - 1) ks
 
 -- the same nodes, side by side, with what the list tells of them; the first of them is node n
 abbrev pub retold : List Told → ℕ → Forest Told → Forest Told

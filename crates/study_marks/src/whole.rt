@@ -1,5 +1,5 @@
 //! The whole tree: its first move that is not legal, and the labels of all nodes, written anew.
-ghost use Rattle.std.specs.Prelude.{◌≡◌, ◌+◌, ◌≤◌, ◌++◌, ℕ, List, IsTrue, IsSome, length, Some, None, false};
+ghost use Rattle.std.specs.Prelude.{◌≡◌, ◌+◌, ◌-◌, ◌<◌, ◌≤◌, ◌++◌, ℕ, List, IsTrue, IsSome, length, Some, None, false};
 ghost use Rattle.study_tree.specs.Forest.{nodes_in};
 ghost use Rattle.study_tree.specs.Edits.{width, below_edited};
 ghost use Rattle.study_board.specs.Counts.{counted};
@@ -12,7 +12,7 @@ ghost use Rattle.study_marks.specs.Asked.{counted_times};
 ghost use Rattle.study_marks.specs.Goals.{hero_moves};
 ghost use Rattle.study_marks.specs.Kept.{own, faults_below, AllAddUp, told_tree};
 ghost use Rattle.study_marks.specs.Renewal.{below_at};
-ghost use Rattle.study_marks.specs.Whole.{told_in, retold_tree, refreshed};
+ghost use Rattle.study_marks.specs.Whole.{told_in, told_to_be, parent_path, retold_tree, refreshed};
 
 use crate::label::{Label, Told};
 use crate::marking::{Aim, hero_moves, own_faults};
@@ -84,8 +84,6 @@ pub fn find_broken<'a, A: Allocator>(
 }
 
 /// What is to be told of the node with this number: what the list tells, or what is told already where it is shorter.
-/// Not inlined, so that the recursion over the tree keeps one copy of it a ply on the stack.
-#[inline(never)]
 fn told_of<'a, A: Allocator>(
     tree: &Tree<'a, Label, A>,
     steps: &[u16],
@@ -105,38 +103,69 @@ fn told_of<'a, A: Allocator>(
 }
 
 /// Writes the label of a node, other than the root, whose parent keeps `before`; says its faults, to which those below it
-/// are counted. Not inlined, as `told_of`.
-#[inline(never)]
+/// are counted.
 fn write_label<'a, A: Allocator>(
     aim: &Aim,
     tree: &mut Tree<'a, Label, A>,
     steps: &[u16],
     depth: usize,
     before: &Told,
-    told: &Told,
+    told: Told,
     below: u32,
 ) -> u32
     requires found { IsTrue (has_spot (plain_tree tree.old) steps.now) }
     requires few { below ≤ 4096 }
     requires shallow { depth ≤ 256 }
-    ensures faults { result ≡ own aim.now depth before.now told.now.value + below }
-    ensures written { plain_tree tree.new ≡ with_label (plain_tree tree.old) steps.now (record { told = told.now; faults = result }) }
+    ensures faults { result ≡ own aim.now depth before.now told.value + below }
+    ensures written { plain_tree tree.new ≡ with_label (plain_tree tree.old) steps.now (record { told = told; faults = result }) }
     ensures count { tree.new.relabelled ≡ counted tree.old.relabelled }
 {
     let faults = own_faults(aim, depth, before, told.value) + below;
-    let told = told.copied();
     let _written = tree.relabel(steps, Label { told, faults });
     faults
 }
 
-/// Writes the labels of all below the node, which keeps `told`, by the list, from the node with this number on. Says
+/// Writes the label of the node with this number, other than the root, whose parent has the number `parent`: what is to be
+/// told of it, and its faults, to which those below it are counted; says these. Not inlined, so that the recursion over the
+/// tree keeps nothing of what is told on the stack.
+#[inline(never)]
+fn write_node<'a, A: Allocator>(
+    aim: &Aim,
+    tree: &mut Tree<'a, Label, A>,
+    steps: &[u16],
+    all: &[Told],
+    parent: usize,
+    number: usize,
+    below: u32,
+) -> u32
+    requires found { IsTrue (has_spot (plain_tree tree.old) steps.now) }
+    requires moved { 0 < length steps.now }
+    requires few { below ≤ 4096 }
+    requires shallow { length steps.now ≤ 256 }
+    ensures faults { result ≡ own aim.now (length steps.now - 1) (told_to_be all.now parent (plain_tree tree.old) (parent_path steps.now))
+        (told_to_be all.now number (plain_tree tree.old) steps.now).value + below }
+    ensures written { plain_tree tree.new ≡ with_label (plain_tree tree.old) steps.now
+        (record { told = told_to_be all.now number (plain_tree tree.old) steps.now; faults = result }) }
+    ensures count { tree.new.relabelled ≡ counted tree.old.relabelled }
+{
+    match steps.split_last() {
+        None => unreachable!(),
+        Some((_, front)) => {
+            let before = told_of(tree, front, all, parent);
+            let told = told_of(tree, steps, all, number);
+            write_label(aim, tree, steps, front.len(), &before, told, below)
+        }
+    }
+}
+
+/// Writes the labels of all below the node with the number `parent`, by the list, from the node with this number on. Says
 /// the faults that its children count for it, and the number of the first node that is not below it.
 fn write_below<'a, A: Allocator>(
     aim: &Aim,
     tree: &mut Tree<'a, Label, A>,
     steps: &mut Steps,
-    told: &Told,
     all: &[Told],
+    parent: usize,
     number: usize,
 ) -> (u32, usize)
     requires found { IsTrue (has_spot (plain_tree tree.old) steps.old.items) }
@@ -144,11 +173,11 @@ fn write_below<'a, A: Allocator>(
     requires numbers { number + nodes_in (below_at (plain_tree tree.old).below steps.old.items) ≤ 4096 }
     ensures written { plain_tree tree.new ≡ record {
       label = (plain_tree tree.old).label;
-      below = below_edited (refreshed all.now aim.now (length steps.old.items) number told.now)
+      below = below_edited (refreshed all.now aim.now (length steps.old.items) number (told_to_be all.now parent (plain_tree tree.old) steps.old.items))
           (plain_tree tree.old).below steps.old.items;
     } }
     ensures faults { result.0 ≡ faults_below (hero_moves aim.now (length steps.old.items))
-        (refreshed all.now aim.now (length steps.old.items) number told.now
+        (refreshed all.now aim.now (length steps.old.items) number (told_to_be all.now parent (plain_tree tree.old) steps.old.items)
         (below_at (plain_tree tree.old).below steps.old.items)) }
     ensures number { result.1 ≡ number + nodes_in (below_at (plain_tree tree.old).below steps.old.items) }
     ensures count { tree.new.relabelled ≡ counted_times (nodes_in (below_at (plain_tree tree.old).below steps.old.items)) tree.old.relabelled }
@@ -163,9 +192,8 @@ fn write_below<'a, A: Allocator>(
     let mut next = number;
     while place < count {
         steps.push(place);
-        let child = told_of(tree, steps.as_slice(), all, next);
-        let (below, beyond) = write_below(aim, tree, steps, &child, all, next + 1);
-        let own = write_label(aim, tree, steps.as_slice(), depth, told, &child, below);
+        let (below, beyond) = write_below(aim, tree, steps, all, next, next + 1);
+        let own = write_node(aim, tree, steps.as_slice(), all, parent, next, below);
         let _place = steps.pop();
         faults += share(aim, depth, place, own);
         next = beyond;
@@ -185,6 +213,6 @@ pub fn write_all<'a, A: Allocator>(aim: &Aim, tree: &mut Tree<'a, Label, A>, all
     let _few = tree.size();
     let mut steps = ArrayVec::new();
     let told = told_of(tree, steps.as_slice(), all, 0);
-    let (faults, _) = write_below(aim, tree, &mut steps, &told, all, 1);
+    let (faults, _) = write_below(aim, tree, &mut steps, all, 0, 1);
     let _written = tree.relabel(steps.as_slice(), Label { told, faults });
 }

@@ -3,6 +3,8 @@ use Rattle.study_tree.specs.Tree.{plain_tree, has_spot}
 use Rattle.study_marks.proofs.LabelsWritten.{Task, done-none, done-found, done-within, done-few, done-tree}
 use Rattle.study_marks.proofs.LabelsWritten.{done-sum, done-count, done-number, done-step, room-next, back}
 use Rattle.study_marks.proofs.LabelsWritten.{length-further, left-over, none-over, room-left, found-between}
+use Rattle.study_marks.specs.Whole.{told_to_be, refreshed}
+use Rattle.study_marks.proofs.ToldToBe.{as-shown, sums-told, written-told}
 use Rattle.study_marks.proofs.whole.+write_below.Goals as goal
 
 pub loop-place-init : goal.loop-place-init
@@ -12,7 +14,7 @@ loop-place-init g t c =
       all = c.args.all.now;
       aim = c.args.aim.now;
       number = c.args.number;
-      told = c.args.told.now;
+      told = told_to_be c.args.all.now c.args.parent (plain_tree c.args.tree.now) c.args.steps.now.items;
       path = c.args.steps.now.items;
       was = plain_tree c.args.tree.now;
       old = c.args.tree.now.relabelled;
@@ -26,7 +28,7 @@ push-requires g t c =
       all = c.args.all.now;
       aim = c.args.aim.now;
       number = c.args.number;
-      told = c.args.told.now;
+      told = told_to_be c.args.all.now c.args.parent (plain_tree c.args.tree.now) c.args.steps.now.items;
       path = c.args.steps.now.items;
       was = plain_tree c.args.tree.now;
       old = c.args.tree.now.relabelled;
@@ -41,25 +43,6 @@ push-requires g t c =
     ) in
     (omega arith, short)
 
-pub told_of-child-requires : goal.told_of-child-requires
-told_of-child-requires g t c =
-    let j : Task =
-    record {
-      all = c.args.all.now;
-      aim = c.args.aim.now;
-      number = c.args.number;
-      told = c.args.told.now;
-      path = c.args.steps.now.items;
-      was = plain_tree c.args.tree.now;
-      old = c.args.tree.now.relabelled;
-    } in
-    let left = left-over j.was j.path c.as_slice.result.now c.children_of-count.result c.loop-place.place
-    c.loop-place-test.true c.children_of-count.ensures c.as_slice.ensures.value in
-    let path = c.push.ensures.items ∙ ap (λ (xs : List ℕ). xs ++ c.loop-place.place ∷ []) c.loop-place.invariant.1 in
-    let there = done-found j (plain_tree c.loop-place.tree) c.loop-place.tree.relabelled c.loop-place.place
-    c.loop-place.faults c.loop-place.next c.loop-place.invariant.0 c.requires.found left in
-    record { found = subst (λ (p : List ℕ). IsTrue (has_spot (plain_tree c.loop-place.tree) p)) (sym (c.as_slice-in-loop-place.ensures.value ∙ path)) there }
-
 pub overflow_add-next : goal.overflow_add-next
 overflow_add-next g t c =
     let j : Task =
@@ -67,7 +50,7 @@ overflow_add-next g t c =
       all = c.args.all.now;
       aim = c.args.aim.now;
       number = c.args.number;
-      told = c.args.told.now;
+      told = told_to_be c.args.all.now c.args.parent (plain_tree c.args.tree.now) c.args.steps.now.items;
       path = c.args.steps.now.items;
       was = plain_tree c.args.tree.now;
       old = c.args.tree.now.relabelled;
@@ -87,7 +70,7 @@ write_below-below-requires g t c κs within =
       all = c.args.all.now;
       aim = c.args.aim.now;
       number = c.args.number;
-      told = c.args.told.now;
+      told = told_to_be c.args.all.now c.args.parent (plain_tree c.args.tree.now) c.args.steps.now.items;
       path = c.args.steps.now.items;
       was = plain_tree c.args.tree.now;
       old = c.args.tree.now.relabelled;
@@ -119,14 +102,14 @@ write_below-below-requires g t c κs within =
       ),
     )
 
-pub write_label-own-requires-clause-found : goal.write_label-own-requires-clause-found
-write_label-own-requires-clause-found g t c =
+pub write_node-own-requires-clause-found : goal.write_node-own-requires-clause-found
+write_node-own-requires-clause-found g t c =
     let j : Task =
     record {
       all = c.args.all.now;
       aim = c.args.aim.now;
       number = c.args.number;
-      told = c.args.told.now;
+      told = told_to_be c.args.all.now c.args.parent (plain_tree c.args.tree.now) c.args.steps.now.items;
       path = c.args.steps.now.items;
       was = plain_tree c.args.tree.now;
       old = c.args.tree.now.relabelled;
@@ -137,10 +120,10 @@ write_label-own-requires-clause-found g t c =
     let there = done-found j (plain_tree c.loop-place.tree) c.loop-place.tree.relabelled c.loop-place.place
     c.loop-place.faults c.loop-place.next c.loop-place.invariant.0 c.requires.found left in
     found-between c.args.all.now c.args.aim.now (plain_tree c.loop-place.tree)
-    (plain_tree c.write_below-below.new.tree) c.as_slice-in-loop-place-2.result.now c.push.new.self.items _ _
-    c.told_of-child.result c.write_below-below.ensures.written
+    (plain_tree c.write_below-below.new.tree) c.as_slice-in-loop-place.result.now c.push.new.self.items _ _
+    (told_to_be c.args.all.now c.loop-place.next (plain_tree c.loop-place.tree) c.push.new.self.items) c.write_below-below.ensures.written
     (subst (λ (p : List ℕ). IsTrue (has_spot (plain_tree c.loop-place.tree) p)) (sym path) there)
-    (c.as_slice-in-loop-place-2.ensures.value ∙ c.write_below-below.ensures.steps)
+    (c.as_slice-in-loop-place.ensures.value ∙ c.write_below-below.ensures.steps)
 
 pub overflow_add-faults : goal.overflow_add-faults
 overflow_add-faults g t c =
@@ -149,7 +132,7 @@ overflow_add-faults g t c =
       all = c.args.all.now;
       aim = c.args.aim.now;
       number = c.args.number;
-      told = c.args.told.now;
+      told = told_to_be c.args.all.now c.args.parent (plain_tree c.args.tree.now) c.args.steps.now.items;
       path = c.args.steps.now.items;
       was = plain_tree c.args.tree.now;
       old = c.args.tree.now.relabelled;
@@ -159,17 +142,27 @@ overflow_add-faults g t c =
     let path = c.push.ensures.items ∙ ap (λ (xs : List ℕ). xs ++ c.loop-place.place ∷ []) c.loop-place.invariant.1 in
     let next = done-step j (plain_tree c.loop-place.tree) c.loop-place.tree.relabelled c.loop-place.place c.loop-place.faults c.loop-place.next
     (plain_tree c.write_below-below.new.tree) c.write_below-below.new.tree.relabelled
-    (plain_tree c.write_label-own.new.tree) c.write_label-own.new.tree.relabelled c.share-faults.result
+    (plain_tree c.write_node-own.new.tree) c.write_node-own.new.tree.relabelled c.share-faults.result
     c.write_below-below.result.1
-    c.push.new.self.items c.as_slice-in-loop-place.result.now c.as_slice-in-loop-place-2.result.now
-    c.len-depth.result c.told_of-child.result c.write_below-below.result.0 c.write_label-own.result
-    c.loop-place.invariant.0 c.requires.found left path c.as_slice-in-loop-place.ensures.value
-    (c.as_slice-in-loop-place-2.ensures.value ∙ c.write_below-below.ensures.steps) c.len-depth.ensures.value
-    c.told_of-child.ensures c.write_below-below.ensures.written c.write_below-below.ensures.faults
+    c.push.new.self.items c.push.new.self.items c.as_slice-in-loop-place.result.now
+    c.len-depth.result (told_to_be c.args.all.now c.loop-place.next (plain_tree c.loop-place.tree) c.push.new.self.items) c.write_below-below.result.0 c.write_node-own.result
+    c.loop-place.invariant.0 c.requires.found left path refl
+    (c.as_slice-in-loop-place.ensures.value ∙ c.write_below-below.ensures.steps) c.len-depth.ensures.value
+    (λ s es. as-shown c.args.all.now c.loop-place.next (plain_tree c.loop-place.tree) c.push.new.self.items s es)
+    c.write_below-below.ensures.written c.write_below-below.ensures.faults
     c.write_below-below.ensures.count c.write_below-below.ensures.number
-    c.write_label-own.ensures.faults c.write_label-own.ensures.written c.write_label-own.ensures.count c.share-faults.ensures in
+    (sums-told j c.args.parent (plain_tree c.loop-place.tree) (plain_tree c.write_below-below.new.tree) c.loop-place.tree.relabelled
+    c.loop-place.place c.loop-place.faults c.loop-place.next (refreshed j.all j.aim (length c.push.new.self.items) (c.loop-place.next + 1)
+    (told_to_be c.args.all.now c.loop-place.next (plain_tree c.loop-place.tree) c.push.new.self.items)) c.push.new.self.items c.as_slice-in-loop-place.result.now refl c.loop-place.invariant.0 path
+    (c.as_slice-in-loop-place.ensures.value ∙ c.write_below-below.ensures.steps) c.write_below-below.ensures.written
+    c.len-depth.result c.write_below-below.result.0 c.write_node-own.result c.len-depth.ensures.value c.write_node-own.ensures.faults)
+    (written-told j c.args.parent (plain_tree c.loop-place.tree) (plain_tree c.write_below-below.new.tree) c.loop-place.tree.relabelled
+    c.loop-place.place c.loop-place.faults c.loop-place.next (refreshed j.all j.aim (length c.push.new.self.items) (c.loop-place.next + 1)
+    (told_to_be c.args.all.now c.loop-place.next (plain_tree c.loop-place.tree) c.push.new.self.items)) c.push.new.self.items c.as_slice-in-loop-place.result.now refl c.loop-place.invariant.0 path
+    (c.as_slice-in-loop-place.ensures.value ∙ c.write_below-below.ensures.steps) c.write_below-below.ensures.written
+    (plain_tree c.write_node-own.new.tree) c.write_node-own.result c.write_node-own.ensures.written) c.write_node-own.ensures.count c.share-faults.ensures in
     let few : c.loop-place.faults + c.share-faults.result ≤ 4096 =
-    done-few j (plain_tree c.write_label-own.new.tree) c.write_label-own.new.tree.relabelled
+    done-few j (plain_tree c.write_node-own.new.tree) c.write_node-own.new.tree.relabelled
     (c.loop-place.place + 1) (c.loop-place.faults + c.share-faults.result) c.write_below-below.result.1 next
     c.size-few.ensures.few in
     omega (arith, few)
@@ -181,7 +174,7 @@ loop-place-preserved g t c =
       all = c.args.all.now;
       aim = c.args.aim.now;
       number = c.args.number;
-      told = c.args.told.now;
+      told = told_to_be c.args.all.now c.args.parent (plain_tree c.args.tree.now) c.args.steps.now.items;
       path = c.args.steps.now.items;
       was = plain_tree c.args.tree.now;
       old = c.args.tree.now.relabelled;
@@ -191,15 +184,25 @@ loop-place-preserved g t c =
     let path = c.push.ensures.items ∙ ap (λ (xs : List ℕ). xs ++ c.loop-place.place ∷ []) c.loop-place.invariant.1 in
     let next = done-step j (plain_tree c.loop-place.tree) c.loop-place.tree.relabelled c.loop-place.place c.loop-place.faults c.loop-place.next
     (plain_tree c.write_below-below.new.tree) c.write_below-below.new.tree.relabelled
-    (plain_tree c.write_label-own.new.tree) c.write_label-own.new.tree.relabelled c.share-faults.result
+    (plain_tree c.write_node-own.new.tree) c.write_node-own.new.tree.relabelled c.share-faults.result
     c.write_below-below.result.1
-    c.push.new.self.items c.as_slice-in-loop-place.result.now c.as_slice-in-loop-place-2.result.now
-    c.len-depth.result c.told_of-child.result c.write_below-below.result.0 c.write_label-own.result
-    c.loop-place.invariant.0 c.requires.found left path c.as_slice-in-loop-place.ensures.value
-    (c.as_slice-in-loop-place-2.ensures.value ∙ c.write_below-below.ensures.steps) c.len-depth.ensures.value
-    c.told_of-child.ensures c.write_below-below.ensures.written c.write_below-below.ensures.faults
+    c.push.new.self.items c.push.new.self.items c.as_slice-in-loop-place.result.now
+    c.len-depth.result (told_to_be c.args.all.now c.loop-place.next (plain_tree c.loop-place.tree) c.push.new.self.items) c.write_below-below.result.0 c.write_node-own.result
+    c.loop-place.invariant.0 c.requires.found left path refl
+    (c.as_slice-in-loop-place.ensures.value ∙ c.write_below-below.ensures.steps) c.len-depth.ensures.value
+    (λ s es. as-shown c.args.all.now c.loop-place.next (plain_tree c.loop-place.tree) c.push.new.self.items s es)
+    c.write_below-below.ensures.written c.write_below-below.ensures.faults
     c.write_below-below.ensures.count c.write_below-below.ensures.number
-    c.write_label-own.ensures.faults c.write_label-own.ensures.written c.write_label-own.ensures.count c.share-faults.ensures in (
+    (sums-told j c.args.parent (plain_tree c.loop-place.tree) (plain_tree c.write_below-below.new.tree) c.loop-place.tree.relabelled
+    c.loop-place.place c.loop-place.faults c.loop-place.next (refreshed j.all j.aim (length c.push.new.self.items) (c.loop-place.next + 1)
+    (told_to_be c.args.all.now c.loop-place.next (plain_tree c.loop-place.tree) c.push.new.self.items)) c.push.new.self.items c.as_slice-in-loop-place.result.now refl c.loop-place.invariant.0 path
+    (c.as_slice-in-loop-place.ensures.value ∙ c.write_below-below.ensures.steps) c.write_below-below.ensures.written
+    c.len-depth.result c.write_below-below.result.0 c.write_node-own.result c.len-depth.ensures.value c.write_node-own.ensures.faults)
+    (written-told j c.args.parent (plain_tree c.loop-place.tree) (plain_tree c.write_below-below.new.tree) c.loop-place.tree.relabelled
+    c.loop-place.place c.loop-place.faults c.loop-place.next (refreshed j.all j.aim (length c.push.new.self.items) (c.loop-place.next + 1)
+    (told_to_be c.args.all.now c.loop-place.next (plain_tree c.loop-place.tree) c.push.new.self.items)) c.push.new.self.items c.as_slice-in-loop-place.result.now refl c.loop-place.invariant.0 path
+    (c.as_slice-in-loop-place.ensures.value ∙ c.write_below-below.ensures.steps) c.write_below-below.ensures.written
+    (plain_tree c.write_node-own.new.tree) c.write_node-own.result c.write_node-own.ensures.written) c.write_node-own.ensures.count c.share-faults.ensures in (
       next,
       c.pop-place.ensures.rest ∙ back j.path c.write_below-below.new.steps.items c.loop-place.place
           (c.write_below-below.ensures.steps ∙ path),
@@ -213,7 +216,7 @@ returns-clause-written g t c =
       all = c.args.all.now;
       aim = c.args.aim.now;
       number = c.args.number;
-      told = c.args.told.now;
+      told = told_to_be c.args.all.now c.args.parent (plain_tree c.args.tree.now) c.args.steps.now.items;
       path = c.args.steps.now.items;
       was = plain_tree c.args.tree.now;
       old = c.args.tree.now.relabelled;
@@ -229,7 +232,7 @@ returns-clause-faults g t c =
       all = c.args.all.now;
       aim = c.args.aim.now;
       number = c.args.number;
-      told = c.args.told.now;
+      told = told_to_be c.args.all.now c.args.parent (plain_tree c.args.tree.now) c.args.steps.now.items;
       path = c.args.steps.now.items;
       was = plain_tree c.args.tree.now;
       old = c.args.tree.now.relabelled;
@@ -245,7 +248,7 @@ returns-clause-number g t c =
       all = c.args.all.now;
       aim = c.args.aim.now;
       number = c.args.number;
-      told = c.args.told.now;
+      told = told_to_be c.args.all.now c.args.parent (plain_tree c.args.tree.now) c.args.steps.now.items;
       path = c.args.steps.now.items;
       was = plain_tree c.args.tree.now;
       old = c.args.tree.now.relabelled;
@@ -261,7 +264,7 @@ returns-clause-count g t c =
       all = c.args.all.now;
       aim = c.args.aim.now;
       number = c.args.number;
-      told = c.args.told.now;
+      told = told_to_be c.args.all.now c.args.parent (plain_tree c.args.tree.now) c.args.steps.now.items;
       path = c.args.steps.now.items;
       was = plain_tree c.args.tree.now;
       old = c.args.tree.now.relabelled;
@@ -277,7 +280,7 @@ returns-clause-few g t c =
       all = c.args.all.now;
       aim = c.args.aim.now;
       number = c.args.number;
-      told = c.args.told.now;
+      told = told_to_be c.args.all.now c.args.parent (plain_tree c.args.tree.now) c.args.steps.now.items;
       path = c.args.steps.now.items;
       was = plain_tree c.args.tree.now;
       old = c.args.tree.now.relabelled;

@@ -1,5 +1,6 @@
 use Rattle.std.proofs.Common.{◌≡◌, ◌≤◌, ◌-◌, length}
 use Rattle.study_tree.specs.Tree.{plain_tree}
+use Rattle.study_marks.specs.Whole.{told_to_be}
 use Rattle.study_marks.proofs.LabelsWritten.{IsDone}
 use Rattle.study_marks.proofs.whole.+write_below.Given as goal
 
@@ -15,7 +16,7 @@ invariant-loop-place g l =
       all = l.fn.all;
       aim = l.fn.aim;
       number = l.fn.number;
-      told = l.fn.told;
+      told = told_to_be l.fn.all l.fn.parent (plain_tree l.fn.tree) l.fn.steps.items;
       path = l.fn.steps.items;
       was = plain_tree l.fn.tree;
       old = l.fn.tree.relabelled;
