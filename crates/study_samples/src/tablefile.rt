@@ -4,6 +4,7 @@ mod sizes;
 
 use sha2::{Digest, Sha256};
 use std::alloc::Allocator;
+use std::io::ErrorKind;
 use std::process::Abort;
 use std::test::Fail;
 use study_index::cells;
@@ -276,6 +277,7 @@ fn writers_stop(rt: HostRuntime) {
             let mut full = MemoryWriter::with_room(&alloc, room, when_full);
             stops(&rt, &table, &mut full, text.as_slice());
             let mut recovers = MemoryWriter::full_once(&alloc, room, when_full);
+            recovers.kind = ErrorKind::Interrupted;
             stops(&rt, &table, &mut recovers, text.as_slice());
         }
     }

@@ -8,7 +8,7 @@ use crate::store::{StoreFault, TableStore};
 use std::alloc::Allocator;
 use std::cell::RefCell;
 use std::io;
-use std::io::Write;
+use std::io::{ErrorKind, Write};
 use study_material::Class;
 use study_tablefile::memory::{MemoryReader, MemorySource, MemoryWriter};
 
@@ -96,6 +96,7 @@ impl<'f, 'w, 'a, A: Allocator> TableStore for MemoryStore<'f, 'w, 'a, A> {
             given: 0,
             fails_after: self.fails_after,
             recovers: false,
+            kind: ErrorKind::Other,
             errors: 0,
         })
     }

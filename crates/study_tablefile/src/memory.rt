@@ -34,6 +34,8 @@ pub struct MemoryReader<'a> {
     pub fails_after: Option<usize>,
     /// Whether it goes on after its first error.
     pub recovers: bool,
+    /// What it answers where it fails. After `Interrupted` the calls of std that fill a buffer try again.
+    pub kind: ErrorKind,
     /// How many errors it answered. The count stays at the last value of its type.
     pub errors: u64,
 }
@@ -43,7 +45,7 @@ impl<'a> MemoryReader<'a> {
     pub fn new(text: &'a [u8]) -> Self
         ensures text { result.text.now ≡ text.now }
         ensures given { result.given ≡ 0 }
-        ensures plan { (result.fails_after ≡ None) × (result.recovers ≡ false) }
+        ensures plan { (result.fails_after ≡ None) × (result.recovers ≡ false) × (result.kind ≡ ErrorKind.Other) }
         ensures errors { result.errors ≡ 0 }
     {
         MemoryReader {
@@ -51,6 +53,7 @@ impl<'a> MemoryReader<'a> {
             given: 0,
             fails_after: None,
             recovers: false,
+            kind: ErrorKind::Other,
             errors: 0,
         }
     }
@@ -59,7 +62,7 @@ impl<'a> MemoryReader<'a> {
     pub fn failing_after(text: &'a [u8], count: usize) -> Self
         ensures text { result.text.now ≡ text.now }
         ensures given { result.given ≡ 0 }
-        ensures plan { (result.fails_after ≡ Some count) × (result.recovers ≡ false) }
+        ensures plan { (result.fails_after ≡ Some count) × (result.recovers ≡ false) × (result.kind ≡ ErrorKind.Other) }
         ensures errors { result.errors ≡ 0 }
     {
         MemoryReader {
@@ -67,6 +70,7 @@ impl<'a> MemoryReader<'a> {
             given: 0,
             fails_after: Some(count),
             recovers: false,
+            kind: ErrorKind::Other,
             errors: 0,
         }
     }
@@ -75,7 +79,7 @@ impl<'a> MemoryReader<'a> {
     pub fn failing_once(text: &'a [u8], count: usize) -> Self
         ensures text { result.text.now ≡ text.now }
         ensures given { result.given ≡ 0 }
-        ensures plan { (result.fails_after ≡ Some count) × (result.recovers ≡ true) }
+        ensures plan { (result.fails_after ≡ Some count) × (result.recovers ≡ true) × (result.kind ≡ ErrorKind.Other) }
         ensures errors { result.errors ≡ 0 }
     {
         MemoryReader {
@@ -83,6 +87,7 @@ impl<'a> MemoryReader<'a> {
             given: 0,
             fails_after: Some(count),
             recovers: true,
+            kind: ErrorKind::Other,
             errors: 0,
         }
     }
@@ -98,14 +103,15 @@ impl<'a> Read for MemoryReader<'a> {
         ensures few { IfOk result (λ n. n ≤ 1) }
         ensures given { MatchResult result (λ n. self.new.given ≡ self.old.given + n) (λ e. self.new.given ≡ self.old.given) }
         ensures text { self.new.text.now ≡ self.old.text.now }
-        ensures plan { (self.new.fails_after ≡ self.old.fails_after) × (self.new.recovers ≡ self.old.recovers) }
+        ensures plan { (self.new.fails_after ≡ self.old.fails_after) × (self.new.recovers ≡ self.old.recovers) × (self.new.kind ≡ self.old.kind) }
         ensures fails { IsErr result ↔ ((self.old.fails_after ≡ Some self.old.given) × (fails_still self.old.recovers self.old.errors ≡ true)) }
+        ensures kind { IfErr result (λ e. error_kind e ≡ self.old.kind) }
         ensures errors { OnErr result (self.new.errors ≡ counted self.old.errors) }
         ensures no_error { OnOk result (self.new.errors ≡ self.old.errors) }
     {
         if self.fails_after == Some(self.given) && fails_still(self.recovers, self.errors) {
             self.errors = self.errors.saturating_add(1);
-            return Err(io::Error::from(ErrorKind::Other));
+            return Err(io::Error::from(self.kind));
         }
         if buf.is_empty() || self.given >= self.text.len() {
             return Ok(0);
@@ -132,6 +138,8 @@ pub struct MemoryWriter<'a, A: Allocator> {
     pub when_full: WhenFull,
     /// Whether it goes on after it was full once.
     pub recovers: bool,
+    /// What it answers where it fails. After `Interrupted` the calls of std that write a whole text try again.
+    pub kind: ErrorKind,
     /// How often it answered an error, or took nothing of bytes that it was given. The count stays at the last value of its type.
     pub errors: u64,
 }
@@ -141,7 +149,7 @@ impl<'a, A: Allocator> MemoryWriter<'a, A> {
     pub fn new(alloc: &'a A) -> Self
         ensures taken { result.taken.items ≡ [] }
         ensures room { result.room ≡ 2 ^ 64 - 1 }
-        ensures when_full { (result.when_full ≡ WhenFull.Fail) × (result.recovers ≡ false) }
+        ensures when_full { (result.when_full ≡ WhenFull.Fail) × (result.recovers ≡ false) × (result.kind ≡ ErrorKind.Other) }
         ensures errors { result.errors ≡ 0 }
     {
         MemoryWriter::with_room(alloc, usize::MAX, WhenFull::Fail)
@@ -151,7 +159,7 @@ impl<'a, A: Allocator> MemoryWriter<'a, A> {
     pub fn with_room(alloc: &'a A, room: usize, when_full: WhenFull) -> Self
         ensures taken { result.taken.items ≡ [] }
         ensures room { result.room ≡ room }
-        ensures when_full { (result.when_full ≡ when_full) × (result.recovers ≡ false) }
+        ensures when_full { (result.when_full ≡ when_full) × (result.recovers ≡ false) × (result.kind ≡ ErrorKind.Other) }
         ensures errors { result.errors ≡ 0 }
     {
         MemoryWriter {
@@ -159,6 +167,7 @@ impl<'a, A: Allocator> MemoryWriter<'a, A> {
             room,
             when_full,
             recovers: false,
+            kind: ErrorKind::Other,
             errors: 0,
         }
     }
@@ -167,7 +176,7 @@ impl<'a, A: Allocator> MemoryWriter<'a, A> {
     pub fn full_once(alloc: &'a A, room: usize, when_full: WhenFull) -> Self
         ensures taken { result.taken.items ≡ [] }
         ensures room { result.room ≡ room }
-        ensures when_full { (result.when_full ≡ when_full) × (result.recovers ≡ true) }
+        ensures when_full { (result.when_full ≡ when_full) × (result.recovers ≡ true) × (result.kind ≡ ErrorKind.Other) }
         ensures errors { result.errors ≡ 0 }
     {
         MemoryWriter {
@@ -175,6 +184,7 @@ impl<'a, A: Allocator> MemoryWriter<'a, A> {
             room,
             when_full,
             recovers: true,
+            kind: ErrorKind::Other,
             errors: 0,
         }
     }
@@ -191,9 +201,11 @@ impl<'a, A: Allocator> Write for MemoryWriter<'a, A> {
         ensures full { 0 < length buf.now → self.old.room ≤ vec_len self.old.taken → fails_still self.old.recovers self.old.errors ≡ true
             → MatchResult result (λ n. (n ≡ 0) × (self.old.when_full ≡ WhenFull.TakeNothing))
             (λ e. self.old.when_full ≡ WhenFull.Fail) }
-        ensures plan { (self.new.room ≡ self.old.room) × (self.new.when_full ≡ self.old.when_full) × (self.new.recovers ≡ self.old.recovers) }
+        ensures plan { (self.new.room ≡ self.old.room) × (self.new.when_full ≡ self.old.when_full) }
+        ensures recovers { (self.new.recovers ≡ self.old.recovers) × (self.new.kind ≡ self.old.kind) }
         ensures fails { IfErr result (λ e. (error_kind e ≡ ErrorKind.OutOfMemory)
-            ⊎ ((self.old.room ≤ vec_len self.old.taken) × (self.old.when_full ≡ WhenFull.Fail) × (fails_still self.old.recovers self.old.errors ≡ true))) }
+            ⊎ ((self.old.room ≤ vec_len self.old.taken) × (self.old.when_full ≡ WhenFull.Fail)
+            × (fails_still self.old.recovers self.old.errors ≡ true) × (error_kind e ≡ self.old.kind))) }
         ensures errors { OnErr result (self.new.errors ≡ counted self.old.errors) }
         ensures nothing { 0 < length buf.now → IfOk result (λ n. n ≡ 0 → self.new.errors ≡ counted self.old.errors) }
         ensures no_error { IfOk result (λ n. 0 < n ⊎ (length buf.now ≡ 0) → self.new.errors ≡ self.old.errors) }
@@ -204,7 +216,7 @@ impl<'a, A: Allocator> Write for MemoryWriter<'a, A> {
         if self.taken.len() >= self.room && fails_still(self.recovers, self.errors) {
             self.errors = self.errors.saturating_add(1);
             return match self.when_full {
-                WhenFull::Fail => Err(io::Error::from(ErrorKind::Other)),
+                WhenFull::Fail => Err(io::Error::from(self.kind)),
                 WhenFull::TakeNothing => Ok(0),
             };
         }
@@ -219,7 +231,8 @@ impl<'a, A: Allocator> Write for MemoryWriter<'a, A> {
 
     fn flush(&mut self) -> io::Result<()>
         ensures bytes { Keeps (Some self.old.taken.items) (Some self.new.taken.items) }
-        ensures plan { (self.new.room ≡ self.old.room) × (self.new.when_full ≡ self.old.when_full) × (self.new.recovers ≡ self.old.recovers) }
+        ensures plan { (self.new.room ≡ self.old.room) × (self.new.when_full ≡ self.old.when_full) }
+        ensures recovers { (self.new.recovers ≡ self.old.recovers) × (self.new.kind ≡ self.old.kind) }
         ensures errors { self.new.errors ≡ self.old.errors }
         ensures succeeds { IsOk result }
     {

@@ -2,7 +2,7 @@
 use super::{text_of, text_of_kk};
 use linked_list_allocator::LocalHeap;
 use std::alloc::Allocator;
-use std::io::{Read, Write};
+use std::io::{ErrorKind, Read, Write};
 use std::process::Abort;
 use std::test::Fail;
 use study_material::Class;
@@ -40,6 +40,7 @@ fn writers_fail_where_they_are_told(rt: HostRuntime) {
             assert_eq!(rt; full.errors, want.is_err() as u64 + 1);
 
             let mut recovers = MemoryWriter::full_once(&alloc, room, when_full);
+            recovers.kind = ErrorKind::Interrupted;
             put_letters(&rt, &mut recovers, want, taken);
             let again = put(&mut recovers, b"d");
             assert_eq!(rt;
@@ -71,6 +72,10 @@ fn readers_fail_where_they_are_told(rt: HostRuntime) -> Result<(), Fail> {
     assert_eq!(rt; recovers.read_to_end(&mut text)?, 1);
     assert_eq!(rt; text.as_slice(), b"abcababc".as_slice());
     assert_eq!(rt; recovers.errors, 1);
+    let mut interrupted = MemoryReader::failing_once(b"abc", 2);
+    interrupted.kind = ErrorKind::Interrupted;
+    assert_eq!(rt; interrupted.read_to_end(&mut text)?, 3);
+    assert_eq!(rt; interrupted.errors, 1);
     Ok(())
 }
 
@@ -96,8 +101,11 @@ fn readers_fail(rt: HostRuntime) {
     for count in 0..=4192usize {
         let mut fails = MemoryReader::failing_after(bytes, count);
         fails_after(&rt, &alloc, &mut fails, count);
-        let mut recovers = MemoryReader::failing_once(bytes, count);
-        fails_after(&rt, &alloc, &mut recovers, count);
+        for kind in [ErrorKind::Other, ErrorKind::Interrupted] {
+            let mut recovers = MemoryReader::failing_once(bytes, count);
+            recovers.kind = kind;
+            fails_after(&rt, &alloc, &mut recovers, count);
+        }
     }
     let mut reader = MemoryReader::failing_after(bytes, 4193);
     assert!(rt; read_table(&alloc, &mut reader).is_ok());
