@@ -1,4 +1,4 @@
-use Rattle.std.proofs.Common.{inl, inr, ◌≡◌, ◌≤◌, ◌/◌, ℕ, length, rules, sym, ◌∙◌, ap, subst}
+use Rattle.std.proofs.Common.{inl, inr, ◌≡◌, ◌≤◌, ◌<◌, ◌/◌, ℕ, length, rules, sym, ◌∙◌, ap, subst}
 use Rattle.std.specs.Prelude.{None}
 use Rattle.study_retro.specs.Table.{class_place}
 use Rattle.study_prober.specs.declared.cache.PageKey.{PageKey}
@@ -14,6 +14,9 @@ use Rattle.study_prober.proofs.KeptCells.{again_none, again_at}
 use Rattle.study_prober.proofs.Tables.{one_class}
 use Rattle.study_prober.specs.Sources.{IsGivenPage}
 use Rattle.study_prober.proofs.GivenPages.{given_after, alike_after, one_held, read_at, unread_at, bad_at}
+use Rattle.study_index.specs.Number.{cells_of}
+use Rattle.study_index.proofs.ClassLaws.{below, numbered}
+use Rattle.study_prober.proofs.Cells.{page_of_cell}
 use Rattle.study_prober.proofs.ProbedSources.{number_in, told_at, whole_at, failed_at, game_at}
 use Rattle.study_prober.proofs.paged.probe.Goals as goal
 
@@ -195,3 +198,8 @@ returns-in-Some-clause-not_whole g c = λ d h n was told.
     let own : d ≡ c.class_of-class.result.0 = at.0 ∙ (c.requires.kept.header c.class_of-class.result.0 c.in-Some.held is.1).class in
     let one = one_held g.S.PageSource.gives c.args.sources.now.items c.class_of-class.result.0 d c.in-Some.held h is.1 own was in
     bad_at g.S.PageSource.gives c.in-Some.held h _ n one (sym at.1) (c.value_in.ensures.not_whole d n told)
+
+pub returns-in-Some-clause-inside : goal.returns-in-Some-clause-inside
+returns-in-Some-clause-inside g c = λ d f of told.
+    let r = numbered d c.args.p.now c.index.result c.men-men.ensures.valid of c.index.ensures.least in
+    page_of_cell d (index_of c.args.p.now) (subst (λ n. n < cells_of d) c.index.ensures.value (below d c.index.result r.0 r.1))
