@@ -1,8 +1,11 @@
 -- What values answered, one question after the other.
-use Rattle.std.specs.Prelude.{◌≡◌, ℕ, ◌⊎◌, List, [], ◌∷◌, Ok, Err}
+use Rattle.std.specs.Prelude.{◌≡◌, ℕ, ◌⊎◌, List, [], ◌∷◌, Ok, Err, IsErrOf}
 use Rattle.study_board.specs.Position.{Position}
 use Rattle.study_board.specs.Counts.{counted}
+use Rattle.study_material.specs.declared.class.Class.{Class}
+use Rattle.study_material.specs.Class.{IsOf}
 use Rattle.study_retro.specs.declared.value.Value.{Value}
+use Rattle.study_tablefile.specs.declared.fault.SourceFault.{SourceFault}
 use Rattle.study_prober.specs.Values.{ProbeAnswer, IsNotDamage}
 use Rattle.study_prober.specs.declared.values.ProbeFault.{ProbeFault}
 use Rattle.study_prober.specs.declared.values.ProbeFault.TheVariants as probe
@@ -12,37 +15,40 @@ use Rattle.study_marks.specs.declared.fault.Refusal.TheVariants.{AlreadyThere, T
 use Rattle.study_marks.specs.declared.fault.Refusal.TheVariants.{OutOfMemory, NoTable, TableRead}
 
 module _ {V : Type 0} where
-  -- values answer so to the question for a position, and are as they are then: an answer that they may give there, counted
-  pub record Answers (gives : V → Position → ProbeAnswer → Type 0) (asked_of : V → ℕ) (old : V) (p : Position) (answer : ProbeAnswer) (new : V) : Type 0 where
+  -- values answer so to the question for a position, and are as they are then: an answer that they may give there, counted; a table that
+  -- is not read is one that may fail so, and what may fail then could before
+  pub record Answers (gives : V → Position → ProbeAnswer → Type 0) (may_fail : V → Class → SourceFault → Type 0) (asked_of : V → ℕ) (old : V) (p : Position) (answer : ProbeAnswer) (new : V) : Type 0 where
     pub given : gives old p answer
     pub asked : asked_of new ≡ counted (asked_of old)
+    pub failed_so : (c : Class) (f : SourceFault) → IsOf c p → IsErrOf answer (probe.TableRead f) → may_fail old c f
+    pub fails_as_before : (c : Class) (f : SourceFault) → may_fail new c f → may_fail old c f
 
   -- these positions were asked in their order, and the value of each was told
-  abbrev pub WereTold : (V → Position → ProbeAnswer → Type 0) → (V → ℕ) → V → List Position → V → Type 0
-  WereTold gives asked_of old [] new = new ≡ old
-  WereTold gives asked_of old (p ∷ ps) new = (v : Value) × (mid : V) × Answers gives asked_of old p (Ok v) mid × WereTold gives asked_of mid ps new
+  abbrev pub WereTold : (V → Position → ProbeAnswer → Type 0) → (V → Class → SourceFault → Type 0) → (V → ℕ) → V → List Position → V → Type 0
+  WereTold gives may_fail asked_of old [] new = new ≡ old
+  WereTold gives may_fail asked_of old (p ∷ ps) new = (v : Value) × (mid : V) × Answers gives may_fail asked_of old p (Ok v) mid × WereTold gives may_fail asked_of mid ps new
 
   -- these positions were asked in their order, up to the first whose value was not told: its answer was this fault
-  abbrev pub IsFirstFault : (V → Position → ProbeAnswer → Type 0) → (V → ℕ) → V → List Position → ProbeFault → V → Type 0
-  IsFirstFault gives asked_of old [] f new = ⊥
-  IsFirstFault gives asked_of old (p ∷ ps) f new =
-      Answers gives asked_of old p (Err f) new
-      ⊎ ((v : Value) × (mid : V) × Answers gives asked_of old p (Ok v) mid × IsFirstFault gives asked_of mid ps f new)
+  abbrev pub IsFirstFault : (V → Position → ProbeAnswer → Type 0) → (V → Class → SourceFault → Type 0) → (V → ℕ) → V → List Position → ProbeFault → V → Type 0
+  IsFirstFault gives may_fail asked_of old [] f new = ⊥
+  IsFirstFault gives may_fail asked_of old (p ∷ ps) f new =
+      Answers gives may_fail asked_of old p (Err f) new
+      ⊎ ((v : Value) × (mid : V) × Answers gives may_fail asked_of old p (Ok v) mid × IsFirstFault gives may_fail asked_of mid ps f new)
 
   -- a refusal that is of the values tells the fault of the first of these that was not told
-  abbrev pub TellsFirstFault : {A : Type 0} → (V → Position → ProbeAnswer → Type 0) → (V → ℕ) → V → List Position → V → Refusal A → Type 0
-  TellsFirstFault gives asked_of old asked new (NoTable c) = IsFirstFault gives asked_of old asked (probe.NoTable c) new
-  TellsFirstFault gives asked_of old asked new (TableRead f) = IsFirstFault gives asked_of old asked f new
-  TellsFirstFault gives asked_of old asked new NoSuchNode = Unit {0}
-  TellsFirstFault gives asked_of old asked new RootNotAllowed = Unit {0}
-  TellsFirstFault gives asked_of old asked new AlreadyFirst = Unit {0}
-  TellsFirstFault gives asked_of old asked new IllegalMove = Unit {0}
-  TellsFirstFault gives asked_of old asked new (AlreadyThere k) = Unit {0}
-  TellsFirstFault gives asked_of old asked new TooDeep = Unit {0}
-  TellsFirstFault gives asked_of old asked new TreeFull = Unit {0}
-  TellsFirstFault gives asked_of old asked new (ShiftBroken steps) = Unit {0}
-  TellsFirstFault gives asked_of old asked new TagText = Unit {0}
-  TellsFirstFault gives asked_of old asked new OutOfMemory = Unit {0}
+  abbrev pub TellsFirstFault : {A : Type 0} → (V → Position → ProbeAnswer → Type 0) → (V → Class → SourceFault → Type 0) → (V → ℕ) → V → List Position → V → Refusal A → Type 0
+  TellsFirstFault gives may_fail asked_of old asked new (NoTable c) = IsFirstFault gives may_fail asked_of old asked (probe.NoTable c) new
+  TellsFirstFault gives may_fail asked_of old asked new (TableRead f) = IsFirstFault gives may_fail asked_of old asked f new
+  TellsFirstFault gives may_fail asked_of old asked new NoSuchNode = Unit {0}
+  TellsFirstFault gives may_fail asked_of old asked new RootNotAllowed = Unit {0}
+  TellsFirstFault gives may_fail asked_of old asked new AlreadyFirst = Unit {0}
+  TellsFirstFault gives may_fail asked_of old asked new IllegalMove = Unit {0}
+  TellsFirstFault gives may_fail asked_of old asked new (AlreadyThere k) = Unit {0}
+  TellsFirstFault gives may_fail asked_of old asked new TooDeep = Unit {0}
+  TellsFirstFault gives may_fail asked_of old asked new TreeFull = Unit {0}
+  TellsFirstFault gives may_fail asked_of old asked new (ShiftBroken steps) = Unit {0}
+  TellsFirstFault gives may_fail asked_of old asked new TagText = Unit {0}
+  TellsFirstFault gives may_fail asked_of old asked new OutOfMemory = Unit {0}
 
 -- a refusal that tells no damaged page
 abbrev pub IsUndamaged : {A : Type 0} → Refusal A → Type 0

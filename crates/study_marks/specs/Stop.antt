@@ -18,6 +18,7 @@ use Rattle.study_marks.specs.Asked.{is_of_tables, is_of_device, counted_times, f
 use Rattle.study_marks.specs.Edits.{Plainly, shifted, edited, edit_refusal, insert_refusal, delete_refusal, promote_refusal, shift_refusal, tag_refusal}
 use Rattle.study_marks.specs.Kept.{Kept, marked, IsKeptRight, told_tree}
 use Rattle.study_marks.specs.Answers.{TellsFirstFault}
+use Rattle.study_tablefile.specs.declared.fault.SourceFault.{SourceFault}
 use Rattle.study_prober.specs.Values.{ProbeAnswer}
 
 module _ {A : Type 0} where
@@ -110,17 +111,18 @@ module _ {A : Type 0} where
   failures_stopped (Err s) old = if is_of_device s.refusal then counted old else old
 
   -- after so many of the edits, the next is refused with the fault of the first value that was not told, of values as they were then
-  abbrev pub StopsAtFault : {V : Type 0} → (V → Position → ProbeAnswer → Type 0) → (V → ℕ) → V → Plainly → List (Edit A) → ℕ → V → Refusal A → Type 0
-  StopsAtFault gives asked_of mid s [] n new r = ⊥
-  StopsAtFault gives asked_of mid s (e ∷ es) zero new r = TellsFirstFault gives asked_of mid (questions_of s e) new r
-  StopsAtFault gives asked_of mid s (e ∷ es) (suc n) new r = StopsAtFault gives asked_of mid (edited s e) es n new r
+  abbrev pub StopsAtFault : {V : Type 0} → (V → Position → ProbeAnswer → Type 0) → (V → Class → SourceFault → Type 0) → (V → ℕ) → V → Plainly → List (Edit A) → ℕ → V → Refusal A → Type 0
+  StopsAtFault gives may_fail asked_of mid s [] n new r = ⊥
+  StopsAtFault gives may_fail asked_of mid s (e ∷ es) zero new r = TellsFirstFault gives may_fail asked_of mid (questions_of s e) new r
+  StopsAtFault gives may_fail asked_of mid s (e ∷ es) (suc n) new r = StopsAtFault gives may_fail asked_of mid (edited s e) es n new r
 
   -- the values were asked what the accepted edits ask, and then what the refused one does, up to the first that was not told
-  pub record TellsStop {V : Type 0} (gives : V → Position → ProbeAnswer → Type 0) (asked_of : V → ℕ) (old new : V) (s : Plainly)
+  pub record TellsStop {V : Type 0} (gives : V → Position → ProbeAnswer → Type 0) (may_fail : V → Class → SourceFault → Type 0) (asked_of : V → ℕ) (old new : V) (s : Plainly)
       (es : List (Edit A)) (stop : Stopped A) : Type 0 where
     pub mid : V
     pub asked : asked_of mid ≡ asked_after_edits s (take stop.done es) (asked_of old)
-    pub first : StopsAtFault gives asked_of mid s es stop.done new stop.refusal
+    pub fails_as_before : (c : Class) (f : SourceFault) → may_fail mid c f → may_fail old c f
+    pub first : StopsAtFault gives may_fail asked_of mid s es stop.done new stop.refusal
 
   -- Not part of any public contract: what one edit of a bench does, over tables that are held, values that are
   -- honest, and the counts of questions and of failures, before and now.

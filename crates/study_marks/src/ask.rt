@@ -2,6 +2,7 @@
 ghost use Rattle.std.specs.Prelude.{◌≡◌, ◌+◌, ◌≤◌, true, List, length, map, is_ok, OnOk, IfOk, IfErr};
 ghost use Rattle.std.specs.List.{All};
 ghost use Rattle.study_material.specs.declared.class.Class.{Class as AClass};
+ghost use Rattle.study_tablefile.specs.declared.fault.SourceFault.{SourceFault as ASourceFault};
 ghost use Rattle.study_moves.specs.Rules.{is_legal, after};
 ghost use Rattle.study_retro.specs.declared.value.Value.{Value as AValue};
 ghost use Rattle.study_marks.specs.Annotated.{AreValuesAfter};
@@ -30,12 +31,13 @@ fn ask_after<V: Values>(
         × (tally.new ≡ tallies_joined tally.old (tally_of all))) }
     ensures untold { IfErr result (IsUntold (V.held values.old) (map (after p.now) moves.now)) }
     ensures held { OnOk result (AreTablesHeld (V.held values.old) (map (after p.now) moves.now)) }
-    ensures told { OnOk result (WereTold V.gives V.asked_of values.old (map (after p.now) moves.now) values.new) }
+    ensures told { OnOk result (WereTold V.gives V.may_fail V.asked_of values.old (map (after p.now) moves.now) values.new) }
     ensures no_damage { V.is_honest values.old → IfErr result IsNotDamage }
-    ensures first { IfErr result (λ f. IsFirstFault V.gives V.asked_of values.old (map (after p.now) moves.now) f values.new) }
+    ensures first { IfErr result (λ f. IsFirstFault V.gives V.may_fail V.asked_of values.old (map (after p.now) moves.now) f values.new) }
     ensures asked { WasAsked (length moves.now) (is_ok result) (V.asked_of values.old) (V.asked_of values.new) }
     ensures failures { V.failed_of values.new ≡ failures_told result (V.failed_of values.old) }
     ensures honest { V.is_honest values.old → V.is_honest values.new }
+    ensures fails_as_before { (c : AClass) (f : ASourceFault) → V.may_fail values.new c f → V.may_fail values.old c f }
     ensures tables { (c : AClass) → V.held values.new c ≡ V.held values.old c }
 {
     match moves.split_first() {
@@ -58,12 +60,13 @@ pub fn ask<V: Values>(p: &Position, values: &mut V) -> Result<Told, ProbeFault>
     ensures game { V.is_honest values.old → IfOk result (IsToldOf p.now) }
     ensures untold { IfErr result (IsUntold (V.held values.old) (asked_at p.now)) }
     ensures held { OnOk result (AreTablesHeld (V.held values.old) (asked_at p.now)) }
-    ensures told { OnOk result (WereTold V.gives V.asked_of values.old (asked_at p.now) values.new) }
+    ensures told { OnOk result (WereTold V.gives V.may_fail V.asked_of values.old (asked_at p.now) values.new) }
     ensures no_damage { V.is_honest values.old → IfErr result IsNotDamage }
-    ensures first { IfErr result (λ f. IsFirstFault V.gives V.asked_of values.old (asked_at p.now) f values.new) }
+    ensures first { IfErr result (λ f. IsFirstFault V.gives V.may_fail V.asked_of values.old (asked_at p.now) f values.new) }
     ensures asked { WasAsked (length (asked_at p.now)) (is_ok result) (V.asked_of values.old) (V.asked_of values.new) }
     ensures failures { V.failed_of values.new ≡ failures_told result (V.failed_of values.old) }
     ensures honest { V.is_honest values.old → V.is_honest values.new }
+    ensures fails_as_before { (c : AClass) (f : ASourceFault) → V.may_fail values.new c f → V.may_fail values.old c f }
     ensures tables { (c : AClass) → V.held values.new c ≡ V.held values.old c }
 {
     match values.value(p) {

@@ -2,6 +2,7 @@
 ghost use Rattle.std.specs.Prelude.{◌≡◌, ◌+◌, ◌⊎◌, [], ◌∷◌, length, map, slice_set, OnOk, OnErr};
 ghost use Rattle.std.specs.Prelude.{IfOk, IfErr, IsOk, MatchOption, Some, None, Ok, Err, true};
 ghost use Rattle.study_material.specs.declared.class.Class.{Class as AClass};
+ghost use Rattle.study_tablefile.specs.declared.fault.SourceFault.{SourceFault as ASourceFault};
 ghost use Rattle.study_moves.specs.Rules.{after};
 ghost use Rattle.study_tree.specs.Forest.{none};
 ghost use Rattle.study_tree.specs.Edits.{children_at};
@@ -51,7 +52,7 @@ impl<'a, A: Allocator> Bench<'a, A> {
         ensures refusal { IfErr result (IsOutside (V.held values.old) (asked_at start.position)) }
         ensures takes_no_memory { IfErr result (λ e. is_of_tables e ≡ true) }
         ensures no_damage { V.is_honest values.old → IfErr result IsUndamaged }
-        ensures first { IfErr result (TellsFirstFault V.gives V.asked_of values.old (asked_at start.position) values.new) }
+        ensures first { IfErr result (TellsFirstFault V.gives V.may_fail V.asked_of values.old (asked_at start.position) values.new) }
         ensures found { OnOk result (AllHeld (V.held values.old) (asked_at start.position)) }
         ensures made { IfOk result (λ b. plain_study (marked b) ≡ record {
           start = start;
@@ -64,6 +65,7 @@ impl<'a, A: Allocator> Bench<'a, A> {
         ensures asked { HasAsked (length (asked_at start.position)) result (V.asked_of values.old) (V.asked_of values.new) }
         ensures failures { V.failed_of values.new ≡ failures_after result (V.failed_of values.old) }
         ensures honest { V.is_honest values.old → V.is_honest values.new }
+        ensures fails_as_before { (c : AClass) (f : ASourceFault) → V.may_fail values.new c f → V.may_fail values.old c f }
         ensures tables { (c : AClass) → V.held values.new c ≡ V.held values.old c }
     {
         let told = ask(&start.position, values)?;
@@ -85,7 +87,7 @@ impl<'a, A: Allocator> Bench<'a, A> {
         ensures refusal { IfErr result (IsOutside (V.held values.old) (asked_at start.position)) }
         ensures takes_no_memory { IfErr result (λ e. is_of_tables e ≡ true) }
         ensures no_damage { V.is_honest values.old → IfErr result IsUndamaged }
-        ensures first { IfErr result (TellsFirstFault V.gives V.asked_of values.old (asked_at start.position) values.new) }
+        ensures first { IfErr result (TellsFirstFault V.gives V.may_fail V.asked_of values.old (asked_at start.position) values.new) }
         ensures found { OnOk result (AllHeld (V.held values.old) (asked_at start.position)) }
         ensures edited { OnOk result (plain_study (marked self.new) ≡ positioned (plain_study (marked self.old)) start) }
         ensures right { V.is_honest values.old → OnOk result (IsKeptRight self.new) }
@@ -93,6 +95,7 @@ impl<'a, A: Allocator> Bench<'a, A> {
         ensures asked { HasAsked (length (asked_at start.position)) result (V.asked_of values.old) (V.asked_of values.new) }
         ensures failures { V.failed_of values.new ≡ failures_after result (V.failed_of values.old) }
         ensures honest { V.is_honest values.old → V.is_honest values.new }
+        ensures fails_as_before { (c : AClass) (f : ASourceFault) → V.may_fail values.new c f → V.may_fail values.old c f }
         ensures tables { (c : AClass) → V.held values.new c ≡ V.held values.old c }
         ensures same { OnErr result (self.new ≡ self.old) }
     {
@@ -115,12 +118,13 @@ impl<'a, A: Allocator> Bench<'a, A> {
         ensures right { V.is_honest values.old → OnOk result (IsKeptRight self.new) }
         ensures relabelled { OnOk result (self.new.relabelled ≡ counted_times (size_of (marked self.old).tree) self.old.relabelled) }
         ensures no_damage { V.is_honest values.old → IfErr result IsUndamaged }
-        ensures first { IfErr result (TellsFirstFault V.gives V.asked_of values.old (positions_asked (shifted (plain_study (marked self.old)) start)) values.new) }
+        ensures first { IfErr result (TellsFirstFault V.gives V.may_fail V.asked_of values.old (positions_asked (shifted (plain_study (marked self.old)) start)) values.new) }
         ensures found { OnOk result (AllHeld (V.held values.old) (positions_asked (shifted (plain_study (marked self.old)) start))) }
         ensures asked { HasAsked (length (positions_asked (shifted (plain_study (marked self.old)) start))) result
             (V.asked_of values.old) (V.asked_of values.new) }
         ensures failures { V.failed_of values.new ≡ failures_after result (V.failed_of values.old) }
         ensures honest { V.is_honest values.old → V.is_honest values.new }
+        ensures fails_as_before { (c : AClass) (f : ASourceFault) → V.may_fail values.new c f → V.may_fail values.old c f }
         ensures tables { (c : AClass) → V.held values.new c ≡ V.held values.old c }
         ensures same { OnErr result (self.new ≡ self.old) }
     {
@@ -142,7 +146,7 @@ impl<'a, A: Allocator> Bench<'a, A> {
             (IfErr result (IsOutside (V.held values.old) (asked_at (after (position_at (marked self.old) path.now) m))))
             (λ fault. result ≡ Err fault) }
         ensures no_damage { V.is_honest values.old → IfErr result IsUndamaged }
-        ensures first { IfErr result (TellsFirstFault V.gives V.asked_of values.old (asked_at (after (position_at (marked self.old) path.now) m)) values.new) }
+        ensures first { IfErr result (TellsFirstFault V.gives V.may_fail V.asked_of values.old (asked_at (after (position_at (marked self.old) path.now) m)) values.new) }
         ensures found { OnOk result (AllHeld (V.held values.old) (asked_at (after (position_at (marked self.old) path.now) m))) }
         ensures edited { OnOk result (plain_study (marked self.new) ≡ inserted (plain_study (marked self.old)) path.now m) }
         ensures kept { OnOk result ((told : ATold) × (told_tree self.new.study.tree ≡ with_child (told_tree self.old.study.tree) path.now m told)) }
@@ -152,6 +156,7 @@ impl<'a, A: Allocator> Bench<'a, A> {
         ensures asked { HasAsked (length (asked_at (after (position_at (marked self.old) path.now) m))) result (V.asked_of values.old) (V.asked_of values.new) }
         ensures failures { V.failed_of values.new ≡ failures_after result (V.failed_of values.old) }
         ensures honest { V.is_honest values.old → V.is_honest values.new }
+        ensures fails_as_before { (c : AClass) (f : ASourceFault) → V.may_fail values.new c f → V.may_fail values.old c f }
         ensures tables { (c : AClass) → V.held values.new c ≡ V.held values.old c }
         ensures same { OnErr result (self.new ≡ self.old) }
     {
@@ -234,11 +239,12 @@ impl<'a, A: Allocator> Bench<'a, A> {
         ensures right { V.is_honest values.old → OnOk result (IsKeptRight self.new) }
         ensures relabelled { OnOk result (self.new.relabelled ≡ counted_times (size_of (marked self.old).tree) self.old.relabelled) }
         ensures no_damage { V.is_honest values.old → IfErr result IsUndamaged }
-        ensures first { IfErr result (TellsFirstFault V.gives V.asked_of values.old (positions_asked (marked self.old)) values.new) }
+        ensures first { IfErr result (TellsFirstFault V.gives V.may_fail V.asked_of values.old (positions_asked (marked self.old)) values.new) }
         ensures found { OnOk result (AllHeld (V.held values.old) (positions_asked (marked self.old))) }
         ensures asked { HasAsked (length (positions_asked (marked self.old))) result (V.asked_of values.old) (V.asked_of values.new) }
         ensures failures { V.failed_of values.new ≡ failures_after result (V.failed_of values.old) }
         ensures honest { V.is_honest values.old → V.is_honest values.new }
+        ensures fails_as_before { (c : AClass) (f : ASourceFault) → V.may_fail values.new c f → V.may_fail values.old c f }
         ensures tables { (c : AClass) → V.held values.new c ≡ V.held values.old c }
         ensures same { OnErr result (self.new ≡ self.old) }
     {
@@ -254,7 +260,7 @@ impl<'a, A: Allocator> Bench<'a, A> {
     ) -> Result<(), Stopped<'a, A>>
         ensures stopped { IfErr result (λ s. IsStopped (V.held values.old) (plain_study (marked self.old)) edits.now s.done s.refusal) }
         ensures no_damage { V.is_honest values.old → IfErr result (λ s. IsUndamaged s.refusal) }
-        ensures first { IfErr result (TellsStop V.gives V.asked_of values.old values.new (plain_study (marked self.old)) edits.now) }
+        ensures first { IfErr result (TellsStop V.gives V.may_fail V.asked_of values.old values.new (plain_study (marked self.old)) edits.now) }
         ensures accepted { AreAccepted (V.held values.old) (plain_study (marked self.old)) (accepted_of result edits.now) }
         ensures edited { plain_study (marked self.new) ≡ edited_by (plain_study (marked self.old)) (accepted_of result edits.now) }
         ensures kept { AreKeptAfter (told_tree self.old.study.tree) (accepted_of result edits.now) (told_tree self.new.study.tree) }
@@ -263,6 +269,7 @@ impl<'a, A: Allocator> Bench<'a, A> {
         ensures asked { HasAskedBy (plain_study (marked self.old)) edits.now result (V.asked_of values.old) (V.asked_of values.new) }
         ensures failures { V.failed_of values.new ≡ failures_stopped result (V.failed_of values.old) }
         ensures honest { V.is_honest values.old → V.is_honest values.new }
+        ensures fails_as_before { (c : AClass) (f : ASourceFault) → V.may_fail values.new c f → V.may_fail values.old c f }
         ensures tables { (c : AClass) → V.held values.new c ≡ V.held values.old c }
         ensures same { accepted_of result edits.now ≡ [] → self.new ≡ self.old }
     {
@@ -306,7 +313,7 @@ impl<'a, A: Allocator> Bench<'a, A> {
         requires playable { IsPlayable start.position self.old.study.tree.below }
         ensures refusal { IfErr result (IsOutside (V.held values.old) (positions_asked (shifted (plain_study (marked self.old)) start))) }
         ensures no_damage { V.is_honest values.old → IfErr result IsUndamaged }
-        ensures first { IfErr result (TellsFirstFault V.gives V.asked_of values.old (positions_asked (shifted (plain_study (marked self.old)) start)) values.new) }
+        ensures first { IfErr result (TellsFirstFault V.gives V.may_fail V.asked_of values.old (positions_asked (shifted (plain_study (marked self.old)) start)) values.new) }
         ensures found { OnOk result (AllHeld (V.held values.old) (positions_asked (shifted (plain_study (marked self.old)) start))) }
         ensures edited { OnOk result (plain_study (marked self.new) ≡ shifted (plain_study (marked self.old)) start) }
         ensures right { V.is_honest values.old → OnOk result (IsKeptRight self.new) }
@@ -315,6 +322,7 @@ impl<'a, A: Allocator> Bench<'a, A> {
             (V.asked_of values.old) (V.asked_of values.new) }
         ensures failures { V.failed_of values.new ≡ failures_after result (V.failed_of values.old) }
         ensures honest { V.is_honest values.old → V.is_honest values.new }
+        ensures fails_as_before { (c : AClass) (f : ASourceFault) → V.may_fail values.new c f → V.may_fail values.old c f }
         ensures tables { (c : AClass) → V.held values.new c ≡ V.held values.old c }
         ensures same { OnErr result (self.new ≡ self.old) }
     {
@@ -330,8 +338,9 @@ impl<'a, A: Allocator> Bench<'a, A> {
         ensures applied { IsApplied (V.held values.old) (V.held values.new) (V.is_honest values.old) (V.is_honest values.new)
             (V.asked_of values.old) (V.asked_of values.new) (V.failed_of values.old) (V.failed_of values.new)
             self.old self.new edit.now result }
+        ensures fails_as_before { (c : AClass) (f : ASourceFault) → V.may_fail values.new c f → V.may_fail values.old c f }
         ensures no_damage { V.is_honest values.old → IfErr result IsUndamaged }
-        ensures first { IfErr result (TellsFirstFault V.gives V.asked_of values.old (questions_of (plain_study (marked self.old)) edit.now) values.new) }
+        ensures first { IfErr result (TellsFirstFault V.gives V.may_fail V.asked_of values.old (questions_of (plain_study (marked self.old)) edit.now) values.new) }
     {
         match edit {
             Edit::Position(start) => self.set_position(start.copied(), values),

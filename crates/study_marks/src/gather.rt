@@ -1,6 +1,7 @@
 //! What is told of all nodes, asked in written order.
 ghost use Rattle.std.specs.Prelude.{◌≡◌, ◌+◌, ◌<◌, ◌≤◌, ◌++◌, ◌∷◌, [], List, IsTrue, OnOk, IfOk, IfErr, length, is_ok, vec_len, vec_capacity};
 ghost use Rattle.study_material.specs.declared.class.Class.{Class as AClass};
+ghost use Rattle.study_tablefile.specs.declared.fault.SourceFault.{SourceFault as ASourceFault};
 ghost use Rattle.study_tree.specs.Tree.{plain_tree, has_spot};
 ghost use Rattle.study_marks.specs.declared.label.Told.{Told as ATold};
 ghost use Rattle.study_tree.specs.Edits.{IsWithin};
@@ -91,12 +92,13 @@ fn ask_one<'a, A: Allocator, V: Values>(
     ensures game { V.is_honest values.old → OnOk result ((t : ATold) × IsToldOf p.now t × (all.new.items ≡ all.old.items ++ t ∷ [])) }
     ensures untold { IfErr result (IsUntold (V.held values.old) (asked_at p.now)) }
     ensures held { OnOk result (AreTablesHeld (V.held values.old) (asked_at p.now)) }
-    ensures told { OnOk result (WereTold V.gives V.asked_of values.old (asked_at p.now) values.new) }
+    ensures told { OnOk result (WereTold V.gives V.may_fail V.asked_of values.old (asked_at p.now) values.new) }
     ensures no_damage { V.is_honest values.old → IfErr result IsNotDamage }
-    ensures first { IfErr result (λ f. IsFirstFault V.gives V.asked_of values.old (asked_at p.now) f values.new) }
+    ensures first { IfErr result (λ f. IsFirstFault V.gives V.may_fail V.asked_of values.old (asked_at p.now) f values.new) }
     ensures asked { WasAsked (length (asked_at p.now)) (is_ok result) (V.asked_of values.old) (V.asked_of values.new) }
     ensures failures { V.failed_of values.new ≡ failures_told result (V.failed_of values.old) }
     ensures honest { V.is_honest values.old → V.is_honest values.new }
+    ensures fails_as_before { (c : AClass) (f : ASourceFault) → V.may_fail values.new c f → V.may_fail values.old c f }
     ensures tables { (c : AClass) → V.held values.new c ≡ V.held values.old c }
     ensures len { OnOk result (vec_len all.new ≡ vec_len all.old + 1) }
     ensures capacity { vec_capacity all.new ≡ vec_capacity all.old }
@@ -117,10 +119,11 @@ fn ask_each<'a, A: Allocator, V: Values>(
     ensures untold { IfErr result (IsUntold (V.held values.old) (asked_each positions.now)) }
     ensures held { OnOk result (AreTablesHeld (V.held values.old) (asked_each positions.now)) }
     ensures no_damage { V.is_honest values.old → IfErr result IsNotDamage }
-    ensures first { IfErr result (λ f. IsFirstFault V.gives V.asked_of values.old (asked_each positions.now) f values.new) }
+    ensures first { IfErr result (λ f. IsFirstFault V.gives V.may_fail V.asked_of values.old (asked_each positions.now) f values.new) }
     ensures asked { WasAsked (length (asked_each positions.now)) (is_ok result) (V.asked_of values.old) (V.asked_of values.new) }
     ensures failures { V.failed_of values.new ≡ failures_told result (V.failed_of values.old) }
     ensures honest { V.is_honest values.old → V.is_honest values.new }
+    ensures fails_as_before { (c : AClass) (f : ASourceFault) → V.may_fail values.new c f → V.may_fail values.old c f }
     ensures tables { (c : AClass) → V.held values.new c ≡ V.held values.old c }
 {
     for p in positions {
@@ -142,12 +145,13 @@ pub fn gather<'a, A: Allocator, V: Values>(
     ensures game { V.is_honest values.old → IfOk result (λ all. AllAreTold position.now (retold_tree all.items (told_tree (plain_tree tree.now)))) }
     ensures refusal { IfErr result (IsOutside (V.held values.old) (asked_at position.now ++ asked_below position.now (plain_tree tree.now).below)) }
     ensures no_damage { V.is_honest values.old → IfErr result IsUndamaged }
-    ensures first { IfErr result (TellsFirstFault V.gives V.asked_of values.old (asked_at position.now ++ asked_below position.now (plain_tree tree.now).below) values.new) }
+    ensures first { IfErr result (TellsFirstFault V.gives V.may_fail V.asked_of values.old (asked_at position.now ++ asked_below position.now (plain_tree tree.now).below) values.new) }
     ensures found { OnOk result (AreTablesHeld (V.held values.old) (asked_at position.now ++ asked_below position.now (plain_tree tree.now).below)) }
     ensures asked { HasAsked (length (asked_at position.now ++ asked_below position.now (plain_tree tree.now).below)) result
         (V.asked_of values.old) (V.asked_of values.new) }
     ensures failures { V.failed_of values.new ≡ failures_after result (V.failed_of values.old) }
     ensures honest { V.is_honest values.old → V.is_honest values.new }
+    ensures fails_as_before { (c : AClass) (f : ASourceFault) → V.may_fail values.new c f → V.may_fail values.old c f }
     ensures tables { (c : AClass) → V.held values.new c ≡ V.held values.old c }
 {
     let positions = match list_positions(alloc, tree, position) {

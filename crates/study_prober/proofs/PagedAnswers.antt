@@ -1,5 +1,5 @@
 -- What paged tables answer is what is held for the class of the position may answer.
-use Rattle.std.proofs.Common.{◌≡◌, ℕ, ◌/◌, List, refl, sym, ap}
+use Rattle.std.proofs.Common.{◌≡◌, ℕ, ◌/◌, ◌<◌, List, refl, sym, ap}
 use Rattle.std.specs.Prelude.{Option, Some, None, Result, Ok, Err, IfOk, IfErr, IsErrOf}
 use Rattle.study_board.specs.Position.{Position}
 use Rattle.study_material.specs.Class.{IsOf}
@@ -11,8 +11,9 @@ use Rattle.study_tablefile.specs.Source.{Question, of_page}
 use Rattle.study_prober.specs.declared.held.HeldSource.{HeldSource}
 use Rattle.study_prober.specs.declared.values.ProbeFault.TheVariants.{NoTable, TableRead, PageDamaged}
 use Rattle.study_prober.specs.Values.{ProbeAnswer, IsNotDamage}
-use Rattle.study_prober.specs.Sources.{HonestOf, HasBadPage, IsReadFrom}
-use Rattle.study_prober.specs.Paged.{IsHeldAnswer, SourcesAreRight, held_of}
+use Rattle.study_tablefile.specs.File.{pages_of}
+use Rattle.study_prober.specs.Sources.{GivesOf, GiveAlike, HonestOf, HasBadPage, IsReadFrom}
+use Rattle.study_prober.specs.Paged.{IsHeldAnswer, IsSameSource, MayFail, SourcesAreRight, held_of}
 use Rattle.study_prober.proofs.HeldSources.{some_none}
 
 pub answered : {S : Type 0} (gives : S → Question → Result (List ℕ) SourceFault → Type 0) (c : Class) (n : ℕ) (o : Option (HeldSource S)) (r : ProbeAnswer)
@@ -46,3 +47,21 @@ undamaged {S = S} honest sources p (Err (PageDamaged c n)) all none whole damage
     go : (o : Option (HeldSource S)) → held_of sources c ≡ o → IsOf c p → ⊥
     go None e of = let contrary : ◌≡◌ {A = ProbeAnswer} (Err (PageDamaged c n)) (Err (NoTable c)) = none c (of, e) in cc
     go (Some h) e of = let right = all.right c h e in whole c h right.table n of e right.is_honest right.of_class right.complete refl
+
+-- ---- faults of a device
+
+-- a fault that is told is one of the source that is held for the class
+pub failed_so : {S : Type 0} (gives : GivesOf S) (c : Class) (n : ℕ) (f : SourceFault) (o : Option (HeldSource S)) (r : ProbeAnswer)
+    → (o ≡ None → r ≡ Err (NoTable c))
+    → ((h : HeldSource S) → o ≡ Some h → gives h.source (of_page n) (Err f)) → n < pages_of c → IsErrOf r (TableRead f) → MayFail gives o c f
+failed_so gives c n f None r none unread inside told = absurd (let e = none refl in let contrary : ⊥ = cc in contrary)
+failed_so gives c n f (Some h) r none unread inside told = (n, inside, unread h refl)
+
+-- the same source fails as before
+pub fails_as_before : {S : Type 0} (gives : GivesOf S) (honest : HonestOf S) (c : Class) (f : SourceFault) (old new : Option (HeldSource S))
+    → IsSameSource honest old new
+    → ((h k : HeldSource S) → old ≡ Some h → new ≡ Some k → GiveAlike gives h.source k.source) → MayFail gives new c f → MayFail gives old c f
+fails_as_before gives honest c f None None same alike may = may
+fails_as_before gives honest c f None (Some k) same alike may = absurd same
+fails_as_before gives honest c f (Some h) None same alike may = absurd same
+fails_as_before gives honest c f (Some h) (Some k) same alike may = (may.0, may.1, (alike h k refl refl).back (of_page may.0) (Err f) may.2)

@@ -1,5 +1,5 @@
 -- Paged tables as a contract sees them.
-use Rattle.std.specs.Prelude.{◌≡◌, ◌≢◌, ℕ, ◌/◌, List, [], ◌∷◌, length, slice_index_or, replicate}
+use Rattle.std.specs.Prelude.{◌≡◌, ◌≢◌, ℕ, ◌/◌, ◌<◌, List, [], ◌∷◌, length, slice_index_or, replicate}
 use Rattle.std.specs.Prelude.{Contains, true, ⊤, Option, Some, None, is_some, IfSome, Ok, Err}
 use Rattle.study_board.specs.Position.{Position}
 use Rattle.study_material.specs.declared.class.Class.{Class}
@@ -7,6 +7,9 @@ use Rattle.study_material.specs.Class.{IsOf}
 use Rattle.study_index.specs.Found.{index_of}
 use Rattle.study_retro.specs.Cells.{value_of}
 use Rattle.study_retro.specs.Table.{Table, class_place}
+use Rattle.study_tablefile.specs.declared.fault.SourceFault.{SourceFault}
+use Rattle.study_tablefile.specs.File.{pages_of}
+use Rattle.study_tablefile.specs.Source.{of_page}
 use Rattle.study_prober.specs.declared.cache.PageKey.{PageKey}
 use Rattle.study_prober.specs.declared.held.HeldSource.{HeldSource}
 use Rattle.study_prober.specs.Sources.{GivesOf, HonestOf, IsHeaderOf, IsGivenPage, IsAnswerFrom, AreOf, GivesRight, AreHonestAlike}
@@ -59,6 +62,11 @@ IsSameSource honest (Some old) (Some new) = (new.header ≡ old.header) × AreHo
 abbrev pub IsHeldAnswer : {S : Type 0} → GivesOf S → Option (HeldSource S) → Class → ℕ → ProbeAnswer → Type 0
 IsHeldAnswer gives None c n answer = answer ≡ Err (NoTable c)
 IsHeldAnswer gives (Some h) c n answer = IsAnswerFrom gives c h n answer
+
+-- what is held for a class, if anything is, may answer with this fault when it is asked for a page of the class
+abbrev pub MayFail : {S : Type 0} → GivesOf S → Option (HeldSource S) → Class → SourceFault → Type 0
+MayFail gives None c f = ⊥
+MayFail gives (Some h) c f = (n : ℕ) × (n < pages_of c) × gives h.source (of_page n) (Err f)
 
 -- an answer of these sources for a position
 abbrev pub IsPagedAnswer : {S : Type 0} → GivesOf S → List (Option (HeldSource S)) → Position → ProbeAnswer → Type 0

@@ -1,10 +1,12 @@
 //! Values that fail where a test wants it.
-ghost use Rattle.std.specs.Prelude.{◌≡◌, ◌↔◌, ◌/◌, ℕ, Some, Err, false, IfOk, IfErr, IsErrOf};
+ghost use Rattle.std.specs.Prelude.{◌≡◌, ◌↔◌, ◌⊎◌, ◌/◌, ℕ, Some, Err, false, IfOk, IfErr, IsErrOf};
 ghost use Rattle.study_material.specs.declared.class.Class.{Class as AClass};
 ghost use Rattle.study_material.specs.Class.{IsOf};
 ghost use Rattle.study_index.specs.Found.{index_of};
 ghost use Rattle.study_retro.specs.Game.{IsValueOf};
 ghost use Rattle.study_board.specs.Counts.{counted};
+ghost use Rattle.study_tablefile.specs.declared.fault.SourceFault.{SourceFault as ASourceFault};
+ghost use Rattle.study_tablefile.specs.declared.fault.SourceFault.TheVariants.{Device};
 ghost use Rattle.study_prober.specs.Values.{IsNotDamage, faults_after};
 
 use crate::values::{ProbeFault, Values, counted_fault};
@@ -48,6 +50,8 @@ impl<V: Values> Values for FailingValues<V> {
 
     ghost gives = { λ w p answer. IsFailingAnswer V.held V.gives w p answer };
 
+    ghost may_fail = { λ w c f. (f ≡ Device) ⊎ V.may_fail w.values c f };
+
     ghost asked_of = { λ w. w.asked };
 
     ghost failed_of = { λ w. w.failures };
@@ -57,6 +61,10 @@ impl<V: Values> Values for FailingValues<V> {
         ensures no_damage { V.is_honest self.old.values → IfErr result IsNotDamage }
         ensures stays_honest { V.is_honest self.old.values → V.is_honest self.new.values }
         ensures given { IsFailingAnswer V.held V.gives self.old p.now result }
+        ensures failed_so { (c : AClass) (f : ASourceFault) → IsOf c p.now → IsErrOf result (ProbeFault.TableRead f)
+            → (f ≡ Device) ⊎ V.may_fail self.old.values c f }
+        ensures fails_as_before { (c : AClass) (f : ASourceFault) → (f ≡ Device) ⊎ V.may_fail self.new.values c f
+            → (f ≡ Device) ⊎ V.may_fail self.old.values c f }
         ensures no_table { (c : AClass) → IsErrOf result (ProbeFault.NoTable c) ↔ (IsOf c p.now × (V.held self.old.values c ≡ false)) }
         ensures damaged { (c : AClass) (n : ℕ) → IsErrOf result (ProbeFault.PageDamaged c n)
             → IsOf c p.now × (n ≡ index_of p.now / 4096) }

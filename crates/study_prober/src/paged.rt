@@ -1,5 +1,5 @@
 //! Values from pages of tables, read as they are asked and kept as far as there is room.
-ghost use Rattle.std.specs.Prelude.{◌≡◌, ◌≤◌, ◌/◌, ◌↔◌, ℕ, List, Option, Result, [], Some};
+ghost use Rattle.std.specs.Prelude.{◌≡◌, ◌≤◌, ◌<◌, ◌/◌, ◌↔◌, ℕ, List, Option, Result, [], Some};
 ghost use Rattle.std.specs.Prelude.{None, Ok, Err, true, false, is_some, IfOk, IfErr, OnOk, OnErr};
 ghost use Rattle.std.specs.Prelude.{IsErrOf, length, slice_index, slice_set, replicate};
 ghost use Rattle.study_material.specs.declared.class.Class.{Class as AClass};
@@ -10,14 +10,14 @@ ghost use Rattle.study_retro.specs.Game.{IsValueOf};
 ghost use Rattle.study_retro.specs.Table.{Table as Seen, IsComplete, class_place};
 ghost use Rattle.study_board.specs.Counts.{counted};
 ghost use Rattle.study_tablefile.specs.Source.{of_page};
-ghost use Rattle.study_tablefile.specs.File.{IsVersionOf};
+ghost use Rattle.study_tablefile.specs.File.{IsVersionOf, pages_of};
 ghost use Rattle.study_tablefile.specs.declared.fault.FileFault.{FileFault as AFileFault};
 ghost use Rattle.study_tablefile.specs.declared.fault.SourceFault.{SourceFault as ASourceFault};
 ghost use Rattle.study_prober.specs.Cache.{kept_cell};
 ghost use Rattle.study_prober.specs.declared.held.HeldSource.{HeldSource as AHeld};
 ghost use Rattle.study_prober.specs.Sources.{AreHonestAlike, GiveAlike, HasBadPage, IsReadFrom, GivesRight};
 ghost use Rattle.study_prober.specs.Sources.{IsHeaderOf, PutsNone, PutsOnly, failed_after};
-ghost use Rattle.study_prober.specs.Paged.{SourcesAreRight, AreGiven, IsKept, IsPageFor, IsPagedAnswer, IsSameSource, IsToldAgain, held_of, places_for_classes};
+ghost use Rattle.study_prober.specs.Paged.{SourcesAreRight, AreGiven, IsKept, IsPageFor, IsPagedAnswer, IsSameSource, IsToldAgain, MayFail, held_of, places_for_classes};
 ghost use Rattle.study_prober.specs.Values.{IsNotDamage, faults_after};
 ghost use Rattle.study_prober.specs.Told.{IsRefusedBy, MayAnswer, paged_fault};
 
@@ -170,6 +170,7 @@ fn probe<'a, S: PageSource, A: Allocator>(
         → GiveAlike S.gives h.source k.source }
     ensures unread { (c : AClass) (h : AHeld S) (f : ASourceFault) → IsOf c p.now → held_of sources.old.items c ≡ Some h
         → IsErrOf result (ProbeFault.TableRead f) → S.gives h.source (of_page (index_of p.now / 4096)) (Err f) }
+    ensures inside { (c : AClass) (f : ASourceFault) → IsOf c p.now → IsErrOf result (ProbeFault.TableRead f) → index_of p.now / 4096 < pages_of c }
     ensures not_whole { (c : AClass) (h : AHeld S) (n : ℕ) → held_of sources.old.items c ≡ Some h
         → IsErrOf result (ProbeFault.PageDamaged c n) → HasBadPage S.gives h n }
     ensures room { pages.new.cap ≡ pages.old.cap }
@@ -212,6 +213,8 @@ impl<'a, S: PageSource, A: Allocator> Values for PagedTables<'a, S, A> {
 
     ghost gives = { λ w p answer. IsPagedAnswer S.gives w.sources p answer };
 
+    ghost may_fail = { λ w c f. MayFail S.gives (held_of w.sources c) c f };
+
     ghost asked_of = { λ w. w.asked };
 
     ghost failed_of = { λ w. w.failed };
@@ -221,6 +224,10 @@ impl<'a, S: PageSource, A: Allocator> Values for PagedTables<'a, S, A> {
         ensures no_damage { SourcesAreRight S.honest self.old.sources → IfErr result IsNotDamage }
         ensures stays_honest { SourcesAreRight S.honest self.old.sources → SourcesAreRight S.honest self.new.sources }
         ensures given { IsPagedAnswer S.gives self.old.sources p.now result }
+        ensures failed_so { (c : AClass) (f : ASourceFault) → IsOf c p.now → IsErrOf result (ProbeFault.TableRead f)
+            → MayFail S.gives (held_of self.old.sources c) c f }
+        ensures fails_as_before { (c : AClass) (f : ASourceFault) → MayFail S.gives (held_of self.new.sources c) c f
+            → MayFail S.gives (held_of self.old.sources c) c f }
         ensures no_table { (c : AClass) → IsErrOf result (ProbeFault.NoTable c) ↔ (IsOf c p.now × (is_some (held_of self.old.sources c) ≡ false)) }
         ensures same_tables { (c : AClass) → is_some (held_of self.new.sources c) ≡ is_some (held_of self.old.sources c) }
         ensures asked { self.new.asked ≡ counted self.old.asked }

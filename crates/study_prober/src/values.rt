@@ -6,6 +6,7 @@ ghost use Rattle.study_material.specs.Class.{IsOf};
 ghost use Rattle.study_index.specs.Found.{index_of};
 ghost use Rattle.study_retro.specs.Game.{IsValueOf};
 ghost use Rattle.study_board.specs.Counts.{counted};
+ghost use Rattle.study_tablefile.specs.declared.fault.SourceFault.{SourceFault as ASourceFault};
 ghost use Rattle.study_prober.specs.Values.{ProbeAnswer, IsNotDamage, faults_after};
 
 use study_board::Position;
@@ -58,6 +59,9 @@ pub trait Values: Drop {
     /// answer anything.
     ghost gives: { Self → APosition → ProbeAnswer → Type 0 };
 
+    /// A table of this class may not be read for this fault, now and after any calls.
+    ghost may_fail: { Self → AClass → ASourceFault → Type 0 };
+
     ghost asked_of: { Self → ℕ };
 
     ghost failed_of: { Self → ℕ };
@@ -68,6 +72,8 @@ pub trait Values: Drop {
         ensures no_damage { is_honest self.old → IfErr result IsNotDamage }
         ensures stays_honest { is_honest self.old → is_honest self.new }
         ensures given { gives self.old p.now result }
+        ensures failed_so { (c : AClass) (f : ASourceFault) → IsOf c p.now → IsErrOf result (ProbeFault.TableRead f) → may_fail self.old c f }
+        ensures fails_as_before { (c : AClass) (f : ASourceFault) → may_fail self.new c f → may_fail self.old c f }
         ensures no_table { (c : AClass) → IsErrOf result (ProbeFault.NoTable c) ↔ (IsOf c p.now × (held self.old c ≡ false)) }
         ensures damaged { (c : AClass) (n : ℕ) → IsErrOf result (ProbeFault.PageDamaged c n)
             → IsOf c p.now × (n ≡ index_of p.now / 4096) }

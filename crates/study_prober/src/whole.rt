@@ -10,6 +10,7 @@ ghost use Rattle.study_retro.specs.Table.{Table as Seen, class_place, table_of};
 ghost use Rattle.study_retro.specs.Set.{add_fault};
 ghost use Rattle.study_retro.specs.Sound.{IsRight};
 ghost use Rattle.study_board.specs.Counts.{counted};
+ghost use Rattle.study_tablefile.specs.declared.fault.SourceFault.{SourceFault as ASourceFault};
 ghost use Rattle.study_prober.specs.Values.{IsNotDamage, faults_after};
 ghost use Rattle.study_prober.specs.Whole.{TablesAreRight, IsCellAnswer, Whole};
 
@@ -71,6 +72,8 @@ impl<'a, A: Allocator> Values for WholeTables<'a, A> {
 
     ghost gives = { λ w p answer. IsCellAnswer w.tables p answer };
 
+    ghost may_fail = { λ w c f. ⊥ };
+
     ghost asked_of = { λ w. w.asked };
 
     ghost failed_of = { λ w. 0 };
@@ -80,6 +83,8 @@ impl<'a, A: Allocator> Values for WholeTables<'a, A> {
         ensures no_damage { TablesAreRight self.old.tables → IfErr result IsNotDamage }
         ensures stays_honest { TablesAreRight self.old.tables → TablesAreRight self.new.tables }
         ensures given { IsCellAnswer self.old.tables p.now result }
+        ensures failed_so { (c : AClass) (f : ASourceFault) → IsOf c p.now → IsErrOf result (ProbeFault.TableRead f) → ⊥ }
+        ensures fails_as_before { (c : AClass) (f : ASourceFault) → ⊥ → ⊥ }
         ensures no_table { (c : AClass) → IsErrOf result (ProbeFault.NoTable c) ↔ (IsOf c p.now × (is_some (table_of self.old.tables c) ≡ false)) }
         ensures damaged { (c : AClass) (n : ℕ) → IsErrOf result (ProbeFault.PageDamaged c n)
             → IsOf c p.now × (n ≡ index_of p.now / 4096) }

@@ -12,7 +12,7 @@ use Rattle.study_marks.specs.Edits.{Plainly}
 use Rattle.study_script.specs.Names.{edit_words}
 use Rattle.study_script.specs.State.{State, is_among, Outside, quiet, no_room, unread}
 use Rattle.study_script.specs.Replies.{accepted, refused_as, holding, missing, found, IsAskingReply, IsAskedReply}
-use Rattle.study_script.specs.Held.{IsToldBy}
+use Rattle.study_script.specs.Held.{IsToldBy, TellsFailing}
 
 -- the same classes are held
 held-same : (h k : Class → Bool) (p : Position) → ((c : Class) → h c ≡ k c) → IsTableHeld h p → IsTableHeld k p
@@ -41,44 +41,46 @@ missing-unread held (p ∷ ps) c m = elim m.1 [ inl here ↦ here | inr there �
 pub refused_outside : (A : Type 0) (s : State) (held : Class → Bool) (paged : Bool) (asked : List Position)
     (new : Plainly) (text : List ℕ) (refusal : EditRefusal A) → ((c : Class) → held c ≡ is_among s.classes c)
     → paged ≡ s.paged → IsOutside held asked refusal → IsToldBy paged refusal → IsUndamaged refusal
+    → TellsFailing (λ c f. s.shelf.faults c f ≡ true) asked refusal
     → (o : Outside) × IsAskedReply s o asked new text (refused_as s (edit_words refusal))
-refused_outside A s held paged asked new text edit.OutOfMemory e m out told clean = (no_room, refl)
-refused_outside A s held paged asked new text (edit.NoTable c) e m out told clean = (quiet, missing c (missing-same held (is_among s.classes) asked c e out) refl)
-refused_outside A s held paged asked new text (edit.TableRead (probe.TableRead x)) e m out told clean =
-    (unread (probe.TableRead x), (sym m ∙ told, unread-same held (is_among s.classes) asked (probe.TableRead x) e out, refl))
-refused_outside A s held paged asked new text (edit.TableRead (probe.PageDamaged c n)) e m out told clean = absurd clean
-refused_outside A s held paged asked new text (edit.TableRead (probe.NoTable c)) e m out told clean = absurd (missing-unread held asked c out)
-refused_outside A s held paged asked new text edit.NoSuchNode e m out told clean = absurd out
-refused_outside A s held paged asked new text edit.RootNotAllowed e m out told clean = absurd out
-refused_outside A s held paged asked new text edit.AlreadyFirst e m out told clean = absurd out
-refused_outside A s held paged asked new text edit.IllegalMove e m out told clean = absurd out
-refused_outside A s held paged asked new text (edit.AlreadyThere k) e m out told clean = absurd out
-refused_outside A s held paged asked new text edit.TooDeep e m out told clean = absurd out
-refused_outside A s held paged asked new text edit.TreeFull e m out told clean = absurd out
-refused_outside A s held paged asked new text (edit.ShiftBroken steps) e m out told clean = absurd out
-refused_outside A s held paged asked new text edit.TagText e m out told clean = absurd out
+refused_outside A s held paged asked new text edit.OutOfMemory e m out told clean failing = (no_room, refl)
+refused_outside A s held paged asked new text (edit.NoTable c) e m out told clean failing = (quiet, missing c (missing-same held (is_among s.classes) asked c e out) refl)
+refused_outside A s held paged asked new text (edit.TableRead (probe.TableRead x)) e m out told clean failing =
+    (unread (probe.TableRead x), (sym m ∙ told, unread-same held (is_among s.classes) asked (probe.TableRead x) e out, failing, refl))
+refused_outside A s held paged asked new text (edit.TableRead (probe.PageDamaged c n)) e m out told clean failing = absurd clean
+refused_outside A s held paged asked new text (edit.TableRead (probe.NoTable c)) e m out told clean failing = absurd (missing-unread held asked c out)
+refused_outside A s held paged asked new text edit.NoSuchNode e m out told clean failing = absurd out
+refused_outside A s held paged asked new text edit.RootNotAllowed e m out told clean failing = absurd out
+refused_outside A s held paged asked new text edit.AlreadyFirst e m out told clean failing = absurd out
+refused_outside A s held paged asked new text edit.IllegalMove e m out told clean failing = absurd out
+refused_outside A s held paged asked new text (edit.AlreadyThere k) e m out told clean failing = absurd out
+refused_outside A s held paged asked new text edit.TooDeep e m out told clean failing = absurd out
+refused_outside A s held paged asked new text edit.TreeFull e m out told clean failing = absurd out
+refused_outside A s held paged asked new text (edit.ShiftBroken steps) e m out told clean failing = absurd out
+refused_outside A s held paged asked new text edit.TagText e m out told clean failing = absurd out
 
 -- the same of an edit that takes no memory
 pub refused_asking : (A : Type 0) (s : State) (held : Class → Bool) (paged : Bool) (asked : List Position)
     (new : Plainly) (text : List ℕ) (refusal : EditRefusal A) → ((c : Class) → held c ≡ is_among s.classes c)
     → paged ≡ s.paged → IsOutside held asked refusal → IsToldBy paged refusal → IsUndamaged refusal → is_of_tables refusal ≡ true
+    → TellsFailing (λ c f. s.shelf.faults c f ≡ true) asked refusal
     → (o : Outside) × IsAskingReply s o asked new text (refused_as s (edit_words refusal))
-refused_asking A s held paged asked new text edit.OutOfMemory e m out told clean of_tables = let absent : ⊥ = cc in absurd absent
-refused_asking A s held paged asked new text (edit.NoTable c) e m out told clean of_tables =
+refused_asking A s held paged asked new text edit.OutOfMemory e m out told clean of_tables failing = let absent : ⊥ = cc in absurd absent
+refused_asking A s held paged asked new text (edit.NoTable c) e m out told clean of_tables failing =
     (quiet, missing c (missing-same held (is_among s.classes) asked c e out) refl)
-refused_asking A s held paged asked new text (edit.TableRead (probe.TableRead x)) e m out told clean of_tables =
-    (unread (probe.TableRead x), (sym m ∙ told, unread-same held (is_among s.classes) asked (probe.TableRead x) e out, refl))
-refused_asking A s held paged asked new text (edit.TableRead (probe.PageDamaged c n)) e m out told clean of_tables = absurd clean
-refused_asking A s held paged asked new text (edit.TableRead (probe.NoTable c)) e m out told clean of_tables = absurd (missing-unread held asked c out)
-refused_asking A s held paged asked new text edit.NoSuchNode e m out told clean of_tables = absurd out
-refused_asking A s held paged asked new text edit.RootNotAllowed e m out told clean of_tables = absurd out
-refused_asking A s held paged asked new text edit.AlreadyFirst e m out told clean of_tables = absurd out
-refused_asking A s held paged asked new text edit.IllegalMove e m out told clean of_tables = absurd out
-refused_asking A s held paged asked new text (edit.AlreadyThere k) e m out told clean of_tables = absurd out
-refused_asking A s held paged asked new text edit.TooDeep e m out told clean of_tables = absurd out
-refused_asking A s held paged asked new text edit.TreeFull e m out told clean of_tables = absurd out
-refused_asking A s held paged asked new text (edit.ShiftBroken steps) e m out told clean of_tables = absurd out
-refused_asking A s held paged asked new text edit.TagText e m out told clean of_tables = absurd out
+refused_asking A s held paged asked new text (edit.TableRead (probe.TableRead x)) e m out told clean of_tables failing =
+    (unread (probe.TableRead x), (sym m ∙ told, unread-same held (is_among s.classes) asked (probe.TableRead x) e out, failing, refl))
+refused_asking A s held paged asked new text (edit.TableRead (probe.PageDamaged c n)) e m out told clean of_tables failing = absurd clean
+refused_asking A s held paged asked new text (edit.TableRead (probe.NoTable c)) e m out told clean of_tables failing = absurd (missing-unread held asked c out)
+refused_asking A s held paged asked new text edit.NoSuchNode e m out told clean of_tables failing = absurd out
+refused_asking A s held paged asked new text edit.RootNotAllowed e m out told clean of_tables failing = absurd out
+refused_asking A s held paged asked new text edit.AlreadyFirst e m out told clean of_tables failing = absurd out
+refused_asking A s held paged asked new text edit.IllegalMove e m out told clean of_tables failing = absurd out
+refused_asking A s held paged asked new text (edit.AlreadyThere k) e m out told clean of_tables failing = absurd out
+refused_asking A s held paged asked new text edit.TooDeep e m out told clean of_tables failing = absurd out
+refused_asking A s held paged asked new text edit.TreeFull e m out told clean of_tables failing = absurd out
+refused_asking A s held paged asked new text (edit.ShiftBroken steps) e m out told clean of_tables failing = absurd out
+refused_asking A s held paged asked new text edit.TagText e m out told clean of_tables failing = absurd out
 
 -- an edit that is accepted found all that it asked
 pub accepted_outside : (s : State) (held : Class → Bool) (asked : List Position) (new : Plainly) (text : List ℕ)

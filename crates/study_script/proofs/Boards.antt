@@ -4,6 +4,8 @@ use Rattle.std.specs.Prelude.{IfOk, OnOk, OnErr}
 use Rattle.std.specs.Io.KnownBytes.{Appends}
 use Rattle.study_tablefile.specs.Taken.{TakesPrefix}
 use Rattle.study_material.specs.declared.class.Class.{Class}
+use Rattle.study_prober.specs.Sources.{GivesOf}
+use Rattle.study_tablefile.specs.declared.fault.SourceFault.{SourceFault}
 use Rattle.study_retro.specs.Table.{Table}
 use Rattle.study_notation.specs.declared.start.Start.{Start}
 use Rattle.study_marks.specs.Study.{plain_study}
@@ -14,27 +16,27 @@ use Rattle.study_script.specs.declared.board.Board.{Board as HeldBoard}
 use Rattle.study_script.specs.declared.board.Board.TheVariants as held
 use Rattle.study_script.specs.State.{State, start, study, Outside}
 use Rattle.study_script.specs.Replies.{Reply, accepted, holding}
-use Rattle.study_script.specs.Held.{board_seen, Holds, tables_honest, tables_held, are_paged, Answered, BrokenOff}
+use Rattle.study_script.specs.Held.{board_seen, Holds, tables_honest, tables_held, tables_may_fail, are_paged, Answered, BrokenOff}
 
 module _ {P A : Type 0} where
   -- what is held, where the board is known
-  pub holds_of : (honest : P → Table → ℕ → Type 0) (b c : HeldBoard A) (t : Tables P A) (s : State) → b ≡ c → Holds honest b t s → Holds honest c t s
-  holds_of honest b c t s e h = subst (λ (x : HeldBoard A). Holds honest x t s) e h
+  pub holds_of : (honest : P → Table → ℕ → Type 0) (gives : GivesOf P) (b c : HeldBoard A) (t : Tables P A) (s : State) → b ≡ c → Holds honest gives b t s → Holds honest gives c t s
+  holds_of honest gives b c t s e h = subst (λ (x : HeldBoard A). Holds honest gives x t s) e h
 
-  pub seen_of : (honest : P → Table → ℕ → Type 0) (b c : HeldBoard A) (t : Tables P A) (s : State) → b ≡ c → Holds honest b t s → board_seen c ≡ s.board
-  seen_of honest b c t s e h = ap board_seen (sym e) ∙ h.board
+  pub seen_of : (honest : P → Table → ℕ → Type 0) (gives : GivesOf P) (b c : HeldBoard A) (t : Tables P A) (s : State) → b ≡ c → Holds honest gives b t s → board_seen c ≡ s.board
+  seen_of honest gives b c t s e h = ap board_seen (sym e) ∙ h.board
 
   -- a start is held
-  pub start_held : (honest : P → Table → ℕ → Type 0) (b c : HeldBoard A) (t : Tables P A) (s : State) (new : Start)
-      → c ≡ held.Start new → Holds honest b t s → Holds honest c t (record s { board = start new })
-  start_held honest b c t s new e h = holds_of honest (held.Start new) c t (record s { board = start new }) (sym e)
-      (record { board = refl; marks = tt; values = h.values; classes = h.classes; paged = h.paged })
+  pub start_held : (honest : P → Table → ℕ → Type 0) (gives : GivesOf P) (b c : HeldBoard A) (t : Tables P A) (s : State) (new : Start)
+      → c ≡ held.Start new → Holds honest gives b t s → Holds honest gives c t (record s { board = start new })
+  start_held honest gives b c t s new e h = holds_of honest gives (held.Start new) c t (record s { board = start new }) (sym e)
+      (record { board = refl; marks = tt; values = h.values; classes = h.classes; paged = h.paged; faults = h.faults })
 
   -- a study is held that asked no table
-  pub study_held : (honest : P → Table → ℕ → Type 0) (old k : Kept) (t : Tables P A) (s : State) (new : Plainly)
-      → plain_study (marked k) ≡ new → IsKeptRight k → Holds honest (held.Study old) t s
-      → Holds honest (held.Study k) t (holding s new)
-  study_held honest old k t s new e r h = record { board = ap study e; marks = r; values = h.values; classes = h.classes; paged = h.paged }
+  pub study_held : (honest : P → Table → ℕ → Type 0) (gives : GivesOf P) (old k : Kept) (t : Tables P A) (s : State) (new : Plainly)
+      → plain_study (marked k) ≡ new → IsKeptRight k → Holds honest gives (held.Study old) t s
+      → Holds honest gives (held.Study k) t (holding s new)
+  study_held honest gives old k t s new e r h = record { board = ap study e; marks = r; values = h.values; classes = h.classes; paged = h.paged; faults = h.faults }
 
 -- a function that writes the reply to an accepted line, and answers so
 pub accepted_ok : {E : Type 0} (I : Outside → Reply → Type 0) (H : State → Type 0) (r : Result Bool E) (s : State)
@@ -71,10 +73,11 @@ module _ {I J : Outside → Reply → Type 0} where
 
 module _ {P A : Type 0} where
   -- a study is held that was made by asking tables
-  pub study_made : (honest : P → Table → ℕ → Type 0) (b : HeldBoard A) (k : Kept) (t u : Tables P A) (s : State)
-      (new : Plainly) → Holds honest b t s → plain_study (marked k) ≡ new → IsKeptRight k → tables_honest honest u
-      → ((c : Class) → tables_held u c ≡ tables_held t c) → are_paged u ≡ are_paged t → Holds honest (held.Study k) u (holding s new)
-  study_made honest b k t u s new h e r v same mode =
+  pub study_made : (honest : P → Table → ℕ → Type 0) (gives : GivesOf P) (b : HeldBoard A) (k : Kept) (t u : Tables P A) (s : State)
+      (new : Plainly) → Holds honest gives b t s → plain_study (marked k) ≡ new → IsKeptRight k → tables_honest honest u
+      → ((c : Class) → tables_held u c ≡ tables_held t c) → are_paged u ≡ are_paged t
+      → ((c : Class) (f : SourceFault) → tables_may_fail gives u c f → tables_may_fail gives t c f) → Holds honest gives (held.Study k) u (holding s new)
+  study_made honest gives b k t u s new h e r v same mode fails =
       record {
         board = ap study e;
         marks = r;
@@ -82,13 +85,15 @@ module _ {P A : Type 0} where
         classes = λ c. same c ∙ h.classes c;
         paged = mode
             ∙ h.paged;
+        faults = λ c f m. h.faults c f (fails c f m);
       }
 
   -- the board stays, and tables were asked
-  pub board_same : (honest : P → Table → ℕ → Type 0) (b : HeldBoard A) (t u : Tables P A) (s : State)
-      → Holds honest b t s → tables_honest honest u → ((c : Class) → tables_held u c ≡ tables_held t c)
-      → are_paged u ≡ are_paged t → Holds honest b u s
-  board_same honest b t u s h v same mode = record { board = h.board; marks = h.marks; values = v; classes = λ c. same c ∙ h.classes c; paged = mode ∙ h.paged }
+  pub board_same : (honest : P → Table → ℕ → Type 0) (gives : GivesOf P) (b : HeldBoard A) (t u : Tables P A) (s : State)
+      → Holds honest gives b t s → tables_honest honest u → ((c : Class) → tables_held u c ≡ tables_held t c)
+      → are_paged u ≡ are_paged t
+      → ((c : Class) (f : SourceFault) → tables_may_fail gives u c f → tables_may_fail gives t c f) → Holds honest gives b u s
+  board_same honest gives b t u s h v same mode fails = record { board = h.board; marks = h.marks; values = v; classes = λ c. same c ∙ h.classes c; paged = mode ∙ h.paged; faults = λ c f m. h.faults c f (fails c f m) }
 
 pub on_ok_known : {E T : Type 0} (r : Result T E) {P : Type 0} → P → OnOk r P
 on_ok_known (Ok b) h = h

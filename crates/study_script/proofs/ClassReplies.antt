@@ -10,6 +10,8 @@ use Rattle.study_command.specs.declared.command.ClassWord.{ClassWord}
 use Rattle.study_command.specs.declared.command.ClassWord.TheVariants.{Build, Load, Save, Verify}
 use Rattle.study_material.specs.declared.class.Class.{Class}
 use Rattle.study_material.specs.Needs.{needs_of}
+use Rattle.study_prober.specs.Sources.{GivesOf}
+use Rattle.study_tablefile.specs.declared.fault.SourceFault.{SourceFault}
 use Rattle.study_retro.specs.Table.{Table, IsComplete, class_place, table_of}
 use Rattle.study_retro.specs.Set.{first_missing}
 use Rattle.study_retro.specs.Sound.{IsRight, HasFarPosition}
@@ -170,22 +172,22 @@ module _ (w : Whole) (s : State) (h : HoldsWhole w s) (c : Class) where
 -- ---- which tables are held
 
 module _ {P A : Type 0} where
-  pub whole_of : (honest : P → Table → ℕ → Type 0) (t : Tables P A) (w : Whole) (s : State) → t ≡ held.Whole w → HoldsTables honest t s → HoldsWhole w s
-  whole_of honest t w s e h = let k = subst (λ (x : Tables P A). HoldsTables honest x s) e h in
+  pub whole_of : (honest : P → Table → ℕ → Type 0) (gives : GivesOf P) (t : Tables P A) (w : Whole) (s : State) → t ≡ held.Whole w → HoldsTables honest gives t s → HoldsWhole w s
+  whole_of honest gives t w s e h = let k = subst (λ (x : Tables P A). HoldsTables honest gives x s) e h in
       record { values = k.values; classes = k.classes; whole = k.paged }
 
-  pub paged_of : (honest : P → Table → ℕ → Type 0) (t : Tables P A) (w : Paged P) (s : State) → t ≡ held.Paged w
-      → HoldsTables honest t s → HoldsPaged honest w s
-  paged_of honest t w s e h = let k = subst (λ (x : Tables P A). HoldsTables honest x s) e h in
-      record { values = k.values; classes = k.classes; by_pages = k.paged }
+  pub paged_of : (honest : P → Table → ℕ → Type 0) (gives : GivesOf P) (t : Tables P A) (w : Paged P) (s : State) → t ≡ held.Paged w
+      → HoldsTables honest gives t s → HoldsPaged honest gives w s
+  paged_of honest gives t w s e h = let k = subst (λ (x : Tables P A). HoldsTables honest gives x s) e h in
+      record { values = k.values; classes = k.classes; by_pages = k.paged; faults = k.faults }
 
-  pub tables_whole : (honest : P → Table → ℕ → Type 0) (w : Whole) (s t : State) → HoldsWhole w t
-      → t.board ≡ s.board → TablesFrom {A = A} honest s (held.Whole w) t
-  tables_whole honest w s t h e = record { holds = record { values = h.values; classes = h.classes; paged = h.whole }; board = e }
+  pub tables_whole : (honest : P → Table → ℕ → Type 0) (gives : GivesOf P) (w : Whole) (s t : State) → HoldsWhole w t
+      → t.board ≡ s.board → TablesFrom {A = A} honest gives s (held.Whole w) t
+  tables_whole honest gives w s t h e = record { holds = record { values = h.values; classes = h.classes; paged = h.whole; faults = λ c f m. absurd m }; board = e }
 
-  pub tables_paged : (honest : P → Table → ℕ → Type 0) (w : Paged P) (s t : State) → HoldsPaged honest w t
-      → t.board ≡ s.board → TablesFrom {A = A} honest s (held.Paged w) t
-  tables_paged honest w s t h e = record { holds = record { values = h.values; classes = h.classes; paged = h.by_pages }; board = e }
+  pub tables_paged : (honest : P → Table → ℕ → Type 0) (gives : GivesOf P) (w : Paged P) (s t : State) → HoldsPaged honest gives w t
+      → t.board ≡ s.board → TablesFrom {A = A} honest gives s (held.Paged w) t
+  tables_paged honest gives w s t h e = record { holds = record { values = h.values; classes = h.classes; paged = h.by_pages; faults = h.faults }; board = e }
 
 -- whole tables are asked by any word
 pub asked_whole : (s : State) (o : Outside) (word : ClassWord) (name : List ℕ) (reply : Reply) → false ≡ s.paged

@@ -4,6 +4,8 @@ use Rattle.std.specs.Prelude.{IfOk, codes}
 use Rattle.study_board.specs.Position.{Position}
 use Rattle.study_moves.specs.declared.moves.Move.{Move}
 use Rattle.study_material.specs.declared.class.Class.{Class}
+use Rattle.study_prober.specs.Sources.{GivesOf}
+use Rattle.study_tablefile.specs.declared.fault.SourceFault.{SourceFault}
 use Rattle.study_retro.specs.Table.{Table}
 use Rattle.study_notation.specs.declared.start.Start.{Start}
 use Rattle.study_notation.specs.declared.fault.FenFault.{FenFault}
@@ -50,7 +52,7 @@ valued s asked new text reply (found all e) = beside s _ reply (record { paged =
 
 asking_beside : (s : State) (o : Outside) (asked : List Position) (new : Plainly) (text : List ℕ) (reply : Reply)
     → IsAskingReply s o asked new text reply → IsBeside s reply.state
-asking_beside s (unread (probe.TableRead f)) asked new text reply h = beside s _ reply (same_side s) h.2
+asking_beside s (unread (probe.TableRead f)) asked new text reply h = beside s _ reply (same_side s) h.3
 asking_beside s (unread (probe.PageDamaged c n)) asked new text reply h = absurd h
 asking_beside s (unread (probe.NoTable c)) asked new text reply h = absurd h
 asking_beside s no_room asked new text reply h = valued s asked new text reply h
@@ -159,14 +161,14 @@ pub ok_kept : {E : Type 0} (I J : Outside → Reply → Type 0) (H K : State →
 ok_kept I J H K (Ok b) old new f g (o, reply, i, a, h, e) = (o, reply, f o reply i, a, g o reply i h, e)
 ok_kept I J H K (Err e) old new f g h = tt
 
-pub board_held : {P A : Type 0} (honest : P → Table → ℕ → Type 0) (b : HeldBoard A) (t : Tables P A) (s : State) → Holds honest b t s → HoldsBoard b s
-board_held honest b t s h = record { board = h.board; marks = h.marks }
+pub board_held : {P A : Type 0} (honest : P → Table → ℕ → Type 0) (gives : GivesOf P) (b : HeldBoard A) (t : Tables P A) (s : State) → Holds honest gives b t s → HoldsBoard b s
+board_held honest gives b t s h = record { board = h.board; marks = h.marks }
 
-pub tables_there : {P A : Type 0} (honest : P → Table → ℕ → Type 0) (b : HeldBoard A) (t : Tables P A) (s : State) → Holds honest b t s → HoldsTables honest t s
-tables_there honest b t s h = record { values = h.values; classes = h.classes; paged = h.paged }
+pub tables_there : {P A : Type 0} (honest : P → Table → ℕ → Type 0) (gives : GivesOf P) (b : HeldBoard A) (t : Tables P A) (s : State) → Holds honest gives b t s → HoldsTables honest gives t s
+tables_there honest gives b t s h = record { values = h.values; classes = h.classes; paged = h.paged; faults = h.faults }
 
-module _ {S : Type 0} (stores : S → Bool → Type 0) (files headers : S → Class → Option (Result (List ℕ) StoreFault)) where
-  store_same : (store : S) (s t : State) → IsBeside s t → StoreSeen stores files headers store s → StoreSeen stores files headers store t
+module _ {S : Type 0} (stores : S → Bool → Type 0) (files headers : S → Class → Option (Result (List ℕ) StoreFault)) (faults : S → Class → SourceFault → Bool) where
+  store_same : (store : S) (s t : State) → IsBeside s t → StoreSeen stores files headers faults store s → StoreSeen stores files headers faults store t
   store_same store s t e k = record {
     is_honest = subst (stores store) (sym e.paged) k.is_honest;
     known =
@@ -174,21 +176,22 @@ module _ {S : Type 0} (stores : S → Bool → Type 0) (files headers : S → Cl
           files_known = λ c. k.known.files_known c ∙ ap (λ x. x.files c) (sym e.shelf);
           headers_known = λ c.
               k.known.headers_known c ∙ ap (λ x. x.headers c) (sym e.shelf);
+          faults_known = λ c f. k.known.faults_known c f ∙ ap (λ x. x.faults c f) (sym e.shelf);
         };
   }
 
-module _ {S P A : Type 0} (sources : P → Table → ℕ → Type 0) (stores : S → Bool → Type 0) (files headers : S → Class
-    → Option (Result (List ℕ) StoreFault)) where
+module _ {S P A : Type 0} (sources : P → Table → ℕ → Type 0) (gives : GivesOf P) (stores : S → Bool → Type 0)
+    (files headers : S → Class → Option (Result (List ℕ) StoreFault)) (faults : S → Class → SourceFault → Bool) where
   -- behind an edit that asks the tables
   pub desk_edited : (b c : HeldBoard A) (t u : Tables P A) (store : S) (s new : State)
-      → DeskHolds sources stores files headers b t store s → IsBeside s new → Holds sources c u new
-      → DeskHolds sources stores files headers c u store new
-  desk_edited b c t u store s new d e h = record { held = h; seen = store_same stores files headers store s new e d.seen }
+      → DeskHolds sources gives stores files headers faults b t store s → IsBeside s new → Holds sources gives c u new
+      → DeskHolds sources gives stores files headers faults c u store new
+  desk_edited b c t u store s new d e h = record { held = h; seen = store_same stores files headers faults store s new e d.seen }
 
   -- behind a command of the board alone
   pub desk_board : (b c : HeldBoard A) (t : Tables P A) (store : S) (s new : State)
-      → DeskHolds sources stores files headers b t store s → HoldsFrom s c new
-      → DeskHolds sources stores files headers c t store new
+      → DeskHolds sources gives stores files headers faults b t store s → HoldsFrom s c new
+      → DeskHolds sources gives stores files headers faults c t store new
   desk_board b c t store s new d h = record {
     held = record {
       board = h.holds.board;
@@ -196,14 +199,15 @@ module _ {S P A : Type 0} (sources : P → Table → ℕ → Type 0) (stores : S
       values = d.held.values;
       classes = λ x. d.held.classes x ∙ ap (λ xs. is_among xs x) (sym h.classes);
       paged = d.held.paged ∙ sym h.paged;
+      faults = λ x f m. ap (λ y. y.faults x f) h.shelf ∙ d.held.faults x f m;
     };
-    seen = store_same stores files headers store s new (record { paged = h.paged; shelf = h.shelf }) d.seen;
+    seen = store_same stores files headers faults store s new (record { paged = h.paged; shelf = h.shelf }) d.seen;
   }
 
   -- behind a command of a class
   pub desk_class : (b : HeldBoard A) (t u : Tables P A) (store other : S) (s new : State)
-      → DeskHolds sources stores files headers b t store s → TablesFrom sources s u new
-      × StoreSeen stores files headers other new → DeskHolds sources stores files headers b u other new
+      → DeskHolds sources gives stores files headers faults b t store s → TablesFrom sources gives s u new
+      × StoreSeen stores files headers faults other new → DeskHolds sources gives stores files headers faults b u other new
   desk_class b t u store other s new d h = record {
     held =
         record {
@@ -212,6 +216,7 @@ module _ {S P A : Type 0} (sources : P → Table → ℕ → Type 0) (stores : S
           values = h.0.holds.values;
           classes = h.0.holds.classes;
           paged = h.0.holds.paged;
+          faults = h.0.holds.faults;
         };
     seen = h.1;
   }

@@ -10,6 +10,8 @@ use Rattle.study_notation.specs.declared.start.Start.{Start}
 use Rattle.study_marks.specs.Edits.{Plainly}
 use Rattle.std.specs.Option.{option_map}
 use Rattle.study_material.specs.declared.class.Class.{Class}
+use Rattle.study_prober.specs.Sources.{GivesOf}
+use Rattle.study_tablefile.specs.declared.fault.SourceFault.{SourceFault}
 use Rattle.study_retro.specs.Table.{Table}
 use Rattle.study_tree.specs.Tree.{Spot}
 use Rattle.study_marks.specs.declared.mark.Mark.{Mark}
@@ -20,7 +22,7 @@ use Rattle.study_script.specs.declared.board.Board.{Board as HeldBoard}
 use Rattle.study_script.specs.declared.board.Board.TheVariants as held
 use Rattle.study_script.specs.State.{State, empty, start, study, Outside}
 use Rattle.study_script.specs.Replies.{Reply, accepted, refused, holding, marked_reply, IsSolution}
-use Rattle.study_script.specs.Held.{board_seen, Holds, tables_honest, tables_held, are_paged, HoldsBoard}
+use Rattle.study_script.specs.Held.{board_seen, Holds, tables_honest, tables_held, tables_may_fail, are_paged, HoldsBoard}
 use Rattle.study_script.specs.Held.{HoldsFrom, HoldsBench, HoldsBenchFrom, Answered, BrokenOff}
 
 module _ {A : Type 0} where
@@ -99,10 +101,11 @@ mark_missing s steps (Some x) e = absurd cc
 
 module _ {P A : Type 0} where
   -- a study that was edited, and tables that were asked
-  pub study_edited : (honest : P → Table → ℕ → Type 0) (old k : Kept) (t u : Tables P A) (s : State) (new : Plainly)
-      → Holds honest (held.Study old) t s → plain_study (marked k) ≡ new → IsKeptRight k → tables_honest honest u
-      → ((c : Class) → tables_held u c ≡ tables_held t c) → are_paged u ≡ are_paged t → Holds honest (held.Study k) u (holding s new)
-  study_edited honest old k t u s new h e r v same mode =
+  pub study_edited : (honest : P → Table → ℕ → Type 0) (gives : GivesOf P) (old k : Kept) (t u : Tables P A) (s : State) (new : Plainly)
+      → Holds honest gives (held.Study old) t s → plain_study (marked k) ≡ new → IsKeptRight k → tables_honest honest u
+      → ((c : Class) → tables_held u c ≡ tables_held t c) → are_paged u ≡ are_paged t
+      → ((c : Class) (f : SourceFault) → tables_may_fail gives u c f → tables_may_fail gives t c f) → Holds honest gives (held.Study k) u (holding s new)
+  study_edited honest gives old k t u s new h e r v same mode fails =
       record {
         board = ap study e;
         marks = r;
@@ -110,13 +113,15 @@ module _ {P A : Type 0} where
         classes = λ c. same c ∙ h.classes c;
         paged = mode
             ∙ h.paged;
+        faults = λ c f m. h.faults c f (fails c f m);
       }
 
   -- a study that stays, and tables that were asked
-  pub study_same : (honest : P → Table → ℕ → Type 0) (old k : Kept) (t u : Tables P A) (s : State)
-      → Holds honest (held.Study old) t s → k ≡ old → tables_honest honest u
-      → ((c : Class) → tables_held u c ≡ tables_held t c) → are_paged u ≡ are_paged t → Holds honest (held.Study k) u s
-  study_same honest old k t u s h e v same mode =
+  pub study_same : (honest : P → Table → ℕ → Type 0) (gives : GivesOf P) (old k : Kept) (t u : Tables P A) (s : State)
+      → Holds honest gives (held.Study old) t s → k ≡ old → tables_honest honest u
+      → ((c : Class) → tables_held u c ≡ tables_held t c) → are_paged u ≡ are_paged t
+      → ((c : Class) (f : SourceFault) → tables_may_fail gives u c f → tables_may_fail gives t c f) → Holds honest gives (held.Study k) u s
+  study_same honest gives old k t u s h e v same mode fails =
       record {
         board = subst (λ (x : Kept). study (plain_study (marked x)) ≡ s.board) (sym e) h.board;
         marks = subst IsKeptRight (sym e) h.marks;
@@ -124,4 +129,5 @@ module _ {P A : Type 0} where
         classes = λ c. same c ∙ h.classes c;
         paged = mode
             ∙ h.paged;
+        faults = λ c f m. h.faults c f (fails c f m);
       }

@@ -18,8 +18,9 @@ use Rattle.study_retro.specs.Set.{first_missing, add_fault}
 use Rattle.study_retro.specs.Sound.{IsRight, NeedsAreRight}
 use Rattle.study_prober.specs.Whole.{Whole, TablesAreRight}
 use Rattle.study_prober.proofs.HeldSources.{same_class}
+use Rattle.study_tablefile.specs.declared.fault.SourceFault.{SourceFault}
 use Rattle.study_script.specs.declared.store.StoreFault.{StoreFault}
-use Rattle.study_script.specs.State.{State, Shelf, is_among, forgotten, written_anew}
+use Rattle.study_script.specs.State.{State, Shelf, is_among, forgotten, forgotten_faults, written_anew}
 use Rattle.study_script.specs.Replies.{with_class, class_told}
 use Rattle.study_script.specs.Stored.{StoreSeen}
 use Rattle.study_script.specs.Told.{HoldsWhole, WholeFrom}
@@ -213,51 +214,59 @@ right_told held c b all some told = go (table_of held c) refl some told
 
 module _ {S : Type 0} where
   -- a store that is seen as before
-  pub store_same : (honest : S → Bool → Type 0) (files headers : S → Class → Option (Result (List ℕ) StoreFault))
+  pub store_same : (honest : S → Bool → Type 0) (files headers : S → Class → Option (Result (List ℕ) StoreFault)) (faults : S → Class → SourceFault → Bool)
       (old new : S) (s : State) → ((b : Bool) → honest old b → honest new b)
       → ((c : Class) → files new c ≡ files old c) → ((c : Class) → headers new c ≡ headers old c)
-      → StoreSeen honest files headers old s → StoreSeen honest files headers new s
-  store_same honest files headers old new s stays f k h = record {
+      → ((c : Class) (f : SourceFault) → faults new c f ≡ faults old c f)
+      → StoreSeen honest files headers faults old s → StoreSeen honest files headers faults new s
+  store_same honest files headers faults old new s stays f k l h = record {
     is_honest = stays s.paged h.is_honest;
-    known = record { files_known = λ c. f c ∙ h.known.files_known c; headers_known = λ c. k c ∙ h.known.headers_known c };
+    known = record { files_known = λ c. f c ∙ h.known.files_known c; headers_known = λ c. k c ∙ h.known.headers_known c; faults_known = λ c g. l c g ∙ h.known.faults_known c g };
   }
 
-  pub store_with : (honest : S → Bool → Type 0) (files headers : S → Class → Option (Result (List ℕ) StoreFault))
-      (store : S) (s : State) (c : Class) → StoreSeen honest files headers store s
-      → StoreSeen honest files headers store (with_class s c)
-  store_with honest files headers store s c h =
+  pub store_with : (honest : S → Bool → Type 0) (files headers : S → Class → Option (Result (List ℕ) StoreFault)) (faults : S → Class → SourceFault → Bool)
+      (store : S) (s : State) (c : Class) → StoreSeen honest files headers faults store s
+      → StoreSeen honest files headers faults store (with_class s c)
+  store_with honest files headers faults store s c h =
       record {
         is_honest = h.is_honest;
-        known = record { files_known = h.known.files_known; headers_known = h.known.headers_known };
+        known = record { files_known = h.known.files_known; headers_known = h.known.headers_known; faults_known = h.known.faults_known };
       }
 
   -- a store is seen alike behind a command that leaves it
-  pub store_of : (honest : S → Bool → Type 0) (files headers : S → Class → Option (Result (List ℕ) StoreFault))
-      (store : S) (s t : State) → t.paged ≡ s.paged → t.shelf ≡ s.shelf → StoreSeen honest files headers store s
-      → StoreSeen honest files headers store t
-  store_of honest files headers store s t p e h = record {
+  pub store_of : (honest : S → Bool → Type 0) (files headers : S → Class → Option (Result (List ℕ) StoreFault)) (faults : S → Class → SourceFault → Bool)
+      (store : S) (s t : State) → t.paged ≡ s.paged → t.shelf ≡ s.shelf → StoreSeen honest files headers faults store s
+      → StoreSeen honest files headers faults store t
+  store_of honest files headers faults store s t p e h = record {
     is_honest = subst (λ (b : Bool). honest store b) (sym p) h.is_honest;
     known =
         record {
           files_known = λ c. h.known.files_known c ∙ ap (λ (x : Shelf). x.files c) (sym e);
           headers_known = λ c. h.known.headers_known c ∙ ap (λ (x : Shelf). x.headers c) (sym e);
+          faults_known = λ c f. h.known.faults_known c f ∙ ap (λ (x : Shelf). x.faults c f) (sym e);
         };
   }
 
   -- a store in which the file of a class was written anew
-  pub store_anew : (honest : S → Bool → Type 0) (files headers : S → Class → Option (Result (List ℕ) StoreFault))
+  pub store_anew : (honest : S → Bool → Type 0) (files headers : S → Class → Option (Result (List ℕ) StoreFault)) (faults : S → Class → SourceFault → Bool)
       (old new : S) (s : State) (c : Class) → ((b : Bool) → honest old b → honest new b)
       → ((d : Class) → files new d ≡ forgotten c (files old) d)
-      → ((d : Class) → headers new d ≡ forgotten c (headers old) d) → StoreSeen honest files headers old s
-      → StoreSeen honest files headers new (written_anew s c)
-  store_anew honest files headers old new s c stays f k h = record {
+      → ((d : Class) → headers new d ≡ forgotten c (headers old) d)
+      → ((d : Class) (g : SourceFault) → faults new d g ≡ forgotten_faults c (faults old) d g) → StoreSeen honest files headers faults old s
+      → StoreSeen honest files headers faults new (written_anew s c)
+  store_anew honest files headers faults old new s c stays f k l h = record {
     is_honest = stays s.paged h.is_honest;
     known = record {
       files_known = λ d. f d ∙ alike (eqb (class_place d) (class_place c)) (files old d) (s.shelf.files d) (h.known.files_known d);
       headers_known = λ d. k d ∙ alike (eqb (class_place d) (class_place c)) (headers old d) (s.shelf.headers d) (h.known.headers_known d);
+      faults_known = λ d g. l d g ∙ either (eqb (class_place d) (class_place c)) (faults old d g) (s.shelf.faults d g) (h.known.faults_known d g);
     };
   }
     where
       alike : {T : Type 0} (b : Bool) (x y : Option T) → x ≡ y → cond b None x ≡ cond b None y
       alike true x y e = refl
       alike false x y e = e
+
+      either : (b x y : Bool) → x ≡ y → cond b true x ≡ cond b true y
+      either true x y e = refl
+      either false x y e = e

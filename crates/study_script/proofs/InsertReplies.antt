@@ -14,7 +14,7 @@ use Rattle.study_script.specs.Names.{edit_words}
 use Rattle.study_script.specs.State.{State, is_among, Outside, study, quiet, no_path, no_room, no_room_for, unread, unopened, cut_off, file, header}
 use Rattle.study_script.specs.Replies.{Reply, refused_as, IsInserted, inserted_text, IsMoveReply, IsMoveReplyAt, IsInsertReply, IsStudyReply, IsStudyReplyAt}
 use Rattle.study_command.specs.declared.command.StudyWord.{StudyWord}
-use Rattle.study_script.specs.Held.{IsToldBy}
+use Rattle.study_script.specs.Held.{IsToldBy, TellsFailing}
 use Rattle.study_script.proofs.AskingEdits.{refused_outside}
 use Rattle.study_script.proofs.SilentEdits.{SameWords, same_if, same_there}
 
@@ -44,16 +44,17 @@ module _ {T A : Type 0} where
       → (r : Result T (EditRefusal A)) (e : EditRefusal A) → ((c : Class) → held c ≡ is_among s.classes c)
       → paged ≡ s.paged
       → MatchOption x (IfErr r (IsOutside held (asked_at (after (position_at old steps) m)))) (λ f. r ≡ Err f)
-      → r ≡ Err e → IsToldBy paged e → IsUndamaged e → (o : Outside) × IsInserted s o old steps m y (refused_as s (edit_words e))
-  insert_refused_by s held paged old steps m None None same r e h p match is told clean =
+      → r ≡ Err e → IsToldBy paged e → IsUndamaged e
+      → TellsFailing (λ c f. s.shelf.faults c f ≡ true) (asked_at (after (position_at old steps) m)) e → (o : Outside) × IsInserted s o old steps m y (refused_as s (edit_words e))
+  insert_refused_by s held paged old steps m None None same r e h p match is told clean failing =
       refused_outside A s held paged (asked_at (after (position_at old steps) m)) (inserted old steps m)
       (inserted_text old steps m) e h p
       (subst
       (λ (z : Result T (EditRefusal A)). IfErr z (IsOutside held (asked_at (after (position_at old steps) m))))
-      is match) told clean
-  insert_refused_by s held paged old steps m None (Some b) same r e h p match is told clean = absurd same
-  insert_refused_by s held paged old steps m (Some a) None same r e h p match is told clean = absurd same
-  insert_refused_by s held paged old steps m (Some a) (Some b) same r e h p match is told clean = (quiet, ap (refused_as s) (err_same r e a is match ∙ same))
+      is match) told clean failing
+  insert_refused_by s held paged old steps m None (Some b) same r e h p match is told clean failing = absurd same
+  insert_refused_by s held paged old steps m (Some a) None same r e h p match is told clean failing = absurd same
+  insert_refused_by s held paged old steps m (Some a) (Some b) same r e h p match is told clean failing = (quiet, ap (refused_as s) (err_same r e a is match ∙ same))
 
   -- a refused `insert` has that reply
   pub insert_refused : (s : State) (held : Class → Bool) (paged : Bool) (old : Plainly) (steps : List ℕ) (m : Move)
@@ -61,11 +62,12 @@ module _ {T A : Type 0} where
       → paged ≡ s.paged
       → MatchOption (insert_refusal {A = A} old steps m)
       (IfErr r (IsOutside held (asked_at (after (position_at old steps) m)))) (λ f. r ≡ Err f) → r ≡ Err e
-      → IsToldBy paged e → IsUndamaged e → (o : Outside) × IsInserted s o old steps m (insert_refusal {A = Unit {0}} old steps m)
+      → IsToldBy paged e → IsUndamaged e
+      → TellsFailing (λ c f. s.shelf.faults c f ≡ true) (asked_at (after (position_at old steps) m)) e → (o : Outside) × IsInserted s o old steps m (insert_refusal {A = Unit {0}} old steps m)
       (refused_as s (edit_words e))
-  insert_refused s held paged old steps m r e h p match is told clean =
+  insert_refused s held paged old steps m r e h p match is told clean failing =
       insert_refused_by s held paged old steps m (insert_refusal {A = A} old steps m)
-      (insert_refusal {A = Unit {0}} old steps m) (insert_same A (Unit {0}) old steps m) r e h p match is told clean
+      (insert_refusal {A = Unit {0}} old steps m) (insert_same A (Unit {0}) old steps m) r e h p match is told clean failing
 
 -- ---- a reply where there was memory for the path
 

@@ -1,13 +1,18 @@
 -- Files in memory.
-use Rattle.std.proofs.Common.{◌≡◌, ◌≢◌, Bool, true, false, cond, List, length, set, Option, None, sym, ap, subst, ◌∙◌, inl, inr, arith}
+use Rattle.std.proofs.Common.{◌≡◌, ◌≢◌, ℕ, ◌+◌, ◌*◌, ◌<◌, Bool, true, false, cond, List, length, set, Option, None, is_some, Err, sym, ap, subst, ◌∙◌, inl, inr, arith}
+use Rattle.std.proofs.lemmas.Bool.{lt-ltb}
 use Rattle.std.proofs.lemmas.List.{get_or-set_same, get_or-set_other}
 use Rattle.study_material.specs.declared.class.Class.{Class}
 use Rattle.study_retro.specs.Table.{class_place}
+use Rattle.study_tablefile.specs.declared.fault.SourceFault.{SourceFault}
+use Rattle.study_tablefile.specs.declared.fault.SourceFault.TheVariants as source
+use Rattle.study_tablefile.specs.File.{pages_of}
+use Rattle.study_tablefile.specs.Source.{Question, of_header, of_page, IsAnswerOf}
 use Rattle.study_prober.proofs.HeldSources.{same_class}
 use Rattle.study_script.specs.declared.memory.MemoryFile.{MemoryFile}
 use Rattle.study_script.specs.declared.memory.MemoryFile.TheVariants.{Written}
-use Rattle.study_script.specs.State.{forgotten}
-use Rattle.study_script.specs.Memory.{memory_file, IsHonestFile}
+use Rattle.study_script.specs.State.{forgotten, forgotten_faults, IsQuestionOf}
+use Rattle.study_script.specs.Memory.{memory_file, memory_faults, text_faults, IsHonestFile}
 use Rattle.study_script.proofs.HeldTables.{place_below, same_at, other_at}
 
 module _ (files : List MemoryFile) (c : Class) (full : length files ≡ 36) where
@@ -36,3 +41,20 @@ module _ (files : List MemoryFile) (c : Class) (full : length files ≡ 36) wher
       written : (b : Bool) → IsHonestFile b Written
       written true = tt
       written false = tt
+
+  -- so is for which faults its source may not be read
+  pub faults_anew : (fails : Bool) (d : Class) (f : SourceFault)
+      → memory_faults fails (memory_file (set files (class_place c) Written) d) d f
+      ≡ forgotten_faults c (λ k g. memory_faults fails (memory_file files k) k g) d f
+  faults_anew fails d f = elim (same_class c d) [
+    | inl e ↦ ap (λ x. memory_faults fails x d f) (written_at d e) ∙ sym (ap (λ b. cond b true (memory_faults fails (memory_file files d) d f)) (same_at d c (sym e)))
+    | inr k ↦ ap (λ x. memory_faults fails x d f) (kept_at d k)
+        ∙ sym (ap (λ b. cond b true (memory_faults fails (memory_file files d) d f)) (other_at d c (λ e. k (ap class_place (sym e)))))
+  ]
+
+-- a source in memory fails as its plan and its text say
+pub source_fails : (text : List ℕ) (fails : Option ℕ) (c : Class) (q : Question) (f : SourceFault) → IsQuestionOf c q
+    → IsAnswerOf text fails q (Err f) → text_faults (is_some fails) text c f ≡ true
+source_fails text fails c q source.Device ask given = given
+source_fails text fails c of_header source.Short ask given = lt-ltb (length text) (64 + 4128 * pages_of c) (omega (arith, given))
+source_fails text fails c (of_page n) source.Short ask given = lt-ltb (length text) (64 + 4128 * pages_of c) (omega (arith, given, ask))

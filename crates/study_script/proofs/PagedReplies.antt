@@ -1,5 +1,5 @@
 -- What `load` comes to by pages.
-use Rattle.std.proofs.Common.{◌≡◌, ℕ, ◌<◌, Bool, true, false, List, ◌∷◌, length, set, Option, Some, None}
+use Rattle.std.proofs.Common.{◌≡◌, ◌≢◌, ℕ, ◌<◌, Bool, true, false, List, ◌∷◌, length, set, Option, Some, None}
 use Rattle.std.proofs.Common.{Result, Ok, Err, refl, sym, ap, subst, ◌∙◌, inl, inr, arith, is_some}
 use Rattle.std.specs.Prelude.{MatchOption, IfErr}
 use Rattle.std.proofs.lemmas.List.{length-set}
@@ -9,8 +9,10 @@ use Rattle.study_tablefile.specs.declared.fault.SourceFault.{SourceFault}
 use Rattle.study_prober.specs.declared.fault.PagedFault.{PagedFault}
 use Rattle.study_prober.specs.declared.fault.PagedFault.TheVariants as fault_of
 use Rattle.study_prober.specs.declared.held.HeldSource.{HeldSource}
-use Rattle.study_prober.specs.Sources.{GivesRight}
-use Rattle.study_prober.specs.Paged.{Paged, held_of, places_for_classes, SourcesAreRight}
+use Rattle.study_tablefile.specs.File.{pages_of}
+use Rattle.study_tablefile.specs.Source.{of_page}
+use Rattle.study_prober.specs.Sources.{GivesOf, GivesRight}
+use Rattle.study_prober.specs.Paged.{Paged, MayFail, held_of, places_for_classes, SourcesAreRight}
 use Rattle.study_prober.specs.Told.{paged_fault}
 use Rattle.study_prober.proofs.HeldSources.{same_class, held_same, held_other, held_placed}
 use Rattle.study_script.specs.declared.store.StoreFault.{StoreFault}
@@ -26,11 +28,12 @@ use Rattle.study_script.proofs.HeldTables.{place_below, among_with, among_head}
 -- ---- what a source told
 
 -- a header is told as the store is known to give it
-pub told_is : (May : Result (List ℕ) SourceFault → Type 0) (known : Option (Result (List ℕ) StoreFault))
+pub told_is : (May : Result (List ℕ) SourceFault → Type 0) (known : Option (Result (List ℕ) StoreFault)) (faults : SourceFault → Bool)
     (told : Result (List ℕ) SourceFault) → May told → IsOpened known
-    → ((bytes : List ℕ) → May (Ok bytes) → IsGiven known (Ok bytes)) → IsGivenAs known told
-told_is May known (Ok bytes) may is_open given = given bytes may
-told_is May known (Err fault) may is_open given = is_open
+    → ((bytes : List ℕ) → May (Ok bytes) → IsGiven known (Ok bytes)) → ((f : SourceFault) → May (Err f) → faults f ≡ true)
+    → IsGivenAs known faults told
+told_is May known faults (Ok bytes) may is_open given fails = given bytes may
+told_is May known faults (Err fault) may is_open given fails = (is_open, fails fault may)
 
 -- an accepted source told no fault
 pub accepted_none : {T : Type 0} (o : Option PagedFault) (x : T)
@@ -45,40 +48,41 @@ same_fault e f k = cc
 no_fault_of : (c : Class) (f : SourceFault) → ◌≡◌ {A = Option PagedFault} (paged_fault false c (Err f)) None → ⊥
 no_fault_of c f e = cc
 
-module _ {P : Type 0} (honest : P → Table → ℕ → Type 0) (w : Paged P) (s : State) (h : HoldsPaged honest w s) (c : Class) (Seen : State → Type 0) where
+module _ {P : Type 0} (honest : P → Table → ℕ → Type 0) (gives : GivesOf P) (w : Paged P) (s : State) (h : HoldsPaged honest gives w s) (c : Class)
+    (Seen : State → Type 0) where
   among : (b : Bool) → is_some (held_of w.sources c) ≡ b → is_among s.classes c ≡ b
   among b e = sym (h.classes c) ∙ e
 
   pub open_held : Seen s → is_some (held_of w.sources c) ≡ true
-      → Decided (λ o. IsOpenReply s o c (is_among s.classes c)) (λ t. HoldsPaged honest w t × (t.board ≡ s.board)
+      → Decided (λ o. IsOpenReply s o c (is_among s.classes c)) (λ t. HoldsPaged honest gives w t × (t.board ≡ s.board)
       × Seen t) (Err (AlreadyHeld c))
   open_held seen e = (quiet, s, rw (among true e) refl, (h, refl, seen))
 
   pub open_unopened : Seen s → (fault : StoreFault) → is_some (held_of w.sources c) ≡ false
       → IsGiven (s.shelf.headers c) (Err fault)
-      → Decided (λ o. IsOpenReply s o c (is_among s.classes c)) (λ t. HoldsPaged honest w t × (t.board ≡ s.board)
+      → Decided (λ o. IsOpenReply s o c (is_among s.classes c)) (λ t. HoldsPaged honest gives w t × (t.board ≡ s.board)
       × Seen t) (Err (of_store fault))
   open_unopened seen fault e given = (unopened fault, s, rw (among false e) (given, refl), (h, refl, seen))
 
   pub open_done : (v : Paged P) (told : Result (List ℕ) SourceFault) → Seen (with_class s c)
-      → HoldsPaged honest v (with_class s c) → is_some (held_of w.sources c) ≡ false → IsGivenAs (s.shelf.headers c) told
+      → HoldsPaged honest gives v (with_class s c) → is_some (held_of w.sources c) ≡ false → IsGivenAs (s.shelf.headers c) (s.shelf.faults c) told
       → paged_fault false c told ≡ None
-      → Decided (λ o. IsOpenReply s o c (is_among s.classes c)) (λ t. HoldsPaged honest v t × (t.board ≡ s.board) × Seen t) (Ok (Loaded c))
+      → Decided (λ o. IsOpenReply s o c (is_among s.classes c)) (λ t. HoldsPaged honest gives v t × (t.board ≡ s.board) × Seen t) (Ok (Loaded c))
   open_done v told seen holds e is_told none = (header told, with_class s c, rw (among false e) (is_told, ap (opened s c) (sym none)), (holds, refl, seen))
 
   pub open_refused : (v : Paged P) (told : Result (List ℕ) SourceFault) (fault : PagedFault) → v ≡ w → Seen s
-      → is_some (held_of w.sources c) ≡ false → IsGivenAs (s.shelf.headers c) told
+      → is_some (held_of w.sources c) ≡ false → IsGivenAs (s.shelf.headers c) (s.shelf.faults c) told
       → MatchOption (paged_fault false c told) (fault ≡ fault_of.OutOfMemory)
       (λ f. ◌≡◌ {A = Result (Unit {0}) PagedFault} (Err fault) (Err f))
-      → Decided (λ o. IsOpenReply s o c (is_among s.classes c)) (λ t. HoldsPaged honest v t × (t.board ≡ s.board)
+      → Decided (λ o. IsOpenReply s o c (is_among s.classes c)) (λ t. HoldsPaged honest gives v t × (t.board ≡ s.board)
       × Seen t) (Err (of_paged fault))
   open_refused v told fault same seen e is_told m = go (paged_fault false c told) refl m
     where
-      kept : HoldsPaged honest v s
-      kept = subst (λ (x : Paged P). HoldsPaged honest x s) (sym same) h
+      kept : HoldsPaged honest gives v s
+      kept = subst (λ (x : Paged P). HoldsPaged honest gives x s) (sym same) h
 
-      no_room : (t : Result (List ℕ) SourceFault) → IsGivenAs (s.shelf.headers c) t → paged_fault false c t ≡ None → fault ≡ fault_of.OutOfMemory
-          → Decided (λ o. IsOpenReply s o c (is_among s.classes c)) (λ u. HoldsPaged honest v u × (u.board ≡ s.board) × Seen u) (Err (of_paged fault))
+      no_room : (t : Result (List ℕ) SourceFault) → IsGivenAs (s.shelf.headers c) (s.shelf.faults c) t → paged_fault false c t ≡ None → fault ≡ fault_of.OutOfMemory
+          → Decided (λ o. IsOpenReply s o c (is_among s.classes c)) (λ u. HoldsPaged honest gives v u × (u.board ≡ s.board) × Seen u) (Err (of_paged fault))
       no_room (Ok bytes) given none is = (
         no_room_for bytes,
         s,
@@ -90,7 +94,7 @@ module _ {P : Type 0} (honest : P → Table → ℕ → Type 0) (w : Paged P) (s
       go : (o : Option PagedFault) → paged_fault false c told ≡ o
           → MatchOption o (fault ≡ fault_of.OutOfMemory)
           (λ f. ◌≡◌ {A = Result (Unit {0}) PagedFault} (Err fault) (Err f))
-          → Decided (λ o. IsOpenReply s o c (is_among s.classes c)) (λ t. HoldsPaged honest v t × (t.board ≡ s.board) × Seen t) (Err (of_paged fault))
+          → Decided (λ o. IsOpenReply s o c (is_among s.classes c)) (λ t. HoldsPaged honest gives v t × (t.board ≡ s.board) × Seen t) (Err (of_paged fault))
       go None is k = no_room told is_told is k
       go (Some f) is k = (
         header told,
@@ -106,13 +110,15 @@ module _ {P : Type 0} (honest : P → Table → ℕ → Type 0) (w : Paged P) (s
 
 module _ {P : Type 0} (honest : P → Table → ℕ → Type 0) where
   -- an honest source, accepted for a class, gives that class's table
-  pub gives : (source : P) (c : Class) (r : IsRightSource honest source) → r.table.class ≡ c → GivesRight honest source r.version c
-  gives source c r same = record { table = r.table; of_class = same; complete = r.complete; right = r.right; is_honest = r.is_honest }
+  pub gives_right : (source : P) (c : Class) (r : IsRightSource honest source) → r.table.class ≡ c → GivesRight honest source r.version c
+  gives_right source c r same = record { table = r.table; of_class = same; complete = r.complete; right = r.right; is_honest = r.is_honest }
 
-  pub paged_with : (w v : Paged P) (s : State) (c : Class) (x : HeldSource P) → HoldsPaged honest w s
+  pub paged_with : (gives : GivesOf P) (w v : Paged P) (s : State) (c : Class) (x : HeldSource P) → HoldsPaged honest gives w s
       → SourcesAreRight honest v.sources → length v.sources ≡ 36
-      → v ≡ record w { sources = set (places_for_classes w.sources) (class_place c) (Some x) } → HoldsPaged honest v (with_class s c)
-  paged_with w v s c x h right long is = record { values = right; classes = classes; by_pages = h.by_pages }
+      → v ≡ record w { sources = set (places_for_classes w.sources) (class_place c) (Some x) }
+      → ((n : ℕ) (f : SourceFault) → n < pages_of c → gives x.source (of_page n) (Err f) → s.shelf.faults c f ≡ true)
+      → HoldsPaged honest gives v (with_class s c)
+  paged_with gives w v s c x h right long is fails = record { values = right; classes = classes; by_pages = h.by_pages; faults = faults }
     where
       sources : v.sources ≡ set (places_for_classes w.sources) (class_place c) (Some x)
       sources = ap (λ (u : Paged P). u.sources) is
@@ -129,4 +135,23 @@ module _ {P : Type 0} (honest : P → Table → ℕ → Type 0) where
         | inr f ↦ ap (λ (o : Option (HeldSource P)). is_some o)
             (held_other (places_for_classes w.sources) c d (Some x) f ∙ held_placed w.sources d) ∙ among_with c d s.classes
             (is_some (held_of w.sources d)) (sym (h.classes d)) (λ e. f (ap class_place e))
+      ]
+
+      here : (d : Class) → c ≡ d → held_of v.sources d ≡ Some x
+      here d e = ap (λ (xs : List (Option (HeldSource P))). held_of xs d) sources
+          ∙ subst (λ (k : Class). held_of (set (places_for_classes w.sources) (class_place c) (Some x)) k ≡ Some x) e
+          (held_same (places_for_classes w.sources) c (Some x) within)
+
+      there : (d : Class) → class_place c ≢ class_place d → held_of v.sources d ≡ held_of w.sources d
+      there d e = ap (λ (xs : List (Option (HeldSource P))). held_of xs d) sources
+          ∙ held_other (places_for_classes w.sources) c d (Some x) e ∙ held_placed w.sources d
+
+      own : (d : Class) (f : SourceFault) → c ≡ d → MayFail gives (Some x) d f → s.shelf.faults d f ≡ true
+      own d f e (n, inside, given) = subst (λ (k : Class). s.shelf.faults k f ≡ true) e
+          (fails n f (subst (λ (k : Class). n < pages_of k) (sym e) inside) given)
+
+      faults : (d : Class) (f : SourceFault) → MayFail gives (held_of v.sources d) d f → s.shelf.faults d f ≡ true
+      faults d f m = elim (same_class c d) [
+        | inl e ↦ own d f e (subst (λ (o : Option (HeldSource P)). MayFail gives o d f) (here d e) m)
+        | inr k ↦ h.faults d f (subst (λ (o : Option (HeldSource P)). MayFail gives o d f) (there d k) m)
       ]

@@ -1,5 +1,5 @@
 -- The replies to `shift`.
-use Rattle.std.proofs.Common.{◌≡◌, ℕ, suc, Bool, List, [], ◌∷◌, Option, Some, None, refl, ap, ◌∙◌, inl, inr}
+use Rattle.std.proofs.Common.{◌≡◌, ℕ, suc, Bool, true, List, [], ◌∷◌, Option, Some, None, refl, ap, ◌∙◌, inl, inr}
 use Rattle.std.specs.Prelude.{if◌then◌else◌}
 use Rattle.study_board.specs.Position.{Position}
 use Rattle.study_moves.specs.Rules.{is_legal, after}
@@ -16,7 +16,7 @@ use Rattle.study_script.specs.Names.{edit_words}
 use Rattle.study_script.specs.State.{State, is_among, Outside, quiet, no_path, no_room, no_room_for, unread, unopened, cut_off, file, header}
 use Rattle.study_script.specs.Replies.{Reply, refused_as, IsAskedReply, IsShiftReply}
 use Rattle.study_script.specs.Words.{reply_line}
-use Rattle.study_script.specs.Held.{IsToldBy}
+use Rattle.study_script.specs.Held.{IsToldBy, TellsFailing}
 use Rattle.study_script.proofs.AskingEdits.{refused_outside}
 use Rattle.study_notation.specs.FenSpelling.{fen_text}
 use Rattle.std.specs.Prelude.{codes}
@@ -52,17 +52,18 @@ unbroken_reply s (header told) old new reply h = h
 -- a refused shift has that reply
 shift_refused_at : (A : Type 0) (s : State) (held : Class → Bool) (paged : Bool) (old : Plainly) (new : Start)
     (b : Option (List ℕ)) (r : EditRefusal A) → ((c : Class) → held c ≡ is_among s.classes c) → paged ≡ s.paged
-    → IsShiftRefusal held (positions_asked (shifted old new)) (broken {A = A} b) r → IsToldBy paged r → IsUndamaged r → (o : Outside)
+    → IsShiftRefusal held (positions_asked (shifted old new)) (broken {A = A} b) r → IsToldBy paged r → IsUndamaged r
+    → TellsFailing (λ c f. s.shelf.faults c f ≡ true) (positions_asked (shifted old new)) r → (o : Outside)
     × IsShiftReply s o old new (broken {A = Unit {0}} b) (refused_as s (edit_words r))
-shift_refused_at A s held paged old new None r e m out told clean =
-    let x = refused_outside A s held paged (positions_asked (shifted old new)) (shifted old new) (reply_line (codes "shift ") (fen_text new)) r e m out told clean in
+shift_refused_at A s held paged old new None r e m out told clean failing =
+    let x = refused_outside A s held paged (positions_asked (shifted old new)) (shifted old new) (reply_line (codes "shift ") (fen_text new)) r e m out told clean failing in
     (x.0, unbroken_reply s x.0 old new (refused_as s (edit_words r)) x.1)
-shift_refused_at A s held paged old new (Some steps) r e m (inl is) told clean = (quiet, ap (λ (x : EditRefusal A). refused_as s (edit_words x)) is)
-shift_refused_at A s held paged old new (Some steps) r e m (inr is) told clean = (no_room, ap (λ (x : EditRefusal A). refused_as s (edit_words x)) is)
+shift_refused_at A s held paged old new (Some steps) r e m (inl is) told clean failing = (quiet, ap (λ (x : EditRefusal A). refused_as s (edit_words x)) is)
+shift_refused_at A s held paged old new (Some steps) r e m (inr is) told clean failing = (no_room, ap (λ (x : EditRefusal A). refused_as s (edit_words x)) is)
 
 pub shift_refused : (A : Type 0) (s : State) (held : Class → Bool) (paged : Bool) (old : Plainly) (new : Start)
     (r : EditRefusal A) → ((c : Class) → held c ≡ is_among s.classes c) → paged ≡ s.paged
     → IsShiftRefusal held (positions_asked (shifted old new)) (shift_refusal {A = A} old new) r → IsToldBy paged r → IsUndamaged r
-    → (o : Outside) × IsShiftReply s o old new (shift_refusal {A = Unit {0}} old new)
+    → TellsFailing (λ c f. s.shelf.faults c f ≡ true) (positions_asked (shifted old new)) r → (o : Outside) × IsShiftReply s o old new (shift_refusal {A = Unit {0}} old new)
     (refused_as s (edit_words r))
-shift_refused A s held paged old new r e m out told clean = shift_refused_at A s held paged old new (broken_from 0 new.position old.tree.below) r e m out told clean
+shift_refused A s held paged old new r e m out told clean failing = shift_refused_at A s held paged old new (broken_from 0 new.position old.tree.below) r e m out told clean failing

@@ -10,7 +10,8 @@ use Rattle.study_material.specs.declared.class.Class.{Class}
 use Rattle.study_retro.specs.Table.{Table, table_of}
 use Rattle.study_prober.specs.Values.{ProbeAnswer}
 use Rattle.study_prober.specs.Whole.{TablesAreRight, IsCellAnswer}
-use Rattle.study_prober.specs.Paged.{SourcesAreRight, IsPagedAnswer, held_of}
+use Rattle.study_prober.specs.Sources.{GivesOf}
+use Rattle.study_prober.specs.Paged.{SourcesAreRight, IsPagedAnswer, MayFail, held_of}
 use Rattle.study_marks.specs.declared.fault.Refusal.{Refusal as EditRefusal}
 use Rattle.study_marks.specs.declared.fault.Refusal.TheVariants as edit
 use Rattle.study_marks.specs.Study.{plain_study}
@@ -20,7 +21,8 @@ use Rattle.study_script.specs.declared.board.Board.TheVariants as held
 use Rattle.study_script.specs.declared.tables.Tables.{Tables}
 use Rattle.study_script.specs.declared.tables.Tables.TheVariants.{Whole, Paged}
 use Rattle.study_script.specs.State.{Board, empty, start, study, State, is_among, Outside}
-use Rattle.study_script.specs.Replies.{Reply}
+use Rattle.study_prober.specs.declared.values.ProbeFault.TheVariants as probe
+use Rattle.study_script.specs.Replies.{Reply, MayFailAmong}
 
 module _ {A : Type 0} where
   -- the study without its marks
@@ -51,6 +53,11 @@ module _ {P A : Type 0} where
   tables_give gives (Whole w) p answer = IsCellAnswer w.tables p answer
   tables_give gives (Paged w) p answer = IsPagedAnswer gives w.sources p answer
 
+  -- a table of the class may not be read for this fault
+  abbrev pub tables_may_fail : GivesOf P → Tables P A → Class → SourceFault → Type 0
+  tables_may_fail gives (Whole w) c f = ⊥
+  tables_may_fail gives (Paged w) c f = MayFail gives (held_of w.sources c) c f
+
   abbrev pub tables_asked : Tables P A → ℕ
   tables_asked (Whole w) = w.asked
   tables_asked (Paged w) = w.asked
@@ -63,13 +70,15 @@ module _ {P A : Type 0} where
   are_paged (Whole w) = false
   are_paged (Paged w) = true
 
-  -- what is held is the state of the script, with marks that are right and values that are honest
-  pub record Holds (honest : P → Table → ℕ → Type 0) (b : HeldBoard A) (t : Tables P A) (s : State) : Type 0 where
+  -- what is held is the state of the script, with marks that are right and values that are honest; for which faults a table may not
+  -- be read, the state knows
+  pub record Holds (honest : P → Table → ℕ → Type 0) (gives : GivesOf P) (b : HeldBoard A) (t : Tables P A) (s : State) : Type 0 where
     pub board : board_seen b ≡ s.board
     pub marks : IsMarked b
     pub values : tables_honest honest t
     pub classes : (c : Class) → tables_held t c ≡ is_among s.classes c
     pub paged : are_paged t ≡ s.paged
+    pub faults : (c : Class) (f : SourceFault) → tables_may_fail gives t c f → s.shelf.faults c f ≡ true
 
 -- the same of a part of what is held; and of it after a command that leaves the other part as it was
 module _ {A : Type 0} where
@@ -95,19 +104,21 @@ pub record HoldsBenchFrom (old : State) (b : Kept) (s : State) : Type 0 where
   pub shelf : s.shelf ≡ old.shelf
 
 module _ {P A : Type 0} where
-  pub record HoldsTables (honest : P → Table → ℕ → Type 0) (t : Tables P A) (s : State) : Type 0 where
+  pub record HoldsTables (honest : P → Table → ℕ → Type 0) (gives : GivesOf P) (t : Tables P A) (s : State) : Type 0 where
     pub values : tables_honest honest t
     pub classes : (c : Class) → tables_held t c ≡ is_among s.classes c
     pub paged : are_paged t ≡ s.paged
+    pub faults : (c : Class) (f : SourceFault) → tables_may_fail gives t c f → s.shelf.faults c f ≡ true
 
-  pub record TablesFrom (honest : P → Table → ℕ → Type 0) (old : State) (t : Tables P A) (s : State) : Type 0 where
-    pub holds : HoldsTables honest t s
+  pub record TablesFrom (honest : P → Table → ℕ → Type 0) (gives : GivesOf P) (old : State) (t : Tables P A) (s : State) : Type 0 where
+    pub holds : HoldsTables honest gives t s
     pub board : s.board ≡ old.board
 
 -- what is known of a store is what it gives
-pub record KnowsStore (files headers : Class → Option (Result (List ℕ) StoreFault)) (s : State) : Type 0 where
+pub record KnowsStore (files headers : Class → Option (Result (List ℕ) StoreFault)) (faults : Class → SourceFault → Bool) (s : State) : Type 0 where
   pub files_known : (c : Class) → files c ≡ s.shelf.files c
   pub headers_known : (c : Class) → headers c ≡ s.shelf.headers c
+  pub faults_known : (c : Class) (f : SourceFault) → faults c f ≡ s.shelf.faults c f
 
 -- whole tables tell no fault of a device
 abbrev pub IsToldBy : {A : Type 0} → Bool → EditRefusal A → Type 0
@@ -123,6 +134,23 @@ IsToldBy paged (edit.ShiftBroken steps) = Unit {0}
 IsToldBy paged edit.TagText = Unit {0}
 IsToldBy paged edit.OutOfMemory = Unit {0}
 IsToldBy paged (edit.NoTable c) = Unit {0}
+
+-- a table that is not read is one that may fail so, of the class of one of these positions
+abbrev pub TellsFailing : {A : Type 0} → (Class → SourceFault → Type 0) → List Position → EditRefusal A → Type 0
+TellsFailing may asked (edit.TableRead (probe.TableRead f)) = MayFailAmong may asked f
+TellsFailing may asked (edit.TableRead (probe.NoTable c)) = Unit {0}
+TellsFailing may asked (edit.TableRead (probe.PageDamaged c n)) = Unit {0}
+TellsFailing may asked edit.NoSuchNode = Unit {0}
+TellsFailing may asked edit.RootNotAllowed = Unit {0}
+TellsFailing may asked edit.AlreadyFirst = Unit {0}
+TellsFailing may asked edit.IllegalMove = Unit {0}
+TellsFailing may asked (edit.AlreadyThere k) = Unit {0}
+TellsFailing may asked edit.TooDeep = Unit {0}
+TellsFailing may asked edit.TreeFull = Unit {0}
+TellsFailing may asked (edit.ShiftBroken steps) = Unit {0}
+TellsFailing may asked edit.TagText = Unit {0}
+TellsFailing may asked edit.OutOfMemory = Unit {0}
+TellsFailing may asked (edit.NoTable c) = Unit {0}
 
 -- ---- what a writer has
 

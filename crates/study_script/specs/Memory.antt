@@ -1,9 +1,11 @@
 -- What is known of a store in memory, which is all that it gives, but of a file that it was asked to write.
-use Rattle.std.specs.Prelude.{◌≡◌, ℕ, Bool, true, false, List, take, slice_index_or, Option, Some, None, Result, Ok, Err}
+use Rattle.std.specs.Prelude.{◌≡◌, ℕ, ◌+◌, ◌*◌, nat_lt, Bool, true, false, List, length, take, slice_index_or, Option, Some, None, Result, Ok, Err}
 use Rattle.study_material.specs.declared.class.Class.{Class}
 use Rattle.study_retro.specs.Table.{Table, IsComplete, class_place}
 use Rattle.study_retro.specs.Sound.{IsRight}
-use Rattle.study_tablefile.specs.File.{IsVersionOf, table_text}
+use Rattle.study_tablefile.specs.declared.fault.SourceFault.{SourceFault}
+use Rattle.study_tablefile.specs.declared.fault.SourceFault.TheVariants as source
+use Rattle.study_tablefile.specs.File.{IsVersionOf, pages_of, table_text}
 use Rattle.study_script.specs.declared.store.StoreFault.{StoreFault}
 use Rattle.study_script.specs.declared.store.StoreFault.TheVariants.{NoFile, Device}
 use Rattle.study_script.specs.declared.memory.MemoryFile.{MemoryFile}
@@ -27,6 +29,17 @@ header_known Absent = Some (Err NoFile)
 header_known Closed = Some (Err Device)
 header_known (Bytes bytes) = Some (Ok (take 64 bytes.now))
 header_known Written = None
+
+-- for which faults a source over a text may not be read: a device's where one is planned, and that of a text that is too short for its class
+abbrev pub text_faults : Bool → List ℕ → Class → SourceFault → Bool
+text_faults fails text c source.Device = fails
+text_faults fails text c source.Short = nat_lt (length text) (64 + 4128 * pages_of c)
+
+abbrev pub memory_faults : Bool → MemoryFile → Class → SourceFault → Bool
+memory_faults fails Absent c f = false
+memory_faults fails Closed c f = false
+memory_faults fails (Bytes bytes) c f = text_faults fails bytes.now c f
+memory_faults fails Written c f = true
 
 -- the text of a right table
 pub record IsRightText (bytes : List ℕ) : Type 0 where

@@ -1,5 +1,5 @@
 -- What is replied to each line of a script.
-use Rattle.std.specs.Prelude.{◌≡◌, ℕ, ◌+◌, ◌-◌, ◌*◌, ◌≤◌, Bool, true, false, ◌&&◌, ◌==◌, List, [], ◌∷◌}
+use Rattle.std.specs.Prelude.{◌≡◌, ◌⊎◌, ℕ, ◌+◌, ◌-◌, ◌*◌, ◌≤◌, Bool, true, false, ◌&&◌, ◌==◌, List, [], ◌∷◌}
 use Rattle.std.specs.Prelude.{◌++◌, find, Option, Some, None, Result, Ok, Err, if◌then◌else◌, codes}
 use Rattle.std.specs.List.{flat_map}
 use Rattle.std.specs.Str.{bytes_eq}
@@ -8,11 +8,12 @@ use Rattle.study_moves.specs.declared.moves.Move.{Move}
 use Rattle.study_moves.specs.Rules.{after}
 use Rattle.study_moves.specs.Game.{MatesWithin, IsWon}
 use Rattle.study_material.specs.declared.class.Class.{Class}
-use Rattle.study_material.specs.Class.{name_of, class_list}
+use Rattle.study_material.specs.Class.{IsOf, name_of, class_list}
 use Rattle.study_retro.specs.Table.{Table, IsComplete, class_place}
 use Rattle.study_retro.specs.Sound.{IsRight, HasFarPosition}
 use Rattle.study_retro.specs.Report.{IsGreatest, win_of}
 use Rattle.study_tablefile.specs.declared.fault.FileFault.{FileFault}
+use Rattle.study_tablefile.specs.declared.fault.SourceFault.{SourceFault}
 use Rattle.study_tablefile.specs.File.{pages_of}
 use Rattle.study_tablefile.specs.Reading.{HasHeader, table_read}
 use Rattle.study_prober.specs.declared.fault.PagedFault.{PagedFault}
@@ -94,11 +95,17 @@ pub data IsValued (s : State) (asked : List Position) (new : Plainly) (text : Li
   missing : (c : Class) → IsFirstMissing (is_among s.classes) asked c → reply ≡ refused s (NoTable c) → IsValued s asked new text reply
   found : AllHeld (is_among s.classes) asked → reply ≡ accepted (holding s new) text → IsValued s asked new text reply
 
+-- a table of the class of one of these positions may not be read for this fault
+abbrev pub MayFailAmong : (Class → SourceFault → Type 0) → List Position → SourceFault → Type 0
+MayFailAmong may [] f = ⊥
+MayFailAmong may (p ∷ ps) f = ((c : Class) → IsOf c p → may c f) ⊎ MayFailAmong may ps f
+
 -- an edit that asks the values of these positions; a page is read only where tables are read by pages, where a device may fail. No page
--- is damaged: each table that is held is a right one
+-- is damaged: each table that is held is a right one; and the fault is one that the source of a class that was asked may have
 abbrev pub IsAskingReply : State → Outside → List Position → Plainly → List ℕ → Reply → Type 0
 IsAskingReply s (unread (probe.TableRead f)) asked new text reply =
-    (s.paged ≡ true) × IsFirstUnread (is_among s.classes) asked (probe.TableRead f) × (reply ≡ refused s (of_probe (probe.TableRead f)))
+    (s.paged ≡ true) × IsFirstUnread (is_among s.classes) asked (probe.TableRead f)
+    × MayFailAmong (λ c g. s.shelf.faults c g ≡ true) asked f × (reply ≡ refused s (of_probe (probe.TableRead f)))
 IsAskingReply s (unread (probe.PageDamaged c n)) asked new text reply = ⊥
 IsAskingReply s (unread (probe.NoTable c)) asked new text reply = ⊥
 IsAskingReply s _ asked new text reply = IsValued s asked new text reply
@@ -300,7 +307,7 @@ IsOpenReply s o c true reply = reply ≡ refused s (AlreadyHeld c)
 IsOpenReply s (unopened fault) c false reply = IsGiven (s.shelf.headers c) (Err fault) × (reply ≡ refused s (of_store fault))
 IsOpenReply s (no_room_for bytes) c false reply =
     IsGiven (s.shelf.headers c) (Ok bytes) × (paged_fault false c (Ok bytes) ≡ None) × (reply ≡ refused s OutOfMemory)
-IsOpenReply s (header told) c false reply = IsGivenAs (s.shelf.headers c) told × (reply ≡ opened s c (paged_fault false c told))
+IsOpenReply s (header told) c false reply = IsGivenAs (s.shelf.headers c) (s.shelf.faults c) told × (reply ≡ opened s c (paged_fault false c told))
 IsOpenReply s _ c false reply = ⊥
 
 -- `save`: every fault of the store is one of its device; what the file gives is not known any more

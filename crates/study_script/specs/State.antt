@@ -1,10 +1,12 @@
 -- What a script holds, and what the outside does at a line.
-use Rattle.std.specs.Prelude.{◌≡◌, ℕ, ◌==◌, Bool, not, List, find, Option, Some, None, Result, Ok, Err, if◌then◌else◌}
+use Rattle.std.specs.Prelude.{◌≡◌, ℕ, ◌<◌, ◌==◌, Bool, true, not, List, find, Option, Some, None, Result, Ok, Err, if◌then◌else◌}
 use Rattle.std.specs.List.{list_any}
 use Rattle.study_material.specs.declared.class.Class.{Class}
 use Rattle.study_material.specs.Needs.{needs_of}
 use Rattle.study_retro.specs.Table.{class_place}
 use Rattle.study_tablefile.specs.declared.fault.SourceFault.{SourceFault}
+use Rattle.study_tablefile.specs.File.{pages_of}
+use Rattle.study_tablefile.specs.Source.{Question, of_header, of_page}
 use Rattle.study_prober.specs.declared.values.ProbeFault.{ProbeFault}
 use Rattle.study_notation.specs.declared.start.Start.{Start}
 use Rattle.study_marks.specs.Edits.{Plainly}
@@ -18,17 +20,31 @@ pub data Board : Type 0 where
 
 -- What is known of what a store gives for each class: the bytes of its file, read from front to back, or the fault of opening it;
 -- and the header that its source of pages tells, or the fault of opening it. Of a store in memory all is known but of a file that it
--- was asked to write, of a real one nothing.
+-- was asked to write, of a real one nothing. Of its sources of pages: for which faults they may not be read.
 pub record Shelf : Type 0 where
   pub files : Class → Option (Result (List ℕ) StoreFault)
   pub headers : Class → Option (Result (List ℕ) StoreFault)
+  pub faults : Class → SourceFault → Bool
 
 -- nothing is known any more of a class, whose file may have been written anew
 abbrev pub forgotten : {T : Type 0} → Class → (Class → Option T) → Class → Option T
 forgotten c known d = if class_place d == class_place c then None else known d
 
+-- its source may fail in any way then
+abbrev pub forgotten_faults : Class → (Class → SourceFault → Bool) → Class → SourceFault → Bool
+forgotten_faults c faults d f = if class_place d == class_place c then true else faults d f
+
 abbrev pub shelf_without : Shelf → Class → Shelf
-shelf_without shelf c = record { files = forgotten c shelf.files; headers = forgotten c shelf.headers }
+shelf_without shelf c = record {
+  files = forgotten c shelf.files;
+  headers = forgotten c shelf.headers;
+  faults = forgotten_faults c shelf.faults;
+}
+
+-- what a source of a class is asked: its header, or one of its pages
+abbrev pub IsQuestionOf : Class → Question → Type 0
+IsQuestionOf c of_header = Unit {0}
+IsQuestionOf c (of_page n) = n < pages_of c
 
 -- the classes whose tables are held, whether tables are read by pages, and what is known of the store
 pub record State : Type 0 where
@@ -48,10 +64,10 @@ IsOpened None = Unit {0}
 IsOpened (Some (Ok gives)) = Unit {0}
 IsOpened (Some (Err fault)) = ⊥
 
--- a header is told as it is known, where it is told; a device may fail at each call
-abbrev pub IsGivenAs : Option (Result (List ℕ) StoreFault) → Result (List ℕ) SourceFault → Type 0
-IsGivenAs known (Ok bytes) = IsGiven known (Ok bytes)
-IsGivenAs known (Err fault) = IsOpened known
+-- a header is told as it is known, where it is told; a device may fail at each call, for a fault that its source may have
+abbrev pub IsGivenAs : Option (Result (List ℕ) StoreFault) → (SourceFault → Bool) → Result (List ℕ) SourceFault → Type 0
+IsGivenAs known faults (Ok bytes) = IsGiven known (Ok bytes)
+IsGivenAs known faults (Err fault) = IsOpened known × (faults fault ≡ true)
 
 -- the file of the class is written anew: what it gives is not known any more
 abbrev pub written_anew : State → Class → State

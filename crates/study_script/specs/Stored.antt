@@ -2,6 +2,7 @@
 use Rattle.std.specs.Prelude.{◌≡◌, ℕ, Bool, true, List, Option, Some, None, Result, Ok, Err, IfSome}
 use Rattle.study_material.specs.declared.class.Class.{Class}
 use Rattle.study_script.specs.declared.store.StoreFault.{StoreFault}
+use Rattle.study_tablefile.specs.declared.fault.SourceFault.{SourceFault}
 use Rattle.study_retro.specs.Table.{Table, IsComplete}
 use Rattle.study_retro.specs.Sound.{IsRight}
 use Rattle.study_tablefile.specs.File.{IsVersionOf}
@@ -37,13 +38,15 @@ GivesBytes (Some known) (Some bytes) = Ok bytes ≡ known
 
 module _ {S : Type 0} where
   -- the store is honest in the way in which its tables are read, by pages or whole, and what is known of it is what it gives
-  pub record StoreSeen (honest : S → Bool → Type 0) (files headers : S → Class → Option (Result (List ℕ) StoreFault)) (store : S) (s : State) : Type 0 where
+  pub record StoreSeen (honest : S → Bool → Type 0) (files headers : S → Class → Option (Result (List ℕ) StoreFault))
+      (faults : S → Class → SourceFault → Bool) (store : S) (s : State) : Type 0 where
     pub is_honest : honest store s.paged
-    pub known : KnowsStore (files store) (headers store) s
+    pub known : KnowsStore (files store) (headers store) (faults store) s
 
   -- all that is known of a store
-  abbrev pub shelf_of : (S → Class → Option (Result (List ℕ) StoreFault)) → (S → Class → Option (Result (List ℕ) StoreFault)) → S → Shelf
-  shelf_of files headers store = record { files = files store; headers = headers store }
+  abbrev pub shelf_of : (S → Class → Option (Result (List ℕ) StoreFault)) → (S → Class → Option (Result (List ℕ) StoreFault))
+      → (S → Class → SourceFault → Bool) → S → Shelf
+  shelf_of files headers faults store = record { files = files store; headers = headers store; faults = faults store }
 
 -- ---- trust: which classes' files are right
 

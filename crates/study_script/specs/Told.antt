@@ -5,7 +5,9 @@ use Rattle.study_material.specs.Class.{name_of}
 use Rattle.study_retro.specs.Table.{Table, table_of}
 use Rattle.study_tablefile.specs.File.{pages_of}
 use Rattle.study_prober.specs.Whole.{Whole, TablesAreRight}
-use Rattle.study_prober.specs.Paged.{Paged, held_of, SourcesAreRight}
+use Rattle.study_tablefile.specs.declared.fault.SourceFault.{SourceFault}
+use Rattle.study_prober.specs.Sources.{GivesOf}
+use Rattle.study_prober.specs.Paged.{Paged, MayFail, held_of, SourcesAreRight}
 use Rattle.study_script.specs.declared.told.Told.{Told}
 use Rattle.study_script.specs.declared.told.Told.TheVariants.{Built, Loaded, Saved, Verified}
 use Rattle.study_script.specs.declared.refusal.Refusal.{Refusal}
@@ -52,10 +54,11 @@ pub record WholeFrom (old : State) (w : Whole) (s : State) : Type 0 where
   pub shelf : s.shelf ≡ old.shelf
 
 -- the sources that are held are those of the script, and each gives a right table
-pub record HoldsPaged {P : Type 0} (honest : P → Table → ℕ → Type 0) (w : Paged P) (s : State) : Type 0 where
+pub record HoldsPaged {P : Type 0} (honest : P → Table → ℕ → Type 0) (gives : GivesOf P) (w : Paged P) (s : State) : Type 0 where
   pub values : SourcesAreRight honest w.sources
   pub classes : (c : Class) → is_some (held_of w.sources c) ≡ is_among s.classes c
   pub by_pages : true ≡ s.paged
+  pub faults : (c : Class) (f : SourceFault) → MayFail gives (held_of w.sources c) c f → s.shelf.faults c f ≡ true
 
 -- why the file of a class gives no table, by what is known of it: it is not opened, its device fails, there is no memory behind its
 -- header, or its bytes have a fault

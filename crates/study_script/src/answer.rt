@@ -32,11 +32,11 @@ pub fn answer<'a, W: Write, S: TableStore, A: Allocator>(
     out: &mut W,
 ) -> Result<bool, DeviceFailed>
     ensures ok { (trusted : AClass → Bool) (s : State) → IsTrusted trusted line.now
-        → DeskHolds S.Pages.honest (HonestOn trusted S.honest) S.files S.headers board.old tables.old store.old s
-        → IfOk result (Answered (IsReply s line.now) (DeskHolds S.Pages.honest (HonestOn trusted S.honest) S.files S.headers board.new tables.new store.new)
+        → DeskHolds S.Pages.honest S.Pages.gives (HonestOn trusted S.honest) S.files S.headers S.faults board.old tables.old store.old s
+        → IfOk result (Answered (IsReply s line.now) (DeskHolds S.Pages.honest S.Pages.gives (HonestOn trusted S.honest) S.files S.headers S.faults board.new tables.new store.new)
         (W.contents out.old) (W.contents out.new)) }
     ensures err { (trusted : AClass → Bool) (s : State) → IsTrusted trusted line.now
-        → DeskHolds S.Pages.honest (HonestOn trusted S.honest) S.files S.headers board.old tables.old store.old s
+        → DeskHolds S.Pages.honest S.Pages.gives (HonestOn trusted S.honest) S.files S.headers S.faults board.old tables.old store.old s
         → OnErr result (BrokenOff (IsReply s line.now) (W.contents out.old) (W.contents out.new)) }
 {
     match read_command(line) {
@@ -58,11 +58,11 @@ fn carry_out<'a, W: Write, S: TableStore, A: Allocator>(
     out: &mut W,
 ) -> Result<bool, DeviceFailed>
     ensures ok { (trusted : AClass → Bool) (s : State) → IsTrustedAsked trusted (command_seen command.now)
-        → DeskHolds S.Pages.honest (HonestOn trusted S.honest) S.files S.headers board.old tables.old store.old s
+        → DeskHolds S.Pages.honest S.Pages.gives (HonestOn trusted S.honest) S.files S.headers S.faults board.old tables.old store.old s
         → IfOk result (Answered (λ o. IsReplyTo s o (command_seen command.now))
-        (DeskHolds S.Pages.honest (HonestOn trusted S.honest) S.files S.headers board.new tables.new store.new) (W.contents out.old) (W.contents out.new)) }
+        (DeskHolds S.Pages.honest S.Pages.gives (HonestOn trusted S.honest) S.files S.headers S.faults board.new tables.new store.new) (W.contents out.old) (W.contents out.new)) }
     ensures err { (trusted : AClass → Bool) (s : State) → IsTrustedAsked trusted (command_seen command.now)
-        → DeskHolds S.Pages.honest (HonestOn trusted S.honest) S.files S.headers board.old tables.old store.old s
+        → DeskHolds S.Pages.honest S.Pages.gives (HonestOn trusted S.honest) S.files S.headers S.faults board.old tables.old store.old s
         → OnErr result (BrokenOff (λ o. IsReplyTo s o (command_seen command.now)) (W.contents out.old) (W.contents out.new)) }
 {
     match command {

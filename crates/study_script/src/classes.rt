@@ -36,12 +36,12 @@ pub fn of_class<'a, W: Write, S: TableStore, A: Allocator>(
     out: &mut W,
 ) -> Result<bool, DeviceFailed>
     ensures ok { (trusted : AClass → Bool) (s : State) → IsTrustedClass trusted word name.now
-        → HoldsTables S.Pages.honest tables.old s → StoreSeen (HonestOn trusted S.honest) S.files S.headers store.old s
+        → HoldsTables S.Pages.honest S.Pages.gives tables.old s → StoreSeen (HonestOn trusted S.honest) S.files S.headers S.faults store.old s
         → IfOk result (Answered (λ o. IsClassReply s o word name.now)
-        (λ t. TablesFrom S.Pages.honest s tables.new t × StoreSeen (HonestOn trusted S.honest) S.files S.headers store.new t)
+        (λ t. TablesFrom S.Pages.honest S.Pages.gives s tables.new t × StoreSeen (HonestOn trusted S.honest) S.files S.headers S.faults store.new t)
         (W.contents out.old) (W.contents out.new)) }
     ensures err { (trusted : AClass → Bool) (s : State) → IsTrustedClass trusted word name.now
-        → HoldsTables S.Pages.honest tables.old s → StoreSeen (HonestOn trusted S.honest) S.files S.headers store.old s
+        → HoldsTables S.Pages.honest S.Pages.gives tables.old s → StoreSeen (HonestOn trusted S.honest) S.files S.headers S.faults store.old s
         → OnErr result (BrokenOff (λ o. IsClassReply s o word name.now) (W.contents out.old) (W.contents out.new)) }
 {
     match tables {
@@ -65,9 +65,9 @@ fn in_whole<'a, S: TableStore, A: Allocator>(
     name: &str,
 ) -> Result<Told, Refusal>
     ensures { (trusted : AClass → Bool) (s : State) → IsTrustedClass trusted word name.now
-        → HoldsWhole tables.old s → StoreSeen (HonestOn trusted S.honest) S.files S.headers store.old s
+        → HoldsWhole tables.old s → StoreSeen (HonestOn trusted S.honest) S.files S.headers S.faults store.old s
         → Decided (λ o. IsNamedReply s o word (class_told name.now))
-        (λ t. HoldsWhole tables.new t × (t.board ≡ s.board) × StoreSeen (HonestOn trusted S.honest) S.files S.headers store.new t) result }
+        (λ t. HoldsWhole tables.new t × (t.board ≡ s.board) × StoreSeen (HonestOn trusted S.honest) S.files S.headers S.faults store.new t) result }
 {
     let class = class_of_name(name)?;
     match word {
@@ -86,9 +86,9 @@ fn in_pages<'a, S: TableStore, A: Allocator>(
     name: &str,
 ) -> Result<Told, Refusal>
     ensures { (trusted : AClass → Bool) (s : State) → IsTrustedClass trusted word name.now
-        → HoldsPaged S.Pages.honest tables.old s → StoreSeen (HonestOn trusted S.honest) S.files S.headers store.old s
+        → HoldsPaged S.Pages.honest S.Pages.gives tables.old s → StoreSeen (HonestOn trusted S.honest) S.files S.headers S.faults store.old s
         → Decided (λ o. IsClassReply s o word name.now)
-        (λ t. HoldsPaged S.Pages.honest tables.new t × (t.board ≡ s.board) × StoreSeen (HonestOn trusted S.honest) S.files S.headers store.new t)
+        (λ t. HoldsPaged S.Pages.honest S.Pages.gives tables.new t × (t.board ≡ s.board) × StoreSeen (HonestOn trusted S.honest) S.files S.headers S.faults store.new t)
         result }
 {
     match word {
@@ -161,9 +161,9 @@ fn load_class<'a, S: TableStore, A: Allocator>(
     store: &mut S,
     class: Class,
 ) -> Result<Told, Refusal>
-    ensures { (trusted : AClass → Bool) (s : State) → trusted class ≡ true → HoldsWhole tables.old s → StoreSeen (HonestOn trusted S.honest) S.files S.headers store.old s
+    ensures { (trusted : AClass → Bool) (s : State) → trusted class ≡ true → HoldsWhole tables.old s → StoreSeen (HonestOn trusted S.honest) S.files S.headers S.faults store.old s
         → Decided (λ o. IsLoadReply s o class (is_among s.classes class) (first_lacking s.classes class))
-        (λ t. WholeFrom s tables.new t × StoreSeen (HonestOn trusted S.honest) S.files S.headers store.new t) result }
+        (λ t. WholeFrom s tables.new t × StoreSeen (HonestOn trusted S.honest) S.files S.headers S.faults store.new t) result }
 {
     if is_held(tables, class) {
         return Err(Refusal::AlreadyHeld(class));
@@ -188,7 +188,7 @@ fn table_in_file<'a, S: TableStore, A: Allocator>(
     ensures read { S.honest store.old false class
         → IfOk result (λ t. (bytes : List ℕ) × IsGiven (S.files store.old class) (Ok bytes) × (table_read bytes ≡ Ok t) × IsRight t) }
     ensures refused { S.honest store.old false class → IfErr result (λ refusal. IsFileRefusal (S.files store.old class) refusal) }
-    ensures store { (trusted : AClass → Bool) (s : State) → StoreSeen (HonestOn trusted S.honest) S.files S.headers store.old s → StoreSeen (HonestOn trusted S.honest) S.files S.headers store.new s }
+    ensures store { (trusted : AClass → Bool) (s : State) → StoreSeen (HonestOn trusted S.honest) S.files S.headers S.faults store.old s → StoreSeen (HonestOn trusted S.honest) S.files S.headers S.faults store.new s }
 {
     let mut reader = match store.reader(class) {
         Ok(reader) => reader,
@@ -216,9 +216,9 @@ fn open_class<'a, S: TableStore, A: Allocator>(
     store: &mut S,
     class: Class,
 ) -> Result<Told, Refusal>
-    ensures { (trusted : AClass → Bool) (s : State) → trusted class ≡ true → HoldsPaged S.Pages.honest tables.old s → StoreSeen (HonestOn trusted S.honest) S.files S.headers store.old s
+    ensures { (trusted : AClass → Bool) (s : State) → trusted class ≡ true → HoldsPaged S.Pages.honest S.Pages.gives tables.old s → StoreSeen (HonestOn trusted S.honest) S.files S.headers S.faults store.old s
         → Decided (λ o. IsOpenReply s o class (is_among s.classes class))
-        (λ t. HoldsPaged S.Pages.honest tables.new t × (t.board ≡ s.board) × StoreSeen (HonestOn trusted S.honest) S.files S.headers store.new t)
+        (λ t. HoldsPaged S.Pages.honest S.Pages.gives tables.new t × (t.board ≡ s.board) × StoreSeen (HonestOn trusted S.honest) S.files S.headers S.faults store.new t)
         result }
 {
     if tables.holds(class) {
@@ -251,9 +251,9 @@ fn save_class<'a, S: TableStore, A: Allocator>(
     store: &mut S,
     class: Class,
 ) -> Result<Told, Refusal>
-    ensures { (trusted : AClass → Bool) (s : State) → HoldsWhole tables.now s → StoreSeen (HonestOn trusted S.honest) S.files S.headers store.old s
+    ensures { (trusted : AClass → Bool) (s : State) → HoldsWhole tables.now s → StoreSeen (HonestOn trusted S.honest) S.files S.headers S.faults store.old s
         → Decided (λ o reply. reply ≡ save_reply s o class (is_among s.classes class))
-        (λ t. HoldsWhole tables.now t × (t.board ≡ s.board) × StoreSeen (HonestOn trusted S.honest) S.files S.headers store.new t) result }
+        (λ t. HoldsWhole tables.now t × (t.board ≡ s.board) × StoreSeen (HonestOn trusted S.honest) S.files S.headers S.faults store.new t) result }
 {
     let Some(table) = tables.tables().table(class) else {
         return Err(Refusal::NoTable(class));

@@ -1,6 +1,7 @@
 //! Edits of the study that ask the tables, whichever they are.
 ghost use Rattle.std.specs.Prelude.{◌≡◌, Err, None, true, MatchOption, IfErr, IfOk, OnOk, OnErr};
 ghost use Rattle.study_material.specs.declared.class.Class.{Class as AClass};
+ghost use Rattle.study_tablefile.specs.declared.fault.SourceFault.{SourceFault as ASourceFault};
 ghost use Rattle.study_marks.specs.Study.{plain_study};
 ghost use Rattle.study_marks.specs.Kept.{marked, IsKeptRight};
 ghost use Rattle.study_moves.specs.Rules.{after};
@@ -11,7 +12,7 @@ ghost use Rattle.study_marks.specs.Stop.{IsShiftRefusal};
 ghost use Rattle.study_marks.specs.Answers.{IsUndamaged, TellsFirstFault};
 ghost use Rattle.study_marks.specs.Edits.{broken_from, positioned, shifted, inserted, shift_refusal, insert_refusal};
 ghost use Rattle.study_script.specs.Replies.{new_study};
-ghost use Rattle.study_script.specs.Held.{tables_held, tables_honest, tables_give, tables_asked, are_paged, IsToldBy};
+ghost use Rattle.study_script.specs.Held.{tables_held, tables_honest, tables_give, tables_may_fail, tables_asked, are_paged, IsToldBy};
 
 use crate::tables::Tables;
 use std::alloc::Allocator;
@@ -30,7 +31,7 @@ pub fn set_position<'a, P: PageSource, A: Allocator>(
     ensures refusal { IfErr result (IsOutside (tables_held tables.old) (asked_at start.position)) }
     ensures device { IfErr result (IsToldBy (are_paged tables.old)) }
     ensures takes_no_memory { IfErr result (λ e. is_of_tables e ≡ true) }
-    ensures first { IfErr result (TellsFirstFault (tables_give P.gives) tables_asked tables.old (asked_at start.position) tables.new) }
+    ensures first { IfErr result (TellsFirstFault (tables_give P.gives) (tables_may_fail P.gives) tables_asked tables.old (asked_at start.position) tables.new) }
     ensures no_damage { tables_honest P.honest tables.old → IfErr result IsUndamaged }
     ensures found { OnOk result (AllHeld (tables_held tables.old) (asked_at start.position)) }
     ensures edited { OnOk result (plain_study (marked bench.new) ≡ positioned (plain_study (marked bench.old)) start) }
@@ -38,6 +39,7 @@ pub fn set_position<'a, P: PageSource, A: Allocator>(
     ensures same { OnErr result (bench.new ≡ bench.old) }
     ensures honest { tables_honest P.honest tables.old → tables_honest P.honest tables.new }
     ensures tables { (c : AClass) → tables_held tables.new c ≡ tables_held tables.old c }
+    ensures fails_as_before { (c : AClass) (f : ASourceFault) → tables_may_fail P.gives tables.new c f → tables_may_fail P.gives tables.old c f }
     ensures mode { are_paged tables.new ≡ are_paged tables.old }
 {
     match tables {
@@ -56,7 +58,7 @@ pub fn shift_position<'a, P: PageSource, A: Allocator>(
         (shift_refusal (plain_study (marked bench.old)) start)) }
     ensures broken { OnOk result (broken_from 0 start.position (marked bench.old).tree.below ≡ None) }
     ensures device { IfErr result (IsToldBy (are_paged tables.old)) }
-    ensures first { IfErr result (TellsFirstFault (tables_give P.gives) tables_asked tables.old (positions_asked (shifted (plain_study (marked bench.old)) start)) tables.new) }
+    ensures first { IfErr result (TellsFirstFault (tables_give P.gives) (tables_may_fail P.gives) tables_asked tables.old (positions_asked (shifted (plain_study (marked bench.old)) start)) tables.new) }
     ensures no_damage { tables_honest P.honest tables.old → IfErr result IsUndamaged }
     ensures found { OnOk result (AllHeld (tables_held tables.old) (positions_asked (shifted (plain_study (marked bench.old)) start))) }
     ensures edited { OnOk result (plain_study (marked bench.new) ≡ shifted (plain_study (marked bench.old)) start) }
@@ -64,6 +66,7 @@ pub fn shift_position<'a, P: PageSource, A: Allocator>(
     ensures same { OnErr result (bench.new ≡ bench.old) }
     ensures honest { tables_honest P.honest tables.old → tables_honest P.honest tables.new }
     ensures tables { (c : AClass) → tables_held tables.new c ≡ tables_held tables.old c }
+    ensures fails_as_before { (c : AClass) (f : ASourceFault) → tables_may_fail P.gives tables.new c f → tables_may_fail P.gives tables.old c f }
     ensures mode { are_paged tables.new ≡ are_paged tables.old }
 {
     match tables {
@@ -83,7 +86,7 @@ pub fn insert_move<'a, P: PageSource, A: Allocator>(
         (IfErr result (IsOutside (tables_held tables.old) (asked_at (after (position_at (marked bench.old) path.now) m))))
         (λ fault. result ≡ Err fault) }
     ensures device { IfErr result (IsToldBy (are_paged tables.old)) }
-    ensures first { IfErr result (TellsFirstFault (tables_give P.gives) tables_asked tables.old (asked_at (after (position_at (marked bench.old) path.now) m)) tables.new) }
+    ensures first { IfErr result (TellsFirstFault (tables_give P.gives) (tables_may_fail P.gives) tables_asked tables.old (asked_at (after (position_at (marked bench.old) path.now) m)) tables.new) }
     ensures no_damage { tables_honest P.honest tables.old → IfErr result IsUndamaged }
     ensures found { OnOk result (AllHeld (tables_held tables.old) (asked_at (after (position_at (marked bench.old) path.now) m))) }
     ensures edited { OnOk result (plain_study (marked bench.new) ≡ inserted (plain_study (marked bench.old)) path.now m) }
@@ -92,6 +95,7 @@ pub fn insert_move<'a, P: PageSource, A: Allocator>(
     ensures same { OnErr result (bench.new ≡ bench.old) }
     ensures honest { tables_honest P.honest tables.old → tables_honest P.honest tables.new }
     ensures tables { (c : AClass) → tables_held tables.new c ≡ tables_held tables.old c }
+    ensures fails_as_before { (c : AClass) (f : ASourceFault) → tables_may_fail P.gives tables.new c f → tables_may_fail P.gives tables.old c f }
     ensures mode { are_paged tables.new ≡ are_paged tables.old }
 {
     match tables {
@@ -110,13 +114,14 @@ pub fn new_bench<'a, P: PageSource, A: Allocator>(
     ensures refusal { IfErr result (IsOutside (tables_held tables.old) (asked_at start.position)) }
     ensures device { IfErr result (IsToldBy (are_paged tables.old)) }
     ensures takes_no_memory { IfErr result (λ e. is_of_tables e ≡ true) }
-    ensures first { IfErr result (TellsFirstFault (tables_give P.gives) tables_asked tables.old (asked_at start.position) tables.new) }
+    ensures first { IfErr result (TellsFirstFault (tables_give P.gives) (tables_may_fail P.gives) tables_asked tables.old (asked_at start.position) tables.new) }
     ensures no_damage { tables_honest P.honest tables.old → IfErr result IsUndamaged }
     ensures found { OnOk result (AllHeld (tables_held tables.old) (asked_at start.position)) }
     ensures made { IfOk result (λ b. plain_study (marked b) ≡ new_study start stipulation) }
     ensures right { tables_honest P.honest tables.old → IfOk result IsKeptRight }
     ensures honest { tables_honest P.honest tables.old → tables_honest P.honest tables.new }
     ensures tables { (c : AClass) → tables_held tables.new c ≡ tables_held tables.old c }
+    ensures fails_as_before { (c : AClass) (f : ASourceFault) → tables_may_fail P.gives tables.new c f → tables_may_fail P.gives tables.old c f }
     ensures mode { are_paged tables.new ≡ are_paged tables.old }
 {
     match tables {

@@ -1,8 +1,8 @@
 //! A store of tables in memory, which fails where a test wants it.
-ghost use Rattle.std.specs.Prelude.{◌≡◌, None, length, slice_set, IfOk, IfErr};
+ghost use Rattle.std.specs.Prelude.{◌≡◌, None, is_some, length, slice_set, IfOk, IfErr};
 ghost use Rattle.study_retro.specs.Table.{class_place};
 ghost use Rattle.study_material.specs.declared.class.Class.{Class as AClass};
-ghost use Rattle.study_script.specs.Memory.{memory_file, file_known, header_known, IsHonestFile, IsFaultOf};
+ghost use Rattle.study_script.specs.Memory.{memory_file, file_known, header_known, memory_faults, IsHonestFile, IsFaultOf};
 
 use crate::store::{StoreFault, TableStore};
 use std::alloc::Allocator;
@@ -88,6 +88,8 @@ impl<'f, 'w, 'a, A: Allocator> TableStore for MemoryStore<'f, 'w, 'a, A> {
     ghost files = { λ s c. file_known (memory_file s.files c) };
 
     ghost headers = { λ s c. header_known (memory_file s.files c) };
+
+    ghost faults = { λ s c f. memory_faults (is_some s.fails_at) (memory_file s.files c) c f };
 
     fn reader(&mut self, class: Class) -> Result<MemoryReader<'f>, StoreFault> {
         let text = self.bytes(class)?;

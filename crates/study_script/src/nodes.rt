@@ -428,10 +428,10 @@ pub fn insert<'a, W: Write, P: PageSource, A: Allocator>(
     out: &mut W,
 ) -> Result<bool, DeviceFailed>
     requires { is_path_word path.now ≡ true }
-    ensures ok { (s : State) → Holds P.honest board.old tables.old s
-        → IfOk result (Answered (λ o. IsInsertReply s o s.board (steps_of path.now) san.now) (Holds P.honest board.new tables.new)
+    ensures ok { (s : State) → Holds P.honest P.gives board.old tables.old s
+        → IfOk result (Answered (λ o. IsInsertReply s o s.board (steps_of path.now) san.now) (Holds P.honest P.gives board.new tables.new)
         (W.contents out.old) (W.contents out.new)) }
-    ensures err { (s : State) → Holds P.honest board.old tables.old s
+    ensures err { (s : State) → Holds P.honest P.gives board.old tables.old s
         → OnErr result (BrokenOff (λ o. IsInsertReply s o s.board (steps_of path.now) san.now) (W.contents out.old) (W.contents out.new)) }
 {
     match board {
@@ -456,10 +456,10 @@ fn insert_in_study<'a, W: Write, P: PageSource, A: Allocator>(
     out: &mut W,
 ) -> Result<bool, DeviceFailed>
     requires { is_path_word path.now ≡ true }
-    ensures ok { (s : State) → Holds P.honest (held.Study bench.old) tables.old s
+    ensures ok { (s : State) → Holds P.honest P.gives (held.Study bench.old) tables.old s
         → IfOk result (Answered (λ o. IsInsertReply s o (study (plain_study (marked bench.old))) (steps_of path.now) san.now)
-        (Holds P.honest (held.Study bench.new) tables.new) (W.contents out.old) (W.contents out.new)) }
-    ensures err { (s : State) → Holds P.honest (held.Study bench.old) tables.old s
+        (Holds P.honest P.gives (held.Study bench.new) tables.new) (W.contents out.old) (W.contents out.new)) }
+    ensures err { (s : State) → Holds P.honest P.gives (held.Study bench.old) tables.old s
         → OnErr result (BrokenOff (λ o. IsInsertReply s o (study (plain_study (marked bench.old))) (steps_of path.now) san.now)
         (W.contents out.old) (W.contents out.new)) }
 {
@@ -479,11 +479,11 @@ fn insert_at<'a, W: Write, P: PageSource, A: Allocator>(
     san: &str,
     out: &mut W,
 ) -> Result<bool, DeviceFailed>
-    ensures ok { (s : State) → Holds P.honest (held.Study bench.old) tables.old s
+    ensures ok { (s : State) → Holds P.honest P.gives (held.Study bench.old) tables.old s
         → IfOk result (Answered (λ o. IsMoveReplyAt s o (plain_study (marked bench.old)) path.now san.now
         (has_spot (plain_study (marked bench.old)).tree path.now))
-        (Holds P.honest (held.Study bench.new) tables.new) (W.contents out.old) (W.contents out.new)) }
-    ensures err { (s : State) → Holds P.honest (held.Study bench.old) tables.old s
+        (Holds P.honest P.gives (held.Study bench.new) tables.new) (W.contents out.old) (W.contents out.new)) }
+    ensures err { (s : State) → Holds P.honest P.gives (held.Study bench.old) tables.old s
         → OnErr result (BrokenOff (λ o. IsMoveReplyAt s o (plain_study (marked bench.old)) path.now san.now
         (has_spot (plain_study (marked bench.old)).tree path.now))
         (W.contents out.old) (W.contents out.new)) }
@@ -506,10 +506,10 @@ fn insert_san<'a, W: Write, P: PageSource, A: Allocator>(
     out: &mut W,
 ) -> Result<bool, DeviceFailed>
     requires at { start.now.position ≡ position_at (marked bench.old) path.now }
-    ensures ok { (s : State) → Holds P.honest (held.Study bench.old) tables.old s
+    ensures ok { (s : State) → Holds P.honest P.gives (held.Study bench.old) tables.old s
         → IfOk result (Answered (λ o. IsMoveReply s o (plain_study (marked bench.old)) path.now (move_of start.now.position san.now))
-        (Holds P.honest (held.Study bench.new) tables.new) (W.contents out.old) (W.contents out.new)) }
-    ensures err { (s : State) → Holds P.honest (held.Study bench.old) tables.old s
+        (Holds P.honest P.gives (held.Study bench.new) tables.new) (W.contents out.old) (W.contents out.new)) }
+    ensures err { (s : State) → Holds P.honest P.gives (held.Study bench.old) tables.old s
         → OnErr result (BrokenOff (λ o. IsMoveReply s o (plain_study (marked bench.old)) path.now (move_of start.now.position san.now))
         (W.contents out.old) (W.contents out.new)) }
 {
@@ -532,10 +532,10 @@ fn insert_move<'a, W: Write, P: PageSource, A: Allocator>(
 ) -> Result<bool, DeviceFailed>
     requires legal { is_legal start.now.position m.now ≡ true }
     requires at { start.now.position ≡ position_at (marked bench.old) path.now }
-    ensures ok { (s : State) → Holds P.honest (held.Study bench.old) tables.old s
+    ensures ok { (s : State) → Holds P.honest P.gives (held.Study bench.old) tables.old s
         → IfOk result (Answered (λ o. IsMoveReply s o (plain_study (marked bench.old)) path.now (Ok m.now))
-        (Holds P.honest (held.Study bench.new) tables.new) (W.contents out.old) (W.contents out.new)) }
-    ensures err { (s : State) → Holds P.honest (held.Study bench.old) tables.old s
+        (Holds P.honest P.gives (held.Study bench.new) tables.new) (W.contents out.old) (W.contents out.new)) }
+    ensures err { (s : State) → Holds P.honest P.gives (held.Study bench.old) tables.old s
         → OnErr result (BrokenOff (λ o. IsMoveReply s o (plain_study (marked bench.old)) path.now (Ok m.now))
         (W.contents out.old) (W.contents out.new)) }
 {

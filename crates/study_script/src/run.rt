@@ -64,7 +64,7 @@ pub fn run<'a, R: Read, W: Write, S: TableStore, A: Allocator>(
     ensures shape { IfSome (R.remaining script.old) (λ bytes. Shape bytes (R.remaining script.new) result) }
     ensures outcome { (trusted : AClass → Bool) → HonestOn trusted S.honest store.old (is_some settings.pages)
         → IfSome (R.remaining script.old)
-        (λ bytes. AreTrusted trusted bytes → Outcome (begun_state (shelf_of S.files S.headers store.old) (is_some settings.pages)) bytes
+        (λ bytes. AreTrusted trusted bytes → Outcome (begun_state (shelf_of S.files S.headers S.faults store.old) (is_some settings.pages)) bytes
         (R.remaining script.new) (W.contents out.old) (W.contents out.new) result) }
 {
     let Ok(mut line) = Line::new(alloc) else {

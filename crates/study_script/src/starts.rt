@@ -33,10 +33,10 @@ pub fn of_start<'a, W: Write, P: PageSource, A: Allocator>(
     fen: &str,
     out: &mut W,
 ) -> Result<bool, DeviceFailed>
-    ensures ok { (s : State) → Holds P.honest board.old tables.old s
-        → IfOk result (Answered (λ o. IsStartReply s o word s.board (start_of fen.now)) (Holds P.honest board.new tables.new)
+    ensures ok { (s : State) → Holds P.honest P.gives board.old tables.old s
+        → IfOk result (Answered (λ o. IsStartReply s o word s.board (start_of fen.now)) (Holds P.honest P.gives board.new tables.new)
         (W.contents out.old) (W.contents out.new)) }
-    ensures err { (s : State) → Holds P.honest board.old tables.old s
+    ensures err { (s : State) → Holds P.honest P.gives board.old tables.old s
         → OnErr result (BrokenOff (λ o. IsStartReply s o word s.board (start_of fen.now)) (W.contents out.old) (W.contents out.new)) }
 {
     match word {
@@ -51,10 +51,10 @@ fn read_position<'a, W: Write, P: PageSource, A: Allocator>(
     fen: &str,
     out: &mut W,
 ) -> Result<bool, DeviceFailed>
-    ensures ok { (s : State) → Holds P.honest board.old tables.old s
-        → IfOk result (Answered (λ o. IsStartReply s o FenWord.Position s.board (start_of fen.now)) (Holds P.honest board.new tables.new)
+    ensures ok { (s : State) → Holds P.honest P.gives board.old tables.old s
+        → IfOk result (Answered (λ o. IsStartReply s o FenWord.Position s.board (start_of fen.now)) (Holds P.honest P.gives board.new tables.new)
         (W.contents out.old) (W.contents out.new)) }
-    ensures err { (s : State) → Holds P.honest board.old tables.old s
+    ensures err { (s : State) → Holds P.honest P.gives board.old tables.old s
         → OnErr result (BrokenOff (λ o. IsStartReply s o FenWord.Position s.board (start_of fen.now))
         (W.contents out.old) (W.contents out.new)) }
 {
@@ -73,10 +73,10 @@ fn shift_board<'a, W: Write, P: PageSource, A: Allocator>(
     fen: &str,
     out: &mut W,
 ) -> Result<bool, DeviceFailed>
-    ensures ok { (s : State) → Holds P.honest board.old tables.old s
-        → IfOk result (Answered (λ o. IsStartReply s o FenWord.Shift s.board (start_of fen.now)) (Holds P.honest board.new tables.new)
+    ensures ok { (s : State) → Holds P.honest P.gives board.old tables.old s
+        → IfOk result (Answered (λ o. IsStartReply s o FenWord.Shift s.board (start_of fen.now)) (Holds P.honest P.gives board.new tables.new)
         (W.contents out.old) (W.contents out.new)) }
-    ensures err { (s : State) → Holds P.honest board.old tables.old s
+    ensures err { (s : State) → Holds P.honest P.gives board.old tables.old s
         → OnErr result (BrokenOff (λ o. IsStartReply s o FenWord.Shift s.board (start_of fen.now))
         (W.contents out.old) (W.contents out.new)) }
 {
@@ -99,10 +99,10 @@ fn shift_study<'a, W: Write, P: PageSource, A: Allocator>(
     fen: &str,
     out: &mut W,
 ) -> Result<bool, DeviceFailed>
-    ensures ok { (s : State) → Holds P.honest (held.Study bench.old) tables.old s
+    ensures ok { (s : State) → Holds P.honest P.gives (held.Study bench.old) tables.old s
         → IfOk result (Answered (λ o. IsStartReply s o FenWord.Shift (study (plain_study (marked bench.old))) (start_of fen.now))
-        (Holds P.honest (held.Study bench.new) tables.new) (W.contents out.old) (W.contents out.new)) }
-    ensures err { (s : State) → Holds P.honest (held.Study bench.old) tables.old s
+        (Holds P.honest P.gives (held.Study bench.new) tables.new) (W.contents out.old) (W.contents out.new)) }
+    ensures err { (s : State) → Holds P.honest P.gives (held.Study bench.old) tables.old s
         → OnErr result (BrokenOff (λ o. IsStartReply s o FenWord.Shift (study (plain_study (marked bench.old))) (start_of fen.now))
         (W.contents out.old) (W.contents out.new)) }
 {
@@ -121,9 +121,9 @@ fn set_position<'a, W: Write, P: PageSource, A: Allocator>(
     start: Start,
     out: &mut W,
 ) -> Result<bool, DeviceFailed>
-    ensures ok { (s : State) → Holds P.honest board.old tables.old s → IfOk result (Answered (λ o. IsPositionReply s o s.board start)
-        (Holds P.honest board.new tables.new) (W.contents out.old) (W.contents out.new)) }
-    ensures err { (s : State) → Holds P.honest board.old tables.old s → OnErr result (BrokenOff (λ o. IsPositionReply s o s.board start)
+    ensures ok { (s : State) → Holds P.honest P.gives board.old tables.old s → IfOk result (Answered (λ o. IsPositionReply s o s.board start)
+        (Holds P.honest P.gives board.new tables.new) (W.contents out.old) (W.contents out.new)) }
+    ensures err { (s : State) → Holds P.honest P.gives board.old tables.old s → OnErr result (BrokenOff (λ o. IsPositionReply s o s.board start)
         (W.contents out.old) (W.contents out.new)) }
 {
     match board {
@@ -157,10 +157,10 @@ fn reposition<'a, W: Write, P: PageSource, A: Allocator>(
     start: Start,
     out: &mut W,
 ) -> Result<bool, DeviceFailed>
-    ensures ok { (s : State) → Holds P.honest (held.Study bench.old) tables.old s
+    ensures ok { (s : State) → Holds P.honest P.gives (held.Study bench.old) tables.old s
         → IfOk result (Answered (λ o. IsPositionReply s o (study (plain_study (marked bench.old))) start)
-        (Holds P.honest (held.Study bench.new) tables.new) (W.contents out.old) (W.contents out.new)) }
-    ensures err { (s : State) → Holds P.honest (held.Study bench.old) tables.old s
+        (Holds P.honest P.gives (held.Study bench.new) tables.new) (W.contents out.old) (W.contents out.new)) }
+    ensures err { (s : State) → Holds P.honest P.gives (held.Study bench.old) tables.old s
         → OnErr result (BrokenOff (λ o. IsPositionReply s o (study (plain_study (marked bench.old))) start)
         (W.contents out.old) (W.contents out.new)) }
 {
@@ -183,11 +183,11 @@ fn shift<'a, W: Write, P: PageSource, A: Allocator>(
     start: Start,
     out: &mut W,
 ) -> Result<bool, DeviceFailed>
-    ensures ok { (s : State) → Holds P.honest (held.Study bench.old) tables.old s
+    ensures ok { (s : State) → Holds P.honest P.gives (held.Study bench.old) tables.old s
         → IfOk result (Answered (λ o. IsShiftReply s o (plain_study (marked bench.old)) start
-        (shift_refusal (plain_study (marked bench.old)) start)) (Holds P.honest (held.Study bench.new) tables.new)
+        (shift_refusal (plain_study (marked bench.old)) start)) (Holds P.honest P.gives (held.Study bench.new) tables.new)
         (W.contents out.old) (W.contents out.new)) }
-    ensures err { (s : State) → Holds P.honest (held.Study bench.old) tables.old s
+    ensures err { (s : State) → Holds P.honest P.gives (held.Study bench.old) tables.old s
         → OnErr result (BrokenOff (λ o. IsShiftReply s o (plain_study (marked bench.old)) start
         (shift_refusal (plain_study (marked bench.old)) start)) (W.contents out.old) (W.contents out.new)) }
 {
@@ -212,10 +212,10 @@ pub fn stipulate<'a, W: Write, P: PageSource, A: Allocator>(
     stipulation: &Stipulation,
     out: &mut W,
 ) -> Result<bool, DeviceFailed>
-    ensures ok { (s : State) → Holds P.honest board.old tables.old s
-        → IfOk result (Answered (λ o. IsStipulateReply s o s.board stipulation.now) (Holds P.honest board.new tables.new)
+    ensures ok { (s : State) → Holds P.honest P.gives board.old tables.old s
+        → IfOk result (Answered (λ o. IsStipulateReply s o s.board stipulation.now) (Holds P.honest P.gives board.new tables.new)
         (W.contents out.old) (W.contents out.new)) }
-    ensures err { (s : State) → Holds P.honest board.old tables.old s
+    ensures err { (s : State) → Holds P.honest P.gives board.old tables.old s
         → OnErr result (BrokenOff (λ o. IsStipulateReply s o s.board stipulation.now) (W.contents out.old) (W.contents out.new)) }
 {
     match board {
@@ -255,10 +255,10 @@ fn make_study<'a, W: Write, P: PageSource, A: Allocator>(
     stipulation: &Stipulation,
     out: &mut W,
 ) -> Result<bool, DeviceFailed>
-    ensures ok { (s : State) → Holds P.honest board.old tables.old s
-        → IfOk result (Answered (λ o. IsStipulateReply s o (begun start) stipulation.now) (Holds P.honest board.new tables.new)
+    ensures ok { (s : State) → Holds P.honest P.gives board.old tables.old s
+        → IfOk result (Answered (λ o. IsStipulateReply s o (begun start) stipulation.now) (Holds P.honest P.gives board.new tables.new)
         (W.contents out.old) (W.contents out.new)) }
-    ensures err { (s : State) → Holds P.honest board.old tables.old s
+    ensures err { (s : State) → Holds P.honest P.gives board.old tables.old s
         → OnErr result (BrokenOff (λ o. IsStipulateReply s o (begun start) stipulation.now) (W.contents out.old) (W.contents out.new)) }
 {
     match edits::new_bench(alloc, start, *stipulation, tables) {

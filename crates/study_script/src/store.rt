@@ -1,9 +1,10 @@
 //! Where the files of tables are.
 ghost use Rattle.std.specs.Prelude.{◌≡◌, ℕ, Bool, true, false, List, Option, Result, Ok, Err, IsOk, IfOk, MatchResult};
 ghost use Rattle.study_material.specs.declared.class.Class.{Class as AClass};
-ghost use Rattle.study_tablefile.specs.Source.{of_header};
+ghost use Rattle.study_tablefile.specs.declared.fault.SourceFault.{SourceFault as ASourceFault};
+ghost use Rattle.study_tablefile.specs.Source.{Question, of_header};
 ghost use Rattle.study_script.specs.declared.store.StoreFault.{StoreFault as AStoreFault};
-ghost use Rattle.study_script.specs.State.{IsGiven, IsOpened, forgotten};
+ghost use Rattle.study_script.specs.State.{IsGiven, IsOpened, IsQuestionOf, forgotten, forgotten_faults};
 ghost use Rattle.study_script.specs.Stored.{IsRightFile, IsRightSource, GivesBytes};
 
 use std::io::{Read, Write};
@@ -37,6 +38,9 @@ pub trait TableStore {
     /// What is known of each class's source of pages: the header that it tells, or the fault of opening it.
     ghost headers: { Self → AClass → Option (Result (List ℕ) AStoreFault) };
 
+    /// For which faults each class's source of pages may not be read.
+    ghost faults: { Self → AClass → ASourceFault → Bool };
+
     /// Opens a file to be read from front to back.
     fn reader(&mut self, class: Class) -> Result<Self::Reader, StoreFault>
         ensures right { honest self.old false class → IfOk result (λ r. IsRightFile (Self.Reader.remaining r)) }
@@ -44,13 +48,15 @@ pub trait TableStore {
             (λ fault. IsGiven (files self.old class) (Err fault)) }
         ensures stays { (by_pages : Bool) (c : AClass) → honest self.old by_pages c → honest self.new by_pages c }
         ensures files { (c : AClass) → files self.new c ≡ files self.old c }
-        ensures headers { (c : AClass) → headers self.new c ≡ headers self.old c };
+        ensures headers { (c : AClass) → headers self.new c ≡ headers self.old c }
+        ensures faults { (c : AClass) (f : ASourceFault) → faults self.new c f ≡ faults self.old c f };
 
     /// Opens a file to be written from its beginning. What the class's file and source give is not known any more.
     fn writer(&mut self, class: Class) -> Result<Self::Writer, StoreFault>
         ensures stays { (by_pages : Bool) (c : AClass) → honest self.old by_pages c → honest self.new by_pages c }
         ensures files { (c : AClass) → files self.new c ≡ forgotten class (files self.old) c }
-        ensures headers { (c : AClass) → headers self.new c ≡ forgotten class (headers self.old) c };
+        ensures headers { (c : AClass) → headers self.new c ≡ forgotten class (headers self.old) c }
+        ensures faults { (c : AClass) (f : ASourceFault) → faults self.new c f ≡ forgotten_faults class (faults self.old) c f };
 
     /// Opens a file to be read by pages.
     fn pages(&mut self, class: Class) -> Result<Self::Pages, StoreFault>
@@ -59,7 +65,10 @@ pub trait TableStore {
         ensures given { MatchResult result (λ source. (bytes : List ℕ) → Self.Pages.gives source of_header (Ok bytes)
             → IsGiven (headers self.old class) (Ok bytes))
             (λ fault. IsGiven (headers self.old class) (Err fault)) }
+        ensures fails { IfOk result (λ source. (q : Question) (f : ASourceFault) → IsQuestionOf class q → Self.Pages.gives source q (Err f)
+            → faults self.old class f ≡ true) }
         ensures stays { (by_pages : Bool) (c : AClass) → honest self.old by_pages c → honest self.new by_pages c }
         ensures files { (c : AClass) → files self.new c ≡ files self.old c }
-        ensures headers { (c : AClass) → headers self.new c ≡ headers self.old c };
+        ensures headers { (c : AClass) → headers self.new c ≡ headers self.old c }
+        ensures faults { (c : AClass) (f : ASourceFault) → faults self.new c f ≡ faults self.old c f };
 }

@@ -37,17 +37,18 @@ loop-p-preserved g c = record {
       c.in_ok-ask_one.ensures.failures
       c.in_ok-ask_one.ensures.honest c.in_ok-ask_one.ensures.game);
   told =
-      told-next g.V.Values.gives g.V.Values.asked_of c.args.values.now c.loop-p.values c.ask_one.new.values c.args.positions.now
+      told-next g.V.Values.gives g.V.Values.may_fail g.V.Values.asked_of c.args.values.now c.loop-p.values c.ask_one.new.values c.args.positions.now
       c.loop-p.p-index c.p-item.result c.loop-p-test.true c.p-item.is c.loop-p.invariant.told c.in_ok-ask_one.ensures.told;
+  fails = λ d f m. c.loop-p.invariant.fails d f (c.in_ok-ask_one.ensures.fails_as_before d f m);
   room = omega (arith, c.loop-p.invariant.room, c.in_ok-ask_one.ensures.len, c.in_ok-ask_one.ensures.capacity);
 }
 
 pub returns-in_err-ask_one-clause-first : goal.returns-in_err-ask_one-clause-first
 returns-in_err-ask_one-clause-first g c =
     same-fault c.from_residual.result c.in_err-ask_one.field-0.0
-    (λ f. IsFirstFault g.V.Values.gives g.V.Values.asked_of c.args.values.now (asked_each c.args.positions.now) f c.ask_one.new.values)
+    (λ f. IsFirstFault g.V.Values.gives g.V.Values.may_fail g.V.Values.asked_of c.args.values.now (asked_each c.args.positions.now) f c.ask_one.new.values)
     c.from_residual.ensures.1
-    (first-at g.V.Values.gives g.V.Values.asked_of c.args.values.now c.loop-p.values c.ask_one.new.values c.args.positions.now
+    (first-at g.V.Values.gives g.V.Values.may_fail g.V.Values.asked_of c.args.values.now c.loop-p.values c.ask_one.new.values c.args.positions.now
     c.loop-p.p-index c.p-item.result c.in_err-ask_one.field-0.0 c.loop-p-test.true c.p-item.is c.loop-p.invariant.told
     c.in_err-ask_one.ensures.first)
 

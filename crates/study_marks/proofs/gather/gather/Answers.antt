@@ -48,9 +48,9 @@ pub returns-in_err-ask_each-clause-first : goal.returns-in_err-ask_each-clause-f
 returns-in_err-ask_each-clause-first g c =
     let same = asked-tree c.args.position.now (plain_tree c.args.tree.now).below c.as_slice.result.now (c.as_slice.ensures.value ∙ c.in-Ok.ensures) in
     let asked = asked_at c.args.position.now ++ asked_below c.args.position.now (plain_tree c.args.tree.now).below in
-    first-answer g.V.Values.gives g.V.Values.asked_of c.args.values.now asked c.ask_each.new.values c.in_err-ask_each.field-0.0
+    first-answer g.V.Values.gives g.V.Values.may_fail g.V.Values.asked_of c.args.values.now asked c.ask_each.new.values c.in_err-ask_each.field-0.0
     c.from_residual.result c.from_residual.ensures.1
-    (subst (λ (ps : List Position). IsFirstFault g.V.Values.gives g.V.Values.asked_of c.args.values.now ps
+    (subst (λ (ps : List Position). IsFirstFault g.V.Values.gives g.V.Values.may_fail g.V.Values.asked_of c.args.values.now ps
     c.in_err-ask_each.field-0.0 c.ask_each.new.values) same c.in_err-ask_each.ensures.first)
 
 pub returns-in_err-ask_each-clause-no_damage : goal.returns-in_err-ask_each-clause-no_damage

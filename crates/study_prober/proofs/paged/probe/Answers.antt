@@ -1,4 +1,4 @@
-use Rattle.std.proofs.Common.{inl, inr, ◌≡◌, ◌≤◌, ◌/◌, ℕ, length, rules, sym, ◌∙◌, ap, subst}
+use Rattle.std.proofs.Common.{inl, inr, ◌≡◌, ◌≤◌, ◌<◌, ◌/◌, ℕ, length, rules, sym, ◌∙◌, ap, subst}
 use Rattle.std.specs.Prelude.{None}
 use Rattle.study_retro.specs.Table.{class_place}
 use Rattle.study_prober.specs.declared.cache.PageKey.{PageKey}
@@ -17,6 +17,9 @@ use Rattle.study_prober.proofs.GivenPages.{given_after, alike_after, one_held, r
 use Rattle.study_board.specs.Counts.{counted}
 use Rattle.study_prober.specs.Cache.{kept_cell}
 use Rattle.study_prober.proofs.ProbedSources.{number_in, told_at, whole_at, count_at, game_at}
+use Rattle.study_index.specs.Number.{cells_of}
+use Rattle.study_index.proofs.ClassLaws.{below, numbered}
+use Rattle.study_prober.proofs.Cells.{page_of_cell}
 use Rattle.study_prober.proofs.paged.probe.Goals as goal
 
 pub value_in-requires-clause-header : goal.value_in-requires-clause-header
@@ -208,3 +211,8 @@ returns-in-Some-clause-once g c = λ d h k of before after unkept.
     ∙ ap (λ (m : ℕ). kept_cell (λ v. v.items) c.args.pages.now.entries d m) c.index.ensures.value ∙ unkept in
     count_at g.S.PageSource.asked counted c.args.sources.now.items c.class_of-class.result.0 d c.place-at.result
     c.in-Some.held h c.value_in.new.held k c.place-at.ensures.value is.0 is.1 here before after (c.value_in.ensures.once none)
+
+pub returns-in-Some-clause-inside : goal.returns-in-Some-clause-inside
+returns-in-Some-clause-inside g c = λ d f of told.
+    let r = numbered d c.args.p.now c.index.result c.men-men.ensures.valid of c.index.ensures.least in
+    page_of_cell d (index_of c.args.p.now) (subst (λ n. n < cells_of d) c.index.ensures.value (below d c.index.result r.0 r.1))

@@ -28,10 +28,10 @@ returns-in_ok-class-in-Load g c = λ trusted s may h seen.
     let class = c.in_ok-class-in-Load.class in
     let told = c.in_ok-class-in-Load.ensures.ok in
     decided_weaker (λ o. IsOpenReply s o class (is_among s.classes class)) (λ o. IsClassReply s o c.args.word c.args.name.now)
-    (λ t. HoldsPaged g.S.Pages.PageSource.honest c.open_class.new.tables t × (t.board ≡ s.board)
-    × StoreSeen (HonestOn trusted g.S.TableStore.honest) g.S.TableStore.files g.S.TableStore.headers c.open_class.new.store t)
-    (λ t. HoldsPaged g.S.Pages.PageSource.honest c.open_class.new.tables t × (t.board ≡ s.board)
-    × StoreSeen (HonestOn trusted g.S.TableStore.honest) g.S.TableStore.files g.S.TableStore.headers c.open_class.new.store t)
+    (λ t. HoldsPaged g.S.Pages.PageSource.honest g.S.Pages.PageSource.gives c.open_class.new.tables t × (t.board ≡ s.board)
+    × StoreSeen (HonestOn trusted g.S.TableStore.honest) g.S.TableStore.files g.S.TableStore.headers g.S.TableStore.faults c.open_class.new.store t)
+    (λ t. HoldsPaged g.S.Pages.PageSource.honest g.S.Pages.PageSource.gives c.open_class.new.tables t × (t.board ≡ s.board)
+    × StoreSeen (HonestOn trusted g.S.TableStore.honest) g.S.TableStore.files g.S.TableStore.headers g.S.TableStore.faults c.open_class.new.store t)
     c.open_class.result
     (λ o r i. subst (λ (w : ClassWord). IsClassReply s o w c.args.name.now r) (sym c.in-Load.is)
     (open_as s o c.args.name.now class r told h.by_pages i))

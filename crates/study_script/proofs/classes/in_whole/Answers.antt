@@ -20,14 +20,14 @@ returns-in-Build g c = λ trusted s may h seen.
     (first_lacking s.classes c.in_ok-class.class))
     (λ o. IsNamedReply s o c.args.word (class_told c.args.name.now)) (WholeFrom s c.build_class.new.tables)
     (λ t. HoldsWhole c.build_class.new.tables t × (t.board ≡ s.board)
-    × StoreSeen (HonestOn trusted g.S.TableStore.honest) g.S.TableStore.files g.S.TableStore.headers c.args.store.now t)
+    × StoreSeen (HonestOn trusted g.S.TableStore.honest) g.S.TableStore.files g.S.TableStore.headers g.S.TableStore.faults c.args.store.now t)
     c.build_class.result
     (λ o r i. named_as s o c.args.word c.args.name.now c.in_ok-class.class r c.in_ok-class.ensures.ok
     (subst (λ (w : ClassWord). IsTableReply s o w c.in_ok-class.class r) (sym c.in-Build.is) i))
     (λ t f. (
       f.holds,
       f.board,
-      store_of (HonestOn trusted g.S.TableStore.honest) g.S.TableStore.files g.S.TableStore.headers
+      store_of (HonestOn trusted g.S.TableStore.honest) g.S.TableStore.files g.S.TableStore.headers g.S.TableStore.faults
           c.args.store.now s t (sym f.holds.whole ∙ h.whole) f.shelf seen,
     )) (c.build_class.ensures s h)
 
@@ -36,14 +36,14 @@ returns-in-Verify g c = λ trusted s may h seen.
     decided_weaker (λ o reply. reply ≡ verify_reply s c.in_ok-class.class (is_among s.classes c.in_ok-class.class))
     (λ o. IsNamedReply s o c.args.word (class_told c.args.name.now)) (WholeFrom s c.args.tables.now)
     (λ t. HoldsWhole c.args.tables.now t × (t.board ≡ s.board)
-    × StoreSeen (HonestOn trusted g.S.TableStore.honest) g.S.TableStore.files g.S.TableStore.headers c.args.store.now t)
+    × StoreSeen (HonestOn trusted g.S.TableStore.honest) g.S.TableStore.files g.S.TableStore.headers g.S.TableStore.faults c.args.store.now t)
     c.verify_class.result
     (λ o r i. named_as s o c.args.word c.args.name.now c.in_ok-class.class r c.in_ok-class.ensures.ok
     (subst (λ (w : ClassWord). IsTableReply s o w c.in_ok-class.class r) (sym c.in-Verify.is) i))
     (λ t f. (
       f.holds,
       f.board,
-      store_of (HonestOn trusted g.S.TableStore.honest) g.S.TableStore.files g.S.TableStore.headers
+      store_of (HonestOn trusted g.S.TableStore.honest) g.S.TableStore.files g.S.TableStore.headers g.S.TableStore.faults
           c.args.store.now s t (sym f.holds.whole ∙ h.whole) f.shelf seen,
     )) (c.verify_class.ensures s h)
 
@@ -53,9 +53,9 @@ returns-in-Load g c = λ trusted s may h seen.
     decided_weaker (λ o. IsLoadReply s o class (is_among s.classes class) (first_lacking s.classes class))
     (λ o. IsNamedReply s o c.args.word (class_told c.args.name.now))
     (λ t. WholeFrom s c.load_class.new.tables t
-    × StoreSeen (HonestOn trusted g.S.TableStore.honest) g.S.TableStore.files g.S.TableStore.headers c.load_class.new.store t)
+    × StoreSeen (HonestOn trusted g.S.TableStore.honest) g.S.TableStore.files g.S.TableStore.headers g.S.TableStore.faults c.load_class.new.store t)
     (λ t. HoldsWhole c.load_class.new.tables t × (t.board ≡ s.board)
-    × StoreSeen (HonestOn trusted g.S.TableStore.honest) g.S.TableStore.files g.S.TableStore.headers c.load_class.new.store t)
+    × StoreSeen (HonestOn trusted g.S.TableStore.honest) g.S.TableStore.files g.S.TableStore.headers g.S.TableStore.faults c.load_class.new.store t)
     c.load_class.result
     (λ o r i. named_as s o c.args.word c.args.name.now class r c.in_ok-class.ensures.ok
     (subst (λ (w : ClassWord). IsTableReply s o w class r) (sym c.in-Load.is) (load_as s o class r h.whole i)))
@@ -68,9 +68,9 @@ returns-in-Save g c = λ trusted s may h seen.
     decided_weaker (λ o reply. reply ≡ save_reply s o class (is_among s.classes class))
     (λ o. IsNamedReply s o c.args.word (class_told c.args.name.now))
     (λ t. HoldsWhole c.args.tables.now t × (t.board ≡ s.board)
-    × StoreSeen (HonestOn trusted g.S.TableStore.honest) g.S.TableStore.files g.S.TableStore.headers c.save_class.new.store t)
+    × StoreSeen (HonestOn trusted g.S.TableStore.honest) g.S.TableStore.files g.S.TableStore.headers g.S.TableStore.faults c.save_class.new.store t)
     (λ t. HoldsWhole c.args.tables.now t × (t.board ≡ s.board)
-    × StoreSeen (HonestOn trusted g.S.TableStore.honest) g.S.TableStore.files g.S.TableStore.headers c.save_class.new.store t)
+    × StoreSeen (HonestOn trusted g.S.TableStore.honest) g.S.TableStore.files g.S.TableStore.headers g.S.TableStore.faults c.save_class.new.store t)
     c.save_class.result
     (λ o r i. named_as s o c.args.word c.args.name.now class r c.in_ok-class.ensures.ok
     (subst (λ (w : ClassWord). IsTableReply s o w class r) (sym c.in-Save.is) i))

@@ -15,13 +15,13 @@ use Rattle.study_script.proofs.classes.load_class.Goals as goal
 pub returns-then-is_held : goal.returns-then-is_held
 returns-then-is_held g c = λ trusted s may h seen.
     load_held c.args.tables.now s h c.args.class
-    (StoreSeen (HonestOn trusted g.S.TableStore.honest) g.S.TableStore.files g.S.TableStore.headers c.args.store.now) seen
+    (StoreSeen (HonestOn trusted g.S.TableStore.honest) g.S.TableStore.files g.S.TableStore.headers g.S.TableStore.faults c.args.store.now) seen
     (sym c.is_held.ensures.value ∙ c.if-is_held.true)
 
 pub returns-in-Some : goal.returns-in-Some
 returns-in-Some g c = λ trusted s may h seen.
     load_missing c.args.tables.now s h c.args.class
-    (StoreSeen (HonestOn trusted g.S.TableStore.honest) g.S.TableStore.files g.S.TableStore.headers c.args.store.now) seen
+    (StoreSeen (HonestOn trusted g.S.TableStore.honest) g.S.TableStore.files g.S.TableStore.headers g.S.TableStore.faults c.args.store.now) seen
     c.in-Some.need (sym c.is_held.ensures.value ∙ c.if-is_held.false)
     (ap (λ (held : List (Option Table)). first_missing held (needs_of c.args.class)) (sym c.tables.ensures) ∙ sym c.first_missing.ensures ∙ c.in-Some.is)
 
@@ -34,7 +34,7 @@ returns-in_err-table g c = λ trusted s may h seen.
     let is : c.from_residual.result ≡ Err refusal = search rules in
     rw is
     (load_refused c.args.tables.now s h c.args.class
-    (StoreSeen (HonestOn trusted g.S.TableStore.honest) g.S.TableStore.files g.S.TableStore.headers c.table_in_file.new.store)
+    (StoreSeen (HonestOn trusted g.S.TableStore.honest) g.S.TableStore.files g.S.TableStore.headers g.S.TableStore.faults c.table_in_file.new.store)
     (c.table_in_file.ensures.store trusted s seen) refusal
     (sym c.is_held.ensures.value ∙ c.if-is_held.false) missing
     (subst (λ (k : Option (Result (List ℕ) StoreFault)). IsFileRefusal k refusal)
@@ -49,7 +49,7 @@ returns-then-ne g c = λ trusted s may h seen.
     let other = differs_true the_type _ _ (sym c.ne.ensures ∙ c.if-ne.true) in
     rw c.class-then-ne.ensures.value
     (load_other c.args.tables.now s h c.args.class
-    (StoreSeen (HonestOn trusted g.S.TableStore.honest) g.S.TableStore.files g.S.TableStore.headers c.table_in_file.new.store)
+    (StoreSeen (HonestOn trusted g.S.TableStore.honest) g.S.TableStore.files g.S.TableStore.headers g.S.TableStore.faults c.table_in_file.new.store)
     (c.table_in_file.ensures.store trusted s seen) read.0 c.in_ok-table.table
     (sym c.is_held.ensures.value ∙ c.if-is_held.false) missing
     (subst (λ (k : Option (Result (List ℕ) StoreFault)). IsGiven k (Ok read.0))
@@ -70,8 +70,8 @@ returns g c = λ trusted s may h seen.
     let missing = ap (λ (held : List (Option Table)). first_missing held (needs_of c.args.class))
     (sym c.tables.ensures) ∙ sym c.first_missing.ensures ∙ c.in_default.is in
     let same = sym c.class.ensures.value ∙ differs_false the_type (search rules) _ _ (sym c.ne.ensures ∙ c.if-ne.false) in
-    load_done c.args.tables.now s h c.args.class (StoreSeen (HonestOn trusted g.S.TableStore.honest) g.S.TableStore.files g.S.TableStore.headers c.table_in_file.new.store)
-    (store_with (HonestOn trusted g.S.TableStore.honest) g.S.TableStore.files g.S.TableStore.headers c.table_in_file.new.store s
+    load_done c.args.tables.now s h c.args.class (StoreSeen (HonestOn trusted g.S.TableStore.honest) g.S.TableStore.files g.S.TableStore.headers g.S.TableStore.faults c.table_in_file.new.store)
+    (store_with (HonestOn trusted g.S.TableStore.honest) g.S.TableStore.files g.S.TableStore.headers g.S.TableStore.faults c.table_in_file.new.store s
     c.args.class (c.table_in_file.ensures.store trusted s seen)) c.hold.new.tables read.0 c.in_ok-table.table
     (sym c.is_held.ensures.value ∙ c.if-is_held.false) missing
     (subst (λ (k : Option (Result (List ℕ) StoreFault)). IsGiven k (Ok read.0))

@@ -3,7 +3,7 @@ use Rattle.study_moves.specs.Rules.{after}
 use Rattle.study_marks.specs.Study.{position_at}
 use Rattle.study_marks.specs.Kept.{marked}
 use Rattle.study_marks.specs.Asked.{asked_at, AllHeld}
-use Rattle.study_script.specs.Held.{tables_held}
+use Rattle.study_script.specs.Held.{tables_held, tables_may_fail}
 use Rattle.study_script.proofs.TablesFaults.{whole_told, paged_told}
 use Rattle.study_script.proofs.edits.insert_move.Goals as goal
 
@@ -34,3 +34,10 @@ returns-in-Whole-clause-first g c = whole_told g.P.PageSource.gives c.args.table
 pub returns-in-Paged-clause-first : goal.returns-in-Paged-clause-first
 returns-in-Paged-clause-first g c = paged_told g.P.PageSource.gives c.args.tables.now c.in-Paged.tables c.insert-in-Paged.new.values
     (asked_at (after (position_at (marked c.args.bench.now) c.args.path.now) c.args.m)) c.insert-in-Paged.result c.in-Paged.is c.insert-in-Paged.ensures.first
+
+pub returns-in-Whole-clause-fails_as_before : goal.returns-in-Whole-clause-fails_as_before
+returns-in-Whole-clause-fails_as_before g c = λ d f m. absurd m
+
+pub returns-in-Paged-clause-fails_as_before : goal.returns-in-Paged-clause-fails_as_before
+returns-in-Paged-clause-fails_as_before g c =
+    λ d f m. subst (λ t. tables_may_fail g.P.PageSource.gives t d f) (sym c.in-Paged.is) (c.insert-in-Paged.ensures.fails_as_before d f m)

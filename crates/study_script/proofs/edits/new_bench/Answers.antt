@@ -1,6 +1,6 @@
 use Rattle.std.proofs.Common.{sym, subst, OnOk}
 use Rattle.study_marks.specs.Asked.{asked_at, AllHeld}
-use Rattle.study_script.specs.Held.{tables_held}
+use Rattle.study_script.specs.Held.{tables_held, tables_may_fail}
 use Rattle.study_script.proofs.TablesFaults.{whole_told, paged_told}
 use Rattle.study_script.proofs.edits.new_bench.Goals as goal
 
@@ -27,3 +27,10 @@ returns-in-Whole-clause-first g c = whole_told g.P.PageSource.gives c.args.table
 pub returns-in-Paged-clause-first : goal.returns-in-Paged-clause-first
 returns-in-Paged-clause-first g c = paged_told g.P.PageSource.gives c.args.tables.now c.in-Paged.tables c.new-in-Paged.new.values
     (asked_at c.args.start.position) c.new-in-Paged.result c.in-Paged.is c.new-in-Paged.ensures.first
+
+pub returns-in-Whole-clause-fails_as_before : goal.returns-in-Whole-clause-fails_as_before
+returns-in-Whole-clause-fails_as_before g c = λ d f m. absurd m
+
+pub returns-in-Paged-clause-fails_as_before : goal.returns-in-Paged-clause-fails_as_before
+returns-in-Paged-clause-fails_as_before g c =
+    λ d f m. subst (λ t. tables_may_fail g.P.PageSource.gives t d f) (sym c.in-Paged.is) (c.new-in-Paged.ensures.fails_as_before d f m)

@@ -3,7 +3,7 @@ use Rattle.study_marks.specs.Study.{plain_study}
 use Rattle.study_marks.specs.Kept.{marked}
 use Rattle.study_marks.specs.Asked.{positions_asked, AllHeld}
 use Rattle.study_marks.specs.Edits.{shifted}
-use Rattle.study_script.specs.Held.{tables_held}
+use Rattle.study_script.specs.Held.{tables_held, tables_may_fail}
 use Rattle.study_script.proofs.TablesFaults.{whole_told, paged_told}
 use Rattle.study_script.proofs.edits.shift_position.Goals as goal
 
@@ -34,3 +34,10 @@ returns-in-Whole-clause-first g c = whole_told g.P.PageSource.gives c.args.table
 pub returns-in-Paged-clause-first : goal.returns-in-Paged-clause-first
 returns-in-Paged-clause-first g c = paged_told g.P.PageSource.gives c.args.tables.now c.in-Paged.tables c.shift_position-in-Paged.new.values
     (positions_asked (shifted (plain_study (marked c.args.bench.now)) c.args.start)) c.shift_position-in-Paged.result c.in-Paged.is c.shift_position-in-Paged.ensures.first
+
+pub returns-in-Whole-clause-fails_as_before : goal.returns-in-Whole-clause-fails_as_before
+returns-in-Whole-clause-fails_as_before g c = λ d f m. absurd m
+
+pub returns-in-Paged-clause-fails_as_before : goal.returns-in-Paged-clause-fails_as_before
+returns-in-Paged-clause-fails_as_before g c =
+    λ d f m. subst (λ t. tables_may_fail g.P.PageSource.gives t d f) (sym c.in-Paged.is) (c.shift_position-in-Paged.ensures.fails_as_before d f m)

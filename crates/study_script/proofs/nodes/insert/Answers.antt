@@ -17,13 +17,13 @@ returns-in-Study-clause-ok g c =
     λ s h. ok_weaker {I = λ (o : Outside). IsInsertReply s o (study (plain_study (marked c.in-Study.bench)))
     (steps_of c.args.path.now) c.args.san.now}
     {J = λ (o : Outside). IsInsertReply s o s.board (steps_of c.args.path.now) c.args.san.now}
-    {H = Holds g.P.PageSource.honest (held.Study c.insert_in_study.new.bench) c.insert_in_study.new.tables}
-    {K = Holds g.P.PageSource.honest (held.Study c.insert_in_study.new.bench) c.insert_in_study.new.tables}
+    {H = Holds g.P.PageSource.honest g.P.PageSource.gives (held.Study c.insert_in_study.new.bench) c.insert_in_study.new.tables}
+    {K = Holds g.P.PageSource.honest g.P.PageSource.gives (held.Study c.insert_in_study.new.bench) c.insert_in_study.new.tables}
     c.insert_in_study.result (g.W.Write.contents c.args.out.now) (g.W.Write.contents c.insert_in_study.new.out)
     (λ o r i. subst (λ (x : Board). IsInsertReply s o x (steps_of c.args.path.now) c.args.san.now r)
-    (seen_of g.P.PageSource.honest c.args.board.now (held.Study c.in-Study.bench) c.args.tables.now s
+    (seen_of g.P.PageSource.honest g.P.PageSource.gives c.args.board.now (held.Study c.in-Study.bench) c.args.tables.now s
     c.in-Study.is h) i) (λ t m. m)
-    (c.insert_in_study.ensures.ok s (holds_of g.P.PageSource.honest c.args.board.now (held.Study c.in-Study.bench)
+    (c.insert_in_study.ensures.ok s (holds_of g.P.PageSource.honest g.P.PageSource.gives c.args.board.now (held.Study c.in-Study.bench)
     c.args.tables.now s c.in-Study.is h))
 
 pub returns-in-Study-clause-err : goal.returns-in-Study-clause-err
@@ -33,9 +33,9 @@ returns-in-Study-clause-err g c =
     {J = λ (o : Outside). IsInsertReply s o s.board (steps_of c.args.path.now) c.args.san.now}
     c.insert_in_study.result (g.W.Write.contents c.args.out.now) (g.W.Write.contents c.insert_in_study.new.out)
     (λ o r i. subst (λ (x : Board). IsInsertReply s o x (steps_of c.args.path.now) c.args.san.now r)
-    (seen_of g.P.PageSource.honest c.args.board.now (held.Study c.in-Study.bench) c.args.tables.now s
+    (seen_of g.P.PageSource.honest g.P.PageSource.gives c.args.board.now (held.Study c.in-Study.bench) c.args.tables.now s
     c.in-Study.is h) i)
-    (c.insert_in_study.ensures.err s (holds_of g.P.PageSource.honest c.args.board.now (held.Study c.in-Study.bench)
+    (c.insert_in_study.ensures.err s (holds_of g.P.PageSource.honest g.P.PageSource.gives c.args.board.now (held.Study c.in-Study.bench)
     c.args.tables.now s c.in-Study.is h))
 
 pub returns-in_err-refuse-in-Empty-clause-err : goal.returns-in_err-refuse-in-Empty-clause-err
@@ -46,7 +46,7 @@ returns-in_err-refuse-in-Empty-clause-err g c =
       quiet,
       refused s NoStudy,
       subst (λ (x : Board). IsInsertReply s quiet x (steps_of c.args.path.now) c.args.san.now (refused s NoStudy))
-          (seen_of g.P.PageSource.honest c.args.board.now held.Empty c.args.tables.now s c.in-Empty.is h) refl,
+          (seen_of g.P.PageSource.honest g.P.PageSource.gives c.args.board.now held.Empty c.args.tables.now s c.in-Empty.is h) refl,
       c.in_err-refuse-in-Empty.ensures.err,
     ) in OnErr-known _ _ part
 
@@ -56,7 +56,7 @@ returns-in_ok-refuse-in-Empty-clause-ok g c =
       quiet,
       refused s NoStudy,
       subst (λ (x : Board). IsInsertReply s quiet x (steps_of c.args.path.now) c.args.san.now (refused s NoStudy))
-          (seen_of g.P.PageSource.honest c.args.board.now held.Empty c.args.tables.now s c.in-Empty.is h) refl,
+          (seen_of g.P.PageSource.honest g.P.PageSource.gives c.args.board.now held.Empty c.args.tables.now s c.in-Empty.is h) refl,
       c.in_ok-refuse-in-Empty.ensures.ok,
       h,
       refl,
@@ -70,7 +70,7 @@ returns-in_err-refuse-in-Start-clause-err g c =
       quiet,
       refused s NoStudy,
       subst (λ (x : Board). IsInsertReply s quiet x (steps_of c.args.path.now) c.args.san.now (refused s NoStudy))
-          (seen_of g.P.PageSource.honest c.args.board.now (held.Start c.in-Start.field-0) c.args.tables.now s
+          (seen_of g.P.PageSource.honest g.P.PageSource.gives c.args.board.now (held.Start c.in-Start.field-0) c.args.tables.now s
           c.in-Start.is h) refl,
       c.in_err-refuse-in-Start.ensures.err,
     ) in OnErr-known _ _ part
@@ -81,7 +81,7 @@ returns-in_ok-refuse-in-Start-clause-ok g c =
       quiet,
       refused s NoStudy,
       subst (λ (x : Board). IsInsertReply s quiet x (steps_of c.args.path.now) c.args.san.now (refused s NoStudy))
-          (seen_of g.P.PageSource.honest c.args.board.now (held.Start c.in-Start.field-0) c.args.tables.now s
+          (seen_of g.P.PageSource.honest g.P.PageSource.gives c.args.board.now (held.Start c.in-Start.field-0) c.args.tables.now s
           c.in-Start.is h) refl,
       c.in_ok-refuse-in-Start.ensures.ok,
       h,

@@ -23,8 +23,8 @@ returns-in-Some-clause-ok g c =
     (move_of c.in-Some.start.position c.args.san.now)}
     {J = λ (o : Outside). IsMoveReplyAt s o (plain_study (marked c.args.bench.now)) c.args.path.now c.args.san.now
     (has_spot (plain_study (marked c.args.bench.now)).tree c.args.path.now)}
-    {H = Holds g.P.PageSource.honest (held.Study c.insert_san.new.bench) c.insert_san.new.tables}
-    {K = Holds g.P.PageSource.honest (held.Study c.insert_san.new.bench) c.insert_san.new.tables}
+    {H = Holds g.P.PageSource.honest g.P.PageSource.gives (held.Study c.insert_san.new.bench) c.insert_san.new.tables}
+    {K = Holds g.P.PageSource.honest g.P.PageSource.gives (held.Study c.insert_san.new.bench) c.insert_san.new.tables}
     c.insert_san.result (g.W.Write.contents c.args.out.now) (g.W.Write.contents c.insert_san.new.out)
     (λ o r i. subst (λ (x : Bool). IsMoveReplyAt s o (plain_study (marked c.args.bench.now)) c.args.path.now
     c.args.san.now x r)

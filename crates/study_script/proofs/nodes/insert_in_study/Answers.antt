@@ -21,8 +21,8 @@ returns-in-Ok-clause-ok g c =
     c.args.san.now (has_spot (plain_study (marked c.args.bench.now)).tree c.in-Ok.path)}
     {J = λ (o : Outside). IsInsertReply s o (study (plain_study (marked c.args.bench.now)))
     (steps_of c.args.path.now) c.args.san.now}
-    {H = Holds g.P.PageSource.honest (held.Study c.insert_at.new.bench) c.insert_at.new.tables}
-    {K = Holds g.P.PageSource.honest (held.Study c.insert_at.new.bench) c.insert_at.new.tables} c.insert_at.result
+    {H = Holds g.P.PageSource.honest g.P.PageSource.gives (held.Study c.insert_at.new.bench) c.insert_at.new.tables}
+    {K = Holds g.P.PageSource.honest g.P.PageSource.gives (held.Study c.insert_at.new.bench) c.insert_at.new.tables} c.insert_at.result
     (g.W.Write.contents c.args.out.now) (g.W.Write.contents c.insert_at.new.out)
     (λ o r i. with_path s (plain_study (marked c.args.bench.now)) (steps_of c.args.path.now) c.args.san.now o r
     (subst (λ (x : List ℕ). IsMoveReplyAt s o (plain_study (marked c.args.bench.now)) x c.args.san.now

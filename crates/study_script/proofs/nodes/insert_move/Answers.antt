@@ -1,4 +1,4 @@
-use Rattle.std.proofs.Common.{◌≡◌, ℕ, List, Ok, Err, refl, sym, subst}
+use Rattle.std.proofs.Common.{◌≡◌, ℕ, true, List, Ok, Err, refl, sym, subst}
 use Rattle.std.specs.Io.KnownBytes.{Appends}
 use Rattle.study_tablefile.specs.Taken.{TakesPrefix}
 use Rattle.study_tablefile.proofs.TextTaken.{OnErr-known}
@@ -9,7 +9,7 @@ use Rattle.study_marks.specs.Asked.{asked_at, AllHeld}
 use Rattle.study_marks.specs.Edits.{inserted, insert_refusal}
 use Rattle.study_script.specs.Names.{edit_words}
 use Rattle.study_script.specs.State.{Outside, quiet}
-use Rattle.study_script.specs.Held.{BrokenOff, tables_held, are_paged}
+use Rattle.study_script.specs.Held.{BrokenOff, tables_held, tables_give, tables_may_fail, tables_asked, are_paged}
 use Rattle.study_script.specs.Replies.{accepted, refused_as, holding, inserted_text, IsMoveReply, IsInserted}
 use Rattle.study_script.proofs.AskingEdits.{accepted_outside}
 use Rattle.study_script.proofs.HeldBehindReplies.{study_edited, study_same}
@@ -18,6 +18,8 @@ use Rattle.study_script.proofs.InsertReplies.{insert_same, none_of, insert_refus
 use Rattle.study_board.specs.Position.{Position}
 use Rattle.std.specs.Prelude.{MatchOption, IfErr}
 use Rattle.study_marks.specs.Asked.{IsOutside}
+use Rattle.study_marks.specs.Answers.{TellsFirstFault}
+use Rattle.study_script.proofs.TablesFaults.{failing_known}
 use Rattle.study_script.proofs.nodes.insert_move.Goals as goal
 
 pub returns-in_err-put_inserted-in-Ok-clause-err : goal.returns-in_err-put_inserted-in-Ok-clause-err
@@ -74,9 +76,9 @@ returns-in_ok-put_inserted-in-Ok-clause-ok g c = λ s h.
           (λ (t : List ℕ). Appends (g.W.Write.contents c.args.out.now) (g.W.Write.contents c.put_inserted.new.out) t)
           (inserted_said shown c.steps.result.now steps c.in-Ok.place c.args.start.now.position m c.steps.ensures
           c.in-Ok.ensures.place c.requires.at) c.in_ok-put_inserted-in-Ok.ensures.ok,
-      study_edited g.P.PageSource.honest c.args.bench.now c.insert_move.new.bench tables others s new h
+      study_edited g.P.PageSource.honest g.P.PageSource.gives c.args.bench.now c.insert_move.new.bench tables others s new h
           c.in-Ok.ensures.edited (c.in-Ok.ensures.right h.values h.marks) (c.insert_move.ensures.honest h.values)
-          c.insert_move.ensures.tables c.insert_move.ensures.mode,
+          c.insert_move.ensures.tables c.insert_move.ensures.mode c.insert_move.ensures.fails_as_before,
       refl,
     )
 
@@ -96,7 +98,11 @@ returns-in_err-refuse_edit-in-Err-clause-err g c = λ s h.
     (subst (λ (p : Position). MatchOption (insert_refusal {A = g.row.A.Denot} old steps m)
     (IfErr c.insert_move.result (IsOutside (tables_held tables) (asked_at (after p m))))
     (λ fault. c.insert_move.result ≡ Err fault)) (sym (position_at-plain shown steps))
-    c.insert_move.ensures.refusal) c.in-Err.is c.in-Err.ensures.device (c.in-Err.ensures.no_damage h.values) in
+    c.insert_move.ensures.refusal) c.in-Err.is c.in-Err.ensures.device (c.in-Err.ensures.no_damage h.values)
+    (failing_known (tables_give g.P.PageSource.gives) (tables_may_fail g.P.PageSource.gives) tables_asked
+    (λ d f. s.shelf.faults d f ≡ true) tables others asked c.in-Err.refusal h.faults
+    (subst (λ (p : Position). TellsFirstFault (tables_give g.P.PageSource.gives) (tables_may_fail g.P.PageSource.gives) tables_asked
+    tables (asked_at (after p m)) others c.in-Err.refusal) (sym (position_at-plain shown steps)) c.in-Err.ensures.first)) in
     let part : BrokenOff (λ (o : Outside). IsMoveReply s o (plain_study (marked c.args.bench.now)) c.args.path.now
     (Ok c.args.m.now)) (g.W.Write.contents c.args.out.now) (g.W.Write.contents c.refuse_edit.new.out) =
     (told.0, refused_as s (edit_words c.in-Err.refusal), told.1, c.in_err-refuse_edit-in-Err.ensures.err) in
@@ -118,13 +124,17 @@ returns-in_ok-refuse_edit-in-Err-clause-ok g c = λ s h.
     (subst (λ (p : Position). MatchOption (insert_refusal {A = g.row.A.Denot} old steps m)
     (IfErr c.insert_move.result (IsOutside (tables_held tables) (asked_at (after p m))))
     (λ fault. c.insert_move.result ≡ Err fault)) (sym (position_at-plain shown steps))
-    c.insert_move.ensures.refusal) c.in-Err.is c.in-Err.ensures.device (c.in-Err.ensures.no_damage h.values) in (
+    c.insert_move.ensures.refusal) c.in-Err.is c.in-Err.ensures.device (c.in-Err.ensures.no_damage h.values)
+    (failing_known (tables_give g.P.PageSource.gives) (tables_may_fail g.P.PageSource.gives) tables_asked
+    (λ d f. s.shelf.faults d f ≡ true) tables others asked c.in-Err.refusal h.faults
+    (subst (λ (p : Position). TellsFirstFault (tables_give g.P.PageSource.gives) (tables_may_fail g.P.PageSource.gives) tables_asked
+    tables (asked_at (after p m)) others c.in-Err.refusal) (sym (position_at-plain shown steps)) c.in-Err.ensures.first)) in (
       told.0,
       refused_as s (edit_words c.in-Err.refusal),
       told.1,
       c.in_ok-refuse_edit-in-Err.ensures.ok,
-      study_same g.P.PageSource.honest c.args.bench.now c.insert_move.new.bench tables others s h
+      study_same g.P.PageSource.honest g.P.PageSource.gives c.args.bench.now c.insert_move.new.bench tables others s h
           c.in-Err.ensures.same (c.insert_move.ensures.honest h.values) c.insert_move.ensures.tables
-          c.insert_move.ensures.mode,
+          c.insert_move.ensures.mode c.insert_move.ensures.fails_as_before,
       refl,
     )

@@ -18,8 +18,8 @@ returns-in-Ok-clause-ok g c =
     λ s h. ok_weaker {I = λ (o : Outside). IsMoveReply s o (plain_study (marked c.args.bench.now)) c.args.path.now
     (Ok c.in-Ok.m)} {J = λ (o : Outside). IsMoveReply s o (plain_study (marked c.args.bench.now)) c.args.path.now
     (move_of c.args.start.now.position c.args.san.now)}
-    {H = Holds g.P.PageSource.honest (held.Study c.insert_move.new.bench) c.insert_move.new.tables}
-    {K = Holds g.P.PageSource.honest (held.Study c.insert_move.new.bench) c.insert_move.new.tables}
+    {H = Holds g.P.PageSource.honest g.P.PageSource.gives (held.Study c.insert_move.new.bench) c.insert_move.new.tables}
+    {K = Holds g.P.PageSource.honest g.P.PageSource.gives (held.Study c.insert_move.new.bench) c.insert_move.new.tables}
     c.insert_move.result (g.W.Write.contents c.args.out.now) (g.W.Write.contents c.insert_move.new.out)
     (λ o r i. subst (λ (x : Result Move SanFault). IsMoveReply s o (plain_study (marked c.args.bench.now))
     c.args.path.now x r) (sym c.in-Ok.is ∙ c.read_san.ensures.value) i) (λ t m. m)

@@ -12,8 +12,8 @@ pub returns-in-Position-clause-ok : goal.returns-in-Position-clause-ok
 returns-in-Position-clause-ok g c =
     λ s h. ok_weaker {I = λ (o : Outside). IsStartReply s o Position s.board (start_of c.args.fen.now)}
     {J = λ (o : Outside). IsStartReply s o c.args.word s.board (start_of c.args.fen.now)}
-    {H = Holds g.P.PageSource.honest c.read_position.new.board c.read_position.new.tables}
-    {K = Holds g.P.PageSource.honest c.read_position.new.board c.read_position.new.tables} c.read_position.result
+    {H = Holds g.P.PageSource.honest g.P.PageSource.gives c.read_position.new.board c.read_position.new.tables}
+    {K = Holds g.P.PageSource.honest g.P.PageSource.gives c.read_position.new.board c.read_position.new.tables} c.read_position.result
     (g.W.Write.contents c.args.out.now) (g.W.Write.contents c.read_position.new.out)
     (λ o r i. subst (λ (x : FenWord). IsStartReply s o x s.board (start_of c.args.fen.now) r) (sym c.in-Position.is)
     i) (λ t m. m) (c.read_position.ensures.ok s h)
@@ -30,8 +30,8 @@ pub returns-in-Shift-clause-ok : goal.returns-in-Shift-clause-ok
 returns-in-Shift-clause-ok g c =
     λ s h. ok_weaker {I = λ (o : Outside). IsStartReply s o Shift s.board (start_of c.args.fen.now)}
     {J = λ (o : Outside). IsStartReply s o c.args.word s.board (start_of c.args.fen.now)}
-    {H = Holds g.P.PageSource.honest c.shift_board.new.board c.shift_board.new.tables}
-    {K = Holds g.P.PageSource.honest c.shift_board.new.board c.shift_board.new.tables} c.shift_board.result
+    {H = Holds g.P.PageSource.honest g.P.PageSource.gives c.shift_board.new.board c.shift_board.new.tables}
+    {K = Holds g.P.PageSource.honest g.P.PageSource.gives c.shift_board.new.board c.shift_board.new.tables} c.shift_board.result
     (g.W.Write.contents c.args.out.now) (g.W.Write.contents c.shift_board.new.out)
     (λ o r i. subst (λ (x : FenWord). IsStartReply s o x s.board (start_of c.args.fen.now) r) (sym c.in-Shift.is) i)
     (λ t m. m) (c.shift_board.ensures.ok s h)

@@ -14,8 +14,8 @@ use Rattle.study_script.proofs.starts.read_position.Goals as goal
 pub returns-in-Ok-clause-ok : goal.returns-in-Ok-clause-ok
 returns-in-Ok-clause-ok g c = λ s h. ok_weaker {I = λ (o : Outside). IsPositionReply s o s.board c.in-Ok.start}
     {J = λ (o : Outside). IsStartReply s o Position s.board (start_of c.args.fen.now)}
-    {H = Holds g.P.PageSource.honest c.set_position.new.board c.set_position.new.tables}
-    {K = Holds g.P.PageSource.honest c.set_position.new.board c.set_position.new.tables} c.set_position.result
+    {H = Holds g.P.PageSource.honest g.P.PageSource.gives c.set_position.new.board c.set_position.new.tables}
+    {K = Holds g.P.PageSource.honest g.P.PageSource.gives c.set_position.new.board c.set_position.new.tables} c.set_position.result
     (g.W.Write.contents c.args.out.now) (g.W.Write.contents c.set_position.new.out)
     (λ o r i. subst (λ (x : Result Start FenFault). IsStartReply s o Position s.board x r)
     (sym c.in-Ok.is ∙ c.read_fen.ensures) i) (λ t m. m) (c.set_position.ensures.ok s h)

@@ -1,4 +1,4 @@
-use Rattle.std.proofs.Common.{◌≡◌, ℕ, List, refl, sym, ◌∙◌, subst}
+use Rattle.std.proofs.Common.{◌≡◌, ℕ, List, refl, sym, ◌∙◌, subst, true}
 use Rattle.std.specs.Prelude.{codes}
 use Rattle.std.specs.Io.KnownBytes.{Appends}
 use Rattle.study_tablefile.specs.Taken.{TakesPrefix}
@@ -11,7 +11,7 @@ use Rattle.study_marks.specs.Edits.{shifted, shift_refusal}
 use Rattle.study_script.specs.Words.{reply_line}
 use Rattle.study_script.specs.Names.{edit_words}
 use Rattle.study_script.specs.State.{quiet}
-use Rattle.study_script.specs.Held.{tables_held, are_paged}
+use Rattle.study_script.specs.Held.{tables_held, tables_give, tables_may_fail, tables_asked, are_paged}
 use Rattle.study_script.specs.Replies.{accepted, refused_as, holding}
 use Rattle.study_script.proofs.AskingEdits.{accepted_outside}
 use Rattle.study_script.proofs.ShiftReplies.{unbroken, shift_refused}
@@ -19,6 +19,7 @@ use Rattle.study_script.proofs.HeldBehindReplies.{study_edited, study_same}
 use Rattle.study_script.specs.Held.{BrokenOff}
 use Rattle.study_script.specs.State.{Outside}
 use Rattle.study_script.specs.Replies.{IsShiftReply}
+use Rattle.study_script.proofs.TablesFaults.{failing_known}
 use Rattle.study_script.proofs.starts.shift.Goals as goal
 
 pub returns-in_err-put_line-in-Ok-clause-err : goal.returns-in_err-put_line-in-Ok-clause-err
@@ -60,9 +61,9 @@ returns-in_ok-put_line-in-Ok-clause-ok g c = λ s h.
           (accepted_outside s (tables_held tables) asked new said h.classes c.in-Ok.ensures.found),
       subst (λ (t : List ℕ). Appends (g.W.Write.contents c.args.out.now) (g.W.Write.contents c.put_line.new.out)
           (reply_line (codes "shift ") t)) text c.in_ok-put_line-in-Ok.ensures.ok,
-      study_edited g.P.PageSource.honest c.args.bench.now c.shift_position.new.bench tables
+      study_edited g.P.PageSource.honest g.P.PageSource.gives c.args.bench.now c.shift_position.new.bench tables
           c.shift_position.new.tables s new h c.in-Ok.ensures.edited (c.in-Ok.ensures.right h.values)
-          (c.shift_position.ensures.honest h.values) c.shift_position.ensures.tables c.shift_position.ensures.mode,
+          (c.shift_position.ensures.honest h.values) c.shift_position.ensures.tables c.shift_position.ensures.mode c.shift_position.ensures.fails_as_before,
       refl,
     )
 
@@ -76,7 +77,9 @@ returns-in_err-refuse_edit-in-Err-clause-err g c = λ s h.
     let asked = positions_asked new in
     let tables = c.args.tables.now in
     let out = shift_refused g.row.A.Denot s (tables_held tables) (are_paged tables) old start c.in-Err.refusal
-    h.classes h.paged c.in-Err.ensures.refusal c.in-Err.ensures.device (c.in-Err.ensures.no_damage h.values) in
+    h.classes h.paged c.in-Err.ensures.refusal c.in-Err.ensures.device (c.in-Err.ensures.no_damage h.values)
+    (failing_known (tables_give g.P.PageSource.gives) (tables_may_fail g.P.PageSource.gives) tables_asked
+    (λ d f. s.shelf.faults d f ≡ true) tables c.shift_position.new.tables asked c.in-Err.refusal h.faults c.in-Err.ensures.first) in
     let part : BrokenOff (λ (o : Outside). IsShiftReply s o old start reason) (g.W.Write.contents c.args.out.now)
     (g.W.Write.contents c.refuse_edit.new.out) =
     (out.0, refused_as s (edit_words c.in-Err.refusal), out.1, c.in_err-refuse_edit-in-Err.ensures.err) in
@@ -92,13 +95,15 @@ returns-in_ok-refuse_edit-in-Err-clause-ok g c = λ s h.
     let asked = positions_asked new in
     let tables = c.args.tables.now in
     let out = shift_refused g.row.A.Denot s (tables_held tables) (are_paged tables) old start c.in-Err.refusal
-    h.classes h.paged c.in-Err.ensures.refusal c.in-Err.ensures.device (c.in-Err.ensures.no_damage h.values) in (
+    h.classes h.paged c.in-Err.ensures.refusal c.in-Err.ensures.device (c.in-Err.ensures.no_damage h.values)
+    (failing_known (tables_give g.P.PageSource.gives) (tables_may_fail g.P.PageSource.gives) tables_asked
+    (λ d f. s.shelf.faults d f ≡ true) tables c.shift_position.new.tables asked c.in-Err.refusal h.faults c.in-Err.ensures.first) in (
       out.0,
       refused_as s (edit_words c.in-Err.refusal),
       out.1,
       c.in_ok-refuse_edit-in-Err.ensures.ok,
-      study_same g.P.PageSource.honest c.args.bench.now c.shift_position.new.bench tables
+      study_same g.P.PageSource.honest g.P.PageSource.gives c.args.bench.now c.shift_position.new.bench tables
           c.shift_position.new.tables s h c.in-Err.ensures.same (c.shift_position.ensures.honest h.values)
-          c.shift_position.ensures.tables c.shift_position.ensures.mode,
+          c.shift_position.ensures.tables c.shift_position.ensures.mode c.shift_position.ensures.fails_as_before,
       refl,
     )

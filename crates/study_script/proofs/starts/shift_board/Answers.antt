@@ -17,13 +17,13 @@ pub returns-in-Study-clause-ok : goal.returns-in-Study-clause-ok
 returns-in-Study-clause-ok g c =
     λ s h. ok_weaker {I = λ (o : Outside). IsStartReply s o Shift (study (plain_study (marked c.in-Study.bench)))
     (start_of c.args.fen.now)} {J = λ (o : Outside). IsStartReply s o Shift s.board (start_of c.args.fen.now)}
-    {H = Holds g.P.PageSource.honest (held.Study c.shift_study.new.bench) c.shift_study.new.tables}
-    {K = Holds g.P.PageSource.honest (held.Study c.shift_study.new.bench) c.shift_study.new.tables}
+    {H = Holds g.P.PageSource.honest g.P.PageSource.gives (held.Study c.shift_study.new.bench) c.shift_study.new.tables}
+    {K = Holds g.P.PageSource.honest g.P.PageSource.gives (held.Study c.shift_study.new.bench) c.shift_study.new.tables}
     c.shift_study.result (g.W.Write.contents c.args.out.now) (g.W.Write.contents c.shift_study.new.out)
     (λ o r i. subst (λ (x : Board). IsStartReply s o Shift x (start_of c.args.fen.now) r)
-    (seen_of g.P.PageSource.honest c.args.board.now (held.Study c.in-Study.bench) c.args.tables.now s
+    (seen_of g.P.PageSource.honest g.P.PageSource.gives c.args.board.now (held.Study c.in-Study.bench) c.args.tables.now s
     c.in-Study.is h) i) (λ t m. m)
-    (c.shift_study.ensures.ok s (holds_of g.P.PageSource.honest c.args.board.now (held.Study c.in-Study.bench)
+    (c.shift_study.ensures.ok s (holds_of g.P.PageSource.honest g.P.PageSource.gives c.args.board.now (held.Study c.in-Study.bench)
     c.args.tables.now s c.in-Study.is h))
 
 pub returns-in-Study-clause-err : goal.returns-in-Study-clause-err
@@ -32,9 +32,9 @@ returns-in-Study-clause-err g c =
     (start_of c.args.fen.now)} {J = λ (o : Outside). IsStartReply s o Shift s.board (start_of c.args.fen.now)}
     c.shift_study.result (g.W.Write.contents c.args.out.now) (g.W.Write.contents c.shift_study.new.out)
     (λ o r i. subst (λ (x : Board). IsStartReply s o Shift x (start_of c.args.fen.now) r)
-    (seen_of g.P.PageSource.honest c.args.board.now (held.Study c.in-Study.bench) c.args.tables.now s
+    (seen_of g.P.PageSource.honest g.P.PageSource.gives c.args.board.now (held.Study c.in-Study.bench) c.args.tables.now s
     c.in-Study.is h) i)
-    (c.shift_study.ensures.err s (holds_of g.P.PageSource.honest c.args.board.now (held.Study c.in-Study.bench)
+    (c.shift_study.ensures.err s (holds_of g.P.PageSource.honest g.P.PageSource.gives c.args.board.now (held.Study c.in-Study.bench)
     c.args.tables.now s c.in-Study.is h))
 
 pub returns-in_err-refuse-in-Empty-clause-err : goal.returns-in_err-refuse-in-Empty-clause-err
@@ -44,7 +44,7 @@ returns-in_err-refuse-in-Empty-clause-err g c =
       quiet,
       refused s NoStudy,
       subst (λ (x : Board). IsStartReply s quiet Shift x (start_of c.args.fen.now) (refused s NoStudy))
-          (seen_of g.P.PageSource.honest c.args.board.now held.Empty c.args.tables.now s c.in-Empty.is h) refl,
+          (seen_of g.P.PageSource.honest g.P.PageSource.gives c.args.board.now held.Empty c.args.tables.now s c.in-Empty.is h) refl,
       c.in_err-refuse-in-Empty.ensures.err,
     ) in OnErr-known _ _ part
 
@@ -54,7 +54,7 @@ returns-in_ok-refuse-in-Empty-clause-ok g c =
       quiet,
       refused s NoStudy,
       subst (λ (x : Board). IsStartReply s quiet Shift x (start_of c.args.fen.now) (refused s NoStudy))
-          (seen_of g.P.PageSource.honest c.args.board.now held.Empty c.args.tables.now s c.in-Empty.is h) refl,
+          (seen_of g.P.PageSource.honest g.P.PageSource.gives c.args.board.now held.Empty c.args.tables.now s c.in-Empty.is h) refl,
       c.in_ok-refuse-in-Empty.ensures.ok,
       h,
       refl,
@@ -67,7 +67,7 @@ returns-in_err-refuse-in-Start-clause-err g c =
       quiet,
       refused s NoStudy,
       subst (λ (x : Board). IsStartReply s quiet Shift x (start_of c.args.fen.now) (refused s NoStudy))
-          (seen_of g.P.PageSource.honest c.args.board.now (held.Start c.in-Start.field-0) c.args.tables.now s
+          (seen_of g.P.PageSource.honest g.P.PageSource.gives c.args.board.now (held.Start c.in-Start.field-0) c.args.tables.now s
           c.in-Start.is h) refl,
       c.in_err-refuse-in-Start.ensures.err,
     ) in OnErr-known _ _ part
@@ -78,7 +78,7 @@ returns-in_ok-refuse-in-Start-clause-ok g c =
       quiet,
       refused s NoStudy,
       subst (λ (x : Board). IsStartReply s quiet Shift x (start_of c.args.fen.now) (refused s NoStudy))
-          (seen_of g.P.PageSource.honest c.args.board.now (held.Start c.in-Start.field-0) c.args.tables.now s
+          (seen_of g.P.PageSource.honest g.P.PageSource.gives c.args.board.now (held.Start c.in-Start.field-0) c.args.tables.now s
           c.in-Start.is h) refl,
       c.in_ok-refuse-in-Start.ensures.ok,
       h,

@@ -19,8 +19,8 @@ returns-in-Ok-clause-ok g c =
     λ s h. ok_weaker {I = λ (o : Outside). IsStartReply s o Shift (study (plain_study (marked c.args.bench.now)))
     (Ok c.in-Ok.start)}
     {J = λ (o : Outside). IsStartReply s o Shift (study (plain_study (marked c.args.bench.now)))
-    (start_of c.args.fen.now)} {H = Holds g.P.PageSource.honest (held.Study c.shift.new.bench) c.shift.new.tables}
-    {K = Holds g.P.PageSource.honest (held.Study c.shift.new.bench) c.shift.new.tables} c.shift.result
+    (start_of c.args.fen.now)} {H = Holds g.P.PageSource.honest g.P.PageSource.gives (held.Study c.shift.new.bench) c.shift.new.tables}
+    {K = Holds g.P.PageSource.honest g.P.PageSource.gives (held.Study c.shift.new.bench) c.shift.new.tables} c.shift.result
     (g.W.Write.contents c.args.out.now) (g.W.Write.contents c.shift.new.out)
     (λ o r i. subst
     (λ (x : Result Start FenFault). IsStartReply s o Shift (study (plain_study (marked c.args.bench.now))) x r)

@@ -16,7 +16,7 @@ use Rattle.study_script.proofs.starts.stipulate.Goals as goal
 pub returns-in-Study-clause-ok : goal.returns-in-Study-clause-ok
 returns-in-Study-clause-ok g c =
     λ s h. accepted_ok (λ (o : Outside). IsStipulateReply s o s.board c.args.stipulation.now)
-    (Holds g.P.PageSource.honest (held.Study c.restipulate.new.bench) c.args.tables.now) c.restipulate.result
+    (Holds g.P.PageSource.honest g.P.PageSource.gives (held.Study c.restipulate.new.bench) c.args.tables.now) c.restipulate.result
     (holding s (stipulated (plain_study (marked c.in-Study.bench)) c.args.stipulation.now))
     (g.W.Write.contents c.args.out.now) (g.W.Write.contents c.restipulate.new.out)
     (stipulation_words c.args.stipulation.now) quiet
@@ -24,13 +24,13 @@ returns-in-Study-clause-ok g c =
     (λ (x : Board). IsStipulateReply s quiet x c.args.stipulation.now
     (accepted (holding s (stipulated (plain_study (marked c.in-Study.bench)) c.args.stipulation.now))
     (stipulation_words c.args.stipulation.now)))
-    (seen_of g.P.PageSource.honest c.args.board.now (held.Study c.in-Study.bench) c.args.tables.now s
+    (seen_of g.P.PageSource.honest g.P.PageSource.gives c.args.board.now (held.Study c.in-Study.bench) c.args.tables.now s
     c.in-Study.is h) refl) c.restipulate.ensures.ok
-    (on_ok_known _ (study_held g.P.PageSource.honest c.in-Study.bench c.restipulate.new.bench c.args.tables.now s
+    (on_ok_known _ (study_held g.P.PageSource.honest g.P.PageSource.gives c.in-Study.bench c.restipulate.new.bench c.args.tables.now s
     (stipulated (plain_study (marked c.in-Study.bench)) c.args.stipulation.now) c.restipulate.ensures.edited
-    (c.restipulate.ensures.right (holds_of g.P.PageSource.honest c.args.board.now (held.Study c.in-Study.bench)
+    (c.restipulate.ensures.right (holds_of g.P.PageSource.honest g.P.PageSource.gives c.args.board.now (held.Study c.in-Study.bench)
     c.args.tables.now s c.in-Study.is h).marks)
-    (holds_of g.P.PageSource.honest c.args.board.now (held.Study c.in-Study.bench) c.args.tables.now s
+    (holds_of g.P.PageSource.honest g.P.PageSource.gives c.args.board.now (held.Study c.in-Study.bench) c.args.tables.now s
     c.in-Study.is h))) c.restipulate.ensures.accepts
 
 pub returns-in-Study-clause-err : goal.returns-in-Study-clause-err
@@ -43,7 +43,7 @@ returns-in-Study-clause-err g c =
     (λ (x : Board). IsStipulateReply s quiet x c.args.stipulation.now
     (accepted (holding s (stipulated (plain_study (marked c.in-Study.bench)) c.args.stipulation.now))
     (stipulation_words c.args.stipulation.now)))
-    (seen_of g.P.PageSource.honest c.args.board.now (held.Study c.in-Study.bench) c.args.tables.now s
+    (seen_of g.P.PageSource.honest g.P.PageSource.gives c.args.board.now (held.Study c.in-Study.bench) c.args.tables.now s
     c.in-Study.is h) refl) c.restipulate.ensures.err
 
 pub returns-in_err-refuse-in-Empty-clause-err : goal.returns-in_err-refuse-in-Empty-clause-err
@@ -53,7 +53,7 @@ returns-in_err-refuse-in-Empty-clause-err g c =
       quiet,
       refused s NoPosition,
       subst (λ (x : Board). IsStipulateReply s quiet x c.args.stipulation.now (refused s NoPosition))
-          (seen_of g.P.PageSource.honest c.args.board.now held.Empty c.args.tables.now s c.in-Empty.is h) refl,
+          (seen_of g.P.PageSource.honest g.P.PageSource.gives c.args.board.now held.Empty c.args.tables.now s c.in-Empty.is h) refl,
       c.in_err-refuse-in-Empty.ensures.err,
     ) in OnErr-known _ _ part
 
@@ -63,7 +63,7 @@ returns-in_ok-refuse-in-Empty-clause-ok g c =
       quiet,
       refused s NoPosition,
       subst (λ (x : Board). IsStipulateReply s quiet x c.args.stipulation.now (refused s NoPosition))
-          (seen_of g.P.PageSource.honest c.args.board.now held.Empty c.args.tables.now s c.in-Empty.is h) refl,
+          (seen_of g.P.PageSource.honest g.P.PageSource.gives c.args.board.now held.Empty c.args.tables.now s c.in-Empty.is h) refl,
       c.in_ok-refuse-in-Empty.ensures.ok,
       h,
       refl,
@@ -73,14 +73,14 @@ pub returns-in-Start-clause-ok : goal.returns-in-Start-clause-ok
 returns-in-Start-clause-ok g c =
     λ s h. ok_weaker {I = λ (o : Outside). IsStipulateReply s o (start c.copied-start.result)
     c.args.stipulation.now} {J = λ (o : Outside). IsStipulateReply s o s.board c.args.stipulation.now}
-    {H = Holds g.P.PageSource.honest c.make_study.new.board c.make_study.new.tables}
-    {K = Holds g.P.PageSource.honest c.make_study.new.board c.make_study.new.tables} c.make_study.result
+    {H = Holds g.P.PageSource.honest g.P.PageSource.gives c.make_study.new.board c.make_study.new.tables}
+    {K = Holds g.P.PageSource.honest g.P.PageSource.gives c.make_study.new.board c.make_study.new.tables} c.make_study.result
     (g.W.Write.contents c.args.out.now) (g.W.Write.contents c.make_study.new.out)
     (λ o r i. subst (λ (x : Board). IsStipulateReply s o x c.args.stipulation.now r)
     (ap start c.copied-start.ensures
-    ∙ (seen_of g.P.PageSource.honest c.args.board.now (held.Start c.in-Start.start) c.args.tables.now s
+    ∙ (seen_of g.P.PageSource.honest g.P.PageSource.gives c.args.board.now (held.Start c.in-Start.start) c.args.tables.now s
     c.in-Start.is h)) i) (λ t m. m)
-    (c.make_study.ensures.ok s (holds_of g.P.PageSource.honest c.args.board.now (held.Start c.in-Start.start)
+    (c.make_study.ensures.ok s (holds_of g.P.PageSource.honest g.P.PageSource.gives c.args.board.now (held.Start c.in-Start.start)
     c.args.tables.now s c.in-Start.is h))
 
 pub returns-in-Start-clause-err : goal.returns-in-Start-clause-err
@@ -90,7 +90,7 @@ returns-in-Start-clause-err g c =
     c.make_study.result (g.W.Write.contents c.args.out.now) (g.W.Write.contents c.make_study.new.out)
     (λ o r i. subst (λ (x : Board). IsStipulateReply s o x c.args.stipulation.now r)
     (ap start c.copied-start.ensures
-    ∙ (seen_of g.P.PageSource.honest c.args.board.now (held.Start c.in-Start.start) c.args.tables.now s
+    ∙ (seen_of g.P.PageSource.honest g.P.PageSource.gives c.args.board.now (held.Start c.in-Start.start) c.args.tables.now s
     c.in-Start.is h)) i)
-    (c.make_study.ensures.err s (holds_of g.P.PageSource.honest c.args.board.now (held.Start c.in-Start.start)
+    (c.make_study.ensures.err s (holds_of g.P.PageSource.honest g.P.PageSource.gives c.args.board.now (held.Start c.in-Start.start)
     c.args.tables.now s c.in-Start.is h))

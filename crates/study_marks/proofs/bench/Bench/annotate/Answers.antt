@@ -108,10 +108,10 @@ pub returns-in_err-all-clause-first : goal.returns-in_err-all-clause-first
 returns-in_err-all-clause-first g c =
     let b = kept_of c.self.inside.start c.self.inside.stipulation c.self.inside.tags c.self.inside.tree in
     let same = asked-shifted b c.args.self.now c.args.start c.self.view_is in
-    same-first g.V.Values.gives g.V.Values.asked_of c.args.values.now
+    same-first g.V.Values.gives g.V.Values.may_fail g.V.Values.asked_of c.args.values.now
     (positions_asked (shifted (plain_study (marked c.args.self.now)) c.args.start)) c.gather.new.values c.from_residual.result
     c.in_err-all.field-0.0 c.from_residual.ensures.1
-    (subst (λ (ps : List Position). TellsFirstFault g.V.Values.gives g.V.Values.asked_of c.args.values.now ps c.gather.new.values
+    (subst (λ (ps : List Position). TellsFirstFault g.V.Values.gives g.V.Values.may_fail g.V.Values.asked_of c.args.values.now ps c.gather.new.values
     c.in_err-all.field-0.0) same c.in_err-all.ensures.first)
 
 pub returns-in_err-all-clause-no_damage : goal.returns-in_err-all-clause-no_damage

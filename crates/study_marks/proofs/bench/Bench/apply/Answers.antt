@@ -67,19 +67,19 @@ returns-in_err-_place-in-Insert-clause-first g c =
     let place : position_at (marked c.args.self.now) c.in-Insert.path ≡ position_at s c.in-Insert.path =
     ap (position_after (marked c.args.self.now).start.position)
     (sym (moves_to-mapped (λ (x : Mark). tt {0}) (marked c.args.self.now).tree.below c.in-Insert.path)) in
-    same-first g.V.Values.gives g.V.Values.asked_of c.args.values.now (questions_of s c.args.edit.now) c.insert.new.values
+    same-first g.V.Values.gives g.V.Values.may_fail g.V.Values.asked_of c.args.values.now (questions_of s c.args.edit.now) c.insert.new.values
     c.from_residual.result c.in_err-_place-in-Insert.field-0.0 c.from_residual.ensures.1
-    (subst (λ x. TellsFirstFault g.V.Values.gives g.V.Values.asked_of c.args.values.now (questions_of s x) c.insert.new.values
+    (subst (λ x. TellsFirstFault g.V.Values.gives g.V.Values.may_fail g.V.Values.asked_of c.args.values.now (questions_of s x) c.insert.new.values
     c.in_err-_place-in-Insert.field-0.0) (sym c.in-Insert.is)
-    (subst (λ (p : Position). TellsFirstFault g.V.Values.gives g.V.Values.asked_of c.args.values.now (asked_at (after p c.in-Insert.m))
+    (subst (λ (p : Position). TellsFirstFault g.V.Values.gives g.V.Values.may_fail g.V.Values.asked_of c.args.values.now (asked_at (after p c.in-Insert.m))
     c.insert.new.values c.in_err-_place-in-Insert.field-0.0) place c.in_err-_place-in-Insert.ensures.first))
 
 pub returns-in-Shift-clause-first : goal.returns-in-Shift-clause-first
 returns-in-Shift-clause-first g c =
     let s = plain_study (marked c.args.self.now) in
-    subst (λ x. IfErr c.shift_position.result (TellsFirstFault g.V.Values.gives g.V.Values.asked_of c.args.values.now (questions_of s x)
+    subst (λ x. IfErr c.shift_position.result (TellsFirstFault g.V.Values.gives g.V.Values.may_fail g.V.Values.asked_of c.args.values.now (questions_of s x)
     c.shift_position.new.values)) (sym c.in-Shift.is)
-    (subst (λ (st : Start). IfErr c.shift_position.result (TellsFirstFault g.V.Values.gives g.V.Values.asked_of c.args.values.now
+    (subst (λ (st : Start). IfErr c.shift_position.result (TellsFirstFault g.V.Values.gives g.V.Values.may_fail g.V.Values.asked_of c.args.values.now
     (positions_asked (shifted s st)) c.shift_position.new.values)) c.copied-in-Shift.ensures c.shift_position.ensures.first)
 
 pub returns-in_err-_place-in-Insert-clause-no_damage : goal.returns-in_err-_place-in-Insert-clause-no_damage

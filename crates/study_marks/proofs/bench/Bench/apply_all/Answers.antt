@@ -28,6 +28,7 @@ loop-edit-preserved g c = record {
   run = run-next _ _ _ _ _ _ _ _ _ _ _ _ c.args.self.now c.loop-edit.self c.apply.new.self c.args.edits.now
       c.loop-edit.edit-index c.edit-item.result c.loop-edit.invariant.run c.loop-edit-test.true c.edit-item.is
       c.in_default.ensures.applied;
+  fails = λ d f m. c.loop-edit.invariant.fails d f (c.apply.ensures.fails_as_before d f m);
   done = omega (arith, c.loop-edit.invariant.done);
 }
 
@@ -36,10 +37,11 @@ returns-in-Err-clause-first g c = record {
   mid = c.loop-edit.values;
   asked = subst (λ (n : ℕ). g.V.Values.asked_of c.loop-edit.values ≡ asked_after_edits (plain_study (marked c.args.self.now)) (take n c.args.edits.now)
       (g.V.Values.asked_of c.args.values.now)) (sym c.loop-edit.invariant.done) c.loop-edit.invariant.run.counts;
-  first = subst (λ (n : ℕ). StopsAtFault g.V.Values.gives g.V.Values.asked_of c.loop-edit.values (plain_study (marked c.args.self.now))
+  fails_as_before = c.loop-edit.invariant.fails;
+  first = subst (λ (n : ℕ). StopsAtFault g.V.Values.gives g.V.Values.may_fail g.V.Values.asked_of c.loop-edit.values (plain_study (marked c.args.self.now))
       c.args.edits.now n c.apply.new.values c.in-Err.refusal) (sym c.loop-edit.invariant.done)
-      (tells-at g.V.Values.gives g.V.Values.asked_of c.loop-edit.values c.apply.new.values (plain_study (marked c.args.self.now)) c.args.edits.now
+      (tells-at g.V.Values.gives g.V.Values.may_fail g.V.Values.asked_of c.loop-edit.values c.apply.new.values (plain_study (marked c.args.self.now)) c.args.edits.now
       c.loop-edit.edit-index c.edit-item.result c.in-Err.refusal c.loop-edit-test.true c.edit-item.is
-      (subst (λ x. TellsFirstFault g.V.Values.gives g.V.Values.asked_of c.loop-edit.values (questions_of x c.edit-item.result) c.apply.new.values
+      (subst (λ x. TellsFirstFault g.V.Values.gives g.V.Values.may_fail g.V.Values.asked_of c.loop-edit.values (questions_of x c.edit-item.result) c.apply.new.values
       c.in-Err.refusal) c.loop-edit.invariant.run.edit c.in-Err.ensures.first));
 }

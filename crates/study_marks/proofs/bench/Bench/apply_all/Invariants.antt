@@ -1,4 +1,6 @@
 use Rattle.std.proofs.Common.{◌≡◌, take}
+use Rattle.study_material.specs.declared.class.Class.{Class}
+use Rattle.study_tablefile.specs.declared.fault.SourceFault.{SourceFault}
 use Rattle.study_marks.proofs.EditLists.{IsRun}
 use Rattle.study_marks.proofs.bench.Bench.apply_all.Given as goal
 
@@ -8,5 +10,6 @@ invariant-loop-edit g l = record {
   run : IsRun (g.V.Values.held l.fn.values) (g.V.Values.held l.values) (g.V.Values.is_honest l.fn.values)
       (g.V.Values.is_honest l.values) (g.V.Values.asked_of l.fn.values) (g.V.Values.asked_of l.values)
       (g.V.Values.failed_of l.fn.values) (g.V.Values.failed_of l.values) l.fn.self l.self (take l.edit-index l.edits);
+  fails : (c : Class) (f : SourceFault) → g.V.Values.may_fail l.values c f → g.V.Values.may_fail l.fn.values c f;
   done : l.done ≡ l.edit-index;
 }

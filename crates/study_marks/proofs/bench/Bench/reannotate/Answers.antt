@@ -36,5 +36,5 @@ returns-clause-first g c =
     let start : c.copied-start.result ≡ c.args.self.now.study.start = c.copied-start.ensures ∙ ap (λ (k : Kept). k.study.start) c.self.view_is in
     let same : positions_asked (shifted (plain_study (marked c.args.self.now)) c.copied-start.result) ≡ positions_asked (marked c.args.self.now) =
     ap (λ s. positions_asked (shifted (plain_study (marked c.args.self.now)) s)) start ∙ asked-plain (marked c.args.self.now) in
-    subst (λ (ps : List Position). IfErr c.annotate.result (TellsFirstFault g.V.Values.gives g.V.Values.asked_of
+    subst (λ (ps : List Position). IfErr c.annotate.result (TellsFirstFault g.V.Values.gives g.V.Values.may_fail g.V.Values.asked_of
     c.args.values.now ps c.annotate.new.values)) same c.annotate.ensures.first

@@ -1,12 +1,12 @@
 use Rattle.std.proofs.Common.{◌≡◌, ◌/◌, ◌∙◌, ap, sym, subst}
 use Rattle.study_material.specs.declared.class.Class.{Class}
 use Rattle.study_prober.specs.Cache.{key_at}
-use Rattle.study_prober.specs.Paged.{Paged, SourcesAreRight, held_of}
+use Rattle.study_prober.specs.Paged.{Paged, IsSameSource, SourcesAreRight, held_of}
 use Rattle.study_index.specs.Found.{index_of}
 use Rattle.study_prober.specs.Sources.{IsGivenPage}
 use Rattle.study_prober.proofs.GivenPages.{put_seen, fewer_seen, on_err}
 use Rattle.study_prober.proofs.KeptCells.{again_seen, none_seen}
-use Rattle.study_prober.proofs.PagedAnswers.{answered, undamaged}
+use Rattle.study_prober.proofs.PagedAnswers.{answered, undamaged, failed_so, fails_as_before}
 use Rattle.study_prober.proofs.HeldSources.{no_table_by, stays_right_at}
 use Rattle.study_prober.proofs.Tables.{one_class}
 use Rattle.study_prober.proofs.paged.PagedTablesValues.value.Goals as goal
@@ -87,3 +87,18 @@ returns-clause-once g c = λ d h k of before after none.
     (ap (λ (w : Paged g.row.S.Denot). held_of w.sources d) c.self.view_is ∙ before) after
     (none_seen (λ v. v.items) c.self.inside.kept.entries c.args.self.now.kept d (index_of c.args.p.now)
     (ap (λ (w : Paged g.row.S.Denot). w.kept) c.self.view_is) none)
+
+pub returns-clause-failed_so : goal.returns-clause-failed_so
+returns-clause-failed_so g c = λ d f of told.
+    let same = ap (λ (w : Paged g.row.S.Denot). held_of w.sources d) c.self.view_is in
+    let probed = c.probe-answer.ensures in
+    failed_so g.S.PageSource.gives d (index_of c.args.p.now / 4096) f (held_of c.args.self.now.sources d) c.probe-answer.result
+    (λ none. (probed.no_table d).1 (of, same ∙ none)) (λ h was. probed.unread d h f of (same ∙ was) told) (probed.inside d f of told) told
+
+pub returns-clause-fails_as_before : goal.returns-clause-fails_as_before
+returns-clause-fails_as_before g c = λ d f.
+    let same = ap (λ (w : Paged g.row.S.Denot). held_of w.sources d) c.self.view_is in
+    let probed = c.probe-answer.ensures in
+    fails_as_before g.S.PageSource.gives g.S.PageSource.honest d f (held_of c.args.self.now.sources d) (held_of c.probe-answer.new.sources.items d)
+    (subst (λ o. IsSameSource g.S.PageSource.honest o (held_of c.probe-answer.new.sources.items d)) same (probed.sources d))
+    (λ h k was now. probed.alike d h k (same ∙ was) now)
