@@ -1,5 +1,5 @@
 -- The alternatives of a move, counted.
-use Rattle.std.proofs.Common.{◌≡◌, ℕ, ◌+◌, ◌==◌, Bool, true, false, not, ◌||◌, List, [], ◌∷◌, length, zero, suc, arith, refl, sym, ap, subst, ◌∙◌}
+use Rattle.std.proofs.Common.{◌≡◌, ℕ, ◌+◌, ◌==◌, Bool, true, false, not, List, [], ◌∷◌, length, zero, suc, arith, refl, sym, ap, subst, ◌∙◌}
 use Rattle.std.specs.Prelude.{if◌then◌else◌}
 use Rattle.std.specs.List.{filter}
 use Rattle.std.proofs.lemmas.Bool.{false≢true, ne_eqb}
@@ -15,13 +15,12 @@ use Rattle.study_marks.specs.declared.mark.MoveMark.{MoveMark}
 use Rattle.study_marks.specs.declared.mark.MoveMark.TheVariants.{Only, Dual, Mistake, Idle, Reply}
 use Rattle.study_marks.specs.Study.{same_move}
 use Rattle.study_marks.specs.Goals.{hero_moves, holds}
-use Rattle.study_marks.specs.Marks.{mark_of, only_or_dual, move_mark}
+use Rattle.study_marks.specs.Marks.{mark_of}
 use Rattle.study_marks.specs.Annotated.{AreValuesAfter}
 use Rattle.study_marks.specs.Laws.{others_that_hold, DualCountsOthers}
 use Rattle.study_marks.proofs.OneAnnotation.{one-value}
 use Rattle.study_marks.proofs.DualCounts.{same_move-one}
-use Rattle.study_review.specs.declared.continuation.Continuation.{Continuation}
-use Rattle.study_review.specs.Continuations.{is_among, kept, chosen}
+use Rattle.study_review.specs.Continuations.{is_among, chosen}
 use Rattle.study_review.specs.Laws.{AlternativesAreCounted}
 
 -- ---- marks of moves that hold

@@ -4,7 +4,7 @@ use Rattle.study_board.specs.Position.{Position}
 use Rattle.study_board.specs.Counts.{counted}
 use Rattle.study_prober.specs.Values.{ProbeAnswer}
 use Rattle.study_prober.specs.declared.values.ProbeFault.{ProbeFault}
-use Rattle.study_marks.specs.Answers.{Answers, WereTold, IsFirstFault}
+use Rattle.study_marks.specs.Answers.{WereTold, IsFirstFault}
 use Rattle.study_marks.proofs.FaultsTold.{told-append}
 use Rattle.study_review.specs.Asked.{HasTold}
 

@@ -10,3 +10,4 @@ pub mod Lines
 pub mod PlaysBack
 pub mod AlternativesCounted
 pub mod Refuted
+pub mod ChildMoves

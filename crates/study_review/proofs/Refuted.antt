@@ -1,24 +1,22 @@
 -- Where a position does not hold, some reply keeps it so.
-use Rattle.std.proofs.Common.{◌≡◌, ℕ, ◌+◌, ◌-◌, ◌≤◌, ◌<◌, Bool, true, false, not, List, [], ◌∷◌, length, zero, suc, arith, refl, sym, ap, subst, ◌∙◌, inl, inr, Option, Some, None}
+use Rattle.std.proofs.Common.{◌≡◌, ℕ, ◌+◌, ◌-◌, ◌≤◌, ◌<◌, Bool, true, false, not, List, [], ◌∷◌, length, zero, suc, arith, refl, sym, ap, subst, ◌∙◌, inr}
 use Rattle.std.specs.Prelude.{nat_le, is_some, if◌then◌else◌, slice_index_or, ◌↔◌, ◌%◌, ◌==◌}
 use Rattle.std.specs.List.{Contains}
 use Rattle.std.proofs.lemmas.Bool.{false≢true, leb-true, leb-false}
 use Rattle.study_board.specs.Position.{Position, IsValid}
 use Rattle.study_moves.specs.declared.moves.Move.{Move}
 use Rattle.study_moves.specs.Rules.{after}
-use Rattle.study_moves.specs.Game.{IsLegal, IsMate, MatesWithin, IsMatedWithin, IsWon, IsLost, IsDrawn}
+use Rattle.study_moves.specs.Game.{IsLegal, MatesWithin, IsMatedWithin, IsWon}
 use Rattle.study_moves.specs.Laws.{EachForcesMateSoundly}
 use Rattle.study_moves.specs.LegalList.{legal_list}
 use Rattle.study_retro.specs.declared.value.Value.{Value}
 use Rattle.study_retro.specs.declared.value.Value.TheVariants as values
 use Rattle.study_retro.specs.Game.{IsValueOf}
-use Rattle.study_marks.specs.declared.marking.Aim.{Aim}
 use Rattle.study_marks.specs.declared.stipulation.Goal.{Goal}
 use Rattle.study_marks.specs.declared.stipulation.Goal.TheVariants.{Win, Draw, MateIn}
 use Rattle.study_marks.specs.Goals.{hero_moves, hero_mates, hero_loses, keeps_goal, plies_of, mates_by, holds}
 use Rattle.study_marks.specs.Annotated.{AreValuesAfter}
-use Rattle.study_review.specs.declared.continuation.Continuation.{Continuation}
-use Rattle.study_review.specs.Continuations.{kept, chosen}
+use Rattle.study_review.specs.Continuations.{chosen}
 use Rattle.study_review.specs.Laws.{FailuresAreRefuted}
 
 -- the value after each of these moves is one of those

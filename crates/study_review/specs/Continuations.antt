@@ -1,17 +1,23 @@
 -- Which moves of a position a review lists, with the values after them.
-use Rattle.std.specs.Prelude.{◌≡◌, ℕ, ◌+◌, Bool, true, false, not, ◌||◌, List, [], ◌∷◌, ◌++◌, if◌then◌else◌}
+use Rattle.std.specs.Prelude.{◌≡◌, ℕ, ◌+◌, Bool, true, false, not, ◌||◌, List, [], ◌∷◌, ◌++◌, map, if◌then◌else◌}
 use Rattle.std.specs.List.{filter}
 use Rattle.study_board.specs.Position.{Position}
 use Rattle.study_moves.specs.declared.moves.Move.{Move}
 use Rattle.study_moves.specs.LegalList.{legal_list}
 use Rattle.study_retro.specs.declared.value.Value.{Value}
+use Rattle.study_retro.specs.declared.value.Value.TheVariants.{Win, Loss, Draw}
+use Rattle.study_moves.specs.Rules.{after}
 use Rattle.study_marks.specs.declared.marking.Aim.{Aim}
 use Rattle.study_marks.specs.Study.{same_move}
 use Rattle.study_marks.specs.Goals.{holds}
 use Rattle.study_marks.specs.Annotated.{AreValuesAfter}
 use Rattle.study_review.specs.declared.continuation.Continuation.{Continuation}
 use Rattle.study_review.specs.declared.continuation.Wanted.{Wanted}
-use Rattle.study_review.specs.declared.continuation.Wanted.TheVariants.{Holding, Failing, All}
+use Rattle.study_review.specs.declared.continuation.Wanted.TheVariants.{Holding, Failing, Drawing, All}
+
+-- the positions after these moves
+abbrev pub each_after : Position → List Move → List Position
+each_after p ms = map (after p) ms
 
 abbrev pub is_among : Move → List Move → Bool
 is_among m [] = false
@@ -50,8 +56,18 @@ AreAlternatives a d p m list = AreChosen (holds a (d + 1)) p (others (m ∷ []) 
 abbrev pub AreMissing : Position → List Move → List Continuation → Type 0
 AreMissing p there list = AreChosen (λ v. true) p (others there p) list
 
+-- the moves that keep a draw: those after which the position is drawn
+abbrev pub is_draw : Value → Bool
+is_draw (Win n) = false
+is_draw (Loss n) = false
+is_draw Draw = true
+
+abbrev pub AreDrawingMoves : Position → List Continuation → Type 0
+AreDrawingMoves p list = AreChosen is_draw p (legal_list p) list
+
 -- which values are wanted after a move from depth d
 abbrev pub is_wanted : Wanted → Aim → ℕ → Value → Bool
 is_wanted Holding a d v = holds a (d + 1) v
 is_wanted Failing a d v = not (holds a (d + 1) v)
+is_wanted Drawing a d v = is_draw v
 is_wanted All a d v = true

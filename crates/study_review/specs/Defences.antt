@@ -1,9 +1,8 @@
 -- Moves of the opponent that the tree does not answer, and how many answers each has.
-use Rattle.std.specs.Prelude.{◌≡◌, ℕ, ◌+◌, Bool, true, false, not, ◌||◌, List, [], ◌∷◌, length, filter, Option, Some, None}
+use Rattle.std.specs.Prelude.{◌≡◌, ℕ, ◌+◌, List, [], ◌∷◌, length, Option, Some, None}
 use Rattle.study_board.specs.Position.{Position}
 use Rattle.study_moves.specs.declared.moves.Move.{Move}
 use Rattle.study_moves.specs.Rules.{after}
-use Rattle.study_moves.specs.LegalList.{legal_list}
 use Rattle.study_marks.specs.declared.marking.Aim.{Aim}
 use Rattle.study_review.specs.declared.continuation.Continuation.{Continuation}
 use Rattle.study_review.specs.declared.missing.Defence.{Defence}

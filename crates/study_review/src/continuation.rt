@@ -36,11 +36,12 @@ pub struct Node<'n> {
     pub position: &'n Position,
 }
 
-/// Which moves are wanted: those after which the position holds, those after which it does not, or all.
+/// Which moves are wanted: those after which the position holds, those after which it does not, those after which it is drawn, or all.
 #[derive(Clone, Copy, Debug, PartialEq, Eq)]
 pub enum Wanted {
     Holding,
     Failing,
+    Drawing,
     All,
 }
 
@@ -52,6 +53,7 @@ pub fn is_wanted(wanted: Wanted, aim: &Aim, depth: usize, value: Value) -> bool
     match wanted {
         Wanted::Holding => holds(aim, depth + 1, value),
         Wanted::Failing => !holds(aim, depth + 1, value),
+        Wanted::Drawing => value == Value::Draw,
         Wanted::All => true,
     }
 }

@@ -1,6 +1,7 @@
 //! What a review of a study tells of its nodes, by the game's values.
 //!
-//! `place_in` finds a node of a study, with its line. `holding_moves`, `alternatives`, `refutations` and `missing_moves`
+//! `place_in` finds a node of a study, with its line, `made_in` a move and the node before it, `children_in` the moves that
+//! the tree has there. `holding_moves`, `alternatives`, `refutations` and `missing_moves`
 //! list legal moves of a position with the values after them, `timed_alternatives` also with the time that they lose:
 //! `time_lost` tells whether a move only loses time. `best_move` and `best_play` tell how it goes on with best play.
 //! Values are asked where they are needed, and nothing is kept.
@@ -9,6 +10,7 @@
 mod back;
 mod beside;
 mod best;
+mod children;
 mod continuation;
 mod laws;
 mod line;
@@ -18,11 +20,12 @@ mod time;
 
 pub use back::{is_back, time_lost};
 pub use best::{best_move, best_play};
+pub use children::children_in;
 pub use continuation::{Continuation, Node};
 pub use laws::{
     alternatives_are_counted, failures_are_refuted, time_loss_is_forced, won_positions_hold,
 };
-pub use line::{Line, Place, place_in};
-pub use lists::{alternatives, holding_moves, missing_moves, refutations};
+pub use line::{Line, Made, Place, made_in, place_in};
+pub use lists::{alternatives, drawing_moves, holding_moves, missing_moves, refutations};
 pub use missing::{Defence, defences};
 pub use time::{Alternative, timed_alternatives};

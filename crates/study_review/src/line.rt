@@ -5,7 +5,7 @@ ghost use Rattle.study_tree.specs.Tree.{has_spot, spot_at};
 ghost use Rattle.study_marks.specs.Bench.{played_by};
 ghost use Rattle.study_marks.specs.Study.{position_at};
 ghost use Rattle.study_marks.specs.Kept.{marked};
-ghost use Rattle.study_review.specs.Line.{line_to, IsPlaceOf};
+ghost use Rattle.study_review.specs.Line.{line_to, IsPlaceOf, IsMadeIn};
 
 use arrayvec::ArrayVec;
 use std::alloc::Allocator;
@@ -26,8 +26,15 @@ pub struct Place {
     pub line: Line,
 }
 
+/// A move of a study: where the node before it stands, and the move.
+#[derive(Drop)]
+pub struct Made {
+    pub before: Place,
+    pub played: Move,
+}
+
 /// The move that led to the node, if there is one that is not the root.
-fn move_to<'b, B: Allocator>(bench: &Bench<'b, B>, steps: &[u16]) -> Option<Move>
+pub fn move_to<'b, B: Allocator>(bench: &Bench<'b, B>, steps: &[u16]) -> Option<Move>
     ensures { result ≡ played_by (spot_at (marked bench.now).tree steps.now) }
 {
     match bench.shown(steps) {
@@ -86,5 +93,23 @@ pub fn place_in<'b, B: Allocator>(bench: &Bench<'b, B>, steps: &[u16]) -> Option
                 line,
             })
         }
+    }
+}
+
+/// The move that led to the node at the path, and where the node before it stands, if there is such a node and it is not
+/// the root.
+pub fn made_in<'b, B: Allocator>(bench: &Bench<'b, B>, steps: &[u16]) -> Option<Made>
+    ensures none { IfNone result (played_by (spot_at (marked bench.now).tree steps.now) ≡ None) }
+    ensures made { IfSome result (IsMadeIn (marked bench.now) steps.now) }
+{
+    match steps.split_last() {
+        None => None,
+        Some((_, front)) => match move_to(bench, steps) {
+            None => None,
+            Some(m) => match place_in(bench, front) {
+                None => None,
+                Some(before) => Some(Made { before, played: m }),
+            },
+        },
     }
 }

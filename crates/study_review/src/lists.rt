@@ -1,17 +1,17 @@
 //! Moves listed with the values after them.
-ghost use Rattle.std.specs.Prelude.{◌≡◌, ◌+◌, ◌++◌, ◌∷◌, [], ◌<◌, ◌≤◌, ◌^◌, true, List, length, map, is_ok, OnOk, IfOk, IfErr};
+ghost use Rattle.std.specs.Prelude.{◌≡◌, ◌+◌, ◌++◌, ◌∷◌, [], ◌<◌, ◌≤◌, ◌^◌, true, List, length, is_ok, OnOk, IfOk, IfErr};
 ghost use Rattle.std.specs.List.{All};
 ghost use Rattle.arrayvec.specs.ArrayVec.{array_vec_len};
 ghost use Rattle.study_prober.specs.Values.{IsNotDamage};
 ghost use Rattle.study_marks.specs.Answers.{WereTold, IsFirstFault};
 ghost use Rattle.study_material.specs.declared.class.Class.{Class as AClass};
-ghost use Rattle.study_moves.specs.Rules.{is_legal, after};
+ghost use Rattle.study_moves.specs.Rules.{is_legal};
 ghost use Rattle.study_moves.specs.LegalList.{legal_list};
 ghost use Rattle.study_retro.specs.declared.value.Value.{Value as AValue};
 ghost use Rattle.study_marks.specs.Annotated.{AreValuesAfter};
 ghost use Rattle.study_marks.specs.Asked.{AreTablesHeld};
 ghost use Rattle.study_marks.specs.Told.{IsUntold, WasAsked, failures_told};
-ghost use Rattle.study_review.specs.Continuations.{is_wanted, kept, chosen, others, AreChosen, AreAlternatives, AreRefutations, AreMissing, AreHoldingMoves};
+ghost use Rattle.study_review.specs.Continuations.{each_after, is_wanted, kept, chosen, others, AreChosen, AreAlternatives, AreRefutations, AreMissing, AreHoldingMoves, AreDrawingMoves};
 
 use crate::beside::others;
 use crate::continuation::{Continuation, Node, Wanted, is_wanted};
@@ -55,9 +55,9 @@ fn choose<V: Values>(
     ensures listed { All (λ x. is_legal node.now.position.now x.played ≡ true) list.new.items }
     ensures game { V.is_honest values.old → OnOk result ((all : List AValue) × AreValuesAfter node.now.position.now moves.now all
         × (list.new.items ≡ list.old.items ++ chosen (is_wanted wanted node.now.aim.now node.now.depth) moves.now all)) }
-    ensures untold { IfErr result (IsUntold (V.held values.old) (map (after node.now.position.now) moves.now)) }
-    ensures told { OnOk result (WereTold V.gives V.asked_of values.old (map (after node.now.position.now) moves.now) values.new) }
-    ensures first { IfErr result (λ f. IsFirstFault V.gives V.asked_of values.old (map (after node.now.position.now) moves.now) f values.new) }
+    ensures untold { IfErr result (IsUntold (V.held values.old) (each_after node.now.position.now moves.now)) }
+    ensures told { OnOk result (WereTold V.gives V.asked_of values.old (each_after node.now.position.now moves.now) values.new) }
+    ensures first { IfErr result (λ f. IsFirstFault V.gives V.asked_of values.old (each_after node.now.position.now moves.now) f values.new) }
     ensures no_damage { V.is_honest values.old → IfErr result IsNotDamage }
     ensures asked { WasAsked (length moves.now) (is_ok result) (V.asked_of values.old) (V.asked_of values.new) }
     ensures failures { V.failed_of values.new ≡ failures_told result (V.failed_of values.old) }
@@ -91,9 +91,9 @@ fn chosen<V: Values>(
     requires room { length moves.now ≤ 256 }
     ensures game { V.is_honest values.old → IfOk result (λ list. AreChosen
         (is_wanted wanted node.now.aim.now node.now.depth) node.now.position.now moves.now list.items) }
-    ensures untold { IfErr result (IsUntold (V.held values.old) (map (after node.now.position.now) moves.now)) }
-    ensures told { OnOk result (WereTold V.gives V.asked_of values.old (map (after node.now.position.now) moves.now) values.new) }
-    ensures first { IfErr result (λ f. IsFirstFault V.gives V.asked_of values.old (map (after node.now.position.now) moves.now) f values.new) }
+    ensures untold { IfErr result (IsUntold (V.held values.old) (each_after node.now.position.now moves.now)) }
+    ensures told { OnOk result (WereTold V.gives V.asked_of values.old (each_after node.now.position.now moves.now) values.new) }
+    ensures first { IfErr result (λ f. IsFirstFault V.gives V.asked_of values.old (each_after node.now.position.now moves.now) f values.new) }
     ensures no_damage { V.is_honest values.old → IfErr result IsNotDamage }
     ensures asked { WasAsked (length moves.now) (is_ok result) (V.asked_of values.old) (V.asked_of values.new) }
     ensures failures { V.failed_of values.new ≡ failures_told result (V.failed_of values.old) }
@@ -115,9 +115,9 @@ pub fn holding_moves<V: Values>(
 ) -> Result<ArrayVec<Continuation, 256>, ProbeFault>
     requires depth { node.now.depth + 1 < 2 ^ 64 }
     ensures game { V.is_honest values.old → IfOk result (λ list. AreHoldingMoves node.now.aim.now node.now.depth node.now.position.now list.items) }
-    ensures untold { IfErr result (IsUntold (V.held values.old) (map (after node.now.position.now) (legal_list node.now.position.now))) }
-    ensures told { OnOk result (WereTold V.gives V.asked_of values.old (map (after node.now.position.now) (legal_list node.now.position.now)) values.new) }
-    ensures first { IfErr result (λ f. IsFirstFault V.gives V.asked_of values.old (map (after node.now.position.now) (legal_list node.now.position.now)) f values.new) }
+    ensures untold { IfErr result (IsUntold (V.held values.old) (each_after node.now.position.now (legal_list node.now.position.now))) }
+    ensures told { OnOk result (WereTold V.gives V.asked_of values.old (each_after node.now.position.now (legal_list node.now.position.now)) values.new) }
+    ensures first { IfErr result (λ f. IsFirstFault V.gives V.asked_of values.old (each_after node.now.position.now (legal_list node.now.position.now)) f values.new) }
     ensures no_damage { V.is_honest values.old → IfErr result IsNotDamage }
     ensures asked { WasAsked (length (legal_list node.now.position.now)) (is_ok result) (V.asked_of values.old) (V.asked_of values.new) }
     ensures failures { V.failed_of values.new ≡ failures_told result (V.failed_of values.old) }
@@ -136,9 +136,9 @@ pub fn refutations<V: Values>(
 ) -> Result<ArrayVec<Continuation, 256>, ProbeFault>
     requires depth { node.now.depth + 1 < 2 ^ 64 }
     ensures game { V.is_honest values.old → IfOk result (λ list. AreRefutations node.now.aim.now node.now.depth node.now.position.now list.items) }
-    ensures untold { IfErr result (IsUntold (V.held values.old) (map (after node.now.position.now) (legal_list node.now.position.now))) }
-    ensures told { OnOk result (WereTold V.gives V.asked_of values.old (map (after node.now.position.now) (legal_list node.now.position.now)) values.new) }
-    ensures first { IfErr result (λ f. IsFirstFault V.gives V.asked_of values.old (map (after node.now.position.now) (legal_list node.now.position.now)) f values.new) }
+    ensures untold { IfErr result (IsUntold (V.held values.old) (each_after node.now.position.now (legal_list node.now.position.now))) }
+    ensures told { OnOk result (WereTold V.gives V.asked_of values.old (each_after node.now.position.now (legal_list node.now.position.now)) values.new) }
+    ensures first { IfErr result (λ f. IsFirstFault V.gives V.asked_of values.old (each_after node.now.position.now (legal_list node.now.position.now)) f values.new) }
     ensures no_damage { V.is_honest values.old → IfErr result IsNotDamage }
     ensures asked { WasAsked (length (legal_list node.now.position.now)) (is_ok result) (V.asked_of values.old) (V.asked_of values.new) }
     ensures failures { V.failed_of values.new ≡ failures_told result (V.failed_of values.old) }
@@ -150,6 +150,27 @@ pub fn refutations<V: Values>(
     chosen(node, Wanted::Failing, moves.as_slice(), values)
 }
 
+/// The legal moves after which the position is drawn.
+pub fn drawing_moves<V: Values>(
+    node: &Node<'_>,
+    values: &mut V,
+) -> Result<ArrayVec<Continuation, 256>, ProbeFault>
+    requires depth { node.now.depth + 1 < 2 ^ 64 }
+    ensures game { V.is_honest values.old → IfOk result (λ list. AreDrawingMoves node.now.position.now list.items) }
+    ensures untold { IfErr result (IsUntold (V.held values.old) (each_after node.now.position.now (legal_list node.now.position.now))) }
+    ensures told { OnOk result (WereTold V.gives V.asked_of values.old (each_after node.now.position.now (legal_list node.now.position.now)) values.new) }
+    ensures first { IfErr result (λ f. IsFirstFault V.gives V.asked_of values.old (each_after node.now.position.now (legal_list node.now.position.now)) f values.new) }
+    ensures no_damage { V.is_honest values.old → IfErr result IsNotDamage }
+    ensures asked { WasAsked (length (legal_list node.now.position.now)) (is_ok result) (V.asked_of values.old) (V.asked_of values.new) }
+    ensures failures { V.failed_of values.new ≡ failures_told result (V.failed_of values.old) }
+    ensures honest { V.is_honest values.old → V.is_honest values.new }
+    ensures tables { (c : AClass) → V.held values.new c ≡ V.held values.old c }
+    ensures legal { IfOk result (λ list. All (λ x. is_legal node.now.position.now x.played ≡ true) list.items) }
+{
+    let moves = legal_moves(node.position);
+    chosen(node, Wanted::Drawing, moves.as_slice(), values)
+}
+
 /// The other legal moves than this one after which the position holds.
 pub fn alternatives<V: Values>(
     node: &Node<'_>,
@@ -158,9 +179,9 @@ pub fn alternatives<V: Values>(
 ) -> Result<ArrayVec<Continuation, 256>, ProbeFault>
     requires depth { node.now.depth + 1 < 2 ^ 64 }
     ensures game { V.is_honest values.old → IfOk result (λ list. AreAlternatives node.now.aim.now node.now.depth node.now.position.now m list.items) }
-    ensures untold { IfErr result (IsUntold (V.held values.old) (map (after node.now.position.now) (others (m ∷ []) node.now.position.now))) }
-    ensures told { OnOk result (WereTold V.gives V.asked_of values.old (map (after node.now.position.now) (others (m ∷ []) node.now.position.now)) values.new) }
-    ensures first { IfErr result (λ f. IsFirstFault V.gives V.asked_of values.old (map (after node.now.position.now) (others (m ∷ []) node.now.position.now)) f values.new) }
+    ensures untold { IfErr result (IsUntold (V.held values.old) (each_after node.now.position.now (others (m ∷ []) node.now.position.now))) }
+    ensures told { OnOk result (WereTold V.gives V.asked_of values.old (each_after node.now.position.now (others (m ∷ []) node.now.position.now)) values.new) }
+    ensures first { IfErr result (λ f. IsFirstFault V.gives V.asked_of values.old (each_after node.now.position.now (others (m ∷ []) node.now.position.now)) f values.new) }
     ensures no_damage { V.is_honest values.old → IfErr result IsNotDamage }
     ensures asked { WasAsked (length (others (m ∷ []) node.now.position.now)) (is_ok result) (V.asked_of values.old) (V.asked_of values.new) }
     ensures failures { V.failed_of values.new ≡ failures_told result (V.failed_of values.old) }
@@ -180,9 +201,9 @@ pub fn missing_moves<V: Values>(
 ) -> Result<ArrayVec<Continuation, 256>, ProbeFault>
     requires depth { node.now.depth + 1 < 2 ^ 64 }
     ensures game { V.is_honest values.old → IfOk result (λ list. AreMissing node.now.position.now there.now list.items) }
-    ensures untold { IfErr result (IsUntold (V.held values.old) (map (after node.now.position.now) (others there.now node.now.position.now))) }
-    ensures told { OnOk result (WereTold V.gives V.asked_of values.old (map (after node.now.position.now) (others there.now node.now.position.now)) values.new) }
-    ensures first { IfErr result (λ f. IsFirstFault V.gives V.asked_of values.old (map (after node.now.position.now) (others there.now node.now.position.now)) f values.new) }
+    ensures untold { IfErr result (IsUntold (V.held values.old) (each_after node.now.position.now (others there.now node.now.position.now))) }
+    ensures told { OnOk result (WereTold V.gives V.asked_of values.old (each_after node.now.position.now (others there.now node.now.position.now)) values.new) }
+    ensures first { IfErr result (λ f. IsFirstFault V.gives V.asked_of values.old (each_after node.now.position.now (others there.now node.now.position.now)) f values.new) }
     ensures no_damage { V.is_honest values.old → IfErr result IsNotDamage }
     ensures asked { WasAsked (length (others there.now node.now.position.now)) (is_ok result) (V.asked_of values.old) (V.asked_of values.new) }
     ensures failures { V.failed_of values.new ≡ failures_told result (V.failed_of values.old) }

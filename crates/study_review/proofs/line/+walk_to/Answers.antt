@@ -1,4 +1,4 @@
-use Rattle.std.proofs.Common.{sym, ◌∙◌, arith, length, ap, ◌∷◌, [], ◌++◌, List}
+use Rattle.std.proofs.Common.{sym, ◌∙◌, arith, ap, ◌∷◌, [], ◌++◌}
 use Rattle.study_board.specs.Position.{Position}
 use Rattle.study_marks.specs.Kept.{marked}
 use Rattle.study_marks.proofs.MovesToNode.{some-move, front-found, legal-last, position-last}

@@ -1,4 +1,4 @@
-use Rattle.std.proofs.Common.{map, ◌∷◌, []}
+use Rattle.std.proofs.Common.{map}
 use Rattle.study_moves.specs.Rules.{after}
 use Rattle.study_review.specs.Continuations.{others}
 use Rattle.study_review.proofs.NotHeld.{untold-not-held}
