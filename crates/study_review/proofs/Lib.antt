@@ -11,3 +11,4 @@ pub mod PlaysBack
 pub mod AlternativesCounted
 pub mod Refuted
 pub mod ChildMoves
+pub mod FaultsListed

@@ -6,4 +6,5 @@ pub mod Asked
 pub mod Line
 pub mod Time
 pub mod Defences
+pub mod Faults
 pub mod Laws

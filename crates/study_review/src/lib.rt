@@ -4,7 +4,7 @@
 //! the tree has there. `holding_moves`, `alternatives`, `refutations` and `missing_moves`
 //! list legal moves of a position with the values after them, `timed_alternatives` also with the time that they lose:
 //! `time_lost` tells whether a move only loses time. `best_move` and `best_play` tell how it goes on with best play.
-//! Values are asked where they are needed, and nothing is kept.
+//! `is_in_solution` tells the nodes of the solution. Values are asked where they are needed, and nothing is kept.
 #![tactic(auto)]
 
 mod back;
@@ -16,6 +16,7 @@ mod laws;
 mod line;
 mod lists;
 mod missing;
+mod solution;
 mod time;
 
 pub use back::{is_back, time_lost};
@@ -28,4 +29,5 @@ pub use laws::{
 pub use line::{Line, Made, Place, made_in, place_in};
 pub use lists::{alternatives, drawing_moves, holding_moves, missing_moves, refutations};
 pub use missing::{Defence, defences};
+pub use solution::{faults_are_of_the_solution, is_in_solution};
 pub use time::{Alternative, timed_alternatives};
