@@ -11,7 +11,7 @@ use Rattle.study_marks.specs.Renewal.{below_at, skipped}
 use Rattle.study_marks.proofs.MovesToNode.{move_at, move_at-spot}
 
 module _ {L : Type 0} where
-  children-width : (f : Forest L) (ks : List ℕ) → children_at f ks ≡ width (below_at f ks)
+  pub children-width : (f : Forest L) (ks : List ℕ) → children_at f ks ≡ width (below_at f ks)
   children-width f [] = refl
   children-width none (k ∷ ks) = refl
   children-width (more m l b r) (zero ∷ ks) = children-width b ks
@@ -23,7 +23,7 @@ module _ {L : Type 0} where
   place_at-below (more n l b r) (zero ∷ ks) m = place_at-below b ks m
   place_at-below (more n l b r) (suc k ∷ ks) m = place_at-below r (k ∷ ks) m
 
-  skipped-end : (k : ℕ) (f : Forest L) → width f ≤ k → skipped k f ≡ none
+  pub skipped-end : (k : ℕ) (f : Forest L) → width f ≤ k → skipped k f ≡ none
   skipped-end zero none h = refl
   skipped-end zero (more m l b r) h = absurd (omega (arith, h))
   skipped-end (suc k) none h = refl

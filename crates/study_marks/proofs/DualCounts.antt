@@ -39,7 +39,7 @@ promotions-one None (Some l) e = absurd (false≢true e)
 promotions-one (Some k) None e = absurd (false≢true e)
 promotions-one (Some k) (Some l) e = ap (λ z. Some z) (kinds_equal k l e)
 
-same_move-one : (m n : Move) → same_move m n ≡ true → m ≡ n
+pub same_move-one : (m n : Move) → same_move m n ≡ true → m ≡ n
 same_move-one m n h =
     let x = both ((m.origin == n.origin) && (m.target == n.target)) (same_promotion m.promoted n.promoted) h in
     let y = both (m.origin == n.origin) (m.target == n.target) x.0 in

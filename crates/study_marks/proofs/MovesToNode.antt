@@ -78,7 +78,7 @@ module _ {L : Type 0} where
   pub front-found : (t : Plain L) (steps front : List ℕ) (k : ℕ) → steps ≡ front ++ k ∷ [] → IsTrue (has_spot t steps) → IsTrue (has_spot t front)
   front-found t steps front k path h = has_spot-front t front (k ∷ []) (subst (λ p. IsTrue (has_spot t p)) path h)
 
-  both : (p : Position) (t : Plain L) (steps front : List ℕ) (k : ℕ) (m : Move) → steps ≡ front ++ k ∷ []
+  pub both : (p : Position) (t : Plain L) (steps front : List ℕ) (k : ℕ) (m : Move) → steps ≡ front ++ k ∷ []
       → played_by (spot_at t steps) ≡ Some m → IsPlayable p t.below
       → (moves_to t.below steps ≡ moves_to t.below front ++ m ∷ []) × (is_legal (position_after p (moves_to t.below front)) m ≡ true)
   both p t steps front k m path e h =

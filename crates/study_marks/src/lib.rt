@@ -29,6 +29,6 @@ pub use edit::{Edit, Stopped};
 pub use fault::Refusal;
 pub use laws::{annotations_are_unique, duals_count_other_moves, edits_in_rows, faults_in_rows};
 pub use mark::{Mark, MoveMark};
-pub use marking::{hero_loses, hero_mates};
+pub use marking::{Aim, aim_of, hero_loses, hero_mates, hero_moves, holds};
 pub use stipulation::{Goal, MateMoves, Stipulation};
 pub use tag::TagName;
