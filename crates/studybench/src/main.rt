@@ -8,9 +8,11 @@
 mod files;
 mod folder;
 mod options;
+mod status;
 
 use folder::FolderStore;
 use options::{Options, read_words};
+use status::{status_of, status_without_options};
 use std::io::{BufReader, LineWriter, Write};
 use std::process::ExitCode;
 use std::{env, io};
@@ -29,10 +31,11 @@ fn main(rt: HostRuntime) -> ExitCode {
         Ok(options) => options,
         Err(error) => return answered(&rt, &error),
     };
-    match run_in_folder(&rt, &options) {
-        Ok(summary) => ExitCode::from(u8::from(summary.refused > 0)),
-        Err(fault) => stopped(&rt, fault),
+    let answer = run_in_folder(&rt, &options);
+    if let Err(fault) = &answer {
+        tell_stop(&rt, *fault);
     }
+    ExitCode::from(status_of(&answer))
 }
 
 fn words_of(rt: &HostRuntime) -> io::Result<Vec<String>> {
@@ -42,7 +45,8 @@ fn words_of(rt: &HostRuntime) -> io::Result<Vec<String>> {
 // The words of the command line are not known.
 fn not_read(rt: &HostRuntime, error: &io::Error) -> ExitCode {
     if error.kind() == io::ErrorKind::OutOfMemory {
-        return stopped(rt, RunFault::OutOfMemory);
+        tell_stop(rt, RunFault::OutOfMemory);
+        return ExitCode::from(3);
     }
     let _ = eprintln!(rt; "error: a word of the command line is not UTF-8");
     ExitCode::from(2)
@@ -51,22 +55,20 @@ fn not_read(rt: &HostRuntime, error: &io::Error) -> ExitCode {
 // Help, or why the words are refused.
 fn answered(rt: &HostRuntime, error: &clap::Error) -> ExitCode {
     if error.kind() == clap::error::ErrorKind::OutOfMemory {
-        return stopped(rt, RunFault::OutOfMemory);
+        tell_stop(rt, RunFault::OutOfMemory);
+        return ExitCode::from(status_without_options(error, false));
     }
     let printed = error.print(rt).is_ok();
-    if error.exit_code() != 0 {
-        return ExitCode::from(2);
+    let status = status_without_options(error, printed);
+    if status == 3 {
+        tell_stop(rt, RunFault::WriteDevice);
     }
-    if printed {
-        ExitCode::from(0)
-    } else {
-        stopped(rt, RunFault::WriteDevice)
-    }
+    ExitCode::from(status)
 }
 
-fn stopped(rt: &HostRuntime, fault: RunFault) -> ExitCode {
+/// Tells on standard error why the run stopped.
+fn tell_stop(rt: &HostRuntime, fault: RunFault) {
     let _ = eprintln!(rt; "studybench: {fault}");
-    ExitCode::from(3)
 }
 
 fn run_in_folder(rt: &HostRuntime, options: &Options<'_>) -> Result<Summary, RunFault> {
