@@ -1,5 +1,6 @@
 #!/usr/bin/env python3
-"""Lists what the headline rests on, definition by definition, and counts its lines without imports, comments and empty lines.
+"""Lists what the headline rests on, definition by definition, and counts its lines without imports,
+comments, empty lines and lines of closing brackets alone.
 
 It starts from the clauses that docs/THEOREM.md names, row by row (CALLS), and follows every name in them: to definitions of
 specs/, to the types of the code (structs and enums), or, of a type that has one, to its view, which is what contracts see of it. With an argument
@@ -50,7 +51,7 @@ HEAD = re.compile(r"\s{0,2}(abbrev|unfoldable|pub|record|opaque)\b")
 
 
 def code_lines(lines):
-    return [l for l in lines if l.strip() and not re.match(r"\s*(--|//|#\[|(ghost |pub )?use )", l)]
+    return [l for l in lines if l.strip() and not re.match(r"\s*(--|//|#\[|(ghost |pub )?use |[})\];,]+$)", l)]
 
 
 def imports_of(lines):
