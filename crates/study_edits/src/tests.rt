@@ -384,6 +384,8 @@ impl Values for Draws {
 
     ghost gives = { λ w p answer. answer ≡ Ok Draw };
 
+    ghost may_fail = { λ w c f. ⊥ };
+
     ghost asked_of = { λ w. w.asked };
 
     ghost failed_of = { λ w. 0 };
