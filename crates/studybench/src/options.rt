@@ -71,16 +71,22 @@ pub fn read_words<'a>(alloc: Global, words: &'a [String]) -> Result<Options<'a>,
         .arg(tables)?
         .arg(pages)?;
     let matches = command.try_get_matches_from(words)?;
-    Ok(Options {
-        tables: folder_of(matches.get_str("tables")),
-        pages: match matches.get_one::<u16>("pages") {
-            Some(n) if 1 <= n && n <= 4096 => Some(n),
-            _ => None,
-        },
-    })
+    let tables = folder_of(matches.get_str("tables"));
+    let pages = pages_of(matches.get_one::<u16>("pages"));
+    Ok(Options { tables, pages })
 }
 
-// Without a name, this folder.
+/// So many pages, where it is a number of pages that can be kept.
+fn pages_of(given: Option<u16>) -> Option<u16>
+    ensures { IfSome result (λ n. (1 ≤ n) × (n ≤ 4096)) }
+{
+    match given {
+        Some(n) if 1 <= n && n <= 4096 => Some(n),
+        _ => None,
+    }
+}
+
+/// The folder with this name; without one, the folder in which the program runs.
 fn folder_of(given: Option<&str>) -> &str
     ensures { 0 < length result.now }
 {
