@@ -97,6 +97,10 @@ expect "input that is a folder" 3 $? "studybench: ReadDevice" "$(cat "$work/err"
 (cd "$work" && timeout 60 "$program" --help > /dev/full 2> err); expect "help to a full device" 3 $? "studybench: WriteDevice" "$(cat "$work/err")" "" ""
 (cd "$work" && timeout 60 "$program" --help < /dev/null > out 2> err); was=$?
 expect "help" 0 $was "" "$(cat "$work/err")" yes "$([ "$(grep -c PATH "$work/out")" -gt 5 ] && echo yes)"
+(cd "$work" && timeout 60 "$program" --tables "" < /dev/null > out 2> err); was=$?
+expect "an empty folder name" 2 $was yes "$(grep -q '^error: ' "$work/err" && echo yes)" "" "$(cat "$work/out")"
+(cd "$work" && timeout 60 "$program" --version < /dev/null > out 2> err); was=$?
+expect "version" 0 $was "" "$(cat "$work/err")" yes "$(grep -q '^studybench [0-9.]* (kit ' "$work/out" && echo yes)"
 for words in "--pages 0" "--pages 4097" "--pages x" "--pages" "--bad" "a.script"; do
     (cd "$work" && timeout 60 "$program" $words < /dev/null > out 2> err); was=$?
     expect "$words" 2 $was yes "$(grep -q '^error: ' "$work/err" && echo yes)" "" "$(cat "$work/out")"
