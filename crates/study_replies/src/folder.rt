@@ -2,14 +2,16 @@
 //! and by pages, files that are not the table's, and folders that are not there.
 ghost use Rattle.std.specs.Prelude.{◌≤◌, IfSome};
 
-use crate::folder::FolderStore;
 use std::alloc::{Allocator, Global};
-use std::fs;
+use std::io::{ErrorKind, Read, Seek, SeekFrom};
 use std::process::Abort;
 use std::test::Fail;
+use std::{fs, io};
+use study_folder::{FilePages, FolderStore};
 use study_script::run::{Settings, run};
 use study_script::store::TableStore;
 use study_tablefile::memory::{MemoryReader, MemoryWriter};
+use study_tablefile::{PageSource, SourceFault};
 
 /// A rook mates in one: the commands, and their replies where the table can be read, where it is not held, and where it
 /// is held by pages and the one that is asked for is damaged, or not there.
@@ -250,4 +252,42 @@ fn no_such_folder(rt: HostRuntime) -> Result<(), Fail> {
     check(&rt, "plain", None, &script, &["error Device\n", rest])?;
     check(&rt, "plain", Some(1), &["load KK\n"], &["error Device\n"])?;
     Ok(fs::remove_file(&rt, "plain")?)
+}
+
+/// A file whose first read is interrupted, and which gives bytes from then on, one at a time.
+#[derive(Drop)]
+struct Interrupted {
+    reads: u64,
+}
+
+impl Read for Interrupted {
+    fn read(&mut self, buf: &mut [u8]) -> io::Result<usize> {
+        self.reads = self.reads.saturating_add(1);
+        if self.reads == 1 {
+            return Err(io::Error::from(ErrorKind::Interrupted));
+        }
+        if buf.is_empty() {
+            return Ok(0);
+        }
+        buf[0] = 7;
+        Ok(1)
+    }
+}
+
+impl Seek for Interrupted {
+    fn seek(&mut self, _to: SeekFrom) -> io::Result<u64> {
+        Ok(0)
+    }
+}
+
+/// Each error of a read ends the question for a page; the next one reads anew.
+#[test]
+fn interrupted(rt: HostRuntime) {
+    let mut pages = FilePages::new(Interrupted { reads: 0 });
+    let mut page = [0u8; 4128];
+    assert_eq!(rt; pages.page(0, &mut page), Err(SourceFault::Device));
+    assert_eq!(rt; pages.failures(), 1);
+    assert_eq!(rt; pages.page(0, &mut page), Ok(()));
+    assert!(rt; page.iter().all(|byte| *byte == 7));
+    assert_eq!(rt; pages.failures(), 1);
 }
