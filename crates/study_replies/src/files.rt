@@ -147,16 +147,18 @@ position k7/8/1K6/8/8/8/8/7R w - - 0 1 -> position k7/8/1K6/8/8/8/8/7R w - - 0 1
 stipulate white win -> error TableRead Page 15
 mark root -> error NoStudy";
 
-fn check_later_page<'x, A: Allocator>(
+/// Over the files of KRK and of KK, by one page.
+fn check_by_a_page<'x, A: Allocator>(
     rt: &impl Abort,
     alloc: &A,
-    wrong: &'x [u8],
+    rook: &'x [u8],
     kings: &'x [u8],
+    rows: Rows<'static>,
 ) {
     let mut store = no_files(alloc);
-    store.put(Class::KRK, MemoryFile::Bytes(wrong));
+    store.put(Class::KRK, MemoryFile::Bytes(rook));
     store.put(Class::KK, MemoryFile::Bytes(kings));
-    check_over(rt, alloc, &mut store, Some(1), LATER_PAGE);
+    check_over(rt, alloc, &mut store, Some(1), rows);
 }
 
 /// The page of the root is whole, number 20,543, and that of the position after its first move is not: after Ra1+ the number is
@@ -175,7 +177,7 @@ fn damage_of_a_later_page(rt: HostRuntime) -> Result<(), Fail> {
             *cell ^= 1;
         }
     }
-    check_later_page(&rt, &alloc, wrong.as_slice(), kings.as_slice());
+    check_by_a_page(&rt, &alloc, wrong.as_slice(), kings.as_slice(), LATER_PAGE);
     Ok(())
 }
 
@@ -212,10 +214,13 @@ fn edits_by_pages(rt: HostRuntime) {
     let alloc = rt.alloc();
     let kings = text_of(&rt, &alloc, &[Class::KK]);
     let text = text_of(&rt, &alloc, &[Class::KK, Class::KRK]);
-    let mut store = no_files(&alloc);
-    store.put(Class::KRK, MemoryFile::Bytes(text.as_slice()));
-    store.put(Class::KK, MemoryFile::Bytes(kings.as_slice()));
-    check_over(&rt, &alloc, &mut store, Some(1), EDITED_BY_PAGES);
+    check_by_a_page(
+        &rt,
+        &alloc,
+        text.as_slice(),
+        kings.as_slice(),
+        EDITED_BY_PAGES,
+    );
 }
 
 /// The text of KRK with a slower mate in one cell.
