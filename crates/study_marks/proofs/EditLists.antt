@@ -104,12 +104,15 @@ module _ {A : Type 0} where
   asked-at s (x ∷ es) (suc i) e r old new short is h =
       asked-at (edited s x) es i e r (counted_times (length (questions_of s x)) old) new (omega (arith, short)) is h
 
-  pub tells-at : {V : Type 0} (gives : V → Position → ProbeAnswer → Type 0) (may_fail : V → Class → SourceFault → Type 0) (asked_of : V → ℕ) (mid new : V) (s : Plainly) (es : List (Edit A))
+  pub tells-at : {V : Type 0} (gives : V → Position → ProbeAnswer → Type 0) (may_fail : V → Class → SourceFault → Type 0) (asked_of : V
+      → ℕ) (mid new : V) (s : Plainly) (es : List (Edit A))
       (i : ℕ) (e : Edit A) (r : Refusal A) → i < length es → e ≡ get_or es i e
       → TellsFirstFault gives may_fail asked_of mid (questions_of (edited_by s (take i es)) e) new r → StopsAtFault gives may_fail asked_of mid s es i new r
   tells-at gives may_fail asked_of mid new s [] i e r short is h = absurd (omega (arith, short))
-  tells-at gives may_fail asked_of mid new s (x ∷ es) zero e r short is h = subst (λ y. TellsFirstFault gives may_fail asked_of mid (questions_of s y) new r) is h
-  tells-at gives may_fail asked_of mid new s (x ∷ es) (suc i) e r short is h = tells-at gives may_fail asked_of mid new (edited s x) es i e r (omega (arith, short)) is h
+  tells-at gives may_fail asked_of mid new s (x ∷ es) zero e r short is h = subst (λ y. TellsFirstFault gives may_fail asked_of mid (questions_of s y) new r)
+      is h
+  tells-at gives may_fail asked_of mid new s (x ∷ es) (suc i) e r short is h = tells-at gives may_fail asked_of mid new (edited s x) es i e r
+      (omega (arith, short)) is h
 
 -- What these edits, all accepted, did.
 pub record IsRun {A : Type 0} (held held_now : Class → Bool) (honest honest_now : Type 0)

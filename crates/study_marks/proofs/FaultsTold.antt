@@ -1,5 +1,6 @@
 -- The fault of the first value that was not told, as a refusal.
-use Rattle.std.proofs.Common.{◌≡◌, ℕ, ◌+◌, ◌<◌, List, [], ◌∷◌, ◌++◌, length, take, drop, get_or, suc, inl, inr, Result, Ok, Err, IsErrAnd, IfErr, sym, ap, ◌∙◌, subst}
+use Rattle.std.proofs.Common.{◌≡◌, ℕ, ◌+◌, ◌<◌, List, [], ◌∷◌, ◌++◌, length, take, drop, get_or, suc, inl, inr, Result, Ok, Err, IsErrAnd, IfErr, sym, ap}
+use Rattle.std.proofs.Common.{◌∙◌, subst}
 use Rattle.study_board.specs.Position.{Position}
 use Rattle.study_material.specs.declared.class.Class.{Class}
 use Rattle.study_tablefile.specs.declared.fault.SourceFault.{SourceFault}
@@ -49,7 +50,8 @@ module _ {V : Type 0} (gives : V → Position → ProbeAnswer → Type 0) (may_f
       → WereTold gives may_fail asked_of old (asked_each (take (i + 1) ps)) new
   told-next old mid new ps i p short is h k =
       subst (λ (qs : List Position). WereTold gives may_fail asked_of old qs new)
-      (sym (ap asked_each (take-one ps i p short is) ∙ asked_each-append (take i ps) (p ∷ []) ∙ ap (λ x. asked_each (take i ps) ++ x) (append-none (asked_at p))))
+      (sym (ap asked_each (take-one ps i p short is) ∙ asked_each-append (take i ps) (p ∷ []) ∙ ap (λ x. asked_each (take i ps) ++ x)
+          (append-none (asked_at p))))
       (told-append old mid new (asked_each (take i ps)) (asked_at p) h k)
 
   pub first-at : (old mid new : V) (ps : List Position) (i : ℕ) (p : Position) (f : ProbeFault) → i < length ps → p ≡ get_or ps i p

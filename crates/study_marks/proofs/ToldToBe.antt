@@ -18,7 +18,8 @@ pub to-be : (all : List Told) (n : ℕ) (t : Plain Label) (ks : List ℕ) (r : T
 to-be all n t ks r found h = let s = spot-there t ks found in h s.0 s.1 ∙ ap (told_in all n) (sym (told-spot t ks s.0 s.1))
 
 -- the other way round
-pub as-shown : (all : List Told) (n : ℕ) (t : Plain Label) (ks : List ℕ) (s : Spot Label) → spot_at t ks ≡ Some s → told_to_be all n t ks ≡ told_in all n s.label.told
+pub as-shown : (all : List Told) (n : ℕ) (t : Plain Label) (ks : List ℕ) (s : Spot Label) → spot_at t ks ≡ Some s → told_to_be all n t ks
+    ≡ told_in all n s.label.told
 as-shown all n t ks s e = ap (told_in all n) (told-spot t ks s e)
 
 -- an edit below a node leaves what is told of it

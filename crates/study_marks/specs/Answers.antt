@@ -17,7 +17,8 @@ use Rattle.study_marks.specs.declared.fault.Refusal.TheVariants.{OutOfMemory, No
 module _ {V : Type 0} where
   -- values answer so to the question for a position, and are as they are then: an answer that they may give there, counted; a table that
   -- is not read is one that may fail so, and what may fail then could before
-  pub record Answers (gives : V → Position → ProbeAnswer → Type 0) (may_fail : V → Class → SourceFault → Type 0) (asked_of : V → ℕ) (old : V) (p : Position) (answer : ProbeAnswer) (new : V) : Type 0 where
+  pub record Answers (gives : V → Position → ProbeAnswer → Type 0) (may_fail : V → Class → SourceFault → Type 0)
+      (asked_of : V → ℕ) (old : V) (p : Position) (answer : ProbeAnswer) (new : V) : Type 0 where
     pub given : gives old p answer
     pub asked : asked_of new ≡ counted (asked_of old)
     pub failed_so : (c : Class) (f : SourceFault) → IsOf c p → IsErrOf answer (probe.TableRead f) → may_fail old c f
@@ -26,7 +27,8 @@ module _ {V : Type 0} where
   -- these positions were asked in their order, and the value of each was told
   abbrev pub WereTold : (V → Position → ProbeAnswer → Type 0) → (V → Class → SourceFault → Type 0) → (V → ℕ) → V → List Position → V → Type 0
   WereTold gives may_fail asked_of old [] new = new ≡ old
-  WereTold gives may_fail asked_of old (p ∷ ps) new = (v : Value) × (mid : V) × Answers gives may_fail asked_of old p (Ok v) mid × WereTold gives may_fail asked_of mid ps new
+  WereTold gives may_fail asked_of old (p ∷ ps) new = (v : Value) × (mid : V) × Answers gives may_fail asked_of old p (Ok v) mid
+      × WereTold gives may_fail asked_of mid ps new
 
   -- these positions were asked in their order, up to the first whose value was not told: its answer was this fault
   abbrev pub IsFirstFault : (V → Position → ProbeAnswer → Type 0) → (V → Class → SourceFault → Type 0) → (V → ℕ) → V → List Position → ProbeFault → V → Type 0
@@ -36,7 +38,8 @@ module _ {V : Type 0} where
       ⊎ ((v : Value) × (mid : V) × Answers gives may_fail asked_of old p (Ok v) mid × IsFirstFault gives may_fail asked_of mid ps f new)
 
   -- a refusal that is of the values tells the fault of the first of these that was not told
-  abbrev pub TellsFirstFault : {A : Type 0} → (V → Position → ProbeAnswer → Type 0) → (V → Class → SourceFault → Type 0) → (V → ℕ) → V → List Position → V → Refusal A → Type 0
+  abbrev pub TellsFirstFault : {A : Type 0} → (V → Position → ProbeAnswer → Type 0) → (V → Class → SourceFault → Type 0) → (V → ℕ) → V → List Position → V
+      → Refusal A → Type 0
   TellsFirstFault gives may_fail asked_of old asked new (NoTable c) = IsFirstFault gives may_fail asked_of old asked (probe.NoTable c) new
   TellsFirstFault gives may_fail asked_of old asked new (TableRead f) = IsFirstFault gives may_fail asked_of old asked f new
   TellsFirstFault gives may_fail asked_of old asked new NoSuchNode = Unit {0}

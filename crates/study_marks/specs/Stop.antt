@@ -111,13 +111,15 @@ module _ {A : Type 0} where
   failures_stopped (Err s) old = if is_of_device s.refusal then counted old else old
 
   -- after so many of the edits, the next is refused with the fault of the first value that was not told, of values as they were then
-  abbrev pub StopsAtFault : {V : Type 0} → (V → Position → ProbeAnswer → Type 0) → (V → Class → SourceFault → Type 0) → (V → ℕ) → V → Plainly → List (Edit A) → ℕ → V → Refusal A → Type 0
+  abbrev pub StopsAtFault : {V : Type 0} → (V → Position → ProbeAnswer → Type 0) → (V → Class → SourceFault → Type 0) → (V → ℕ) → V → Plainly → List (Edit A)
+      → ℕ → V → Refusal A → Type 0
   StopsAtFault gives may_fail asked_of mid s [] n new r = ⊥
   StopsAtFault gives may_fail asked_of mid s (e ∷ es) zero new r = TellsFirstFault gives may_fail asked_of mid (questions_of s e) new r
   StopsAtFault gives may_fail asked_of mid s (e ∷ es) (suc n) new r = StopsAtFault gives may_fail asked_of mid (edited s e) es n new r
 
   -- the values were asked what the accepted edits ask, and then what the refused one does, up to the first that was not told
-  pub record TellsStop {V : Type 0} (gives : V → Position → ProbeAnswer → Type 0) (may_fail : V → Class → SourceFault → Type 0) (asked_of : V → ℕ) (old new : V) (s : Plainly)
+  pub record TellsStop {V : Type 0} (gives : V → Position → ProbeAnswer → Type 0) (may_fail : V → Class → SourceFault → Type 0)
+      (asked_of : V → ℕ) (old new : V) (s : Plainly)
       (es : List (Edit A)) (stop : Stopped A) : Type 0 where
     pub mid : V
     pub asked : asked_of mid ≡ asked_after_edits s (take stop.done es) (asked_of old)

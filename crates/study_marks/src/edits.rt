@@ -13,7 +13,8 @@ ghost use Rattle.study_tree.specs.Tree.{with_child, without, moved_up};
 ghost use Rattle.study_marks.specs.declared.label.Told.{Told as ATold};
 ghost use Rattle.study_marks.specs.Kept.{marked, told_tree, IsKeptRight};
 ghost use Rattle.study_marks.specs.Asked.{asked_at, positions_asked, is_of_tables, AllHeld, IsOutside, HasAsked, failures_after, counted_times};
-ghost use Rattle.study_marks.specs.Stop.{AreKeptAfter, IsShiftRefusal, IsStopped, TellsStop, questions_of, AreAccepted, labels_by, HasAskedBy, failures_stopped, IsApplied};
+ghost use Rattle.study_marks.specs.Stop.{AreKeptAfter, IsShiftRefusal, IsStopped, TellsStop, questions_of, AreAccepted, labels_by, HasAskedBy};
+ghost use Rattle.study_marks.specs.Stop.{failures_stopped, IsApplied};
 ghost use Rattle.study_marks.specs.Edits.{broken_from, positioned, shifted, stipulated, inserted, deleted};
 ghost use Rattle.study_marks.specs.Edits.{promoted, tagged, edited_by, accepted_of, insert_refusal, delete_refusal};
 ghost use Rattle.study_marks.specs.Edits.{promote_refusal, shift_refusal, is_printable, is_tag_text, tag_refusal};
@@ -118,7 +119,8 @@ impl<'a, A: Allocator> Bench<'a, A> {
         ensures right { V.is_honest values.old → OnOk result (IsKeptRight self.new) }
         ensures relabelled { OnOk result (self.new.relabelled ≡ counted_times (size_of (marked self.old).tree) self.old.relabelled) }
         ensures no_damage { V.is_honest values.old → IfErr result IsUndamaged }
-        ensures first { IfErr result (TellsFirstFault V.gives V.may_fail V.asked_of values.old (positions_asked (shifted (plain_study (marked self.old)) start)) values.new) }
+        ensures first { IfErr result (TellsFirstFault V.gives V.may_fail V.asked_of values.old
+            (positions_asked (shifted (plain_study (marked self.old)) start)) values.new) }
         ensures found { OnOk result (AllHeld (V.held values.old) (positions_asked (shifted (plain_study (marked self.old)) start))) }
         ensures asked { HasAsked (length (positions_asked (shifted (plain_study (marked self.old)) start))) result
             (V.asked_of values.old) (V.asked_of values.new) }
@@ -146,7 +148,8 @@ impl<'a, A: Allocator> Bench<'a, A> {
             (IfErr result (IsOutside (V.held values.old) (asked_at (after (position_at (marked self.old) path.now) m))))
             (λ fault. result ≡ Err fault) }
         ensures no_damage { V.is_honest values.old → IfErr result IsUndamaged }
-        ensures first { IfErr result (TellsFirstFault V.gives V.may_fail V.asked_of values.old (asked_at (after (position_at (marked self.old) path.now) m)) values.new) }
+        ensures first { IfErr result (TellsFirstFault V.gives V.may_fail V.asked_of values.old
+            (asked_at (after (position_at (marked self.old) path.now) m)) values.new) }
         ensures found { OnOk result (AllHeld (V.held values.old) (asked_at (after (position_at (marked self.old) path.now) m))) }
         ensures edited { OnOk result (plain_study (marked self.new) ≡ inserted (plain_study (marked self.old)) path.now m) }
         ensures kept { OnOk result ((told : ATold) × (told_tree self.new.study.tree ≡ with_child (told_tree self.old.study.tree) path.now m told)) }
@@ -313,7 +316,8 @@ impl<'a, A: Allocator> Bench<'a, A> {
         requires playable { IsPlayable start.position self.old.study.tree.below }
         ensures refusal { IfErr result (IsOutside (V.held values.old) (positions_asked (shifted (plain_study (marked self.old)) start))) }
         ensures no_damage { V.is_honest values.old → IfErr result IsUndamaged }
-        ensures first { IfErr result (TellsFirstFault V.gives V.may_fail V.asked_of values.old (positions_asked (shifted (plain_study (marked self.old)) start)) values.new) }
+        ensures first { IfErr result (TellsFirstFault V.gives V.may_fail V.asked_of values.old
+            (positions_asked (shifted (plain_study (marked self.old)) start)) values.new) }
         ensures found { OnOk result (AllHeld (V.held values.old) (positions_asked (shifted (plain_study (marked self.old)) start))) }
         ensures edited { OnOk result (plain_study (marked self.new) ≡ shifted (plain_study (marked self.old)) start) }
         ensures right { V.is_honest values.old → OnOk result (IsKeptRight self.new) }
@@ -340,7 +344,8 @@ impl<'a, A: Allocator> Bench<'a, A> {
             self.old self.new edit.now result }
         ensures fails_as_before { (c : AClass) (f : ASourceFault) → V.may_fail values.new c f → V.may_fail values.old c f }
         ensures no_damage { V.is_honest values.old → IfErr result IsUndamaged }
-        ensures first { IfErr result (TellsFirstFault V.gives V.may_fail V.asked_of values.old (questions_of (plain_study (marked self.old)) edit.now) values.new) }
+        ensures first { IfErr result (TellsFirstFault V.gives V.may_fail V.asked_of values.old
+            (questions_of (plain_study (marked self.old)) edit.now) values.new) }
     {
         match edit {
             Edit::Position(start) => self.set_position(start.copied(), values),

@@ -145,7 +145,8 @@ pub fn gather<'a, A: Allocator, V: Values>(
     ensures game { V.is_honest values.old → IfOk result (λ all. AllAreTold position.now (retold_tree all.items (told_tree (plain_tree tree.now)))) }
     ensures refusal { IfErr result (IsOutside (V.held values.old) (asked_at position.now ++ asked_below position.now (plain_tree tree.now).below)) }
     ensures no_damage { V.is_honest values.old → IfErr result IsUndamaged }
-    ensures first { IfErr result (TellsFirstFault V.gives V.may_fail V.asked_of values.old (asked_at position.now ++ asked_below position.now (plain_tree tree.now).below) values.new) }
+    ensures first { IfErr result (TellsFirstFault V.gives V.may_fail V.asked_of values.old
+        (asked_at position.now ++ asked_below position.now (plain_tree tree.now).below) values.new) }
     ensures found { OnOk result (AreTablesHeld (V.held values.old) (asked_at position.now ++ asked_below position.now (plain_tree tree.now).below)) }
     ensures asked { HasAsked (length (asked_at position.now ++ asked_below position.now (plain_tree tree.now).below)) result
         (V.asked_of values.old) (V.asked_of values.new) }

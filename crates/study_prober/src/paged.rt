@@ -17,7 +17,8 @@ ghost use Rattle.study_prober.specs.Cache.{kept_cell};
 ghost use Rattle.study_prober.specs.declared.held.HeldSource.{HeldSource as AHeld};
 ghost use Rattle.study_prober.specs.Sources.{AreHonestAlike, GiveAlike, HasBadPage, IsReadFrom, GivesRight};
 ghost use Rattle.study_prober.specs.Sources.{IsHeaderOf, PutsNone, PutsOnly, failed_after};
-ghost use Rattle.study_prober.specs.Paged.{SourcesAreRight, AreGiven, IsKept, IsPageFor, IsPagedAnswer, IsSameSource, IsToldAgain, MayFail, held_of, places_for_classes};
+ghost use Rattle.study_prober.specs.Paged.{SourcesAreRight, AreGiven, IsKept, IsPageFor, IsPagedAnswer, IsSameSource, IsToldAgain, MayFail, held_of};
+ghost use Rattle.study_prober.specs.Paged.{places_for_classes};
 ghost use Rattle.study_prober.specs.Values.{IsNotDamage, faults_after};
 ghost use Rattle.study_prober.specs.Told.{IsRefusedBy, MayAnswer, paged_fault};
 

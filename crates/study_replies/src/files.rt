@@ -10,7 +10,7 @@ use study_index::cells;
 use study_material::Class;
 use study_retro::Table;
 use study_script::memory::{MemoryFile, MemoryStore};
-use study_tablefile::memory::{MemoryReader, MemoryWriter};
+use study_tablefile::memory::{MemoryReader, MemoryWriter, WhenFull};
 use study_tablefile::{read_table, write_table};
 
 const SAVED: Rows<'static> = "load KRK -> error MissingTable KK
@@ -141,6 +141,88 @@ fn pages_that_are_damaged(rt: HostRuntime) -> Result<(), Fail> {
     Ok(())
 }
 
+const LATER_PAGE: Rows<'static> = "load KRK -> loaded KRK cells 81920
+load KK -> loaded KK cells 1280
+position k7/8/1K6/8/8/8/8/7R w - - 0 1 -> position k7/8/1K6/8/8/8/8/7R w - - 0 1
+stipulate white win -> error TableRead Page 15
+mark root -> error NoStudy";
+
+/// Over the files of KRK and of KK, by one page.
+fn check_by_a_page<'x, A: Allocator>(
+    rt: &impl Abort,
+    alloc: &A,
+    rook: &'x [u8],
+    kings: &'x [u8],
+    rows: Rows<'static>,
+) {
+    let mut store = no_files(alloc);
+    store.put(Class::KRK, MemoryFile::Bytes(rook));
+    store.put(Class::KK, MemoryFile::Bytes(kings));
+    check_over(rt, alloc, &mut store, Some(1), rows);
+}
+
+/// The page of the root is whole, number 20,543, and that of the position after its first move is not: after Ra1+ the number is
+/// `((10 + 5) * 64 + 0) * 64 + 7`, 61,447, on page 15.
+#[test]
+fn damage_of_a_later_page(rt: HostRuntime) -> Result<(), Fail> {
+    let alloc = rt.alloc();
+    let kings = text_of(&rt, &alloc, &[Class::KK]);
+    let text = text_of(&rt, &alloc, &[Class::KK, Class::KRK]);
+    let mut wrong = text.as_slice().to_vec(&alloc)?;
+    for page in 0..20usize {
+        if page == 5 {
+            continue;
+        }
+        if let Some(cell) = wrong.as_mut_slice().get_mut(64 + 4128 * page) {
+            *cell ^= 1;
+        }
+    }
+    check_by_a_page(&rt, &alloc, wrong.as_slice(), kings.as_slice(), LATER_PAGE);
+    Ok(())
+}
+
+const SHORT_PAGE: Rows<'static> = "load KRK -> loaded KRK cells 81920
+position k7/8/1K6/8/8/8/8/7R w - - 0 1 -> position k7/8/1K6/8/8/8/8/7R w - - 0 1
+stipulate white win -> error TableRead Short
+mark root -> error NoStudy";
+
+/// A file that ends within the page of the root, as far as which it is read.
+#[test]
+fn pages_that_are_not_there(rt: HostRuntime) {
+    let alloc = rt.alloc();
+    let text = text_of(&rt, &alloc, &[Class::KK, Class::KRK]);
+    let (short, _) = text.as_slice().split_at(text.len().min(64 + 4128 * 6 - 1));
+    let mut store = no_files(&alloc);
+    store.put(Class::KRK, MemoryFile::Bytes(short));
+    check_over(&rt, &alloc, &mut store, Some(1), SHORT_PAGE);
+}
+
+const EDITED_BY_PAGES: Rows<'static> = "load KRK -> loaded KRK cells 81920
+load KK -> loaded KK cells 1280
+position k7/8/1K6/8/8/8/8/7R w - - 0 1 -> position k7/8/1K6/8/8/8/8/7R w - - 0 1
+stipulate white win -> stipulate White to win
+insert root Rh8 -> insert 0 Rh8#
+mark 0 -> mark 0 loss 0 dual 19 faults 1
+shift k7/8/K7/8/8/8/8/7R w - - 0 1 -> shift k7/8/K7/8/8/8/8/7R w - - 0 1
+mark 0 -> mark 0 loss 0 dual 15 faults 1
+position k7/8/1K6/8/8/8/8/7R w - - 0 1 -> position k7/8/1K6/8/8/8/8/7R w - - 0 1
+mark root -> mark root win 1 - faults 0";
+
+/// The edits that ask values, over tables read by pages.
+#[test]
+fn edits_by_pages(rt: HostRuntime) {
+    let alloc = rt.alloc();
+    let kings = text_of(&rt, &alloc, &[Class::KK]);
+    let text = text_of(&rt, &alloc, &[Class::KK, Class::KRK]);
+    check_by_a_page(
+        &rt,
+        &alloc,
+        text.as_slice(),
+        kings.as_slice(),
+        EDITED_BY_PAGES,
+    );
+}
+
 /// The text of KRK with a slower mate in one cell.
 fn lying<'a, A: Allocator>(rt: &impl Abort, alloc: &'a A, text: &[u8]) -> Vec<u8, &'a A> {
     let table = read_table(alloc, &mut MemoryReader::new(text))
@@ -169,6 +251,38 @@ fn lies_are_found(rt: HostRuntime) {
     let mut store = no_files(&alloc);
     store.put(Class::KRK, MemoryFile::Bytes(lie.as_slice()));
     check_over(&rt, &alloc, &mut store, None, LIES);
+}
+
+const BUILT: Rows<'static> = "build KK -> built KK cells 1280 win -
+build KRK -> built KRK cells 81920 win 31
+verify KRK -> verified KRK yes";
+
+/// A table is built, and not taken from a file that lies.
+#[test]
+fn built_beside_a_lie(rt: HostRuntime) {
+    let alloc = rt.alloc();
+    let text = text_of(&rt, &alloc, &[Class::KK, Class::KRK]);
+    let lie = lying(&rt, &alloc, text.as_slice());
+    let mut store = no_files(&alloc);
+    store.put(Class::KRK, MemoryFile::Bytes(lie.as_slice()));
+    check_over(&rt, &alloc, &mut store, None, BUILT);
+}
+
+const FULL: Rows<'static> = "build KK -> built KK cells 1280 win -
+save KK -> error Device
+verify KK -> verified KK yes";
+
+/// A file that is opened and not written whole is not saved.
+#[test]
+fn writers_that_fail(rt: HostRuntime) {
+    let alloc = rt.alloc();
+    for when_full in [WhenFull::Fail, WhenFull::TakeNothing] {
+        for room in [0usize, 63, 64, 4_191] {
+            let writers = [RefCell::new(MemoryWriter::with_room(&alloc, room, when_full))];
+            let mut store = MemoryStore::new(writers.as_slice());
+            check_over(&rt, &alloc, &mut store, None, FULL);
+        }
+    }
 }
 
 /// The text of a table whose cells are all the same.

@@ -83,3 +83,46 @@ mark root -> mark root draw - faults 0";
 fn edits(rt: HostRuntime) {
     check(&rt, &rt.alloc(), EDITS);
 }
+
+const NEEDS: Rows<'static> = "build KQK -> error MissingTable KK
+build KRK -> error MissingTable KK
+build KBK -> error MissingTable KK
+build KNK -> error MissingTable KK
+build KPK -> error MissingTable KK
+build KQQK -> error MissingTable KQK
+build KQRK -> error MissingTable KQK
+build KQBK -> error MissingTable KQK
+build KQNK -> error MissingTable KQK
+build KQPK -> error MissingTable KQK
+build KRRK -> error MissingTable KRK
+build KRBK -> error MissingTable KRK
+build KRNK -> error MissingTable KRK
+build KRPK -> error MissingTable KRK
+build KBBK -> error MissingTable KBK
+build KBNK -> error MissingTable KBK
+build KBPK -> error MissingTable KBK
+build KNNK -> error MissingTable KNK
+build KNPK -> error MissingTable KNK
+build KPPK -> error MissingTable KPK
+build KQKQ -> error MissingTable KQK
+build KQKR -> error MissingTable KQK
+build KQKB -> error MissingTable KQK
+build KQKN -> error MissingTable KQK
+build KQKP -> error MissingTable KQK
+build KRKR -> error MissingTable KRK
+build KRKB -> error MissingTable KRK
+build KRKN -> error MissingTable KRK
+build KRKP -> error MissingTable KQK
+build KBKB -> error MissingTable KBK
+build KBKN -> error MissingTable KBK
+build KBKP -> error MissingTable KQK
+build KNKN -> error MissingTable KNK
+build KNKP -> error MissingTable KQK
+build KPKP -> error MissingTable KPK
+build KK -> built KK cells 1280 win -";
+
+/// The room of each class is found where memory is ample, before its first need is missed.
+#[test]
+fn rooms(rt: HostRuntime) {
+    check(&rt, &rt.alloc(), NEEDS);
+}

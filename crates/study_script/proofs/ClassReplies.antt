@@ -172,7 +172,8 @@ module _ (w : Whole) (s : State) (h : HoldsWhole w s) (c : Class) where
 -- ---- which tables are held
 
 module _ {P A : Type 0} where
-  pub whole_of : (honest : P → Table → ℕ → Type 0) (gives : GivesOf P) (t : Tables P A) (w : Whole) (s : State) → t ≡ held.Whole w → HoldsTables honest gives t s → HoldsWhole w s
+  pub whole_of : (honest : P → Table → ℕ → Type 0) (gives : GivesOf P) (t : Tables P A) (w : Whole) (s : State) → t ≡ held.Whole w
+      → HoldsTables honest gives t s → HoldsWhole w s
   whole_of honest gives t w s e h = let k = subst (λ (x : Tables P A). HoldsTables honest gives x s) e h in
       record { values = k.values; classes = k.classes; whole = k.paged }
 
@@ -183,7 +184,8 @@ module _ {P A : Type 0} where
 
   pub tables_whole : (honest : P → Table → ℕ → Type 0) (gives : GivesOf P) (w : Whole) (s t : State) → HoldsWhole w t
       → t.board ≡ s.board → TablesFrom {A = A} honest gives s (held.Whole w) t
-  tables_whole honest gives w s t h e = record { holds = record { values = h.values; classes = h.classes; paged = h.whole; faults = λ c f m. absurd m }; board = e }
+  tables_whole honest gives w s t h e = record { holds = record { values = h.values; classes = h.classes; paged = h.whole; faults = λ c f m. absurd m }; board
+      = e }
 
   pub tables_paged : (honest : P → Table → ℕ → Type 0) (gives : GivesOf P) (w : Paged P) (s t : State) → HoldsPaged honest gives w t
       → t.board ≡ s.board → TablesFrom {A = A} honest gives s (held.Paged w) t

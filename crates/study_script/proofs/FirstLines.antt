@@ -330,6 +330,7 @@ next_trusted trusted script now next line n bytes g t e h = go now next (subst (
     go (Some rest) (Some rest') g t = held_at (IsTrusted trusted) (script_lines bytes) (script_lines rest') n line h (g.known.left_is ∙ t)
 
 -- a premise on the bytes of a script
-pub with_trust : (script : Option (List ℕ)) (P Q : List ℕ → Type 0) → ((bytes : List ℕ) → script ≡ Some bytes → Q bytes → IfSome script P) → IfSome script (λ bytes. Q bytes → P bytes)
+pub with_trust : (script : Option (List ℕ)) (P Q : List ℕ → Type 0) → ((bytes : List ℕ) → script ≡ Some bytes → Q bytes → IfSome script P)
+    → IfSome script (λ bytes. Q bytes → P bytes)
 with_trust None P Q f = tt
 with_trust (Some bytes) P Q f = λ q. f bytes refl q

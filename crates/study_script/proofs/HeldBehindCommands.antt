@@ -161,13 +161,16 @@ pub ok_kept : {E : Type 0} (I J : Outside → Reply → Type 0) (H K : State →
 ok_kept I J H K (Ok b) old new f g (o, reply, i, a, h, e) = (o, reply, f o reply i, a, g o reply i h, e)
 ok_kept I J H K (Err e) old new f g h = tt
 
-pub board_held : {P A : Type 0} (honest : P → Table → ℕ → Type 0) (gives : GivesOf P) (b : HeldBoard A) (t : Tables P A) (s : State) → Holds honest gives b t s → HoldsBoard b s
+pub board_held : {P A : Type 0} (honest : P → Table → ℕ → Type 0) (gives : GivesOf P) (b : HeldBoard A) (t : Tables P A) (s : State)
+    → Holds honest gives b t s → HoldsBoard b s
 board_held honest gives b t s h = record { board = h.board; marks = h.marks }
 
-pub tables_there : {P A : Type 0} (honest : P → Table → ℕ → Type 0) (gives : GivesOf P) (b : HeldBoard A) (t : Tables P A) (s : State) → Holds honest gives b t s → HoldsTables honest gives t s
+pub tables_there : {P A : Type 0} (honest : P → Table → ℕ → Type 0) (gives : GivesOf P) (b : HeldBoard A) (t : Tables P A) (s : State)
+    → Holds honest gives b t s → HoldsTables honest gives t s
 tables_there honest gives b t s h = record { values = h.values; classes = h.classes; paged = h.paged; faults = h.faults }
 
-module _ {S : Type 0} (stores : S → Bool → Type 0) (files headers : S → Class → Option (Result (List ℕ) StoreFault)) (faults : S → Class → SourceFault → Bool) where
+module _ {S : Type 0} (stores : S → Bool → Type 0) (files headers : S → Class → Option (Result (List ℕ) StoreFault)) (faults : S → Class → SourceFault
+    → Bool) where
   store_same : (store : S) (s t : State) → IsBeside s t → StoreSeen stores files headers faults store s → StoreSeen stores files headers faults store t
   store_same store s t e k = record {
     is_honest = subst (stores store) (sym e.paged) k.is_honest;

@@ -1,5 +1,6 @@
 -- Files in memory.
-use Rattle.std.proofs.Common.{◌≡◌, ◌≢◌, ℕ, ◌+◌, ◌*◌, ◌<◌, Bool, true, false, cond, List, length, set, Option, None, is_some, Err, sym, ap, subst, ◌∙◌, inl, inr, arith}
+use Rattle.std.proofs.Common.{◌≡◌, ◌≢◌, ℕ, ◌+◌, ◌*◌, ◌<◌, Bool, true, false, cond, List, length, set, Option, None, is_some, Err, sym, ap, subst, ◌∙◌, inl}
+use Rattle.std.proofs.Common.{inr, arith}
 use Rattle.std.proofs.lemmas.Bool.{lt-ltb}
 use Rattle.std.proofs.lemmas.List.{get_or-set_same, get_or-set_other}
 use Rattle.study_material.specs.declared.class.Class.{Class}
@@ -47,7 +48,8 @@ module _ (files : List MemoryFile) (c : Class) (full : length files ≡ 36) wher
       → memory_faults fails (memory_file (set files (class_place c) Written) d) d f
       ≡ forgotten_faults c (λ k g. memory_faults fails (memory_file files k) k g) d f
   faults_anew fails d f = elim (same_class c d) [
-    | inl e ↦ ap (λ x. memory_faults fails x d f) (written_at d e) ∙ sym (ap (λ b. cond b true (memory_faults fails (memory_file files d) d f)) (same_at d c (sym e)))
+    | inl e ↦ ap (λ x. memory_faults fails x d f) (written_at d e) ∙ sym (ap (λ b. cond b true (memory_faults fails (memory_file files d) d f))
+        (same_at d c (sym e)))
     | inr k ↦ ap (λ x. memory_faults fails x d f) (kept_at d k)
         ∙ sym (ap (λ b. cond b true (memory_faults fails (memory_file files d) d f)) (other_at d c (λ e. k (ap class_place (sym e)))))
   ]

@@ -81,7 +81,8 @@ module _ {P : Type 0} (honest : P → Table → ℕ → Type 0) (gives : GivesOf
       kept : HoldsPaged honest gives v s
       kept = subst (λ (x : Paged P). HoldsPaged honest gives x s) (sym same) h
 
-      no_room : (t : Result (List ℕ) SourceFault) → IsGivenAs (s.shelf.headers c) (s.shelf.faults c) t → paged_fault false c t ≡ None → fault ≡ fault_of.OutOfMemory
+      no_room : (t : Result (List ℕ) SourceFault) → IsGivenAs (s.shelf.headers c) (s.shelf.faults c) t → paged_fault false c t ≡ None → fault
+          ≡ fault_of.OutOfMemory
           → Decided (λ o. IsOpenReply s o c (is_among s.classes c)) (λ u. HoldsPaged honest gives v u × (u.board ≡ s.board) × Seen u) (Err (of_paged fault))
       no_room (Ok bytes) given none is = (
         no_room_for bytes,

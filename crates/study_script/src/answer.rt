@@ -33,7 +33,8 @@ pub fn answer<'a, W: Write, S: TableStore, A: Allocator>(
 ) -> Result<bool, DeviceFailed>
     ensures ok { (trusted : AClass → Bool) (s : State) → IsTrusted trusted line.now
         → DeskHolds S.Pages.honest S.Pages.gives (HonestOn trusted S.honest) S.files S.headers S.faults board.old tables.old store.old s
-        → IfOk result (Answered (IsReply s line.now) (DeskHolds S.Pages.honest S.Pages.gives (HonestOn trusted S.honest) S.files S.headers S.faults board.new tables.new store.new)
+        → IfOk result (Answered (IsReply s line.now)
+            (DeskHolds S.Pages.honest S.Pages.gives (HonestOn trusted S.honest) S.files S.headers S.faults board.new tables.new store.new)
         (W.contents out.old) (W.contents out.new)) }
     ensures err { (trusted : AClass → Bool) (s : State) → IsTrusted trusted line.now
         → DeskHolds S.Pages.honest S.Pages.gives (HonestOn trusted S.honest) S.files S.headers S.faults board.old tables.old store.old s
@@ -60,7 +61,8 @@ fn carry_out<'a, W: Write, S: TableStore, A: Allocator>(
     ensures ok { (trusted : AClass → Bool) (s : State) → IsTrustedAsked trusted (command_seen command.now)
         → DeskHolds S.Pages.honest S.Pages.gives (HonestOn trusted S.honest) S.files S.headers S.faults board.old tables.old store.old s
         → IfOk result (Answered (λ o. IsReplyTo s o (command_seen command.now))
-        (DeskHolds S.Pages.honest S.Pages.gives (HonestOn trusted S.honest) S.files S.headers S.faults board.new tables.new store.new) (W.contents out.old) (W.contents out.new)) }
+        (DeskHolds S.Pages.honest S.Pages.gives (HonestOn trusted S.honest) S.files S.headers S.faults board.new tables.new store.new)
+        (W.contents out.old) (W.contents out.new)) }
     ensures err { (trusted : AClass → Bool) (s : State) → IsTrustedAsked trusted (command_seen command.now)
         → DeskHolds S.Pages.honest S.Pages.gives (HonestOn trusted S.honest) S.files S.headers S.faults board.old tables.old store.old s
         → OnErr result (BrokenOff (λ o. IsReplyTo s o (command_seen command.now)) (W.contents out.old) (W.contents out.new)) }

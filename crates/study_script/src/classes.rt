@@ -88,7 +88,8 @@ fn in_pages<'a, S: TableStore, A: Allocator>(
     ensures { (trusted : AClass → Bool) (s : State) → IsTrustedClass trusted word name.now
         → HoldsPaged S.Pages.honest S.Pages.gives tables.old s → StoreSeen (HonestOn trusted S.honest) S.files S.headers S.faults store.old s
         → Decided (λ o. IsClassReply s o word name.now)
-        (λ t. HoldsPaged S.Pages.honest S.Pages.gives tables.new t × (t.board ≡ s.board) × StoreSeen (HonestOn trusted S.honest) S.files S.headers S.faults store.new t)
+        (λ t. HoldsPaged S.Pages.honest S.Pages.gives tables.new t × (t.board ≡ s.board)
+            × StoreSeen (HonestOn trusted S.honest) S.files S.headers S.faults store.new t)
         result }
 {
     match word {
@@ -161,7 +162,8 @@ fn load_class<'a, S: TableStore, A: Allocator>(
     store: &mut S,
     class: Class,
 ) -> Result<Told, Refusal>
-    ensures { (trusted : AClass → Bool) (s : State) → trusted class ≡ true → HoldsWhole tables.old s → StoreSeen (HonestOn trusted S.honest) S.files S.headers S.faults store.old s
+    ensures { (trusted : AClass → Bool) (s : State) → trusted class ≡ true → HoldsWhole tables.old s
+        → StoreSeen (HonestOn trusted S.honest) S.files S.headers S.faults store.old s
         → Decided (λ o. IsLoadReply s o class (is_among s.classes class) (first_lacking s.classes class))
         (λ t. WholeFrom s tables.new t × StoreSeen (HonestOn trusted S.honest) S.files S.headers S.faults store.new t) result }
 {
@@ -188,7 +190,8 @@ fn table_in_file<'a, S: TableStore, A: Allocator>(
     ensures read { S.honest store.old false class
         → IfOk result (λ t. (bytes : List ℕ) × IsGiven (S.files store.old class) (Ok bytes) × (table_read bytes ≡ Ok t) × IsRight t) }
     ensures refused { S.honest store.old false class → IfErr result (λ refusal. IsFileRefusal (S.files store.old class) refusal) }
-    ensures store { (trusted : AClass → Bool) (s : State) → StoreSeen (HonestOn trusted S.honest) S.files S.headers S.faults store.old s → StoreSeen (HonestOn trusted S.honest) S.files S.headers S.faults store.new s }
+    ensures store { (trusted : AClass → Bool) (s : State) → StoreSeen (HonestOn trusted S.honest) S.files S.headers S.faults store.old s
+        → StoreSeen (HonestOn trusted S.honest) S.files S.headers S.faults store.new s }
 {
     let mut reader = match store.reader(class) {
         Ok(reader) => reader,
@@ -216,9 +219,11 @@ fn open_class<'a, S: TableStore, A: Allocator>(
     store: &mut S,
     class: Class,
 ) -> Result<Told, Refusal>
-    ensures { (trusted : AClass → Bool) (s : State) → trusted class ≡ true → HoldsPaged S.Pages.honest S.Pages.gives tables.old s → StoreSeen (HonestOn trusted S.honest) S.files S.headers S.faults store.old s
+    ensures { (trusted : AClass → Bool) (s : State) → trusted class ≡ true → HoldsPaged S.Pages.honest S.Pages.gives tables.old s
+        → StoreSeen (HonestOn trusted S.honest) S.files S.headers S.faults store.old s
         → Decided (λ o. IsOpenReply s o class (is_among s.classes class))
-        (λ t. HoldsPaged S.Pages.honest S.Pages.gives tables.new t × (t.board ≡ s.board) × StoreSeen (HonestOn trusted S.honest) S.files S.headers S.faults store.new t)
+        (λ t. HoldsPaged S.Pages.honest S.Pages.gives tables.new t × (t.board ≡ s.board)
+            × StoreSeen (HonestOn trusted S.honest) S.files S.headers S.faults store.new t)
         result }
 {
     if tables.holds(class) {

@@ -40,7 +40,8 @@ impl<'a, 's, S: TableStore, A: Allocator> Desk for StudyDesk<'a, 's, S, A> {
     ghost use Rattle.study_script.specs.Desk.{DeskHolds};
     ghost use Rattle.study_script.specs.Stored.{HonestOn};
 
-    ghost holds = { λ d trusted s. DeskHolds S.Pages.honest S.Pages.gives (HonestOn trusted S.honest) S.files S.headers S.faults d.board d.tables d.store.now s };
+    ghost holds = { λ d trusted s. DeskHolds S.Pages.honest S.Pages.gives (HonestOn trusted S.honest) S.files S.headers S.faults
+        d.board d.tables d.store.now s };
 
     fn answer<W: Write>(&mut self, line: &[u8], out: &mut W) -> Result<bool, DeviceFailed> {
         answer::answer(

@@ -31,7 +31,8 @@ pub fn set_position<'a, P: PageSource, A: Allocator>(
     ensures refusal { IfErr result (IsOutside (tables_held tables.old) (asked_at start.position)) }
     ensures device { IfErr result (IsToldBy (are_paged tables.old)) }
     ensures takes_no_memory { IfErr result (λ e. is_of_tables e ≡ true) }
-    ensures first { IfErr result (TellsFirstFault (tables_give P.gives) (tables_may_fail P.gives) tables_asked tables.old (asked_at start.position) tables.new) }
+    ensures first { IfErr result (TellsFirstFault (tables_give P.gives) (tables_may_fail P.gives) tables_asked tables.old
+        (asked_at start.position) tables.new) }
     ensures no_damage { tables_honest P.honest tables.old → IfErr result IsUndamaged }
     ensures found { OnOk result (AllHeld (tables_held tables.old) (asked_at start.position)) }
     ensures edited { OnOk result (plain_study (marked bench.new) ≡ positioned (plain_study (marked bench.old)) start) }
@@ -58,7 +59,8 @@ pub fn shift_position<'a, P: PageSource, A: Allocator>(
         (shift_refusal (plain_study (marked bench.old)) start)) }
     ensures broken { OnOk result (broken_from 0 start.position (marked bench.old).tree.below ≡ None) }
     ensures device { IfErr result (IsToldBy (are_paged tables.old)) }
-    ensures first { IfErr result (TellsFirstFault (tables_give P.gives) (tables_may_fail P.gives) tables_asked tables.old (positions_asked (shifted (plain_study (marked bench.old)) start)) tables.new) }
+    ensures first { IfErr result (TellsFirstFault (tables_give P.gives) (tables_may_fail P.gives) tables_asked tables.old
+        (positions_asked (shifted (plain_study (marked bench.old)) start)) tables.new) }
     ensures no_damage { tables_honest P.honest tables.old → IfErr result IsUndamaged }
     ensures found { OnOk result (AllHeld (tables_held tables.old) (positions_asked (shifted (plain_study (marked bench.old)) start))) }
     ensures edited { OnOk result (plain_study (marked bench.new) ≡ shifted (plain_study (marked bench.old)) start) }
@@ -86,7 +88,8 @@ pub fn insert_move<'a, P: PageSource, A: Allocator>(
         (IfErr result (IsOutside (tables_held tables.old) (asked_at (after (position_at (marked bench.old) path.now) m))))
         (λ fault. result ≡ Err fault) }
     ensures device { IfErr result (IsToldBy (are_paged tables.old)) }
-    ensures first { IfErr result (TellsFirstFault (tables_give P.gives) (tables_may_fail P.gives) tables_asked tables.old (asked_at (after (position_at (marked bench.old) path.now) m)) tables.new) }
+    ensures first { IfErr result (TellsFirstFault (tables_give P.gives) (tables_may_fail P.gives) tables_asked tables.old
+        (asked_at (after (position_at (marked bench.old) path.now) m)) tables.new) }
     ensures no_damage { tables_honest P.honest tables.old → IfErr result IsUndamaged }
     ensures found { OnOk result (AllHeld (tables_held tables.old) (asked_at (after (position_at (marked bench.old) path.now) m))) }
     ensures edited { OnOk result (plain_study (marked bench.new) ≡ inserted (plain_study (marked bench.old)) path.now m) }
@@ -114,7 +117,8 @@ pub fn new_bench<'a, P: PageSource, A: Allocator>(
     ensures refusal { IfErr result (IsOutside (tables_held tables.old) (asked_at start.position)) }
     ensures device { IfErr result (IsToldBy (are_paged tables.old)) }
     ensures takes_no_memory { IfErr result (λ e. is_of_tables e ≡ true) }
-    ensures first { IfErr result (TellsFirstFault (tables_give P.gives) (tables_may_fail P.gives) tables_asked tables.old (asked_at start.position) tables.new) }
+    ensures first { IfErr result (TellsFirstFault (tables_give P.gives) (tables_may_fail P.gives) tables_asked tables.old
+        (asked_at start.position) tables.new) }
     ensures no_damage { tables_honest P.honest tables.old → IfErr result IsUndamaged }
     ensures found { OnOk result (AllHeld (tables_held tables.old) (asked_at start.position)) }
     ensures made { IfOk result (λ b. plain_study (marked b) ≡ new_study start stipulation) }

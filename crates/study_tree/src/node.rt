@@ -1,5 +1,6 @@
 //! Nodes, and what a path leads to among them.
-ghost use Rattle.std.specs.Prelude.{◌≡◌, ◌+◌, ◌-◌, ◌<◌, ◌^◌, IsTrue, IsOk, IfOk, IsSome, IfSome, OnErr, OnOk, [], ◌∷◌, vec_len, vec_capacity, remove, slice_index_or};
+ghost use Rattle.std.specs.Prelude.{◌≡◌, ◌+◌, ◌-◌, ◌<◌, ◌^◌, IsTrue, IsOk, IfOk, IsSome, IfSome, OnErr, OnOk, [], ◌∷◌, vec_len, vec_capacity, remove};
+ghost use Rattle.std.specs.Prelude.{slice_index_or};
 ghost use Rattle.std.specs.Option.{option_copied};
 ghost use Rattle.study_tree.specs.Forest.{forest_of, nodes_in, nodes_from};
 ghost use Rattle.study_tree.specs.Edits.{has_node, node_in, add_last, children_at, plain, spare_at};
@@ -92,7 +93,8 @@ pub fn add_below<'a, L: Drop, A: Allocator>(
     requires few { children_at (forest_of children.old.items) steps.now < 2 ^ 16 }
     requires given { IsSome label.old }
     ensures place { IfOk result (λ k. k ≡ children_at (forest_of children.old.items) steps.now) }
-    ensures added { IfSome label.old (λ l. OnOk result (plain (forest_of children.new.items) ≡ add_last (plain (forest_of children.old.items)) steps.now played l)) }
+    ensures added { IfSome label.old (λ l. OnOk result (plain (forest_of children.new.items)
+        ≡ add_last (plain (forest_of children.old.items)) steps.now played l)) }
     ensures room { 0 < spare_at (vec_capacity children.old - vec_len children.old) (forest_of children.old.items) steps.now → IsOk result }
     ensures err { OnErr result (plain (forest_of children.new.items) ≡ plain (forest_of children.old.items)) }
 {

@@ -30,6 +30,7 @@ returns g c = record {
   refused = λ honest. file_refusal (g.S.TableStore.files c.args.store.now c.args.class)
       (g.S.Reader.Read.remaining c.in-Ok.reader) c.in-Err-read_table.fault _ (c.in-Ok.ensures.right honest)
       c.in-Ok.ensures.given c.in-Err-read_table.ensures.fault refl;
-  store = λ trusted s seen. store_same (HonestOn trusted g.S.TableStore.honest) g.S.TableStore.files g.S.TableStore.headers g.S.TableStore.faults c.args.store.now
+  store = λ trusted s seen. store_same (HonestOn trusted g.S.TableStore.honest) g.S.TableStore.files g.S.TableStore.headers g.S.TableStore.faults
+      c.args.store.now
       c.reader.new.self s (λ b all k is. c.reader.ensures.stays b k (all k is)) c.reader.ensures.files c.reader.ensures.headers c.reader.ensures.faults seen;
 }
