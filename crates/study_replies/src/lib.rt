@@ -15,6 +15,8 @@ mod moves;
 #[cfg(test)]
 mod outside;
 #[cfg(test)]
+mod reference;
+#[cfg(test)]
 mod refusals;
 #[cfg(test)]
 mod runs;
