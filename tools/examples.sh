@@ -16,6 +16,12 @@ program=${STUDYBENCH:-$top/crates/studybench/out/studybench}
     echo "studybench is not built: cd crates/studybench && rt check"
     exit 2
 }
+gallery="$top/crates/gallery"
+while read -r name; do echo "== $name"; cat "$examples/$name.expected"; done < "$gallery/args" | cmp -s - "$gallery/stdout" || {
+    echo "crates/gallery/stdout is not what its args expect"
+    exit 1
+}
+"$top/tools/script_doc.py" > /dev/null || exit 1
 empty=$(mktemp -d); trap 'rm -rf "$empty"' EXIT
 same=0; differ=0
 for script in "$examples"/*.script; do

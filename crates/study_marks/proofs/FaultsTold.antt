@@ -51,7 +51,7 @@ module _ {V : Type 0} (gives : V → Position → ProbeAnswer → Type 0) (may_f
   told-next old mid new ps i p short is h k =
       subst (λ (qs : List Position). WereTold gives may_fail asked_of old qs new)
       (sym (ap asked_each (take-one ps i p short is) ∙ asked_each-append (take i ps) (p ∷ []) ∙ ap (λ x. asked_each (take i ps) ++ x)
-          (append-none (asked_at p))))
+      (append-none (asked_at p))))
       (told-append old mid new (asked_each (take i ps)) (asked_at p) h k)
 
   pub first-at : (old mid new : V) (ps : List Position) (i : ℕ) (p : Position) (f : ProbeFault) → i < length ps → p ≡ get_or ps i p

@@ -44,8 +44,11 @@ pub refused_outside : (A : Type 0) (s : State) (held : Class → Bool) (paged : 
     → TellsFailing (λ c f. s.shelf.faults c f ≡ true) asked refusal
     → (o : Outside) × IsAskedReply s o asked new text (refused_as s (edit_words refusal))
 refused_outside A s held paged asked new text edit.OutOfMemory e m out told clean failing = (no_room, refl)
-refused_outside A s held paged asked new text (edit.NoTable c) e m out told clean failing = (quiet, missing c (missing-same held (is_among s.classes) asked c
-    e out) refl)
+refused_outside A s held paged asked new text (edit.NoTable c) e m out told clean failing = (
+  quiet,
+  missing c (missing-same held (is_among s.classes) asked c
+      e out) refl,
+)
 refused_outside A s held paged asked new text (edit.TableRead (probe.TableRead x)) e m out told clean failing =
     (unread (probe.TableRead x), (sym m ∙ told, unread-same held (is_among s.classes) asked (probe.TableRead x) e out, failing, refl))
 refused_outside A s held paged asked new text (edit.TableRead (probe.PageDamaged c n)) e m out told clean failing = absurd clean

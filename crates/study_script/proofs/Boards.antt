@@ -38,8 +38,15 @@ module _ {P A : Type 0} where
   pub study_held : (honest : P → Table → ℕ → Type 0) (gives : GivesOf P) (old k : Kept) (t : Tables P A) (s : State) (new : Plainly)
       → plain_study (marked k) ≡ new → IsKeptRight k → Holds honest gives (held.Study old) t s
       → Holds honest gives (held.Study k) t (holding s new)
-  study_held honest gives old k t s new e r h = record { board = ap study e; marks = r; values = h.values; classes = h.classes; paged = h.paged; faults
-      = h.faults }
+  study_held honest gives old k t s new e r h = record {
+    board = ap study e;
+    marks = r;
+    values = h.values;
+    classes = h.classes;
+    paged = h.paged;
+    faults
+        = h.faults;
+  }
 
 -- a function that writes the reply to an accepted line, and answers so
 pub accepted_ok : {E : Type 0} (I : Outside → Reply → Type 0) (H : State → Type 0) (r : Result Bool E) (s : State)
@@ -96,8 +103,15 @@ module _ {P A : Type 0} where
       → Holds honest gives b t s → tables_honest honest u → ((c : Class) → tables_held u c ≡ tables_held t c)
       → are_paged u ≡ are_paged t
       → ((c : Class) (f : SourceFault) → tables_may_fail gives u c f → tables_may_fail gives t c f) → Holds honest gives b u s
-  board_same honest gives b t u s h v same mode fails = record { board = h.board; marks = h.marks; values = v; classes = λ c. same c ∙ h.classes c; paged
-      = mode ∙ h.paged; faults = λ c f m. h.faults c f (fails c f m) }
+  board_same honest gives b t u s h v same mode fails = record {
+    board = h.board;
+    marks = h.marks;
+    values = v;
+    classes = λ c. same c ∙ h.classes c;
+    paged
+        = mode ∙ h.paged;
+    faults = λ c f m. h.faults c f (fails c f m);
+  }
 
 pub on_ok_known : {E T : Type 0} (r : Result T E) {P : Type 0} → P → OnOk r P
 on_ok_known (Ok b) h = h

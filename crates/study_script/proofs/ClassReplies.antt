@@ -184,8 +184,11 @@ module _ {P A : Type 0} where
 
   pub tables_whole : (honest : P → Table → ℕ → Type 0) (gives : GivesOf P) (w : Whole) (s t : State) → HoldsWhole w t
       → t.board ≡ s.board → TablesFrom {A = A} honest gives s (held.Whole w) t
-  tables_whole honest gives w s t h e = record { holds = record { values = h.values; classes = h.classes; paged = h.whole; faults = λ c f m. absurd m }; board
-      = e }
+  tables_whole honest gives w s t h e = record {
+    holds = record { values = h.values; classes = h.classes; paged = h.whole; faults = λ c f m. absurd m };
+    board
+        = e;
+  }
 
   pub tables_paged : (honest : P → Table → ℕ → Type 0) (gives : GivesOf P) (w : Paged P) (s t : State) → HoldsPaged honest gives w t
       → t.board ≡ s.board → TablesFrom {A = A} honest gives s (held.Paged w) t

@@ -221,8 +221,12 @@ module _ {S : Type 0} where
       → StoreSeen honest files headers faults old s → StoreSeen honest files headers faults new s
   store_same honest files headers faults old new s stays f k l h = record {
     is_honest = stays s.paged h.is_honest;
-    known = record { files_known = λ c. f c ∙ h.known.files_known c; headers_known = λ c. k c ∙ h.known.headers_known c; faults_known = λ c g. l c g
-        ∙ h.known.faults_known c g };
+    known = record {
+      files_known = λ c. f c ∙ h.known.files_known c;
+      headers_known = λ c. k c ∙ h.known.headers_known c;
+      faults_known = λ c g. l c g
+          ∙ h.known.faults_known c g;
+    };
   }
 
   pub store_with : (honest : S → Bool → Type 0) (files headers : S → Class → Option (Result (List ℕ) StoreFault)) (faults : S → Class → SourceFault → Bool)

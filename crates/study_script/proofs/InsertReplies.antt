@@ -46,7 +46,7 @@ module _ {T A : Type 0} where
       → MatchOption x (IfErr r (IsOutside held (asked_at (after (position_at old steps) m)))) (λ f. r ≡ Err f)
       → r ≡ Err e → IsToldBy paged e → IsUndamaged e
       → TellsFailing (λ c f. s.shelf.faults c f ≡ true) (asked_at (after (position_at old steps) m)) e → (o : Outside)
-          × IsInserted s o old steps m y (refused_as s (edit_words e))
+      × IsInserted s o old steps m y (refused_as s (edit_words e))
   insert_refused_by s held paged old steps m None None same r e h p match is told clean failing =
       refused_outside A s held paged (asked_at (after (position_at old steps) m)) (inserted old steps m)
       (inserted_text old steps m) e h p
@@ -55,8 +55,11 @@ module _ {T A : Type 0} where
       is match) told clean failing
   insert_refused_by s held paged old steps m None (Some b) same r e h p match is told clean failing = absurd same
   insert_refused_by s held paged old steps m (Some a) None same r e h p match is told clean failing = absurd same
-  insert_refused_by s held paged old steps m (Some a) (Some b) same r e h p match is told clean failing = (quiet, ap (refused_as s)
-      (err_same r e a is match ∙ same))
+  insert_refused_by s held paged old steps m (Some a) (Some b) same r e h p match is told clean failing = (
+    quiet,
+    ap (refused_as s)
+        (err_same r e a is match ∙ same),
+  )
 
   -- a refused `insert` has that reply
   pub insert_refused : (s : State) (held : Class → Bool) (paged : Bool) (old : Plainly) (steps : List ℕ) (m : Move)
@@ -66,7 +69,7 @@ module _ {T A : Type 0} where
       (IfErr r (IsOutside held (asked_at (after (position_at old steps) m)))) (λ f. r ≡ Err f) → r ≡ Err e
       → IsToldBy paged e → IsUndamaged e
       → TellsFailing (λ c f. s.shelf.faults c f ≡ true) (asked_at (after (position_at old steps) m)) e → (o : Outside)
-          × IsInserted s o old steps m (insert_refusal {A = Unit {0}} old steps m)
+      × IsInserted s o old steps m (insert_refusal {A = Unit {0}} old steps m)
       (refused_as s (edit_words e))
   insert_refused s held paged old steps m r e h p match is told clean failing =
       insert_refused_by s held paged old steps m (insert_refusal {A = A} old steps m)

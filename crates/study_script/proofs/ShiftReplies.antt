@@ -57,7 +57,7 @@ shift_refused_at : (A : Type 0) (s : State) (held : Class → Bool) (paged : Boo
     × IsShiftReply s o old new (broken {A = Unit {0}} b) (refused_as s (edit_words r))
 shift_refused_at A s held paged old new None r e m out told clean failing =
     let x = refused_outside A s held paged (positions_asked (shifted old new)) (shifted old new) (reply_line (codes "shift ") (fen_text new)) r e m out told
-            clean failing in
+    clean failing in
     (x.0, unbroken_reply s x.0 old new (refused_as s (edit_words r)) x.1)
 shift_refused_at A s held paged old new (Some steps) r e m (inl is) told clean failing = (quiet, ap (λ (x : EditRefusal A). refused_as s (edit_words x)) is)
 shift_refused_at A s held paged old new (Some steps) r e m (inr is) told clean failing = (no_room, ap (λ (x : EditRefusal A). refused_as s (edit_words x)) is)
@@ -66,7 +66,7 @@ pub shift_refused : (A : Type 0) (s : State) (held : Class → Bool) (paged : Bo
     (r : EditRefusal A) → ((c : Class) → held c ≡ is_among s.classes c) → paged ≡ s.paged
     → IsShiftRefusal held (positions_asked (shifted old new)) (shift_refusal {A = A} old new) r → IsToldBy paged r → IsUndamaged r
     → TellsFailing (λ c f. s.shelf.faults c f ≡ true) (positions_asked (shifted old new)) r → (o : Outside)
-        × IsShiftReply s o old new (shift_refusal {A = Unit {0}} old new)
+    × IsShiftReply s o old new (shift_refusal {A = Unit {0}} old new)
     (refused_as s (edit_words r))
 shift_refused A s held paged old new r e m out told clean failing = shift_refused_at A s held paged old new (broken_from 0 new.position old.tree.below) r e m
     out told clean failing

@@ -21,16 +21,25 @@ use Rattle.study_script.specs.Held.{tables_give, tables_may_fail, tables_asked, 
 module _ {P : Type 0} (gives : P → Question → Result (List ℕ) SourceFault → Type 0) where
   whole_first : (A : Type 0) (old new : Whole) (ps : List Position) (f : ProbeFault)
       → IsFirstFault (λ (w : Whole) p answer. IsCellAnswer w.tables p answer) (λ (w : Whole) (c : Class) (f : SourceFault). ⊥) (λ (w : Whole). w.asked) old ps
-          f new
+      f new
       → IsFirstFault (tables_give {A = A} gives) (tables_may_fail gives) tables_asked (held.Whole old) ps f (held.Whole new)
   whole_first A old new [] f h = absurd h
   whole_first A old new (p ∷ ps) f (inl a) = inl (record { given = a.given; asked = a.asked; failed_so = a.failed_so; fails_as_before = a.fails_as_before })
-  whole_first A old new (p ∷ ps) f (inr h) = inr (h.0, held.Whole h.1, record { given = h.2.given; asked = h.2.asked; failed_so = h.2.failed_so;
-      fails_as_before = h.2.fails_as_before }, whole_first A h.1 new ps f h.3)
+  whole_first A old new (p ∷ ps) f (inr h) = inr (
+    h.0,
+    held.Whole h.1,
+    record {
+      given = h.2.given;
+      asked = h.2.asked;
+      failed_so = h.2.failed_so;
+      fails_as_before = h.2.fails_as_before;
+    },
+    whole_first A h.1 new ps f h.3,
+  )
 
   whole_tells : {A : Type 0} (old new : Whole) (ps : List Position) (r : EditRefusal A)
       → TellsFirstFault (λ (w : Whole) p answer. IsCellAnswer w.tables p answer) (λ (w : Whole) (c : Class) (f : SourceFault). ⊥) (λ (w : Whole). w.asked) old
-          ps new r
+      ps new r
       → TellsFirstFault (tables_give {A = A} gives) (tables_may_fail gives) tables_asked (held.Whole old) ps (held.Whole new) r
   whole_tells {A = A} old new ps (edit.NoTable c) h = whole_first A old new ps (probe.NoTable c) h
   whole_tells {A = A} old new ps (edit.TableRead f) h = whole_first A old new ps f h
@@ -47,25 +56,34 @@ module _ {P : Type 0} (gives : P → Question → Result (List ℕ) SourceFault 
 
   pub whole_told : {A T : Type 0} (t : Tables P A) (old new : Whole) (ps : List Position) (r : Result T (EditRefusal A)) → t ≡ held.Whole old
       → IfErr r (TellsFirstFault (λ (w : Whole) p answer. IsCellAnswer w.tables p answer) (λ (w : Whole) (c : Class) (f : SourceFault). ⊥)
-          (λ (w : Whole). w.asked) old ps new)
+      (λ (w : Whole). w.asked) old ps new)
       → IfErr r (TellsFirstFault (tables_give gives) (tables_may_fail gives) tables_asked t ps (held.Whole new))
   whole_told t old new ps (Ok x) is h = tt
   whole_told {A = A} t old new ps (Err x) is h =
       subst (λ (u : Tables P A). TellsFirstFault (tables_give gives) (tables_may_fail gives) tables_asked u ps (held.Whole new) x) (sym is)
-          (whole_tells old new ps x h)
+      (whole_tells old new ps x h)
 
   paged_first : (A : Type 0) (old new : Paged P) (ps : List Position) (f : ProbeFault)
       → IsFirstFault (λ (w : Paged P) p answer. IsPagedAnswer gives w.sources p answer) (λ (w : Paged P) (c : Class) (f : SourceFault). MayFail gives
-          (held_of w.sources c) c f) (λ (w : Paged P). w.asked) old ps f new
+      (held_of w.sources c) c f) (λ (w : Paged P). w.asked) old ps f new
       → IsFirstFault (tables_give {A = A} gives) (tables_may_fail gives) tables_asked (held.Paged old) ps f (held.Paged new)
   paged_first A old new [] f h = absurd h
   paged_first A old new (p ∷ ps) f (inl a) = inl (record { given = a.given; asked = a.asked; failed_so = a.failed_so; fails_as_before = a.fails_as_before })
-  paged_first A old new (p ∷ ps) f (inr h) = inr (h.0, held.Paged h.1, record { given = h.2.given; asked = h.2.asked; failed_so = h.2.failed_so;
-      fails_as_before = h.2.fails_as_before }, paged_first A h.1 new ps f h.3)
+  paged_first A old new (p ∷ ps) f (inr h) = inr (
+    h.0,
+    held.Paged h.1,
+    record {
+      given = h.2.given;
+      asked = h.2.asked;
+      failed_so = h.2.failed_so;
+      fails_as_before = h.2.fails_as_before;
+    },
+    paged_first A h.1 new ps f h.3,
+  )
 
   paged_tells : {A : Type 0} (old new : Paged P) (ps : List Position) (r : EditRefusal A)
       → TellsFirstFault (λ (w : Paged P) p answer. IsPagedAnswer gives w.sources p answer) (λ (w : Paged P) (c : Class) (f : SourceFault). MayFail gives
-          (held_of w.sources c) c f) (λ (w : Paged P). w.asked) old ps new r
+      (held_of w.sources c) c f) (λ (w : Paged P). w.asked) old ps new r
       → TellsFirstFault (tables_give {A = A} gives) (tables_may_fail gives) tables_asked (held.Paged old) ps (held.Paged new) r
   paged_tells {A = A} old new ps (edit.NoTable c) h = paged_first A old new ps (probe.NoTable c) h
   paged_tells {A = A} old new ps (edit.TableRead f) h = paged_first A old new ps f h
@@ -82,12 +100,12 @@ module _ {P : Type 0} (gives : P → Question → Result (List ℕ) SourceFault 
 
   pub paged_told : {A T : Type 0} (t : Tables P A) (old new : Paged P) (ps : List Position) (r : Result T (EditRefusal A)) → t ≡ held.Paged old
       → IfErr r (TellsFirstFault (λ (w : Paged P) p answer. IsPagedAnswer gives w.sources p answer) (λ (w : Paged P) (c : Class) (f : SourceFault). MayFail
-          gives (held_of w.sources c) c f) (λ (w : Paged P). w.asked) old ps new)
+      gives (held_of w.sources c) c f) (λ (w : Paged P). w.asked) old ps new)
       → IfErr r (TellsFirstFault (tables_give gives) (tables_may_fail gives) tables_asked t ps (held.Paged new))
   paged_told t old new ps (Ok x) is h = tt
   paged_told {A = A} t old new ps (Err x) is h =
       subst (λ (u : Tables P A). TellsFirstFault (tables_give gives) (tables_may_fail gives) tables_asked u ps (held.Paged new) x) (sym is)
-          (paged_tells old new ps x h)
+      (paged_tells old new ps x h)
 
   -- without a table nothing may fail
   pub none_fails : {A : Type 0} (t : Tables P A) (c : Class) (f : SourceFault) → tables_held t c ≡ false → tables_may_fail gives t c f → ⊥

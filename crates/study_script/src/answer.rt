@@ -34,7 +34,7 @@ pub fn answer<'a, W: Write, S: TableStore, A: Allocator>(
     ensures ok { (trusted : AClass → Bool) (s : State) → IsTrusted trusted line.now
         → DeskHolds S.Pages.honest S.Pages.gives (HonestOn trusted S.honest) S.files S.headers S.faults board.old tables.old store.old s
         → IfOk result (Answered (IsReply s line.now)
-            (DeskHolds S.Pages.honest S.Pages.gives (HonestOn trusted S.honest) S.files S.headers S.faults board.new tables.new store.new)
+        (DeskHolds S.Pages.honest S.Pages.gives (HonestOn trusted S.honest) S.files S.headers S.faults board.new tables.new store.new)
         (W.contents out.old) (W.contents out.new)) }
     ensures err { (trusted : AClass → Bool) (s : State) → IsTrusted trusted line.now
         → DeskHolds S.Pages.honest S.Pages.gives (HonestOn trusted S.honest) S.files S.headers S.faults board.old tables.old store.old s

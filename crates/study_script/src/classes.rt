@@ -89,7 +89,7 @@ fn in_pages<'a, S: TableStore, A: Allocator>(
         → HoldsPaged S.Pages.honest S.Pages.gives tables.old s → StoreSeen (HonestOn trusted S.honest) S.files S.headers S.faults store.old s
         → Decided (λ o. IsClassReply s o word name.now)
         (λ t. HoldsPaged S.Pages.honest S.Pages.gives tables.new t × (t.board ≡ s.board)
-            × StoreSeen (HonestOn trusted S.honest) S.files S.headers S.faults store.new t)
+        × StoreSeen (HonestOn trusted S.honest) S.files S.headers S.faults store.new t)
         result }
 {
     match word {
@@ -223,7 +223,7 @@ fn open_class<'a, S: TableStore, A: Allocator>(
         → StoreSeen (HonestOn trusted S.honest) S.files S.headers S.faults store.old s
         → Decided (λ o. IsOpenReply s o class (is_among s.classes class))
         (λ t. HoldsPaged S.Pages.honest S.Pages.gives tables.new t × (t.board ≡ s.board)
-            × StoreSeen (HonestOn trusted S.honest) S.files S.headers S.faults store.new t)
+        × StoreSeen (HonestOn trusted S.honest) S.files S.headers S.faults store.new t)
         result }
 {
     if tables.holds(class) {

@@ -146,7 +146,7 @@ overflow_add-faults g t c =
     c.write_below-below.result.1
     c.push.new.self.items c.push.new.self.items c.as_slice-in-loop-place.result.now
     c.len-depth.result (told_to_be c.args.all.now c.loop-place.next (plain_tree c.loop-place.tree) c.push.new.self.items) c.write_below-below.result.0
-        c.write_node-own.result
+    c.write_node-own.result
     c.loop-place.invariant.0 c.requires.found left path refl
     (c.as_slice-in-loop-place.ensures.value ∙ c.write_below-below.ensures.steps) c.len-depth.ensures.value
     (λ s es. as-shown c.args.all.now c.loop-place.next (plain_tree c.loop-place.tree) c.push.new.self.items s es)
@@ -155,13 +155,13 @@ overflow_add-faults g t c =
     (sums-told j c.args.parent (plain_tree c.loop-place.tree) (plain_tree c.write_below-below.new.tree) c.loop-place.tree.relabelled
     c.loop-place.place c.loop-place.faults c.loop-place.next (refreshed j.all j.aim (length c.push.new.self.items) (c.loop-place.next + 1)
     (told_to_be c.args.all.now c.loop-place.next (plain_tree c.loop-place.tree) c.push.new.self.items)) c.push.new.self.items
-        c.as_slice-in-loop-place.result.now refl c.loop-place.invariant.0 path
+    c.as_slice-in-loop-place.result.now refl c.loop-place.invariant.0 path
     (c.as_slice-in-loop-place.ensures.value ∙ c.write_below-below.ensures.steps) c.write_below-below.ensures.written
     c.len-depth.result c.write_below-below.result.0 c.write_node-own.result c.len-depth.ensures.value c.write_node-own.ensures.faults)
     (written-told j c.args.parent (plain_tree c.loop-place.tree) (plain_tree c.write_below-below.new.tree) c.loop-place.tree.relabelled
     c.loop-place.place c.loop-place.faults c.loop-place.next (refreshed j.all j.aim (length c.push.new.self.items) (c.loop-place.next + 1)
     (told_to_be c.args.all.now c.loop-place.next (plain_tree c.loop-place.tree) c.push.new.self.items)) c.push.new.self.items
-        c.as_slice-in-loop-place.result.now refl c.loop-place.invariant.0 path
+    c.as_slice-in-loop-place.result.now refl c.loop-place.invariant.0 path
     (c.as_slice-in-loop-place.ensures.value ∙ c.write_below-below.ensures.steps) c.write_below-below.ensures.written
     (plain_tree c.write_node-own.new.tree) c.write_node-own.result c.write_node-own.ensures.written) c.write_node-own.ensures.count c.share-faults.ensures in
     let few : c.loop-place.faults + c.share-faults.result ≤ 4096 =
@@ -191,7 +191,7 @@ loop-place-preserved g t c =
     c.write_below-below.result.1
     c.push.new.self.items c.push.new.self.items c.as_slice-in-loop-place.result.now
     c.len-depth.result (told_to_be c.args.all.now c.loop-place.next (plain_tree c.loop-place.tree) c.push.new.self.items) c.write_below-below.result.0
-        c.write_node-own.result
+    c.write_node-own.result
     c.loop-place.invariant.0 c.requires.found left path refl
     (c.as_slice-in-loop-place.ensures.value ∙ c.write_below-below.ensures.steps) c.len-depth.ensures.value
     (λ s es. as-shown c.args.all.now c.loop-place.next (plain_tree c.loop-place.tree) c.push.new.self.items s es)
@@ -200,13 +200,13 @@ loop-place-preserved g t c =
     (sums-told j c.args.parent (plain_tree c.loop-place.tree) (plain_tree c.write_below-below.new.tree) c.loop-place.tree.relabelled
     c.loop-place.place c.loop-place.faults c.loop-place.next (refreshed j.all j.aim (length c.push.new.self.items) (c.loop-place.next + 1)
     (told_to_be c.args.all.now c.loop-place.next (plain_tree c.loop-place.tree) c.push.new.self.items)) c.push.new.self.items
-        c.as_slice-in-loop-place.result.now refl c.loop-place.invariant.0 path
+    c.as_slice-in-loop-place.result.now refl c.loop-place.invariant.0 path
     (c.as_slice-in-loop-place.ensures.value ∙ c.write_below-below.ensures.steps) c.write_below-below.ensures.written
     c.len-depth.result c.write_below-below.result.0 c.write_node-own.result c.len-depth.ensures.value c.write_node-own.ensures.faults)
     (written-told j c.args.parent (plain_tree c.loop-place.tree) (plain_tree c.write_below-below.new.tree) c.loop-place.tree.relabelled
     c.loop-place.place c.loop-place.faults c.loop-place.next (refreshed j.all j.aim (length c.push.new.self.items) (c.loop-place.next + 1)
     (told_to_be c.args.all.now c.loop-place.next (plain_tree c.loop-place.tree) c.push.new.self.items)) c.push.new.self.items
-        c.as_slice-in-loop-place.result.now refl c.loop-place.invariant.0 path
+    c.as_slice-in-loop-place.result.now refl c.loop-place.invariant.0 path
     (c.as_slice-in-loop-place.ensures.value ∙ c.write_below-below.ensures.steps) c.write_below-below.ensures.written
     (plain_tree c.write_node-own.new.tree) c.write_node-own.result c.write_node-own.ensures.written) c.write_node-own.ensures.count c.share-faults.ensures in (
       next,

@@ -53,7 +53,7 @@ returns-in-Ok-Some-clause-ok g c = λ trusted s may d.
     sym c.read_command.ensures ∙ ap line_seen (c.in-Ok-Some.is ∙ ap Ok c.in-Ok-Some.field-0-is) in
     subst (λ (x : Asks). IfOk c.carry_out.result (Answered (λ o. IsReplyWhere s o x)
     (DeskHolds g.S.Pages.PageSource.honest g.S.Pages.PageSource.gives (HonestOn trusted g.S.TableStore.honest) g.S.TableStore.files g.S.TableStore.headers
-        g.S.TableStore.faults
+    g.S.TableStore.faults
     c.carry_out.new.board c.carry_out.new.tables c.carry_out.new.store)
     (g.W.Write.contents c.args.out.now) (g.W.Write.contents c.carry_out.new.out))) (sym seen)
     (c.carry_out.ensures.ok trusted s (subst (λ (x : Asks). IsTrustedAsk trusted x) seen may) d)

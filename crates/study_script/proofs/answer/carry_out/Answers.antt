@@ -18,7 +18,7 @@ returns-in-OfStart-clause-ok g c =
     (λ (o : Outside). IsReplyTo s o (command_seen c.args.command.now))
     (Holds g.S.Pages.PageSource.honest g.S.Pages.PageSource.gives c.of_start.new.board c.of_start.new.tables)
     (DeskHolds g.S.Pages.PageSource.honest g.S.Pages.PageSource.gives (HonestOn trusted g.S.TableStore.honest) g.S.TableStore.files g.S.TableStore.headers
-        g.S.TableStore.faults
+    g.S.TableStore.faults
     c.of_start.new.board c.of_start.new.tables c.args.store.now) c.of_start.result
     (g.W.Write.contents c.args.out.now) (g.W.Write.contents c.of_start.new.out)
     (λ o r i. subst (λ (x : Asked). IsReplyTo s o x r) (sym (ap command_seen c.in-OfStart.is)) i)
@@ -41,7 +41,7 @@ returns-in-AtNode-clause-ok g c =
     (λ (o : Outside). IsReplyTo s o (command_seen c.args.command.now))
     (HoldsFrom {A = g.row.A.Denot} s c.args.board.now)
     (DeskHolds g.S.Pages.PageSource.honest g.S.Pages.PageSource.gives (HonestOn trusted g.S.TableStore.honest) g.S.TableStore.files g.S.TableStore.headers
-        g.S.TableStore.faults
+    g.S.TableStore.faults
     c.args.board.now c.args.tables.now c.args.store.now) c.at_node.result (g.W.Write.contents c.args.out.now)
     (g.W.Write.contents c.at_node.new.out)
     (λ o r i. subst (λ (x : Asked). IsReplyTo s o x r) (sym (ap command_seen c.in-AtNode.is)) i)
@@ -65,7 +65,7 @@ returns-in-AtStudy-clause-ok g c =
     (λ (o : Outside). IsReplyTo s o (command_seen c.args.command.now))
     (HoldsFrom {A = g.row.A.Denot} s c.at_study.new.board)
     (DeskHolds g.S.Pages.PageSource.honest g.S.Pages.PageSource.gives (HonestOn trusted g.S.TableStore.honest) g.S.TableStore.files g.S.TableStore.headers
-        g.S.TableStore.faults
+    g.S.TableStore.faults
     c.at_study.new.board c.args.tables.now c.args.store.now) c.at_study.result (g.W.Write.contents c.args.out.now)
     (g.W.Write.contents c.at_study.new.out)
     (λ o r i. subst (λ (x : Asked). IsReplyTo s o x r) (sym (ap command_seen c.in-AtStudy.is)) i)
@@ -89,7 +89,7 @@ returns-in-OfClass-clause-ok g c =
     (λ (t : State). TablesFrom g.S.Pages.PageSource.honest g.S.Pages.PageSource.gives s c.of_class.new.tables t
     × StoreSeen (HonestOn trusted g.S.TableStore.honest) g.S.TableStore.files g.S.TableStore.headers g.S.TableStore.faults c.of_class.new.store t)
     (DeskHolds g.S.Pages.PageSource.honest g.S.Pages.PageSource.gives (HonestOn trusted g.S.TableStore.honest) g.S.TableStore.files g.S.TableStore.headers
-        g.S.TableStore.faults
+    g.S.TableStore.faults
     c.args.board.now c.of_class.new.tables c.of_class.new.store) c.of_class.result
     (g.W.Write.contents c.args.out.now) (g.W.Write.contents c.of_class.new.out)
     (λ o r i. subst (λ (x : Asked). IsReplyTo s o x r) (sym (ap command_seen c.in-OfClass.is)) i)
@@ -98,7 +98,7 @@ returns-in-OfClass-clause-ok g c =
     c.of_class.new.store s r.state d h)
     (c.of_class.ensures.ok trusted s
     (subst (λ (x : Asked). IsTrustedAsked trusted x) (ap command_seen c.in-OfClass.is) may) (tables_there g.S.Pages.PageSource.honest
-        g.S.Pages.PageSource.gives c.args.board.now c.args.tables.now s d.held)
+    g.S.Pages.PageSource.gives c.args.board.now c.args.tables.now s d.held)
     d.seen)
 
 pub returns-in-OfClass-clause-err : goal.returns-in-OfClass-clause-err
@@ -109,7 +109,7 @@ returns-in-OfClass-clause-err g c =
     (λ o r i. subst (λ (x : Asked). IsReplyTo s o x r) (sym (ap command_seen c.in-OfClass.is)) i)
     (c.of_class.ensures.err trusted s
     (subst (λ (x : Asked). IsTrustedAsked trusted x) (ap command_seen c.in-OfClass.is) may) (tables_there g.S.Pages.PageSource.honest
-        g.S.Pages.PageSource.gives c.args.board.now c.args.tables.now s d.held)
+    g.S.Pages.PageSource.gives c.args.board.now c.args.tables.now s d.held)
     d.seen)
 
 pub returns-in-Stipulate-clause-ok : goal.returns-in-Stipulate-clause-ok
@@ -118,7 +118,7 @@ returns-in-Stipulate-clause-ok g c =
     (λ (o : Outside). IsReplyTo s o (command_seen c.args.command.now))
     (Holds g.S.Pages.PageSource.honest g.S.Pages.PageSource.gives c.stipulate.new.board c.stipulate.new.tables)
     (DeskHolds g.S.Pages.PageSource.honest g.S.Pages.PageSource.gives (HonestOn trusted g.S.TableStore.honest) g.S.TableStore.files g.S.TableStore.headers
-        g.S.TableStore.faults
+    g.S.TableStore.faults
     c.stipulate.new.board c.stipulate.new.tables c.args.store.now) c.stipulate.result
     (g.W.Write.contents c.args.out.now) (g.W.Write.contents c.stipulate.new.out)
     (λ o r i. subst (λ (x : Asked). IsReplyTo s o x r) (sym (ap command_seen c.in-Stipulate.is)) i)
@@ -142,7 +142,7 @@ returns-in-Insert-clause-ok g c =
     (λ (o : Outside). IsReplyTo s o (command_seen c.args.command.now))
     (Holds g.S.Pages.PageSource.honest g.S.Pages.PageSource.gives c.insert.new.board c.insert.new.tables)
     (DeskHolds g.S.Pages.PageSource.honest g.S.Pages.PageSource.gives (HonestOn trusted g.S.TableStore.honest) g.S.TableStore.files g.S.TableStore.headers
-        g.S.TableStore.faults
+    g.S.TableStore.faults
     c.insert.new.board c.insert.new.tables c.args.store.now) c.insert.result (g.W.Write.contents c.args.out.now)
     (g.W.Write.contents c.insert.new.out)
     (λ o r i. subst (λ (x : Asked). IsReplyTo s o x r) (sym (ap command_seen c.in-Insert.is)) i)
@@ -165,7 +165,7 @@ returns-in-Tag-clause-ok g c = λ trusted s may d. ok_kept (λ (o : Outside). Is
     (λ (o : Outside). IsReplyTo s o (command_seen c.args.command.now))
     (HoldsFrom {A = g.row.A.Denot} s c.set_tag.new.board)
     (DeskHolds g.S.Pages.PageSource.honest g.S.Pages.PageSource.gives (HonestOn trusted g.S.TableStore.honest) g.S.TableStore.files g.S.TableStore.headers
-        g.S.TableStore.faults
+    g.S.TableStore.faults
     c.set_tag.new.board c.args.tables.now c.args.store.now) c.set_tag.result (g.W.Write.contents c.args.out.now)
     (g.W.Write.contents c.set_tag.new.out)
     (λ o r i. subst (λ (x : Asked). IsReplyTo s o x r) (sym (ap command_seen c.in-Tag.is)) i)
@@ -188,7 +188,7 @@ returns-in-Solve-clause-ok g c =
     (λ (o : Outside). IsReplyTo s o (command_seen c.args.command.now))
     (HoldsFrom {A = g.row.A.Denot} s c.args.board.now)
     (DeskHolds g.S.Pages.PageSource.honest g.S.Pages.PageSource.gives (HonestOn trusted g.S.TableStore.honest) g.S.TableStore.files g.S.TableStore.headers
-        g.S.TableStore.faults
+    g.S.TableStore.faults
     c.args.board.now c.args.tables.now c.args.store.now) c.tell_solution.result
     (g.W.Write.contents c.args.out.now) (g.W.Write.contents c.tell_solution.new.out)
     (λ o r i. subst (λ (x : Asked). IsReplyTo s o x r) (sym (ap command_seen c.in-Solve.is)) i)
@@ -213,7 +213,7 @@ returns-in-Pgn-clause-ok g c =
     (λ (o : Outside). IsReplyTo s o (command_seen c.args.command.now))
     (HoldsFrom {A = g.row.A.Denot} s c.args.board.now)
     (DeskHolds g.S.Pages.PageSource.honest g.S.Pages.PageSource.gives (HonestOn trusted g.S.TableStore.honest) g.S.TableStore.files g.S.TableStore.headers
-        g.S.TableStore.faults
+    g.S.TableStore.faults
     c.args.board.now c.args.tables.now c.args.store.now) c.tell_pgn.result (g.W.Write.contents c.args.out.now)
     (g.W.Write.contents c.tell_pgn.new.out)
     (λ o r i. subst (λ (x : Asked). IsReplyTo s o x r) (sym (ap command_seen c.in-Pgn.is)) i)

@@ -71,7 +71,7 @@ returns g c = λ trusted s may h seen.
     (sym c.tables.ensures) ∙ sym c.first_missing.ensures ∙ c.in_default.is in
     let same = sym c.class.ensures.value ∙ differs_false the_type (search rules) _ _ (sym c.ne.ensures ∙ c.if-ne.false) in
     load_done c.args.tables.now s h c.args.class (StoreSeen (HonestOn trusted g.S.TableStore.honest) g.S.TableStore.files g.S.TableStore.headers
-        g.S.TableStore.faults c.table_in_file.new.store)
+    g.S.TableStore.faults c.table_in_file.new.store)
     (store_with (HonestOn trusted g.S.TableStore.honest) g.S.TableStore.files g.S.TableStore.headers g.S.TableStore.faults c.table_in_file.new.store s
     c.args.class (c.table_in_file.ensures.store trusted s seen)) c.hold.new.tables read.0 c.in_ok-table.table
     (sym c.is_held.ensures.value ∙ c.if-is_held.false) missing

@@ -19,7 +19,7 @@ returns-in-Whole-clause-ok g c = λ trusted s may h seen.
     × StoreSeen (HonestOn trusted g.S.TableStore.honest) g.S.TableStore.files g.S.TableStore.headers g.S.TableStore.faults new.store t)
     c.in_whole-told.result (λ o r i. asked_whole s o c.args.word c.args.name.now r whole.whole i)
     (λ t k. (tables_whole {A = g.row.A.Denot} g.S.Pages.PageSource.honest g.S.Pages.PageSource.gives new.tables s t k.0 k.1, k.2))
-        (c.in_whole-told.ensures trusted s may whole seen) in
+    (c.in_whole-told.ensures trusted s may whole seen) in
     told_answered (λ o. IsClassReply s o c.args.word c.args.name.now)
     (λ t. TablesFrom {A = g.row.A.Denot} g.S.Pages.PageSource.honest g.S.Pages.PageSource.gives s (held.Whole new.tables) t
     × StoreSeen (HonestOn trusted g.S.TableStore.honest) g.S.TableStore.files g.S.TableStore.headers g.S.TableStore.faults new.store t)
@@ -38,7 +38,7 @@ returns-in-Whole-clause-err g c = λ trusted s may h seen.
     × StoreSeen (HonestOn trusted g.S.TableStore.honest) g.S.TableStore.files g.S.TableStore.headers g.S.TableStore.faults new.store t)
     c.in_whole-told.result (λ o r i. asked_whole s o c.args.word c.args.name.now r whole.whole i)
     (λ t k. (tables_whole {A = g.row.A.Denot} g.S.Pages.PageSource.honest g.S.Pages.PageSource.gives new.tables s t k.0 k.1, k.2))
-        (c.in_whole-told.ensures trusted s may whole seen) in
+    (c.in_whole-told.ensures trusted s may whole seen) in
     told_broken (λ o. IsClassReply s o c.args.word c.args.name.now)
     (λ t. TablesFrom {A = g.row.A.Denot} g.S.Pages.PageSource.honest g.S.Pages.PageSource.gives s (held.Whole new.tables) t
     × StoreSeen (HonestOn trusted g.S.TableStore.honest) g.S.TableStore.files g.S.TableStore.headers g.S.TableStore.faults new.store t)
@@ -58,7 +58,7 @@ returns-in-Paged-clause-ok g c = λ trusted s may h seen.
     c.in_pages-told.result (λ o r i. i)
     (λ t k. (tables_paged {A = g.row.A.Denot} g.S.Pages.PageSource.honest g.S.Pages.PageSource.gives new.tables s t k.0 k.1, k.2))
     (c.in_pages-told.ensures trusted s may (paged_of g.S.Pages.PageSource.honest g.S.Pages.PageSource.gives c.args.tables.now c.in-Paged.paged s c.in-Paged.is
-        h) seen) in
+    h) seen) in
     told_answered (λ o. IsClassReply s o c.args.word c.args.name.now)
     (λ t. TablesFrom {A = g.row.A.Denot} g.S.Pages.PageSource.honest g.S.Pages.PageSource.gives s (held.Paged new.tables) t
     × StoreSeen (HonestOn trusted g.S.TableStore.honest) g.S.TableStore.files g.S.TableStore.headers g.S.TableStore.faults new.store t)
@@ -79,7 +79,7 @@ returns-in-Paged-clause-err g c = λ trusted s may h seen.
     c.in_pages-told.result (λ o r i. i)
     (λ t k. (tables_paged {A = g.row.A.Denot} g.S.Pages.PageSource.honest g.S.Pages.PageSource.gives new.tables s t k.0 k.1, k.2))
     (c.in_pages-told.ensures trusted s may (paged_of g.S.Pages.PageSource.honest g.S.Pages.PageSource.gives c.args.tables.now c.in-Paged.paged s c.in-Paged.is
-        h) seen) in
+    h) seen) in
     told_broken (λ o. IsClassReply s o c.args.word c.args.name.now)
     (λ t. TablesFrom {A = g.row.A.Denot} g.S.Pages.PageSource.honest g.S.Pages.PageSource.gives s (held.Paged new.tables) t
     × StoreSeen (HonestOn trusted g.S.TableStore.honest) g.S.TableStore.files g.S.TableStore.headers g.S.TableStore.faults new.store t)

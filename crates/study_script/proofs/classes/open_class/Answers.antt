@@ -42,7 +42,7 @@ returns-in-Ok-add g c = λ trusted s may h seen.
     (c.in-Ok.ensures.opened refl) c.in-Ok.ensures.given (λ f m. fails of_header f tt m)) in
     let none = accepted_none (paged_fault false c.args.class told) c.in-Ok-add.field-0 (rw lacks at c.in-Ok-add.ensures.fault.2) in
     let source = c.in-Ok.ensures.right (subst (λ (b : Bool). g.S.TableStore.honest c.args.store.now b c.args.class) (sym h.by_pages)
-            (seen.is_honest c.args.class may)) in
+    (seen.is_honest c.args.class may)) in
     let own = c.in-Ok-add.ensures.own source.table source.version source.known source.is_honest in
     let right =
     c.in-Ok-add.ensures.honest source.version

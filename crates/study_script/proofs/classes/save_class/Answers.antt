@@ -9,13 +9,13 @@ pub returns-in_default : goal.returns-in_default
 returns-in_default g c = λ trusted s h seen.
     let none = ap (λ (o : Option Table). is_some o) (c.in_default.ensures.value ∙ ap (λ (x : List (Option Table)). table_of x c.args.class) c.tables.ensures) in
     save_none c.args.tables.now s h c.args.class (StoreSeen (HonestOn trusted g.S.TableStore.honest) g.S.TableStore.files g.S.TableStore.headers
-        g.S.TableStore.faults c.args.store.now) seen (sym none)
+    g.S.TableStore.faults c.args.store.now) seen (sym none)
 
 pub returns-in_default-writer : goal.returns-in_default-writer
 returns-in_default-writer g c = λ trusted s h seen.
     let some = ap (λ (o : Option Table). is_some o) (c.in-Some.ensures.value ∙ ap (λ (x : List (Option Table)). table_of x c.args.class) c.tables.ensures) in
     save_unopened c.args.tables.now s h c.args.class (StoreSeen (HonestOn trusted g.S.TableStore.honest) g.S.TableStore.files g.S.TableStore.headers
-        g.S.TableStore.faults c.writer.new.self)
+    g.S.TableStore.faults c.writer.new.self)
     (store_anew (HonestOn trusted g.S.TableStore.honest) g.S.TableStore.files g.S.TableStore.headers g.S.TableStore.faults c.args.store.now c.writer.new.self
     s c.args.class (λ b all k is. c.writer.ensures.stays b k (all k is)) c.writer.ensures.files c.writer.ensures.headers c.writer.ensures.faults seen)
     c.in_default-writer.field-0 (sym some)
@@ -24,16 +24,16 @@ pub returns-then-is_err : goal.returns-then-is_err
 returns-then-is_err g c = λ trusted s h seen.
     let some = ap (λ (o : Option Table). is_some o) (c.in-Some.ensures.value ∙ ap (λ (x : List (Option Table)). table_of x c.args.class) c.tables.ensures) in
     save_cut c.args.tables.now s h c.args.class (StoreSeen (HonestOn trusted g.S.TableStore.honest) g.S.TableStore.files g.S.TableStore.headers
-        g.S.TableStore.faults c.writer.new.self)
+    g.S.TableStore.faults c.writer.new.self)
     (store_anew (HonestOn trusted g.S.TableStore.honest) g.S.TableStore.files g.S.TableStore.headers g.S.TableStore.faults c.args.store.now c.writer.new.self
     s c.args.class (λ b all k is. c.writer.ensures.stays b k (all k is)) c.writer.ensures.files c.writer.ensures.headers c.writer.ensures.faults seen)
-        (sym some)
+    (sym some)
 
 pub returns : goal.returns
 returns g c = λ trusted s h seen.
     let some = ap (λ (o : Option Table). is_some o) (c.in-Some.ensures.value ∙ ap (λ (x : List (Option Table)). table_of x c.args.class) c.tables.ensures) in
     save_done c.args.tables.now s h c.args.class (StoreSeen (HonestOn trusted g.S.TableStore.honest) g.S.TableStore.files g.S.TableStore.headers
-        g.S.TableStore.faults c.writer.new.self)
+    g.S.TableStore.faults c.writer.new.self)
     (store_anew (HonestOn trusted g.S.TableStore.honest) g.S.TableStore.files g.S.TableStore.headers g.S.TableStore.faults c.args.store.now c.writer.new.self
     s c.args.class (λ b all k is. c.writer.ensures.stays b k (all k is)) c.writer.ensures.files c.writer.ensures.headers c.writer.ensures.faults seen)
-        (sym some)
+    (sym some)

@@ -34,7 +34,7 @@ returns-in-Whole-clause-first g c = whole_told g.P.PageSource.gives c.args.table
 pub returns-in-Paged-clause-first : goal.returns-in-Paged-clause-first
 returns-in-Paged-clause-first g c = paged_told g.P.PageSource.gives c.args.tables.now c.in-Paged.tables c.shift_position-in-Paged.new.values
     (positions_asked (shifted (plain_study (marked c.args.bench.now)) c.args.start)) c.shift_position-in-Paged.result c.in-Paged.is
-        c.shift_position-in-Paged.ensures.first
+    c.shift_position-in-Paged.ensures.first
 
 pub returns-in-Whole-clause-fails_as_before : goal.returns-in-Whole-clause-fails_as_before
 returns-in-Whole-clause-fails_as_before g c = λ d f m. absurd m

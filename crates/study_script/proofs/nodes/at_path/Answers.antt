@@ -42,9 +42,13 @@ returns-in_err-refuse-in-Err-clause-err g c =
     λ s h.
     let part : BrokenOff
     (λ (o : Outside). IsStudyReplyAt s o c.args.word (study (plain_study (marked c.args.bench.now)))
-    (steps_of c.args.path.now)) (g.W.Write.contents c.args.out.now) (g.W.Write.contents c.refuse.new.out) =
-    (no_path, refused s OutOfMemory, (no_path_word s c.args.word (plain_study (marked c.args.bench.now)) (steps_of c.args.path.now)
-        (λ e. false≢true (c.in-Err.ensures.root e))), c.in_err-refuse-in-Err.ensures.err) in OnErr-known _ _ part
+    (steps_of c.args.path.now)) (g.W.Write.contents c.args.out.now) (g.W.Write.contents c.refuse.new.out) = (
+      no_path,
+      refused s OutOfMemory,
+      (no_path_word s c.args.word (plain_study (marked c.args.bench.now)) (steps_of c.args.path.now)
+          (λ e. false≢true (c.in-Err.ensures.root e))),
+      c.in_err-refuse-in-Err.ensures.err,
+    ) in OnErr-known _ _ part
 
 pub returns-in_ok-refuse-in-Err-clause-ok : goal.returns-in_ok-refuse-in-Err-clause-ok
 returns-in_ok-refuse-in-Err-clause-ok g c =

@@ -20,9 +20,10 @@ pub add_below-requires : goal.add_below-requires
 add_below-requires g t c κs within =
     let step = step_of c.args.children.now.items c.args.steps.now c.in-Some.first.now c.in-Some.rest.now _
     c.index_mut-child.result.now c.requires.found c.in-Some.ensures.cases.0 c.child.view_is
-    c.index_mut-child.ensures.value in
-    (omega (arith, c.in-Some.ensures.cases.1, c.decreases),
-        (within.0, (within.1, (has_node-step step c.requires.found, (omega (arith, children_at-step step), c.requires.given)))))
+    c.index_mut-child.ensures.value in (
+      omega (arith, c.in-Some.ensures.cases.1, c.decreases),
+      (within.0, (within.1, (has_node-step step c.requires.found, (omega (arith, children_at-step step), c.requires.given)))),
+    )
 
 pub returns-in-None-clause-place : goal.returns-in-None-clause-place
 returns-in-None-clause-place g t c =

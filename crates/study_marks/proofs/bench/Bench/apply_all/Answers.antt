@@ -41,9 +41,9 @@ returns-in-Err-clause-first g c = record {
   first = subst (λ (n : ℕ). StopsAtFault g.V.Values.gives g.V.Values.may_fail g.V.Values.asked_of c.loop-edit.values (plain_study (marked c.args.self.now))
       c.args.edits.now n c.apply.new.values c.in-Err.refusal) (sym c.loop-edit.invariant.done)
       (tells-at g.V.Values.gives g.V.Values.may_fail g.V.Values.asked_of c.loop-edit.values c.apply.new.values (plain_study (marked c.args.self.now))
-          c.args.edits.now
+      c.args.edits.now
       c.loop-edit.edit-index c.edit-item.result c.in-Err.refusal c.loop-edit-test.true c.edit-item.is
       (subst (λ x. TellsFirstFault g.V.Values.gives g.V.Values.may_fail g.V.Values.asked_of c.loop-edit.values (questions_of x c.edit-item.result)
-          c.apply.new.values
+      c.apply.new.values
       c.in-Err.refusal) c.loop-edit.invariant.run.edit c.in-Err.ensures.first));
 }

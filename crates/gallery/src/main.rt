@@ -1,0 +1,55 @@
+//! Answers studies of the gallery: for each word of the command line the script of that name, after a line with its name. Its tables are
+//! built on the way, since there are no files. The gate compares what it writes with the gallery's expected replies.
+#![tactic(auto)]
+
+use std::alloc::{Allocator, Global};
+use std::io::{BufReader, ErrorKind, LineWriter, Write};
+use std::process::ExitCode;
+use std::{env, fs, io};
+use study_script::memory::MemoryStore;
+use study_script::run::{Settings, run};
+
+/// The exit status is 0 where each script was run to its end, and 1 where one was not.
+fn main(rt: HostRuntime) -> ExitCode {
+    match answer_all(&rt) {
+        Ok(()) => ExitCode::from(0),
+        Err(error) => {
+            let _ = eprintln!(&rt; "gallery: {error}");
+            ExitCode::from(1)
+        }
+    }
+}
+
+fn answer_all(rt: &HostRuntime) -> io::Result<()> {
+    let alloc = rt.alloc();
+    let names: Vec<String> = env::args(rt)?.skip(1).collect(alloc)?;
+    let mut out = LineWriter::new(alloc, rt.stdout())?;
+    for name in names.as_slice() {
+        writeln!(out, "== {name}")?;
+        answer(rt, alloc, name.as_str(), &mut out)?;
+    }
+    out.flush()
+}
+
+/// A store without files, and without writers for those that are saved.
+fn no_files<'a, A: Allocator>(_alloc: &'a A) -> MemoryStore<'a, 'a, 'a, A> {
+    MemoryStore::new(&[])
+}
+
+fn answer<W: Write>(rt: &HostRuntime, alloc: Global, name: &str, out: &mut W) -> io::Result<()> {
+    let mut path = String::new(alloc);
+    path.push_str(name)?;
+    path.push_str(".script")?;
+    let mut script = BufReader::new(alloc, fs::open(rt, path.as_str())?)?;
+    let mut store = no_files(&alloc);
+    match run(
+        &alloc,
+        &mut script,
+        out,
+        &mut store,
+        Settings { pages: None },
+    ) {
+        Ok(_) => Ok(()),
+        Err(_) => Err(io::Error::from(ErrorKind::Other)),
+    }
+}
