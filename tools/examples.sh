@@ -22,6 +22,12 @@ while read -r name; do echo "== $name"; cat "$examples/$name.expected"; done < "
     exit 1
 }
 "$top/tools/script_doc.py" > /dev/null || exit 1
+games=$(cat "$examples"/*.expected | "$top/tools/games.sh")
+if [ "$(echo "$games" | grep -c '^\[Event ')" != "$(cat "$examples"/*.script | grep -c '^pgn')" ] ||
+    echo "$games" | grep -qE '^(position|shift|stipulate|insert|delete|promote|tag|mark|moves|fen|solve|built|error) '; then
+    echo "tools/games.sh does not take the games out of the replies"
+    exit 1
+fi
 empty=$(mktemp -d); trap 'rm -rf "$empty"' EXIT
 same=0; differ=0
 for script in "$examples"/*.script; do
