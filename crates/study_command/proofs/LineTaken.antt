@@ -217,7 +217,7 @@ long_inside (Some bs) (Some ms) (Some rest) raw b s h ne full =
     subst (λ (t : List ℕ). BeginsLong (Some t)) (sym (s.taken ∙ ap (λ (t : List ℕ). raw ++ t) h))
     (lines_long raw b rest s.no_feed ne full)
 
--- ---- a byte behind the lines
+-- ---- a byte after the lines
 
 -- a further line begins
 abbrev pub HasMore : Option (List ℕ) → Type 0

@@ -224,7 +224,7 @@ line_asked line (first ∷ arguments) =
     else (if not (list_all is_printable line) then Err BadByte
     else asked_with (word_of first) (behind_word line))
 
--- nothing is asked by a line of spaces, or by one that begins, behind spaces, with `#`
+-- nothing is asked by a line of spaces, or by one that begins, after spaces, with `#`
 unfoldable pub command_of : List ℕ → Asks
 command_of line = line_asked line (words line)
 

@@ -29,7 +29,7 @@ is_path_word word = bytes_eq word (codes "root") || is_path word
 unfoldable pub steps_of : List ℕ → List ℕ
 steps_of word = if bytes_eq word (codes "root") then [] else map (digits_value 10) (places_in word)
 
--- the places behind the first one, each behind a point
+-- the places after the first one, each after a point
 abbrev pub more_places : List ℕ → List ℕ
 more_places [] = []
 more_places (k ∷ ks) = 46 ∷ (decimal k ++ more_places ks)

@@ -50,7 +50,7 @@ pub enum Word {
     Pgn,
 }
 
-/// Why a line is no command: in this order, but that words behind `stipulate` of whatever number are no stipulation, and
+/// Why a line is no command: in this order, but that words after `stipulate` of whatever number are no stipulation, and
 /// that the name of a tag is looked at before its text.
 #[derive(Clone, Copy, Debug, PartialEq, Eq, Error)]
 pub enum FormFault {

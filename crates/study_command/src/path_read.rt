@@ -48,7 +48,7 @@ fn read_places<'a, A: Allocator>(alloc: &'a A, path: &[u8]) -> Result<Path<'a, A
     }
 }
 
-// The part before the first point, and what stands behind it.
+// The part before the first point, and what follows it.
 fn cut_first(word: &[u8]) -> (&[u8], Option<&[u8]>)
     ensures cut { MatchOption result.1 (places_in word.now ≡ result.0.now ∷ []) (λ more. places_in word.now ≡ result.0.now ∷ places_in more.now) }
     ensures shorter { IfSome result.1 (λ more. length more.now < length word.now) }

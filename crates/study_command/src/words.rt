@@ -1,4 +1,4 @@
-//! Texts, single words and numbers behind a command.
+//! Texts, single words and numbers after a command.
 ghost use Rattle.std.specs.Prelude.{◌≡◌, ◌≤◌, true, take, length, IfSome};
 ghost use Rattle.std.specs.Option.{option_map};
 ghost use Rattle.std.specs.List.{list_all};

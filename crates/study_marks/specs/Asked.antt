@@ -108,7 +108,7 @@ abbrev pub counted_times : ℕ → ℕ → ℕ
 counted_times zero n = n
 counted_times (suc k) n = counted_times k (counted n)
 
--- values were asked up to one that was not told, behind some that were, or none was asked
+-- values were asked up to one that was not told, after some that were, or none was asked
 abbrev pub HasStopped : Bool → ℕ → ℕ → ℕ → Type 0
 HasStopped true n old new = (k : ℕ) × (k < n) × (new ≡ counted_times (suc k) old)
 HasStopped false n old new = new ≡ old

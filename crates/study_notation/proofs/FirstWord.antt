@@ -31,7 +31,7 @@ words_space (b ∷ line) =
       | inr letter ↦ rw letter (rw letter refl)
     ]
 
--- the parts behind a word
+-- the parts after a word
 abbrev parts_behind : List ℕ → List (List ℕ)
 parts_behind [] = []
 parts_behind (b ∷ bs) = slice_split is_space bs
@@ -79,7 +79,7 @@ begun_long (b ∷ line) h =
           omega (arith, ap word_len same)
     ]
 
--- the line begins, behind spaces, with a word
+-- the line begins, after spaces, with a word
 pub words_begin : (line : List ℕ) → 0 < length (begun_word line)
     → words line ≡ take (word_len (begun_word line)) (begun_word line) ∷ words
     (drop (word_len (begun_word line)) (begun_word line))
@@ -90,7 +90,7 @@ pub words_none : (line : List ℕ) → length (begun_word line) ≡ 0 → words 
 unfolding words
 words_none line h = words_space line ∙ ap words (nil_from_length (begun_word line) h)
 
--- a line cut behind its spaces, and the text then behind its first word
+-- a line cut after its spaces, and the text then after its first word
 pub words-cut : (line text front back : List ℕ) (spaces letters : ℕ) → spaces ≡ prefix_len is_space line
     → text ≡ drop spaces line → letters ≡ word_len text → front ≡ take letters text → back ≡ drop letters text
     → 0 < length text

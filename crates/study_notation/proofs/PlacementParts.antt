@@ -139,7 +139,7 @@ pub added_run : (n b : ℕ) (ms : List Man) → is_run b ≡ true → ms ≡ ms 
 unfolding squares_of
 added_run n b ms run = rw (run, men_from-empty n (b - 48), append-nil ms) refl
 
--- ---- all parts, of which those behind have been read
+-- ---- all parts, of which those after have been read
 
 abbrev pub pick : ℕ → Bool → List Man → Option (List Man)
 pick n b ms = cond (eqb n 8 && b) (Some ms) None

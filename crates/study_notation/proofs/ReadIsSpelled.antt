@@ -163,7 +163,7 @@ officer_takes b =
 abbrev Promotes : List ℕ → Option Kind → List ℕ → Type 0
 Promotes text p rest = ((equals : Bool) × (text ≡ promotion_text equals p ++ rest)) × IfSome p (λ k. is_officer k ≡ true)
 
--- a letter or none, and the bytes behind it
+-- a letter or none, and the bytes after it
 given_takes : (o : Option Kind) (b : ℕ) (bs : List ℕ) → IsLetter b o → Promotes (b ∷ bs) (given o b bs).0 (given o b bs).1
 given_takes None b bs h = ((false, refl), tt)
 given_takes (Some k) b bs h = ((false, ap (λ (t : List ℕ). t ++ bs) h.0), h.1)
@@ -209,7 +209,7 @@ regrouped a b c d e f t = simp append_assoc
 abbrev made : Kind → Squares → Option Kind → San
 made k q p = record { kind = k; file = q.file; rank = q.rank; takes = q.takes; target = q.target; promoted = p }
 
--- the parts of a text, one behind another
+-- the parts of a text, one after another
 assembled : (text : List ℕ) (k : Kind) (at_squares : List ℕ) (q : Squares) (at_promotion : List ℕ) (p : Option Kind) (ending : List ℕ)
     → text ≡ kind_text k ++ at_squares → Found at_squares q at_promotion → Promotes at_promotion p ending → is_ending ending ≡ true → Says text (made k q p)
 assembled text k at_squares q at_promotion p ending begins found promotes ends =

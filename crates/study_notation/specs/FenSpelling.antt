@@ -9,7 +9,7 @@ use Rattle.study_board.specs.Letters.{letter}
 use Rattle.study_notation.specs.declared.placement.Piece.{Piece}
 use Rattle.study_notation.specs.declared.start.Start.{Start}
 
--- KQRBNP for White, kqrbnp for Black: small letters are 32 behind the others
+-- KQRBNP for White, kqrbnp for Black: small letters are 32 above the others
 abbrev pub man_letter : Side → Kind → ℕ
 man_letter White k = letter k
 man_letter Black k = letter k + 32
@@ -37,7 +37,7 @@ spelled n (Some p ∷ cells) = run n ++ (man_letter p.side p.kind ∷ spelled 0 
 unfoldable pub rank_field : List Man → ℕ → List ℕ
 rank_field men rank = spelled 0 (row men (8 * rank) 8)
 
--- this rank, and behind a stroke those below it
+-- this rank, and after a stroke those below it
 unfoldable pub ranks_text : List Man → ℕ → List ℕ
 ranks_text men zero = rank_field men 0
 ranks_text men (suc k) = rank_field men (suc k) ++ (47 ∷ ranks_text men k)

@@ -1,4 +1,4 @@
--- The parts of a SAN text, from the left. A part is what it says and the bytes behind it.
+-- The parts of a SAN text, from the left. A part is what it says and the bytes after it.
 use Rattle.std.specs.Prelude.{ℕ, ◌+◌, ◌-◌, ◌*◌, Bool, true, false, ◌&&◌, ◌||◌, ◌==◌, nat_le, if◌then◌else◌, List, [], ◌∷◌, Option, Some, None}
 use Rattle.study_board.specs.declared.men.Kind.{Kind}
 use Rattle.study_board.specs.declared.men.Kind.TheVariants.{King, Queen, Rook, Bishop, Knight, Pawn}
@@ -42,7 +42,7 @@ unfoldable pub officer_at : List ℕ → Option Kind × List ℕ
 officer_at [] = (None, [])
 officer_at (b ∷ bs) = given (officer_of b) b bs
 
--- `=` wants a kind behind it
+-- `=` wants a kind after it
 abbrev pub wanted : Option Kind × List ℕ → Option (Option Kind × List ℕ)
 wanted x = elim x.0 [ None ↦ None | Some k ↦ Some (Some k, x.1) ]
 
@@ -57,14 +57,14 @@ pub record Squares : Type 0 where
   pub takes : Bool
   pub target : ℕ
 
--- behind the origin a target follows, or what was read as the origin is the target
+-- after the origin a target follows, or what was read as the origin is the target
 abbrev pub squares_from : Option ℕ → Option ℕ → Bool → Option ℕ → Option ℕ → Option Squares
 squares_from f r x (Some tf) (Some tr) = Some (record { file = f; rank = r; takes = x; target = 8 * tr + tf })
 squares_from f r x (Some tf) None = None
 squares_from (Some tf) (Some tr) false None tr' = Some (record { file = None; rank = None; takes = false; target = 8 * tr + tf })
 squares_from _ _ _ _ _ = None
 
--- the rank of a target is looked for behind its file only
+-- the rank of a target is looked for after its file only
 abbrev pub rank_behind : Option ℕ × List ℕ → Option ℕ × List ℕ
 rank_behind x = elim x.0 [ None ↦ (None, x.1) | Some f ↦ rank_at x.1 ]
 

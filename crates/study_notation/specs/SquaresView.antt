@@ -1,4 +1,4 @@
--- Not part of any public contract: what a clause sees of coordinates and the bytes behind them.
+-- Not part of any public contract: what a clause sees of coordinates and the bytes after them.
 use Rattle.std.specs.Prelude.{ℕ, List}
 use Rattle.std.specs.Borrow.{Bor}
 use Rattle.study_notation.specs.declared.san_parts.Squares.{Squares}

@@ -12,7 +12,7 @@ use study_board::{Man, Position, PositionFault, Side, Square, first_fault, in_ch
 /// The start that the text spells, or the text's first fault.
 ///
 /// Fields are those of the PGN Standard, with one or more spaces between them. Four fields are read
-/// as if `0 1` stood behind them, a run of empty squares may be given in several digits, and the
+/// as if `0 1` followed, a run of empty squares may be given in several digits, and the
 /// move number 0 is read as 1.
 #[tactic(auto, unfolding(crate::specs::Fen::start_of))]
 pub fn read_fen(text: &str) -> Result<Start, FenFault>

@@ -91,7 +91,7 @@ fn read_rank(men: &mut ArrayVec<Man, 64>, part: &[u8], first: u8) -> bool
     file == 8
 }
 
-// What stands before the last stroke, and behind it.
+// What stands before the last stroke, and after it.
 fn cut_last(text: &[u8]) -> Option<(&[u8], &[u8])>
     ensures found { IfSome result (λ x. parts_of text.now ≡ parts_of x.0.now ++ x.1.now ∷ []) }
     ensures none { IfNone result (parts_of text.now ≡ text.now ∷ []) }

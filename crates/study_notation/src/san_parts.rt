@@ -82,7 +82,7 @@ fn read_officer(text: &[u8]) -> (Option<Kind>, &[u8])
 }
 
 /// The promotion, none where no kind stands here, and what follows it; nothing where `=` has no kind
-/// behind it.
+/// after it.
 #[tactic(auto, unfolding(crate::specs::SanParts::promotion_at))]
 pub fn read_promotion(text: &[u8]) -> Option<(Option<Kind>, &[u8])>
     ensures { option_map (λ x. (x.0, x.1.now)) result ≡ promotion_at text.now }

@@ -3,7 +3,7 @@ ghost use Rattle.std.specs.Prelude.{◌≡◌, ◌≤◌, ◌∷◌, [], length,
 ghost use Rattle.std.specs.List.{prefix_len};
 ghost use Rattle.study_notation.specs.Words.{is_space, words, behind_word};
 
-/// The first word of a text, and what stands behind it. Words stand between spaces.
+/// The first word of a text, and what follows it. Words stand between spaces.
 pub fn next_word(line: &[u8]) -> Option<(&[u8], &[u8])>
     ensures some { IfSome result (λ found. words line.now ≡ found.0.now ∷ words found.1.now) }
     ensures behind { IfSome result (λ found. found.1.now ≡ behind_word line.now) }

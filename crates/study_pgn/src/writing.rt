@@ -68,7 +68,7 @@ fn text_of<'a, 'b, A: Allocator, B: Allocator>(
 /// Writes the PGN of a study.
 ///
 /// The text is made whole first, so want of memory is told before the first byte. A writer that fails or takes nothing
-/// ends the call; it took a front of the text then. The time grows with the number of nodes, and with the depth of
+/// ends the call; it took a prefix of the text then. The time grows with the number of nodes, and with the depth of
 /// each, since a node is looked up along its path.
 pub fn write_pgn<'a, 'b, A: Allocator, B: Allocator, W: Write>(
     alloc: &'a A,

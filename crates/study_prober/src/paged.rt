@@ -252,7 +252,7 @@ impl<'a, S: PageSource, A: Allocator> Values for PagedTables<'a, S, A> {
         ensures unread { (c : AClass) (h : AHeld S) (f : ASourceFault) → IsOf c p.now → held_of self.old.sources c ≡ Some h
             → IsErrOf result (ProbeFault.TableRead f) → S.gives h.source (of_page (index_of p.now / 4096)) (Err f) }
 
-        // A page that is put in is the one asked for, as the source may give it; behind a refusal none is.
+        // A page that is put in is the one asked for, as the source may give it; after a refusal none is.
         ensures put { (c : AClass) (h : AHeld S) → IsOf c p.now → held_of self.old.sources c ≡ Some h
             → PutsOnly (IsPageFor S.gives c h (index_of p.now)) self.old.kept self.new.kept }
         ensures refused { OnErr result (PutsNone self.old.kept self.new.kept) }

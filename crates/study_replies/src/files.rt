@@ -406,7 +406,7 @@ build KK -> built KK cells 1280 win -";
 const BY_PAGES: Rows<'static> = "load KK -> loaded KK cells 1280
 build KK -> error PagedMode";
 
-/// Each fault behind the header has its name. By pages the header alone is read at first.
+/// Each fault after the header has its name. By pages the header alone is read at first.
 #[test]
 fn faults_behind_headers(rt: HostRuntime) -> Result<(), Fail> {
     let alloc = rt.alloc();
@@ -430,7 +430,7 @@ const PADDED_DIGEST: [u8; 32] = [
     0x85, 0x82, 0x48, 0x9b, 0x7c, 0x75, 0xe2, 0x1c, 0xf7, 0xba, 0xe8, 0xab, 0x09, 0xa0, 0x30, 0x16,
 ];
 
-/// A byte behind the last cell that is not zero, under its right digest.
+/// A byte after the last cell that is not zero, under its right digest.
 #[test]
 fn padding(rt: HostRuntime) -> Result<(), Fail> {
     let alloc = rt.alloc();

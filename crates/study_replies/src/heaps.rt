@@ -1,4 +1,4 @@
-//! Runs whose memory ends: nothing is answered, or a line wants memory and the lines behind it are answered as ever.
+//! Runs whose memory ends: nothing is answered, or a line wants memory and the lines after it are answered as ever.
 use crate::limits::deep_line;
 use crate::runs::{Case, Rows, no_files, replies_of};
 use linked_list_allocator::LocalHeap;
@@ -125,7 +125,7 @@ fn queen(rt: HostRuntime) -> Result<(), Fail> {
     Ok(())
 }
 
-/// Whether a front of the replies is followed by want of memory, and each line behind it, which goes on from a node that is
+/// Whether a prefix of the replies is followed by want of memory, and each line after it, which goes on from a node that is
 /// not there, finds no node, or no memory for the path to it.
 fn is_broken_off(text: &str, replies: &[u8]) -> bool {
     let Some((front, rest)) = text.split_once("error OutOfMemory\n") else {

@@ -23,7 +23,7 @@ fn empty_script(rt: HostRuntime) {
     );
 }
 
-/// A writer that fails, or takes nothing, has a front of the replies, and no line behind the one that it broke off is read.
+/// A writer that fails, or takes nothing, has a prefix of the replies, and no line after the one that it broke off is read.
 #[test]
 fn writers(rt: HostRuntime) {
     let alloc = rt.alloc();
@@ -53,7 +53,7 @@ fn writers(rt: HostRuntime) {
     }
 }
 
-/// A reader that fails behind a line: the replies to the lines that had ended are written.
+/// A reader that fails after a line: the replies to the lines that had ended are written.
 #[test]
 fn readers(rt: HostRuntime) {
     let alloc = rt.alloc();

@@ -12,7 +12,7 @@ use study_script::store::TableStore;
 use study_tablefile::memory::{MemoryReader, MemoryWriter};
 use study_tablefile::write_table;
 
-/// Lines of a script, each with ` -> ` and its reply behind it, or ` ->` where it has none. A row without an arrow is one more
+/// Lines of a script, each with ` -> ` and its reply after it, or ` ->` where it has none. A row without an arrow is one more
 /// line of the reply above it.
 pub type Rows<'r> = &'r str;
 

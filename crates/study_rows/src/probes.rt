@@ -383,7 +383,7 @@ fn a_damaged_page_is_read_again(rt: HostRuntime) {
     assert!(rt; tables.asked() == 3 && tables.failures() == 1);
 }
 
-/// The faults of a source in their order, each over a source that has those behind it too.
+/// The faults of a source in their order, each over a source that has those after it too.
 #[test]
 fn sources_are_refused(rt: HostRuntime) {
     let alloc = rt.alloc();

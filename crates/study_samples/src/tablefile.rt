@@ -311,7 +311,7 @@ fn pages_one_by_one(rt: HostRuntime) -> Result<(), Fail> {
     Ok(())
 }
 
-/// A cell behind the last one that is not zero, under the digest that it asks for.
+/// A cell after the last one that is not zero, under the digest that it asks for.
 #[test]
 fn padding_is_looked_at(rt: HostRuntime) {
     let alloc = rt.alloc();

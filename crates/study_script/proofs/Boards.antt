@@ -1,4 +1,4 @@
--- What is held behind a reply, by what the board is.
+-- What is held after a reply, by what the board is.
 use Rattle.std.proofs.Common.{◌≡◌, ℕ, Bool, false, List, Option, Result, Ok, Err, refl, sym, ap, subst, ◌∙◌}
 use Rattle.std.specs.Prelude.{IfOk, OnOk, OnErr}
 use Rattle.std.specs.Io.KnownBytes.{Appends}

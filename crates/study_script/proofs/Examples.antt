@@ -59,7 +59,7 @@ of_position : ◌≡◌ {A = Asks} (command_of (codes "position  k7 ")) (Ok (Som
 unfolding command_of words behind_word word_of word_asked trimmed
 of_position = refl
 
--- a class is looked at behind the mode
+-- a class is looked at after the mode
 of_build : ◌≡◌ {A = Asks} (command_of (codes "build KX")) (Ok (Some (of_class Build (codes "KX"))))
 unfolding command_of words behind_word word_of word_asked
 of_build = refl

@@ -1,4 +1,4 @@
--- What is held behind a command that leaves the store alone.
+-- What is held after a command that leaves the store alone.
 use Rattle.std.proofs.Common.{◌≡◌, ℕ, Bool, true, false, List, Option, Some, None, Result, Ok, Err, refl, sym, ap, subst, ◌∙◌, [], ◌∷◌}
 use Rattle.std.specs.Prelude.{IfOk, codes}
 use Rattle.study_board.specs.Position.{Position}
@@ -153,7 +153,7 @@ insert_beside s (study old) steps san (header told) reply h = at_beside s (heade
 
 -- ---- what is held
 
--- what is held behind a reply, by the reply
+-- what is held after a reply, by the reply
 pub ok_kept : {E : Type 0} (I J : Outside → Reply → Type 0) (H K : State → Type 0) (r : Result Bool E)
     (old new : Option (List ℕ)) → ((o : Outside) (p : Reply) → I o p → J o p)
     → ((o : Outside) (p : Reply) → I o p → H p.state → K p.state) → IfOk r (Answered I H old new)
@@ -185,13 +185,13 @@ module _ {S : Type 0} (stores : S → Bool → Type 0) (files headers : S → Cl
 
 module _ {S P A : Type 0} (sources : P → Table → ℕ → Type 0) (gives : GivesOf P) (stores : S → Bool → Type 0)
     (files headers : S → Class → Option (Result (List ℕ) StoreFault)) (faults : S → Class → SourceFault → Bool) where
-  -- behind an edit that asks the tables
+  -- after an edit that asks the tables
   pub desk_edited : (b c : HeldBoard A) (t u : Tables P A) (store : S) (s new : State)
       → DeskHolds sources gives stores files headers faults b t store s → IsBeside s new → Holds sources gives c u new
       → DeskHolds sources gives stores files headers faults c u store new
   desk_edited b c t u store s new d e h = record { held = h; seen = store_same stores files headers faults store s new e d.seen }
 
-  -- behind a command of the board alone
+  -- after a command of the board alone
   pub desk_board : (b c : HeldBoard A) (t : Tables P A) (store : S) (s new : State)
       → DeskHolds sources gives stores files headers faults b t store s → HoldsFrom s c new
       → DeskHolds sources gives stores files headers faults c t store new
@@ -207,7 +207,7 @@ module _ {S P A : Type 0} (sources : P → Table → ℕ → Type 0) (gives : Gi
     seen = store_same stores files headers faults store s new (record { paged = h.paged; shelf = h.shelf }) d.seen;
   }
 
-  -- behind a command of a class
+  -- after a command of a class
   pub desk_class : (b : HeldBoard A) (t u : Tables P A) (store other : S) (s new : State)
       → DeskHolds sources gives stores files headers faults b t store s → TablesFrom sources gives s u new
       × StoreSeen stores files headers faults other new → DeskHolds sources gives stores files headers faults b u other new

@@ -1,4 +1,4 @@
--- What is held behind a reply.
+-- What is held after a reply.
 use Rattle.std.proofs.Common.{◌≡◌, ℕ, ◌+◌, ◌*◌, ◌<◌, ◌≤◌, Bool, List, Option, Some, None, Result, refl, sym, ap, subst, ◌∙◌}
 use Rattle.std.specs.Prelude.{IfSome, IfNone, IfOk, OnErr}
 use Rattle.std.proofs.lemmas.Result.{IfOk-weaker, on_err_weaker}
@@ -56,11 +56,11 @@ module _ {A : Type 0} where
 pub bench_kept : (k : Kept) (s : State) → HoldsBench k s → HoldsBenchFrom s k s
 bench_kept k s h = record { holds = h; classes = refl; paged = refl; shelf = refl }
 
--- a study that was edited is held behind an accepted edit
+-- a study that was edited is held after an accepted edit
 pub bench_edited : (k : Kept) (s : State) (new : Plainly) → plain_study (marked k) ≡ new → IsKeptRight k → HoldsBenchFrom s k (holding s new)
 bench_edited k s new e r = record { holds = record { board = ap study e; marks = r }; classes = refl; paged = refl; shelf = refl }
 
--- a study that stays is held behind a refused edit
+-- a study that stays is held after a refused edit
 pub bench_same : (k old : Kept) (s : State) → k ≡ old → HoldsBench old s → HoldsBenchFrom s k s
 bench_same k old s e h = record { holds = subst (λ (x : Kept). HoldsBench x s) (sym e) h; classes = refl; paged = refl; shelf = refl }
 

@@ -238,7 +238,7 @@ module _ {S : Type 0} where
         known = record { files_known = h.known.files_known; headers_known = h.known.headers_known; faults_known = h.known.faults_known };
       }
 
-  -- a store is seen alike behind a command that leaves it
+  -- a store is seen alike after a command that leaves it
   pub store_of : (honest : S → Bool → Type 0) (files headers : S → Class → Option (Result (List ℕ) StoreFault)) (faults : S → Class → SourceFault → Bool)
       (store : S) (s t : State) → t.paged ≡ s.paged → t.shelf ≡ s.shelf → StoreSeen honest files headers faults store s
       → StoreSeen honest files headers faults store t

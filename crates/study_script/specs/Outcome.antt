@@ -27,12 +27,12 @@ error_count replies = count_by (λ answer. answer.1.refused) replies
 abbrev pub AreAnswered : State → List (List ℕ) → Option (List ℕ) → Option (List ℕ) → Type 0
 AreAnswered first lines old new = AreShort lines × (replies : List Answer) × AreReplies first lines replies × Appends old new (replies_text replies)
 
--- what is held behind replies
+-- what is held after replies
 abbrev pub state_after : State → List Answer → State
 state_after s [] = s
 state_after s (answer ∷ more) = state_after answer.1.state more
 
--- the replies to the lines are written, and then a front of the reply to one line more, of which at least a byte is left out
+-- the replies to the lines are written, and then a prefix of the reply to one line more, of which at least a byte is left out
 abbrev pub AreBrokenOff : State → List (List ℕ) → List ℕ → Option (List ℕ) → Option (List ℕ) → Type 0
 AreBrokenOff first lines line old new =
     AreShort lines × (length line ≤ 1024) × (replies : List Answer) × AreReplies first lines replies
@@ -50,12 +50,12 @@ Outcome first script left old new (Ok summary) =
     (length (script_lines script) ≤ 100000) × AreShort (script_lines script)
     × (replies : List Answer) × AreReplies first (script_lines script) replies × Appends old new (replies_text replies)
     × (summary.lines ≡ length (script_lines script)) × (summary.refused ≡ error_count replies)
--- exactly the lines whose ends were read are answered: the device failed within the one behind them
+-- exactly the lines whose ends were read are answered: the device failed within the one after them
 Outcome first script left old new (Err ReadDevice) = (n : ℕ) × (n ≤ 100000) × (n ≤ length (script_lines script))
     × GaveFeeds (Some script) left n
     × (rest : List ℕ) × (drop n (script_lines script) ≡ script_lines rest) × GaveFeeds (Some rest) left 0
     × AreAnswered first (take n (script_lines script)) old new
--- where the writer failed, the lines behind the one whose reply it broke off are left
+-- where the writer failed, the lines after the one whose reply it broke off are left
 Outcome first script left old new (Err WriteDevice) =
     (n : ℕ) × (n < 100000) × GaveFeeds (Some script) left (n + 1) × AreLeft left (drop (n + 1) (script_lines script))
     × IsSomeAnd (slice_get (script_lines script) n) (λ line. AreBrokenOff first (take n (script_lines script)) line old new)

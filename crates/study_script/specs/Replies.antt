@@ -63,7 +63,7 @@ use Rattle.study_pgn.specs.Tags.{tag_name}
 use Rattle.study_script.specs.Words.{reply_line, stipulation_words, mark_text, moves_text, solve_text}
 use Rattle.study_script.specs.Words.{insert_text, built_text, loaded_text, saved_text, verified_text}
 
--- the reply to a line: its bytes, what is held behind the line, and whether the line is refused
+-- the reply to a line: its bytes, what is held after the line, and whether the line is refused
 pub record Reply : Type 0 where
   pub text : List ℕ
   pub state : State

@@ -85,7 +85,7 @@ pub data Outside : Type 0 where
   quiet : Outside
   -- a growth is refused: for the path of the line, or for what the line asks
   no_path no_room : Outside
-  -- a growth is refused behind the header of a file, which begins with these bytes or has them as its header
+  -- a growth is refused after the header of a file, which begins with these bytes or has them as its header
   no_room_for : (bytes : List ℕ) → Outside
   -- a page of a table is not read, or is damaged
   unread : (fault : ProbeFault) → Outside

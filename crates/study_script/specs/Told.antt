@@ -47,7 +47,7 @@ pub record HoldsWhole (w : Whole) (s : State) : Type 0 where
   pub classes : (c : Class) → is_some (table_of w.tables c) ≡ is_among s.classes c
   pub whole : false ≡ s.paged
 
--- the same behind a command that leaves the board, and what is known of the store
+-- the same after a command that leaves the board, and what is known of the store
 pub record WholeFrom (old : State) (w : Whole) (s : State) : Type 0 where
   pub holds : HoldsWhole w s
   pub board : s.board ≡ old.board
@@ -60,7 +60,7 @@ pub record HoldsPaged {P : Type 0} (honest : P → Table → ℕ → Type 0) (gi
   pub by_pages : true ≡ s.paged
   pub faults : (c : Class) (f : SourceFault) → MayFail gives (held_of w.sources c) c f → s.shelf.faults c f ≡ true
 
--- why the file of a class gives no table, by what is known of it: it is not opened, its device fails, there is no memory behind its
+-- why the file of a class gives no table, by what is known of it: it is not opened, its device fails, there is no memory after its
 -- header, or its bytes have a fault
 abbrev pub IsFileRefusal : Option (Result (List ℕ) StoreFault) → Refusal → Type 0
 IsFileRefusal known refusal =

@@ -52,7 +52,7 @@ abbrev pub mark_text : List ℕ → Mark → List ℕ
 mark_text steps m =
     codes "mark " ++ (path_text steps ++ (32 ∷ (value_words m.value ++ (32 ∷ (on_move_text m.on_move ++ reply_line (codes " faults ") (decimal m.faults))))))
 
--- the moves, each behind a space
+-- the moves, each after a space
 abbrev pub moves_listed : Position → List Move → List ℕ
 moves_listed p ms = flat_map (λ m. 32 ∷ move_text p m) ms
 

@@ -1,4 +1,4 @@
-//! What a line does: its reply, and what is held behind it.
+//! What a line does: its reply, and what is held after it.
 ghost use Rattle.std.specs.Prelude.{Bool, IfOk, OnErr};
 ghost use Rattle.study_command.specs.Asking.{command_seen};
 ghost use Rattle.study_script.specs.State.{State};
@@ -22,7 +22,7 @@ use study_command::command::Command;
 use study_command::read_command;
 use study_tablefile::DeviceFailed;
 
-/// Writes the reply to a line, keeps what is held behind it, and tells whether the line was refused.
+/// Writes the reply to a line, keeps what is held after it, and tells whether the line was refused.
 pub fn answer<'a, W: Write, S: TableStore, A: Allocator>(
     alloc: &'a A,
     board: &mut Board<'a, A>,

@@ -19,7 +19,7 @@ pub trait Desk {
     /// What is held is this state; its marks are right, its values are honest, and so is its store for each class that is trusted.
     ghost holds: { Self → (AClass → Bool) → AState → Type 0 };
 
-    /// Writes the reply to a line, keeps what is held behind it, and tells whether the line was refused.
+    /// Writes the reply to a line, keeps what is held after it, and tells whether the line was refused.
     fn answer<W: Write>(&mut self, line: &[u8], out: &mut W) -> Result<bool, DeviceFailed>
         ensures ok { (trusted : AClass → Bool) (s : AState) → IsTrusted trusted line.now → holds self.old trusted s
             → IfOk result (Answered (IsReply s line.now) (holds self.new trusted) (W.contents out.old) (W.contents out.new)) }

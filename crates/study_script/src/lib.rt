@@ -1,4 +1,4 @@
-//! Scripts: what a line asks for, its reply, and what is held behind it.
+//! Scripts: what a line asks for, its reply, and what is held after it.
 //!
 //! `run` answers a whole script, line by line, over a store of tables; `StudyDesk` answers one line, and `run_in` the lines of a
 //! script by any desk. What is replied is said in specs/Replies.antt, over a state that holds a study without marks.

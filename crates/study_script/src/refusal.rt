@@ -38,7 +38,7 @@ pub enum Refusal {
     DistanceTooLarge,
 }
 
-/// What stands behind the name of a refusal.
+/// What follows the name of a refusal.
 #[derive(Clone, Copy, Debug, PartialEq, Eq)]
 pub enum Argument {
     None,
@@ -47,7 +47,7 @@ pub enum Argument {
 }
 
 impl Refusal {
-    /// What stands behind the name.
+    /// What follows the name.
     pub fn argument(self) -> Argument
         ensures { result ≡ argument_of self }
     {
@@ -64,7 +64,7 @@ impl Refusal {
         }
     }
 
-    /// The name that the reply gives, with a space where something stands behind it.
+    /// The name that the reply gives, with a space where something follows.
     pub fn name(self) -> &'static [u8]
         ensures { result.now ≡ name_text self }
     {

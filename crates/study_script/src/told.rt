@@ -94,7 +94,7 @@ fn put_counts<W: Write>(
     put_line(out, b" win ", win)
 }
 
-// A word, the name of a class, and a number behind its label.
+// A word, the name of a class, and a number after its label.
 fn put_size<W: Write>(
     out: &mut W,
     word: &[u8],

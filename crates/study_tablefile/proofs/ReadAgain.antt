@@ -232,7 +232,7 @@ cells_again fields rest cells n =
     let digest = page_digest fields n full in
     ap (λ (l : List ℕ). take 4096 l) (append_assoc full digest rest) ∙ take_at full (digest ++ rest) 4096 (cells_length cells)
 
--- the cells of a page, and those behind it with their zero bytes
+-- the cells of a page, and those after it with their zero bytes
 pub padded_cells : (k : ℕ) (cells : List ℕ) → length cells ≤ 4096 * suc k → 4096 * suc k < length cells + 4096
     → page_cells_of cells ++ (drop 4096 cells ++ replicate (4096 * k - length (drop 4096 cells)) 0) ≡ cells ++ replicate (4096 * suc k - length cells) 0
 unfolding page_cells_of

@@ -35,7 +35,7 @@ admitted : {A E : Type 0} (b : Bool) (e : E) (r : Result A E) (x : A) → (if no
 admitted true e r x h = (refl, h)
 admitted false e r x h = cc
 
--- an answer behind a test
+-- an answer after a test
 answered : {A E : Type 0} (b : Bool) (e : E) (r : Result A E) (x : A) → (if b then r else Err e) ≡ Ok x → (b ≡ true) × (r ≡ Ok x)
 answered true e r x h = (refl, h)
 answered false e r x h = cc
@@ -168,7 +168,7 @@ pages_are c v n (suc k) before bytes t h =
       small = λ all. All-append (λ b. b < 256) front rest.cells (All-take (λ b. b < 256) 4096 bytes all) (rest.small (All-drop (λ b. b < 256) 4128 bytes all));
     }
 
--- zero bytes behind the last cell change no page
+-- zero bytes after the last cell change no page
 pages_padded : (fields : List ℕ) (n k : ℕ) (cells : List ℕ) → length cells ≤ 4096 * k → 4096 * k < length cells + 4096
     → pages_text fields n k (cells ++ replicate (4096 * k - length cells) 0) ≡ pages_text fields n k cells
 pages_padded fields n zero cells hold full = refl

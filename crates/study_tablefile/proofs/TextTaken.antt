@@ -89,7 +89,7 @@ pub stopped : (old mid new : Option (List ℕ)) (text rest : List ℕ) → Wrote
     → false ≡ (length rest == 0) → Keeps mid new → TakesPrefix old new text
 stopped old mid new text rest w some h = let ne = eqb-false (length rest) 0 (sym some) in Wrote-fails old mid new text rest w (omega arith) h
 
--- ---- one text behind another
+-- ---- one text after another
 
 -- a part of the first is taken
 pub TakesPrefix-first : (old new : Option (List ℕ)) (x y : List ℕ) → TakesPrefix old new x → TakesPrefix old new (x ++ y)

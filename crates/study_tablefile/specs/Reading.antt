@@ -54,13 +54,13 @@ abbrev pub unless : Option FileFault → Result Table FileFault → Result Table
 unless (Some fault) answer = Err fault
 unless None answer = answer
 
--- so many pages from page n on, behind the cells of the pages before them
+-- so many pages from page n on, after the cells of the pages before them
 abbrev pub pages_read : Class → ℕ → ℕ → ℕ → List ℕ → List ℕ → Result Table FileFault
 pages_read c v n zero cells bytes = table_end c cells bytes
 pages_read c v n (suc k) cells bytes =
     unless (page_fault (fields_text c v) n bytes) (pages_read c v (n + 1) k (cells ++ take 4096 bytes) (drop 4128 bytes))
 
--- the pages behind a header of a version
+-- the pages after a header of a version
 abbrev pub table_behind : ℕ → Result Class FileFault → List ℕ → Result Table FileFault
 table_behind v (Err fault) bytes = Err fault
 table_behind v (Ok c) bytes = pages_read c v 0 (pages_of c) [] bytes

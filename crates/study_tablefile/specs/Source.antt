@@ -7,11 +7,11 @@ use Rattle.study_tablefile.specs.declared.fault.SourceFault.{SourceFault}
 use Rattle.study_tablefile.specs.declared.fault.SourceFault.TheVariants.{Device, Short}
 use Rattle.study_tablefile.specs.File.{fields_text, page_cells_of, page_digest, page_text}
 
--- the places of a page behind the last cell
+-- the places of a page after the last cell
 abbrev pub places_behind : ℕ → ℕ → List ℕ → List ℕ
 places_behind cells n page = drop (min (cells - n * 4096) 4096) (take 4096 page)
 
--- a page with the digest of its cells, and zero bytes behind the last cell
+-- a page with the digest of its cells, and zero bytes after the last cell
 abbrev pub is_whole_page : List ℕ → ℕ → ℕ → List ℕ → Bool
 is_whole_page fields cells n page =
     bytes_eq (take 32 (drop 4096 page)) (page_digest fields n (take 4096 page))

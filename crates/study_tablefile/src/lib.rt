@@ -1,6 +1,6 @@
 //! Files of tables: their text, which `write_table` writes and `read_table` reads, and devices that fail in tests.
 //!
-//! A table is kept as one text of bytes, `table_text`. `write_table` writes exactly it, or a front of it. `read_table`
+//! A table is kept as one text of bytes, `table_text`. `write_table` writes exactly it, or a prefix of it. `read_table`
 //! answers what the bytes read as, from front to back: a table, or the first fault. `tables_are_read_again` proves that
 //! the text of a table reads as that table, and `only_texts_are_read` that nothing else reads as a table. `PageSource`
 //! gives a file page by page, `put` hands a text to any writer, and `memory` has a reader, a writer and a source that

@@ -45,7 +45,7 @@ pub fn read_header(bytes: &[u8; 64]) -> Result<Header, FileFault>
     })
 }
 
-/// Whether a page has the digest of its cells, and zero bytes behind the last cell.
+/// Whether a page has the digest of its cells, and zero bytes after the last cell.
 pub fn page_cells(header: &Header, number: u32, page: &[u8; 4128]) -> bool
     ensures { result ≡ is_whole_page header.now.fields header.now.cells number page.now }
 {

@@ -21,7 +21,7 @@ use study_retro::Table;
 /// Cells of a page.
 pub const PAGE_CELLS: usize = 4096;
 
-/// The name of a class in 8 bytes, with zero bytes behind it.
+/// The name of a class in 8 bytes, with zero bytes after it.
 #[tactic(auto, using(crate::proofs::ClassBounds::short_name, crate::proofs::Lists::field_filled), unfolding(crate::specs::File::class_field))]
 pub fn class_field(class: Class) -> [u8; 8]
     ensures { result ≡ class_field class }
@@ -72,7 +72,7 @@ pub fn page_digest(fields: &[u8; 32], number: u32, cells: &[u8]) -> [u8; 32]
     hasher.finalize()
 }
 
-/// The cells of a page, with zero bytes behind the last one.
+/// The cells of a page, with zero bytes after the last one.
 #[tactic(auto, using(crate::proofs::Lists::padded_front), unfolding(crate::specs::File::page_cells_of))]
 fn padded_cells(cells: &[u8]) -> [u8; 4096]
     requires { length cells.now ≤ 4096 }
@@ -131,7 +131,7 @@ pub fn file_bytes(class: Class) -> u32
     64 + 4128 * pages(class)
 }
 
-/// Writes a table, or stops where the writer fails or takes nothing; it took a front of the text then.
+/// Writes a table, or stops where the writer fails or takes nothing; it took a prefix of the text then.
 pub fn write_table<'a, A: Allocator, W: Write>(
     table: &Table<'a, A>,
     out: &mut W,
