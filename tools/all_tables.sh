@@ -5,5 +5,6 @@
 set -e
 top=$(cd "$(dirname "$0")/.." && pwd)
 program=${STUDYBENCH:-$top/crates/studybench/out/studybench}
+[ -x "$program" ] || program="$top/studybench" # in a release
 mkdir -p "$1"
 time "$program" --tables "$1" < "$top/examples/all_tables.script"
