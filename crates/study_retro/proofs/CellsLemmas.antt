@@ -71,7 +71,8 @@ module _ (k : ℕ) where
       | inr x ↦ (let t = tells n p e in (λ w. absurd (x.1 w), λ m. absurd (x.0 (t.1 m))))
     ]
 
-    pub added-tells : (Why : ℕ → Type 0) (old new : List ℕ) → AreAdded Why k old new → TellsWins leads mate k position old → TellsWins leads mate k position new
+    pub added-tells : (Why : ℕ → Type 0) (old new : List ℕ) → AreAdded Why k old new
+        → TellsWins leads mate k position old → TellsWins leads mate k position new
     added-tells Why old new f =
         tells-same old new
         (λ i. elim (f i) [
