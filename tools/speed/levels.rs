@@ -88,17 +88,6 @@ impl ClassGame<'_> {
         before.as_slice().len() as u64
     }
 
-    /// Sets the cell of a number that tells of no mate, where each move leads to a win within `level` plies.
-    fn deny(&self, cells: &mut [u8], number: u32, level: u8) -> u64 {
-        if cells[number as usize] != 0 {
-            return 0;
-        }
-        if self.is_lost_at(cells, number, level) {
-            cells[number as usize] = level + 2;
-        }
-        1
-    }
-
     fn go_back_from_win(&self, cells: &mut [u8], number: u32, level: u8) -> u64 {
         if cells[number as usize] != level + 1 {
             return 0;
@@ -110,11 +99,13 @@ impl ClassGame<'_> {
     #[inline(never)]
     fn deny_before(&self, cells: &mut [u8], number: u32, level: u8) -> u64 {
         let before = numbers_before(self.class, number);
-        let mut tested = 0;
         for from in before.as_slice() {
-            tested += self.deny(cells, *from, level);
+            let cell = &mut cells[*from as usize];
+            if *cell == 0 {
+                *cell = level + 2;
+            }
         }
-        tested + before.as_slice().len() as u64 + 1
+        before.as_slice().len() as u64 + 1
     }
 
     fn level_of_losses(&self, cells: &mut [u8], level: u8) -> u64 {
@@ -127,7 +118,7 @@ impl ClassGame<'_> {
         examined
     }
 
-    /// Looks at a number that a move out of the class makes due.
+    /// Looks at a number that may be lost in `level + 1` plies.
     fn confirm(&self, cells: &mut [u8], number: u32, level: u8) -> u64 {
         if cells[number as usize] != level + 2 {
             return 0;
@@ -141,10 +132,10 @@ impl ClassGame<'_> {
     fn level_of_wins(&self, cells: &mut [u8], level: u8) -> u64 {
         let mut examined = 0;
         for number in 0..self.cells() {
-            examined += self.confirm(cells, number, level);
+            examined += self.go_back_from_win(cells, number, level);
         }
         for number in 0..self.cells() {
-            examined += self.go_back_from_win(cells, number, level);
+            examined += self.confirm(cells, number, level);
         }
         examined
     }

@@ -42,17 +42,17 @@ module _ (k : ℕ) where
     | inr x ↦ absurd (elim x.2 [ inl z ↦ h.0 z | inr z ↦ (let l = h.1 in omega (arith, l, z)) ])
   ]
 
-  pub added-then : (Why : ℕ → Type 0) (a b c : List ℕ) → AreAdded k Why a b → AreAdded k Why b c → AreAdded k Why a c
+  pub added-then : (Why : ℕ → Type 0) (a b c : List ℕ) → AreAdded Why k a b → AreAdded Why k b c → AreAdded Why k a c
   added-then Why a b c f g i = elim (g i) [
     | inl same ↦ elim (f i) [ inl e ↦ inl (same ∙ e) | inr x ↦ inr (x.0, same ∙ x.1, x.2) ]
-    | inr y ↦ elim (f i) [ inl e ↦ inr (sym e ∙ y.0, y.1, y.2) | inr x ↦ absurd (omega (arith, y.0, x.1)) ]
+    | inr y ↦ elim (f i) [ inl e ↦ inr (y.0, y.1, sym e ∙ y.2) | inr x ↦ absurd (omega (arith, y.2, x.1)) ]
   ]
 
-  pub added-kept : (Why : ℕ → Type 0) (a b : List ℕ) → AreAdded k Why a b → (i : ℕ) → slice_index a i ≢ 0 → slice_index b i ≢ 0
-  added-kept Why a b f i h = elim (f i) [ inl e ↦ (λ z. h (sym e ∙ z)) | inr x ↦ absurd (h x.0) ]
+  pub added-kept : (Why : ℕ → Type 0) (a b : List ℕ) → AreAdded Why k a b → (i : ℕ) → slice_index a i ≢ 0 → slice_index b i ≢ 0
+  added-kept Why a b f i h = elim (f i) [ inl e ↦ (λ z. h (sym e ∙ z)) | inr x ↦ absurd (h x.2) ]
 
-  pub added-same : (Why : ℕ → Type 0) (a b : List ℕ) → AreAdded k Why a b → (i : ℕ) → slice_index a i ≡ k + 1 → slice_index b i ≡ k + 1
-  added-same Why a b f i h = elim (f i) [ inl e ↦ e ∙ h | inr x ↦ absurd (omega (arith, x.0, h)) ]
+  pub added-same : (Why : ℕ → Type 0) (a b : List ℕ) → AreAdded Why k a b → (i : ℕ) → slice_index a i ≡ k + 1 → slice_index b i ≡ k + 1
+  added-same Why a b f i h = elim (f i) [ inl e ↦ e ∙ h | inr x ↦ absurd (omega (arith, x.2, h)) ]
 
   pub dropped-then : (a b c : List ℕ) → AreDropped k a b → AreDropped k b c → AreDropped k a c
   dropped-then a b c f g i = elim (g i) [
@@ -71,12 +71,13 @@ module _ (k : ℕ) where
       | inr x ↦ (let t = tells n p e in (λ w. absurd (x.1 w), λ m. absurd (x.0 (t.1 m))))
     ]
 
-    pub added-tells : (Why : ℕ → Type 0) (old new : List ℕ) → AreAdded k Why old new → TellsWins leads mate k position old → TellsWins leads mate k position new
+    pub added-tells : (Why : ℕ → Type 0) (old new : List ℕ) → AreAdded Why k old new
+        → TellsWins leads mate k position old → TellsWins leads mate k position new
     added-tells Why old new f =
         tells-same old new
         (λ i. elim (f i) [
           | inl e ↦ inl e
-          | inr x ↦ inr (not_won-zero k (slice_index old i) x.0, not_won-next k (slice_index new i) x.1)
+          | inr x ↦ inr (not_won-zero k (slice_index old i) x.2, not_won-next k (slice_index new i) x.1)
         ])
 
     pub dropped-tells : (old new : List ℕ) → AreDropped k old new → TellsWins leads mate k position old → TellsWins leads mate k position new

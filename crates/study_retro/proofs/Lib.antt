@@ -18,4 +18,5 @@ pub mod CellsLemmas
 pub mod DueTally
 pub mod QuietClass
 pub mod EarlierChess
+pub mod Jumps
 pub mod BlockLemmas

@@ -244,36 +244,27 @@ module _ {P : Type 0} {leads : P → P → Type 0} {mate : P → Type 0} {known 
   ]
 
   module _ (mid new : List ℕ) (odd : k % 2 ≡ 1)
-      (fall : (i : ℕ) → (slice_index mid i ≡ slice_index old i) ⊎ (slice_index old i ≡ k + 2) × (slice_index mid i ≡ 0))
-      (lost : (i : ℕ) (p : P) → i < size → position i ≡ Some p → slice_index mid i ≡ k + 2 → Mated leads mate p (k + 1))
-      (kept : (i : ℕ) (p q : P) → position i ≡ Some p → leads p q → slice_index old i ≡ k + 2 → Mated leads mate p (k + 1) → slice_index mid i ≡ k + 2)
-      (rise : (i : ℕ) → (slice_index new i ≡ slice_index mid i) ⊎ (slice_index mid i ≡ 0)
-      × (slice_index new i ≡ k + 2) × ((p : P) × (position i ≡ Some p) × Mated leads mate p (k + 1)))
-      (done : (j : ℕ) → j < size → slice_index mid j ≡ k + 1 → (i : ℕ) → (t : LeadsTo leads home index position i j)
-      → Mated leads mate t.0 (k + 1) → slice_index new i ≢ 0) where
+      (rise : (i : ℕ) → (slice_index mid i ≡ slice_index old i)
+      ⊎ ((j : ℕ) × LeadsTo leads home index position i j) × (slice_index mid i ≡ k + 2) × (slice_index old i ≡ 0))
+      (done : (i j : ℕ) → j < size → slice_index old j ≡ k + 1 → LeadsTo leads home index position i j → slice_index mid i ≢ 0)
+      (fall : (i : ℕ) → (slice_index new i ≡ slice_index mid i) ⊎ (slice_index mid i ≡ k + 2) × (slice_index new i ≡ 0))
+      (lost : (i : ℕ) (p : P) → i < size → position i ≡ Some p → slice_index new i ≡ k + 2 → Mated leads mate p (k + 1))
+      (kept : (i : ℕ) (p q : P) → position i ≡ Some p → leads p q → slice_index mid i ≡ k + 2 → Mated leads mate p (k + 1) → slice_index new i ≡ k + 2) where
     -- a cell that stays
     stays : (n : ℕ) → slice_index old n ≢ 0 → slice_index old n ≢ k + 2 → slice_index new n ≡ slice_index old n
-    stays n z t = elim (fall n) [
-      | inr x ↦ absurd (t x.0)
-      | inl e ↦ elim (rise n) [ inl f ↦ f ∙ e | inr y ↦ absurd (z (sym e ∙ y.0)) ]
+    stays n z t = elim (rise n) [
+      | inr y ↦ absurd (z y.2)
+      | inl e ↦ elim (fall n) [ inl f ↦ f ∙ e | inr x ↦ absurd (t (sym e ∙ x.0)) ]
     ]
 
     -- what a cell was
     was : (n : ℕ) → (slice_index new n ≡ slice_index old n)
         ⊎ ((slice_index old n ≡ 0) ⊎ (slice_index old n ≡ k + 2))
         × ((slice_index new n ≡ 0) ⊎ (slice_index new n ≡ k + 2))
-    was n = elim (fall n) [
-      | inl e ↦ elim (rise n) [ inl f ↦ inl (f ∙ e) | inr y ↦ inr (inl (sym e ∙ y.0), inr y.1) ]
-      | inr x ↦ elim (rise n) [ inl f ↦ inr (inr x.0, inl (f ∙ x.1)) | inr y ↦ inr (inr x.0, inr y.1) ]
+    was n = elim (rise n) [
+      | inl e ↦ elim (fall n) [ inl f ↦ inl (f ∙ e) | inr x ↦ inr (inr (sym e ∙ x.0), inl x.1) ]
+      | inr y ↦ elim (fall n) [ inl f ↦ inr (inl y.2, inr (f ∙ y.1)) | inr x ↦ inr (inl y.2, inl x.1) ]
     ]
-
-    mated-there : (n : ℕ) (p : P) → n < size → position n ≡ Some p → slice_index new n ≡ k + 2 → Mated leads mate p (k + 1)
-    mated-there n p b e s =
-        elim (rise n) [
-          | inl f ↦ lost n p b e (sym f ∙ s)
-          | inr y ↦ subst (λ (x : P). Mated leads mate x (k + 1))
-              (injective n y.2.0 p y.2.1 e) y.2.2
-        ]
 
     module _ (n : ℕ) (p : P) (b : n < size) (e : position n ≡ Some p) where
       h : IsHeld leads mate home far k p (slice_index old n)
@@ -314,9 +305,12 @@ module _ {P : Type 0} {leads : P → P → Type 0} {mate : P → Type 0} {known 
           not_there z = above-unmated (let l = above z in omega (arith, was-above (above z))) m
 
           no_home : (j : ℕ) → j < size → slice_index old j ≡ k + 1 → LeadsTo leads home index position n j → ⊥
-          no_home j l s t =
-              not_there (done j l (elim (fall j) [ inl same ↦ same ∙ s | inr x ↦ absurd (omega (arith, s, x.0)) ]) n
-              t (subst (λ (x : P). Mated leads mate x (k + 1)) (injective n p t.0 e t.2) m))
+          no_home j l s t = not_there (elim (fall n) [
+            | inl same ↦ (λ z. done n j l s t (sym same ∙ z))
+            | inr x ↦ (
+                let there = kept n p t.1 e (subst (λ (x : P). leads x t.1) (injective n t.0 p t.2 e) t.3) x.0 m in
+                λ z. omega (arith, there, z))
+          ])
 
           a_move : Mated leads mate p (suc k) → (q : P) × leads p q
           a_move (inl x) = absurd (h.unmated (was-free free) (Mated-le leads mate zero k p (omega arith) x))
@@ -327,17 +321,15 @@ module _ {P : Type 0} {leads : P → P → Type 0} {mate : P → Type 0} {known 
             | inr l ↦ above-unmated (omega arith) m
             | inl s ↦ (
                 let q = a_move (subst (Mated leads mate p) (add-one k) m) in
-                let there : slice_index mid n ≡ k + 2 = kept n p q.0 e q.1 (sym s) m in
-                elim (rise n) [
-                  | inl f ↦ (let is : slice_index new n ≡ k + 2 = f ∙ there in elim free [ inl z ↦ omega (arith, is, z) | inr l ↦ omega (arith, is) ])
-                  | inr y ↦ omega (arith, there, y.0)
-                ])
+                let marked : slice_index mid n ≡ k + 2 = elim (rise n) [ inl f ↦ f ∙ sym s | inr y ↦ absurd (omega (arith, s, y.2)) ] in
+                let is = kept n p q.0 e q.1 marked m in
+                elim free [ inl z ↦ omega (arith, is, z) | inr l ↦ omega (arith, is) ])
           ]
 
       set-odd : slice_index new n ≢ 0 → slice_index new n ≤ k + 1 + 1 → IsGame leads mate p (value_of (slice_index new n))
       set-odd z l = elim (equal_or_less (slice_index new n) (k + 2) (omega arith)) [
         | inl is ↦ (
-            let m = mated-there n p b e is in
+            let m = lost n p b e is in
             let free : IsFree k (slice_index old n) =
             elim (was n) [
               | inl same ↦ inr (omega (arith, is, same))
@@ -388,7 +380,7 @@ module _ {P : Type 0} {leads : P → P → Type 0} {mate : P → Type 0} {known 
         by_number (suc i) ek p e = held-odd n p b e i ek
 
         nothing : position n ≡ None → slice_index old n ≡ 0 → slice_index new n ≡ 0
-        nothing none z = elim (fall n) [
-          | inr x ↦ absurd (omega (arith, z, x.0))
-          | inl f ↦ elim (rise n) [ inl g ↦ g ∙ (f ∙ z) | inr y ↦ absurd (let no : None ≡ Some y.2.0 = sym none ∙ y.2.1 in cc) ]
+        nothing none z = elim (rise n) [
+          | inl e ↦ elim (fall n) [ inl f ↦ f ∙ (e ∙ z) | inr x ↦ absurd (omega (arith, x.0, e, z)) ]
+          | inr y ↦ absurd (let t = y.0.1 in let no : None ≡ Some t.0 = sym none ∙ t.2 in cc)
         ]

@@ -22,10 +22,10 @@ module _ {P : Type 0} {leads : P → P → Type 0} {mate : P → Type 0} {known 
   still-next k reach near held = elim (even_or_odd k) [
     | inl even ↦ level-even laws outer far k reach cells held cells even (λ i. inl refl) (λ i j b s t. absurd (let l = near j b in omega (arith, s)))
     | inr odd ↦ level-odd laws outer far k reach cells held cells cells odd (λ i. inl refl)
+        (λ i j b s t. absurd (let l = near j b in omega (arith, s)))
+        (λ i. inl refl)
         (λ i p b e s. absurd (let l = near i b in omega (arith, s)))
         (λ i p q e l s m. s)
-        (λ i. inl refl)
-        (λ j b s i t m. absurd (let l = near j b in omega (arith, s)))
   ]
 
   pub still-all : (k i : ℕ) → (far ≡ true → k + i ≤ 254) → ((j : ℕ) → j < size → slice_index cells j ≤ k)

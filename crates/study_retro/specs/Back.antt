@@ -60,8 +60,8 @@ AreLowered Why k old new =
     (i : ℕ) → (slice_index new i ≡ slice_index old i) ⊎ Why i × (slice_index new i ≡ k + 2) × ((slice_index old i ≡ 0) ⊎ (k + 2 < slice_index old i))
 
 -- cells are set to k + 2 where they were 0, for a reason
-abbrev pub AreAdded : ℕ → (ℕ → Type 0) → List ℕ → List ℕ → Type 0
-AreAdded k Why old new = (i : ℕ) → (slice_index new i ≡ slice_index old i) ⊎ (slice_index old i ≡ 0) × (slice_index new i ≡ k + 2) × Why i
+abbrev pub AreAdded : (ℕ → Type 0) → ℕ → List ℕ → List ℕ → Type 0
+AreAdded Why k old new = (i : ℕ) → (slice_index new i ≡ slice_index old i) ⊎ Why i × (slice_index new i ≡ k + 2) × (slice_index old i ≡ 0)
 
 -- cells of k + 2 are set to 0
 abbrev pub AreDropped : ℕ → List ℕ → List ℕ → Type 0
@@ -75,3 +75,7 @@ IsSetBy c cells i = (slice_index cells i ≢ 0) × (slice_index cells i ≤ c)
 abbrev pub IsLowered : ℕ → ℕ → List ℕ → List ℕ → Type 0
 IsLowered n c old new =
     (i : ℕ) → (slice_index new i ≡ slice_index old i) ⊎ (i ≡ n) × (slice_index new i ≡ c) × ((slice_index old i ≡ 0) ⊎ (c < slice_index old i))
+
+-- the cell at n alone is set to c, where it was 0
+abbrev pub IsMarked : ℕ → ℕ → List ℕ → List ℕ → Type 0
+IsMarked n c old new = (i : ℕ) → (slice_index new i ≡ slice_index old i) ⊎ (i ≡ n) × (slice_index new i ≡ c) × (slice_index old i ≡ 0)

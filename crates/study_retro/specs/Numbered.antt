@@ -58,10 +58,6 @@ module _ {P : Type 0} where
   abbrev pub IsMatedWithin : Numbered P → ℕ → P → Type 0
   IsMatedWithin g k p = Mated (leads_in g) g.mate p k
 
-  -- the same of the position that a number stands for
-  abbrev pub IsMatedAt : Numbered P → ℕ → ℕ → Type 0
-  IsMatedAt g k n = (p : P) × (g.position n ≡ Some p) × IsMatedWithin g k p
-
   -- p has a move, and each leads to a win within k plies by the cells
   abbrev pub LosesBy : Numbered P → List ℕ → ℕ → P → Type 0
   LosesBy g cells k p = IsLostBy (leads_in g) (label_by g cells) k p
@@ -110,14 +106,6 @@ module _ {P : Type 0} where
   abbrev pub NoLossBy : Numbered P → List ℕ → ℕ → ℕ → Type 0
   NoLossBy g cells k n = (p : P) → g.position n ≡ Some p → LosesBy g cells k p → ⊥
 
-  -- the cell of n is set, if its position has a move and is mated within one ply more than k
-  abbrev pub LossIsSet : Numbered P → ℕ → ℕ → List ℕ → Type 0
-  LossIsSet g k n cells = (p q : P) → g.position n ≡ Some p → leads_in g p q → IsMatedWithin g (k + 1) p → slice_index cells n ≢ 0
-
-  -- the same for each number from which a step leads to n
-  abbrev pub LossesAreSet : Numbered P → ℕ → ℕ → List ℕ → Type 0
-  LossesAreSet g k n cells = (i : ℕ) → (t : StepLeads g i n) → IsMatedWithin g (k + 1) t.0 → slice_index cells i ≢ 0
-
   -- a cell of n that tells of a mate in one ply more than k is true; and such a cell stays where it is true
   abbrev pub LossIsTrue : Numbered P → ℕ → ℕ → List ℕ → Type 0
   LossIsTrue g k n cells = (p : P) → g.position n ≡ Some p → slice_index cells n ≡ k + 2 → IsMatedWithin g (k + 1) p
@@ -142,12 +130,9 @@ module _ {P : Type 0} where
   abbrev pub EndsRight : Numbered P → Bool → List ℕ → List ℕ → Type 0
   EndsRight g silent old new = OutsideIsRight g → CellsAreHeld g false 0 old → IsTrue silent → CellsAreRight g new
 
-  -- from each win in k plies all that leads to it is looked at; from each loss in k plies too
-  abbrev pub WinGoesBack : Numbered P → ℕ → ℕ → List ℕ → List ℕ → Type 0
-  WinGoesBack g k n old new = slice_index old n ≡ k + 1 → LossesAreSet g k n new
-
+  -- from each win in k plies all that leads to it is marked; from each loss in k plies all is set
   abbrev pub WinsGoBack : Numbered P → ℕ → List ℕ → List ℕ → Type 0
-  WinsGoBack g k old new = (j : ℕ) → j < g.size → WinGoesBack g k j old new
+  WinsGoBack g k old new = (i j : ℕ) → j < g.size → slice_index old j ≡ k + 1 → StepLeads g i j → slice_index new i ≢ 0
 
   abbrev pub LossesGoBack : Numbered P → ℕ → List ℕ → List ℕ → Type 0
   LossesGoBack g k old new = (i j : ℕ) → j < g.size → slice_index old j ≡ k + 1 → StepLeads g i j → IsSetBy (k + 2) new i

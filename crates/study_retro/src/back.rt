@@ -1,11 +1,10 @@
 //! Steps back from one decided position.
-ghost use Rattle.std.specs.Prelude.{◌≡◌, ◌↔◌, ◌+◌, ◌<◌, ◌≤◌, ◌⊎◌, ℕ, true, false, length, slice_index, Some, IsTrue, ◌%◌};
-ghost use Rattle.study_retro.specs.Back.{AreAdded, AreLowered, IsLowered, IsSetBy};
-ghost use Rattle.study_retro.specs.Numbered.{IsMatedAt, IsNumberedClass, LosesBy, LossIsSet, LossesAreSet, NoLossBy, StepLeads, WhereWinsAreTold, WinGoesBack};
+ghost use Rattle.std.specs.Prelude.{◌≡◌, ◌≢◌, ◌↔◌, ◌+◌, ◌<◌, ◌≤◌, ◌⊎◌, ℕ, true, false, length, slice_index, Some, IsTrue};
+ghost use Rattle.study_retro.specs.Back.{AreAdded, AreLowered, IsLowered, IsMarked, IsSetBy};
+ghost use Rattle.study_retro.specs.Numbered.{IsNumberedClass, LosesBy, NoLossBy, StepLeads};
 
 use crate::check::label;
 use crate::game::Game;
-use crate::stepped::{SteppedGame, TestedGame};
 use crate::value::Value;
 
 /// Sets a cell, where it tells of no mate so near.
@@ -17,6 +16,18 @@ pub fn lower(cells: &mut [u8], number: u32, cell: u8)
 {
     let known = cells[number as usize];
     if known == 0 || cell < known {
+        cells[number as usize] = cell;
+    }
+}
+
+/// Sets a cell, where it tells of no mate.
+pub fn mark(cells: &mut [u8], number: u32, cell: u8)
+    requires number { number < length cells.old }
+    requires cell { 0 < cell }
+    ensures rise { IsMarked number cell cells.old cells.new }
+    ensures done { slice_index cells.new number ≢ 0 }
+{
+    if cells[number as usize] == 0 {
         cells[number as usize] = cell;
     }
 }
@@ -42,6 +53,22 @@ pub fn lower_by_moves<G: Game>(game: &G, cells: &mut [u8], number: u32, level: u
     let before = game.earlier(number);
     for from in before.as_slice() {
         lower(cells, *from, level + 2);
+    }
+    before.len() as u64
+}
+
+/// A position that is won in `level` plies: what leads to it is marked, where it tells of no mate.
+pub fn mark_by_moves<G: Game>(game: &G, cells: &mut [u8], number: u32, level: u8) -> u64
+    requires laws { IsNumberedClass (G.numbered game.now) }
+    requires level { level < 254 }
+    requires number { number < (G.numbered game.now).size }
+    requires cells { length cells.old ≡ (G.numbered game.now).size }
+    ensures rise { AreAdded (λ i. StepLeads (G.numbered game.now) i number) level cells.old cells.new }
+    ensures done { (i : ℕ) → StepLeads (G.numbered game.now) i number → slice_index cells.new i ≢ 0 }
+{
+    let before = game.earlier(number);
+    for from in before.as_slice() {
+        mark(cells, *from, level + 2);
     }
     before.len() as u64
 }
@@ -86,57 +113,4 @@ pub fn is_lost_by_moves<G: Game>(game: &G, cells: &[u8], number: u32, level: u8)
         None => false,
         Some(at) => is_lost(game, cells, &at, level),
     }
-}
-
-/// Sets the cell of a number that tells of no mate, where each move leads to a win within `level` plies.
-pub fn deny<G: TestedGame>(game: &G, cells: &mut [u8], number: u32, level: u8) -> u64
-    requires laws { IsNumberedClass (G.numbered game.now) }
-    requires level { level < 254 }
-    requires number { number < (G.numbered game.now).size }
-    requires cells { length cells.old ≡ (G.numbered game.now).size }
-    ensures rise { WhereWinsAreTold (G.numbered game.now) level cells.old (AreAdded level (IsMatedAt (G.numbered game.now) (level + 1)) cells.old cells.new) }
-    ensures done { WhereWinsAreTold (G.numbered game.now) level cells.old (LossIsSet (G.numbered game.now) level number cells.new) }
-{
-    if cells[number as usize] != 0 {
-        return 0;
-    }
-    if game.is_lost_at(cells, number, level) {
-        put(cells, number, level + 2);
-    }
-    1
-}
-
-/// Where the position of a number is won in `level` plies, what leads to it may be lost in one more.
-pub fn go_back_from_win<G: SteppedGame>(game: &G, cells: &mut [u8], number: u32, level: u8) -> u64
-    requires laws { IsNumberedClass (G.numbered game.now) }
-    requires level { level < 254 }
-    requires odd { level % 2 ≡ 1 }
-    requires number { number < (G.numbered game.now).size }
-    requires cells { length cells.old ≡ (G.numbered game.now).size }
-    ensures rise { WhereWinsAreTold (G.numbered game.now) level cells.old (AreAdded level (IsMatedAt (G.numbered game.now) (level + 1)) cells.old cells.new) }
-    ensures done { WhereWinsAreTold (G.numbered game.now) level cells.old (WinGoesBack (G.numbered game.now) level number cells.old cells.new) }
-{
-    if cells[number as usize] != level + 1 {
-        return 0;
-    }
-    game.deny_before(cells, number, level)
-}
-
-/// Sets the cells of what leads to a number, where they tell of no mate and each move leads to a win within `level` plies.
-// Not inlined: the list of numbers would be cleared for each number of a level.
-#[inline(never)]
-pub fn deny_by_moves<G: TestedGame>(game: &G, cells: &mut [u8], number: u32, level: u8) -> u64
-    requires laws { IsNumberedClass (G.numbered game.now) }
-    requires level { level < 254 }
-    requires number { number < (G.numbered game.now).size }
-    requires cells { length cells.old ≡ (G.numbered game.now).size }
-    ensures rise { WhereWinsAreTold (G.numbered game.now) level cells.old (AreAdded level (IsMatedAt (G.numbered game.now) (level + 1)) cells.old cells.new) }
-    ensures done { WhereWinsAreTold (G.numbered game.now) level cells.old (LossesAreSet (G.numbered game.now) level number cells.new) }
-{
-    let before = game.earlier(number);
-    let mut tested = 0u64;
-    for from in before.as_slice() {
-        tested = tested.saturating_add(deny(game, cells, *from, level));
-    }
-    tested.saturating_add(before.len() as u64).saturating_add(1)
 }

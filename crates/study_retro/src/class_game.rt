@@ -1,12 +1,12 @@
 //! Chess, as the builder sees it: the positions of a class by their numbers, and the values of those that it leads to.
 ghost use Rattle.study_retro.specs.Table.{IsReady, IsClosed};
 
-use crate::back::{deny_by_moves, is_lost_by_moves, lower_by_moves};
+use crate::back::{is_lost_by_moves, lower_by_moves, mark_by_moves};
 use crate::earlier::numbers_before;
 use crate::first::{First, first_by_moves};
 use crate::game::{Game, Place};
 use crate::set::TableSet;
-use crate::stepped::{SteppedGame, TestedGame};
+use crate::stepped::SteppedGame;
 use crate::table::class_place;
 use arrayvec::ArrayVec;
 use std::alloc::Allocator;
@@ -74,12 +74,6 @@ impl<'t, 'a, A: Allocator> Game for ClassGame<'t, 'a, A> {
     }
 }
 
-impl<'t, 'a, A: Allocator> TestedGame for ClassGame<'t, 'a, A> {
-    fn is_lost_at(&self, cells: &[u8], number: u32, level: u8) -> bool {
-        is_lost_by_moves(self, cells, number, level)
-    }
-}
-
 impl<'t, 'a, A: Allocator> SteppedGame for ClassGame<'t, 'a, A> {
     fn first(&self, number: u32) -> First {
         first_by_moves(self, number)
@@ -89,7 +83,11 @@ impl<'t, 'a, A: Allocator> SteppedGame for ClassGame<'t, 'a, A> {
         lower_by_moves(self, cells, number, level)
     }
 
-    fn deny_before(&self, cells: &mut [u8], number: u32, level: u8) -> u64 {
-        deny_by_moves(self, cells, number, level)
+    fn mark_before(&self, cells: &mut [u8], number: u32, level: u8) -> u64 {
+        mark_by_moves(self, cells, number, level)
+    }
+
+    fn is_lost_at(&self, cells: &[u8], number: u32, level: u8) -> bool {
+        is_lost_by_moves(self, cells, number, level)
     }
 }

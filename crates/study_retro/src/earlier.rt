@@ -1,14 +1,14 @@
 //! What leads to the position of a number, within its class.
-ghost use Rattle.std.specs.Prelude.{◌≡◌, ◌≢◌, ◌+◌, ◌≤◌, ◌<◌, ◌⊎◌, ◌↔◌, ℕ, Some, IfSome, IfNone, IsTrue, Contains};
+ghost use Rattle.std.specs.Prelude.{◌≡◌, ◌≢◌, ◌+◌, ◌≤◌, ◌<◌, ◌⊎◌, ◌↔◌, ℕ, true, false, Some, None, IfSome, IfNone, IsTrue, Contains};
 ghost use Rattle.arrayvec.specs.ArrayVec.{array_vec_len};
 ghost use Rattle.study_board.specs.Position.{Position as Seen};
-ghost use Rattle.study_moves.specs.Rules.{after};
+ghost use Rattle.study_moves.specs.Rules.{after, is_legal};
 ghost use Rattle.study_moves.specs.Quiet.{LeadsQuietly, CanHaveLed};
 ghost use Rattle.study_index.specs.Found.{index_of, position_numbered};
 ghost use Rattle.study_retro.specs.Before.{IsPlainNumber, IsNumberBefore, ComesBefore};
 
 use arrayvec::ArrayVec;
-use study_board::Position;
+use study_board::{Position, distance};
 use study_index::{decode, index};
 use study_material::Class;
 use study_moves::{Move, last_moves, played, taken_back};
@@ -67,11 +67,22 @@ fn leads_to(at: &Position, from: &Position, by: Move, number: u32) -> bool
     requires leads { LeadsQuietly from.now by at.now }
     ensures { IsTrue result ↔ (index_of (after from.now by) ≡ number) }
 {
-    let to = played(from, by);
-    if at.passed().is_none() && to.passed().is_none() {
+    if at.passed().is_none() && !passes(from, &by) {
         return true;
     }
-    index(&to) == number
+    index(&played(from, by)) == number
+}
+
+/// Whether a square is passed after a legal move. Most moves tell it by the ranks they go over.
+#[inline]
+fn passes(from: &Position, by: &Move) -> bool
+    requires { is_legal from.now by.now ≡ true }
+    ensures { result ≡ false → (after from.now by.now).passed ≡ None }
+{
+    if distance(by.origin.rank(), by.target.rank()) != 2 {
+        return false;
+    }
+    played(from, *by).passed().is_some()
 }
 
 #[inline]

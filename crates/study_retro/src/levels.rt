@@ -1,11 +1,11 @@
 //! Levels: from the mates in at most so many plies to those in one more.
 ghost use Rattle.std.specs.Prelude.{◌≡◌, ◌≢◌, ◌+◌, ◌<◌, ◌≤◌, ◌%◌, ℕ, false, length, slice_index, IsTrue};
 ghost use Rattle.study_retro.specs.Back.{AreAdded, AreDropped, AreLowered};
-ghost use Rattle.study_retro.specs.Numbered.{CellsAreRight, EndsRight, HasFarMate, IsMatedAt, IsNumberedClass};
+ghost use Rattle.study_retro.specs.Numbered.{CellsAreRight, EndsRight, HasFarMate, IsNumberedClass};
 ghost use Rattle.study_retro.specs.Numbered.{LossIsKept, LossIsTrue, LossesAreKept, LossesAreTrue, LossesGoBack};
 ghost use Rattle.study_retro.specs.Numbered.{OutsideIsRight, RaisesLevel, StepLeads, WhereWinsAreTold, WinsGoBack};
 
-use crate::back::{go_back_from_win, put};
+use crate::back::put;
 use crate::blocks::{has_later, next_of};
 use crate::check::first_other;
 use crate::first::start;
@@ -30,7 +30,26 @@ pub fn level_of_losses<G: SteppedGame>(game: &G, cells: &mut [u8], level: u8) ->
     examined
 }
 
-/// Looks at a number that a move out of the class makes due: its cell stays where it is lost in `level + 1` plies, and else is 0.
+/// Marks all that leads to a position won in `level` plies, where it tells of no mate: it may be lost in one more.
+pub fn level_of_wins<G: SteppedGame>(game: &G, cells: &mut [u8], level: u8) -> u64
+    requires laws { IsNumberedClass (G.numbered game.now) }
+    requires level { level < 254 }
+    requires cells { length cells.old ≡ (G.numbered game.now).size }
+    ensures rise { AreAdded (λ i. (j : ℕ) × StepLeads (G.numbered game.now) i j) level cells.old cells.new }
+    ensures done { WinsGoBack (G.numbered game.now) level cells.old cells.new }
+{
+    let mut examined = 0u64;
+    let size = game.cells();
+    let mut number = next_of(cells, 0, level + 1);
+    while number < size {
+        let more = game.mark_before(cells, number, level);
+        examined = examined.saturating_add(more).saturating_add(1);
+        number = next_of(cells, number + 1, level + 1);
+    }
+    examined
+}
+
+/// Looks at a number that may be lost in `level + 1` plies: its cell stays where it is, and else is 0.
 pub fn confirm<G: SteppedGame>(game: &G, cells: &mut [u8], number: u32, level: u8) -> u64
     requires laws { IsNumberedClass (G.numbered game.now) }
     requires level { level < 254 }
@@ -50,7 +69,8 @@ pub fn confirm<G: SteppedGame>(game: &G, cells: &mut [u8], number: u32, level: u
     1
 }
 
-/// Looks at all numbers that moves out of the class make due.
+/// Looks at all numbers that may be lost in `level + 1` plies: those that are marked, and those that moves out of the class
+/// make due. Each is tested once.
 pub fn confirm_all<G: SteppedGame>(game: &G, cells: &mut [u8], level: u8) -> u64
     requires laws { IsNumberedClass (G.numbered game.now) }
     requires level { level < 254 }
@@ -70,25 +90,6 @@ pub fn confirm_all<G: SteppedGame>(game: &G, cells: &mut [u8], level: u8) -> u64
     examined
 }
 
-/// Goes back from all positions that are won in `level` plies.
-pub fn level_of_wins<G: SteppedGame>(game: &G, cells: &mut [u8], level: u8) -> u64
-    requires laws { IsNumberedClass (G.numbered game.now) }
-    requires level { level < 254 }
-    requires odd { level % 2 ≡ 1 }
-    requires cells { length cells.old ≡ (G.numbered game.now).size }
-    ensures rise { WhereWinsAreTold (G.numbered game.now) level cells.old (AreAdded level (IsMatedAt (G.numbered game.now) (level + 1)) cells.old cells.new) }
-    ensures done { WhereWinsAreTold (G.numbered game.now) level cells.old (WinsGoBack (G.numbered game.now) level cells.old cells.new) }
-{
-    let mut examined = 0u64;
-    let size = game.cells();
-    let mut number = next_of(cells, 0, level + 1);
-    while number < size {
-        examined = examined.saturating_add(go_back_from_win(game, cells, number, level));
-        number = next_of(cells, number + 1, level + 1);
-    }
-    examined
-}
-
 /// One level.
 pub fn step<G: SteppedGame>(game: &G, cells: &mut [u8], level: u8) -> u64
     requires laws { IsNumberedClass (G.numbered game.now) }
@@ -99,8 +100,8 @@ pub fn step<G: SteppedGame>(game: &G, cells: &mut [u8], level: u8) -> u64
     if level % 2 == 0 {
         level_of_losses(game, cells, level)
     } else {
-        let due = confirm_all(game, cells, level);
-        due.saturating_add(level_of_wins(game, cells, level))
+        let marked = level_of_wins(game, cells, level);
+        marked.saturating_add(confirm_all(game, cells, level))
     }
 }
 

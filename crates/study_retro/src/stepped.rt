@@ -1,26 +1,13 @@
 //! What the levels ask of a game, besides its rules: so a game that reads its numbers may answer faster than by lists of moves.
-ghost use Rattle.std.specs.Prelude.{◌≡◌, ◌+◌, ◌<◌, ℕ, false, length, IsTrue, Some};
+ghost use Rattle.std.specs.Prelude.{◌≡◌, ◌≢◌, ◌+◌, ◌<◌, ℕ, false, length, slice_index, IsTrue, Some};
 ghost use Rattle.study_retro.specs.Back.{AreAdded, AreLowered, IsSetBy};
-ghost use Rattle.study_retro.specs.Numbered.{CellIsHeld, IsMatedAt, IsNumberedClass, LosesBy, LossesAreSet, NoLossBy};
-ghost use Rattle.study_retro.specs.Numbered.{OutsideIsRight, StepLeads, WhereWinsAreTold};
+ghost use Rattle.study_retro.specs.Numbered.{CellIsHeld, IsNumberedClass, LosesBy, NoLossBy, OutsideIsRight, StepLeads};
 
 use crate::first::First;
 use crate::game::Game;
 
-/// A game that tests its losses.
-// A trait of its own, so that `back::deny_by_moves` can go by it: what a method calls may not ask for the method's trait.
-pub trait TestedGame: Game {
-    /// Whether the position of a number has a move, and each leads to a win within `level` plies.
-    fn is_lost_at(&self, cells: &[u8], number: u32, level: u8) -> bool
-        requires laws { IsNumberedClass (Self.numbered self.now) }
-        requires number { number < (Self.numbered self.now).size }
-        requires cells { length cells.now ≡ (Self.numbered self.now).size }
-        ensures yes { IsTrue result → (p : Self.Position) × ((Self.numbered self.now).position number ≡ Some p) × LosesBy (Self.numbered self.now) cells.now level p }
-        ensures no { result ≡ false → NoLossBy (Self.numbered self.now) cells.now level number };
-}
-
-/// A game that steps back, too.
-pub trait SteppedGame: TestedGame {
+/// A game whose positions are tested and gone back from by their numbers.
+pub trait SteppedGame: Game {
     /// What a number begins with.
     fn first(&self, number: u32) -> First
         requires laws { IsNumberedClass (Self.numbered self.now) }
@@ -36,12 +23,20 @@ pub trait SteppedGame: TestedGame {
         ensures rise { AreLowered (λ i. StepLeads (Self.numbered self.now) i number) level cells.old cells.new }
         ensures done { (i : ℕ) → StepLeads (Self.numbered self.now) i number → IsSetBy (level + 2) cells.new i };
 
-    /// Sets the cells of what leads to a number, where they tell of no mate and each move leads to a win within `level` plies.
-    fn deny_before(&self, cells: &mut [u8], number: u32, level: u8) -> u64
+    /// A position that is won in `level` plies: what leads to it is marked, where it tells of no mate.
+    fn mark_before(&self, cells: &mut [u8], number: u32, level: u8) -> u64
         requires laws { IsNumberedClass (Self.numbered self.now) }
         requires level { level < 254 }
         requires number { number < (Self.numbered self.now).size }
         requires cells { length cells.old ≡ (Self.numbered self.now).size }
-        ensures rise { WhereWinsAreTold (Self.numbered self.now) level cells.old (AreAdded level (IsMatedAt (Self.numbered self.now) (level + 1)) cells.old cells.new) }
-        ensures done { WhereWinsAreTold (Self.numbered self.now) level cells.old (LossesAreSet (Self.numbered self.now) level number cells.new) };
+        ensures rise { AreAdded (λ i. StepLeads (Self.numbered self.now) i number) level cells.old cells.new }
+        ensures done { (i : ℕ) → StepLeads (Self.numbered self.now) i number → slice_index cells.new i ≢ 0 };
+
+    /// Whether the position of a number has a move, and each leads to a win within `level` plies.
+    fn is_lost_at(&self, cells: &[u8], number: u32, level: u8) -> bool
+        requires laws { IsNumberedClass (Self.numbered self.now) }
+        requires number { number < (Self.numbered self.now).size }
+        requires cells { length cells.now ≡ (Self.numbered self.now).size }
+        ensures yes { IsTrue result → (p : Self.Position) × ((Self.numbered self.now).position number ≡ Some p) × LosesBy (Self.numbered self.now) cells.now level p }
+        ensures no { result ≡ false → NoLossBy (Self.numbered self.now) cells.now level number };
 }

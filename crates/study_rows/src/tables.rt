@@ -69,7 +69,7 @@ const ROWS: [(Class, u32, Option<u8>, Option<u8>, u64, &str); 6] = [
         81_920,
         Some(19),
         Some(20),
-        782_223,
+        757_847,
         "9e23e4707fb87fc86cd619e4f11e27584156c99755bf56bd75beb08a2529a694",
     ),
     (
@@ -77,7 +77,7 @@ const ROWS: [(Class, u32, Option<u8>, Option<u8>, u64, &str); 6] = [
         81_920,
         Some(31),
         Some(32),
-        765_444,
+        736_022,
         "c44ba016cdd825eddc9b922d55db18a9147c60cb9978c9a8b62eb20a44c0f5ba",
     ),
     (
@@ -101,7 +101,7 @@ const ROWS: [(Class, u32, Option<u8>, Option<u8>, u64, &str); 6] = [
         262_144,
         Some(55),
         Some(56),
-        1_304_197,
+        1_206_872,
         "31f08f445b1142f1498bb03d4257b8142e27cd53763635385fc85788e8edc067",
     ),
 ];
