@@ -1,0 +1,46 @@
+-- Best play, step by step.
+use Rattle.std.proofs.Common.{◌≡◌, ℕ, ◌-◌, List, [], ◌∷◌, ◌++◌, true, Option, Some, None, Result, Ok, Err, OnOk, suc, zero, arith, refl, sym, ap, subst, ◌∙◌, append_assoc}
+use Rattle.std.proofs.lemmas.List.{append-nil}
+use Rattle.study_board.specs.Position.{Position}
+use Rattle.study_moves.specs.declared.moves.Move.{Move}
+use Rattle.study_moves.specs.Rules.{after}
+use Rattle.study_retro.specs.declared.value.Value.{Value}
+use Rattle.study_retro.specs.Game.{IsValueOf}
+use Rattle.study_review.specs.declared.continuation.Continuation.{Continuation}
+use Rattle.study_review.specs.Continuations.{AreChosen}
+use Rattle.study_review.specs.Best.{better_of, first_best, IsBestMove, IsBestPlay}
+
+-- the best of these moves
+abbrev pub IsBestOf : Position → List Move → Option Continuation → Type 0
+IsBestOf p ms best = (list : List Continuation) × AreChosen (λ v. true) p ms list × (best ≡ first_best list)
+
+pub best-more : (p : Position) (m : Move) (ms rest : List Move) (v : Value) (later : Option Continuation) (x : Continuation) → ms ≡ m ∷ rest
+    → IsValueOf (after p m) v → IsBestOf p rest later → x ≡ better_of (record { played = m; value = v }) later → IsBestOf p ms (Some x)
+best-more p m ms rest v later x e g h t =
+    let y : Continuation = record { played = m; value = v } in
+    subst (λ (l : List Move). IsBestOf p l (Some x)) (sym e) (
+      y ∷ h.0,
+      (v ∷ h.1.0, (g, h.1.1), ap (λ (l : List Continuation). y ∷ l) h.1.2),
+      ap Some (t ∙ ap (better_of y) h.2),
+    )
+
+-- best play is added
+abbrev pub IsPlayed : ℕ → Position → List Continuation → List Continuation → Type 0
+IsPlayed n p old new = (play : List Continuation) × IsBestPlay n p play × (new ≡ old ++ play)
+
+pub play-ends : (n : ℕ) (p : Position) (list : List Continuation) → (n ≡ 0 → ⊥) → IsBestMove p None → IsPlayed n p list list
+play-ends zero p list some h = absurd (some refl)
+play-ends (suc n) p list some h = ([], h, sym (append-nil list))
+
+pub play-goes-on : {T E : Type 0} (n : ℕ) (p next : Position) (x : Continuation) (old mid new : List Continuation) (r : Result T E) → (n ≡ 0 → ⊥)
+    → IsBestMove p (Some x) → next ≡ after p x.played → mid ≡ old ++ x ∷ [] → OnOk r (IsPlayed (n - 1) next mid new)
+    → OnOk r (IsPlayed n p old new)
+play-goes-on zero p next x old mid new r some h e t g = absurd (some refl)
+play-goes-on (suc n) p next x old mid new (Err y) some h e t g = tt
+play-goes-on (suc n) p next x old mid new (Ok y) some h e t g =
+    let one : suc n - 1 ≡ n = omega arith in
+    let k = subst (λ i. IsPlayed i next mid new) one g in (
+      x ∷ k.0,
+      (h, subst (λ (q : Position). IsBestPlay n q k.0) e k.1),
+      k.2 ∙ ap (λ (l : List Continuation). l ++ k.0) t ∙ append_assoc old (x ∷ []) k.0,
+    )

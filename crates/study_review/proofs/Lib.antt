@@ -1,0 +1,14 @@
+pub mod Chosen
+pub mod LegalMoves
+pub mod BackSteps
+pub mod BestSteps
+pub mod FirstBest
+pub mod WonHolds
+pub mod NotHeld
+pub mod AskedSteps
+pub mod Lines
+pub mod PlaysBack
+pub mod AlternativesCounted
+pub mod Refuted
+pub mod ChildMoves
+pub mod FaultsListed

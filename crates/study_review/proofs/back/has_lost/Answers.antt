@@ -1,0 +1,24 @@
+use Rattle.std.proofs.Common.{◌≡◌, true, ◌↔◌, sym, subst}
+use Rattle.study_review.specs.Back.{HasLost}
+use Rattle.study_prober.specs.Values.{ProbeAnswer}
+use Rattle.study_review.specs.Asked.{HasTold}
+use Rattle.study_review.proofs.AskedSteps.{asked-one}
+use Rattle.study_review.proofs.BackSteps.{lost-by}
+use Rattle.study_review.proofs.back.has_lost.Goals as goal
+
+pub returns-in-Ok-clause-game : goal.returns-in-Ok-clause-game
+returns-in-Ok-clause-game g c h =
+    subst (λ b. (b ≡ true) ↔ HasLost c.args.q.now) (sym c.hero_loses.ensures)
+    (lost-by c.values_are_unique.ensures c.args.q.now c.in-Ok.value (c.in-Ok.ensures.game h))
+
+pub returns-in-Err-clause-told : goal.returns-in-Err-clause-told
+returns-in-Err-clause-told g c =
+    subst (λ (r : ProbeAnswer). HasTold g.V.Values.gives g.V.Values.may_fail g.V.Values.asked_of c.args.values.now r c.value.new.self) c.in-Err.is
+    (asked-one g.V.Values.gives g.V.Values.may_fail g.V.Values.asked_of c.args.values.now c.value.new.self c.args.q.now c.value.result c.value.ensures.given c.value.ensures.asked
+    c.value.ensures.failed_so c.value.ensures.fails_as_before)
+
+pub returns-in-Ok-clause-told : goal.returns-in-Ok-clause-told
+returns-in-Ok-clause-told g c =
+    subst (λ (r : ProbeAnswer). HasTold g.V.Values.gives g.V.Values.may_fail g.V.Values.asked_of c.args.values.now r c.value.new.self) c.in-Ok.is
+    (asked-one g.V.Values.gives g.V.Values.may_fail g.V.Values.asked_of c.args.values.now c.value.new.self c.args.q.now c.value.result c.value.ensures.given c.value.ensures.asked
+    c.value.ensures.failed_so c.value.ensures.fails_as_before)

@@ -1,0 +1,10 @@
+pub mod Continuations
+pub mod Back
+pub mod Leads
+pub mod Best
+pub mod Asked
+pub mod Line
+pub mod Time
+pub mod Defences
+pub mod Faults
+pub mod Laws

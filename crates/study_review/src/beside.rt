@@ -1,0 +1,44 @@
+//! Legal moves beside some.
+ghost use Rattle.std.specs.Prelude.{◌≡◌, true};
+ghost use Rattle.std.specs.List.{All};
+ghost use Rattle.study_marks.specs.Study.{same_move};
+ghost use Rattle.study_moves.specs.Rules.{is_legal};
+ghost use Rattle.study_review.specs.Continuations.{is_among, others};
+
+use arrayvec::ArrayVec;
+use study_board::Position;
+use study_moves::{Move, legal_moves};
+use study_notation::same_promotion;
+
+fn same_move(a: &Move, b: &Move) -> bool
+    ensures { result ≡ same_move a.now b.now }
+{
+    a.origin.number() == b.origin.number()
+        && a.target.number() == b.target.number()
+        && same_promotion(a.promoted, b.promoted)
+}
+
+/// Whether the move is one of these.
+fn is_among(m: &Move, moves: &[Move]) -> bool
+    ensures { result ≡ is_among m.now moves.now }
+{
+    match moves.split_first() {
+        None => false,
+        Some((n, rest)) => same_move(m, n) || is_among(m, rest),
+    }
+}
+
+/// The legal moves but for these.
+pub fn others(p: &Position, without: &[Move]) -> ArrayVec<Move, 256>
+    ensures value { result.items ≡ others without.now p.now }
+    ensures legal { All (λ m. is_legal p.now m ≡ true) result.items }
+{
+    let moves = legal_moves(p);
+    let mut list = ArrayVec::new();
+    for m in moves.as_slice() {
+        if !is_among(m, without) {
+            list.push(*m);
+        }
+    }
+    list
+}

@@ -1,0 +1,33 @@
+//! Laws over the definitions, stated by functions that do nothing.
+ghost use Rattle.study_review.specs.Laws.{AlternativesAreCounted, FailuresAreRefuted, TimeLossIsForced, WonPositionsHold};
+
+use study_marks::duals_count_other_moves;
+use study_moves::{legal_list_is_exact, mates_are_sound, values_are_unique};
+
+/// Where the hero is to win and the opponent moves, a position holds exactly where the opponent is mated.
+pub fn won_positions_hold()
+    ensures { WonPositionsHold }
+{
+    values_are_unique();
+}
+
+/// A move that is marked as a dual with k others has k alternatives, and an only move has none.
+pub fn alternatives_are_counted()
+    ensures { AlternativesAreCounted }
+{
+    values_are_unique();
+    duals_count_other_moves();
+}
+
+/// A mistake or an idle move of the hero has a refutation, unless it ends the game.
+pub fn failures_are_refuted()
+    ensures { FailuresAreRefuted }
+{
+    mates_are_sound();
+    legal_list_is_exact();
+}
+
+/// Where a move loses time, the opponent has a play to a position of the line against each way to go on winning.
+pub fn time_loss_is_forced()
+    ensures { TimeLossIsForced }
+{}

@@ -1,0 +1,33 @@
+//! What a review of a study tells of its nodes, by the game's values.
+//!
+//! `place_in` finds a node of a study, with its line, `made_in` a move and the node before it, `children_in` the moves that
+//! the tree has there. `holding_moves`, `alternatives`, `refutations` and `missing_moves`
+//! list legal moves of a position with the values after them, `timed_alternatives` also with the time that they lose:
+//! `time_lost` tells whether a move only loses time. `best_move` and `best_play` tell how it goes on with best play.
+//! `is_in_solution` tells the nodes of the solution. Values are asked where they are needed, and nothing is kept.
+#![tactic(auto)]
+
+mod back;
+mod beside;
+mod best;
+mod children;
+mod continuation;
+mod laws;
+mod line;
+mod lists;
+mod missing;
+mod solution;
+mod time;
+
+pub use back::{is_back, time_lost};
+pub use best::{best_move, best_play};
+pub use children::children_in;
+pub use continuation::{Continuation, Node};
+pub use laws::{
+    alternatives_are_counted, failures_are_refuted, time_loss_is_forced, won_positions_hold,
+};
+pub use line::{Line, Made, Place, made_in, place_in};
+pub use lists::{alternatives, drawing_moves, holding_moves, missing_moves, refutations};
+pub use missing::{Defence, defences};
+pub use solution::{faults_are_of_the_solution, is_in_solution};
+pub use time::{Alternative, timed_alternatives};

@@ -1,0 +1,137 @@
+//! Alternatives with the time that they lose.
+ghost use Rattle.std.specs.Prelude.{◌≡◌, ◌+◌, ◌++◌, ◌≤◌, ◌<◌, ◌^◌, List, true, false, length, IfOk, OnOk, IfErr, IsErrOf};
+ghost use Rattle.std.specs.List.{All};
+ghost use Rattle.arrayvec.specs.ArrayVec.{array_vec_len};
+ghost use Rattle.study_prober.specs.Values.{IsNotDamage};
+ghost use Rattle.study_material.specs.declared.class.Class.{Class as AClass};
+ghost use Rattle.study_moves.specs.Rules.{is_legal};
+ghost use Rattle.study_marks.specs.Told.{failures_told};
+ghost use Rattle.study_review.specs.Asked.{HasTold};
+ghost use Rattle.study_review.specs.Time.{IsTimeTold, AreTimed, AreTimedAlternatives};
+ghost use Rattle.study_review.specs.declared.time.Alternative.{Alternative as AnAlternative};
+
+use crate::back::time_lost;
+use crate::continuation::{Continuation, Node};
+use crate::line::Place;
+use crate::lists::alternatives;
+use arrayvec::ArrayVec;
+use study_board::Position;
+use study_marks::Goal;
+use study_moves::{Move, played};
+use study_prober::{ProbeFault, Values};
+use study_retro::Value;
+
+/// Another move that holds: the value of the position after it, seen from the side to move there, and where it only loses
+/// time the least number of moves of the opponent, not counting the last, by which he forces a position of the line.
+#[derive(Clone, Copy, Debug, PartialEq, Eq)]
+pub struct Alternative {
+    pub played: Move,
+    pub value: Value,
+    pub time: Option<u8>,
+}
+
+impl Default for Alternative {
+    ghost use Rattle.std.specs.Prelude.{◌≡◌, None};
+
+    ghost is_default = { λ a. a.time ≡ None };
+
+    fn default() -> Self {
+        Alternative {
+            played: Move::default(),
+            value: Value::Draw,
+            time: None,
+        }
+    }
+}
+
+/// The time that is lost by a move to this position, told where the hero is to win.
+fn time_told<V: Values>(
+    goal: Goal,
+    line: &[Position],
+    q: &Position,
+    values: &mut V,
+) -> Result<Option<u8>, ProbeFault>
+    ensures game { V.is_honest values.old → IfOk result (IsTimeTold goal line.now q.now) }
+    ensures untold { (c : AClass) → IsErrOf result (ProbeFault.NoTable c) → V.held values.old c ≡ false }
+    ensures told { HasTold V.gives V.may_fail V.asked_of values.old result values.new }
+    ensures no_damage { V.is_honest values.old → IfErr result IsNotDamage }
+    ensures failures { V.failed_of values.new ≡ failures_told result (V.failed_of values.old) }
+    ensures honest { V.is_honest values.old → V.is_honest values.new }
+    ensures tables { (c : AClass) → V.held values.new c ≡ V.held values.old c }
+{
+    match goal {
+        Goal::Win => time_lost(line, q, values),
+        Goal::Draw => Ok(None),
+        Goal::MateIn(_) => Ok(None),
+    }
+}
+
+/// Adds these moves with the time that each loses.
+fn time_each<V: Values>(
+    place: &Place,
+    moves: &[Continuation],
+    values: &mut V,
+    list: &mut ArrayVec<Alternative, 256>,
+) -> Result<(), ProbeFault>
+    requires legal { All (λ x. is_legal place.now.position x.played ≡ true) moves.now }
+    requires room { array_vec_len list.old + length moves.now ≤ 256 }
+    ensures game { V.is_honest values.old → OnOk result ((timed : List AnAlternative)
+        × AreTimed place.now.aim.goal place.now.line.items place.now.position moves.now timed × (list.new.items ≡ list.old.items ++ timed)) }
+    ensures untold { (c : AClass) → IsErrOf result (ProbeFault.NoTable c) → V.held values.old c ≡ false }
+    ensures told { HasTold V.gives V.may_fail V.asked_of values.old result values.new }
+    ensures no_damage { V.is_honest values.old → IfErr result IsNotDamage }
+    ensures failures { V.failed_of values.new ≡ failures_told result (V.failed_of values.old) }
+    ensures honest { V.is_honest values.old → V.is_honest values.new }
+    ensures tables { (c : AClass) → V.held values.new c ≡ V.held values.old c }
+{
+    match moves.split_first() {
+        None => Ok(()),
+        Some((x, rest)) => {
+            let next = played(&place.position, x.played);
+            match time_told(place.aim.goal, place.line.as_slice(), &next, values) {
+                Err(fault) => Err(fault),
+                Ok(time) => {
+                    list.push(Alternative {
+                        played: x.played,
+                        value: x.value,
+                        time,
+                    });
+                    time_each(place, rest, values, list)
+                }
+            }
+        }
+    }
+}
+
+/// The other legal moves than this one after which the position holds, each with the time that it loses.
+pub fn timed_alternatives<V: Values>(
+    place: &Place,
+    m: Move,
+    values: &mut V,
+) -> Result<ArrayVec<Alternative, 256>, ProbeFault>
+    requires depth { place.now.depth + 1 < 2 ^ 64 }
+    ensures game { V.is_honest values.old → IfOk result (λ list. AreTimedAlternatives
+        place.now.aim place.now.depth place.now.line.items place.now.position m list.items) }
+    ensures untold { (c : AClass) → IsErrOf result (ProbeFault.NoTable c) → V.held values.old c ≡ false }
+    ensures told { HasTold V.gives V.may_fail V.asked_of values.old result values.new }
+    ensures no_damage { V.is_honest values.old → IfErr result IsNotDamage }
+    ensures failures { V.failed_of values.new ≡ failures_told result (V.failed_of values.old) }
+    ensures honest { V.is_honest values.old → V.is_honest values.new }
+    ensures tables { (c : AClass) → V.held values.new c ≡ V.held values.old c }
+{
+    let node = Node {
+        aim: &place.aim,
+        depth: place.depth,
+        position: &place.position,
+    };
+    match alternatives(&node, m, values) {
+        Err(fault) => Err(fault),
+        Ok(others) => {
+            let mut list = ArrayVec::new();
+            match time_each(place, others.as_slice(), values, &mut list) {
+                Err(fault) => Err(fault),
+                Ok(_) => Ok(list),
+            }
+        }
+    }
+}
