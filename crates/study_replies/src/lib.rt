@@ -5,6 +5,8 @@
 #[cfg(test)]
 mod files;
 #[cfg(test)]
+mod folder;
+#[cfg(test)]
 mod heaps;
 #[cfg(test)]
 mod limits;
@@ -14,6 +16,8 @@ mod marks;
 mod moves;
 #[cfg(test)]
 mod outside;
+#[cfg(test)]
+mod program;
 #[cfg(test)]
 mod reference;
 #[cfg(test)]

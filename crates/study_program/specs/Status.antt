@@ -1,0 +1,39 @@
+-- The exit status of the program, and what it tells where a run stops.
+use Rattle.std.specs.Prelude.{ℕ, Bool, true, false, ◌==◌, ◌⊎◌, List, [], ◌∷◌, ◌++◌, Option, Result, Ok, Err, if◌then◌else◌}
+use Rattle.std.specs.Prelude.{codes, decimal}
+use Rattle.std.specs.Io.KnownBytes.{Appends, Keeps}
+use Rattle.clap.specs.declared.error.kind.ErrorKind.{ErrorKind}
+use Rattle.clap.specs.declared.error.kind.ErrorKind.TheVariants as word
+use Rattle.study_tablefile.specs.Taken.{TakesPrefix}
+use Rattle.study_script.specs.declared.run.Summary.{Summary}
+use Rattle.study_script.specs.declared.run.RunFault.{RunFault}
+use Rattle.study_script.specs.declared.run.RunFault.TheVariants.{ReadDevice, WriteDevice, LineTooLong, TooManyLines, OutOfMemory}
+
+-- 0 where no line was refused, 1 where some line was, 3 where the run stopped at a fault
+abbrev pub status_told : Result Summary RunFault → ℕ
+status_told (Ok summary) = if summary.refused == 0 then 0 else 1
+status_told (Err fault) = 3
+
+-- help or the version was asked for: 0 where it was printed; elsewhere the words were refused
+abbrev pub status_shown : Bool → ℕ
+status_shown true = 0
+status_shown false = 3
+
+abbrev pub status_unread : ErrorKind → Bool → ℕ
+status_unread word.OutOfMemory printed = 3
+status_unread word.DisplayHelp printed = status_shown printed
+status_unread word.DisplayVersion printed = status_shown printed
+status_unread _ printed = 2
+
+-- `studybench: LineTooLong 3`
+abbrev pub stop_text : RunFault → List ℕ
+stop_text ReadDevice = codes "studybench: ReadDevice\n"
+stop_text WriteDevice = codes "studybench: WriteDevice\n"
+stop_text (LineTooLong line) = codes "studybench: LineTooLong " ++ (decimal line ++ 10 ∷ [])
+stop_text TooManyLines = codes "studybench: TooManyLines\n"
+stop_text OutOfMemory = codes "studybench: OutOfMemory\n"
+
+-- a run that stopped is told, or a front of that where standard error fails; of another nothing is
+abbrev pub IsTold : Result Summary RunFault → Option (List ℕ) → Option (List ℕ) → Type 0
+IsTold (Ok summary) old new = Keeps old new
+IsTold (Err fault) old new = Appends old new (stop_text fault) ⊎ TakesPrefix old new (stop_text fault)

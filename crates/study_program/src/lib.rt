@@ -1,0 +1,15 @@
+//! The program studybench as a library: its command line, the folder of its tables, the run over both, and the exit status.
+//!
+//! `studybench` is all that the program does. `answer_script` does the same over whatever files and streams, so that tests see the exit
+//! status and what is told on standard error.
+#![tactic(auto)]
+
+mod folder;
+mod options;
+mod program;
+mod status;
+
+pub use folder::{FilePages, FolderStore};
+pub use options::{Options, read_words};
+pub use program::{answer_script, run_over_files, studybench};
+pub use status::{put_stop, status_of, status_without_options};

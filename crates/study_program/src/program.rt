@@ -1,0 +1,123 @@
+//! What the program does, over the streams of its process or over any others.
+ghost use Rattle.std.specs.Prelude.{◌≡◌, Bool, is_some};
+ghost use Rattle.clap.specs.Values.{kind_of};
+ghost use Rattle.study_program.specs.Ended.{EndsBy, HasRun};
+ghost use Rattle.study_program.specs.Status.{status_told, status_unread, IsTold};
+
+use crate::folder::FolderStore;
+use crate::options::{Options, read_words};
+use crate::status::{put_stop, status_of, status_without_options};
+use clap::Error;
+use std::alloc::Allocator;
+use std::io::{BufReader, ErrorKind, LineWriter, Read, Write};
+use std::process::ExitCode;
+use std::rt::Files;
+use std::{env, io};
+use study_script::run::{RunFault, Settings, Summary, run};
+
+/// Reads the script from standard input and writes each reply to standard output as soon as its line is answered.
+///
+/// The exit status is 0 where no line was refused, 1 where some line was, 2 where the command line was refused, and 3
+/// where the run stopped at a fault, whose name then goes to standard error.
+///
+/// No contract: of the streams and the words of a process no clause can say what they hold. `answer_script` has one.
+pub fn studybench(rt: &HostRuntime) -> ExitCode {
+    let words = match words_of(rt) {
+        Ok(words) => words,
+        Err(error) => return ExitCode::from(not_read(rt, &error)),
+    };
+    match read_words(rt.alloc(), words.as_slice()) {
+        Ok(options) => ExitCode::from(answer_streams(rt, &options)),
+        Err(error) => ExitCode::from(answered(rt, &error)),
+    }
+}
+
+fn words_of(rt: &HostRuntime) -> io::Result<Vec<String>> {
+    Ok(env::args(rt)?.collect(rt.alloc())?)
+}
+
+// The words of the command line are not known.
+fn not_read(rt: &HostRuntime, error: &io::Error) -> u8 {
+    if error.kind() == ErrorKind::OutOfMemory {
+        return ended(&mut rt.stderr(), &Err(RunFault::OutOfMemory));
+    }
+    let _ = eprintln!(rt; "error: a word of the command line is not UTF-8");
+    2
+}
+
+// Help, the version, or why the words are refused.
+fn answered(rt: &HostRuntime, error: &Error) -> u8
+    ensures { (printed : Bool) × (result ≡ status_unread (kind_of error.now) printed) }
+{
+    if error.kind() == clap::error::ErrorKind::OutOfMemory {
+        return ended(&mut rt.stderr(), &Err(RunFault::OutOfMemory));
+    }
+    let printed = error.print(rt).is_ok();
+    let status = status_without_options(error, printed);
+    if status == 3 {
+        return ended(&mut rt.stderr(), &Err(RunFault::WriteDevice));
+    }
+    status
+}
+
+fn answer_streams(rt: &HostRuntime, options: &Options<'_>) -> u8 {
+    let alloc = rt.alloc();
+    let mut errors = rt.stderr();
+    let Ok(mut script) = BufReader::new(alloc, rt.stdin()) else {
+        return ended(&mut errors, &Err(RunFault::OutOfMemory));
+    };
+    let Ok(mut out) = LineWriter::new(alloc, rt.stdout()) else {
+        return ended(&mut errors, &Err(RunFault::OutOfMemory));
+    };
+    answer_script(rt, &alloc, options, &mut script, &mut out, &mut errors)
+}
+
+/// Answers a script over the files of a folder, tells on `errors` why the run stopped, if it did, and answers the exit status.
+pub fn answer_script<F: Files, R: Read, W: Write, E: Write, A: Allocator>(
+    files: &F,
+    alloc: &A,
+    options: &Options<'_>,
+    script: &mut R,
+    out: &mut W,
+    errors: &mut E,
+) -> u8
+    ensures { EndsBy (HasRun (is_some options.now.pages) (R.remaining script.old) (R.remaining script.new) (W.contents out.old) (W.contents out.new))
+        result (E.contents errors.old) (E.contents errors.new) }
+{
+    let mut answer = run_over_files(files, alloc, options, script, out);
+    // What is left in a buffer of the writer are replies too.
+    if out.flush().is_err() {
+        answer = Err(RunFault::WriteDevice);
+    }
+    ended(errors, &answer)
+}
+
+// Tells why a run stopped, if it did. Nobody can be told that standard error failed.
+fn ended<E: Write>(errors: &mut E, answer: &Result<Summary, RunFault>) -> u8
+    ensures status { result ≡ status_told answer.now }
+    ensures told { IsTold answer.now (E.contents errors.old) (E.contents errors.new) }
+{
+    if let Err(fault) = answer {
+        let _ = put_stop(errors, *fault);
+    }
+    status_of(answer)
+}
+
+/// Runs a script over the files of a folder. Of a script that loads no table all is known, whatever lies in the folder.
+pub fn run_over_files<F: Files, R: Read, W: Write, A: Allocator>(
+    files: &F,
+    alloc: &A,
+    options: &Options<'_>,
+    script: &mut R,
+    out: &mut W,
+) -> Result<Summary, RunFault>
+    ensures { HasRun (is_some options.now.pages) (R.remaining script.old) (R.remaining script.new) (W.contents out.old) (W.contents out.new) result }
+{
+    let Ok(mut store) = FolderStore::new(files, alloc, options.tables) else {
+        return Err(RunFault::OutOfMemory);
+    };
+    let settings = Settings {
+        pages: options.pages,
+    };
+    run(alloc, script, out, &mut store, settings)
+}

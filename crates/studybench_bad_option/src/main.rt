@@ -1,0 +1,10 @@
+//! The program studybench, run in the gate where it ends with 2: the name of the folder is empty.
+#![tactic(auto)]
+
+use std::process::ExitCode;
+use study_program::studybench;
+
+/// Does what the command line and standard input ask.
+fn main(rt: HostRuntime) -> ExitCode {
+    studybench(&rt)
+}
