@@ -33,7 +33,7 @@ stop_text (LineTooLong line) = codes "studybench: LineTooLong " ++ (decimal line
 stop_text TooManyLines = codes "studybench: TooManyLines\n"
 stop_text OutOfMemory = codes "studybench: OutOfMemory\n"
 
--- a run that stopped is told, or a front of that where standard error fails; of another nothing is
+-- a run that stopped is told, or a prefix of that where standard error fails; of another nothing is
 abbrev pub IsTold : Result Summary RunFault → Option (List ℕ) → Option (List ℕ) → Type 0
 IsTold (Ok summary) old new = Keeps old new
 IsTold (Err fault) old new = Appends old new (stop_text fault) ⊎ TakesPrefix old new (stop_text fault)
