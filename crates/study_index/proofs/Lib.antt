@@ -19,3 +19,4 @@ pub mod ComputedIndex
 pub mod BySquares
 pub mod HeavierSide
 pub mod ToldKings
+pub mod SteppedNumbers

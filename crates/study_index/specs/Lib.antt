@@ -6,4 +6,5 @@ pub mod Decoded
 pub mod Found
 pub mod Laws
 pub mod Squares
+pub mod Stepped
 pub mod Weights

@@ -11,11 +11,14 @@ mod least;
 mod number;
 mod passing;
 mod reading;
+mod stepped;
 mod swap;
 mod turn;
 
 pub use laws::{
-    alike_mates_agree, classes_are_numbered, numbers_are_read, positions_have_an_index,
+    alike_mates_agree, classes_are_numbered, numbers_are_read, numbers_step, numbers_tell,
+    positions_have_an_index,
 };
 pub use least::index;
 pub use reading::{cells, decode};
+pub use stepped::number_after;

@@ -312,7 +312,7 @@ const BLACK_PAWN: Slot = Slot {
 };
 
 // The slots of the class: the kings, White's men in list order, Black's men in list order.
-fn slots(class: Class) -> &'static [Slot]
+pub fn slots(class: Class) -> &'static [Slot]
     ensures { result.now ≡ slots_of class }
 {
     use Class::*;
