@@ -20,3 +20,4 @@ pub mod BySquares
 pub mod HeavierSide
 pub mod ToldKings
 pub mod SteppedNumbers
+pub mod MovedNumbers

@@ -8,6 +8,7 @@
 mod filling;
 mod laws;
 mod least;
+mod moved;
 mod number;
 mod passing;
 mod reading;
@@ -20,5 +21,6 @@ pub use laws::{
     positions_have_an_index,
 };
 pub use least::index;
+pub use moved::number_moved;
 pub use reading::{cells, decode};
 pub use stepped::number_after;
