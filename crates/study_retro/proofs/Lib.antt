@@ -21,3 +21,4 @@ pub mod EarlierChess
 pub mod Jumps
 pub mod BlockLemmas
 pub mod QuietSteps
+pub mod MovedSteps

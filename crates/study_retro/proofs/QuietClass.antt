@@ -31,6 +31,7 @@ use Rattle.study_material.specs.Class.{IsOf}
 use Rattle.study_material.proofs.KindCounts.{lists-IsPermutation}
 use Rattle.study_material.proofs.MenBesideKings.{one_king}
 use Rattle.study_material.proofs.MenAfterMove.{goes_away, IsStep-move}
+use Rattle.study_index.specs.Moved.{from_to}
 use Rattle.study_index.proofs.Fillings.{AreApart-ascending}
 use Rattle.study_material.proofs.MovesOn.{passed_there, passed_empty}
 
@@ -199,10 +200,6 @@ filter_one g (x ∷ xs) o a (inr i) e h = by_test (g x) (h x (inl refl)) (filter
     by_test : (b : Bool) → (b ≡ true → x.at ≡ a.at) → filter g xs ≡ a ∷ [] → cond b (x ∷ filter g xs) (filter g xs) ≡ a ∷ []
     by_test true t n = absurd (let k = t refl in let l = above_each x.at xs o.0 a i in omega arith)
     by_test false t n = n
-
--- a man on one square put on another
-abbrev pub from_to : ℕ → ℕ → Man → Man
-from_to x a m = cond (m.at == x) (record { side = m.side; kind = m.kind; at = a }) m
 
 pub moves_there : (x a : ℕ) (m : Man) → eqb m.at x ≡ true → from_to x a m ≡ record { side = m.side; kind = m.kind; at = a }
 moves_there x a m e = rw e refl

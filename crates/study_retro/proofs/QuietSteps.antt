@@ -7,9 +7,10 @@ use Rattle.std.proofs.lemmas.Bool.Decides.{nat_tests}
 use Rattle.study_board.proofs.Lists.{count_by-cons}
 use Rattle.std.proofs.lemmas.List.Sorted.{IsPermutation-trans, IsPermutation-sym, IsPermutation-map, sum_by-IsPermutation}
 use Rattle.study_board.specs.declared.men.Man.{Man}
+use Rattle.study_index.specs.Moved.{from_to}
 use Rattle.study_index.specs.Stepped.{moved_to}
 use Rattle.study_retro.specs.Steps.{QuietMovesStep}
-use Rattle.study_retro.proofs.QuietClass.{from_to, moves_there, none_moves, quiet_men, quiet_lists, unpassing}
+use Rattle.study_retro.proofs.QuietClass.{moves_there, none_moves, quiet_men, quiet_lists, unpassing}
 use Rattle.study_board.specs.Men.{other_side}
 use Rattle.study_board.specs.Position.{Position, IsValid}
 use Rattle.study_moves.specs.declared.moves.Move.{Move}
@@ -81,7 +82,7 @@ one_moves x a (y ∷ ys) i l e o = by_index (λ j. one_moves x a ys j) i l e
             let c : count_by (λ z. z.at == x) (y ∷ ys) ≡ 1 + count_by (λ z. z.at == x) ys = count_by-cons (λ z. z.at == x) y ys ∙ rw h refl in
             omega (arith, o, c, k))
 
-other_turn : (q : Position) (m : Move) → is_legal q m ≡ true → (after q m).to_move ≡ other_side q.to_move
+pub other_turn : (q : Position) (m : Move) → is_legal q m ≡ true → (after q m).to_move ≡ other_side q.to_move
 unfolding after
 other_turn q m legal = (let e = (HasMover-from_is_legal q m legal).here in rw e refl)
 
@@ -90,7 +91,7 @@ as_long [] = refl
 as_long (m ∷ ms) = let e = as_long ms in omega (arith, e)
 
 -- where one side alone has a pawn no capture in passing is legal
-dead_of : (c : Class) (p : Position) → IsValid p → IsOf c p → has_both_pawns (lists_of c) ≡ false → is_live p ≡ false
+pub dead_of : (c : Class) (p : Position) → IsValid p → IsOf c p → has_both_pawns (lists_of c) ≡ false → is_live p ≡ false
 dead_of c p v o h = by_test (is_live p) refl
   where
     by_test : (b : Bool) → is_live p ≡ b → b ≡ false
