@@ -21,3 +21,4 @@ pub mod HeavierSide
 pub mod ToldKings
 pub mod SteppedNumbers
 pub mod MovedNumbers
+pub mod AddedNumbers

@@ -45,7 +45,7 @@ fn side_turned(count: u32, number: u32) -> u32
 /// The same with the man of a slot on another square.
 #[inline]
 #[tactic(auto, unfolding(crate::specs::Stepped::stepped))]
-fn stepped(count: u32, number: u32, slot: u32, to: Square) -> u32
+pub fn stepped(count: u32, number: u32, slot: u32, to: Square) -> u32
     requires few { 2 ≤ count }
     requires many { count ≤ 4 }
     requires number { number < 16777216 }

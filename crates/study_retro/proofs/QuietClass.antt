@@ -33,6 +33,7 @@ use Rattle.study_material.proofs.MenBesideKings.{one_king}
 use Rattle.study_material.proofs.MenAfterMove.{goes_away, IsStep-move}
 use Rattle.study_index.specs.Moved.{from_to}
 use Rattle.study_index.proofs.Fillings.{AreApart-ascending}
+use Rattle.study_index.proofs.AddedNumbers.{moves_there, none_moves}
 use Rattle.study_material.proofs.MovesOn.{passed_there, passed_empty}
 
 -- a pawn weighs more than what it becomes
@@ -200,22 +201,6 @@ filter_one g (x ∷ xs) o a (inr i) e h = by_test (g x) (h x (inl refl)) (filter
     by_test : (b : Bool) → (b ≡ true → x.at ≡ a.at) → filter g xs ≡ a ∷ [] → cond b (x ∷ filter g xs) (filter g xs) ≡ a ∷ []
     by_test true t n = absurd (let k = t refl in let l = above_each x.at xs o.0 a i in omega arith)
     by_test false t n = n
-
-pub moves_there : (x a : ℕ) (m : Man) → eqb m.at x ≡ true → from_to x a m ≡ record { side = m.side; kind = m.kind; at = a }
-moves_there x a m e = rw e refl
-
-pub none_moves : (x a : ℕ) (ms : List Man) → count_by (λ y. y.at == x) ms ≡ 0 → map (from_to x a) ms ≡ ms
-none_moves x a [] e = refl
-none_moves x a (y ∷ ys) e =
-    let c = count_by-cons (λ z. z.at == x) y ys in
-    by_test (y.at == x) refl (none_moves x a ys (omega (arith, e, c)))
-  where
-    by_test : (b : Bool) → (y.at == x) ≡ b → map (from_to x a) ys ≡ ys
-        → cond b (let r : Man = record { side = y.side; kind = y.kind; at = a } in r) y ∷ map (from_to x a) ys ≡ y ∷ ys
-    by_test true t r =
-        absurd (let c : count_by (λ z. z.at == x) (y ∷ ys) ≡ 1 + count_by (λ z. z.at == x) ys = count_by-cons (λ z. z.at == x) y ys ∙ rw t refl in
-        omega (arith, e, c))
-    by_test false t r = ap (λ (zs : List Man). y ∷ zs) r
 
 module _ (p : Position) (m : Move) (v : IsValid p) (legal : is_legal p m ≡ true) where
   abbrev mover : Man

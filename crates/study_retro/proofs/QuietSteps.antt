@@ -1,16 +1,14 @@
 -- The number after a quiet move.
-use Rattle.std.proofs.Common.{◌≡◌, ℕ, zero, suc, ◌+◌, ◌-◌, ◌<◌, ◌≤◌, ◌==◌, eqb, Bool, true, false, cond, List, [], ◌∷◌, map, length, slice_index_or}
+use Rattle.std.proofs.Common.{◌≡◌, ◌==◌, Bool, true, false, cond, List, [], ◌∷◌, map, length}
 use Rattle.std.proofs.Common.{refl, sym, ◌∙◌, ap, subst, arith}
-use Rattle.std.specs.Prelude.{count_by}
 use Rattle.std.specs.List.Sorted.{IsPermutation}
-use Rattle.std.proofs.lemmas.Bool.Decides.{nat_tests}
-use Rattle.study_board.proofs.Lists.{count_by-cons}
 use Rattle.std.proofs.lemmas.List.Sorted.{IsPermutation-trans, IsPermutation-sym, IsPermutation-map, sum_by-IsPermutation}
 use Rattle.study_board.specs.declared.men.Man.{Man}
 use Rattle.study_index.specs.Moved.{from_to}
 use Rattle.study_index.specs.Stepped.{moved_to}
 use Rattle.study_retro.specs.Steps.{QuietMovesStep}
-use Rattle.study_retro.proofs.QuietClass.{moves_there, none_moves, quiet_men, quiet_lists, unpassing}
+use Rattle.study_index.proofs.AddedNumbers.{one_moves}
+use Rattle.study_retro.proofs.QuietClass.{quiet_men, quiet_lists, unpassing}
 use Rattle.study_board.specs.Men.{other_side}
 use Rattle.study_board.specs.Position.{Position, IsValid}
 use Rattle.study_moves.specs.declared.moves.Move.{Move}
@@ -32,55 +30,6 @@ use Rattle.study_index.proofs.ComputedIndex.{told_decoded}
 use Rattle.study_index.proofs.DecodedNumbers.{told_of}
 use Rattle.study_index.proofs.NumbersReadOff.{filled-men_of}
 use Rattle.study_index.proofs.SteppedNumbers.{numbers-step}
-
--- where a man of the list stands
-at_origin : (x : ℕ) (ms : List Man) (i : ℕ) → i < length ms → ((d : Man) → (slice_index_or ms i d).at ≡ x) → 1 ≤ count_by (λ y. y.at == x) ms
-at_origin x [] i l e = absurd (omega (arith, l))
-at_origin x (y ∷ ys) i l e = by_index (λ j. at_origin x ys j) i l e
-  where
-    by_index : ((j : ℕ) → j < length ys → ((d : Man) → (slice_index_or ys j d).at ≡ x) → 1 ≤ count_by (λ z. z.at == x) ys)
-        → (i : ℕ) → i < length (y ∷ ys) → ((d : Man) → (slice_index_or (y ∷ ys) i d).at ≡ x) → 1 ≤ count_by (λ z. z.at == x) (y ∷ ys)
-    by_index f zero b e =
-        let at : y.at ≡ x = e y in
-        let same : eqb y.at x ≡ true = grind (arith, nat_tests) in
-        let c : count_by (λ z. z.at == x) (y ∷ ys) ≡ 1 + count_by (λ z. z.at == x) ys = count_by-cons (λ z. z.at == x) y ys ∙ rw same refl in
-        omega (arith, c)
-    by_index f (suc i) b e = let c = count_by-cons (λ z. z.at == x) y ys in let r = f i (omega (arith, b)) e in omega (arith, c, r)
-
-stays_there : (x a : ℕ) (m : Man) → eqb m.at x ≡ false → from_to x a m ≡ m
-stays_there x a m e = rw e refl
-
--- the man of one place put on another square
-pub one_moves : (x a : ℕ) (ms : List Man) (i : ℕ) → i < length ms → ((d : Man) → (slice_index_or ms i d).at ≡ x)
-    → count_by (λ y. y.at == x) ms ≤ 1 → map (from_to x a) ms ≡ moved_to i a ms
-one_moves x a [] i l e o = absurd (omega (arith, l))
-one_moves x a (y ∷ ys) i l e o = by_index (λ j. one_moves x a ys j) i l e
-  where
-    by_index : ((j : ℕ) → j < length ys → ((d : Man) → (slice_index_or ys j d).at ≡ x) → count_by (λ z. z.at == x) ys ≤ 1
-        → map (from_to x a) ys ≡ moved_to j a ys)
-        → (i : ℕ) → i < length (y ∷ ys) → ((d : Man) → (slice_index_or (y ∷ ys) i d).at ≡ x)
-        → map (from_to x a) (y ∷ ys) ≡ moved_to i a (y ∷ ys)
-    by_index f zero b e =
-        let at : y.at ≡ x = e y in
-        let same : eqb y.at x ≡ true = grind (arith, nat_tests) in
-        let c : count_by (λ z. z.at == x) (y ∷ ys) ≡ 1 + count_by (λ z. z.at == x) ys = count_by-cons (λ z. z.at == x) y ys ∙ rw same refl in
-        ap (λ (z : Man). z ∷ map (from_to x a) ys) (moves_there x a y same)
-        ∙ ap (λ (zs : List Man). (let r : Man = record { side = y.side; kind = y.kind; at = a } in r) ∷ zs) (none_moves x a ys (omega (arith, o, c)))
-    by_index f (suc i) b e =
-        let c = count_by-cons (λ z. z.at == x) y ys in
-        let there = at_origin x ys i (omega (arith, b)) e in
-        let other : eqb y.at x ≡ false = by_test (eqb y.at x) refl there in
-        let n : eqb (suc i) 0 ≡ false = grind (arith, nat_tests) in
-        let s : suc i - 1 ≡ i = omega arith in
-        rw (n, s)
-        (ap (λ (z : Man). z ∷ map (from_to x a) ys) (stays_there x a y other)
-        ∙ ap (λ (zs : List Man). y ∷ zs) (f i (omega (arith, b)) e (omega (arith, o, c))))
-      where
-        by_test : (t : Bool) → eqb y.at x ≡ t → 1 ≤ count_by (λ z. z.at == x) ys → t ≡ false
-        by_test false h k = refl
-        by_test true h k = absurd (
-            let c : count_by (λ z. z.at == x) (y ∷ ys) ≡ 1 + count_by (λ z. z.at == x) ys = count_by-cons (λ z. z.at == x) y ys ∙ rw h refl in
-            omega (arith, o, c, k))
 
 pub other_turn : (q : Position) (m : Move) → is_legal q m ≡ true → (after q m).to_move ≡ other_side q.to_move
 unfolding after

@@ -1,7 +1,13 @@
 use Rattle.std.proofs.Common.{ℕ, ◌<◌, sym, subst}
+use Rattle.study_index.proofs.ClassLaws.{below}
+use Rattle.study_index.proofs.ComputedIndex.{told_decoded}
 use Rattle.study_retro.proofs.EarlierChess.{small_index}
 use Rattle.study_retro.proofs.MovedSteps.{moved_before}
 use Rattle.study_retro.proofs.earlier.plain_number.Goals as goal
+
+pub number_moved-requires : goal.number_moved-requires
+number_moved-requires c =
+    below c.args.class c.args.number c.args.at.now (told_decoded c.args.class c.args.number c.args.at.now c.requires.at)
 
 pub returns-then-lands-clause-small : goal.returns-then-lands-clause-small
 returns-then-lands-clause-small c =
