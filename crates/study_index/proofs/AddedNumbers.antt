@@ -107,7 +107,8 @@ all_there x a (m ∷ ms) = by_test (m.at == x) refl (all_there x a ms)
         let at : (from_to x a m).at ≡ a = ap (λ (z : Man). z.at) (moves_there x a m t) in
         let same : eqb (from_to x a m).at a ≡ true = subst (λ (k : ℕ). eqb k a ≡ true) (sym at) (let e : eqb a a ≡ true = grind (arith, nat_tests) in e) in
         let d : count_by (λ z. z.at == a) (from_to x a m ∷ map (from_to x a) ms) ≡ 1 + count_by (λ z. z.at == a) (map (from_to x a) ms) =
-        count_by-cons (λ z. z.at == a) (from_to x a m) (map (from_to x a) ms) ∙ ap (λ (b : Bool). cond b 1 0 + count_by (λ z. z.at == a) (map (from_to x a) ms)) same in
+        count_by-cons (λ z. z.at == a) (from_to x a m) (map (from_to x a) ms)
+        ∙ ap (λ (b : Bool). cond b 1 0 + count_by (λ z. z.at == a) (map (from_to x a) ms)) same in
         omega (arith, c, d, r)
     by_test false t r =
         let c : count_by (λ z. z.at == x) (m ∷ ms) ≡ 0 + count_by (λ z. z.at == x) ms = count_by-cons (λ z. z.at == x) m ms ∙ rw t refl in

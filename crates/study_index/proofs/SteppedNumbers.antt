@@ -88,7 +88,8 @@ stepped_number (k ∷ b ∷ []) n i a s c l m =
     (rw (king_placed (n / 64)) (ap (λ x. Some x) (let t = turned_two n c in omega (arith, t))))
 stepped_number (k ∷ b ∷ x ∷ []) n i a s c l m =
     let t = turned_three n c in
-    let P : ℕ → Type 0 = λ j. number true (other_side (side_numbered (n / 64 / 64 / 32))) (moved_to j a (men_of true (k ∷ b ∷ x ∷ []) n)) ≡ Some (stepped 3 n j a) in
+    let P : ℕ → Type 0 =
+    λ j. number true (other_side (side_numbered (n / 64 / 64 / 32))) (moved_to j a (men_of true (k ∷ b ∷ x ∷ []) n)) ≡ Some (stepped 3 n j a) in
     elim (one_or i 1 l) [
       | inl e ↦ subst P e (rw (king_placed (n / 64 / 64)) (ap (λ x. Some x) (omega (arith, t))))
       | inr g ↦ (let e : 2 ≡ i = omega arith in subst P e (rw (king_placed (n / 64 / 64)) (ap (λ x. Some x) (omega (arith, t)))))
@@ -116,7 +117,8 @@ as_it_is = record { files = false; ranks = false; diagonal = false; colours = fa
 
 man_as_it_is : (m : Man) → turned_man as_it_is m ≡ m
 unfolding turned_square
-man_as_it_is m = ap (λ (x : ℕ). let r : Man = record { side = m.side; kind = m.kind; at = x } in r) (let e : 8 * (m.at / 8) + m.at % 8 ≡ m.at = omega arith in e)
+man_as_it_is m =
+    ap (λ (x : ℕ). let r : Man = record { side = m.side; kind = m.kind; at = x } in r) (let e : 8 * (m.at / 8) + m.at % 8 ≡ m.at = omega arith in e)
 
 men_as_they_are : (ms : List Man) → map (turned_man as_it_is) ms ≡ ms
 men_as_they_are [] = refl
