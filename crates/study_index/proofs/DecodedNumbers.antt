@@ -60,7 +60,7 @@ read_decoded c n p cell l h e =
     decoded (slots_of c) n p (AreSlots-class c) cell l
     (record { number = without_bit n; least = subst (λ k. IsLeastNumber p k) (the_same r.0 (without_bit n) _ r.1 h) r.2; is = e })
 
-told_of : (c : Class) (n : ℕ) (q : Position) → IsDecoded c n q → IsTold c n q
+pub told_of : (c : Class) (n : ℕ) (q : Position) → IsDecoded c n q → IsTold c n q
 told_of c n q d =
     let o = IsOfMen-decoded (slots_of c) n q (AreSlots-class c) d in
     record { valid = d.valid; same_men = o.same; same_side = o.move; same_passed = o.passed }

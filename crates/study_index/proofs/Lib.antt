@@ -19,3 +19,6 @@ pub mod ComputedIndex
 pub mod BySquares
 pub mod HeavierSide
 pub mod ToldKings
+pub mod SteppedNumbers
+pub mod MovedNumbers
+pub mod AddedNumbers

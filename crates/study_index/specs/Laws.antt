@@ -1,5 +1,7 @@
 -- What tables rest on: each position of a class has a number, and the position read off it has the same game.
-use Rattle.std.specs.Prelude.{◌≡◌, ◌↔◌, ℕ, ◌<◌, false, Some}
+use Rattle.std.specs.Prelude.{◌≡◌, ◌↔◌, ℕ, ◌<◌, false, Some, Contains}
+use Rattle.std.specs.List.Sorted.{IsPermutation}
+use Rattle.study_board.specs.declared.men.Man.{Man}
 use Rattle.study_board.specs.Position.{Position, IsValid}
 use Rattle.study_board.specs.Images.{IsImage}
 use Rattle.study_moves.specs.Bare.{bare}
@@ -10,8 +12,8 @@ use Rattle.study_material.specs.declared.class.Class.{Class}
 use Rattle.study_material.specs.Lists.{is_swapped}
 use Rattle.study_material.specs.Class.{lists_of, IsOf}
 use Rattle.study_material.specs.Needs.{LeadsOn}
-use Rattle.study_index.specs.Number.{IsIndex, cells_of}
-use Rattle.study_index.specs.Decoded.{IsDecoded}
+use Rattle.study_index.specs.Number.{IsIndex, cells_of, without_bit, has_bit}
+use Rattle.study_index.specs.Decoded.{IsDecoded, slots_of, told_men, told_side, passed_behind}
 use Rattle.study_index.specs.Found.{index_of, position_numbered}
 
 -- positions that are alike, the colours kept where the lists of the class are equal
@@ -65,3 +67,13 @@ pub record AgreeAlike (p q : Position) : Type 0 where
 
 abbrev pub AlikeAgree : Type 0
 AlikeAgree = (p q : Position) → AreAlike p q → AgreeAlike p q
+
+-- the men of a position as its number tells them, one for each slot; the side to move; and the passed square
+pub record IsTold (c : Class) (n : ℕ) (q : Position) : Type 0 where
+  pub men : IsPermutation (told_men (slots_of c) (without_bit n)) q.men
+  pub same : (m : Man) → Contains (told_men (slots_of c) (without_bit n)) m ↔ Contains q.men m
+  pub to_move : q.to_move ≡ told_side (slots_of c) (without_bit n)
+  pub passed : q.passed ≡ passed_behind (has_bit n) (told_side (slots_of c) (without_bit n)) (told_men (slots_of c) (without_bit n))
+
+abbrev pub NumbersTell : Type 0
+NumbersTell = (c : Class) (n : ℕ) (q : Position) → position_numbered c n ≡ Some q → IsTold c n q

@@ -5,5 +5,7 @@ pub mod Chosen
 pub mod Decoded
 pub mod Found
 pub mod Laws
+pub mod Moved
 pub mod Squares
+pub mod Stepped
 pub mod Weights

@@ -1,5 +1,6 @@
 //! Laws over the definitions, which tables rest on: functions that do nothing.
-ghost use Rattle.study_index.specs.Laws.{PositionsHaveAnIndex, NumbersAreRead, ClassesAreNumbered, AlikeAgree};
+ghost use Rattle.study_index.specs.Laws.{PositionsHaveAnIndex, NumbersAreRead, ClassesAreNumbered, AlikeAgree, NumbersTell};
+ghost use Rattle.study_index.specs.Stepped.{NumbersStep};
 
 /// The index of a valid position is the least of its numbers, with the bit of a capture in passing, and no other is.
 pub fn positions_have_an_index()
@@ -20,4 +21,15 @@ pub fn classes_are_numbered()
 /// Positions that are alike are of one class, and forced mates agree on them.
 pub fn alike_mates_agree()
     ensures { AlikeAgree }
+{}
+
+/// What a quiet move makes of a number, where a man is a pawn and none are like, and the white king stays: the side to
+/// move is turned, and one square replaced.
+pub fn numbers_step()
+    ensures { NumbersStep }
+{}
+
+/// A number tells the men of its position, one for each slot of its class, the side to move and the passed square.
+pub fn numbers_tell()
+    ensures { NumbersTell }
 {}

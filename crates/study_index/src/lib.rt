@@ -8,14 +8,19 @@
 mod filling;
 mod laws;
 mod least;
+mod moved;
 mod number;
 mod passing;
 mod reading;
+mod stepped;
 mod swap;
 mod turn;
 
 pub use laws::{
-    alike_mates_agree, classes_are_numbered, numbers_are_read, positions_have_an_index,
+    alike_mates_agree, classes_are_numbered, numbers_are_read, numbers_step, numbers_tell,
+    positions_have_an_index,
 };
 pub use least::index;
+pub use moved::number_moved;
 pub use reading::{cells, decode};
+pub use stepped::number_after;

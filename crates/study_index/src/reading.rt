@@ -24,7 +24,7 @@ pub struct Slot {
 }
 
 #[inline]
-fn has_pawn(slots: &[Slot]) -> bool
+pub fn has_pawn(slots: &[Slot]) -> bool
     ensures { result ≡ slots_have_pawn slots.now }
 {
     slots.iter().any(|s| s.kind.is(Kind::Pawn))
@@ -51,7 +51,7 @@ fn listed(pawns: bool, place: u32) -> Square
 }
 
 #[inline]
-fn man(slot: &Slot, square: u32) -> Man
+pub fn man(slot: &Slot, square: u32) -> Man
     requires { square < 64 }
     ensures { result ≡ man slot.now square }
 {
@@ -63,7 +63,7 @@ fn man(slot: &Slot, square: u32) -> Man
 }
 
 #[inline]
-fn king(pawns: bool, slot: &Slot, head: u32) -> Man
+pub fn king(pawns: bool, slot: &Slot, head: u32) -> Man
     ensures { result ≡ man slot.now (listed pawns (head % listed_count pawns)) }
 {
     Man {
@@ -75,7 +75,7 @@ fn king(pawns: bool, slot: &Slot, head: u32) -> Man
 
 /// The number without the squares of the slots after the first.
 #[inline]
-fn head(slots: &[Slot], n: u32) -> u32
+pub fn head(slots: &[Slot], n: u32) -> u32
     ensures { result ≡ head slots.now n }
 {
     match slots {
@@ -87,7 +87,7 @@ fn head(slots: &[Slot], n: u32) -> u32
 }
 
 #[inline]
-fn side_numbered(n: u32) -> Side
+pub fn side_numbered(n: u32) -> Side
     ensures { result ≡ side_numbered n }
 {
     if n == 0 { Side::White } else { Side::Black }
@@ -312,7 +312,7 @@ const BLACK_PAWN: Slot = Slot {
 };
 
 // The slots of the class: the kings, White's men in list order, Black's men in list order.
-fn slots(class: Class) -> &'static [Slot]
+pub fn slots(class: Class) -> &'static [Slot]
     ensures { result.now ≡ slots_of class }
 {
     use Class::*;

@@ -187,12 +187,12 @@ module _ (c : Class) where
       let bit : without_bit (k + 16777216) ≡ without_bit k = omega arith in
       ap without_passed (position_is c (k + 16777216) p f) ∙ ap plain bit ∙ sym (ap without_passed (position_is c k o e))
 
-  lands_home : (n : ℕ) (q r : Position) (m : Move) → position_numbered c n ≡ Some q → LeadsQuietly r m q → IsOf c (after r m)
+  pub lands_home : (n : ℕ) (q r : Position) (m : Move) → position_numbered c n ≡ Some q → LeadsQuietly r m q → IsOf c (after r m)
   lands_home n q r m e b =
       let d = entry c n q (told_decoded c n q e) in
       d.of_class ∙ ap (λ (y : Position). ordered (lists y.men)) (sym b.leads)
 
-  starts_home : (n : ℕ) (q r : Position) (m : Move) → position_numbered c n ≡ Some q → LeadsQuietly r m q → IsOf c r
+  pub starts_home : (n : ℕ) (q r : Position) (m : Move) → position_numbered c n ≡ Some q → LeadsQuietly r m q → IsOf c r
   starts_home n q r m e b =
       lands_home n q r m e b ∙ ap (λ (l : Lists). ordered l) (quiet_lists r m b.valid b.legal (unpassing r m b.valid b.legal b.unpassed) b.quiet)
 

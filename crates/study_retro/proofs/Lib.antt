@@ -20,3 +20,5 @@ pub mod QuietClass
 pub mod EarlierChess
 pub mod Jumps
 pub mod BlockLemmas
+pub mod QuietSteps
+pub mod MovedSteps

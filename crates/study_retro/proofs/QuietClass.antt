@@ -1,6 +1,6 @@
 -- Quiet moves stay in the class, and no other moves do.
 use Rattle.std.proofs.Common.{◌≡◌, ◌≢◌, ℕ, ◌+◌, ◌*◌, ◌<◌, ◌≤◌, ◌==◌, eqb, Bool, true, false, cond}
-use Rattle.std.proofs.Common.{nat_lt, not, ◌&&◌, ◌||◌, ◌⊎◌, inl, inr, List, [], ◌∷◌, ◌++◌, Option}
+use Rattle.std.proofs.Common.{nat_lt, not, ◌&&◌, ◌||◌, ◌⊎◌, inl, inr, List, [], ◌∷◌, ◌++◌, map, Option}
 use Rattle.std.proofs.Common.{Some, None, unwrap_or, refl, sym, ◌∙◌, ap, subst, arith}
 use Rattle.std.specs.Prelude.{sum_by, count_by}
 use Rattle.std.specs.List.{filter, list_any}
@@ -8,7 +8,9 @@ use Rattle.std.specs.List.Sorted.{IsPermutation}
 use Rattle.std.proofs.lemmas.Bool.{false≢true, false_from_ne_true, and_parts, eqb-true}
 use Rattle.std.proofs.lemmas.Bool.Decides.{nat_tests}
 use Rattle.std.proofs.lemmas.List.Sums.{sum_by-cons}
+use Rattle.study_board.proofs.Lists.{count_by-cons}
 use Rattle.std.proofs.lemmas.List.Sorted.{IsPermutation-trans, IsPermutation-append_comm, IsPermutation-sym, sum_by-IsPermutation, list_any-IsPermutation}
+use Rattle.std.proofs.lemmas.List.Sorted.{IsPermutation-map}
 use Rattle.study_board.specs.declared.men.Man.{Man}
 use Rattle.study_board.specs.declared.men.Side.{Side}
 use Rattle.study_board.specs.declared.men.Side.TheVariants.{White, Black}
@@ -30,6 +32,9 @@ use Rattle.study_material.specs.Class.{IsOf}
 use Rattle.study_material.proofs.KindCounts.{lists-IsPermutation}
 use Rattle.study_material.proofs.MenBesideKings.{one_king}
 use Rattle.study_material.proofs.MenAfterMove.{goes_away, IsStep-move}
+use Rattle.study_index.specs.Moved.{from_to}
+use Rattle.study_index.proofs.Fillings.{AreApart-ascending}
+use Rattle.study_index.proofs.AddedNumbers.{moves_there, none_moves}
 use Rattle.study_material.proofs.MovesOn.{passed_there, passed_empty}
 
 -- a pawn weighs more than what it becomes
@@ -375,6 +380,23 @@ module _ (p : Position) (m : Move) (v : IsValid p) (legal : is_legal p m ≡ tru
         (moved_quietly q.1)
         ∙ sym
         (lists-IsPermutation (mover ∷ left) p.men (IsPermutation-sym p.men (mover ∷ left) (before_alone q.0)))
+
+    -- the men after it are those before it, the mover on its target
+    pub quiet_men : IsQuiet p m → IsPermutation (map (from_to m.origin m.target) p.men) (after p m).men
+    quiet_men q =
+        let f = from_to m.origin m.target in
+        let at : mover.at ≡ m.origin = found.1 in
+        let one = AreApart-ascending p.men v.ordered m.origin in
+        let count = sum_by-IsPermutation (λ (y : Man). cond (y.at == m.origin) 1 0) p.men (mover ∷ left) (before_alone q.0) in
+        let same : eqb mover.at m.origin ≡ true = same_number mover.at m.origin at in
+        let more : count_by (λ y. y.at == m.origin) (mover ∷ left) ≡ 1 + count_by (λ y. y.at == m.origin) left =
+        count_by-cons (λ y. y.at == m.origin) mover left ∙ rw same refl in
+        let none : count_by (λ y. y.at == m.origin) left ≡ 0 = omega (arith, one, count, more) in
+        let first : f mover ≡ moved mover m = moves_there m.origin m.target mover same ∙ sym (moved_quietly q.1) in
+        let is : map f (mover ∷ left) ≡ moved mover m ∷ left =
+        ap (λ (z : Man). z ∷ map f left) first ∙ ap (λ (zs : List Man). moved mover m ∷ zs) (none_moves m.origin m.target left none) in
+        IsPermutation-trans (map f p.men) (moved mover m ∷ left) (after p m).men
+        (subst (λ (zs : List Man). IsPermutation (map f p.men) zs) is (IsPermutation-map f p.men (mover ∷ left) (before_alone q.0))) after_men
 
     -- and so does what men of each kind there are
     pub quiet_any : (f : Man → Bool)

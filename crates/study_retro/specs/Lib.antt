@@ -13,3 +13,4 @@ pub mod Back
 pub mod Before
 pub mod Numbered
 pub mod ClassGame
+pub mod Steps

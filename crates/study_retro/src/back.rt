@@ -1,10 +1,10 @@
 //! Steps back from one decided position.
-ghost use Rattle.std.specs.Prelude.{◌≡◌, ◌≢◌, ◌↔◌, ◌+◌, ◌<◌, ◌≤◌, ◌⊎◌, ℕ, true, false, length, slice_index, Some, IsTrue};
+ghost use Rattle.std.specs.Prelude.{◌≡◌, ◌≢◌, ◌↔◌, ◌+◌, ◌<◌, ◌≤◌, ◌⊎◌, ℕ, false, length, slice_index, Some, IsTrue};
 ghost use Rattle.study_retro.specs.Back.{AreAdded, AreLowered, IsLowered, IsMarked, IsSetBy};
 ghost use Rattle.study_retro.specs.Numbered.{IsNumberedClass, LosesBy, NoLossBy, StepLeads};
 
-use crate::check::label;
 use crate::game::Game;
+use crate::stepped::LabelledGame;
 use crate::value::Value;
 
 /// Sets a cell, where it tells of no mate so near.
@@ -74,17 +74,21 @@ pub fn mark_by_moves<G: Game>(game: &G, cells: &mut [u8], number: u32, level: u8
 }
 
 /// Whether a position has a move, and each leads to a win within `level` plies.
-pub fn is_lost<G: Game>(game: &G, cells: &[u8], at: &G::Position, level: u8) -> bool
+pub fn is_lost<G: LabelledGame>(
+    game: &G,
+    cells: &[u8],
+    number: u32,
+    at: &G::Position,
+    level: u8,
+) -> bool
     requires laws { IsNumberedClass (G.numbered game.now) }
-    requires known { (G.numbered game.now).known at.now }
-    requires home { (G.numbered game.now).home at.now ≡ true }
+    requires at { (G.numbered game.now).position number ≡ Some at.now }
     requires cells { length cells.now ≡ (G.numbered game.now).size }
     ensures { IsTrue result ↔ LosesBy (G.numbered game.now) cells.now level at.now }
 {
     let moves = game.moves(at);
     for by in moves.as_slice() {
-        let to = game.played(at, *by);
-        if !is_won(label(game, cells, &to), level) {
+        if !is_won(game.label_after(cells, number, at, by), level) {
             return false;
         }
     }
@@ -102,7 +106,7 @@ fn is_won(value: Value, level: u8) -> bool
 }
 
 /// Whether the position of a number has a move, and each leads to a win within `level` plies.
-pub fn is_lost_by_moves<G: Game>(game: &G, cells: &[u8], number: u32, level: u8) -> bool
+pub fn is_lost_by_moves<G: LabelledGame>(game: &G, cells: &[u8], number: u32, level: u8) -> bool
     requires laws { IsNumberedClass (G.numbered game.now) }
     requires number { number < (G.numbered game.now).size }
     requires cells { length cells.now ≡ (G.numbered game.now).size }
@@ -111,6 +115,6 @@ pub fn is_lost_by_moves<G: Game>(game: &G, cells: &[u8], number: u32, level: u8)
 {
     match game.decode(number) {
         None => false,
-        Some(at) => is_lost(game, cells, &at, level),
+        Some(at) => is_lost(game, cells, number, &at, level),
     }
 }

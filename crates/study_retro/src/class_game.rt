@@ -1,17 +1,25 @@
 //! Chess, as the builder sees it: the positions of a class by their numbers, and the values of those that it leads to.
+ghost use Rattle.std.specs.Prelude.{◌≡◌, true, false, IsTrue, IfSome, Some};
+ghost use Rattle.study_moves.specs.Rules.{after, is_legal};
+ghost use Rattle.study_moves.specs.Quiet.{IsQuiet};
+ghost use Rattle.study_material.specs.Class.{lists_of};
+ghost use Rattle.study_index.specs.Number.{has_both_pawns};
+ghost use Rattle.study_index.specs.Found.{index_of, position_numbered};
 ghost use Rattle.study_retro.specs.Table.{IsReady, IsClosed};
 
 use crate::back::{is_lost_by_moves, lower_by_moves, mark_by_moves};
-use crate::earlier::numbers_before;
+use crate::check::label;
+use crate::earlier::{has_both_pawns, numbers_before};
 use crate::first::{First, first_by_moves};
 use crate::game::{Game, Place};
 use crate::set::TableSet;
-use crate::stepped::SteppedGame;
+use crate::stepped::{LabelledGame, SteppedGame};
 use crate::table::class_place;
+use crate::value::{Value, value_at};
 use arrayvec::ArrayVec;
 use std::alloc::Allocator;
-use study_board::Position;
-use study_index::{cells, decode, index};
+use study_board::{Position, is_occupied};
+use study_index::{cells, decode, index, number_moved};
 use study_material::{Class, class_of};
 use study_moves::{Move, is_mate, legal_moves, played};
 
@@ -70,6 +78,41 @@ impl<'t, 'a, A: Allocator> Game for ClassGame<'t, 'a, A> {
         match self.tables.table(class) {
             Some(table) => Place::Outside(table.at(at)),
             None => unreachable!(),
+        }
+    }
+}
+
+/// Whether the move takes no man and promotes none, where no capture in passing is legal.
+#[inline]
+fn is_quiet(at: &Position, by: &Move) -> bool
+    ensures { IsTrue result → IsQuiet at.now by.now }
+{
+    let _target = by.target.number();
+    by.promoted.is_none() && !is_occupied(at.men(), by.target.number())
+}
+
+/// The number of the position after a move that takes no man and promotes none, where one side alone has pawns.
+#[inline]
+fn number_after(class: Class, number: u32, at: &Position, by: &Move) -> Option<u32>
+    requires at { position_numbered class number ≡ Some at.now }
+    requires by { is_legal at.now by.now ≡ true }
+    ensures { IfSome result (λ n. (has_both_pawns (lists_of class) ≡ false) × IsQuiet at.now by.now × (index_of (after at.now by.now) ≡ n)) }
+{
+    if !has_both_pawns(class) && is_quiet(at, by) {
+        Some(number_moved(class, number, by.origin, by.target))
+    } else {
+        None
+    }
+}
+
+impl<'t, 'a, A: Allocator> LabelledGame for ClassGame<'t, 'a, A> {
+    fn label_after(&self, cells: &[u8], number: u32, at: &Position, by: &Move) -> Value {
+        match number_after(self.class, number, at, by) {
+            Some(next) => value_at(cells[next as usize]),
+            None => {
+                let to = played(at, *by);
+                label(self, cells, &to)
+            }
         }
     }
 }

@@ -4,12 +4,14 @@ ghost use Rattle.arrayvec.specs.ArrayVec.{array_vec_len};
 ghost use Rattle.study_board.specs.Position.{Position as Seen};
 ghost use Rattle.study_moves.specs.Rules.{after, is_legal};
 ghost use Rattle.study_moves.specs.Quiet.{LeadsQuietly, CanHaveLed};
+ghost use Rattle.study_material.specs.Class.{lists_of};
+ghost use Rattle.study_index.specs.Number.{has_both_pawns};
 ghost use Rattle.study_index.specs.Found.{index_of, position_numbered};
 ghost use Rattle.study_retro.specs.Before.{IsPlainNumber, IsNumberBefore, ComesBefore};
 
 use arrayvec::ArrayVec;
 use study_board::{Position, distance};
-use study_index::{decode, index};
+use study_index::{cells, decode, index, number_moved};
 use study_material::Class;
 use study_moves::{Move, last_moves, played, taken_back};
 
@@ -34,7 +36,7 @@ fn add_before(class: Class, at: &Position, number: u32, by: &Move, list: &mut Ar
     ensures few { array_vec_len list.new ≤ array_vec_len list.old + 2 }
     ensures more { (n : ℕ) → Contains list.new.items n ↔ Contains list.old.items n ⊎ IsNumberBefore class at.now number by.now n }
 {
-    if let Some(plain) = plain_number(at, number, by) {
+    if let Some(plain) = plain_number(class, at, number, by) {
         list.push(plain);
         let live = plain + 16_777_216;
         if is_numbered(class, live) {
@@ -45,19 +47,32 @@ fn add_before(class: Class, at: &Position, number: u32, by: &Move, list: &mut Ar
 
 /// The number of the position before the move, if that leads to the position of this number.
 #[inline]
-fn plain_number(at: &Position, number: u32, by: &Move) -> Option<u32>
-    requires at { index_of at.now ≡ number }
+fn plain_number(class: Class, at: &Position, number: u32, by: &Move) -> Option<u32>
+    requires at { position_numbered class number ≡ Some at.now }
     requires by { CanHaveLed at.now by.now }
     ensures small { IfSome result (λ n. n < 16777216) }
     ensures some { IfSome result (λ n. IsPlainNumber at.now number by.now n) }
     ensures none { IfNone result ((p : Seen) → LeadsQuietly p by.now at.now → index_of (after p by.now) ≢ number) }
 {
-    let from = taken_back(at, *by);
-    if leads_to(at, &from, *by, number) {
-        Some(index(&from))
+    if lands(class, at, number, by) {
+        Some(number_moved(class, number, by.target, by.origin))
     } else {
         None
     }
+}
+
+/// Whether the move leads to the position of this number. Where one side alone has pawns no capture in passing is legal,
+/// and each does.
+#[inline]
+fn lands(class: Class, at: &Position, number: u32, by: &Move) -> bool
+    requires at { position_numbered class number ≡ Some at.now }
+    requires by { CanHaveLed at.now by.now }
+    ensures { (p : Seen) → LeadsQuietly p by.now at.now → (IsTrue result ↔ (index_of (after p by.now) ≡ number)) }
+{
+    if !has_both_pawns(class) {
+        return true;
+    }
+    leads_to(at, &taken_back(at, *by), *by, number)
 }
 
 /// Whether the move leads to the position of this number: where a square is passed after it, its number is looked at.
@@ -85,9 +100,20 @@ fn passes(from: &Position, by: &Move) -> bool
     played(from, *by).passed().is_some()
 }
 
+/// Whether both sides of a class have a pawn.
+#[inline]
+pub fn has_both_pawns(class: Class) -> bool
+    ensures { result ≡ has_both_pawns (lists_of class) }
+{
+    match class {
+        Class::KPKP => true,
+        _ => false,
+    }
+}
+
 #[inline]
 fn is_numbered(class: Class, number: u32) -> bool
     ensures { IsTrue result ↔ ((p : Seen) × (position_numbered class number ≡ Some p)) }
 {
-    decode(class, number).is_some()
+    number < cells(class) && decode(class, number).is_some()
 }

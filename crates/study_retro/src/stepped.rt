@@ -1,10 +1,23 @@
 //! What the levels ask of a game, besides its rules: so a game that reads its numbers may answer faster than by lists of moves.
 ghost use Rattle.std.specs.Prelude.{◌≡◌, ◌≢◌, ◌+◌, ◌<◌, ℕ, false, length, slice_index, IsTrue, Some};
 ghost use Rattle.study_retro.specs.Back.{AreAdded, AreLowered, IsSetBy};
-ghost use Rattle.study_retro.specs.Numbered.{CellIsHeld, IsNumberedClass, LosesBy, NoLossBy, OutsideIsRight, StepLeads};
+ghost use Rattle.study_retro.specs.Numbered.{CellIsHeld, IsNumberedClass, LosesBy, NoLossBy, OutsideIsRight, StepLeads, label_by};
 
 use crate::first::First;
 use crate::game::Game;
+use crate::value::Value;
+use study_moves::Move;
+
+/// A game that tells where a move leads by the number of the position before it.
+pub trait LabelledGame: Game {
+    /// The label of the position after a move from the position of a number.
+    fn label_after(&self, cells: &[u8], number: u32, at: &Self::Position, by: &Move) -> Value
+        requires laws { IsNumberedClass (Self.numbered self.now) }
+        requires at { (Self.numbered self.now).position number ≡ Some at.now }
+        requires by { (Self.numbered self.now).legal at.now by.now }
+        requires cells { length cells.now ≡ (Self.numbered self.now).size }
+        ensures { result ≡ label_by (Self.numbered self.now) cells.now ((Self.numbered self.now).after at.now by.now) };
+}
 
 /// A game whose positions are tested and gone back from by their numbers.
 pub trait SteppedGame: Game {

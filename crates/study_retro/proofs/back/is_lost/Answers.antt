@@ -1,4 +1,4 @@
-use Rattle.std.proofs.Common.{◌≡◌, ℕ, ◌≤◌, true, false, List, slice_index_or, Contains, sym, ◌∙◌, ap, subst}
+use Rattle.std.proofs.Common.{◌≡◌, ℕ, ◌≤◌, true, false, List, slice_index_or, Contains, refl, sym, ◌∙◌, ap, subst}
 use Rattle.std.proofs.lemmas.List.{take_all}
 use Rattle.std.proofs.lemmas.List.Elements.{Contains-get_or}
 use Rattle.study_moves.specs.declared.moves.Move.{Move}
@@ -15,8 +15,8 @@ returns-then-not-is_won g c =
     let there = subst (λ (xs : List Move). Contains xs m) c.as_slice-by-items.ensures.value (Contains-get_or ms c.loop-by.by-index d c.loop-by-test.true) in
     let here = subst (λ (x : Move). Contains c.moves-moves.result.items x) (sym c.by-item.is) there in (
       λ e. absurd (let no : false ≡ true = e in cc),
-      λ h. let w = h.each c.played-to.result (d, c.moves-moves.ensures.only d here, sym c.played-to.ensures) in
-          absurd (let y = c.is_won.ensures.1 (w.0, c.label.ensures.value ∙ w.1, w.2) in
+      λ h. let w = h.each ((g.G.Game.numbered c.args.game.now).after c.args.at.now d) (d, c.moves-moves.ensures.only d here, refl) in
+          absurd (let y = c.is_won.ensures.1 (w.0, c.label_after.ensures ∙ w.1, w.2) in
           let n = c.if-not-is_won.true in let no : true ≡ false = sym y ∙ n in cc),
     )
 
@@ -31,7 +31,7 @@ loop-by-preserved g c =
     × (n ≤ c.args.level)) ms c.loop-by.by-index d c.loop-by-test.true c.loop-by.invariant (
       w.0,
       ap (λ (x : Move). labels ((g.G.Game.numbered c.args.game.now).after c.args.at.now x)) (sym c.by-item.is)
-          ∙ (ap labels (sym c.played-to.ensures) ∙ (sym c.label.ensures.value ∙ w.1)),
+          ∙ (sym c.label_after.ensures ∙ w.1),
       w.2,
     )
 

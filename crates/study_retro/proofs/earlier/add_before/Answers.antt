@@ -1,10 +1,7 @@
 use Rattle.std.proofs.Common.{sym, ◌∙◌, ap, ℕ, ◌+◌, List, [], ◌∷◌, ◌++◌}
 use Rattle.std.proofs.lemmas.Bool.{false≢true}
-use Rattle.study_retro.proofs.EarlierChess.{numbered_index, one_added, two_added}
+use Rattle.study_retro.proofs.EarlierChess.{one_added, two_added}
 use Rattle.study_retro.proofs.earlier.add_before.Goals as goal
-
-pub plain_number-requires-clause-at : goal.plain_number-requires-clause-at
-plain_number-requires-clause-at c = numbered_index c.args.class c.args.number c.args.at.now c.requires.at
 
 pub returns-then-is_numbered-clause-more : goal.returns-then-is_numbered-clause-more
 returns-then-is_numbered-clause-more c =

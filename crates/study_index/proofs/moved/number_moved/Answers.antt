@@ -1,0 +1,42 @@
+use Rattle.std.proofs.Common.{◌≡◌, ◌<◌, List, false, length, slice_index_or, map, sym, ◌∙◌, ap, subst}
+use Rattle.study_board.specs.declared.men.Man.{Man}
+use Rattle.study_board.specs.Men.{other_side}
+use Rattle.study_index.specs.declared.reading.Slot.{Slot}
+use Rattle.study_index.specs.Number.{without_bit}
+use Rattle.study_index.specs.Chosen.{least_of}
+use Rattle.study_index.specs.Decoded.{slots_have_pawn, told_men, told_side}
+use Rattle.study_index.specs.Moved.{from_to}
+use Rattle.study_index.specs.Stepped.{stepped}
+use Rattle.study_index.proofs.MovedNumbers.{moved_number}
+use Rattle.study_index.proofs.AddedNumbers.{added_number}
+use Rattle.study_index.proofs.moved.number_moved.Goals as goal
+
+pub returns-in-Some : goal.returns-in-Some
+returns-in-Some c = λ p t.
+    let a = c.args in
+    let is = c.slots-slots.ensures in
+    let added = c.adds_up.ensures c.if-adds_up.true in
+    let there = c.in-Some.ensures in
+    let few = subst (λ (ss : List Slot). c.in-Some.slot < length ss) is there.1 in
+    let stands = subst (λ (ss : List Slot). (d : Man) → (slice_index_or (told_men ss (without_bit a.number)) c.in-Some.slot d).at ≡ a.from) is there.2 in
+    added_number a.class a.number c.in-Some.slot a.from a.to p added.0 added.1 c.requires there.0 few stands t
+    ∙ (ap (λ (ss : List Slot). stepped (length ss) (without_bit a.number) c.in-Some.slot a.to) (sym is) ∙ sym c.stepped.ensures)
+
+pub returns-in-Some-least_moved : goal.returns-in-Some-least_moved
+returns-in-Some-least_moved c = λ p t.
+    let n = without_bit c.args.number in
+    let e =
+    c.least_moved.ensures
+    ∙ ap (λ (ss : List Slot). least_of (slots_have_pawn ss) (other_side (told_side ss n)) false (map (from_to c.args.from c.args.to) (told_men ss n)))
+    c.slots-slots.ensures in
+    let is = sym c.in-Some-least_moved.is ∙ moved_number c.args.class c.args.number c.args.from c.args.to p c.least_moved.result t e in
+    cc
+
+pub returns-in-None : goal.returns-in-None
+returns-in-None c = λ p t.
+    let n = without_bit c.args.number in
+    let e =
+    c.least_moved.ensures
+    ∙ ap (λ (ss : List Slot). least_of (slots_have_pawn ss) (other_side (told_side ss n)) false (map (from_to c.args.from c.args.to) (told_men ss n)))
+    c.slots-slots.ensures in
+    absurd (let is = sym c.in-None.is ∙ moved_number c.args.class c.args.number c.args.from c.args.to p c.least_moved.result t e in cc)

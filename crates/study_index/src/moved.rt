@@ -1,0 +1,127 @@
+//! The number of the position that a move makes which takes no man and promotes none, or from which it was made.
+ghost use Rattle.std.specs.Prelude.{◌≡◌, ◌≤◌, ◌<◌, true, false, map, length, slice_index_or, Some, IsTrue, IfSome, if◌then◌else◌};
+ghost use Rattle.study_board.specs.declared.men.Man.{Man as AMan};
+ghost use Rattle.study_board.specs.Men.{other_side};
+ghost use Rattle.study_board.specs.Position.{Position as Seen};
+ghost use Rattle.study_index.specs.Chosen.{least_of};
+ghost use Rattle.study_index.specs.Decoded.{AreSlots, slots_of, slots_have_pawn, told_men, told_side};
+ghost use Rattle.study_index.specs.Found.{index_of};
+ghost use Rattle.study_index.specs.Number.{cells_of};
+ghost use Rattle.study_index.specs.Stepped.{are_like_slots};
+ghost use Rattle.study_index.specs.Moved.{IsMoved, from_to};
+
+use crate::least::least_of;
+use crate::number::listed_count;
+use crate::reading::{Slot, has_pawn, head, king, man, side_numbered, slots};
+use crate::stepped::stepped;
+use study_board::{Man, Square};
+use study_material::Class;
+
+/// The man, put on `to` if it stands on `from`.
+#[inline]
+fn put(man: Man, from: Square, to: Square) -> Man
+    ensures { result ≡ from_to from to man }
+{
+    if man.at.number() == from.number() {
+        Man {
+            side: man.side,
+            kind: man.kind,
+            at: to,
+        }
+    } else {
+        man
+    }
+}
+
+/// The least number of the men that a number tells, the man on `from` put on `to` and the other side to move.
+#[inline(always)]
+fn least_moved(slots: &[Slot], n: u32, from: Square, to: Square) -> Option<u32>
+    requires { AreSlots slots.now }
+    ensures { result ≡ least_of (slots_have_pawn slots.now) (other_side (told_side slots.now n)) false (map (from_to from to) (told_men slots.now n)) }
+{
+    let pawns = has_pawn(slots);
+    let side = side_numbered(head(slots, n) / listed_count(pawns)).other();
+    match slots {
+        [k, b] => {
+            let white = put(king(pawns, k, n / 64), from, to);
+            let men = [white, put(man(b, n % 64), from, to)];
+            least_of(pawns, side, false, &men)
+        }
+        [k, b, x] => {
+            let white = put(king(pawns, k, n / 64 / 64), from, to);
+            let black = put(man(b, n / 64 % 64), from, to);
+            let men = [white, black, put(man(x, n % 64), from, to)];
+            least_of(pawns, side, false, &men)
+        }
+        [k, b, x, y] => {
+            let white = put(king(pawns, k, n / 64 / 64 / 64), from, to);
+            let black = put(man(b, n / 64 / 64 % 64), from, to);
+            let further = put(man(x, n / 64 % 64), from, to);
+            let men = [white, black, further, put(man(y, n % 64), from, to)];
+            least_of(pawns, side, false, &men)
+        }
+        _ => unreachable!(),
+    }
+}
+
+/// Whether one square of a number is replaced where a man other than the white king moves: a man is a pawn, and none are
+/// like.
+#[inline]
+fn adds_up(class: Class) -> bool
+    ensures { IsTrue result → (slots_have_pawn (slots_of class) ≡ true) × (are_like_slots (slots_of class) ≡ false) }
+{
+    use Class::*;
+    match class {
+        KPK | KQPK | KRPK | KBPK | KNPK | KQKP | KRKP | KBKP | KNKP | KPKP => true,
+        _ => false,
+    }
+}
+
+/// The slot after the first whose man stands on the square, by the number.
+#[inline]
+fn slot_on(slots: &[Slot], n: u32, from: Square) -> Option<u32>
+    requires { AreSlots slots.now }
+    ensures { IfSome result (λ i. (1 ≤ i) × (i < length slots.now) × ((d : AMan) → (slice_index_or (told_men slots.now n) i d).at ≡ from)) }
+{
+    let from = u32::from(from.number());
+    match slots {
+        [_, _] => slot_if(n % 64 == from, 1, None),
+        [_, _, _] => {
+            let black = slot_if(n / 64 % 64 == from, 1, None);
+            slot_if(n % 64 == from, 2, black)
+        }
+        [_, _, _, _] => {
+            let black = slot_if(n / 64 / 64 % 64 == from, 1, None);
+            let third = slot_if(n / 64 % 64 == from, 2, black);
+            slot_if(n % 64 == from, 3, third)
+        }
+        _ => None,
+    }
+}
+
+#[inline]
+fn slot_if(here: bool, slot: u32, other: Option<u32>) -> Option<u32>
+    ensures { result ≡ (if here then Some slot else other) }
+{
+    if here { Some(slot) } else { other }
+}
+
+/// The number of the position with the men of another number, the man on `from` put on `to` and the other side to move,
+/// where no capture in passing is legal. Forwards it is the number after a move that takes no man and promotes none;
+/// backwards, the number before it.
+pub fn number_moved(class: Class, number: u32, from: Square, to: Square) -> u32
+    requires { number < cells_of class }
+    ensures { (p : Seen) → IsMoved class number from to p → index_of p ≡ result }
+{
+    let slots = slots(class);
+    let n = number % 16_777_216;
+    if adds_up(class) {
+        if let Some(slot) = slot_on(slots, n, from) {
+            return stepped(slots.len() as u32, n, slot, to);
+        }
+    }
+    match least_moved(slots, n, from, to) {
+        Some(least) => least,
+        None => 0,
+    }
+}

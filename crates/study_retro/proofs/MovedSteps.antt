@@ -1,0 +1,146 @@
+-- The numbers after a quiet move and before it.
+use Rattle.std.proofs.Common.{◌≡◌, ℕ, ◌<◌, ◌==◌, eqb, Bool, true, false, cond, ◌||◌, List, [], ◌∷◌, map, slice_index, Option, Some}
+use Rattle.std.proofs.Common.{refl, sym, ◌∙◌, ap, subst, arith}
+use Rattle.std.specs.List.{list_any}
+use Rattle.std.specs.List.Sorted.{IsPermutation}
+use Rattle.std.proofs.lemmas.Bool.{eqb-true}
+use Rattle.std.proofs.lemmas.Bool.Decides.{nat_tests}
+use Rattle.std.proofs.lemmas.List.Sorted.{IsPermutation-trans, IsPermutation-sym, IsPermutation-map}
+use Rattle.study_board.specs.declared.men.Side.{Side}
+use Rattle.study_board.specs.declared.men.Side.TheVariants.{White, Black}
+use Rattle.study_board.specs.declared.men.Man.{Man}
+use Rattle.study_board.specs.Men.{other_side}
+use Rattle.study_board.specs.Position.{Position, is_occupied}
+use Rattle.study_moves.specs.declared.moves.Move.{Move}
+use Rattle.study_moves.specs.Rules.{is_legal, after}
+use Rattle.study_moves.specs.Bare.{is_taken, is_live, without_passed}
+use Rattle.study_moves.specs.Quiet.{IsQuiet, LeadsQuietly}
+use Rattle.study_moves.proofs.AfterMove.{IsValid-after}
+use Rattle.study_material.specs.declared.class.Class.{Class}
+use Rattle.study_material.specs.Lists.{ordered}
+use Rattle.study_material.specs.Class.{lists_of, IsOf}
+use Rattle.study_material.proofs.Classes.{is_of-IsOf}
+use Rattle.study_index.specs.Number.{with_bit, without_bit, has_both_pawns, cells_of}
+use Rattle.study_index.specs.Decoded.{slots_of, told_men, told_side}
+use Rattle.study_index.specs.Found.{index_of, least_number, position_numbered}
+use Rattle.study_index.specs.Moved.{from_to, IsMoved}
+use Rattle.study_index.proofs.ClassLaws.{entry}
+use Rattle.study_index.proofs.ComputedIndex.{told_decoded}
+use Rattle.study_index.proofs.DecodedNumbers.{told_of}
+use Rattle.study_index.proofs.LivePassing.{not_live_passed}
+use Rattle.study_retro.specs.Table.{Table}
+use Rattle.study_retro.specs.Cells.{value_of}
+use Rattle.study_retro.specs.ClassGame.{class_game}
+use Rattle.study_retro.specs.Numbered.{IsNumberedClass, label_by}
+use Rattle.study_retro.proofs.ClassLemmas.{label-home}
+use Rattle.study_retro.proofs.QuietClass.{quiet_men, quiet_lists, unpassing}
+use Rattle.study_retro.proofs.QuietSteps.{other_turn, dead_of}
+use Rattle.study_retro.proofs.EarlierChess.{lands_home, numbered_index}
+
+-- a man that moves to an empty square and back
+man_back : (x a : ℕ) (m : Man) → (m.at == a) ≡ false → from_to a x (from_to x a m) ≡ m
+man_back x a m e = by_test (m.at == x) refl
+  where
+    by_test : (b : Bool) → (m.at == x) ≡ b → from_to a x (cond b (let r : Man = record { side = m.side; kind = m.kind; at = a } in r) m) ≡ m
+    by_test true t =
+        let same : eqb a a ≡ true = grind (arith, nat_tests) in
+        let at : x ≡ m.at = sym (eqb-true m.at x t) in
+        rw same (ap (λ (y : ℕ). let r : Man = record { side = m.side; kind = m.kind; at = y } in r) at)
+    by_test false t = rw e refl
+
+men_back : (x a : ℕ) (ms : List Man) → is_occupied ms a ≡ false → map (from_to a x) (map (from_to x a) ms) ≡ ms
+unfolding is_occupied
+men_back x a [] e = refl
+men_back x a (m ∷ ms) e = by_test (m.at == a) refl e (men_back x a ms)
+  where
+    by_test : (b : Bool) → (m.at == a) ≡ b → (b || list_any (λ y. y.at == a) ms) ≡ false
+        → (list_any (λ y. y.at == a) ms ≡ false → map (from_to a x) (map (from_to x a) ms) ≡ ms)
+        → from_to a x (from_to x a m) ∷ map (from_to a x) (map (from_to x a) ms) ≡ m ∷ ms
+    by_test true t o f = absurd (let no : true ≡ false = o in cc)
+    by_test false t o f =
+        ap (λ (z : Man). z ∷ map (from_to a x) (map (from_to x a) ms)) (man_back x a m t) ∙ ap (λ (zs : List Man). m ∷ zs) (f o)
+
+other_again : (s : Side) → other_side (other_side s) ≡ s
+other_again White = refl
+other_again Black = refl
+
+-- the number tells nothing of a passed square on which no capture is legal
+plain_index : (x y : Position) → is_live x ≡ false → is_live y ≡ false → without_passed x ≡ without_passed y → index_of x ≡ index_of y
+unfolding index_of least_number
+plain_index x y d e s =
+    ap (λ (b : Bool). with_bit b (least_number x)) d ∙ ap (λ (z : Position). least_number z) s ∙ sym (ap (λ (b : Bool). with_bit b (least_number y)) e)
+
+module _ (c : Class) (n : ℕ) (q : Position) (at : position_numbered c n ≡ Some q) where
+  -- the position before a quiet move
+  pub moved_before : (r : Position) (m : Move) → LeadsQuietly r m q → IsMoved c n m.target m.origin r
+  moved_before r m b =
+      let t = told_of c n q (told_decoded c n q at) in
+      let f = from_to m.origin m.target in
+      let g = from_to m.target m.origin in
+      let told = told_men (slots_of c) (without_bit n) in
+      let men : (after r m).men ≡ q.men = ap (λ (p : Position). p.men) b.leads in
+      let turn : (after r m).to_move ≡ q.to_move = ap (λ (p : Position). p.to_move) b.leads in
+      let moved : IsPermutation (map f r.men) q.men =
+      subst (λ (zs : List Man). IsPermutation (map f r.men) zs) men
+      (quiet_men r m b.valid b.legal (unpassing r m b.valid b.legal b.unpassed) b.quiet) in
+      let to : IsPermutation (map f r.men) told = IsPermutation-trans (map f r.men) q.men told moved (IsPermutation-sym told q.men t.same_men) in
+      let other : other_side r.to_move ≡ told_side (slots_of c) (without_bit n) = sym (other_turn r m b.legal) ∙ (turn ∙ t.same_side) in
+      record {
+        valid = b.valid;
+        men = subst (λ (zs : List Man). IsPermutation zs (map g told)) (men_back m.origin m.target r.men b.quiet.0)
+            (IsPermutation-map g (map f r.men) told to);
+        to_move = sym (other_again r.to_move) ∙ ap (λ s. other_side s) other;
+        dead = ap (λ (o : Option ℕ). is_taken r o) b.unpassed;
+      }
+
+  module _ (single : has_both_pawns (lists_of c) ≡ false) where
+    -- it leads to the number, where one side alone has pawns
+    pub lands_there : (r : Position) (m : Move) → LeadsQuietly r m q → index_of (after r m) ≡ n
+    lands_there r m b =
+        let d = told_decoded c n q at in
+        plain_index (after r m) q
+        (dead_of c (after r m) (IsValid-after r m b.valid b.legal) (lands_home c n q r m at b) single)
+        (dead_of c q d.valid (entry c n q d).of_class single) b.leads
+        ∙ numbered_index c n q at
+
+    module _ (m : Move) (legal : is_legal q m ≡ true) (quiet : IsQuiet q m) where
+      quiet_stays : IsOf c (after q m)
+      quiet_stays =
+          let d = told_decoded c n q at in
+          let read = entry c n q d in
+          let no_passing = unpassing q m d.valid legal (not_live_passed q read.is_bare (dead_of c q d.valid read.of_class single)) in
+          read.of_class ∙ ap (λ l. ordered l) (sym (quiet_lists q m d.valid legal no_passing quiet))
+
+      -- the position after a quiet move
+      pub moved_after : IsMoved c n m.origin m.target (after q m)
+      moved_after =
+          let d = told_decoded c n q at in
+          let t = told_of c n q d in
+          let read = entry c n q d in
+          let no_passing = unpassing q m d.valid legal (not_live_passed q read.is_bare (dead_of c q d.valid read.of_class single)) in
+          let w = IsValid-after q m d.valid legal in
+          let told = told_men (slots_of c) (without_bit n) in
+          let f = from_to m.origin m.target in
+          let moved = quiet_men q m d.valid legal no_passing quiet in
+          record {
+            valid = w;
+            men = IsPermutation-trans (after q m).men (map f q.men) (map f told) (IsPermutation-sym (map f q.men) (after q m).men moved)
+                (IsPermutation-map f q.men told (IsPermutation-sym told q.men t.same_men));
+            to_move = other_turn q m legal ∙ ap (λ s. other_side s) t.same_side;
+            dead = dead_of c (after q m) w quiet_stays single;
+          }
+
+      module _ (held : List (Option Table)) (laws : IsNumberedClass (class_game c held)) (cells : List ℕ) (k : ℕ) (is : index_of (after q m) ≡ k) where
+        -- its number is below the cells of the class
+        pub quiet_below : k < cells_of c
+        quiet_below =
+            let d = laws.decoded n q at in
+            let known = laws.closed q (after q m) d.0 d.1 (m, legal, refl) in
+            let s = laws.numbered (after q m) known (is_of-IsOf c (after q m) quiet_stays) in
+            subst (λ (j : ℕ). j < cells_of c) is (laws.below (index_of (after q m)) s.0 s.1)
+
+        -- and its cell tells its value
+        pub quiet_label : value_of (slice_index cells k) ≡ label_by (class_game c held) cells (after q m)
+        quiet_label =
+            sym (label-home laws cells (after q m) (is_of-IsOf c (after q m) quiet_stays)
+            ∙ ap (λ (j : ℕ). value_of (slice_index cells j)) is)
