@@ -455,6 +455,37 @@ fn refusals(rt: HostRuntime) {
     assert_eq!(rt; bench.size(), 2);
 }
 
+/// Moves that are not in the tree have the marks that they have once they are inserted; one value is asked for each, and nothing changes.
+#[test]
+fn marks_of_moves_not_in_the_tree(rt: HostRuntime) {
+    let alloc = rt.alloc();
+    let mut values = tables(&rt, &alloc, [Class::KK, Class::KQK].as_slice());
+    let first = start(&rt, "k7/8/1K6/8/8/8/8/6Q1 w - - 0 1");
+    let mut bench = Bench::new(&alloc, first, WHITE_WINS, &mut values)
+        .ok()
+        .expect(&rt, "a bench");
+    let root = Path::root(&alloc);
+    let asked = values.asked().saturating_add(3);
+    let mate = told(Value::Loss(0), Some(MoveMark::Dual(21)), 1);
+    let stalemate = told(Value::Draw, Some(MoveMark::Mistake), 1);
+    let slow = told(Value::Loss(4), Some(MoveMark::Dual(21)), 1);
+    assert!(rt; bench.mark_of(&root, moved(6, 62), &mut values).ok() == Some(mate));
+    assert!(rt; bench.mark_of(&root, moved(6, 15), &mut values).ok() == Some(stalemate));
+    assert!(rt; bench.mark_of(&root, moved(41, 42), &mut values).ok() == Some(slow));
+    assert_eq!(rt; (bench.size(), values.asked()), (1, asked));
+    assert!(rt; bench.insert(&root, moved(6, 54), &mut values).ok() == Some(0));
+    let reply = told(Value::Win(1), Some(MoveMark::Reply), 0);
+    let child = path(&rt, &alloc, &[0]);
+    assert!(rt; bench.mark_of(&child, moved(56, 57), &mut values).ok() == Some(reply));
+    let again = told(Value::Loss(2), Some(MoveMark::Dual(21)), 1);
+    assert!(rt; bench.mark_of(&root, moved(6, 54), &mut values).ok() == Some(again));
+    let foul = bench.mark_of(&child, moved(56, 48), &mut values);
+    assert!(rt; matches!(foul, Err(Refusal::IllegalMove)));
+    let missing = path(&rt, &alloc, &[1]);
+    let nowhere = bench.mark_of(&missing, moved(6, 62), &mut values);
+    assert!(rt; matches!(nowhere, Err(Refusal::NoSuchNode)));
+}
+
 /// A tag is told as it was given, and one that is refused stays unknown.
 #[test]
 fn tags(rt: HostRuntime) {

@@ -22,3 +22,4 @@ pub mod EditLists
 pub mod FaultsOfBlocks
 pub mod DualCounts
 pub mod FaultsTold
+pub mod TrialMoves

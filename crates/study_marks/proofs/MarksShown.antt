@@ -180,7 +180,7 @@ mark_of-opponent true after n k = refl
 mark_of-opponent false true n k = refl
 mark_of-opponent false false n k = refl
 
-kept-move : (a : Aim) (d : ℕ) (q : Told) (all : List Value) (w : Value) → q.tally ≡ tally_of all → kept_mark a d q w ≡ move_mark a d q.value all w
+pub kept-move : (a : Aim) (d : ℕ) (q : Told) (all : List Value) (w : Value) → q.tally ≡ tally_of all → kept_mark a d q w ≡ move_mark a d q.value all w
 kept-move a d q all w e = go (hero_moves a d) refl
   where
     held : ℕ

@@ -86,6 +86,10 @@ faults_below hero (more m l b r) = l.faults + (if hero then 0 else all_faults r)
 abbrev pub own : Aim → ℕ → Told → Value → ℕ
 own a d q v = own_faults (hero_moves a d) (Some (kept_mark a d q v))
 
+-- the mark of a new node, by what is kept at the node before it
+abbrev pub moved_mark : Aim → ℕ → Told → Value → Mark
+moved_mark a d q v = record { value = v; on_move = Some (kept_mark a d q v); faults = own a d q v }
+
 abbrev pub AddUp : Aim → ℕ → Told → Forest Label → Type 0
 AddUp a d q none = Unit {0}
 AddUp a d q (more m l b r) =

@@ -32,12 +32,11 @@ use crate::marking::aim_of;
 use crate::stipulation::Stipulation;
 use crate::tag::{TagName, tag_place};
 use crate::treework::{add_and_renew, raise_and_renew, remove_and_renew};
-use crate::walk::position_at as node_position;
 use crate::whole::{find_broken, write_all};
 use arrayvec::{ArrayString, ArrayVec};
 use std::alloc::Allocator;
 use study_board::Position;
-use study_moves::{Move, is_legal, played};
+use study_moves::{Move, played};
 use study_notation::Start;
 use study_prober::Values;
 use study_tree::{MAX_DEPTH, MAX_NODES, Path, Tree};
@@ -291,13 +290,7 @@ impl<'a, A: Allocator> Bench<'a, A> {
         ensures refusal { MatchOption (insert_refusal (plain_study (marked self.now)) steps.now m.now) (IsOk result) (λ fault. result ≡ Err fault) }
         ensures position { IfOk result (λ p. p ≡ position_at self.now.study steps.now) }
     {
-        if steps.len() > MAX_DEPTH || self.tree.node(steps).is_none() {
-            return Err(Refusal::NoSuchNode);
-        }
-        let before = node_position(&self.start.position, &self.tree, steps);
-        if !is_legal(&before, *m) {
-            return Err(Refusal::IllegalMove);
-        }
+        let before = self.check_move(steps, m)?;
         if let Some(place) = find_child(&self.tree, steps, m) {
             return Err(Refusal::AlreadyThere(place));
         }

@@ -21,6 +21,7 @@ mod stipulation;
 mod tag;
 mod tally;
 mod treework;
+mod trial;
 mod walk;
 mod whole;
 

@@ -1,0 +1,129 @@
+-- A move tried at a node: why it is refused, and the mark that it would have.
+use Rattle.std.proofs.Common.{◌≡◌, ℕ, ◌+◌, List, [], ◌∷◌, length, Bool, true, false, Option, Some, None, zero, suc, Result, Ok, Err, IsOk, IsErrAnd, IfErr}
+use Rattle.std.proofs.Common.{is_ok, refl, sym, ap, ◌∙◌, arith, subst, IsTrue}
+use Rattle.std.specs.Prelude.{if◌then◌else◌, not, nat_le, MatchOption}
+use Rattle.std.proofs.lemmas.Bool.{false≢true}
+use Rattle.study_board.specs.Position.{Position}
+use Rattle.study_moves.specs.declared.moves.Move.{Move}
+use Rattle.study_moves.specs.Rules.{is_legal, after}
+use Rattle.study_retro.specs.declared.value.Value.{Value}
+use Rattle.study_retro.specs.Game.{IsValueOf}
+use Rattle.study_tree.specs.Forest.{Forest, none, more}
+use Rattle.study_tree.specs.Edits.{has_node}
+use Rattle.study_tree.specs.Tree.{Plain, Spot, has_spot, spot_at, size_of}
+use Rattle.study_marks.specs.declared.label.Label.{Label}
+use Rattle.study_marks.specs.declared.label.Told.{Told}
+use Rattle.study_marks.specs.declared.mark.Mark.{Mark}
+use Rattle.study_marks.specs.declared.fault.Refusal.{Refusal}
+use Rattle.study_marks.specs.declared.fault.Refusal.TheVariants as refusal
+use Rattle.study_marks.specs.Study.{plain_study, mapped, moves_to, position_after, position_at, place_at}
+use Rattle.study_marks.specs.Edits.{Plainly, insert_refusal}
+use Rattle.study_marks.specs.Goals.{aim_of}
+use Rattle.study_marks.specs.Annotated.{AreAnnotated}
+use Rattle.study_marks.specs.Kept.{Kept, marked, kept_mark, own, moved_mark, IsKeptRight}
+use Rattle.study_marks.specs.Told.{IsToldOf, AreTold}
+use Rattle.study_marks.specs.Renewal.{told_at}
+use Rattle.study_marks.specs.Trial.{trial_refusal, IsMarkOf}
+use Rattle.study_marks.proofs.SameShape.{has_node-mapped, moves_to-mapped}
+use Rattle.study_marks.proofs.BenchEdits.{bare-marked}
+use Rattle.study_marks.proofs.MarksShown.{AllAreTold-right, kept-move}
+use Rattle.study_marks.proofs.ChildrenChanged.{told-spot}
+use Rattle.study_marks.proofs.PathRenewed.{there-spot}
+use Rattle.study_marks.proofs.Readers.{shown-spot}
+use Rattle.study_marks.proofs.InsertedMoves.{position-marked, chosen}
+use Rattle.study_marks.specs.Bench.{on_move_of}
+
+-- the first reason, by what is asked in turn
+abbrev pub tried : {A : Type 0} → Bool → Bool → Option (Refusal A)
+tried found legal = if not found then Some refusal.NoSuchNode else (if not legal then Some refusal.IllegalMove else None)
+
+tried-same : {A : Type 0} (found found' legal legal' : Bool) → found ≡ found' → legal ≡ legal' → tried {A = A} found legal ≡ tried found' legal'
+tried-same {A = A} found found' legal legal' a b = ap (λ x. tried {A = A} x legal) a ∙ ap (tried {A = A} found') b
+
+pub trial-reason : {A : Type 0} (b k : Kept) (steps : List ℕ) (m : Move) (found legal : Bool) → b ≡ k → has_spot b.study.tree steps ≡ found
+    → is_legal (position_after b.study.start.position (moves_to b.study.tree.below steps)) m ≡ legal
+    → trial_refusal {A = A} (plain_study (marked k)) steps m ≡ tried found legal
+trial-reason {A = A} b k steps m found legal same e l =
+    let p = b.study.start.position in
+    ap (λ (x : Kept). trial_refusal {A = A} (plain_study (marked x)) steps m) (sym same)
+    ∙ ap (λ (t : Plain (Unit {0})). tried {A = A} (has_spot t steps) (is_legal (position_after p (moves_to t.below steps)) m)) (bare-marked b)
+    ∙ tried-same _ found _ legal (has_node-mapped (λ (x : Label). tt {0}) b.study.tree.below steps ∙ e)
+    (ap (λ ms. is_legal (position_after p ms) m) (moves_to-mapped (λ (x : Label). tt {0}) b.study.tree.below steps) ∙ l)
+
+-- a reason told at the steps of a path is one at the path
+pub refused-first : {A T U : Type 0} (reason : List ℕ → Option (Refusal A)) (steps path : List ℕ) (r : Result T (Refusal A)) (f : Refusal A)
+    (answer : Result U (Refusal A)) (P : Type 0) → steps ≡ path → r ≡ Err f → MatchOption (reason steps) (IsOk r) (λ g. r ≡ Err g)
+    → IsErrAnd answer (λ x. x ≡ f) → MatchOption (reason path) P (λ g. answer ≡ Err g)
+refused-first {A = A} {U = U} reason steps path r f answer P way e h a =
+    subst (λ p. MatchOption (reason p) P (λ g. answer ≡ Err g)) way (go (reason steps) h)
+  where
+    told : (x : Refusal A) (q : Result U (Refusal A)) → IsErrAnd q (λ y. y ≡ x) → q ≡ Err x
+    told x (Ok u) h = absurd h
+    told x (Err y) h = ap Err h
+
+    go : (o : Option (Refusal A)) → MatchOption o (IsOk r) (λ g. r ≡ Err g) → MatchOption o P (λ g. answer ≡ Err g)
+    go None h = absurd (false≢true (sym (ap is_ok e) ∙ h))
+    go (Some g) h = let one : f ≡ g = (let two : Err f ≡ Err g = sym e ∙ h in cc) in told f answer a ∙ ap Err one
+
+pub not-refused : {A T : Type 0} (reason : List ℕ → Option (Refusal A)) (steps path : List ℕ) (r : Result T (Refusal A)) (x : T) → steps ≡ path
+    → r ≡ Ok x → MatchOption (reason steps) (IsOk r) (λ g. r ≡ Err g) → reason path ≡ None
+not-refused {A = A} reason steps path r x way e h = ap reason (sym way) ∙ go (reason steps) h
+  where
+    go : (o : Option (Refusal A)) → MatchOption o (IsOk r) (λ g. r ≡ Err g) → o ≡ None
+    go None h = refl
+    go (Some f) h = let no : Ok x ≡ Err f = sym e ∙ h in absurd cc
+
+-- a reason not to try a move is one not to insert it
+pub insert-first : {A : Type 0} (s : Plainly) (steps : List ℕ) (m : Move) (f : Refusal A) → trial_refusal s steps m ≡ Some f
+    → insert_refusal s steps m ≡ Some f
+insert-first s steps m f e = go (has_spot s.tree steps) (is_legal (position_at s steps) m) e
+  where
+    go : (found legal : Bool) → tried found legal ≡ Some f
+        → chosen found legal (place_at s.tree.below steps m) (nat_le 256 (length steps)) (nat_le 4096 (size_of s.tree)) ≡ Some f
+    go false legal h = h
+    go true false h = h
+    go true true h = let no : None ≡ Some f = h in absurd cc
+
+pub refused-next : {A T U : Type 0} (reason next : Option (Refusal A)) (r : Result T (Refusal A)) (f : Refusal A) (answer : Result U (Refusal A))
+    (P : Type 0) → ((g : Refusal A) → reason ≡ Some g → next ≡ Some g) → r ≡ Err f → MatchOption reason (IsOk r) (λ g. r ≡ Err g)
+    → IsErrAnd answer (λ x. x ≡ f) → MatchOption next P (λ g. answer ≡ Err g)
+refused-next {A = A} {U = U} None next r f answer P on e h a = absurd (false≢true (sym (ap is_ok e) ∙ h))
+refused-next {A = A} {U = U} (Some g) next r f answer P on e h a =
+    subst (λ o. MatchOption o P (λ x. answer ≡ Err x)) (sym (on g refl))
+    (let one : f ≡ g = (let two : Err f ≡ Err g = sym e ∙ h in cc) in told f answer a ∙ ap Err one)
+  where
+    told : (x : Refusal A) (q : Result U (Refusal A)) → IsErrAnd q (λ y. y ≡ x) → q ≡ Err x
+    told x (Ok u) k = absurd k
+    told x (Err y) k = ap Err k
+
+-- what is told at a node is of its position
+told-node : (p : Position) (q : Told) (f : Forest Label) (ks : List ℕ) → IsToldOf p q → AreTold p (mapped (λ l. l.told) f) → IsTrue (has_node f ks)
+    → IsToldOf (position_after p (moves_to f ks)) (told_at q f ks)
+told-node p q f [] h t n = h
+told-node p q none (k ∷ ks) h t n = absurd (false≢true n)
+told-node p q (more m l b r) (zero ∷ ks) h t n = told-node (after p m) l.told b ks t.0 t.1 n
+told-node p q (more m l b r) (suc k ∷ ks) h t n = told-node p q r (k ∷ ks) h t.2 n
+
+-- the mark of the move, by what is kept at the node
+pub tried-mark : (k : Kept) (steps : List ℕ) (m : Move) (w : Value) (mark : Mark) (s : Spot Label) → spot_at k.study.tree steps ≡ Some s
+    → mark ≡ moved_mark (aim_of k.study) (length steps) s.label.told w → IsValueOf (after (position_at (marked k) steps) m) w → IsKeptRight k
+    → IsMarkOf (marked k) steps m mark
+tried-mark k steps m w mark s there is game right = λ x seen.
+    let t = k.study.tree in
+    let a = aim_of k.study in
+    let q = s.label.told in
+    let d = length steps in
+    let p = position_at (marked k) steps in
+    let old = AllAreTold-right k right in
+    let kept : IsToldOf (position_at k.study steps) (told_at t.label.told t.below steps) =
+    told-node k.study.start.position t.label.told t.below steps old.0 old.1 (there-spot t steps s there) in
+    let told : IsToldOf p q = subst (λ (y : Position). IsToldOf y q) (position-marked k k steps steps refl refl)
+    (subst (λ (u : Told). IsToldOf (position_at k.study steps) u) (told-spot t steps s there) kept) in
+    let value : q.value ≡ x.label.value = same-value _ x (shown-spot k steps s (on_move_of (spot_at (marked k).tree steps)) there refl ∙ seen) in
+    let none_more : own a d q w ≡ own a d q w + 0 = omega arith in
+    subst (λ (y : Mark). AreAnnotated a d p x.label.value (more m y none none)) (sym is)
+    (subst (λ (v : Value). AreAnnotated a d p v (more m (moved_mark a d q w) none none)) value
+    (game, (kept_mark a d q w, refl, (told.1.0, told.1.1, kept-move a d q told.1.0 w told.1.2)), none_more, tt, tt))
+  where
+    same-value : (y x : Spot Mark) → Some y ≡ Some x → y.label.value ≡ x.label.value
+    same-value y x e = ap (λ (z : Spot Mark). z.label.value) (let one : y ≡ x = cc in one)
