@@ -23,4 +23,3 @@ pub use laws::{
 pub use least::index;
 pub use moved::number_moved;
 pub use reading::{cells, decode};
-pub use stepped::number_after;

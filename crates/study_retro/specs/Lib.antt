@@ -13,4 +13,3 @@ pub mod Back
 pub mod Before
 pub mod Numbered
 pub mod ClassGame
-pub mod Steps

@@ -50,6 +50,7 @@ pub trait SteppedGame: Game {
         requires laws { IsNumberedClass (Self.numbered self.now) }
         requires number { number < (Self.numbered self.now).size }
         requires cells { length cells.now ≡ (Self.numbered self.now).size }
-        ensures yes { IsTrue result → (p : Self.Position) × ((Self.numbered self.now).position number ≡ Some p) × LosesBy (Self.numbered self.now) cells.now level p }
+        ensures yes { IsTrue result → (p : Self.Position) × ((Self.numbered self.now).position number ≡ Some p)
+            × LosesBy (Self.numbered self.now) cells.now level p }
         ensures no { result ≡ false → NoLossBy (Self.numbered self.now) cells.now level number };
 }
