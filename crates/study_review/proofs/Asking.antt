@@ -9,15 +9,18 @@ use Rattle.study_prober.specs.declared.values.ProbeFault.TheVariants as probe
 use Rattle.study_marks.specs.Answers.{WereTold, IsFirstFault}
 use Rattle.study_marks.specs.Told.{failures_told}
 use Rattle.study_review.specs.Asked.{HasTold, AllTold, Stopped}
-use Rattle.study_review.specs.Made.{HasAsked}
+use Rattle.study_review.specs.Made.{HasAsked, fault_of}
+use Rattle.study_review.specs.Review.{HasReviewed}
+use Rattle.study_review.specs.declared.fault.ReviewFault.{ReviewFault}
+use Rattle.study_review.specs.declared.fault.ReviewFault.TheVariants as fault
 use Rattle.study_review.specs.declared.fault.NotMade.{NotMade}
 use Rattle.study_review.specs.declared.fault.NotMade.TheVariants.{OutOfMemory, Untold}
 use Rattle.study_review.proofs.AskedSteps.{told-none, told-then, fault-then}
 
-same-failures : {T U : Type 0} (f : ProbeFault) (n : ℕ) → failures_told {T = T} (Err f) n ≡ failures_told {T = U} (Err f) n
-same-failures (probe.NoTable c) n = refl
-same-failures (probe.TableRead f) n = refl
-same-failures (probe.PageDamaged c k) n = refl
+same-failures : (T U : Type 0) (f : ProbeFault) (n : ℕ) → failures_told {T = T} (Err f) n ≡ failures_told {T = U} (Err f) n
+same-failures T U (probe.NoTable c) n = refl
+same-failures T U (probe.TableRead f) n = refl
+same-failures T U (probe.PageDamaged c k) n = refl
 
 module _ {V : Type 0} (held : V → Class → Bool) (gives : V → Position → ProbeAnswer → Type 0)
     (may_fail : V → Class → SourceFault → Type 0) (asked_of failed_of : V → ℕ) (is_honest : V → Type 0) where
@@ -66,25 +69,41 @@ module _ {V : Type 0} (held : V → Class → Bool) (gives : V → Position → 
   pub no-memory : {T : Type 0} (old new : V) (r : Result T NotMade) → IsErrAnd r (λ x. x ≡ OutOfMemory) → Told old new → Asks old r new
   no-memory {T = T} old new r is h = same-asks {T = T} old new r OutOfMemory is h
 
-  pub all-told : {T : Type 0} (old new : V) (r : Result T NotMade) → Told old new → ((f : ProbeFault) → IsErrAnd r (λ x. x ≡ Untold f) → ⊥) → Asks old r new
-  all-told old new (Ok x) h no = h
-  all-told old new (Err OutOfMemory) h no = h
-  all-told old new (Err (Untold f)) h no = absurd (no f refl)
-
   -- what the answers of a call say
-  pub of-told : {T : Type 0} (old new : V) → ((asked : List Position) × WereTold gives may_fail asked_of old asked new)
+  pub of-told : (old new : V) → ((asked : List Position) × WereTold gives may_fail asked_of old asked new)
       → failed_of new ≡ failed_of old → (is_honest old → is_honest new) → ((c : Class) → held new c ≡ held old c) → Told old new
   of-told old new h n i t = record { told = h; failures = n; honest = i; tables = t }
 
-  pub of-fault : {T : Type 0} (old new : V) (f : ProbeFault) → ((asked : List Position) × IsFirstFault gives may_fail asked_of old asked f new)
+  pub of-fault : (T : Type 0) (old new : V) (f : ProbeFault) → ((asked : List Position) × IsFirstFault gives may_fail asked_of old asked f new)
       → ((c : Class) → f ≡ probe.NoTable c → held old c ≡ false) → (is_honest old → IsNotDamage f)
       → failed_of new ≡ failures_told {T = T} (Err f) (failed_of old) → (is_honest old → is_honest new)
       → ((c : Class) → held new c ≡ held old c) → Stops old f new
-  of-fault {T = T} old new f h u d n i t = record {
+  of-fault T old new f h u d n i t = record {
     told = h;
     untold = u;
     no_damage = d;
-    failures = n ∙ same-failures {T = T} {U = Unit {0}} f (failed_of old);
+    failures = n ∙ same-failures T (Unit {0}) f (failed_of old);
     honest = i;
     tables = t;
   }
+
+  -- an error without a value
+  pub re-asks : (T U : Type 0) (old new : V) (e : NotMade) → Asks {T = T} old (Err e) new → Asks {T = U} old (Err e) new
+  re-asks T U old new OutOfMemory h = h
+  re-asks T U old new (Untold f) h = h
+
+  abbrev pub Reviews : {T : Type 0} → V → Result T ReviewFault → V → Type 0
+  Reviews {T = T} old r new = HasReviewed held gives may_fail asked_of failed_of is_honest {T = T} old r new
+
+  same-reviews : {T : Type 0} (old new : V) (r : Result T ReviewFault) (x : ReviewFault) → IsErrAnd r (λ y. y ≡ x)
+      → Reviews {T = T} old (Err x) new → Reviews old r new
+  same-reviews old new (Ok y) x is h = absurd is
+  same-reviews {T = T} old new (Err y) x is h = subst (λ (z : ReviewFault). Reviews {T = T} old (Err z) new) (sym is) h
+
+  pub review-stops : (U : Type 0) {T : Type 0} (old new : V) (r : Result T ReviewFault) (e : NotMade) → IsErrAnd r (λ x. x ≡ fault_of e)
+      → Asks {T = U} old (Err e) new → Reviews old r new
+  review-stops U old new r OutOfMemory is h = same-reviews old new r fault.OutOfMemory is h
+  review-stops U old new r (Untold f) is h = same-reviews old new r (fault.Values f) is h
+
+  pub review-fails : {T : Type 0} (old new : V) (r : Result T ReviewFault) → IsErrAnd r (λ x. x ≡ fault.Device) → Told old new → Reviews old r new
+  review-fails old new r is h = same-reviews old new r fault.Device is h

@@ -17,3 +17,5 @@ pub mod WrittenOrder
 pub mod NodesShown
 pub mod NodesTold
 pub mod OneReview
+pub mod TextGrows
+pub mod WholeReview

@@ -1,6 +1,7 @@
 -- What a node shows.
-use Rattle.std.proofs.Common.{◌≡◌, ℕ, ◌+◌, suc, zero, Bool, true, false, not, ◌&&◌, List, [], ◌∷◌, ◌++◌, refl, sym, ap, ◌∙◌, subst, arith}
+use Rattle.std.proofs.Common.{◌≡◌, ◌==◌, ℕ, ◌+◌, suc, zero, Bool, true, false, not, ◌&&◌, List, [], ◌∷◌, ◌++◌, refl, sym, ap, ◌∙◌, subst, arith}
 use Rattle.std.proofs.lemmas.List.{append-nil}
+use Rattle.std.proofs.lemmas.Bool.{ne_eqb}
 use Rattle.study_tree.specs.Forest.{Forest, none, more}
 use Rattle.study_tree.specs.Edits.{node_in, width}
 use Rattle.study_tree.specs.Tree.{Plain, spot_at, twig_spot}
@@ -48,13 +49,16 @@ idle-last t steps front k e =
     ap (none_idle t.below) e ∙ idle-more t.below front k
     ∙ ap (λ o. none_idle t.below front && not (is_idle (on_move_of o))) (sym (ap (spot_at t) e ∙ spot_last t front k))
 
-pub none-narrow : {L : Type 0} (f : Forest L) → width f ≡ 0 → has_none f ≡ true
-none-narrow none h = refl
-none-narrow (more m l b r) h = absurd (omega (arith, h))
+pub not-zero : (n : ℕ) → (n ≡ 0 → ⊥) → (n == 0) ≡ false
+not-zero n h = ne_eqb n 0 h
 
-pub none-wide : {L : Type 0} (f : Forest L) → (width f ≡ 0 → ⊥) → has_none f ≡ false
-none-wide none h = absurd (h refl)
-none-wide (more m l b r) h = refl
+none-narrow : {L : Type 0} (f : Forest L) → (width f == 0) ≡ has_none f
+none-narrow none = refl
+none-narrow (more m l b r) = not-zero (width (more m l b r)) (λ e. absurd (omega (arith, e)))
+
+-- a node has no child where it has so many, and these are none
+pub none-counted : {L : Type 0} (f : Forest L) (n : ℕ) → width f ≡ n → (n == 0) ≡ has_none f
+none-counted f n e = ap (λ k. k == 0) (sym e) ∙ none-narrow f
 
 -- lines that there are, and that there are not
 pub not-there : (b : Bool) (Lines : List ℕ → Type 0) (text : List ℕ) → b ≡ false → Grew (OnlyWhere b Lines) text text

@@ -67,7 +67,7 @@ module _ (s : Study Mark) (path : List ℕ) where
         (d.0, alternatives-at d.0 d.1, d.2 ∙ ap (λ (p : Position). dual_line path p x.played v k (times_lost d.0)) position-before)
 
     -- a fault of the solution, by its mark
-    fault-of : (mark : Option MoveMark) (old new : List ℕ) → is_solution_move s path ≡ true → mark ≡ mark_at s path
+    pub fault-of : (mark : Option MoveMark) (old new : List ℕ) → is_solution_move s path ≡ true → mark ≡ mark_at s path
         → Grew (IsFaultOf s path x.played mark) old new → Grew (FaultLines s path) old new
     fault-of mark old new so e grew =
         are-there (is_solution_move s path) _ old new so (
@@ -100,8 +100,16 @@ module _ (s : Study Mark) (path : List ℕ) where
   -- no lines of a move where there is none
   pub no-also : (text : List ℕ) → is_dual (mark_at s path) ≡ true → played_by (spot_at s.tree path) ≡ None → Grew (AlsoLines s path) text text
   no-also text dual e =
+      let nothing : List ℕ = [] in
       are-there (is_dual (mark_at s path)) _ text text dual
-      ([], subst (λ (o : Option Move). MatchOption o ([] ≡ []) (λ m. AreAlso s path m [])) (sym e) refl, sym (append-nil text))
+      (nothing, subst (λ (o : Option Move). MatchOption o (nothing ≡ nothing) (λ m. AreAlso s path m nothing)) (sym e) refl, sym (append-nil text))
+
+  pub no-fault : (text : List ℕ) → is_solution_move s path ≡ true → played_by (spot_at s.tree path) ≡ None → Grew (FaultLines s path) text text
+  no-fault text so e =
+      let nothing : List ℕ = [] in
+      are-there (is_solution_move s path) _ text text so
+      (nothing, subst (λ (o : Option Move). MatchOption o (nothing ≡ nothing) (λ m. IsFaultOf s path m (mark_at s path) nothing)) (sym e) refl,
+      sym (append-nil text))
 
   module _ (x : Place) (h : IsPlaceOf s path x) where
     pub refuted-told : (list : List Continuation) (old new : List ℕ) → is_try s path ≡ true → AreRefutations x.aim x.depth x.position list

@@ -1,5 +1,5 @@
 -- Lines of nodes in written order.
-use Rattle.std.proofs.Common.{◌≡◌, ℕ, ◌+◌, ◌≤◌, ◌<◌, suc, zero, true, List, [], ◌∷◌}
+use Rattle.std.proofs.Common.{◌≡◌, ℕ, ◌+◌, ◌==◌, ◌&&◌, ◌≤◌, ◌<◌, suc, zero, Bool, true, List, [], ◌∷◌}
 use Rattle.std.proofs.Common.{◌++◌, Option, Some, None, refl, sym, ap, subst, ◌∙◌, append_assoc, add-one, arith}
 use Rattle.std.specs.Prelude.{IsTrue}
 use Rattle.std.proofs.lemmas.List.{append-nil}
@@ -13,7 +13,9 @@ use Rattle.study_marks.proofs.ChildFound.{skipped-end}
 use Rattle.study_marks.proofs.PathRenewed.{there-spot}
 use Rattle.study_pgn.proofs.PathWalks.{spot_last, below_entered, fewer}
 use Rattle.study_review.specs.Made.{Grew}
-use Rattle.study_review.specs.Review.{paths_from, LinesOfEach}
+use Rattle.study_review.specs.Nodes.{has_none}
+use Rattle.study_review.specs.Review.{none_below, paths_from, LinesOfEach}
+use Rattle.study_review.proofs.NodesShown.{none-counted}
 
 module _ {L : Type 0} where
   -- a node at a place
@@ -22,6 +24,14 @@ module _ {L : Type 0} where
   node-here none k h = absurd (omega (arith, h))
   node-here (more m l b r) zero h = (record { played = m; label = l; below = b }, refl, refl)
   node-here (more m l b r) (suc k) h = node-here r k (let z : k < width r = omega (arith, h) in z)
+
+  -- no node from a place on has a node below it where the one at this place has none, nor those after it
+  pub none-here : (f : Forest L) (k next n : ℕ) (b : Bool) → k < width f → n ≡ width (below_at f (k ∷ [])) → next ≡ k + 1
+      → b ≡ none_below (skipped next f) → ((n == 0) && b) ≡ none_below (skipped k f)
+  none-here f k next n b lt e j h =
+      let x = node-here f k lt in
+      ap (λ c. c && b) (none-counted x.0.below n (sym (e ∙ ap width (below_entered f [] k x.0 x.1))))
+      ∙ ap (λ c. has_none x.0.below && c) (h ∙ ap (λ i. none_below (skipped i f)) (j ∙ add-one k)) ∙ sym (ap none_below x.2)
 
   pub there-child : (t : Plain L) (steps path : List ℕ) (k : ℕ) → path ≡ steps ++ k ∷ [] → k < width (below_at t.below steps) → IsTrue (has_spot t path)
   there-child t steps path k e h =

@@ -69,7 +69,7 @@ unfoldable pub play_line : List ℕ → Position → Value → List Continuation
 play_line path p v list = front_words (codes "play ") path ++ (value_words v ++ (play_words p list ++ codes "\n"))
 
 -- moves of one position, each behind a space
-abbrev pub move_words : Position → Continuation → List ℕ
+unfoldable pub move_words : Position → Continuation → List ℕ
 move_words p x = codes " " ++ move_text p x.played
 
 -- `keep 1.0.0 2 2 Ka5 Ka7`

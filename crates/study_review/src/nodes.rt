@@ -1,5 +1,5 @@
 //! The lines of one node.
-ghost use Rattle.std.specs.Prelude.{◌≡◌, ◌≤◌, true, length, IsTrue, OnOk};
+ghost use Rattle.std.specs.Prelude.{◌≡◌, ◌++◌, ◌+◌, ◌^◌, ◌<◌, ◌≤◌, true, length, IsTrue, OnOk};
 ghost use Rattle.std.specs.List.{All};
 ghost use Rattle.study_moves.specs.Rules.{is_legal};
 ghost use Rattle.study_tree.specs.Tree.{has_spot};
@@ -229,6 +229,8 @@ fn add_dual_fault<A: Allocator, V: Values>(
     told: (Value, u8),
     values: &mut V,
 ) -> Result<(), NotMade>
+    requires depth { made.now.before.depth + 1 < 2 ^ 64 }
+    requires legal { is_legal made.now.before.position made.now.played ≡ true }
     ensures text { V.is_honest values.old → OnOk result (Grew (IsDual steps.now
         made.now.before.aim made.now.before.depth made.now.before.line.items made.now.before.position made.now.played told.0 told.1) text.old text.new) }
     ensures asked { HasAsked V.held V.gives V.may_fail V.asked_of V.failed_of V.is_honest values.old result values.new }

@@ -80,6 +80,7 @@ fn hero_made(aim: &Aim, steps: &[u16]) -> bool
     }
 }
 
+#[tactic(auto, unfolding(crate::specs::Nodes::is_stalemate))]
 pub fn is_stalemate(p: &Position) -> bool
     ensures { result ≡ is_stalemate p.now }
 {

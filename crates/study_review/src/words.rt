@@ -297,6 +297,7 @@ pub fn add_play<A: Allocator>(
     text.add(b"\n")
 }
 
+#[tactic(auto, unfolding(crate::specs::Words::move_words))]
 fn add_move<A: Allocator>(
     text: &mut Text<'_, A>,
     p: &Position,

@@ -27,7 +27,7 @@ add_each-requires g t c κs within =
     let path : c.push.new.self.items ≡ steps ++ k ∷ [] =
     c.in_ok-push.ensures.items ∙ ap (λ (st : List ℕ). st ++ k ∷ []) c.loop-place.invariant.back in
     let lt : k < width (below_at tree.below steps) =
-    omega (arith, c.loop-place-test.true, c.count_at-count.ensures, ap (λ (st : List ℕ). width (below_at tree.below st)) c.as_slice-count.ensures.value) in (
+    omega (arith, c.loop-place-test.true, c.count_at-count.ensures, ap (λ (st : List ℕ). width (below_at tree.below st)) c.as_slice-2.ensures.value) in (
       omega (arith, fewer-child tree.below steps c.push.new.self.items k path lt, c.decreases),
       (
         within.0,
@@ -43,7 +43,7 @@ loop-place-preserved g t c =
     let path : c.push.new.self.items ≡ steps ++ k ∷ [] =
     c.in_ok-push.ensures.items ∙ ap (λ (st : List ℕ). st ++ k ∷ []) c.loop-place.invariant.back in
     let lt : k < width (below_at tree.below steps) =
-    omega (arith, c.loop-place-test.true, c.count_at-count.ensures, ap (λ (st : List ℕ). width (below_at tree.below st)) c.as_slice-count.ensures.value) in
+    omega (arith, c.loop-place-test.true, c.count_at-count.ensures, ap (λ (st : List ℕ). width (below_at tree.below st)) c.as_slice-2.ensures.value) in
     record {
       written = λ h.
           child-written (LinesOf c.args.part (marked c.args.bench.now)) tree.below steps c.push.new.self.items k c.add_own.new.text
@@ -60,6 +60,13 @@ returns-clause-text g t c h =
     let tree = (marked c.args.bench.now).tree in
     let steps = c.args.steps.now.items in
     let few : width (below_at tree.below steps) ≤ c.loop-place.place =
-    omega (arith, c.loop-place-test.false, c.count_at-count.ensures, ap (λ (st : List ℕ). width (below_at tree.below st)) c.as_slice-count.ensures.value) in
+    omega (arith, c.loop-place-test.false, c.count_at-count.ensures, ap (λ (st : List ℕ). width (below_at tree.below st)) c.as_slice-2.ensures.value) in
     all-written (LinesOf c.args.part (marked c.args.bench.now)) tree.below steps c.loop-place.place c.args.text.now c.add_own.new.text c.loop-place.text few
     (c.in_ok-add_own.ensures.text h) (c.loop-place.invariant.written h)
+
+pub returns-in_err-add_each-clause-asked : goal.returns-in_err-add_each-clause-asked
+returns-in_err-add_each-clause-asked g t c =
+    asks-then g.V.Values.held g.V.Values.gives g.V.Values.may_fail g.V.Values.asked_of g.V.Values.failed_of g.V.Values.is_honest
+    c.args.values.now c.loop-place.values c.add_each.new.values c.from_residual-in_err-add_each.result c.loop-place.invariant.told
+    (same-asks g.V.Values.held g.V.Values.gives g.V.Values.may_fail g.V.Values.asked_of g.V.Values.failed_of g.V.Values.is_honest
+    c.loop-place.values c.add_each.new.values c.from_residual-in_err-add_each.result c.in_err-add_each.field-0.0 c.from_residual-in_err-add_each.ensures.1 c.in_err-add_each.ensures.asked)
