@@ -107,9 +107,11 @@ module _ (s : Study Mark) (path : List ℕ) where
   pub no-fault : (text : List ℕ) → is_solution_move s path ≡ true → played_by (spot_at s.tree path) ≡ None → Grew (FaultLines s path) text text
   no-fault text so e =
       let nothing : List ℕ = [] in
-      are-there (is_solution_move s path) _ text text so
-      (nothing, subst (λ (o : Option Move). MatchOption o (nothing ≡ nothing) (λ m. IsFaultOf s path m (mark_at s path) nothing)) (sym e) refl,
-      sym (append-nil text))
+      are-there (is_solution_move s path) _ text text so (
+        nothing,
+        subst (λ (o : Option Move). MatchOption o (nothing ≡ nothing) (λ m. IsFaultOf s path m (mark_at s path) nothing)) (sym e) refl,
+        sym (append-nil text),
+      )
 
   module _ (x : Place) (h : IsPlaceOf s path x) where
     pub refuted-told : (list : List Continuation) (old new : List ℕ) → is_try s path ≡ true → AreRefutations x.aim x.depth x.position list

@@ -110,7 +110,8 @@ fn add_missing<'a, 'b, A: Allocator, B: Allocator, V: Values>(
     place: &Place,
     values: &mut V,
 ) -> Result<(), NotMade>
-    requires { IsPlaceOf (marked bench.now) steps.now place.now }
+    requires found { IsTrue (has_spot (marked bench.now).tree steps.now) }
+    requires place { IsPlaceOf (marked bench.now) steps.now place.now }
     ensures text { V.is_honest values.old → OnOk result (Grew (MissingLines (marked bench.now) steps.now) text.old text.new) }
     ensures asked { HasAsked V.held V.gives V.may_fail V.asked_of V.failed_of V.is_honest values.old result values.new }
 {

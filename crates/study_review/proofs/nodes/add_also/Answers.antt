@@ -27,7 +27,7 @@ returns-in-None-clause-asked g c = none-asked g.V.Values.held g.V.Values.gives g
 
 pub returns-in-Err-clause-asked : goal.returns-in-Err-clause-asked
 returns-in-Err-clause-asked g c =
-    of-fault g.V.Values.held g.V.Values.gives g.V.Values.may_fail g.V.Values.asked_of g.V.Values.failed_of g.V.Values.is_honest _
+    of-fault g.V.Values.held g.V.Values.gives g.V.Values.may_fail g.V.Values.asked_of g.V.Values.failed_of g.V.Values.is_honest (Unit {0})
     c.args.values.now c.timed_alternatives.new.values c.in-Err.fault c.in-Err.ensures.told (λ k e. c.in-Err.ensures.untold k (ap Err e))
     c.in-Err.ensures.no_damage c.in-Err.ensures.failures c.timed_alternatives.ensures.honest c.timed_alternatives.ensures.tables
 

@@ -5,7 +5,7 @@ use Rattle.study_tree.specs.Edits.{width}
 use Rattle.study_marks.specs.Renewal.{below_at}
 use Rattle.study_marks.specs.Kept.{marked}
 use Rattle.study_pgn.proofs.ChildSteps.{popped}
-use Rattle.study_review.specs.Made.{LinesOf}
+use Rattle.study_review.specs.Made.{Grew, LinesOf}
 use Rattle.study_review.proofs.Asking.{all-then, asks-then, stops-then, no-memory, same-asks}
 use Rattle.study_review.proofs.WrittenOrder.{there-child, fewer-child, none-yet, child-written, all-written}
 use Rattle.study_review.proofs.walk.+add_each.Goals as goal
@@ -62,7 +62,8 @@ returns-clause-text g t c h =
     let few : width (below_at tree.below steps) ≤ c.loop-place.place =
     omega (arith, c.loop-place-test.false, c.count_at-count.ensures, ap (λ (st : List ℕ). width (below_at tree.below st)) c.as_slice-2.ensures.value) in
     all-written (LinesOf c.args.part (marked c.args.bench.now)) tree.below steps c.loop-place.place c.args.text.now c.add_own.new.text c.loop-place.text few
-    (c.in_ok-add_own.ensures.text h) (c.loop-place.invariant.written h)
+    (subst (λ (st : List ℕ). Grew (LinesOf c.args.part (marked c.args.bench.now) st) c.args.text.now c.add_own.new.text) c.as_slice.ensures.value
+    (c.in_ok-add_own.ensures.text h)) (c.loop-place.invariant.written h)
 
 pub returns-in_err-add_each-clause-asked : goal.returns-in_err-add_each-clause-asked
 returns-in_err-add_each-clause-asked g t c =

@@ -1,5 +1,5 @@
 use Rattle.study_marks.specs.Kept.{marked}
-use Rattle.study_review.proofs.Asking.{all-then, asks-then, same-asks, re-asks}
+use Rattle.study_review.proofs.Asking.{all-then, asks-then, same-asks}
 use Rattle.study_review.proofs.WholeReview.{whole}
 use Rattle.study_review.proofs.writing.text_of.Goals as goal
 
@@ -9,8 +9,7 @@ returns-in_err-add_each-2-clause-asked g c =
     c.args.values.now c.add_each.new.values c.add_each-2.new.values c.from_residual-in_err-add_each-2.result c.in_ok-add_each.ensures.asked
     (same-asks g.V.Values.held g.V.Values.gives g.V.Values.may_fail g.V.Values.asked_of g.V.Values.failed_of g.V.Values.is_honest
     c.add_each.new.values c.add_each-2.new.values c.from_residual-in_err-add_each-2.result c.in_err-add_each-2.field-0.0 c.from_residual-in_err-add_each-2.ensures.1
-    (re-asks g.V.Values.held g.V.Values.gives g.V.Values.may_fail g.V.Values.asked_of g.V.Values.failed_of g.V.Values.is_honest _ _
-    c.add_each.new.values c.add_each-2.new.values c.in_err-add_each-2.field-0.0 c.in_err-add_each-2.ensures.asked))
+    c.in_err-add_each-2.ensures.asked)
 
 pub returns-clause-text : goal.returns-clause-text
 returns-clause-text g c h =
