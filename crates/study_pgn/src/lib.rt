@@ -18,5 +18,7 @@ mod writing;
 
 pub use fault::PgnFault;
 pub use laws::lines_are_greedy;
+pub use opening::add_opening_words;
 pub use tags::tag_name;
+pub use text::Text;
 pub use writing::write_pgn;

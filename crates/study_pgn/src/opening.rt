@@ -4,7 +4,7 @@ ghost use Rattle.study_marks.specs.Goals.{is_right};
 ghost use Rattle.study_marks.specs.Study.{Study};
 ghost use Rattle.study_marks.specs.declared.mark.Mark.{Mark as AMark};
 ghost use Rattle.study_marks.specs.Verdict.{verdict};
-ghost use Rattle.study_pgn.specs.Pgn.{goal_text, verdict_text, opening_text};
+ghost use Rattle.study_pgn.specs.Pgn.{goal_text, verdict_text, opening_words, opening_text};
 
 use crate::text::Text;
 use crate::values::{add_value, side_name};
@@ -63,7 +63,26 @@ fn add_verdict<A: Allocator>(
     }
 }
 
-/// The stipulation, the verdict and the value of the root, in braces, where `first` is to move in it.
+/// The stipulation, the verdict and the value of the root, where `first` is to move in it.
+#[tactic(auto, unfolding(crate::specs::Pgn::opening_words))]
+pub fn add_opening_words<A: Allocator>(
+    text: &mut Text<'_, A>,
+    stipulation: Stipulation,
+    first: Side,
+    root: Mark,
+) -> Result<(), AllocError>
+    ensures { (s : Study AMark) → s.stipulation ≡ stipulation → s.start.position.to_move ≡ first → s.tree.label ≡ root
+        → OnOk result (text.new ≡ text.old ++ opening_words s) }
+{
+    text.add(side_name(stipulation.hero))?;
+    add_goal(text, stipulation.goal)?;
+    text.add(b": ")?;
+    add_verdict(text, stipulation, first, root)?;
+    text.add(b", ")?;
+    add_value(text, first, root.value)
+}
+
+/// The same in braces.
 #[tactic(auto, unfolding(crate::specs::Pgn::opening_text))]
 pub fn add_opening<A: Allocator>(
     text: &mut Text<'_, A>,
@@ -75,11 +94,6 @@ pub fn add_opening<A: Allocator>(
         → OnOk result (text.new ≡ text.old ++ opening_text s) }
 {
     text.add(b"{")?;
-    text.add(side_name(stipulation.hero))?;
-    add_goal(text, stipulation.goal)?;
-    text.add(b": ")?;
-    add_verdict(text, stipulation, first, root)?;
-    text.add(b", ")?;
-    add_value(text, first, root.value)?;
+    add_opening_words(text, stipulation, first, root)?;
     text.add(b"}")
 }

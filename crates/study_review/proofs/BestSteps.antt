@@ -1,13 +1,15 @@
 -- Best play, step by step.
-use Rattle.std.proofs.Common.{◌≡◌, ℕ, ◌-◌, List, [], ◌∷◌, ◌++◌, true, Option, Some, None, Result, Ok, Err, OnOk, suc, zero, arith, refl, sym, ap, subst, ◌∙◌, append_assoc}
+use Rattle.std.proofs.Common.{◌≡◌, ℕ, ◌-◌, List, [], ◌∷◌, ◌++◌, true, Option, Some, None, Result}
+use Rattle.std.proofs.Common.{Ok, Err, OnOk, suc, zero, arith, refl, sym, ap, subst, ◌∙◌, append_assoc}
 use Rattle.std.proofs.lemmas.List.{append-nil}
 use Rattle.study_board.specs.Position.{Position}
 use Rattle.study_moves.specs.declared.moves.Move.{Move}
-use Rattle.study_moves.specs.Rules.{after}
+use Rattle.study_moves.specs.Rules.{is_legal, after}
 use Rattle.study_retro.specs.declared.value.Value.{Value}
 use Rattle.study_retro.specs.Game.{IsValueOf}
 use Rattle.study_review.specs.declared.continuation.Continuation.{Continuation}
 use Rattle.study_review.specs.Continuations.{AreChosen}
+use Rattle.study_review.specs.Play.{ArePlayed}
 use Rattle.study_review.specs.Best.{better_of, first_best, IsBestMove, IsBestPlay}
 
 -- the best of these moves
@@ -44,3 +46,17 @@ play-goes-on (suc n) p next x old mid new (Ok y) some h e t g =
       (h, subst (λ (q : Position). IsBestPlay n q k.0) e k.1),
       k.2 ∙ ap (λ (l : List Continuation). l ++ k.0) t ∙ append_assoc old (x ∷ []) k.0,
     )
+
+-- moves that can be played are added
+abbrev pub IsLegalPlay : Position → List Continuation → List Continuation → Type 0
+IsLegalPlay p old new = (play : List Continuation) × ArePlayed p play × (new ≡ old ++ play)
+
+pub legal-goes-on : {T E : Type 0} (p next : Position) (x : Continuation) (old mid new : List Continuation) (r : Result T E)
+    → is_legal p x.played ≡ true → next ≡ after p x.played → mid ≡ old ++ x ∷ [] → OnOk r (IsLegalPlay next mid new)
+    → OnOk r (IsLegalPlay p old new)
+legal-goes-on p next x old mid new (Err y) legal e t g = tt
+legal-goes-on p next x old mid new (Ok y) legal e t g = (
+  x ∷ g.0,
+  (legal, subst (λ (q : Position). ArePlayed q g.0) e g.1),
+  g.2 ∙ ap (λ (l : List Continuation). l ++ g.0) t ∙ append_assoc old (x ∷ []) g.0,
+)

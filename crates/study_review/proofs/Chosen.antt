@@ -1,5 +1,5 @@
 -- Moves chosen one by one.
-use Rattle.std.proofs.Common.{◌≡◌, ◌<◌, List, [], ◌∷◌, ◌++◌, Bool, true, Result, Ok, Err, OnOk, length, arith, sym, ap, subst, ◌∙◌, append_assoc}
+use Rattle.std.proofs.Common.{◌≡◌, ◌<◌, List, [], ◌∷◌, ◌++◌, Bool, true, Result, Ok, Err, OnOk, suc, length, arith, sym, ap, subst, ◌∙◌, append_assoc}
 use Rattle.std.proofs.lemmas.List.{append-nil}
 use Rattle.study_board.specs.Position.{Position}
 use Rattle.study_moves.specs.declared.moves.Move.{Move}
@@ -34,3 +34,12 @@ one-added f p m ms rest v old mid new (Err x) e g t h = tt
 pub legal-first : (p : Position) (m : Move) (ms rest : List Move) → ms ≡ m ∷ rest → All (λ n. is_legal p n ≡ true) ms → is_legal p m ≡ true
 legal-first p m ms rest e h =
     (subst (λ (l : List Move). All (λ n. is_legal p n ≡ true) l) e h) 0 m (let z : 0 < length (m ∷ rest) = omega arith in z)
+
+module _ {X : Type 0} (P : X → Type 0) where
+  -- the first of these, and the others
+  pub all-first : (x : X) (xs rest : List X) → xs ≡ x ∷ rest → All P xs → P x
+  all-first x xs rest e h = (subst (λ (l : List X). All P l) e h) 0 x (let z : 0 < length (x ∷ rest) = omega arith in z)
+
+  pub all-rest : (x : X) (xs rest : List X) → xs ≡ x ∷ rest → All P xs → All P rest
+  all-rest x xs rest e h =
+      λ k d i. (subst (λ (l : List X). All P l) e h) (suc k) d (let z : suc k < length (x ∷ rest) = omega (arith, i) in z)

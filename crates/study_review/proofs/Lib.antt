@@ -12,3 +12,10 @@ pub mod AlternativesCounted
 pub mod Refuted
 pub mod ChildMoves
 pub mod FaultsListed
+pub mod Asking
+pub mod WrittenOrder
+pub mod NodesShown
+pub mod NodesTold
+pub mod OneReview
+pub mod TextGrows
+pub mod WholeReview

@@ -1,13 +1,34 @@
 -- What was asked where each question depends on the answers before it.
-use Rattle.std.specs.Prelude.{ℕ, List, Result, Ok, Err}
+use Rattle.std.specs.Prelude.{◌≡◌, ℕ, Bool, false, List, Result, Ok, Err}
 use Rattle.study_board.specs.Position.{Position}
 use Rattle.study_material.specs.declared.class.Class.{Class}
 use Rattle.study_tablefile.specs.declared.fault.SourceFault.{SourceFault}
-use Rattle.study_prober.specs.Values.{ProbeAnswer}
+use Rattle.study_prober.specs.Values.{ProbeAnswer, IsNotDamage}
 use Rattle.study_prober.specs.declared.values.ProbeFault.{ProbeFault}
+use Rattle.study_prober.specs.declared.values.ProbeFault.TheVariants.{NoTable}
+use Rattle.study_marks.specs.Told.{failures_told}
 use Rattle.study_marks.specs.Answers.{WereTold, IsFirstFault}
 
 -- Positions were asked one after the other, and the value of each was told; or of each but the last, whose answer was the fault.
-abbrev pub HasTold : {V T : Type 0} → (V → Position → ProbeAnswer → Type 0) → (V → Class → SourceFault → Type 0) → (V → ℕ) → V → Result T ProbeFault → V → Type 0
+abbrev pub HasTold : {V T : Type 0} → (V → Position → ProbeAnswer → Type 0) → (V → Class → SourceFault → Type 0)
+    → (V → ℕ) → V → Result T ProbeFault → V → Type 0
 HasTold gives may_fail asked_of old (Ok x) new = (asked : List Position) × WereTold gives may_fail asked_of old asked new
 HasTold gives may_fail asked_of old (Err f) new = (asked : List Position) × IsFirstFault gives may_fail asked_of old asked f new
+
+module _ {V : Type 0} (held : V → Class → Bool) (gives : V → Position → ProbeAnswer → Type 0)
+    (may_fail : V → Class → SourceFault → Type 0) (asked_of failed_of : V → ℕ) (is_honest : V → Type 0) where
+  -- some positions were asked, and each value was told
+  pub record AllTold (old new : V) : Type 0 where
+    pub told : (asked : List Position) × WereTold gives may_fail asked_of old asked new
+    pub failures : failed_of new ≡ failed_of old
+    pub honest : is_honest old → is_honest new
+    pub tables : (c : Class) → held new c ≡ held old c
+
+  -- some positions were asked, and each value was told but the last, for this fault
+  pub record Stopped (old : V) (f : ProbeFault) (new : V) : Type 0 where
+    pub told : (asked : List Position) × IsFirstFault gives may_fail asked_of old asked f new
+    pub untold : (c : Class) → f ≡ NoTable c → held old c ≡ false
+    pub no_damage : is_honest old → IsNotDamage f
+    pub failures : failed_of new ≡ failures_told {T = Unit {0}} (Err f) (failed_of old)
+    pub honest : is_honest old → is_honest new
+    pub tables : (c : Class) → held new c ≡ held old c

@@ -8,3 +8,8 @@ pub mod Time
 pub mod Defences
 pub mod Faults
 pub mod Laws
+pub mod Play
+pub mod Words
+pub mod Nodes
+pub mod Review
+pub mod Made

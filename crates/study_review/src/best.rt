@@ -13,6 +13,7 @@ ghost use Rattle.study_review.specs.declared.continuation.Continuation.{Continua
 ghost use Rattle.study_review.specs.Continuations.{AreChosen};
 ghost use Rattle.study_review.specs.Best.{is_better, better_of, first_best, IsBestMove, IsBestPlay, IsFirstBestMove};
 ghost use Rattle.study_moves.specs.Game.{HasNoMove};
+ghost use Rattle.study_review.specs.Play.{ArePlayed};
 
 use crate::continuation::Continuation;
 use arrayvec::ArrayVec;
@@ -120,6 +121,7 @@ fn play_on<V: Values>(
     ensures failures { V.failed_of values.new ≡ failures_told result (V.failed_of values.old) }
     ensures honest { V.is_honest values.old → V.is_honest values.new }
     ensures tables { (c : AClass) → V.held values.new c ≡ V.held values.old c }
+    ensures legal { OnOk result ((play : List AContinuation) × ArePlayed p.now play × (list.new.items ≡ list.old.items ++ play)) }
 {
     if plies == 0 {
         return Ok(());
@@ -147,6 +149,7 @@ pub fn best_play<V: Values>(
     ensures failures { V.failed_of values.new ≡ failures_told result (V.failed_of values.old) }
     ensures honest { V.is_honest values.old → V.is_honest values.new }
     ensures tables { (c : AClass) → V.held values.new c ≡ V.held values.old c }
+    ensures legal { IfOk result (λ list. ArePlayed p.now list.items) }
 {
     let mut list = ArrayVec::new();
     match play_on(p, 20, values, &mut list) {

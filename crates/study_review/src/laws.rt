@@ -1,7 +1,8 @@
 //! Laws over the definitions, stated by functions that do nothing.
+ghost use Rattle.study_review.specs.Review.{ReviewsAreUnique, PlainStudiesHaveOneReview};
 ghost use Rattle.study_review.specs.Laws.{AlternativesAreCounted, FailuresAreRefuted, TimeLossIsForced, WonPositionsHold};
 
-use study_marks::duals_count_other_moves;
+use study_marks::{annotations_are_unique, duals_count_other_moves};
 use study_moves::{legal_list_is_exact, mates_are_sound, values_are_unique};
 
 /// Where the hero is to win and the opponent moves, a position holds exactly where the opponent is mated.
@@ -31,3 +32,18 @@ pub fn failures_are_refuted()
 pub fn time_loss_is_forced()
     ensures { TimeLossIsForced }
 {}
+
+/// A study has one review.
+pub fn reviews_are_unique()
+    ensures { ReviewsAreUnique }
+{
+    values_are_unique();
+}
+
+/// A plain study has one review: that of its annotation.
+pub fn plain_studies_have_one_review()
+    ensures { PlainStudiesHaveOneReview }
+{
+    annotations_are_unique();
+    reviews_are_unique();
+}

@@ -4,7 +4,8 @@
 //! the tree has there. `holding_moves`, `alternatives`, `refutations` and `missing_moves`
 //! list legal moves of a position with the values after them, `timed_alternatives` also with the time that they lose:
 //! `time_lost` tells whether a move only loses time. `best_move` and `best_play` tell how it goes on with best play.
-//! `is_in_solution` tells the nodes of the solution. Values are asked where they are needed, and nothing is kept.
+//! `is_in_solution` tells the nodes of the solution. `write_review` writes all of it, a fact a line. Values are asked
+//! where they are needed, and nothing is kept.
 #![tactic(auto)]
 
 mod back;
@@ -12,22 +13,31 @@ mod beside;
 mod best;
 mod children;
 mod continuation;
+mod fault;
 mod laws;
 mod line;
 mod lists;
 mod missing;
+mod nodes;
+mod signs;
 mod solution;
 mod time;
+mod walk;
+mod words;
+mod writing;
 
 pub use back::{is_back, time_lost};
 pub use best::{best_move, best_play};
 pub use children::children_in;
 pub use continuation::{Continuation, Node};
+pub use fault::ReviewFault;
 pub use laws::{
-    alternatives_are_counted, failures_are_refuted, time_loss_is_forced, won_positions_hold,
+    alternatives_are_counted, failures_are_refuted, plain_studies_have_one_review,
+    reviews_are_unique, time_loss_is_forced, won_positions_hold,
 };
 pub use line::{Line, Made, Place, made_in, place_in};
 pub use lists::{alternatives, drawing_moves, holding_moves, missing_moves, refutations};
 pub use missing::{Defence, defences};
 pub use solution::{faults_are_of_the_solution, is_in_solution};
 pub use time::{Alternative, timed_alternatives};
+pub use writing::write_review;

@@ -1,6 +1,7 @@
 //! The line of a node.
-ghost use Rattle.std.specs.Prelude.{◌≡◌, ◌+◌, ◌≤◌, [], length, None, IsTrue, IsSome, IfSome, IfNone};
+ghost use Rattle.std.specs.Prelude.{◌≡◌, ◌+◌, ◌≤◌, [], true, length, None, IsTrue, IsSome, IfSome, IfNone};
 ghost use Rattle.arrayvec.specs.ArrayVec.{array_vec_len};
+ghost use Rattle.study_moves.specs.Rules.{is_legal};
 ghost use Rattle.study_tree.specs.Tree.{has_spot, spot_at};
 ghost use Rattle.study_marks.specs.Bench.{played_by};
 ghost use Rattle.study_marks.specs.Study.{position_at};
@@ -101,7 +102,9 @@ pub fn place_in<'b, B: Allocator>(bench: &Bench<'b, B>, steps: &[u16]) -> Option
 pub fn made_in<'b, B: Allocator>(bench: &Bench<'b, B>, steps: &[u16]) -> Option<Made>
     ensures none { IfNone result (played_by (spot_at (marked bench.now).tree steps.now) ≡ None) }
     ensures made { IfSome result (IsMadeIn (marked bench.now) steps.now) }
+    ensures legal { IfSome result (λ x. is_legal x.before.position x.played ≡ true) }
 {
+    let first = bench.start();
     match steps.split_last() {
         None => None,
         Some((_, front)) => match move_to(bench, steps) {

@@ -11,7 +11,8 @@ ghost use Rattle.study_retro.specs.declared.value.Value.{Value as AValue};
 ghost use Rattle.study_marks.specs.Annotated.{AreValuesAfter};
 ghost use Rattle.study_marks.specs.Asked.{AreTablesHeld};
 ghost use Rattle.study_marks.specs.Told.{IsUntold, WasAsked, failures_told};
-ghost use Rattle.study_review.specs.Continuations.{each_after, is_wanted, kept, chosen, others, AreChosen, AreAlternatives, AreRefutations, AreMissing, AreHoldingMoves, AreDrawingMoves};
+ghost use Rattle.study_review.specs.Continuations.{each_after, is_wanted, kept, chosen, others};
+ghost use Rattle.study_review.specs.Continuations.{AreChosen, AreAlternatives, AreRefutations, AreMissing, AreHoldingMoves, AreDrawingMoves};
 
 use crate::beside::others;
 use crate::continuation::{Continuation, Node, Wanted, is_wanted};
@@ -116,8 +117,10 @@ pub fn holding_moves<V: Values>(
     requires depth { node.now.depth + 1 < 2 ^ 64 }
     ensures game { V.is_honest values.old → IfOk result (λ list. AreHoldingMoves node.now.aim.now node.now.depth node.now.position.now list.items) }
     ensures untold { IfErr result (IsUntold (V.held values.old) (each_after node.now.position.now (legal_list node.now.position.now))) }
-    ensures told { OnOk result (WereTold V.gives V.may_fail V.asked_of values.old (each_after node.now.position.now (legal_list node.now.position.now)) values.new) }
-    ensures first { IfErr result (λ f. IsFirstFault V.gives V.may_fail V.asked_of values.old (each_after node.now.position.now (legal_list node.now.position.now)) f values.new) }
+    ensures told { OnOk result (WereTold V.gives V.may_fail V.asked_of values.old
+        (each_after node.now.position.now (legal_list node.now.position.now)) values.new) }
+    ensures first { IfErr result (λ f. IsFirstFault V.gives V.may_fail V.asked_of values.old
+        (each_after node.now.position.now (legal_list node.now.position.now)) f values.new) }
     ensures no_damage { V.is_honest values.old → IfErr result IsNotDamage }
     ensures asked { WasAsked (length (legal_list node.now.position.now)) (is_ok result) (V.asked_of values.old) (V.asked_of values.new) }
     ensures failures { V.failed_of values.new ≡ failures_told result (V.failed_of values.old) }
@@ -137,8 +140,10 @@ pub fn refutations<V: Values>(
     requires depth { node.now.depth + 1 < 2 ^ 64 }
     ensures game { V.is_honest values.old → IfOk result (λ list. AreRefutations node.now.aim.now node.now.depth node.now.position.now list.items) }
     ensures untold { IfErr result (IsUntold (V.held values.old) (each_after node.now.position.now (legal_list node.now.position.now))) }
-    ensures told { OnOk result (WereTold V.gives V.may_fail V.asked_of values.old (each_after node.now.position.now (legal_list node.now.position.now)) values.new) }
-    ensures first { IfErr result (λ f. IsFirstFault V.gives V.may_fail V.asked_of values.old (each_after node.now.position.now (legal_list node.now.position.now)) f values.new) }
+    ensures told { OnOk result (WereTold V.gives V.may_fail V.asked_of values.old
+        (each_after node.now.position.now (legal_list node.now.position.now)) values.new) }
+    ensures first { IfErr result (λ f. IsFirstFault V.gives V.may_fail V.asked_of values.old
+        (each_after node.now.position.now (legal_list node.now.position.now)) f values.new) }
     ensures no_damage { V.is_honest values.old → IfErr result IsNotDamage }
     ensures asked { WasAsked (length (legal_list node.now.position.now)) (is_ok result) (V.asked_of values.old) (V.asked_of values.new) }
     ensures failures { V.failed_of values.new ≡ failures_told result (V.failed_of values.old) }
@@ -158,8 +163,10 @@ pub fn drawing_moves<V: Values>(
     requires depth { node.now.depth + 1 < 2 ^ 64 }
     ensures game { V.is_honest values.old → IfOk result (λ list. AreDrawingMoves node.now.position.now list.items) }
     ensures untold { IfErr result (IsUntold (V.held values.old) (each_after node.now.position.now (legal_list node.now.position.now))) }
-    ensures told { OnOk result (WereTold V.gives V.may_fail V.asked_of values.old (each_after node.now.position.now (legal_list node.now.position.now)) values.new) }
-    ensures first { IfErr result (λ f. IsFirstFault V.gives V.may_fail V.asked_of values.old (each_after node.now.position.now (legal_list node.now.position.now)) f values.new) }
+    ensures told { OnOk result (WereTold V.gives V.may_fail V.asked_of values.old
+        (each_after node.now.position.now (legal_list node.now.position.now)) values.new) }
+    ensures first { IfErr result (λ f. IsFirstFault V.gives V.may_fail V.asked_of values.old
+        (each_after node.now.position.now (legal_list node.now.position.now)) f values.new) }
     ensures no_damage { V.is_honest values.old → IfErr result IsNotDamage }
     ensures asked { WasAsked (length (legal_list node.now.position.now)) (is_ok result) (V.asked_of values.old) (V.asked_of values.new) }
     ensures failures { V.failed_of values.new ≡ failures_told result (V.failed_of values.old) }
@@ -180,8 +187,10 @@ pub fn alternatives<V: Values>(
     requires depth { node.now.depth + 1 < 2 ^ 64 }
     ensures game { V.is_honest values.old → IfOk result (λ list. AreAlternatives node.now.aim.now node.now.depth node.now.position.now m list.items) }
     ensures untold { IfErr result (IsUntold (V.held values.old) (each_after node.now.position.now (others (m ∷ []) node.now.position.now))) }
-    ensures told { OnOk result (WereTold V.gives V.may_fail V.asked_of values.old (each_after node.now.position.now (others (m ∷ []) node.now.position.now)) values.new) }
-    ensures first { IfErr result (λ f. IsFirstFault V.gives V.may_fail V.asked_of values.old (each_after node.now.position.now (others (m ∷ []) node.now.position.now)) f values.new) }
+    ensures told { OnOk result (WereTold V.gives V.may_fail V.asked_of values.old
+        (each_after node.now.position.now (others (m ∷ []) node.now.position.now)) values.new) }
+    ensures first { IfErr result (λ f. IsFirstFault V.gives V.may_fail V.asked_of values.old
+        (each_after node.now.position.now (others (m ∷ []) node.now.position.now)) f values.new) }
     ensures no_damage { V.is_honest values.old → IfErr result IsNotDamage }
     ensures asked { WasAsked (length (others (m ∷ []) node.now.position.now)) (is_ok result) (V.asked_of values.old) (V.asked_of values.new) }
     ensures failures { V.failed_of values.new ≡ failures_told result (V.failed_of values.old) }
@@ -202,8 +211,10 @@ pub fn missing_moves<V: Values>(
     requires depth { node.now.depth + 1 < 2 ^ 64 }
     ensures game { V.is_honest values.old → IfOk result (λ list. AreMissing node.now.position.now there.now list.items) }
     ensures untold { IfErr result (IsUntold (V.held values.old) (each_after node.now.position.now (others there.now node.now.position.now))) }
-    ensures told { OnOk result (WereTold V.gives V.may_fail V.asked_of values.old (each_after node.now.position.now (others there.now node.now.position.now)) values.new) }
-    ensures first { IfErr result (λ f. IsFirstFault V.gives V.may_fail V.asked_of values.old (each_after node.now.position.now (others there.now node.now.position.now)) f values.new) }
+    ensures told { OnOk result (WereTold V.gives V.may_fail V.asked_of values.old
+        (each_after node.now.position.now (others there.now node.now.position.now)) values.new) }
+    ensures first { IfErr result (λ f. IsFirstFault V.gives V.may_fail V.asked_of values.old
+        (each_after node.now.position.now (others there.now node.now.position.now)) f values.new) }
     ensures no_damage { V.is_honest values.old → IfErr result IsNotDamage }
     ensures asked { WasAsked (length (others there.now node.now.position.now)) (is_ok result) (V.asked_of values.old) (V.asked_of values.new) }
     ensures failures { V.failed_of values.new ≡ failures_told result (V.failed_of values.old) }

@@ -1,18 +1,20 @@
 //! Defences that are missing, with their answers.
-ghost use Rattle.std.specs.Prelude.{◌≡◌, ◌+◌, ◌++◌, ◌≤◌, ◌<◌, ◌^◌, List, true, false, length, IfOk, OnOk, IfErr, IsErrOf};
+ghost use Rattle.std.specs.Prelude.{◌≡◌, ◌+◌, ◌++◌, ◌∷◌, [], ◌≤◌, ◌<◌, ◌^◌, List, true, false, length, IfOk, OnOk, IfErr, IsErrOf};
 ghost use Rattle.std.specs.List.{All};
 ghost use Rattle.arrayvec.specs.ArrayVec.{array_vec_len};
 ghost use Rattle.study_prober.specs.Values.{IsNotDamage};
 ghost use Rattle.study_material.specs.declared.class.Class.{Class as AClass};
-ghost use Rattle.study_moves.specs.Rules.{is_legal};
+ghost use Rattle.study_moves.specs.Rules.{is_legal, after};
 ghost use Rattle.study_marks.specs.Told.{failures_told};
 ghost use Rattle.study_review.specs.Asked.{HasTold};
 ghost use Rattle.study_review.specs.Defences.{the_only, AreAnswered, AreDefences};
 ghost use Rattle.study_review.specs.declared.missing.Defence.{Defence as ADefence};
+ghost use Rattle.study_review.specs.Play.{IsPlayed};
 
 use crate::continuation::{Continuation, Node};
 use crate::lists::{holding_moves, missing_moves};
 use arrayvec::ArrayVec;
+use study_board::Position;
 use study_moves::{Move, played};
 use study_prober::{ProbeFault, Values};
 use study_retro::Value;
@@ -58,6 +60,29 @@ fn the_only(list: &[Continuation]) -> Option<Move>
     }
 }
 
+/// Adds a move to this position with its answers.
+fn push_defence(
+    p: &Position,
+    x: &Continuation,
+    answers: &[Continuation],
+    list: &mut ArrayVec<Defence, 256>,
+)
+    requires few { length answers.now ≤ 256 }
+    requires room { array_vec_len list.old < 256 }
+    ensures items { list.new.items ≡ list.old.items
+        ++ (record { played = x.now.played; value = x.now.value; answers = length answers.now; only = the_only answers.now }) ∷ [] }
+    ensures len { array_vec_len list.new ≡ array_vec_len list.old + 1 }
+    ensures legal { is_legal p.now x.now.played ≡ true → All (λ y. is_legal (after p.now x.now.played) y.played ≡ true) answers.now
+        → All (IsPlayed p.now) list.old.items → All (IsPlayed p.now) list.new.items }
+{
+    list.push(Defence {
+        played: x.played,
+        value: x.value,
+        answers: answers.len() as u16,
+        only: the_only(answers),
+    });
+}
+
 /// Adds these moves from the node with their answers.
 fn answer_each<V: Values>(
     node: &Node<'_>,
@@ -68,6 +93,8 @@ fn answer_each<V: Values>(
     requires depth { node.now.depth + 2 < 2 ^ 64 }
     requires legal { All (λ x. is_legal node.now.position.now x.played ≡ true) moves.now }
     requires room { array_vec_len list.old + length moves.now ≤ 256 }
+    requires listed { All (IsPlayed node.now.position.now) list.old.items }
+    ensures listed { All (IsPlayed node.now.position.now) list.new.items }
     ensures game { V.is_honest values.old → OnOk result ((answered : List ADefence)
         × AreAnswered node.now.aim.now node.now.depth node.now.position.now moves.now answered × (list.new.items ≡ list.old.items ++ answered)) }
     ensures untold { (c : AClass) → IsErrOf result (ProbeFault.NoTable c) → V.held values.old c ≡ false }
@@ -89,12 +116,7 @@ fn answer_each<V: Values>(
             match holding_moves(&after, values) {
                 Err(fault) => Err(fault),
                 Ok(answers) => {
-                    list.push(Defence {
-                        played: x.played,
-                        value: x.value,
-                        answers: answers.len() as u16,
-                        only: the_only(answers.as_slice()),
-                    });
+                    push_defence(node.position, x, answers.as_slice(), list);
                     answer_each(node, rest, values, list)
                 }
             }
@@ -117,6 +139,7 @@ pub fn defences<V: Values>(
     ensures failures { V.failed_of values.new ≡ failures_told result (V.failed_of values.old) }
     ensures honest { V.is_honest values.old → V.is_honest values.new }
     ensures tables { (c : AClass) → V.held values.new c ≡ V.held values.old c }
+    ensures legal { IfOk result (λ list. All (IsPlayed node.now.position.now) list.items) }
 {
     match missing_moves(node, there, values) {
         Err(fault) => Err(fault),

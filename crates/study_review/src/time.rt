@@ -1,5 +1,5 @@
 //! Alternatives with the time that they lose.
-ghost use Rattle.std.specs.Prelude.{◌≡◌, ◌+◌, ◌++◌, ◌≤◌, ◌<◌, ◌^◌, List, true, false, length, IfOk, OnOk, IfErr, IsErrOf};
+ghost use Rattle.std.specs.Prelude.{◌≡◌, ◌+◌, ◌++◌, ◌∷◌, [], ◌≤◌, ◌<◌, ◌^◌, List, true, false, length, IfOk, OnOk, IfErr, IsErrOf};
 ghost use Rattle.std.specs.List.{All};
 ghost use Rattle.arrayvec.specs.ArrayVec.{array_vec_len};
 ghost use Rattle.study_prober.specs.Values.{IsNotDamage};
@@ -66,6 +66,26 @@ fn time_told<V: Values>(
     }
 }
 
+/// Adds a move with the time that it loses.
+fn push_timed(
+    place: &Place,
+    x: &Continuation,
+    time: Option<u8>,
+    list: &mut ArrayVec<Alternative, 256>,
+)
+    requires { array_vec_len list.old < 256 }
+    ensures items { list.new.items ≡ list.old.items ++ (record { played = x.now.played; value = x.now.value; time = time }) ∷ [] }
+    ensures len { array_vec_len list.new ≡ array_vec_len list.old + 1 }
+    ensures legal { is_legal place.now.position x.now.played ≡ true → All (λ y. is_legal place.now.position y.played ≡ true) list.old.items
+        → All (λ y. is_legal place.now.position y.played ≡ true) list.new.items }
+{
+    list.push(Alternative {
+        played: x.played,
+        value: x.value,
+        time,
+    });
+}
+
 /// Adds these moves with the time that each loses.
 fn time_each<V: Values>(
     place: &Place,
@@ -75,6 +95,8 @@ fn time_each<V: Values>(
 ) -> Result<(), ProbeFault>
     requires legal { All (λ x. is_legal place.now.position x.played ≡ true) moves.now }
     requires room { array_vec_len list.old + length moves.now ≤ 256 }
+    requires listed { All (λ y. is_legal place.now.position y.played ≡ true) list.old.items }
+    ensures listed { All (λ y. is_legal place.now.position y.played ≡ true) list.new.items }
     ensures game { V.is_honest values.old → OnOk result ((timed : List AnAlternative)
         × AreTimed place.now.aim.goal place.now.line.items place.now.position moves.now timed × (list.new.items ≡ list.old.items ++ timed)) }
     ensures untold { (c : AClass) → IsErrOf result (ProbeFault.NoTable c) → V.held values.old c ≡ false }
@@ -91,11 +113,7 @@ fn time_each<V: Values>(
             match time_told(place.aim.goal, place.line.as_slice(), &next, values) {
                 Err(fault) => Err(fault),
                 Ok(time) => {
-                    list.push(Alternative {
-                        played: x.played,
-                        value: x.value,
-                        time,
-                    });
+                    push_timed(place, x, time, list);
                     time_each(place, rest, values, list)
                 }
             }
@@ -118,6 +136,7 @@ pub fn timed_alternatives<V: Values>(
     ensures failures { V.failed_of values.new ≡ failures_told result (V.failed_of values.old) }
     ensures honest { V.is_honest values.old → V.is_honest values.new }
     ensures tables { (c : AClass) → V.held values.new c ≡ V.held values.old c }
+    ensures legal { IfOk result (λ list. All (λ y. is_legal place.now.position y.played ≡ true) list.items) }
 {
     let node = Node {
         aim: &place.aim,

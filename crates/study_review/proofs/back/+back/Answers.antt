@@ -46,7 +46,8 @@ are_back-returns-in-Ok-true-is_back-clause-told g t c =
 
 pub are_back-returns-in-Ok-false-is_back-clause-told : goal.are_back-returns-in-Ok-false-is_back-clause-told
 are_back-returns-in-Ok-false-is_back-clause-told g t c =
-    told-then g.V.Values.gives g.V.Values.may_fail g.V.Values.asked_of c.args.values.now c.has_lost.new.values c.is_back.new.values c.in-Ok-true.ensures.told c.in-Ok-false-is_back.ensures.told
+    told-then g.V.Values.gives g.V.Values.may_fail g.V.Values.asked_of c.args.values.now
+    c.has_lost.new.values c.is_back.new.values c.in-Ok-true.ensures.told c.in-Ok-false-is_back.ensures.told
 
 pub are_back-returns-in-Ok-false-clause-told : goal.are_back-returns-in-Ok-false-clause-told
 are_back-returns-in-Ok-false-clause-told g t c =

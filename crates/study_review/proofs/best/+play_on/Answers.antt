@@ -1,11 +1,11 @@
-use Rattle.std.proofs.Common.{Option, map, subst}
-use Rattle.study_moves.specs.Rules.{after}
+use Rattle.std.proofs.Common.{◌≡◌, true, Option, map, subst, IfSome}
+use Rattle.study_moves.specs.Rules.{is_legal, after}
 use Rattle.study_moves.specs.LegalList.{legal_list}
 use Rattle.study_review.proofs.NotHeld.{untold-not-held}
 use Rattle.study_review.specs.declared.continuation.Continuation.{Continuation}
 use Rattle.study_review.specs.Best.{IsBestMove}
 use Rattle.study_review.proofs.AskedSteps.{asked-then}
-use Rattle.study_review.proofs.BestSteps.{play-ends, play-goes-on}
+use Rattle.study_review.proofs.BestSteps.{play-ends, play-goes-on, legal-goes-on}
 use Rattle.study_review.proofs.best.+play_on.Goals as goal
 
 pub returns-in-Ok-None-clause-game : goal.returns-in-Ok-None-clause-game
@@ -29,3 +29,10 @@ pub returns-in-Ok-Some-clause-told : goal.returns-in-Ok-Some-clause-told
 returns-in-Ok-Some-clause-told g t c =
     asked-then g.V.Values.gives g.V.Values.may_fail g.V.Values.asked_of c.args.values.now c.best_move.new.values c.play_on.new.values
     c.play_on.result (map (after c.args.p.now) (legal_list c.args.p.now), c.in-Ok-Some.ensures.told) c.play_on.ensures.told
+
+pub returns-in-Ok-Some-clause-legal : goal.returns-in-Ok-Some-clause-legal
+returns-in-Ok-Some-clause-legal g t c =
+    legal-goes-on c.args.p.now c.played-next.result c.in-Ok-Some.best c.args.list.now.items c.push.new.self.items c.play_on.new.list.items
+    c.play_on.result
+    (subst (λ (o : Option Continuation). IfSome o (λ x. is_legal c.args.p.now x.played ≡ true)) c.in-Ok-Some.field-0-is c.in-Ok-Some.ensures.legal)
+    c.played-next.ensures.value c.push.ensures.items c.play_on.ensures.legal

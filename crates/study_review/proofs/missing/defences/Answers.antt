@@ -13,7 +13,8 @@ returns-in-Err-clause-untold g c k e =
 pub returns-in-Err-answer_each-clause-told : goal.returns-in-Err-answer_each-clause-told
 returns-in-Err-answer_each-clause-told g c =
     let p = c.args.node.now.position.now in
-    fault-then g.V.Values.gives g.V.Values.may_fail g.V.Values.asked_of c.args.values.now c.missing_moves.new.values c.answer_each.new.values c.in-Err-answer_each.fault
+    fault-then g.V.Values.gives g.V.Values.may_fail g.V.Values.asked_of c.args.values.now
+    c.missing_moves.new.values c.answer_each.new.values c.in-Err-answer_each.fault
     (map (after p) (others c.args.there.now p), c.in-Ok.ensures.told) c.in-Err-answer_each.ensures.told
 
 pub returns-in-Ok-answer_each-clause-told : goal.returns-in-Ok-answer_each-clause-told

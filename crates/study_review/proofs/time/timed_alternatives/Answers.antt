@@ -13,7 +13,8 @@ returns-in-Err-clause-untold g c k e =
 pub returns-in-Err-time_each-clause-told : goal.returns-in-Err-time_each-clause-told
 returns-in-Err-time_each-clause-told g c =
     let p = c.args.place.now.position in
-    fault-then g.V.Values.gives g.V.Values.may_fail g.V.Values.asked_of c.args.values.now c.alternatives.new.values c.time_each.new.values c.in-Err-time_each.fault
+    fault-then g.V.Values.gives g.V.Values.may_fail g.V.Values.asked_of c.args.values.now
+    c.alternatives.new.values c.time_each.new.values c.in-Err-time_each.fault
     (map (after p) (others (c.args.m ∷ []) p), c.in-Ok.ensures.told) c.in-Err-time_each.ensures.told
 
 pub returns-in-Ok-time_each-clause-told : goal.returns-in-Ok-time_each-clause-told

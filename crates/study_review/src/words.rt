@@ -1,0 +1,383 @@
+//! The words of a review's lines, added to a text.
+ghost use Rattle.std.specs.Prelude.{◌≡◌, ◌++◌, ◌<◌, ◌^◌, true, OnOk, IfSome, length, decimal};
+ghost use Rattle.std.specs.List.{All, flat_map};
+ghost use Rattle.study_moves.specs.Rules.{is_legal, after};
+ghost use Rattle.study_command.specs.Paths.{path_text, more_places};
+ghost use Rattle.study_review.specs.Play.{IsPlayed, ArePlayed};
+ghost use Rattle.study_notation.specs.Written.{move_text};
+ghost use Rattle.study_review.specs.Words.{value_words, front_words, told_move, time_words, also_line, refuted_line, stalemate_line};
+ghost use Rattle.study_review.specs.Words.{only_words, none_words, answers_words, missing_line, play_words, play_line};
+ghost use Rattle.study_review.specs.Words.{move_words, keep_line, dual_line, mistake_line};
+ghost use Rattle.study_moves.specs.LegalList.{legal_list};
+
+use crate::continuation::Continuation;
+use crate::missing::Defence;
+use crate::time::Alternative;
+use std::alloc::{AllocError, Allocator};
+use study_board::Position;
+use study_moves::{Move, legal_moves, played};
+use study_notation::write_san;
+use study_pgn::Text;
+use study_retro::Value;
+
+/// A word, and a number behind it.
+fn add_counted<A: Allocator>(
+    text: &mut Text<'_, A>,
+    word: &[u8],
+    number: u8,
+) -> Result<(), AllocError>
+    ensures { OnOk result (text.new ≡ text.old ++ (word.now ++ decimal number)) }
+{
+    text.add(word)?;
+    text.add_number(number as u32)
+}
+
+fn add_value<A: Allocator>(text: &mut Text<'_, A>, value: Value) -> Result<(), AllocError>
+    ensures { OnOk result (text.new ≡ text.old ++ value_words value) }
+{
+    match value {
+        Value::Win(n) => add_counted(text, b"win ", n),
+        Value::Loss(n) => add_counted(text, b"loss ", n),
+        Value::Draw => text.add(b"draw"),
+    }
+}
+
+fn add_places<A: Allocator>(text: &mut Text<'_, A>, steps: &[u16]) -> Result<(), AllocError>
+    ensures { OnOk result (text.new ≡ text.old ++ more_places steps.now) }
+{
+    match steps.split_first() {
+        None => Ok(()),
+        Some((place, rest)) => {
+            text.add(b".")?;
+            text.add_number(*place as u32)?;
+            add_places(text, rest)
+        }
+    }
+}
+
+fn add_path<A: Allocator>(text: &mut Text<'_, A>, steps: &[u16]) -> Result<(), AllocError>
+    ensures { OnOk result (text.new ≡ text.old ++ path_text steps.now) }
+{
+    match steps.split_first() {
+        None => text.add(b"root"),
+        Some((first, rest)) => {
+            text.add_number(*first as u32)?;
+            add_places(text, rest)
+        }
+    }
+}
+
+/// A kind of line, and a path.
+#[tactic(auto, unfolding(crate::specs::Words::front_words))]
+fn add_front<A: Allocator>(
+    text: &mut Text<'_, A>,
+    kind: &[u8],
+    steps: &[u16],
+) -> Result<(), AllocError>
+    ensures { OnOk result (text.new ≡ text.old ++ front_words kind.now steps.now) }
+{
+    text.add(kind)?;
+    add_path(text, steps)?;
+    text.add(b" ")
+}
+
+fn add_san<A: Allocator>(text: &mut Text<'_, A>, p: &Position, m: Move) -> Result<(), AllocError>
+    requires { is_legal p.now m ≡ true }
+    ensures { OnOk result (text.new ≡ text.old ++ move_text p.now m) }
+{
+    text.add(write_san(p, m).as_str().as_bytes())
+}
+
+/// A move, and the value after it.
+#[tactic(auto, unfolding(crate::specs::Words::told_move))]
+fn add_told<A: Allocator>(
+    text: &mut Text<'_, A>,
+    p: &Position,
+    m: Move,
+    value: Value,
+) -> Result<(), AllocError>
+    requires { is_legal p.now m ≡ true }
+    ensures { OnOk result (text.new ≡ text.old ++ told_move p.now m value) }
+{
+    add_san(text, p, m)?;
+    text.add(b" ")?;
+    add_value(text, value)
+}
+
+fn add_time<A: Allocator>(text: &mut Text<'_, A>, time: Option<u8>) -> Result<(), AllocError>
+    ensures { OnOk result (text.new ≡ text.old ++ time_words time) }
+{
+    match time {
+        None => Ok(()),
+        Some(m) => add_counted(text, b" time ", m),
+    }
+}
+
+#[tactic(auto, unfolding(crate::specs::Words::also_line))]
+fn add_also_line<A: Allocator>(
+    text: &mut Text<'_, A>,
+    steps: &[u16],
+    p: &Position,
+    x: &Alternative,
+) -> Result<(), AllocError>
+    requires { is_legal p.now x.now.played ≡ true }
+    ensures { OnOk result (text.new ≡ text.old ++ also_line steps.now p.now x.now) }
+{
+    add_front(text, b"also ", steps)?;
+    add_told(text, p, x.played, x.value)?;
+    add_time(text, x.time)?;
+    text.add(b"\n")
+}
+
+/// A line for each alternative.
+pub fn add_also_lines<A: Allocator>(
+    text: &mut Text<'_, A>,
+    steps: &[u16],
+    p: &Position,
+    list: &[Alternative],
+) -> Result<(), AllocError>
+    requires { All (λ x. is_legal p.now x.played ≡ true) list.now }
+    ensures { OnOk result (text.new ≡ text.old ++ flat_map (also_line steps.now p.now) list.now) }
+{
+    for x in list {
+        add_also_line(text, steps, p, x)?;
+    }
+    Ok(())
+}
+
+#[tactic(auto, unfolding(crate::specs::Words::refuted_line))]
+fn add_refuted_line<A: Allocator>(
+    text: &mut Text<'_, A>,
+    steps: &[u16],
+    p: &Position,
+    x: &Continuation,
+) -> Result<(), AllocError>
+    requires { is_legal p.now x.now.played ≡ true }
+    ensures { OnOk result (text.new ≡ text.old ++ refuted_line steps.now p.now x.now) }
+{
+    add_front(text, b"refuted ", steps)?;
+    add_told(text, p, x.played, x.value)?;
+    text.add(b"\n")
+}
+
+/// A line for each refutation.
+pub fn add_refuted_lines<A: Allocator>(
+    text: &mut Text<'_, A>,
+    steps: &[u16],
+    p: &Position,
+    list: &[Continuation],
+) -> Result<(), AllocError>
+    requires { All (λ x. is_legal p.now x.played ≡ true) list.now }
+    ensures { OnOk result (text.new ≡ text.old ++ flat_map (refuted_line steps.now p.now) list.now) }
+{
+    for x in list {
+        add_refuted_line(text, steps, p, x)?;
+    }
+    Ok(())
+}
+
+/// A line that the move stalemates.
+#[tactic(auto, unfolding(crate::specs::Words::stalemate_line))]
+pub fn add_stalemate<A: Allocator>(text: &mut Text<'_, A>, steps: &[u16]) -> Result<(), AllocError>
+    ensures { OnOk result (text.new ≡ text.old ++ stalemate_line steps.now) }
+{
+    add_front(text, b"refuted ", steps)?;
+    text.add(b"stalemate\n")
+}
+
+fn add_only<A: Allocator>(
+    text: &mut Text<'_, A>,
+    q: &Position,
+    only: Option<Move>,
+) -> Result<(), AllocError>
+    requires { IfSome only (λ m. is_legal q.now m ≡ true) }
+    ensures { OnOk result (text.new ≡ text.old ++ only_words q.now only) }
+{
+    match only {
+        None => Ok(()),
+        Some(m) => {
+            text.add(b" ")?;
+            add_san(text, q, m)
+        }
+    }
+}
+
+fn add_none<A: Allocator>(text: &mut Text<'_, A>, answers: u16) -> Result<(), AllocError>
+    ensures { OnOk result (text.new ≡ text.old ++ none_words answers) }
+{
+    if answers == 0 {
+        return text.add(b" stalemate");
+    }
+    Ok(())
+}
+
+#[tactic(auto, unfolding(crate::specs::Words::answers_words))]
+fn add_answers<A: Allocator>(
+    text: &mut Text<'_, A>,
+    q: &Position,
+    answers: u16,
+    only: Option<Move>,
+) -> Result<(), AllocError>
+    requires { IfSome only (λ m. is_legal q.now m ≡ true) }
+    ensures { OnOk result (text.new ≡ text.old ++ answers_words q.now answers only) }
+{
+    text.add(b" ")?;
+    text.add_number(answers as u32)?;
+    add_only(text, q, only)?;
+    add_none(text, answers)
+}
+
+#[tactic(auto, unfolding(crate::specs::Words::missing_line))]
+fn add_missing_line<A: Allocator>(
+    text: &mut Text<'_, A>,
+    steps: &[u16],
+    p: &Position,
+    y: &Defence,
+) -> Result<(), AllocError>
+    requires { IsPlayed p.now y.now }
+    ensures { OnOk result (text.new ≡ text.old ++ missing_line steps.now p.now y.now) }
+{
+    let next = played(p, y.played);
+    add_front(text, b"missing ", steps)?;
+    add_told(text, p, y.played, y.value)?;
+    add_answers(text, &next, y.answers, y.only)?;
+    text.add(b"\n")
+}
+
+/// A line for each defence.
+pub fn add_missing_lines<A: Allocator>(
+    text: &mut Text<'_, A>,
+    steps: &[u16],
+    p: &Position,
+    list: &[Defence],
+) -> Result<(), AllocError>
+    requires { All (IsPlayed p.now) list.now }
+    ensures { OnOk result (text.new ≡ text.old ++ flat_map (missing_line steps.now p.now) list.now) }
+{
+    for y in list {
+        add_missing_line(text, steps, p, y)?;
+    }
+    Ok(())
+}
+
+fn add_moves<A: Allocator>(
+    text: &mut Text<'_, A>,
+    p: &Position,
+    list: &[Continuation],
+) -> Result<(), AllocError>
+    requires { ArePlayed p.now list.now }
+    ensures { OnOk result (text.new ≡ text.old ++ play_words p.now list.now) }
+{
+    match list.split_first() {
+        None => Ok(()),
+        Some((x, rest)) => {
+            text.add(b" ")?;
+            add_san(text, p, x.played)?;
+            let next = played(p, x.played);
+            add_moves(text, &next, rest)
+        }
+    }
+}
+
+/// The line of best play.
+#[tactic(auto, unfolding(crate::specs::Words::play_line))]
+pub fn add_play<A: Allocator>(
+    text: &mut Text<'_, A>,
+    steps: &[u16],
+    p: &Position,
+    value: Value,
+    list: &[Continuation],
+) -> Result<(), AllocError>
+    requires { ArePlayed p.now list.now }
+    ensures { OnOk result (text.new ≡ text.old ++ play_line steps.now p.now value list.now) }
+{
+    add_front(text, b"play ", steps)?;
+    add_value(text, value)?;
+    add_moves(text, p, list)?;
+    text.add(b"\n")
+}
+
+#[tactic(auto, unfolding(crate::specs::Words::move_words))]
+fn add_move<A: Allocator>(
+    text: &mut Text<'_, A>,
+    p: &Position,
+    x: &Continuation,
+) -> Result<(), AllocError>
+    requires { is_legal p.now x.now.played ≡ true }
+    ensures { OnOk result (text.new ≡ text.old ++ move_words p.now x.now) }
+{
+    text.add(b" ")?;
+    add_san(text, p, x.played)
+}
+
+fn add_each_move<A: Allocator>(
+    text: &mut Text<'_, A>,
+    p: &Position,
+    list: &[Continuation],
+) -> Result<(), AllocError>
+    requires { All (λ x. is_legal p.now x.played ≡ true) list.now }
+    ensures { OnOk result (text.new ≡ text.old ++ flat_map (move_words p.now) list.now) }
+{
+    for x in list {
+        add_move(text, p, x)?;
+    }
+    Ok(())
+}
+
+/// The line of the moves that keep a draw.
+#[tactic(auto, unfolding(crate::specs::Words::keep_line))]
+pub fn add_keep<A: Allocator>(
+    text: &mut Text<'_, A>,
+    steps: &[u16],
+    p: &Position,
+    list: &[Continuation],
+) -> Result<(), AllocError>
+    requires few { length list.now < 2 ^ 32 }
+    requires legal { All (λ x. is_legal p.now x.played ≡ true) list.now }
+    ensures { OnOk result (text.new ≡ text.old ++ keep_line steps.now p.now list.now) }
+{
+    let all = legal_moves(p).len() as u32;
+    add_front(text, b"keep ", steps)?;
+    text.add_number(list.len() as u32)?;
+    text.add(b" ")?;
+    text.add_number(all)?;
+    add_each_move(text, p, list)?;
+    text.add(b"\n")
+}
+
+/// The line of a dual with so many others, of which so many lose time.
+#[tactic(auto, unfolding(crate::specs::Words::dual_line))]
+pub fn add_dual<A: Allocator>(
+    text: &mut Text<'_, A>,
+    steps: &[u16],
+    p: &Position,
+    x: &Continuation,
+    counts: (u8, u16),
+) -> Result<(), AllocError>
+    requires { is_legal p.now x.now.played ≡ true }
+    ensures { OnOk result (text.new ≡ text.old ++ dual_line steps.now p.now x.now.played x.now.value counts.0 counts.1) }
+{
+    add_front(text, b"fault ", steps)?;
+    add_told(text, p, x.played, x.value)?;
+    text.add(b" dual ")?;
+    text.add_number(counts.0 as u32)?;
+    text.add(b" time ")?;
+    text.add_number(counts.1 as u32)?;
+    text.add(b"\n")
+}
+
+/// The line of a mistake.
+#[tactic(auto, unfolding(crate::specs::Words::mistake_line))]
+pub fn add_mistake<A: Allocator>(
+    text: &mut Text<'_, A>,
+    steps: &[u16],
+    p: &Position,
+    x: &Continuation,
+) -> Result<(), AllocError>
+    requires { is_legal p.now x.now.played ≡ true }
+    ensures { OnOk result (text.new ≡ text.old ++ mistake_line steps.now p.now x.now.played x.now.value) }
+{
+    add_front(text, b"fault ", steps)?;
+    add_told(text, p, x.played, x.value)?;
+    text.add(b" mistake\n")
+}

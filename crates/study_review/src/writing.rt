@@ -1,0 +1,171 @@
+//! The review of a study, and its way to a writer.
+ghost use Rattle.std.specs.Prelude.{◌≡◌, ◌++◌, ◌≤◌, List, ℕ, IsTrue, OnOk, IfOk, IfErr, Ok, Err, Some, false};
+ghost use Rattle.std.specs.Io.KnownBytes.{Appends};
+ghost use Rattle.study_material.specs.declared.class.Class.{Class as AClass};
+ghost use Rattle.study_tablefile.specs.Taken.{TakesPrefix};
+ghost use Rattle.study_tree.specs.Edits.{width};
+ghost use Rattle.study_marks.specs.Goals.{aim_of};
+ghost use Rattle.study_marks.specs.Kept.{marked, IsKeptRight};
+ghost use Rattle.study_marks.specs.Study.{plain_study};
+ghost use Rattle.study_prober.specs.declared.values.ProbeFault.{ProbeFault as AProbeFault};
+ghost use Rattle.study_marks.specs.Renewal.{below_at, skipped};
+ghost use Rattle.study_review.specs.Made.{HasAsked};
+ghost use Rattle.study_review.specs.Review.{study_line, stipulation_line, empty_line, is_empty, none_below, IsReview, IsReviewOf, HasReviewed};
+
+use crate::fault::{NotMade, ReviewFault};
+use crate::signs::aim_in;
+use crate::walk::{Part, add_each, count_at};
+use std::alloc::{AllocError, Allocator};
+use std::io::Write;
+use study_marks::{Bench, Mark, hero_moves};
+use study_notation::write_fen;
+use study_pgn::{Text, add_opening_words};
+use study_prober::Values;
+use study_tablefile::put;
+
+/// Where the study starts.
+#[tactic(auto, unfolding(crate::specs::Review::study_line))]
+fn add_study<'b, A: Allocator, B: Allocator>(
+    text: &mut Text<'_, A>,
+    bench: &Bench<'b, B>,
+    number: u32,
+) -> Result<(), AllocError>
+    ensures { OnOk result (text.new ≡ text.old ++ study_line (marked bench.now) number) }
+{
+    let fen = write_fen(bench.start());
+    text.add(b"study ")?;
+    text.add_number(number)?;
+    text.add(b" ")?;
+    text.add(fen.as_str().as_bytes())?;
+    text.add(b"\n")
+}
+
+/// The stipulation, with its verdict.
+#[tactic(auto, unfolding(crate::specs::Review::stipulation_line))]
+fn add_stipulation<'b, A: Allocator, B: Allocator>(
+    text: &mut Text<'_, A>,
+    bench: &Bench<'b, B>,
+    root: Mark,
+) -> Result<(), AllocError>
+    requires { root ≡ (marked bench.now).tree.label }
+    ensures { OnOk result (text.new ≡ text.old ++ stipulation_line (marked bench.now)) }
+{
+    text.add(b"stipulation ")?;
+    add_opening_words(
+        text,
+        bench.stipulation(),
+        bench.start().position.to_move(),
+        root,
+    )?;
+    text.add(b"\n")
+}
+
+/// Whether no child of the root from a place on has a child.
+fn none_below<'b, B: Allocator>(bench: &Bench<'b, B>, place: u16, count: u16) -> bool
+    requires within { place ≤ count }
+    requires all { count ≡ width (marked bench.now).tree.below }
+    ensures { result ≡ none_below (skipped place (marked bench.now).tree.below) }
+{
+    if place >= count {
+        return true;
+    }
+    count_at(bench, &[place]) == 0 && none_below(bench, place + 1, count)
+}
+
+fn is_empty<'b, B: Allocator>(bench: &Bench<'b, B>) -> bool
+    ensures { result ≡ is_empty (aim_of (marked bench.now)).hero_first (marked bench.now).tree.below }
+{
+    let aim = aim_in(bench);
+    let count = count_at(bench, &[]);
+    if hero_moves(&aim, 0) {
+        count == 0
+    } else {
+        none_below(bench, 0, count)
+    }
+}
+
+fn add_empty<'b, A: Allocator, B: Allocator>(
+    text: &mut Text<'_, A>,
+    bench: &Bench<'b, B>,
+) -> Result<(), AllocError>
+    ensures { OnOk result (text.new ≡ text.old ++ empty_line (marked bench.now)) }
+{
+    if is_empty(bench) {
+        return text.add(b"empty\n");
+    }
+    Ok(())
+}
+
+/// The mark of the root.
+fn root_of<'b, B: Allocator>(bench: &Bench<'b, B>) -> Option<Mark>
+    ensures { result ≡ Some (marked bench.now).tree.label }
+{
+    match bench.shown(&[]) {
+        None => None,
+        Some(node) => Some(node.mark),
+    }
+}
+
+/// The lines before those of the faults.
+fn add_head<'b, A: Allocator, B: Allocator>(
+    text: &mut Text<'_, A>,
+    bench: &Bench<'b, B>,
+    number: u32,
+) -> Result<(), AllocError>
+    ensures { OnOk result (text.new ≡ text.old ++ (study_line (marked bench.now) number
+        ++ (stipulation_line (marked bench.now) ++ empty_line (marked bench.now)))) }
+{
+    match root_of(bench) {
+        None => Ok(()),
+        Some(root) => {
+            add_study(text, bench, number)?;
+            add_stipulation(text, bench, root)?;
+            add_empty(text, bench)
+        }
+    }
+}
+
+/// The text of the review.
+fn text_of<'a, 'b, A: Allocator, B: Allocator, V: Values>(
+    alloc: &'a A,
+    bench: &Bench<'b, B>,
+    values: &mut V,
+    number: u32,
+) -> Result<Text<'a, A>, NotMade>
+    ensures text { V.is_honest values.old → IfOk result (IsReview (marked bench.now) number) }
+    ensures asked { HasAsked V.held V.gives V.may_fail V.asked_of V.failed_of V.is_honest values.old result values.new }
+{
+    let mut text = Text::new(alloc);
+    let mut steps = Vec::new(alloc);
+    add_head(&mut text, bench, number)?;
+    add_each(alloc, Part::Faults, &mut text, bench, &mut steps, values)?;
+    add_each(alloc, Part::Nodes, &mut text, bench, &mut steps, values)?;
+    Ok(text)
+}
+
+/// Writes the review of a study, the one of this number.
+///
+/// The text is made whole first, so want of memory, and a value that is not told, is told before the first byte. A writer
+/// that fails or takes nothing ends the call; it took a front of the text then. The time grows with the number of nodes,
+/// and with the square of the depth of each, since a node and those before it are looked up along its path.
+pub fn write_review<'a, 'b, A: Allocator, B: Allocator, V: Values, W: Write>(
+    alloc: &'a A,
+    bench: &Bench<'b, B>,
+    values: &mut V,
+    number: u32,
+    out: &mut W,
+) -> Result<(), ReviewFault>
+    ensures ok { V.is_honest values.old → OnOk result ((text : List ℕ) × IsReview (marked bench.now) number text
+        × Appends (W.contents out.old) (W.contents out.new) text) }
+    ensures plain { V.is_honest values.old → IsKeptRight bench.now → OnOk result ((text : List ℕ)
+        × IsReviewOf (plain_study (marked bench.now)) number text × Appends (W.contents out.old) (W.contents out.new) text) }
+    ensures device { V.is_honest values.old → result ≡ Err ReviewFault.Device → (text : List ℕ) × IsReview (marked bench.now) number text
+        × TakesPrefix (W.contents out.old) (W.contents out.new) text }
+    ensures memory { result ≡ Err ReviewFault.OutOfMemory → out.new ≡ out.old }
+    ensures untold { (fault : AProbeFault) → result ≡ Err (ReviewFault.Values fault) → out.new ≡ out.old }
+    ensures asked { HasReviewed V.held V.gives V.may_fail V.asked_of V.failed_of V.is_honest values.old result values.new }
+{
+    let text = text_of(alloc, bench, values, number)?;
+    put(out, text.as_slice())?;
+    Ok(())
+}
