@@ -9,7 +9,7 @@ use Rattle.study_marks.specs.declared.fault.Refusal.TheVariants as edit
 use Rattle.study_marks.specs.Asked.{IsTableHeld, AreTablesHeld, AllHeld, IsFirstMissing, IsFirstUnread, IsOutside, is_of_tables}
 use Rattle.study_marks.specs.Answers.{IsUndamaged}
 use Rattle.study_marks.specs.Edits.{Plainly}
-use Rattle.study_script.specs.Names.{edit_words}
+use Rattle.study_reply.specs.Names.{edit_words}
 use Rattle.study_script.specs.State.{State, is_among, Outside, quiet, no_room, unread}
 use Rattle.study_script.specs.Replies.{accepted, refused_as, holding, missing, found, IsAskingReply, IsAskedReply}
 use Rattle.study_script.specs.Held.{IsToldBy, TellsFailing}

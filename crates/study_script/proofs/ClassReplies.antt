@@ -21,20 +21,21 @@ use Rattle.study_tablefile.specs.declared.fault.FileFault.{FileFault}
 use Rattle.study_tablefile.specs.declared.fault.FileFault.TheVariants as file_fault
 use Rattle.study_prober.specs.Whole.{Whole}
 use Rattle.study_script.specs.declared.store.StoreFault.{StoreFault}
-use Rattle.study_script.specs.declared.refusal.Refusal.{Refusal}
-use Rattle.study_script.specs.declared.refusal.Refusal.TheVariants.{PagedMode, NotAClass, AlreadyHeld}
-use Rattle.study_script.specs.declared.refusal.Refusal.TheVariants.{MissingTable, OtherClass, OutOfMemory}
-use Rattle.study_script.specs.declared.refusal.Refusal.TheVariants.{DistanceTooLarge, NoTable, Device, File}
-use Rattle.study_script.specs.declared.told.Told.{Told}
-use Rattle.study_script.specs.declared.told.Told.TheVariants.{Built, Loaded, Saved, Verified}
+use Rattle.study_reply.specs.declared.refusal.Refusal.{Refusal}
+use Rattle.study_reply.specs.declared.refusal.Refusal.TheVariants.{PagedMode, NotAClass, AlreadyHeld}
+use Rattle.study_reply.specs.declared.refusal.Refusal.TheVariants.{MissingTable, OtherClass, OutOfMemory}
+use Rattle.study_reply.specs.declared.refusal.Refusal.TheVariants.{DistanceTooLarge, NoTable, Device, File}
+use Rattle.study_reply.specs.declared.told.Told.{Told}
+use Rattle.study_reply.specs.declared.told.Told.TheVariants.{Built, Loaded, Saved, Verified}
 use Rattle.study_script.specs.State.{State, is_among, first_lacking, written_anew, IsGiven, IsOpened}
 use Rattle.study_script.specs.State.{Outside, quiet, no_room, no_room_for, unopened, cut_off, file}
 use Rattle.study_script.specs.Replies.{Reply, refused, refused_as, with_class, built, too_far, IsBuildReply}
 use Rattle.study_script.specs.Replies.{IsLoadReply, IsNamedReply, IsTableReply, IsClassReply, IsClassReplyIn, IsOpenReply, IsLoadIn}
 use Rattle.study_script.specs.Replies.{class_told, wants_whole, save_reply, verify_reply}
-use Rattle.study_script.specs.Names.{words_of}
+use Rattle.study_reply.specs.Names.{words_of}
 use Rattle.study_script.specs.Stored.{IsRightFile, GivesBytes, IsTrustedClass}
-use Rattle.study_script.specs.Told.{told_text, told_reply, Decided, HoldsWhole, HoldsPaged, WholeFrom, IsFileRefusal}
+use Rattle.study_reply.specs.Told.{told_text}
+use Rattle.study_script.specs.Told.{told_reply, Decided, HoldsWhole, HoldsPaged, WholeFrom, IsFileRefusal}
 use Rattle.study_script.specs.Held.{HoldsTables, TablesFrom, Answered, BrokenOff}
 use Rattle.study_script.proofs.HeldTables.{lacking, whole_kept}
 

@@ -18,7 +18,7 @@ use Rattle.study_marks.specs.Study.{position_at}
 use Rattle.study_marks.specs.Asked.{positions_asked}
 use Rattle.study_marks.specs.Edits.{Plainly, shifted, shift_refusal, insert_refusal}
 use Rattle.study_notation.specs.FenSpelling.{fen_text}
-use Rattle.study_script.specs.Words.{reply_line}
+use Rattle.study_reply.specs.Words.{reply_line}
 use Rattle.study_command.specs.declared.command.FenWord.{FenWord}
 use Rattle.study_command.specs.declared.command.FenWord.TheVariants.{Position as PositionWord, Shift}
 use Rattle.study_script.specs.declared.store.StoreFault.{StoreFault}

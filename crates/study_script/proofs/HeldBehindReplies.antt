@@ -15,9 +15,9 @@ use Rattle.study_tablefile.specs.declared.fault.SourceFault.{SourceFault}
 use Rattle.study_retro.specs.Table.{Table}
 use Rattle.study_tree.specs.Tree.{Spot}
 use Rattle.study_marks.specs.declared.mark.Mark.{Mark}
-use Rattle.study_script.specs.declared.refusal.Refusal.TheVariants.{NoSuchNode}
+use Rattle.study_reply.specs.declared.refusal.Refusal.TheVariants.{NoSuchNode}
 use Rattle.study_script.specs.declared.tables.Tables.{Tables}
-use Rattle.study_script.specs.Words.{mark_text}
+use Rattle.study_reply.specs.Words.{mark_text}
 use Rattle.study_script.specs.declared.board.Board.{Board as HeldBoard}
 use Rattle.study_script.specs.declared.board.Board.TheVariants as held
 use Rattle.study_script.specs.State.{State, empty, start, study, Outside}

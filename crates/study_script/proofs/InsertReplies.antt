@@ -10,7 +10,7 @@ use Rattle.study_marks.specs.declared.fault.Refusal.{Refusal as EditRefusal}
 use Rattle.study_marks.specs.Asked.{asked_at, IsOutside}
 use Rattle.study_marks.specs.Answers.{IsUndamaged}
 use Rattle.study_marks.specs.Edits.{Plainly, inserted, insert_refusal}
-use Rattle.study_script.specs.Names.{edit_words}
+use Rattle.study_reply.specs.Names.{edit_words}
 use Rattle.study_script.specs.State.{State, is_among, Outside, study, quiet, no_path, no_room, no_room_for, unread, unopened, cut_off, file, header}
 use Rattle.study_script.specs.Replies.{Reply, refused_as, IsInserted, inserted_text, IsMoveReply, IsMoveReplyAt, IsInsertReply, IsStudyReply, IsStudyReplyAt}
 use Rattle.study_command.specs.declared.command.StudyWord.{StudyWord}

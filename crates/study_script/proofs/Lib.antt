@@ -1,7 +1,6 @@
 mod Examples
 pub mod FirstLines
 pub mod AskingEdits
-pub mod PathText
 pub mod SilentEdits
 pub mod HeldBehindReplies
 pub mod ShiftReplies

@@ -41,8 +41,8 @@ use Rattle.study_command.specs.declared.command.StudyWord.{StudyWord}
 use Rattle.study_command.specs.declared.command.StudyWord.TheVariants.{Delete, Promote, Mark as MarkWord}
 use Rattle.study_command.specs.declared.command.ClassWord.{ClassWord}
 use Rattle.study_command.specs.declared.command.ClassWord.TheVariants.{Build, Load, Save, Verify}
-use Rattle.study_script.specs.declared.refusal.Refusal.{Refusal}
-use Rattle.study_script.specs.declared.refusal.Refusal.TheVariants.{NoTable}
+use Rattle.study_reply.specs.declared.refusal.Refusal.{Refusal}
+use Rattle.study_reply.specs.declared.refusal.Refusal.TheVariants.{NoTable}
 use Rattle.study_command.specs.Asking.{Asked, of_start, at_node, at_study, of_class, stipulate, insert, tag, solve, pgn, Asks, command_of}
 use Rattle.study_script.specs.State.{State, Board, empty, start, study, is_among, first_lacking, Outside, quiet}
 use Rattle.study_prober.specs.declared.values.ProbeFault.TheVariants as probe
@@ -50,7 +50,7 @@ use Rattle.study_script.specs.State.{no_path, no_room, no_room_for, unread, unop
 use Rattle.std.specs.Prelude.{◌==◌, ◌%◌, ◌&&◌, codes}
 use Rattle.study_notation.specs.FenSpelling.{fen_text}
 use Rattle.study_material.specs.Class.{IsOf}
-use Rattle.study_script.specs.Words.{reply_line, built_text, solve_text}
+use Rattle.study_reply.specs.Words.{reply_line, built_text, solve_text}
 use Rattle.study_script.specs.Replies.{Reply, Answer, accepted, refused, with_class, IsValued, missing, found}
 use Rattle.study_script.specs.Replies.{IsAskingReply, IsAskedReply, IsPositionReply, IsShiftReply, IsStartReply, IsStipulateReply}
 use Rattle.study_script.specs.Replies.{IsInserted, IsMoveReply, IsMoveReplyAt, IsInsertReply, start_found}

@@ -16,8 +16,8 @@ use Rattle.study_prober.specs.Paged.{Paged, MayFail, held_of, places_for_classes
 use Rattle.study_prober.specs.Told.{paged_fault}
 use Rattle.study_prober.proofs.HeldSources.{same_class, held_same, held_other, held_placed}
 use Rattle.study_script.specs.declared.store.StoreFault.{StoreFault}
-use Rattle.study_script.specs.declared.refusal.Refusal.TheVariants.{AlreadyHeld}
-use Rattle.study_script.specs.declared.told.Told.TheVariants.{Loaded}
+use Rattle.study_reply.specs.declared.refusal.Refusal.TheVariants.{AlreadyHeld}
+use Rattle.study_reply.specs.declared.told.Told.TheVariants.{Loaded}
 use Rattle.study_script.specs.State.{State, is_among, IsGiven, IsOpened, IsGivenAs, quiet, no_room_for, unopened, header}
 use Rattle.study_script.specs.Replies.{refused, with_class, opened, IsOpenReply}
 use Rattle.study_script.specs.Names.{of_store, of_paged}

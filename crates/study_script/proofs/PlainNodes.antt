@@ -15,10 +15,10 @@ use Rattle.study_marks.specs.Study.{Study, mapped, plain_study, moves_to, positi
 use Rattle.study_marks.specs.Bench.{start_at}
 use Rattle.study_marks.specs.Edits.{Plainly}
 use Rattle.study_command.specs.declared.command.StudyWord.{StudyWord}
-use Rattle.study_script.specs.declared.refusal.Refusal.{Refusal}
-use Rattle.study_script.specs.declared.refusal.Refusal.TheVariants.{NoSuchNode, OutOfMemory}
+use Rattle.study_reply.specs.declared.refusal.Refusal.{Refusal}
+use Rattle.study_reply.specs.declared.refusal.Refusal.TheVariants.{NoSuchNode, OutOfMemory}
 use Rattle.study_script.specs.State.{State, start, study, quiet, no_path}
-use Rattle.study_script.specs.Words.{insert_text}
+use Rattle.study_reply.specs.Words.{insert_text}
 use Rattle.study_script.specs.Replies.{refused, inserted_text, named, start_found, IsStudyReplyAt, IsInsertReply}
 
 module _ {L M : Type 0} where

@@ -12,10 +12,10 @@ use Rattle.study_marks.specs.Asked.{positions_asked}
 use Rattle.study_marks.specs.Answers.{IsUndamaged}
 use Rattle.study_marks.specs.Stop.{IsShiftRefusal}
 use Rattle.study_marks.specs.Edits.{Plainly, first_path, broken_from, broken, shifted, shift_refusal}
-use Rattle.study_script.specs.Names.{edit_words}
+use Rattle.study_reply.specs.Names.{edit_words}
 use Rattle.study_script.specs.State.{State, is_among, Outside, quiet, no_path, no_room, no_room_for, unread, unopened, cut_off, file, header}
 use Rattle.study_script.specs.Replies.{Reply, refused_as, IsAskedReply, IsShiftReply}
-use Rattle.study_script.specs.Words.{reply_line}
+use Rattle.study_reply.specs.Words.{reply_line}
 use Rattle.study_script.specs.Held.{IsToldBy, TellsFailing}
 use Rattle.study_script.proofs.AskingEdits.{refused_outside}
 use Rattle.study_notation.specs.FenSpelling.{fen_text}

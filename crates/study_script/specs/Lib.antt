@@ -1,7 +1,6 @@
 pub mod State
 pub mod Stored
 pub mod Names
-pub mod Words
 pub mod Replies
 pub mod Held
 pub mod Memory

@@ -50,18 +50,19 @@ use Rattle.study_command.specs.declared.command.ClassWord.{ClassWord}
 use Rattle.study_command.specs.declared.command.ClassWord.TheVariants.{Build, Load, Save, Verify}
 use Rattle.study_command.specs.Paths.{path_text}
 use Rattle.study_command.specs.Asking.{Asked, of_start, at_node, at_study, of_class, stipulate, insert, tag, solve, pgn, Asks, command_of}
-use Rattle.study_script.specs.declared.refusal.Refusal.{Refusal}
-use Rattle.study_script.specs.declared.refusal.Refusal.TheVariants.{Form, NoPosition, NoStudy, OutOfMemory}
-use Rattle.study_script.specs.declared.refusal.Refusal.TheVariants.{PagedMode, NotAClass, NoSuchNode, Fen, San}
-use Rattle.study_script.specs.declared.refusal.Refusal.TheVariants.{NoTable, MissingTable, AlreadyHeld, OtherClass}
-use Rattle.study_script.specs.declared.refusal.Refusal.TheVariants.{Device, File, DistanceTooLarge}
-use Rattle.study_script.specs.Names.{words_of, edit_words, of_probe, of_paged, of_store}
+use Rattle.study_reply.specs.declared.refusal.Refusal.{Refusal}
+use Rattle.study_reply.specs.declared.refusal.Refusal.TheVariants.{Form, NoPosition, NoStudy, OutOfMemory}
+use Rattle.study_reply.specs.declared.refusal.Refusal.TheVariants.{PagedMode, NotAClass, NoSuchNode, Fen, San}
+use Rattle.study_reply.specs.declared.refusal.Refusal.TheVariants.{NoTable, MissingTable, AlreadyHeld, OtherClass}
+use Rattle.study_reply.specs.declared.refusal.Refusal.TheVariants.{Device, File, DistanceTooLarge}
+use Rattle.study_reply.specs.Names.{words_of, edit_words, of_probe}
+use Rattle.study_script.specs.Names.{of_paged, of_store}
 use Rattle.study_script.specs.State.{Board, empty, start, study, State, is_among, first_lacking}
 use Rattle.study_script.specs.State.{IsGiven, IsOpened, IsGivenAs, written_anew, Outside, no_path, no_room}
 use Rattle.study_script.specs.State.{no_room_for, unread, unopened, cut_off, file, header}
 use Rattle.study_pgn.specs.Tags.{tag_name}
-use Rattle.study_script.specs.Words.{reply_line, stipulation_words, mark_text, moves_text, solve_text}
-use Rattle.study_script.specs.Words.{insert_text, built_text, loaded_text, saved_text, verified_text}
+use Rattle.study_reply.specs.Words.{reply_line, stipulation_words, mark_text, moves_text, solve_text}
+use Rattle.study_reply.specs.Words.{raised, insert_text, built_text, loaded_text, saved_text, verified_text}
 
 -- the reply to a line: its bytes, what is held after the line, and whether the line is refused
 pub record Reply : Type 0 where
@@ -231,12 +232,6 @@ marked_reply s steps (Some spot) = accepted s (mark_text steps spot.label)
 
 abbrev pub IsMarkReply : State → Plainly → List ℕ → Reply → Type 0
 IsMarkReply s old steps reply = Annotated old (λ annotated. reply ≡ marked_reply s steps (spot_at annotated.tree steps))
-
--- the path of a node that was moved up by one place
-abbrev pub raised : List ℕ → List ℕ
-raised [] = []
-raised (k ∷ []) = (k - 1) ∷ []
-raised (k ∷ j ∷ js) = k ∷ raised (j ∷ js)
 
 -- `delete`, `promote` and `mark`
 abbrev pub IsStudyReply : State → StudyWord → Plainly → List ℕ → Reply → Type 0

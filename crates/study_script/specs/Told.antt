@@ -1,37 +1,22 @@
 -- What the commands of a class come to, before it is written.
-use Rattle.std.specs.Prelude.{◌≡◌, ◌⊎◌, ◌+◌, ◌*◌, ℕ, true, false, is_some, is_err, List, ◌++◌, Option, Result, Ok, Err, codes}
+use Rattle.std.specs.Prelude.{◌≡◌, ◌⊎◌, ℕ, true, false, is_some, is_err, List, Option, Result, Ok, Err}
 use Rattle.study_material.specs.declared.class.Class.{Class}
-use Rattle.study_material.specs.Class.{name_of}
 use Rattle.study_retro.specs.Table.{Table, table_of}
-use Rattle.study_tablefile.specs.File.{pages_of}
 use Rattle.study_prober.specs.Whole.{Whole, TablesAreRight}
 use Rattle.study_tablefile.specs.declared.fault.SourceFault.{SourceFault}
 use Rattle.study_prober.specs.Sources.{GivesOf}
 use Rattle.study_prober.specs.Paged.{Paged, MayFail, held_of, SourcesAreRight}
-use Rattle.study_script.specs.declared.told.Told.{Told}
-use Rattle.study_script.specs.declared.told.Told.TheVariants.{Built, Loaded, Saved, Verified}
-use Rattle.study_script.specs.declared.refusal.Refusal.{Refusal}
-use Rattle.study_script.specs.Names.{words_of, of_store}
-use Rattle.study_script.specs.Words.{reply_line, built_text, loaded_text, saved_text, verified_text}
+use Rattle.study_reply.specs.declared.told.Told.{Told}
+use Rattle.study_reply.specs.declared.refusal.Refusal.{Refusal}
+use Rattle.study_reply.specs.Names.{words_of}
+use Rattle.study_reply.specs.Told.{told_text}
+use Rattle.study_script.specs.Names.{of_store}
 use Rattle.study_tablefile.specs.declared.fault.FileFault.{FileFault}
 use Rattle.study_tablefile.specs.Reading.{table_read, HasHeader}
 use Rattle.study_script.specs.declared.store.StoreFault.{StoreFault}
-use Rattle.study_script.specs.declared.refusal.Refusal.TheVariants.{Device, OutOfMemory, File}
+use Rattle.study_reply.specs.declared.refusal.Refusal.TheVariants.{Device, OutOfMemory, File}
 use Rattle.study_script.specs.State.{State, Outside, is_among, IsGiven, IsOpened}
 use Rattle.study_script.specs.Replies.{Reply}
-
--- the reply to a command that did its work
-abbrev pub done_text : Told → List ℕ
-done_text (Built c win) = built_text c win
-done_text (Loaded c) = loaded_text c
-done_text (Saved c) = saved_text c (64 + 4128 * pages_of c)
-done_text (Verified c true) = verified_text c
-done_text (Verified c false) = codes "verified " ++ name_of c ++ codes " no\n"
-
--- or to one that is refused
-abbrev pub told_text : Result Told Refusal → List ℕ
-told_text (Ok told) = done_text told
-told_text (Err refusal) = reply_line (codes "error ") (words_of refusal)
 
 -- the reply that leaves this state behind
 abbrev pub told_reply : State → Result Told Refusal → Reply

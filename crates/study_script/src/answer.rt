@@ -11,8 +11,6 @@ ghost use Rattle.study_script.specs.Stored.{HonestOn, IsTrusted, IsTrustedAsked}
 use crate::board::Board;
 use crate::classes::of_class;
 use crate::nodes::{at_node, at_study, insert, set_tag, tell_pgn, tell_solution};
-use crate::refusal::Refusal;
-use crate::reply::refuse;
 use crate::starts::{of_start, stipulate};
 use crate::store::TableStore;
 use crate::tables::Tables;
@@ -20,6 +18,8 @@ use std::alloc::Allocator;
 use std::io::Write;
 use study_command::command::Command;
 use study_command::read_command;
+use study_reply::refusal::Refusal;
+use study_reply::words::refuse;
 use study_tablefile::DeviceFailed;
 
 /// Writes the reply to a line, keeps what is held after it, and tells whether the line was refused.

@@ -13,16 +13,16 @@ ghost use Rattle.study_material.specs.declared.class.Class.{Class as AClass};
 ghost use Rattle.study_script.specs.Stored.{StoreSeen, HonestOn, IsTrustedClass};
 ghost use Rattle.study_script.specs.Told.{Decided, HoldsWhole, HoldsPaged, WholeFrom, IsFileRefusal};
 
-use crate::refusal::Refusal;
 use crate::store::{StoreFault, TableStore};
 use crate::tables::Tables;
-use crate::told::{Told, tell};
 use std::alloc::Allocator;
 use std::io::Write;
 use study_command::command::ClassWord;
 use study_index::cells;
 use study_material::Class;
 use study_prober::{PagedFault, PagedTables, Values, WholeTables};
+use study_reply::refusal::Refusal;
+use study_reply::told::{Told, tell};
 use study_retro::{BuildFault, BuildRoom, Table, build, verify};
 use study_tablefile::{DeviceFailed, FileFault, read_table, write_table};
 

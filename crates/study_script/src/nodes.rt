@@ -9,7 +9,7 @@ ghost use Rattle.study_tablefile.specs.Taken.{TakesPrefix};
 ghost use Rattle.study_marks.specs.Study.{plain_study, position_at};
 ghost use Rattle.study_marks.specs.Kept.{marked};
 ghost use Rattle.study_command.specs.Paths.{steps_of, is_path_word};
-ghost use Rattle.study_script.specs.Words.{insert_text};
+ghost use Rattle.study_reply.specs.Words.{insert_text};
 ghost use Rattle.study_script.specs.State.{State, Outside, study, start as begun};
 ghost use Rattle.study_script.specs.Replies.{IsNodeReply, IsInsertReply, IsSolveReply, IsPgnReply};
 ghost use Rattle.study_script.specs.Replies.{IsStudyReply, IsStudyReplyAt, IsMoveReply, IsMoveReplyAt};
@@ -18,9 +18,6 @@ ghost use Rattle.study_script.specs.declared.board.Board.TheVariants as held;
 ghost use Rattle.study_script.specs.Held.{Holds, HoldsBoard, HoldsFrom, HoldsBench, HoldsBenchFrom, Answered, BrokenOff};
 
 use crate::board::Board;
-use crate::path_written::{put_child, put_node, put_promoted};
-use crate::refusal::Refusal;
-use crate::reply::{list_moves, put_line, put_mark, put_solution, refuse, refuse_edit};
 use crate::tables::Tables;
 use std::alloc::Allocator;
 use std::io::Write;
@@ -30,6 +27,9 @@ use study_marks::{Bench, TagName};
 use study_moves::{Move, solve};
 use study_notation::{Start, read_san, write_fen, write_san};
 use study_pgn::{PgnFault, tag_name, write_pgn};
+use study_reply::path_written::{put_child, put_node, put_promoted};
+use study_reply::refusal::Refusal;
+use study_reply::words::{list_moves, put_line, put_mark, put_solution, refuse, refuse_edit};
 use study_tablefile::{DeviceFailed, PageSource, put};
 use study_tree::Path;
 

@@ -3,7 +3,7 @@ ghost use Rattle.std.specs.Prelude.{◌≡◌, false, codes, IfOk, OnOk, OnErr};
 ghost use Rattle.std.specs.Io.KnownBytes.{Appends};
 ghost use Rattle.study_notation.specs.FenSpelling.{fen_text};
 ghost use Rattle.study_tablefile.specs.Taken.{TakesPrefix};
-ghost use Rattle.study_script.specs.Words.{reply_line, stipulation_words};
+ghost use Rattle.study_reply.specs.Words.{reply_line, stipulation_words};
 ghost use Rattle.study_marks.specs.Edits.{shift_refusal, stipulated};
 ghost use Rattle.study_script.specs.State.{State, study, start as begun};
 ghost use Rattle.study_script.specs.Replies.{IsStartReply, IsPositionReply, IsShiftReply, IsStipulateReply};
@@ -15,14 +15,14 @@ ghost use Rattle.study_script.specs.Held.{Holds, Answered, BrokenOff};
 
 use crate::board::Board;
 use crate::edits;
-use crate::refusal::Refusal;
-use crate::reply::{put_line, put_stipulation, refuse, refuse_edit};
 use crate::tables::Tables;
 use std::alloc::Allocator;
 use std::io::Write;
 use study_command::command::FenWord;
 use study_marks::{Bench, Stipulation};
 use study_notation::{Start, read_fen, write_fen};
+use study_reply::refusal::Refusal;
+use study_reply::words::{put_line, put_stipulation, refuse, refuse_edit};
 use study_tablefile::{DeviceFailed, PageSource};
 
 /// `position` and `shift`.

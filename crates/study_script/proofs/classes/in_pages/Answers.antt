@@ -3,7 +3,7 @@ use Rattle.study_script.specs.State.{quiet, is_among}
 use Rattle.study_script.specs.Replies.{IsClassReply, IsOpenReply, refused}
 use Rattle.study_command.specs.declared.command.ClassWord.{ClassWord}
 use Rattle.study_command.specs.declared.command.ClassWord.TheVariants.{Load}
-use Rattle.study_script.specs.declared.refusal.Refusal.TheVariants.{NotAClass}
+use Rattle.study_reply.specs.declared.refusal.Refusal.TheVariants.{NotAClass}
 use Rattle.study_script.specs.Stored.{HonestOn, StoreSeen}
 use Rattle.study_script.specs.Told.{HoldsPaged}
 use Rattle.study_script.proofs.ClassReplies.{trust_of, open_as, decided_weaker, not_named, refused_paged}

@@ -2,7 +2,7 @@ use Rattle.std.proofs.Common.{rules, ◌≡◌, Err, refl, sym, subst, ◌∙◌
 use Rattle.study_script.specs.Stored.{HonestOn, StoreSeen}
 use Rattle.study_script.specs.State.{quiet, is_among, first_lacking}
 use Rattle.study_script.specs.Replies.{class_told, IsNamedReply, IsBuildReply, IsTableReply, IsLoadReply, verify_reply, save_reply}
-use Rattle.study_script.specs.declared.refusal.Refusal.TheVariants.{NotAClass}
+use Rattle.study_reply.specs.declared.refusal.Refusal.TheVariants.{NotAClass}
 use Rattle.study_command.specs.declared.command.ClassWord.{ClassWord}
 use Rattle.study_script.specs.Told.{WholeFrom, HoldsWhole}
 use Rattle.study_script.proofs.HeldTables.{store_of}

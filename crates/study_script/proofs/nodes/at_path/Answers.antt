@@ -2,7 +2,7 @@ use Rattle.std.proofs.Common.{ℕ, List, refl, subst}
 use Rattle.study_tablefile.proofs.TextTaken.{OnErr-known}
 use Rattle.study_marks.specs.Study.{plain_study}
 use Rattle.study_marks.specs.Kept.{marked}
-use Rattle.study_script.specs.declared.refusal.Refusal.TheVariants.{OutOfMemory}
+use Rattle.study_reply.specs.declared.refusal.Refusal.TheVariants.{OutOfMemory}
 use Rattle.study_command.specs.Paths.{steps_of}
 use Rattle.study_script.specs.State.{Outside, no_path, study}
 use Rattle.study_script.specs.Held.{HoldsBenchFrom, BrokenOff}

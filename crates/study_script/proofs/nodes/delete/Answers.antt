@@ -6,8 +6,8 @@ use Rattle.study_tablefile.proofs.TextTaken.{OnErr-known}
 use Rattle.study_marks.specs.Study.{plain_study}
 use Rattle.study_marks.specs.Kept.{marked}
 use Rattle.study_marks.specs.Edits.{deleted, delete_refusal}
-use Rattle.study_script.specs.Words.{reply_line}
-use Rattle.study_script.specs.Names.{edit_words}
+use Rattle.study_reply.specs.Words.{reply_line}
+use Rattle.study_reply.specs.Names.{edit_words}
 use Rattle.study_script.specs.State.{quiet}
 use Rattle.study_command.specs.Paths.{path_text}
 use Rattle.study_script.specs.Replies.{accepted, refused_as, holding}

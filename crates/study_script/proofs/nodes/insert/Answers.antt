@@ -3,7 +3,7 @@ use Rattle.study_tablefile.proofs.TextTaken.{OnErr-known}
 use Rattle.study_marks.specs.Study.{plain_study}
 use Rattle.study_marks.specs.Kept.{marked}
 use Rattle.study_script.specs.declared.board.Board.TheVariants as held
-use Rattle.study_script.specs.declared.refusal.Refusal.TheVariants.{NoStudy}
+use Rattle.study_reply.specs.declared.refusal.Refusal.TheVariants.{NoStudy}
 use Rattle.study_command.specs.Paths.{steps_of}
 use Rattle.study_script.specs.State.{Board, Outside, quiet, study}
 use Rattle.study_script.specs.Held.{Holds, BrokenOff}

@@ -7,7 +7,7 @@ use Rattle.study_marks.specs.Study.{plain_study, position_at}
 use Rattle.study_marks.specs.Kept.{marked}
 use Rattle.study_marks.specs.Asked.{asked_at, AllHeld}
 use Rattle.study_marks.specs.Edits.{inserted, insert_refusal}
-use Rattle.study_script.specs.Names.{edit_words}
+use Rattle.study_reply.specs.Names.{edit_words}
 use Rattle.study_script.specs.State.{Outside, quiet}
 use Rattle.study_script.specs.Held.{BrokenOff, tables_held, tables_give, tables_may_fail, tables_asked, are_paged}
 use Rattle.study_script.specs.Replies.{accepted, refused_as, holding, inserted_text, IsMoveReply, IsInserted}

@@ -6,11 +6,12 @@ use Rattle.study_tablefile.proofs.TextTaken.{OnErr-known}
 use Rattle.study_marks.specs.Study.{plain_study}
 use Rattle.study_marks.specs.Kept.{marked}
 use Rattle.study_marks.specs.Edits.{promoted, promote_refusal}
-use Rattle.study_script.specs.Words.{reply_line}
-use Rattle.study_script.specs.Names.{edit_words}
+use Rattle.study_reply.specs.Words.{reply_line}
+use Rattle.study_reply.specs.Names.{edit_words}
 use Rattle.study_script.specs.State.{quiet}
 use Rattle.study_command.specs.Paths.{path_text}
-use Rattle.study_script.specs.Replies.{accepted, refused_as, holding, raised}
+use Rattle.study_reply.specs.Words.{raised}
+use Rattle.study_script.specs.Replies.{accepted, refused_as, holding}
 use Rattle.study_script.proofs.SilentEdits.{edit_accepted, edit_refused, promote_same}
 use Rattle.study_script.proofs.HeldBehindReplies.{bench_edited, bench_same}
 use Rattle.study_script.specs.Held.{BrokenOff}

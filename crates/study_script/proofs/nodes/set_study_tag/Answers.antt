@@ -7,8 +7,8 @@ use Rattle.study_marks.specs.Study.{plain_study}
 use Rattle.study_marks.specs.Kept.{marked}
 use Rattle.study_marks.specs.Edits.{tagged, tag_refusal}
 use Rattle.study_pgn.specs.Tags.{tag_name}
-use Rattle.study_script.specs.Words.{reply_line}
-use Rattle.study_script.specs.Names.{edit_words}
+use Rattle.study_reply.specs.Words.{reply_line}
+use Rattle.study_reply.specs.Names.{edit_words}
 use Rattle.study_script.specs.State.{quiet}
 use Rattle.study_script.specs.Replies.{accepted, refused_as, holding}
 use Rattle.study_script.proofs.SilentEdits.{edit_accepted, edit_refused, tag_same}

@@ -5,7 +5,7 @@ use Rattle.study_tablefile.specs.Taken.{TakesPrefix}
 use Rattle.study_tablefile.proofs.TextTaken.{OnErr-known}
 use Rattle.study_notation.specs.FenSpelling.{fen_text}
 use Rattle.study_command.specs.Paths.{steps_of}
-use Rattle.study_script.specs.Words.{reply_line}
+use Rattle.study_reply.specs.Words.{reply_line}
 use Rattle.study_script.specs.State.{Outside}
 use Rattle.study_script.specs.Held.{BrokenOff}
 use Rattle.study_script.specs.Replies.{Reply, accepted, refused, start_found, fen_reply}

@@ -4,8 +4,8 @@ use Rattle.study_tablefile.specs.Taken.{TakesPrefix}
 use Rattle.study_tablefile.proofs.TextTaken.{OnErr-known}
 use Rattle.study_tree.specs.Tree.{spot_at}
 use Rattle.study_marks.specs.Kept.{marked}
-use Rattle.study_script.specs.declared.refusal.Refusal.TheVariants.{NoSuchNode}
-use Rattle.study_script.specs.Words.{mark_text}
+use Rattle.study_reply.specs.declared.refusal.Refusal.TheVariants.{NoSuchNode}
+use Rattle.study_reply.specs.Words.{mark_text}
 use Rattle.study_script.specs.State.{quiet}
 use Rattle.study_script.specs.Replies.{accepted, refused}
 use Rattle.study_script.proofs.HeldBehindReplies.{bench_kept, mark_told, mark_missing}

@@ -1,7 +1,7 @@
 use Rattle.std.proofs.Common.{◌≡◌, refl, sym, ap, ◌∙◌}
 use Rattle.study_tablefile.proofs.TextTaken.{OnErr-known}
 use Rattle.study_command.specs.Paths.{steps_of}
-use Rattle.study_script.specs.Words.{moves_text}
+use Rattle.study_reply.specs.Words.{moves_text}
 use Rattle.study_script.specs.State.{Outside}
 use Rattle.study_script.specs.Held.{BrokenOff}
 use Rattle.study_script.specs.Replies.{Reply, accepted, refused, start_found, moves_reply}

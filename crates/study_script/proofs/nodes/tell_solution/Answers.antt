@@ -1,9 +1,9 @@
 use Rattle.std.proofs.Common.{Result, refl, sym, ◌∙◌, subst}
 use Rattle.study_tablefile.proofs.TextTaken.{OnErr-known}
 use Rattle.study_notation.specs.declared.start.Start.{Start}
-use Rattle.study_script.specs.declared.refusal.Refusal.{Refusal}
+use Rattle.study_reply.specs.declared.refusal.Refusal.{Refusal}
 use Rattle.study_command.specs.Paths.{steps_of}
-use Rattle.study_script.specs.Words.{solve_text}
+use Rattle.study_reply.specs.Words.{solve_text}
 use Rattle.study_script.specs.State.{Outside}
 use Rattle.study_script.specs.Held.{BrokenOff}
 use Rattle.study_script.specs.Replies.{accepted, refused, start_found, IsSolveReply}

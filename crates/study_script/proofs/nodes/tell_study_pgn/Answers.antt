@@ -5,9 +5,9 @@ use Rattle.study_tablefile.specs.Taken.{TakesPrefix}
 use Rattle.study_tablefile.proofs.TextTaken.{OnErr-known}
 use Rattle.study_marks.specs.Kept.{marked}
 use Rattle.study_pgn.specs.Pgn.{pgn_text}
-use Rattle.study_script.specs.declared.refusal.Refusal.TheVariants.{OutOfMemory}
-use Rattle.study_script.specs.Names.{words_of}
-use Rattle.study_script.specs.Words.{reply_line}
+use Rattle.study_reply.specs.declared.refusal.Refusal.TheVariants.{OutOfMemory}
+use Rattle.study_reply.specs.Names.{words_of}
+use Rattle.study_reply.specs.Words.{reply_line}
 use Rattle.study_script.specs.State.{quiet, no_room}
 use Rattle.study_script.specs.Replies.{accepted, refused}
 use Rattle.study_script.proofs.HeldBehindReplies.{bench_kept}

@@ -1,8 +1,8 @@
 use Rattle.std.proofs.Common.{◌≡◌, refl, true}
 use Rattle.study_tablefile.proofs.TextTaken.{OnErr-known}
 use Rattle.study_marks.specs.Asked.{asked_at}
-use Rattle.study_script.specs.Words.{stipulation_words}
-use Rattle.study_script.specs.Names.{edit_words}
+use Rattle.study_reply.specs.Words.{stipulation_words}
+use Rattle.study_reply.specs.Names.{edit_words}
 use Rattle.study_script.specs.State.{Outside, quiet, start}
 use Rattle.study_script.specs.Held.{BrokenOff, tables_held, tables_give, tables_may_fail, tables_asked, are_paged}
 use Rattle.study_script.specs.Replies.{accepted, refused_as, holding, new_study, IsStipulateReply}

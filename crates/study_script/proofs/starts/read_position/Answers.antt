@@ -4,7 +4,7 @@ use Rattle.study_notation.specs.declared.start.Start.{Start}
 use Rattle.study_notation.specs.declared.fault.FenFault.{FenFault}
 use Rattle.study_notation.specs.Fen.{start_of}
 use Rattle.study_command.specs.declared.command.FenWord.TheVariants.{Position}
-use Rattle.study_script.specs.declared.refusal.Refusal.TheVariants.{Fen}
+use Rattle.study_reply.specs.declared.refusal.Refusal.TheVariants.{Fen}
 use Rattle.study_script.specs.State.{Outside, quiet}
 use Rattle.study_script.specs.Held.{Holds, BrokenOff}
 use Rattle.study_script.specs.Replies.{refused, IsPositionReply, IsStartReply}

@@ -8,8 +8,8 @@ use Rattle.study_marks.specs.Study.{plain_study}
 use Rattle.study_marks.specs.Kept.{marked}
 use Rattle.study_marks.specs.Asked.{asked_at}
 use Rattle.study_marks.specs.Edits.{positioned}
-use Rattle.study_script.specs.Words.{reply_line}
-use Rattle.study_script.specs.Names.{edit_words}
+use Rattle.study_reply.specs.Words.{reply_line}
+use Rattle.study_reply.specs.Names.{edit_words}
 use Rattle.study_script.specs.State.{quiet}
 use Rattle.study_script.specs.Held.{tables_held, tables_give, tables_may_fail, tables_asked, are_paged}
 use Rattle.study_script.specs.Replies.{accepted, refused_as, holding}

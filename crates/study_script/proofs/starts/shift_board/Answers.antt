@@ -5,7 +5,7 @@ use Rattle.study_marks.specs.Study.{plain_study}
 use Rattle.study_marks.specs.Kept.{marked}
 use Rattle.study_command.specs.declared.command.FenWord.TheVariants.{Shift}
 use Rattle.study_script.specs.declared.board.Board.TheVariants as held
-use Rattle.study_script.specs.declared.refusal.Refusal.TheVariants.{NoStudy}
+use Rattle.study_reply.specs.declared.refusal.Refusal.TheVariants.{NoStudy}
 use Rattle.study_script.specs.State.{Board, Outside, quiet, study}
 use Rattle.study_script.specs.Held.{Holds, BrokenOff}
 use Rattle.study_script.specs.Replies.{refused, IsStartReply}

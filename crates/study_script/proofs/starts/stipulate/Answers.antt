@@ -4,8 +4,8 @@ use Rattle.study_marks.specs.Study.{plain_study}
 use Rattle.study_marks.specs.Kept.{marked}
 use Rattle.study_marks.specs.Edits.{stipulated}
 use Rattle.study_script.specs.declared.board.Board.TheVariants as held
-use Rattle.study_script.specs.declared.refusal.Refusal.TheVariants.{NoPosition}
-use Rattle.study_script.specs.Words.{stipulation_words}
+use Rattle.study_reply.specs.declared.refusal.Refusal.TheVariants.{NoPosition}
+use Rattle.study_reply.specs.Words.{stipulation_words}
 use Rattle.study_script.specs.State.{Board, Outside, quiet, start}
 use Rattle.study_script.specs.Held.{Holds, BrokenOff}
 use Rattle.study_script.specs.Replies.{accepted, refused, holding, IsStipulateReply}

@@ -1,0 +1,30 @@
+use Rattle.std.proofs.Common.{[], ◌∷◌, ◌++◌}
+use Rattle.std.specs.Prelude.{codes}
+use Rattle.std.proofs.lemmas.Result.{on_err_weaker}
+use Rattle.study_tablefile.proofs.TextTaken.{TakesPrefix-first, TakesPrefix-second, OnErr-known}
+use Rattle.study_command.specs.Paths.{path_text}
+use Rattle.study_reply.specs.Words.{raised}
+use Rattle.study_reply.proofs.path_written.put_promoted.Goals as goal
+
+pub returns-in_err-put-clause-err : goal.returns-in_err-put-clause-err
+returns-in_err-put-clause-err g c =
+    OnErr-known _ _ (TakesPrefix-first (g.W.Write.contents c.args.out.now) (g.W.Write.contents c.put.new.out)
+    (codes "promote ") ((path_text (raised c.args.steps.now)) ++ (10 ∷ [])) c.in_err-put.ensures.err)
+
+pub returns-in_err-put_raised-clause-err : goal.returns-in_err-put_raised-clause-err
+returns-in_err-put_raised-clause-err g c =
+    OnErr-known _ _ (TakesPrefix-second (g.W.Write.contents c.args.out.now) (g.W.Write.contents c.put.new.out)
+    (g.W.Write.contents c.put_raised.new.out) (codes "promote ")
+    ((path_text (raised c.args.steps.now)) ++ (10 ∷ [])) c.in_ok-put.ensures.ok
+    (TakesPrefix-first (g.W.Write.contents c.put.new.out) (g.W.Write.contents c.put_raised.new.out)
+    (path_text (raised c.args.steps.now)) (10 ∷ []) c.in_err-put_raised.ensures.err))
+
+pub returns-clause-err : goal.returns-clause-err
+returns-clause-err g c =
+    on_err_weaker _
+    (λ h. (TakesPrefix-second (g.W.Write.contents c.args.out.now) (g.W.Write.contents c.put.new.out)
+    (g.W.Write.contents c.put-2.new.out) (codes "promote ")
+    ((path_text (raised c.args.steps.now)) ++ (10 ∷ [])) c.in_ok-put.ensures.ok
+    (TakesPrefix-second (g.W.Write.contents c.put.new.out) (g.W.Write.contents c.put_raised.new.out)
+    (g.W.Write.contents c.put-2.new.out) (path_text (raised c.args.steps.now)) (10 ∷ [])
+    c.in_ok-put_raised.ensures.ok h))) c.put-2.ensures.err

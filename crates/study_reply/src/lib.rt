@@ -1,0 +1,9 @@
+//! Replies to the lines of a script: why a line is refused, and what is written.
+//!
+//! A name, a path, a move or a table is told in the same words wherever it stands in a reply.
+#![tactic(auto)]
+
+pub mod path_written;
+pub mod refusal;
+pub mod told;
+pub mod words;
