@@ -43,7 +43,8 @@ pub fn tell<W: Write>(out: &mut W, told: Result<Told, Refusal>) -> Result<bool, 
     }
 }
 
-fn put_done<W: Write>(out: &mut W, told: Told) -> Result<(), DeviceFailed>
+/// Writes what a command of a class did.
+pub fn put_done<W: Write>(out: &mut W, told: Told) -> Result<(), DeviceFailed>
     ensures ok { OnOk result (Appends (W.contents out.old) (W.contents out.new) (done_text told)) }
     ensures err { OnErr result (TakesPrefix (W.contents out.old) (W.contents out.new) (done_text told)) }
 {

@@ -62,10 +62,6 @@ module _ {P A : Type 0} where
   tables_asked (Whole w) = w.asked
   tables_asked (Paged w) = w.asked
 
-  abbrev pub tables_failed : Tables P A → ℕ
-  tables_failed (Whole w) = 0
-  tables_failed (Paged w) = w.failed
-
   abbrev pub are_paged : Tables P A → Bool
   are_paged (Whole w) = false
   are_paged (Paged w) = true

@@ -10,10 +10,12 @@ ghost use Rattle.study_script.specs.Stored.{HonestOn, IsTrusted, IsTrustedAsked}
 
 use crate::board::Board;
 use crate::classes::of_class;
-use crate::nodes::{at_node, at_study, insert, set_tag, tell_pgn, tell_solution};
+use crate::inserts::insert;
+use crate::nodes::{at_node, at_study, tell_pgn, tell_solution};
 use crate::starts::{of_start, stipulate};
 use crate::store::TableStore;
 use crate::tables::Tables;
+use crate::tags::set_tag;
 use std::alloc::Allocator;
 use std::io::Write;
 use study_command::command::Command;

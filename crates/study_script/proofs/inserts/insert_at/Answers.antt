@@ -12,7 +12,7 @@ use Rattle.study_script.specs.Replies.{refused, IsMoveReply, IsMoveReplyAt}
 use Rattle.study_script.proofs.HeldBehindReplies.{ok_weaker, err_weaker}
 use Rattle.study_script.proofs.PlainNodes.{start_there, start_gone, position_at-plain}
 use Rattle.study_board.specs.Position.{Position}
-use Rattle.study_script.proofs.nodes.insert_at.Goals as goal
+use Rattle.study_script.proofs.inserts.insert_at.Goals as goal
 
 pub insert_san-requires : goal.insert_san-requires
 insert_san-requires g c = record { at = (start_there (marked c.args.bench.now) c.args.path.now c.in-Some.start (sym c.in-Some.is ∙ c.start_at.ensures)).1 }

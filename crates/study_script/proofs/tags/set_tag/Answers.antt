@@ -8,7 +8,7 @@ use Rattle.study_script.specs.State.{Board, Outside, quiet, study}
 use Rattle.study_script.specs.Held.{BrokenOff, HoldsFrom, HoldsBenchFrom}
 use Rattle.study_script.specs.Replies.{Reply, refused, tag_reply}
 use Rattle.study_script.proofs.HeldBehindReplies.{board_kept, bench_of, board_of, empty_seen, start_seen, study_seen, ok_weaker, err_weaker}
-use Rattle.study_script.proofs.nodes.set_tag.Goals as goal
+use Rattle.study_script.proofs.tags.set_tag.Goals as goal
 
 pub returns-in_err-refuse-in-Empty-clause-err : goal.returns-in_err-refuse-in-Empty-clause-err
 returns-in_err-refuse-in-Empty-clause-err g c =

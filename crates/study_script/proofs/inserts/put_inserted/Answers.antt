@@ -7,7 +7,7 @@ use Rattle.study_tablefile.proofs.TextTaken.{TakesPrefix-first, TakesPrefix-seco
 use Rattle.study_notation.specs.Written.{move_text}
 use Rattle.study_command.specs.Paths.{path_text}
 use Rattle.study_reply.specs.Words.{reply_line}
-use Rattle.study_script.proofs.nodes.put_inserted.Goals as goal
+use Rattle.study_script.proofs.inserts.put_inserted.Goals as goal
 
 same_text : (a b : List ℕ) → a ≡ b → reply_line (codes " ") a ≡ reply_line (codes " ") b
 same_text a b e = ap (reply_line (codes " ")) e

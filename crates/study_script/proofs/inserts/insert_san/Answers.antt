@@ -11,7 +11,7 @@ use Rattle.study_script.specs.State.{Outside, quiet}
 use Rattle.study_script.specs.Held.{Holds, BrokenOff}
 use Rattle.study_script.specs.Replies.{refused, IsMoveReply}
 use Rattle.study_script.proofs.HeldBehindReplies.{ok_weaker, err_weaker}
-use Rattle.study_script.proofs.nodes.insert_san.Goals as goal
+use Rattle.study_script.proofs.inserts.insert_san.Goals as goal
 
 pub returns-in-Ok-clause-ok : goal.returns-in-Ok-clause-ok
 returns-in-Ok-clause-ok g c =

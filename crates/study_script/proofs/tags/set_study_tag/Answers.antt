@@ -16,7 +16,7 @@ use Rattle.study_script.proofs.HeldBehindReplies.{bench_edited, bench_same}
 use Rattle.study_script.specs.Held.{BrokenOff}
 use Rattle.study_script.specs.State.{Outside, study}
 use Rattle.study_script.specs.Replies.{Reply, tag_reply}
-use Rattle.study_script.proofs.nodes.set_study_tag.Goals as goal
+use Rattle.study_script.proofs.tags.set_study_tag.Goals as goal
 
 pub returns-in_err-put_line-in-Ok-clause-err : goal.returns-in_err-put_line-in-Ok-clause-err
 returns-in_err-put_line-in-Ok-clause-err g c = λ s h.

@@ -10,7 +10,7 @@ use Rattle.study_script.specs.Held.{Holds, BrokenOff}
 use Rattle.study_script.specs.Replies.{refused, IsInsertReply}
 use Rattle.study_script.proofs.HeldBehindReplies.{ok_weaker, err_weaker}
 use Rattle.study_script.proofs.Boards.{holds_of, seen_of}
-use Rattle.study_script.proofs.nodes.insert.Goals as goal
+use Rattle.study_script.proofs.inserts.insert.Goals as goal
 
 pub returns-in-Study-clause-ok : goal.returns-in-Study-clause-ok
 returns-in-Study-clause-ok g c =

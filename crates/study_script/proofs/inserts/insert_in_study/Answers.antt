@@ -13,7 +13,7 @@ use Rattle.std.proofs.lemmas.Bool.{false≢true}
 use Rattle.study_script.proofs.Boards.{ok_told, err_told}
 use Rattle.study_script.proofs.PlainNodes.{no_path_insert}
 use Rattle.study_script.proofs.InsertReplies.{with_path}
-use Rattle.study_script.proofs.nodes.insert_in_study.Goals as goal
+use Rattle.study_script.proofs.inserts.insert_in_study.Goals as goal
 
 pub returns-in-Ok-clause-ok : goal.returns-in-Ok-clause-ok
 returns-in-Ok-clause-ok g c =

@@ -20,7 +20,7 @@ use Rattle.std.specs.Prelude.{MatchOption, IfErr}
 use Rattle.study_marks.specs.Asked.{IsOutside}
 use Rattle.study_marks.specs.Answers.{TellsFirstFault}
 use Rattle.study_script.proofs.TablesFaults.{failing_known}
-use Rattle.study_script.proofs.nodes.insert_move.Goals as goal
+use Rattle.study_script.proofs.inserts.insert_move.Goals as goal
 
 pub returns-in_err-put_inserted-in-Ok-clause-err : goal.returns-in_err-put_inserted-in-Ok-clause-err
 returns-in_err-put_inserted-in-Ok-clause-err g c = λ s h.
