@@ -122,8 +122,8 @@ def scripts():
     texts = [("row of the program's test", open(f"{TOP}/crates/studybench/stdin", "rb").read())]
     for name in names:
         text = open(f"{TOP}/examples/{name}", "rb").read()
-        last = re.findall(rb"(?m)^build (\S+)", text)[-1]
-        if len(last) <= 3 and not name.startswith("small_tables"):
+        built = re.findall(rb"(?m)^build (\S+)", text)
+        if built and len(built[-1]) <= 3 and not name.startswith("small_tables"):
             texts.append((name, text))
     saves = b"build KK\nsave KK\nbuild KRK\nverify KRK\nsave KRK\nsave KQK\n"
     for name, text in texts:
