@@ -1,0 +1,42 @@
+-- A store that was just made is the shelf of its files.
+use Rattle.std.proofs.Common.{◌≡◌, ◌<◌, ℕ, Bool, true, false, List, replicate, Option, Some, refl, ap, subst, sym}
+use Rattle.std.proofs.lemmas.List.{get_or-replicate}
+use Rattle.study_material.specs.declared.class.Class.{Class}
+use Rattle.study_retro.specs.Table.{class_place}
+use Rattle.study_tablefile.specs.declared.fault.SourceFault.{SourceFault}
+use Rattle.study_script.specs.State.{Shelf}
+use Rattle.study_script.proofs.HeldTables.{place_below}
+use Rattle.study_web.specs.declared.spans.Span.{Span}
+use Rattle.study_web.specs.Spans.{file_in, bytes_given, header_given, file_faults}
+use Rattle.study_web.specs.Store.{is_written, known, faults_known, IsShelf, AreRightFiles}
+
+-- all that is known of a store
+abbrev pub shelf_in : List Span → List ℕ → List Bool → Shelf
+shelf_in spans bytes written = record {
+  files = known bytes_given spans bytes written;
+  headers = known header_given spans bytes written;
+  faults = faults_known spans bytes written;
+}
+
+none_written : (c : Class) → is_written (replicate 36 false) c ≡ false
+none_written c = get_or-replicate 36 (class_place c) false false (place_below c)
+
+module _ (spans : List Span) (bytes : List ℕ) where
+  known_at_first : {T : Type 0} (told : Option (List ℕ) → T) (c : Class)
+      → known told spans bytes (replicate 36 false) c ≡ Some (told (file_in spans bytes c))
+  known_at_first told c = rw (none_written c) refl
+
+  faults_at_first : (c : Class) (f : SourceFault) → faults_known spans bytes (replicate 36 false) c f ≡ file_faults (file_in spans bytes c) c f
+  faults_at_first c f = rw (none_written c) refl
+
+  pub first_shelf : IsShelf spans bytes (shelf_in spans bytes (replicate 36 false))
+  first_shelf = record { files = known_at_first bytes_given; headers = known_at_first header_given; faults = faults_at_first }
+
+-- the same of a store that has these spans and bytes
+pub shelf_made : {spans at : List Span} {bytes bs : List ℕ} {written : List Bool} → at ≡ spans → bs ≡ bytes → written ≡ replicate 36 false
+    → IsShelf spans bytes (shelf_in at bs written)
+shelf_made {spans} {at} {bytes} {bs} {written} e f w = rw (e, f, w) (first_shelf spans bytes)
+
+pub honest_made : {spans at : List Span} {bytes bs : List ℕ} (trusted : Class → Bool) (by_pages : Bool) → at ≡ spans → bs ≡ bytes
+    → AreRightFiles trusted by_pages spans bytes → AreRightFiles trusted by_pages at bs
+honest_made trusted by_pages e f right = rw (e, f) right

@@ -1,0 +1,39 @@
+-- The files that a page hands in: a directory of spans into one text of bytes.
+use Rattle.std.specs.Prelude.{◌==◌, nat_le, ℕ, ◌+◌, Bool, true, false, ◌&&◌, List, [], ◌∷◌, length, take, drop, if◌then◌else◌, Option, Some, None, Result, Ok, Err}
+use Rattle.study_material.specs.declared.class.Class.{Class}
+use Rattle.study_retro.specs.Table.{class_place}
+use Rattle.study_tablefile.specs.declared.fault.SourceFault.{SourceFault}
+use Rattle.study_script.specs.declared.store.StoreFault.{StoreFault}
+use Rattle.study_script.specs.declared.store.StoreFault.TheVariants.{NoFile}
+use Rattle.study_script.specs.Memory.{IsRightText, text_faults}
+use Rattle.study_script.specs.Stored.{IsRightFile}
+use Rattle.study_web.specs.declared.spans.Span.{Span}
+
+-- a span for this class that lies within the bytes
+abbrev pub is_file_of : Class → List ℕ → Span → Bool
+is_file_of c bytes s = (s.class == class_place c) && nat_le (s.start + s.length) (length bytes)
+
+-- the file of a class: what the first such span has
+abbrev pub file_in : List Span → List ℕ → Class → Option (List ℕ)
+file_in [] bytes c = None
+file_in (s ∷ more) bytes c = if is_file_of c bytes s then Some (take s.length (drop s.start bytes)) else file_in more bytes c
+
+-- what a file gives from front to back, and what it tells as its header
+abbrev pub bytes_given : Option (List ℕ) → Result (List ℕ) StoreFault
+bytes_given None = Err NoFile
+bytes_given (Some file) = Ok file
+
+abbrev pub header_given : Option (List ℕ) → Result (List ℕ) StoreFault
+header_given None = Err NoFile
+header_given (Some file) = Ok (take 64 file)
+
+-- for which faults its pages may not be read: where it is too short for its class, for no other
+abbrev pub file_faults : Option (List ℕ) → Class → SourceFault → Bool
+file_faults None c f = false
+file_faults (Some file) c f = text_faults false file c f
+
+-- by pages it is the text of a right table; from front to back it reads as a right one, if as a table
+abbrev pub IsHonestIn : Bool → Option (List ℕ) → Type 0
+IsHonestIn by_pages None = Unit {0}
+IsHonestIn true (Some file) = IsRightText file
+IsHonestIn false (Some file) = IsRightFile (Some file)

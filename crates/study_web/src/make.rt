@@ -1,0 +1,186 @@
+//! The file of a class's table, built from the files of the tables that it needs.
+ghost use Rattle.std.specs.Prelude.{◌≡◌, ℕ, List, false, Some, Ok, OnOk, IfOk, IfErr};
+ghost use Rattle.study_material.specs.declared.class.Class.{Class as AClass};
+ghost use Rattle.study_material.specs.Needs.{IsNeeded};
+ghost use Rattle.study_retro.specs.Sound.{IsRight};
+ghost use Rattle.study_prober.specs.Whole.{TablesAreRight};
+ghost use Rattle.study_tablefile.specs.Reading.{table_read};
+ghost use Rattle.study_web.specs.Spans.{file_in, IsHonestIn};
+ghost use Rattle.study_web.specs.Making.{IsRightFileOf, IsFaultIn, IsMakeFault};
+ghost use Rattle.study_web.specs.declared.spans.Span.{Span as ASpan};
+
+use crate::spans::{Span, file_in};
+use std::alloc::{AllocError, Allocator};
+use study_index::cells;
+use study_material::{Class, order};
+use study_prober::WholeTables;
+use study_retro::{BuildFault, BuildRoom, Table, TableSet, build};
+use study_tablefile::{FileFault, read_table, write_table};
+use thiserror::Error;
+
+/// Why the file of a class is not made.
+#[derive(Clone, Copy, Debug, PartialEq, Eq, Error)]
+pub enum MakeFault {
+    /// A table that the class needs is not held: it has no file, or one that it needs itself has none.
+    #[error("MissingTable {0:?}")]
+    MissingTable(Class),
+    #[error("{0:?}: {1}")]
+    File(Class, FileFault),
+    /// The file of the first class has a table of the second.
+    #[error("{0:?}: OtherClass {1:?}")]
+    OtherClass(Class, Class),
+    #[error("DistanceTooLarge")]
+    DistanceTooLarge,
+    #[error("OutOfMemory")]
+    OutOfMemory,
+}
+
+impl From<AllocError> for MakeFault {
+    ghost use Rattle.std.specs.Prelude.{◌≡◌};
+    ghost use Rattle.study_web.specs.declared.make.MakeFault.TheVariants.{OutOfMemory};
+
+    ghost from_gives = { λ _ fault. fault ≡ OutOfMemory };
+
+    fn from(_error: AllocError) -> MakeFault {
+        MakeFault::OutOfMemory
+    }
+}
+
+impl From<BuildFault> for MakeFault {
+    ghost use Rattle.study_web.specs.Making.{of_build};
+
+    ghost from_gives = { λ reason fault. fault ≡ of_build reason };
+
+    fn from(reason: BuildFault) -> MakeFault {
+        match reason {
+            BuildFault::MissingTable(need) => MakeFault::MissingTable(need),
+            BuildFault::DistanceTooLarge => MakeFault::DistanceTooLarge,
+        }
+    }
+}
+
+/// Builds the table of a class from the files of those that it needs, and gives its file.
+///
+/// Where the files of these are right, so is what is given.
+pub fn make_file<'a, A: Allocator>(
+    alloc: &'a A,
+    class: Class,
+    spans: &[Span],
+    bytes: &[u8],
+) -> Result<Vec<u8, &'a A>, MakeFault>
+    ensures right { ((d : AClass) → IsNeeded class d → IsHonestIn false (file_in spans.now bytes.now d))
+        → IfOk result (λ file. IsRightFileOf class file.items) }
+    ensures fault { IfErr result (IsMakeFault spans.now bytes.now class) }
+{
+    let tables = needed_tables(alloc, class, spans, bytes)?;
+    let table = built(alloc, class, &tables)?;
+    text_of(alloc, &table)
+}
+
+/// The table of a class, from those that it needs.
+#[tactic(auto, using(crate::proofs::Faults::needs_right))]
+fn built<'a, A: Allocator>(
+    alloc: &'a A,
+    class: Class,
+    tables: &WholeTables<'a, A>,
+) -> Result<Table<'a, A>, MakeFault>
+    ensures class { IfOk result (λ t. t.class ≡ class) }
+    ensures right { TablesAreRight tables.now.tables → IfOk result IsRight }
+    ensures fault { (spans : List ASpan) (bytes : List ℕ) → IfErr result (IsMakeFault spans bytes class) }
+{
+    let room = BuildRoom::new(alloc, cells(class))?;
+    let (table, _) = build(class, tables.tables(), room)?;
+    Ok(table)
+}
+
+/// The file of a table.
+fn text_of<'a, A: Allocator>(
+    alloc: &'a A,
+    table: &Table<'a, A>,
+) -> Result<Vec<u8, &'a A>, MakeFault>
+    ensures ok { (c : AClass) → table.now.class ≡ c → IsRight table.now → IfOk result (λ file. IsRightFileOf c file.items) }
+    ensures err { (spans : List ASpan) (bytes : List ℕ) (c : AClass) → IfErr result (IsMakeFault spans bytes c) }
+{
+    let mut file = Vec::new(alloc);
+    match write_table(table, &mut file) {
+        Ok(()) => Ok(file),
+        Err(_) => Err(MakeFault::OutOfMemory),
+    }
+}
+
+/// The tables of all classes that the class needs, as far as they have files.
+fn needed_tables<'a, A: Allocator>(
+    alloc: &'a A,
+    class: Class,
+    spans: &[Span],
+    bytes: &[u8],
+) -> Result<WholeTables<'a, A>, MakeFault>
+    ensures right { ((d : AClass) → IsNeeded class d → IsHonestIn false (file_in spans.now bytes.now d))
+        → IfOk result (λ w. TablesAreRight w.tables) }
+    ensures fault { IfErr result (IsMakeFault spans.now bytes.now class) }
+{
+    let mut tables = WholeTables::new(TableSet::new(alloc)?);
+    let needed = order(class);
+    for need in needed.as_slice() {
+        hold_needed(alloc, &mut tables, class, *need, spans, bytes)?;
+    }
+    Ok(tables)
+}
+
+/// The same for one class that is needed. The class itself is among those that it needs, and is passed over.
+#[tactic(auto, using(crate::proofs::Faults::fault_raised))]
+fn hold_needed<'a, A: Allocator>(
+    alloc: &'a A,
+    tables: &mut WholeTables<'a, A>,
+    class: Class,
+    need: Class,
+    spans: &[Span],
+    bytes: &[u8],
+) -> Result<(), MakeFault>
+    requires { IsNeeded class need }
+    ensures right { ((d : AClass) → IsNeeded class d → IsHonestIn false (file_in spans.now bytes.now d)) → TablesAreRight tables.old.tables
+        → OnOk result (TablesAreRight tables.new.tables) }
+    ensures fault { IfErr result (IsMakeFault spans.now bytes.now class) }
+{
+    if need == class {
+        return Ok(());
+    }
+    hold(alloc, tables, need, spans, bytes)
+}
+
+/// Holds the table of a class, where it has a file and all that it needs is held.
+fn hold<'a, A: Allocator>(
+    alloc: &'a A,
+    tables: &mut WholeTables<'a, A>,
+    class: Class,
+    spans: &[Span],
+    bytes: &[u8],
+) -> Result<(), MakeFault>
+    ensures right { IsHonestIn false (file_in spans.now bytes.now class) → TablesAreRight tables.old.tables
+        → OnOk result (TablesAreRight tables.new.tables) }
+    ensures fault { IfErr result (IsFaultIn (file_in spans.now bytes.now class) class) }
+{
+    let Some(file) = file_in(spans, bytes, class) else {
+        return Ok(());
+    };
+    let table = table_in(alloc, class, file)?;
+    let _ = tables.add(table);
+    Ok(())
+}
+
+/// The table of a class in its file.
+fn table_in<'a, A: Allocator>(
+    alloc: &'a A,
+    class: Class,
+    file: &[u8],
+) -> Result<Table<'a, A>, MakeFault>
+    ensures ok { IfOk result (λ t. table_read file.now ≡ Ok t) }
+    ensures fault { IfErr result (IsFaultIn (Some file.now) class) }
+{
+    let mut reader = file;
+    match read_table(alloc, &mut reader) {
+        Ok(table) if table.class() == class => Ok(table),
+        Ok(table) => Err(MakeFault::OtherClass(class, table.class())),
+        Err(fault) => Err(MakeFault::File(class, fault)),
+    }
+}

@@ -1,0 +1,50 @@
+//! The replies to a script over the files that are handed in.
+ghost use Rattle.std.specs.Prelude.{◌≡◌, ◌≤◌, ℕ, Bool, List, [], Option, Some, IfSome, is_some};
+ghost use Rattle.study_material.specs.declared.class.Class.{Class as AClass};
+ghost use Rattle.study_script.specs.Outcome.{Outcome, begun_state};
+ghost use Rattle.study_script.specs.State.{Shelf};
+ghost use Rattle.study_script.specs.Stored.{AreTrusted};
+ghost use Rattle.study_web.specs.Store.{IsShelf, AreRightFiles};
+
+use crate::saved::Saved;
+use crate::spans::Span;
+use crate::store::SpanStore;
+use std::alloc::Allocator;
+use study_script::run::{RunFault, Settings, Summary, run};
+
+/// What a run wrote, and how it ended.
+#[derive(Drop)]
+pub struct Ended<'a, A: Allocator> {
+    pub replies: Vec<u8, &'a A>,
+    pub summary: Result<Summary, RunFault>,
+}
+
+/// Answers a script over the files that are handed in. What it saves is put into the cells, one for each class.
+///
+/// Tables are held whole, or so many pages of them. The replies are those of the script, over files of which nothing is presumed but
+/// that those of the classes which it loads are right.
+pub fn replies_over<'f, 'a, A: Allocator>(
+    alloc: &'a A,
+    script: &[u8],
+    spans: &'f [Span],
+    bytes: &'f [u8],
+    saved: &[Saved<'a, A>],
+    pages: Option<u16>,
+) -> Ended<'a, A>
+    requires { IfSome pages (λ n. (1 ≤ n) × (n ≤ 4096)) }
+    ensures { (trusted : AClass → Bool) → AreRightFiles trusted (is_some pages) spans.now bytes.now → AreTrusted trusted script.now
+        → (shelf : Shelf) × IsShelf spans.now bytes.now shelf × (left : Option (List ℕ))
+        × Outcome (begun_state shelf (is_some pages)) script.now left (Some []) (Some result.replies.items) result.summary }
+{
+    let mut store = SpanStore::new(alloc, spans, bytes, saved);
+    let mut reader = script;
+    let mut replies = Vec::new(alloc);
+    let summary = run(
+        alloc,
+        &mut reader,
+        &mut replies,
+        &mut store,
+        Settings { pages },
+    );
+    Ended { replies, summary }
+}

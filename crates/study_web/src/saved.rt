@@ -1,0 +1,47 @@
+//! Files that a script saves.
+ghost use Rattle.std.specs.Prelude.{◌≡◌, length};
+
+use std::alloc::{AllocError, Allocator};
+use std::cell::RefCell;
+use std::io;
+use std::io::{ErrorKind, Write};
+
+/// The bytes of a file that a script saves; `None` where it saved none. A file that is saved again begins anew.
+pub type Saved<'a, A> = RefCell<Option<Vec<u8, &'a A>>>;
+
+/// A cell for each class, in the order of the class list, of which none is saved.
+pub fn none_saved<'a, A: Allocator>(alloc: &'a A) -> Result<Vec<Saved<'a, A>, &'a A>, AllocError> {
+    let mut cells = Vec::new(alloc);
+    for _ in 0..36u8 {
+        cells.push(RefCell::new(None))?;
+    }
+    Ok(cells)
+}
+
+/// The writer of such a file. What a cell holds is not known to a clause.
+#[derive(Drop)]
+pub struct SavedFile<'w, 'a, A: Allocator> {
+    cell: &'w Saved<'a, A>,
+}
+
+impl<'w, 'a, A: Allocator> SavedFile<'w, 'a, A> {
+    /// Begins the file anew, without a byte.
+    pub fn new(alloc: &'a A, cell: &'w Saved<'a, A>) -> io::Result<Self> {
+        *cell.try_borrow_mut()? = Some(Vec::new(alloc));
+        Ok(SavedFile { cell })
+    }
+}
+
+impl<'w, 'a, A: Allocator> Write for SavedFile<'w, 'a, A> {
+    fn write(&mut self, buf: &[u8]) -> io::Result<usize> {
+        let mut file = self.cell.try_borrow_mut()?;
+        match &mut *file {
+            None => Err(io::Error::from(ErrorKind::Other)),
+            Some(bytes) => bytes.write(buf),
+        }
+    }
+
+    fn flush(&mut self) -> io::Result<()> {
+        Ok(())
+    }
+}

@@ -1,0 +1,40 @@
+//! The directory of the files that are handed in.
+ghost use Rattle.std.specs.Prelude.{◌≡◌, ◌≤◌, ◌+◌, ◌↔◌, IsTrue, MatchOption, Some, None, length, take, drop};
+ghost use Rattle.study_web.specs.Spans.{is_file_of, file_in};
+
+use study_material::Class;
+
+/// Where the file of a class lies in the bytes that are handed in.
+#[derive(Clone, Copy, Debug, PartialEq, Eq)]
+pub struct Span {
+    /// The place of the class in the class list, from 0. A place that no class has is that of no file.
+    pub class: usize,
+    /// The file's first byte, from 0.
+    pub start: usize,
+    /// In bytes.
+    pub length: usize,
+}
+
+/// Whether the span is for this class and lies within the bytes.
+fn is_file_of(class: Class, bytes: &[u8], span: &Span) -> bool
+    ensures value { result ≡ is_file_of class bytes.now span.now }
+    ensures within { IsTrue result → span.now.start + span.now.length ≤ length bytes.now }
+{
+    span.class == class as usize
+        && span.start <= bytes.len()
+        && span.length <= bytes.len() - span.start
+}
+
+/// The file of a class: what the first of its spans that lies within the bytes has. Spans may overlap.
+pub fn file_in<'f>(spans: &[Span], bytes: &'f [u8], class: Class) -> Option<&'f [u8]>
+    ensures { MatchOption result (file_in spans.now bytes.now class ≡ None) (λ file. file_in spans.now bytes.now class ≡ Some file.now) }
+{
+    for span in spans {
+        if is_file_of(class, bytes, span) {
+            let (_, rest) = bytes.split_at(span.start);
+            let (file, _) = rest.split_at(span.length);
+            return Some(file);
+        }
+    }
+    None
+}

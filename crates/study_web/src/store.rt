@@ -1,0 +1,101 @@
+//! A store of tables over the files that are handed in.
+ghost use Rattle.std.specs.Prelude.{◌≡◌, false, replicate, length, IfOk, IfErr};
+ghost use Rattle.study_material.specs.declared.class.Class.{Class as AClass};
+ghost use Rattle.study_web.specs.Spans.{bytes_given, header_given, file_in, IsHonestIn};
+ghost use Rattle.study_web.specs.Store.{known, faults_known, IsFileGiven, IsWithheld};
+
+use crate::saved::{Saved, SavedFile};
+use crate::spans::{Span, file_in};
+use std::alloc::Allocator;
+use study_material::Class;
+use study_script::store::{StoreFault, TableStore};
+use study_tablefile::memory::{MemoryReader, MemorySource};
+
+/// The files that are handed in, and cells for those that a script saves: one for each class, in the order of the class list. A class
+/// without a cell is not saved.
+#[derive(Drop)]
+pub struct SpanStore<'f, 'w, 'a, A: Allocator> {
+    alloc: &'a A,
+    spans: &'f [Span],
+    bytes: &'f [u8],
+    saved: &'w [Saved<'a, A>],
+    /// Which classes' files were opened to be written.
+    written: [bool; 36],
+    ghost full: { length written ≡ 36 },
+}
+
+impl<'f, 'w, 'a, A: Allocator> SpanStore<'f, 'w, 'a, A> {
+    pub fn new(alloc: &'a A, spans: &'f [Span], bytes: &'f [u8], saved: &'w [Saved<'a, A>]) -> Self
+        ensures spans { result.spans.now ≡ spans.now }
+        ensures bytes { result.bytes.now ≡ bytes.now }
+        ensures written { result.written ≡ replicate 36 false }
+    {
+        SpanStore {
+            alloc,
+            spans,
+            bytes,
+            saved,
+            written: [false; 36],
+        }
+    }
+
+    /// The file of a class; one that was written is not read again over this store.
+    fn file(&self, class: Class) -> Result<&'f [u8], StoreFault>
+        ensures ok { IfOk result (λ file. IsFileGiven self.now.spans.now self.now.bytes.now self.now.written class file.now) }
+        ensures err { IfErr result (IsWithheld self.now.spans.now self.now.bytes.now self.now.written class) }
+    {
+        if self.written[class as usize] {
+            return Err(StoreFault::Device);
+        }
+        match file_in(self.spans, self.bytes, class) {
+            Some(file) => Ok(file),
+            None => Err(StoreFault::NoFile),
+        }
+    }
+}
+
+impl<'f, 'w, 'a, A: Allocator> TableStore for SpanStore<'f, 'w, 'a, A> {
+    type Reader = MemoryReader<'f>;
+
+    type Writer = SavedFile<'w, 'a, A>;
+
+    type Pages = MemorySource<'f>;
+
+    ghost honest = { λ s by_pages c. IsHonestIn by_pages (file_in s.spans.now s.bytes.now c) };
+
+    ghost files = { λ s c. known bytes_given s.spans.now s.bytes.now s.written c };
+
+    ghost headers = { λ s c. known header_given s.spans.now s.bytes.now s.written c };
+
+    ghost faults = { λ s c f. faults_known s.spans.now s.bytes.now s.written c f };
+
+    fn reader(&mut self, class: Class) -> Result<MemoryReader<'f>, StoreFault> {
+        match self.file(class) {
+            Ok(file) => Ok(MemoryReader::new(file)),
+            Err(fault) => Err(fault),
+        }
+    }
+
+    fn writer(&mut self, class: Class) -> Result<SavedFile<'w, 'a, A>, StoreFault> {
+        self.written[class as usize] = true;
+        match self.saved.get(class as usize) {
+            None => Err(StoreFault::Device),
+            Some(cell) => match SavedFile::new(self.alloc, cell) {
+                Ok(file) => Ok(file),
+                Err(_) => Err(StoreFault::Device),
+            },
+        }
+    }
+
+    fn pages(&mut self, class: Class) -> Result<MemorySource<'f>, StoreFault> {
+        match self.file(class) {
+            Ok(text) => Ok(MemorySource {
+                text,
+                asked: 0,
+                fails_at: None,
+                failures: 0,
+            }),
+            Err(fault) => Err(fault),
+        }
+    }
+}
