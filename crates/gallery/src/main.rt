@@ -1,13 +1,21 @@
-//! Answers studies of the gallery: for each word of the command line the script of that name, after a line with its name. Its tables are
-//! built on the way, since there are no files. The gate compares what it writes with the gallery's expected replies.
+//! Answers and reports studies of the gallery: for each word of the command line the script of that name, after a line with its name, then
+//! the lines of its studies. Its tables are built on the way, since there are no files. The gate compares what it writes with the gallery's
+//! expected replies and lines.
 #![tactic(auto)]
 
 use std::alloc::{Allocator, Global};
 use std::io::{BufReader, ErrorKind, LineWriter, Write};
 use std::process::ExitCode;
 use std::{env, fs, io};
+use study_command::lines::Line;
+use study_prober::WholeTables;
+use study_report::{Lines, follow};
+use study_retro::TableSet;
+use study_script::board::Board;
+use study_script::desk::StudyDesk;
 use study_script::memory::MemoryStore;
-use study_script::run::{Settings, run};
+use study_script::run::{RunFault, Summary, run_in};
+use study_script::tables::Tables;
 
 /// The exit status is 0 where each script was run to its end, and 1 where one was not.
 fn main(rt: HostRuntime) -> ExitCode {
@@ -40,15 +48,24 @@ fn answer<W: Write>(rt: &HostRuntime, alloc: Global, name: &str, out: &mut W) ->
     let mut path = String::new(alloc);
     path.push_str(name)?;
     path.push_str(".script")?;
-    let mut script = BufReader::new(alloc, fs::open(rt, path.as_str())?)?;
     let mut store = no_files(&alloc);
-    match run(
-        &alloc,
-        &mut script,
-        out,
-        &mut store,
-        Settings { pages: None },
-    ) {
+    let mut line = Line::new(&alloc)?;
+    let mut desk = StudyDesk {
+        alloc: &alloc,
+        board: Board::Empty,
+        tables: Tables::Whole(WholeTables::new(TableSet::new(&alloc)?)),
+        store: &mut store,
+    };
+    let mut script = BufReader::new(alloc, fs::open(rt, path.as_str())?)?;
+    ended(run_in(&mut line, &mut script, out, &mut desk))?;
+    writeln!(out, "== {name}, lines of a report")?;
+    desk.board = Board::Empty;
+    let mut script = BufReader::new(alloc, fs::open(rt, path.as_str())?)?;
+    ended(follow(&mut line, &mut script, out, &mut Lines, &mut desk))
+}
+
+fn ended(answer: Result<Summary, RunFault>) -> io::Result<()> {
+    match answer {
         Ok(_) => Ok(()),
         Err(_) => Err(io::Error::from(ErrorKind::Other)),
     }
