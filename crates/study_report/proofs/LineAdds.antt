@@ -23,64 +23,59 @@ use Rattle.study_report.specs.Written.{Adds, Stops, StopsIn, IsSection, IsSectio
 abbrev pub RefusalWritten : List ℕ → Option (List ℕ) → Option (List ℕ) → Told → Type 0
 RefusalWritten text old new told = (told ≡ ARefusal) × Appends old new text
 
--- a line that adds this
-pub adds-that : {IsIt : Added → Type 0} {HoldsIt : State → Type 0} (a : Added) (old new : Option (List ℕ)) (told : Told) → IsIt a
-    → Appends old new a.text → HoldsIt a.after.state → told ≡ a.told → Adds IsIt HoldsIt old new told
-adds-that a old new told is wrote held same = (a, is, wrote, held, same)
-
-pub adds-weaker : {I J : Added → Type 0} {H K : State → Type 0} (r : Result Told RunFault) (old new : Option (List ℕ)) → ((a : Added) → I a → J a)
+pub adds-weaker : (I J : Added → Type 0) (H K : State → Type 0) (r : Result Told RunFault) (old new : Option (List ℕ)) → ((a : Added) → I a → J a)
     → ((s : State) → H s → K s) → IfOk r (Adds I H old new) → IfOk r (Adds J K old new)
-adds-weaker {I = I} {J = J} {H = H} {K = K} r old new f g h =
+adds-weaker I J H K r old new f g h =
     IfOk-weaker r (Adds I H old new) (Adds J K old new) (λ told (a, is, wrote, held, same). (a, f a is, wrote, g a.after.state held, same)) h
 
-stops-same : {I J : Added → Type 0} (old new : Option (List ℕ)) (fault : RunFault) → ((a : Added) → I a → J a) → Stops I old new fault
+stops-same : (I J : Added → Type 0) (old new : Option (List ℕ)) (fault : RunFault) → ((a : Added) → I a → J a) → Stops I old new fault
     → Stops J old new fault
-stops-same old new WriteDevice f (a, is, part) = (a, f a is, part)
-stops-same old new OutOfMemory f h = h
-stops-same old new ReadDevice f h = absurd h
-stops-same old new (LineTooLong n) f h = absurd h
-stops-same old new TooManyLines f h = absurd h
+stops-same I J old new WriteDevice f (a, is, part) = (a, f a is, part)
+stops-same I J old new OutOfMemory f h = h
+stops-same I J old new ReadDevice f h = absurd h
+stops-same I J old new (LineTooLong n) f h = absurd h
+stops-same I J old new TooManyLines f h = absurd h
 
-pub stops-weaker : {I J : Added → Type 0} (r : Result Told RunFault) (old new : Option (List ℕ)) → ((a : Added) → I a → J a)
+pub stops-weaker : (I J : Added → Type 0) (r : Result Told RunFault) (old new : Option (List ℕ)) → ((a : Added) → I a → J a)
     → IfErr r (Stops I old new) → IfErr r (Stops J old new)
-stops-weaker {I = I} {J = J} r old new f h = IfErr-weaker r (Stops I old new) (Stops J old new) (λ fault. stops-same {I = I} {J = J} old new fault f) h
+stops-weaker I J r old new f h = IfErr-weaker r (Stops I old new) (Stops J old new) (λ fault. stops-same I J old new fault f) h
 
-stops-in : {I : Added → Type 0} (a : Added) (old new : Option (List ℕ)) (fault : RunFault) → I a → StopsIn a.text old new fault
+stops-in : (I : Added → Type 0) (a : Added) (old new : Option (List ℕ)) (fault : RunFault) → I a → StopsIn a.text old new fault
     → Stops I old new fault
-stops-in a old new WriteDevice is part = (a, is, part)
-stops-in a old new OutOfMemory is h = h
-stops-in a old new ReadDevice is h = absurd h
-stops-in a old new (LineTooLong n) is h = absurd h
-stops-in a old new TooManyLines is h = absurd h
+stops-in I a old new WriteDevice is part = (a, is, part)
+stops-in I a old new OutOfMemory is h = h
+stops-in I a old new ReadDevice is h = absurd h
+stops-in I a old new (LineTooLong n) is h = absurd h
+stops-in I a old new TooManyLines is h = absurd h
 
 module _ (tells : Plainly → ℕ → List ℕ → Type 0) (refusal : ℕ → List ℕ → List ℕ → List ℕ) where
   -- a refusal is written: by the number of the line and the bytes of its reply
-  pub refusal-adds : {I : Added → Type 0} {H : State → Type 0} (p : Point) (line : List ℕ) (reply : Reply) (number : ℕ) (bytes : List ℕ)
+  pub refusal-adds : (I : Added → Type 0) (H : State → Type 0) (p : Point) (line : List ℕ) (reply : Reply) (number : ℕ) (bytes : List ℕ)
       (r : Result Told RunFault) (old new : Option (List ℕ)) → number ≡ suc p.lines → bytes ≡ reply.text
       → I (refusal_added tells refusal p line reply) → H reply.state → IfOk r (RefusalWritten (refusal number line bytes) old new)
       → IfOk r (Adds I H old new)
-  refusal-adds {I = I} {H = H} p line reply number bytes r old new n b is held h =
+  refusal-adds I H p line reply number bytes r old new n b is held h =
       let same : refusal number line bytes ≡ refusal (suc p.lines) line reply.text =
       ap (λ i. refusal i line bytes) n ∙ ap (refusal (suc p.lines) line) b in
       IfOk-weaker r (RefusalWritten (refusal number line bytes) old new) (Adds I H old new)
       (λ told (t, wrote). (refusal_added tells refusal p line reply, is, subst (Appends old new) same wrote, held, t)) h
 
-  pub refusal-stops : {I : Added → Type 0} (p : Point) (line : List ℕ) (reply : Reply) (number : ℕ) (bytes : List ℕ)
+  pub refusal-stops : (I : Added → Type 0) (p : Point) (line : List ℕ) (reply : Reply) (number : ℕ) (bytes : List ℕ)
       (r : Result Told RunFault) (old new : Option (List ℕ)) → number ≡ suc p.lines → bytes ≡ reply.text
       → I (refusal_added tells refusal p line reply) → IfErr r (StopsIn (refusal number line bytes) old new)
       → IfErr r (Stops I old new)
-  refusal-stops {I = I} p line reply number bytes r old new n b is h =
+  refusal-stops I p line reply number bytes r old new n b is h =
       let same : refusal number line bytes ≡ refusal (suc p.lines) line reply.text =
       ap (λ i. refusal i line bytes) n ∙ ap (refusal (suc p.lines) line) b in
       IfErr-weaker r (StopsIn (refusal number line bytes) old new) (Stops I old new)
-      (λ fault k. stops-in {I = I} (refusal_added tells refusal p line reply) old new fault is
+      (λ fault k. stops-in I (refusal_added tells refusal p line reply) old new fault is
       (subst (λ (t : List ℕ). StopsIn t old new fault) same k)) h
 
   -- the study on the board is written
-  pub section-adds : {H : State → Type 0} (p : Point) (s : State) (line : List ℕ) (number studies : ℕ) (plain : Plainly) (old new : Option (List ℕ))
+  pub section-adds : (H : State → Type 0) (p : Point) (s : State) (line : List ℕ) (number studies : ℕ) (plain : Plainly) (old new : Option (List ℕ))
       → s.board ≡ study plain → number ≡ suc studies → studies ≡ p.studies → H s → IsSection tells s.board number old new
       → Adds (IsStudyTold tells refusal p s line) H old new AStudy
-  section-adds p s line number studies plain old new b n k held sec =
+  section-adds H p s line number studies plain old new b n k held sec =
       let there = subst (λ (x : Board). IsSection tells x number old new) b sec in
       let at : number ≡ suc p.studies = n ∙ ap suc k in
       (study_added p s there.0, inl (plain, there.0, b, subst (λ i. tells plain i there.0) at there.1, refl), there.2, held, refl)
@@ -114,30 +109,30 @@ module _ (tells : Plainly → ℕ → List ℕ → Type 0) (refusal : ℕ → Li
       → IsStudyTold tells refusal p reply.state line a → IsAddedAs tells refusal Study p line a
   pgn-told p line o reply a is e h = (o, reply, is, subst (λ b. IsPgnAfter tells refusal p line reply b a) (sym e) h)
 
-  pub replied-adds : {I : Added → Type 0} {H : State → Type 0} (p : Point) (line : List ℕ) (number : ℕ) (bytes : List ℕ) (was : Bool)
+  pub replied-adds : (I : Added → Type 0) (H : State → Type 0) (p : Point) (line : List ℕ) (number : ℕ) (bytes : List ℕ) (was : Bool)
       (r : Result Told RunFault) (old new : Option (List ℕ))
       → ((o : Outside) (reply : Reply) → IsReply p.state line o reply → reply.refused ≡ true → I (refusal_added tells refusal p line reply))
       → number ≡ suc p.lines → was ≡ true → IsReplied p.state line H bytes was
       → IfOk r (RefusalWritten (refusal number line bytes) old new) → IfOk r (Adds I H old new)
-  replied-adds {I = I} {H = H} p line number bytes was r old new so n yes (o, reply, is, b, held, same) h =
-      refusal-adds {I = I} {H = H} p line reply number bytes r old new n b (so o reply is (sym same ∙ yes)) held h
+  replied-adds I H p line number bytes was r old new so n was-true (o, reply, is, b, held, same) h =
+      refusal-adds I H p line reply number bytes r old new n b (so o reply is (sym same ∙ was-true)) held h
 
-  pub replied-stops : {I : Added → Type 0} {H : State → Type 0} (p : Point) (line : List ℕ) (number : ℕ) (bytes : List ℕ) (was : Bool)
+  pub replied-stops : (I : Added → Type 0) (H : State → Type 0) (p : Point) (line : List ℕ) (number : ℕ) (bytes : List ℕ) (was : Bool)
       (r : Result Told RunFault) (old new : Option (List ℕ))
       → ((o : Outside) (reply : Reply) → IsReply p.state line o reply → reply.refused ≡ true → I (refusal_added tells refusal p line reply))
       → number ≡ suc p.lines → was ≡ true → IsReplied p.state line H bytes was
       → IfErr r (StopsIn (refusal number line bytes) old new) → IfErr r (Stops I old new)
-  replied-stops {I = I} {H = H} p line number bytes was r old new so n yes (o, reply, is, b, held, same) h =
-      refusal-stops {I = I} p line reply number bytes r old new n b (so o reply is (sym same ∙ yes)) h
+  replied-stops I H p line number bytes was r old new so n was-true (o, reply, is, b, held, same) h =
+      refusal-stops I p line reply number bytes r old new n b (so o reply is (sym same ∙ was-true)) h
 
-  pub checked-nothing : {H : State → Type 0} (p : Point) (line : List ℕ) (bytes : List ℕ) (was : Bool) (out : Option (List ℕ))
+  pub checked-nothing : (H : State → Type 0) (p : Point) (line : List ℕ) (bytes : List ℕ) (was : Bool) (out : Option (List ℕ))
       → was ≡ false → IsReplied p.state line H bytes was → Adds (IsAddedAs tells refusal Checked p line) H out out Nothing
-  checked-nothing p line bytes was out no (o, reply, is, b, held, same) =
+  checked-nothing H p line bytes was out was-false (o, reply, is, b, held, same) =
       let a = nothing_added p reply.state in
-      (a, (o, reply, is, subst (λ x. IsCheckedAfter tells refusal p line reply x a) (sym (sym same ∙ no)) refl), Appends-nil out, held, refl)
+      (a, (o, reply, is, subst (λ x. IsCheckedAfter tells refusal p line reply x a) (sym (sym same ∙ was-false)) refl), Appends-nil out, held, refl)
 
 -- the reply that a desk wrote into memory
-pub replied : {H : State → Type 0} (s : State) (line old taken : List ℕ) (was : Bool) → old ≡ []
+pub replied : (H : State → Type 0) (s : State) (line old taken : List ℕ) (was : Bool) → old ≡ []
     → Answered (IsReply s line) H (Some old) (Some taken) was → IsReplied s line H taken was
-replied s line old taken was none (o, reply, is, wrote, held, same) =
+replied H s line old taken was none (o, reply, is, wrote, held, same) =
     (o, reply, is, wrote ∙ ap (λ (t : List ℕ). t ++ reply.text) none, held, same)

@@ -63,7 +63,8 @@ module _ {V : Type 0} (held : V → Class → Bool) (gives : V → Position → 
       → Stopped held gives may_fail asked_of failed_of is_honest old fault new
       → IsUntoldBy (held old) paged (may_fail old) fault
   untold-by paged old new (NoTable c) honest by_pages h = h.untold c refl
-  untold-by paged old new (TableRead f) honest by_pages h = (by_pages f h.failures, fault-read old new h.told.0 f h.told.1)
+  untold-by paged old new (TableRead f) honest by_pages h =
+      let read = fault-read old new h.told.0 f h.told.1 in (by_pages f h.failures, read.0, read.1)
   untold-by paged old new (PageDamaged c n) honest by_pages h = absurd (h.no_damage honest)
 
   -- why a study is left out
@@ -77,5 +78,5 @@ module _ {V : Type 0} (held : V → Class → Bool) (gives : V → Position → 
 pub untold-same : (h k : Class → Bool) (paged by : Bool) (may m : Class → SourceFault → Type 0) (fault : ProbeFault) → ((c : Class) → h c ≡ k c)
     → paged ≡ by → ((c : Class) (f : SourceFault) → may c f → m c f) → IsUntoldBy h paged may fault → IsUntoldBy k by m fault
 untold-same h k paged by may m (NoTable c) e b w u = sym (e c) ∙ u
-untold-same h k paged by may m (TableRead f) e b w (yes, p, fails) = (sym b ∙ yes, p, λ c is. w c f (fails c is))
+untold-same h k paged by may m (TableRead f) e b w (paged-is, q, fails) = (sym b ∙ paged-is, q, λ c is. w c f (fails c is))
 untold-same h k paged by may m (PageDamaged c n) e b w u = absurd u

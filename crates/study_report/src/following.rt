@@ -50,9 +50,13 @@ pub fn follow<'a, 's, R: Read, W: Write, S: TableStore, A: Allocator, T: Report>
             line: n + 1,
             studies,
         };
-        let told = add_line(desk, report, at, line.as_slice(), out)?;
-        studies += told.studies();
-        refused += told.refusals();
+        match add_line(desk, report, at, line.as_slice(), out) {
+            Err(fault) => return Err(fault),
+            Ok(told) => {
+                studies += told.studies();
+                refused += told.refusals();
+            }
+        }
     }
     match read_byte(script) {
         Err(_) => Err(RunFault::ReadDevice),
@@ -78,15 +82,33 @@ pub fn follow_script<'a, R: Read, W: Write, P: PageSource, A: Allocator, T: Repo
         (W.contents out.old) (W.contents out.new) result) }
     ensures shape { IfSome (R.remaining script.old) (λ bytes. Shape bytes (R.remaining script.new) result) }
 {
+    let mut store = NoFiles::new();
+    follow_over(alloc, script, out, report, tables, &mut store)
+}
+
+/// The same over a store, of which no file is opened.
+fn follow_over<'a, R: Read, W: Write, S: TableStore, A: Allocator, T: Report>(
+    alloc: &'a A,
+    script: &mut R,
+    out: &mut W,
+    report: &mut T,
+    tables: Tables<'a, S::Pages, A>,
+    store: &mut S,
+) -> Result<Summary, RunFault>
+    ensures outcome { (first : State) → DeskHolds S.Pages.honest S.Pages.gives (HonestOn none_trusted S.honest) S.files S.headers S.faults
+        Board.Empty tables.entry store.old first
+        → IfSome (R.remaining script.old)
+        (λ bytes. Outcome T.tells T.refusal first bytes (R.remaining script.new) (W.contents out.old) (W.contents out.new) result) }
+    ensures shape { IfSome (R.remaining script.old) (λ bytes. Shape bytes (R.remaining script.new) result) }
+{
     let Ok(mut line) = Line::new(alloc) else {
         return Err(RunFault::OutOfMemory);
     };
-    let mut store: NoFiles<'a, P, A> = NoFiles::new();
     let mut desk = StudyDesk {
         alloc,
         board: Board::Empty,
         tables,
-        store: &mut store,
+        store,
     };
     follow(&mut line, script, out, report, &mut desk)
 }

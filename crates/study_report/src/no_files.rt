@@ -1,33 +1,28 @@
 //! A store without files, of a report whose tables are held before its first line.
-ghost use Rattle.std.specs.Prelude.{None, true, ⊥};
+ghost use Rattle.std.specs.Prelude.{None, true};
 
-use std::alloc::Allocator;
+use std::io::{Empty, Sink};
 use study_material::Class;
 use study_script::store::{StoreFault, TableStore};
 use study_tablefile::PageSource;
-use study_tablefile::memory::{MemoryReader, MemoryWriter};
 
 /// No file of any class, for tables that are read from such sources.
 #[derive(Drop)]
-pub struct NoFiles<'a, P: PageSource, A: Allocator> {
+pub struct NoFiles<P: PageSource> {
     source: Option<P>,
-    writer: Option<MemoryWriter<'a, A>>,
 }
 
-impl<'a, P: PageSource, A: Allocator> NoFiles<'a, P, A> {
+impl<P: PageSource> NoFiles<P> {
     pub fn new() -> Self {
-        NoFiles {
-            source: None,
-            writer: None,
-        }
+        NoFiles { source: None }
     }
 }
 
 // A report opens no file, so nothing need be known of any.
-impl<'a, P: PageSource, A: Allocator> TableStore for NoFiles<'a, P, A> {
-    type Reader = MemoryReader<'a>;
+impl<P: PageSource> TableStore for NoFiles<P> {
+    type Reader = Empty;
 
-    type Writer = MemoryWriter<'a, A>;
+    type Writer = Sink;
 
     type Pages = P;
 
@@ -39,11 +34,11 @@ impl<'a, P: PageSource, A: Allocator> TableStore for NoFiles<'a, P, A> {
 
     ghost faults = { λ s c f. true };
 
-    fn reader(&mut self, _class: Class) -> Result<MemoryReader<'a>, StoreFault> {
+    fn reader(&mut self, _class: Class) -> Result<Empty, StoreFault> {
         Err(StoreFault::NoFile)
     }
 
-    fn writer(&mut self, _class: Class) -> Result<MemoryWriter<'a, A>, StoreFault> {
+    fn writer(&mut self, _class: Class) -> Result<Sink, StoreFault> {
         Err(StoreFault::Device)
     }
 

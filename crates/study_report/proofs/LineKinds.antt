@@ -1,10 +1,10 @@
 -- What is known of a line by what is done with it.
-use Rattle.std.proofs.Common.{◌≡◌, true, false, Option, Some, None, Ok, Err, refl, sym, ap, ◌∙◌}
+use Rattle.std.proofs.Common.{◌≡◌, ℕ, true, false, List, Option, Some, None, Ok, Err, refl, sym, ap, ◌∙◌}
 use Rattle.std.specs.Prelude.{IfSome}
 use Rattle.study_material.specs.declared.class.Class.{Class}
 use Rattle.study_command.specs.declared.command.ClassWord.TheVariants.{Build, Load, Save, Verify}
-use Rattle.study_command.specs.Asking.{Asks, of_start, at_node, at_study, of_class, stipulate, insert, tag, solve, pgn}
-use Rattle.study_script.specs.Stored.{IsTrustedAsk}
+use Rattle.study_command.specs.Asking.{Asks, of_start, at_node, at_study, of_class, stipulate, insert, tag, solve, pgn, command_of}
+use Rattle.study_script.specs.Stored.{IsTrusted, IsTrustedAsk}
 use Rattle.study_marks.specs.Edits.{Plainly}
 use Rattle.study_pgn.specs.Pgn.{pgn_text}
 use Rattle.study_reply.specs.declared.refusal.Refusal.{Refusal}
@@ -12,7 +12,7 @@ use Rattle.study_reply.specs.declared.refusal.Refusal.TheVariants.{NoStudy, OutO
 use Rattle.study_script.specs.State.{State, Board, empty, start, study, Outside, quiet, no_path, no_room, no_room_for, unread, unopened}
 use Rattle.study_script.specs.State.{cut_off, file, header}
 use Rattle.study_script.specs.Replies.{Reply, accepted, refused, class_told, IsPgnReply, IsReplyWhere, Annotated}
-use Rattle.study_report.specs.declared.kind.Kind.TheVariants.{PassedOver, Study}
+use Rattle.study_report.specs.declared.kind.Kind.TheVariants.{PassedOver, Study, Checked}
 use Rattle.study_report.specs.Told.{kind_in, class_kind}
 use Rattle.study_report.specs.Written.{none_trusted}
 
@@ -37,6 +37,12 @@ trusted-ask (Ok (Some (insert steps san))) h = tt
 trusted-ask (Ok (Some (tag name text))) h = tt
 trusted-ask (Ok (Some (solve count steps))) h = tt
 trusted-ask (Ok (Some pgn)) h = tt
+
+pub trusted-checked : (line : List ℕ) → kind_in (command_of line) ≡ Checked → IsTrusted none_trusted line
+trusted-checked line k = trusted-ask (command_of line) (λ e. let bad : Checked ≡ PassedOver = sym k ∙ e in absurd cc)
+
+pub trusted-study : (line : List ℕ) → kind_in (command_of line) ≡ Study → IsTrusted none_trusted line
+trusted-study line k = trusted-ask (command_of line) (λ e. let bad : Study ≡ PassedOver = sym k ∙ e in absurd cc)
 
 -- ---- a line that tells a study
 
