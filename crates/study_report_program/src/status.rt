@@ -1,9 +1,4 @@
 //! What the program tells on standard error.
-ghost use Rattle.std.specs.Prelude.{OnOk, OnErr};
-ghost use Rattle.std.specs.Io.KnownBytes.{Appends};
-ghost use Rattle.study_tablefile.specs.Taken.{TakesPrefix};
-ghost use Rattle.study_script.specs.declared.run.RunFault.TheVariants.{LineTooLong};
-ghost use Rattle.study_report_program.specs.Status.{stop_text, file_text};
 
 use itoa::Buffer;
 use std::io::Write;
@@ -12,10 +7,7 @@ use study_script::run::RunFault;
 use study_tablefile::{DeviceFailed, put};
 
 /// Tells why a run stopped, in a line of its own: `studyreport: LineTooLong 3`.
-pub fn put_stop<W: Write>(out: &mut W, fault: RunFault) -> Result<(), DeviceFailed>
-    ensures ok { OnOk result (Appends (W.contents out.old) (W.contents out.new) (stop_text fault)) }
-    ensures err { OnErr result (TakesPrefix (W.contents out.old) (W.contents out.new) (stop_text fault)) }
-{
+pub fn put_stop<W: Write>(out: &mut W, fault: RunFault) -> Result<(), DeviceFailed> {
     match fault {
         RunFault::ReadDevice => put(out, b"studyreport: ReadDevice\n"),
         RunFault::WriteDevice => put(out, b"studyreport: WriteDevice\n"),
@@ -25,10 +17,7 @@ pub fn put_stop<W: Write>(out: &mut W, fault: RunFault) -> Result<(), DeviceFail
     }
 }
 
-fn put_too_long<W: Write>(out: &mut W, line: u32) -> Result<(), DeviceFailed>
-    ensures ok { OnOk result (Appends (W.contents out.old) (W.contents out.new) (stop_text (LineTooLong line))) }
-    ensures err { OnErr result (TakesPrefix (W.contents out.old) (W.contents out.new) (stop_text (LineTooLong line))) }
-{
+fn put_too_long<W: Write>(out: &mut W, line: u32) -> Result<(), DeviceFailed> {
     let mut buffer = Buffer::new();
     put(out, b"studyreport: LineTooLong ")?;
     put(out, buffer.format(line).as_bytes())?;
@@ -36,10 +25,11 @@ fn put_too_long<W: Write>(out: &mut W, line: u32) -> Result<(), DeviceFailed>
 }
 
 /// Tells why the file of a class gives no table: `studyreport: KRK.dtm: HeaderDamaged`. The words end with a line feed.
-pub fn put_file_fault<W: Write>(out: &mut W, class: Class, words: &[u8]) -> Result<(), DeviceFailed>
-    ensures ok { OnOk result (Appends (W.contents out.old) (W.contents out.new) (file_text class words.now)) }
-    ensures err { OnErr result (TakesPrefix (W.contents out.old) (W.contents out.new) (file_text class words.now)) }
-{
+pub fn put_file_fault<W: Write>(
+    out: &mut W,
+    class: Class,
+    words: &[u8],
+) -> Result<(), DeviceFailed> {
     put(out, b"studyreport: ")?;
     put(out, class.name().as_bytes())?;
     put(out, b".dtm: ")?;
