@@ -4,7 +4,7 @@
 #![tactic(auto)]
 
 use std::alloc::{Allocator, Global};
-use std::io::{BufReader, ErrorKind, LineWriter, Write};
+use std::io::{BufReader, ErrorKind, LineWriter, Read, Write};
 use std::process::ExitCode;
 use std::{env, fs, io};
 use study_command::lines::Line;
@@ -15,6 +15,7 @@ use study_script::board::Board;
 use study_script::desk::StudyDesk;
 use study_script::memory::MemoryStore;
 use study_script::run::{RunFault, Summary, run_in};
+use study_script::store::TableStore;
 use study_script::tables::Tables;
 
 /// The exit status is 0 where each script was run to its end, and 1 where one was not.
@@ -49,19 +50,31 @@ fn answer<W: Write>(rt: &HostRuntime, alloc: Global, name: &str, out: &mut W) ->
     path.push_str(name)?;
     path.push_str(".script")?;
     let mut store = no_files(&alloc);
-    let mut line = Line::new(&alloc)?;
+    let mut replies = BufReader::new(alloc, fs::open(rt, path.as_str())?)?;
+    let mut lines = BufReader::new(alloc, fs::open(rt, path.as_str())?)?;
+    answer_over(&alloc, name, &mut replies, &mut lines, out, &mut store)
+}
+
+/// The replies to a script, and the lines of its report by the tables that it built.
+fn answer_over<'a, R: Read, W: Write, S: TableStore, A: Allocator>(
+    alloc: &'a A,
+    name: &str,
+    replies: &mut R,
+    lines: &mut R,
+    out: &mut W,
+    store: &mut S,
+) -> io::Result<()> {
+    let mut line = Line::new(alloc)?;
     let mut desk = StudyDesk {
-        alloc: &alloc,
+        alloc,
         board: Board::Empty,
-        tables: Tables::Whole(WholeTables::new(TableSet::new(&alloc)?)),
-        store: &mut store,
+        tables: Tables::Whole(WholeTables::new(TableSet::new(alloc)?)),
+        store,
     };
-    let mut script = BufReader::new(alloc, fs::open(rt, path.as_str())?)?;
-    ended(run_in(&mut line, &mut script, out, &mut desk))?;
+    ended(run_in(&mut line, replies, out, &mut desk))?;
     writeln!(out, "== {name}, lines of a report")?;
     desk.board = Board::Empty;
-    let mut script = BufReader::new(alloc, fs::open(rt, path.as_str())?)?;
-    ended(follow(&mut line, &mut script, out, &mut Lines, &mut desk))
+    ended(follow(&mut line, lines, out, &mut Lines, &mut desk))
 }
 
 fn ended(answer: Result<Summary, RunFault>) -> io::Result<()> {
