@@ -17,7 +17,10 @@ program=${STUDYBENCH:-$top/crates/studybench/out/studybench}
     exit 2
 }
 gallery="$top/crates/gallery"
-while read -r name; do echo "== $name"; cat "$examples/$name.expected"; done < "$gallery/args" | cmp -s - "$gallery/stdout" || {
+while read -r name; do
+    echo "== $name"; cat "$examples/$name.expected"
+    echo "== $name, lines of a report"; cat "$examples/$name.lines"
+done < "$gallery/args" | cmp -s - "$gallery/stdout" || {
     echo "crates/gallery/stdout is not what its args expect"
     exit 1
 }

@@ -1,13 +1,22 @@
-//! Answers studies of the gallery: for each word of the command line the script of that name, after a line with its name. Its tables are
-//! built on the way, since there are no files. The gate compares what it writes with the gallery's expected replies.
+//! Answers and reports studies of the gallery: for each word of the command line the script of that name, after a line with its name, then
+//! the lines of its studies. Its tables are built on the way, since there are no files. The gate compares what it writes with the gallery's
+//! expected replies and lines.
 #![tactic(auto)]
 
 use std::alloc::{Allocator, Global};
-use std::io::{BufReader, ErrorKind, LineWriter, Write};
+use std::io::{BufReader, ErrorKind, LineWriter, Read, Write};
 use std::process::ExitCode;
 use std::{env, fs, io};
+use study_command::lines::Line;
+use study_prober::WholeTables;
+use study_report::{Lines, follow};
+use study_retro::TableSet;
+use study_script::board::Board;
+use study_script::desk::StudyDesk;
 use study_script::memory::MemoryStore;
-use study_script::run::{Settings, run};
+use study_script::run::{RunFault, Summary, run_in};
+use study_script::store::TableStore;
+use study_script::tables::Tables;
 
 /// The exit status is 0 where each script was run to its end, and 1 where one was not.
 fn main(rt: HostRuntime) -> ExitCode {
@@ -40,15 +49,36 @@ fn answer<W: Write>(rt: &HostRuntime, alloc: Global, name: &str, out: &mut W) ->
     let mut path = String::new(alloc);
     path.push_str(name)?;
     path.push_str(".script")?;
-    let mut script = BufReader::new(alloc, fs::open(rt, path.as_str())?)?;
     let mut store = no_files(&alloc);
-    match run(
-        &alloc,
-        &mut script,
-        out,
-        &mut store,
-        Settings { pages: None },
-    ) {
+    let mut replies = BufReader::new(alloc, fs::open(rt, path.as_str())?)?;
+    let mut lines = BufReader::new(alloc, fs::open(rt, path.as_str())?)?;
+    answer_over(&alloc, name, &mut replies, &mut lines, out, &mut store)
+}
+
+/// The replies to a script, and the lines of its report by the tables that it built.
+fn answer_over<'a, R: Read, W: Write, S: TableStore, A: Allocator>(
+    alloc: &'a A,
+    name: &str,
+    replies: &mut R,
+    lines: &mut R,
+    out: &mut W,
+    store: &mut S,
+) -> io::Result<()> {
+    let mut line = Line::new(alloc)?;
+    let mut desk = StudyDesk {
+        alloc,
+        board: Board::Empty,
+        tables: Tables::Whole(WholeTables::new(TableSet::new(alloc)?)),
+        store,
+    };
+    ended(run_in(&mut line, replies, out, &mut desk))?;
+    writeln!(out, "== {name}, lines of a report")?;
+    desk.board = Board::Empty;
+    ended(follow(&mut line, lines, out, &mut Lines, &mut desk))
+}
+
+fn ended(answer: Result<Summary, RunFault>) -> io::Result<()> {
+    match answer {
         Ok(_) => Ok(()),
         Err(_) => Err(io::Error::from(ErrorKind::Other)),
     }

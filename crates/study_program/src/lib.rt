@@ -10,6 +10,6 @@ mod program;
 mod status;
 
 pub use folder::{FilePages, FolderStore};
-pub use options::{Options, read_words};
-pub use program::{answer_script, run_over_files, studybench};
+pub use options::{Options, VERSION, folder_of, read_words};
+pub use program::{answer_script, run_over_files, studybench, words_of};
 pub use status::{put_stop, status_of, status_without_options};

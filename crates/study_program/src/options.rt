@@ -7,7 +7,7 @@ use clap::{Arg, ArgAction, Command, Error, value_parser};
 use std::alloc::Global;
 
 /// The version, and the kit that it is proved with, as `studybench --version` tells them.
-const VERSION: &str = "0.1.0 (kit rattle-kit-13b)";
+pub const VERSION: &str = "0.1.0 (kit rattle-kit-13f)";
 
 const ABOUT: &str =
     "Answers a script of commands on chess endgame studies, one reply a line, from standard input to standard output.";
@@ -87,7 +87,7 @@ fn pages_of(given: Option<u16>) -> Option<u16>
 }
 
 /// The folder with this name; without one, the folder in which the program runs.
-fn folder_of(given: Option<&str>) -> &str
+pub fn folder_of(given: Option<&str>) -> &str
     ensures { 0 < length result.now }
 {
     match given {

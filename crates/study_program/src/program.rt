@@ -32,7 +32,8 @@ pub fn studybench(rt: &HostRuntime) -> ExitCode {
     }
 }
 
-fn words_of(rt: &HostRuntime) -> io::Result<Vec<String>> {
+/// The words of the command line, of which the first is the program's name.
+pub fn words_of(rt: &HostRuntime) -> io::Result<Vec<String>> {
     Ok(env::args(rt)?.collect(rt.alloc())?)
 }
 

@@ -56,7 +56,7 @@ fn words_without_options(rt: HostRuntime) -> Result<(), Fail> {
     check_words(
         &rt,
         &["--version"],
-        Err((0, "studybench 0.1.0 (kit rattle-kit-13b)\n")),
+        Err((0, "studybench 0.1.0 (kit rattle-kit-13f)\n")),
     )?;
     for words in [
         ["--pages", "0"],

@@ -1,0 +1,314 @@
+-- A report over the first lines of a script.
+use Rattle.std.proofs.Common.{◌≡◌, ◌⊎◌, ℕ, zero, suc, ◌+◌, ◌-◌, ◌<◌, ◌≤◌}
+use Rattle.std.proofs.Common.{List, [], ◌∷◌, ◌++◌, length, take, drop, Option, Some, None, Ok}
+use Rattle.std.proofs.Common.{Bool, true, false, inl, inr, Err, refl, sym, ap, subst, ◌∙◌, arith, append_assoc}
+use Rattle.std.specs.Prelude.{slice_get, IfSome, sum_by}
+use Rattle.std.proofs.lemmas.List.{append-nil, length-drop}
+use Rattle.std.proofs.lemmas.List.Sums.{sum_by_push}
+use Rattle.std.proofs.KnownBytes.{Appends-nil, Appends-trans}
+use Rattle.std.specs.Io.KnownBytes.{Appends}
+use Rattle.study_marks.specs.Edits.{Plainly}
+use Rattle.study_script.specs.declared.run.RunFault.{RunFault}
+use Rattle.study_script.specs.declared.run.RunFault.TheVariants.{ReadDevice, WriteDevice, LineTooLong, TooManyLines, OutOfMemory}
+use Rattle.study_command.specs.Lines.{script_lines, TakesLine, BeginsLong, GaveFeeds}
+use Rattle.study_command.proofs.LineTaken.{HasMore}
+use Rattle.study_script.specs.State.{State}
+use Rattle.study_script.specs.Outcome.{AreShort}
+use Rattle.study_script.proofs.FirstLines.{Gone, gone_write}
+use Rattle.study_tablefile.specs.Taken.{TakesPrefix}
+use Rattle.study_report.specs.declared.told.Told.{Told}
+use Rattle.study_report.specs.declared.told.Told.TheVariants.{Nothing, Study as AStudy, Refusal as ARefusal}
+use Rattle.study_reply.specs.declared.refusal.Refusal.TheVariants.{NotAClass}
+use Rattle.study_command.specs.Asking.{command_of}
+use Rattle.study_script.specs.Replies.{Reply, refused}
+use Rattle.study_report.specs.declared.kind.Kind.{Kind}
+use Rattle.study_report.specs.declared.kind.Kind.TheVariants.{PassedOver, NoClass, Study, Checked}
+use Rattle.study_report.specs.Told.{Point, Added, IsAdded, IsAddedAs, IsPgnAfter, IsCheckedAfter, kind_in, refusal_count, study_count}
+use Rattle.study_report.specs.Told.{nothing_added, refusal_added}
+use Rattle.study_report.specs.Outcome.{begun, AreAdded, report_text, refusals, point_after, Outcome, Shape}
+use Rattle.study_report.specs.Written.{Adds, Stops}
+
+-- ---- the first line that is left
+
+first_left : (all left : List (List ℕ)) (n : ℕ) (x : List ℕ) → drop n all ≡ x ∷ left → (n < length all)
+    × (take (suc n) all ≡ take n all ++ x ∷ []) × (drop (suc n) all ≡ left) × (slice_get all n ≡ Some x)
+first_left [] left zero x e = absurd cc
+first_left [] left (suc n) x e = absurd cc
+first_left (a ∷ all) left zero x e = let h : a ≡ x = cc in
+    let t : all ≡ left = cc in (omega arith, ap (λ (y : List ℕ). y ∷ []) h, t, ap (λ (y : List ℕ). Some y) h)
+first_left (a ∷ all) left (suc n) x e =
+    let r = first_left all left n x e in
+    let lt = r.0 in
+    (omega arith, ap (λ (xs : List (List ℕ)). a ∷ xs) r.1, r.2, r.3)
+
+none_left : (all : List (List ℕ)) (n : ℕ) → n ≤ length all → drop n all ≡ [] → (take n all ≡ all) × (n ≡ length all)
+none_left [] zero le e = (refl, refl)
+none_left [] (suc n) le e = absurd (omega arith)
+none_left (a ∷ all) zero le e = absurd cc
+none_left (a ∷ all) (suc n) le e = let r = none_left all n (omega arith) e in let k = r.1 in (ap (λ (xs : List (List ℕ)). a ∷ xs) r.0, omega arith)
+
+more_left : (all left : List (List ℕ)) (n : ℕ) → drop n all ≡ left → 0 < length left → n < length all
+more_left all left n e some = omega (arith, length-drop n all, ap length e)
+
+short-more : (lines : List (List ℕ)) (line : List ℕ) → AreShort lines → length line ≤ 1024 → AreShort (lines ++ line ∷ [])
+short-more [] line h k = (k, tt)
+short-more (l ∷ lines) line h k = (h.0, short-more lines line h.1 k)
+
+-- ---- one line more
+
+point_after-more : (p : Point) (added : List Added) (a : Added) → point_after p (added ++ a ∷ []) ≡ a.after
+point_after-more p [] a = refl
+point_after-more p (x ∷ added) a = point_after-more x.after added a
+
+text-more : (added : List Added) (a : Added) → report_text (added ++ a ∷ []) ≡ report_text added ++ a.text
+text-more [] a = append-nil a.text
+text-more (x ∷ added) a = ap (λ (t : List ℕ). x.text ++ t) (text-more added a) ∙ sym (append_assoc x.text (report_text added) a.text)
+
+module _ (tells : Plainly → ℕ → List ℕ → Type 0) (refusal : ℕ → List ℕ → List ℕ → List ℕ) where
+  are-more : (p : Point) (lines : List (List ℕ)) (added : List Added) (line : List ℕ) (a : Added)
+      → AreAdded tells refusal p lines added → IsAdded tells refusal (point_after p added) line a
+      → AreAdded tells refusal p (lines ++ line ∷ []) (added ++ a ∷ [])
+  are-more p [] [] line a h r = (r, tt)
+  are-more p [] (x ∷ added) line a h r = absurd h
+  are-more p (l ∷ lines) [] line a h r = absurd h
+  are-more p (l ∷ lines) (x ∷ added) line a h r = (h.0, are-more x.after lines added line a h.1 r)
+
+  -- ---- what the first n lines add is written
+
+  pub record ToldOver (all left : List (List ℕ)) (old new : Option (List ℕ)) (first : State) (p : Point) (n refused : ℕ) : Type 0 where
+    pub left_is : drop n all ≡ left
+    pub within : n ≤ length all
+    pub short : AreShort (take n all)
+    pub added : List Added
+    pub are : AreAdded tells refusal (begun first) (take n all) added
+    pub written : Appends old new (report_text added)
+    pub point_is : p ≡ point_after (begun first) added
+    pub refused_is : refused ≡ refusals added
+
+  abbrev pub ToldKnown : Option (List ℕ) → Option (List ℕ) → Option (List ℕ) → Option (List ℕ) → State → Point → ℕ → ℕ → Type 0
+  ToldKnown None now old new first p n refused = Unit {0}
+  ToldKnown (Some bs) None old new first p n refused = ⊥
+  ToldKnown (Some bs) (Some rest) old new first p n refused = ToldOver (script_lines bs) (script_lines rest) old new first p n refused
+
+  pub record HasTold (script now old new : Option (List ℕ)) (first : State) (p : Point) (n refused : ℕ) : Type 0 where
+    pub known : ToldKnown script now old new first p n refused
+
+  pub told_none : (script out : Option (List ℕ)) (first : State) → HasTold script script out out first (begun first) 0 0
+  told_none None out first = record { known = tt }
+  told_none (Some bs) out first =
+      record {
+        known = record {
+          left_is = refl;
+          within = omega arith;
+          short = tt;
+          added = [];
+          are = tt;
+          written = Appends-nil out;
+          point_is = refl;
+          refused_is = refl;
+        };
+      }
+
+  pub told_more : (script now next old mid new : Option (List ℕ)) (first : State) (p : Point) (line : List ℕ)
+      (a : Added) (n refused refused' : ℕ) → HasTold script now old mid first p n refused
+      → TakesLine now next true line → length line ≤ 1024
+      → IsAdded tells refusal p line a → Appends mid new a.text → refused' ≡ refused + refusal_count a.told
+      → HasTold script next old new first a.after (n + 1) refused'
+  told_more None now next old mid new first p line a n refused refused' r t short is wrote k = record { known = tt }
+  told_more (Some bs) None next old mid new first p line a n refused refused' r t short is wrote k = absurd r.known
+  told_more (Some bs) (Some rest) None old mid new first p line a n refused refused' r t short is wrote k = absurd t
+  told_more (Some bs) (Some rest) (Some rest') old mid new first p line a n refused refused' r t short is wrote k =
+      let v = r.known in
+      let all = script_lines bs in
+      let f = first_left all (script_lines rest') n line (v.left_is ∙ t) in
+      let e : n + 1 ≡ suc n = omega arith in
+      let grown : take (n + 1) all ≡ take n all ++ line ∷ [] = ap (λ i. take i all) e ∙ f.1 in
+      let lt = f.0 in
+      record {
+        known = record {
+          left_is = ap (λ i. drop i all) e ∙ f.2;
+          within = omega arith;
+          short = rw grown (short-more (take n all) line v.short short);
+          added = v.added ++ a ∷ [];
+          are = rw grown (are-more (begun first) (take n all) v.added line a v.are (subst (λ (h : Point). IsAdded tells refusal h line a) v.point_is is));
+          written = rw (text-more v.added a) (Appends-trans old mid new (report_text v.added) a.text v.written wrote);
+          point_is = sym (point_after-more (begun first) v.added a);
+          refused_is = k ∙ ap (λ i. i + refusal_count a.told) v.refused_is ∙ sym (sum_by_push (λ (x : Added). refusal_count x.told) v.added a);
+        };
+      }
+
+  -- ---- the ends of a report
+
+  pub told_ends : (left script now next old new : Option (List ℕ)) (first : State) (p : Point) (line : List ℕ)
+      (n refused : ℕ) → HasTold script now old new first p n refused → TakesLine now next false line → n ≤ 100000
+      → IfSome script (λ bytes. Outcome tells refusal first bytes left old new (Ok (record { lines = n; refused = refused })))
+  told_ends left None now next old new first p line n refused r t le = tt
+  told_ends left (Some bs) None next old new first p line n refused r t le = absurd r.known
+  told_ends left (Some bs) (Some rest) None old new first p line n refused r t le = absurd t
+  told_ends left (Some bs) (Some rest) (Some rest') old new first p line n refused r t le =
+      let v = r.known in
+      let d = none_left (script_lines bs) n v.within (v.left_is ∙ t) in
+      let e = d.1 in (
+        omega arith,
+        subst AreShort d.0 v.short,
+        v.added,
+        subst (λ (ls : List (List ℕ)). AreAdded tells refusal (begun first) ls v.added) d.0 v.are,
+        v.written,
+        e,
+        v.refused_is,
+      )
+
+  pub told_long : (left script now old new : Option (List ℕ)) (first : State) (p : Point) (n refused : ℕ)
+      → HasTold script now old new first p n refused → BeginsLong now → n < 100000
+      → IfSome script (λ bytes. Outcome tells refusal first bytes left old new (Err (LineTooLong (n + 1))))
+  told_long left None now old new first p n refused r t lt = tt
+  told_long left (Some bs) None old new first p n refused r t lt = absurd r.known
+  told_long left (Some bs) (Some rest) old new first p n refused r (line, more, is, long) lt =
+      let v = r.known in
+      let f = first_left (script_lines bs) more n line (v.left_is ∙ is) in
+      let e : n + 1 - 1 ≡ n = omega arith in
+      (omega arith, omega arith, rw (e, f.3) long, (rw e v.short, v.added, rw e v.are, v.written))
+
+  pub told_read : (left script now old new : Option (List ℕ)) (first : State) (p : Point) (n refused : ℕ)
+      → HasTold script now old new first p n refused → n ≤ 100000 → GaveFeeds script left n → GaveFeeds now left 0
+      → IfSome script (λ bytes. Outcome tells refusal first bytes left old new (Err ReadDevice))
+  told_read left None now old new first p n refused r le g h = tt
+  told_read left (Some bs) None old new first p n refused r le g h = absurd r.known
+  told_read left (Some bs) (Some rest) old new first p n refused r le g h =
+      let v = r.known in (n, le, v.within, g, rest, v.left_is, h, (v.short, v.added, v.are, v.written))
+
+  pub told_many : (left script now old new : Option (List ℕ)) (first : State) (p : Point) (refused : ℕ)
+      → HasTold script now old new first p 100000 refused → HasMore now
+      → IfSome script (λ bytes. Outcome tells refusal first bytes left old new (Err TooManyLines))
+  told_many left None now old new first p refused r t = tt
+  told_many left (Some bs) None old new first p refused r t = absurd r.known
+  told_many left (Some bs) (Some rest) old new first p refused r t =
+      let v = r.known in
+      (more_left (script_lines bs) (script_lines rest) 100000 v.left_is t, (v.short, v.added, v.are, v.written))
+
+  pub told_write : (script now next old mid new : Option (List ℕ)) (first : State) (p : Point) (line : List ℕ)
+      (n refused : ℕ) → HasTold script now old mid first p n refused → TakesLine now next true line → length line ≤ 1024
+      → n < 100000 → GaveFeeds script next (n + 1)
+      → (a : Added) × IsAdded tells refusal p line a × TakesPrefix mid new a.text
+      → IfSome script (λ bytes. Outcome tells refusal first bytes next old new (Err WriteDevice))
+  told_write None now next old mid new first p line n refused r t short lt g q = tt
+  told_write (Some bs) None next old mid new first p line n refused r t short lt g q = absurd r.known
+  told_write (Some bs) (Some rest) None old mid new first p line n refused r t short lt g q = absurd t
+  told_write (Some bs) (Some rest) (Some rest') old mid new first p line n refused r t short lt g (a, is, part) =
+      let v = r.known in
+      let all = script_lines bs in
+      let f = first_left all (script_lines rest') n line (v.left_is ∙ t) in
+      let e : n + 1 ≡ suc n = omega arith in (
+        n,
+        lt,
+        g,
+        sym (ap (λ i. drop i all) e ∙ f.2),
+        rw f.3 (
+          v.short,
+          short,
+          v.added,
+          v.are,
+          mid,
+          v.written,
+          a,
+          subst (λ (h : Point). IsAdded tells refusal h line a) v.point_is is,
+          part,
+        ),
+      )
+
+  pub told_memory : (left script now old mid new : Option (List ℕ)) (first : State) (p : Point) (n refused : ℕ)
+      → HasTold script now old mid first p n refused → n ≤ 100000 → new ≡ mid
+      → IfSome script (λ bytes. Outcome tells refusal first bytes left old new (Err OutOfMemory))
+  told_memory left None now old mid new first p n refused r le same = tt
+  told_memory left (Some bs) None old mid new first p n refused r le same = absurd r.known
+  told_memory left (Some bs) (Some rest) old mid new first p n refused r le same =
+      let v = r.known in
+      (n, le, v.within, (v.short, v.added, v.are, subst (λ (x : Option (List ℕ)). Appends old x (report_text v.added)) (sym same) v.written))
+
+  -- the run stops within a line
+  pub told_stops : (script now next old mid new : Option (List ℕ)) (first : State) (p : Point) (line : List ℕ)
+      (n refused : ℕ) (fault : RunFault) → HasTold script now old mid first p n refused → TakesLine now next true line → length line ≤ 1024
+      → n < 100000 → GaveFeeds script next (n + 1) → Stops (IsAdded tells refusal p line) mid new fault
+      → IfSome script (λ bytes. Outcome tells refusal first bytes next old new (Err fault))
+  told_stops script now next old mid new first p line n refused WriteDevice r t short lt g h =
+      told_write script now next old mid new first p line n refused r t short lt g h
+  told_stops script now next old mid new first p line n refused OutOfMemory r t short lt g h =
+      told_memory next script now old mid new first p n refused r (omega arith) h
+  told_stops script now next old mid new first p line n refused ReadDevice r t short lt g h = absurd h
+  told_stops script now next old mid new first p line n refused (LineTooLong k) r t short lt g h = absurd h
+  told_stops script now next old mid new first p line n refused TooManyLines r t short lt g h = absurd h
+
+  -- ---- what the loop knows
+
+  -- the lines so far are told, what is held is their state, and the counts are theirs
+  pub record ToldOn (holds : State → Type 0) (script now old new : Option (List ℕ)) (first : State) (n refused studies : ℕ) : Type 0 where
+    pub point : Point
+    pub told : HasTold script now old new first point n refused
+    pub held : holds point.state
+    pub lines_are : n ≡ point.lines
+    pub studies_are : studies ≡ point.studies
+
+  -- a line counts as one more, and its study as one more
+  abbrev Counts : Point → Added → Type 0
+  Counts p a = (a.after.lines ≡ suc p.lines) × (a.after.studies ≡ p.studies + study_count a.told)
+
+  counts-nothing : (p : Point) (s : State) (a : Added) → a ≡ nothing_added p s → Counts p a
+  counts-nothing p s a e = subst (Counts p) (sym e) (refl, omega arith)
+
+  counts-refusal : (p : Point) (line : List ℕ) (reply : Reply) (a : Added) → a ≡ refusal_added tells refusal p line reply → Counts p a
+  counts-refusal p line reply a e = subst (Counts p) (sym e) (refl, omega arith)
+
+  counts-pgn : (p : Point) (line : List ℕ) (reply : Reply) (a : Added) (b : Bool) → IsPgnAfter tells refusal p line reply b a → Counts p a
+  counts-pgn p line reply a true e = counts-refusal p line reply a e
+  counts-pgn p line reply a false (inl (plain, text, b, t, e)) = subst (Counts p) (sym e) (refl, omega arith)
+  counts-pgn p line reply a false (inr (why, l, e)) = counts-refusal p line (refused reply.state why) a e
+
+  counts-checked : (p : Point) (line : List ℕ) (reply : Reply) (a : Added) (b : Bool) → IsCheckedAfter tells refusal p line reply b a → Counts p a
+  counts-checked p line reply a true e = counts-refusal p line reply a e
+  counts-checked p line reply a false e = counts-nothing p reply.state a e
+
+  counts-more : (p : Point) (line : List ℕ) (a : Added) (k : Kind) → IsAddedAs tells refusal k p line a → Counts p a
+  counts-more p line a PassedOver e = counts-nothing p p.state a e
+  counts-more p line a NoClass e = counts-refusal p line (refused p.state NotAClass) a e
+  counts-more p line a Study (o, reply, is, after) = counts-pgn p line reply a reply.refused after
+  counts-more p line a Checked (o, reply, is, after) = counts-checked p line reply a reply.refused after
+
+  pub ToldOn-more : (holds holds' : State → Type 0) (script now next old mid new : Option (List ℕ)) (first : State)
+      (line : List ℕ) (n refused refused' studies studies' : ℕ) (told : Told)
+      (r : ToldOn holds script now old mid first n refused studies)
+      → TakesLine now next true line → length line ≤ 1024
+      → Adds (IsAdded tells refusal r.point line) holds' mid new told
+      → refused' ≡ refused + refusal_count told → studies' ≡ studies + study_count told
+      → ToldOn holds' script next old new first (n + 1) refused' studies'
+  ToldOn-more holds holds' script now next old mid new first line n refused refused' studies studies' told r t short (a, is, wrote, held, same) k j =
+      let counts = counts-more r.point line a (kind_in (command_of line)) is in
+      record {
+        point = a.after;
+        told = told_more script now next old mid new first r.point line a n refused refused' r.told t short is wrote
+            (k ∙ ap (λ (x : Told). refused + refusal_count x) same);
+        held = held;
+        lines_are = ap (λ i. i + 1) r.lines_are ∙ omega arith ∙ sym counts.0;
+        studies_are = j ∙ ap (λ (x : Told). studies + study_count x) same ∙ ap (λ i. i + study_count a.told) r.studies_are ∙ sym counts.1;
+      }
+
+-- ---- whatever is told
+
+pub gone_memory : (left script now : Option (List ℕ)) (n : ℕ) → Gone script now n → n ≤ 100000
+    → IfSome script (λ bytes. Shape bytes left (Err OutOfMemory))
+gone_memory left None now n r le = tt
+gone_memory left (Some bs) None n r le = absurd r.known
+gone_memory left (Some bs) (Some rest) n r le = let v = r.known in (n, le, v.within, v.short)
+
+pub gone_stops : (script now next : Option (List ℕ)) (line : List ℕ) (n : ℕ) (fault : RunFault) → (fault ≡ WriteDevice) ⊎ (fault ≡ OutOfMemory)
+    → Gone script now n → TakesLine now next true line → length line ≤ 1024 → n < 100000
+    → IfSome script (λ bytes. Shape bytes next (Err fault))
+gone_stops script now next line n fault (inl e) r t short lt =
+    subst (λ (f : RunFault). IfSome script (λ bytes. Shape bytes next (Err f))) (sym e) (gone_write script now next line n r t short lt)
+gone_stops script now next line n fault (inr e) r t short lt =
+    subst (λ (f : RunFault). IfSome script (λ bytes. Shape bytes next (Err f))) (sym e) (gone_memory next script now n r (omega arith))
+
+-- what a line told counts as at most one
+pub few-told : (told : Told) → (refusal_count told ≤ 1) × (study_count told ≤ 1)
+few-told Nothing = (omega arith, omega arith)
+few-told AStudy = (omega arith, omega arith)
+few-told ARefusal = (omega arith, omega arith)

@@ -1,0 +1,5 @@
+pub mod FirstAdded
+pub mod Reviewed
+pub mod TablesReviewed
+pub mod LineKinds
+pub mod LineAdds

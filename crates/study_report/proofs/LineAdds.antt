@@ -1,0 +1,138 @@
+-- What a line adds, by what was written for it.
+use Rattle.std.proofs.Common.{◌≡◌, ℕ, suc, Bool, true, false, List, [], ◌++◌, Option, Some, Result, refl, sym, ap, subst, ◌∙◌, inl, inr}
+use Rattle.std.specs.Prelude.{IfOk, IfErr}
+use Rattle.std.specs.Io.KnownBytes.{Appends}
+use Rattle.std.proofs.KnownBytes.{Appends-nil}
+use Rattle.std.proofs.lemmas.Result.{IfOk-weaker, IfErr-weaker}
+use Rattle.study_tablefile.specs.Taken.{TakesPrefix}
+use Rattle.study_marks.specs.Edits.{Plainly}
+use Rattle.study_reply.specs.declared.refusal.Refusal.{Refusal}
+use Rattle.study_script.specs.declared.run.RunFault.{RunFault}
+use Rattle.study_script.specs.declared.run.RunFault.TheVariants.{ReadDevice, WriteDevice, LineTooLong, TooManyLines, OutOfMemory}
+use Rattle.study_script.specs.State.{State, Board, study, Outside}
+use Rattle.study_script.specs.Replies.{Reply, refused, IsReply}
+use Rattle.study_script.specs.Held.{Answered}
+use Rattle.study_report.specs.declared.kind.Kind.TheVariants.{Study, Checked}
+use Rattle.study_report.specs.declared.told.Told.{Told}
+use Rattle.study_report.specs.declared.told.Told.TheVariants.{Nothing, Study as AStudy, Refusal as ARefusal}
+use Rattle.study_report.specs.Told.{Point, Added, IsLeftOut, IsStudyTold, IsAddedAs, IsPgnAfter, IsCheckedAfter}
+use Rattle.study_report.specs.Told.{nothing_added, study_added, refusal_added}
+use Rattle.study_report.specs.Written.{Adds, Stops, StopsIn, IsSection, IsSectionPart, IsReplied}
+
+-- what holds of whatever is written of a refusal
+abbrev pub RefusalWritten : List ℕ → Option (List ℕ) → Option (List ℕ) → Told → Type 0
+RefusalWritten text old new told = (told ≡ ARefusal) × Appends old new text
+
+pub adds-weaker : (I J : Added → Type 0) (H K : State → Type 0) (r : Result Told RunFault) (old new : Option (List ℕ)) → ((a : Added) → I a → J a)
+    → ((s : State) → H s → K s) → IfOk r (Adds I H old new) → IfOk r (Adds J K old new)
+adds-weaker I J H K r old new f g h =
+    IfOk-weaker r (Adds I H old new) (Adds J K old new) (λ told (a, is, wrote, held, same). (a, f a is, wrote, g a.after.state held, same)) h
+
+stops-same : (I J : Added → Type 0) (old new : Option (List ℕ)) (fault : RunFault) → ((a : Added) → I a → J a) → Stops I old new fault
+    → Stops J old new fault
+stops-same I J old new WriteDevice f (a, is, part) = (a, f a is, part)
+stops-same I J old new OutOfMemory f h = h
+stops-same I J old new ReadDevice f h = absurd h
+stops-same I J old new (LineTooLong n) f h = absurd h
+stops-same I J old new TooManyLines f h = absurd h
+
+pub stops-weaker : (I J : Added → Type 0) (r : Result Told RunFault) (old new : Option (List ℕ)) → ((a : Added) → I a → J a)
+    → IfErr r (Stops I old new) → IfErr r (Stops J old new)
+stops-weaker I J r old new f h = IfErr-weaker r (Stops I old new) (Stops J old new) (λ fault. stops-same I J old new fault f) h
+
+stops-in : (I : Added → Type 0) (a : Added) (old new : Option (List ℕ)) (fault : RunFault) → I a → StopsIn a.text old new fault
+    → Stops I old new fault
+stops-in I a old new WriteDevice is part = (a, is, part)
+stops-in I a old new OutOfMemory is h = h
+stops-in I a old new ReadDevice is h = absurd h
+stops-in I a old new (LineTooLong n) is h = absurd h
+stops-in I a old new TooManyLines is h = absurd h
+
+module _ (tells : Plainly → ℕ → List ℕ → Type 0) (refusal : ℕ → List ℕ → List ℕ → List ℕ) where
+  -- a refusal is written: by the number of the line and the bytes of its reply
+  pub refusal-adds : (I : Added → Type 0) (H : State → Type 0) (p : Point) (line : List ℕ) (reply : Reply) (number : ℕ) (bytes : List ℕ)
+      (r : Result Told RunFault) (old new : Option (List ℕ)) → number ≡ suc p.lines → bytes ≡ reply.text
+      → I (refusal_added tells refusal p line reply) → H reply.state → IfOk r (RefusalWritten (refusal number line bytes) old new)
+      → IfOk r (Adds I H old new)
+  refusal-adds I H p line reply number bytes r old new n b is held h =
+      let same : refusal number line bytes ≡ refusal (suc p.lines) line reply.text =
+      ap (λ i. refusal i line bytes) n ∙ ap (refusal (suc p.lines) line) b in
+      IfOk-weaker r (RefusalWritten (refusal number line bytes) old new) (Adds I H old new)
+      (λ told (t, wrote). (refusal_added tells refusal p line reply, is, subst (Appends old new) same wrote, held, t)) h
+
+  pub refusal-stops : (I : Added → Type 0) (p : Point) (line : List ℕ) (reply : Reply) (number : ℕ) (bytes : List ℕ)
+      (r : Result Told RunFault) (old new : Option (List ℕ)) → number ≡ suc p.lines → bytes ≡ reply.text
+      → I (refusal_added tells refusal p line reply) → IfErr r (StopsIn (refusal number line bytes) old new)
+      → IfErr r (Stops I old new)
+  refusal-stops I p line reply number bytes r old new n b is h =
+      let same : refusal number line bytes ≡ refusal (suc p.lines) line reply.text =
+      ap (λ i. refusal i line bytes) n ∙ ap (refusal (suc p.lines) line) b in
+      IfErr-weaker r (StopsIn (refusal number line bytes) old new) (Stops I old new)
+      (λ fault k. stops-in I (refusal_added tells refusal p line reply) old new fault is
+      (subst (λ (t : List ℕ). StopsIn t old new fault) same k)) h
+
+  -- the study on the board is written
+  pub section-adds : (H : State → Type 0) (p : Point) (s : State) (line : List ℕ) (number studies : ℕ) (plain : Plainly) (old new : Option (List ℕ))
+      → s.board ≡ study plain → number ≡ suc studies → studies ≡ p.studies → H s → IsSection tells s.board number old new
+      → Adds (IsStudyTold tells refusal p s line) H old new AStudy
+  section-adds H p s line number studies plain old new b n k held sec =
+      let there = subst (λ (x : Board). IsSection tells x number old new) b sec in
+      let at : number ≡ suc p.studies = n ∙ ap suc k in
+      (study_added p s there.0, inl (plain, there.0, b, subst (λ i. tells plain i there.0) at there.1, refl), there.2, held, refl)
+
+  pub section-stops : (p : Point) (s : State) (line : List ℕ) (number studies : ℕ) (plain : Plainly) (old new : Option (List ℕ))
+      → s.board ≡ study plain → number ≡ suc studies → studies ≡ p.studies → IsSectionPart tells s.board number old new
+      → Stops (IsStudyTold tells refusal p s line) old new WriteDevice
+  section-stops p s line number studies plain old new b n k sec =
+      let there = subst (λ (x : Board). IsSectionPart tells x number old new) b sec in
+      let at : number ≡ suc p.studies = n ∙ ap suc k in
+      (study_added p s there.0, inl (plain, there.0, b, subst (λ i. tells plain i there.0) at there.1, refl), there.2)
+
+  -- a study that is left out
+  pub left-out : (p : Point) (s : State) (line : List ℕ) (why : Refusal) → IsLeftOut s why
+      → IsStudyTold tells refusal p s line (refusal_added tells refusal p line (refused s why))
+  left-out p s line why h = inr (why, h, refl)
+
+  -- ---- after the script's reply
+
+  pub checked-refused : (p : Point) (line : List ℕ) (o : Outside) (reply : Reply) → IsReply p.state line o reply → reply.refused ≡ true
+      → IsAddedAs tells refusal Checked p line (refusal_added tells refusal p line reply)
+  checked-refused p line o reply is e = let a = refusal_added tells refusal p line reply in
+      (o, reply, is, subst (λ b. IsCheckedAfter tells refusal p line reply b a) (sym e) refl)
+
+  pub pgn-refused : (p : Point) (line : List ℕ) (o : Outside) (reply : Reply) → IsReply p.state line o reply → reply.refused ≡ true
+      → IsAddedAs tells refusal Study p line (refusal_added tells refusal p line reply)
+  pgn-refused p line o reply is e = let a = refusal_added tells refusal p line reply in
+      (o, reply, is, subst (λ b. IsPgnAfter tells refusal p line reply b a) (sym e) refl)
+
+  pub pgn-told : (p : Point) (line : List ℕ) (o : Outside) (reply : Reply) (a : Added) → IsReply p.state line o reply → reply.refused ≡ false
+      → IsStudyTold tells refusal p reply.state line a → IsAddedAs tells refusal Study p line a
+  pgn-told p line o reply a is e h = (o, reply, is, subst (λ b. IsPgnAfter tells refusal p line reply b a) (sym e) h)
+
+  pub replied-adds : (I : Added → Type 0) (H : State → Type 0) (p : Point) (line : List ℕ) (number : ℕ) (bytes : List ℕ) (was : Bool)
+      (r : Result Told RunFault) (old new : Option (List ℕ))
+      → ((o : Outside) (reply : Reply) → IsReply p.state line o reply → reply.refused ≡ true → I (refusal_added tells refusal p line reply))
+      → number ≡ suc p.lines → was ≡ true → IsReplied p.state line H bytes was
+      → IfOk r (RefusalWritten (refusal number line bytes) old new) → IfOk r (Adds I H old new)
+  replied-adds I H p line number bytes was r old new so n was-true (o, reply, is, b, held, same) h =
+      refusal-adds I H p line reply number bytes r old new n b (so o reply is (sym same ∙ was-true)) held h
+
+  pub replied-stops : (I : Added → Type 0) (H : State → Type 0) (p : Point) (line : List ℕ) (number : ℕ) (bytes : List ℕ) (was : Bool)
+      (r : Result Told RunFault) (old new : Option (List ℕ))
+      → ((o : Outside) (reply : Reply) → IsReply p.state line o reply → reply.refused ≡ true → I (refusal_added tells refusal p line reply))
+      → number ≡ suc p.lines → was ≡ true → IsReplied p.state line H bytes was
+      → IfErr r (StopsIn (refusal number line bytes) old new) → IfErr r (Stops I old new)
+  replied-stops I H p line number bytes was r old new so n was-true (o, reply, is, b, held, same) h =
+      refusal-stops I p line reply number bytes r old new n b (so o reply is (sym same ∙ was-true)) h
+
+  pub checked-nothing : (H : State → Type 0) (p : Point) (line : List ℕ) (bytes : List ℕ) (was : Bool) (out : Option (List ℕ))
+      → was ≡ false → IsReplied p.state line H bytes was → Adds (IsAddedAs tells refusal Checked p line) H out out Nothing
+  checked-nothing H p line bytes was out was-false (o, reply, is, b, held, same) =
+      let a = nothing_added p reply.state in
+      (a, (o, reply, is, subst (λ x. IsCheckedAfter tells refusal p line reply x a) (sym (sym same ∙ was-false)) refl), Appends-nil out, held, refl)
+
+-- the reply that a desk wrote into memory
+pub replied : (H : State → Type 0) (s : State) (line old taken : List ℕ) (was : Bool) → old ≡ []
+    → Answered (IsReply s line) H (Some old) (Some taken) was → IsReplied s line H taken was
+replied H s line old taken was none (o, reply, is, wrote, held, same) =
+    (o, reply, is, wrote ∙ ap (λ (t : List ℕ). t ++ reply.text) none, held, same)

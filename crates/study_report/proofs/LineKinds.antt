@@ -1,0 +1,90 @@
+-- What is known of a line by what is done with it.
+use Rattle.std.proofs.Common.{◌≡◌, ℕ, true, false, List, Option, Some, None, Ok, Err, refl, sym, ap, ◌∙◌}
+use Rattle.std.specs.Prelude.{IfSome}
+use Rattle.study_material.specs.declared.class.Class.{Class}
+use Rattle.study_command.specs.declared.command.ClassWord.TheVariants.{Build, Load, Save, Verify}
+use Rattle.study_command.specs.Asking.{Asks, of_start, at_node, at_study, of_class, stipulate, insert, tag, solve, pgn, command_of}
+use Rattle.study_script.specs.Stored.{IsTrusted, IsTrustedAsk}
+use Rattle.study_marks.specs.Edits.{Plainly}
+use Rattle.study_pgn.specs.Pgn.{pgn_text}
+use Rattle.study_reply.specs.declared.refusal.Refusal.{Refusal}
+use Rattle.study_reply.specs.declared.refusal.Refusal.TheVariants.{NoStudy, OutOfMemory}
+use Rattle.study_script.specs.State.{State, Board, empty, start, study, Outside, quiet, no_path, no_room, no_room_for, unread, unopened}
+use Rattle.study_script.specs.State.{cut_off, file, header}
+use Rattle.study_script.specs.Replies.{Reply, accepted, refused, class_told, IsPgnReply, IsReplyWhere, Annotated}
+use Rattle.study_report.specs.declared.kind.Kind.TheVariants.{PassedOver, Study, Checked}
+use Rattle.study_report.specs.Told.{kind_in, class_kind}
+use Rattle.study_report.specs.Written.{none_trusted}
+
+-- ---- a line that is answered opens no file
+
+no-class : (o : Option Class) → (class_kind o ≡ PassedOver → ⊥) → IfSome o (λ c. none_trusted c ≡ true)
+no-class None h = tt
+no-class (Some c) h = absurd (h refl)
+
+pub trusted-ask : (asks : Asks) → (kind_in asks ≡ PassedOver → ⊥) → IsTrustedAsk none_trusted asks
+trusted-ask (Err fault) h = tt
+trusted-ask (Ok None) h = tt
+trusted-ask (Ok (Some (of_class Load name))) h = no-class (class_told name) h
+trusted-ask (Ok (Some (of_class Build name))) h = tt
+trusted-ask (Ok (Some (of_class Save name))) h = tt
+trusted-ask (Ok (Some (of_class Verify name))) h = tt
+trusted-ask (Ok (Some (of_start word fen))) h = tt
+trusted-ask (Ok (Some (at_node word steps))) h = tt
+trusted-ask (Ok (Some (at_study word steps))) h = tt
+trusted-ask (Ok (Some (stipulate stipulation))) h = tt
+trusted-ask (Ok (Some (insert steps san))) h = tt
+trusted-ask (Ok (Some (tag name text))) h = tt
+trusted-ask (Ok (Some (solve count steps))) h = tt
+trusted-ask (Ok (Some pgn)) h = tt
+
+pub trusted-checked : (line : List ℕ) → kind_in (command_of line) ≡ Checked → IsTrusted none_trusted line
+trusted-checked line k = trusted-ask (command_of line) (λ e. let bad : Checked ≡ PassedOver = sym k ∙ e in absurd cc)
+
+pub trusted-study : (line : List ℕ) → kind_in (command_of line) ≡ Study → IsTrusted none_trusted line
+trusted-study line k = trusted-ask (command_of line) (λ e. let bad : Study ≡ PassedOver = sym k ∙ e in absurd cc)
+
+-- ---- a line that tells a study
+
+class-no-study : (o : Option Class) → class_kind o ≡ Study → ⊥
+class-no-study None k = absurd cc
+class-no-study (Some c) k = absurd cc
+
+pub pgn-asked : (s : State) (o : Outside) (reply : Reply) (asks : Asks) → kind_in asks ≡ Study → IsReplyWhere s o asks reply
+    → IsPgnReply s o s.board reply
+pgn-asked s o reply (Ok (Some pgn)) k r = r
+pgn-asked s o reply (Ok (Some (of_class word name))) k r = absurd (class-no-study (class_told name) k)
+pgn-asked s o reply (Ok (Some (of_start word fen))) k r = absurd cc
+pgn-asked s o reply (Ok (Some (at_node word steps))) k r = absurd cc
+pgn-asked s o reply (Ok (Some (at_study word steps))) k r = absurd cc
+pgn-asked s o reply (Ok (Some (stipulate stipulation))) k r = absurd cc
+pgn-asked s o reply (Ok (Some (insert steps san))) k r = absurd cc
+pgn-asked s o reply (Ok (Some (tag name text))) k r = absurd cc
+pgn-asked s o reply (Ok (Some (solve count steps))) k r = absurd cc
+pgn-asked s o reply (Ok None) k r = absurd cc
+pgn-asked s o reply (Err fault) k r = absurd cc
+
+-- an accepted one finds a study, and changes nothing
+abbrev pub Finds : State → Board → Reply → Type 0
+Finds s b reply = ((plain : Plainly) × (b ≡ study plain)) × (reply.state ≡ s)
+
+refused-no : (s : State) (why : Refusal) (reply : Reply) → reply ≡ refused s why → reply.refused ≡ false → ⊥
+refused-no s why reply e f = let yes : reply.refused ≡ true = ap (λ (r : Reply). r.refused) e in
+    let bad : true ≡ false = sym yes ∙ f in absurd cc
+
+found-study : (s : State) (old : Plainly) (reply : Reply) → Annotated old (λ annotated. reply ≡ accepted s (pgn_text annotated))
+    → Finds s (study old) reply
+found-study s old reply (annotated, right, plain, e) = ((old, refl), ap (λ (r : Reply). r.state) e)
+
+pub pgn-finds : (s : State) (o : Outside) (b : Board) (reply : Reply) → IsPgnReply s o b reply → reply.refused ≡ false → Finds s b reply
+pgn-finds s o empty reply r f = absurd (refused-no s NoStudy reply r f)
+pgn-finds s o (start from) reply r f = absurd (refused-no s NoStudy reply r f)
+pgn-finds s no_room (study old) reply r f = absurd (refused-no s OutOfMemory reply r f)
+pgn-finds s quiet (study old) reply r f = found-study s old reply r
+pgn-finds s no_path (study old) reply r f = found-study s old reply r
+pgn-finds s (no_room_for bytes) (study old) reply r f = found-study s old reply r
+pgn-finds s (unread fault) (study old) reply r f = found-study s old reply r
+pgn-finds s (unopened fault) (study old) reply r f = found-study s old reply r
+pgn-finds s cut_off (study old) reply r f = found-study s old reply r
+pgn-finds s (file bytes) (study old) reply r f = found-study s old reply r
+pgn-finds s (header told) (study old) reply r f = found-study s old reply r

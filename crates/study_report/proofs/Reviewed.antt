@@ -1,0 +1,82 @@
+-- What values are after a review.
+use Rattle.std.proofs.Common.{◌≡◌, ℕ, Bool, true, List, [], ◌∷◌, Result, Ok, Err, refl, sym, subst, ◌∙◌, inl, inr}
+use Rattle.study_board.specs.Position.{Position}
+use Rattle.study_material.specs.declared.class.Class.{Class}
+use Rattle.study_material.specs.Class.{IsOf}
+use Rattle.study_tablefile.specs.declared.fault.SourceFault.{SourceFault}
+use Rattle.study_prober.specs.Values.{ProbeAnswer}
+use Rattle.study_prober.specs.declared.values.ProbeFault.{ProbeFault}
+use Rattle.study_prober.specs.declared.values.ProbeFault.TheVariants.{NoTable, TableRead, PageDamaged}
+use Rattle.study_marks.specs.Answers.{WereTold, IsFirstFault}
+use Rattle.study_marks.specs.Told.{failures_told}
+use Rattle.study_review.specs.declared.fault.ReviewFault.{ReviewFault}
+use Rattle.study_review.specs.declared.fault.ReviewFault.TheVariants.{OutOfMemory, Device, Values}
+use Rattle.study_review.specs.Asked.{AllTold, Stopped}
+use Rattle.study_review.specs.Review.{HasReviewed}
+use Rattle.study_report.specs.Told.{IsUntoldBy}
+
+module _ {V : Type 0} (held : V → Class → Bool) (gives : V → Position → ProbeAnswer → Type 0)
+    (may_fail : V → Class → SourceFault → Type 0) (asked_of failed_of : V → ℕ) (is_honest : V → Type 0) where
+  told-fails : (old new : V) (asked : List Position) → WereTold gives may_fail asked_of old asked new
+      → (c : Class) (f : SourceFault) → may_fail new c f → may_fail old c f
+  told-fails old new [] e c f m = subst (λ (v : V). may_fail v c f) e m
+  told-fails old new (p ∷ ps) (v, mid, a, rest) c f m = a.fails_as_before c f (told-fails mid new ps rest c f m)
+
+  fault-fails : (old new : V) (asked : List Position) (g : ProbeFault) → IsFirstFault gives may_fail asked_of old asked g new
+      → (c : Class) (f : SourceFault) → may_fail new c f → may_fail old c f
+  fault-fails old new [] g h c f m = absurd h
+  fault-fails old new (p ∷ ps) g (inl a) c f m = a.fails_as_before c f m
+  fault-fails old new (p ∷ ps) g (inr (v, mid, a, rest)) c f m = a.fails_as_before c f (fault-fails mid new ps g rest c f m)
+
+  -- the table that is not read is one that might fail so before
+  fault-read : (old new : V) (asked : List Position) (f : SourceFault) → IsFirstFault gives may_fail asked_of old asked (TableRead f) new
+      → (p : Position) × ((c : Class) → IsOf c p → may_fail old c f)
+  fault-read old new [] f h = absurd h
+  fault-read old new (p ∷ ps) f (inl a) = (p, λ c is. a.failed_so c f is refl)
+  fault-read old new (p ∷ ps) f (inr (v, mid, a, rest)) =
+      let later = fault-read mid new ps f rest in (later.0, λ c is. a.fails_as_before c f (later.1 c is))
+
+  abbrev pub Reviews : {T : Type 0} → V → Result T ReviewFault → V → Type 0
+  Reviews {T = T} old r new = HasReviewed held gives may_fail asked_of failed_of is_honest {T = T} old r new
+
+  pub reviewed-fails : {T : Type 0} (old new : V) (r : Result T ReviewFault) → Reviews old r new
+      → (c : Class) (f : SourceFault) → may_fail new c f → may_fail old c f
+  reviewed-fails old new (Ok x) h c f m = told-fails old new h.told.0 h.told.1 c f m
+  reviewed-fails old new (Err OutOfMemory) h c f m = told-fails old new h.told.0 h.told.1 c f m
+  reviewed-fails old new (Err Device) h c f m = told-fails old new h.told.0 h.told.1 c f m
+  reviewed-fails old new (Err (Values g)) h c f m = fault-fails old new h.told.0 g h.told.1 c f m
+
+  pub reviewed-honest : {T : Type 0} (old new : V) (r : Result T ReviewFault) → Reviews old r new → is_honest old → is_honest new
+  reviewed-honest old new (Ok x) h = h.honest
+  reviewed-honest old new (Err OutOfMemory) h = h.honest
+  reviewed-honest old new (Err Device) h = h.honest
+  reviewed-honest old new (Err (Values g)) h = h.honest
+
+  pub reviewed-tables : {T : Type 0} (old new : V) (r : Result T ReviewFault) → Reviews old r new → (c : Class) → held new c ≡ held old c
+  reviewed-tables old new (Ok x) h = h.tables
+  reviewed-tables old new (Err OutOfMemory) h = h.tables
+  reviewed-tables old new (Err Device) h = h.tables
+  reviewed-tables old new (Err (Values g)) h = h.tables
+
+  untold-by : (paged : Bool) (old new : V) (fault : ProbeFault) → is_honest old
+      → ((f : SourceFault) → failed_of new ≡ failures_told {T = Unit {0}} (Err (TableRead f)) (failed_of old) → paged ≡ true)
+      → Stopped held gives may_fail asked_of failed_of is_honest old fault new
+      → IsUntoldBy (held old) paged (may_fail old) fault
+  untold-by paged old new (NoTable c) honest by_pages h = h.untold c refl
+  untold-by paged old new (TableRead f) honest by_pages h =
+      let read = fault-read old new h.told.0 f h.told.1 in (by_pages f h.failures, read.0, read.1)
+  untold-by paged old new (PageDamaged c n) honest by_pages h = absurd (h.no_damage honest)
+
+  -- why a study is left out
+  pub reviewed-why : {T : Type 0} (paged : Bool) (old new : V) (r : Result T ReviewFault) (fault : ProbeFault) → is_honest old
+      → ((f : SourceFault) → failed_of new ≡ failures_told {T = Unit {0}} (Err (TableRead f)) (failed_of old) → paged ≡ true)
+      → Reviews old r new → r ≡ Err (Values fault) → IsUntoldBy (held old) paged (may_fail old) fault
+  reviewed-why {T = T} paged old new r fault honest by_pages h e =
+      untold-by paged old new fault honest by_pages (subst (λ (x : Result T ReviewFault). Reviews {T = T} old x new) e h)
+
+-- the same classes are held, and tables may fail in no other way
+pub untold-same : (h k : Class → Bool) (paged by : Bool) (may m : Class → SourceFault → Type 0) (fault : ProbeFault) → ((c : Class) → h c ≡ k c)
+    → paged ≡ by → ((c : Class) (f : SourceFault) → may c f → m c f) → IsUntoldBy h paged may fault → IsUntoldBy k by m fault
+untold-same h k paged by may m (NoTable c) e b w u = sym (e c) ∙ u
+untold-same h k paged by may m (TableRead f) e b w (paged-is, q, fails) = (sym b ∙ paged-is, q, λ c is. w c f (fails c is))
+untold-same h k paged by may m (PageDamaged c n) e b w u = absurd u

@@ -1,0 +1,90 @@
+use Rattle.std.proofs.Common.{◌≡◌, refl, sym, subst, ◌∙◌}
+use Rattle.std.specs.Prelude.{codes}
+use Rattle.std.proofs.KnownBytes.{Appends-nil}
+use Rattle.study_command.specs.Asking.{command_of}
+use Rattle.study_reply.specs.Names.{words_of}
+use Rattle.study_reply.specs.Words.{reply_line}
+use Rattle.study_reply.specs.declared.refusal.Refusal.TheVariants.{NotAClass}
+use Rattle.study_script.specs.Replies.{refused}
+use Rattle.study_report.specs.declared.kind.Kind.{Kind}
+use Rattle.study_report.specs.declared.kind.Kind.TheVariants.{PassedOver, NoClass, Study, Checked}
+use Rattle.study_script.specs.Desk.{DeskHolds}
+use Rattle.study_script.specs.Stored.{HonestOn}
+use Rattle.study_report.specs.Written.{none_trusted}
+use Rattle.study_report.specs.Told.{kind_in, IsAdded, IsAddedAs, nothing_added, refusal_added}
+use Rattle.study_report.proofs.LineKinds.{trusted-checked}
+use Rattle.study_report.proofs.LineAdds.{refusal-adds, refusal-stops, adds-weaker, stops-weaker}
+use Rattle.study_report.proofs.adding.add_line.Goals as goal
+
+pub returns-in-PassedOver-clause-ok : goal.returns-in-PassedOver-clause-ok
+returns-in-PassedOver-clause-ok g c = λ p held at.
+    let kind : PassedOver ≡ kind_in (command_of c.args.line.now) = sym c.in-PassedOver.is ∙ c.kind_of.ensures in
+    let a = nothing_added p p.state in (
+      a,
+      subst (λ (k : Kind). IsAddedAs g.T.Report.tells g.T.Report.refusal k p c.args.line.now a) kind refl,
+      Appends-nil (g.W.Write.contents c.args.out.now),
+      held,
+      refl,
+    )
+
+pub returns-in-NoClass-clause-ok : goal.returns-in-NoClass-clause-ok
+returns-in-NoClass-clause-ok g c = λ p held at.
+    let kind : NoClass ≡ kind_in (command_of c.args.line.now) = sym c.in-NoClass.is ∙ c.kind_of.ensures in
+    let reply = refused p.state NotAClass in
+    refusal-adds g.T.Report.tells g.T.Report.refusal (IsAdded g.T.Report.tells g.T.Report.refusal p c.args.line.now)
+    (DeskHolds g.S.Pages.PageSource.honest g.S.Pages.PageSource.gives (HonestOn none_trusted g.S.TableStore.honest) g.S.TableStore.files
+    g.S.TableStore.headers g.S.TableStore.faults c.args.desk.now.board c.args.desk.now.tables c.args.desk.now.store.now)
+    p c.args.line.now reply c.args.at.line (reply_line (codes "error ") (words_of NotAClass))
+    c.refuse_line.result (g.W.Write.contents c.args.out.now) (g.W.Write.contents c.refuse_line.new.out) at.0 refl
+    (subst (λ (k : Kind). IsAddedAs g.T.Report.tells g.T.Report.refusal k p c.args.line.now
+    (refusal_added g.T.Report.tells g.T.Report.refusal p c.args.line.now reply)) kind refl) held c.refuse_line.ensures.ok
+
+pub returns-in-NoClass-clause-err : goal.returns-in-NoClass-clause-err
+returns-in-NoClass-clause-err g c = λ p held at.
+    let kind : NoClass ≡ kind_in (command_of c.args.line.now) = sym c.in-NoClass.is ∙ c.kind_of.ensures in
+    let reply = refused p.state NotAClass in
+    refusal-stops g.T.Report.tells g.T.Report.refusal (IsAdded g.T.Report.tells g.T.Report.refusal p c.args.line.now)
+    p c.args.line.now reply c.args.at.line (reply_line (codes "error ") (words_of NotAClass))
+    c.refuse_line.result (g.W.Write.contents c.args.out.now) (g.W.Write.contents c.refuse_line.new.out) at.0 refl
+    (subst (λ (k : Kind). IsAddedAs g.T.Report.tells g.T.Report.refusal k p c.args.line.now
+    (refusal_added g.T.Report.tells g.T.Report.refusal p c.args.line.now reply)) kind refl) c.refuse_line.ensures.err
+
+pub returns-in-Study-clause-ok : goal.returns-in-Study-clause-ok
+returns-in-Study-clause-ok g c = λ p held at.
+    let kind : Study ≡ kind_in (command_of c.args.line.now) = sym c.in-Study.is ∙ c.kind_of.ensures in
+    adds-weaker (IsAddedAs g.T.Report.tells g.T.Report.refusal Study p c.args.line.now) (IsAdded g.T.Report.tells g.T.Report.refusal p c.args.line.now)
+    (DeskHolds g.S.Pages.PageSource.honest g.S.Pages.PageSource.gives (HonestOn none_trusted g.S.TableStore.honest) g.S.TableStore.files
+    g.S.TableStore.headers g.S.TableStore.faults c.add_pgn.new.desk.board c.add_pgn.new.desk.tables c.add_pgn.new.desk.store.now)
+    (DeskHolds g.S.Pages.PageSource.honest g.S.Pages.PageSource.gives (HonestOn none_trusted g.S.TableStore.honest) g.S.TableStore.files
+    g.S.TableStore.headers g.S.TableStore.faults c.add_pgn.new.desk.board c.add_pgn.new.desk.tables c.add_pgn.new.desk.store.now)
+    c.add_pgn.result (g.W.Write.contents c.args.out.now) (g.W.Write.contents c.add_pgn.new.out)
+    (λ a. subst (λ (k : Kind). IsAddedAs g.T.Report.tells g.T.Report.refusal k p c.args.line.now a) kind) (λ s h. h)
+    (c.add_pgn.ensures.ok p (sym kind) held at)
+
+pub returns-in-Study-clause-err : goal.returns-in-Study-clause-err
+returns-in-Study-clause-err g c = λ p held at.
+    let kind : Study ≡ kind_in (command_of c.args.line.now) = sym c.in-Study.is ∙ c.kind_of.ensures in
+    stops-weaker (IsAddedAs g.T.Report.tells g.T.Report.refusal Study p c.args.line.now) (IsAdded g.T.Report.tells g.T.Report.refusal p c.args.line.now)
+    c.add_pgn.result (g.W.Write.contents c.args.out.now) (g.W.Write.contents c.add_pgn.new.out)
+    (λ a. subst (λ (k : Kind). IsAddedAs g.T.Report.tells g.T.Report.refusal k p c.args.line.now a) kind)
+    (c.add_pgn.ensures.err p (sym kind) held at)
+
+pub returns-in-Checked-clause-ok : goal.returns-in-Checked-clause-ok
+returns-in-Checked-clause-ok g c = λ p held at.
+    let kind : Checked ≡ kind_in (command_of c.args.line.now) = sym c.in-Checked.is ∙ c.kind_of.ensures in
+    adds-weaker (IsAddedAs g.T.Report.tells g.T.Report.refusal Checked p c.args.line.now) (IsAdded g.T.Report.tells g.T.Report.refusal p c.args.line.now)
+    (DeskHolds g.S.Pages.PageSource.honest g.S.Pages.PageSource.gives (HonestOn none_trusted g.S.TableStore.honest) g.S.TableStore.files
+    g.S.TableStore.headers g.S.TableStore.faults c.add_checked.new.desk.board c.add_checked.new.desk.tables c.add_checked.new.desk.store.now)
+    (DeskHolds g.S.Pages.PageSource.honest g.S.Pages.PageSource.gives (HonestOn none_trusted g.S.TableStore.honest) g.S.TableStore.files
+    g.S.TableStore.headers g.S.TableStore.faults c.add_checked.new.desk.board c.add_checked.new.desk.tables c.add_checked.new.desk.store.now)
+    c.add_checked.result (g.W.Write.contents c.args.out.now) (g.W.Write.contents c.add_checked.new.out)
+    (λ a. subst (λ (k : Kind). IsAddedAs g.T.Report.tells g.T.Report.refusal k p c.args.line.now a) kind) (λ s h. h)
+    (c.add_checked.ensures.ok p (trusted-checked c.args.line.now (sym kind)) held at.0)
+
+pub returns-in-Checked-clause-err : goal.returns-in-Checked-clause-err
+returns-in-Checked-clause-err g c = λ p held at.
+    let kind : Checked ≡ kind_in (command_of c.args.line.now) = sym c.in-Checked.is ∙ c.kind_of.ensures in
+    stops-weaker (IsAddedAs g.T.Report.tells g.T.Report.refusal Checked p c.args.line.now) (IsAdded g.T.Report.tells g.T.Report.refusal p c.args.line.now)
+    c.add_checked.result (g.W.Write.contents c.args.out.now) (g.W.Write.contents c.add_checked.new.out)
+    (λ a. subst (λ (k : Kind). IsAddedAs g.T.Report.tells g.T.Report.refusal k p c.args.line.now a) kind)
+    (c.add_checked.ensures.err p (trusted-checked c.args.line.now (sym kind)) held at.0)

@@ -1,0 +1,64 @@
+use Rattle.std.proofs.Common.{◌≡◌, true, false, sym, ap, subst, ◌∙◌}
+use Rattle.study_material.specs.declared.class.Class.{Class}
+use Rattle.study_command.specs.Asking.{command_of}
+use Rattle.study_script.specs.State.{State}
+use Rattle.study_script.specs.Desk.{DeskHolds}
+use Rattle.study_script.specs.Held.{Holds}
+use Rattle.study_script.specs.Stored.{HonestOn, StoreSeen}
+use Rattle.study_report.specs.declared.kind.Kind.TheVariants.{PassedOver, Study}
+use Rattle.study_report.specs.Told.{kind_in, IsAddedAs, IsStudyTold}
+use Rattle.study_report.specs.Written.{none_trusted}
+use Rattle.study_report.proofs.LineKinds.{trusted-study, pgn-asked, pgn-finds}
+use Rattle.study_report.proofs.LineAdds.{pgn-refused, pgn-told, replied-adds, replied-stops, adds-weaker, stops-weaker}
+use Rattle.study_report.proofs.adding.add_pgn.Goals as goal
+
+pub returns-then-reply-clause-ok : goal.returns-then-reply-clause-ok
+returns-then-reply-clause-ok g c = λ p kind held at. replied-adds g.T.Report.tells g.T.Report.refusal
+    (IsAddedAs g.T.Report.tells g.T.Report.refusal Study p c.args.line.now)
+    (DeskHolds g.S.Pages.PageSource.honest g.S.Pages.PageSource.gives (HonestOn none_trusted g.S.TableStore.honest) g.S.TableStore.files
+    g.S.TableStore.headers g.S.TableStore.faults c.reply_to.new.desk.board c.reply_to.new.desk.tables c.reply_to.new.desk.store.now)
+    p c.args.line.now c.args.at.line
+    c.as_slice-bytes.result.now c.in_ok-reply.reply.refused c.add_refusal.result (g.W.Write.contents c.args.out.now) (g.W.Write.contents c.add_refusal.new.out)
+    (pgn-refused g.T.Report.tells g.T.Report.refusal p c.args.line.now) at.0 c.if-reply.true
+    (rw c.as_slice-bytes.ensures.value (c.in_ok-reply.ensures.ok p.state (trusted-study c.args.line.now kind) held)) c.add_refusal.ensures.ok
+
+pub returns-then-reply-clause-err : goal.returns-then-reply-clause-err
+returns-then-reply-clause-err g c = λ p kind held at. replied-stops g.T.Report.tells g.T.Report.refusal
+    (IsAddedAs g.T.Report.tells g.T.Report.refusal Study p c.args.line.now)
+    (DeskHolds g.S.Pages.PageSource.honest g.S.Pages.PageSource.gives (HonestOn none_trusted g.S.TableStore.honest) g.S.TableStore.files
+    g.S.TableStore.headers g.S.TableStore.faults c.reply_to.new.desk.board c.reply_to.new.desk.tables c.reply_to.new.desk.store.now)
+    p c.args.line.now c.args.at.line
+    c.as_slice-bytes.result.now c.in_ok-reply.reply.refused c.add_refusal.result (g.W.Write.contents c.args.out.now) (g.W.Write.contents c.add_refusal.new.out)
+    (pgn-refused g.T.Report.tells g.T.Report.refusal p c.args.line.now) at.0 c.if-reply.true
+    (rw c.as_slice-bytes.ensures.value (c.in_ok-reply.ensures.ok p.state (trusted-study c.args.line.now kind) held)) c.add_refusal.ensures.err
+
+pub returns-clause-ok : goal.returns-clause-ok
+returns-clause-ok g c = λ p kind held at.
+    let r = c.in_ok-reply.ensures.ok p.state (trusted-study c.args.line.now kind) held in
+    let no : r.1.refused ≡ false = sym r.5 ∙ c.if-reply.false in
+    let found = pgn-finds p.state r.0 p.state.board r.1 (pgn-asked p.state r.0 r.1 (command_of c.args.line.now) kind r.2) no in
+    adds-weaker (IsStudyTold g.T.Report.tells g.T.Report.refusal p r.1.state c.args.line.now)
+    (IsAddedAs g.T.Report.tells g.T.Report.refusal Study p c.args.line.now)
+    (λ t. (t ≡ r.1.state) × Holds g.S.Pages.PageSource.honest g.S.Pages.PageSource.gives
+    c.reply_to.new.desk.board c.tell_study.new.tables t)
+    (DeskHolds g.S.Pages.PageSource.honest g.S.Pages.PageSource.gives (HonestOn none_trusted g.S.TableStore.honest) g.S.TableStore.files
+    g.S.TableStore.headers g.S.TableStore.faults c.reply_to.new.desk.board c.tell_study.new.tables c.reply_to.new.desk.store.now)
+    c.tell_study.result (g.W.Write.contents c.args.out.now) (g.W.Write.contents c.tell_study.new.out)
+    (λ a h. pgn-told g.T.Report.tells g.T.Report.refusal p c.args.line.now r.0 r.1 a r.2 no h)
+    (λ t (e, h). record {
+      held = h;
+      seen = subst (λ (x : State). StoreSeen (HonestOn none_trusted g.S.TableStore.honest) g.S.TableStore.files g.S.TableStore.headers
+          g.S.TableStore.faults c.reply_to.new.desk.store.now x) (sym e) r.4.seen;
+    })
+    (c.tell_study.ensures.ok p r.1.state found.0.0 r.4.held (ap (λ (x : State). x.board) found.1 ∙ found.0.1) at)
+
+pub returns-clause-err : goal.returns-clause-err
+returns-clause-err g c = λ p kind held at.
+    let r = c.in_ok-reply.ensures.ok p.state (trusted-study c.args.line.now kind) held in
+    let no : r.1.refused ≡ false = sym r.5 ∙ c.if-reply.false in
+    let found = pgn-finds p.state r.0 p.state.board r.1 (pgn-asked p.state r.0 r.1 (command_of c.args.line.now) kind r.2) no in
+    stops-weaker (IsStudyTold g.T.Report.tells g.T.Report.refusal p r.1.state c.args.line.now)
+    (IsAddedAs g.T.Report.tells g.T.Report.refusal Study p c.args.line.now)
+    c.tell_study.result (g.W.Write.contents c.args.out.now) (g.W.Write.contents c.tell_study.new.out)
+    (λ a h. pgn-told g.T.Report.tells g.T.Report.refusal p c.args.line.now r.0 r.1 a r.2 no h)
+    (c.tell_study.ensures.err p r.1.state found.0.0 r.4.held (ap (λ (x : State). x.board) found.1 ∙ found.0.1) at)

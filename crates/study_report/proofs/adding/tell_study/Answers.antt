@@ -1,0 +1,72 @@
+use Rattle.std.proofs.Common.{◌≡◌, ◌+◌, suc, refl, subst, inl, inr, arith}
+use Rattle.std.specs.Prelude.{IfOk, IfErr, codes}
+use Rattle.study_reply.specs.Names.{words_of}
+use Rattle.study_reply.specs.Words.{reply_line}
+use Rattle.study_reply.specs.declared.refusal.Refusal.TheVariants.{OutOfMemory}
+use Rattle.study_script.specs.Held.{Holds}
+use Rattle.study_script.specs.Replies.{refused}
+use Rattle.study_report.specs.Told.{IsStudyTold}
+use Rattle.study_report.specs.Written.{StopsIn}
+use Rattle.study_report.proofs.LineAdds.{RefusalWritten, refusal-adds, refusal-stops, section-adds, section-stops, left-out}
+use Rattle.study_report.proofs.adding.tell_study.Goals as goal
+
+pub returns-in-Ok-clause-ok : goal.returns-in-Ok-clause-ok
+returns-in-Ok-clause-ok g c = λ p s plain held b at. section-adds g.T.Report.tells g.T.Report.refusal
+    (λ t. (t ≡ s) × Holds g.P.PageSource.honest g.P.PageSource.gives c.args.board.now c.add_section.new.tables t)
+    p s c.args.line.now
+    (c.args.at.studies + 1) c.args.at.studies plain (g.W.Write.contents c.args.out.now) (g.W.Write.contents c.add_section.new.out) b (omega arith) at.1
+    (refl, c.add_section.ensures.holds s held) (c.in-Ok.ensures.told s held)
+
+pub returns-in-Err-Device-clause-err : goal.returns-in-Err-Device-clause-err
+returns-in-Err-Device-clause-err g c = λ p s plain held b at. section-stops g.T.Report.tells g.T.Report.refusal p s c.args.line.now
+    (c.args.at.studies + 1) c.args.at.studies plain (g.W.Write.contents c.args.out.now) (g.W.Write.contents c.add_section.new.out) b (omega arith) at.1
+    (c.in-Err-Device.ensures.device s held cc)
+
+pub returns-in-Err-OutOfMemory-clause-ok : goal.returns-in-Err-OutOfMemory-clause-ok
+returns-in-Err-OutOfMemory-clause-ok g c = λ p s plain held b at.
+    let bytes = reply_line (codes "error ") (words_of OutOfMemory) in
+    refusal-adds g.T.Report.tells g.T.Report.refusal (IsStudyTold g.T.Report.tells g.T.Report.refusal p s c.args.line.now)
+    (λ t. (t ≡ s) × Holds g.P.PageSource.honest g.P.PageSource.gives c.args.board.now c.add_section.new.tables t)
+    p c.args.line.now (refused s OutOfMemory) c.args.at.line bytes c.refuse_line.result
+    (g.W.Write.contents c.args.out.now) (g.W.Write.contents c.refuse_line.new.out) at.0 refl
+    (left-out g.T.Report.tells g.T.Report.refusal p s c.args.line.now OutOfMemory (inl refl)) (refl, c.add_section.ensures.holds s held)
+    (subst (λ w. IfOk c.refuse_line.result (RefusalWritten (g.T.Report.refusal c.args.at.line c.args.line.now bytes) (g.W.Write.contents w)
+    (g.W.Write.contents c.refuse_line.new.out))) (c.in-Err-OutOfMemory.ensures.memory cc) c.refuse_line.ensures.ok)
+
+pub returns-in-Err-OutOfMemory-clause-err : goal.returns-in-Err-OutOfMemory-clause-err
+returns-in-Err-OutOfMemory-clause-err g c = λ p s plain held b at.
+    let bytes = reply_line (codes "error ") (words_of OutOfMemory) in
+    refusal-stops g.T.Report.tells g.T.Report.refusal (IsStudyTold g.T.Report.tells g.T.Report.refusal p s c.args.line.now)
+    p c.args.line.now (refused s OutOfMemory) c.args.at.line bytes c.refuse_line.result
+    (g.W.Write.contents c.args.out.now) (g.W.Write.contents c.refuse_line.new.out) at.0 refl
+    (left-out g.T.Report.tells g.T.Report.refusal p s c.args.line.now OutOfMemory (inl refl))
+    (subst (λ w. IfErr c.refuse_line.result (StopsIn (g.T.Report.refusal c.args.at.line c.args.line.now bytes) (g.W.Write.contents w)
+    (g.W.Write.contents c.refuse_line.new.out))) (c.in-Err-OutOfMemory.ensures.memory cc) c.refuse_line.ensures.err)
+
+pub returns-in-Err-Values-clause-ok : goal.returns-in-Err-Values-clause-ok
+returns-in-Err-Values-clause-ok g c = λ p s plain held b at.
+    let why = c.of_probe.result in
+    let bytes = reply_line (codes "error ") (words_of why) in
+    refusal-adds g.T.Report.tells g.T.Report.refusal (IsStudyTold g.T.Report.tells g.T.Report.refusal p s c.args.line.now)
+    (λ t. (t ≡ s) × Holds g.P.PageSource.honest g.P.PageSource.gives c.args.board.now c.add_section.new.tables t)
+    p c.args.line.now (refused s why) c.args.at.line bytes c.refuse_line-in-Err-Values.result
+    (g.W.Write.contents c.args.out.now) (g.W.Write.contents c.refuse_line-in-Err-Values.new.out) at.0 refl
+    (left-out g.T.Report.tells g.T.Report.refusal p s c.args.line.now why
+    (inr (c.in-Err-Values.fault, c.in-Err-Values.ensures.why s c.in-Err-Values.fault held cc, c.of_probe.ensures)))
+    (refl, c.add_section.ensures.holds s held)
+    (subst (λ w. IfOk c.refuse_line-in-Err-Values.result (RefusalWritten (g.T.Report.refusal c.args.at.line c.args.line.now bytes) (g.W.Write.contents w)
+    (g.W.Write.contents c.refuse_line-in-Err-Values.new.out))) (c.in-Err-Values.ensures.untold c.in-Err-Values.fault cc)
+    c.refuse_line-in-Err-Values.ensures.ok)
+
+pub returns-in-Err-Values-clause-err : goal.returns-in-Err-Values-clause-err
+returns-in-Err-Values-clause-err g c = λ p s plain held b at.
+    let why = c.of_probe.result in
+    let bytes = reply_line (codes "error ") (words_of why) in
+    refusal-stops g.T.Report.tells g.T.Report.refusal (IsStudyTold g.T.Report.tells g.T.Report.refusal p s c.args.line.now)
+    p c.args.line.now (refused s why) c.args.at.line bytes c.refuse_line-in-Err-Values.result
+    (g.W.Write.contents c.args.out.now) (g.W.Write.contents c.refuse_line-in-Err-Values.new.out) at.0 refl
+    (left-out g.T.Report.tells g.T.Report.refusal p s c.args.line.now why
+    (inr (c.in-Err-Values.fault, c.in-Err-Values.ensures.why s c.in-Err-Values.fault held cc, c.of_probe.ensures)))
+    (subst (λ w. IfErr c.refuse_line-in-Err-Values.result (StopsIn (g.T.Report.refusal c.args.at.line c.args.line.now bytes) (g.W.Write.contents w)
+    (g.W.Write.contents c.refuse_line-in-Err-Values.new.out))) (c.in-Err-Values.ensures.untold c.in-Err-Values.fault cc)
+    c.refuse_line-in-Err-Values.ensures.err)

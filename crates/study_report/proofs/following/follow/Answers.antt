@@ -1,0 +1,184 @@
+use Rattle.std.proofs.Common.{◌≡◌, ◌+◌, ◌≤◌, [], refl, ap, subst, arith}
+use Rattle.std.proofs.KnownBytes.{Consumes-nil, Consumes-kept}
+use Rattle.study_command.specs.Lines.{GaveFeeds}
+use Rattle.study_command.proofs.LineTaken.{has_more, has_none, gave-more, gave-same}
+use Rattle.study_script.proofs.FirstLines.{Gone, gone_none, gone_ends, gone_long, gone_many, gone_more, gone_read}
+use Rattle.study_script.specs.Desk.{DeskHolds}
+use Rattle.study_script.specs.Stored.{HonestOn}
+use Rattle.study_report.specs.Outcome.{begun}
+use Rattle.study_report.specs.Told.{IsAdded}
+use Rattle.study_report.specs.Written.{none_trusted, Adds, Stops}
+use Rattle.study_report.proofs.FirstAdded.{HasTold, ToldOn-more, few-told, told_none, told_ends, told_long, told_many, told_read, told_stops, gone_stops}
+use Rattle.study_report.proofs.following.follow.Goals as goal
+
+pub returns-in-Err-TooLong-clause-outcome : goal.returns-in-Err-TooLong-clause-outcome
+returns-in-Err-TooLong-clause-outcome g c = λ first h.
+    let on = c.loop-n.invariant.0 first h in
+    told_long g.T.Report.tells g.T.Report.refusal (g.R.Read.remaining c.read.new.script) (g.R.Read.remaining c.args.script.now)
+    (g.R.Read.remaining c.loop-n.script) (g.W.Write.contents c.args.out.now) (g.W.Write.contents c.loop-n.out)
+    first on.point c.loop-n.n c.loop-n.refused on.told (c.in-Err-TooLong.ensures.long cc) c.loop-n-test.true
+
+pub returns-in-Ok-false-clause-outcome : goal.returns-in-Ok-false-clause-outcome
+returns-in-Ok-false-clause-outcome g c = λ first h.
+    let on = c.loop-n.invariant.0 first h in
+    let none = rw c.in-Ok-false.field-0-test at c.in-Ok-false.ensures.line in
+    told_ends g.T.Report.tells g.T.Report.refusal (g.R.Read.remaining c.read.new.script) (g.R.Read.remaining c.args.script.now)
+    (g.R.Read.remaining c.loop-n.script) (g.R.Read.remaining c.read.new.script)
+    (g.W.Write.contents c.args.out.now) (g.W.Write.contents c.loop-n.out) first on.point c.read.new.self
+    c.loop-n.n c.loop-n.refused on.told none (omega arith)
+
+pub returns-in-Err-Device-clause-outcome : goal.returns-in-Err-Device-clause-outcome
+returns-in-Err-Device-clause-outcome g c = λ first h.
+    let on = c.loop-n.invariant.0 first h in
+    let script = g.R.Read.remaining c.args.script.now in
+    let now = g.R.Read.remaining c.loop-n.script in
+    let left = g.R.Read.remaining c.read.new.script in
+    told_read g.T.Report.tells g.T.Report.refusal left script now (g.W.Write.contents c.args.out.now) (g.W.Write.contents c.loop-n.out)
+    first on.point c.loop-n.n c.loop-n.refused on.told (omega arith)
+    (gave-same script now left c.loop-n.n c.loop-n.invariant.3 (c.in-Err-Device.ensures.no_feed cc)) (c.in-Err-Device.ensures.no_feed cc)
+
+pub returns-in-Ok-None-clause-outcome : goal.returns-in-Ok-None-clause-outcome
+returns-in-Ok-None-clause-outcome g c = λ first h.
+    let on = c.loop-n.invariant.0 first h in
+    let end = rw c.in-Ok-None.field-0-is at c.in-Ok-None.ensures.end in
+    let script = g.R.Read.remaining c.args.script.now in
+    let now = g.R.Read.remaining c.loop-n.script in
+    let old = g.W.Write.contents c.args.out.now in
+    let new = g.W.Write.contents c.loop-n.out in
+    let at : c.loop-n.n ≡ 100000 = omega arith in
+    let told = subst (λ k. HasTold g.T.Report.tells g.T.Report.refusal script now old new first on.point k c.loop-n.refused) at on.told in
+    told_ends g.T.Report.tells g.T.Report.refusal (g.R.Read.remaining c.read_byte.new.script) script now
+    (g.R.Read.remaining c.read_byte.new.script) old new first on.point [] 100000 c.loop-n.refused told
+    (has_none now (g.R.Read.remaining c.read_byte.new.script) end.0 end.1) (omega arith)
+
+pub returns-in-Ok-Some-clause-outcome : goal.returns-in-Ok-Some-clause-outcome
+returns-in-Ok-Some-clause-outcome g c = λ first h.
+    let on = c.loop-n.invariant.0 first h in
+    let some = rw c.in-Ok-Some.field-0-is at c.in-Ok-Some.ensures.some in
+    let script = g.R.Read.remaining c.args.script.now in
+    let now = g.R.Read.remaining c.loop-n.script in
+    let old = g.W.Write.contents c.args.out.now in
+    let new = g.W.Write.contents c.loop-n.out in
+    let at : c.loop-n.n ≡ 100000 = omega arith in
+    let told = subst (λ k. HasTold g.T.Report.tells g.T.Report.refusal script now old new first on.point k c.loop-n.refused) at on.told in
+    told_many g.T.Report.tells g.T.Report.refusal (g.R.Read.remaining c.read_byte.new.script) script now old new first on.point
+    c.loop-n.refused told (has_more now (g.R.Read.remaining c.read_byte.new.script) c.in-Ok-Some.field-0-0 some)
+
+pub returns-in-Err-read_byte-clause-outcome : goal.returns-in-Err-read_byte-clause-outcome
+returns-in-Err-read_byte-clause-outcome g c = λ first h.
+    let on = c.loop-n.invariant.0 first h in
+    let script = g.R.Read.remaining c.args.script.now in
+    let now = g.R.Read.remaining c.loop-n.script in
+    let left = g.R.Read.remaining c.read_byte.new.script in
+    let kept : GaveFeeds now left 0 = ([], Consumes-kept now now left [] (Consumes-nil now) c.in-Err-read_byte.ensures.err, omega arith) in
+    told_read g.T.Report.tells g.T.Report.refusal left script now (g.W.Write.contents c.args.out.now) (g.W.Write.contents c.loop-n.out)
+    first on.point c.loop-n.n c.loop-n.refused on.told (omega arith) (gave-same script now left c.loop-n.n c.loop-n.invariant.3 kept) kept
+
+pub returns-in-Err-clause-outcome : goal.returns-in-Err-clause-outcome
+returns-in-Err-clause-outcome g c = λ first h.
+    let on = c.loop-n.invariant.0 first h in
+    let some = rw c.in-Ok-true.field-0-test at c.in-Ok-true.ensures.line in
+    let stop : Stops (IsAdded g.T.Report.tells g.T.Report.refusal on.point c.read.new.self) (g.W.Write.contents c.loop-n.out)
+    (g.W.Write.contents c.add_line.new.out) c.in-Err.fault =
+    rw c.as_slice.ensures at (c.in-Err.ensures.err on.point on.held (omega (arith, on.lines_are), on.studies_are)) in
+    (told_stops g.T.Report.tells g.T.Report.refusal (g.R.Read.remaining c.args.script.now) (g.R.Read.remaining c.loop-n.script)
+    (g.R.Read.remaining c.read.new.script) (g.W.Write.contents c.args.out.now) (g.W.Write.contents c.loop-n.out) (g.W.Write.contents c.add_line.new.out)
+    first on.point c.read.new.self c.loop-n.n c.loop-n.refused c.in-Err.fault on.told some c.in-Ok-true.ensures.short c.loop-n-test.true
+    (gave-more (g.R.Read.remaining c.args.script.now) (g.R.Read.remaining c.loop-n.script)
+    (g.R.Read.remaining c.read.new.script) c.loop-n.n 1 c.loop-n.invariant.3 c.in-Ok-true.ensures.one_feed) stop)
+
+pub returns-in-Err-clause-shape : goal.returns-in-Err-clause-shape
+returns-in-Err-clause-shape g c =
+    let some = rw c.in-Ok-true.field-0-test at c.in-Ok-true.ensures.line in
+    (gone_stops (g.R.Read.remaining c.args.script.now) (g.R.Read.remaining c.loop-n.script)
+    (g.R.Read.remaining c.read.new.script) c.read.new.self c.loop-n.n c.in-Err.fault c.in-Err.ensures.stops c.loop-n.invariant.4 some
+    c.in-Ok-true.ensures.short c.loop-n-test.true)
+
+pub returns-in-Err-Device-clause-shape : goal.returns-in-Err-Device-clause-shape
+returns-in-Err-Device-clause-shape g c =
+    gone_read (g.R.Read.remaining c.read.new.script) (g.R.Read.remaining c.args.script.now)
+    (g.R.Read.remaining c.loop-n.script) c.loop-n.n c.loop-n.invariant.4 (omega arith)
+    (gave-same (g.R.Read.remaining c.args.script.now) (g.R.Read.remaining c.loop-n.script) (g.R.Read.remaining c.read.new.script)
+    c.loop-n.n c.loop-n.invariant.3 (c.in-Err-Device.ensures.no_feed cc))
+
+pub returns-in-Err-TooLong-clause-shape : goal.returns-in-Err-TooLong-clause-shape
+returns-in-Err-TooLong-clause-shape g c =
+    gone_long (g.R.Read.remaining c.read.new.script) (g.R.Read.remaining c.args.script.now)
+    (g.R.Read.remaining c.loop-n.script) c.loop-n.n c.loop-n.invariant.4 (c.in-Err-TooLong.ensures.long cc) c.loop-n-test.true
+
+pub returns-in-Ok-false-clause-shape : goal.returns-in-Ok-false-clause-shape
+returns-in-Ok-false-clause-shape g c =
+    let none = rw c.in-Ok-false.field-0-test at c.in-Ok-false.ensures.line in
+    gone_ends (g.R.Read.remaining c.read.new.script) (g.R.Read.remaining c.args.script.now)
+    (g.R.Read.remaining c.loop-n.script) (g.R.Read.remaining c.read.new.script) c.read.new.self c.loop-n.n
+    c.loop-n.refused c.loop-n.invariant.4 none (omega arith) (omega arith)
+
+pub returns-in-Ok-None-clause-shape : goal.returns-in-Ok-None-clause-shape
+returns-in-Ok-None-clause-shape g c =
+    let end = rw c.in-Ok-None.field-0-is at c.in-Ok-None.ensures.end in
+    let script = g.R.Read.remaining c.args.script.now in
+    let now = g.R.Read.remaining c.loop-n.script in
+    let at : c.loop-n.n ≡ 100000 = omega arith in
+    let gone = subst (λ k. Gone script now k) at c.loop-n.invariant.4 in
+    gone_ends (g.R.Read.remaining c.read_byte.new.script) script now (g.R.Read.remaining c.read_byte.new.script)
+    [] 100000 c.loop-n.refused gone (has_none now (g.R.Read.remaining c.read_byte.new.script) end.0 end.1)
+    (omega arith) (omega arith)
+
+pub returns-in-Ok-Some-clause-shape : goal.returns-in-Ok-Some-clause-shape
+returns-in-Ok-Some-clause-shape g c =
+    let some = rw c.in-Ok-Some.field-0-is at c.in-Ok-Some.ensures.some in
+    let script = g.R.Read.remaining c.args.script.now in
+    let now = g.R.Read.remaining c.loop-n.script in
+    let at : c.loop-n.n ≡ 100000 = omega arith in
+    let gone = subst (λ k. Gone script now k) at c.loop-n.invariant.4 in
+    gone_many (g.R.Read.remaining c.read_byte.new.script) script now gone
+    (has_more now (g.R.Read.remaining c.read_byte.new.script) c.in-Ok-Some.field-0-0 some)
+
+pub loop-n-init : goal.loop-n-init
+loop-n-init g c = (
+  λ first h. record {
+    point = begun first;
+    told = told_none g.T.Report.tells g.T.Report.refusal (g.R.Read.remaining c.args.script.now) (g.W.Write.contents c.args.out.now) first;
+    held = h;
+    lines_are = refl;
+    studies_are = refl;
+  },
+  omega arith,
+  omega arith,
+  ([], Consumes-nil (g.R.Read.remaining c.args.script.now), omega arith),
+  gone_none (g.R.Read.remaining c.args.script.now),
+)
+
+pub loop-n-preserved : goal.loop-n-preserved
+loop-n-preserved g c =
+    let line = c.read.new.self in
+    let mid = g.W.Write.contents c.loop-n.out in
+    let new = g.W.Write.contents c.add_line.new.out in
+    let some = rw c.in-Ok-true.field-0-test at c.in-Ok-true.ensures.line in
+    let told = c.in-Ok.told in
+    let few = few-told told in
+    let some-more = few.0 in
+    let one-more = few.1 in
+    let counted = c.refusals-refused.ensures in
+    let numbered = c.studies-studies.ensures in (
+      λ first h.
+          let on = c.loop-n.invariant.0 first h in
+          let said : Adds (IsAdded g.T.Report.tells g.T.Report.refusal on.point line)
+          (DeskHolds g.S.Pages.PageSource.honest g.S.Pages.PageSource.gives (HonestOn none_trusted g.S.TableStore.honest) g.S.TableStore.files
+          g.S.TableStore.headers g.S.TableStore.faults c.add_line.new.desk.board c.add_line.new.desk.tables c.add_line.new.desk.store.now) mid new told =
+          rw c.as_slice.ensures at (c.in-Ok.ensures.ok on.point on.held (omega (arith, on.lines_are), on.studies_are)) in
+          ToldOn-more g.T.Report.tells g.T.Report.refusal
+          (DeskHolds g.S.Pages.PageSource.honest g.S.Pages.PageSource.gives (HonestOn none_trusted g.S.TableStore.honest) g.S.TableStore.files
+          g.S.TableStore.headers g.S.TableStore.faults c.loop-n.desk.board c.loop-n.desk.tables c.loop-n.desk.store.now)
+          (DeskHolds g.S.Pages.PageSource.honest g.S.Pages.PageSource.gives (HonestOn none_trusted g.S.TableStore.honest) g.S.TableStore.files
+          g.S.TableStore.headers g.S.TableStore.faults c.add_line.new.desk.board c.add_line.new.desk.tables c.add_line.new.desk.store.now)
+          (g.R.Read.remaining c.args.script.now) (g.R.Read.remaining c.loop-n.script) (g.R.Read.remaining c.read.new.script)
+          (g.W.Write.contents c.args.out.now) mid new first line c.loop-n.n c.loop-n.refused _ c.loop-n.studies _ told on some
+          c.in-Ok-true.ensures.short said (ap (λ i. c.loop-n.refused + i) counted) (ap (λ i. c.loop-n.studies + i) numbered),
+      omega (arith, counted, some-more),
+      omega (arith, numbered, one-more),
+      gave-more (g.R.Read.remaining c.args.script.now) (g.R.Read.remaining c.loop-n.script)
+          (g.R.Read.remaining c.read.new.script) c.loop-n.n 1 c.loop-n.invariant.3 c.in-Ok-true.ensures.one_feed,
+      gone_more (g.R.Read.remaining c.args.script.now) (g.R.Read.remaining c.loop-n.script)
+          (g.R.Read.remaining c.read.new.script) line c.loop-n.n c.loop-n.invariant.4 some c.in-Ok-true.ensures.short,
+    )

@@ -1,0 +1,23 @@
+use Rattle.std.proofs.Common.{◌≤◌}
+use Rattle.study_command.specs.Lines.{GaveFeeds}
+use Rattle.study_script.specs.State.{State}
+use Rattle.study_script.specs.Desk.{DeskHolds}
+use Rattle.study_script.specs.Stored.{HonestOn}
+use Rattle.study_script.proofs.FirstLines.{Gone}
+use Rattle.study_report.specs.Written.{none_trusted}
+use Rattle.study_report.proofs.FirstAdded.{ToldOn}
+use Rattle.study_report.proofs.following.follow.Given as goal
+
+abbrev pub invariant-loop-n : goal.invariant-loop-n
+invariant-loop-n g l =
+    ((first : State) → DeskHolds g.S.Pages.PageSource.honest g.S.Pages.PageSource.gives (HonestOn none_trusted g.S.TableStore.honest) g.S.TableStore.files
+    g.S.TableStore.headers g.S.TableStore.faults
+    l.fn.desk.board l.fn.desk.tables l.fn.desk.store.now first
+    → ToldOn g.T.Report.tells g.T.Report.refusal
+    (DeskHolds g.S.Pages.PageSource.honest g.S.Pages.PageSource.gives (HonestOn none_trusted g.S.TableStore.honest) g.S.TableStore.files
+    g.S.TableStore.headers g.S.TableStore.faults
+    l.desk.board l.desk.tables l.desk.store.now)
+    (g.R.Read.remaining l.fn.script) (g.R.Read.remaining l.script)
+    (g.W.Write.contents l.fn.out) (g.W.Write.contents l.out) first l.n l.refused l.studies)
+    × (l.refused ≤ l.n) × (l.studies ≤ l.n) × GaveFeeds (g.R.Read.remaining l.fn.script) (g.R.Read.remaining l.script) l.n
+    × Gone (g.R.Read.remaining l.fn.script) (g.R.Read.remaining l.script) l.n

@@ -1,0 +1,21 @@
+use Rattle.std.proofs.Common.{refl}
+use Rattle.study_report.specs.Outcome.{over_tables}
+use Rattle.study_script.specs.Held.{are_paged}
+use Rattle.study_report.proofs.following.follow_script.Goals as goal
+
+pub returns-clause-outcome : goal.returns-clause-outcome
+returns-clause-outcome g c = λ classes right held. c.follow_over.ensures.outcome (over_tables classes (are_paged c.args.tables)) (record {
+  held =
+      record {
+        board = refl;
+        marks = tt;
+        values = right;
+        classes = held;
+        paged = refl;
+        faults = λ d f m. refl;
+      };
+  seen = record {
+    is_honest = λ d is. absurd cc;
+    known = record { files_known = λ d. refl; headers_known = λ d. refl; faults_known = λ d f. refl };
+  };
+})

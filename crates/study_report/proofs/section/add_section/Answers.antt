@@ -1,0 +1,50 @@
+use Rattle.std.proofs.Common.{◌≡◌, true, OnOk, refl, sym, ap, subst, ◌∙◌}
+use Rattle.study_marks.specs.Kept.{marked}
+use Rattle.study_marks.specs.Study.{plain_study}
+use Rattle.study_script.specs.Held.{board_seen, IsMarked, tables_held, are_paged, tables_may_fail}
+use Rattle.study_script.specs.State.{Board, empty, start, study, is_among}
+use Rattle.study_report.specs.Written.{IsSection, IsSectionPart}
+use Rattle.study_report.proofs.Reviewed.{untold-same}
+use Rattle.study_report.proofs.section.add_section.Goals as goal
+
+pub returns-in-Study-clause-told : goal.returns-in-Study-clause-told
+returns-in-Study-clause-told g c s h =
+    let seen : study (plain_study (marked c.in-Study.bench)) ≡ s.board = sym (ap board_seen c.in-Study.is) ∙ h.board in
+    let right = subst (λ b. IsMarked b) c.in-Study.is h.marks in
+    subst (λ (b : Board). OnOk c.add_study.result (IsSection g.T.Report.tells b c.args.number (g.W.Write.contents c.args.out.now)
+    (g.W.Write.contents c.add_study.new.out))) seen (c.add_study.ensures.told h.values right)
+
+pub returns-in-Study-clause-device : goal.returns-in-Study-clause-device
+returns-in-Study-clause-device g c s h e =
+    let seen : study (plain_study (marked c.in-Study.bench)) ≡ s.board = sym (ap board_seen c.in-Study.is) ∙ h.board in
+    let right = subst (λ b. IsMarked b) c.in-Study.is h.marks in
+    subst (λ (b : Board). IsSectionPart g.T.Report.tells b c.args.number (g.W.Write.contents c.args.out.now)
+    (g.W.Write.contents c.add_study.new.out)) seen (c.add_study.ensures.device h.values right e)
+
+pub returns-in-Study-clause-why : goal.returns-in-Study-clause-why
+returns-in-Study-clause-why g c s fault h e =
+    untold-same (tables_held c.args.tables.now) (is_among s.classes) (are_paged c.args.tables.now) s.paged
+    (tables_may_fail g.P.PageSource.gives c.args.tables.now) (λ d f. s.shelf.faults d f ≡ true) fault h.classes h.paged h.faults
+    (c.add_study.ensures.why fault h.values e)
+
+pub returns-in-Study-clause-holds : goal.returns-in-Study-clause-holds
+returns-in-Study-clause-holds g c s h = record {
+  board = h.board;
+  marks = h.marks;
+  values = c.add_study.ensures.honest h.values;
+  classes = λ d. c.add_study.ensures.tables d ∙ h.classes d;
+  paged = c.add_study.ensures.mode ∙ h.paged;
+  faults = λ d f m. h.faults d f (c.add_study.ensures.fails_as_before d f m);
+}
+
+pub returns-in-Empty-clause-told : goal.returns-in-Empty-clause-told
+returns-in-Empty-clause-told g c s h =
+    let seen : empty ≡ s.board = sym (ap board_seen c.in-Empty.is) ∙ h.board in
+    let out = g.W.Write.contents c.args.out.now in
+    subst (λ (b : Board). IsSection g.T.Report.tells b c.args.number out out) seen refl
+
+pub returns-in-Start-clause-told : goal.returns-in-Start-clause-told
+returns-in-Start-clause-told g c s h =
+    let seen : start c.in-Start.field-0 ≡ s.board = sym (ap board_seen c.in-Start.is) ∙ h.board in
+    let out = g.W.Write.contents c.args.out.now in
+    subst (λ (b : Board). IsSection g.T.Report.tells b c.args.number out out) seen refl

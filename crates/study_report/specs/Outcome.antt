@@ -1,0 +1,94 @@
+-- What a report over a script leaves behind.
+use Rattle.std.specs.Prelude.{◌≡◌, ℕ, Bool, true, None, ◌+◌, ◌-◌, ◌<◌, ◌≤◌, List, [], ◌∷◌, length, take, drop}
+use Rattle.std.specs.Prelude.{slice_get, Option, Some, Result, Ok, Err, sum_by, IsSomeAnd}
+use Rattle.std.specs.List.{flat_map}
+use Rattle.std.specs.Io.KnownBytes.{Appends}
+use Rattle.study_tablefile.specs.Taken.{TakesPrefix}
+use Rattle.study_marks.specs.Edits.{Plainly}
+use Rattle.study_command.specs.Lines.{script_lines, GaveFeeds}
+use Rattle.study_script.specs.declared.run.Summary.{Summary}
+use Rattle.study_script.specs.declared.run.RunFault.{RunFault}
+use Rattle.study_script.specs.declared.run.RunFault.TheVariants.{ReadDevice, WriteDevice, LineTooLong, TooManyLines, OutOfMemory}
+use Rattle.study_script.specs.State.{State, empty}
+use Rattle.study_material.specs.declared.class.Class.{Class}
+use Rattle.study_script.specs.Outcome.{AreShort, AreLeft, Shape as ScriptShape}
+use Rattle.study_report.specs.Told.{Point, Added, IsAdded, refusal_count}
+
+-- no study and no start; these classes are held, and their tables may fail in any way; of files nothing is known
+abbrev pub over_tables : List Class → Bool → State
+over_tables classes paged = record {
+  board = empty;
+  classes = classes;
+  paged = paged;
+  shelf = record { files = λ c. None; headers = λ c. None; faults = λ c f. true };
+}
+
+-- before the first line: no line was read, and no study was told
+abbrev pub begun : State → Point
+begun s = record { state = s; lines = 0; studies = 0 }
+
+-- the texts that lines add, one after the other
+abbrev pub report_text : List Added → List ℕ
+report_text added = flat_map (λ a. a.text) added
+
+-- how many of the lines are refused
+abbrev pub refusals : List Added → ℕ
+refusals added = sum_by (λ a. refusal_count a.told) added
+
+-- where a report is after these lines
+abbrev pub point_after : Point → List Added → Point
+point_after p [] = p
+point_after p (a ∷ more) = point_after a.after more
+
+module _ (tells : Plainly → ℕ → List ℕ → Type 0) (refusal : ℕ → List ℕ → List ℕ → List ℕ) where
+  -- what lines add, one for each, where each line finds what the one before it left
+  abbrev pub AreAdded : Point → List (List ℕ) → List Added → Type 0
+  AreAdded p [] [] = Unit {0}
+  AreAdded p [] (a ∷ more) = ⊥
+  AreAdded p (line ∷ lines) [] = ⊥
+  AreAdded p (line ∷ lines) (a ∷ more) = IsAdded tells refusal p line a × AreAdded a.after lines more
+
+  -- what the lines add is written
+  abbrev pub AreTold : Point → List (List ℕ) → Option (List ℕ) → Option (List ℕ) → Type 0
+  AreTold p lines old new = AreShort lines × (added : List Added) × AreAdded p lines added × Appends old new (report_text added)
+
+  -- what the lines add is written, and then a prefix of what one line more adds, of which at least a byte is left out
+  abbrev pub AreBrokenOff : Point → List (List ℕ) → List ℕ → Option (List ℕ) → Option (List ℕ) → Type 0
+  AreBrokenOff p lines line old new =
+      AreShort lines × (length line ≤ 1024) × (added : List Added) × AreAdded p lines added
+      × (mid : Option (List ℕ)) × Appends old mid (report_text added)
+      × (a : Added) × IsAdded tells refusal (point_after p added) line a × TakesPrefix mid new a.text
+
+  -- what is held at the beginning, the bytes of a script, what the reader has left of them, what the writer had and has, and the answer
+  abbrev pub Outcome : State → List ℕ → Option (List ℕ) → Option (List ℕ) → Option (List ℕ) → Result Summary RunFault → Type 0
+  Outcome first script left old new (Ok summary) =
+      (length (script_lines script) ≤ 100000) × AreShort (script_lines script)
+      × (added : List Added) × AreAdded (begun first) (script_lines script) added × Appends old new (report_text added)
+      × (summary.lines ≡ length (script_lines script)) × (summary.refused ≡ refusals added)
+  -- exactly the lines whose ends were read are told
+  Outcome first script left old new (Err ReadDevice) = (n : ℕ) × (n ≤ 100000) × (n ≤ length (script_lines script))
+      × GaveFeeds (Some script) left n
+      × (rest : List ℕ) × (drop n (script_lines script) ≡ script_lines rest) × GaveFeeds (Some rest) left 0
+      × AreTold (begun first) (take n (script_lines script)) old new
+  -- where the writer failed, the lines after the one whose text it broke off are left
+  Outcome first script left old new (Err WriteDevice) =
+      (n : ℕ) × (n < 100000) × GaveFeeds (Some script) left (n + 1) × AreLeft left (drop (n + 1) (script_lines script))
+      × IsSomeAnd (slice_get (script_lines script) n) (λ line. AreBrokenOff (begun first) (take n (script_lines script)) line old new)
+  Outcome first script left old new (Err (LineTooLong n)) = (0 < n) × (n ≤ 100000)
+      × IsSomeAnd (slice_get (script_lines script) (n - 1)) (λ line. 1024 < length line)
+      × AreTold (begun first) (take (n - 1) (script_lines script)) old new
+  Outcome first script left old new (Err TooManyLines) =
+      (100000 < length (script_lines script)) × AreTold (begun first) (take 100000 (script_lines script)) old new
+  -- of the line for which there is no memory nothing is written
+  Outcome first script left old new (Err OutOfMemory) = (n : ℕ) × (n ≤ 100000) × (n ≤ length (script_lines script))
+      × AreTold (begun first) (take n (script_lines script)) old new
+
+-- The same without what is told, whatever is held: the bytes of a script, what the reader has left of them, and the answer. Memory may fail
+-- at any line.
+abbrev pub Shape : List ℕ → Option (List ℕ) → Result Summary RunFault → Type 0
+Shape script left (Ok summary) = ScriptShape script left (Ok summary)
+Shape script left (Err ReadDevice) = ScriptShape script left (Err ReadDevice)
+Shape script left (Err WriteDevice) = ScriptShape script left (Err WriteDevice)
+Shape script left (Err (LineTooLong n)) = ScriptShape script left (Err (LineTooLong n))
+Shape script left (Err TooManyLines) = ScriptShape script left (Err TooManyLines)
+Shape script left (Err OutOfMemory) = (n : ℕ) × (n ≤ 100000) × (n ≤ length (script_lines script)) × AreShort (take n (script_lines script))

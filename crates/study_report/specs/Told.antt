@@ -1,0 +1,117 @@
+-- What a report tells of the lines of a script.
+use Rattle.std.specs.Prelude.{◌≡◌, ◌⊎◌, ℕ, suc, Bool, true, false, List, [], Option, Some, None, Result, Ok, Err}
+use Rattle.study_board.specs.Position.{Position}
+use Rattle.study_material.specs.declared.class.Class.{Class}
+use Rattle.study_material.specs.Class.{IsOf}
+use Rattle.study_tablefile.specs.declared.fault.SourceFault.{SourceFault}
+use Rattle.study_prober.specs.declared.values.ProbeFault.{ProbeFault}
+use Rattle.study_prober.specs.declared.values.ProbeFault.TheVariants.{NoTable, TableRead, PageDamaged}
+use Rattle.study_marks.specs.Edits.{Plainly}
+use Rattle.study_command.specs.Asking.{Asks, of_class, pgn, command_of}
+use Rattle.study_reply.specs.declared.refusal.Refusal.{Refusal}
+use Rattle.study_reply.specs.declared.refusal.Refusal.TheVariants.{NotAClass, OutOfMemory}
+use Rattle.study_reply.specs.Names.{of_probe}
+use Rattle.study_script.specs.State.{State, Outside, study, is_among}
+use Rattle.study_script.specs.Replies.{Reply, IsReply, refused, class_told}
+use Rattle.study_report.specs.declared.kind.Kind.{Kind}
+use Rattle.study_report.specs.declared.kind.Kind.TheVariants.{PassedOver, NoClass, Study, Checked}
+use Rattle.study_report.specs.declared.told.Place.{Place}
+use Rattle.study_report.specs.declared.told.Told.{Told}
+use Rattle.study_report.specs.declared.told.Told.TheVariants.{Nothing, Study as AStudy, Refusal as ARefusal}
+
+-- ---- what is done with a line
+
+abbrev pub class_kind : Option Class → Kind
+class_kind None = NoClass
+class_kind (Some c) = PassedOver
+
+-- a line of a table is passed over, or has no class; a `pgn` line tells a study
+abbrev pub kind_in : Asks → Kind
+kind_in (Ok (Some (of_class word name))) = class_kind (class_told name)
+kind_in (Ok (Some pgn)) = Study
+kind_in _ = Checked
+
+-- ---- what a line adds
+
+-- between two lines: what the script holds, how many lines were read, and how many studies were told
+pub record Point : Type 0 where
+  pub state : State
+  pub lines : ℕ
+  pub studies : ℕ
+
+-- the place of the line that is read next
+abbrev pub IsAt : Point → Place → Type 0
+IsAt p at = (at.line ≡ suc p.lines) × (at.studies ≡ p.studies)
+
+-- the text that a line adds, where the report is after it, and what it told
+pub record Added : Type 0 where
+  pub text : List ℕ
+  pub after : Point
+  pub told : Told
+
+abbrev pub study_count : Told → ℕ
+study_count Nothing = 0
+study_count AStudy = 1
+study_count ARefusal = 0
+
+abbrev pub refusal_count : Told → ℕ
+refusal_count Nothing = 0
+refusal_count AStudy = 0
+refusal_count ARefusal = 1
+
+-- a line more, after which the script holds this state
+abbrev pub nothing_added : Point → State → Added
+nothing_added p s = record { text = []; after = record { state = s; lines = suc p.lines; studies = p.studies }; told = Nothing }
+
+-- the study is told, with the next number
+abbrev pub study_added : Point → State → List ℕ → Added
+study_added p s text = record { text = text; after = record { state = s; lines = suc p.lines; studies = suc p.studies }; told = AStudy }
+
+-- Why the value of a position is not told, by which classes are held, whether tables are read by pages, and how tables may fail: there is
+-- no table of its class, or that table is not read.
+abbrev pub IsUntoldBy : (Class → Bool) → Bool → (Class → SourceFault → Type 0) → ProbeFault → Type 0
+IsUntoldBy held paged may (NoTable c) = held c ≡ false
+IsUntoldBy held paged may (TableRead f) = (paged ≡ true) × (p : Position) × ((c : Class) → IsOf c p → may c f)
+IsUntoldBy held paged may (PageDamaged c n) = ⊥
+
+-- the same, where the script holds this state
+abbrev pub IsUntoldIn : State → ProbeFault → Type 0
+IsUntoldIn s fault = IsUntoldBy (is_among s.classes) s.paged (λ c f. s.shelf.faults c f ≡ true) fault
+
+-- why a study is left out: for want of memory, or a value is not told
+abbrev pub IsLeftOut : State → Refusal → Type 0
+IsLeftOut s why = (why ≡ OutOfMemory) ⊎ ((fault : ProbeFault) × IsUntoldIn s fault × (why ≡ of_probe fault))
+
+module _ (tells : Plainly → ℕ → List ℕ → Type 0) (refusal : ℕ → List ℕ → List ℕ → List ℕ) where
+  -- the line is refused: it takes no number of a study
+  abbrev pub refusal_added : Point → List ℕ → Reply → Added
+  refusal_added p line reply = record {
+    text = refusal (suc p.lines) line reply.text;
+    after = record { state = reply.state; lines = suc p.lines; studies = p.studies };
+    told = ARefusal;
+  }
+
+  -- the study that the state holds is told, or it is left out and the line is refused
+  abbrev pub IsStudyTold : Point → State → List ℕ → Added → Type 0
+  IsStudyTold p s line added =
+      ((plain : Plainly) × (text : List ℕ) × (s.board ≡ study plain) × tells plain (suc p.studies) text × (added ≡ study_added p s text))
+      ⊎ ((why : Refusal) × IsLeftOut s why × (added ≡ refusal_added p line (refused s why)))
+
+  -- after the script's reply to a `pgn` line, and to another line that is checked
+  abbrev pub IsPgnAfter : Point → List ℕ → Reply → Bool → Added → Type 0
+  IsPgnAfter p line reply true added = added ≡ refusal_added p line reply
+  IsPgnAfter p line reply false added = IsStudyTold p reply.state line added
+
+  abbrev pub IsCheckedAfter : Point → List ℕ → Reply → Bool → Added → Type 0
+  IsCheckedAfter p line reply true added = added ≡ refusal_added p line reply
+  IsCheckedAfter p line reply false added = added ≡ nothing_added p reply.state
+
+  abbrev pub IsAddedAs : Kind → Point → List ℕ → Added → Type 0
+  IsAddedAs PassedOver p line added = added ≡ nothing_added p p.state
+  IsAddedAs NoClass p line added = added ≡ refusal_added p line (refused p.state NotAClass)
+  IsAddedAs Study p line added = (o : Outside) × (reply : Reply) × IsReply p.state line o reply × IsPgnAfter p line reply reply.refused added
+  IsAddedAs Checked p line added = (o : Outside) × (reply : Reply) × IsReply p.state line o reply × IsCheckedAfter p line reply reply.refused added
+
+  -- what a line adds
+  abbrev pub IsAdded : Point → List ℕ → Added → Type 0
+  IsAdded p line added = IsAddedAs (kind_in (command_of line)) p line added

@@ -1,0 +1,48 @@
+-- What a line leaves behind.
+use Rattle.std.specs.Prelude.{◌≡◌, ℕ, Bool, false, List, Option, Ok, Err}
+use Rattle.std.specs.Io.KnownBytes.{Appends}
+use Rattle.study_tablefile.specs.Taken.{TakesPrefix}
+use Rattle.study_material.specs.declared.class.Class.{Class}
+use Rattle.study_marks.specs.Edits.{Plainly}
+use Rattle.study_script.specs.declared.run.RunFault.{RunFault}
+use Rattle.study_script.specs.declared.run.RunFault.TheVariants.{WriteDevice, OutOfMemory}
+use Rattle.study_script.specs.State.{State, Board, empty, start, study, Outside}
+use Rattle.study_script.specs.Replies.{Reply, IsReply}
+use Rattle.study_report.specs.declared.told.Told.{Told}
+use Rattle.study_report.specs.Told.{Added}
+
+-- no class's file has to be right: a report opens none
+abbrev pub none_trusted : Class → Bool
+none_trusted c = false
+
+-- a line with the property added its text, what is held after it is its state, and this was told
+abbrev pub Adds : (Added → Type 0) → (State → Type 0) → Option (List ℕ) → Option (List ℕ) → Told → Type 0
+Adds IsIt HoldsIt old new told = (added : Added) × IsIt added × Appends old new added.text × HoldsIt added.after.state × (told ≡ added.told)
+
+-- the run stops within the text: the writer failed and took a prefix of it, or there is no memory and nothing of it is written
+abbrev pub StopsIn : List ℕ → Option (List ℕ) → Option (List ℕ) → RunFault → Type 0
+StopsIn text old new WriteDevice = TakesPrefix old new text
+StopsIn text old new OutOfMemory = new ≡ old
+StopsIn text old new _ = ⊥
+
+-- the run stops within what a line with the property adds
+abbrev pub Stops : (Added → Type 0) → Option (List ℕ) → Option (List ℕ) → RunFault → Type 0
+Stops IsIt old new WriteDevice = (added : Added) × IsIt added × TakesPrefix old new added.text
+Stops IsIt old new OutOfMemory = new ≡ old
+Stops IsIt old new _ = ⊥
+
+-- the study on a board is told as the one of this number, whole or in part; without a study nothing is
+abbrev pub IsSection : (Plainly → ℕ → List ℕ → Type 0) → Board → ℕ → Option (List ℕ) → Option (List ℕ) → Type 0
+IsSection tells empty number old new = new ≡ old
+IsSection tells (start s) number old new = new ≡ old
+IsSection tells (study plain) number old new = (text : List ℕ) × tells plain number text × Appends old new text
+
+abbrev pub IsSectionPart : (Plainly → ℕ → List ℕ → Type 0) → Board → ℕ → Option (List ℕ) → Option (List ℕ) → Type 0
+IsSectionPart tells empty number old new = ⊥
+IsSectionPart tells (start s) number old new = ⊥
+IsSectionPart tells (study plain) number old new = (text : List ℕ) × tells plain number text × TakesPrefix old new text
+
+-- these bytes are the text of the reply to a line, what is held after it is its state, and the line was refused as it says
+abbrev pub IsReplied : State → List ℕ → (State → Type 0) → List ℕ → Bool → Type 0
+IsReplied s line HoldsIt bytes was_refused = (o : Outside) × (reply : Reply) × IsReply s line o reply × (bytes ≡ reply.text) × HoldsIt reply.state
+    × (was_refused ≡ reply.refused)

@@ -1,0 +1,230 @@
+//! What a line adds to a report.
+ghost use Rattle.std.specs.Prelude.{◌≡◌, ◌<◌, ◌⊎◌, suc, IfOk, IfErr, codes};
+ghost use Rattle.std.specs.Io.KnownBytes.{Appends};
+ghost use Rattle.study_marks.specs.Edits.{Plainly};
+ghost use Rattle.study_command.specs.Asking.{command_of};
+ghost use Rattle.study_reply.specs.Names.{words_of};
+ghost use Rattle.study_reply.specs.Words.{reply_line};
+ghost use Rattle.study_script.specs.declared.run.RunFault.TheVariants.{WriteDevice, OutOfMemory};
+ghost use Rattle.study_script.specs.State.{State, study};
+ghost use Rattle.study_script.specs.Held.{Holds};
+ghost use Rattle.study_script.specs.Desk.{DeskHolds};
+ghost use Rattle.study_script.specs.Stored.{HonestOn, IsTrusted};
+ghost use Rattle.study_report.specs.Told.{Point, kind_in, IsAdded, IsAddedAs, IsAt, IsStudyTold};
+ghost use Rattle.study_report.specs.Written.{none_trusted, Adds, StopsIn, Stops, IsReplied};
+
+use crate::kind::{Kind, kind_of};
+use crate::report::{NotTold, Report};
+use crate::section::add_section;
+use crate::told::{Place, Told};
+use std::alloc::Allocator;
+use std::io::Write;
+use study_reply::refusal::Refusal;
+use study_reply::words::{of_probe, refuse};
+use study_review::ReviewFault;
+use study_script::board::Board;
+use study_script::desk::{Desk, StudyDesk};
+use study_script::run::RunFault;
+use study_script::store::TableStore;
+use study_script::tables::Tables;
+use study_tablefile::PageSource;
+use study_tablefile::memory::MemoryWriter;
+
+/// The reply to a line, in memory.
+#[derive(Drop)]
+struct Replied<'a, A: Allocator> {
+    text: MemoryWriter<'a, A>,
+    refused: bool,
+}
+
+/// Answers a line as a script does.
+fn reply_to<'a, 's, S: TableStore, A: Allocator>(
+    desk: &mut StudyDesk<'a, 's, S, A>,
+    line: &[u8],
+) -> Result<Replied<'a, A>, RunFault>
+    ensures ok { (s : State) → IsTrusted none_trusted line.now
+        → DeskHolds S.Pages.honest S.Pages.gives (HonestOn none_trusted S.honest) S.files S.headers S.faults
+        desk.old.board desk.old.tables desk.old.store.now s
+        → IfOk result (λ r. IsReplied s line.now
+        (DeskHolds S.Pages.honest S.Pages.gives (HonestOn none_trusted S.honest) S.files S.headers S.faults
+        desk.new.board desk.new.tables desk.new.store.now)
+        r.text.taken.items r.refused) }
+    ensures err { IfErr result (λ e. e ≡ OutOfMemory) }
+{
+    let mut text = MemoryWriter::new(desk.alloc);
+    match desk.answer(line, &mut text) {
+        Ok(refused) => Ok(Replied { text, refused }),
+        Err(_) => Err(RunFault::OutOfMemory),
+    }
+}
+
+/// Tells a refused line.
+fn add_refusal<'a, A: Allocator, W: Write, T: Report>(
+    alloc: &'a A,
+    report: &mut T,
+    number: u32,
+    line: &[u8],
+    reply: &[u8],
+    out: &mut W,
+) -> Result<Told, RunFault>
+    ensures ok { IfOk result (λ told. (told ≡ Told.Refusal)
+        × Appends (W.contents out.old) (W.contents out.new) (T.refusal number line.now reply.now)) }
+    ensures err { IfErr result (StopsIn (T.refusal number line.now reply.now) (W.contents out.old) (W.contents out.new)) }
+    ensures stops { IfErr result (λ e. (e ≡ WriteDevice) ⊎ (e ≡ OutOfMemory)) }
+{
+    match report.add_refusal(alloc, number, line, reply, out) {
+        Ok(()) => Ok(Told::Refusal),
+        Err(NotTold::OutOfMemory) => Err(RunFault::OutOfMemory),
+        Err(NotTold::Device) => Err(RunFault::WriteDevice),
+    }
+}
+
+/// Tells a line that the report itself refuses.
+fn refuse_line<'a, A: Allocator, W: Write, T: Report>(
+    alloc: &'a A,
+    report: &mut T,
+    number: u32,
+    line: &[u8],
+    refusal: Refusal,
+    out: &mut W,
+) -> Result<Told, RunFault>
+    ensures ok { IfOk result (λ told. (told ≡ Told.Refusal)
+        × Appends (W.contents out.old) (W.contents out.new) (T.refusal number line.now (reply_line (codes "error ") (words_of refusal)))) }
+    ensures err { IfErr result (StopsIn (T.refusal number line.now (reply_line (codes "error ") (words_of refusal)))
+        (W.contents out.old) (W.contents out.new)) }
+    ensures stops { IfErr result (λ e. (e ≡ WriteDevice) ⊎ (e ≡ OutOfMemory)) }
+{
+    let mut reply = MemoryWriter::new(alloc);
+    if refuse(&mut reply, refusal).is_err() {
+        return Err(RunFault::OutOfMemory);
+    }
+    add_refusal(alloc, report, number, line, reply.taken.as_slice(), out)
+}
+
+/// Answers a line that tells nothing where it is accepted.
+fn add_checked<'a, 's, S: TableStore, A: Allocator, W: Write, T: Report>(
+    desk: &mut StudyDesk<'a, 's, S, A>,
+    report: &mut T,
+    number: u32,
+    line: &[u8],
+    out: &mut W,
+) -> Result<Told, RunFault>
+    ensures ok { (p : Point) → IsTrusted none_trusted line.now →
+        DeskHolds S.Pages.honest S.Pages.gives (HonestOn none_trusted S.honest) S.files S.headers S.faults
+        desk.old.board desk.old.tables desk.old.store.now p.state
+        → number ≡ suc p.lines
+        → IfOk result (Adds (IsAddedAs T.tells T.refusal Kind.Checked p line.now)
+        (DeskHolds S.Pages.honest S.Pages.gives (HonestOn none_trusted S.honest) S.files S.headers S.faults
+        desk.new.board desk.new.tables desk.new.store.now)
+        (W.contents out.old) (W.contents out.new)) }
+    ensures err { (p : Point) → IsTrusted none_trusted line.now →
+        DeskHolds S.Pages.honest S.Pages.gives (HonestOn none_trusted S.honest) S.files S.headers S.faults
+        desk.old.board desk.old.tables desk.old.store.now p.state
+        → number ≡ suc p.lines
+        → IfErr result (Stops (IsAddedAs T.tells T.refusal Kind.Checked p line.now) (W.contents out.old) (W.contents out.new)) }
+    ensures stops { IfErr result (λ e. (e ≡ WriteDevice) ⊎ (e ≡ OutOfMemory)) }
+{
+    let reply = reply_to(desk, line)?;
+    if reply.refused {
+        let bytes = reply.text.taken.as_slice();
+        return add_refusal(desk.alloc, report, number, line, bytes, out);
+    }
+    Ok(Told::Nothing)
+}
+
+/// Tells of the study on the board, after so many studies; where it is left out, the line is refused.
+fn tell_study<'a, P: PageSource, A: Allocator, W: Write, T: Report>(
+    alloc: &'a A,
+    board: &Board<'a, A>,
+    tables: &mut Tables<'a, P, A>,
+    report: &mut T,
+    at: Place,
+    line: &[u8],
+    out: &mut W,
+) -> Result<Told, RunFault>
+    requires few { at.studies < 100000 }
+    ensures ok { (p : Point) (s : State) (plain : Plainly) → Holds P.honest P.gives board.now tables.old s → s.board ≡ study plain
+        → IsAt p at
+        → IfOk result (Adds (IsStudyTold T.tells T.refusal p s line.now) (λ t. (t ≡ s) × Holds P.honest P.gives board.now tables.new t)
+        (W.contents out.old) (W.contents out.new)) }
+    ensures err { (p : Point) (s : State) (plain : Plainly) → Holds P.honest P.gives board.now tables.old s → s.board ≡ study plain
+        → IsAt p at
+        → IfErr result (Stops (IsStudyTold T.tells T.refusal p s line.now) (W.contents out.old) (W.contents out.new)) }
+    ensures stops { IfErr result (λ e. (e ≡ WriteDevice) ⊎ (e ≡ OutOfMemory)) }
+{
+    match add_section(alloc, board, tables, report, at.studies + 1, out) {
+        Ok(()) => Ok(Told::Study),
+        Err(ReviewFault::Device) => Err(RunFault::WriteDevice),
+        Err(ReviewFault::OutOfMemory) => {
+            refuse_line(alloc, report, at.line, line, Refusal::OutOfMemory, out)
+        }
+        Err(ReviewFault::Values(fault)) => {
+            refuse_line(alloc, report, at.line, line, of_probe(fault), out)
+        }
+    }
+}
+
+/// Answers a line that tells the study where it is accepted, after so many studies.
+fn add_pgn<'a, 's, S: TableStore, A: Allocator, W: Write, T: Report>(
+    desk: &mut StudyDesk<'a, 's, S, A>,
+    report: &mut T,
+    at: Place,
+    line: &[u8],
+    out: &mut W,
+) -> Result<Told, RunFault>
+    requires few { at.studies < 100000 }
+    ensures ok { (p : Point) → kind_in (command_of line.now) ≡ Kind.Study →
+        DeskHolds S.Pages.honest S.Pages.gives (HonestOn none_trusted S.honest) S.files S.headers S.faults
+        desk.old.board desk.old.tables desk.old.store.now p.state
+        → IsAt p at
+        → IfOk result (Adds (IsAddedAs T.tells T.refusal Kind.Study p line.now)
+        (DeskHolds S.Pages.honest S.Pages.gives (HonestOn none_trusted S.honest) S.files S.headers S.faults
+        desk.new.board desk.new.tables desk.new.store.now)
+        (W.contents out.old) (W.contents out.new)) }
+    ensures err { (p : Point) → kind_in (command_of line.now) ≡ Kind.Study →
+        DeskHolds S.Pages.honest S.Pages.gives (HonestOn none_trusted S.honest) S.files S.headers S.faults
+        desk.old.board desk.old.tables desk.old.store.now p.state
+        → IsAt p at
+        → IfErr result (Stops (IsAddedAs T.tells T.refusal Kind.Study p line.now) (W.contents out.old) (W.contents out.new)) }
+    ensures stops { IfErr result (λ e. (e ≡ WriteDevice) ⊎ (e ≡ OutOfMemory)) }
+{
+    let alloc = desk.alloc;
+    let reply = reply_to(desk, line)?;
+    if reply.refused {
+        let bytes = reply.text.taken.as_slice();
+        return add_refusal(alloc, report, at.line, line, bytes, out);
+    }
+    tell_study(alloc, &desk.board, &mut desk.tables, report, at, line, out)
+}
+
+/// What a line adds, the one at this place.
+pub fn add_line<'a, 's, S: TableStore, A: Allocator, W: Write, T: Report>(
+    desk: &mut StudyDesk<'a, 's, S, A>,
+    report: &mut T,
+    at: Place,
+    line: &[u8],
+    out: &mut W,
+) -> Result<Told, RunFault>
+    requires few { at.studies < 100000 }
+    ensures ok { (p : Point) →
+        DeskHolds S.Pages.honest S.Pages.gives (HonestOn none_trusted S.honest) S.files S.headers S.faults
+        desk.old.board desk.old.tables desk.old.store.now p.state
+        → IsAt p at
+        → IfOk result (Adds (IsAdded T.tells T.refusal p line.now)
+        (DeskHolds S.Pages.honest S.Pages.gives (HonestOn none_trusted S.honest) S.files S.headers S.faults
+        desk.new.board desk.new.tables desk.new.store.now)
+        (W.contents out.old) (W.contents out.new)) }
+    ensures err { (p : Point) →
+        DeskHolds S.Pages.honest S.Pages.gives (HonestOn none_trusted S.honest) S.files S.headers S.faults
+        desk.old.board desk.old.tables desk.old.store.now p.state
+        → IsAt p at
+        → IfErr result (Stops (IsAdded T.tells T.refusal p line.now) (W.contents out.old) (W.contents out.new)) }
+    ensures stops { IfErr result (λ e. (e ≡ WriteDevice) ⊎ (e ≡ OutOfMemory)) }
+{
+    match kind_of(line) {
+        Kind::PassedOver => Ok(Told::Nothing),
+        Kind::NoClass => refuse_line(desk.alloc, report, at.line, line, Refusal::NotAClass, out),
+        Kind::Study => add_pgn(desk, report, at, line, out),
+        Kind::Checked => add_checked(desk, report, at.line, line, out),
+    }
+}

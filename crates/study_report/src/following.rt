@@ -1,0 +1,114 @@
+//! A report over a whole script.
+ghost use Rattle.std.specs.Prelude.{◌≡◌, List, IfSome};
+ghost use Rattle.study_material.specs.declared.class.Class.{Class as AClass};
+ghost use Rattle.study_script.specs.State.{State, is_among};
+ghost use Rattle.study_script.specs.Held.{tables_honest, tables_held, are_paged};
+ghost use Rattle.study_script.specs.Desk.{DeskHolds};
+ghost use Rattle.study_script.specs.Stored.{HonestOn};
+ghost use Rattle.study_report.specs.Outcome.{Outcome, Shape, over_tables};
+ghost use Rattle.study_report.specs.Written.{none_trusted};
+
+use crate::adding::add_line;
+use crate::no_files::NoFiles;
+use crate::report::Report;
+use crate::told::Place;
+use std::alloc::Allocator;
+use std::io::{Read, Write};
+use study_command::lines::{Line, LineFault, read_byte};
+use study_script::board::Board;
+use study_script::desk::StudyDesk;
+use study_script::run::{RunFault, Summary};
+use study_script::store::TableStore;
+use study_script::tables::Tables;
+use study_tablefile::PageSource;
+
+/// Follows a script from what a desk holds, and has its studies and its refused lines told.
+pub fn follow<'a, 's, R: Read, W: Write, S: TableStore, A: Allocator, T: Report>(
+    line: &mut Line<'_, A>,
+    script: &mut R,
+    out: &mut W,
+    report: &mut T,
+    desk: &mut StudyDesk<'a, 's, S, A>,
+) -> Result<Summary, RunFault>
+    ensures outcome { (first : State) → DeskHolds S.Pages.honest S.Pages.gives (HonestOn none_trusted S.honest) S.files S.headers S.faults
+        desk.old.board desk.old.tables
+        desk.old.store.now first
+        → IfSome (R.remaining script.old)
+        (λ bytes. Outcome T.tells T.refusal first bytes (R.remaining script.new) (W.contents out.old) (W.contents out.new) result) }
+    ensures shape { IfSome (R.remaining script.old) (λ bytes. Shape bytes (R.remaining script.new) result) }
+{
+    let mut refused = 0u32;
+    let mut studies = 0u32;
+    for n in 0..100_000u32 {
+        match line.read(script) {
+            Err(LineFault::Device) => return Err(RunFault::ReadDevice),
+            Err(LineFault::TooLong) => return Err(RunFault::LineTooLong(n + 1)),
+            Ok(false) => return Ok(Summary { lines: n, refused }),
+            Ok(true) => {}
+        }
+        let at = Place {
+            line: n + 1,
+            studies,
+        };
+        match add_line(desk, report, at, line.as_slice(), out) {
+            Err(fault) => return Err(fault),
+            Ok(told) => {
+                studies += told.studies();
+                refused += told.refusals();
+            }
+        }
+    }
+    match read_byte(script) {
+        Err(_) => Err(RunFault::ReadDevice),
+        Ok(None) => Ok(Summary {
+            lines: 100_000,
+            refused,
+        }),
+        Ok(Some(_)) => Err(RunFault::TooManyLines),
+    }
+}
+
+/// Follows a script over these tables, from an empty board.
+pub fn follow_script<'a, R: Read, W: Write, P: PageSource, A: Allocator, T: Report>(
+    alloc: &'a A,
+    script: &mut R,
+    out: &mut W,
+    report: &mut T,
+    tables: Tables<'a, P, A>,
+) -> Result<Summary, RunFault>
+    ensures outcome { (classes : List AClass) → tables_honest P.honest tables.entry → ((c : AClass) → tables_held tables.entry c ≡ is_among classes c)
+        → IfSome (R.remaining script.old)
+        (λ bytes. Outcome T.tells T.refusal (over_tables classes (are_paged tables.entry)) bytes (R.remaining script.new)
+        (W.contents out.old) (W.contents out.new) result) }
+    ensures shape { IfSome (R.remaining script.old) (λ bytes. Shape bytes (R.remaining script.new) result) }
+{
+    let mut store = NoFiles::new();
+    follow_over(alloc, script, out, report, tables, &mut store)
+}
+
+/// The same over a store, of which no file is opened.
+fn follow_over<'a, R: Read, W: Write, S: TableStore, A: Allocator, T: Report>(
+    alloc: &'a A,
+    script: &mut R,
+    out: &mut W,
+    report: &mut T,
+    tables: Tables<'a, S::Pages, A>,
+    store: &mut S,
+) -> Result<Summary, RunFault>
+    ensures outcome { (first : State) → DeskHolds S.Pages.honest S.Pages.gives (HonestOn none_trusted S.honest) S.files S.headers S.faults
+        Board.Empty tables.entry store.old first
+        → IfSome (R.remaining script.old)
+        (λ bytes. Outcome T.tells T.refusal first bytes (R.remaining script.new) (W.contents out.old) (W.contents out.new) result) }
+    ensures shape { IfSome (R.remaining script.old) (λ bytes. Shape bytes (R.remaining script.new) result) }
+{
+    let Ok(mut line) = Line::new(alloc) else {
+        return Err(RunFault::OutOfMemory);
+    };
+    let mut desk = StudyDesk {
+        alloc,
+        board: Board::Empty,
+        tables,
+        store,
+    };
+    follow(&mut line, script, out, report, &mut desk)
+}

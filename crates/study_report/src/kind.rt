@@ -1,0 +1,43 @@
+//! What a report does with a line.
+ghost use Rattle.std.specs.Prelude.{◌≡◌};
+ghost use Rattle.study_command.specs.Asking.{command_of};
+ghost use Rattle.study_script.specs.Replies.{class_told};
+ghost use Rattle.study_report.specs.Told.{kind_in, class_kind};
+
+use study_command::command::Command;
+use study_command::read_command;
+use study_material::Class;
+
+/// What a report does with a line, by its form alone.
+#[derive(Clone, Copy, Debug, PartialEq, Eq)]
+pub enum Kind {
+    /// It is of a table, and is passed over.
+    PassedOver,
+    /// It is of a table of no class, and is refused.
+    NoClass,
+    /// It is answered, and tells the study where it is accepted.
+    Study,
+    /// It is answered, and tells nothing where it is accepted.
+    Checked,
+}
+
+/// What a report does with the line.
+pub fn kind_of(line: &[u8]) -> Kind
+    ensures { result ≡ kind_in (command_of line.now) }
+{
+    match read_command(line) {
+        Ok(Some(Command::OfClass(_, name))) => class_kind(name),
+        Ok(Some(Command::Pgn)) => Kind::Study,
+        _ => Kind::Checked,
+    }
+}
+
+#[tactic(auto, unfolding(study_script::specs::Replies::class_told))]
+fn class_kind(name: &str) -> Kind
+    ensures { result ≡ class_kind (class_told name.now) }
+{
+    match Class::parse(name) {
+        Ok(_) => Kind::PassedOver,
+        Err(_) => Kind::NoClass,
+    }
+}

@@ -1,0 +1,21 @@
+//! A report of the studies of a script.
+//!
+//! `follow` goes through a script as studybench does and has each accepted `pgn` line told by a `Report`, and each refused line
+//! where it stands. Lines of tables are passed over: the tables are those that are held before the first line. `Lines` tells facts as
+//! lines of plain text. `follow_script` takes the tables, and needs no files.
+#![tactic(auto)]
+
+mod adding;
+mod following;
+mod kind;
+mod lines;
+mod no_files;
+mod report;
+mod section;
+mod told;
+
+pub use following::{follow, follow_script};
+pub use kind::{Kind, kind_of};
+pub use lines::{Lines, without_error};
+pub use no_files::NoFiles;
+pub use report::{NotTold, Report};

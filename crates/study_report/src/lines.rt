@@ -1,0 +1,70 @@
+//! A report in lines of plain text, a fact a line.
+ghost use Rattle.std.specs.Prelude.{◌≡◌, ◌++◌, drop, codes, decimal, Err, OnOk, OnErr};
+ghost use Rattle.std.specs.Io.KnownBytes.{Appends};
+ghost use Rattle.study_tablefile.specs.Taken.{TakesPrefix};
+ghost use Rattle.study_report.specs.Lines.{refusal_line};
+
+use crate::report::{NotTold, Report};
+use itoa::Buffer;
+use std::alloc::Allocator;
+use std::io::Write;
+use study_marks::Bench;
+use study_prober::Values;
+use study_review::{ReviewFault, write_review};
+use study_tablefile::{DeviceFailed, put};
+
+/// Studies as their reviews, and refused lines as `refused 7 NoTable KRK`.
+#[derive(Clone, Copy, Debug, PartialEq, Eq)]
+pub struct Lines;
+
+impl Report for Lines {
+    ghost use Rattle.study_review.specs.Review.{IsReviewOf};
+
+    ghost tells = { λ plain number text. IsReviewOf plain number text };
+
+    ghost refusal = { λ number line reply. refusal_line number reply };
+
+    fn add_study<'a, 'b, A: Allocator, B: Allocator, V: Values, W: Write>(
+        &mut self,
+        alloc: &'a A,
+        bench: &Bench<'b, B>,
+        values: &mut V,
+        number: u32,
+        out: &mut W,
+    ) -> Result<(), ReviewFault> {
+        write_review(alloc, bench, values, number, out)
+    }
+
+    fn add_refusal<'a, A: Allocator, W: Write>(
+        &mut self,
+        _alloc: &'a A,
+        number: u32,
+        _line: &[u8],
+        reply: &[u8],
+        out: &mut W,
+    ) -> Result<(), NotTold> {
+        put_refusal(out, number, reply)?;
+        Ok(())
+    }
+}
+
+/// The reply to a refused line without `error `.
+pub fn without_error(reply: &[u8]) -> &[u8]
+    ensures { result.now ≡ drop 6 reply.now }
+{
+    if reply.len() < 6 {
+        return &reply[reply.len()..];
+    }
+    &reply[6..]
+}
+
+fn put_refusal<W: Write>(out: &mut W, number: u32, reply: &[u8]) -> Result<(), DeviceFailed>
+    ensures ok { OnOk result (Appends (W.contents out.old) (W.contents out.new) (refusal_line number reply.now)) }
+    ensures err { OnErr result (TakesPrefix (W.contents out.old) (W.contents out.new) (refusal_line number reply.now)) }
+{
+    put(out, b"refused ")?;
+    let mut buffer = Buffer::new();
+    put(out, buffer.format(number).as_bytes())?;
+    put(out, b" ")?;
+    put(out, without_error(reply))
+}

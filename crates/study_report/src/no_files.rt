@@ -1,0 +1,48 @@
+//! A store without files, of a report whose tables are held before its first line.
+ghost use Rattle.std.specs.Prelude.{None, true};
+
+use std::io::{Empty, Sink};
+use study_material::Class;
+use study_script::store::{StoreFault, TableStore};
+use study_tablefile::PageSource;
+
+/// No file of any class, for tables that are read from such sources.
+#[derive(Drop)]
+pub struct NoFiles<P: PageSource> {
+    source: Option<P>,
+}
+
+impl<P: PageSource> NoFiles<P> {
+    pub fn new() -> Self {
+        NoFiles { source: None }
+    }
+}
+
+// A report opens no file, so nothing need be known of any.
+impl<P: PageSource> TableStore for NoFiles<P> {
+    type Reader = Empty;
+
+    type Writer = Sink;
+
+    type Pages = P;
+
+    ghost honest = { λ s by_pages c. ⊥ };
+
+    ghost files = { λ s c. None };
+
+    ghost headers = { λ s c. None };
+
+    ghost faults = { λ s c f. true };
+
+    fn reader(&mut self, _class: Class) -> Result<Empty, StoreFault> {
+        Err(StoreFault::NoFile)
+    }
+
+    fn writer(&mut self, _class: Class) -> Result<Sink, StoreFault> {
+        Err(StoreFault::Device)
+    }
+
+    fn pages(&mut self, _class: Class) -> Result<P, StoreFault> {
+        Err(StoreFault::NoFile)
+    }
+}

@@ -1,0 +1,76 @@
+//! What a report writes.
+ghost use Rattle.std.specs.Prelude.{◌≡◌, ℕ, List, Err, OnOk};
+ghost use Rattle.std.specs.Io.KnownBytes.{Appends};
+ghost use Rattle.study_prober.specs.declared.values.ProbeFault.{ProbeFault as AProbeFault};
+ghost use Rattle.study_tablefile.specs.Taken.{TakesPrefix};
+ghost use Rattle.study_marks.specs.Edits.{Plainly};
+ghost use Rattle.study_marks.specs.Kept.{marked, IsKeptRight};
+ghost use Rattle.study_marks.specs.Study.{plain_study};
+ghost use Rattle.study_review.specs.Review.{HasReviewed};
+
+use std::alloc::Allocator;
+use std::io::Write;
+use study_marks::Bench;
+use study_prober::Values;
+use study_review::ReviewFault;
+use study_tablefile::DeviceFailed;
+use thiserror::Error;
+
+/// Why a refused line is not told, or not whole.
+#[derive(Clone, Copy, Debug, PartialEq, Eq, Error)]
+pub enum NotTold {
+    #[error("no memory is left for the text")]
+    OutOfMemory,
+    #[error("the device failed")]
+    Device,
+}
+
+impl From<DeviceFailed> for NotTold {
+    ghost use Rattle.std.specs.Prelude.{◌≡◌};
+    ghost use Rattle.study_report.specs.declared.report.NotTold.TheVariants.{Device};
+
+    ghost from_gives = { λ _ fault. fault ≡ Device };
+
+    fn from(_failed: DeviceFailed) -> NotTold {
+        NotTold::Device
+    }
+}
+
+/// What a report writes of a study, and of a line that is refused.
+pub trait Report {
+    /// The text tells of the study, as the one of this number.
+    ghost tells: { Plainly → ℕ → List ℕ → Type 0 };
+
+    /// What is told of a refused line: of its number among all lines, its bytes, and the script's reply to it.
+    ghost refusal: { ℕ → List ℕ → List ℕ → List ℕ };
+
+    /// Tells of a study, the one of this number. Nothing is written before its last value was asked.
+    fn add_study<'a, 'b, A: Allocator, B: Allocator, V: Values, W: Write>(
+        &mut self,
+        alloc: &'a A,
+        bench: &Bench<'b, B>,
+        values: &mut V,
+        number: u32,
+        out: &mut W,
+    ) -> Result<(), ReviewFault>
+        ensures told { V.is_honest values.old → IsKeptRight bench.now → OnOk result ((text : List ℕ)
+            × tells (plain_study (marked bench.now)) number text × Appends (W.contents out.old) (W.contents out.new) text) }
+        ensures device { V.is_honest values.old → IsKeptRight bench.now → result ≡ Err ReviewFault.Device → (text : List ℕ)
+            × tells (plain_study (marked bench.now)) number text × TakesPrefix (W.contents out.old) (W.contents out.new) text }
+        ensures memory { result ≡ Err ReviewFault.OutOfMemory → out.new ≡ out.old }
+        ensures untold { (fault : AProbeFault) → result ≡ Err (ReviewFault.Values fault) → out.new ≡ out.old }
+        ensures asked { HasReviewed V.held V.gives V.may_fail V.asked_of V.failed_of V.is_honest values.old result values.new };
+
+    /// Tells of a refused line: its number, its bytes, and the script's reply to it.
+    fn add_refusal<'a, A: Allocator, W: Write>(
+        &mut self,
+        alloc: &'a A,
+        number: u32,
+        line: &[u8],
+        reply: &[u8],
+        out: &mut W,
+    ) -> Result<(), NotTold>
+        ensures told { OnOk result (Appends (W.contents out.old) (W.contents out.new) (refusal number line.now reply.now)) }
+        ensures device { result ≡ Err NotTold.Device → TakesPrefix (W.contents out.old) (W.contents out.new) (refusal number line.now reply.now) }
+        ensures memory { result ≡ Err NotTold.OutOfMemory → out.new ≡ out.old };
+}

@@ -1,0 +1,77 @@
+//! What an accepted `pgn` line adds.
+ghost use Rattle.std.specs.Prelude.{◌≡◌, ℕ, List, Err, OnOk};
+ghost use Rattle.std.specs.Io.KnownBytes.{Appends};
+ghost use Rattle.study_material.specs.declared.class.Class.{Class as AClass};
+ghost use Rattle.study_tablefile.specs.declared.fault.SourceFault.{SourceFault as ASourceFault};
+ghost use Rattle.study_tablefile.specs.Taken.{TakesPrefix};
+ghost use Rattle.study_prober.specs.declared.values.ProbeFault.{ProbeFault as AProbeFault};
+ghost use Rattle.study_marks.specs.Kept.{marked, IsKeptRight};
+ghost use Rattle.study_marks.specs.Study.{plain_study};
+ghost use Rattle.study_script.specs.State.{State};
+ghost use Rattle.study_script.specs.Held.{Holds, tables_honest, tables_held, tables_may_fail, are_paged};
+ghost use Rattle.study_report.specs.Told.{IsUntoldBy, IsUntoldIn};
+ghost use Rattle.study_report.specs.Written.{IsSection, IsSectionPart};
+
+use crate::report::Report;
+use std::alloc::Allocator;
+use std::io::Write;
+use study_marks::Bench;
+use study_prober::Values;
+use study_review::ReviewFault;
+use study_script::board::Board;
+use study_script::tables::Tables;
+use study_tablefile::PageSource;
+
+/// Tells of the study on the bench, by whole tables or by pages.
+pub fn add_study<'a, P: PageSource, A: Allocator, W: Write, T: Report>(
+    alloc: &'a A,
+    bench: &Bench<'a, A>,
+    tables: &mut Tables<'a, P, A>,
+    report: &mut T,
+    number: u32,
+    out: &mut W,
+) -> Result<(), ReviewFault>
+    ensures told { tables_honest P.honest tables.old → IsKeptRight bench.now → OnOk result ((text : List ℕ)
+        × T.tells (plain_study (marked bench.now)) number text × Appends (W.contents out.old) (W.contents out.new) text) }
+    ensures device { tables_honest P.honest tables.old → IsKeptRight bench.now → result ≡ Err ReviewFault.Device → (text : List ℕ)
+        × T.tells (plain_study (marked bench.now)) number text × TakesPrefix (W.contents out.old) (W.contents out.new) text }
+    ensures memory { result ≡ Err ReviewFault.OutOfMemory → out.new ≡ out.old }
+    ensures untold { (fault : AProbeFault) → result ≡ Err (ReviewFault.Values fault) → out.new ≡ out.old }
+    ensures why { (fault : AProbeFault) → tables_honest P.honest tables.old → result ≡ Err (ReviewFault.Values fault)
+        → IsUntoldBy (tables_held tables.old) (are_paged tables.old) (tables_may_fail P.gives tables.old) fault }
+    ensures honest { tables_honest P.honest tables.old → tables_honest P.honest tables.new }
+    ensures tables { (c : AClass) → tables_held tables.new c ≡ tables_held tables.old c }
+    ensures fails_as_before { (c : AClass) (f : ASourceFault) → tables_may_fail P.gives tables.new c f → tables_may_fail P.gives tables.old c f }
+    ensures mode { are_paged tables.new ≡ are_paged tables.old }
+{
+    match tables {
+        Tables::Whole(tables) => report.add_study(alloc, bench, tables, number, out),
+        Tables::Paged(tables) => report.add_study(alloc, bench, tables, number, out),
+    }
+}
+
+/// Tells of the study on the board.
+pub fn add_section<'a, P: PageSource, A: Allocator, W: Write, T: Report>(
+    alloc: &'a A,
+    board: &Board<'a, A>,
+    tables: &mut Tables<'a, P, A>,
+    report: &mut T,
+    number: u32,
+    out: &mut W,
+) -> Result<(), ReviewFault>
+    ensures told { (s : State) → Holds P.honest P.gives board.now tables.old s
+        → OnOk result (IsSection T.tells s.board number (W.contents out.old) (W.contents out.new)) }
+    ensures device { (s : State) → Holds P.honest P.gives board.now tables.old s → result ≡ Err ReviewFault.Device
+        → IsSectionPart T.tells s.board number (W.contents out.old) (W.contents out.new) }
+    ensures memory { result ≡ Err ReviewFault.OutOfMemory → out.new ≡ out.old }
+    ensures untold { (fault : AProbeFault) → result ≡ Err (ReviewFault.Values fault) → out.new ≡ out.old }
+    ensures why { (s : State) (fault : AProbeFault) → Holds P.honest P.gives board.now tables.old s → result ≡ Err (ReviewFault.Values fault)
+        → IsUntoldIn s fault }
+    ensures holds { (s : State) → Holds P.honest P.gives board.now tables.old s → Holds P.honest P.gives board.now tables.new s }
+{
+    match board {
+        Board::Study(bench) => add_study(alloc, bench, tables, report, number, out),
+        Board::Empty => Ok(()),
+        Board::Start(_) => Ok(()),
+    }
+}

@@ -1,0 +1,12 @@
+use Rattle.std.proofs.Common.{inl, inr}
+use Rattle.study_report_program.proofs.program.report_script.Goals.{then-is_err, else-is_err}
+use Rattle.study_report_program.proofs.program.report_script.Goals as goal
+
+pub returns : goal.returns
+returns g c = (
+  c.report_over_files-answer.result,
+  c.if-is_err.answer,
+  c.report_over_files-answer.ensures,
+  elim c.if-is_err.branch [ then-is_err w ↦ inr w.answer-is | else-is_err w ↦ inl w.answer-is ],
+  c.ended.ensures,
+)

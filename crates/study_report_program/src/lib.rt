@@ -1,0 +1,15 @@
+//! The program studyreport as a library: its command line, the tables of a folder, the report over them, and the exit status.
+//!
+//! `studyreport` is all that the program does. `report_script` does the same over whatever files and streams, so that tests see the exit
+//! status and what is told on standard error.
+#![tactic(auto)]
+
+mod options;
+mod program;
+mod status;
+mod tables;
+
+pub use options::{Form, Options, read_words};
+pub use program::{report_script, studyreport};
+pub use status::{put_file_fault, put_stop};
+pub use tables::open_tables;

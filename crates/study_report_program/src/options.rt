@@ -1,0 +1,93 @@
+//! The command line.
+ghost use Rattle.std.specs.Prelude.{◌≤◌, ◌<◌, length};
+
+use clap::builder::ValueParser;
+use clap::{Arg, ArgAction, Command, Error, value_parser};
+use std::alloc::Global;
+use study_program::{VERSION, folder_of};
+
+const ABOUT: &str =
+    "Tells of the studies of a script, from standard input to standard output: each line 'pgn' that is accepted adds a review of the study.";
+
+const LINES: &str =
+    "The script is that of studybench. Its lines 'build', 'load', 'save' and 'verify' are passed over: each table whose file is in
+the folder is opened before the first line. A line that is refused adds 'refused LINE NAME'.
+
+Exit status: 0 no line was refused; 1 some line was; 2 the command line was; 3 the run stopped at a fault.";
+
+/// How studies are told.
+#[derive(Clone, Copy, Debug, PartialEq, Eq)]
+pub enum Form {
+    /// As lines of plain text, a fact a line.
+    Lines,
+}
+
+/// What the command line asks for.
+#[derive(Clone, Copy, Debug)]
+pub struct Options<'a> {
+    /// The folder of the files of tables: never an empty text, of which the files would stand in the root folder.
+    pub tables: &'a str,
+    /// How many pages of tables are kept: 1 to 4,096.
+    pub pages: u16,
+    /// How studies are told, where that is said.
+    pub form: Option<Form>,
+    ghost named: { 0 < length tables.now },
+    ghost some: { 1 ≤ pages },
+    ghost few: { pages ≤ 4096 },
+}
+
+/// Reads the words of the command line, of which the first is the program's name. `--help` and `--version` are answered as errors whose
+/// exit code is 0.
+///
+/// No contract: clap has none on the words that it takes. The type proves that the folder has a name, and the range of pages; the tests
+/// tell the rest.
+pub fn read_words<'a>(alloc: Global, words: &'a [String]) -> Result<Options<'a>, Error> {
+    let tables = Arg::new(alloc, "tables")
+        .long("tables")
+        .value_name("DIR")
+        .action(ArgAction::Set)
+        .value_parser(ValueParser::NonEmptyString)
+        .help("The folder of the files of tables, as KQK.dtm [default: .]");
+    let pages = Arg::new(alloc, "pages")
+        .long("pages")
+        .value_name("N")
+        .action(ArgAction::Set)
+        .value_parser(value_parser!(u16).range(1..=4096))
+        .help("Keeps N pages of 4,096 cells, 1 to 4096 [default: 1024]");
+    let lines = Arg::new(alloc, "lines")
+        .long("lines")
+        .action(ArgAction::SetTrue)
+        .help("Tells facts as lines of plain text, a fact a line");
+    let command = Command::new(alloc, "studyreport")
+        .version(VERSION)
+        .about(ABOUT)
+        .after_help(LINES)
+        .arg(tables)?
+        .arg(pages)?
+        .arg(lines)?;
+    let matches = command.try_get_matches_from(words)?;
+    let tables = folder_of(matches.get_str("tables"));
+    let pages = pages_of(matches.get_one::<u16>("pages"));
+    let form = form_of(matches.get_flag("lines"));
+    Ok(Options {
+        tables,
+        pages,
+        form,
+    })
+}
+
+/// So many pages, where it is a number of pages that can be kept, else 1,024.
+fn pages_of(given: Option<u16>) -> u16
+    ensures some { 1 ≤ result }
+    ensures few { result ≤ 4096 }
+{
+    match given {
+        Some(n) if 1 <= n && n <= 4096 => n,
+        _ => 1024,
+    }
+}
+
+/// The form that is asked for.
+fn form_of(lines: bool) -> Option<Form> {
+    if lines { Some(Form::Lines) } else { None }
+}

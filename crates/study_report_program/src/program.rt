@@ -1,0 +1,145 @@
+//! What the program does, over the streams of its process or over any others.
+ghost use Rattle.std.specs.Prelude.{◌≡◌, Bool};
+ghost use Rattle.clap.specs.Values.{kind_of};
+ghost use Rattle.study_program.specs.Status.{status_told, status_unread};
+ghost use Rattle.study_report_program.specs.Ended.{EndsBy, HasReported};
+
+use crate::options::{Form, Options, read_words};
+use crate::status::put_stop;
+use crate::tables::open_tables;
+use clap::Error;
+use std::alloc::Allocator;
+use std::io;
+use std::io::{BufReader, ErrorKind, LineWriter, Read, Write};
+use std::process::ExitCode;
+use std::rt::Files;
+use study_prober::PagedTables;
+use study_program::{FolderStore, status_of, status_without_options, words_of};
+use study_report::{Lines, Report, follow_script};
+use study_script::run::{RunFault, Summary};
+use study_script::tables::Tables;
+
+/// Reads the script from standard input and writes what is told of each study to standard output as soon as its line is answered.
+///
+/// The exit status is 0 where no line was refused, 1 where some line was, 2 where the command line was refused, and 3
+/// where the run stopped at a fault, whose name then goes to standard error.
+///
+/// No contract: of the streams and the words of a process no clause can say what they hold. `report_script` has one.
+pub fn studyreport(rt: &HostRuntime) -> ExitCode {
+    let words = match words_of(rt) {
+        Ok(words) => words,
+        Err(error) => return ExitCode::from(not_read(rt, &error)),
+    };
+    match read_words(rt.alloc(), words.as_slice()) {
+        Ok(options) => ExitCode::from(report_in_form(rt, &options)),
+        Err(error) => ExitCode::from(answered(rt, &error)),
+    }
+}
+
+// The words of the command line are not known.
+fn not_read(rt: &HostRuntime, error: &io::Error) -> u8 {
+    if error.kind() == ErrorKind::OutOfMemory {
+        return ended(&mut rt.stderr(), &Err(RunFault::OutOfMemory));
+    }
+    let _ = eprintln!(rt; "error: a word of the command line is not UTF-8");
+    2
+}
+
+// Help, the version, or why the words are refused.
+fn answered(rt: &HostRuntime, error: &Error) -> u8
+    ensures { (printed : Bool) × (result ≡ status_unread (kind_of error.now) printed) }
+{
+    if error.kind() == clap::error::ErrorKind::OutOfMemory {
+        return ended(&mut rt.stderr(), &Err(RunFault::OutOfMemory));
+    }
+    let printed = error.print(rt).is_ok();
+    let status = status_without_options(error, printed);
+    if status == 3 {
+        return ended(&mut rt.stderr(), &Err(RunFault::WriteDevice));
+    }
+    status
+}
+
+/// Reports in the form that is asked for.
+fn report_in_form(rt: &HostRuntime, options: &Options<'_>) -> u8 {
+    match options.form {
+        Some(Form::Lines) => report_streams(rt, options, &mut Lines),
+        None => {
+            let _ = eprintln!(rt; "studyreport: say --lines, the one form that there is");
+            2
+        }
+    }
+}
+
+fn report_streams<T: Report>(rt: &HostRuntime, options: &Options<'_>, report: &mut T) -> u8 {
+    let alloc = rt.alloc();
+    let mut errors = rt.stderr();
+    let Ok(mut script) = BufReader::new(alloc, rt.stdin()) else {
+        return ended(&mut errors, &Err(RunFault::OutOfMemory));
+    };
+    let Ok(mut out) = LineWriter::new(alloc, rt.stdout()) else {
+        return ended(&mut errors, &Err(RunFault::OutOfMemory));
+    };
+    report_script(
+        rt,
+        &alloc,
+        options,
+        report,
+        &mut script,
+        &mut out,
+        &mut errors,
+    )
+}
+
+/// Reports a script over the tables of a folder, tells on `errors` which files give no table and why the run stopped, if it did, and
+/// answers the exit status.
+pub fn report_script<F: Files, A: Allocator, T: Report, R: Read, W: Write, E: Write>(
+    files: &F,
+    alloc: &A,
+    options: &Options<'_>,
+    report: &mut T,
+    script: &mut R,
+    out: &mut W,
+    errors: &mut E,
+) -> u8
+    ensures { EndsBy (HasReported (R.remaining script.old) (R.remaining script.new)) result }
+{
+    let mut answer = report_over_files(files, alloc, options, report, script, out, errors);
+    // What is left in a buffer of the writer is told too.
+    if out.flush().is_err() {
+        answer = Err(RunFault::WriteDevice);
+    }
+    ended(errors, &answer)
+}
+
+// Tells why a run stopped, if it did. Nobody can be told that standard error failed.
+fn ended<E: Write>(errors: &mut E, answer: &Result<Summary, RunFault>) -> u8
+    ensures { result ≡ status_told answer.now }
+{
+    if let Err(fault) = answer {
+        let _ = put_stop(errors, *fault);
+    }
+    status_of(answer)
+}
+
+/// Reports a script over the tables of a folder, and tells on `errors` which files give no table.
+fn report_over_files<F: Files, A: Allocator, T: Report, R: Read, W: Write, E: Write>(
+    files: &F,
+    alloc: &A,
+    options: &Options<'_>,
+    report: &mut T,
+    script: &mut R,
+    out: &mut W,
+    errors: &mut E,
+) -> Result<Summary, RunFault>
+    ensures { HasReported (R.remaining script.old) (R.remaining script.new) result }
+{
+    let Ok(mut store) = FolderStore::new(files, alloc, options.tables) else {
+        return Err(RunFault::OutOfMemory);
+    };
+    let Ok(mut tables) = PagedTables::new(alloc, options.pages) else {
+        return Err(RunFault::OutOfMemory);
+    };
+    open_tables(alloc, &mut tables, &mut store, errors);
+    follow_script(alloc, script, out, report, Tables::Paged(tables))
+}

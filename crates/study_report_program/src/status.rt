@@ -1,0 +1,37 @@
+//! What the program tells on standard error.
+
+use itoa::Buffer;
+use std::io::Write;
+use study_material::Class;
+use study_script::run::RunFault;
+use study_tablefile::{DeviceFailed, put};
+
+/// Tells why a run stopped, in a line of its own: `studyreport: LineTooLong 3`.
+pub fn put_stop<W: Write>(out: &mut W, fault: RunFault) -> Result<(), DeviceFailed> {
+    match fault {
+        RunFault::ReadDevice => put(out, b"studyreport: ReadDevice\n"),
+        RunFault::WriteDevice => put(out, b"studyreport: WriteDevice\n"),
+        RunFault::LineTooLong(line) => put_too_long(out, line),
+        RunFault::TooManyLines => put(out, b"studyreport: TooManyLines\n"),
+        RunFault::OutOfMemory => put(out, b"studyreport: OutOfMemory\n"),
+    }
+}
+
+fn put_too_long<W: Write>(out: &mut W, line: u32) -> Result<(), DeviceFailed> {
+    let mut buffer = Buffer::new();
+    put(out, b"studyreport: LineTooLong ")?;
+    put(out, buffer.format(line).as_bytes())?;
+    put(out, b"\n")
+}
+
+/// Tells why the file of a class gives no table: `studyreport: KRK.dtm: HeaderDamaged`. The words end with a line feed.
+pub fn put_file_fault<W: Write>(
+    out: &mut W,
+    class: Class,
+    words: &[u8],
+) -> Result<(), DeviceFailed> {
+    put(out, b"studyreport: ")?;
+    put(out, class.name().as_bytes())?;
+    put(out, b".dtm: ")?;
+    put(out, words)
+}
