@@ -5,5 +5,4 @@ pub mod Marking
 pub mod Nodes
 pub mod Survey
 pub mod Shown
-pub mod Setup
 pub mod Insertion
