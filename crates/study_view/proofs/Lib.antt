@@ -1,0 +1,9 @@
+pub mod MovesTold
+pub mod AllAsked
+pub mod StartsAt
+pub mod NodeLines
+pub mod OneView
+pub mod ViewMade
+pub mod Standings
+pub mod OneSurvey
+pub mod NewNode

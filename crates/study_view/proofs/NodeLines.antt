@@ -1,0 +1,33 @@
+-- Lines of nodes, one behind the other.
+use Rattle.std.proofs.Common.{◌≡◌, ℕ, List, [], ◌∷◌, ◌++◌, Option, Some, None, refl, sym, ap, subst, ◌∙◌, IsTrue, append_assoc}
+use Rattle.std.specs.Prelude.{IfSome}
+use Rattle.std.specs.List.{flat_map}
+use Rattle.study_moves.specs.declared.moves.Move.{Move}
+use Rattle.study_moves.specs.Rules.{is_legal}
+use Rattle.study_notation.specs.declared.start.Start.{Start}
+use Rattle.study_tree.specs.Tree.{spot_at}
+use Rattle.study_marks.specs.declared.mark.Mark.{Mark}
+use Rattle.study_marks.specs.Renewal.{below_at}
+use Rattle.study_marks.specs.Study.{Study}
+use Rattle.study_review.specs.Made.{Grew}
+use Rattle.study_review.specs.Review.{paths_from, LinesOfEach, written_order}
+use Rattle.study_view.specs.Nodes.{IsNodeLine}
+use Rattle.study_view.specs.View.{node_line}
+
+each-line : (s : Study Mark) (paths : List (List ℕ)) (text : List ℕ) → LinesOfEach (IsNodeLine s) paths text → text ≡ flat_map (node_line s) paths
+each-line s [] text h = h
+each-line s (x ∷ xs) text h =
+    h.4 ∙ ap (λ (t : List ℕ). t ++ h.1) h.2 ∙ ap (λ (t : List ℕ). node_line s x ++ t) (each-line s xs h.1 h.3)
+
+-- the text grew by the lines of all nodes
+pub all-lines : (s : Study Mark) (p old new : List ℕ) → p ≡ []
+    → Grew (LinesOfEach (IsNodeLine s) (p ∷ paths_from p 0 (below_at s.tree.below p))) old new
+    → new ≡ old ++ flat_map (node_line s) (written_order s)
+all-lines s p old new e h =
+    let lines : LinesOfEach (IsNodeLine s) (written_order s) h.0 =
+    subst (λ (x : List ℕ). LinesOfEach (IsNodeLine s) (x ∷ paths_from x 0 (below_at s.tree.below x)) h.0) e h.1 in
+    h.2 ∙ ap (λ (t : List ℕ). old ++ t) (each-line s (written_order s) h.0 lines)
+
+-- by its own line
+pub own-grew : (s : Study Mark) (p steps old new : List ℕ) → p ≡ steps → new ≡ old ++ node_line s p → Grew (IsNodeLine s steps) old new
+own-grew s p steps old new e h = (node_line s steps, refl, h ∙ ap (λ (q : List ℕ). old ++ node_line s q) e)

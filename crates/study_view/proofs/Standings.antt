@@ -1,0 +1,72 @@
+-- Squares one by one, and what is told of each.
+use Rattle.std.proofs.Common.{◌≡◌, ℕ, ◌+◌, ◌-◌, ◌<◌, ◌≤◌, ◌==◌, suc, Bool, true, false, not, List, [], ◌∷◌, ◌++◌, Option, Some, None, Result, Ok, Err, OnOk, cond, arith, refl, sym, ap, subst, ◌∙◌, append_assoc}
+use Rattle.std.specs.Prelude.{MatchOption, IsSome}
+use Rattle.std.specs.List.{filter, range_with_len}
+use Rattle.std.proofs.lemmas.List.{append-nil}
+use Rattle.std.proofs.lemmas.Bool.{ne_eqb, eq-eqb}
+use Rattle.study_board.specs.Position.{Position}
+use Rattle.study_board.specs.declared.fault.PositionFault.{PositionFault}
+use Rattle.study_marks.specs.declared.stipulation.Stipulation.{Stipulation}
+use Rattle.study_view.specs.declared.squares.Standing.{Standing}
+use Rattle.study_view.specs.declared.squares.Standing.TheVariants.{Impossible}
+use Rattle.study_view.specs.declared.squares.Stood.{Stood}
+use Rattle.std.specs.List.{All}
+use Rattle.study_moves.specs.Rules.{is_legal}
+use Rattle.study_retro.specs.declared.value.Value.{Value}
+use Rattle.study_review.specs.declared.continuation.Continuation.{Continuation}
+use Rattle.study_review.proofs.Chosen.{all-first}
+use Rattle.study_view.specs.Shown.{IsPlayedIn}
+use Rattle.study_view.specs.Survey.{by_moves, stood, stood_fault, squares_but, IsStanding, IsTold, AreStandings}
+
+range-step : (n : ℕ) → n < 64 → range_with_len n (64 - n) ≡ n ∷ range_with_len (n + 1) (64 - (n + 1))
+range-step n lt =
+    let less : 64 - n ≡ suc (64 - (n + 1)) = omega (arith, lt) in ap (range_with_len n) less
+
+-- the man's own square is passed over
+pub own-square : (from n : ℕ) → n < 64 → n ≡ from → squares_but from n (64 - n) ≡ squares_but from (n + 1) (64 - (n + 1))
+own-square from n lt e =
+    let f : ℕ → Bool = λ x. not (x == from) in
+    let same : (n == from) ≡ true = eq-eqb n from e in
+    ap (filter f) (range-step n lt)
+    ∙ ap (λ b. cond (not b) (n ∷ filter f (range_with_len (n + 1) (64 - (n + 1)))) (filter f (range_with_len (n + 1) (64 - (n + 1))))) same
+
+-- each other one is the first of those that are left
+pub next-square : (from n : ℕ) → n < 64 → (n ≡ from → ⊥) → squares_but from n (64 - n) ≡ n ∷ squares_but from (n + 1) (64 - (n + 1))
+next-square from n lt e =
+    let f : ℕ → Bool = λ x. not (x == from) in
+    ap (filter f) (range-step n lt)
+    ∙ ap (λ b. cond (not b) (n ∷ filter f (range_with_len (n + 1) (64 - (n + 1)))) (filter f (range_with_len (n + 1) (64 - (n + 1)))))
+    (ne_eqb n from e)
+
+pub no-square : (from n : ℕ) → 64 ≤ n → squares_but from n (64 - n) ≡ []
+no-square from n h =
+    let z : 64 - n ≡ 0 = omega (arith, h) in ap (λ k. squares_but from n k) z
+
+-- more squares are told
+abbrev pub Adds : Position → ℕ → Stipulation → List ℕ → List Stood → List Stood → Type 0
+Adds p from st squares old new = (more : List Stood) × AreStandings p from st squares more × (new ≡ old ++ more)
+
+pub adds-none : (p : Position) (from n : ℕ) (st : Stipulation) (list : List Stood) → 64 ≤ n → Adds p from st (squares_but from n (64 - n)) list list
+adds-none p from n st list h = ([], subst (λ (l : List ℕ). AreStandings p from st l []) (sym (no-square from n h)) tt, sym (append-nil list))
+
+pub adds-past : {T E : Type 0} (p : Position) (from n : ℕ) (st : Stipulation) (old new : List Stood) (r : Result T E) → n < 64 → n ≡ from
+    → OnOk r (Adds p from st (squares_but from (n + 1) (64 - (n + 1))) old new) → OnOk r (Adds p from st (squares_but from n (64 - n)) old new)
+adds-past p from n st old new (Ok x) lt e h = subst (λ (l : List ℕ). Adds p from st l old new) (sym (own-square from n lt e)) h
+adds-past p from n st old new (Err x) lt e h = tt
+
+pub adds-one : {T E : Type 0} (p : Position) (from n : ℕ) (st : Stipulation) (s : Standing) (old mid new : List Stood) (r : Result T E)
+    → n < 64 → (n ≡ from → ⊥) → IsStanding p from st n s → mid ≡ old ++ (record { at = n; standing = s }) ∷ []
+    → OnOk r (Adds p from st (squares_but from (n + 1) (64 - (n + 1))) mid new) → OnOk r (Adds p from st (squares_but from n (64 - n)) old new)
+adds-one p from n st s old mid new (Ok x) lt e told m h =
+    subst (λ (l : List ℕ). Adds p from st l old new) (sym (next-square from n lt e)) (
+      (record { at = n; standing = s }) ∷ h.0,
+      (refl, told, h.1),
+      h.2 ∙ ap (λ (l : List Stood). l ++ h.0) m ∙ append_assoc old ((record { at = n; standing = s }) ∷ []) h.0,
+    )
+adds-one p from n st s old mid new (Err x) lt e told m h = tt
+
+-- the one move that holds is legal
+pub by-legal : (q : Position) (v : Value) (list : List Continuation) → All (λ x. is_legal q x.played ≡ true) list → IsPlayedIn q (by_moves v list)
+by-legal q v [] h = tt
+by-legal q v (x ∷ []) h = all-first (λ (y : Continuation). is_legal q y.played ≡ true) x (x ∷ []) [] refl h
+by-legal q v (x ∷ y ∷ l) h = tt

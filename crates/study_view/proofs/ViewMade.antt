@@ -1,0 +1,40 @@
+-- The parts of a view, one behind the other.
+use Rattle.std.proofs.Common.{◌≡◌, ℕ, ◌++◌, List, [], ◌∷◌, true, length, refl, sym, ap, subst, ◌∙◌, IsTrue}
+use Rattle.std.specs.List.{flat_map}
+use Rattle.study_board.specs.Position.{Position}
+use Rattle.study_moves.specs.LegalList.{legal_list}
+use Rattle.study_notation.specs.declared.start.Start.{Start}
+use Rattle.study_retro.specs.declared.value.Value.{Value}
+use Rattle.study_tree.specs.Tree.{has_spot}
+use Rattle.study_marks.specs.declared.mark.Mark.{Mark}
+use Rattle.study_marks.specs.declared.marking.Aim.{Aim}
+use Rattle.study_marks.specs.Goals.{aim_of}
+use Rattle.study_marks.specs.Study.{Study, position_at}
+use Rattle.study_review.specs.declared.continuation.Continuation.{Continuation}
+use Rattle.study_review.specs.Continuations.{AreChosen, each_after}
+use Rattle.study_review.specs.Nodes.{value_at}
+use Rattle.study_review.specs.Review.{stipulation_line, written_order}
+use Rattle.study_view.specs.Marking.{holding_count, told_line}
+use Rattle.study_view.specs.View.{start_to, node_line, IsView, asked_at}
+use Rattle.study_view.specs.Words.{study_line, at_line}
+use Rattle.study_view.proofs.MovesTold.{moves-told}
+use Rattle.study_view.proofs.StartsAt.{position-of}
+
+pub asked-is : {L : Type 0} (s : Study L) (path : List ℕ) (here : Start) → here ≡ start_to s path
+    → each_after here.position (legal_list here.position) ≡ asked_at s path
+asked-is s path here e = ap (λ p. each_after p (legal_list p)) (position-of s path here e)
+
+pub view-is : (s : Study Mark) (path : List ℕ) (here : Start) (a : Aim) (d : ℕ) (before : Value) (list : List Continuation) (text : List ℕ)
+    → IsTrue (has_spot s.tree path) → here ≡ start_to s path → a ≡ aim_of s → d ≡ length path → before ≡ value_at s path
+    → AreChosen (λ v. true) here.position (legal_list here.position) list
+    → text ≡ study_line s.start ++ (stipulation_line s ++ (flat_map (node_line s) (written_order s) ++ (at_line path here.position
+    ++ flat_map (told_line a d here before (holding_count a d list)) list)))
+    → IsView s path text
+view-is s path here a d before list text found e ea ed ev chosen h =
+    let p : here.position ≡ position_at s path = position-of s path here e in
+    let lines = flat_map (told_line a d here before (holding_count a d list)) list in (
+      lines,
+      found,
+      moves-told s path a d here before list ea ed e ev (subst (λ (q : Position). AreChosen (λ v. true) q (legal_list q) list) p chosen),
+      h ∙ ap (λ q. study_line s.start ++ (stipulation_line s ++ (flat_map (node_line s) (written_order s) ++ (at_line path q ++ lines)))) p,
+    )

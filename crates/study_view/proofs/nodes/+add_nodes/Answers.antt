@@ -1,0 +1,92 @@
+use Rattle.std.proofs.Common.{◌≡◌, ◌≤◌, ◌<◌, ◌++◌, ◌∷◌, [], List, ℕ, refl, sym, ◌∙◌, ap, subst, arith}
+use Rattle.std.specs.Prelude.{vec_len}
+use Rattle.study_tree.specs.Edits.{width}
+use Rattle.study_marks.specs.Renewal.{below_at}
+use Rattle.study_marks.specs.Kept.{marked}
+use Rattle.study_pgn.proofs.ChildSteps.{popped}
+use Rattle.study_review.specs.Made.{Grew}
+use Rattle.study_review.proofs.WrittenOrder.{there-child, fewer-child, none-yet, child-written, all-written}
+use Rattle.study_view.specs.Nodes.{IsNodeLine}
+use Rattle.study_view.specs.View.{start_to}
+use Rattle.study_view.proofs.NodeLines.{own-grew}
+use Rattle.study_view.proofs.StartsAt.{after-front}
+use Rattle.study_view.proofs.nodes.+add_nodes.Goals as goal
+
+pub loop-place-init : goal.loop-place-init
+loop-place-init g t c =
+    let path = c.args.steps.now.items in
+    record {
+      written = none-yet (IsNodeLine (marked c.args.bench.now)) path (below_at (marked c.args.bench.now).tree.below path) c.add_own.new.text;
+      back = refl;
+    }
+
+pub start_from-next-requires-clause-found : goal.start_from-next-requires-clause-found
+start_from-next-requires-clause-found g t c =
+    let tree = (marked c.args.bench.now).tree in
+    let steps = c.args.steps.now.items in
+    let k = c.loop-place.place in
+    let path : c.go_down.new.steps.items ≡ steps ++ k ∷ [] =
+    c.in_ok-go_down.ensures ∙ ap (λ (st : List ℕ). st ++ k ∷ []) c.loop-place.invariant.back in
+    let lt : k < width (below_at tree.below steps) =
+    omega (arith, c.loop-place-test.true, c.count_at-count.ensures, ap (λ (st : List ℕ). width (below_at tree.below st)) c.as_slice-2.ensures.value) in
+    there-child tree steps c.as_slice-in-loop-place.result.now k (c.as_slice-in-loop-place.ensures.value ∙ path) lt
+
+pub start_from-next-requires-clause-before : goal.start_from-next-requires-clause-before
+start_from-next-requires-clause-before g t c =
+    let steps = c.args.steps.now.items in
+    let k = c.loop-place.place in
+    let path : c.go_down.new.steps.items ≡ steps ++ k ∷ [] =
+    c.in_ok-go_down.ensures ∙ ap (λ (st : List ℕ). st ++ k ∷ []) c.loop-place.invariant.back in
+    after-front (marked c.args.bench.now) c.as_slice-in-loop-place.result.now steps k c.args.here.now (c.as_slice-in-loop-place.ensures.value ∙ path)
+    c.requires.here
+
+pub add_nodes-requires : goal.add_nodes-requires
+add_nodes-requires g t c κs within =
+    let s = marked c.args.bench.now in
+    let steps = c.args.steps.now.items in
+    let k = c.loop-place.place in
+    let path : c.go_down.new.steps.items ≡ steps ++ k ∷ [] =
+    c.in_ok-go_down.ensures ∙ ap (λ (st : List ℕ). st ++ k ∷ []) c.loop-place.invariant.back in
+    let lt : k < width (below_at s.tree.below steps) =
+    omega (arith, c.loop-place-test.true, c.count_at-count.ensures, ap (λ (st : List ℕ). width (below_at s.tree.below st)) c.as_slice-2.ensures.value) in (
+      omega (arith, fewer-child s.tree.below steps c.go_down.new.steps.items k path lt, c.decreases),
+      (
+        within.0,
+        (
+          within.1,
+          (
+            there-child s.tree steps c.go_down.new.steps.items k path lt,
+            (
+              after-front s c.go_down.new.steps.items steps k c.args.here.now path c.requires.here,
+              c.start_from-next.ensures ∙ ap (start_to s) c.as_slice-in-loop-place.ensures.value,
+            ),
+          ),
+        ),
+      ),
+    )
+
+pub loop-place-preserved : goal.loop-place-preserved
+loop-place-preserved g t c =
+    let tree = (marked c.args.bench.now).tree in
+    let steps = c.args.steps.now.items in
+    let k = c.loop-place.place in
+    let path : c.go_down.new.steps.items ≡ steps ++ k ∷ [] =
+    c.in_ok-go_down.ensures ∙ ap (λ (st : List ℕ). st ++ k ∷ []) c.loop-place.invariant.back in
+    let lt : k < width (below_at tree.below steps) =
+    omega (arith, c.loop-place-test.true, c.count_at-count.ensures, ap (λ (st : List ℕ). width (below_at tree.below st)) c.as_slice-2.ensures.value) in
+    record {
+      written = child-written (IsNodeLine (marked c.args.bench.now)) tree.below steps c.go_down.new.steps.items k c.add_own.new.text
+          c.loop-place.text c.add_nodes.new.text path lt c.in_ok-add_nodes.ensures.text c.loop-place.invariant.written;
+      back = popped steps c.add_nodes.new.steps.items c.pop.new.self.items k (vec_len c.add_nodes.new.steps)
+          (c.in_ok-add_nodes.ensures.path ∙ path) (omega (arith, c.add_nodes.new.steps.ok.0)) c.pop.ensures.rest;
+    }
+
+pub returns-clause-text : goal.returns-clause-text
+returns-clause-text g t c =
+    let tree = (marked c.args.bench.now).tree in
+    let steps = c.args.steps.now.items in
+    let few : width (below_at tree.below steps) ≤ c.loop-place.place =
+    omega (arith, c.loop-place-test.false, c.count_at-count.ensures, ap (λ (st : List ℕ). width (below_at tree.below st)) c.as_slice-2.ensures.value) in
+    all-written (IsNodeLine (marked c.args.bench.now)) tree.below steps c.loop-place.place c.args.text.now c.add_own.new.text c.loop-place.text few
+    (own-grew (marked c.args.bench.now) c.as_slice.result.now steps c.args.text.now c.add_own.new.text c.as_slice.ensures.value c.in_ok-add_own.ensures)
+    c.loop-place.invariant.written

@@ -1,0 +1,19 @@
+use Rattle.std.proofs.Common.{◌≡◌}
+use Rattle.study_tree.specs.Forest.{nodes_in}
+use Rattle.study_marks.specs.Kept.{marked}
+use Rattle.study_marks.specs.Renewal.{below_at}
+use Rattle.study_review.proofs.WrittenOrder.{GoesOn}
+use Rattle.study_view.specs.Nodes.{IsNodeLine}
+use Rattle.study_view.proofs.nodes.+add_nodes.Given as goal
+
+-- fewer nodes are below a child
+abbrev pub decreases-add_nodes : goal.decreases-add_nodes
+decreases-add_nodes g l = nodes_in (below_at (marked l.bench.now).tree.below l.steps.now.items)
+
+-- what is written, and any lines of the nodes that are left, are lines of all
+abbrev pub invariant-loop-place : goal.invariant-loop-place
+invariant-loop-place g l = record {
+  written : GoesOn (IsNodeLine (marked l.bench)) l.fn.steps.items
+      (below_at (marked l.bench).tree.below l.fn.steps.items) l.place l.initial.text l.text;
+  back : l.steps.items ≡ l.fn.steps.items;
+}

@@ -1,0 +1,27 @@
+-- Not part of any public contract: standings whose move can be written.
+use Rattle.std.specs.Prelude.{◌≡◌, ℕ, true, None}
+use Rattle.study_board.specs.Position.{Position}
+use Rattle.study_moves.specs.Rules.{is_legal}
+use Rattle.study_view.specs.declared.squares.Standing.{Standing}
+use Rattle.study_view.specs.declared.squares.Standing.TheVariants.{Impossible, Fails, Holds, HoldsBy, Only}
+use Rattle.study_view.specs.declared.squares.Stood.{Stood}
+use Rattle.study_view.specs.Survey.{stood, stood_fault}
+
+-- the one move that holds is legal
+abbrev pub IsPlayedIn : Position → Standing → Type 0
+IsPlayedIn q Impossible = Unit {0}
+IsPlayedIn q (Fails v) = Unit {0}
+IsPlayedIn q (Holds v) = Unit {0}
+IsPlayedIn q (HoldsBy v n) = Unit {0}
+IsPlayedIn q (Only v m) = is_legal q m ≡ true
+
+-- and where there is one, the man can stand there
+abbrev pub CanStand : Position → ℕ → ℕ → Standing → Type 0
+CanStand p from x Impossible = Unit {0}
+CanStand p from x (Fails v) = stood_fault p from x ≡ None
+CanStand p from x (Holds v) = stood_fault p from x ≡ None
+CanStand p from x (HoldsBy v n) = stood_fault p from x ≡ None
+CanStand p from x (Only v m) = stood_fault p from x ≡ None
+
+abbrev pub IsShown : Position → ℕ → Stood → Type 0
+IsShown p from y = CanStand p from y.at y.standing × IsPlayedIn (stood p from y.at) y.standing

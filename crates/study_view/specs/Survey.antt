@@ -1,0 +1,100 @@
+-- Where else a man could stand: what a stipulation comes to with the man on each other square.
+use Rattle.std.specs.Prelude.{◌≡◌, ℕ, ◌==◌, not, Bool, true, false, List, [], ◌∷◌, ◌++◌, length, map, codes, decimal, Option, Some, None, MatchOption, if◌then◌else◌}
+use Rattle.std.specs.List.{filter, flat_map, range_with_len}
+use Rattle.study_board.specs.declared.men.Man.{Man}
+use Rattle.study_board.specs.declared.fault.PositionFault.{PositionFault}
+use Rattle.study_board.specs.Letters.{letter}
+use Rattle.study_board.specs.Men.{same_side}
+use Rattle.study_board.specs.Position.{Position, in_order, man_at, first_fault}
+use Rattle.study_notation.specs.FenSpelling.{square_text}
+use Rattle.study_notation.specs.Written.{move_text}
+use Rattle.study_retro.specs.declared.value.Value.{Value}
+use Rattle.study_retro.specs.Game.{IsValueOf}
+use Rattle.study_marks.specs.declared.marking.Aim.{Aim}
+use Rattle.study_marks.specs.declared.stipulation.Stipulation.{Stipulation}
+use Rattle.study_marks.specs.Goals.{holds}
+use Rattle.study_pgn.specs.Pgn.{stipulation_text}
+use Rattle.study_reply.specs.Words.{value_words}
+use Rattle.study_review.specs.declared.continuation.Continuation.{Continuation}
+use Rattle.study_review.specs.Continuations.{AreHoldingMoves}
+use Rattle.study_view.specs.declared.squares.Standing.{Standing}
+use Rattle.study_view.specs.declared.squares.Standing.TheVariants.{Impossible, Fails, Holds, HoldsBy, Only}
+use Rattle.study_view.specs.declared.squares.Stood.{Stood}
+
+-- the men, with the man of one square on another
+abbrev pub moved_man : ℕ → ℕ → Man → Man
+moved_man from to m = if m.at == from then record m { at = to } else m
+
+abbrev pub moved_men : ℕ → ℕ → List Man → List Man
+moved_men from to men = map (moved_man from to) men
+
+-- the position with the man of one square on another, and all else as it is
+abbrev pub stood : Position → ℕ → ℕ → Position
+stood p from to = record { men = in_order (moved_men from to p.men); to_move = p.to_move; passed = p.passed }
+
+-- why that is no valid position, if it is none
+abbrev pub stood_fault : Position → ℕ → ℕ → Option PositionFault
+stood_fault p from to = first_fault (moved_men from to p.men) p.to_move p.passed
+
+abbrev pub aim_in : Stipulation → Position → Aim
+aim_in st q = record { goal = st.goal; hero_first = same_side st.hero q.to_move }
+
+-- by the hero's first moves that hold: one alone, or how many
+abbrev pub by_moves : Value → List Continuation → Standing
+by_moves v [] = HoldsBy v 0
+by_moves v (x ∷ []) = Only v x.played
+by_moves v (x ∷ y ∷ l) = HoldsBy v (length (x ∷ y ∷ l))
+
+-- what is told of a position with the value v: whether it holds, and whether the hero is to move
+abbrev pub IsToldBy : Bool → Bool → Aim → Position → Value → Standing → Type 0
+IsToldBy false hero a q v standing = standing ≡ Fails v
+IsToldBy true false a q v standing = standing ≡ Holds v
+IsToldBy true true a q v standing = (list : List Continuation) × AreHoldingMoves a 0 q list × (standing ≡ by_moves v list)
+
+abbrev pub IsTold : Stipulation → Position → Standing → Type 0
+IsTold st q standing = (v : Value) × IsValueOf q v × IsToldBy (holds (aim_in st q) 0 v) (aim_in st q).hero_first (aim_in st q) q v standing
+
+-- what is told of the man on the square x
+abbrev pub IsStanding : Position → ℕ → Stipulation → ℕ → Standing → Type 0
+IsStanding p from st x standing = MatchOption (stood_fault p from x) (IsTold st (stood p from x) standing) (λ fault. standing ≡ Impossible)
+
+abbrev pub AreStandings : Position → ℕ → Stipulation → List ℕ → List Stood → Type 0
+AreStandings p from st [] [] = Unit {0}
+AreStandings p from st [] (y ∷ ys) = ⊥
+AreStandings p from st (x ∷ xs) [] = ⊥
+AreStandings p from st (x ∷ xs) (y ∷ ys) = (y.at ≡ x) × IsStanding p from st x y.standing × AreStandings p from st xs ys
+
+-- of n squares from one on, those that are not this one
+abbrev pub squares_but : ℕ → ℕ → ℕ → List ℕ
+squares_but from first n = filter (λ x. not (x == from)) (range_with_len first n)
+
+-- a1, b1 up to h8, but for the man's own
+abbrev pub other_squares : ℕ → List ℕ
+other_squares from = squares_but from 0 64
+
+-- `survey Kh2 White to win`
+unfoldable pub survey_line : Man → Stipulation → List ℕ
+survey_line man st = codes "survey " ++ (letter man.kind ∷ (square_text man.at ++ (codes " " ++ (stipulation_text st ++ codes "\n"))))
+
+abbrev pub standing_words : Position → Standing → List ℕ
+standing_words q Impossible = codes "-"
+standing_words q (Fails v) = codes "fails " ++ value_words v
+standing_words q (Holds v) = codes "holds " ++ value_words v
+standing_words q (HoldsBy v n) = codes "holds " ++ (value_words v ++ (codes " " ++ decimal n))
+standing_words q (Only v m) = codes "only " ++ (value_words v ++ (codes " " ++ move_text q m))
+
+-- `g2 only win 55 Kg3`
+unfoldable pub standing_line : Position → ℕ → Stood → List ℕ
+standing_line p from x = square_text x.at ++ (codes " " ++ (standing_words (stood p from x.at) x.standing ++ codes "\n"))
+
+-- the survey of the man of a square, who is there
+abbrev pub IsSurvey : Position → ℕ → Stipulation → List ℕ → Type 0
+IsSurvey p from st text =
+    (man : Man) × (list : List Stood)
+    × (man_at p.men from ≡ Some man)
+    × AreStandings p from st (other_squares from) list
+    × (text ≡ survey_line man st ++ flat_map (standing_line p from) list)
+
+-- there is one survey
+abbrev pub SurveysAreUnique : Type 0
+SurveysAreUnique = (p : Position) (from : ℕ) (st : Stipulation) (t u : List ℕ) → IsSurvey p from st t → IsSurvey p from st u → t ≡ u

@@ -1,0 +1,58 @@
+-- What a board shows of a study, at one of its nodes.
+use Rattle.std.specs.Prelude.{◌≡◌, ℕ, IsTrue, List, [], ◌∷◌, ◌++◌}
+use Rattle.std.specs.List.{flat_map}
+use Rattle.std.specs.Option.{option_map_or}
+use Rattle.study_board.specs.Position.{Position}
+use Rattle.study_moves.specs.declared.moves.Move.{Move}
+use Rattle.study_moves.specs.LegalList.{legal_list}
+use Rattle.study_notation.specs.declared.start.Start.{Start}
+use Rattle.study_tree.specs.Tree.{has_spot, spot_at}
+use Rattle.study_marks.specs.declared.mark.Mark.{Mark}
+use Rattle.study_marks.specs.Study.{Study, moves_to, position_at, start_along, plain_study}
+use Rattle.study_marks.specs.Annotated.{IsAnnotated}
+use Rattle.study_marks.specs.Trial.{IsMarkOf}
+use Rattle.study_review.specs.Continuations.{each_after}
+use Rattle.study_review.specs.Nodes.{front_of}
+use Rattle.study_review.specs.Review.{stipulation_line, written_order}
+use Rattle.study_view.specs.Words.{study_line, node_words, at_line, move_line}
+
+-- the start, with its counts, at the node of the path
+abbrev pub start_to : {L : Type 0} → Study L → List ℕ → Start
+start_to s path = start_along s.start (moves_to s.tree.below path)
+
+-- the line of the node at the path
+abbrev pub node_line : Study Mark → List ℕ → List ℕ
+node_line s path = option_map_or (λ x. node_words path (position_at s (front_of path)) x (start_to s path)) (spot_at s.tree path) []
+
+-- a line for each of these moves from the node at the path, with the value and the mark that a new node with it would have
+abbrev pub AreMoveLines : Study Mark → List ℕ → List Move → List ℕ → Type 0
+AreMoveLines s path [] text = text ≡ []
+AreMoveLines s path (m ∷ ms) text =
+    (mark : Mark) × (rest : List ℕ) × IsMarkOf s path m mark × AreMoveLines s path ms rest
+    × (text ≡ move_line (start_to s path) m mark.value mark.on_move ++ rest)
+
+-- The view of an annotated study at a path, at which there is a node: its start, its verdict, each node, and then how many legal
+-- moves there are at the path, and each of them.
+abbrev pub IsView : Study Mark → List ℕ → List ℕ → Type 0
+IsView s path text =
+    (moves : List ℕ)
+    × IsTrue (has_spot s.tree path)
+    × AreMoveLines s path (legal_list (position_at s path)) moves
+    × (text ≡ study_line s.start ++ (stipulation_line s ++ (flat_map (node_line s) (written_order s) ++ (at_line path (position_at s path) ++ moves))))
+
+-- a study has one view at a path
+abbrev pub ViewsAreUnique : Type 0
+ViewsAreUnique = (s : Study Mark) (path : List ℕ) (t u : List ℕ) → IsView s path t → IsView s path u → t ≡ u
+
+-- the view of a plain study is that of its annotation
+abbrev pub IsViewOf : Study (Unit {0}) → List ℕ → List ℕ → Type 0
+IsViewOf plain path text = (s : Study Mark) × (plain_study s ≡ plain) × IsAnnotated s × IsView s path text
+
+-- a plain study has one view at a path
+abbrev pub PlainStudiesHaveOneView : Type 0
+PlainStudiesHaveOneView =
+    (plain : Study (Unit {0})) (path : List ℕ) (t u : List ℕ) → IsViewOf plain path t → IsViewOf plain path u → t ≡ u
+
+-- the positions whose values a view asks: those after the legal moves at the path
+abbrev pub asked_at : {L : Type 0} → Study L → List ℕ → List Position
+asked_at s path = each_after (position_at s path) (legal_list (position_at s path))

@@ -1,0 +1,73 @@
+-- The words of a view's lines.
+use Rattle.std.specs.Prelude.{◌==◌, ℕ, ◌+◌, List, [], ◌∷◌, ◌++◌, length, Option, Some, None, codes, decimal, if◌then◌else◌}
+use Rattle.study_board.specs.declared.men.Kind.{Kind}
+use Rattle.study_board.specs.Letters.{letter}
+use Rattle.study_board.specs.Position.{Position, in_check}
+use Rattle.study_moves.specs.declared.moves.Move.{Move}
+use Rattle.study_moves.specs.LegalList.{legal_list}
+use Rattle.study_notation.specs.declared.start.Start.{Start}
+use Rattle.study_notation.specs.FenSpelling.{fen_text, square_text}
+use Rattle.study_notation.specs.Played.{start_after}
+use Rattle.study_notation.specs.Written.{move_text}
+use Rattle.study_retro.specs.declared.value.Value.{Value}
+use Rattle.study_tree.specs.Tree.{Spot}
+use Rattle.study_marks.specs.declared.mark.Mark.{Mark}
+use Rattle.study_marks.specs.declared.mark.MoveMark.{MoveMark}
+use Rattle.study_command.specs.Paths.{path_text}
+use Rattle.study_reply.specs.Words.{value_words, on_move_text}
+
+-- a small letter
+abbrev pub promoted_text : Option Kind → List ℕ
+promoted_text None = []
+promoted_text (Some k) = (letter k + 32) ∷ []
+
+-- `c7c8r`, as in long algebraic notation
+unfoldable pub squares_text : Move → List ℕ
+squares_text m = square_text m.origin ++ (square_text m.target ++ promoted_text m.promoted)
+
+-- `c8=R c7c8r`, a move from p
+unfoldable pub moved_words : Position → Move → List ℕ
+moved_words p m = move_text p m ++ (codes " " ++ squares_text m)
+
+-- the move that led to a node, from p; the root has none
+abbrev pub led_words : Position → Option Move → List ℕ
+led_words p None = codes "- -"
+led_words p (Some m) = moved_words p m
+
+-- `loss 12 dual 2`
+unfoldable pub mark_words : Value → Option MoveMark → List ℕ
+mark_words v mark = value_words v ++ (codes " " ++ on_move_text mark)
+
+-- `study 8/8/1KP5/3r4/8/8/8/k7 w - - 0 1`
+unfoldable pub study_line : Start → List ℕ
+study_line start = codes "study " ++ (fen_text start ++ codes "\n")
+
+-- a kind of line and a path, with a space behind each
+unfoldable pub front_words : List ℕ → List ℕ → List ℕ
+front_words kind path = kind ++ (path_text path ++ codes " ")
+
+-- `loss 50 only faults 3 8/2P5/1K6/3r4/8/8/8/k7 b - - 0 1`, and the end of the line
+unfoldable pub shown_words : Mark → Start → List ℕ
+shown_words x here =
+    mark_words x.value x.on_move ++ (codes " faults " ++ (decimal x.faults ++ (codes " " ++ (fen_text here ++ codes "\n"))))
+
+-- `node 0 c7 c6c7 loss 50 only faults 3 8/2P5/1K6/3r4/8/8/8/k7 b - - 0 1`: p is the position before the node, and `here` the node's start
+unfoldable pub node_words : List ℕ → Position → Spot Mark → Start → List ℕ
+node_words path p x here = front_words (codes "node ") path ++ (led_words p x.played ++ (codes " " ++ shown_words x.label here))
+
+-- how many legal moves there are; or how the game ended
+unfoldable pub count_words : Position → List ℕ
+count_words p =
+    if length (legal_list p) == 0 then (if in_check p.men p.to_move then codes "mate" else codes "stalemate") else decimal (length (legal_list p))
+
+-- `at root 5`, `at 0.0 mate`
+unfoldable pub at_line : List ℕ → Position → List ℕ
+at_line path p = front_words (codes "at ") path ++ (count_words p ++ codes "\n")
+
+-- `loss 50 only 8/2P5/1K6/3r4/8/8/8/k7 b - - 0 1`, and the end of the line
+unfoldable pub reached_words : Value → Option MoveMark → Start → List ℕ
+reached_words v mark next = mark_words v mark ++ (codes " " ++ (fen_text next ++ codes "\n"))
+
+-- `move c7 c6c7 loss 50 only 8/2P5/1K6/3r4/8/8/8/k7 b - - 0 1`
+unfoldable pub move_line : Start → Move → Value → Option MoveMark → List ℕ
+move_line here m v mark = codes "move " ++ (moved_words here.position m ++ (codes " " ++ reached_words v mark (start_after here m)))

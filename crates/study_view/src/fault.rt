@@ -1,0 +1,98 @@
+//! Why nothing is written.
+
+use std::alloc::{AllocError, AllocFailed};
+use study_prober::ProbeFault;
+use study_tablefile::DeviceFailed;
+use thiserror::Error;
+
+/// Why the view of a study is not written, or not whole.
+#[derive(Clone, Copy, Debug, PartialEq, Eq, Error)]
+pub enum ViewFault {
+    #[error("no node is at the path")]
+    NoSuchNode,
+    #[error("no memory is left for the text")]
+    OutOfMemory,
+    #[error("the device failed")]
+    Device,
+    #[error("a value is not told: {0}")]
+    Values(ProbeFault),
+}
+
+impl From<DeviceFailed> for ViewFault {
+    ghost use Rattle.std.specs.Prelude.{◌≡◌};
+    ghost use Rattle.study_view.specs.declared.fault.ViewFault.TheVariants.{Device};
+
+    ghost from_gives = { λ _ fault. fault ≡ Device };
+
+    fn from(_failed: DeviceFailed) -> ViewFault {
+        ViewFault::Device
+    }
+}
+
+impl From<AllocError> for ViewFault {
+    ghost use Rattle.std.specs.Prelude.{◌≡◌};
+    ghost use Rattle.study_view.specs.declared.fault.ViewFault.TheVariants.{OutOfMemory};
+
+    ghost from_gives = { λ _ fault. fault ≡ OutOfMemory };
+
+    fn from(_error: AllocError) -> ViewFault {
+        ViewFault::OutOfMemory
+    }
+}
+
+impl From<ProbeFault> for ViewFault {
+    ghost use Rattle.std.specs.Prelude.{◌≡◌};
+    ghost use Rattle.study_view.specs.declared.fault.ViewFault.TheVariants.{Values};
+
+    ghost from_gives = { λ untold fault. fault ≡ Values untold };
+
+    fn from(untold: ProbeFault) -> ViewFault {
+        ViewFault::Values(untold)
+    }
+}
+
+/// Why a survey is not made or written, or not whole.
+#[derive(Clone, Copy, Debug, PartialEq, Eq, Error)]
+pub enum SurveyFault {
+    #[error("no man is on the square")]
+    NoMan,
+    #[error("no memory is left for the text")]
+    OutOfMemory,
+    #[error("the device failed")]
+    Device,
+    #[error("a value is not told: {0}")]
+    Values(ProbeFault),
+}
+
+impl From<DeviceFailed> for SurveyFault {
+    ghost use Rattle.std.specs.Prelude.{◌≡◌};
+    ghost use Rattle.study_view.specs.declared.fault.SurveyFault.TheVariants.{Device};
+
+    ghost from_gives = { λ _ fault. fault ≡ Device };
+
+    fn from(_failed: DeviceFailed) -> SurveyFault {
+        SurveyFault::Device
+    }
+}
+
+impl From<AllocError> for SurveyFault {
+    ghost use Rattle.std.specs.Prelude.{◌≡◌};
+    ghost use Rattle.study_view.specs.declared.fault.SurveyFault.TheVariants.{OutOfMemory};
+
+    ghost from_gives = { λ _ fault. fault ≡ OutOfMemory };
+
+    fn from(_error: AllocError) -> SurveyFault {
+        SurveyFault::OutOfMemory
+    }
+}
+
+impl From<ProbeFault> for SurveyFault {
+    ghost use Rattle.std.specs.Prelude.{◌≡◌};
+    ghost use Rattle.study_view.specs.declared.fault.SurveyFault.TheVariants.{Values};
+
+    ghost from_gives = { λ untold fault. fault ≡ Values untold };
+
+    fn from(untold: ProbeFault) -> SurveyFault {
+        SurveyFault::Values(untold)
+    }
+}

@@ -1,0 +1,37 @@
+//! Laws over the definitions, stated by functions that do nothing.
+ghost use Rattle.study_view.specs.Insertion.{MarksOfMovesAreThoseOfInsertions};
+ghost use Rattle.study_view.specs.Survey.{SurveysAreUnique};
+ghost use Rattle.study_view.specs.View.{ViewsAreUnique, PlainStudiesHaveOneView};
+
+use study_marks::annotations_are_unique;
+use study_moves::values_are_unique;
+
+/// A study has one view at a path.
+pub fn views_are_unique()
+    ensures { ViewsAreUnique }
+{
+    values_are_unique();
+}
+
+/// A plain study has one view at a path: that of its annotation.
+pub fn plain_studies_have_one_view()
+    ensures { PlainStudiesHaveOneView }
+{
+    annotations_are_unique();
+    views_are_unique();
+}
+
+/// There is one survey of a man.
+pub fn surveys_are_unique()
+    ensures { SurveysAreUnique }
+{
+    values_are_unique();
+}
+
+/// The mark that a move would have at a node is the one that the node with it has, once it is inserted and all is annotated from
+/// scratch.
+pub fn marks_of_moves_are_those_of_insertions()
+    ensures { MarksOfMovesAreThoseOfInsertions }
+{
+    values_are_unique();
+}

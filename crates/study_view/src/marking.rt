@@ -1,0 +1,128 @@
+//! The mark of a move, by the values after all legal moves.
+ghost use Rattle.std.specs.Prelude.{◌≡◌, ◌+◌, ◌≤◌, ◌<◌, ◌^◌, ◌++◌, true, length, Some, OnOk};
+ghost use Rattle.std.specs.List.{All, count_by, flat_map};
+ghost use Rattle.study_moves.specs.Rules.{is_legal};
+ghost use Rattle.study_marks.specs.Goals.{hero_moves, holds};
+ghost use Rattle.study_marks.specs.Marks.{only_or_dual, mark_of};
+ghost use Rattle.study_view.specs.Marking.{holding_count, told_line};
+
+use crate::words::add_move;
+use std::alloc::{AllocError, Allocator};
+use study_marks::{Aim, MoveMark, hero_moves, holds};
+use study_notation::Start;
+use study_pgn::Text;
+use study_retro::Value;
+use study_review::Continuation;
+
+/// A node: what the study wants, its depth, its position with the counts, and its value.
+#[derive(Clone, Copy)]
+pub struct Here<'n> {
+    pub aim: &'n Aim,
+    pub depth: usize,
+    pub start: &'n Start,
+    pub value: Value,
+}
+
+/// How many of these moves from this depth hold.
+fn holding_count(aim: &Aim, depth: usize, list: &[Continuation]) -> usize
+    requires depth { depth + 1 < 2 ^ 64 }
+    requires few { length list.now ≤ 256 }
+    ensures value { result ≡ holding_count aim.now depth list.now }
+    ensures few { result ≤ length list.now }
+{
+    match list.split_first() {
+        None => 0,
+        Some((x, rest)) => {
+            let more = if holds(aim, depth + 1, x.value) { 1 } else { 0 };
+            more + holding_count(aim, depth, rest)
+        }
+    }
+}
+
+/// The mark of a move that holds, as so many of the legal moves do.
+fn only_or_dual(count: usize) -> MoveMark
+    requires { count ≤ 256 }
+    ensures { result ≡ only_or_dual count }
+{
+    if count == 1 {
+        MoveMark::Only
+    } else {
+        MoveMark::Dual(count.saturating_sub(1) as u8)
+    }
+}
+
+/// The mark of a move to a position with this value, where so many of the legal moves hold.
+fn mark_of(here: &Here<'_>, count: usize, after: Value) -> MoveMark
+    requires depth { here.now.depth + 1 < 2 ^ 64 }
+    requires few { count ≤ 256 }
+    ensures { result ≡ mark_of (hero_moves here.now.aim.now here.now.depth)
+        (holds here.now.aim.now here.now.depth here.now.value) (holds here.now.aim.now (here.now.depth + 1) after) count }
+{
+    let held = holds(here.aim, here.depth, here.value);
+    let holds_after = holds(here.aim, here.depth + 1, after);
+    if hero_moves(here.aim, here.depth) {
+        if !held {
+            MoveMark::Idle
+        } else if holds_after {
+            only_or_dual(count)
+        } else {
+            MoveMark::Mistake
+        }
+    } else if !held && holds_after {
+        MoveMark::Mistake
+    } else {
+        MoveMark::Reply
+    }
+}
+
+/// The line of a move.
+fn add_told<A: Allocator>(
+    text: &mut Text<'_, A>,
+    here: &Here<'_>,
+    count: usize,
+    x: &Continuation,
+) -> Result<(), AllocError>
+    requires depth { here.now.depth + 1 < 2 ^ 64 }
+    requires few { count ≤ 256 }
+    requires legal { is_legal here.now.start.now.position x.now.played ≡ true }
+    ensures { OnOk result (text.new ≡ text.old
+        ++ told_line here.now.aim.now here.now.depth here.now.start.now here.now.value count x.now) }
+{
+    let mark = mark_of(here, count, x.value);
+    add_move(text, here.start, &x.played, x.value, Some(mark))
+}
+
+/// A line for each of the moves, where so many of the legal moves hold.
+fn add_each<A: Allocator>(
+    text: &mut Text<'_, A>,
+    here: &Here<'_>,
+    count: usize,
+    list: &[Continuation],
+) -> Result<(), AllocError>
+    requires depth { here.now.depth + 1 < 2 ^ 64 }
+    requires few { count ≤ 256 }
+    requires legal { All (λ x. is_legal here.now.start.now.position x.played ≡ true) list.now }
+    ensures { OnOk result (text.new ≡ text.old
+        ++ flat_map (told_line here.now.aim.now here.now.depth here.now.start.now here.now.value count) list.now) }
+{
+    for x in list {
+        add_told(text, here, count, x)?;
+    }
+    Ok(())
+}
+
+/// A line for each legal move; these are all, with the values after them.
+pub fn add_moves<A: Allocator>(
+    text: &mut Text<'_, A>,
+    here: &Here<'_>,
+    list: &[Continuation],
+) -> Result<(), AllocError>
+    requires depth { here.now.depth + 1 < 2 ^ 64 }
+    requires few { length list.now ≤ 256 }
+    requires legal { All (λ x. is_legal here.now.start.now.position x.played ≡ true) list.now }
+    ensures { OnOk result (text.new ≡ text.old
+        ++ flat_map (told_line here.now.aim.now here.now.depth here.now.start.now here.now.value (holding_count here.now.aim.now here.now.depth list.now)) list.now) }
+{
+    let count = holding_count(here.aim, here.depth, list);
+    add_each(text, here, count, list)
+}

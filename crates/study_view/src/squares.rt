@@ -1,0 +1,259 @@
+//! Where else a man could stand.
+ghost use Rattle.std.specs.Prelude.{◌≡◌, ◌+◌, ◌++◌, ◌∷◌, [], ◌-◌, ◌<◌, ◌≤◌, ◌↔◌, true, List, length, map, None, OnOk, IfOk, IfSome, IfNone, IsSome, Err};
+ghost use Rattle.std.specs.List.{All, filter, range_with_len};
+ghost use Rattle.arrayvec.specs.ArrayVec.{array_vec_len};
+ghost use Rattle.study_board.specs.Position.{man_at};
+ghost use Rattle.study_marks.specs.Goals.{holds};
+ghost use Rattle.study_view.specs.Asked.{HasToldSome};
+ghost use Rattle.study_view.specs.declared.squares.Stood.{Stood as AStood};
+ghost use Rattle.study_view.specs.Survey.{moved_man, moved_men, stood, stood_fault, by_moves, other_squares};
+ghost use Rattle.study_view.specs.Survey.{IsToldBy, IsTold, IsStanding, AreStandings, squares_but};
+ghost use Rattle.study_view.specs.Asked.{HasSurveyed};
+ghost use Rattle.study_view.specs.Shown.{IsPlayedIn, IsShown};
+
+use crate::asking::{ask_first_moves, ask_value};
+use crate::fault::SurveyFault;
+use arrayvec::ArrayVec;
+use study_board::{Man, Position, Square};
+use study_marks::{Aim, Stipulation, aim_of, holds};
+use study_moves::Move;
+use study_prober::{ProbeFault, Values};
+use study_retro::Value;
+use study_review::Continuation;
+
+/// What a stipulation comes to with a man on a square: that is no position; the position fails or holds, with its value;
+/// and where the hero is to move, how many first moves hold, or which one, where it is one alone.
+#[derive(Clone, Copy, Debug, PartialEq, Eq)]
+pub enum Standing {
+    Impossible,
+    Fails(Value),
+    Holds(Value),
+    HoldsBy(Value, u16),
+    Only(Value, Move),
+}
+
+/// A square, and what the stipulation comes to with the man there.
+#[derive(Clone, Copy, Debug, PartialEq, Eq)]
+pub struct Stood {
+    pub at: Square,
+    pub standing: Standing,
+}
+
+impl Default for Stood {
+    ghost use Rattle.std.specs.Prelude.{◌≡◌};
+    ghost use Rattle.study_view.specs.declared.squares.Standing.TheVariants.{Impossible};
+
+    ghost is_default = { λ a. a.standing ≡ Impossible };
+
+    fn default() -> Self {
+        Stood {
+            at: Square::default(),
+            standing: Standing::Impossible,
+        }
+    }
+}
+
+/// A position, one of its squares, and what the hero is to reach.
+#[derive(Clone, Copy)]
+pub struct Question<'q> {
+    pub position: &'q Position,
+    pub square: Square,
+    pub stipulation: &'q Stipulation,
+}
+
+fn moved_man(from: Square, to: Square, man: Man) -> Man
+    ensures { result ≡ moved_man from to man }
+{
+    if man.at.number() == from.number() {
+        Man {
+            side: man.side,
+            kind: man.kind,
+            at: to,
+        }
+    } else {
+        man
+    }
+}
+
+fn moved_men(from: Square, to: Square, men: &[Man]) -> ArrayVec<Man, 4>
+    requires { length men.now ≤ 4 }
+    ensures { result.items ≡ moved_men from to men.now }
+{
+    let mut list = ArrayVec::new();
+    for man in men {
+        list.push(moved_man(from, to, *man));
+    }
+    list
+}
+
+/// The position with the man of one square on another, if that is one.
+pub fn with_man_at(p: &Position, from: Square, to: Square) -> Option<Position>
+    ensures none { IfNone result (IsSome (stood_fault p.now from to)) }
+    ensures some { IfSome result (λ q. (stood_fault p.now from to ≡ None) × (q ≡ stood p.now from to)) }
+{
+    let men = moved_men(from, to, p.men());
+    match Position::new(men.as_slice(), p.to_move(), p.passed()) {
+        Ok(q) => Some(q),
+        Err(_) => None,
+    }
+}
+
+/// What is told by the first moves that hold.
+fn by_moves(value: Value, list: &[Continuation]) -> Standing
+    requires { length list.now ≤ 256 }
+    ensures { result ≡ by_moves value list.now }
+{
+    match list.split_first() {
+        None => Standing::HoldsBy(value, 0),
+        Some((x, rest)) => {
+            if rest.is_empty() {
+                Standing::Only(value, x.played)
+            } else {
+                Standing::HoldsBy(value, list.len() as u16)
+            }
+        }
+    }
+}
+
+/// What is told of a position with this value.
+fn told_by<V: Values>(
+    aim: &Aim,
+    q: &Position,
+    value: Value,
+    values: &mut V,
+) -> Result<Standing, ProbeFault>
+    ensures game { V.is_honest values.old → IfOk result
+        (IsToldBy (holds aim.now 0 value) aim.now.hero_first aim.now q.now value) }
+    ensures legal { IfOk result (IsPlayedIn q.now) }
+    ensures asked { HasToldSome V.held V.gives V.may_fail V.asked_of V.failed_of V.is_honest values.old result values.new }
+{
+    if !holds(aim, 0, value) {
+        return Ok(Standing::Fails(value));
+    }
+    if !aim.hero_first {
+        return Ok(Standing::Holds(value));
+    }
+    match ask_first_moves(aim, q, values) {
+        Err(fault) => Err(fault),
+        Ok(list) => Ok(by_moves(value, list.as_slice())),
+    }
+}
+
+/// What is told of a position.
+fn told<V: Values>(
+    q: &Position,
+    stipulation: &Stipulation,
+    values: &mut V,
+) -> Result<Standing, ProbeFault>
+    ensures game { V.is_honest values.old → IfOk result (IsTold stipulation.now q.now) }
+    ensures legal { IfOk result (IsPlayedIn q.now) }
+    ensures asked { HasToldSome V.held V.gives V.may_fail V.asked_of V.failed_of V.is_honest values.old result values.new }
+{
+    let aim = aim_of(stipulation, q.to_move());
+    match ask_value(q, values) {
+        Err(fault) => Err(fault),
+        Ok(value) => told_by(&aim, q, value, values),
+    }
+}
+
+/// What is told of the man on another square.
+fn standing_at<V: Values>(
+    question: &Question<'_>,
+    x: Square,
+    values: &mut V,
+) -> Result<Standing, ProbeFault>
+    ensures game { V.is_honest values.old → IfOk result
+        (IsStanding question.now.position.now question.now.square question.now.stipulation.now x) }
+    ensures legal { IfOk result (λ s. IsShown question.now.position.now question.now.square (record { at = x; standing = s })) }
+    ensures asked { HasToldSome V.held V.gives V.may_fail V.asked_of V.failed_of V.is_honest values.old result values.new }
+{
+    match with_man_at(question.position, question.square, x) {
+        None => Ok(Standing::Impossible),
+        Some(q) => told(&q, question.stipulation, values),
+    }
+}
+
+/// Puts one more square last.
+fn push_stood(
+    question: &Question<'_>,
+    at: Square,
+    standing: Standing,
+    list: &mut ArrayVec<Stood, 64>,
+)
+    requires room { array_vec_len list.old < 64 }
+    requires shown { IsShown question.now.position.now question.now.square (record { at = at; standing = standing }) }
+    requires listed { All (IsShown question.now.position.now question.now.square) list.old.items }
+    ensures items { list.new.items ≡ list.old.items ++ (record { at = at; standing = standing }) ∷ [] }
+    ensures len { array_vec_len list.new ≡ array_vec_len list.old + 1 }
+    ensures listed { All (IsShown question.now.position.now question.now.square) list.new.items }
+{
+    list.push(Stood { at, standing });
+}
+
+/// Adds what is told of the squares from this number on, but for the man's own.
+fn stand_from<V: Values>(
+    question: &Question<'_>,
+    number: u8,
+    values: &mut V,
+    list: &mut ArrayVec<Stood, 64>,
+) -> Result<(), ProbeFault>
+    requires within { number ≤ 64 }
+    requires room { array_vec_len list.old ≤ number }
+    requires listed { All (IsShown question.now.position.now question.now.square) list.old.items }
+    ensures listed { All (IsShown question.now.position.now question.now.square) list.new.items }
+    ensures game { V.is_honest values.old → OnOk result ((more : List AStood) × AreStandings question.now.position.now
+        question.now.square question.now.stipulation.now (squares_but question.now.square number (64 - number)) more
+        × (list.new.items ≡ list.old.items ++ more)) }
+    ensures asked { HasToldSome V.held V.gives V.may_fail V.asked_of V.failed_of V.is_honest values.old result values.new }
+{
+    if number >= 64 {
+        return Ok(());
+    }
+    let x = Square::at(number);
+    if number == question.square.number() {
+        return stand_from(question, number + 1, values, list);
+    }
+    match standing_at(question, x, values) {
+        Err(fault) => Err(fault),
+        Ok(standing) => {
+            push_stood(question, x, standing, list);
+            stand_from(question, number + 1, values, list)
+        }
+    }
+}
+
+/// What the stipulation comes to with the man on each other square, in the order a1, b1 up to h8.
+pub fn stand_each<V: Values>(
+    question: &Question<'_>,
+    values: &mut V,
+) -> Result<ArrayVec<Stood, 64>, ProbeFault>
+    ensures game { V.is_honest values.old → IfOk result (λ list. AreStandings question.now.position.now
+        question.now.square question.now.stipulation.now (other_squares question.now.square) list.items) }
+    ensures listed { IfOk result (λ list. All (IsShown question.now.position.now question.now.square) list.items) }
+    ensures asked { HasToldSome V.held V.gives V.may_fail V.asked_of V.failed_of V.is_honest values.old result values.new }
+{
+    let mut list = ArrayVec::new();
+    match stand_from(question, 0, values, &mut list) {
+        Err(fault) => Err(fault),
+        Ok(_) => Ok(list),
+    }
+}
+
+/// What the stipulation comes to with the man of a square on each other square, in the order a1, b1 up to h8.
+pub fn survey<V: Values>(
+    question: &Question<'_>,
+    values: &mut V,
+) -> Result<ArrayVec<Stood, 64>, SurveyFault>
+    ensures game { V.is_honest values.old → IfOk result (λ list. AreStandings question.now.position.now
+        question.now.square question.now.stipulation.now (other_squares question.now.square) list.items) }
+    ensures no_man { (result ≡ Err SurveyFault.NoMan) ↔ (man_at question.now.position.now.men question.now.square ≡ None) }
+    ensures asked { HasSurveyed V.held V.gives V.may_fail V.asked_of V.failed_of V.is_honest values.old result values.new }
+{
+    match question.position.man_at(question.square) {
+        None => Err(SurveyFault::NoMan),
+        Some(_) => {
+            let list = stand_each(question, values)?;
+            Ok(list)
+        }
+    }
+}

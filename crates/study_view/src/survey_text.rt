@@ -1,0 +1,235 @@
+//! The survey of a man, and its way to a writer.
+ghost use Rattle.std.specs.Prelude.{◌≡◌, ◌++◌, ◌↔◌, List, ℕ, true, None, OnOk, IfOk, Ok, Err, codes, decimal};
+ghost use Rattle.std.specs.List.{All, flat_map};
+ghost use Rattle.std.specs.Io.KnownBytes.{Appends};
+ghost use Rattle.study_board.specs.Position.{man_at};
+ghost use Rattle.study_moves.specs.Rules.{is_legal};
+ghost use Rattle.study_prober.specs.declared.values.ProbeFault.{ProbeFault as AProbeFault};
+ghost use Rattle.study_pgn.specs.Values.{side_name};
+ghost use Rattle.study_reply.specs.Words.{value_words};
+ghost use Rattle.study_tablefile.specs.Taken.{TakesPrefix};
+ghost use Rattle.study_pgn.specs.Pgn.{goal_text, stipulation_text};
+ghost use Rattle.study_view.specs.Asked.{HasSurveyed};
+ghost use Rattle.study_view.specs.Shown.{IsShown};
+ghost use Rattle.study_view.specs.Survey.{stood, survey_line, standing_words, standing_line, IsSurvey};
+
+use crate::fault::SurveyFault;
+use crate::squares::{Question, Standing, Stood, stand_each, with_man_at};
+use crate::words::{add_counted, add_san, add_square, add_value, letter_of};
+use std::alloc::{AllocError, Allocator};
+use std::io::Write;
+use study_board::{Man, Position, Side};
+use study_marks::{Goal, Stipulation};
+use study_moves::Move;
+use study_pgn::Text;
+use study_prober::Values;
+use study_retro::Value;
+use study_tablefile::put;
+
+fn add_goal<A: Allocator>(text: &mut Text<'_, A>, goal: Goal) -> Result<(), AllocError>
+    ensures { OnOk result (text.new ≡ text.old ++ goal_text goal) }
+{
+    match goal {
+        Goal::Win => text.add(b" to win"),
+        Goal::Draw => text.add(b" to draw"),
+        Goal::MateIn(moves) => {
+            text.add(b" to mate in ")?;
+            text.add_number(moves.count() as u32)
+        }
+    }
+}
+
+fn add_side<A: Allocator>(text: &mut Text<'_, A>, side: Side) -> Result<(), AllocError>
+    ensures { OnOk result (text.new ≡ text.old ++ side_name side) }
+{
+    match side {
+        Side::White => text.add(b"White"),
+        Side::Black => text.add(b"Black"),
+    }
+}
+
+fn add_stipulation<A: Allocator>(
+    text: &mut Text<'_, A>,
+    stipulation: &Stipulation,
+) -> Result<(), AllocError>
+    ensures { OnOk result (text.new ≡ text.old ++ stipulation_text stipulation.now) }
+{
+    add_side(text, stipulation.hero)?;
+    add_goal(text, stipulation.goal)
+}
+
+/// The man, and what the hero is to reach.
+#[tactic(auto, unfolding(crate::specs::Survey::survey_line))]
+fn add_man<A: Allocator>(
+    text: &mut Text<'_, A>,
+    man: &Man,
+    stipulation: &Stipulation,
+) -> Result<(), AllocError>
+    ensures { OnOk result (text.new ≡ text.old ++ survey_line man.now stipulation.now) }
+{
+    text.add(b"survey ")?;
+    text.add(&[letter_of(man.kind)])?;
+    add_square(text, man.at)?;
+    text.add(b" ")?;
+    add_stipulation(text, stipulation)?;
+    text.add(b"\n")
+}
+
+/// The one first move that holds.
+fn add_only<A: Allocator>(
+    text: &mut Text<'_, A>,
+    q: &Position,
+    value: Value,
+    m: Move,
+) -> Result<(), AllocError>
+    requires { is_legal q.now m ≡ true }
+    ensures { OnOk result (text.new ≡ text.old ++ standing_words q.now (Standing.Only value m)) }
+{
+    text.add(b"only ")?;
+    add_value(text, value)?;
+    text.add(b" ")?;
+    add_san(text, q, m)
+}
+
+/// How many first moves hold.
+fn add_many<A: Allocator>(
+    text: &mut Text<'_, A>,
+    value: Value,
+    count: u16,
+) -> Result<(), AllocError>
+    ensures { OnOk result (text.new ≡ text.old ++ (codes "holds " ++ (value_words value ++ (codes " " ++ decimal count)))) }
+{
+    text.add(b"holds ")?;
+    add_value(text, value)?;
+    text.add(b" ")?;
+    text.add_number(count as u32)
+}
+
+fn add_word_of<A: Allocator>(
+    text: &mut Text<'_, A>,
+    word: &[u8],
+    value: Value,
+) -> Result<(), AllocError>
+    ensures { OnOk result (text.new ≡ text.old ++ (word.now ++ value_words value)) }
+{
+    text.add(word)?;
+    add_value(text, value)
+}
+
+/// What is told of the man on a square.
+fn add_standing<A: Allocator>(
+    text: &mut Text<'_, A>,
+    question: &Question<'_>,
+    x: &Stood,
+) -> Result<(), AllocError>
+    requires { IsShown question.now.position.now question.now.square x.now }
+    ensures { OnOk result (text.new ≡ text.old ++ standing_words (stood question.now.position.now question.now.square x.now.at) x.now.standing) }
+{
+    match x.standing {
+        Standing::Impossible => text.add(b"-"),
+        Standing::Fails(value) => add_word_of(text, b"fails ", value),
+        Standing::Holds(value) => add_word_of(text, b"holds ", value),
+        Standing::HoldsBy(value, count) => add_many(text, value, count),
+        Standing::Only(value, m) => match with_man_at(question.position, question.square, x.at) {
+            None => Ok(()),
+            Some(q) => add_only(text, &q, value, m),
+        },
+    }
+}
+
+/// The line of a square.
+#[tactic(auto, unfolding(crate::specs::Survey::standing_line))]
+fn add_line<A: Allocator>(
+    text: &mut Text<'_, A>,
+    question: &Question<'_>,
+    x: &Stood,
+) -> Result<(), AllocError>
+    requires { IsShown question.now.position.now question.now.square x.now }
+    ensures { OnOk result (text.new ≡ text.old ++ standing_line question.now.position.now question.now.square x.now) }
+{
+    add_square(text, x.at)?;
+    text.add(b" ")?;
+    add_standing(text, question, x)?;
+    text.add(b"\n")
+}
+
+/// A line for each of the squares.
+fn add_lines<A: Allocator>(
+    text: &mut Text<'_, A>,
+    question: &Question<'_>,
+    list: &[Stood],
+) -> Result<(), AllocError>
+    requires { All (IsShown question.now.position.now question.now.square) list.now }
+    ensures { OnOk result (text.new ≡ text.old ++ flat_map (standing_line question.now.position.now question.now.square) list.now) }
+{
+    for x in list {
+        add_line(text, question, x)?;
+    }
+    Ok(())
+}
+
+/// The text, by what is told of each square.
+fn text_of<'a, A: Allocator>(
+    alloc: &'a A,
+    question: &Question<'_>,
+    man: &Man,
+    list: &[Stood],
+) -> Result<Text<'a, A>, AllocError>
+    requires { All (IsShown question.now.position.now question.now.square) list.now }
+    ensures { IfOk result (λ text. text ≡ survey_line man.now question.now.stipulation.now
+        ++ flat_map (standing_line question.now.position.now question.now.square) list.now) }
+{
+    let mut text = Text::new(alloc);
+    add_man(&mut text, man, question.stipulation)?;
+    add_lines(&mut text, question, list)?;
+    Ok(text)
+}
+
+/// The text of the survey.
+fn survey_text<'a, A: Allocator, V: Values>(
+    alloc: &'a A,
+    question: &Question<'_>,
+    values: &mut V,
+) -> Result<Text<'a, A>, SurveyFault>
+    ensures text { V.is_honest values.old → IfOk result
+        (IsSurvey question.now.position.now question.now.square question.now.stipulation.now) }
+    ensures no_man { (result ≡ Err SurveyFault.NoMan) ↔ (man_at question.now.position.now.men question.now.square ≡ None) }
+    ensures device { ¬ (result ≡ Err SurveyFault.Device) }
+    ensures asked { HasSurveyed V.held V.gives V.may_fail V.asked_of V.failed_of V.is_honest values.old result values.new }
+{
+    match question.position.man_at(question.square) {
+        None => Err(SurveyFault::NoMan),
+        Some(man) => {
+            let list = stand_each(question, values)?;
+            let text = text_of(alloc, question, &man, list.as_slice())?;
+            Ok(text)
+        }
+    }
+}
+
+/// Writes what a stipulation comes to with the man of a square on each other square.
+///
+/// The values are asked, and then the text is made whole: want of memory, and a value that is not told, is told before the first
+/// byte. A writer that fails or takes nothing ends the call; it took a front of the text then.
+pub fn write_survey<'a, A: Allocator, V: Values, W: Write>(
+    alloc: &'a A,
+    question: &Question<'_>,
+    values: &mut V,
+    out: &mut W,
+) -> Result<(), SurveyFault>
+    ensures ok { V.is_honest values.old → OnOk result ((text : List ℕ)
+        × IsSurvey question.now.position.now question.now.square question.now.stipulation.now text
+        × Appends (W.contents out.old) (W.contents out.new) text) }
+    ensures no_man { (result ≡ Err SurveyFault.NoMan) ↔ (man_at question.now.position.now.men question.now.square ≡ None) }
+    ensures device { V.is_honest values.old → result ≡ Err SurveyFault.Device → (text : List ℕ)
+        × IsSurvey question.now.position.now question.now.square question.now.stipulation.now text
+        × TakesPrefix (W.contents out.old) (W.contents out.new) text }
+    ensures gone { result ≡ Err SurveyFault.NoMan → out.new ≡ out.old }
+    ensures memory { result ≡ Err SurveyFault.OutOfMemory → out.new ≡ out.old }
+    ensures untold { (fault : AProbeFault) → result ≡ Err (SurveyFault.Values fault) → out.new ≡ out.old }
+    ensures asked { HasSurveyed V.held V.gives V.may_fail V.asked_of V.failed_of V.is_honest values.old result values.new }
+{
+    let text = survey_text(alloc, question, values)?;
+    put(out, text.as_slice())?;
+    Ok(())
+}

@@ -1,0 +1,211 @@
+//! The view of a study at a path, and its way to a writer.
+ghost use Rattle.std.specs.Prelude.{◌≡◌, ◌++◌, ◌≤◌, ◌↔◌, List, ℕ, true, length, OnOk, IfOk, Ok, Err, Some, None, IsTrue};
+ghost use Rattle.std.specs.List.{All, flat_map};
+ghost use Rattle.std.specs.Io.KnownBytes.{Appends};
+ghost use Rattle.study_moves.specs.LegalList.{legal_list};
+ghost use Rattle.study_moves.specs.Rules.{is_legal};
+ghost use Rattle.study_tablefile.specs.Taken.{TakesPrefix};
+ghost use Rattle.study_tree.specs.Tree.{has_spot, spot_at};
+ghost use Rattle.study_marks.specs.Goals.{aim_of};
+ghost use Rattle.study_marks.specs.Kept.{marked, IsKeptRight};
+ghost use Rattle.study_marks.specs.Study.{plain_study};
+ghost use Rattle.study_prober.specs.declared.values.ProbeFault.{ProbeFault as AProbeFault};
+ghost use Rattle.study_review.specs.Continuations.{AreChosen};
+ghost use Rattle.study_review.specs.Review.{stipulation_line, written_order};
+ghost use Rattle.study_review.specs.Nodes.{value_at};
+ghost use Rattle.study_view.specs.Asked.{HasViewed};
+ghost use Rattle.study_view.specs.Marking.{holding_count, told_line};
+ghost use Rattle.study_view.specs.View.{start_to, node_line, IsView, IsViewOf, asked_at};
+ghost use Rattle.study_view.specs.Words.{study_line, at_line};
+
+use crate::asking::ask_moves;
+use crate::fault::ViewFault;
+use crate::marking::{Here, add_moves};
+use crate::nodes::add_nodes;
+use crate::words::{add_at, add_study};
+use std::alloc::{AllocError, Allocator};
+use std::io::Write;
+use study_marks::{Bench, Mark, aim_of};
+use study_notation::Start;
+use study_pgn::{Text, add_opening_words};
+use study_prober::Values;
+use study_retro::Value;
+use study_review::{Continuation, Node};
+use study_tablefile::put;
+use study_tree::Path;
+
+/// The stipulation, with its verdict.
+#[tactic(auto, unfolding(study_review::specs::Review::stipulation_line))]
+fn add_stipulation<'b, A: Allocator, B: Allocator>(
+    text: &mut Text<'_, A>,
+    bench: &Bench<'b, B>,
+    root: Mark,
+) -> Result<(), AllocError>
+    requires { root ≡ (marked bench.now).tree.label }
+    ensures { OnOk result (text.new ≡ text.old ++ stipulation_line (marked bench.now)) }
+{
+    text.add(b"stipulation ")?;
+    add_opening_words(
+        text,
+        bench.stipulation(),
+        bench.start().position.to_move(),
+        root,
+    )?;
+    text.add(b"\n")
+}
+
+/// The mark of the root.
+fn root_of<'b, B: Allocator>(bench: &Bench<'b, B>) -> Option<Mark>
+    ensures { result ≡ Some (marked bench.now).tree.label }
+{
+    match bench.shown(&[]) {
+        None => None,
+        Some(node) => Some(node.mark),
+    }
+}
+
+fn value_at<'b, B: Allocator>(bench: &Bench<'b, B>, steps: &[u16]) -> Value
+    ensures { result ≡ value_at (marked bench.now) steps.now }
+{
+    match bench.shown(steps) {
+        None => Value::Draw,
+        Some(node) => node.mark.value,
+    }
+}
+
+/// The start and the verdict.
+fn add_head<'b, A: Allocator, B: Allocator>(
+    text: &mut Text<'_, A>,
+    bench: &Bench<'b, B>,
+) -> Result<(), AllocError>
+    ensures { OnOk result (text.new ≡ text.old ++ (study_line (marked bench.now).start ++ stipulation_line (marked bench.now))) }
+{
+    match root_of(bench) {
+        None => Ok(()),
+        Some(root) => {
+            add_study(text, bench.start())?;
+            add_stipulation(text, bench, root)
+        }
+    }
+}
+
+/// The lines of all nodes.
+fn add_tree<'a, 'b, A: Allocator, B: Allocator>(
+    alloc: &'a A,
+    text: &mut Text<'_, A>,
+    bench: &Bench<'b, B>,
+) -> Result<(), AllocError>
+    ensures { OnOk result (text.new ≡ text.old ++ flat_map (node_line (marked bench.now)) (written_order (marked bench.now))) }
+{
+    let mut steps = Vec::new(alloc);
+    add_nodes(text, bench, &mut steps, bench.start(), bench.start())
+}
+
+/// The text of the view, by all legal moves with the values after them.
+fn text_of<'a, 'b, A: Allocator, B: Allocator>(
+    alloc: &'a A,
+    bench: &Bench<'b, B>,
+    steps: &[u16],
+    here: &Here<'_>,
+    list: &[Continuation],
+) -> Result<Text<'a, A>, AllocError>
+    requires short { length steps.now ≤ 256 }
+    requires depth { here.now.depth ≡ length steps.now }
+    requires few { length list.now ≤ 256 }
+    requires legal { All (λ x. is_legal here.now.start.now.position x.played ≡ true) list.now }
+    ensures { IfOk result (λ text. text ≡ study_line (marked bench.now).start ++ (stipulation_line (marked bench.now)
+        ++ (flat_map (node_line (marked bench.now)) (written_order (marked bench.now)) ++ (at_line steps.now here.now.start.now.position
+        ++ flat_map (told_line here.now.aim.now here.now.depth here.now.start.now here.now.value
+        (holding_count here.now.aim.now here.now.depth list.now)) list.now)))) }
+{
+    let mut text = Text::new(alloc);
+    add_head(&mut text, bench)?;
+    add_tree(alloc, &mut text, bench)?;
+    add_at(&mut text, steps, &here.start.position)?;
+    add_moves(&mut text, here, list)?;
+    Ok(text)
+}
+
+/// The view at a node with this start.
+fn view_from<'a, 'b, A: Allocator, B: Allocator, V: Values>(
+    alloc: &'a A,
+    bench: &Bench<'b, B>,
+    steps: &[u16],
+    start: &Start,
+    values: &mut V,
+) -> Result<Text<'a, A>, ViewFault>
+    requires short { length steps.now ≤ 256 }
+    requires found { IsTrue (has_spot (marked bench.now).tree steps.now) }
+    requires start { start.now ≡ start_to (marked bench.now) steps.now }
+    ensures text { V.is_honest values.old → IfOk result (IsView (marked bench.now) steps.now) }
+    ensures found { ¬ (result ≡ Err ViewFault.NoSuchNode) }
+    ensures device { ¬ (result ≡ Err ViewFault.Device) }
+    ensures asked { HasViewed V.held V.gives V.may_fail V.asked_of V.failed_of V.is_honest
+        (asked_at (marked bench.now) steps.now) values.old result values.new }
+{
+    let stipulation = bench.stipulation();
+    let aim = aim_of(&stipulation, bench.start().position.to_move());
+    let node = Node {
+        aim: &aim,
+        depth: steps.len(),
+        position: &start.position,
+    };
+    let moves = ask_moves(&node, values)?;
+    let here = Here {
+        aim: &aim,
+        depth: steps.len(),
+        start,
+        value: value_at(bench, steps),
+    };
+    let text = text_of(alloc, bench, steps, &here, moves.as_slice())?;
+    Ok(text)
+}
+
+/// The view at the path.
+fn view_at<'a, 'b, A: Allocator, B: Allocator, V: Values>(
+    alloc: &'a A,
+    bench: &Bench<'b, B>,
+    path: &Path<'b, B>,
+    values: &mut V,
+) -> Result<Text<'a, A>, ViewFault>
+    ensures text { V.is_honest values.old → IfOk result (IsView (marked bench.now) path.now) }
+    ensures no_node { (result ≡ Err ViewFault.NoSuchNode) ↔ (spot_at (marked bench.now).tree path.now ≡ None) }
+    ensures device { ¬ (result ≡ Err ViewFault.Device) }
+    ensures asked { HasViewed V.held V.gives V.may_fail V.asked_of V.failed_of V.is_honest
+        (asked_at (marked bench.now) path.now) values.old result values.new }
+{
+    let _first = bench.start();
+    match bench.start_at(path) {
+        None => Err(ViewFault::NoSuchNode),
+        Some(start) => view_from(alloc, bench, path.steps(), &start, values),
+    }
+}
+
+/// Writes the view of a study at a path.
+///
+/// The values after all legal moves at the path are asked, and then the text is made whole: want of memory, and a value that is
+/// not told, is told before the first byte. A writer that fails or takes nothing ends the call; it took a front of the text then.
+pub fn write_view<'a, 'b, A: Allocator, B: Allocator, V: Values, W: Write>(
+    alloc: &'a A,
+    bench: &Bench<'b, B>,
+    path: &Path<'b, B>,
+    values: &mut V,
+    out: &mut W,
+) -> Result<(), ViewFault>
+    ensures ok { V.is_honest values.old → OnOk result ((text : List ℕ) × IsView (marked bench.now) path.now text
+        × Appends (W.contents out.old) (W.contents out.new) text) }
+    ensures plain { V.is_honest values.old → IsKeptRight bench.now → OnOk result ((text : List ℕ)
+        × IsViewOf (plain_study (marked bench.now)) path.now text × Appends (W.contents out.old) (W.contents out.new) text) }
+    ensures no_node { (result ≡ Err ViewFault.NoSuchNode) ↔ (spot_at (marked bench.now).tree path.now ≡ None) }
+    ensures device { V.is_honest values.old → result ≡ Err ViewFault.Device → (text : List ℕ) × IsView (marked bench.now) path.now text
+        × TakesPrefix (W.contents out.old) (W.contents out.new) text }
+    ensures gone { result ≡ Err ViewFault.NoSuchNode → out.new ≡ out.old }
+    ensures memory { result ≡ Err ViewFault.OutOfMemory → out.new ≡ out.old }
+    ensures untold { (fault : AProbeFault) → result ≡ Err (ViewFault.Values fault) → out.new ≡ out.old }
+    ensures asked { HasViewed V.held V.gives V.may_fail V.asked_of V.failed_of V.is_honest
+        (asked_at (marked bench.now) path.now) values.old result values.new }
+{
+    let text = view_at(alloc, bench, path, values)?;
+    put(out, text.as_slice())?;
+    Ok(())
+}

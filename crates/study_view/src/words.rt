@@ -1,0 +1,305 @@
+//! The words of a view's lines, added to a text.
+ghost use Rattle.std.specs.Prelude.{◌≡◌, ◌++◌, true, OnOk, IfSome, decimal};
+ghost use Rattle.study_board.specs.Letters.{letter};
+ghost use Rattle.study_moves.specs.Rules.{is_legal};
+ghost use Rattle.study_notation.specs.FenSpelling.{fen_text, square_text};
+ghost use Rattle.study_notation.specs.Written.{move_text};
+ghost use Rattle.study_command.specs.Paths.{path_text, more_places};
+ghost use Rattle.study_reply.specs.Words.{value_words, on_move_text};
+ghost use Rattle.study_marks.specs.Bench.{node_seen};
+ghost use Rattle.study_view.specs.Words.{promoted_text, squares_text, moved_words, led_words, mark_words, study_line};
+ghost use Rattle.study_view.specs.Words.{front_words, shown_words, node_words, count_words, at_line, reached_words, move_line};
+
+use std::alloc::{AllocError, Allocator};
+use study_board::{Kind, Position, Square};
+use study_marks::{Mark, MoveMark, Shown};
+use study_moves::{Move, in_check, legal_moves};
+use study_notation::{Start, write_fen, write_san};
+use study_pgn::Text;
+use study_retro::Value;
+
+/// A word, and a number behind it.
+pub fn add_counted<A: Allocator>(
+    text: &mut Text<'_, A>,
+    word: &[u8],
+    number: u8,
+) -> Result<(), AllocError>
+    ensures { OnOk result (text.new ≡ text.old ++ (word.now ++ decimal number)) }
+{
+    text.add(word)?;
+    text.add_number(number as u32)
+}
+
+pub fn add_value<A: Allocator>(text: &mut Text<'_, A>, value: Value) -> Result<(), AllocError>
+    ensures { OnOk result (text.new ≡ text.old ++ value_words value) }
+{
+    match value {
+        Value::Win(n) => add_counted(text, b"win ", n),
+        Value::Loss(n) => add_counted(text, b"loss ", n),
+        Value::Draw => text.add(b"draw"),
+    }
+}
+
+fn add_on_move<A: Allocator>(
+    text: &mut Text<'_, A>,
+    mark: Option<MoveMark>,
+) -> Result<(), AllocError>
+    ensures { OnOk result (text.new ≡ text.old ++ on_move_text mark) }
+{
+    match mark {
+        None => text.add(b"-"),
+        Some(MoveMark::Only) => text.add(b"only"),
+        Some(MoveMark::Dual(k)) => add_counted(text, b"dual ", k),
+        Some(MoveMark::Mistake) => text.add(b"mistake"),
+        Some(MoveMark::Idle) => text.add(b"idle"),
+        Some(MoveMark::Reply) => text.add(b"reply"),
+    }
+}
+
+/// A value and a mark.
+#[tactic(auto, unfolding(crate::specs::Words::mark_words))]
+fn add_mark<A: Allocator>(
+    text: &mut Text<'_, A>,
+    value: Value,
+    mark: Option<MoveMark>,
+) -> Result<(), AllocError>
+    ensures { OnOk result (text.new ≡ text.old ++ mark_words value mark) }
+{
+    add_value(text, value)?;
+    text.add(b" ")?;
+    add_on_move(text, mark)
+}
+
+fn add_places<A: Allocator>(text: &mut Text<'_, A>, steps: &[u16]) -> Result<(), AllocError>
+    ensures { OnOk result (text.new ≡ text.old ++ more_places steps.now) }
+{
+    match steps.split_first() {
+        None => Ok(()),
+        Some((place, rest)) => {
+            text.add(b".")?;
+            text.add_number(*place as u32)?;
+            add_places(text, rest)
+        }
+    }
+}
+
+fn add_path<A: Allocator>(text: &mut Text<'_, A>, steps: &[u16]) -> Result<(), AllocError>
+    ensures { OnOk result (text.new ≡ text.old ++ path_text steps.now) }
+{
+    match steps.split_first() {
+        None => text.add(b"root"),
+        Some((first, rest)) => {
+            text.add_number(*first as u32)?;
+            add_places(text, rest)
+        }
+    }
+}
+
+/// A kind of line, and a path.
+#[tactic(auto, unfolding(crate::specs::Words::front_words))]
+fn add_front<A: Allocator>(
+    text: &mut Text<'_, A>,
+    kind: &[u8],
+    steps: &[u16],
+) -> Result<(), AllocError>
+    ensures { OnOk result (text.new ≡ text.old ++ front_words kind.now steps.now) }
+{
+    text.add(kind)?;
+    add_path(text, steps)?;
+    text.add(b" ")
+}
+
+pub fn add_square<A: Allocator>(text: &mut Text<'_, A>, at: Square) -> Result<(), AllocError>
+    ensures { OnOk result (text.new ≡ text.old ++ square_text at) }
+{
+    text.add(&[b'a' + at.file(), b'1' + at.rank()])
+}
+
+/// The letter of a kind.
+pub fn letter_of(kind: Kind) -> u8
+    ensures { result ≡ letter kind }
+{
+    match kind {
+        Kind::King => b'K',
+        Kind::Queen => b'Q',
+        Kind::Rook => b'R',
+        Kind::Bishop => b'B',
+        Kind::Knight => b'N',
+        Kind::Pawn => b'P',
+    }
+}
+
+fn add_promoted<A: Allocator>(
+    text: &mut Text<'_, A>,
+    promoted: Option<Kind>,
+) -> Result<(), AllocError>
+    ensures { OnOk result (text.new ≡ text.old ++ promoted_text promoted) }
+{
+    match promoted {
+        None => Ok(()),
+        Some(kind) => text.add(&[letter_of(kind) + 32]),
+    }
+}
+
+/// The squares of a move.
+#[tactic(auto, unfolding(crate::specs::Words::squares_text))]
+fn add_squares<A: Allocator>(text: &mut Text<'_, A>, m: Move) -> Result<(), AllocError>
+    ensures { OnOk result (text.new ≡ text.old ++ squares_text m) }
+{
+    add_square(text, m.origin)?;
+    add_square(text, m.target)?;
+    add_promoted(text, m.promoted)
+}
+
+pub fn add_san<A: Allocator>(
+    text: &mut Text<'_, A>,
+    p: &Position,
+    m: Move,
+) -> Result<(), AllocError>
+    requires { is_legal p.now m ≡ true }
+    ensures { OnOk result (text.new ≡ text.old ++ move_text p.now m) }
+{
+    text.add(write_san(p, m).as_str().as_bytes())
+}
+
+/// A move, with its squares.
+#[tactic(auto, unfolding(crate::specs::Words::moved_words))]
+fn add_moved<A: Allocator>(text: &mut Text<'_, A>, p: &Position, m: &Move) -> Result<(), AllocError>
+    requires { is_legal p.now m.now ≡ true }
+    ensures { OnOk result (text.new ≡ text.old ++ moved_words p.now m.now) }
+{
+    add_san(text, p, *m)?;
+    text.add(b" ")?;
+    add_squares(text, *m)
+}
+
+/// The move that led to a node.
+fn add_led<A: Allocator>(
+    text: &mut Text<'_, A>,
+    p: &Position,
+    played: Option<Move>,
+) -> Result<(), AllocError>
+    requires { IfSome played (λ m. is_legal p.now m ≡ true) }
+    ensures { OnOk result (text.new ≡ text.old ++ led_words p.now played) }
+{
+    match played {
+        None => text.add(b"- -"),
+        Some(m) => add_moved(text, p, &m),
+    }
+}
+
+/// A position with its counts, and the end of the line.
+fn add_fen<A: Allocator>(text: &mut Text<'_, A>, start: &Start) -> Result<(), AllocError>
+    ensures { OnOk result (text.new ≡ text.old ++ fen_text start.now) }
+{
+    text.add(write_fen(start).as_str().as_bytes())
+}
+
+/// Where the study starts.
+#[tactic(auto, unfolding(crate::specs::Words::study_line))]
+pub fn add_study<A: Allocator>(text: &mut Text<'_, A>, start: &Start) -> Result<(), AllocError>
+    ensures { OnOk result (text.new ≡ text.old ++ study_line start.now) }
+{
+    text.add(b"study ")?;
+    add_fen(text, start)?;
+    text.add(b"\n")
+}
+
+/// What a node shows, up to the end of the line.
+#[tactic(auto, unfolding(crate::specs::Words::shown_words))]
+fn add_shown<A: Allocator>(
+    text: &mut Text<'_, A>,
+    mark: Mark,
+    here: &Start,
+) -> Result<(), AllocError>
+    ensures { OnOk result (text.new ≡ text.old ++ shown_words mark here.now) }
+{
+    add_mark(text, mark.value, mark.on_move)?;
+    text.add(b" faults ")?;
+    text.add_number(mark.faults)?;
+    text.add(b" ")?;
+    add_fen(text, here)?;
+    text.add(b"\n")
+}
+
+/// The line of a node; `before` is the position before the move that led to it.
+#[tactic(auto, unfolding(crate::specs::Words::node_words))]
+pub fn add_node<A: Allocator>(
+    text: &mut Text<'_, A>,
+    steps: &[u16],
+    before: &Position,
+    node: &Shown,
+    here: &Start,
+) -> Result<(), AllocError>
+    requires { IfSome node.now.played (λ m. is_legal before.now m ≡ true) }
+    ensures { OnOk result (text.new ≡ text.old ++ node_words steps.now before.now (node_seen node.now) here.now) }
+{
+    add_front(text, b"node ", steps)?;
+    add_led(text, before, node.played)?;
+    text.add(b" ")?;
+    add_shown(text, node.mark, here)
+}
+
+#[tactic(auto, unfolding(crate::specs::Words::count_words))]
+fn add_count<A: Allocator>(text: &mut Text<'_, A>, p: &Position) -> Result<(), AllocError>
+    ensures { OnOk result (text.new ≡ text.old ++ count_words p.now) }
+{
+    let count = legal_moves(p).len();
+    if count > 0 {
+        return text.add_number(count as u32);
+    }
+    if in_check(p) {
+        text.add(b"mate")
+    } else {
+        text.add(b"stalemate")
+    }
+}
+
+/// How many legal moves there are, or how the game ended.
+#[tactic(auto, unfolding(crate::specs::Words::at_line))]
+pub fn add_at<A: Allocator>(
+    text: &mut Text<'_, A>,
+    steps: &[u16],
+    p: &Position,
+) -> Result<(), AllocError>
+    ensures { OnOk result (text.new ≡ text.old ++ at_line steps.now p.now) }
+{
+    add_front(text, b"at ", steps)?;
+    add_count(text, p)?;
+    text.add(b"\n")
+}
+
+/// What a move leads to, up to the end of the line.
+#[tactic(auto, unfolding(crate::specs::Words::reached_words))]
+fn add_reached<A: Allocator>(
+    text: &mut Text<'_, A>,
+    value: Value,
+    mark: Option<MoveMark>,
+    next: &Start,
+) -> Result<(), AllocError>
+    ensures { OnOk result (text.new ≡ text.old ++ reached_words value mark next.now) }
+{
+    add_mark(text, value, mark)?;
+    text.add(b" ")?;
+    add_fen(text, next)?;
+    text.add(b"\n")
+}
+
+/// The line of a legal move, with the value after it and its mark.
+#[tactic(auto, unfolding(crate::specs::Words::move_line))]
+pub fn add_move<A: Allocator>(
+    text: &mut Text<'_, A>,
+    here: &Start,
+    m: &Move,
+    value: Value,
+    mark: Option<MoveMark>,
+) -> Result<(), AllocError>
+    requires { is_legal here.now.position m.now ≡ true }
+    ensures { OnOk result (text.new ≡ text.old ++ move_line here.now m.now value mark) }
+{
+    let next = here.played(*m);
+    text.add(b"move ")?;
+    add_moved(text, &here.position, m)?;
+    text.add(b" ")?;
+    add_reached(text, value, mark, &next)
+}
