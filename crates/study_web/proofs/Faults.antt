@@ -30,7 +30,8 @@ fault_raised spans bytes c d fault needed found = raised spans bytes c d (file_i
 -- each class in the order of a class is needed
 pub needed_at : {c : Class} {order items : List Class} {i : ℕ} (d : Class) → IsOrder c order → items ≡ order → i < length items
     → IsNeeded c (get_or items i d)
-needed_at {c} {order} {items} {i} d all same l = (all.each (get_or items i d)).0 (subst (λ ds. Contains ds (get_or items i d)) same (Contains-get_or items i d l))
+needed_at {c} {order} {items} {i} d all same l =
+    (all.each (get_or items i d)).0 (subst (λ ds. Contains ds (get_or items i d)) same (Contains-get_or items i d l))
 
 -- where all tables are right, so are those that a class needs
 pub needs_right : {held : List (Option Table)} {c : Class} → TablesAreRight held → NeedsAreRight held c

@@ -1,5 +1,6 @@
 -- The files that a page hands in: a directory of spans into one text of bytes.
-use Rattle.std.specs.Prelude.{◌==◌, nat_le, ℕ, ◌+◌, Bool, true, false, ◌&&◌, List, [], ◌∷◌, length, take, drop, if◌then◌else◌, Option, Some, None, Result, Ok, Err}
+use Rattle.std.specs.Prelude.{◌==◌, nat_le, ℕ, ◌+◌, Bool, true, false, ◌&&◌, List, [], ◌∷◌, length, take, drop, if◌then◌else◌}
+use Rattle.std.specs.Prelude.{Option, Some, None, Result, Ok, Err}
 use Rattle.study_material.specs.declared.class.Class.{Class}
 use Rattle.study_retro.specs.Table.{class_place}
 use Rattle.study_tablefile.specs.declared.fault.SourceFault.{SourceFault}
