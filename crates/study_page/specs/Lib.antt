@@ -1,0 +1,13 @@
+pub mod Escape
+pub mod Elements
+pub mod Drawings
+pub mod Markup
+pub mod Words
+pub mod Diagram
+pub mod Head
+pub mod Verdict
+pub mod Rows
+pub mod Made
+pub mod Page
+pub mod Lists
+pub mod Frame
