@@ -2,5 +2,4 @@ pub mod CleanWords
 pub mod MarkupGrows
 pub mod Asking
 pub mod MadeRows
-pub mod Shown
 pub mod WholePage

@@ -8,7 +8,7 @@ use Rattle.study_page.specs.Elements.{inside}
 use Rattle.study_page.specs.Drawings.{drawn}
 use Rattle.study_page.specs.Markup.{Markup, nothing, words, element, drawing, text_of, IsWellNested}
 
-then : Markup → Markup → Markup
+abbrev then : Markup → Markup → Markup
 then nothing n = n
 then (words w r) n = words w (then r n)
 then (element e i r) n = element e i (then r n)

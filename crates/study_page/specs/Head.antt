@@ -1,5 +1,5 @@
 -- The head of a page, and the diagram with what stands below it.
-use Rattle.std.specs.Prelude.{ℕ, List, [], ◌∷◌, ◌++◌, Option, Some, None, codes}
+use Rattle.std.specs.Prelude.{ℕ, ◌==◌, List, [], ◌++◌, length, Option, Some, None, if◌then◌else◌, codes}
 use Rattle.study_board.specs.declared.men.Side.{Side}
 use Rattle.study_board.specs.declared.men.Side.TheVariants as side
 use Rattle.study_board.specs.declared.men.Man.{Man}
@@ -23,8 +23,7 @@ title_words (Some words) = words
 
 -- a dot behind what stands there
 abbrev pub behind : List ℕ → List ℕ
-behind [] = []
-behind (b ∷ bs) = (b ∷ bs) ++ drawn Dot
+behind line = if length line == 0 then line else line ++ drawn Dot
 
 -- a tag that is known, behind those before it
 abbrev pub byline_item : Option (List ℕ) → List ℕ → List ℕ

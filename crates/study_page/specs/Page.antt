@@ -1,5 +1,5 @@
 -- The page of a study.
-use Rattle.std.specs.Prelude.{◌≡◌, ℕ, List, [], ◌∷◌, ◌++◌, codes}
+use Rattle.std.specs.Prelude.{◌≡◌, ◌==◌, ℕ, List, [], ◌++◌, length, if◌then◌else◌, codes}
 use Rattle.study_marks.specs.declared.mark.Mark.{Mark}
 use Rattle.study_marks.specs.Study.{Study, plain_study}
 use Rattle.study_marks.specs.Annotated.{IsAnnotated}
@@ -30,8 +30,7 @@ full_table heading head rows = inside element.Part (inside element.Heading (said
 
 -- where there are rows
 abbrev pub table_part : List ℕ → List ℕ → List ℕ → List ℕ
-table_part heading head [] = []
-table_part heading head (b ∷ rows) = full_table heading head (b ∷ rows)
+table_part heading head rows = if length rows == 0 then [] else full_table heading head rows
 
 unfoldable pub duals_title : List ℕ
 duals_title = codes "Duals: what else holds"
@@ -44,8 +43,7 @@ full_cards cards =
     inside element.Part (inside element.Heading (said duals_title) ++ (inside element.Note (said duals_note) ++ inside element.Cards cards))
 
 abbrev pub cards_part : List ℕ → List ℕ
-cards_part [] = []
-cards_part (b ∷ cards) = full_cards (b ∷ cards)
+cards_part cards = if length cards == 0 then [] else full_cards cards
 
 unfoldable pub solution_part : List ℕ → List ℕ
 solution_part tree = inside element.Part (inside element.Heading (said (codes "Solution")) ++ inside element.Tree tree)

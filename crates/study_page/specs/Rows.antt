@@ -54,9 +54,12 @@ counts_words k t = codes ": " ++ (decimal k ++ (hold_words k ++ (decimal t ++ lo
 unfoldable pub dual_item : Start → ℕ → Position → Move → ℕ → ℕ → List ℕ
 dual_item start d p m k t = inside Item (said (label start d p m ++ counts_words k t))
 
+unfoldable pub lets_go : List ℕ
+lets_go = codes " lets the aim go: "
+
 -- `3. Kb4 lets the aim go: draw`
 unfoldable pub mistake_item : Start → ℕ → Position → Move → Value → List ℕ
-mistake_item start d p m v = inside Item (said (label start d p m ++ (codes " lets the aim go: " ++ value_text (other_side p.to_move) v)))
+mistake_item start d p m v = inside Item (said (label start d p m ++ (lets_go ++ value_text (other_side p.to_move) v)))
 
 -- of a move from p, the last of a line
 abbrev pub IsFaultOf : Start → Aim → ℕ → List Position → Position → Move → Value → Option MoveMark → List ℕ → Type 0
@@ -77,10 +80,13 @@ FaultItems s path text =
 
 -- ---- duals
 
+unfoldable pub loses_time : List ℕ
+loses_time = codes ", loses time "
+
 -- the time that is lost, where some is
 abbrev pub time_words : Option ℕ → List ℕ
 time_words None = []
-time_words (Some m) = codes ", loses time " ++ decimal m
+time_words (Some m) = loses_time ++ decimal m
 
 unfoldable pub also_words : Side → Alternative → List ℕ
 also_words side x = codes ": " ++ (value_text side x.value ++ time_words x.time)
@@ -92,11 +98,15 @@ also_item p x = inside Item (inside Strong (said (move_text p x.played)) ++ said
 unfoldable pub card_title : Start → ℕ → Position → Move → ℕ → List ℕ
 card_title start d p m k = inside CardTitle (said (label start d p m ++ codes " ") ++ inside Label (said (codes "dual " ++ decimal k)))
 
--- the position before the move, the move with the value after it, and the others that hold
+-- the move with the value after it, and the others that hold
+unfoldable pub card_words : Start → ℕ → Position → Move → ℕ → Value → List Alternative → List ℕ
+card_words start d p m k v list =
+    card_title start d p m k ++ (inside Paragraph (said (value_text (other_side p.to_move) v ++ codes ". Also:"))
+    ++ inside Also (flat_map (also_item p) list))
+
+-- these beside the position before the move
 unfoldable pub card : Start → ℕ → Position → Move → ℕ → Value → List Alternative → List ℕ
-card start d p m k v list =
-    inside Card (mini p ++ inside Beside (card_title start d p m k
-    ++ (inside Paragraph (said (value_text (other_side p.to_move) v ++ codes ". Also:")) ++ inside Also (flat_map (also_item p) list))))
+card start d p m k v list = inside Card (mini p ++ inside Beside (card_words start d p m k v list))
 
 abbrev pub IsCardOf : Start → Aim → ℕ → List Position → Position → Move → Value → Option MoveMark → List ℕ → Type 0
 IsCardOf start a d line p m v None text = text ≡ []
@@ -141,10 +151,10 @@ TryRows s path text =
 
 -- ---- defences
 
--- `c8=Q`, `3 moves hold`, `stalemate`
+-- `c8=Q`, `3 hold`, `stalemate`
 abbrev pub answer_words : Position → ℕ → Option Move → List ℕ
 answer_words q n (Some m) = move_text q m
-answer_words q n None = if n == 0 then codes "stalemate" else (decimal n ++ codes " moves hold")
+answer_words q n None = if n == 0 then codes "stalemate" else (decimal n ++ codes " hold")
 
 -- `Kb1: White mates in 23; c8=Q`
 unfoldable pub missing_item : Position → Defence → List ℕ
@@ -187,10 +197,13 @@ play_words first start d p [] = []
 play_words first start d p (x ∷ xs) =
     number_words first start d p.to_move ++ (move_text p x.played ++ (codes " " ++ play_words false start (d + 1) (after p x.played) xs))
 
+unfoldable pub keep_it : List ℕ
+keep_it = codes " moves keep it:"
+
 -- `3 of 9 moves keep it: Kb5 Kb6 Kc6`
 unfoldable pub keep_words : Position → List Continuation → List ℕ
 keep_words p list =
-    decimal (length list) ++ (codes " of " ++ (decimal (length (legal_list p)) ++ (codes " moves keep it:" ++ flat_map (move_words p) list)))
+    decimal (length list) ++ (codes " of " ++ (decimal (length (legal_list p)) ++ (keep_it ++ flat_map (move_words p) list)))
 
 unfoldable pub end_row : List ℕ → Side → Value → List ℕ → List ℕ
 end_row node side v goes_on = inside Row (front_cells node side v ++ inside Cell (said goes_on))

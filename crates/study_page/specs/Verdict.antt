@@ -1,5 +1,5 @@
 -- The part of a page with the verdict.
-use Rattle.std.specs.Prelude.{ℕ, ◌==◌, Bool, true, false, List, [], ◌∷◌, ◌++◌, if◌then◌else◌, codes, decimal}
+use Rattle.std.specs.Prelude.{ℕ, ◌==◌, Bool, true, false, List, [], ◌++◌, length, if◌then◌else◌, codes, decimal}
 use Rattle.study_board.specs.declared.men.Side.{Side}
 use Rattle.study_retro.specs.declared.value.Value.{Value}
 use Rattle.study_marks.specs.declared.mark.Mark.{Mark}
@@ -56,12 +56,14 @@ none_given e = if e then codes " No move of the solution was given." else []
 unfoldable pub sentence : Bool → Stamp → List ℕ
 sentence e v = holds_words e v ++ (count_words v ++ none_given e)
 
+unfoldable pub at_start : List ℕ
+at_start = codes "At the start: "
+
 unfoldable pub start_words : Side → Value → List ℕ
-start_words side v = codes "At the start: " ++ (value_text side v ++ codes ".")
+start_words side v = at_start ++ (value_text side v ++ codes ".")
 
 abbrev pub fault_list : List ℕ → List ℕ
-fault_list [] = []
-fault_list (b ∷ items) = inside element.Faults (b ∷ items)
+fault_list items = if length items == 0 then [] else inside element.Faults items
 
 -- the stamp, what it says, the value of the start, and these faults
 unfoldable pub verdict_part : Judged → List ℕ → List ℕ

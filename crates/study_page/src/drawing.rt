@@ -1,7 +1,7 @@
 //! What is drawn.
 ghost use Rattle.std.specs.Prelude.{◌≡◌, ◌++◌, ◌∷◌, [], OnOk};
 ghost use Rattle.study_board.specs.Letters.{letter};
-ghost use Rattle.study_page.specs.Drawings.{side_class, cell_of, standing, drawn};
+ghost use Rattle.study_page.specs.Drawings.{side_class, colour, shape, size, cell_of, standing, drawn};
 
 use std::alloc::{AllocError, Allocator};
 use study_board::{Kind, Man, Side, Square};
@@ -60,17 +60,43 @@ fn add_cell<A: Allocator>(text: &mut Text<'_, A>, at: Square) -> Result<(), Allo
     text.add(b"\"")
 }
 
+#[tactic(auto, unfolding(crate::specs::Drawings::colour))]
+fn add_colour<A: Allocator>(text: &mut Text<'_, A>, side: Side) -> Result<(), AllocError>
+    ensures { OnOk result (text.new ≡ text.old ++ colour side) }
+{
+    text.add(b" class=\"")?;
+    text.add(side_class(side))?;
+    text.add(b"\"")
+}
+
+#[tactic(auto, unfolding(crate::specs::Drawings::shape))]
+fn add_shape<A: Allocator>(text: &mut Text<'_, A>, kind: Kind) -> Result<(), AllocError>
+    ensures { OnOk result (text.new ≡ text.old ++ shape kind) }
+{
+    text.add(b" href=\"#m")?;
+    text.add(letter(kind))?;
+    text.add(b"\"")
+}
+
+/// A square's width and height.
+#[tactic(auto, unfolding(crate::specs::Drawings::size))]
+fn add_size<A: Allocator>(text: &mut Text<'_, A>) -> Result<(), AllocError>
+    ensures { OnOk result (text.new ≡ text.old ++ size) }
+{
+    text.add(b" width=\"4")?;
+    text.add(b"5\" height")?;
+    text.add(b"=\"45\"")
+}
+
 #[tactic(auto, unfolding(crate::specs::Drawings::standing))]
 fn add_standing<A: Allocator>(text: &mut Text<'_, A>, man: &Man) -> Result<(), AllocError>
     ensures { OnOk result (text.new ≡ text.old ++ standing man.now) }
 {
     text.add(b"<use")?;
-    text.add(b" class=\"")?;
-    text.add(side_class(man.side))?;
-    text.add(b"\" href=\"#m")?;
-    text.add(letter(man.kind))?;
-    text.add(b"\"")?;
+    add_colour(text, man.side)?;
+    add_shape(text, man.kind)?;
     add_cell(text, man.at)?;
+    add_size(text)?;
     text.add(b"/>")
 }
 

@@ -6,7 +6,7 @@ use std::alloc::{AllocError, Allocator};
 use study_pgn::Text;
 
 /// An element of a page, by what it is for.
-#[derive(Clone, Copy, Debug, PartialEq, Eq)]
+#[derive(Clone, Copy)]
 pub enum Element {
     /// The head of a page.
     Header,

@@ -17,7 +17,7 @@ pub enum PageFault {
 }
 
 /// Why the text is not made.
-#[derive(Clone, Copy, Debug, PartialEq, Eq)]
+#[derive(Clone, Copy)]
 pub enum NotMade {
     OutOfMemory,
     Untold(ProbeFault),

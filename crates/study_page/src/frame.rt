@@ -64,6 +64,7 @@ t><text x=\"-8\" y=\"297\">2</text><text x=\"-8\" y=\"252\">3</text><text x=\"-8
 x=\"-8\" y=\"117\">6</text><text x=\"-8\" y=\"72\">7</text><text x=\"-8\" y=\"27\">8</text></g></defs></svg>\n"
 }
 
+#[tactic(auto, unfolding(crate::specs::Frame::closing))]
 fn closing() -> &'static [u8]
     ensures { result.now ≡ closing }
 {

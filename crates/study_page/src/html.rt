@@ -1,5 +1,5 @@
 //! Markup that grows.
-ghost use Rattle.std.specs.Prelude.{◌≡◌, ◌++◌, [], ◌↔◌, IsTrue, OnOk};
+ghost use Rattle.std.specs.Prelude.{◌≡◌, ◌++◌, ◌==◌, [], length, OnOk};
 ghost use Rattle.study_page.specs.Escape.{said};
 ghost use Rattle.study_page.specs.Elements.{inside};
 ghost use Rattle.study_page.specs.Drawings.{drawn};
@@ -52,7 +52,7 @@ impl<'a, A: Allocator> Html<'a, A> {
 
     /// Whether there is no markup.
     pub fn is_empty(&self) -> bool
-        ensures { IsTrue result ↔ (self.now ≡ []) }
+        ensures { result ≡ (length self.now == 0) }
     {
         self.text.as_slice().is_empty()
     }

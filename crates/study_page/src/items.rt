@@ -7,8 +7,8 @@ ghost use Rattle.study_notation.specs.Written.{move_text};
 ghost use Rattle.study_pgn.specs.Values.{value_text};
 ghost use Rattle.study_page.specs.Escape.{said};
 ghost use Rattle.study_page.specs.Elements.{inside};
-ghost use Rattle.study_page.specs.Rows.{hold_words, lose_words, counts_words, dual_item, mistake_item, time_words, also_words, also_item};
-ghost use Rattle.study_page.specs.Rows.{card_title, card, front_cells, told_move, refuted_item, refuted_items, try_row};
+ghost use Rattle.study_page.specs.Rows.{loses_time, lets_go, hold_words, lose_words, counts_words, dual_item, mistake_item, time_words, also_words, also_item};
+ghost use Rattle.study_page.specs.Rows.{card_title, card_words, card, front_cells, told_move, refuted_item, refuted_items, try_row};
 
 use crate::diagram::draw_mini;
 use crate::element::Element;
@@ -83,6 +83,13 @@ pub fn put_dual<'a, A: Allocator>(
     put_words(alloc, html, Element::Item, text.as_slice())
 }
 
+#[tactic(auto, unfolding(crate::specs::Rows::lets_go))]
+fn lets_go() -> &'static [u8]
+    ensures { result.now ≡ lets_go }
+{
+    b" lets the aim go: "
+}
+
 /// A mistake, with the value after it.
 #[tactic(auto, unfolding(crate::specs::Rows::mistake_item))]
 pub fn put_mistake<'a, A: Allocator>(
@@ -99,9 +106,16 @@ pub fn put_mistake<'a, A: Allocator>(
 {
     let mut text = Text::new(alloc);
     add_label(&mut text, start, depth, p, m)?;
-    text.add(b" lets the aim go: ")?;
+    text.add(lets_go())?;
     add_value(&mut text, p.to_move().other(), value)?;
     put_words(alloc, html, Element::Item, text.as_slice())
+}
+
+#[tactic(auto, unfolding(crate::specs::Rows::loses_time))]
+fn loses_time() -> &'static [u8]
+    ensures { result.now ≡ loses_time }
+{
+    b", loses time "
 }
 
 fn add_time<A: Allocator>(text: &mut Text<'_, A>, time: Option<u8>) -> Result<(), AllocError>
@@ -110,7 +124,7 @@ fn add_time<A: Allocator>(text: &mut Text<'_, A>, time: Option<u8>) -> Result<()
     match time {
         None => Ok(()),
         Some(m) => {
-            text.add(b", loses time ")?;
+            text.add(loses_time())?;
             text.add_number(m as u32)
         }
     }
@@ -216,6 +230,42 @@ fn put_after<'a, A: Allocator>(
     put_words(alloc, html, Element::Paragraph, text.as_slice())
 }
 
+/// The other moves that hold, in a list.
+fn put_others<'a, A: Allocator>(
+    alloc: &'a A,
+    html: &mut Html<'_, A>,
+    p: &Position,
+    list: &[Alternative],
+) -> Result<(), AllocError>
+    requires { All (λ x. is_legal p.now x.played ≡ true) list.now }
+    ensures { OnOk result (html.new ≡ html.old ++ inside Element.Also (flat_map (also_item p.now) list.now)) }
+{
+    let mut others = Html::new(alloc);
+    put_each_also(alloc, &mut others, p, list)?;
+    html.put(Element::Also, &others)
+}
+
+/// What stands on a card beside the diagram.
+#[tactic(auto, unfolding(crate::specs::Rows::card_words))]
+fn put_card_words<'a, A: Allocator>(
+    alloc: &'a A,
+    html: &mut Html<'_, A>,
+    start: &Start,
+    depth: usize,
+    p: &Position,
+    x: &Continuation,
+    count: u8,
+    list: &[Alternative],
+) -> Result<(), AllocError>
+    requires legal { is_legal p.now x.now.played ≡ true }
+    requires others { All (λ y. is_legal p.now y.played ≡ true) list.now }
+    ensures { OnOk result (html.new ≡ html.old ++ card_words start.now depth p.now x.now.played count x.now.value list.now) }
+{
+    put_card_title(alloc, html, start, depth, p, x.played, count)?;
+    put_after(alloc, html, p.to_move().other(), x.value)?;
+    put_others(alloc, html, p, list)
+}
+
 /// The card of a dual: the position before the move, the move with the value after it, and the others.
 #[tactic(auto, unfolding(crate::specs::Rows::card))]
 pub fn put_card<'a, A: Allocator>(
@@ -234,12 +284,8 @@ pub fn put_card<'a, A: Allocator>(
 {
     let mut card = Html::new(alloc);
     let mut beside = Html::new(alloc);
-    let mut others = Html::new(alloc);
     draw_mini(alloc, &mut card, p)?;
-    put_card_title(alloc, &mut beside, start, depth, p, x.played, count)?;
-    put_after(alloc, &mut beside, p.to_move().other(), x.value)?;
-    put_each_also(alloc, &mut others, p, list)?;
-    beside.put(Element::Also, &others)?;
+    put_card_words(alloc, &mut beside, start, depth, p, x, count, list)?;
     card.put(Element::Beside, &beside)?;
     html.put(Element::Card, &card)
 }

@@ -189,18 +189,21 @@ fn put_solution<'a, A: Allocator>(
     html.put(Element::Part, &part)
 }
 
+#[tactic(auto, unfolding(crate::specs::Page::duals_title))]
 fn duals_title() -> &'static [u8]
     ensures { result.now ≡ duals_title }
 {
     b"Duals: what else holds"
 }
 
+#[tactic(auto, unfolding(crate::specs::Page::duals_note))]
 fn duals_note() -> &'static [u8]
     ensures { result.now ≡ duals_note }
 {
     b"A move loses time n where the opponent can force a position of the same line again, by n + 1 moves of his."
 }
 
+#[tactic(auto, unfolding(crate::specs::Page::foot_words))]
 fn foot_words() -> &'static [u8]
     ensures { result.now ≡ foot_words }
 {

@@ -91,19 +91,18 @@ pub fn add_fault<'a, 'b, A: Allocator, B: Allocator, V: Values>(
     if !is_solution_move(bench, steps) {
         return Ok(());
     }
+    let first = bench.start();
     let value = value_at(bench, steps);
     match made_in(bench, steps) {
         None => Ok(()),
         Some(made) => match mark_at(bench, steps) {
-            Some(MoveMark::Dual(k)) => {
-                add_dual(alloc, html, bench.start(), &made, (value, k), values)
-            }
+            Some(MoveMark::Dual(k)) => add_dual(alloc, html, first, &made, (value, k), values),
             Some(MoveMark::Mistake) => {
                 let before = &made.before;
                 put_mistake(
                     alloc,
                     html,
-                    bench.start(),
+                    first,
                     before.depth,
                     &before.position,
                     made.played,
@@ -165,12 +164,13 @@ pub fn add_card<'a, 'b, A: Allocator, B: Allocator, V: Values>(
     ensures text { V.is_honest values.old → OnOk result (Grew (Cards (marked bench.now) steps.now) html.old html.new) }
     ensures asked { HasAsked V.held V.gives V.may_fail V.asked_of V.failed_of V.is_honest values.old result values.new }
 {
+    let first = bench.start();
     let value = value_at(bench, steps);
     match made_in(bench, steps) {
         None => Ok(()),
         Some(made) => match mark_at(bench, steps) {
             Some(MoveMark::Dual(k)) => {
-                add_dual_card(alloc, html, bench.start(), &made, (value, k), values)
+                add_dual_card(alloc, html, first, &made, (value, k), values)
             }
             _ => Ok(()),
         },

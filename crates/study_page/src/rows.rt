@@ -7,7 +7,7 @@ ghost use Rattle.study_review.specs.Play.{IsPlayed, ArePlayed};
 ghost use Rattle.study_review.specs.Words.{move_words};
 ghost use Rattle.study_page.specs.Escape.{said};
 ghost use Rattle.study_page.specs.Elements.{inside};
-ghost use Rattle.study_page.specs.Rows.{answer_words, missing_item, is_same, with_one, defence_row, is_white, number_words, play_words, keep_words, end_row};
+ghost use Rattle.study_page.specs.Rows.{answer_words, missing_item, is_same, with_one, defence_row, is_white, number_words, play_words, keep_it, keep_words, end_row};
 
 use crate::element::Element;
 use crate::html::Html;
@@ -37,7 +37,7 @@ fn add_answer<A: Allocator>(
                 return text.add(b"stalemate");
             }
             text.add_number(answers as u32)?;
-            text.add(b" moves hold")
+            text.add(b" hold")
         }
     }
 }
@@ -206,6 +206,13 @@ fn add_each_move<A: Allocator>(
     Ok(())
 }
 
+#[tactic(auto, unfolding(crate::specs::Rows::keep_it))]
+fn keep_it() -> &'static [u8]
+    ensures { result.now ≡ keep_it }
+{
+    b" moves keep it:"
+}
+
 /// The moves that keep a draw.
 #[tactic(auto, unfolding(crate::specs::Rows::keep_words))]
 pub fn add_keep<A: Allocator>(
@@ -221,7 +228,7 @@ pub fn add_keep<A: Allocator>(
     text.add_number(list.len() as u32)?;
     text.add(b" of ")?;
     text.add_number(all)?;
-    text.add(b" moves keep it:")?;
+    text.add(keep_it())?;
     add_each_move(text, p, list)
 }
 

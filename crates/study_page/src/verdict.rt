@@ -11,7 +11,7 @@ ghost use Rattle.study_pgn.specs.Pgn.{goal_text, stipulation_text};
 ghost use Rattle.study_review.specs.Review.{is_empty, none_below};
 ghost use Rattle.study_page.specs.Escape.{said};
 ghost use Rattle.study_page.specs.Elements.{inside};
-ghost use Rattle.study_page.specs.Verdict.{stamp_of, stamp_element, stamp_words, stamp_part, none_given, faults_words, holds_words, count_words, sentence, start_words, fault_list, verdict_part, judged};
+ghost use Rattle.study_page.specs.Verdict.{stamp_of, stamp_element, stamp_words, stamp_part, none_given, faults_words, holds_words, count_words, sentence, at_start, start_words, fault_list, verdict_part, judged};
 
 use crate::element::Element;
 use crate::html::Html;
@@ -26,7 +26,7 @@ use study_pgn::Text;
 use study_retro::Value;
 
 /// The verdict on a study: wrong, sound, or unsound with so many faults.
-#[derive(Clone, Copy, Debug, PartialEq, Eq)]
+#[derive(Clone, Copy)]
 pub enum Stamp {
     Wrong,
     Sound,
@@ -166,6 +166,13 @@ fn add_sentence<A: Allocator>(
     text.add(none_given(empty))
 }
 
+#[tactic(auto, unfolding(crate::specs::Verdict::at_start))]
+fn at_start() -> &'static [u8]
+    ensures { result.now ≡ at_start }
+{
+    b"At the start: "
+}
+
 /// The value of the start.
 #[tactic(auto, unfolding(crate::specs::Verdict::start_words))]
 fn add_start<A: Allocator>(
@@ -175,7 +182,7 @@ fn add_start<A: Allocator>(
 ) -> Result<(), AllocError>
     ensures { OnOk result (text.new ≡ text.old ++ start_words side value) }
 {
-    text.add(b"At the start: ")?;
+    text.add(at_start())?;
     add_value(text, side, value)?;
     text.add(b".")
 }
@@ -279,13 +286,20 @@ fn root_of<'b, B: Allocator>(bench: &Bench<'b, B>) -> Option<Mark>
     }
 }
 
+fn stamp_in<'b, B: Allocator>(bench: &Bench<'b, B>, root: &Mark) -> Stamp
+    requires { root.now ≡ (marked bench.now).tree.label }
+    ensures { result ≡ stamp_of (verdict (marked bench.now)) }
+{
+    stamp_of(&bench.stipulation(), bench.start().position.to_move(), root)
+}
+
 fn judged_at<'b, B: Allocator>(bench: &Bench<'b, B>, root: &Mark) -> Judged
     requires { root.now ≡ (marked bench.now).tree.label }
     ensures { result ≡ judged (marked bench.now) }
 {
     let first = bench.start().position.to_move();
     Judged {
-        stamp: stamp_of(&bench.stipulation(), first, root),
+        stamp: stamp_in(bench, root),
         empty: is_empty(bench),
         first,
         value: root.value,

@@ -17,7 +17,7 @@ use study_prober::Values;
 use study_review::place_in;
 
 /// A part of a page that has something of some nodes.
-#[derive(Clone, Copy, Debug, PartialEq, Eq)]
+#[derive(Clone, Copy)]
 pub enum Part {
     Faults,
     Duals,
