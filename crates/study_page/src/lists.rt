@@ -115,8 +115,23 @@ fn add_known<'b, A: Allocator, B: Allocator>(
     }
 }
 
-/// A cell with the title, which leads to the entry's page.
+/// The title, which leads to the entry's page.
 fn put_link<'a, 'b, A: Allocator, B: Allocator>(
+    alloc: &'a A,
+    html: &mut Html<'_, A>,
+    bench: &Bench<'b, B>,
+    number: u32,
+) -> Result<(), AllocError>
+    ensures { OnOk result (html.new ≡ html.old
+        ++ inside (Element.Link number) (said (title_words (tag_of (marked bench.now).tags tag.Event)))) }
+{
+    match bench.tag(TagName::Event) {
+        None => put_words(alloc, html, Element::Link(number), b"Untitled"),
+        Some(title) => put_words(alloc, html, Element::Link(number), title.as_bytes()),
+    }
+}
+
+fn put_link_cell<'a, 'b, A: Allocator, B: Allocator>(
     alloc: &'a A,
     html: &mut Html<'_, A>,
     bench: &Bench<'b, B>,
@@ -126,10 +141,7 @@ fn put_link<'a, 'b, A: Allocator, B: Allocator>(
         (inside (Element.Link number) (said (title_words (tag_of (marked bench.now).tags tag.Event))))) }
 {
     let mut within = Html::new(alloc);
-    match bench.tag(TagName::Event) {
-        None => put_words(alloc, &mut within, Element::Link(number), b"Untitled")?,
-        Some(title) => put_words(alloc, &mut within, Element::Link(number), title.as_bytes())?,
-    }
+    put_link(alloc, &mut within, bench, number)?;
     html.put(Element::Cell, &within)
 }
 
@@ -175,7 +187,7 @@ pub fn add_entry<'a, 'b, A: Allocator, B: Allocator>(
 {
     let mut row = Html::new(alloc);
     put_number(alloc, &mut row, Element::Cell, number)?;
-    put_link(alloc, &mut row, bench, number)?;
+    put_link_cell(alloc, &mut row, bench, number)?;
     put_tag(alloc, &mut row, bench, TagName::White)?;
     put_judged(alloc, &mut row, bench)?;
     rows.put(Element::Row, &row)
