@@ -63,7 +63,7 @@ quot xs h = (
   plain-amp,
   (λ e. (xs, inr (inr (inr (inl refl))))),
   letter 113 _ (omega arith) (omega arith) (letter 117 _ (omega arith) (omega arith)
-  (letter 111 _ (omega arith) (omega arith) (letter 116 _ (omega arith) (omega arith) (digit 59 _ (omega arith) (omega arith) h)))),
+      (letter 111 _ (omega arith) (omega arith) (letter 116 _ (omega arith) (omega arith) (digit 59 _ (omega arith) (omega arith) h)))),
 )
 
 apostrophe : (xs : List ℕ) → IsClean xs → IsClean (codes "&#39;" ++ xs)

@@ -1,84 +1,16 @@
-//! Why no page is written.
+//! Why nothing is written.
 
-use std::alloc::{AllocError, AllocFailed};
-use study_prober::ProbeFault;
+use std::alloc::AllocError;
 use study_tablefile::DeviceFailed;
 use thiserror::Error;
 
-/// Why the page of a study is not written, or not whole.
+/// Why a part of the pages is not written, or not whole.
 #[derive(Clone, Copy, Debug, PartialEq, Eq, Error)]
 pub enum PageFault {
     #[error("no memory is left for the text")]
     OutOfMemory,
     #[error("the device failed")]
     Device,
-    #[error("a value is not told: {0}")]
-    Values(ProbeFault),
-}
-
-/// Why the text is not made.
-#[derive(Clone, Copy)]
-pub enum NotMade {
-    OutOfMemory,
-    Untold(ProbeFault),
-}
-
-impl From<DeviceFailed> for PageFault {
-    ghost use Rattle.std.specs.Prelude.{◌≡◌};
-    ghost use Rattle.study_page.specs.declared.fault.PageFault.TheVariants.{Device};
-
-    ghost from_gives = { λ _ fault. fault ≡ Device };
-
-    fn from(_failed: DeviceFailed) -> PageFault {
-        PageFault::Device
-    }
-}
-
-impl From<NotMade> for PageFault {
-    ghost use Rattle.std.specs.Prelude.{◌≡◌};
-    ghost use Rattle.study_page.specs.Made.{fault_of};
-
-    ghost from_gives = { λ reason fault. fault ≡ fault_of reason };
-
-    fn from(reason: NotMade) -> PageFault {
-        match reason {
-            NotMade::OutOfMemory => PageFault::OutOfMemory,
-            NotMade::Untold(untold) => PageFault::Values(untold),
-        }
-    }
-}
-
-impl From<AllocError> for NotMade {
-    ghost use Rattle.std.specs.Prelude.{◌≡◌};
-    ghost use Rattle.study_page.specs.declared.fault.NotMade.TheVariants.{OutOfMemory};
-
-    ghost from_gives = { λ _ reason. reason ≡ OutOfMemory };
-
-    fn from(_error: AllocError) -> NotMade {
-        NotMade::OutOfMemory
-    }
-}
-
-impl<T: Drop> From<AllocFailed<T>> for NotMade {
-    ghost use Rattle.std.specs.Prelude.{◌≡◌};
-    ghost use Rattle.study_page.specs.declared.fault.NotMade.TheVariants.{OutOfMemory};
-
-    ghost from_gives = { λ _ reason. reason ≡ OutOfMemory };
-
-    fn from(_failed: AllocFailed<T>) -> NotMade {
-        NotMade::OutOfMemory
-    }
-}
-
-impl From<ProbeFault> for NotMade {
-    ghost use Rattle.std.specs.Prelude.{◌≡◌};
-    ghost use Rattle.study_page.specs.declared.fault.NotMade.TheVariants.{Untold};
-
-    ghost from_gives = { λ untold reason. reason ≡ Untold untold };
-
-    fn from(untold: ProbeFault) -> NotMade {
-        NotMade::Untold(untold)
-    }
 }
 
 impl From<AllocError> for PageFault {
@@ -89,5 +21,16 @@ impl From<AllocError> for PageFault {
 
     fn from(_error: AllocError) -> PageFault {
         PageFault::OutOfMemory
+    }
+}
+
+impl From<DeviceFailed> for PageFault {
+    ghost use Rattle.std.specs.Prelude.{◌≡◌};
+    ghost use Rattle.study_page.specs.declared.fault.PageFault.TheVariants.{Device};
+
+    ghost from_gives = { λ _ fault. fault ≡ Device };
+
+    fn from(_failed: DeviceFailed) -> PageFault {
+        PageFault::Device
     }
 }

@@ -2,7 +2,7 @@ use Rattle.std.proofs.Common.{sym, arith}
 use Rattle.study_marks.specs.Kept.{marked}
 use Rattle.study_marks.specs.Bench.{node_seen}
 use Rattle.study_pgn.proofs.PathWalks.{width_none, width_some}
-use Rattle.study_page.proofs.walk.count_at.Goals as goal
+use Rattle.study_page.proofs.signs.count_at.Goals as goal
 
 pub returns-in-None : goal.returns-in-None
 returns-in-None g c = sym (width_none (marked c.args.bench.now).tree c.args.steps.now (sym c.in-None.ensures))
