@@ -41,7 +41,8 @@ amp : (xs : List ℕ) → IsClean xs → IsClean (codes "&amp;" ++ xs)
 amp xs h = (
   plain-amp,
   (λ e. (xs, inl refl)),
-  letter 97 _ (omega arith) (omega arith) (letter 109 _ (omega arith) (omega arith) (letter 112 _ (omega arith) (omega arith) (digit 59 _ (omega arith) (omega arith) h))),
+  letter 97 _ (omega arith) (omega arith) 
+  (letter 109 _ (omega arith) (omega arith) (letter 112 _ (omega arith) (omega arith) (digit 59 _ (omega arith) (omega arith) h))),
 )
 
 lt : (xs : List ℕ) → IsClean xs → IsClean (codes "&lt;" ++ xs)

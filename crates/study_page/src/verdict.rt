@@ -11,7 +11,8 @@ ghost use Rattle.study_pgn.specs.Pgn.{goal_text, stipulation_text};
 ghost use Rattle.study_review.specs.Review.{is_empty, none_below};
 ghost use Rattle.study_page.specs.Escape.{said};
 ghost use Rattle.study_page.specs.Elements.{inside};
-ghost use Rattle.study_page.specs.Verdict.{stamp_of, stamp_element, stamp_words, stamp_part, none_given, faults_words, holds_words, count_words, sentence, at_start, start_words, fault_list, verdict_part, judged};
+ghost use Rattle.study_page.specs.Verdict.{stamp_of, stamp_element, stamp_words, stamp_part, none_given, faults_words};
+ghost use Rattle.study_page.specs.Verdict.{holds_words, count_words, sentence, at_start, start_words, fault_list, verdict_part, judged};
 
 use crate::element::Element;
 use crate::html::Html;
