@@ -1,0 +1,3 @@
+pub mod CleanWords
+pub mod MarkupGrows
+pub mod MadeLabel

@@ -1,0 +1,46 @@
+-- Words in HTML.
+use Rattle.std.specs.Prelude.{◌≡◌, ◌≤◌, ℕ, ◌+◌, ◌/◌, ◌%◌, ◌==◌, ◌||◌, nat_lt, List, [], ◌∷◌, ◌++◌, ◌⊎◌, if◌then◌else◌, codes}
+use Rattle.std.specs.List.{flat_map}
+
+-- 0 to 9, A to F
+abbrev pub hex_digit : ℕ → ℕ
+hex_digit d = if nat_lt d 10 then 48 + d else 55 + d
+
+-- printable ASCII as it is, and any other byte by its number: `\xE9`
+abbrev pub shown : ℕ → List ℕ
+shown b = if nat_lt b 32 || nat_lt 126 b then 92 ∷ 120 ∷ hex_digit (b / 16 % 16) ∷ hex_digit (b % 16) ∷ [] else b ∷ []
+
+-- what stands for a byte: `&`, `<`, `>` and both quotation marks are entities
+abbrev pub entity : ℕ → List ℕ
+entity b =
+    if b == 38 then codes "&amp;"
+    else (if b == 60 then codes "&lt;" else (if b == 62 then codes "&gt;"
+    else (if b == 34 then codes "&quot;" else (if b == 39 then codes "&#39;" else shown b))))
+
+unfoldable pub said : List ℕ → List ℕ
+said text = flat_map entity text
+
+-- one of the five entities stands at the front
+abbrev pub BeginsEntity : List ℕ → Type 0
+BeginsEntity text =
+    (rest : List ℕ)
+    × ((text ≡ codes "&amp;" ++ rest) ⊎ ((text ≡ codes "&lt;" ++ rest) ⊎ ((text ≡ codes "&gt;" ++ rest)
+    ⊎ ((text ≡ codes "&quot;" ++ rest) ⊎ (text ≡ codes "&#39;" ++ rest)))))
+
+-- a byte of printable ASCII that is none of `<`, `>`, `"` and `'`
+pub record IsPlainByte (b : ℕ) : Type 0 where
+  pub printed : 32 ≤ b
+  pub ascii : b ≤ 126
+  pub less : b ≡ 60 → ⊥
+  pub greater : b ≡ 62 → ⊥
+  pub quote : b ≡ 34 → ⊥
+  pub apostrophe : b ≡ 39 → ⊥
+
+-- all bytes are such, and at each `&` an entity begins
+abbrev pub IsClean : List ℕ → Type 0
+IsClean [] = Unit {0}
+IsClean (b ∷ text) = IsPlainByte b × (b ≡ 38 → BeginsEntity (b ∷ text)) × IsClean text
+
+-- whatever the words are, what is written of them is clean
+abbrev pub WordsAreClean : Type 0
+WordsAreClean = (words : List ℕ) → IsClean (said words)

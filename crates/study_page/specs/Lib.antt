@@ -1,0 +1,10 @@
+pub mod Escape
+pub mod Elements
+pub mod Drawings
+pub mod Markup
+pub mod Words
+pub mod Diagram
+pub mod Head
+pub mod Verdict
+pub mod Lists
+pub mod Frame

@@ -1,0 +1,81 @@
+-- The part of a page with the verdict.
+use Rattle.std.specs.Prelude.{ℕ, ◌==◌, Bool, true, false, List, [], ◌++◌, length, if◌then◌else◌, codes, decimal}
+use Rattle.study_board.specs.declared.men.Side.{Side}
+use Rattle.study_retro.specs.declared.value.Value.{Value}
+use Rattle.study_marks.specs.declared.mark.Mark.{Mark}
+use Rattle.study_marks.specs.Study.{Study}
+use Rattle.study_marks.specs.Goals.{aim_of}
+use Rattle.study_marks.specs.Verdict.{Verdict, wrong, sound, unsound, verdict}
+use Rattle.study_pgn.specs.Values.{value_text}
+use Rattle.study_review.specs.Review.{is_empty}
+use Rattle.study_page.specs.declared.element.Element.{Element}
+use Rattle.study_page.specs.declared.element.Element.TheVariants as element
+use Rattle.study_page.specs.declared.verdict.Stamp.{Stamp}
+use Rattle.study_page.specs.declared.verdict.Stamp.TheVariants.{Wrong, Sound, Unsound}
+use Rattle.study_page.specs.declared.verdict.Judged.{Judged}
+use Rattle.study_page.specs.Escape.{said}
+use Rattle.study_page.specs.Elements.{inside}
+
+abbrev pub stamp_of : Verdict → Stamp
+stamp_of wrong = Wrong
+stamp_of sound = Sound
+stamp_of (unsound n) = Unsound n
+
+abbrev pub stamp_element : Stamp → Element
+stamp_element Wrong = element.Wrong
+stamp_element Sound = element.Sound
+stamp_element (Unsound n) = element.Unsound
+
+-- `sound`, `unsound 3`, `wrong`
+abbrev pub stamp_words : Stamp → List ℕ
+stamp_words Wrong = codes "wrong"
+stamp_words Sound = codes "sound"
+stamp_words (Unsound n) = codes "unsound " ++ decimal n
+
+unfoldable pub stamp_part : Stamp → List ℕ
+stamp_part v = inside element.Heading (inside (stamp_element v) (said (stamp_words v)))
+
+abbrev pub holds_words : Bool → Stamp → List ℕ
+holds_words e Wrong = codes "The stipulation does not hold."
+holds_words e Sound =
+    if e then codes "The stipulation holds." else codes "The stipulation holds, and each move of the solution is the only one."
+holds_words e (Unsound n) = codes "The stipulation holds; the solution has "
+
+abbrev pub faults_words : ℕ → List ℕ
+faults_words n = if n == 1 then codes "one fault." else (decimal n ++ codes " faults.")
+
+abbrev pub count_words : Stamp → List ℕ
+count_words Wrong = []
+count_words Sound = []
+count_words (Unsound n) = faults_words n
+
+-- where the solution has no move of the hero
+abbrev pub none_given : Bool → List ℕ
+none_given e = if e then codes " No move of the solution was given." else []
+
+unfoldable pub sentence : Bool → Stamp → List ℕ
+sentence e v = holds_words e v ++ (count_words v ++ none_given e)
+
+unfoldable pub at_start : List ℕ
+at_start = codes "At the start: "
+
+unfoldable pub start_words : Side → Value → List ℕ
+start_words side v = at_start ++ (value_text side v ++ codes ".")
+
+abbrev pub fault_list : List ℕ → List ℕ
+fault_list items = if length items == 0 then [] else inside element.Faults items
+
+-- the stamp, what it says, the value of the start, and these faults
+unfoldable pub verdict_part : Judged → List ℕ → List ℕ
+verdict_part j faults =
+    inside element.Verdict (stamp_part j.stamp ++ (inside element.Paragraph (said (sentence j.empty j.stamp))
+    ++ (inside element.Paragraph (said (start_words j.first j.value)) ++ fault_list faults)))
+
+-- what a judge reads of a study
+abbrev pub judged : Study Mark → Judged
+judged s = record {
+  stamp = stamp_of (verdict s);
+  empty = is_empty (aim_of s).hero_first s.tree.below;
+  first = s.start.position.to_move;
+  value = s.tree.label.value;
+}

@@ -1,0 +1,226 @@
+//! The list of refused lines, and the list of all entries.
+ghost use Rattle.std.specs.Prelude.{◌≡◌, ◌++◌, OnOk, IfOk, Err, decimal};
+ghost use Rattle.std.specs.Io.KnownBytes.{Appends};
+ghost use Rattle.study_tablefile.specs.Taken.{TakesPrefix};
+ghost use Rattle.study_marks.specs.Kept.{marked};
+ghost use Rattle.study_marks.specs.Study.{tag_of};
+ghost use Rattle.study_marks.specs.declared.tag.TagName.TheVariants as tag;
+ghost use Rattle.study_pgn.specs.Pgn.{stipulation_text};
+ghost use Rattle.study_page.specs.Elements.{inside};
+ghost use Rattle.study_page.specs.Escape.{said};
+ghost use Rattle.study_page.specs.Head.{title_words};
+ghost use Rattle.study_page.specs.Verdict.{stamp_words, judged};
+ghost use Rattle.study_page.specs.Lists.{refusal_row, refusals_part, known_words, summary_row, summary_part};
+
+use crate::element::Element;
+use crate::fault::PageFault;
+use crate::html::Html;
+use crate::items::put_words;
+use crate::verdict::{add_stamp_words, add_stipulation, judge};
+use std::alloc::{AllocError, Allocator};
+use std::io::Write;
+use study_marks::{Bench, TagName};
+use study_pgn::Text;
+use study_tablefile::put;
+
+fn put_code<'a, A: Allocator>(
+    alloc: &'a A,
+    html: &mut Html<'_, A>,
+    words: &[u8],
+) -> Result<(), AllocError>
+    ensures { OnOk result (html.new ≡ html.old ++ inside Element.Cell (inside Element.Code (said words.now))) }
+{
+    let mut within = Html::new(alloc);
+    put_words(alloc, &mut within, Element::Code, words)?;
+    html.put(Element::Cell, &within)
+}
+
+fn put_number<'a, A: Allocator>(
+    alloc: &'a A,
+    html: &mut Html<'_, A>,
+    element: Element,
+    number: u32,
+) -> Result<(), AllocError>
+    ensures { OnOk result (html.new ≡ html.old ++ inside element (said (decimal number))) }
+{
+    let mut text = Text::new(alloc);
+    text.add_number(number)?;
+    put_words(alloc, html, element, text.as_slice())
+}
+
+/// Adds a line of a script that was refused: its number, its text, the name of the refusal, and the reason in words.
+#[tactic(auto, unfolding(crate::specs::Lists::refusal_row))]
+pub fn add_refusal<'a, A: Allocator>(
+    alloc: &'a A,
+    rows: &mut Html<'_, A>,
+    line: u32,
+    text: &[u8],
+    name: &[u8],
+    reason: &[u8],
+) -> Result<(), AllocError>
+    ensures { OnOk result (rows.new ≡ rows.old ++ refusal_row line text.now name.now reason.now) }
+{
+    let mut row = Html::new(alloc);
+    put_number(alloc, &mut row, Element::Cell, line)?;
+    put_code(alloc, &mut row, text)?;
+    put_code(alloc, &mut row, name)?;
+    put_words(alloc, &mut row, Element::Cell, reason)?;
+    rows.put(Element::Row, &row)
+}
+
+/// The part with these refused lines.
+#[tactic(auto, unfolding(crate::specs::Lists::refusals_part))]
+fn refusals_of<'a, A: Allocator>(
+    alloc: &'a A,
+    rows: &Html<'_, A>,
+) -> Result<Html<'a, A>, AllocError>
+    ensures { IfOk result (λ html. html ≡ refusals_part rows.now) }
+{
+    let mut html = Html::new(alloc);
+    let mut part = Html::new(alloc);
+    let mut table = Html::new(alloc);
+    put_words(alloc, &mut part, Element::Heading, b"Refused lines")?;
+    table.put(Element::Rows, rows)?;
+    part.put(Element::Table, &table)?;
+    html.put(Element::Kept, &part)?;
+    Ok(html)
+}
+
+/// Writes the part with these refused lines.
+pub fn write_refusals<'a, A: Allocator, W: Write>(
+    alloc: &'a A,
+    rows: &Html<'_, A>,
+    out: &mut W,
+) -> Result<(), PageFault>
+    ensures ok { OnOk result (Appends (W.contents out.old) (W.contents out.new) (refusals_part rows.now)) }
+    ensures device { result ≡ Err PageFault.Device → TakesPrefix (W.contents out.old) (W.contents out.new) (refusals_part rows.now) }
+    ensures memory { result ≡ Err PageFault.OutOfMemory → out.new ≡ out.old }
+{
+    let html = refusals_of(alloc, rows)?;
+    put(out, html.as_slice())?;
+    Ok(())
+}
+
+/// The words of a tag, none where it is not known.
+fn add_known<'b, A: Allocator, B: Allocator>(
+    text: &mut Text<'_, A>,
+    bench: &Bench<'b, B>,
+    name: TagName,
+) -> Result<(), AllocError>
+    ensures { OnOk result (text.new ≡ text.old ++ known_words (tag_of (marked bench.now).tags name)) }
+{
+    match bench.tag(name) {
+        None => Ok(()),
+        Some(words) => text.add(words.as_bytes()),
+    }
+}
+
+/// The title, which leads to the entry's page.
+fn put_link<'a, 'b, A: Allocator, B: Allocator>(
+    alloc: &'a A,
+    html: &mut Html<'_, A>,
+    bench: &Bench<'b, B>,
+    number: u32,
+) -> Result<(), AllocError>
+    ensures { OnOk result (html.new ≡ html.old
+        ++ inside (Element.Link number) (said (title_words (tag_of (marked bench.now).tags tag.Event)))) }
+{
+    match bench.tag(TagName::Event) {
+        None => put_words(alloc, html, Element::Link(number), b"Untitled"),
+        Some(title) => put_words(alloc, html, Element::Link(number), title.as_bytes()),
+    }
+}
+
+fn put_link_cell<'a, 'b, A: Allocator, B: Allocator>(
+    alloc: &'a A,
+    html: &mut Html<'_, A>,
+    bench: &Bench<'b, B>,
+    number: u32,
+) -> Result<(), AllocError>
+    ensures { OnOk result (html.new ≡ html.old ++ inside Element.Cell
+        (inside (Element.Link number) (said (title_words (tag_of (marked bench.now).tags tag.Event))))) }
+{
+    let mut within = Html::new(alloc);
+    put_link(alloc, &mut within, bench, number)?;
+    html.put(Element::Cell, &within)
+}
+
+fn put_tag<'a, 'b, A: Allocator, B: Allocator>(
+    alloc: &'a A,
+    html: &mut Html<'_, A>,
+    bench: &Bench<'b, B>,
+    name: TagName,
+) -> Result<(), AllocError>
+    ensures { OnOk result (html.new ≡ html.old ++ inside Element.Cell (said (known_words (tag_of (marked bench.now).tags name)))) }
+{
+    let mut text = Text::new(alloc);
+    add_known(&mut text, bench, name)?;
+    put_words(alloc, html, Element::Cell, text.as_slice())
+}
+
+/// The cells with what is asked for and the verdict.
+fn put_judged<'a, 'b, A: Allocator, B: Allocator>(
+    alloc: &'a A,
+    html: &mut Html<'_, A>,
+    bench: &Bench<'b, B>,
+) -> Result<(), AllocError>
+    ensures { OnOk result (html.new ≡ html.old ++ (inside Element.Cell (said (stipulation_text (marked bench.now).stipulation))
+        ++ inside Element.Cell (said (stamp_words (judged (marked bench.now)).stamp)))) }
+{
+    let mut stipulation = Text::new(alloc);
+    let mut verdict = Text::new(alloc);
+    add_stipulation(&mut stipulation, bench.stipulation())?;
+    put_words(alloc, html, Element::Cell, stipulation.as_slice())?;
+    add_stamp_words(&mut verdict, judge(bench).stamp)?;
+    put_words(alloc, html, Element::Cell, verdict.as_slice())
+}
+
+/// Adds a row for the entry of this number: its number, its title, its author, what is asked for and the verdict.
+#[tactic(auto, unfolding(crate::specs::Lists::summary_row))]
+pub fn add_entry<'a, 'b, A: Allocator, B: Allocator>(
+    alloc: &'a A,
+    rows: &mut Html<'_, A>,
+    bench: &Bench<'b, B>,
+    number: u32,
+) -> Result<(), AllocError>
+    ensures { OnOk result (rows.new ≡ rows.old ++ summary_row (marked bench.now) number) }
+{
+    let mut row = Html::new(alloc);
+    put_number(alloc, &mut row, Element::Cell, number)?;
+    put_link_cell(alloc, &mut row, bench, number)?;
+    put_tag(alloc, &mut row, bench, TagName::White)?;
+    put_judged(alloc, &mut row, bench)?;
+    rows.put(Element::Row, &row)
+}
+
+/// The page with these entries.
+#[tactic(auto, unfolding(crate::specs::Lists::summary_part))]
+fn summary_of<'a, A: Allocator>(alloc: &'a A, rows: &Html<'_, A>) -> Result<Html<'a, A>, AllocError>
+    ensures { IfOk result (λ html. html ≡ summary_part rows.now) }
+{
+    let mut html = Html::new(alloc);
+    let mut head = Html::new(alloc);
+    let mut part = Html::new(alloc);
+    let mut table = Html::new(alloc);
+    put_words(alloc, &mut head, Element::Title, b"Entries and verdicts")?;
+    part.put(Element::Header, &head)?;
+    table.put(Element::Rows, rows)?;
+    part.put(Element::Table, &table)?;
+    html.put(Element::Summary, &part)?;
+    Ok(html)
+}
+
+/// Writes the page with these entries.
+pub fn write_summary<'a, A: Allocator, W: Write>(
+    alloc: &'a A,
+    rows: &Html<'_, A>,
+    out: &mut W,
+) -> Result<(), PageFault>
+    ensures ok { OnOk result (Appends (W.contents out.old) (W.contents out.new) (summary_part rows.now)) }
+    ensures device { result ≡ Err PageFault.Device → TakesPrefix (W.contents out.old) (W.contents out.new) (summary_part rows.now) }
+    ensures memory { result ≡ Err PageFault.OutOfMemory → out.new ≡ out.old }
+{
+    let html = summary_of(alloc, rows)?;
+    put(out, html.as_slice())?;
+    Ok(())
+}
