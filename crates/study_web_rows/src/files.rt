@@ -61,7 +61,9 @@ fn files_are_refused(rt: HostRuntime) -> Result<(), Fail> {
     let other = make_file(&alloc, Class::KQKQ, &wrong, kings.as_slice()).err();
     assert!(rt; other == Some(MakeFault::OtherClass(Class::KQK, Class::KK)));
     let right = [span(Class::KK, 0, kings.as_slice())];
-    kings[100] = 1;
+    if let Some(byte) = kings.as_mut_slice().get_mut(100) {
+        *byte = 1;
+    }
     let damaged = make_file(&alloc, Class::KRK, &right, kings.as_slice()).err();
     assert!(rt; damaged == Some(MakeFault::File(Class::KK, FileFault::PageDamaged(0))));
     Ok(())

@@ -40,8 +40,16 @@ fn two_files<'a, A: Allocator>(alloc: &'a A) -> Result<(Vec<u8, &'a A>, [Span; 2
 fn whole_and_by_pages(rt: HostRuntime) -> Result<(), Fail> {
     let alloc = rt.alloc();
     let (bytes, spans) = two_files(&alloc)?;
+    let saved = none_saved(&alloc)?;
     for pages in [None, Some(1), Some(4096)] {
-        let ended = replies_over(&alloc, LOADS, &spans, bytes.as_slice(), &[], pages);
+        let ended = replies_over(
+            &alloc,
+            LOADS,
+            &spans,
+            bytes.as_slice(),
+            saved.as_slice(),
+            pages,
+        );
         assert!(rt; ended.replies.as_slice() == REPLIES);
     }
     Ok(())
@@ -58,7 +66,8 @@ fn saves_are_given_back(rt: HostRuntime) -> Result<(), Fail> {
         ended.replies.as_slice() == b"built KK cells 1280 win -\nsaved KK bytes 4192\n".as_slice()
     );
     let made = make_file(&alloc, Class::KK, &[], &[])?;
-    let file = saved[0].try_borrow()?;
+    let cell = saved.as_slice().first().ok_or("no cell")?;
+    let file = cell.try_borrow()?;
     match &*file {
         None => Err(Fail::from("nothing was saved")),
         Some(bytes) => {
