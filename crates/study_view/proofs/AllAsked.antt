@@ -38,7 +38,7 @@ same-faults n (Err (probe.TableRead f)) = refl
 same-faults n (Err (probe.PageDamaged c k)) = refl
 
 -- the reason of a refusal that is handed on
-pub refused-so : {T : Type 0} (r : Result T ViewFault) (x y : ViewFault) → IsErrAnd r (λ z. z ≡ x) → r ≡ Err y → x ≡ y
+pub refused-so : {T E : Type 0} (r : Result T E) (x y : E) → IsErrAnd r (λ z. z ≡ x) → r ≡ Err y → x ≡ y
 refused-so (Ok t) x y is e = absurd is
 refused-so (Err z) x y is e = let same : z ≡ y = cc in sym is ∙ same
 

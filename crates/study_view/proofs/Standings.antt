@@ -10,7 +10,13 @@ use Rattle.study_marks.specs.declared.stipulation.Stipulation.{Stipulation}
 use Rattle.study_view.specs.declared.squares.Standing.{Standing}
 use Rattle.study_view.specs.declared.squares.Standing.TheVariants.{Impossible}
 use Rattle.study_view.specs.declared.squares.Stood.{Stood}
-use Rattle.study_view.specs.Survey.{stood, stood_fault, squares_but, IsStanding, IsTold, AreStandings}
+use Rattle.std.specs.List.{All}
+use Rattle.study_moves.specs.Rules.{is_legal}
+use Rattle.study_retro.specs.declared.value.Value.{Value}
+use Rattle.study_review.specs.declared.continuation.Continuation.{Continuation}
+use Rattle.study_review.proofs.Chosen.{all-first}
+use Rattle.study_view.specs.Shown.{IsPlayedIn}
+use Rattle.study_view.specs.Survey.{by_moves, stood, stood_fault, squares_but, IsStanding, IsTold, AreStandings}
 
 range-step : (n : ℕ) → n < 64 → range_with_len n (64 - n) ≡ n ∷ range_with_len (n + 1) (64 - (n + 1))
 range-step n lt =
@@ -59,16 +65,8 @@ adds-one p from n st s old mid new (Ok x) lt e told m h =
     )
 adds-one p from n st s old mid new (Err x) lt e told m h = tt
 
--- what is told of a square, where the man can stand there
-pub stands : (p q : Position) (from x : ℕ) (st : Stipulation) (s : Standing) → stood_fault p from x ≡ None → q ≡ stood p from x → IsTold st q s
-    → IsStanding p from st x s
-stands p q from x st s none e h =
-    subst (λ (o : Option PositionFault). MatchOption o (IsTold st (stood p from x) s) (λ fault. s ≡ Impossible)) (sym none)
-    (subst (λ (r : Position). IsTold st r s) e h)
-
-pub stands-not : (p : Position) (from x : ℕ) (st : Stipulation) → IsSome (stood_fault p from x) → IsStanding p from st x Impossible
-stands-not p from x st h = go (stood_fault p from x) h
-  where
-    go : (o : Option PositionFault) → IsSome o → MatchOption o (IsTold st (stood p from x) Impossible) (λ fault. Impossible ≡ Impossible)
-    go None h = absurd h
-    go (Some f) h = refl
+-- the one move that holds is legal
+pub by-legal : (q : Position) (v : Value) (list : List Continuation) → All (λ x. is_legal q x.played ≡ true) list → IsPlayedIn q (by_moves v list)
+by-legal q v [] h = tt
+by-legal q v (x ∷ []) h = all-first (λ (y : Continuation). is_legal q y.played ≡ true) x (x ∷ []) [] refl h
+by-legal q v (x ∷ y ∷ l) h = tt

@@ -174,15 +174,20 @@ fn standing_at<V: Values>(
 }
 
 /// Puts one more square last.
-fn push_stood(question: &Question<'_>, x: Stood, list: &mut ArrayVec<Stood, 64>)
+fn push_stood(
+    question: &Question<'_>,
+    at: Square,
+    standing: Standing,
+    list: &mut ArrayVec<Stood, 64>,
+)
     requires room { array_vec_len list.old < 64 }
-    requires shown { IsShown question.now.position.now question.now.square x }
+    requires shown { IsShown question.now.position.now question.now.square (record { at = at; standing = standing }) }
     requires listed { All (IsShown question.now.position.now question.now.square) list.old.items }
-    ensures items { list.new.items ≡ list.old.items ++ x ∷ [] }
+    ensures items { list.new.items ≡ list.old.items ++ (record { at = at; standing = standing }) ∷ [] }
     ensures len { array_vec_len list.new ≡ array_vec_len list.old + 1 }
     ensures listed { All (IsShown question.now.position.now question.now.square) list.new.items }
 {
-    list.push(x);
+    list.push(Stood { at, standing });
 }
 
 /// Adds what is told of the squares from this number on, but for the man's own.
@@ -211,7 +216,7 @@ fn stand_from<V: Values>(
     match standing_at(question, x, values) {
         Err(fault) => Err(fault),
         Ok(standing) => {
-            push_stood(question, Stood { at: x, standing }, list);
+            push_stood(question, x, standing, list);
             stand_from(question, number + 1, values, list)
         }
     }

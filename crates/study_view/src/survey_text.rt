@@ -1,5 +1,5 @@
 //! The survey of a man, and its way to a writer.
-ghost use Rattle.std.specs.Prelude.{◌≡◌, ◌++◌, ◌↔◌, List, ℕ, true, None, OnOk, IfOk, Ok, Err};
+ghost use Rattle.std.specs.Prelude.{◌≡◌, ◌++◌, ◌↔◌, List, ℕ, true, None, OnOk, IfOk, Ok, Err, codes, decimal};
 ghost use Rattle.std.specs.List.{All, flat_map};
 ghost use Rattle.std.specs.Io.KnownBytes.{Appends};
 ghost use Rattle.study_board.specs.Position.{man_at};
@@ -7,7 +7,6 @@ ghost use Rattle.study_moves.specs.Rules.{is_legal};
 ghost use Rattle.study_prober.specs.declared.values.ProbeFault.{ProbeFault as AProbeFault};
 ghost use Rattle.study_pgn.specs.Values.{side_name};
 ghost use Rattle.study_reply.specs.Words.{value_words};
-ghost use Rattle.study_board.specs.Position.{Position as APosition};
 ghost use Rattle.study_tablefile.specs.Taken.{TakesPrefix};
 ghost use Rattle.study_pgn.specs.Pgn.{goal_text, stipulation_text};
 ghost use Rattle.study_view.specs.Asked.{HasSurveyed};
@@ -98,7 +97,7 @@ fn add_many<A: Allocator>(
     value: Value,
     count: u16,
 ) -> Result<(), AllocError>
-    ensures { (q : APosition) → OnOk result (text.new ≡ text.old ++ standing_words q (Standing.HoldsBy value count)) }
+    ensures { OnOk result (text.new ≡ text.old ++ (codes "holds " ++ (value_words value ++ (codes " " ++ decimal count)))) }
 {
     text.add(b"holds ")?;
     add_value(text, value)?;
@@ -195,6 +194,7 @@ fn survey_text<'a, A: Allocator, V: Values>(
     ensures text { V.is_honest values.old → IfOk result
         (IsSurvey question.now.position.now question.now.square question.now.stipulation.now) }
     ensures no_man { (result ≡ Err SurveyFault.NoMan) ↔ (man_at question.now.position.now.men question.now.square ≡ None) }
+    ensures device { ¬ (result ≡ Err SurveyFault.Device) }
     ensures asked { HasSurveyed V.held V.gives V.may_fail V.asked_of V.failed_of V.is_honest values.old result values.new }
 {
     match question.position.man_at(question.square) {
