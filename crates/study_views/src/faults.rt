@@ -34,15 +34,29 @@ fn values_fail(rt: HostRuntime) -> Result<(), Fail> {
         let next = values.asked().saturating_add(k);
         values.fails_at = Some(next);
         let mut out = MemoryWriter::new(&alloc);
-        assert!(rt; write_view(&alloc, &bench, &path, &mut values, &mut out) == Err(ViewFault::Values(device)), "{k}");
-        assert!(rt; values.asked() == next.saturating_add(1) && out.taken.is_empty(), "{k}");
+        assert!(rt;
+            write_view(&alloc, &bench, &path, &mut values, &mut out)
+                == Err(ViewFault::Values(device)),
+            "{k}"
+        );
+        assert!(rt;
+            values.asked() == next.saturating_add(1) && out.taken.is_empty(),
+            "{k}"
+        );
     }
     for k in 0..100u64 {
         let next = values.asked().saturating_add(k);
         values.fails_at = Some(next);
         let mut out = MemoryWriter::new(&alloc);
-        assert!(rt; write_survey(&alloc, &question, &mut values, &mut out) == Err(SurveyFault::Values(device)), "{k}");
-        assert!(rt; values.asked() == next.saturating_add(1) && out.taken.is_empty(), "{k}");
+        assert!(rt;
+            write_survey(&alloc, &question, &mut values, &mut out)
+                == Err(SurveyFault::Values(device)),
+            "{k}"
+        );
+        assert!(rt;
+            values.asked() == next.saturating_add(1) && out.taken.is_empty(),
+            "{k}"
+        );
     }
     assert!(rt; values.failures() == 119);
     Ok(())
@@ -69,7 +83,10 @@ fn memory_is_refused(rt: HostRuntime) -> Result<(), Fail> {
         match write_view(&heap, &bench, &path, &mut values, &mut out) {
             Ok(_) => written[0] = written[0].saturating_add(1),
             Err(fault) => {
-                assert!(rt; fault == ViewFault::OutOfMemory && out.taken.is_empty(), "{step}");
+                assert!(rt;
+                    fault == ViewFault::OutOfMemory && out.taken.is_empty(),
+                    "{step}"
+                );
                 refused[0] = refused[0].saturating_add(1);
             }
         }
@@ -77,7 +94,10 @@ fn memory_is_refused(rt: HostRuntime) -> Result<(), Fail> {
         match write_survey(&heap, &question, &mut values, &mut out) {
             Ok(_) => written[1] = written[1].saturating_add(1),
             Err(fault) => {
-                assert!(rt; fault == SurveyFault::OutOfMemory && out.taken.is_empty(), "{step}");
+                assert!(rt;
+                    fault == SurveyFault::OutOfMemory && out.taken.is_empty(),
+                    "{step}"
+                );
                 refused[1] = refused[1].saturating_add(1);
             }
         }

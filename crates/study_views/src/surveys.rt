@@ -295,12 +295,24 @@ h8 holds draw 3
 #[test]
 fn surveys_are_those_of_another_program(rt: HostRuntime) -> Result<(), Fail> {
     let alloc = rt.alloc();
-    let classes = [Class::KK, Class::KQK, Class::KRK, Class::KBK, Class::KNK, Class::KPK];
+    let classes = [
+        Class::KK,
+        Class::KQK,
+        Class::KRK,
+        Class::KBK,
+        Class::KNK,
+        Class::KPK,
+    ];
     let mut values = tables(&alloc, &classes)?;
     let cases = [
         ("8/8/8/6k1/8/8/1P5K/8 w - - 0 1", 15, WHITE_WINS, PAWN_KING),
         ("8/8/8/6k1/8/8/1P5K/8 b - - 0 1", 38, BLACK_DRAWS, LONE_KING),
-        ("k7/8/1K6/8/8/8/8/7R w - - 0 1", 7, white_mates(1)?, ROOK_MATES),
+        (
+            "k7/8/1K6/8/8/8/8/7R w - - 0 1",
+            7,
+            white_mates(1)?,
+            ROOK_MATES,
+        ),
         ("k7/8/8/8/8/8/8/K7 w - - 0 1", 0, WHITE_DRAWS, KINGS_ALONE),
     ];
     for (fen, square, stipulation, text) in cases {
@@ -311,7 +323,10 @@ fn surveys_are_those_of_another_program(rt: HostRuntime) -> Result<(), Fail> {
             stipulation: &stipulation,
         };
         let mut out = MemoryWriter::new(&alloc);
-        assert!(rt; write_survey(&alloc, &question, &mut values, &mut out).is_ok(), "{fen}");
+        assert!(rt;
+            write_survey(&alloc, &question, &mut values, &mut out).is_ok(),
+            "{fen}"
+        );
         assert!(rt; out.taken.as_slice() == text.as_bytes(), "{fen}");
     }
     let p = position("k7/8/8/8/8/8/8/K7 w - - 0 1")?;

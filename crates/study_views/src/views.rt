@@ -199,13 +199,11 @@ node 3 Qd5 d7d5 loss 10 mistake faults 1 1k2K3/8/8/3Q4/8/8/8/8 b - - 1 1
 node 3.0 Kc7 b8c7 win 9 reply faults 0 4K3/2k5/8/3Q4/8/8/8/8 w - - 2 2
 "#;
 
-const KQK_KING_WALKS_BEHIND_VIEWS: &[(&[u16], &str)] = &[
-    (
-        &[1, 0, 0],
-        r#"at 1.0.0 stalemate
+const KQK_KING_WALKS_BEHIND_VIEWS: &[(&[u16], &str)] = &[(
+    &[1, 0, 0],
+    r#"at 1.0.0 stalemate
 "#,
-    ),
-];
+)];
 
 /// Whether the view at each of the paths is its text.
 fn are_written<'a, V: Values>(
@@ -233,20 +231,65 @@ fn are_written<'a, V: Values>(
 #[test]
 fn views_are_those_of_another_program(rt: HostRuntime) -> Result<(), Fail> {
     let alloc = rt.alloc();
-    let classes = [Class::KK, Class::KQK, Class::KRK, Class::KBK, Class::KNK, Class::KPK];
+    let classes = [
+        Class::KK,
+        Class::KQK,
+        Class::KRK,
+        Class::KBK,
+        Class::KNK,
+        Class::KPK,
+    ];
     let mut values = tables(&alloc, &classes)?;
     let fen = "k7/1R6/8/K7/8/8/8/8 w - - 0 1";
     let bench = study(&alloc, fen, white_mates(3)?, KRK_WAITING_MOVES, &mut values)?;
-    assert!(rt; are_written(&alloc, &bench, KRK_WAITING_NODES, KRK_WAITING_VIEWS, &mut values)?);
+    assert!(rt;
+        are_written(
+            &alloc,
+            &bench,
+            KRK_WAITING_NODES,
+            KRK_WAITING_VIEWS,
+            &mut values
+        )?
+    );
     let mut out = MemoryWriter::new(&alloc);
     let gone = path_of(&alloc, &[3])?;
-    assert!(rt; write_view(&alloc, &bench, &gone, &mut values, &mut out) == Err(ViewFault::NoSuchNode));
+    assert!(rt;
+        write_view(&alloc, &bench, &gone, &mut values, &mut out) == Err(ViewFault::NoSuchNode)
+    );
     assert!(rt; out.taken.is_empty());
     let fen = "8/k1P5/2K5/8/8/8/8/8 w - - 0 1";
-    let bench = study(&alloc, fen, white_mates(2)?, KPK_ROOK_NOT_QUEEN_MOVES, &mut values)?;
-    assert!(rt; are_written(&alloc, &bench, KPK_ROOK_NOT_QUEEN_NODES, KPK_ROOK_NOT_QUEEN_VIEWS, &mut values)?);
+    let bench = study(
+        &alloc,
+        fen,
+        white_mates(2)?,
+        KPK_ROOK_NOT_QUEEN_MOVES,
+        &mut values,
+    )?;
+    assert!(rt;
+        are_written(
+            &alloc,
+            &bench,
+            KPK_ROOK_NOT_QUEEN_NODES,
+            KPK_ROOK_NOT_QUEEN_VIEWS,
+            &mut values
+        )?
+    );
     let fen = "1k2K3/3Q4/8/8/8/8/8/8 w - - 0 1";
-    let bench = study(&alloc, fen, white_mates(3)?, KQK_KING_WALKS_BEHIND_MOVES, &mut values)?;
-    assert!(rt; are_written(&alloc, &bench, KQK_KING_WALKS_BEHIND_NODES, KQK_KING_WALKS_BEHIND_VIEWS, &mut values)?);
+    let bench = study(
+        &alloc,
+        fen,
+        white_mates(3)?,
+        KQK_KING_WALKS_BEHIND_MOVES,
+        &mut values,
+    )?;
+    assert!(rt;
+        are_written(
+            &alloc,
+            &bench,
+            KQK_KING_WALKS_BEHIND_NODES,
+            KQK_KING_WALKS_BEHIND_VIEWS,
+            &mut values
+        )?
+    );
     Ok(())
 }
