@@ -3,62 +3,56 @@
 
     tools/review_speed.py DIR [NAME..]
 
-DIR has the files of the tables, as tools/all_tables.sh makes them. Each `pgn` line of a script is repeated, and the processor time
-with one of each is taken off; the plain program takes the least of so many goes. What is printed: milliseconds for all reviews
-of a script, by pages in the product and over whole tables in the plain program, and their ratio."""
+DIR has the files of the tables, as tools/all_tables.sh makes them. Both programs hold them whole, follow the same scripts, and review
+each study some 200 times. What is printed for each script: milliseconds of the fastest review of its studies, added up, in ours and
+in plain Rust, and their ratio. Studies whose tables are not in DIR are passed over."""
 import os
-import resource
 import subprocess
 import sys
 import tempfile
 
 TOP = os.path.dirname(os.path.dirname(os.path.abspath(__file__)))
 GALLERY = os.path.join(TOP, 'crates/gallery/data')
-PROGRAM = os.path.join(TOP, 'crates/studyreport/out/studyreport')
-GOES = 100
+PROGRAM = os.path.join(TOP, 'crates/study_speed/out/study_speed')
+TABLE_COMMANDS = ('build', 'load', 'save', 'verify')
+GOES = 200
 
 
-def user_seconds(command, text):
-    before = resource.getrusage(resource.RUSAGE_CHILDREN).ru_utime
-    done = subprocess.run(command, input=text.encode(), capture_output=True)
-    if done.returncode > 1:
-        sys.exit(f'{command[0]} ended with {done.returncode}: {done.stderr.decode()}')
-    return resource.getrusage(resource.RUSAGE_CHILDREN).ru_utime - before, done
+def read_script(name):
+    with open(os.path.join(GALLERY, name + '.script'), encoding='ascii') as file:
+        return [line for line in file.read().split('\n') if line and line.split()[0] not in TABLE_COMMANDS]
 
 
-def repeated(script, count):
-    return '\n'.join('\n'.join(['pgn'] * count) if line == 'pgn' else line for line in script.split('\n'))
+def loads(folder):
+    """The `load` lines of the tables that are there, each after those that it leads to."""
+    with open(os.path.join(GALLERY, 'load_all.script'), encoding='ascii') as file:
+        lines = [line.split() for line in file if line.startswith('load ')]
+    return [f'load {name}' for _, name in lines if os.path.exists(os.path.join(folder, name + '.dtm'))]
 
 
-def ours(script, folder):
-    command = [PROGRAM, '--tables', folder, '--pages', '4096', '--lines']
-    once, done = min((user_seconds(command, script) for _ in range(3)), key=lambda x: x[0])
-    often = min(user_seconds(command, repeated(script, GOES + 1))[0] for _ in range(3))
-    lines = [line for line in done.stdout.decode().split('\n') if not line.startswith('refused ')]
-    return (often - once) / GOES * 1e3, lines
-
-
-def plain(program, script, folder):
-    done = subprocess.run([program, folder, str(GOES)], input=script.encode(), capture_output=True, check=True)
-    times = [int(line.split()[1]) for line in done.stderr.decode().split('\n') if line]
-    return sum(times) / 1e6, done.stdout.decode().split('\n')
+def reviews(command, lines):
+    """What a program writes for a script, and the nanoseconds of each study."""
+    done = subprocess.run(command, input='\n'.join(lines) + '\n', capture_output=True, text=True, check=True)
+    return done.stdout, [int(line.split()[1]) for line in done.stderr.split('\n') if line]
 
 
 def main():
     folder, *names = sys.argv[1:] or sys.exit(__doc__)
-    names = names or sorted(name[:-7] for name in os.listdir(GALLERY) if name.endswith('.script'))
+    names = names or sorted(name[:-7] for name in os.listdir(GALLERY) if name.endswith('.script') and name != 'load_all.script')
+    tables = loads(folder)
     with tempfile.TemporaryDirectory() as work:
-        program = os.path.join(work, 'reviews')
+        plain = os.path.join(work, 'reviews')
         subprocess.run(['rustc', '--edition', '2024', '-C', 'opt-level=3', '-C', 'target-cpu=x86-64-v2', '-C', 'panic=abort',
-                        os.path.join(TOP, 'tools/speed/reviews.rs'), '-o', program], check=True, stderr=subprocess.DEVNULL)
+                        os.path.join(TOP, 'tools/speed/reviews.rs'), '-o', plain], check=True, stderr=subprocess.DEVNULL)
         for name in names:
-            script = open(os.path.join(GALLERY, name + '.script')).read()
-            if 'pgn' not in script.split('\n'):
+            script = read_script(name)
+            text, ours = reviews([PROGRAM, 'reviews', folder], tables + script)
+            plain_text, theirs = reviews([plain, folder, str(GOES)], script)
+            if not ours:
                 continue
-            theirs, plain_lines = plain(program, script, folder)
-            own, lines = ours(script, folder)
-            note = '' if lines == plain_lines else '   LINES DIFFER'
-            print(f'{name:28} {own:8.3f} ms   plain Rust {theirs:8.3f} ms   ratio {own / theirs:5.2f}{note}', flush=True)
+            note = '' if text == plain_text and len(ours) == len(theirs) else '   LINES DIFFER'
+            print(f'{name:28} {sum(ours) / 1e6:8.3f} ms   plain Rust {sum(theirs) / 1e6:8.3f} ms   ratio {sum(ours) / sum(theirs):5.2f}{note}',
+                  flush=True)
 
 
 if __name__ == '__main__':

@@ -11,6 +11,7 @@ mod calls;
 mod files;
 mod numbers;
 mod probes;
+mod reviews;
 mod samples;
 mod studies;
 mod timed;
@@ -43,9 +44,10 @@ fn measure(rt: HostRuntime, what: &str, name: Option<&str>) -> io::Result<()> {
         "numbers" => numbers::measure(rt),
         "files" => files::measure(rt),
         "probes" => probes::measure(rt),
+        "reviews" => reviews::measure(rt, name.unwrap_or(".")),
         "studies" => studies::measure(rt),
         "tables" => measure_tables(rt, name.unwrap_or("KPK")),
-        _ => println!(rt; "calls, numbers, files, probes, studies, all, or tables and a class"),
+        _ => println!(rt; "calls, numbers, files, probes, studies, all, tables and a class, or reviews and a folder"),
     }
 }
 
