@@ -5,5 +5,6 @@
 
 pub mod path_written;
 pub mod refusal;
+pub mod reply;
 pub mod told;
 pub mod words;

@@ -1,13 +1,12 @@
 //! What the commands of a class come to, and its reply.
-ghost use Rattle.std.specs.Prelude.{◌≡◌, ◌++◌, codes, decimal, is_err, IfOk, OnOk, OnErr};
+ghost use Rattle.std.specs.Prelude.{◌≡◌, ◌++◌, codes, decimal, OnOk, OnErr};
 ghost use Rattle.std.specs.Io.KnownBytes.{Appends};
 ghost use Rattle.study_material.specs.Class.{name_of};
 ghost use Rattle.study_tablefile.specs.Taken.{TakesPrefix};
 ghost use Rattle.study_reply.specs.Words.{reply_line, built_text};
-ghost use Rattle.study_reply.specs.Told.{done_text, told_text};
+ghost use Rattle.study_reply.specs.Told.{done_text};
 
-use crate::refusal::Refusal;
-use crate::words::{put_line, refuse};
+use crate::words::put_line;
 use itoa::Buffer;
 use std::io::Write;
 use study_index::cells;
@@ -25,25 +24,8 @@ pub enum Told {
     Verified(Class, bool),
 }
 
-/// Writes the reply, and tells whether it refuses the line.
-pub fn tell<W: Write>(out: &mut W, told: Result<Told, Refusal>) -> Result<bool, DeviceFailed>
-    ensures ok { OnOk result (Appends (W.contents out.old) (W.contents out.new) (told_text told)) }
-    ensures err { OnErr result (TakesPrefix (W.contents out.old) (W.contents out.new) (told_text told)) }
-    ensures refused { IfOk result (λ refused. refused ≡ is_err told) }
-{
-    match told {
-        Ok(told) => {
-            put_done(out, told)?;
-            Ok(false)
-        }
-        Err(refusal) => {
-            refuse(out, refusal)?;
-            Ok(true)
-        }
-    }
-}
-
-fn put_done<W: Write>(out: &mut W, told: Told) -> Result<(), DeviceFailed>
+/// Writes what a command of a class did.
+pub fn put_done<W: Write>(out: &mut W, told: Told) -> Result<(), DeviceFailed>
     ensures ok { OnOk result (Appends (W.contents out.old) (W.contents out.new) (done_text told)) }
     ensures err { OnErr result (TakesPrefix (W.contents out.old) (W.contents out.new) (done_text told)) }
 {

@@ -8,3 +8,4 @@ pub mod Told
 pub mod Desk
 pub mod Laws
 pub mod Outcome
+pub mod Executed

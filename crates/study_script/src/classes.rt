@@ -1,5 +1,5 @@
 //! Classes of material: `build`, `load`, `save` and `verify`.
-ghost use Rattle.std.specs.Prelude.{◌≡◌, ◌↔◌, ℕ, Bool, true, List, Option, Some, None, Ok, false, is_some, slice_set, IfOk, IfErr, IfSome, IsTrue, OnErr};
+ghost use Rattle.std.specs.Prelude.{◌≡◌, ◌↔◌, ℕ, Bool, true, List, Option, Some, None, Ok, false, is_some, slice_set, IfOk, IfErr, IfSome, IsTrue};
 ghost use Rattle.study_retro.specs.Sound.{IsRight, NeedsAreRight};
 ghost use Rattle.study_retro.specs.Set.{add_fault};
 ghost use Rattle.study_retro.specs.Table.{table_of, class_place, IsClosed, IsComplete};
@@ -8,9 +8,10 @@ ghost use Rattle.study_script.specs.State.{State, is_among, first_lacking, IsGiv
 ghost use Rattle.study_script.specs.Names.{of_store, of_paged};
 ghost use Rattle.study_script.specs.Replies.{IsClassReply, IsNamedReply, IsBuildReply, IsLoadReply};
 ghost use Rattle.study_script.specs.Replies.{IsOpenReply, save_reply, verify_reply, refused, class_told};
-ghost use Rattle.study_script.specs.Held.{HoldsTables, TablesFrom, Answered, BrokenOff};
+ghost use Rattle.study_script.specs.Held.{HoldsTables, TablesFrom};
 ghost use Rattle.study_material.specs.declared.class.Class.{Class as AClass};
 ghost use Rattle.study_script.specs.Stored.{StoreSeen, HonestOn, IsTrustedClass};
+ghost use Rattle.study_script.specs.Executed.{Executed};
 ghost use Rattle.study_script.specs.Told.{Decided, HoldsWhole, HoldsPaged, WholeFrom, IsFileRefusal};
 
 use crate::store::{StoreFault, TableStore};
@@ -22,37 +23,47 @@ use study_index::cells;
 use study_material::Class;
 use study_prober::{PagedFault, PagedTables, Values, WholeTables};
 use study_reply::refusal::Refusal;
-use study_reply::told::{Told, tell};
+use study_reply::reply::{Answer, Refused, Reply};
+use study_reply::told::Told;
 use study_retro::{BuildFault, BuildRoom, Table, build, verify};
-use study_tablefile::{DeviceFailed, FileFault, read_table, write_table};
+use study_tablefile::{FileFault, read_table, write_table};
 
 /// Commands that take a class.
-pub fn of_class<'a, W: Write, S: TableStore, A: Allocator>(
+pub fn of_class<'a, S: TableStore, A: Allocator>(
     alloc: &'a A,
     tables: &mut Tables<'a, S::Pages, A>,
     store: &mut S,
     word: ClassWord,
     name: &str,
-    out: &mut W,
-) -> Result<bool, DeviceFailed>
-    ensures ok { (trusted : AClass → Bool) (s : State) → IsTrustedClass trusted word name.now
+) -> Answer<'a, A>
+    ensures { (trusted : AClass → Bool) (s : State) → IsTrustedClass trusted word name.now
         → HoldsTables S.Pages.honest S.Pages.gives tables.old s → StoreSeen (HonestOn trusted S.honest) S.files S.headers S.faults store.old s
-        → IfOk result (Answered (λ o. IsClassReply s o word name.now)
+        → Executed (λ o. IsClassReply s o word name.now)
         (λ t. TablesFrom S.Pages.honest S.Pages.gives s tables.new t × StoreSeen (HonestOn trusted S.honest) S.files S.headers S.faults store.new t)
-        (W.contents out.old) (W.contents out.new)) }
-    ensures err { (trusted : AClass → Bool) (s : State) → IsTrustedClass trusted word name.now
+        result }
+{
+    match in_tables(alloc, tables, store, word, name) {
+        Ok(told) => Ok(Reply::Table(told)),
+        Err(refusal) => Err(Refused::Line(refusal)),
+    }
+}
+
+fn in_tables<'a, S: TableStore, A: Allocator>(
+    alloc: &'a A,
+    tables: &mut Tables<'a, S::Pages, A>,
+    store: &mut S,
+    word: ClassWord,
+    name: &str,
+) -> Result<Told, Refusal>
+    ensures { (trusted : AClass → Bool) (s : State) → IsTrustedClass trusted word name.now
         → HoldsTables S.Pages.honest S.Pages.gives tables.old s → StoreSeen (HonestOn trusted S.honest) S.files S.headers S.faults store.old s
-        → OnErr result (BrokenOff (λ o. IsClassReply s o word name.now) (W.contents out.old) (W.contents out.new)) }
+        → Decided (λ o. IsClassReply s o word name.now)
+        (λ t. TablesFrom S.Pages.honest S.Pages.gives s tables.new t × StoreSeen (HonestOn trusted S.honest) S.files S.headers S.faults store.new t)
+        result }
 {
     match tables {
-        Tables::Whole(whole) => {
-            let told = in_whole(alloc, whole, store, word, name);
-            tell(out, told)
-        }
-        Tables::Paged(paged) => {
-            let told = in_pages(paged, store, word, name);
-            tell(out, told)
-        }
+        Tables::Whole(whole) => in_whole(alloc, whole, store, word, name),
+        Tables::Paged(paged) => in_pages(paged, store, word, name),
     }
 }
 
