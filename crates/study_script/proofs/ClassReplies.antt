@@ -34,7 +34,6 @@ use Rattle.study_script.specs.Replies.{IsLoadReply, IsNamedReply, IsTableReply, 
 use Rattle.study_script.specs.Replies.{class_told, wants_whole, save_reply, verify_reply}
 use Rattle.study_reply.specs.Names.{words_of}
 use Rattle.study_script.specs.Stored.{IsRightFile, GivesBytes, IsTrustedClass}
-use Rattle.study_reply.specs.Told.{told_text}
 use Rattle.study_script.specs.Told.{told_reply, Decided, HoldsWhole, HoldsPaged, WholeFrom, IsFileRefusal}
 use Rattle.study_script.specs.Held.{HoldsTables, TablesFrom, Answered, BrokenOff}
 use Rattle.study_script.proofs.HeldTables.{lacking, whole_kept}
@@ -222,19 +221,7 @@ pub named_as : (s : State) (o : Outside) (word : ClassWord) (name : List ℕ) (c
     → class_told name ≡ Some c → IsTableReply s o word c reply → IsNamedReply s o word (class_told name) reply
 named_as s o word name c reply e i = rw e i
 
--- ---- what was decided is written
-
-pub told_answered : {E : Type 0} (I : Outside → Reply → Type 0) (H : State → Type 0) (told : Result Told Refusal)
-    (r : Result Bool E) (old new : Option (List ℕ)) → Decided I H told → OnOk r (Appends old new (told_text told))
-    → IfOk r (λ b. b ≡ is_err told) → IfOk r (Answered I H old new)
-told_answered I H told (Ok b) old new (o, t, is, holds) wrote e = (o, told_reply t told, is, wrote, holds, e)
-told_answered I H told (Err e) old new d wrote k = tt
-
-pub told_broken : {T E : Type 0} (I : Outside → Reply → Type 0) (H : State → Type 0) (told : Result Told Refusal)
-    (r : Result T E) (old new : Option (List ℕ)) → Decided I H told → OnErr r (TakesPrefix old new (told_text told))
-    → OnErr r (BrokenOff I old new)
-told_broken I H told (Ok x) old new d part = tt
-told_broken I H told (Err e) old new (o, t, is, holds) part = (o, told_reply t told, is, part)
+-- ---- what was decided, by a weaker property
 
 pub decided_weaker : (I J : Outside → Reply → Type 0) (H K : State → Type 0) (told : Result Told Refusal)
     → ((o : Outside) (r : Reply) → I o r → J o r) → ((t : State) → H t → K t) → Decided I H told → Decided J K told

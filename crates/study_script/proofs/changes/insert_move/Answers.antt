@@ -1,4 +1,4 @@
-use Rattle.std.proofs.Common.{◌≡◌, true, Ok, Err, sym, subst}
+use Rattle.std.proofs.Common.{◌≡◌, true, Ok, Err, refl, sym, subst}
 use Rattle.std.specs.Prelude.{MatchOption, IfErr}
 use Rattle.study_board.specs.Position.{Position}
 use Rattle.study_moves.specs.Rules.{after}
@@ -26,7 +26,7 @@ returns-in-Ok g c = λ s h.
     let new = inserted old steps m in
     let said = inserted_text old steps m in
     let tables = c.args.tables.now in
-    rw (inserted_said shown steps steps c.in-Ok.place c.args.start.now.position m refl c.in-Ok.ensures.place c.requires.at) (
+    rw c.write_san.ensures (rw (inserted_said shown steps steps c.in-Ok.place c.args.start.now.position m refl c.in-Ok.ensures.place c.requires.at) (
       quiet,
       holding s new,
       subst (λ x. IsInserted s quiet old steps m x (accepted (holding s new) said))
@@ -39,7 +39,7 @@ returns-in-Ok g c = λ s h.
       study_edited g.P.PageSource.honest g.P.PageSource.gives c.args.bench.now c.insert_move.new.bench tables c.insert_move.new.tables s new h
           c.in-Ok.ensures.edited (c.in-Ok.ensures.right h.values h.marks) (c.insert_move.ensures.honest h.values)
           c.insert_move.ensures.tables c.insert_move.ensures.mode c.insert_move.ensures.fails_as_before,
-    )
+    ))
 
 pub returns-in-Err : goal.returns-in-Err
 returns-in-Err g c = λ s h.
