@@ -8,7 +8,7 @@ use Rattle.study_reply.specs.declared.reply.Reply.TheVariants as done
 use Rattle.study_reply.specs.declared.reply.Refused.{Refused}
 use Rattle.study_reply.specs.declared.reply.Refused.TheVariants.{Line, Edit}
 use Rattle.study_reply.specs.Names.{words_of, edit_words}
-use Rattle.study_reply.specs.Told.{done_text}
+use Rattle.study_reply.specs.TableReply.{table_text}
 use Rattle.study_reply.specs.Words.{reply_line, stipulation_words, insert_text, mark_text, moves_text, solve_text, raised}
 
 -- the reply to a command that did its work
@@ -25,7 +25,7 @@ reply_text (done.Moves start) = moves_text start.position
 reply_text (done.Fen start) = reply_line (codes "fen ") (fen_text start)
 reply_text (done.Solved plies) = solve_text plies
 reply_text (done.Pgn text) = text.items
-reply_text (done.Table told) = done_text told
+reply_text (done.Table told) = table_text told
 
 abbrev pub refused_words : {A : Type 0} → Refused A → List ℕ
 refused_words (Line refusal) = words_of refusal

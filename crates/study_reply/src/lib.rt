@@ -6,5 +6,5 @@
 pub mod path_written;
 pub mod refusal;
 pub mod reply;
-pub mod told;
+pub mod table_reply;
 pub mod words;

@@ -8,7 +8,7 @@ ghost use Rattle.study_reply.specs.Replied.{reply_text, refused_words, answer_te
 
 use crate::path_written::{put_child, put_node, put_promoted};
 use crate::refusal::Refusal;
-use crate::told::{Told, put_done};
+use crate::table_reply::{TableReply, put_table_reply};
 use crate::words::{
     list_moves, put_line, put_mark, put_solution, put_stipulation, refuse, refuse_edit,
 };
@@ -40,7 +40,7 @@ pub enum Reply<'a, A: Allocator> {
     Solved(Option<u8>),
     /// The whole game.
     Pgn(Vec<u8, &'a A>),
-    Table(Told),
+    Table(TableReply),
 }
 
 /// Why a line is refused: by itself, or by the bench.
@@ -109,7 +109,7 @@ fn put_reply<'a, W: Write, A: Allocator>(
         Reply::Fen(start) => put_start(out, b"fen ", &start),
         Reply::Solved(plies) => put_solution(out, plies),
         Reply::Pgn(text) => put(out, text.as_slice()),
-        Reply::Table(told) => put_done(out, told),
+        Reply::Table(reply) => put_table_reply(out, reply),
     }
 }
 

@@ -25,8 +25,8 @@ use Rattle.study_reply.specs.declared.refusal.Refusal.{Refusal}
 use Rattle.study_reply.specs.declared.refusal.Refusal.TheVariants.{PagedMode, NotAClass, AlreadyHeld}
 use Rattle.study_reply.specs.declared.refusal.Refusal.TheVariants.{MissingTable, OtherClass, OutOfMemory}
 use Rattle.study_reply.specs.declared.refusal.Refusal.TheVariants.{DistanceTooLarge, NoTable, Device, File}
-use Rattle.study_reply.specs.declared.told.Told.{Told}
-use Rattle.study_reply.specs.declared.told.Told.TheVariants.{Built, Loaded, Saved, Verified}
+use Rattle.study_reply.specs.declared.table_reply.TableReply.{TableReply}
+use Rattle.study_reply.specs.declared.table_reply.TableReply.TheVariants.{Built, Loaded, Saved, Verified}
 use Rattle.study_script.specs.State.{State, is_among, first_lacking, written_anew, IsGiven, IsOpened}
 use Rattle.study_script.specs.State.{Outside, quiet, no_room, no_room_for, unopened, cut_off, file}
 use Rattle.study_script.specs.Replies.{Reply, refused, refused_as, with_class, built, too_far, IsBuildReply}
@@ -34,7 +34,7 @@ use Rattle.study_script.specs.Replies.{IsLoadReply, IsNamedReply, IsTableReply, 
 use Rattle.study_script.specs.Replies.{class_told, wants_whole, save_reply, verify_reply}
 use Rattle.study_reply.specs.Names.{words_of}
 use Rattle.study_script.specs.Stored.{IsRightFile, GivesBytes, IsTrustedClass}
-use Rattle.study_script.specs.Told.{told_reply, Decided, HoldsWhole, HoldsPaged, WholeFrom, IsFileRefusal}
+use Rattle.study_script.specs.Decided.{decided_reply, Decided, HoldsWhole, HoldsPaged, WholeFrom, IsFileRefusal}
 use Rattle.study_script.specs.Held.{HoldsTables, TablesFrom, Answered, BrokenOff}
 use Rattle.study_script.proofs.HeldTables.{lacking, whole_kept}
 
@@ -223,9 +223,9 @@ named_as s o word name c reply e i = rw e i
 
 -- ---- what was decided, by a weaker property
 
-pub decided_weaker : (I J : Outside → Reply → Type 0) (H K : State → Type 0) (told : Result Told Refusal)
+pub decided_weaker : (I J : Outside → Reply → Type 0) (H K : State → Type 0) (told : Result TableReply Refusal)
     → ((o : Outside) (r : Reply) → I o r → J o r) → ((t : State) → H t → K t) → Decided I H told → Decided J K told
-decided_weaker I J H K told f g (o, t, is, holds) = (o, t, f o (told_reply t told) is, g t holds)
+decided_weaker I J H K told f g (o, t, is, holds) = (o, t, f o (decided_reply t told) is, g t holds)
 
 -- ---- what a file and its source tell
 

@@ -3,7 +3,7 @@ use Rattle.std.proofs.Common.{◌≡◌, Bool, List, ℕ, Option, Result, Ok, Er
 use Rattle.std.specs.Prelude.{IfOk, OnOk, OnErr, is_err}
 use Rattle.std.specs.Io.KnownBytes.{Appends}
 use Rattle.study_tablefile.specs.Taken.{TakesPrefix}
-use Rattle.study_reply.specs.declared.told.Told.{Told}
+use Rattle.study_reply.specs.declared.table_reply.TableReply.{TableReply}
 use Rattle.study_reply.specs.declared.refusal.Refusal.{Refusal}
 use Rattle.study_reply.specs.declared.reply.Reply.{Reply as Done}
 use Rattle.study_reply.specs.declared.reply.Reply.TheVariants.{Table}
@@ -13,7 +13,7 @@ use Rattle.study_reply.specs.Replied.{answer_text}
 use Rattle.study_script.specs.State.{State, Outside}
 use Rattle.study_script.specs.Replies.{Reply}
 use Rattle.study_script.specs.Held.{Answered, BrokenOff}
-use Rattle.study_script.specs.Told.{told_reply, Decided}
+use Rattle.study_script.specs.Decided.{decided_reply, Decided}
 use Rattle.study_script.specs.Executed.{reply_of, Executed}
 
 module _ {A : Type 0} {I J : Outside → Reply → Type 0} {H K : State → Type 0} where
@@ -43,9 +43,9 @@ module _ {A : Type 0} (I : Outside → Reply → Type 0) (H : State → Type 0) 
   executed_broken (Err e) old new (o, t, is, holds) part = (o, reply_of t answer, is, part)
 
 -- what a command of a class came to
-module _ (A : Type 0) (I : Outside → Reply → Type 0) (H : State → Type 0) (told : Result Told Refusal) where
-  pub table_done : (done : Told) → told ≡ Ok done → Decided I H told → Executed {A = A} I H (Ok (Table done))
-  table_done done e (o, t, is, holds) = (o, t, subst (λ (x : Result Told Refusal). I o (told_reply t x)) e is, holds)
+module _ (A : Type 0) (I : Outside → Reply → Type 0) (H : State → Type 0) (told : Result TableReply Refusal) where
+  pub table_done : (done : TableReply) → told ≡ Ok done → Decided I H told → Executed {A = A} I H (Ok (Table done))
+  table_done done e (o, t, is, holds) = (o, t, subst (λ (x : Result TableReply Refusal). I o (decided_reply t x)) e is, holds)
 
   pub table_refused : (refusal : Refusal) → told ≡ Err refusal → Decided I H told → Executed {A = A} I H (Err (Line refusal))
-  table_refused refusal e (o, t, is, holds) = (o, t, subst (λ (x : Result Told Refusal). I o (told_reply t x)) e is, holds)
+  table_refused refusal e (o, t, is, holds) = (o, t, subst (λ (x : Result TableReply Refusal). I o (decided_reply t x)) e is, holds)

@@ -2,7 +2,7 @@ use Rattle.std.proofs.Common.{◌≡◌}
 use Rattle.study_script.specs.Stored.{HonestOn, StoreSeen}
 use Rattle.study_script.specs.Replies.{IsClassReply, IsNamedReply, class_told}
 use Rattle.study_script.specs.declared.tables.Tables.TheVariants as held
-use Rattle.study_script.specs.Told.{HoldsWhole, HoldsPaged}
+use Rattle.study_script.specs.Decided.{HoldsWhole, HoldsPaged}
 use Rattle.study_script.specs.Held.{TablesFrom}
 use Rattle.study_script.proofs.ClassReplies.{whole_of, paged_of, tables_whole, tables_paged, asked_whole, decided_weaker}
 use Rattle.study_script.proofs.classes.in_tables.Goals as goal

@@ -3,7 +3,7 @@ use Rattle.std.specs.Prelude.{codes}
 use Rattle.study_tablefile.proofs.TextTaken.{TakesPrefix-first, TakesPrefix-second, OnErr-known}
 use Rattle.std.proofs.lemmas.Result.{on_err_weaker}
 use Rattle.study_reply.specs.Words.{reply_line}
-use Rattle.study_reply.proofs.told.put_counts.Goals as goal
+use Rattle.study_reply.proofs.table_reply.put_counts.Goals as goal
 
 pub returns-in_err-put-clause-err : goal.returns-in_err-put-clause-err
 returns-in_err-put-clause-err g c =

@@ -3,7 +3,7 @@ use Rattle.std.specs.Prelude.{codes, decimal, OnErr}
 use Rattle.study_material.specs.Class.{name_of}
 use Rattle.study_tablefile.specs.Taken.{TakesPrefix}
 use Rattle.study_reply.specs.Words.{reply_line}
-use Rattle.study_reply.proofs.told.put_done.Goals as goal
+use Rattle.study_reply.proofs.table_reply.put_table_reply.Goals as goal
 
 pub returns-in-Built-clause-err : goal.returns-in-Built-clause-err
 returns-in-Built-clause-err g c = rw c.in-Built.is c.put_built.ensures.err

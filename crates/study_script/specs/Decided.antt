@@ -6,10 +6,10 @@ use Rattle.study_prober.specs.Whole.{Whole, TablesAreRight}
 use Rattle.study_tablefile.specs.declared.fault.SourceFault.{SourceFault}
 use Rattle.study_prober.specs.Sources.{GivesOf}
 use Rattle.study_prober.specs.Paged.{Paged, MayFail, held_of, SourcesAreRight}
-use Rattle.study_reply.specs.declared.told.Told.{Told}
+use Rattle.study_reply.specs.declared.table_reply.TableReply.{TableReply}
 use Rattle.study_reply.specs.declared.refusal.Refusal.{Refusal}
 use Rattle.study_reply.specs.Names.{words_of}
-use Rattle.study_reply.specs.Told.{told_text}
+use Rattle.study_reply.specs.TableReply.{decided_text}
 use Rattle.study_script.specs.Names.{of_store}
 use Rattle.study_tablefile.specs.declared.fault.FileFault.{FileFault}
 use Rattle.study_tablefile.specs.Reading.{table_read, HasHeader}
@@ -19,12 +19,12 @@ use Rattle.study_script.specs.State.{State, Outside, is_among, IsGiven, IsOpened
 use Rattle.study_script.specs.Replies.{Reply}
 
 -- the reply that leaves this state behind
-abbrev pub told_reply : State → Result Told Refusal → Reply
-told_reply s told = record { text = told_text told; state = s; refused = is_err told }
+abbrev pub decided_reply : State → Result TableReply Refusal → Reply
+decided_reply s told = record { text = decided_text told; state = s; refused = is_err told }
 
 -- what the command comes to has the property, by what the outside did, and what is held then is the state that its reply leaves
-abbrev pub Decided : (Outside → Reply → Type 0) → (State → Type 0) → Result Told Refusal → Type 0
-Decided IsIt HoldsIt told = (o : Outside) × (t : State) × IsIt o (told_reply t told) × HoldsIt t
+abbrev pub Decided : (Outside → Reply → Type 0) → (State → Type 0) → Result TableReply Refusal → Type 0
+Decided IsIt HoldsIt told = (o : Outside) × (t : State) × IsIt o (decided_reply t told) × HoldsIt t
 
 -- these whole tables are those of the script, and they are right
 pub record HoldsWhole (w : Whole) (s : State) : Type 0 where

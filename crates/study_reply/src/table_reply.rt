@@ -4,7 +4,7 @@ ghost use Rattle.std.specs.Io.KnownBytes.{Appends};
 ghost use Rattle.study_material.specs.Class.{name_of};
 ghost use Rattle.study_tablefile.specs.Taken.{TakesPrefix};
 ghost use Rattle.study_reply.specs.Words.{reply_line, built_text};
-ghost use Rattle.study_reply.specs.Told.{done_text};
+ghost use Rattle.study_reply.specs.TableReply.{table_text};
 
 use crate::words::put_line;
 use itoa::Buffer;
@@ -15,7 +15,7 @@ use study_tablefile::{DeviceFailed, file_bytes, put};
 
 /// What a command of a class did.
 #[derive(Clone, Copy, Debug, PartialEq, Eq)]
-pub enum Told {
+pub enum TableReply {
     /// With the deepest win of the table in plies, for either side to move.
     Built(Class, Option<u8>),
     Loaded(Class),
@@ -25,15 +25,15 @@ pub enum Told {
 }
 
 /// Writes what a command of a class did.
-pub fn put_done<W: Write>(out: &mut W, told: Told) -> Result<(), DeviceFailed>
-    ensures ok { OnOk result (Appends (W.contents out.old) (W.contents out.new) (done_text told)) }
-    ensures err { OnErr result (TakesPrefix (W.contents out.old) (W.contents out.new) (done_text told)) }
+pub fn put_table_reply<W: Write>(out: &mut W, reply: TableReply) -> Result<(), DeviceFailed>
+    ensures ok { OnOk result (Appends (W.contents out.old) (W.contents out.new) (table_text reply)) }
+    ensures err { OnErr result (TakesPrefix (W.contents out.old) (W.contents out.new) (table_text reply)) }
 {
-    match told {
-        Told::Built(class, win) => put_built(out, class, win),
-        Told::Loaded(class) => put_size(out, b"loaded ", class, b" cells ", cells(class)),
-        Told::Saved(class) => put_size(out, b"saved ", class, b" bytes ", file_bytes(class)),
-        Told::Verified(class, right) => put_verdict(out, class, right),
+    match reply {
+        TableReply::Built(class, win) => put_built(out, class, win),
+        TableReply::Loaded(class) => put_size(out, b"loaded ", class, b" cells ", cells(class)),
+        TableReply::Saved(class) => put_size(out, b"saved ", class, b" bytes ", file_bytes(class)),
+        TableReply::Verified(class, right) => put_verdict(out, class, right),
     }
 }
 
@@ -113,8 +113,8 @@ fn put_words<W: Write>(
 }
 
 fn put_verdict<W: Write>(out: &mut W, class: Class, right: bool) -> Result<(), DeviceFailed>
-    ensures ok { OnOk result (Appends (W.contents out.old) (W.contents out.new) (done_text (Told.Verified class right))) }
-    ensures err { OnErr result (TakesPrefix (W.contents out.old) (W.contents out.new) (done_text (Told.Verified class right))) }
+    ensures ok { OnOk result (Appends (W.contents out.old) (W.contents out.new) (table_text (TableReply.Verified class right))) }
+    ensures err { OnErr result (TakesPrefix (W.contents out.old) (W.contents out.new) (table_text (TableReply.Verified class right))) }
 {
     let name = class.name().as_bytes();
     if right {

@@ -5,7 +5,7 @@ use Rattle.study_material.specs.Class.{name_of}
 use Rattle.study_index.specs.Number.{cells_of}
 use Rattle.study_tablefile.specs.Taken.{TakesPrefix}
 use Rattle.study_reply.specs.Words.{reply_line, win_text, built_text}
-use Rattle.study_reply.proofs.told.put_built.Goals as goal
+use Rattle.study_reply.proofs.table_reply.put_built.Goals as goal
 
 built_as : (c : Class) (win : Option ℕ) (name cells w : List ℕ) → name ≡ name_of c → cells ≡ decimal (cells_of c)
     → w ≡ win_text win → codes "built " ++ (name ++ (codes " cells " ++ (cells ++ reply_line (codes " win ") w)))
