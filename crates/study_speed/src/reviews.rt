@@ -1,7 +1,7 @@
 //! How long the reviews of a script's studies take, over the tables of a folder, held whole.
 use std::alloc::Allocator;
 use std::io;
-use std::io::{BufReader, ErrorKind, Write};
+use std::io::{BufReader, ErrorKind, Read, Write};
 use std::time::Instant;
 use study_command::lines::Line;
 use study_marks::Bench;
@@ -11,6 +11,7 @@ use study_retro::TableSet;
 use study_review::write_review;
 use study_script::board::Board;
 use study_script::desk::{Desk, StudyDesk};
+use study_script::store::TableStore;
 use study_script::tables::Tables;
 use study_tablefile::memory::MemoryWriter;
 
@@ -46,36 +47,58 @@ fn tell<A: Allocator, V: Values>(
     rt.stdout().write_all(told.taken.as_slice())
 }
 
-/// Follows the script on standard input over the tables of the folder, and reviews its studies. Refused lines are passed over.
+/// Answers a line, and reviews the study that an accepted `pgn` line finds on the board, as the one after so many.
+fn follow_line<'a, 's, S: TableStore, A: Allocator>(
+    rt: HostRuntime,
+    desk: &mut StudyDesk<'a, 's, S, A>,
+    line: &[u8],
+    studies: u32,
+) -> io::Result<u32> {
+    let mut reply = MemoryWriter::new(desk.alloc);
+    if desk.answer(line, &mut reply).is_err() {
+        return Err(broken());
+    }
+    if line != b"pgn".as_slice() {
+        return Ok(studies);
+    }
+    let number = studies.wrapping_add(1);
+    match &desk.board {
+        Board::Study(bench) => tell(rt, bench, &mut desk.tables, number)?,
+        Board::Empty | Board::Start(_) => return Ok(studies),
+    }
+    Ok(number)
+}
+
+/// Follows a script from an empty board over a store, and reviews its studies. Refused lines are passed over.
+fn follow<'a, R: Read, S: TableStore, A: Allocator>(
+    rt: HostRuntime,
+    alloc: &'a A,
+    script: &mut R,
+    store: &mut S,
+) -> io::Result<()> {
+    let mut line = Line::new(alloc)?;
+    let mut desk = StudyDesk {
+        alloc,
+        board: Board::Empty,
+        tables: Tables::Whole(WholeTables::new(TableSet::new(alloc)?)),
+        store,
+    };
+    let mut studies = 0u32;
+    for _ in 0..100_000u32 {
+        match line.read(script) {
+            Ok(true) => studies = follow_line(rt, &mut desk, line.as_slice(), studies)?,
+            Ok(false) => return Ok(()),
+            Err(_) => return Err(broken()),
+        }
+    }
+    Ok(())
+}
+
+/// Reviews the studies of the script on standard input, over the tables of the folder.
 /// No contract: it measures, and what it prints is read by people alone.
 pub fn measure(rt: HostRuntime, folder: &str) -> io::Result<()> {
     let alloc = rt.alloc();
     let mut store = FolderStore::new(&rt, &alloc, folder)?;
-    let mut desk = StudyDesk {
-        alloc: &alloc,
-        board: Board::Empty,
-        tables: Tables::Whole(WholeTables::new(TableSet::new(&alloc)?)),
-        store: &mut store,
-    };
     let mut script = BufReader::new(&alloc, rt.stdin())?;
-    let mut line = Line::new(&alloc)?;
-    let mut studies = 0u32;
-    for _ in 0..100_000u32 {
-        match line.read(&mut script) {
-            Ok(true) => {}
-            Ok(false) => return Ok(()),
-            Err(_) => return Err(broken()),
-        }
-        let mut reply = MemoryWriter::new(&alloc);
-        if desk.answer(line.as_slice(), &mut reply).is_err() {
-            return Err(broken());
-        }
-        if line.as_slice() == b"pgn".as_slice() {
-            if let Board::Study(bench) = &desk.board {
-                studies = studies.wrapping_add(1);
-                tell(rt, bench, &mut desk.tables, studies)?;
-            }
-        }
-    }
-    Ok(())
+    follow(rt, &alloc, &mut script, &mut store)
 }
