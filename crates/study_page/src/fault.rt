@@ -1,27 +1,26 @@
-//! Why nothing is written.
+//! Why no page is written.
 
-use std::alloc::AllocError;
+use std::alloc::{AllocError, AllocFailed};
+use study_prober::ProbeFault;
 use study_tablefile::DeviceFailed;
 use thiserror::Error;
 
-/// Why a part of the pages is not written, or not whole.
+/// Why the page of a study is not written, or not whole.
 #[derive(Clone, Copy, Debug, PartialEq, Eq, Error)]
 pub enum PageFault {
     #[error("no memory is left for the text")]
     OutOfMemory,
     #[error("the device failed")]
     Device,
+    #[error("a value is not told: {0}")]
+    Values(ProbeFault),
 }
 
-impl From<AllocError> for PageFault {
-    ghost use Rattle.std.specs.Prelude.{◌≡◌};
-    ghost use Rattle.study_page.specs.declared.fault.PageFault.TheVariants.{OutOfMemory};
-
-    ghost from_gives = { λ _ fault. fault ≡ OutOfMemory };
-
-    fn from(_error: AllocError) -> PageFault {
-        PageFault::OutOfMemory
-    }
+/// Why the text is not made.
+#[derive(Clone, Copy)]
+pub enum NotMade {
+    OutOfMemory,
+    Untold(ProbeFault),
 }
 
 impl From<DeviceFailed> for PageFault {
@@ -32,5 +31,63 @@ impl From<DeviceFailed> for PageFault {
 
     fn from(_failed: DeviceFailed) -> PageFault {
         PageFault::Device
+    }
+}
+
+impl From<NotMade> for PageFault {
+    ghost use Rattle.std.specs.Prelude.{◌≡◌};
+    ghost use Rattle.study_page.specs.Made.{fault_of};
+
+    ghost from_gives = { λ reason fault. fault ≡ fault_of reason };
+
+    fn from(reason: NotMade) -> PageFault {
+        match reason {
+            NotMade::OutOfMemory => PageFault::OutOfMemory,
+            NotMade::Untold(untold) => PageFault::Values(untold),
+        }
+    }
+}
+
+impl From<AllocError> for NotMade {
+    ghost use Rattle.std.specs.Prelude.{◌≡◌};
+    ghost use Rattle.study_page.specs.declared.fault.NotMade.TheVariants.{OutOfMemory};
+
+    ghost from_gives = { λ _ reason. reason ≡ OutOfMemory };
+
+    fn from(_error: AllocError) -> NotMade {
+        NotMade::OutOfMemory
+    }
+}
+
+impl<T: Drop> From<AllocFailed<T>> for NotMade {
+    ghost use Rattle.std.specs.Prelude.{◌≡◌};
+    ghost use Rattle.study_page.specs.declared.fault.NotMade.TheVariants.{OutOfMemory};
+
+    ghost from_gives = { λ _ reason. reason ≡ OutOfMemory };
+
+    fn from(_failed: AllocFailed<T>) -> NotMade {
+        NotMade::OutOfMemory
+    }
+}
+
+impl From<ProbeFault> for NotMade {
+    ghost use Rattle.std.specs.Prelude.{◌≡◌};
+    ghost use Rattle.study_page.specs.declared.fault.NotMade.TheVariants.{Untold};
+
+    ghost from_gives = { λ untold reason. reason ≡ Untold untold };
+
+    fn from(untold: ProbeFault) -> NotMade {
+        NotMade::Untold(untold)
+    }
+}
+
+impl From<AllocError> for PageFault {
+    ghost use Rattle.std.specs.Prelude.{◌≡◌};
+    ghost use Rattle.study_page.specs.declared.fault.PageFault.TheVariants.{OutOfMemory};
+
+    ghost from_gives = { λ _ fault. fault ≡ OutOfMemory };
+
+    fn from(_error: AllocError) -> PageFault {
+        PageFault::OutOfMemory
     }
 }

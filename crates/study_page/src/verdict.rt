@@ -17,7 +17,8 @@ ghost use Rattle.study_page.specs.Verdict.{holds_words, count_words, sentence, a
 use crate::element::Element;
 use crate::html::Html;
 use crate::items::put_words;
-use crate::signs::{aim_in, count_at};
+use crate::signs::aim_in;
+use crate::walk::count_at;
 use crate::words::{add_value, side_name};
 use std::alloc::{AllocError, Allocator};
 use study_board::Side;
@@ -75,7 +76,10 @@ fn stamp_element(stamp: Stamp) -> Element
 }
 
 /// `sound`, `unsound 3`, `wrong`.
-pub fn add_stamp_words<A: Allocator>(text: &mut Text<'_, A>, stamp: Stamp) -> Result<(), AllocError>
+pub fn add_stamp_words<A: Allocator>(
+    text: &mut Text<'_, A>,
+    stamp: Stamp,
+) -> Result<(), AllocError>
     ensures { OnOk result (text.new ≡ text.old ++ stamp_words stamp) }
 {
     match stamp {
