@@ -10,9 +10,9 @@ use Rattle.study_marks.specs.Answers.{WereTold, IsFirstFault}
 use Rattle.study_marks.specs.Told.{failures_told}
 use Rattle.study_review.specs.Asked.{HasTold, AllTold, Stopped}
 use Rattle.study_page.specs.Made.{HasAsked, fault_of}
-use Rattle.study_page.specs.Made.{HasPrinted}
-use Rattle.study_page.specs.declared.fault.PageFault.{PageFault}
-use Rattle.study_page.specs.declared.fault.PageFault.TheVariants as fault
+use Rattle.study_review.specs.Review.{HasReviewed}
+use Rattle.study_review.specs.declared.fault.ReviewFault.{ReviewFault}
+use Rattle.study_review.specs.declared.fault.ReviewFault.TheVariants as fault
 use Rattle.study_page.specs.declared.fault.NotMade.{NotMade}
 use Rattle.study_page.specs.declared.fault.NotMade.TheVariants.{OutOfMemory, Untold}
 use Rattle.study_review.proofs.AskedSteps.{told-none, told-then, fault-then}
@@ -92,18 +92,18 @@ module _ {V : Type 0} (held : V → Class → Bool) (gives : V → Position → 
   re-asks T U old new OutOfMemory h = h
   re-asks T U old new (Untold f) h = h
 
-  abbrev pub Prints : {T : Type 0} → V → Result T PageFault → V → Type 0
-  Prints {T = T} old r new = HasPrinted held gives may_fail asked_of failed_of is_honest {T = T} old r new
+  abbrev pub Reviews : {T : Type 0} → V → Result T ReviewFault → V → Type 0
+  Reviews {T = T} old r new = HasReviewed held gives may_fail asked_of failed_of is_honest {T = T} old r new
 
-  same-prints : {T : Type 0} (old new : V) (r : Result T PageFault) (x : PageFault) → IsErrAnd r (λ y. y ≡ x)
-      → Prints {T = T} old (Err x) new → Prints old r new
-  same-prints old new (Ok y) x is h = absurd is
-  same-prints {T = T} old new (Err y) x is h = subst (λ (z : PageFault). Prints {T = T} old (Err z) new) (sym is) h
+  same-reviews : {T : Type 0} (old new : V) (r : Result T ReviewFault) (x : ReviewFault) → IsErrAnd r (λ y. y ≡ x)
+      → Reviews {T = T} old (Err x) new → Reviews old r new
+  same-reviews old new (Ok y) x is h = absurd is
+  same-reviews {T = T} old new (Err y) x is h = subst (λ (z : ReviewFault). Reviews {T = T} old (Err z) new) (sym is) h
 
-  pub page-stops : (U : Type 0) {T : Type 0} (old new : V) (r : Result T PageFault) (e : NotMade) → IsErrAnd r (λ x. x ≡ fault_of e)
-      → Asks {T = U} old (Err e) new → Prints old r new
-  page-stops U old new r OutOfMemory is h = same-prints old new r fault.OutOfMemory is h
-  page-stops U old new r (Untold f) is h = same-prints old new r (fault.Values f) is h
+  pub page-stops : (U : Type 0) {T : Type 0} (old new : V) (r : Result T ReviewFault) (e : NotMade) → IsErrAnd r (λ x. x ≡ fault_of e)
+      → Asks {T = U} old (Err e) new → Reviews old r new
+  page-stops U old new r OutOfMemory is h = same-reviews old new r fault.OutOfMemory is h
+  page-stops U old new r (Untold f) is h = same-reviews old new r (fault.Values f) is h
 
-  pub page-fails : {T : Type 0} (old new : V) (r : Result T PageFault) → IsErrAnd r (λ x. x ≡ fault.Device) → Told old new → Prints old r new
-  page-fails old new r is h = same-prints old new r fault.Device is h
+  pub page-fails : {T : Type 0} (old new : V) (r : Result T ReviewFault) → IsErrAnd r (λ x. x ≡ fault.Device) → Told old new → Reviews old r new
+  page-fails old new r is h = same-reviews old new r fault.Device is h

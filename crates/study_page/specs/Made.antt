@@ -1,4 +1,4 @@
--- How a page is made.
+-- Not part of any public contract but for the rows of each part: how a page is made.
 use Rattle.std.specs.Prelude.{◌≡◌, ℕ, Bool, List, Result, Ok, Err}
 use Rattle.study_board.specs.Position.{Position}
 use Rattle.study_material.specs.declared.class.Class.{Class}
@@ -7,8 +7,8 @@ use Rattle.study_prober.specs.Values.{ProbeAnswer}
 use Rattle.study_marks.specs.declared.mark.Mark.{Mark}
 use Rattle.study_marks.specs.Study.{Study}
 use Rattle.study_review.specs.Asked.{AllTold, Stopped}
-use Rattle.study_page.specs.declared.fault.PageFault.{PageFault}
-use Rattle.study_page.specs.declared.fault.PageFault.TheVariants as fault
+use Rattle.study_review.specs.declared.fault.ReviewFault.{ReviewFault}
+use Rattle.study_review.specs.declared.fault.ReviewFault.TheVariants as fault
 use Rattle.study_page.specs.declared.fault.NotMade.{NotMade}
 use Rattle.study_page.specs.declared.fault.NotMade.TheVariants.{OutOfMemory, Untold}
 use Rattle.study_page.specs.declared.walk.Part.{Part}
@@ -16,7 +16,7 @@ use Rattle.study_page.specs.declared.walk.Part.TheVariants.{Faults, Duals, Tries
 use Rattle.study_page.specs.Rows.{FaultItems, Cards, TryRows, DefenceRows, EndRows}
 
 -- what is told where the page is not made
-abbrev pub fault_of : NotMade → PageFault
+abbrev pub fault_of : NotMade → ReviewFault
 fault_of OutOfMemory = fault.OutOfMemory
 fault_of (Untold f) = fault.Values f
 
@@ -34,10 +34,3 @@ module _ {V : Type 0} (held : V → Class → Bool) (gives : V → Position → 
   HasAsked old (Ok x) new = AllTold held gives may_fail asked_of failed_of is_honest old new
   HasAsked old (Err OutOfMemory) new = AllTold held gives may_fail asked_of failed_of is_honest old new
   HasAsked old (Err (Untold f)) new = Stopped held gives may_fail asked_of failed_of is_honest old f new
-
-  -- each value was told, unless the call was refused for the first that was not
-  abbrev pub HasPrinted : {T : Type 0} → V → Result T PageFault → V → Type 0
-  HasPrinted old (Ok x) new = AllTold held gives may_fail asked_of failed_of is_honest old new
-  HasPrinted old (Err fault.OutOfMemory) new = AllTold held gives may_fail asked_of failed_of is_honest old new
-  HasPrinted old (Err fault.Device) new = AllTold held gives may_fail asked_of failed_of is_honest old new
-  HasPrinted old (Err (fault.Values f)) new = Stopped held gives may_fail asked_of failed_of is_honest old f new

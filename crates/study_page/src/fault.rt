@@ -1,26 +1,29 @@
-//! Why no page is written.
+//! Why nothing is written.
 
 use std::alloc::{AllocError, AllocFailed};
 use study_prober::ProbeFault;
+use study_review::ReviewFault;
 use study_tablefile::DeviceFailed;
 use thiserror::Error;
 
-/// Why the page of a study is not written, or not whole.
+/// Why a part of the pages is not written, or not whole.
 #[derive(Clone, Copy, Debug, PartialEq, Eq, Error)]
 pub enum PageFault {
     #[error("no memory is left for the text")]
     OutOfMemory,
     #[error("the device failed")]
     Device,
-    #[error("a value is not told: {0}")]
-    Values(ProbeFault),
 }
 
-/// Why the text is not made.
-#[derive(Clone, Copy)]
-pub enum NotMade {
-    OutOfMemory,
-    Untold(ProbeFault),
+impl From<AllocError> for PageFault {
+    ghost use Rattle.std.specs.Prelude.{◌≡◌};
+    ghost use Rattle.study_page.specs.declared.fault.PageFault.TheVariants.{OutOfMemory};
+
+    ghost from_gives = { λ _ fault. fault ≡ OutOfMemory };
+
+    fn from(_error: AllocError) -> PageFault {
+        PageFault::OutOfMemory
+    }
 }
 
 impl From<DeviceFailed> for PageFault {
@@ -34,16 +37,23 @@ impl From<DeviceFailed> for PageFault {
     }
 }
 
-impl From<NotMade> for PageFault {
+/// Why the text of a page is not made.
+#[derive(Clone, Copy, Debug, PartialEq, Eq)]
+pub enum NotMade {
+    OutOfMemory,
+    Untold(ProbeFault),
+}
+
+impl From<NotMade> for ReviewFault {
     ghost use Rattle.std.specs.Prelude.{◌≡◌};
     ghost use Rattle.study_page.specs.Made.{fault_of};
 
     ghost from_gives = { λ reason fault. fault ≡ fault_of reason };
 
-    fn from(reason: NotMade) -> PageFault {
+    fn from(reason: NotMade) -> ReviewFault {
         match reason {
-            NotMade::OutOfMemory => PageFault::OutOfMemory,
-            NotMade::Untold(untold) => PageFault::Values(untold),
+            NotMade::OutOfMemory => ReviewFault::OutOfMemory,
+            NotMade::Untold(untold) => ReviewFault::Values(untold),
         }
     }
 }
@@ -67,27 +77,5 @@ impl<T: Drop> From<AllocFailed<T>> for NotMade {
 
     fn from(_failed: AllocFailed<T>) -> NotMade {
         NotMade::OutOfMemory
-    }
-}
-
-impl From<ProbeFault> for NotMade {
-    ghost use Rattle.std.specs.Prelude.{◌≡◌};
-    ghost use Rattle.study_page.specs.declared.fault.NotMade.TheVariants.{Untold};
-
-    ghost from_gives = { λ untold reason. reason ≡ Untold untold };
-
-    fn from(untold: ProbeFault) -> NotMade {
-        NotMade::Untold(untold)
-    }
-}
-
-impl From<AllocError> for PageFault {
-    ghost use Rattle.std.specs.Prelude.{◌≡◌};
-    ghost use Rattle.study_page.specs.declared.fault.PageFault.TheVariants.{OutOfMemory};
-
-    ghost from_gives = { λ _ fault. fault ≡ OutOfMemory };
-
-    fn from(_error: AllocError) -> PageFault {
-        PageFault::OutOfMemory
     }
 }

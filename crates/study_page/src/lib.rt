@@ -31,5 +31,5 @@ pub use fault::PageFault;
 pub use frame::{write_closing, write_opening};
 pub use html::Html;
 pub use laws::words_are_clean;
-pub use lists::{add_entry, add_refusal, write_refusals, write_summary};
+pub use lists::{add_entry, write_refusal, write_summary};
 pub use page::write_page;

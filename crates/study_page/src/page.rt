@@ -5,16 +5,17 @@ ghost use Rattle.study_tablefile.specs.Taken.{TakesPrefix};
 ghost use Rattle.study_marks.specs.Kept.{marked, IsKeptRight};
 ghost use Rattle.study_marks.specs.Study.{plain_study};
 ghost use Rattle.study_prober.specs.declared.values.ProbeFault.{ProbeFault as AProbeFault};
+ghost use Rattle.study_review.specs.Review.{HasReviewed};
 ghost use Rattle.study_page.specs.Escape.{said};
 ghost use Rattle.study_page.specs.Elements.{inside};
-ghost use Rattle.study_page.specs.Made.{HasAsked, HasPrinted};
+ghost use Rattle.study_page.specs.Made.{HasAsked};
 ghost use Rattle.study_page.specs.Markup.{IsWellNested};
 ghost use Rattle.study_page.specs.Page.{AreRows, heads, table_part, full_table, cards_part, full_cards};
 ghost use Rattle.study_page.specs.Page.{solution_part, duals_title, duals_note, foot_words, tables, top, page_text, IsPage, IsPageOf};
 
 use crate::counts::add_counts;
 use crate::element::Element;
-use crate::fault::{NotMade, PageFault};
+use crate::fault::NotMade;
 use crate::head::{put_figure, put_head};
 use crate::html::Html;
 use crate::items::put_words;
@@ -26,6 +27,7 @@ use std::io::Write;
 use study_marks::Bench;
 use study_pgn::Text;
 use study_prober::Values;
+use study_review::ReviewFault;
 use study_tablefile::put;
 
 /// What is made of the nodes, part by part.
@@ -302,17 +304,17 @@ pub fn write_page<'a, 'b, A: Allocator, B: Allocator, V: Values, W: Write>(
     values: &mut V,
     number: u32,
     out: &mut W,
-) -> Result<(), PageFault>
+) -> Result<(), ReviewFault>
     ensures ok { V.is_honest values.old → OnOk result ((text : List ℕ) × IsPage (marked bench.now) number text
         × Appends (W.contents out.old) (W.contents out.new) text) }
     ensures plain { V.is_honest values.old → IsKeptRight bench.now → OnOk result ((text : List ℕ)
         × IsPageOf (plain_study (marked bench.now)) number text × Appends (W.contents out.old) (W.contents out.new) text) }
     ensures nested { OnOk result ((text : List ℕ) × IsWellNested text × Appends (W.contents out.old) (W.contents out.new) text) }
-    ensures device { V.is_honest values.old → result ≡ Err PageFault.Device → (text : List ℕ) × IsPage (marked bench.now) number text
+    ensures device { V.is_honest values.old → result ≡ Err ReviewFault.Device → (text : List ℕ) × IsPage (marked bench.now) number text
         × TakesPrefix (W.contents out.old) (W.contents out.new) text }
-    ensures memory { result ≡ Err PageFault.OutOfMemory → out.new ≡ out.old }
-    ensures untold { (fault : AProbeFault) → result ≡ Err (PageFault.Values fault) → out.new ≡ out.old }
-    ensures asked { HasPrinted V.held V.gives V.may_fail V.asked_of V.failed_of V.is_honest values.old result values.new }
+    ensures memory { result ≡ Err ReviewFault.OutOfMemory → out.new ≡ out.old }
+    ensures untold { (fault : AProbeFault) → result ≡ Err (ReviewFault.Values fault) → out.new ≡ out.old }
+    ensures asked { HasReviewed V.held V.gives V.may_fail V.asked_of V.failed_of V.is_honest values.old result values.new }
 {
     let page = page_of(alloc, bench, values, number)?;
     put(out, page.as_slice())?;
