@@ -66,7 +66,7 @@ module _ (s : Study Mark) (path : List ℕ) where
         are-there (is_solution_move s path) _ old new so (
           grew.0,
           subst (λ (o : Option Move). MatchOption o (grew.0 ≡ []) (λ m. IsFaultOf s.start (aim_of s) (length (front_of path))
-          (line_to s (front_of path)) (position_at s (front_of path)) m (value_at s path) (mark_at s path) grew.0)) (sym h.played) valued,
+              (line_to s (front_of path)) (position_at s (front_of path)) m (value_at s path) (mark_at s path) grew.0)) (sym h.played) valued,
           grew.2,
         )
 
@@ -82,7 +82,7 @@ module _ (s : Study Mark) (path : List ℕ) where
         (position_at s (front_of path)) x.played w (mark_at s path) grew.0) same marked in (
           grew.0,
           subst (λ (o : Option Move). MatchOption o (grew.0 ≡ []) (λ m. IsCardOf s.start (aim_of s) (length (front_of path))
-          (line_to s (front_of path)) (position_at s (front_of path)) m (value_at s path) (mark_at s path) grew.0)) (sym h.played) valued,
+              (line_to s (front_of path)) (position_at s (front_of path)) m (value_at s path) (mark_at s path) grew.0)) (sym h.played) valued,
           grew.2,
         )
 
@@ -93,7 +93,7 @@ module _ (s : Study Mark) (path : List ℕ) where
       are-there (is_solution_move s path) _ text text so (
         nothing,
         subst (λ (o : Option Move). MatchOption o (nothing ≡ nothing) (λ m. IsFaultOf s.start (aim_of s) (length (front_of path))
-        (line_to s (front_of path)) (position_at s (front_of path)) m (value_at s path) (mark_at s path) nothing)) (sym e) refl,
+            (line_to s (front_of path)) (position_at s (front_of path)) m (value_at s path) (mark_at s path) nothing)) (sym e) refl,
         sym (append-nil text),
       )
 
@@ -102,7 +102,7 @@ module _ (s : Study Mark) (path : List ℕ) where
       let nothing : List ℕ = [] in (
         nothing,
         subst (λ (o : Option Move). MatchOption o (nothing ≡ nothing) (λ m. IsCardOf s.start (aim_of s) (length (front_of path))
-        (line_to s (front_of path)) (position_at s (front_of path)) m (value_at s path) (mark_at s path) nothing)) (sym e) refl,
+            (line_to s (front_of path)) (position_at s (front_of path)) m (value_at s path) (mark_at s path) nothing)) (sym e) refl,
         sym (append-nil text),
       )
 

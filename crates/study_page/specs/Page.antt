@@ -36,7 +36,7 @@ unfoldable pub duals_title : List ℕ
 duals_title = codes "Duals: what else holds"
 
 unfoldable pub duals_note : List ℕ
-duals_note = codes "A move loses time n where the opponent can force a position of the same line again, by n + 1 moves of his."
+duals_note = codes "A move loses time where the opponent can force a position of the same line again, by one move or by so many as are told."
 
 unfoldable pub full_cards : List ℕ → List ℕ
 full_cards cards =

@@ -1,5 +1,5 @@
 -- What the parts of a page have of one node.
-use Rattle.std.specs.Prelude.{◌≡◌, ◌==◌, ℕ, ◌+◌, Bool, true, false, not, ◌||◌, List, [], ◌∷◌, ◌++◌, length, Option, Some, None}
+use Rattle.std.specs.Prelude.{◌≡◌, ◌==◌, nat_lt, ℕ, ◌+◌, ◌-◌, ◌/◌, Bool, true, false, not, ◌||◌, List, [], ◌∷◌, ◌++◌, length, Option, Some, None}
 use Rattle.std.specs.Prelude.{MatchOption, if◌then◌else◌, codes, decimal}
 use Rattle.std.specs.List.{flat_map}
 use Rattle.study_board.specs.declared.men.Side.{Side}
@@ -33,11 +33,11 @@ use Rattle.study_review.specs.Best.{IsBestPlay}
 use Rattle.study_review.specs.Line.{line_to, moves_of}
 use Rattle.study_review.specs.Words.{move_words, times_lost}
 use Rattle.study_review.specs.Nodes.{front_of, OnlyWhere, mark_at, value_at, is_stalemate, is_try, is_defended, is_open_end, is_solution_move}
-use Rattle.study_page.specs.declared.element.Element.TheVariants.{Strong, Item, Card, Beside, CardTitle, Label, Also, Paragraph, Row, Cell, Whole}
+use Rattle.study_page.specs.declared.element.Element.TheVariants.{Strong, Below, Item, Card, Beside, CardTitle, Label, Also, Paragraph, Row, Cell, Whole}
 use Rattle.study_page.specs.Escape.{said}
 use Rattle.study_page.specs.Elements.{inside}
 use Rattle.study_page.specs.Diagram.{mini}
-use Rattle.study_page.specs.Words.{front_words, label, where_words}
+use Rattle.study_page.specs.Words.{front_words, short_words, label, where_words}
 
 -- ---- faults
 
@@ -81,19 +81,43 @@ FaultItems s path text =
 -- ---- duals
 
 unfoldable pub loses_time : List ℕ
-loses_time = codes ", loses time "
+loses_time = codes ", loses time"
+
+-- ` (2 moves)`, where it takes the opponent more than one
+abbrev pub forced_words : ℕ → List ℕ
+forced_words m = if m == 0 then [] else (codes " (" ++ (decimal (m + 1) ++ codes " moves)"))
 
 -- the time that is lost, where some is
 abbrev pub time_words : Option ℕ → List ℕ
 time_words None = []
-time_words (Some m) = loses_time ++ decimal m
+time_words (Some m) = loses_time ++ forced_words m
 
-unfoldable pub also_words : Side → Alternative → List ℕ
-also_words side x = codes ": " ++ (value_text side x.value ++ time_words x.time)
+-- `, 1 move longer`, `, 2 moves quicker`
+abbrev pub move_word : ℕ → List ℕ
+move_word k = if k == 1 then codes " move " else codes " moves "
 
--- `Kb6: White mates in 25, loses time 0`
-unfoldable pub also_item : Position → Alternative → List ℕ
-also_item p x = inside Item (inside Strong (said (move_text p x.played)) ++ said (also_words (other_side p.to_move) x))
+abbrev pub by_words : ℕ → List ℕ → List ℕ
+by_words k way = codes ", " ++ (decimal k ++ (move_word k ++ way))
+
+-- how much later mate comes on move b than on move a
+abbrev pub later_words : ℕ → ℕ → List ℕ
+later_words a b =
+    if a == b then codes ", as quick" else (if nat_lt a b then by_words (b - a) (codes "longer") else by_words (a - b) (codes "quicker"))
+
+-- how much later the hero mates by the value after another move of his than by the value after the one that he played
+abbrev pub difference : Value → Value → List ℕ
+difference (Loss n) (Loss k) = later_words (n / 2) (k / 2)
+difference (Loss n) (Win k) = []
+difference (Loss n) Draw = []
+difference (Win n) w = []
+difference Draw w = []
+
+unfoldable pub also_words : Side → Value → Alternative → List ℕ
+also_words side v x = codes ": " ++ (value_text side x.value ++ (difference v x.value ++ time_words x.time))
+
+-- `Kb6: White mates in 25, 2 moves longer, loses time`, beside a move with this value after it
+unfoldable pub also_item : Position → Value → Alternative → List ℕ
+also_item p v x = inside Item (inside Strong (said (move_text p x.played)) ++ said (also_words (other_side p.to_move) v x))
 
 unfoldable pub card_title : Start → ℕ → Position → Move → ℕ → List ℕ
 card_title start d p m k = inside CardTitle (said (label start d p m ++ codes " ") ++ inside Label (said (codes "dual " ++ decimal k)))
@@ -102,7 +126,7 @@ card_title start d p m k = inside CardTitle (said (label start d p m ++ codes " 
 unfoldable pub card_words : Start → ℕ → Position → Move → ℕ → Value → List Alternative → List ℕ
 card_words start d p m k v list =
     card_title start d p m k ++ (inside Paragraph (said (value_text (other_side p.to_move) v ++ codes ". Also:"))
-    ++ inside Also (flat_map (also_item p) list))
+    ++ inside Also (flat_map (also_item p v) list))
 
 -- these beside the position before the move
 unfoldable pub card : Start → ℕ → Position → Move → ℕ → Value → List Alternative → List ℕ
@@ -129,9 +153,9 @@ Cards s path text =
 unfoldable pub front_cells : List ℕ → Side → Value → List ℕ
 front_cells node side v = inside Cell (said node) ++ inside Cell (said (value_text side v))
 
--- `Rd1: draw`
+-- a move of the opponent, and small the value after it
 unfoldable pub told_move : Position → Move → Value → List ℕ
-told_move p m v = inside Strong (said (move_text p m)) ++ said (codes ": " ++ value_text (other_side p.to_move) v)
+told_move p m v = inside Strong (said (move_text p m)) ++ inside Below (said (short_words true v))
 
 unfoldable pub refuted_item : Position → Continuation → List ℕ
 refuted_item p x = inside Whole (told_move p x.played x.value) ++ said (codes " ")
@@ -156,10 +180,10 @@ abbrev pub answer_words : Position → ℕ → Option Move → List ℕ
 answer_words q n (Some m) = move_text q m
 answer_words q n None = if n == 0 then codes "stalemate" else (decimal n ++ codes " hold")
 
--- `Kb1: White mates in 23; c8=Q`
+-- a defence, and what answers it
 unfoldable pub missing_item : Position → Defence → List ℕ
 missing_item p y =
-    inside Whole (told_move p y.played y.value ++ said (codes "; " ++ answer_words (after p y.played) y.answers y.only)) ++ said (codes " ")
+    inside Whole (told_move p y.played y.value ++ said (codes " " ++ answer_words (after p y.played) y.answers y.only)) ++ said (codes " ")
 
 abbrev pub is_same : Bool → Bool → Bool
 is_same true b = b

@@ -204,10 +204,7 @@ fn fixed(element: Element) -> &'static [u8]
 }
 
 /// Adds the attributes of the element.
-fn add_attributes<A: Allocator>(
-    text: &mut Text<'_, A>,
-    element: Element,
-) -> Result<(), AllocError>
+fn add_attributes<A: Allocator>(text: &mut Text<'_, A>, element: Element) -> Result<(), AllocError>
     ensures { OnOk result (text.new ≡ text.old ++ attributes element) }
 {
     match element {

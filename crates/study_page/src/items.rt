@@ -7,14 +7,15 @@ ghost use Rattle.study_notation.specs.Written.{move_text};
 ghost use Rattle.study_pgn.specs.Values.{value_text};
 ghost use Rattle.study_page.specs.Escape.{said};
 ghost use Rattle.study_page.specs.Elements.{inside};
-ghost use Rattle.study_page.specs.Rows.{loses_time, lets_go, hold_words, lose_words, counts_words, dual_item, mistake_item, time_words, also_words, also_item};
+ghost use Rattle.study_page.specs.Rows.{lets_go, hold_words, lose_words, counts_words, dual_item, mistake_item};
+ghost use Rattle.study_page.specs.Rows.{loses_time, forced_words, time_words, move_word, by_words, later_words, difference, also_words, also_item};
 ghost use Rattle.study_page.specs.Rows.{card_title, card_words, card, front_cells, told_move, refuted_item, refuted_items, try_row};
 
 use crate::diagram::draw_mini;
 use crate::element::Element;
 use crate::html::Html;
 use crate::signs::is_stalemate;
-use crate::words::{add_label, add_san, add_value};
+use crate::words::{add_label, add_san, add_short, add_value};
 use std::alloc::{AllocError, Allocator};
 use study_board::{Position, Side};
 use study_moves::Move;
@@ -40,20 +41,25 @@ pub fn put_words<'a, A: Allocator>(
 fn hold_words(count: u8) -> &'static [u8]
     ensures { result.now ≡ hold_words count }
 {
-    if count == 1 { b" other holds, " } else { b" others hold, " }
+    if count == 1 {
+        b" other holds, "
+    } else {
+        b" others hold, "
+    }
 }
 
 fn lose_words(count: u16) -> &'static [u8]
     ensures { result.now ≡ lose_words count }
 {
-    if count == 1 { b" loses time" } else { b" lose time" }
+    if count == 1 {
+        b" loses time"
+    } else {
+        b" lose time"
+    }
 }
 
 #[tactic(auto, unfolding(crate::specs::Rows::counts_words))]
-fn add_counts<A: Allocator>(
-    text: &mut Text<'_, A>,
-    counts: (u8, u16),
-) -> Result<(), AllocError>
+fn add_counts<A: Allocator>(text: &mut Text<'_, A>, counts: (u8, u16)) -> Result<(), AllocError>
     ensures { OnOk result (text.new ≡ text.old ++ counts_words counts.0 counts.1) }
 {
     text.add(b": ")?;
@@ -115,7 +121,18 @@ pub fn put_mistake<'a, A: Allocator>(
 fn loses_time() -> &'static [u8]
     ensures { result.now ≡ loses_time }
 {
-    b", loses time "
+    b", loses time"
+}
+
+fn add_forced<A: Allocator>(text: &mut Text<'_, A>, moves: u8) -> Result<(), AllocError>
+    ensures { OnOk result (text.new ≡ text.old ++ forced_words moves) }
+{
+    if moves == 0 {
+        return Ok(());
+    }
+    text.add(b" (")?;
+    text.add_number(moves as u32 + 1)?;
+    text.add(b" moves)")
 }
 
 fn add_time<A: Allocator>(text: &mut Text<'_, A>, time: Option<u8>) -> Result<(), AllocError>
@@ -125,8 +142,49 @@ fn add_time<A: Allocator>(text: &mut Text<'_, A>, time: Option<u8>) -> Result<()
         None => Ok(()),
         Some(m) => {
             text.add(loses_time())?;
-            text.add_number(m as u32)
+            add_forced(text, m)
         }
+    }
+}
+
+fn move_word(count: u8) -> &'static [u8]
+    ensures { result.now ≡ move_word count }
+{
+    if count == 1 { b" move " } else { b" moves " }
+}
+
+fn add_by<A: Allocator>(text: &mut Text<'_, A>, moves: u8, way: &[u8]) -> Result<(), AllocError>
+    ensures { OnOk result (text.new ≡ text.old ++ by_words moves way.now) }
+{
+    text.add(b", ")?;
+    text.add_number(moves as u32)?;
+    text.add(move_word(moves))?;
+    text.add(way)
+}
+
+fn add_later<A: Allocator>(text: &mut Text<'_, A>, a: u8, b: u8) -> Result<(), AllocError>
+    ensures { OnOk result (text.new ≡ text.old ++ later_words a b) }
+{
+    if a == b {
+        return text.add(b", as quick");
+    }
+    if a < b {
+        return add_by(text, b - a, b"longer");
+    }
+    add_by(text, a - b, b"quicker")
+}
+
+/// How much later the hero mates by another move than by the one that he played, from the values after both.
+fn add_difference<A: Allocator>(
+    text: &mut Text<'_, A>,
+    value: Value,
+    other: Value,
+) -> Result<(), AllocError>
+    ensures { OnOk result (text.new ≡ text.old ++ difference value other) }
+{
+    match (value, other) {
+        (Value::Loss(n), Value::Loss(k)) => add_later(text, n / 2, k / 2),
+        _ => Ok(()),
     }
 }
 
@@ -134,12 +192,14 @@ fn add_time<A: Allocator>(text: &mut Text<'_, A>, time: Option<u8>) -> Result<()
 fn add_also<A: Allocator>(
     text: &mut Text<'_, A>,
     side: Side,
+    value: Value,
     x: &Alternative,
 ) -> Result<(), AllocError>
-    ensures { OnOk result (text.new ≡ text.old ++ also_words side x.now) }
+    ensures { OnOk result (text.new ≡ text.old ++ also_words side value x.now) }
 {
     text.add(b": ")?;
     add_value(text, side, x.value)?;
+    add_difference(text, value, x.value)?;
     add_time(text, x.time)
 }
 
@@ -162,15 +222,16 @@ fn put_also<'a, A: Allocator>(
     alloc: &'a A,
     html: &mut Html<'_, A>,
     p: &Position,
+    value: Value,
     x: &Alternative,
 ) -> Result<(), AllocError>
     requires { is_legal p.now x.now.played ≡ true }
-    ensures { OnOk result (html.new ≡ html.old ++ also_item p.now x.now) }
+    ensures { OnOk result (html.new ≡ html.old ++ also_item p.now value x.now) }
 {
     let mut item = Html::new(alloc);
     let mut text = Text::new(alloc);
     put_san(alloc, &mut item, p, x.played)?;
-    add_also(&mut text, p.to_move().other(), x)?;
+    add_also(&mut text, p.to_move().other(), value, x)?;
     item.say(text.as_slice())?;
     html.put(Element::Item, &item)
 }
@@ -179,13 +240,14 @@ fn put_each_also<'a, A: Allocator>(
     alloc: &'a A,
     html: &mut Html<'_, A>,
     p: &Position,
+    value: Value,
     list: &[Alternative],
 ) -> Result<(), AllocError>
     requires { All (λ x. is_legal p.now x.played ≡ true) list.now }
-    ensures { OnOk result (html.new ≡ html.old ++ flat_map (also_item p.now) list.now) }
+    ensures { OnOk result (html.new ≡ html.old ++ flat_map (also_item p.now value) list.now) }
 {
     for x in list {
-        put_also(alloc, html, p, x)?;
+        put_also(alloc, html, p, value, x)?;
     }
     Ok(())
 }
@@ -235,13 +297,14 @@ fn put_others<'a, A: Allocator>(
     alloc: &'a A,
     html: &mut Html<'_, A>,
     p: &Position,
+    value: Value,
     list: &[Alternative],
 ) -> Result<(), AllocError>
     requires { All (λ x. is_legal p.now x.played ≡ true) list.now }
-    ensures { OnOk result (html.new ≡ html.old ++ inside Element.Also (flat_map (also_item p.now) list.now)) }
+    ensures { OnOk result (html.new ≡ html.old ++ inside Element.Also (flat_map (also_item p.now value) list.now)) }
 {
     let mut others = Html::new(alloc);
-    put_each_also(alloc, &mut others, p, list)?;
+    put_each_also(alloc, &mut others, p, value, list)?;
     html.put(Element::Also, &others)
 }
 
@@ -263,7 +326,7 @@ fn put_card_words<'a, A: Allocator>(
 {
     put_card_title(alloc, html, start, depth, p, x.played, count)?;
     put_after(alloc, html, p.to_move().other(), x.value)?;
-    put_others(alloc, html, p, list)
+    put_others(alloc, html, p, x.value, list)
 }
 
 /// The card of a dual: the position before the move, the move with the value after it, and the others.
@@ -307,7 +370,7 @@ pub fn put_front_cells<'a, A: Allocator>(
     put_words(alloc, html, Element::Cell, text.as_slice())
 }
 
-/// A move, with the value after it.
+/// A move of the opponent, and small the value after it.
 #[tactic(auto, unfolding(crate::specs::Rows::told_move))]
 pub fn put_told<'a, A: Allocator>(
     alloc: &'a A,
@@ -321,9 +384,8 @@ pub fn put_told<'a, A: Allocator>(
 {
     let mut text = Text::new(alloc);
     put_san(alloc, html, p, m)?;
-    text.add(b": ")?;
-    add_value(&mut text, p.to_move().other(), value)?;
-    html.say(text.as_slice())
+    add_short(&mut text, true, value)?;
+    put_words(alloc, html, Element::Below, text.as_slice())
 }
 
 #[tactic(auto, unfolding(crate::specs::Rows::refuted_item))]

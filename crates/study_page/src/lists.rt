@@ -194,10 +194,7 @@ fn put_summary_heads<'a, A: Allocator>(
 
 /// The page with these entries.
 #[tactic(auto, unfolding(crate::specs::Lists::summary_part))]
-fn summary_of<'a, A: Allocator>(
-    alloc: &'a A,
-    rows: &Html<'_, A>,
-) -> Result<Html<'a, A>, AllocError>
+fn summary_of<'a, A: Allocator>(alloc: &'a A, rows: &Html<'_, A>) -> Result<Html<'a, A>, AllocError>
     ensures { IfOk result (λ html. html ≡ summary_part rows.now) }
 {
     let mut html = Html::new(alloc);

@@ -202,7 +202,7 @@ fn duals_title() -> &'static [u8]
 fn duals_note() -> &'static [u8]
     ensures { result.now ≡ duals_note }
 {
-    b"A move loses time n where the opponent can force a position of the same line again, by n + 1 moves of his."
+    b"A move loses time where the opponent can force a position of the same line again, by one move or by so many as are told."
 }
 
 #[tactic(auto, unfolding(crate::specs::Page::foot_words))]
@@ -289,7 +289,15 @@ fn page_of<'a, 'b, A: Allocator, B: Allocator, V: Values>(
     add_counts(&mut counts, bench.start().position.men())?;
     let tree = solution_of(alloc, bench)?;
     let parts = parts_of(alloc, bench, values)?;
-    put_page(alloc, &mut html, bench, number, counts.as_slice(), &tree, &parts)?;
+    put_page(
+        alloc,
+        &mut html,
+        bench,
+        number,
+        counts.as_slice(),
+        &tree,
+        &parts,
+    )?;
     Ok(html)
 }
 

@@ -191,7 +191,14 @@ fn put_try_at<'a, 'b, A: Allocator, B: Allocator>(
 {
     let mut node = Text::new(alloc);
     add_where(&mut node, bench, steps)?;
-    put_try(alloc, html, node.as_slice(), p, value_at(bench, steps), list)
+    put_try(
+        alloc,
+        html,
+        node.as_slice(),
+        p,
+        value_at(bench, steps),
+        list,
+    )
 }
 
 /// The row of a try.
@@ -368,5 +375,13 @@ pub fn add_end<'a, 'b, A: Allocator, B: Allocator, V: Values>(
     let mut node = Text::new(alloc);
     add_where(&mut node, bench, steps)?;
     let value = value_at(bench, steps);
-    add_continued(alloc, html, bench.start(), place, node.as_slice(), value, values)
+    add_continued(
+        alloc,
+        html,
+        bench.start(),
+        place,
+        node.as_slice(),
+        value,
+        values,
+    )
 }

@@ -7,7 +7,8 @@ ghost use Rattle.study_review.specs.Play.{IsPlayed, ArePlayed};
 ghost use Rattle.study_review.specs.Words.{move_words};
 ghost use Rattle.study_page.specs.Escape.{said};
 ghost use Rattle.study_page.specs.Elements.{inside};
-ghost use Rattle.study_page.specs.Rows.{answer_words, missing_item, is_same, with_one, defence_row, is_white, number_words, play_words, keep_it, keep_words, end_row};
+ghost use Rattle.study_page.specs.Rows.{answer_words, missing_item, is_same, with_one, defence_row};
+ghost use Rattle.study_page.specs.Rows.{is_white, number_words, play_words, keep_it, keep_words, end_row};
 
 use crate::element::Element;
 use crate::html::Html;
@@ -56,7 +57,7 @@ fn put_missing<'a, A: Allocator>(
     let mut whole = Html::new(alloc);
     let mut text = Text::new(alloc);
     put_told(alloc, &mut whole, p, y.played, y.value)?;
-    text.add(b"; ")?;
+    text.add(b" ")?;
     add_answer(&mut text, &next, y.answers, y.only)?;
     whole.say(text.as_slice())?;
     html.put(Element::Whole, &whole)?;

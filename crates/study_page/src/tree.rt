@@ -9,11 +9,10 @@ use crate::items::put_words;
 use crate::rows::add_number;
 use crate::signs::{aim_in, mark_at, value_at};
 use crate::walk::count_at;
-use crate::words::add_san;
+use crate::words::{add_san, add_short};
 use std::alloc::{AllocError, Allocator};
 use study_marks::{Bench, MoveMark, hero_moves};
 use study_pgn::Text;
-use study_retro::Value;
 use study_review::{Made, made_in};
 
 fn move_element(mark: Option<MoveMark>) -> Element {
@@ -49,33 +48,10 @@ fn put_dual<'a, A: Allocator>(
             let mut text = Text::new(alloc);
             text.add(b"dual ")?;
             text.add_number(count as u32)?;
+            html.say(b" ")?;
             put_words(alloc, html, Element::Label, text.as_slice())
         }
         _ => Ok(()),
-    }
-}
-
-/// In how many moves the hero mates, or is mated behind a minus; `=` where it is drawn, and `#` where it is mate.
-fn add_short<A: Allocator>(
-    text: &mut Text<'_, A>,
-    hero: bool,
-    value: Value,
-) -> Result<(), AllocError> {
-    match value {
-        Value::Draw => text.add(b"="),
-        Value::Loss(0) => text.add(b"#"),
-        Value::Win(plies) => {
-            if !hero {
-                text.add(b"-")?;
-            }
-            text.add_number((plies / 2 + plies % 2) as u32)
-        }
-        Value::Loss(plies) => {
-            if hero {
-                text.add(b"-")?;
-            }
-            text.add_number((plies / 2) as u32)
-        }
     }
 }
 

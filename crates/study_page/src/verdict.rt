@@ -76,10 +76,7 @@ fn stamp_element(stamp: Stamp) -> Element
 }
 
 /// `sound`, `unsound 3`, `wrong`.
-pub fn add_stamp_words<A: Allocator>(
-    text: &mut Text<'_, A>,
-    stamp: Stamp,
-) -> Result<(), AllocError>
+pub fn add_stamp_words<A: Allocator>(text: &mut Text<'_, A>, stamp: Stamp) -> Result<(), AllocError>
     ensures { OnOk result (text.new ≡ text.old ++ stamp_words stamp) }
 {
     match stamp {

@@ -11,8 +11,7 @@ use study_marks::{Bench, Goal, MateMoves, Stipulation, TagName};
 use study_material::Class;
 use study_notation::{read_fen, read_san};
 use study_page::{
-    Html, add_entry, add_refusal, write_closing, write_opening, write_page, write_refusals,
-    write_summary,
+    Html, add_entry, write_closing, write_opening, write_page, write_refusal, write_summary,
 };
 use study_prober::WholeTables;
 use study_retro::{BuildRoom, TableSet, build};
@@ -92,7 +91,6 @@ fn study<'a, A: Allocator>(
 fn write_all<'a, A: Allocator, W: Write>(alloc: &'a A, out: &mut W) -> Option<()> {
     let mut values = tables(alloc)?;
     let mut entries = Html::new(alloc);
-    let mut refused = Html::new(alloc);
     write_opening(out).ok()?;
     for (number, moves) in [(1, 3), (2, 4)] {
         let bench = study(alloc, &mut values, moves)?;
@@ -100,8 +98,7 @@ fn write_all<'a, A: Allocator, W: Write>(alloc: &'a A, out: &mut W) -> Option<()
         add_entry(alloc, &mut entries, &bench, number).ok()?;
     }
     let reason = b"a letter outside plain ASCII & 'so'";
-    add_refusal(alloc, &mut refused, 7, b"insert root <b>\xE9", b"BadByte", reason).ok()?;
-    write_refusals(alloc, &refused, out).ok()?;
+    write_refusal(alloc, 7, b"insert root <b>\xE9", b"BadByte", reason, out).ok()?;
     write_summary(alloc, &entries, out).ok()?;
     write_closing(out).ok()
 }
