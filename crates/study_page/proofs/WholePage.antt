@@ -15,3 +15,6 @@ all-rows part s p old new pe e g =
     let rows : LinesOfEach (RowsOf part s) (written_order s) g.0 =
     subst (λ (x : List ℕ). LinesOfEach (RowsOf part s) (x ∷ paths_from x 0 (below_at s.tree.below x)) g.0) pe g.1 in
     subst (λ (t : List ℕ). LinesOfEach (RowsOf part s) (written_order s) t) (sym (g.2 ∙ ap (λ (t : List ℕ). t ++ g.0) e)) rows
+
+pub from-nothing : (old new text : List ℕ) → old ≡ [] → new ≡ old ++ text → new ≡ text
+from-nothing old new text e h = h ∙ ap (λ (u : List ℕ). u ++ text) e

@@ -51,7 +51,8 @@ solution_part tree = inside element.Part (inside element.Heading (said (codes "S
 unfoldable pub foot_words : List ℕ
 foot_words =
     codes "Values are distances to mate from complete tables of two to four men, without castling, the fifty-move rule and repetition. "
-    ++ codes "A move holds if the aim is still reached after it; a move that only loses time holds too."
+    ++ (codes "A move holds if the aim is still reached after it; a move that only loses time holds too. "
+    ++ codes "A small number tells in how many moves the hero mates, behind a minus in how many he is mated; = is a draw, and # is mate.")
 
 unfoldable pub tables : List ℕ → List ℕ → List ℕ → List ℕ
 tables tries defences ends =

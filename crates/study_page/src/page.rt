@@ -85,7 +85,7 @@ fn parts_of<'a, 'b, A: Allocator, B: Allocator, V: Values>(
 fn solution_of<'a, 'b, A: Allocator, B: Allocator>(
     alloc: &'a A,
     bench: &Bench<'b, B>,
-) -> Result<Html<'a, A>, NotMade> {
+) -> Result<Html<'a, A>, AllocError> {
     let mut html = Html::new(alloc);
     let mut steps = Vec::new(alloc);
     put_following(alloc, &mut html, bench, &mut steps, true, 256)?;
@@ -210,7 +210,8 @@ fn foot_words() -> &'static [u8]
     ensures { result.now ≡ foot_words }
 {
     b"Values are distances to mate from complete tables of two to four men, without castling, the fifty-move rule and repetition. \
-A move holds if the aim is still reached after it; a move that only loses time holds too."
+A move holds if the aim is still reached after it; a move that only loses time holds too. \
+A small number tells in how many moves the hero mates, behind a minus in how many he is mated; = is a draw, and # is mate."
 }
 
 /// The tables below the solution.

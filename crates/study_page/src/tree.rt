@@ -3,7 +3,6 @@ ghost use Rattle.std.specs.Prelude.{◌≡◌, true};
 ghost use Rattle.study_moves.specs.Rules.{is_legal};
 
 use crate::element::Element;
-use crate::fault::NotMade;
 use crate::html::Html;
 use crate::items::put_words;
 use crate::rows::add_number;
@@ -107,7 +106,7 @@ pub fn put_following<'a, 'b, A: Allocator, B: Allocator>(
     steps: &mut Vec<u16, &A>,
     numbered: bool,
     left: u16,
-) -> Result<(), NotMade> {
+) -> Result<(), AllocError> {
     let count = count_at(bench, steps.as_slice());
     if left == 0 || count == 0 {
         return Ok(());

@@ -71,4 +71,5 @@ returns-in_err-add_each-clause-asked g t c =
     asks-then g.V.Values.held g.V.Values.gives g.V.Values.may_fail g.V.Values.asked_of g.V.Values.failed_of g.V.Values.is_honest
     c.args.values.now c.loop-place.values c.add_each.new.values c.from_residual-in_err-add_each.result c.loop-place.invariant.told
     (same-asks g.V.Values.held g.V.Values.gives g.V.Values.may_fail g.V.Values.asked_of g.V.Values.failed_of g.V.Values.is_honest
-    c.loop-place.values c.add_each.new.values c.from_residual-in_err-add_each.result c.in_err-add_each.field-0.0 c.from_residual-in_err-add_each.ensures.1 c.in_err-add_each.ensures.asked)
+    c.loop-place.values c.add_each.new.values c.from_residual-in_err-add_each.result c.in_err-add_each.field-0.0
+    c.from_residual-in_err-add_each.ensures.1 c.in_err-add_each.ensures.asked)
