@@ -1,3 +1,1 @@
-pub mod Reasons
-pub mod Pages
 pub mod Ended
