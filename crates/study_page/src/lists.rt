@@ -10,7 +10,7 @@ ghost use Rattle.study_page.specs.Elements.{inside};
 ghost use Rattle.study_page.specs.Escape.{said};
 ghost use Rattle.study_page.specs.Head.{title_words};
 ghost use Rattle.study_page.specs.Verdict.{stamp_words, judged};
-ghost use Rattle.study_page.specs.Lists.{refusal_part, known_words, summary_row, summary_heads, summary_part};
+ghost use Rattle.study_page.specs.Lists.{refusal_part, known_words, summary_row, two_heads, summary_heads, summary_part};
 
 use crate::element::Element;
 use crate::fault::PageFault;
@@ -174,6 +174,18 @@ pub fn add_entry<'a, 'b, A: Allocator, B: Allocator>(
     rows.put(Element::Row, &row)
 }
 
+fn put_two_heads<'a, A: Allocator>(
+    alloc: &'a A,
+    html: &mut Html<'_, A>,
+    a: &[u8],
+    b: &[u8],
+) -> Result<(), AllocError>
+    ensures { OnOk result (html.new ≡ html.old ++ two_heads a.now b.now) }
+{
+    put_words(alloc, html, Element::Head, a)?;
+    put_words(alloc, html, Element::Head, b)
+}
+
 #[tactic(auto, unfolding(crate::specs::Lists::summary_heads))]
 fn put_summary_heads<'a, A: Allocator>(
     alloc: &'a A,
@@ -183,10 +195,8 @@ fn put_summary_heads<'a, A: Allocator>(
 {
     let mut row = Html::new(alloc);
     let mut within = Html::new(alloc);
-    put_words(alloc, &mut row, Element::Head, b"No.")?;
-    put_words(alloc, &mut row, Element::Head, b"Title")?;
-    put_words(alloc, &mut row, Element::Head, b"Author")?;
-    put_words(alloc, &mut row, Element::Head, b"Stipulation")?;
+    put_two_heads(alloc, &mut row, b"No.", b"Title")?;
+    put_two_heads(alloc, &mut row, b"Author", b"Stipulation")?;
     put_words(alloc, &mut row, Element::Head, b"Verdict")?;
     within.put(Element::Row, &row)?;
     html.put(Element::Heads, &within)
