@@ -1,3 +1,5 @@
 pub mod CleanWords
 pub mod MarkupGrows
-pub mod MadeLabel
+pub mod Asking
+pub mod MadeRows
+pub mod WholePage

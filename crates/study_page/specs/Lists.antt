@@ -1,23 +1,20 @@
--- The list of refused lines, and the list of all entries.
+-- Refused lines, and the list of all entries.
 use Rattle.std.specs.Prelude.{ℕ, List, [], ◌++◌, Option, Some, None, codes, decimal}
 use Rattle.study_marks.specs.declared.mark.Mark.{Mark}
 use Rattle.study_marks.specs.declared.tag.TagName.TheVariants.{Event, White}
 use Rattle.study_marks.specs.Study.{Study, tag_of}
 use Rattle.study_pgn.specs.Pgn.{stipulation_text}
-use Rattle.study_page.specs.declared.element.Element.TheVariants.{Cell, Code, Row, Rows, Kept, Heading, Table, Link, Summary, Header, Title}
+use Rattle.study_page.specs.declared.element.Element.TheVariants.{Cell, Code, Head, Heads, Header, Link, Row, Rows, Strong, Summary, Table, Title, Warning}
 use Rattle.study_page.specs.Escape.{said}
 use Rattle.study_page.specs.Elements.{inside}
 use Rattle.study_page.specs.Head.{title_words}
 use Rattle.study_page.specs.Verdict.{stamp_words, judged}
 
 -- a refused line: its number, its text, the name of the refusal, and the reason in words
-unfoldable pub refusal_row : ℕ → List ℕ → List ℕ → List ℕ → List ℕ
-refusal_row line text name reason =
-    inside Row (inside Cell (said (decimal line)) ++ (inside Cell (inside Code (said text)) ++ (inside Cell (inside Code (said name))
-    ++ inside Cell (said reason))))
-
-unfoldable pub refusals_part : List ℕ → List ℕ
-refusals_part rows = inside Kept (inside Heading (said (codes "Refused lines")) ++ inside Table (inside Rows rows))
+unfoldable pub refusal_part : ℕ → List ℕ → List ℕ → List ℕ → List ℕ
+refusal_part line text name reason =
+    inside Warning (said (codes "Line " ++ (decimal line ++ codes " was refused: ")) ++ (inside Code (said text) ++ (said (codes " ")
+    ++ (inside Strong (said name) ++ (said (codes ": ") ++ said reason)))))
 
 abbrev pub known_words : Option (List ℕ) → List ℕ
 known_words None = []
@@ -30,5 +27,15 @@ summary_row s number =
     ++ (inside Cell (said (known_words (tag_of s.tags White)))
     ++ (inside Cell (said (stipulation_text s.stipulation)) ++ inside Cell (said (stamp_words (judged s).stamp))))))
 
+abbrev pub two_heads : List ℕ → List ℕ → List ℕ
+two_heads a b = inside Head (said a) ++ inside Head (said b)
+
+unfoldable pub summary_heads : List ℕ
+summary_heads =
+    inside Heads (inside Row (two_heads (codes "No.") (codes "Title") ++ (two_heads (codes "Author") (codes "Stipulation")
+    ++ inside Head (said (codes "Verdict")))))
+
+-- the page with these entries
 unfoldable pub summary_part : List ℕ → List ℕ
-summary_part rows = inside Summary (inside Header (inside Title (said (codes "Entries and verdicts"))) ++ inside Table (inside Rows rows))
+summary_part rows =
+    inside Summary (inside Header (inside Title (said (codes "Entries and verdicts"))) ++ inside Table (summary_heads ++ inside Rows rows))

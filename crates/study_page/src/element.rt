@@ -45,7 +45,6 @@ pub enum Element {
     /// A part of the page.
     Part,
     /// A part that is not broken between pages.
-    Kept,
     /// The solution.
     Tree,
     /// The only move that holds.
@@ -135,7 +134,6 @@ fn name(element: Element) -> &'static [u8]
         Element::Warning => b"p",
         Element::Note => b"p",
         Element::Part => b"section",
-        Element::Kept => b"section",
         Element::Tree => b"div",
         Element::Only => b"span",
         Element::Dual => b"span",
@@ -185,7 +183,6 @@ fn fixed(element: Element) -> &'static [u8]
         Element::Wrong => b" class=\"stamp wrong\"",
         Element::Warning => b" class=\"warn\"",
         Element::Note => b" class=\"note\"",
-        Element::Kept => b" class=\"keep\"",
         Element::Tree => b" class=\"tree\"",
         Element::Only => b" class=\"m only\"",
         Element::Dual => b" class=\"m dual\"",

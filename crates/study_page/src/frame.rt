@@ -18,7 +18,7 @@ le:last-child{break-after:auto}\nheader{border-bottom:1.5pt solid #111;margin-bo
 {margin:1mm 0 1.5mm;color:#333}\nh2{font-size:11pt;margin:3.5mm 0 1mm;break-after:avoid}\nh3{font-size:10.5pt;margin:0 0 .5mm}\np{margin:0 \
 0 1.5mm}\n.top{display:grid;grid-template-columns:68mm 1fr;gap:7mm}\nfigure{margin:0}\nsvg.board{display:block;width:68mm;height:auto}\nsvg.\
 mini{display:block;width:24mm;height:24mm;flex:none}\n.lt{fill:#fff;stroke:none}.dk{fill:#c9c9c9;stroke:none}.fr{fill:none;stroke:#111;strok\
-e-width:1.6}\nsvg text{stroke:none;font:12px \"Liberation Sans\",Arial,sans-serif;fill:#333;text-anchor:middle}\nuse{stroke:#111;stroke-widt\
+e-width:1.6}\ntext{stroke:none;font:12px \"Liberation Sans\",Arial,sans-serif;fill:#333;text-anchor:middle}\nuse{stroke:#111;stroke-widt\
 h:1.5;stroke-linejoin:round;stroke-linecap:round}\nuse.w{fill:#fff;--in:#111}\nuse.b{fill:#111;--in:#fff}\nsymbol .i{fill:none;stroke:var(--\
 in)}\nsymbol .d{fill:var(--in);stroke:none}\nsymbol .x{fill:none;stroke-width:2.6;stroke:#111}\nfigcaption{margin:1.5mm 0 0 3mm;font-size:9.\
 5pt;line-height:1.35}\nfigcaption b{font-size:11.5pt}\n.cnt{float:right;font-size:9.5pt}\ncode{font:8.5pt \"Liberation Mono\",monospace;over\
@@ -35,7 +35,7 @@ ight:normal}\n.cards{display:grid;grid-template-columns:1fr 1fr;gap:2.5mm 6mm;br
 :avoid;font-size:9pt;line-height:1.3}\n.card p{margin:0}\n.also{margin:0;padding-left:4mm}\ntable{border-collapse:collapse;width:100%;font-s\
 ize:9pt;line-height:1.32}\nth{text-align:left;font-size:8.5pt;font-weight:bold;border-bottom:.8pt solid #111;padding:.4mm 2.5mm .4mm 0}\ntd{\
 vertical-align:top;border-bottom:.4pt solid #bbb;padding:.7mm 2.5mm .7mm 0}\ntd:first-child{white-space:nowrap}\ntr{break-inside:avoid}\n.nb\
-{white-space:nowrap}\n.note{font-size:8.5pt;color:#333;margin-top:1mm}\nsmall{font-size:8.5pt;color:#333}\nfooter{margin-top:5mm;border-top:\
+{white-space:nowrap;margin-right:1.5mm}\n.note{font-size:8.5pt;color:#333;margin-top:1mm}\nsmall{font-size:8.5pt;color:#333}\nfooter{margin-top:5mm;border-top:\
 .5pt solid #999;padding-top:1mm;font-size:8.5pt;color:#333}\n@media print{body{padding:0}article+article{margin-top:0}a{color:inherit}.stamp\
 ,.dk{print-color-adjust:exact}}\n@media screen and (max-width:700px){body{padding:4mm}.top,.cards{grid-template-columns:1fr}}\n.warn{color:#\
 9c1119;font-style:italic}\n.keep{break-inside:avoid}\n.mini use{stroke-width:2.3}\n\n</style></head><body><svg class=\"defs\" width=\"0\" he\

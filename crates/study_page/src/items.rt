@@ -1,11 +1,28 @@
-//! Words in an element.
-ghost use Rattle.std.specs.Prelude.{◌≡◌, ◌++◌, OnOk};
+//! What is written of faults, duals and tries.
+ghost use Rattle.std.specs.Prelude.{◌≡◌, ◌++◌, true, OnOk, codes};
+ghost use Rattle.std.specs.List.{All, flat_map};
+ghost use Rattle.study_moves.specs.Rules.{is_legal};
+ghost use Rattle.study_review.specs.Nodes.{is_stalemate};
+ghost use Rattle.study_notation.specs.Written.{move_text};
+ghost use Rattle.study_pgn.specs.Values.{value_text};
 ghost use Rattle.study_page.specs.Escape.{said};
 ghost use Rattle.study_page.specs.Elements.{inside};
+ghost use Rattle.study_page.specs.Rows.{lets_go, hold_words, lose_words, counts_words, dual_item, mistake_item};
+ghost use Rattle.study_page.specs.Rows.{loses_time, forced_words, time_words, move_word, by_words, later_words, difference, also_words, also_item};
+ghost use Rattle.study_page.specs.Rows.{card_title, card_words, card, front_cells, told_move, refuted_item, refuted_items, try_row};
 
+use crate::diagram::draw_mini;
 use crate::element::Element;
 use crate::html::Html;
+use crate::signs::is_stalemate;
+use crate::words::{add_label, add_san, add_short, add_value};
 use std::alloc::{AllocError, Allocator};
+use study_board::{Position, Side};
+use study_moves::Move;
+use study_notation::Start;
+use study_pgn::Text;
+use study_retro::Value;
+use study_review::{Alternative, Continuation};
 
 /// An element with words in it.
 pub fn put_words<'a, A: Allocator>(
@@ -19,4 +36,421 @@ pub fn put_words<'a, A: Allocator>(
     let mut within = Html::new(alloc);
     within.say(words)?;
     html.put(element, &within)
+}
+
+fn hold_words(count: u8) -> &'static [u8]
+    ensures { result.now ≡ hold_words count }
+{
+    if count == 1 {
+        b" other holds, "
+    } else {
+        b" others hold, "
+    }
+}
+
+fn lose_words(count: u16) -> &'static [u8]
+    ensures { result.now ≡ lose_words count }
+{
+    if count == 1 {
+        b" loses time"
+    } else {
+        b" lose time"
+    }
+}
+
+#[tactic(auto, unfolding(crate::specs::Rows::counts_words))]
+fn add_counts<A: Allocator>(text: &mut Text<'_, A>, counts: (u8, u16)) -> Result<(), AllocError>
+    ensures { OnOk result (text.new ≡ text.old ++ counts_words counts.0 counts.1) }
+{
+    text.add(b": ")?;
+    text.add_number(counts.0 as u32)?;
+    text.add(hold_words(counts.0))?;
+    text.add_number(counts.1 as u32)?;
+    text.add(lose_words(counts.1))
+}
+
+/// A dual with so many others, of which so many lose time.
+#[tactic(auto, unfolding(crate::specs::Rows::dual_item))]
+pub fn put_dual<'a, A: Allocator>(
+    alloc: &'a A,
+    html: &mut Html<'_, A>,
+    start: &Start,
+    depth: usize,
+    p: &Position,
+    m: Move,
+    counts: (u8, u16),
+) -> Result<(), AllocError>
+    requires { is_legal p.now m ≡ true }
+    ensures { OnOk result (html.new ≡ html.old ++ dual_item start.now depth p.now m counts.0 counts.1) }
+{
+    let mut text = Text::new(alloc);
+    add_label(&mut text, start, depth, p, m)?;
+    add_counts(&mut text, counts)?;
+    put_words(alloc, html, Element::Item, text.as_slice())
+}
+
+#[tactic(auto, unfolding(crate::specs::Rows::lets_go))]
+fn lets_go() -> &'static [u8]
+    ensures { result.now ≡ lets_go }
+{
+    b" lets the aim go: "
+}
+
+/// A mistake, with the value after it.
+#[tactic(auto, unfolding(crate::specs::Rows::mistake_item))]
+pub fn put_mistake<'a, A: Allocator>(
+    alloc: &'a A,
+    html: &mut Html<'_, A>,
+    start: &Start,
+    depth: usize,
+    p: &Position,
+    m: Move,
+    value: Value,
+) -> Result<(), AllocError>
+    requires { is_legal p.now m ≡ true }
+    ensures { OnOk result (html.new ≡ html.old ++ mistake_item start.now depth p.now m value) }
+{
+    let mut text = Text::new(alloc);
+    add_label(&mut text, start, depth, p, m)?;
+    text.add(lets_go())?;
+    add_value(&mut text, p.to_move().other(), value)?;
+    put_words(alloc, html, Element::Item, text.as_slice())
+}
+
+#[tactic(auto, unfolding(crate::specs::Rows::loses_time))]
+fn loses_time() -> &'static [u8]
+    ensures { result.now ≡ loses_time }
+{
+    b", loses time"
+}
+
+fn add_forced<A: Allocator>(text: &mut Text<'_, A>, moves: u8) -> Result<(), AllocError>
+    ensures { OnOk result (text.new ≡ text.old ++ forced_words moves) }
+{
+    if moves == 0 {
+        return Ok(());
+    }
+    text.add(b" (")?;
+    text.add_number(moves as u32 + 1)?;
+    text.add(b" moves)")
+}
+
+fn add_time<A: Allocator>(text: &mut Text<'_, A>, time: Option<u8>) -> Result<(), AllocError>
+    ensures { OnOk result (text.new ≡ text.old ++ time_words time) }
+{
+    match time {
+        None => Ok(()),
+        Some(m) => {
+            text.add(loses_time())?;
+            add_forced(text, m)
+        }
+    }
+}
+
+fn move_word(count: u8) -> &'static [u8]
+    ensures { result.now ≡ move_word count }
+{
+    if count == 1 { b" move " } else { b" moves " }
+}
+
+fn add_by<A: Allocator>(text: &mut Text<'_, A>, moves: u8, way: &[u8]) -> Result<(), AllocError>
+    ensures { OnOk result (text.new ≡ text.old ++ by_words moves way.now) }
+{
+    text.add(b", ")?;
+    text.add_number(moves as u32)?;
+    text.add(move_word(moves))?;
+    text.add(way)
+}
+
+fn add_later<A: Allocator>(text: &mut Text<'_, A>, a: u8, b: u8) -> Result<(), AllocError>
+    ensures { OnOk result (text.new ≡ text.old ++ later_words a b) }
+{
+    if a == b {
+        return text.add(b", as quick");
+    }
+    if a < b {
+        return add_by(text, b - a, b"longer");
+    }
+    add_by(text, a - b, b"quicker")
+}
+
+/// How much later the hero mates by another move than by the one that he played, from the values after both.
+fn add_difference<A: Allocator>(
+    text: &mut Text<'_, A>,
+    value: Value,
+    other: Value,
+) -> Result<(), AllocError>
+    ensures { OnOk result (text.new ≡ text.old ++ difference value other) }
+{
+    match (value, other) {
+        (Value::Loss(n), Value::Loss(k)) => add_later(text, n / 2, k / 2),
+        _ => Ok(()),
+    }
+}
+
+#[tactic(auto, unfolding(crate::specs::Rows::also_words))]
+fn add_also<A: Allocator>(
+    text: &mut Text<'_, A>,
+    side: Side,
+    value: Value,
+    x: &Alternative,
+) -> Result<(), AllocError>
+    ensures { OnOk result (text.new ≡ text.old ++ also_words side value x.now) }
+{
+    text.add(b": ")?;
+    add_value(text, side, x.value)?;
+    add_difference(text, value, x.value)?;
+    add_time(text, x.time)
+}
+
+fn put_san<'a, A: Allocator>(
+    alloc: &'a A,
+    html: &mut Html<'_, A>,
+    p: &Position,
+    m: Move,
+) -> Result<(), AllocError>
+    requires { is_legal p.now m ≡ true }
+    ensures { OnOk result (html.new ≡ html.old ++ inside Element.Strong (said (move_text p.now m))) }
+{
+    let mut san = Text::new(alloc);
+    add_san(&mut san, p, m)?;
+    put_words(alloc, html, Element::Strong, san.as_slice())
+}
+
+#[tactic(auto, unfolding(crate::specs::Rows::also_item))]
+fn put_also<'a, A: Allocator>(
+    alloc: &'a A,
+    html: &mut Html<'_, A>,
+    p: &Position,
+    value: Value,
+    x: &Alternative,
+) -> Result<(), AllocError>
+    requires { is_legal p.now x.now.played ≡ true }
+    ensures { OnOk result (html.new ≡ html.old ++ also_item p.now value x.now) }
+{
+    let mut item = Html::new(alloc);
+    let mut text = Text::new(alloc);
+    put_san(alloc, &mut item, p, x.played)?;
+    add_also(&mut text, p.to_move().other(), value, x)?;
+    item.say(text.as_slice())?;
+    html.put(Element::Item, &item)
+}
+
+fn put_each_also<'a, A: Allocator>(
+    alloc: &'a A,
+    html: &mut Html<'_, A>,
+    p: &Position,
+    value: Value,
+    list: &[Alternative],
+) -> Result<(), AllocError>
+    requires { All (λ x. is_legal p.now x.played ≡ true) list.now }
+    ensures { OnOk result (html.new ≡ html.old ++ flat_map (also_item p.now value) list.now) }
+{
+    for x in list {
+        put_also(alloc, html, p, value, x)?;
+    }
+    Ok(())
+}
+
+#[tactic(auto, unfolding(crate::specs::Rows::card_title))]
+fn put_card_title<'a, A: Allocator>(
+    alloc: &'a A,
+    html: &mut Html<'_, A>,
+    start: &Start,
+    depth: usize,
+    p: &Position,
+    m: Move,
+    count: u8,
+) -> Result<(), AllocError>
+    requires { is_legal p.now m ≡ true }
+    ensures { OnOk result (html.new ≡ html.old ++ card_title start.now depth p.now m count) }
+{
+    let mut title = Html::new(alloc);
+    let mut text = Text::new(alloc);
+    let mut dual = Text::new(alloc);
+    add_label(&mut text, start, depth, p, m)?;
+    text.add(b" ")?;
+    title.say(text.as_slice())?;
+    dual.add(b"dual ")?;
+    dual.add_number(count as u32)?;
+    put_words(alloc, &mut title, Element::Label, dual.as_slice())?;
+    html.put(Element::CardTitle, &title)
+}
+
+/// The words below the title of a card.
+fn put_after<'a, A: Allocator>(
+    alloc: &'a A,
+    html: &mut Html<'_, A>,
+    side: Side,
+    value: Value,
+) -> Result<(), AllocError>
+    ensures { OnOk result (html.new ≡ html.old ++ inside Element.Paragraph (said (value_text side value ++ codes ". Also:"))) }
+{
+    let mut text = Text::new(alloc);
+    add_value(&mut text, side, value)?;
+    text.add(b". Also:")?;
+    put_words(alloc, html, Element::Paragraph, text.as_slice())
+}
+
+/// The other moves that hold, in a list.
+fn put_others<'a, A: Allocator>(
+    alloc: &'a A,
+    html: &mut Html<'_, A>,
+    p: &Position,
+    value: Value,
+    list: &[Alternative],
+) -> Result<(), AllocError>
+    requires { All (λ x. is_legal p.now x.played ≡ true) list.now }
+    ensures { OnOk result (html.new ≡ html.old ++ inside Element.Also (flat_map (also_item p.now value) list.now)) }
+{
+    let mut others = Html::new(alloc);
+    put_each_also(alloc, &mut others, p, value, list)?;
+    html.put(Element::Also, &others)
+}
+
+/// What stands on a card beside the diagram.
+#[tactic(auto, unfolding(crate::specs::Rows::card_words))]
+fn put_card_words<'a, A: Allocator>(
+    alloc: &'a A,
+    html: &mut Html<'_, A>,
+    start: &Start,
+    depth: usize,
+    p: &Position,
+    x: &Continuation,
+    count: u8,
+    list: &[Alternative],
+) -> Result<(), AllocError>
+    requires legal { is_legal p.now x.now.played ≡ true }
+    requires others { All (λ y. is_legal p.now y.played ≡ true) list.now }
+    ensures { OnOk result (html.new ≡ html.old ++ card_words start.now depth p.now x.now.played count x.now.value list.now) }
+{
+    put_card_title(alloc, html, start, depth, p, x.played, count)?;
+    put_after(alloc, html, p.to_move().other(), x.value)?;
+    put_others(alloc, html, p, x.value, list)
+}
+
+/// The card of a dual: the position before the move, the move with the value after it, and the others.
+#[tactic(auto, unfolding(crate::specs::Rows::card))]
+pub fn put_card<'a, A: Allocator>(
+    alloc: &'a A,
+    html: &mut Html<'_, A>,
+    start: &Start,
+    depth: usize,
+    p: &Position,
+    x: &Continuation,
+    count: u8,
+    list: &[Alternative],
+) -> Result<(), AllocError>
+    requires legal { is_legal p.now x.now.played ≡ true }
+    requires others { All (λ y. is_legal p.now y.played ≡ true) list.now }
+    ensures { OnOk result (html.new ≡ html.old ++ card start.now depth p.now x.now.played count x.now.value list.now) }
+{
+    let mut card = Html::new(alloc);
+    let mut beside = Html::new(alloc);
+    draw_mini(alloc, &mut card, p)?;
+    put_card_words(alloc, &mut beside, start, depth, p, x, count, list)?;
+    card.put(Element::Beside, &beside)?;
+    html.put(Element::Card, &card)
+}
+
+/// The cells that a row begins with.
+#[tactic(auto, unfolding(crate::specs::Rows::front_cells))]
+pub fn put_front_cells<'a, A: Allocator>(
+    alloc: &'a A,
+    html: &mut Html<'_, A>,
+    node: &[u8],
+    side: Side,
+    value: Value,
+) -> Result<(), AllocError>
+    ensures { OnOk result (html.new ≡ html.old ++ front_cells node.now side value) }
+{
+    let mut text = Text::new(alloc);
+    put_words(alloc, html, Element::Cell, node)?;
+    add_value(&mut text, side, value)?;
+    put_words(alloc, html, Element::Cell, text.as_slice())
+}
+
+/// A move of the opponent, and small the value after it.
+#[tactic(auto, unfolding(crate::specs::Rows::told_move))]
+pub fn put_told<'a, A: Allocator>(
+    alloc: &'a A,
+    html: &mut Html<'_, A>,
+    p: &Position,
+    m: Move,
+    value: Value,
+) -> Result<(), AllocError>
+    requires { is_legal p.now m ≡ true }
+    ensures { OnOk result (html.new ≡ html.old ++ told_move p.now m value) }
+{
+    let mut text = Text::new(alloc);
+    put_san(alloc, html, p, m)?;
+    add_short(&mut text, true, value)?;
+    put_words(alloc, html, Element::Below, text.as_slice())
+}
+
+#[tactic(auto, unfolding(crate::specs::Rows::refuted_item))]
+fn put_refuted<'a, A: Allocator>(
+    alloc: &'a A,
+    html: &mut Html<'_, A>,
+    p: &Position,
+    x: &Continuation,
+) -> Result<(), AllocError>
+    requires { is_legal p.now x.now.played ≡ true }
+    ensures { OnOk result (html.new ≡ html.old ++ refuted_item p.now x.now) }
+{
+    let mut whole = Html::new(alloc);
+    put_told(alloc, &mut whole, p, x.played, x.value)?;
+    html.put(Element::Whole, &whole)?;
+    html.say(b" ")
+}
+
+fn put_each_refuted<'a, A: Allocator>(
+    alloc: &'a A,
+    html: &mut Html<'_, A>,
+    p: &Position,
+    list: &[Continuation],
+) -> Result<(), AllocError>
+    requires { All (λ x. is_legal p.now x.played ≡ true) list.now }
+    ensures { OnOk result (html.new ≡ html.old ++ flat_map (refuted_item p.now) list.now) }
+{
+    for x in list {
+        put_refuted(alloc, html, p, x)?;
+    }
+    Ok(())
+}
+
+fn put_refutations<'a, A: Allocator>(
+    alloc: &'a A,
+    html: &mut Html<'_, A>,
+    p: &Position,
+    list: &[Continuation],
+) -> Result<(), AllocError>
+    requires { All (λ x. is_legal p.now x.played ≡ true) list.now }
+    ensures { OnOk result (html.new ≡ html.old ++ refuted_items p.now list.now) }
+{
+    if is_stalemate(p) {
+        return html.say(b"stalemate");
+    }
+    put_each_refuted(alloc, html, p, list)
+}
+
+/// The row of a try.
+#[tactic(auto, unfolding(crate::specs::Rows::try_row))]
+pub fn put_try<'a, A: Allocator>(
+    alloc: &'a A,
+    html: &mut Html<'_, A>,
+    node: &[u8],
+    p: &Position,
+    value: Value,
+    list: &[Continuation],
+) -> Result<(), AllocError>
+    requires { All (λ x. is_legal p.now x.played ≡ true) list.now }
+    ensures { OnOk result (html.new ≡ html.old ++ try_row node.now p.now value list.now) }
+{
+    let mut row = Html::new(alloc);
+    let mut cell = Html::new(alloc);
+    put_front_cells(alloc, &mut row, node, p.to_move(), value)?;
+    put_refutations(alloc, &mut cell, p, list)?;
+    row.put(Element::Cell, &cell)?;
+    html.put(Element::Row, &row)
 }

@@ -1,4 +1,4 @@
-//! The list of refused lines, and the list of all entries.
+//! Refused lines, and the list of all entries.
 ghost use Rattle.std.specs.Prelude.{◌≡◌, ◌++◌, OnOk, IfOk, Err, decimal};
 ghost use Rattle.std.specs.Io.KnownBytes.{Appends};
 ghost use Rattle.study_tablefile.specs.Taken.{TakesPrefix};
@@ -10,7 +10,7 @@ ghost use Rattle.study_page.specs.Elements.{inside};
 ghost use Rattle.study_page.specs.Escape.{said};
 ghost use Rattle.study_page.specs.Head.{title_words};
 ghost use Rattle.study_page.specs.Verdict.{stamp_words, judged};
-ghost use Rattle.study_page.specs.Lists.{refusal_row, refusals_part, known_words, summary_row, summary_part};
+ghost use Rattle.study_page.specs.Lists.{refusal_part, known_words, summary_row, two_heads, summary_heads, summary_part};
 
 use crate::element::Element;
 use crate::fault::PageFault;
@@ -22,18 +22,6 @@ use std::io::Write;
 use study_marks::{Bench, TagName};
 use study_pgn::Text;
 use study_tablefile::put;
-
-fn put_code<'a, A: Allocator>(
-    alloc: &'a A,
-    html: &mut Html<'_, A>,
-    words: &[u8],
-) -> Result<(), AllocError>
-    ensures { OnOk result (html.new ≡ html.old ++ inside Element.Cell (inside Element.Code (said words.now))) }
-{
-    let mut within = Html::new(alloc);
-    put_words(alloc, &mut within, Element::Code, words)?;
-    html.put(Element::Cell, &within)
-}
 
 fn put_number<'a, A: Allocator>(
     alloc: &'a A,
@@ -48,55 +36,48 @@ fn put_number<'a, A: Allocator>(
     put_words(alloc, html, element, text.as_slice())
 }
 
-/// Adds a line of a script that was refused: its number, its text, the name of the refusal, and the reason in words.
-#[tactic(auto, unfolding(crate::specs::Lists::refusal_row))]
-pub fn add_refusal<'a, A: Allocator>(
+/// What is told of a refused line.
+#[tactic(auto, unfolding(crate::specs::Lists::refusal_part))]
+fn refusal_of<'a, A: Allocator>(
     alloc: &'a A,
-    rows: &mut Html<'_, A>,
     line: u32,
     text: &[u8],
     name: &[u8],
     reason: &[u8],
-) -> Result<(), AllocError>
-    ensures { OnOk result (rows.new ≡ rows.old ++ refusal_row line text.now name.now reason.now) }
-{
-    let mut row = Html::new(alloc);
-    put_number(alloc, &mut row, Element::Cell, line)?;
-    put_code(alloc, &mut row, text)?;
-    put_code(alloc, &mut row, name)?;
-    put_words(alloc, &mut row, Element::Cell, reason)?;
-    rows.put(Element::Row, &row)
-}
-
-/// The part with these refused lines.
-#[tactic(auto, unfolding(crate::specs::Lists::refusals_part))]
-fn refusals_of<'a, A: Allocator>(
-    alloc: &'a A,
-    rows: &Html<'_, A>,
 ) -> Result<Html<'a, A>, AllocError>
-    ensures { IfOk result (λ html. html ≡ refusals_part rows.now) }
+    ensures { IfOk result (λ html. html ≡ refusal_part line text.now name.now reason.now) }
 {
     let mut html = Html::new(alloc);
     let mut part = Html::new(alloc);
-    let mut table = Html::new(alloc);
-    put_words(alloc, &mut part, Element::Heading, b"Refused lines")?;
-    table.put(Element::Rows, rows)?;
-    part.put(Element::Table, &table)?;
-    html.put(Element::Kept, &part)?;
+    let mut front = Text::new(alloc);
+    front.add(b"Line ")?;
+    front.add_number(line)?;
+    front.add(b" was refused: ")?;
+    part.say(front.as_slice())?;
+    put_words(alloc, &mut part, Element::Code, text)?;
+    part.say(b" ")?;
+    put_words(alloc, &mut part, Element::Strong, name)?;
+    part.say(b": ")?;
+    part.say(reason)?;
+    html.put(Element::Warning, &part)?;
     Ok(html)
 }
 
-/// Writes the part with these refused lines.
-pub fn write_refusals<'a, A: Allocator, W: Write>(
+/// Writes that a line of a script was refused: its number, its text, the name of the refusal, and the reason in words.
+pub fn write_refusal<'a, A: Allocator, W: Write>(
     alloc: &'a A,
-    rows: &Html<'_, A>,
+    line: u32,
+    text: &[u8],
+    name: &[u8],
+    reason: &[u8],
     out: &mut W,
 ) -> Result<(), PageFault>
-    ensures ok { OnOk result (Appends (W.contents out.old) (W.contents out.new) (refusals_part rows.now)) }
-    ensures device { result ≡ Err PageFault.Device → TakesPrefix (W.contents out.old) (W.contents out.new) (refusals_part rows.now) }
+    ensures ok { OnOk result (Appends (W.contents out.old) (W.contents out.new) (refusal_part line text.now name.now reason.now)) }
+    ensures device { result ≡ Err PageFault.Device
+        → TakesPrefix (W.contents out.old) (W.contents out.new) (refusal_part line text.now name.now reason.now) }
     ensures memory { result ≡ Err PageFault.OutOfMemory → out.new ≡ out.old }
 {
-    let html = refusals_of(alloc, rows)?;
+    let html = refusal_of(alloc, line, text, name, reason)?;
     put(out, html.as_slice())?;
     Ok(())
 }
@@ -193,6 +174,34 @@ pub fn add_entry<'a, 'b, A: Allocator, B: Allocator>(
     rows.put(Element::Row, &row)
 }
 
+fn put_two_heads<'a, A: Allocator>(
+    alloc: &'a A,
+    html: &mut Html<'_, A>,
+    a: &[u8],
+    b: &[u8],
+) -> Result<(), AllocError>
+    ensures { OnOk result (html.new ≡ html.old ++ two_heads a.now b.now) }
+{
+    put_words(alloc, html, Element::Head, a)?;
+    put_words(alloc, html, Element::Head, b)
+}
+
+#[tactic(auto, unfolding(crate::specs::Lists::summary_heads))]
+fn put_summary_heads<'a, A: Allocator>(
+    alloc: &'a A,
+    html: &mut Html<'_, A>,
+) -> Result<(), AllocError>
+    ensures { OnOk result (html.new ≡ html.old ++ summary_heads) }
+{
+    let mut row = Html::new(alloc);
+    let mut within = Html::new(alloc);
+    put_two_heads(alloc, &mut row, b"No.", b"Title")?;
+    put_two_heads(alloc, &mut row, b"Author", b"Stipulation")?;
+    put_words(alloc, &mut row, Element::Head, b"Verdict")?;
+    within.put(Element::Row, &row)?;
+    html.put(Element::Heads, &within)
+}
+
 /// The page with these entries.
 #[tactic(auto, unfolding(crate::specs::Lists::summary_part))]
 fn summary_of<'a, A: Allocator>(alloc: &'a A, rows: &Html<'_, A>) -> Result<Html<'a, A>, AllocError>
@@ -204,6 +213,7 @@ fn summary_of<'a, A: Allocator>(alloc: &'a A, rows: &Html<'_, A>) -> Result<Html
     let mut table = Html::new(alloc);
     put_words(alloc, &mut head, Element::Title, b"Entries and verdicts")?;
     part.put(Element::Header, &head)?;
+    put_summary_heads(alloc, &mut table)?;
     table.put(Element::Rows, rows)?;
     part.put(Element::Table, &table)?;
     html.put(Element::Summary, &part)?;

@@ -17,7 +17,8 @@ ghost use Rattle.study_page.specs.Verdict.{holds_words, count_words, sentence, a
 use crate::element::Element;
 use crate::html::Html;
 use crate::items::put_words;
-use crate::signs::{aim_in, count_at};
+use crate::signs::aim_in;
+use crate::walk::count_at;
 use crate::words::{add_value, side_name};
 use std::alloc::{AllocError, Allocator};
 use study_board::Side;

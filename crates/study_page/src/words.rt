@@ -5,7 +5,7 @@ ghost use Rattle.study_marks.specs.Kept.{marked};
 ghost use Rattle.study_pgn.specs.Values.{side_name, mates_text, value_text};
 ghost use Rattle.study_pgn.specs.Moves.{points};
 ghost use Rattle.study_notation.specs.Written.{move_text};
-ghost use Rattle.study_page.specs.Words.{plies_of, half_of, number_at, front_words, label, where_words};
+ghost use Rattle.study_page.specs.Words.{plies_of, half_of, number_at, front_words, minus_where, short_words, label, where_words};
 
 use std::alloc::{AllocError, Allocator};
 use study_board::{Position, Side};
@@ -47,6 +47,38 @@ pub fn add_value<A: Allocator>(
         Value::Win(plies) => add_mates(text, side, plies / 2 + plies % 2),
         Value::Loss(0) => text.add(b"mate"),
         Value::Loss(plies) => add_mates(text, side.other(), plies / 2),
+    }
+}
+
+fn add_minus<A: Allocator>(text: &mut Text<'_, A>, minus: bool) -> Result<(), AllocError>
+    ensures { OnOk result (text.new ≡ text.old ++ minus_where minus) }
+{
+    if minus {
+        return text.add(b"-");
+    }
+    Ok(())
+}
+
+/// In how many moves the hero mates, or is mated behind a minus; `=` where it is drawn, and `#` where it is mate. `hero` tells whether
+/// he is to move.
+pub fn add_short<A: Allocator>(
+    text: &mut Text<'_, A>,
+    hero: bool,
+    value: Value,
+) -> Result<(), AllocError>
+    ensures { OnOk result (text.new ≡ text.old ++ short_words hero value) }
+{
+    match value {
+        Value::Draw => text.add(b"="),
+        Value::Loss(0) => text.add(b"#"),
+        Value::Win(plies) => {
+            add_minus(text, !hero)?;
+            text.add_number((plies / 2 + plies % 2) as u32)
+        }
+        Value::Loss(plies) => {
+            add_minus(text, hero)?;
+            text.add_number((plies / 2) as u32)
+        }
     }
 }
 

@@ -2,7 +2,7 @@ use Rattle.std.proofs.Common.{List, ℕ, ◌++◌, ap, ◌∙◌}
 use Rattle.std.proofs.lemmas.Result.{on_ok_weaker}
 use Rattle.study_marks.specs.Kept.{marked}
 use Rattle.study_page.specs.Words.{label}
-use Rattle.study_page.proofs.MadeLabel.{label-made}
+use Rattle.study_page.proofs.MadeRows.{label-made}
 use Rattle.study_page.proofs.words.add_where.Goals as goal
 
 pub returns-in-Some : goal.returns-in-Some

@@ -1,0 +1,20 @@
+use Rattle.study_page.proofs.WholePage.{from-nothing}
+use Rattle.study_page.proofs.page.page_of.Goals as goal
+
+pub returns-clause-text : goal.returns-clause-text
+returns-clause-text g c h =
+    let p = c.in_ok-parts.ensures.text h in (
+      c.as_slice.result.now,
+      c.in_ok-tree.tree,
+      c.in_ok-parts.parts.faults,
+      c.in_ok-parts.parts.duals,
+      c.in_ok-parts.parts.tries,
+      c.in_ok-parts.parts.defences,
+      c.in_ok-parts.parts.ends,
+      p.0,
+      p.1.0,
+      p.1.1.0,
+      p.1.1.1.0,
+      p.1.1.1.1,
+      from-nothing _ _ _ c.new-html.ensures c.in_ok-put_page.ensures,
+    )

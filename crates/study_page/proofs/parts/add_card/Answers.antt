@@ -1,0 +1,25 @@
+use Rattle.std.proofs.Common.{Some, sym, ap, subst, ◌∙◌}
+use Rattle.std.proofs.lemmas.Result.{on_ok_weaker}
+use Rattle.study_notation.specs.declared.start.Start.{Start}
+use Rattle.study_marks.specs.declared.mark.MoveMark.TheVariants.{Dual}
+use Rattle.study_marks.specs.Kept.{marked}
+use Rattle.study_review.specs.Made.{Grew}
+use Rattle.study_page.specs.Rows.{IsCardOf}
+use Rattle.study_page.proofs.MadeRows.{card-made, no-card}
+use Rattle.study_page.proofs.parts.add_card.Goals as goal
+
+pub returns-in-Some-Dual-clause-text : goal.returns-in-Some-Dual-clause-text
+returns-in-Some-Dual-clause-text g c h =
+    let made = c.in-Some.made in
+    let before = made.before in
+    let mark = Some (Dual c.in-Some-Dual.k) in
+    let v = c.value_at-value.result in
+    on_ok_weaker c.add_dual_card.result
+    (λ grew. card-made (marked c.args.bench.now) c.args.steps.now made c.in-Some.ensures.made v mark c.args.html.now c.add_dual_card.new.html
+    (sym (c.in-Some-Dual.is ∙ ap Some c.in-Some-Dual.field-0-is) ∙ c.mark_at.ensures) c.value_at-value.ensures
+    (subst (λ (st : Start). Grew (IsCardOf st before.aim before.depth before.line.items before.position made.played v mark)
+    c.args.html.now c.add_dual_card.new.html) c.start-first.ensures.value grew))
+    (c.add_dual_card.ensures.text h)
+
+pub returns-in-None-clause-text : goal.returns-in-None-clause-text
+returns-in-None-clause-text g c h = no-card (marked c.args.bench.now) c.args.steps.now c.args.html.now c.in-None.ensures.none

@@ -1,0 +1,22 @@
+use Rattle.std.proofs.Common.{◌≡◌}
+use Rattle.study_tree.specs.Forest.{nodes_in}
+use Rattle.study_marks.specs.Kept.{marked}
+use Rattle.study_marks.specs.Renewal.{below_at}
+use Rattle.study_review.specs.Asked.{AllTold}
+use Rattle.study_page.specs.Made.{RowsOf}
+use Rattle.study_review.proofs.WrittenOrder.{GoesOn}
+use Rattle.study_page.proofs.walk.+add_each.Given as goal
+
+-- fewer nodes are below a child
+abbrev pub decreases-add_each : goal.decreases-add_each
+decreases-add_each g l = nodes_in (below_at (marked l.bench.now).tree.below l.steps.now.items)
+
+-- what is written, and any lines of the nodes that are left, are lines of all
+abbrev pub invariant-loop-place : goal.invariant-loop-place
+invariant-loop-place g l = record {
+  written : g.V.Values.is_honest l.fn.values → GoesOn (RowsOf l.part (marked l.bench)) l.fn.steps.items
+      (below_at (marked l.bench).tree.below l.fn.steps.items) l.place l.initial.html l.html;
+  back : l.steps.items ≡ l.fn.steps.items;
+  told : AllTold g.V.Values.held g.V.Values.gives g.V.Values.may_fail g.V.Values.asked_of g.V.Values.failed_of g.V.Values.is_honest
+      l.fn.values l.values;
+}

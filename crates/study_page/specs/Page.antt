@@ -1,0 +1,88 @@
+-- The page of a study.
+use Rattle.std.specs.Prelude.{◌≡◌, ◌==◌, ℕ, List, [], ◌++◌, length, if◌then◌else◌, codes}
+use Rattle.study_marks.specs.declared.mark.Mark.{Mark}
+use Rattle.study_marks.specs.Study.{Study, plain_study}
+use Rattle.study_marks.specs.Annotated.{IsAnnotated}
+use Rattle.study_review.specs.Review.{LinesOfEach, written_order}
+use Rattle.study_page.specs.declared.element.Element.TheVariants as element
+use Rattle.study_page.specs.declared.walk.Part.{Part}
+use Rattle.study_page.specs.declared.walk.Part.TheVariants as part
+use Rattle.study_page.specs.Escape.{said}
+use Rattle.study_page.specs.Elements.{inside}
+use Rattle.study_page.specs.Head.{head, figure}
+use Rattle.study_page.specs.Verdict.{verdict_part, judged}
+use Rattle.study_page.specs.Made.{RowsOf}
+
+-- what the part has of the root and of all nodes, in written order
+abbrev pub AreRows : Part → Study Mark → List ℕ → Type 0
+AreRows p s rows = LinesOfEach (RowsOf p s) (written_order s) rows
+
+-- ---- how it is laid out
+
+-- the heads of three columns
+unfoldable pub heads : List ℕ → List ℕ → List ℕ → List ℕ
+heads a b c =
+    inside element.Heads (inside element.Row (inside element.Head (said a) ++ (inside element.Head (said b) ++ inside element.Head (said c))))
+
+-- a table under a heading
+unfoldable pub full_table : List ℕ → List ℕ → List ℕ → List ℕ
+full_table heading head rows = inside element.Part (inside element.Heading (said heading) ++ inside element.Table (head ++ inside element.Rows rows))
+
+-- where there are rows
+abbrev pub table_part : List ℕ → List ℕ → List ℕ → List ℕ
+table_part heading head rows = if length rows == 0 then [] else full_table heading head rows
+
+unfoldable pub duals_title : List ℕ
+duals_title = codes "Duals: what else holds"
+
+unfoldable pub duals_note : List ℕ
+duals_note = codes "A move loses time where the opponent can force a position of the same line again, by one move or by so many as are told."
+
+unfoldable pub full_cards : List ℕ → List ℕ
+full_cards cards =
+    inside element.Part (inside element.Heading (said duals_title) ++ (inside element.Note (said duals_note) ++ inside element.Cards cards))
+
+abbrev pub cards_part : List ℕ → List ℕ
+cards_part cards = if length cards == 0 then [] else full_cards cards
+
+unfoldable pub solution_part : List ℕ → List ℕ
+solution_part tree = inside element.Part (inside element.Heading (said (codes "Solution")) ++ inside element.Tree tree)
+
+unfoldable pub foot_words : List ℕ
+foot_words =
+    codes "Values are distances to mate from complete tables of two to four men, without castling, the fifty-move rule and repetition. "
+    ++ (codes "A move holds if the aim is still reached after it; a move that only loses time holds too. "
+    ++ codes "A small number tells in how many moves the hero mates, behind a minus in how many he is mated; = is a draw, and # is mate.")
+
+unfoldable pub tables : List ℕ → List ℕ → List ℕ → List ℕ
+tables tries defences ends =
+    table_part (codes "Tries") (heads (codes "After") (codes "Left") (codes "Refuted by")) tries
+    ++ (table_part (codes "Not in the tree") (heads (codes "After") (codes "One answer") (codes "Several")) defences
+    ++ table_part (codes "Best play") (heads (codes "After") (codes "Value") (codes "Goes on")) ends)
+
+-- the diagram and the verdict, side by side
+unfoldable pub top : Study Mark → List ℕ → List ℕ → List ℕ
+top s counts faults = inside element.Top (figure s.stipulation s.start counts ++ verdict_part (judged s) faults)
+
+unfoldable pub page_text : Study Mark → ℕ → List ℕ → List ℕ → List ℕ → List ℕ → List ℕ → List ℕ → List ℕ → List ℕ
+page_text s number counts tree faults duals tries defences ends =
+    inside (element.Entry number) (head s.tags ++ (top s counts faults ++ (solution_part tree ++ (cards_part duals
+    ++ (tables tries defences ends ++ inside element.Foot (said foot_words))))))
+
+-- ---- what it says
+
+-- The page of an annotated study, its entry of this number: head, diagram and verdict, and then part by part what each has
+-- of the nodes. What the counts of men and the tree of the solution say is left open here.
+abbrev pub IsPage : Study Mark → ℕ → List ℕ → Type 0
+IsPage s number text =
+    (counts tree faults duals tries defences ends : List ℕ)
+    × AreRows part.Faults s faults
+    × AreRows part.Duals s duals
+    × AreRows part.Tries s tries
+    × AreRows part.Defences s defences
+    × AreRows part.Ends s ends
+    × (text ≡ page_text s number counts tree faults duals tries defences ends)
+
+-- the page of a plain study is that of its annotation
+abbrev pub IsPageOf : Study (Unit {0}) → ℕ → List ℕ → Type 0
+IsPageOf plain number text = (s : Study Mark) × (plain_study s ≡ plain) × IsAnnotated s × IsPage s number text

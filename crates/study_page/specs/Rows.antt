@@ -1,0 +1,247 @@
+-- What the parts of a page have of one node.
+use Rattle.std.specs.Prelude.{◌≡◌, ◌==◌, nat_lt, ℕ, ◌+◌, ◌-◌, ◌/◌, Bool, true, false, not, ◌||◌, List, [], ◌∷◌, ◌++◌, length, Option, Some, None}
+use Rattle.std.specs.Prelude.{MatchOption, if◌then◌else◌, codes, decimal}
+use Rattle.std.specs.List.{flat_map}
+use Rattle.study_board.specs.declared.men.Side.{Side}
+use Rattle.study_board.specs.declared.men.Side.TheVariants.{White, Black}
+use Rattle.study_board.specs.Men.{other_side}
+use Rattle.study_board.specs.Position.{Position}
+use Rattle.study_moves.specs.declared.moves.Move.{Move}
+use Rattle.study_moves.specs.Rules.{after}
+use Rattle.study_moves.specs.LegalList.{legal_list}
+use Rattle.study_notation.specs.declared.start.Start.{Start}
+use Rattle.study_notation.specs.Written.{move_text}
+use Rattle.study_retro.specs.declared.value.Value.{Value}
+use Rattle.study_retro.specs.declared.value.Value.TheVariants.{Win, Loss, Draw}
+use Rattle.study_tree.specs.Tree.{spot_at}
+use Rattle.study_marks.specs.declared.mark.Mark.{Mark}
+use Rattle.study_marks.specs.declared.mark.MoveMark.{MoveMark}
+use Rattle.study_marks.specs.declared.mark.MoveMark.TheVariants.{Only, Dual, Mistake, Idle, Reply}
+use Rattle.study_marks.specs.declared.marking.Aim.{Aim}
+use Rattle.study_marks.specs.Bench.{played_by}
+use Rattle.study_marks.specs.Renewal.{below_at}
+use Rattle.study_marks.specs.Study.{Study, position_at}
+use Rattle.study_marks.specs.Goals.{aim_of}
+use Rattle.study_pgn.specs.Values.{value_text}
+use Rattle.study_review.specs.declared.continuation.Continuation.{Continuation}
+use Rattle.study_review.specs.declared.time.Alternative.{Alternative}
+use Rattle.study_review.specs.declared.missing.Defence.{Defence}
+use Rattle.study_review.specs.Continuations.{AreRefutations, AreDrawingMoves}
+use Rattle.study_review.specs.Time.{AreTimedAlternatives}
+use Rattle.study_review.specs.Defences.{AreDefences}
+use Rattle.study_review.specs.Best.{IsBestPlay}
+use Rattle.study_review.specs.Line.{line_to, moves_of}
+use Rattle.study_review.specs.Words.{move_words, times_lost}
+use Rattle.study_review.specs.Nodes.{front_of, OnlyWhere, mark_at, value_at, is_stalemate, is_try, is_defended, is_open_end, is_solution_move}
+use Rattle.study_page.specs.declared.element.Element.TheVariants.{Strong, Below, Item, Card, Beside, CardTitle, Label, Also, Paragraph, Row, Cell, Whole}
+use Rattle.study_page.specs.Escape.{said}
+use Rattle.study_page.specs.Elements.{inside}
+use Rattle.study_page.specs.Diagram.{mini}
+use Rattle.study_page.specs.Words.{front_words, short_words, label, where_words}
+
+-- ---- faults
+
+-- `3. Kb4: 1 other holds, 1 loses time`, `3. Kb4: 4 others hold, 0 lose time`
+abbrev pub hold_words : ℕ → List ℕ
+hold_words k = if k == 1 then codes " other holds, " else codes " others hold, "
+
+abbrev pub lose_words : ℕ → List ℕ
+lose_words t = if t == 1 then codes " loses time" else codes " lose time"
+
+unfoldable pub counts_words : ℕ → ℕ → List ℕ
+counts_words k t = codes ": " ++ (decimal k ++ (hold_words k ++ (decimal t ++ lose_words t)))
+
+unfoldable pub dual_item : Start → ℕ → Position → Move → ℕ → ℕ → List ℕ
+dual_item start d p m k t = inside Item (said (label start d p m ++ counts_words k t))
+
+unfoldable pub lets_go : List ℕ
+lets_go = codes " lets the aim go: "
+
+-- `3. Kb4 lets the aim go: draw`
+unfoldable pub mistake_item : Start → ℕ → Position → Move → Value → List ℕ
+mistake_item start d p m v = inside Item (said (label start d p m ++ (lets_go ++ value_text (other_side p.to_move) v)))
+
+-- of a move from p, the last of a line
+abbrev pub IsFaultOf : Start → Aim → ℕ → List Position → Position → Move → Value → Option MoveMark → List ℕ → Type 0
+IsFaultOf start a d line p m v None text = text ≡ []
+IsFaultOf start a d line p m v (Some (Dual k)) text =
+    (list : List Alternative) × AreTimedAlternatives a d line p m list × (text ≡ dual_item start d p m k (times_lost list))
+IsFaultOf start a d line p m v (Some Mistake) text = text ≡ mistake_item start d p m v
+IsFaultOf start a d line p m v (Some Only) text = text ≡ []
+IsFaultOf start a d line p m v (Some Idle) text = text ≡ []
+IsFaultOf start a d line p m v (Some Reply) text = text ≡ []
+
+-- a fault of the solution
+abbrev pub FaultItems : Study Mark → List ℕ → List ℕ → Type 0
+FaultItems s path text =
+    OnlyWhere (is_solution_move s path)
+    (λ t. MatchOption (played_by (spot_at s.tree path)) (t ≡ []) (λ m. IsFaultOf s.start (aim_of s) (length (front_of path))
+    (line_to s (front_of path)) (position_at s (front_of path)) m (value_at s path) (mark_at s path) t)) text
+
+-- ---- duals
+
+unfoldable pub loses_time : List ℕ
+loses_time = codes ", loses time"
+
+-- ` (2 moves)`, where it takes the opponent more than one
+abbrev pub forced_words : ℕ → List ℕ
+forced_words m = if m == 0 then [] else (codes " (" ++ (decimal (m + 1) ++ codes " moves)"))
+
+-- the time that is lost, where some is
+abbrev pub time_words : Option ℕ → List ℕ
+time_words None = []
+time_words (Some m) = loses_time ++ forced_words m
+
+-- `, 1 move longer`, `, 2 moves quicker`
+abbrev pub move_word : ℕ → List ℕ
+move_word k = if k == 1 then codes " move " else codes " moves "
+
+abbrev pub by_words : ℕ → List ℕ → List ℕ
+by_words k way = codes ", " ++ (decimal k ++ (move_word k ++ way))
+
+-- how much later mate comes on move b than on move a
+abbrev pub later_words : ℕ → ℕ → List ℕ
+later_words a b =
+    if a == b then codes ", as quick" else (if nat_lt a b then by_words (b - a) (codes "longer") else by_words (a - b) (codes "quicker"))
+
+-- how much later the hero mates by the value after another move of his than by the value after the one that he played
+abbrev pub difference : Value → Value → List ℕ
+difference (Loss n) (Loss k) = later_words (n / 2) (k / 2)
+difference (Loss n) (Win k) = []
+difference (Loss n) Draw = []
+difference (Win n) w = []
+difference Draw w = []
+
+unfoldable pub also_words : Side → Value → Alternative → List ℕ
+also_words side v x = codes ": " ++ (value_text side x.value ++ (difference v x.value ++ time_words x.time))
+
+-- `Kb6: White mates in 25, 2 moves longer, loses time`, beside a move with this value after it
+unfoldable pub also_item : Position → Value → Alternative → List ℕ
+also_item p v x = inside Item (inside Strong (said (move_text p x.played)) ++ said (also_words (other_side p.to_move) v x))
+
+unfoldable pub card_title : Start → ℕ → Position → Move → ℕ → List ℕ
+card_title start d p m k = inside CardTitle (said (label start d p m ++ codes " ") ++ inside Label (said (codes "dual " ++ decimal k)))
+
+-- the move with the value after it, and the others that hold
+unfoldable pub card_words : Start → ℕ → Position → Move → ℕ → Value → List Alternative → List ℕ
+card_words start d p m k v list =
+    card_title start d p m k ++ (inside Paragraph (said (value_text (other_side p.to_move) v ++ codes ". Also:"))
+    ++ inside Also (flat_map (also_item p v) list))
+
+-- these beside the position before the move
+unfoldable pub card : Start → ℕ → Position → Move → ℕ → Value → List Alternative → List ℕ
+card start d p m k v list = inside Card (mini p ++ inside Beside (card_words start d p m k v list))
+
+abbrev pub IsCardOf : Start → Aim → ℕ → List Position → Position → Move → Value → Option MoveMark → List ℕ → Type 0
+IsCardOf start a d line p m v None text = text ≡ []
+IsCardOf start a d line p m v (Some (Dual k)) text =
+    (list : List Alternative) × AreTimedAlternatives a d line p m list × (text ≡ card start d p m k v list)
+IsCardOf start a d line p m v (Some Mistake) text = text ≡ []
+IsCardOf start a d line p m v (Some Only) text = text ≡ []
+IsCardOf start a d line p m v (Some Idle) text = text ≡ []
+IsCardOf start a d line p m v (Some Reply) text = text ≡ []
+
+-- a card for each dual
+abbrev pub Cards : Study Mark → List ℕ → List ℕ → Type 0
+Cards s path text =
+    MatchOption (played_by (spot_at s.tree path)) (text ≡ []) (λ m. IsCardOf s.start (aim_of s) (length (front_of path))
+    (line_to s (front_of path)) (position_at s (front_of path)) m (value_at s path) (mark_at s path) text)
+
+-- ---- tries
+
+-- the cells that a row begins with: the node, and the value of its position
+unfoldable pub front_cells : List ℕ → Side → Value → List ℕ
+front_cells node side v = inside Cell (said node) ++ inside Cell (said (value_text side v))
+
+-- a move of the opponent, and small the value after it
+unfoldable pub told_move : Position → Move → Value → List ℕ
+told_move p m v = inside Strong (said (move_text p m)) ++ inside Below (said (short_words true v))
+
+unfoldable pub refuted_item : Position → Continuation → List ℕ
+refuted_item p x = inside Whole (told_move p x.played x.value) ++ said (codes " ")
+
+abbrev pub refuted_items : Position → List Continuation → List ℕ
+refuted_items p list = if is_stalemate p then said (codes "stalemate") else flat_map (refuted_item p) list
+
+unfoldable pub try_row : List ℕ → Position → Value → List Continuation → List ℕ
+try_row node p v list = inside Row (front_cells node p.to_move v ++ inside Cell (refuted_items p list))
+
+-- a row for each try
+abbrev pub TryRows : Study Mark → List ℕ → List ℕ → Type 0
+TryRows s path text =
+    OnlyWhere (is_try s path) (λ t. (list : List Continuation)
+    × AreRefutations (aim_of s) (length path) (position_at s path) list
+    × (t ≡ try_row (where_words s path) (position_at s path) (value_at s path) list)) text
+
+-- ---- defences
+
+-- `c8=Q`, `3 hold`, `stalemate`
+abbrev pub answer_words : Position → ℕ → Option Move → List ℕ
+answer_words q n (Some m) = move_text q m
+answer_words q n None = if n == 0 then codes "stalemate" else (decimal n ++ codes " hold")
+
+-- a defence, and what answers it
+unfoldable pub missing_item : Position → Defence → List ℕ
+missing_item p y =
+    inside Whole (told_move p y.played y.value ++ said (codes " " ++ answer_words (after p y.played) y.answers y.only)) ++ said (codes " ")
+
+abbrev pub is_same : Bool → Bool → Bool
+is_same true b = b
+is_same false b = not b
+
+-- those with one answer, and those with none or several
+abbrev pub with_one : Bool → Position → Defence → List ℕ
+with_one one p y = if is_same one (y.answers == 1) then missing_item p y else []
+
+abbrev pub defence_row : List ℕ → Position → List Defence → List ℕ
+defence_row node p [] = []
+defence_row node p (y ∷ ys) =
+    inside Row (inside Cell (said node) ++ (inside Cell (flat_map (with_one true p) (y ∷ ys)) ++ inside Cell (flat_map (with_one false p) (y ∷ ys))))
+
+-- a row for each position of the solution in which a defence is missing
+abbrev pub DefenceRows : Study Mark → List ℕ → List ℕ → Type 0
+DefenceRows s path text =
+    OnlyWhere (is_defended s path) (λ t. (list : List Defence)
+    × AreDefences (aim_of s) (length path) (position_at s path) (moves_of (below_at s.tree.below path)) list
+    × (t ≡ defence_row (where_words s path) (position_at s path) list)) text
+
+-- ---- ends
+
+abbrev pub is_white : Side → Bool
+is_white White = true
+is_white Black = false
+
+-- the number stands before the first move and before each of White's
+abbrev pub number_words : Bool → Start → ℕ → Side → List ℕ
+number_words first start d side = if first || is_white side then front_words start d side else []
+
+-- moves that are played one after the other, from depth d on, with their numbers
+abbrev pub play_words : Bool → Start → ℕ → Position → List Continuation → List ℕ
+play_words first start d p [] = []
+play_words first start d p (x ∷ xs) =
+    number_words first start d p.to_move ++ (move_text p x.played ++ (codes " " ++ play_words false start (d + 1) (after p x.played) xs))
+
+unfoldable pub keep_it : List ℕ
+keep_it = codes " moves keep it:"
+
+-- `3 of 9 moves keep it: Kb5 Kb6 Kc6`
+unfoldable pub keep_words : Position → List Continuation → List ℕ
+keep_words p list =
+    decimal (length list) ++ (codes " of " ++ (decimal (length (legal_list p)) ++ (keep_it ++ flat_map (move_words p) list)))
+
+unfoldable pub end_row : List ℕ → Side → Value → List ℕ → List ℕ
+end_row node side v goes_on = inside Row (front_cells node side v ++ inside Cell (said goes_on))
+
+abbrev pub IsPlay : Start → ℕ → List ℕ → Position → Value → List ℕ → Type 0
+IsPlay start d node p v text = (list : List Continuation) × IsBestPlay 20 p list × (text ≡ end_row node p.to_move v (play_words true start d p list))
+
+-- best play where a side wins, and the moves that keep a draw
+abbrev pub IsEnd : Start → ℕ → List ℕ → Position → Value → List ℕ → Type 0
+IsEnd start d node p (Win n) text = IsPlay start d node p (Win n) text
+IsEnd start d node p (Loss n) text = IsPlay start d node p (Loss n) text
+IsEnd start d node p Draw text = (list : List Continuation) × AreDrawingMoves p list × (text ≡ end_row node p.to_move Draw (keep_words p list))
+
+-- a row for each open end
+abbrev pub EndRows : Study Mark → List ℕ → List ℕ → Type 0
+EndRows s path text =
+    OnlyWhere (is_open_end s path) (IsEnd s.start (length path) (where_words s path) (position_at s path) (value_at s path)) text

@@ -1,0 +1,118 @@
+//! Writes the pages of two studies over built tables, with a refused line and the list of both. The gate compares them with
+//! pages that were laid out from an independent program's facts and marks.
+#![tactic(auto)]
+
+use std::alloc::{Allocator, Global};
+use std::io::{LineWriter, Write};
+use std::process::ExitCode;
+use study_board::Side;
+use study_index::cells;
+use study_marks::{Bench, Goal, MateMoves, Stipulation, TagName};
+use study_material::Class;
+use study_notation::{read_fen, read_san};
+use study_page::{
+    Html, add_entry, write_closing, write_opening, write_page, write_refusal, write_summary,
+};
+use study_prober::WholeTables;
+use study_retro::{BuildRoom, TableSet, build};
+use study_tree::Path;
+
+/// The start of both studies.
+const START: &str = "k7/1R6/8/K7/8/8/8/8 w - - 0 1";
+
+/// The moves, each below the node at a path.
+const MOVES: [(&[u16], &str); 10] = [
+    (&[], "Rc7"),
+    (&[], "Kb6"),
+    (&[], "Kb5"),
+    (&[2], "Kxb7"),
+    (&[0], "Kb8"),
+    (&[0, 0], "Kb6"),
+    (&[0, 0], "Rc6"),
+    (&[0, 0, 1], "Ka7"),
+    (&[0, 0, 0], "Ka8"),
+    (&[0, 0, 0, 0], "Rc8"),
+];
+
+/// The values of king and rook against king.
+fn tables<'a, A: Allocator>(alloc: &'a A) -> Option<WholeTables<'a, A>> {
+    let mut set = TableSet::new(alloc).ok()?;
+    for class in [Class::KK, Class::KRK] {
+        let room = BuildRoom::new(alloc, cells(class)).ok()?;
+        let (table, _) = build(class, &set, room).ok()?;
+        if set.add(table).is_err() {
+            return None;
+        }
+    }
+    Some(WholeTables::new(set))
+}
+
+fn path_of<'a, A: Allocator>(alloc: &'a A, steps: &[u16]) -> Option<Path<'a, A>> {
+    let mut path = Path::root(alloc);
+    for step in steps {
+        path.push(*step).ok()?;
+    }
+    Some(path)
+}
+
+fn insert<'a, A: Allocator>(
+    bench: &mut Bench<'a, A>,
+    values: &mut WholeTables<'a, A>,
+    path: &Path<'a, A>,
+    san: &str,
+) -> Option<u16> {
+    let start = bench.start_at(path)?;
+    let m = read_san(&start.position, san).ok()?;
+    bench.insert(path, m, values).ok()
+}
+
+/// The study, to mate in so many moves.
+fn study<'a, A: Allocator>(
+    alloc: &'a A,
+    values: &mut WholeTables<'a, A>,
+    moves: u8,
+) -> Option<Bench<'a, A>> {
+    let stipulation = Stipulation {
+        hero: Side::White,
+        goal: Goal::MateIn(MateMoves::new(moves)?),
+    };
+    let start = read_fen(START).ok()?;
+    let mut bench = Bench::new(alloc, start, stipulation, values).ok()?;
+    bench.set_tag(TagName::Event, "Found with the tables").ok()?;
+    bench.set_tag(TagName::White, "King and rook").ok()?;
+    for (steps, san) in MOVES {
+        let path = path_of(alloc, steps)?;
+        let _place = insert(&mut bench, values, &path, san)?;
+    }
+    Some(bench)
+}
+
+/// The pages of both studies, mate in three and mate in four.
+fn write_all<'a, A: Allocator, W: Write>(alloc: &'a A, out: &mut W) -> Option<()> {
+    let mut values = tables(alloc)?;
+    let mut entries = Html::new(alloc);
+    write_opening(out).ok()?;
+    for (number, moves) in [(1, 3), (2, 4)] {
+        let bench = study(alloc, &mut values, moves)?;
+        write_page(alloc, &bench, &mut values, number, out).ok()?;
+        add_entry(alloc, &mut entries, &bench, number).ok()?;
+    }
+    let reason = b"a letter outside plain ASCII & 'so'";
+    write_refusal(alloc, 7, b"insert root <b>\xE9", b"BadByte", reason, out).ok()?;
+    write_summary(alloc, &entries, out).ok()?;
+    write_closing(out).ok()
+}
+
+fn write_pages(rt: &HostRuntime, alloc: Global) -> Option<()> {
+    let mut out = LineWriter::new(alloc, rt.stdout()).ok()?;
+    write_all(&alloc, &mut out)?;
+    out.flush().ok()
+}
+
+/// The exit status is 0 where all was written.
+fn main(rt: HostRuntime) -> ExitCode {
+    match write_pages(&rt, rt.alloc()) {
+        None => ExitCode::from(1),
+        Some(_) => ExitCode::from(0),
+    }
+}
