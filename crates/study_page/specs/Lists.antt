@@ -27,13 +27,15 @@ summary_row s number =
     ++ (inside Cell (said (known_words (tag_of s.tags White)))
     ++ (inside Cell (said (stipulation_text s.stipulation)) ++ inside Cell (said (stamp_words (judged s).stamp))))))
 
-abbrev pub two_heads : List ℕ → List ℕ → List ℕ
+unfoldable pub two_heads : List ℕ → List ℕ → List ℕ
 two_heads a b = inside Head (said a) ++ inside Head (said b)
 
-unfoldable pub summary_heads : List ℕ
-summary_heads =
-    inside Heads (inside Row (two_heads (codes "No.") (codes "Title") ++ (two_heads (codes "Author") (codes "Stipulation")
-    ++ inside Head (said (codes "Verdict")))))
+unfoldable pub columns : List ℕ
+columns =
+    two_heads (codes "No.") (codes "Title") ++ (two_heads (codes "Author") (codes "Stipulation") ++ inside Head (said (codes "Verdict")))
+
+abbrev pub summary_heads : List ℕ
+summary_heads = inside Heads (inside Row columns)
 
 -- the page with these entries
 unfoldable pub summary_part : List ℕ → List ℕ

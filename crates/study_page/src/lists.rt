@@ -10,7 +10,7 @@ ghost use Rattle.study_page.specs.Elements.{inside};
 ghost use Rattle.study_page.specs.Escape.{said};
 ghost use Rattle.study_page.specs.Head.{title_words};
 ghost use Rattle.study_page.specs.Verdict.{stamp_words, judged};
-ghost use Rattle.study_page.specs.Lists.{refusal_part, known_words, summary_row, two_heads, summary_heads, summary_part};
+ghost use Rattle.study_page.specs.Lists.{refusal_part, known_words, summary_row, two_heads, columns, summary_heads, summary_part};
 
 use crate::element::Element;
 use crate::fault::PageFault;
@@ -174,6 +174,7 @@ pub fn add_entry<'a, 'b, A: Allocator, B: Allocator>(
     rows.put(Element::Row, &row)
 }
 
+#[tactic(auto, unfolding(crate::specs::Lists::two_heads))]
 fn put_two_heads<'a, A: Allocator>(
     alloc: &'a A,
     html: &mut Html<'_, A>,
@@ -186,7 +187,15 @@ fn put_two_heads<'a, A: Allocator>(
     put_words(alloc, html, Element::Head, b)
 }
 
-#[tactic(auto, unfolding(crate::specs::Lists::summary_heads))]
+#[tactic(auto, unfolding(crate::specs::Lists::columns))]
+fn put_columns<'a, A: Allocator>(alloc: &'a A, html: &mut Html<'_, A>) -> Result<(), AllocError>
+    ensures { OnOk result (html.new ≡ html.old ++ columns) }
+{
+    put_two_heads(alloc, html, b"No.", b"Title")?;
+    put_two_heads(alloc, html, b"Author", b"Stipulation")?;
+    put_words(alloc, html, Element::Head, b"Verdict")
+}
+
 fn put_summary_heads<'a, A: Allocator>(
     alloc: &'a A,
     html: &mut Html<'_, A>,
@@ -195,9 +204,7 @@ fn put_summary_heads<'a, A: Allocator>(
 {
     let mut row = Html::new(alloc);
     let mut within = Html::new(alloc);
-    put_two_heads(alloc, &mut row, b"No.", b"Title")?;
-    put_two_heads(alloc, &mut row, b"Author", b"Stipulation")?;
-    put_words(alloc, &mut row, Element::Head, b"Verdict")?;
+    put_columns(alloc, &mut row)?;
     within.put(Element::Row, &row)?;
     html.put(Element::Heads, &within)
 }
