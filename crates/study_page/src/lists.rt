@@ -10,7 +10,7 @@ ghost use Rattle.study_page.specs.Elements.{inside};
 ghost use Rattle.study_page.specs.Escape.{said};
 ghost use Rattle.study_page.specs.Head.{title_words};
 ghost use Rattle.study_page.specs.Verdict.{stamp_words, judged};
-ghost use Rattle.study_page.specs.Lists.{refusal_part, known_words, summary_row, two_heads, columns, summary_heads, summary_part};
+ghost use Rattle.study_page.specs.Lists.{refusal_part, known_words, summary_row, two_heads, three_heads, summary_heads, summary_part};
 
 use crate::element::Element;
 use crate::fault::PageFault;
@@ -187,13 +187,19 @@ fn put_two_heads<'a, A: Allocator>(
     put_words(alloc, html, Element::Head, b)
 }
 
-#[tactic(auto, unfolding(crate::specs::Lists::columns))]
-fn put_columns<'a, A: Allocator>(alloc: &'a A, html: &mut Html<'_, A>) -> Result<(), AllocError>
-    ensures { OnOk result (html.new ≡ html.old ++ columns) }
+#[tactic(auto, unfolding(crate::specs::Lists::three_heads))]
+fn put_three_heads<'a, A: Allocator>(
+    alloc: &'a A,
+    html: &mut Html<'_, A>,
+    a: &[u8],
+    b: &[u8],
+    c: &[u8],
+) -> Result<(), AllocError>
+    ensures { OnOk result (html.new ≡ html.old ++ three_heads a.now b.now c.now) }
 {
-    put_two_heads(alloc, html, b"No.", b"Title")?;
-    put_two_heads(alloc, html, b"Author", b"Stipulation")?;
-    put_words(alloc, html, Element::Head, b"Verdict")
+    put_words(alloc, html, Element::Head, a)?;
+    put_words(alloc, html, Element::Head, b)?;
+    put_words(alloc, html, Element::Head, c)
 }
 
 fn put_summary_heads<'a, A: Allocator>(
@@ -204,7 +210,8 @@ fn put_summary_heads<'a, A: Allocator>(
 {
     let mut row = Html::new(alloc);
     let mut within = Html::new(alloc);
-    put_columns(alloc, &mut row)?;
+    put_two_heads(alloc, &mut row, b"No.", b"Title")?;
+    put_three_heads(alloc, &mut row, b"Author", b"Stipulation", b"Verdict")?;
     within.put(Element::Row, &row)?;
     html.put(Element::Heads, &within)
 }
