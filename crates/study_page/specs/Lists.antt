@@ -27,13 +27,15 @@ summary_row s number =
     ++ (inside Cell (said (known_words (tag_of s.tags White)))
     ++ (inside Cell (said (stipulation_text s.stipulation)) ++ inside Cell (said (stamp_words (judged s).stamp))))))
 
-abbrev pub two_heads : List ℕ → List ℕ → List ℕ
+unfoldable pub two_heads : List ℕ → List ℕ → List ℕ
 two_heads a b = inside Head (said a) ++ inside Head (said b)
 
-unfoldable pub summary_heads : List ℕ
+unfoldable pub three_heads : List ℕ → List ℕ → List ℕ → List ℕ
+three_heads a b c = inside Head (said a) ++ (inside Head (said b) ++ inside Head (said c))
+
+abbrev pub summary_heads : List ℕ
 summary_heads =
-    inside Heads (inside Row (two_heads (codes "No.") (codes "Title") ++ (two_heads (codes "Author") (codes "Stipulation")
-    ++ inside Head (said (codes "Verdict")))))
+    inside Heads (inside Row (two_heads (codes "No.") (codes "Title") ++ three_heads (codes "Author") (codes "Stipulation") (codes "Verdict")))
 
 -- the page with these entries
 unfoldable pub summary_part : List ℕ → List ℕ

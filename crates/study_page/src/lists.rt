@@ -10,7 +10,7 @@ ghost use Rattle.study_page.specs.Elements.{inside};
 ghost use Rattle.study_page.specs.Escape.{said};
 ghost use Rattle.study_page.specs.Head.{title_words};
 ghost use Rattle.study_page.specs.Verdict.{stamp_words, judged};
-ghost use Rattle.study_page.specs.Lists.{refusal_part, known_words, summary_row, two_heads, summary_heads, summary_part};
+ghost use Rattle.study_page.specs.Lists.{refusal_part, known_words, summary_row, two_heads, three_heads, summary_heads, summary_part};
 
 use crate::element::Element;
 use crate::fault::PageFault;
@@ -174,6 +174,7 @@ pub fn add_entry<'a, 'b, A: Allocator, B: Allocator>(
     rows.put(Element::Row, &row)
 }
 
+#[tactic(auto, unfolding(crate::specs::Lists::two_heads))]
 fn put_two_heads<'a, A: Allocator>(
     alloc: &'a A,
     html: &mut Html<'_, A>,
@@ -186,7 +187,21 @@ fn put_two_heads<'a, A: Allocator>(
     put_words(alloc, html, Element::Head, b)
 }
 
-#[tactic(auto, unfolding(crate::specs::Lists::summary_heads))]
+#[tactic(auto, unfolding(crate::specs::Lists::three_heads))]
+fn put_three_heads<'a, A: Allocator>(
+    alloc: &'a A,
+    html: &mut Html<'_, A>,
+    a: &[u8],
+    b: &[u8],
+    c: &[u8],
+) -> Result<(), AllocError>
+    ensures { OnOk result (html.new ≡ html.old ++ three_heads a.now b.now c.now) }
+{
+    put_words(alloc, html, Element::Head, a)?;
+    put_words(alloc, html, Element::Head, b)?;
+    put_words(alloc, html, Element::Head, c)
+}
+
 fn put_summary_heads<'a, A: Allocator>(
     alloc: &'a A,
     html: &mut Html<'_, A>,
@@ -196,8 +211,7 @@ fn put_summary_heads<'a, A: Allocator>(
     let mut row = Html::new(alloc);
     let mut within = Html::new(alloc);
     put_two_heads(alloc, &mut row, b"No.", b"Title")?;
-    put_two_heads(alloc, &mut row, b"Author", b"Stipulation")?;
-    put_words(alloc, &mut row, Element::Head, b"Verdict")?;
+    put_three_heads(alloc, &mut row, b"Author", b"Stipulation", b"Verdict")?;
     within.put(Element::Row, &row)?;
     html.put(Element::Heads, &within)
 }

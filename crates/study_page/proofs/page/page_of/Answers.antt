@@ -12,9 +12,9 @@ returns-clause-text g c h =
       c.in_ok-parts.parts.defences,
       c.in_ok-parts.parts.ends,
       p.0,
-      p.1.0,
-      p.1.1.0,
-      p.1.1.1.0,
-      p.1.1.1.1,
+      p.1,
+      p.2,
+      p.3,
+      p.4,
       from-nothing _ _ _ c.new-html.ensures c.in_ok-put_page.ensures,
     )
