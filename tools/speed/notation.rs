@@ -178,11 +178,11 @@ pub fn san(position: &Position, by: Move) -> String {
     text
 }
 
-fn bare(text: &str) -> &str {
-    text.trim_end_matches(['+', '#', '!', '?'])
+fn bare(text: &str) -> String {
+    text.trim_end_matches(['+', '#', '!', '?']).replace('=', "")
 }
 
-/// The legal move with this text, with or without what follows its squares.
+/// The legal move with this text, with or without the sign of a promotion and what follows its squares.
 pub fn read_san(position: &Position, text: &str) -> Option<Move> {
     let moves = legal_moves(position);
     moves
