@@ -6,3 +6,4 @@ pub mod Nodes
 pub mod Survey
 pub mod Shown
 pub mod Insertion
+pub mod Setup

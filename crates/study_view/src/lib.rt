@@ -2,24 +2,28 @@
 //!
 //! `write_view` writes all nodes of a study with their marks, and the legal moves at one of them, each with the mark that it
 //! would have there. `write_survey` writes what a stipulation comes to with a man on each other square. Values are asked first,
-//! texts are made whole, and then a writer takes them.
+//! texts are made whole, and then a writer takes them. `passed_squares` and `classes_needed` tell what a set-up wants to know.
 #![tactic(auto)]
 
 mod asking;
+mod classes;
 mod fault;
 mod laws;
 mod marking;
 mod nodes;
+mod passed;
 mod squares;
 mod survey_text;
 mod view;
 mod words;
 
+pub use classes::classes_needed;
 pub use fault::{SurveyFault, ViewFault};
 pub use laws::{
     marks_of_moves_are_those_of_insertions, plain_studies_have_one_view, surveys_are_unique,
     views_are_unique,
 };
+pub use passed::passed_squares;
 pub use squares::{Question, Standing, Stood, survey};
 pub use survey_text::write_survey;
 pub use view::write_view;
