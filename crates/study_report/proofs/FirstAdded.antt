@@ -25,7 +25,7 @@ use Rattle.study_report.specs.declared.kind.Kind.{Kind}
 use Rattle.study_report.specs.declared.kind.Kind.TheVariants.{PassedOver, NoClass, Study, Checked}
 use Rattle.study_report.specs.Told.{Point, Added, IsAdded, IsAddedAs, IsPgnAfter, IsCheckedAfter, kind_in, refusal_count, study_count}
 use Rattle.study_report.specs.Told.{nothing_added, refusal_added}
-use Rattle.study_report.specs.Outcome.{begun, AreAdded, report_text, refusals, point_after, Outcome, Shape}
+use Rattle.study_report.specs.Outcome.{begun, AreAdded, report_text, refusals, point_after, IsFollowed, Outcome, Shape}
 use Rattle.study_report.specs.Written.{Adds, Stops}
 
 -- ---- the first line that is left
@@ -156,6 +156,22 @@ module _ (tells : Plainly → ℕ → List ℕ → Type 0) (refusal : ℕ → Li
         v.written,
         e,
         v.refused_is,
+      )
+
+  -- what is held at the end of the script is what it leaves
+  pub told_after : (holds : State → Type 0) (script now next old new : Option (List ℕ)) (first : State) (p : Point) (line : List ℕ)
+      (n refused : ℕ) → HasTold script now old new first p n refused → TakesLine now next false line → holds p.state
+      → IfSome script (λ bytes. IsFollowed tells refusal first bytes old new holds)
+  told_after holds None now next old new first p line n refused r t held = tt
+  told_after holds (Some bs) None next old new first p line n refused r t held = absurd r.known
+  told_after holds (Some bs) (Some rest) None old new first p line n refused r t held = absurd t
+  told_after holds (Some bs) (Some rest) (Some rest') old new first p line n refused r t held =
+      let v = r.known in
+      let d = none_left (script_lines bs) n v.within (v.left_is ∙ t) in (
+        v.added,
+        subst (λ (ls : List (List ℕ)). AreAdded tells refusal (begun first) ls v.added) d.0 v.are,
+        v.written,
+        subst (λ (q : Point). holds q.state) v.point_is held,
       )
 
   pub told_long : (left script now old new : Option (List ℕ)) (first : State) (p : Point) (n refused : ℕ)

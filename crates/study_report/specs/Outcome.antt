@@ -59,6 +59,11 @@ module _ (tells : Plainly → ℕ → List ℕ → Type 0) (refusal : ℕ → Li
       × (mid : Option (List ℕ)) × Appends old mid (report_text added)
       × (a : Added) × IsAdded tells refusal (point_after p added) line a × TakesPrefix mid new a.text
 
+  -- what all lines of a script add is written, and this is held after them
+  abbrev pub IsFollowed : State → List ℕ → Option (List ℕ) → Option (List ℕ) → (State → Type 0) → Type 0
+  IsFollowed first script old new HoldsIt = (added : List Added) × AreAdded (begun first) (script_lines script) added
+      × Appends old new (report_text added) × HoldsIt (point_after (begun first) added).state
+
   -- what is held at the beginning, the bytes of a script, what the reader has left of them, what the writer had and has, and the answer
   abbrev pub Outcome : State → List ℕ → Option (List ℕ) → Option (List ℕ) → Option (List ℕ) → Result Summary RunFault → Type 0
   Outcome first script left old new (Ok summary) =

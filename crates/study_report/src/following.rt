@@ -1,11 +1,11 @@
 //! A report over a whole script.
-ghost use Rattle.std.specs.Prelude.{◌≡◌, List, IfSome};
+ghost use Rattle.std.specs.Prelude.{◌≡◌, List, IfSome, OnOk};
 ghost use Rattle.study_material.specs.declared.class.Class.{Class as AClass};
 ghost use Rattle.study_script.specs.State.{State, is_among};
 ghost use Rattle.study_script.specs.Held.{tables_honest, tables_held, are_paged};
 ghost use Rattle.study_script.specs.Desk.{DeskHolds};
 ghost use Rattle.study_script.specs.Stored.{HonestOn};
-ghost use Rattle.study_report.specs.Outcome.{Outcome, Shape, over_tables};
+ghost use Rattle.study_report.specs.Outcome.{IsFollowed, Outcome, Shape, over_tables};
 ghost use Rattle.study_report.specs.Written.{none_trusted};
 
 use crate::adding::add_line;
@@ -22,7 +22,7 @@ use study_script::store::TableStore;
 use study_script::tables::Tables;
 use study_tablefile::PageSource;
 
-/// Follows a script from what a desk holds, and has its studies and its refused lines told.
+/// Follows a script from what a desk holds, and has its studies and its refused lines told. The desk holds what the script leaves.
 pub fn follow<'a, 's, R: Read, W: Write, S: TableStore, A: Allocator, T: Report>(
     line: &mut Line<'_, A>,
     script: &mut R,
@@ -35,6 +35,12 @@ pub fn follow<'a, 's, R: Read, W: Write, S: TableStore, A: Allocator, T: Report>
         desk.old.store.now first
         → IfSome (R.remaining script.old)
         (λ bytes. Outcome T.tells T.refusal first bytes (R.remaining script.new) (W.contents out.old) (W.contents out.new) result) }
+    ensures after { (first : State) → DeskHolds S.Pages.honest S.Pages.gives (HonestOn none_trusted S.honest) S.files S.headers S.faults
+        desk.old.board desk.old.tables
+        desk.old.store.now first
+        → OnOk result (IfSome (R.remaining script.old) (λ bytes. IsFollowed T.tells T.refusal first bytes (W.contents out.old) (W.contents out.new)
+        (DeskHolds S.Pages.honest S.Pages.gives (HonestOn none_trusted S.honest) S.files S.headers S.faults
+        desk.new.board desk.new.tables desk.new.store.now))) }
     ensures shape { IfSome (R.remaining script.old) (λ bytes. Shape bytes (R.remaining script.new) result) }
 {
     let mut refused = 0u32;

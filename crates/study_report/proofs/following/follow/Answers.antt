@@ -8,7 +8,7 @@ use Rattle.study_script.specs.Stored.{HonestOn}
 use Rattle.study_report.specs.Outcome.{begun}
 use Rattle.study_report.specs.Told.{IsAdded}
 use Rattle.study_report.specs.Written.{none_trusted, Adds, Stops}
-use Rattle.study_report.proofs.FirstAdded.{HasTold, ToldOn-more, few-told, told_none, told_ends, told_long, told_many, told_read, told_stops, gone_stops}
+use Rattle.study_report.proofs.FirstAdded.{HasTold, ToldOn-more, few-told, told_none, told_after, told_ends, told_long, told_many, told_read, told_stops, gone_stops}
 use Rattle.study_report.proofs.following.follow.Goals as goal
 
 pub returns-in-Err-TooLong-clause-outcome : goal.returns-in-Err-TooLong-clause-outcome
@@ -26,6 +26,29 @@ returns-in-Ok-false-clause-outcome g c = λ first h.
     (g.R.Read.remaining c.loop-n.script) (g.R.Read.remaining c.read.new.script)
     (g.W.Write.contents c.args.out.now) (g.W.Write.contents c.loop-n.out) first on.point c.read.new.self
     c.loop-n.n c.loop-n.refused on.told none (omega arith)
+
+pub returns-in-Ok-false-clause-after : goal.returns-in-Ok-false-clause-after
+returns-in-Ok-false-clause-after g c = λ first h.
+    let on = c.loop-n.invariant.0 first h in
+    let none = rw c.in-Ok-false.field-0-test at c.in-Ok-false.ensures.line in
+    told_after g.T.Report.tells g.T.Report.refusal
+    (DeskHolds g.S.Pages.PageSource.honest g.S.Pages.PageSource.gives (HonestOn none_trusted g.S.TableStore.honest) g.S.TableStore.files
+    g.S.TableStore.headers g.S.TableStore.faults c.loop-n.desk.board c.loop-n.desk.tables c.loop-n.desk.store.now)
+    (g.R.Read.remaining c.args.script.now) (g.R.Read.remaining c.loop-n.script) (g.R.Read.remaining c.read.new.script)
+    (g.W.Write.contents c.args.out.now) (g.W.Write.contents c.loop-n.out) first on.point c.read.new.self
+    c.loop-n.n c.loop-n.refused on.told none on.held
+
+pub returns-in-Ok-None-clause-after : goal.returns-in-Ok-None-clause-after
+returns-in-Ok-None-clause-after g c = λ first h.
+    let on = c.loop-n.invariant.0 first h in
+    let end = rw c.in-Ok-None.field-0-is at c.in-Ok-None.ensures.end in
+    let now = g.R.Read.remaining c.loop-n.script in
+    told_after g.T.Report.tells g.T.Report.refusal
+    (DeskHolds g.S.Pages.PageSource.honest g.S.Pages.PageSource.gives (HonestOn none_trusted g.S.TableStore.honest) g.S.TableStore.files
+    g.S.TableStore.headers g.S.TableStore.faults c.loop-n.desk.board c.loop-n.desk.tables c.loop-n.desk.store.now)
+    (g.R.Read.remaining c.args.script.now) now (g.R.Read.remaining c.read_byte.new.script)
+    (g.W.Write.contents c.args.out.now) (g.W.Write.contents c.loop-n.out) first on.point [] c.loop-n.n c.loop-n.refused on.told
+    (has_none now (g.R.Read.remaining c.read_byte.new.script) end.0 end.1) on.held
 
 pub returns-in-Err-Device-clause-outcome : goal.returns-in-Err-Device-clause-outcome
 returns-in-Err-Device-clause-outcome g c = λ first h.
