@@ -1,2 +1,4 @@
+pub mod Denials
 pub mod Faults
+pub mod Opening
 pub mod Shelves

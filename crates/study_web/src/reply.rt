@@ -1,4 +1,6 @@
 //! What is given back, and how it ended.
+ghost use Rattle.std.specs.Prelude.{◌≡◌, [], IfOk, IfErr};
+ghost use Rattle.study_web.specs.Told.{IsDenied, IsUntold, ending_of};
 
 use crate::denial::Denial;
 use crate::told::put_denial;
@@ -33,7 +35,9 @@ pub enum NoText {
 }
 
 /// The name of the refusal.
-pub fn denied<'a, A: Allocator>(alloc: &'a A, denial: Denial) -> Reply<'a, A> {
+pub fn denied<'a, A: Allocator>(alloc: &'a A, denial: Denial) -> Reply<'a, A>
+    ensures { IsDenied denial result.text.items result.ended }
+{
     let mut text = Vec::new(alloc);
     match put_denial(&mut text, denial) {
         Ok(()) => Reply {
@@ -45,7 +49,10 @@ pub fn denied<'a, A: Allocator>(alloc: &'a A, denial: Denial) -> Reply<'a, A> {
 }
 
 /// Nothing, for this fault.
-pub fn stopped<'a, A: Allocator>(alloc: &'a A, fault: RunFault) -> Reply<'a, A> {
+fn stopped<'a, A: Allocator>(alloc: &'a A, fault: RunFault) -> Reply<'a, A>
+    ensures ended { result.ended ≡ Ending.Stopped fault }
+    ensures text { result.text.items ≡ [] }
+{
     Reply {
         text: Vec::new(alloc),
         ended: Ending::Stopped(fault),
@@ -53,7 +60,10 @@ pub fn stopped<'a, A: Allocator>(alloc: &'a A, fault: RunFault) -> Reply<'a, A> 
 }
 
 /// A text, or why there is none.
-pub fn told<'a, A: Allocator>(alloc: &'a A, made: Result<Vec<u8, &'a A>, NoText>) -> Reply<'a, A> {
+pub fn told<'a, A: Allocator>(alloc: &'a A, made: Result<Vec<u8, &'a A>, NoText>) -> Reply<'a, A>
+    ensures text { IfOk made (λ text. (result.ended ≡ Ending.Answered) × (result.text.items ≡ text.items)) }
+    ensures none { IfErr made (λ why. IsUntold why result.text.items result.ended) }
+{
     match made {
         Ok(text) => Reply {
             text,
@@ -68,15 +78,13 @@ pub fn told<'a, A: Allocator>(alloc: &'a A, made: Result<Vec<u8, &'a A>, NoText>
 pub fn ran<'a, A: Allocator>(
     text: Vec<u8, &'a A>,
     summary: Result<Summary, RunFault>,
-) -> Reply<'a, A> {
-    match summary {
-        Ok(summary) => Reply {
-            text,
-            ended: Ending::Ran(summary),
-        },
-        Err(fault) => Reply {
-            text,
-            ended: Ending::Stopped(fault),
-        },
-    }
+) -> Reply<'a, A>
+    ensures ended { result.ended ≡ ending_of summary }
+    ensures text { result.text.items ≡ text.items }
+{
+    let ended = match summary {
+        Ok(summary) => Ending::Ran(summary),
+        Err(fault) => Ending::Stopped(fault),
+    };
+    Reply { text, ended }
 }

@@ -1,10 +1,26 @@
-//! What is told of a script: its review, and the view of the study that it leaves on the board.
-ghost use Rattle.std.specs.Prelude.{◌≤◌, IfSome};
+//! What is told of a script: its review, and the view of what it leaves on the board.
+ghost use Rattle.std.specs.Prelude.{◌≡◌, ◌≤◌, ◌++◌, ℕ, [], true, is_some, List, Option, Some, IfSome, IfOk, IfErr, OnOk};
+ghost use Rattle.study_material.specs.declared.class.Class.{Class as AClass};
+ghost use Rattle.study_marks.specs.Kept.{marked, IsKeptRight};
+ghost use Rattle.study_marks.specs.Study.{plain_study};
+ghost use Rattle.study_command.specs.Asking.{path_seen};
+ghost use Rattle.study_command.specs.Paths.{steps_of, is_path_word};
+ghost use Rattle.study_notation.specs.declared.start.Start.{Start as AStart};
+ghost use Rattle.study_prober.specs.Paged.{held_of, SourcesAreRight};
+ghost use Rattle.study_review.specs.Review.{IsReviewOf};
+ghost use Rattle.study_report.specs.Lines.{refusal_line};
+ghost use Rattle.study_report.specs.Outcome.{Outcome, over_tables};
+ghost use Rattle.study_script.specs.Held.{board_seen, tables_honest, IsMarked};
+ghost use Rattle.study_script.specs.State.{is_among};
+ghost use Rattle.study_view.specs.View.{IsViewOf};
+ghost use Rattle.study_view.specs.Words.{study_line};
+ghost use Rattle.study_web.specs.Answers.{MayBeAny, MayEnd, IsUnread};
+ghost use Rattle.study_web.specs.Opened.{IsHeldAs};
+ghost use Rattle.study_web.specs.Views.{IsBoardView, IsLeft, IsViewOver};
 
 use crate::denial::Denial;
 use crate::refusals::Refusals;
-use crate::reply::{NoText, Reply, denied, ran};
-use crate::spans::Span;
+use crate::reply::NoText;
 use crate::tables::open_tables;
 use std::alloc::Allocator;
 use study_command::command::PathWord;
@@ -12,44 +28,51 @@ use study_command::lines::Line;
 use study_command::read_path;
 use study_marks::Bench;
 use study_notation::{Start, write_fen};
-use study_prober::Values;
+use study_prober::{PagedTables, Values};
 use study_reply::refusal::Refusal;
 use study_reply::words::{of_probe, put_line};
 use study_report::{Lines, NoFiles, follow, follow_script};
 use study_script::board::Board;
 use study_script::desk::StudyDesk;
-use study_script::run::RunFault;
+use study_script::run::{RunFault, Summary};
+use study_script::store::TableStore;
 use study_script::tables::Tables;
-use study_tablefile::put;
+use study_tablefile::{PageSource, put};
 use study_view::{ViewFault, write_view};
 
-/// The review of a script's studies, over all files that are handed in.
-pub fn review_of<'f, 'a, A: Allocator>(
+/// What is told of a script, and how the run over it ended.
+#[derive(Drop)]
+pub struct Told<'a, A: Allocator> {
+    pub text: Vec<u8, &'a A>,
+    pub summary: Result<Summary, RunFault>,
+}
+
+/// The review of a script's studies, over all files of a store.
+pub fn review_of<'a, S: TableStore, A: Allocator>(
     alloc: &'a A,
     script: &[u8],
-    spans: &[Span],
-    bytes: &'f [u8],
+    store: &mut S,
     pages: Option<u16>,
-) -> Reply<'a, A>
+) -> Result<Told<'a, A>, Denial>
     requires { IfSome pages (λ n. (1 ≤ n) × (n ≤ 4096)) }
+    ensures { ((c : AClass) → S.honest store.old true c) → IfOk result (λ told. (classes : List AClass)
+        × ((c : AClass) → IsHeldAs (S.headers store.old c) (is_among classes c)) × (left : Option (List ℕ))
+        × Outcome IsReviewOf refusal_line (over_tables classes true) script.now left (Some []) (Some told.text.items) told.summary) }
 {
-    match open_tables(alloc, spans, bytes, pages) {
-        Err(denial) => denied(alloc, denial),
+    match open_tables(alloc, store, pages) {
+        Err(denial) => Err(denial),
         Ok(tables) => {
             let mut reader = script;
             let mut text = Vec::new(alloc);
-            let tables = Tables::Paged(tables);
-            let summary = follow_script(alloc, &mut reader, &mut text, &mut Lines, tables);
-            ran(text, summary)
+            let summary = follow_script(
+                alloc,
+                &mut reader,
+                &mut text,
+                &mut Lines,
+                Tables::Paged(tables),
+            );
+            Ok(Told { text, summary })
         }
-    }
-}
-
-fn of_fault(fault: ViewFault) -> NoText {
-    match fault {
-        ViewFault::NoSuchNode => NoText::Denied(Denial::Refused(Refusal::NoSuchNode)),
-        ViewFault::OutOfMemory | ViewFault::Device => NoText::Stopped(RunFault::OutOfMemory),
-        ViewFault::Values(fault) => NoText::Denied(Denial::Refused(of_probe(fault))),
     }
 }
 
@@ -57,31 +80,45 @@ fn of_fault(fault: ViewFault) -> NoText {
 fn bench_view<'a, A: Allocator, V: Values>(
     alloc: &'a A,
     bench: &Bench<'a, A>,
-    path: PathWord<'_>,
+    path: &[u8],
     values: &mut V,
-) -> Result<Vec<u8, &'a A>, NoText> {
-    let Ok(path) = read_path(alloc, path.word) else {
-        return Err(NoText::Stopped(RunFault::OutOfMemory));
+) -> Result<Vec<u8, &'a A>, NoText>
+    requires { is_path_word path.now ≡ true }
+    ensures { V.is_honest values.old → IsKeptRight bench.now
+        → IfOk result (λ text. IsViewOf (plain_study (marked bench.now)) (steps_of path.now) text.items) }
+{
+    let Ok(path) = read_path(alloc, path) else {
+        return Err(NoText::Denied(Denial::Refused(Refusal::OutOfMemory)));
     };
     let mut text = Vec::new(alloc);
     match write_view(alloc, bench, &path, values, &mut text) {
         Ok(()) => Ok(text),
-        Err(fault) => Err(of_fault(fault)),
+        Err(ViewFault::NoSuchNode) => Err(NoText::Denied(Denial::Refused(Refusal::NoSuchNode))),
+        Err(ViewFault::Values(fault)) => Err(NoText::Denied(Denial::Refused(of_probe(fault)))),
+        Err(ViewFault::OutOfMemory) | Err(ViewFault::Device) => {
+            Err(NoText::Denied(Denial::Refused(Refusal::OutOfMemory)))
+        }
     }
 }
 
 /// Where a study will start, of which no stipulation is chosen yet.
-fn start_view<'a, A: Allocator>(alloc: &'a A, start: &Start) -> Result<Vec<u8, &'a A>, NoText> {
+#[tactic(auto, unfolding(study_view::specs::Words::study_line))]
+fn start_view<'a, A: Allocator>(alloc: &'a A, start: &Start) -> Result<Vec<u8, &'a A>, NoText>
+    ensures { IfOk result (λ text. text.items ≡ study_line start.now) }
+{
     let mut text = Vec::new(alloc);
     match put_line(&mut text, b"study ", write_fen(start).as_str().as_bytes()) {
         Ok(()) => Ok(text),
-        Err(_) => Err(NoText::Stopped(RunFault::OutOfMemory)),
+        Err(_) => Err(NoText::Denied(Denial::Refused(Refusal::OutOfMemory))),
     }
 }
 
 /// What has a root alone has no other node.
-fn at_root(path: PathWord<'_>) -> Result<(), NoText> {
-    if path.word == b"root".as_slice() {
+#[tactic(auto, unfolding(study_command::specs::Paths::steps_of))]
+fn at_root(path: &[u8]) -> Result<(), NoText>
+    ensures { OnOk result (steps_of path.now ≡ []) }
+{
+    if path == b"root".as_slice() {
         Ok(())
     } else {
         Err(NoText::Denied(Denial::Refused(Refusal::NoSuchNode)))
@@ -92,9 +129,13 @@ fn at_root(path: PathWord<'_>) -> Result<(), NoText> {
 fn board_view<'a, A: Allocator, V: Values>(
     alloc: &'a A,
     board: &Board<'a, A>,
-    path: PathWord<'_>,
+    path: &[u8],
     values: &mut V,
-) -> Result<Vec<u8, &'a A>, NoText> {
+) -> Result<Vec<u8, &'a A>, NoText>
+    requires { is_path_word path.now ≡ true }
+    ensures { V.is_honest values.old → IsMarked board.now
+        → IfOk result (λ text. IsBoardView (board_seen board.now) (steps_of path.now) text.items) }
+{
     match board {
         Board::Study(bench) => bench_view(alloc, bench, path, values),
         Board::Start(start) => {
@@ -108,23 +149,28 @@ fn board_view<'a, A: Allocator, V: Values>(
     }
 }
 
-/// The view at a path of the study that a script leaves on the board, and then its refused lines; over all files that are handed in.
-pub fn view_of<'f, 'a, A: Allocator>(
+/// What a script leaves behind: what is on the board, the tables, and its refused lines.
+#[derive(Drop)]
+struct Left<'a, P: PageSource, A: Allocator> {
+    board: Board<'a, A>,
+    tables: Tables<'a, P, A>,
+    refused: Vec<u8, &'a A>,
+}
+
+/// Follows a script over these tables.
+fn left_by<'a, P: PageSource, A: Allocator>(
     alloc: &'a A,
-    path: PathWord<'_>,
     script: &[u8],
-    spans: &[Span],
-    bytes: &'f [u8],
-    pages: Option<u16>,
-) -> Result<Vec<u8, &'a A>, NoText>
-    requires { IfSome pages (λ n. (1 ≤ n) × (n ≤ 4096)) }
+    tables: PagedTables<'a, P, A>,
+) -> Result<Left<'a, P, A>, RunFault>
+    ensures left { (classes : List AClass) → SourcesAreRight P.honest tables.sources
+        → ((c : AClass) → is_some (held_of tables.sources c) ≡ is_among classes c)
+        → IfOk result (λ left. tables_honest P.honest left.tables × IsMarked left.board
+        × IsLeft classes script.now (board_seen left.board) left.refused.items) }
+    ensures stops { IfErr result (IsUnread script.now) }
 {
-    let tables = match open_tables(alloc, spans, bytes, pages) {
-        Err(denial) => return Err(NoText::Denied(denial)),
-        Ok(tables) => tables,
-    };
     let Ok(mut line) = Line::new(alloc) else {
-        return Err(NoText::Stopped(RunFault::OutOfMemory));
+        return Err(RunFault::OutOfMemory);
     };
     let mut store = NoFiles::new();
     let mut desk = StudyDesk {
@@ -142,12 +188,61 @@ pub fn view_of<'f, 'a, A: Allocator>(
         &mut Refusals,
         &mut desk,
     ) {
-        Err(fault) => return Err(NoText::Stopped(fault)),
-        Ok(_) => {}
+        Err(fault) => Err(fault),
+        Ok(_) => {
+            let StudyDesk { board, tables, .. } = desk;
+            Ok(Left {
+                board,
+                tables,
+                refused,
+            })
+        }
     }
-    let mut text = board_view(alloc, &desk.board, path, &mut desk.tables)?;
+}
+
+/// The view at a path of what is left, and then the lines that were refused.
+fn left_view<'a, P: PageSource, A: Allocator>(
+    alloc: &'a A,
+    left: Left<'a, P, A>,
+    path: &[u8],
+) -> Result<Vec<u8, &'a A>, NoText>
+    requires { is_path_word path.now ≡ true }
+    ensures { tables_honest P.honest left.tables → IsMarked left.board
+        → IfOk result (λ text. (view : List ℕ) × IsBoardView (board_seen left.board) (steps_of path.now) view
+        × (text.items ≡ view ++ left.refused.items)) }
+{
+    let Left {
+        board,
+        mut tables,
+        refused,
+    } = left;
+    let mut text = board_view(alloc, &board, path, &mut tables)?;
     match put(&mut text, refused.as_slice()) {
         Ok(()) => Ok(text),
-        Err(_) => Err(NoText::Stopped(RunFault::OutOfMemory)),
+        Err(_) => Err(NoText::Denied(Denial::Refused(Refusal::OutOfMemory))),
+    }
+}
+
+/// The view at a path of what a script leaves on the board, and then its refused lines; over all files of a store.
+pub fn view_of<'a, S: TableStore, A: Allocator>(
+    alloc: &'a A,
+    path: &[u8],
+    script: &[u8],
+    store: &mut S,
+    pages: Option<u16>,
+) -> Result<Vec<u8, &'a A>, NoText>
+    requires pages { IfSome pages (λ n. (1 ≤ n) × (n ≤ 4096)) }
+    requires path { is_path_word path.now ≡ true }
+    ensures text { ((c : AClass) → S.honest store.old true c) → IfOk result (λ text. (classes : List AClass)
+        × ((c : AClass) → IsHeldAs (S.headers store.old c) (is_among classes c))
+        × IsViewOver classes script.now (steps_of path.now) text.items) }
+    ensures none { IfErr result (MayEnd MayBeAny (IsUnread script.now)) }
+{
+    match open_tables(alloc, store, pages) {
+        Err(denial) => Err(NoText::Denied(denial)),
+        Ok(tables) => match left_by(alloc, script, tables) {
+            Err(fault) => Err(NoText::Stopped(fault)),
+            Ok(left) => left_view(alloc, left, path),
+        },
     }
 }

@@ -1,15 +1,18 @@
 //! The words of a request.
-ghost use Rattle.std.specs.Prelude.{◌≡◌, true};
+ghost use Rattle.std.specs.Prelude.{◌≡◌, true, IfSome};
 ghost use Rattle.std.specs.Option.{option_map};
 ghost use Rattle.std.specs.List.{list_all};
 ghost use Rattle.study_notation.specs.Fen.{is_digit};
+ghost use Rattle.study_notation.specs.Words.{words};
 ghost use Rattle.study_marks.specs.Edits.{is_printable};
-ghost use Rattle.study_command.specs.Asking.{path_of, path_seen, side_told};
+ghost use Rattle.study_command.specs.Asking.{one_word, path_of, path_seen, side_told};
 ghost use Rattle.study_command.specs.Paths.{is_place, place_told, is_path, is_path_word};
+ghost use Rattle.study_web.specs.Request.{square_told};
 
 use std::str;
 use study_board::{Side, Square};
 use study_command::command::PathWord;
+use study_notation::words::next_word;
 
 /// Whether each byte is printable ASCII.
 pub fn is_printable(line: &[u8]) -> bool
@@ -27,6 +30,18 @@ pub fn as_text(bytes: &[u8]) -> &str
         Ok(text) => text,
         Err(_) => unreachable!(),
     }
+}
+
+/// The one word that there is.
+pub fn read_one_word(rest: &[u8]) -> Option<&[u8]>
+    ensures value { option_map (λ word. word.now) result ≡ one_word (words rest.now) }
+    ensures printable { list_all is_printable rest.now ≡ true → IfSome result (λ word. list_all is_printable word.now ≡ true) }
+{
+    let (word, rest) = next_word(rest)?;
+    if next_word(rest).is_some() {
+        return None;
+    }
+    Some(word)
 }
 
 /// A word that is a path, as a script's commands take it.
@@ -87,7 +102,10 @@ pub fn read_place(text: &[u8]) -> Option<u16>
     Some(n)
 }
 
-pub fn read_square(word: &[u8]) -> Option<Square> {
+/// A file and a rank.
+pub fn read_square(word: &[u8]) -> Option<Square>
+    ensures { result ≡ square_told word.now }
+{
     match word {
         [file @ b'a'..=b'h', rank @ b'1'..=b'8'] => {
             Some(Square::at(8 * (*rank - b'1') + (*file - b'a')))

@@ -1,0 +1,38 @@
+-- Answers that are whole, and refusals.
+use Rattle.std.proofs.Common.{◌≡◌, ℕ, List, [], Result, Ok, Err, refl, sym, ap, subst, ◌∙◌}
+use Rattle.std.specs.Prelude.{IfOk, IfErr}
+use Rattle.study_script.specs.declared.run.RunFault.{RunFault}
+use Rattle.study_script.specs.declared.run.RunFault.TheVariants as run_fault
+use Rattle.study_notation.specs.declared.start.Start.{Start}
+use Rattle.study_web.specs.declared.denial.Denial.{Denial}
+use Rattle.study_web.specs.declared.denial.Denial.TheVariants as denial
+use Rattle.study_web.specs.declared.reply.NoText.{NoText}
+use Rattle.study_web.specs.declared.reply.NoText.TheVariants as no_text
+use Rattle.study_web.specs.declared.reply.Ending.{Ending}
+use Rattle.study_web.specs.declared.reply.Ending.TheVariants.{Answered, Refused, Ran, Stopped}
+use Rattle.study_web.specs.Answers.{IsWhole, MayEnd, IsSurveyDenial}
+use Rattle.study_web.specs.Opened.{IsOfTables}
+use Rattle.study_web.specs.Told.{denial_text, IsDenied, IsUntold}
+
+pub whole_denied : (IsIt : List ℕ → Type 0) (May : Denial → Type 0) (Stops : RunFault → Type 0) (d : Denial) (text : List ℕ) (ended : Ending)
+    → IsDenied d text ended → May d → Stops run_fault.OutOfMemory → IsWhole IsIt May Stops text ended
+whole_denied IsIt May Stops d text Answered x may stops = absurd x
+whole_denied IsIt May Stops d text (Refused e) (same, is) may stops = (subst May (sym same) may, is ∙ ap denial_text (sym same))
+whole_denied IsIt May Stops d text (Stopped fault) (same, is) may stops = (subst Stops (sym same) stops, is)
+whole_denied IsIt May Stops d text (Ran summary) x may stops = absurd x
+
+-- a text that was made, or the reason why there is none
+pub whole_told : {V : Type 0} (items : V → List ℕ) (IsIt : List ℕ → Type 0) (May : Denial → Type 0) (Stops : RunFault → Type 0)
+    (made : Result V NoText) (text : List ℕ) (ended : Ending) → IfOk made (λ v. (ended ≡ Answered) × (text ≡ items v))
+    → IfErr made (λ why. IsUntold why text ended) → IfOk made (λ v. IsIt (items v)) → IfErr made (MayEnd May Stops)
+    → Stops run_fault.OutOfMemory → IsWhole IsIt May Stops text ended
+whole_told items IsIt May Stops (Ok v) text ended (e, t) untold is may stops = rw (e, t) is
+whole_told items IsIt May Stops (Err (no_text.Denied d)) text ended done untold is may stops =
+    whole_denied IsIt May Stops d text ended untold may stops
+whole_told items IsIt May Stops (Err (no_text.Stopped fault)) text ended done (e, t) is may stops = rw (e, t) (may, refl)
+
+pub survey_over : (start : Start) (square : ℕ) (d : Denial) → IsOfTables d → IsSurveyDenial start square d
+survey_over start square (denial.Refused refusal) h = tt
+survey_over start square (denial.OfFile c refusal) h = tt
+survey_over start square denial.NoMan h = absurd h
+survey_over start square denial.NoReport h = absurd h
