@@ -7,3 +7,5 @@ pub mod ViewMade
 pub mod Standings
 pub mod OneSurvey
 pub mod NewNode
+pub mod PassedSquares
+pub mod ClassesNeeded

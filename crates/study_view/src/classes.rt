@@ -1,7 +1,10 @@
 //! The classes that positions need.
-ghost use Rattle.std.specs.Prelude.{◌≡◌, ◌↔◌, true};
+ghost use Rattle.std.specs.Prelude.{◌≡◌, ◌↔◌, ◌≤◌, ◌<◌, ◌+◌, ◌++◌, ◌∷◌, [], true, List, length};
+ghost use Rattle.std.specs.List.{Contains};
+ghost use Rattle.arrayvec.specs.ArrayVec.{array_vec_len};
+ghost use Rattle.study_material.specs.declared.class.Class.{Class as AClass};
 ghost use Rattle.study_material.specs.Needs.{by_size};
-ghost use Rattle.study_view.specs.Setup.{NeedsClass, IsNeededBy, AreClassesNeeded};
+ghost use Rattle.study_view.specs.Setup.{NeedsClass, IsNeededBy, AreThose, AreClassesNeeded};
 
 use arrayvec::ArrayVec;
 use study_board::Position;
@@ -54,6 +57,16 @@ fn by_size() -> &'static [Class; 36]
     &BY_SIZE
 }
 
+/// Whether the class is one of these.
+fn is_in(classes: &[Class], class: Class) -> bool
+    ensures { (result ≡ true) ↔ Contains classes.now class }
+{
+    match classes.split_first() {
+        None => false,
+        Some((first, rest)) => *first == class || is_in(rest, class),
+    }
+}
+
 /// Whether the position is of the class, or of one that needs it.
 fn needs_class(p: &Position, class: Class) -> bool
     ensures { (result ≡ true) ↔ NeedsClass p.now class }
@@ -61,7 +74,7 @@ fn needs_class(p: &Position, class: Class) -> bool
     positions_have_one_class();
     let _men = p.men();
     let (own, _) = class_of(p);
-    order(own).as_slice().iter().any(|c| *c == class)
+    is_in(order(own).as_slice(), class)
 }
 
 /// Whether one of the positions is of the class, or of one that needs it.
@@ -74,16 +87,38 @@ fn is_needed(positions: &[Position], class: Class) -> bool
     }
 }
 
+/// Puts one more class last.
+fn push_class(class: Class, list: &mut ArrayVec<Class, 36>)
+    requires { array_vec_len list.old < 36 }
+    ensures items { list.new.items ≡ list.old.items ++ class ∷ [] }
+    ensures len { array_vec_len list.new ≡ array_vec_len list.old + 1 }
+{
+    list.push(class);
+}
+
+/// Adds those of these classes that the positions need.
+fn add_needed(positions: &[Position], classes: &[Class], list: &mut ArrayVec<Class, 36>)
+    requires { array_vec_len list.old + length classes.now ≤ 36 }
+    ensures { (more : List AClass) × AreThose (IsNeededBy positions.now) classes.now more × (list.new.items ≡ list.old.items ++ more) }
+{
+    match classes.split_first() {
+        None => {}
+        Some((class, rest)) => {
+            if is_needed(positions, *class) {
+                push_class(*class, list);
+                return add_needed(positions, rest, list);
+            }
+            add_needed(positions, rest, list)
+        }
+    }
+}
+
 /// The classes whose tables tell the values of these positions and of all to which they can lead, in the order in which to build
 /// the tables.
 pub fn classes_needed(positions: &[Position]) -> ArrayVec<Class, 36>
     ensures { AreClassesNeeded positions.now result.items }
 {
     let mut list = ArrayVec::new();
-    for class in by_size() {
-        if is_needed(positions, *class) {
-            list.push(*class);
-        }
-    }
+    add_needed(positions, by_size().as_slice(), &mut list);
     list
 }
