@@ -188,6 +188,8 @@ fn left_by<'a, P: PageSource, A: Allocator>(
         &mut Refusals,
         &mut desk,
     ) {
+        // The text in memory does not grow.
+        Err(RunFault::WriteDevice) => Err(RunFault::OutOfMemory),
         Err(fault) => Err(fault),
         Ok(_) => {
             let StudyDesk { board, tables, .. } = desk;

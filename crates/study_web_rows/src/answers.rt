@@ -6,7 +6,7 @@ use std::alloc::{Allocator, Global};
 use std::test::Fail;
 use study_material::Class;
 use study_script::run::{RunFault, Summary};
-use study_web::{Ending, Span, answer, make_file, put_ending};
+use study_web::{Ending, Reply, Span, answer, make_file, put_ending};
 
 const SCRIPT: &str = r#"position k7/1R6/8/K7/8/8/8/8 w - - 0 1
 stipulate white mate 3
@@ -138,20 +138,14 @@ g8 -
 h8 -
 "#;
 
-/// A text that is answered, and how it ended.
-struct Given<'a> {
-    text: Vec<u8, &'a Global>,
-    ended: Ending,
-}
-
 fn ask<'a>(
     alloc: &'a Global,
     request: &str,
     script: &str,
     spans: &[Span],
     bytes: &[u8],
-) -> Given<'a> {
-    let reply = answer(
+) -> Reply<'a, Global> {
+    answer(
         alloc,
         request.as_bytes(),
         script.as_bytes(),
@@ -159,11 +153,7 @@ fn ask<'a>(
         bytes,
         &[],
         Some(16),
-    );
-    Given {
-        text: reply.text,
-        ended: reply.ended,
-    }
+    )
 }
 
 /// The name of a refusal.
@@ -190,16 +180,31 @@ fn without_tables(rt: HostRuntime) -> Result<(), Fail> {
     let passed = ask(&alloc, "passed 4k3/8/8/8/4P3/8/8/4K3 b - -", "", &[], &[]);
     assert!(rt; passed.text.as_slice() == b"e3\n".as_slice());
     assert!(rt; passed.ended == Ending::Answered);
-    let script = "position 8/8/8/6k1/8/8/1P5K/8 w - - 0 1\nposition 8/8\nshift 4k3/8/8/8/8/8/8/R3K3 b - - 0 1\n";
+    let script =
+        "position 8/8/8/6k1/8/8/1P5K/8 w - - 0 1\nposition 8/8\nshift 4k3/8/8/8/8/8/8/R3K3 b - - 0 1\n";
     let tables = ask(&alloc, "tables", script, &[], &[]);
     assert!(rt; tables.text.as_slice() == b"KK\nKQK\nKRK\nKBK\nKNK\nKPK\n".as_slice());
     let script = "position 4k3/8/8/8/4P3/8/8/4K3 b - - 0 1\nsquare\n";
     let view = ask(&alloc, "view root", script, &[], &[]);
-    assert!(rt; view.text.as_slice().starts_with(b"study 4k3/8/8/8/4P3/8/8/4K3 b - - 0 1\n"));
-    assert!(rt; view.text.as_slice().ends_with(b"b - - 0 1\nrefused 2 UnknownCommand\n"));
+    assert!(rt;
+        view.text
+            .as_slice()
+            .starts_with(b"study 4k3/8/8/8/4P3/8/8/4K3 b - - 0 1\n")
+    );
+    assert!(rt;
+        view.text
+            .as_slice()
+            .ends_with(b"b - - 0 1\nrefused 2 UnknownCommand\n")
+    );
     let run = ask(&alloc, "run", "fen root\n", &[], &[]);
     assert!(rt; run.text.as_slice() == b"error NoPosition\n".as_slice());
-    assert!(rt; run.ended == Ending::Ran(Summary { lines: 1, refused: 1 }));
+    assert!(rt;
+        run.ended
+            == Ending::Ran(Summary {
+                lines: 1,
+                refused: 1
+            })
+    );
     let made = ask(&alloc, "make KK", "", &[], &[]);
     let kings = make_file(&alloc, Class::KK, &[], &[])?;
     assert!(rt; made.text.as_slice() == kings.as_slice());
@@ -214,11 +219,21 @@ fn over_tables(rt: HostRuntime) -> Result<(), Fail> {
     let view = ask(&alloc, "view root", SCRIPT, &spans, bytes.as_slice());
     let text = view.text.as_slice();
     assert!(rt; text.starts_with(VIEW.as_bytes()));
-    assert!(rt; text.ends_with(b"\nrefused 15 NotSan\n") && text.len() == VIEW.len().saturating_add(18));
+    assert!(rt;
+        text.ends_with(b"\nrefused 15 NotSan\n") && text.len() == VIEW.len().saturating_add(18)
+    );
     let review = ask(&alloc, "review", SCRIPT, &spans, bytes.as_slice());
     let text = review.text.as_slice();
-    assert!(rt; text.starts_with(b"refused 15 NotSan\nstudy 1 ") && text.ends_with(REVIEW.as_bytes()));
-    assert!(rt; review.ended == Ending::Ran(Summary { lines: 16, refused: 1 }));
+    assert!(rt;
+        text.starts_with(b"refused 15 NotSan\nstudy 1 ") && text.ends_with(REVIEW.as_bytes())
+    );
+    assert!(rt;
+        review.ended
+            == Ending::Ran(Summary {
+                lines: 16,
+                refused: 1
+            })
+    );
     let request = "survey h1 white mate 1 k7/8/1K6/8/8/8/8/7R w - - 0 1";
     let survey = ask(&alloc, request, "", &spans, bytes.as_slice());
     assert!(rt; survey.text.as_slice() == SURVEY.as_bytes());
@@ -240,10 +255,19 @@ fn refused_by_name(rt: HostRuntime) -> Result<(), Fail> {
         ("make KRK", "MissingTable KK\n"),
         ("report", "NoReport\n"),
         ("passed 8/8", "FieldCount\n"),
-        ("survey i1 white win 4k3/8/8/8/8/8/8/R3K3 w - -", "BadArguments\n"),
-        ("survey a1 white 4k3/8/8/8/8/8/8/R3K3 w - -", "UnknownStipulation\n"),
+        (
+            "survey i1 white win 4k3/8/8/8/8/8/8/R3K3 w - -",
+            "BadArguments\n",
+        ),
+        (
+            "survey a1 white 4k3/8/8/8/8/8/8/R3K3 w - -",
+            "UnknownStipulation\n",
+        ),
         ("survey b1 white win 4k3/8/8/8/8/8/8/R3K3 w - -", "NoMan\n"),
-        ("survey a1 white win 4k3/8/8/8/8/8/8/R3K3 w - -", "NoTable KRK\n"),
+        (
+            "survey a1 white win 4k3/8/8/8/8/8/8/R3K3 w - -",
+            "NoTable KRK\n",
+        ),
         ("run\n", "BadByte\n"),
     ];
     for (request, name) in cases {
@@ -272,7 +296,7 @@ fn files_that_are_none(rt: HostRuntime) -> Result<(), Fail> {
     assert!(rt; text.as_slice() == b"KRK OtherClass KK\n".as_slice());
     let short = [at(Class::KK, 0, 63)];
     let text = refusal(&alloc, request, "", &short, bytes.as_slice())?;
-    assert!(rt; text.as_slice() == b"KK Cut\n".as_slice());
+    assert!(rt; text.as_slice() == b"KK TableRead Short\n".as_slice());
     let moved = [at(Class::KK, 1, bytes.len().saturating_sub(1))];
     let text = refusal(&alloc, request, "", &moved, bytes.as_slice())?;
     assert!(rt; text.as_slice() == b"KK NotATable\n".as_slice());
@@ -286,7 +310,10 @@ fn memory_for_an_answer(rt: HostRuntime) -> Result<(), Fail> {
     let mut refused = 0u32;
     for step in 0..400usize {
         let heap = LocalHeap::new(alloc, 64 + step * 32)?;
-        let reply = answer(&heap, b"view root", b"square\n", &[], &[], &[], Some(1));
+        let saved = Vec::new(&heap);
+        let view = b"view root".as_slice();
+        let script = b"square\n".as_slice();
+        let reply = answer(&heap, view, script, &[], &[], saved.as_slice(), Some(1));
         if reply.ended == Ending::Answered {
             assert!(rt; reply.text.as_slice() == b"refused 1 UnknownCommand\n".as_slice());
             assert!(rt; refused > 0);
