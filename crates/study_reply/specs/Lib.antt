@@ -1,3 +1,4 @@
 pub mod Names
 pub mod Words
-pub mod Told
+pub mod TableReply
+pub mod Replied

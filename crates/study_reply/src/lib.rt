@@ -5,5 +5,6 @@
 
 pub mod path_written;
 pub mod refusal;
-pub mod told;
+pub mod reply;
+pub mod table_reply;
 pub mod words;

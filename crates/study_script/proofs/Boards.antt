@@ -48,39 +48,6 @@ module _ {P A : Type 0} where
         = h.faults;
   }
 
--- a function that writes the reply to an accepted line, and answers so
-pub accepted_ok : {E : Type 0} (I : Outside → Reply → Type 0) (H : State → Type 0) (r : Result Bool E) (s : State)
-    (old new : Option (List ℕ)) (text : List ℕ) (o : Outside) → I o (accepted s text) → OnOk r (Appends old new text)
-    → OnOk r (H s) → IfOk r (λ b. b ≡ false) → IfOk r (Answered I H old new)
-accepted_ok I H (Ok b) s old new text o i a h e = (o, accepted s text, i, a, h, e)
-accepted_ok I H (Err e) s old new text o i a h k = tt
-
-pub accepted_err : {E : Type 0} (I : Outside → Reply → Type 0) (r : Result Bool E) (s : State)
-    (old new : Option (List ℕ)) (text : List ℕ) (o : Outside) → I o (accepted s text)
-    → OnErr r (TakesPrefix old new text) → OnErr r (BrokenOff I old new)
-accepted_err I (Ok b) s old new text o i a = tt
-accepted_err I (Err e) s old new text o i a = (o, accepted s text, i, a)
-
--- what the outside did is told otherwise
-module _ {I J : Outside → Reply → Type 0} {H K : State → Type 0} where
-  answered_told : (old new : Option (List ℕ)) (b : Bool)
-      → ((o : Outside) (r : Reply) → I o r → (p : Outside) × J p r) → ((t : State) → H t → K t)
-      → Answered I H old new b → Answered J K old new b
-  answered_told old new b f g (o, reply, i, a, h, e) = let j = f o reply i in (j.0, reply, j.1, a, g reply.state h, e)
-
-  pub ok_told : {E : Type 0} (r : Result Bool E) (old new : Option (List ℕ))
-      → ((o : Outside) (q : Reply) → I o q → (p : Outside) × J p q) → ((t : State) → H t → K t)
-      → IfOk r (Answered I H old new) → IfOk r (Answered J K old new)
-  ok_told (Ok b) old new f g h = answered_told old new b f g h
-  ok_told (Err e) old new f g h = tt
-
-module _ {I J : Outside → Reply → Type 0} where
-  pub err_told : {T E : Type 0} (r : Result T E) (old new : Option (List ℕ))
-      → ((o : Outside) (q : Reply) → I o q → (p : Outside) × J p q) → OnErr r (BrokenOff I old new)
-      → OnErr r (BrokenOff J old new)
-  err_told (Ok b) old new f h = tt
-  err_told (Err e) old new f (o, reply, i, t) = let j = f o reply i in (j.0, reply, j.1, t)
-
 module _ {P A : Type 0} where
   -- a study is held that was made by asking tables
   pub study_made : (honest : P → Table → ℕ → Type 0) (gives : GivesOf P) (b : HeldBoard A) (k : Kept) (t u : Tables P A) (s : State)

@@ -25,8 +25,8 @@ use Rattle.study_reply.specs.declared.refusal.Refusal.{Refusal}
 use Rattle.study_reply.specs.declared.refusal.Refusal.TheVariants.{PagedMode, NotAClass, AlreadyHeld}
 use Rattle.study_reply.specs.declared.refusal.Refusal.TheVariants.{MissingTable, OtherClass, OutOfMemory}
 use Rattle.study_reply.specs.declared.refusal.Refusal.TheVariants.{DistanceTooLarge, NoTable, Device, File}
-use Rattle.study_reply.specs.declared.told.Told.{Told}
-use Rattle.study_reply.specs.declared.told.Told.TheVariants.{Built, Loaded, Saved, Verified}
+use Rattle.study_reply.specs.declared.table_reply.TableReply.{TableReply}
+use Rattle.study_reply.specs.declared.table_reply.TableReply.TheVariants.{Built, Loaded, Saved, Verified}
 use Rattle.study_script.specs.State.{State, is_among, first_lacking, written_anew, IsGiven, IsOpened}
 use Rattle.study_script.specs.State.{Outside, quiet, no_room, no_room_for, unopened, cut_off, file}
 use Rattle.study_script.specs.Replies.{Reply, refused, refused_as, with_class, built, too_far, IsBuildReply}
@@ -34,8 +34,7 @@ use Rattle.study_script.specs.Replies.{IsLoadReply, IsNamedReply, IsTableReply, 
 use Rattle.study_script.specs.Replies.{class_told, wants_whole, save_reply, verify_reply}
 use Rattle.study_reply.specs.Names.{words_of}
 use Rattle.study_script.specs.Stored.{IsRightFile, GivesBytes, IsTrustedClass}
-use Rattle.study_reply.specs.Told.{told_text}
-use Rattle.study_script.specs.Told.{told_reply, Decided, HoldsWhole, HoldsPaged, WholeFrom, IsFileRefusal}
+use Rattle.study_script.specs.Decided.{decided_reply, Decided, HoldsWhole, HoldsPaged, WholeFrom, IsFileRefusal}
 use Rattle.study_script.specs.Held.{HoldsTables, TablesFrom, Answered, BrokenOff}
 use Rattle.study_script.proofs.HeldTables.{lacking, whole_kept}
 
@@ -222,23 +221,11 @@ pub named_as : (s : State) (o : Outside) (word : ClassWord) (name : List ℕ) (c
     → class_told name ≡ Some c → IsTableReply s o word c reply → IsNamedReply s o word (class_told name) reply
 named_as s o word name c reply e i = rw e i
 
--- ---- what was decided is written
+-- ---- what was decided, by a weaker property
 
-pub told_answered : {E : Type 0} (I : Outside → Reply → Type 0) (H : State → Type 0) (told : Result Told Refusal)
-    (r : Result Bool E) (old new : Option (List ℕ)) → Decided I H told → OnOk r (Appends old new (told_text told))
-    → IfOk r (λ b. b ≡ is_err told) → IfOk r (Answered I H old new)
-told_answered I H told (Ok b) old new (o, t, is, holds) wrote e = (o, told_reply t told, is, wrote, holds, e)
-told_answered I H told (Err e) old new d wrote k = tt
-
-pub told_broken : {T E : Type 0} (I : Outside → Reply → Type 0) (H : State → Type 0) (told : Result Told Refusal)
-    (r : Result T E) (old new : Option (List ℕ)) → Decided I H told → OnErr r (TakesPrefix old new (told_text told))
-    → OnErr r (BrokenOff I old new)
-told_broken I H told (Ok x) old new d part = tt
-told_broken I H told (Err e) old new (o, t, is, holds) part = (o, told_reply t told, is, part)
-
-pub decided_weaker : (I J : Outside → Reply → Type 0) (H K : State → Type 0) (told : Result Told Refusal)
+pub decided_weaker : (I J : Outside → Reply → Type 0) (H K : State → Type 0) (told : Result TableReply Refusal)
     → ((o : Outside) (r : Reply) → I o r → J o r) → ((t : State) → H t → K t) → Decided I H told → Decided J K told
-decided_weaker I J H K told f g (o, t, is, holds) = (o, t, f o (told_reply t told) is, g t holds)
+decided_weaker I J H K told f g (o, t, is, holds) = (o, t, f o (decided_reply t told) is, g t holds)
 
 -- ---- what a file and its source tell
 

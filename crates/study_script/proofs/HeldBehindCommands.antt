@@ -153,14 +153,6 @@ insert_beside s (study old) steps san (header told) reply h = at_beside s (heade
 
 -- ---- what is held
 
--- what is held after a reply, by the reply
-pub ok_kept : {E : Type 0} (I J : Outside → Reply → Type 0) (H K : State → Type 0) (r : Result Bool E)
-    (old new : Option (List ℕ)) → ((o : Outside) (p : Reply) → I o p → J o p)
-    → ((o : Outside) (p : Reply) → I o p → H p.state → K p.state) → IfOk r (Answered I H old new)
-    → IfOk r (Answered J K old new)
-ok_kept I J H K (Ok b) old new f g (o, reply, i, a, h, e) = (o, reply, f o reply i, a, g o reply i h, e)
-ok_kept I J H K (Err e) old new f g h = tt
-
 pub board_held : {P A : Type 0} (honest : P → Table → ℕ → Type 0) (gives : GivesOf P) (b : HeldBoard A) (t : Tables P A) (s : State)
     → Holds honest gives b t s → HoldsBoard b s
 board_held honest gives b t s h = record { board = h.board; marks = h.marks }

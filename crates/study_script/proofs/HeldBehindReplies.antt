@@ -64,21 +64,6 @@ bench_edited k s new e r = record { holds = record { board = ap study e; marks =
 pub bench_same : (k old : Kept) (s : State) → k ≡ old → HoldsBench old s → HoldsBenchFrom s k s
 bench_same k old s e h = record { holds = subst (λ (x : Kept). HoldsBench x s) (sym e) h; classes = refl; paged = refl; shelf = refl }
 
-module _ {I J : Outside → Reply → Type 0} {H K : State → Type 0} where
-  pub answered_weaker : (old new : Option (List ℕ)) (b : Bool) → ((o : Outside) (r : Reply) → I o r → J o r)
-      → ((t : State) → H t → K t) → Answered I H old new b → Answered J K old new b
-  answered_weaker old new b f g (o, reply, i, a, h, e) = (o, reply, f o reply i, a, g reply.state h, e)
-
-  pub ok_weaker : {E : Type 0} (r : Result Bool E) (old new : Option (List ℕ))
-      → ((o : Outside) (p : Reply) → I o p → J o p) → ((t : State) → H t → K t) → IfOk r (Answered I H old new)
-      → IfOk r (Answered J K old new)
-  ok_weaker r old new f g h = IfOk-weaker r (Answered I H old new) (Answered J K old new) (λ b. answered_weaker old new b f g) h
-
-module _ {I J : Outside → Reply → Type 0} where
-  pub err_weaker : {T E : Type 0} (r : Result T E) (old new : Option (List ℕ))
-      → ((o : Outside) (p : Reply) → I o p → J o p) → OnErr r (BrokenOff I old new) → OnErr r (BrokenOff J old new)
-  err_weaker r old new f h = on_err_weaker r (λ (o, reply, i, t). (o, reply, f o reply i, t)) h
-
 -- the clauses of `solve`
 pub solution_of : (p : Position) (count : ℕ) (plies : Option ℕ) → IfSome plies (λ n. MatesWithin n p)
     → IfSome plies (λ n. (k : ℕ) → k < n → ¬ (MatesWithin k p)) → IfSome plies (λ n. n + 1 ≤ 2 * count)

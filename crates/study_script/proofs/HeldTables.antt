@@ -23,7 +23,7 @@ use Rattle.study_script.specs.declared.store.StoreFault.{StoreFault}
 use Rattle.study_script.specs.State.{State, Shelf, is_among, forgotten, forgotten_faults, written_anew}
 use Rattle.study_script.specs.Replies.{with_class, class_told}
 use Rattle.study_script.specs.Stored.{StoreSeen}
-use Rattle.study_script.specs.Told.{HoldsWhole, WholeFrom}
+use Rattle.study_script.specs.Decided.{HoldsWhole, WholeFrom}
 
 -- ---- classes and their places
 

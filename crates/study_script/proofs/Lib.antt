@@ -14,3 +14,4 @@ pub mod ClassReplies
 pub mod PagedReplies
 pub mod MemoryFiles
 pub mod TablesFaults
+pub mod Executions

@@ -17,12 +17,12 @@ use Rattle.study_prober.specs.Told.{paged_fault}
 use Rattle.study_prober.proofs.HeldSources.{same_class, held_same, held_other, held_placed}
 use Rattle.study_script.specs.declared.store.StoreFault.{StoreFault}
 use Rattle.study_reply.specs.declared.refusal.Refusal.TheVariants.{AlreadyHeld}
-use Rattle.study_reply.specs.declared.told.Told.TheVariants.{Loaded}
+use Rattle.study_reply.specs.declared.table_reply.TableReply.TheVariants.{Loaded}
 use Rattle.study_script.specs.State.{State, is_among, IsGiven, IsOpened, IsGivenAs, quiet, no_room_for, unopened, header}
 use Rattle.study_script.specs.Replies.{refused, with_class, opened, IsOpenReply}
 use Rattle.study_script.specs.Names.{of_store, of_paged}
 use Rattle.study_script.specs.Stored.{IsRightSource}
-use Rattle.study_script.specs.Told.{Decided, HoldsPaged}
+use Rattle.study_script.specs.Decided.{Decided, HoldsPaged}
 use Rattle.study_script.proofs.HeldTables.{place_below, among_with, among_head}
 
 -- ---- what a source told

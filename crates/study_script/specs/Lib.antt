@@ -4,7 +4,8 @@ pub mod Names
 pub mod Replies
 pub mod Held
 pub mod Memory
-pub mod Told
+pub mod Decided
 pub mod Desk
 pub mod Laws
 pub mod Outcome
+pub mod Executed

@@ -4,13 +4,15 @@ ghost use Rattle.study_command.specs.Asking.{command_seen};
 ghost use Rattle.study_script.specs.State.{State};
 ghost use Rattle.study_script.specs.Replies.{IsReply, IsReplyTo};
 ghost use Rattle.study_script.specs.Held.{Answered, BrokenOff};
+ghost use Rattle.study_script.specs.Executed.{Executed};
 ghost use Rattle.study_script.specs.Desk.{DeskHolds};
 ghost use Rattle.study_material.specs.declared.class.Class.{Class as AClass};
 ghost use Rattle.study_script.specs.Stored.{HonestOn, IsTrusted, IsTrustedAsked};
 
 use crate::board::Board;
+use crate::changes::{at_study, insert, set_tag};
 use crate::classes::of_class;
-use crate::nodes::{at_node, at_study, insert, set_tag, tell_pgn, tell_solution};
+use crate::queries::{at_node, pgn, solve_at};
 use crate::starts::{of_start, stipulate};
 use crate::store::TableStore;
 use crate::tables::Tables;
@@ -19,6 +21,7 @@ use std::io::Write;
 use study_command::command::Command;
 use study_command::read_command;
 use study_reply::refusal::Refusal;
+use study_reply::reply::{Answer, write_reply};
 use study_reply::words::refuse;
 use study_tablefile::DeviceFailed;
 
@@ -42,7 +45,10 @@ pub fn answer<'a, W: Write, S: TableStore, A: Allocator>(
 {
     match read_command(line) {
         Ok(None) => Ok(false),
-        Ok(Some(command)) => carry_out(alloc, board, tables, store, &command, out),
+        Ok(Some(command)) => {
+            let answer = execute(alloc, board, tables, store, &command);
+            write_reply(out, answer)
+        }
         Err(fault) => {
             refuse(out, Refusal::Form(fault))?;
             Ok(true)
@@ -50,32 +56,28 @@ pub fn answer<'a, W: Write, S: TableStore, A: Allocator>(
     }
 }
 
-fn carry_out<'a, W: Write, S: TableStore, A: Allocator>(
+/// Does what a command asks for, and says what it came to. Nothing is written.
+fn execute<'a, S: TableStore, A: Allocator>(
     alloc: &'a A,
     board: &mut Board<'a, A>,
     tables: &mut Tables<'a, S::Pages, A>,
     store: &mut S,
     command: &Command<'_>,
-    out: &mut W,
-) -> Result<bool, DeviceFailed>
-    ensures ok { (trusted : AClass → Bool) (s : State) → IsTrustedAsked trusted (command_seen command.now)
+) -> Answer<'a, A>
+    ensures { (trusted : AClass → Bool) (s : State) → IsTrustedAsked trusted (command_seen command.now)
         → DeskHolds S.Pages.honest S.Pages.gives (HonestOn trusted S.honest) S.files S.headers S.faults board.old tables.old store.old s
-        → IfOk result (Answered (λ o. IsReplyTo s o (command_seen command.now))
-        (DeskHolds S.Pages.honest S.Pages.gives (HonestOn trusted S.honest) S.files S.headers S.faults board.new tables.new store.new)
-        (W.contents out.old) (W.contents out.new)) }
-    ensures err { (trusted : AClass → Bool) (s : State) → IsTrustedAsked trusted (command_seen command.now)
-        → DeskHolds S.Pages.honest S.Pages.gives (HonestOn trusted S.honest) S.files S.headers S.faults board.old tables.old store.old s
-        → OnErr result (BrokenOff (λ o. IsReplyTo s o (command_seen command.now)) (W.contents out.old) (W.contents out.new)) }
+        → Executed (λ o. IsReplyTo s o (command_seen command.now))
+        (DeskHolds S.Pages.honest S.Pages.gives (HonestOn trusted S.honest) S.files S.headers S.faults board.new tables.new store.new) result }
 {
     match command {
-        Command::OfStart(word, fen) => of_start(board, tables, *word, fen, out),
-        Command::AtNode(word, path) => at_node(alloc, board, *word, path.word, out),
-        Command::AtStudy(word, path) => at_study(alloc, board, *word, path.word, out),
-        Command::OfClass(word, name) => of_class(alloc, tables, store, *word, name, out),
-        Command::Stipulate(stipulation) => stipulate(alloc, board, tables, stipulation, out),
-        Command::Insert(path, san) => insert(alloc, board, tables, path.word, san, out),
-        Command::Tag(name, text) => set_tag(board, *name, text, out),
-        Command::Solve(count, path) => tell_solution(alloc, board, *count, path.word, out),
-        Command::Pgn => tell_pgn(alloc, board, out),
+        Command::OfStart(word, fen) => of_start(board, tables, *word, fen),
+        Command::AtNode(word, path) => at_node(alloc, board, *word, path.word),
+        Command::AtStudy(word, path) => at_study(alloc, board, *word, path.word),
+        Command::OfClass(word, name) => of_class(alloc, tables, store, *word, name),
+        Command::Stipulate(stipulation) => stipulate(alloc, board, tables, stipulation),
+        Command::Insert(path, san) => insert(alloc, board, tables, path.word, san),
+        Command::Tag(name, text) => set_tag(board, *name, text),
+        Command::Solve(count, path) => solve_at(alloc, board, *count, path.word),
+        Command::Pgn => pgn(alloc, board),
     }
 }

@@ -1,5 +1,5 @@
 //! Classes of material: `build`, `load`, `save` and `verify`.
-ghost use Rattle.std.specs.Prelude.{◌≡◌, ◌↔◌, ℕ, Bool, true, List, Option, Some, None, Ok, false, is_some, slice_set, IfOk, IfErr, IfSome, IsTrue, OnErr};
+ghost use Rattle.std.specs.Prelude.{◌≡◌, ◌↔◌, ℕ, Bool, true, List, Option, Some, None, Ok, false, is_some, slice_set, IfOk, IfErr, IfSome, IsTrue};
 ghost use Rattle.study_retro.specs.Sound.{IsRight, NeedsAreRight};
 ghost use Rattle.study_retro.specs.Set.{add_fault};
 ghost use Rattle.study_retro.specs.Table.{table_of, class_place, IsClosed, IsComplete};
@@ -8,10 +8,11 @@ ghost use Rattle.study_script.specs.State.{State, is_among, first_lacking, IsGiv
 ghost use Rattle.study_script.specs.Names.{of_store, of_paged};
 ghost use Rattle.study_script.specs.Replies.{IsClassReply, IsNamedReply, IsBuildReply, IsLoadReply};
 ghost use Rattle.study_script.specs.Replies.{IsOpenReply, save_reply, verify_reply, refused, class_told};
-ghost use Rattle.study_script.specs.Held.{HoldsTables, TablesFrom, Answered, BrokenOff};
+ghost use Rattle.study_script.specs.Held.{HoldsTables, TablesFrom};
 ghost use Rattle.study_material.specs.declared.class.Class.{Class as AClass};
 ghost use Rattle.study_script.specs.Stored.{StoreSeen, HonestOn, IsTrustedClass};
-ghost use Rattle.study_script.specs.Told.{Decided, HoldsWhole, HoldsPaged, WholeFrom, IsFileRefusal};
+ghost use Rattle.study_script.specs.Executed.{Executed};
+ghost use Rattle.study_script.specs.Decided.{Decided, HoldsWhole, HoldsPaged, WholeFrom, IsFileRefusal};
 
 use crate::store::{StoreFault, TableStore};
 use crate::tables::Tables;
@@ -22,37 +23,47 @@ use study_index::cells;
 use study_material::Class;
 use study_prober::{PagedFault, PagedTables, Values, WholeTables};
 use study_reply::refusal::Refusal;
-use study_reply::told::{Told, tell};
+use study_reply::reply::{Answer, Refused, Reply};
+use study_reply::table_reply::TableReply;
 use study_retro::{BuildFault, BuildRoom, Table, build, verify};
-use study_tablefile::{DeviceFailed, FileFault, read_table, write_table};
+use study_tablefile::{FileFault, read_table, write_table};
 
 /// Commands that take a class.
-pub fn of_class<'a, W: Write, S: TableStore, A: Allocator>(
+pub fn of_class<'a, S: TableStore, A: Allocator>(
     alloc: &'a A,
     tables: &mut Tables<'a, S::Pages, A>,
     store: &mut S,
     word: ClassWord,
     name: &str,
-    out: &mut W,
-) -> Result<bool, DeviceFailed>
-    ensures ok { (trusted : AClass → Bool) (s : State) → IsTrustedClass trusted word name.now
+) -> Answer<'a, A>
+    ensures { (trusted : AClass → Bool) (s : State) → IsTrustedClass trusted word name.now
         → HoldsTables S.Pages.honest S.Pages.gives tables.old s → StoreSeen (HonestOn trusted S.honest) S.files S.headers S.faults store.old s
-        → IfOk result (Answered (λ o. IsClassReply s o word name.now)
+        → Executed (λ o. IsClassReply s o word name.now)
         (λ t. TablesFrom S.Pages.honest S.Pages.gives s tables.new t × StoreSeen (HonestOn trusted S.honest) S.files S.headers S.faults store.new t)
-        (W.contents out.old) (W.contents out.new)) }
-    ensures err { (trusted : AClass → Bool) (s : State) → IsTrustedClass trusted word name.now
+        result }
+{
+    match in_tables(alloc, tables, store, word, name) {
+        Ok(told) => Ok(Reply::Table(told)),
+        Err(refusal) => Err(Refused::Line(refusal)),
+    }
+}
+
+fn in_tables<'a, S: TableStore, A: Allocator>(
+    alloc: &'a A,
+    tables: &mut Tables<'a, S::Pages, A>,
+    store: &mut S,
+    word: ClassWord,
+    name: &str,
+) -> Result<TableReply, Refusal>
+    ensures { (trusted : AClass → Bool) (s : State) → IsTrustedClass trusted word name.now
         → HoldsTables S.Pages.honest S.Pages.gives tables.old s → StoreSeen (HonestOn trusted S.honest) S.files S.headers S.faults store.old s
-        → OnErr result (BrokenOff (λ o. IsClassReply s o word name.now) (W.contents out.old) (W.contents out.new)) }
+        → Decided (λ o. IsClassReply s o word name.now)
+        (λ t. TablesFrom S.Pages.honest S.Pages.gives s tables.new t × StoreSeen (HonestOn trusted S.honest) S.files S.headers S.faults store.new t)
+        result }
 {
     match tables {
-        Tables::Whole(whole) => {
-            let told = in_whole(alloc, whole, store, word, name);
-            tell(out, told)
-        }
-        Tables::Paged(paged) => {
-            let told = in_pages(paged, store, word, name);
-            tell(out, told)
-        }
+        Tables::Whole(whole) => in_whole(alloc, whole, store, word, name),
+        Tables::Paged(paged) => in_pages(paged, store, word, name),
     }
 }
 
@@ -63,7 +74,7 @@ fn in_whole<'a, S: TableStore, A: Allocator>(
     store: &mut S,
     word: ClassWord,
     name: &str,
-) -> Result<Told, Refusal>
+) -> Result<TableReply, Refusal>
     ensures { (trusted : AClass → Bool) (s : State) → IsTrustedClass trusted word name.now
         → HoldsWhole tables.old s → StoreSeen (HonestOn trusted S.honest) S.files S.headers S.faults store.old s
         → Decided (λ o. IsNamedReply s o word (class_told name.now))
@@ -84,7 +95,7 @@ fn in_pages<'a, S: TableStore, A: Allocator>(
     store: &mut S,
     word: ClassWord,
     name: &str,
-) -> Result<Told, Refusal>
+) -> Result<TableReply, Refusal>
     ensures { (trusted : AClass → Bool) (s : State) → IsTrustedClass trusted word name.now
         → HoldsPaged S.Pages.honest S.Pages.gives tables.old s → StoreSeen (HonestOn trusted S.honest) S.files S.headers S.faults store.old s
         → Decided (λ o. IsClassReply s o word name.now)
@@ -116,7 +127,7 @@ fn build_class<'a, A: Allocator>(
     alloc: &'a A,
     tables: &mut WholeTables<'a, A>,
     class: Class,
-) -> Result<Told, Refusal>
+) -> Result<TableReply, Refusal>
     ensures { (s : State) → HoldsWhole tables.old s
         → Decided (λ o. IsBuildReply s o class (is_among s.classes class) (first_lacking s.classes class))
         (WholeFrom s tables.new) result }
@@ -130,7 +141,7 @@ fn build_class<'a, A: Allocator>(
     match build(class, tables.tables(), room) {
         Ok((table, report)) => {
             hold(tables, table);
-            Ok(Told::Built(class, report.deepest_win))
+            Ok(TableReply::Built(class, report.deepest_win))
         }
         Err(BuildFault::MissingTable(need)) => Err(Refusal::MissingTable(need)),
         Err(BuildFault::DistanceTooLarge) => Err(Refusal::DistanceTooLarge),
@@ -161,7 +172,7 @@ fn load_class<'a, S: TableStore, A: Allocator>(
     tables: &mut WholeTables<'a, A>,
     store: &mut S,
     class: Class,
-) -> Result<Told, Refusal>
+) -> Result<TableReply, Refusal>
     ensures { (trusted : AClass → Bool) (s : State) → trusted class ≡ true → HoldsWhole tables.old s
         → StoreSeen (HonestOn trusted S.honest) S.files S.headers S.faults store.old s
         → Decided (λ o. IsLoadReply s o class (is_among s.classes class) (first_lacking s.classes class))
@@ -178,7 +189,7 @@ fn load_class<'a, S: TableStore, A: Allocator>(
         return Err(Refusal::OtherClass(table.class()));
     }
     hold(tables, table);
-    Ok(Told::Loaded(class))
+    Ok(TableReply::Loaded(class))
 }
 
 // Reads the file of a class, and tells why it gives no table.
@@ -218,7 +229,7 @@ fn open_class<'a, S: TableStore, A: Allocator>(
     tables: &mut PagedTables<'a, S::Pages, A>,
     store: &mut S,
     class: Class,
-) -> Result<Told, Refusal>
+) -> Result<TableReply, Refusal>
     ensures { (trusted : AClass → Bool) (s : State) → trusted class ≡ true → HoldsPaged S.Pages.honest S.Pages.gives tables.old s
         → StoreSeen (HonestOn trusted S.honest) S.files S.headers S.faults store.old s
         → Decided (λ o. IsOpenReply s o class (is_among s.classes class))
@@ -234,7 +245,7 @@ fn open_class<'a, S: TableStore, A: Allocator>(
         Err(fault) => return Err(of_store(fault)),
     };
     match tables.add(class, source) {
-        Ok(()) => Ok(Told::Loaded(class)),
+        Ok(()) => Ok(TableReply::Loaded(class)),
         Err(fault) => Err(of_paged(fault)),
     }
 }
@@ -255,7 +266,7 @@ fn save_class<'a, S: TableStore, A: Allocator>(
     tables: &WholeTables<'a, A>,
     store: &mut S,
     class: Class,
-) -> Result<Told, Refusal>
+) -> Result<TableReply, Refusal>
     ensures { (trusted : AClass → Bool) (s : State) → HoldsWhole tables.now s → StoreSeen (HonestOn trusted S.honest) S.files S.headers S.faults store.old s
         → Decided (λ o reply. reply ≡ save_reply s o class (is_among s.classes class))
         (λ t. HoldsWhole tables.now t × (t.board ≡ s.board) × StoreSeen (HonestOn trusted S.honest) S.files S.headers S.faults store.new t) result }
@@ -269,19 +280,19 @@ fn save_class<'a, S: TableStore, A: Allocator>(
     if write_table(table, &mut writer).is_err() || writer.flush().is_err() {
         return Err(Refusal::Device);
     }
-    Ok(Told::Saved(class))
+    Ok(TableReply::Saved(class))
 }
 
 fn verify_class<'a, A: Allocator>(
     tables: &WholeTables<'a, A>,
     class: Class,
-) -> Result<Told, Refusal>
+) -> Result<TableReply, Refusal>
     ensures { (s : State) → HoldsWhole tables.now s
         → Decided (λ o reply. reply ≡ verify_reply s class (is_among s.classes class)) (WholeFrom s tables.now) result }
 {
     match is_right(tables, class) {
         None => Err(Refusal::NoTable(class)),
-        Some(right) => Ok(Told::Verified(class, right)),
+        Some(right) => Ok(TableReply::Verified(class, right)),
     }
 }
 

@@ -6,12 +6,13 @@
 
 mod answer;
 pub mod board;
+mod changes;
 mod classes;
 pub mod desk;
 mod edits;
 pub mod laws;
 pub mod memory;
-mod nodes;
+mod queries;
 pub mod run;
 mod starts;
 pub mod store;

@@ -6,7 +6,8 @@ use Rattle.study_reply.specs.declared.refusal.Refusal.TheVariants.{Form}
 use Rattle.study_command.specs.Asking.{Asks, line_seen, command_of, command_seen}
 use Rattle.study_script.specs.State.{quiet}
 use Rattle.study_script.specs.Held.{Answered, BrokenOff}
-use Rattle.study_script.specs.Replies.{accepted, refused, IsReplyWhere, IsReply}
+use Rattle.study_script.specs.Replies.{accepted, refused, IsReplyTo, IsReplyWhere, IsReply}
+use Rattle.study_script.proofs.Executions.{executed_answered, executed_broken}
 use Rattle.study_script.specs.Stored.{HonestOn, IsTrustedAsk}
 use Rattle.study_script.specs.Desk.{DeskHolds}
 use Rattle.study_script.proofs.answer.answer.Goals as goal
@@ -51,17 +52,23 @@ pub returns-in-Ok-Some-clause-ok : goal.returns-in-Ok-Some-clause-ok
 returns-in-Ok-Some-clause-ok g c = λ trusted s may d.
     let seen : command_of c.args.line.now ≡ Ok (Some (command_seen c.in-Ok-Some.command)) =
     sym c.read_command.ensures ∙ ap line_seen (c.in-Ok-Some.is ∙ ap Ok c.in-Ok-Some.field-0-is) in
-    subst (λ (x : Asks). IfOk c.carry_out.result (Answered (λ o. IsReplyWhere s o x)
-    (DeskHolds g.S.Pages.PageSource.honest g.S.Pages.PageSource.gives (HonestOn trusted g.S.TableStore.honest) g.S.TableStore.files g.S.TableStore.headers
-    g.S.TableStore.faults
-    c.carry_out.new.board c.carry_out.new.tables c.carry_out.new.store)
-    (g.W.Write.contents c.args.out.now) (g.W.Write.contents c.carry_out.new.out))) (sym seen)
-    (c.carry_out.ensures.ok trusted s (subst (λ (x : Asks). IsTrustedAsk trusted x) seen may) d)
+    subst (λ (x : Asks). IfOk c.write_reply.result (Answered (λ o. IsReplyWhere s o x) (DeskHolds g.S.Pages.PageSource.honest g.S.Pages.PageSource.gives (HonestOn trusted g.S.TableStore.honest) g.S.TableStore.files g.S.TableStore.headers g.S.TableStore.faults
+    c.execute-answer.new.board c.execute-answer.new.tables c.execute-answer.new.store)
+    (g.W.Write.contents c.args.out.now) (g.W.Write.contents c.write_reply.new.out))) (sym seen)
+    (executed_answered (λ o. IsReplyTo s o (command_seen c.in-Ok-Some.command)) (DeskHolds g.S.Pages.PageSource.honest g.S.Pages.PageSource.gives (HonestOn trusted g.S.TableStore.honest) g.S.TableStore.files g.S.TableStore.headers g.S.TableStore.faults
+    c.execute-answer.new.board c.execute-answer.new.tables c.execute-answer.new.store)
+    c.execute-answer.result c.write_reply.result (g.W.Write.contents c.args.out.now) (g.W.Write.contents c.write_reply.new.out)
+    (c.execute-answer.ensures trusted s (subst (λ (x : Asks). IsTrustedAsk trusted x) seen may) d)
+    c.write_reply.ensures.ok c.write_reply.ensures.refused)
 
 pub returns-in-Ok-Some-clause-err : goal.returns-in-Ok-Some-clause-err
 returns-in-Ok-Some-clause-err g c = λ trusted s may d.
     let seen : command_of c.args.line.now ≡ Ok (Some (command_seen c.in-Ok-Some.command)) =
     sym c.read_command.ensures ∙ ap line_seen (c.in-Ok-Some.is ∙ ap Ok c.in-Ok-Some.field-0-is) in
-    subst (λ (x : Asks). OnErr c.carry_out.result (BrokenOff (λ o. IsReplyWhere s o x)
-    (g.W.Write.contents c.args.out.now) (g.W.Write.contents c.carry_out.new.out))) (sym seen)
-    (c.carry_out.ensures.err trusted s (subst (λ (x : Asks). IsTrustedAsk trusted x) seen may) d)
+    subst (λ (x : Asks). OnErr c.write_reply.result (BrokenOff (λ o. IsReplyWhere s o x)
+    (g.W.Write.contents c.args.out.now) (g.W.Write.contents c.write_reply.new.out))) (sym seen)
+    (executed_broken (λ o. IsReplyTo s o (command_seen c.in-Ok-Some.command)) (DeskHolds g.S.Pages.PageSource.honest g.S.Pages.PageSource.gives (HonestOn trusted g.S.TableStore.honest) g.S.TableStore.files g.S.TableStore.headers g.S.TableStore.faults
+    c.execute-answer.new.board c.execute-answer.new.tables c.execute-answer.new.store)
+    c.execute-answer.result c.write_reply.result (g.W.Write.contents c.args.out.now) (g.W.Write.contents c.write_reply.new.out)
+    (c.execute-answer.ensures trusted s (subst (λ (x : Asks). IsTrustedAsk trusted x) seen may) d)
+    c.write_reply.ensures.err)

@@ -5,7 +5,7 @@ use Rattle.study_command.specs.declared.command.ClassWord.{ClassWord}
 use Rattle.study_command.specs.declared.command.ClassWord.TheVariants.{Load}
 use Rattle.study_reply.specs.declared.refusal.Refusal.TheVariants.{NotAClass}
 use Rattle.study_script.specs.Stored.{HonestOn, StoreSeen}
-use Rattle.study_script.specs.Told.{HoldsPaged}
+use Rattle.study_script.specs.Decided.{HoldsPaged}
 use Rattle.study_script.proofs.ClassReplies.{trust_of, open_as, decided_weaker, not_named, refused_paged}
 use Rattle.study_script.proofs.classes.in_pages.Goals as goal
 

@@ -4,7 +4,7 @@ use Rattle.study_script.specs.State.{quiet, is_among, first_lacking}
 use Rattle.study_script.specs.Replies.{class_told, IsNamedReply, IsBuildReply, IsTableReply, IsLoadReply, verify_reply, save_reply}
 use Rattle.study_reply.specs.declared.refusal.Refusal.TheVariants.{NotAClass}
 use Rattle.study_command.specs.declared.command.ClassWord.{ClassWord}
-use Rattle.study_script.specs.Told.{WholeFrom, HoldsWhole}
+use Rattle.study_script.specs.Decided.{WholeFrom, HoldsWhole}
 use Rattle.study_script.proofs.HeldTables.{store_of}
 use Rattle.study_script.proofs.ClassReplies.{trust_of, load_as, not_named, named_as, decided_weaker}
 use Rattle.study_script.proofs.classes.in_whole.Goals as goal

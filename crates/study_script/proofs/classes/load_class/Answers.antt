@@ -7,7 +7,7 @@ use Rattle.study_retro.specs.Set.{first_missing}
 use Rattle.study_script.specs.State.{IsGiven}
 use Rattle.study_script.specs.declared.store.StoreFault.{StoreFault}
 use Rattle.study_script.specs.Stored.{HonestOn, StoreSeen}
-use Rattle.study_script.specs.Told.{IsFileRefusal}
+use Rattle.study_script.specs.Decided.{IsFileRefusal}
 use Rattle.study_script.proofs.HeldTables.{may_add, whole_with, store_with, same_at, other_at}
 use Rattle.study_script.proofs.ClassReplies.{load_held, load_missing, load_refused, load_other, load_done}
 use Rattle.study_script.proofs.classes.load_class.Goals as goal

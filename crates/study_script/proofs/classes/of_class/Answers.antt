@@ -1,87 +1,15 @@
-use Rattle.std.proofs.Common.{◌≡◌}
 use Rattle.study_script.specs.Stored.{HonestOn, StoreSeen}
-use Rattle.study_script.specs.Replies.{IsClassReply, IsNamedReply, class_told}
-use Rattle.study_script.specs.declared.tables.Tables.TheVariants as held
-use Rattle.study_script.specs.Told.{HoldsWhole, HoldsPaged}
+use Rattle.study_script.specs.Replies.{IsClassReply}
 use Rattle.study_script.specs.Held.{TablesFrom}
-use Rattle.study_script.proofs.ClassReplies.{whole_of, paged_of, tables_whole, tables_paged, asked_whole, told_answered, told_broken, decided_weaker}
+use Rattle.study_script.proofs.Executions.{table_done, table_refused}
 use Rattle.study_script.proofs.classes.of_class.Goals as goal
 
-pub returns-in-Whole-clause-ok : goal.returns-in-Whole-clause-ok
-returns-in-Whole-clause-ok g c = λ trusted s may h seen.
-    let w = c.in-Whole.whole in
-    let whole = whole_of g.S.Pages.PageSource.honest g.S.Pages.PageSource.gives c.args.tables.now w s c.in-Whole.is h in
-    let new = c.in_whole-told.new in
-    let decided = decided_weaker (λ o. IsNamedReply s o c.args.word (class_told c.args.name.now))
-    (λ o. IsClassReply s o c.args.word c.args.name.now) (λ t. HoldsWhole new.tables t × (t.board ≡ s.board)
-    × StoreSeen (HonestOn trusted g.S.TableStore.honest) g.S.TableStore.files g.S.TableStore.headers g.S.TableStore.faults new.store t)
-    (λ t. TablesFrom {A = g.row.A.Denot} g.S.Pages.PageSource.honest g.S.Pages.PageSource.gives s (held.Whole new.tables) t
-    × StoreSeen (HonestOn trusted g.S.TableStore.honest) g.S.TableStore.files g.S.TableStore.headers g.S.TableStore.faults new.store t)
-    c.in_whole-told.result (λ o r i. asked_whole s o c.args.word c.args.name.now r whole.whole i)
-    (λ t k. (tables_whole {A = g.row.A.Denot} g.S.Pages.PageSource.honest g.S.Pages.PageSource.gives new.tables s t k.0 k.1, k.2))
-    (c.in_whole-told.ensures trusted s may whole seen) in
-    told_answered (λ o. IsClassReply s o c.args.word c.args.name.now)
-    (λ t. TablesFrom {A = g.row.A.Denot} g.S.Pages.PageSource.honest g.S.Pages.PageSource.gives s (held.Whole new.tables) t
-    × StoreSeen (HonestOn trusted g.S.TableStore.honest) g.S.TableStore.files g.S.TableStore.headers g.S.TableStore.faults new.store t)
-    c.in_whole-told.result c.tell.result (g.W.Write.contents c.args.out.now) (g.W.Write.contents c.tell.new.out)
-    decided c.tell.ensures.ok c.tell.ensures.refused
+pub returns-in-Ok : goal.returns-in-Ok
+returns-in-Ok g c = λ trusted s may h seen. table_done g.row.A.Denot (λ o. IsClassReply s o c.args.word c.args.name.now)
+    (λ t. TablesFrom g.S.Pages.PageSource.honest g.S.Pages.PageSource.gives s c.in_tables.new.tables t × StoreSeen (HonestOn trusted g.S.TableStore.honest) g.S.TableStore.files g.S.TableStore.headers g.S.TableStore.faults c.in_tables.new.store t)
+    c.in_tables.result c.in-Ok.told c.in-Ok.is (c.in_tables.ensures trusted s may h seen)
 
-pub returns-in-Whole-clause-err : goal.returns-in-Whole-clause-err
-returns-in-Whole-clause-err g c = λ trusted s may h seen.
-    let w = c.in-Whole.whole in
-    let whole = whole_of g.S.Pages.PageSource.honest g.S.Pages.PageSource.gives c.args.tables.now w s c.in-Whole.is h in
-    let new = c.in_whole-told.new in
-    let decided = decided_weaker (λ o. IsNamedReply s o c.args.word (class_told c.args.name.now))
-    (λ o. IsClassReply s o c.args.word c.args.name.now) (λ t. HoldsWhole new.tables t × (t.board ≡ s.board)
-    × StoreSeen (HonestOn trusted g.S.TableStore.honest) g.S.TableStore.files g.S.TableStore.headers g.S.TableStore.faults new.store t)
-    (λ t. TablesFrom {A = g.row.A.Denot} g.S.Pages.PageSource.honest g.S.Pages.PageSource.gives s (held.Whole new.tables) t
-    × StoreSeen (HonestOn trusted g.S.TableStore.honest) g.S.TableStore.files g.S.TableStore.headers g.S.TableStore.faults new.store t)
-    c.in_whole-told.result (λ o r i. asked_whole s o c.args.word c.args.name.now r whole.whole i)
-    (λ t k. (tables_whole {A = g.row.A.Denot} g.S.Pages.PageSource.honest g.S.Pages.PageSource.gives new.tables s t k.0 k.1, k.2))
-    (c.in_whole-told.ensures trusted s may whole seen) in
-    told_broken (λ o. IsClassReply s o c.args.word c.args.name.now)
-    (λ t. TablesFrom {A = g.row.A.Denot} g.S.Pages.PageSource.honest g.S.Pages.PageSource.gives s (held.Whole new.tables) t
-    × StoreSeen (HonestOn trusted g.S.TableStore.honest) g.S.TableStore.files g.S.TableStore.headers g.S.TableStore.faults new.store t)
-    c.in_whole-told.result c.tell.result (g.W.Write.contents c.args.out.now) (g.W.Write.contents c.tell.new.out)
-    decided c.tell.ensures.err
-
-pub returns-in-Paged-clause-ok : goal.returns-in-Paged-clause-ok
-returns-in-Paged-clause-ok g c = λ trusted s may h seen.
-    let new = c.in_pages-told.new in
-    let decided =
-    decided_weaker (λ o. IsClassReply s o c.args.word c.args.name.now)
-    (λ o. IsClassReply s o c.args.word c.args.name.now)
-    (λ t. HoldsPaged g.S.Pages.PageSource.honest g.S.Pages.PageSource.gives new.tables t × (t.board ≡ s.board)
-    × StoreSeen (HonestOn trusted g.S.TableStore.honest) g.S.TableStore.files g.S.TableStore.headers g.S.TableStore.faults new.store t)
-    (λ t. TablesFrom {A = g.row.A.Denot} g.S.Pages.PageSource.honest g.S.Pages.PageSource.gives s (held.Paged new.tables) t
-    × StoreSeen (HonestOn trusted g.S.TableStore.honest) g.S.TableStore.files g.S.TableStore.headers g.S.TableStore.faults new.store t)
-    c.in_pages-told.result (λ o r i. i)
-    (λ t k. (tables_paged {A = g.row.A.Denot} g.S.Pages.PageSource.honest g.S.Pages.PageSource.gives new.tables s t k.0 k.1, k.2))
-    (c.in_pages-told.ensures trusted s may (paged_of g.S.Pages.PageSource.honest g.S.Pages.PageSource.gives c.args.tables.now c.in-Paged.paged s c.in-Paged.is
-    h) seen) in
-    told_answered (λ o. IsClassReply s o c.args.word c.args.name.now)
-    (λ t. TablesFrom {A = g.row.A.Denot} g.S.Pages.PageSource.honest g.S.Pages.PageSource.gives s (held.Paged new.tables) t
-    × StoreSeen (HonestOn trusted g.S.TableStore.honest) g.S.TableStore.files g.S.TableStore.headers g.S.TableStore.faults new.store t)
-    c.in_pages-told.result c.tell-in-Paged.result (g.W.Write.contents c.args.out.now)
-    (g.W.Write.contents c.tell-in-Paged.new.out) decided c.tell-in-Paged.ensures.ok
-    c.tell-in-Paged.ensures.refused
-
-pub returns-in-Paged-clause-err : goal.returns-in-Paged-clause-err
-returns-in-Paged-clause-err g c = λ trusted s may h seen.
-    let new = c.in_pages-told.new in
-    let decided =
-    decided_weaker (λ o. IsClassReply s o c.args.word c.args.name.now)
-    (λ o. IsClassReply s o c.args.word c.args.name.now)
-    (λ t. HoldsPaged g.S.Pages.PageSource.honest g.S.Pages.PageSource.gives new.tables t × (t.board ≡ s.board)
-    × StoreSeen (HonestOn trusted g.S.TableStore.honest) g.S.TableStore.files g.S.TableStore.headers g.S.TableStore.faults new.store t)
-    (λ t. TablesFrom {A = g.row.A.Denot} g.S.Pages.PageSource.honest g.S.Pages.PageSource.gives s (held.Paged new.tables) t
-    × StoreSeen (HonestOn trusted g.S.TableStore.honest) g.S.TableStore.files g.S.TableStore.headers g.S.TableStore.faults new.store t)
-    c.in_pages-told.result (λ o r i. i)
-    (λ t k. (tables_paged {A = g.row.A.Denot} g.S.Pages.PageSource.honest g.S.Pages.PageSource.gives new.tables s t k.0 k.1, k.2))
-    (c.in_pages-told.ensures trusted s may (paged_of g.S.Pages.PageSource.honest g.S.Pages.PageSource.gives c.args.tables.now c.in-Paged.paged s c.in-Paged.is
-    h) seen) in
-    told_broken (λ o. IsClassReply s o c.args.word c.args.name.now)
-    (λ t. TablesFrom {A = g.row.A.Denot} g.S.Pages.PageSource.honest g.S.Pages.PageSource.gives s (held.Paged new.tables) t
-    × StoreSeen (HonestOn trusted g.S.TableStore.honest) g.S.TableStore.files g.S.TableStore.headers g.S.TableStore.faults new.store t)
-    c.in_pages-told.result c.tell-in-Paged.result (g.W.Write.contents c.args.out.now)
-    (g.W.Write.contents c.tell-in-Paged.new.out) decided c.tell-in-Paged.ensures.err
+pub returns-in-Err : goal.returns-in-Err
+returns-in-Err g c = λ trusted s may h seen. table_refused g.row.A.Denot (λ o. IsClassReply s o c.args.word c.args.name.now)
+    (λ t. TablesFrom g.S.Pages.PageSource.honest g.S.Pages.PageSource.gives s c.in_tables.new.tables t × StoreSeen (HonestOn trusted g.S.TableStore.honest) g.S.TableStore.files g.S.TableStore.headers g.S.TableStore.faults c.in_tables.new.store t)
+    c.in_tables.result c.in-Err.refusal c.in-Err.is (c.in_tables.ensures trusted s may h seen)

@@ -1,0 +1,29 @@
+use Rattle.std.proofs.Common.{[], ◌∷◌, ◌++◌}
+use Rattle.std.specs.Prelude.{codes}
+use Rattle.std.proofs.lemmas.Result.{on_err_weaker}
+use Rattle.study_tablefile.proofs.TextTaken.{TakesPrefix-first, TakesPrefix-second, OnErr-known}
+use Rattle.study_command.specs.Paths.{path_text}
+use Rattle.study_reply.specs.Words.{reply_line}
+use Rattle.study_reply.proofs.reply.put_inserted.Goals as goal
+
+pub returns-clause-err : goal.returns-clause-err
+returns-clause-err g c =
+    on_err_weaker _ (λ h. TakesPrefix-second (g.W.Write.contents c.args.out.now) (g.W.Write.contents c.put.new.out)
+    (g.W.Write.contents c.put_line.new.out) (codes "insert ") (path_text (c.args.steps.now ++ c.args.place ∷ [])
+    ++ reply_line (codes " ") c.args.san.now) c.in_ok-put.ensures.ok
+    (TakesPrefix-second (g.W.Write.contents c.put.new.out) (g.W.Write.contents c.put_child.new.out)
+    (g.W.Write.contents c.put_line.new.out) (path_text (c.args.steps.now ++ c.args.place ∷ []))
+    (reply_line (codes " ") c.args.san.now) c.in_ok-put_child.ensures.ok h)) c.put_line.ensures.err
+
+pub returns-in_err-put-clause-err : goal.returns-in_err-put-clause-err
+returns-in_err-put-clause-err g c =
+    OnErr-known _ _ (TakesPrefix-first (g.W.Write.contents c.args.out.now) (g.W.Write.contents c.put.new.out)
+    (codes "insert ") (path_text (c.args.steps.now ++ c.args.place ∷ []) ++ reply_line (codes " ") c.args.san.now) c.in_err-put.ensures.err)
+
+pub returns-in_err-put_child-clause-err : goal.returns-in_err-put_child-clause-err
+returns-in_err-put_child-clause-err g c =
+    OnErr-known _ _ (TakesPrefix-second (g.W.Write.contents c.args.out.now) (g.W.Write.contents c.put.new.out)
+    (g.W.Write.contents c.put_child.new.out) (codes "insert ")
+    (path_text (c.args.steps.now ++ c.args.place ∷ []) ++ reply_line (codes " ") c.args.san.now) c.in_ok-put.ensures.ok
+    (TakesPrefix-first (g.W.Write.contents c.put.new.out) (g.W.Write.contents c.put_child.new.out)
+    (path_text (c.args.steps.now ++ c.args.place ∷ [])) (reply_line (codes " ") c.args.san.now) c.in_err-put_child.ensures.err))

@@ -1,0 +1,36 @@
+-- The text of a reply, by what a command came to.
+use Rattle.std.specs.Prelude.{ℕ, List, [], ◌∷◌, ◌++◌, Result, Ok, Err, codes}
+use Rattle.study_notation.specs.FenSpelling.{fen_text}
+use Rattle.study_pgn.specs.Tags.{tag_name}
+use Rattle.study_command.specs.Paths.{path_text}
+use Rattle.study_reply.specs.declared.reply.Reply.{Reply}
+use Rattle.study_reply.specs.declared.reply.Reply.TheVariants as done
+use Rattle.study_reply.specs.declared.reply.Refused.{Refused}
+use Rattle.study_reply.specs.declared.reply.Refused.TheVariants.{Line, Edit}
+use Rattle.study_reply.specs.Names.{words_of, edit_words}
+use Rattle.study_reply.specs.TableReply.{table_text}
+use Rattle.study_reply.specs.Words.{reply_line, stipulation_words, insert_text, mark_text, moves_text, solve_text, raised}
+
+-- the reply to a command that did its work
+abbrev pub reply_text : {A : Type 0} → Reply A → List ℕ
+reply_text (done.Position start) = reply_line (codes "position ") (fen_text start)
+reply_text (done.Shift start) = reply_line (codes "shift ") (fen_text start)
+reply_text (done.Stipulated stipulation) = stipulation_words stipulation
+reply_text (done.Inserted steps place san) = insert_text (steps ++ place ∷ []) san.bytes
+reply_text (done.Deleted steps) = reply_line (codes "delete ") (path_text steps)
+reply_text (done.Promoted steps) = reply_line (codes "promote ") (path_text (raised steps))
+reply_text (done.Tagged name) = reply_line (codes "tag ") (tag_name name)
+reply_text (done.Mark steps mark) = mark_text steps mark
+reply_text (done.Moves start) = moves_text start.position
+reply_text (done.Fen start) = reply_line (codes "fen ") (fen_text start)
+reply_text (done.Solved plies) = solve_text plies
+reply_text (done.Pgn text) = text.items
+reply_text (done.Table told) = table_text told
+
+abbrev pub refused_words : {A : Type 0} → Refused A → List ℕ
+refused_words (Line refusal) = words_of refusal
+refused_words (Edit refusal) = edit_words refusal
+
+abbrev pub answer_text : {A : Type 0} → Result (Reply A) (Refused A) → List ℕ
+answer_text (Ok reply) = reply_text reply
+answer_text (Err refused) = reply_line (codes "error ") (refused_words refused)

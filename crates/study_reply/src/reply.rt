@@ -1,0 +1,138 @@
+//! What a line comes to, decided before its reply is written.
+ghost use Rattle.std.specs.Prelude.{◌≡◌, ◌++◌, ◌∷◌, [], codes, is_err, IfOk, OnOk, OnErr};
+ghost use Rattle.std.specs.Io.KnownBytes.{Appends};
+ghost use Rattle.study_notation.specs.FenSpelling.{fen_text};
+ghost use Rattle.study_tablefile.specs.Taken.{TakesPrefix};
+ghost use Rattle.study_reply.specs.Words.{reply_line, insert_text};
+ghost use Rattle.study_reply.specs.Replied.{reply_text, refused_words, answer_text};
+
+use crate::path_written::{put_child, put_node, put_promoted};
+use crate::refusal::Refusal;
+use crate::table_reply::{TableReply, put_table_reply};
+use crate::words::{
+    list_moves, put_line, put_mark, put_solution, put_stipulation, refuse, refuse_edit,
+};
+use arrayvec::ArrayString;
+use std::alloc::Allocator;
+use std::io::Write;
+use study_marks::{Mark, Refusal as EditRefusal, Stipulation, TagName};
+use study_notation::{Start, write_fen};
+use study_pgn::tag_name;
+use study_tablefile::{DeviceFailed, put};
+use study_tree::Path;
+
+/// What a line did, with what its reply needs.
+#[derive(Drop)]
+pub enum Reply<'a, A: Allocator> {
+    Position(Start),
+    Shift(Start),
+    Stipulated(Stipulation),
+    /// The node that got a child, the child's place, and its move in SAN.
+    Inserted(Path<'a, A>, u16, ArrayString<8>),
+    Deleted(Path<'a, A>),
+    /// The node as it was named, before it moved up.
+    Promoted(Path<'a, A>),
+    Tagged(TagName),
+    Mark(Path<'a, A>, Mark),
+    Moves(Start),
+    Fen(Start),
+    /// In plies.
+    Solved(Option<u8>),
+    /// The whole game.
+    Pgn(Vec<u8, &'a A>),
+    Table(TableReply),
+}
+
+/// Why a line is refused: by itself, or by the bench.
+#[derive(Drop)]
+pub enum Refused<'a, A: Allocator> {
+    Line(Refusal),
+    Edit(EditRefusal<'a, A>),
+}
+
+/// What a command comes to, before it is written.
+pub type Answer<'a, A> = Result<Reply<'a, A>, Refused<'a, A>>;
+
+/// Writes the reply to a line, and tells whether the line was refused.
+pub fn write_reply<'a, W: Write, A: Allocator>(
+    out: &mut W,
+    answer: Answer<'a, A>,
+) -> Result<bool, DeviceFailed>
+    ensures ok { OnOk result (Appends (W.contents out.old) (W.contents out.new) (answer_text answer.entry)) }
+    ensures err { OnErr result (TakesPrefix (W.contents out.old) (W.contents out.new) (answer_text answer.entry)) }
+    ensures refused { IfOk result (λ refused. refused ≡ is_err answer.entry) }
+{
+    match answer {
+        Ok(reply) => {
+            put_reply(out, reply)?;
+            Ok(false)
+        }
+        Err(refused) => {
+            put_refused(out, refused)?;
+            Ok(true)
+        }
+    }
+}
+
+fn put_refused<'a, W: Write, A: Allocator>(
+    out: &mut W,
+    refused: Refused<'a, A>,
+) -> Result<(), DeviceFailed>
+    ensures ok { OnOk result (Appends (W.contents out.old) (W.contents out.new) (reply_line (codes "error ") (refused_words refused.entry))) }
+    ensures err { OnErr result (TakesPrefix (W.contents out.old) (W.contents out.new) (reply_line (codes "error ") (refused_words refused.entry))) }
+{
+    match refused {
+        Refused::Line(refusal) => refuse(out, refusal),
+        Refused::Edit(refusal) => refuse_edit(out, refusal),
+    }
+}
+
+fn put_reply<'a, W: Write, A: Allocator>(
+    out: &mut W,
+    reply: Reply<'a, A>,
+) -> Result<(), DeviceFailed>
+    ensures ok { OnOk result (Appends (W.contents out.old) (W.contents out.new) (reply_text reply.entry)) }
+    ensures err { OnErr result (TakesPrefix (W.contents out.old) (W.contents out.new) (reply_text reply.entry)) }
+{
+    match reply {
+        Reply::Position(start) => put_start(out, b"position ", &start),
+        Reply::Shift(start) => put_start(out, b"shift ", &start),
+        Reply::Stipulated(stipulation) => put_stipulation(out, stipulation),
+        Reply::Inserted(path, place, san) => {
+            put_inserted(out, path.steps(), place, san.as_str().as_bytes())
+        }
+        Reply::Deleted(path) => put_node(out, b"delete ", path.steps()),
+        Reply::Promoted(path) => put_promoted(out, path.steps()),
+        Reply::Tagged(name) => put_line(out, b"tag ", tag_name(name)),
+        Reply::Mark(path, mark) => put_mark(out, path.steps(), &mark),
+        Reply::Moves(start) => list_moves(out, &start.position),
+        Reply::Fen(start) => put_start(out, b"fen ", &start),
+        Reply::Solved(plies) => put_solution(out, plies),
+        Reply::Pgn(text) => put(out, text.as_slice()),
+        Reply::Table(reply) => put_table_reply(out, reply),
+    }
+}
+
+// A word, and a start as FEN.
+fn put_start<W: Write>(out: &mut W, word: &[u8], start: &Start) -> Result<(), DeviceFailed>
+    ensures ok { OnOk result (Appends (W.contents out.old) (W.contents out.new) (reply_line word.now (fen_text start.now))) }
+    ensures err { OnErr result (TakesPrefix (W.contents out.old) (W.contents out.new) (reply_line word.now (fen_text start.now))) }
+{
+    let text = write_fen(start);
+    put_line(out, word, text.as_str().as_bytes())
+}
+
+// The path of the new node, and its move in SAN.
+fn put_inserted<W: Write>(
+    out: &mut W,
+    steps: &[u16],
+    place: u16,
+    san: &[u8],
+) -> Result<(), DeviceFailed>
+    ensures ok { OnOk result (Appends (W.contents out.old) (W.contents out.new) (insert_text (steps.now ++ place ∷ []) san.now)) }
+    ensures err { OnErr result (TakesPrefix (W.contents out.old) (W.contents out.new) (insert_text (steps.now ++ place ∷ []) san.now)) }
+{
+    put(out, b"insert ")?;
+    put_child(out, steps, place)?;
+    put_line(out, b" ", san)
+}

@@ -1,0 +1,51 @@
+-- What a command comes to: by a weaker property, and as it is written.
+use Rattle.std.proofs.Common.{◌≡◌, Bool, List, ℕ, Option, Result, Ok, Err, subst}
+use Rattle.std.specs.Prelude.{IfOk, OnOk, OnErr, is_err}
+use Rattle.std.specs.Io.KnownBytes.{Appends}
+use Rattle.study_tablefile.specs.Taken.{TakesPrefix}
+use Rattle.study_reply.specs.declared.table_reply.TableReply.{TableReply}
+use Rattle.study_reply.specs.declared.refusal.Refusal.{Refusal}
+use Rattle.study_reply.specs.declared.reply.Reply.{Reply as Done}
+use Rattle.study_reply.specs.declared.reply.Reply.TheVariants.{Table}
+use Rattle.study_reply.specs.declared.reply.Refused.{Refused}
+use Rattle.study_reply.specs.declared.reply.Refused.TheVariants.{Line}
+use Rattle.study_reply.specs.Replied.{answer_text}
+use Rattle.study_script.specs.State.{State, Outside}
+use Rattle.study_script.specs.Replies.{Reply}
+use Rattle.study_script.specs.Held.{Answered, BrokenOff}
+use Rattle.study_script.specs.Decided.{decided_reply, Decided}
+use Rattle.study_script.specs.Executed.{reply_of, Executed}
+
+module _ {A : Type 0} {I J : Outside → Reply → Type 0} {H K : State → Type 0} where
+  pub executed_weaker : (answer : Result (Done A) (Refused A)) → ((o : Outside) (r : Reply) → I o r → J o r)
+      → ((t : State) → H t → K t) → Executed I H answer → Executed J K answer
+  executed_weaker answer f g (o, t, is, holds) = (o, t, f o (reply_of t answer) is, g t holds)
+
+  -- what the outside did is told otherwise
+  pub executed_told : (answer : Result (Done A) (Refused A)) → ((o : Outside) (r : Reply) → I o r → (p : Outside) × J p r)
+      → ((t : State) → H t → K t) → Executed I H answer → Executed J K answer
+  executed_told answer f g (o, t, is, holds) = let j = f o (reply_of t answer) is in (j.0, t, j.1, g t holds)
+
+  -- what is held after a reply, by the reply
+  pub executed_kept : (answer : Result (Done A) (Refused A)) → ((o : Outside) (r : Reply) → I o r → J o r)
+      → ((o : Outside) (r : Reply) → I o r → H r.state → K r.state) → Executed I H answer → Executed J K answer
+  executed_kept answer f g (o, t, is, holds) = (o, t, f o (reply_of t answer) is, g o (reply_of t answer) is holds)
+
+module _ {A : Type 0} (I : Outside → Reply → Type 0) (H : State → Type 0) (answer : Result (Done A) (Refused A)) where
+  pub executed_answered : {E : Type 0} (r : Result Bool E) (old new : Option (List ℕ)) → Executed I H answer
+      → OnOk r (Appends old new (answer_text answer)) → IfOk r (λ b. b ≡ is_err answer) → IfOk r (Answered I H old new)
+  executed_answered (Ok b) old new (o, t, is, holds) wrote e = (o, reply_of t answer, is, wrote, holds, e)
+  executed_answered (Err e) old new d wrote k = tt
+
+  pub executed_broken : {T E : Type 0} (r : Result T E) (old new : Option (List ℕ)) → Executed I H answer
+      → OnErr r (TakesPrefix old new (answer_text answer)) → OnErr r (BrokenOff I old new)
+  executed_broken (Ok x) old new d part = tt
+  executed_broken (Err e) old new (o, t, is, holds) part = (o, reply_of t answer, is, part)
+
+-- what a command of a class came to
+module _ (A : Type 0) (I : Outside → Reply → Type 0) (H : State → Type 0) (told : Result TableReply Refusal) where
+  pub table_done : (done : TableReply) → told ≡ Ok done → Decided I H told → Executed {A = A} I H (Ok (Table done))
+  table_done done e (o, t, is, holds) = (o, t, subst (λ (x : Result TableReply Refusal). I o (decided_reply t x)) e is, holds)
+
+  pub table_refused : (refusal : Refusal) → told ≡ Err refusal → Decided I H told → Executed {A = A} I H (Err (Line refusal))
+  table_refused refusal e (o, t, is, holds) = (o, t, subst (λ (x : Result TableReply Refusal). I o (decided_reply t x)) e is, holds)

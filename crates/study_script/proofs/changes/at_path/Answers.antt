@@ -1,0 +1,28 @@
+use Rattle.std.proofs.Common.{ℕ, List, subst}
+use Rattle.std.proofs.lemmas.Bool.{false≢true}
+use Rattle.study_marks.specs.Study.{plain_study}
+use Rattle.study_marks.specs.Kept.{marked}
+use Rattle.study_command.specs.Paths.{steps_of}
+use Rattle.study_script.specs.State.{Outside, no_path, study}
+use Rattle.study_script.specs.Held.{HoldsBenchFrom}
+use Rattle.study_script.specs.Replies.{IsStudyReply, IsStudyReplyAt}
+use Rattle.study_script.proofs.Executions.{executed_told}
+use Rattle.study_script.proofs.HeldBehindReplies.{bench_kept}
+use Rattle.study_script.proofs.PlainNodes.{at_path, no_path_word}
+use Rattle.study_script.proofs.changes.at_path.Goals as goal
+
+pub returns-in-Ok : goal.returns-in-Ok
+returns-in-Ok g c = λ s h. let old = plain_study (marked c.args.bench.now) in executed_told
+    {I = λ (o : Outside). IsStudyReply s c.args.word old c.in-Ok.path}
+    {J = λ (o : Outside). IsStudyReplyAt s o c.args.word (study old) (steps_of c.args.path.now)}
+    {H = HoldsBenchFrom s c.at_place.new.bench} {K = HoldsBenchFrom s c.at_place.new.bench} c.at_place.result
+    (λ o r i. at_path s old c.args.word (steps_of c.args.path.now) o r
+    (subst (λ (x : List ℕ). IsStudyReply s c.args.word old x r) c.in-Ok.ensures.path i)) (λ t m. m) (c.at_place.ensures s h)
+
+pub returns-in-Err : goal.returns-in-Err
+returns-in-Err g c = λ s h. (
+  no_path,
+  s,
+  no_path_word s c.args.word (plain_study (marked c.args.bench.now)) (steps_of c.args.path.now) (λ e. false≢true (c.in-Err.ensures.root e)),
+  bench_kept c.args.bench.now s h,
+)

@@ -1,0 +1,36 @@
+use Rattle.std.proofs.Common.{Bool, refl, sym, ◌∙◌, subst}
+use Rattle.study_board.specs.Position.{Position}
+use Rattle.study_notation.specs.Matching.{move_of}
+use Rattle.study_tree.specs.Tree.{has_spot}
+use Rattle.study_marks.specs.Study.{plain_study}
+use Rattle.study_marks.specs.Kept.{marked}
+use Rattle.study_script.specs.declared.board.Board.TheVariants as held
+use Rattle.study_reply.specs.declared.refusal.Refusal.TheVariants.{NoSuchNode}
+use Rattle.study_script.specs.State.{Outside, quiet}
+use Rattle.study_script.specs.Held.{Holds}
+use Rattle.study_script.specs.Replies.{refused, IsMoveReply, IsMoveReplyAt}
+use Rattle.study_script.proofs.Executions.{executed_weaker}
+use Rattle.study_script.proofs.PlainNodes.{start_there, start_gone, position_at-plain}
+use Rattle.study_script.proofs.changes.insert_at.Goals as goal
+
+pub returns-in-Some : goal.returns-in-Some
+returns-in-Some g c = λ s h.
+    let shown = marked c.args.bench.now in
+    let old = plain_study shown in
+    let there = start_there shown c.args.path c.in-Some.start (sym c.in-Some.is ∙ c.start_at.ensures) in executed_weaker
+    {I = λ (o : Outside). IsMoveReply s o old c.args.path (move_of c.in-Some.start.position c.args.san.now)}
+    {J = λ (o : Outside). IsMoveReplyAt s o old c.args.path c.args.san.now (has_spot old.tree c.args.path)}
+    {H = Holds g.P.PageSource.honest g.P.PageSource.gives (held.Study c.insert_san.new.bench) c.insert_san.new.tables}
+    {K = Holds g.P.PageSource.honest g.P.PageSource.gives (held.Study c.insert_san.new.bench) c.insert_san.new.tables} c.insert_san.result
+    (λ o r i. subst (λ (x : Bool). IsMoveReplyAt s o old c.args.path c.args.san.now x r) (sym there.0)
+    (subst (λ (x : Position). IsMoveReply s o old c.args.path (move_of x c.args.san.now) r)
+    (there.1 ∙ sym (position_at-plain shown c.args.path)) i)) (λ t m. m) (c.insert_san.ensures s h)
+
+pub returns-in-None : goal.returns-in-None
+returns-in-None g c = λ s h. let shown = marked c.args.bench.now in (
+  quiet,
+  s,
+  subst (λ (x : Bool). IsMoveReplyAt s quiet (plain_study shown) c.args.path c.args.san.now x (refused s NoSuchNode))
+      (sym (start_gone shown c.args.path (sym c.in-None.is ∙ c.start_at.ensures))) refl,
+  h,
+)

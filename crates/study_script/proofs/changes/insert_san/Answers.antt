@@ -1,0 +1,21 @@
+use Rattle.std.proofs.Common.{Result, refl, sym, ◌∙◌, subst}
+use Rattle.study_moves.specs.declared.moves.Move.{Move}
+use Rattle.study_notation.specs.declared.fault.SanFault.{SanFault}
+use Rattle.study_marks.specs.Study.{plain_study}
+use Rattle.study_marks.specs.Kept.{marked}
+use Rattle.study_reply.specs.declared.refusal.Refusal.TheVariants.{San}
+use Rattle.study_script.specs.State.{quiet}
+use Rattle.study_script.specs.Replies.{refused, IsMoveReply}
+use Rattle.study_script.proofs.changes.insert_san.Goals as goal
+
+pub returns-in-Ok : goal.returns-in-Ok
+returns-in-Ok g c = λ s h. rw (← c.read_san.ensures.value) (rw c.in-Ok.is (c.insert_move.ensures s h))
+
+pub returns-in-Err : goal.returns-in-Err
+returns-in-Err g c = λ s h. (
+  quiet,
+  s,
+  subst (λ (x : Result Move SanFault). IsMoveReply s quiet (plain_study (marked c.args.bench.now)) c.args.path x (refused s (San c.in-Err.fault)))
+      (sym c.in-Err.is ∙ c.read_san.ensures.value) refl,
+  h,
+)

@@ -1,0 +1,218 @@
+//! What is done at a node of the study, or to its tags: `insert`, `delete`, `promote`, `mark` and `tag`.
+ghost use Rattle.std.specs.Prelude.{◌≡◌, true, Ok};
+ghost use Rattle.study_moves.specs.Rules.{is_legal};
+ghost use Rattle.study_notation.specs.Matching.{move_of};
+ghost use Rattle.study_tree.specs.Tree.{has_spot};
+ghost use Rattle.study_marks.specs.Study.{plain_study, position_at};
+ghost use Rattle.study_marks.specs.Kept.{marked};
+ghost use Rattle.study_command.specs.Paths.{steps_of, is_path_word};
+ghost use Rattle.study_script.specs.State.{State, study};
+ghost use Rattle.study_script.specs.Replies.{IsInsertReply, IsMoveReply, IsMoveReplyAt, IsStudyReply, IsStudyReplyAt, tag_reply};
+ghost use Rattle.study_script.specs.declared.board.Board.TheVariants as held;
+ghost use Rattle.study_script.specs.Held.{Holds, HoldsBoard, HoldsFrom, HoldsBench, HoldsBenchFrom};
+ghost use Rattle.study_script.specs.Executed.{Executed};
+
+use crate::board::Board;
+use crate::edits;
+use crate::queries::mark_at;
+use crate::tables::Tables;
+use std::alloc::Allocator;
+use study_command::command::StudyWord;
+use study_command::read_path;
+use study_marks::{Bench, TagName};
+use study_moves::Move;
+use study_notation::{Start, read_san, write_san};
+use study_reply::refusal::Refusal;
+use study_reply::reply::{Answer, Refused, Reply};
+use study_tablefile::PageSource;
+use study_tree::Path;
+
+/// Commands that take a node of the study and nothing else.
+pub fn at_study<'a, A: Allocator>(
+    alloc: &'a A,
+    board: &mut Board<'a, A>,
+    word: StudyWord,
+    path: &[u8],
+) -> Answer<'a, A>
+    requires { is_path_word path.now ≡ true }
+    ensures { (s : State) → HoldsBoard board.old s
+        → Executed (λ o. IsStudyReplyAt s o word s.board (steps_of path.now)) (HoldsFrom s board.new) result }
+{
+    match board {
+        Board::Study(bench) => at_path(alloc, bench, word, path),
+        Board::Empty => Err(Refused::Line(Refusal::NoStudy)),
+        Board::Start(_) => Err(Refused::Line(Refusal::NoStudy)),
+    }
+}
+
+fn at_path<'a, A: Allocator>(
+    alloc: &'a A,
+    bench: &mut Bench<'a, A>,
+    word: StudyWord,
+    path: &[u8],
+) -> Answer<'a, A>
+    requires { is_path_word path.now ≡ true }
+    ensures { (s : State) → HoldsBench bench.old s
+        → Executed (λ o. IsStudyReplyAt s o word (study (plain_study (marked bench.old))) (steps_of path.now))
+        (HoldsBenchFrom s bench.new) result }
+{
+    match read_path(alloc, path) {
+        Ok(path) => at_place(bench, word, path),
+        Err(_) => Err(Refused::Line(Refusal::OutOfMemory)),
+    }
+}
+
+fn at_place<'a, A: Allocator>(
+    bench: &mut Bench<'a, A>,
+    word: StudyWord,
+    path: Path<'a, A>,
+) -> Answer<'a, A>
+    ensures { (s : State) → HoldsBench bench.old s
+        → Executed (λ o. IsStudyReply s word (plain_study (marked bench.old)) path.entry) (HoldsBenchFrom s bench.new) result }
+{
+    match word {
+        StudyWord::Delete => delete(bench, path),
+        StudyWord::Promote => promote(bench, path),
+        StudyWord::Mark => mark_at(bench, path),
+    }
+}
+
+fn delete<'a, A: Allocator>(bench: &mut Bench<'a, A>, path: Path<'a, A>) -> Answer<'a, A>
+    ensures { (s : State) → HoldsBench bench.old s
+        → Executed (λ o. IsStudyReply s StudyWord.Delete (plain_study (marked bench.old)) path.entry) (HoldsBenchFrom s bench.new) result }
+{
+    match bench.delete(&path) {
+        Ok(()) => Ok(Reply::Deleted(path)),
+        Err(refusal) => Err(Refused::Edit(refusal)),
+    }
+}
+
+fn promote<'a, A: Allocator>(bench: &mut Bench<'a, A>, path: Path<'a, A>) -> Answer<'a, A>
+    ensures { (s : State) → HoldsBench bench.old s
+        → Executed (λ o. IsStudyReply s StudyWord.Promote (plain_study (marked bench.old)) path.entry) (HoldsBenchFrom s bench.new) result }
+{
+    match bench.promote(&path) {
+        Ok(()) => Ok(Reply::Promoted(path)),
+        Err(refusal) => Err(Refused::Edit(refusal)),
+    }
+}
+
+/// `tag`.
+pub fn set_tag<'a, A: Allocator>(
+    board: &mut Board<'a, A>,
+    name: TagName,
+    text: &str,
+) -> Answer<'a, A>
+    ensures { (s : State) → HoldsBoard board.old s
+        → Executed (λ o reply. reply ≡ tag_reply s s.board name text.now) (HoldsFrom s board.new) result }
+{
+    match board {
+        Board::Study(bench) => set_study_tag(bench, name, text),
+        Board::Empty => Err(Refused::Line(Refusal::NoStudy)),
+        Board::Start(_) => Err(Refused::Line(Refusal::NoStudy)),
+    }
+}
+
+fn set_study_tag<'a, A: Allocator>(
+    bench: &mut Bench<'a, A>,
+    name: TagName,
+    text: &str,
+) -> Answer<'a, A>
+    ensures { (s : State) → HoldsBench bench.old s
+        → Executed (λ o reply. reply ≡ tag_reply s (study (plain_study (marked bench.old))) name text.now) (HoldsBenchFrom s bench.new) result }
+{
+    match bench.set_tag(name, text) {
+        Ok(()) => Ok(Reply::Tagged(name)),
+        Err(refusal) => Err(Refused::Edit(refusal)),
+    }
+}
+
+/// `insert`.
+pub fn insert<'a, P: PageSource, A: Allocator>(
+    alloc: &'a A,
+    board: &mut Board<'a, A>,
+    tables: &mut Tables<'a, P, A>,
+    path: &[u8],
+    san: &str,
+) -> Answer<'a, A>
+    requires { is_path_word path.now ≡ true }
+    ensures { (s : State) → Holds P.honest P.gives board.old tables.old s
+        → Executed (λ o. IsInsertReply s o s.board (steps_of path.now) san.now) (Holds P.honest P.gives board.new tables.new) result }
+{
+    match board {
+        Board::Study(bench) => insert_in_study(alloc, bench, tables, path, san),
+        Board::Empty => Err(Refused::Line(Refusal::NoStudy)),
+        Board::Start(_) => Err(Refused::Line(Refusal::NoStudy)),
+    }
+}
+
+fn insert_in_study<'a, P: PageSource, A: Allocator>(
+    alloc: &'a A,
+    bench: &mut Bench<'a, A>,
+    tables: &mut Tables<'a, P, A>,
+    path: &[u8],
+    san: &str,
+) -> Answer<'a, A>
+    requires { is_path_word path.now ≡ true }
+    ensures { (s : State) → Holds P.honest P.gives (held.Study bench.old) tables.old s
+        → Executed (λ o. IsInsertReply s o (study (plain_study (marked bench.old))) (steps_of path.now) san.now)
+        (Holds P.honest P.gives (held.Study bench.new) tables.new) result }
+{
+    match read_path(alloc, path) {
+        Ok(path) => insert_at(bench, tables, path, san),
+        Err(_) => Err(Refused::Line(Refusal::OutOfMemory)),
+    }
+}
+
+fn insert_at<'a, P: PageSource, A: Allocator>(
+    bench: &mut Bench<'a, A>,
+    tables: &mut Tables<'a, P, A>,
+    path: Path<'a, A>,
+    san: &str,
+) -> Answer<'a, A>
+    ensures { (s : State) → Holds P.honest P.gives (held.Study bench.old) tables.old s
+        → Executed (λ o. IsMoveReplyAt s o (plain_study (marked bench.old)) path.entry san.now
+        (has_spot (plain_study (marked bench.old)).tree path.entry)) (Holds P.honest P.gives (held.Study bench.new) tables.new) result }
+{
+    match bench.start_at(&path) {
+        Some(start) => insert_san(bench, tables, path, &start, san),
+        None => Err(Refused::Line(Refusal::NoSuchNode)),
+    }
+}
+
+fn insert_san<'a, P: PageSource, A: Allocator>(
+    bench: &mut Bench<'a, A>,
+    tables: &mut Tables<'a, P, A>,
+    path: Path<'a, A>,
+    start: &Start,
+    san: &str,
+) -> Answer<'a, A>
+    requires at { start.now.position ≡ position_at (marked bench.old) path.entry }
+    ensures { (s : State) → Holds P.honest P.gives (held.Study bench.old) tables.old s
+        → Executed (λ o. IsMoveReply s o (plain_study (marked bench.old)) path.entry (move_of start.now.position san.now))
+        (Holds P.honest P.gives (held.Study bench.new) tables.new) result }
+{
+    match read_san(&start.position, san) {
+        Ok(by) => insert_move(bench, tables, path, start, by),
+        Err(fault) => Err(Refused::Line(Refusal::San(fault))),
+    }
+}
+
+fn insert_move<'a, P: PageSource, A: Allocator>(
+    bench: &mut Bench<'a, A>,
+    tables: &mut Tables<'a, P, A>,
+    path: Path<'a, A>,
+    start: &Start,
+    by: Move,
+) -> Answer<'a, A>
+    requires legal { is_legal start.now.position by ≡ true }
+    requires at { start.now.position ≡ position_at (marked bench.old) path.entry }
+    ensures { (s : State) → Holds P.honest P.gives (held.Study bench.old) tables.old s
+        → Executed (λ o. IsMoveReply s o (plain_study (marked bench.old)) path.entry (Ok by))
+        (Holds P.honest P.gives (held.Study bench.new) tables.new) result }
+{
+    match edits::insert_move(bench, &path, by, tables) {
+        Ok(place) => Ok(Reply::Inserted(path, place, write_san(&start.position, by))),
+        Err(refusal) => Err(Refused::Edit(refusal)),
+    }
+}

@@ -1,0 +1,157 @@
+//! What is told of a node or of the study, which stays as it is: `moves`, `fen`, `solve`, `mark` and `pgn`.
+ghost use Rattle.std.specs.Prelude.{◌≡◌, true};
+ghost use Rattle.study_marks.specs.Study.{plain_study};
+ghost use Rattle.study_marks.specs.Kept.{marked};
+ghost use Rattle.study_command.specs.Paths.{steps_of, is_path_word};
+ghost use Rattle.study_script.specs.State.{State, Outside, study, start as begun};
+ghost use Rattle.study_script.specs.Replies.{IsNodeReply, IsSolveReply, IsPgnReply, IsStudyReply};
+ghost use Rattle.study_script.specs.Replies.{start_found, moves_reply, fen_reply};
+ghost use Rattle.study_script.specs.Held.{HoldsBoard, HoldsFrom, HoldsBench, HoldsBenchFrom};
+ghost use Rattle.study_script.specs.Executed.{Executed};
+
+use crate::board::Board;
+use std::alloc::Allocator;
+use study_command::command::{MoveCount, NodeWord};
+use study_command::read_path;
+use study_marks::Bench;
+use study_moves::solve;
+use study_notation::Start;
+use study_pgn::write_pgn;
+use study_reply::refusal::Refusal;
+use study_reply::reply::{Answer, Refused, Reply};
+use study_tree::Path;
+
+/// Commands that take a node and nothing else, and need no study.
+pub fn at_node<'a, A: Allocator>(
+    alloc: &'a A,
+    board: &Board<'a, A>,
+    word: NodeWord,
+    path: &[u8],
+) -> Answer<'a, A>
+    requires { is_path_word path.now ≡ true }
+    ensures { (s : State) → HoldsBoard board.now s
+        → Executed (λ o. IsNodeReply s o word (steps_of path.now)) (HoldsFrom s board.now) result }
+{
+    match word {
+        NodeWord::Moves => moves_at(alloc, board, path),
+        NodeWord::Fen => fen_at(alloc, board, path),
+    }
+}
+
+fn moves_at<'a, A: Allocator>(alloc: &'a A, board: &Board<'a, A>, path: &[u8]) -> Answer<'a, A>
+    requires { is_path_word path.now ≡ true }
+    ensures { (s : State) → HoldsBoard board.now s
+        → Executed (λ o reply. reply ≡ moves_reply s (start_found o s.board (steps_of path.now))) (HoldsFrom s board.now) result }
+{
+    match start_at(alloc, board, path) {
+        Ok(start) => Ok(Reply::Moves(start)),
+        Err(refusal) => Err(Refused::Line(refusal)),
+    }
+}
+
+fn fen_at<'a, A: Allocator>(alloc: &'a A, board: &Board<'a, A>, path: &[u8]) -> Answer<'a, A>
+    requires { is_path_word path.now ≡ true }
+    ensures { (s : State) → HoldsBoard board.now s
+        → Executed (λ o reply. reply ≡ fen_reply s (start_found o s.board (steps_of path.now))) (HoldsFrom s board.now) result }
+{
+    match start_at(alloc, board, path) {
+        Ok(start) => Ok(Reply::Fen(start)),
+        Err(refusal) => Err(Refused::Line(refusal)),
+    }
+}
+
+/// `solve`.
+pub fn solve_at<'a, A: Allocator>(
+    alloc: &'a A,
+    board: &Board<'a, A>,
+    count: MoveCount,
+    path: &[u8],
+) -> Answer<'a, A>
+    requires { is_path_word path.now ≡ true }
+    ensures { (s : State) → HoldsBoard board.now s
+        → Executed (λ o. IsSolveReply s count.number (start_found o s.board (steps_of path.now))) (HoldsFrom s board.now) result }
+{
+    match start_at(alloc, board, path) {
+        Ok(start) => Ok(Reply::Solved(solve(&start.position, count.number))),
+        Err(refusal) => Err(Refused::Line(refusal)),
+    }
+}
+
+/// The start at a node; without a study the root is the only one.
+fn start_at<'a, A: Allocator>(
+    alloc: &'a A,
+    board: &Board<'a, A>,
+    path: &[u8],
+) -> Result<Start, Refusal>
+    requires { is_path_word path.now ≡ true }
+    ensures { (s : State) → HoldsBoard board.now s → (o : Outside) × (result ≡ start_found o s.board (steps_of path.now)) }
+{
+    match board {
+        Board::Empty => Err(Refusal::NoPosition),
+        Board::Start(start) => root_start(alloc, start, path),
+        Board::Study(bench) => node_start(alloc, bench, path),
+    }
+}
+
+fn root_start<'a, A: Allocator>(alloc: &'a A, start: &Start, path: &[u8]) -> Result<Start, Refusal>
+    requires { is_path_word path.now ≡ true }
+    ensures { (o : Outside) × (result ≡ start_found o (begun start.now) (steps_of path.now)) }
+{
+    match read_path(alloc, path) {
+        Ok(path) => {
+            if path.steps().is_empty() {
+                Ok(start.copied())
+            } else {
+                Err(Refusal::NoSuchNode)
+            }
+        }
+        Err(_) => Err(Refusal::OutOfMemory),
+    }
+}
+
+fn node_start<'a, A: Allocator>(
+    alloc: &'a A,
+    bench: &Bench<'a, A>,
+    path: &[u8],
+) -> Result<Start, Refusal>
+    requires { is_path_word path.now ≡ true }
+    ensures { (o : Outside) × (result ≡ start_found o (study (plain_study (marked bench.now))) (steps_of path.now)) }
+{
+    match read_path(alloc, path) {
+        Ok(path) => bench.start_at(&path).ok_or(Refusal::NoSuchNode),
+        Err(_) => Err(Refusal::OutOfMemory),
+    }
+}
+
+/// `mark`.
+pub fn mark_at<'a, A: Allocator>(bench: &Bench<'a, A>, path: Path<'a, A>) -> Answer<'a, A>
+    ensures { (s : State) → HoldsBench bench.now s
+        → Executed (λ o. IsStudyReply s StudyWord.Mark (plain_study (marked bench.now)) path.entry) (HoldsBenchFrom s bench.now) result }
+{
+    match bench.mark(&path) {
+        Some(mark) => Ok(Reply::Mark(path, mark)),
+        None => Err(Refused::Line(Refusal::NoSuchNode)),
+    }
+}
+
+/// `pgn`.
+pub fn pgn<'a, A: Allocator>(alloc: &'a A, board: &Board<'a, A>) -> Answer<'a, A>
+    ensures { (s : State) → HoldsBoard board.now s → Executed (λ o. IsPgnReply s o s.board) (HoldsFrom s board.now) result }
+{
+    match board {
+        Board::Study(bench) => pgn_of(alloc, bench),
+        Board::Empty => Err(Refused::Line(Refusal::NoStudy)),
+        Board::Start(_) => Err(Refused::Line(Refusal::NoStudy)),
+    }
+}
+
+fn pgn_of<'a, A: Allocator>(alloc: &'a A, bench: &Bench<'a, A>) -> Answer<'a, A>
+    ensures { (s : State) → HoldsBench bench.now s
+        → Executed (λ o. IsPgnReply s o (study (plain_study (marked bench.now)))) (HoldsBenchFrom s bench.now) result }
+{
+    let mut text = Vec::new(alloc);
+    match write_pgn(alloc, bench, &mut text) {
+        Ok(()) => Ok(Reply::Pgn(text)),
+        Err(_) => Err(Refused::Line(Refusal::OutOfMemory)),
+    }
+}
