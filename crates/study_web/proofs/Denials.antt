@@ -22,17 +22,23 @@ whole_denied IsIt May Stops d text (Stopped fault) (same, is) may stops = (subst
 whole_denied IsIt May Stops d text (Ran summary) x may stops = absurd x
 
 -- a text that was made, or the reason why there is none
-pub whole_told : {V : Type 0} (items : V → List ℕ) (IsIt : List ℕ → Type 0) (May : Denial → Type 0) (Stops : RunFault → Type 0)
-    (made : Result V NoText) (text : List ℕ) (ended : Ending) → IfOk made (λ v. (ended ≡ Answered) × (text ≡ items v))
+pub whole_told : {V : Type 0} (made : Result V NoText) (items : V → List ℕ) (IsIt : List ℕ → Type 0) (May : Denial → Type 0)
+    (Stops : RunFault → Type 0) (text : List ℕ) (ended : Ending) → IfOk made (λ v. (ended ≡ Answered) × (text ≡ items v))
     → IfErr made (λ why. IsUntold why text ended) → IfOk made (λ v. IsIt (items v)) → IfErr made (MayEnd May Stops)
     → Stops run_fault.OutOfMemory → IsWhole IsIt May Stops text ended
-whole_told items IsIt May Stops (Ok v) text ended (e, t) untold is may stops = rw (e, t) is
-whole_told items IsIt May Stops (Err (no_text.Denied d)) text ended done untold is may stops =
+whole_told (Ok v) items IsIt May Stops text ended (e, t) untold is may stops = rw (e, t) is
+whole_told (Err (no_text.Denied d)) items IsIt May Stops text ended done untold is may stops =
     whole_denied IsIt May Stops d text ended untold may stops
-whole_told items IsIt May Stops (Err (no_text.Stopped fault)) text ended done (e, t) is may stops = rw (e, t) (may, refl)
+whole_told (Err (no_text.Stopped fault)) items IsIt May Stops text ended done (e, t) is may stops = rw (e, t) (may, refl)
 
 pub survey_over : (start : Start) (square : ℕ) (d : Denial) → IsOfTables d → IsSurveyDenial start square d
 survey_over start square (denial.Refused refusal) h = tt
 survey_over start square (denial.OfFile c refusal) h = tt
 survey_over start square denial.NoMan h = absurd h
 survey_over start square denial.NoReport h = absurd h
+
+-- what is told of each text under a premise
+pub if_right : {V E : Type 0} (made : Result V E) (items : V → List ℕ) (Right : Type 0) (IsIt : List ℕ → Type 0)
+    → (Right → IfOk made (λ v. IsIt (items v))) → IfOk made (λ v. Right → IsIt (items v))
+if_right (Ok v) items Right IsIt f = f
+if_right (Err e) items Right IsIt f = tt
