@@ -46,4 +46,11 @@ module _ (Has : Class → Type 0) (c : Class) (cs old mid new : List Class) wher
 
   pub those_past : (Has c → ⊥) → (more : List Class) × AreThose Has cs more × (new ≡ old ++ more)
       → (more : List Class) × AreThose Has (c ∷ cs) more × (new ≡ old ++ more)
-  those_past no (more, are, is) = (more, inr (no, are), is)
+  those_past lacks (more, are, is) = (more, inr (lacks, are), is)
+
+-- a class that is not the first is one of the others
+pub in_rest : (d c : Class) (rest items : List Class) (b : Bool) → items ≡ d ∷ rest → (d ≡ c → ⊥) → (b ≡ true) ↔ Contains rest c → (b ≡ true) ↔ Contains items c
+in_rest d c rest items b e other (f, g) = (
+  λ t. subst (λ (l : List Class). Contains l c) (sym e) (contains-there d c rest (f t)),
+  λ k. g (elim (contains-either d c rest (subst (λ (l : List Class). Contains l c) e k)) [ inl same ↦ absurd (other same) | inr more ↦ more ]),
+)

@@ -51,8 +51,9 @@ const BY_SIZE: [Class; 36] = [
 ];
 
 #[tactic(auto, using(study_material::proofs::NeedsTables::by_size_is))]
-fn by_size() -> &'static [Class; 36]
-    ensures { result.now ≡ by_size }
+fn by_size() -> &'static [Class]
+    ensures value { result.now ≡ by_size }
+    ensures few { length result.now ≤ 36 }
 {
     &BY_SIZE
 }
@@ -63,7 +64,12 @@ fn is_in(classes: &[Class], class: Class) -> bool
 {
     match classes.split_first() {
         None => false,
-        Some((first, rest)) => *first == class || is_in(rest, class),
+        Some((first, rest)) => {
+            if *first == class {
+                return true;
+            }
+            is_in(rest, class)
+        }
     }
 }
 
@@ -119,6 +125,6 @@ pub fn classes_needed(positions: &[Position]) -> ArrayVec<Class, 36>
     ensures { AreClassesNeeded positions.now result.items }
 {
     let mut list = ArrayVec::new();
-    add_needed(positions, by_size().as_slice(), &mut list);
+    add_needed(positions, by_size(), &mut list);
     list
 }
