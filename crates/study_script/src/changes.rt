@@ -187,13 +187,13 @@ fn insert_san<'a, P: PageSource, A: Allocator>(
     start: &Start,
     san: &str,
 ) -> Answer<'a, A>
-    requires at { start.now.position ≡ position_at (marked bench.old) path.entry }
+    requires at { start.now.position ≡ position_at (marked bench.old) path }
     ensures { (s : State) → Holds P.honest P.gives (held.Study bench.old) tables.old s
         → Executed (λ o. IsMoveReply s o (plain_study (marked bench.old)) path.entry (move_of start.now.position san.now))
         (Holds P.honest P.gives (held.Study bench.new) tables.new) result }
 {
     match read_san(&start.position, san) {
-        Ok(by) => insert_move(bench, tables, path, start, by),
+        Ok(by) => insert_move(bench, tables, path, start, &by),
         Err(fault) => Err(Refused::Line(Refusal::San(fault))),
     }
 }
@@ -203,16 +203,19 @@ fn insert_move<'a, P: PageSource, A: Allocator>(
     tables: &mut Tables<'a, P, A>,
     path: Path<'a, A>,
     start: &Start,
-    by: Move,
+    by: &Move,
 ) -> Answer<'a, A>
-    requires legal { is_legal start.now.position by ≡ true }
-    requires at { start.now.position ≡ position_at (marked bench.old) path.entry }
+    requires legal { is_legal start.now.position by.now ≡ true }
+    requires at { start.now.position ≡ position_at (marked bench.old) path }
     ensures { (s : State) → Holds P.honest P.gives (held.Study bench.old) tables.old s
-        → Executed (λ o. IsMoveReply s o (plain_study (marked bench.old)) path.entry (Ok by))
+        → Executed (λ o. IsMoveReply s o (plain_study (marked bench.old)) path.entry (Ok by.now))
         (Holds P.honest P.gives (held.Study bench.new) tables.new) result }
 {
-    match edits::insert_move(bench, &path, by, tables) {
-        Ok(place) => Ok(Reply::Inserted(path, place, write_san(&start.position, by))),
+    match edits::insert_move(bench, &path, *by, tables) {
+        Ok(place) => {
+            let san = write_san(&start.position, *by);
+            Ok(Reply::Inserted(path, place, san))
+        }
         Err(refusal) => Err(Refused::Edit(refusal)),
     }
 }

@@ -4,7 +4,7 @@ ghost use Rattle.study_marks.specs.Study.{plain_study};
 ghost use Rattle.study_marks.specs.Kept.{marked};
 ghost use Rattle.study_command.specs.Paths.{steps_of, is_path_word};
 ghost use Rattle.study_script.specs.State.{State, Outside, study, start as begun};
-ghost use Rattle.study_script.specs.Replies.{IsNodeReply, IsSolveReply, IsPgnReply, IsStudyReply};
+ghost use Rattle.study_script.specs.Replies.{IsNodeReply, IsSolveReply, IsPgnReply, IsMarkReply};
 ghost use Rattle.study_script.specs.Replies.{start_found, moves_reply, fen_reply};
 ghost use Rattle.study_script.specs.Held.{HoldsBoard, HoldsFrom, HoldsBench, HoldsBenchFrom};
 ghost use Rattle.study_script.specs.Executed.{Executed};
@@ -126,7 +126,7 @@ fn node_start<'a, A: Allocator>(
 /// `mark`.
 pub fn mark_at<'a, A: Allocator>(bench: &Bench<'a, A>, path: Path<'a, A>) -> Answer<'a, A>
     ensures { (s : State) → HoldsBench bench.now s
-        → Executed (λ o. IsStudyReply s StudyWord.Mark (plain_study (marked bench.now)) path.entry) (HoldsBenchFrom s bench.now) result }
+        → Executed (λ o. IsMarkReply s (plain_study (marked bench.now)) path.entry) (HoldsBenchFrom s bench.now) result }
 {
     match bench.mark(&path) {
         Some(mark) => Ok(Reply::Mark(path, mark)),

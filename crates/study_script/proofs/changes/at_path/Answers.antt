@@ -8,7 +8,8 @@ use Rattle.study_script.specs.Held.{HoldsBenchFrom}
 use Rattle.study_script.specs.Replies.{IsStudyReply, IsStudyReplyAt}
 use Rattle.study_script.proofs.Executions.{executed_told}
 use Rattle.study_script.proofs.HeldBehindReplies.{bench_kept}
-use Rattle.study_script.proofs.PlainNodes.{at_path, no_path_word}
+use Rattle.study_script.proofs.PlainNodes.{no_path_word}
+use Rattle.study_script.proofs.InsertReplies.{at_path}
 use Rattle.study_script.proofs.changes.at_path.Goals as goal
 
 pub returns-in-Ok : goal.returns-in-Ok

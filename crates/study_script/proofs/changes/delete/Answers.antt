@@ -24,8 +24,8 @@ returns-in-Ok g c = λ s h.
       bench_edited c.delete.new.self s new c.in-Ok.ensures.edited (c.in-Ok.ensures.right h.marks),
     )
 
-pub returns-in-Err : goal.returns-in-Err
-returns-in-Err g c = λ s h.
+pub returns : goal.returns
+returns g c = λ s h.
     let old = plain_study (marked c.args.bench.now) in
     let new = deleted old c.args.path in
     let text = reply_line (codes "delete ") (path_text c.args.path) in

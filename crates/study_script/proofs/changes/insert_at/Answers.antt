@@ -13,6 +13,10 @@ use Rattle.study_script.proofs.Executions.{executed_weaker}
 use Rattle.study_script.proofs.PlainNodes.{start_there, start_gone, position_at-plain}
 use Rattle.study_script.proofs.changes.insert_at.Goals as goal
 
+pub insert_san-requires : goal.insert_san-requires
+insert_san-requires g c =
+    record { at = (start_there (marked c.args.bench.now) c.args.path c.in-Some.start (sym c.in-Some.is ∙ c.start_at.ensures)).1 }
+
 pub returns-in-Some : goal.returns-in-Some
 returns-in-Some g c = λ s h.
     let shown = marked c.args.bench.now in
@@ -26,8 +30,8 @@ returns-in-Some g c = λ s h.
     (subst (λ (x : Position). IsMoveReply s o old c.args.path (move_of x c.args.san.now) r)
     (there.1 ∙ sym (position_at-plain shown c.args.path)) i)) (λ t m. m) (c.insert_san.ensures s h)
 
-pub returns-in-None : goal.returns-in-None
-returns-in-None g c = λ s h. let shown = marked c.args.bench.now in (
+pub returns : goal.returns
+returns g c = λ s h. let shown = marked c.args.bench.now in (
   quiet,
   s,
   subst (λ (x : Bool). IsMoveReplyAt s quiet (plain_study shown) c.args.path c.args.san.now x (refused s NoSuchNode))

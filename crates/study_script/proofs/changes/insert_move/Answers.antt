@@ -22,11 +22,11 @@ returns-in-Ok g c = λ s h.
     let shown = marked c.args.bench.now in
     let old = plain_study shown in
     let steps = c.args.path in
-    let m = c.args.by in
+    let m = c.args.by.now in
     let new = inserted old steps m in
     let said = inserted_text old steps m in
     let tables = c.args.tables.now in
-    rw c.write_san.ensures (rw (inserted_said shown steps steps c.in-Ok.place c.args.start.now.position m refl c.in-Ok.ensures.place c.requires.at) (
+    rw c.write_san-san.ensures (rw (inserted_said shown steps steps c.in-Ok.place c.args.start.now.position m refl c.in-Ok.ensures.place c.requires.at) (
       quiet,
       holding s new,
       subst (λ x. IsInserted s quiet old steps m x (accepted (holding s new) said))
@@ -41,12 +41,12 @@ returns-in-Ok g c = λ s h.
           c.insert_move.ensures.tables c.insert_move.ensures.mode c.insert_move.ensures.fails_as_before,
     ))
 
-pub returns-in-Err : goal.returns-in-Err
-returns-in-Err g c = λ s h.
+pub returns : goal.returns
+returns g c = λ s h.
     let shown = marked c.args.bench.now in
     let old = plain_study shown in
     let steps = c.args.path in
-    let m = c.args.by in
+    let m = c.args.by.now in
     let tables = c.args.tables.now in
     let others = c.insert_move.new.tables in
     let told = insert_refused s (tables_held tables) (are_paged tables) old steps m c.insert_move.result

@@ -11,8 +11,8 @@ use Rattle.study_script.proofs.changes.insert_san.Goals as goal
 pub returns-in-Ok : goal.returns-in-Ok
 returns-in-Ok g c = λ s h. rw (← c.read_san.ensures.value) (rw c.in-Ok.is (c.insert_move.ensures s h))
 
-pub returns-in-Err : goal.returns-in-Err
-returns-in-Err g c = λ s h. (
+pub returns : goal.returns
+returns g c = λ s h. (
   quiet,
   s,
   subst (λ (x : Result Move SanFault). IsMoveReply s quiet (plain_study (marked c.args.bench.now)) c.args.path x (refused s (San c.in-Err.fault)))

@@ -15,8 +15,8 @@ returns-in-Some g c = λ s h.
       bench_kept c.args.bench.now s h,
     )
 
-pub returns-in-None : goal.returns-in-None
-returns-in-None g c = λ s h.
+pub returns : goal.returns
+returns g c = λ s h.
     let m = marked c.args.bench.now in
     let steps = c.args.path in (
       quiet,

@@ -1,4 +1,5 @@
-use Rattle.std.proofs.Common.{refl, ap}
+use Rattle.std.proofs.Common.{rules, ◌≡◌, ℕ, List, [], ◌++◌, refl, ap, ◌∙◌}
+use Rattle.study_pgn.specs.Pgn.{pgn_text}
 use Rattle.study_marks.specs.Kept.{marked}
 use Rattle.study_script.specs.State.{quiet, no_room}
 use Rattle.study_script.specs.Replies.{accepted}
@@ -6,8 +7,11 @@ use Rattle.study_script.proofs.HeldBehindReplies.{bench_kept}
 use Rattle.study_script.proofs.queries.pgn_of.Goals as goal
 
 pub returns-in-Ok : goal.returns-in-Ok
-returns-in-Ok g c = λ s h. let m = marked c.args.bench.now in
-    (quiet, s, (m, h.marks.marks, refl, ap (accepted s) c.in-Ok.ensures.ok), bench_kept c.args.bench.now s h)
+returns-in-Ok g c = λ s h.
+    let m = marked c.args.bench.now in
+    let none : c.new-text.result.items ≡ [] = search rules in
+    let text : c.write_pgn.new.out.items ≡ pgn_text m = c.in-Ok.ensures.ok ∙ ap (λ (xs : List ℕ). xs ++ pgn_text m) none in
+    (quiet, s, (m, h.marks.marks, refl, ap (accepted s) text), bench_kept c.args.bench.now s h)
 
-pub returns-in-Err : goal.returns-in-Err
-returns-in-Err g c = λ s h. (no_room, s, refl, bench_kept c.args.bench.now s h)
+pub returns : goal.returns
+returns g c = λ s h. (no_room, s, refl, bench_kept c.args.bench.now s h)

@@ -16,10 +16,10 @@ use Rattle.study_script.proofs.starts.reposition.Goals as goal
 
 pub returns-in-Ok : goal.returns-in-Ok
 returns-in-Ok g c = λ s h.
-    let start = c.args.start in
+    let start = c.copied.result in
     let new = positioned (plain_study (marked c.args.bench.now)) start in
     let tables = c.args.tables.now in
-    rw c.copied.ensures (
+    rw (← c.copied.ensures) (
       quiet,
       holding s new,
       accepted_outside s (tables_held tables) (asked_at start.position) new (reply_line (codes "position ") (fen_text start)) h.classes c.in-Ok.ensures.found,
@@ -30,7 +30,7 @@ returns-in-Ok g c = λ s h.
 
 pub returns-in-Err : goal.returns-in-Err
 returns-in-Err g c = λ s h.
-    let start = c.args.start in
+    let start = c.copied.result in
     let new = positioned (plain_study (marked c.args.bench.now)) start in
     let asked = asked_at start.position in
     let tables = c.args.tables.now in
@@ -38,7 +38,7 @@ returns-in-Err g c = λ s h.
     c.in-Err.refusal h.classes h.paged c.in-Err.ensures.refusal c.in-Err.ensures.device
     (c.in-Err.ensures.no_damage h.values) c.in-Err.ensures.takes_no_memory
     (failing_known (tables_give g.P.PageSource.gives) (tables_may_fail g.P.PageSource.gives) tables_asked
-    (λ d f. s.shelf.faults d f ≡ true) tables c.set_position.new.tables asked c.in-Err.refusal h.faults c.in-Err.ensures.first) in (
+    (λ d f. s.shelf.faults d f ≡ true) tables c.set_position.new.tables asked c.in-Err.refusal h.faults c.in-Err.ensures.first) in rw (← c.copied.ensures) (
       out.0,
       s,
       out.1,

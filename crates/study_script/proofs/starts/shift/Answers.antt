@@ -17,11 +17,11 @@ use Rattle.study_script.proofs.starts.shift.Goals as goal
 
 pub returns-in-Ok : goal.returns-in-Ok
 returns-in-Ok g c = λ s h.
-    let start = c.args.start in
+    let start = c.copied.result in
     let old = plain_study (marked c.args.bench.now) in
     let new = shifted old start in
     let said = reply_line (codes "shift ") (fen_text start) in
-    let tables = c.args.tables.now in (
+    let tables = c.args.tables.now in rw (← c.copied.ensures) (
       quiet,
       holding s new,
       subst (λ x. IsShiftReply s quiet old start x (accepted (holding s new) said))
@@ -34,14 +34,14 @@ returns-in-Ok g c = λ s h.
 
 pub returns-in-Err : goal.returns-in-Err
 returns-in-Err g c = λ s h.
-    let start = c.args.start in
+    let start = c.copied.result in
     let old = plain_study (marked c.args.bench.now) in
     let asked = positions_asked (shifted old start) in
     let tables = c.args.tables.now in
     let out = shift_refused g.row.A.Denot s (tables_held tables) (are_paged tables) old start c.in-Err.refusal
     h.classes h.paged c.in-Err.ensures.refusal c.in-Err.ensures.device (c.in-Err.ensures.no_damage h.values)
     (failing_known (tables_give g.P.PageSource.gives) (tables_may_fail g.P.PageSource.gives) tables_asked
-    (λ d f. s.shelf.faults d f ≡ true) tables c.shift_position.new.tables asked c.in-Err.refusal h.faults c.in-Err.ensures.first) in (
+    (λ d f. s.shelf.faults d f ≡ true) tables c.shift_position.new.tables asked c.in-Err.refusal h.faults c.in-Err.ensures.first) in rw (← c.copied.ensures) (
       out.0,
       s,
       out.1,
