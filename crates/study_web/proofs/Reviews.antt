@@ -3,7 +3,6 @@ use Rattle.std.proofs.Common.{◌≡◌, ℕ, Bool, true, List, [], replicate, f
 use Rattle.study_material.specs.declared.class.Class.{Class}
 use Rattle.study_material.specs.Class.{class_list}
 use Rattle.study_review.specs.Review.{IsReviewOf}
-use Rattle.study_report.specs.Lines.{refusal_line}
 use Rattle.study_report.specs.Outcome.{Outcome, over_tables}
 use Rattle.study_script.specs.declared.run.Summary.{Summary}
 use Rattle.study_script.specs.declared.run.RunFault.{RunFault}
@@ -16,6 +15,7 @@ use Rattle.study_web.specs.Answers.{IsReviewed, IsReviewedTo}
 use Rattle.study_web.specs.Opened.{IsHeldAs, AreAllRight}
 use Rattle.study_web.specs.Spans.{file_in, header_given}
 use Rattle.study_web.specs.Store.{known}
+use Rattle.study_web.specs.Views.{refused_line}
 use Rattle.study_web.specs.Told.{denial_text, ending_of, IsDenied}
 use Rattle.study_web.proofs.Opening.{among_chosen}
 use Rattle.study_web.proofs.Shelves.{handed_in}
@@ -52,6 +52,6 @@ module _ (spans : List Span) (bytes script : List ℕ) where
 pub review_made : {spans at : List Span} {bytes bs : List ℕ} {written : List Bool} → at ≡ spans → bs ≡ bytes → written ≡ replicate 36 false
     → (script text : List ℕ) (summary : Result Summary RunFault)
     → (classes : List Class) × ((c : Class) → IsHeldAs (known header_given at bs written c) (is_among classes c)) × (left : Option (List ℕ))
-    × Outcome IsReviewOf refusal_line (over_tables classes true) script left (Some []) (Some text) summary
+    × Outcome IsReviewOf refused_line (over_tables classes true) script left (Some []) (Some text) summary
     → IsReviewedTo spans bytes script text summary
 review_made e f w script text summary (classes, held, left, is) = λ right. (classes, handed_in classes e f w held, left, is)

@@ -1,5 +1,5 @@
 -- What a page is answered.
-use Rattle.std.specs.Prelude.{◌≡◌, ℕ, Bool, true, List, [], Option, Some, None, Result, Ok, Err}
+use Rattle.std.specs.Prelude.{◌≡◌, ℕ, Bool, true, false, List, [], Option, Some, None, Result, Ok, Err}
 use Rattle.study_board.specs.Position.{man_at}
 use Rattle.study_material.specs.declared.class.Class.{Class}
 use Rattle.study_material.specs.Needs.{IsNeeded}
@@ -13,7 +13,6 @@ use Rattle.study_script.specs.declared.run.RunFault.TheVariants as run_fault
 use Rattle.study_script.specs.Outcome.{Outcome, begun_state}
 use Rattle.study_script.specs.State.{Shelf}
 use Rattle.study_script.specs.Stored.{AreTrusted}
-use Rattle.study_report.specs.Lines.{refusal_line}
 use Rattle.study_report.specs.Outcome.{Outcome as ReportOutcome, Shape, over_tables}
 use Rattle.study_review.specs.Review.{IsReviewOf}
 use Rattle.study_view.specs.Setup.{passed_squares}
@@ -34,7 +33,7 @@ use Rattle.study_web.specs.Setup.{AreTables, squares_text}
 use Rattle.study_web.specs.Spans.{file_in, IsHonestIn}
 use Rattle.study_web.specs.Store.{IsShelf, AreRightFiles}
 use Rattle.study_web.specs.Told.{denial_text, ending_of, IsDenied}
-use Rattle.study_web.specs.Views.{IsViewAfter}
+use Rattle.study_web.specs.Views.{refused_line, IsViewAfter}
 
 -- ---- how a request ends that is answered whole or not at all
 
@@ -97,7 +96,7 @@ IsViewed spans bytes script steps = IsWhole (λ text. AreAllRight spans bytes �
 abbrev pub IsReviewedTo : List Span → List ℕ → List ℕ → List ℕ → Result Summary RunFault → Type 0
 IsReviewedTo spans bytes script text summary =
     AreAllRight spans bytes → (classes : List Class) × AreHandedIn spans bytes classes × (left : Option (List ℕ))
-    × ReportOutcome IsReviewOf refusal_line (over_tables classes true) script left (Some []) (Some text) summary
+    × ReportOutcome IsReviewOf refused_line (over_tables classes true) script left (Some []) (Some text) summary
 
 abbrev pub IsReviewed : List Span → List ℕ → List ℕ → List ℕ → Ending → Type 0
 IsReviewed spans bytes script text Answered = ⊥

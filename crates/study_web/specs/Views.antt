@@ -12,6 +12,10 @@ use Rattle.study_view.specs.Words.{study_line}
 use Rattle.study_web.specs.declared.spans.Span.{Span}
 use Rattle.study_web.specs.Opened.{AreHandedIn}
 
+-- a refused line, whose bytes are not told
+abbrev pub refused_line : ℕ → List ℕ → List ℕ → List ℕ
+refused_line number line reply = refusal_line number reply
+
 -- nothing is told of a study
 abbrev pub tells_nothing : Plainly → ℕ → List ℕ → Type 0
 tells_nothing plain number text = text ≡ []
@@ -25,7 +29,7 @@ IsBoardView (study plain) path text = IsViewOf plain path text
 -- what a script leaves on the board, over these tables, and the text of the lines that it has refused
 abbrev pub IsLeft : List Class → List ℕ → Board → List ℕ → Type 0
 IsLeft classes script board refused =
-    (added : List Added) × AreAdded tells_nothing refusal_line (begun (over_tables classes true)) (script_lines script) added
+    (added : List Added) × AreAdded tells_nothing refused_line (begun (over_tables classes true)) (script_lines script) added
     × (board ≡ (point_after (begun (over_tables classes true)) added).state.board) × (refused ≡ report_text added)
 
 -- the view of that at a path, and then the refused lines

@@ -61,8 +61,8 @@ fn stopped<'a, A: Allocator>(alloc: &'a A, fault: RunFault) -> Reply<'a, A>
 
 /// A text, or why there is none.
 pub fn told<'a, A: Allocator>(alloc: &'a A, made: Result<Vec<u8, &'a A>, NoText>) -> Reply<'a, A>
-    ensures text { IfOk made (λ text. (result.ended ≡ Ending.Answered) × (result.text.items ≡ text.items)) }
-    ensures none { IfErr made (λ why. IsUntold why result.text.items result.ended) }
+    ensures text { IfOk made.entry (λ text. (result.ended ≡ Ending.Answered) × (result.text.items ≡ text.items)) }
+    ensures none { IfErr made.entry (λ why. IsUntold why result.text.items result.ended) }
 {
     match made {
         Ok(text) => Reply {
@@ -80,7 +80,7 @@ pub fn ran<'a, A: Allocator>(
     summary: Result<Summary, RunFault>,
 ) -> Reply<'a, A>
     ensures ended { result.ended ≡ ending_of summary }
-    ensures text { result.text.items ≡ text.items }
+    ensures text { result.text.items ≡ text.entry.items }
 {
     let ended = match summary {
         Ok(summary) => Ending::Ran(summary),

@@ -93,7 +93,7 @@ fn read_words<'r>(word: &'r [u8], rest: &'r [u8]) -> Result<Request<'r>, Refusal
 
 /// A request without arguments.
 fn alone<'r>(rest: &[u8], request: Request<'r>) -> Result<Request<'r>, Refusal>
-    ensures { asks_seen result ≡ alone (request_seen request) (words rest.now) }
+    ensures { asks_seen result ≡ alone (request_seen request.entry) (words rest.now) }
 {
     match next_word(rest) {
         None => Ok(request),

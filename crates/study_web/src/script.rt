@@ -8,7 +8,6 @@ ghost use Rattle.study_command.specs.Paths.{steps_of, is_path_word};
 ghost use Rattle.study_notation.specs.declared.start.Start.{Start as AStart};
 ghost use Rattle.study_prober.specs.Paged.{held_of, SourcesAreRight};
 ghost use Rattle.study_review.specs.Review.{IsReviewOf};
-ghost use Rattle.study_report.specs.Lines.{refusal_line};
 ghost use Rattle.study_report.specs.Outcome.{Outcome, over_tables};
 ghost use Rattle.study_script.specs.Held.{board_seen, tables_honest, IsMarked};
 ghost use Rattle.study_script.specs.State.{is_among};
@@ -16,7 +15,7 @@ ghost use Rattle.study_view.specs.View.{IsViewOf};
 ghost use Rattle.study_view.specs.Words.{study_line};
 ghost use Rattle.study_web.specs.Answers.{MayBeAny, MayEnd, IsUnread};
 ghost use Rattle.study_web.specs.Opened.{IsHeldAs};
-ghost use Rattle.study_web.specs.Views.{IsBoardView, IsLeft, IsViewOver};
+ghost use Rattle.study_web.specs.Views.{refused_line, IsBoardView, IsLeft, IsViewOver};
 
 use crate::denial::Denial;
 use crate::refusals::Refusals;
@@ -57,7 +56,7 @@ pub fn review_of<'a, S: TableStore, A: Allocator>(
     requires { IfSome pages (λ n. (1 ≤ n) × (n ≤ 4096)) }
     ensures { ((c : AClass) → S.honest store.old true c) → IfOk result (λ told. (classes : List AClass)
         × ((c : AClass) → IsHeldAs (S.headers store.old c) (is_among classes c)) × (left : Option (List ℕ))
-        × Outcome IsReviewOf refusal_line (over_tables classes true) script.now left (Some []) (Some told.text.items) told.summary) }
+        × Outcome IsReviewOf refused_line (over_tables classes true) script.now left (Some []) (Some told.text.items) told.summary) }
 {
     match open_tables(alloc, store, pages) {
         Err(denial) => Err(denial),
@@ -163,8 +162,8 @@ fn left_by<'a, P: PageSource, A: Allocator>(
     script: &[u8],
     tables: PagedTables<'a, P, A>,
 ) -> Result<Left<'a, P, A>, RunFault>
-    ensures left { (classes : List AClass) → SourcesAreRight P.honest tables.sources
-        → ((c : AClass) → is_some (held_of tables.sources c) ≡ is_among classes c)
+    ensures left { (classes : List AClass) → SourcesAreRight P.honest tables.entry.sources
+        → ((c : AClass) → is_some (held_of tables.entry.sources c) ≡ is_among classes c)
         → IfOk result (λ left. tables_honest P.honest left.tables × IsMarked left.board
         × IsLeft classes script.now (board_seen left.board) left.refused.items) }
     ensures stops { IfErr result (IsUnread script.now) }
@@ -209,9 +208,9 @@ fn left_view<'a, P: PageSource, A: Allocator>(
     path: &[u8],
 ) -> Result<Vec<u8, &'a A>, NoText>
     requires { is_path_word path.now ≡ true }
-    ensures { tables_honest P.honest left.tables → IsMarked left.board
-        → IfOk result (λ text. (view : List ℕ) × IsBoardView (board_seen left.board) (steps_of path.now) view
-        × (text.items ≡ view ++ left.refused.items)) }
+    ensures { tables_honest P.honest left.entry.tables → IsMarked left.entry.board
+        → IfOk result (λ text. (view : List ℕ) × IsBoardView (board_seen left.entry.board) (steps_of path.now) view
+        × (text.items ≡ view ++ left.entry.refused.items)) }
 {
     let Left {
         board,

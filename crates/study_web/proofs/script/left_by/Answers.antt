@@ -1,7 +1,6 @@
 use Rattle.std.proofs.Common.{◌≡◌, ℕ, List, Option, Some, true, refl, subst}
 use Rattle.study_script.specs.Desk.{DeskHolds}
 use Rattle.study_script.specs.Stored.{HonestOn}
-use Rattle.study_report.specs.Lines.{refusal_line}
 use Rattle.study_report.specs.Outcome.{IsFollowed, over_tables}
 use Rattle.study_web.specs.Views.{tells_nothing}
 use Rattle.study_web.proofs.script.left_by.Goals as goal
