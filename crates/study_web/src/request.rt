@@ -114,6 +114,7 @@ fn read_make(rest: &[u8]) -> Result<Request<'_>, Refusal>
     }
 }
 
+#[tactic(auto, unfolding(study_script::specs::Replies::class_told))]
 fn class_named(name: &str) -> Option<Class>
     ensures { result ≡ class_told name.now }
 {
