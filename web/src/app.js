@@ -1,0 +1,199 @@
+// @ts-check
+// The document, its past, what is looked at, and what the program told of it. Views read this; actions change it.
+import { advance, begin, redo as redone, replace, undo as undone } from './past.js';
+import { editsTo, fensOf, joined, readScript, repliesOf, toRun, wordsOf } from './script.js';
+import { readReview, readView, nodeAt, refusedIn } from './replies.js';
+import { Stopped } from './engine.js';
+import { endedReason, reason } from './words.js';
+/** @typedef {import('./types.js').Doc} Doc @typedef {import('./types.js').Change} Change @typedef {import('./types.js').Script} Script */
+/** @typedef {{where: string, text: string, good: boolean, field?: string, typed?: string}} Say */
+
+export const PAGES = 1000;
+/** @type {Doc} */
+const blank = { lines: [], studies: [], refused: [], at: 0, path: 'root' };
+
+/** @type {{history: import('./past.js').History<Doc>, view: import('./types.js').View | null, noView: string, review: import('./types.js').Review | null, noReview: string,
+ *   say: Say | null, chosen: number | null, flip: boolean, setup: import('./setup.js').Draft | null, progress: import('./shelf.js').Progress | null, spoken: string, stamp: number}} */
+export const app = { history: begin(blank), view: null, noView: '', review: null, noReview: '', say: null, chosen: null, flip: false, setup: null, progress: null, spoken: '', stamp: 0 };
+/**
+ * The parts that main.js puts in.
+ * @type {{core: import('./engine.js').Core, facts: import('./engine.js').Core, shelf: ReturnType<typeof import('./shelf.js').makeShelf>,
+ *   show: () => void, showFacts: () => void, keep: (doc: Doc) => void}}
+ */
+export const parts = /** @type {any} */ ({});
+
+export const doc = () => app.history.now;
+export const study = () => doc().studies[doc().at];
+export const node = () => (app.view ? nodeAt(app.view.root, doc().path) || app.view.root : null);
+/**
+ * @param {string} where
+ * @param {string} text
+ */
+export function say(where, text, good = false) { app.say = text ? { where, text, good } : null; }
+export const silent = () => { app.say = null; };
+
+let queue = Promise.resolve();
+/**
+ * One thing after the other; a fault is told and changes nothing.
+ * @param {() => Promise<any>} job
+ * @param {string} where
+ * @returns {Promise<void>}
+ */
+export function work(job, where = 'board') {
+  queue = queue.then(job).catch(fault => told(fault, where));
+  return queue;
+}
+/**
+ * @param {any} fault
+ * @param {string} where
+ */
+function told(fault, where) {
+  if (!(fault instanceof Stopped)) console.error(fault);
+  say(where, fault instanceof Stopped ? `${fault.message}.` : `The program did not finish: ${fault.message}. Nothing was changed.`);
+  parts.show();
+}
+
+/**
+ * Runs lines over the tables that the core holds.
+ * @param {string[]} lines
+ * @returns {Promise<Script>}
+ */
+export async function evaluate(lines) {
+  const sent = toRun(lines), names = (await parts.shelf.classesOf(fensOf(lines))).filter(parts.core.holds);
+  const loads = names.map(name => 'load ' + name), texts = [...loads, ...sent.map(s => s.text)];
+  const { text, ended } = await parts.core.answer('run', joined(texts), PAGES);
+  if (ended !== 'done') throw new Error(endedReason(ended));
+  return readScript(lines, sent, repliesOf(texts, text).slice(loads.length));
+}
+
+/**
+ * What is done to the document: lines are run; where one is newly refused nothing changes, and the reason stands where the user acted.
+ * @param {(doc: Doc) => Change | null} make
+ * @param {string} where
+ * @returns {Promise<boolean>}
+ */
+export async function change(make, where = 'board') {
+  const first = make(doc());
+  if (!first) return false;
+  const before = app.history;
+  try { await parts.shelf.ready(fensOf(first.lines)); } catch (fault) {
+    if (!first.lenient) { told(fault, where); return false; }
+    say(where, /** @type {Error} */ (fault).message + '. Without its tables a study is not judged.');
+  }
+  await work(() => changed(make, where), where);
+  return app.history !== before;
+}
+/**
+ * @param {(doc: Doc) => Change | null} make
+ * @param {string} where
+ */
+async function changed(make, where) {
+  const now = doc(), wanted = make(now);
+  if (!wanted) return;
+  if (wanted.lines === now.lines) return look(wanted.at, wanted.path === 'made' ? undefined : wanted.path);
+  const next = await evaluate(wanted.lines);
+  const fresh = next.refused.find(r => !now.refused.some(o => o.text === r.text && o.reply === r.reply));
+  if (fresh && !wanted.lenient) {
+    const subject = /^ *insert/.test(fresh.text) ? wordsOf(fresh.text)[2] : '';
+    say(where, subject ? `${subject}: ${reason(fresh.reply)}.` : `Refused: ${reason(fresh.reply)}.`);
+    return parts.show();
+  }
+  const at = Math.max(0, Math.min(wanted.at === undefined ? now.at : wanted.at, next.studies.length - 1)), made = next.studies[at] && next.studies[at].made;
+  const path = wanted.path === 'made' ? (made ? made.path : 'root') : wanted.path === undefined ? now.path : wanted.path;
+  app.history = advance(app.history, { ...next, at, path });
+  if (!wanted.lenient) silent();
+  await arrive();
+}
+/**
+ * Looks at another study or node.
+ * @param {number | undefined} at
+ * @param {string | undefined} path
+ */
+async function look(at, path) {
+  const now = doc();
+  app.history = replace(app.history, { ...now, at: at === undefined ? now.at : at, path: path === undefined ? now.path : path });
+  silent();
+  await arrive();
+}
+/** @param {string} path */
+export const go = path => work(() => look(undefined, path));
+/** @param {number} at */
+export const goStudy = at => work(() => { app.setup = null; return look(at, 'root'); });
+/** @param {(h: typeof app.history) => typeof app.history} step */
+const step = step => work(async () => {
+  const next = step(app.history);
+  if (next === app.history) return;
+  app.history = next;
+  app.setup = null;
+  silent();
+  await arrive();
+});
+export const undo = () => step(undone);
+export const redo = () => step(redone);
+
+const views = /** @type {Map<string, import('./types.js').View>} */ (new Map()), reviews = /** @type {Map<string, import('./types.js').Review>} */ (new Map());
+/**
+ * @template T
+ * @param {Map<string, T>} map
+ * @param {string} key
+ * @param {T} value
+ */
+function remember(map, key, value) {
+  if (map.size >= 400) map.delete(map.keys().next().value || '');
+  map.set(key, value);
+}
+/**
+ * The view of a script's one study at a path.
+ * @param {string} text
+ * @param {string} path
+ * @returns {Promise<import('./types.js').View | string>}
+ */
+export async function viewOf(text, path) {
+  const key = `${path}\n${text}`, old = views.get(key);
+  if (old) return old;
+  const answer = await parts.core.answer('view ' + path, text, PAGES), view = readView(answer.text);
+  if (!view) return reason(refusedIn(answer.text) || `error ${answer.text.split('\n')[0] || answer.ended}`);
+  remember(views, key, view);
+  return view;
+}
+/** Fills in what is shown of the study at hand, then shows it; its facts come after. */
+async function arrive() {
+  const stamp = ++app.stamp, s = study();
+  app.chosen = null;
+  app.view = app.review = null;
+  app.noView = app.noReview = '';
+  if (s) {
+    const text = joined(editsTo(doc().lines, s));
+    let view = await viewOf(text, doc().path);
+    if (typeof view === 'string' && doc().path !== 'root') {
+      app.history = replace(app.history, { ...doc(), path: 'root' });
+      view = await viewOf(text, 'root');
+    }
+    if (typeof view === 'string') app.noView = view; else app.view = view;
+    if (app.view && s.aim) factsOf(text, s.fen, stamp);
+  }
+  parts.keep(doc());
+  parts.show();
+}
+/**
+ * The facts, by a worker of their own: no move waits for them.
+ * @param {string} text
+ * @param {string} fen
+ * @param {number} stamp
+ */
+async function factsOf(text, fen, stamp) {
+  const old = reviews.get(text);
+  if (old) { app.review = old; return; }
+  await new Promise(on => setTimeout(on, 30));
+  if (stamp !== app.stamp) return;
+  try {
+    await parts.shelf.lay(await parts.shelf.classesOf([fen]), parts.facts);
+    if (stamp !== app.stamp) return;
+    const answer = await parts.facts.answer('review', text + 'pgn\n', PAGES), review = readReview(answer.text);
+    if (review) remember(reviews, text, review);
+    if (stamp !== app.stamp) return;
+    app.review = review;
+    if (!review) app.noReview = reason(refusedIn(answer.text) || `error ${answer.ended}`);
+  } catch (fault) { if (stamp === app.stamp) app.noReview = /** @type {Error} */ (fault).message; }
+  if (stamp === app.stamp) parts.showFacts();
+}

@@ -1,0 +1,68 @@
+// @ts-check
+// The set-up of men: palette, side to move, stipulation, FEN, what the program says of it, and what it becomes.
+import { button, h, svg } from './dom.js';
+import { isWhite, manName, squareName } from './fen.js';
+import { app, parts, study } from './app.js';
+import { manIcon, takeUp } from './board.js';
+import { aimView, told } from './head_view.js';
+import { kept } from './node_view.js';
+import { closeSetup, draftFen, drafted, judge, survey, takeOver, typed } from './setup.js';
+import { readAim } from './words.js';
+/** @typedef {import('./setup.js').Draft} Draft */
+
+const HELP = 'FEN, or men as Kb6 Pc6 / Ka1 Rd5';
+export function setupView() {
+  const d = app.setup, s = study();
+  if (!d) return null;
+  const mover = (/** @type {string} */ m, /** @type {string} */ text) => button(text, '', () => drafted({ mover: m, tail: '- - ' + d.tail.split(' ').slice(2).join(' ') }), { id: 'mover' + m, class: d.mover === m ? 'on' : '', 'aria-pressed': `${d.mover === m}`, 'data-mover': m });
+  return [h('div', { class: 'palette', role: 'group', 'aria-label': 'Men' }, [...'KQRBNPxkqrbnp'].map(letter => toolView(d, letter)), button('clear', 'take all men away', () => drafted({ men: {}, tool: 'K' }), { id: 'clear', class: 'text' })),
+    h('div', { class: 'row' }, mover('w', 'White to play'), mover('b', 'Black to play'), passedView(d)),
+    h('div', { class: 'row' }, aimView(readAim(d.aim), words => drafted({ aim: words }), 'draft')),
+    h('input', { class: 'fen', id: 'fen', value: kept('fen', draftFen()), 'aria-label': HELP, title: HELP, autocomplete: 'off', spellcheck: 'false', onchange: (/** @type {any} */ e) => typed(e.target.value) }),
+    told('fen'), judgedView(d), surveyView(d), h('div', { class: 'row' }, startView(d, Boolean(s))),
+    h('p', { class: 'note keys' }, 'Press a man, then squares; drag a man to move it, off the board to take it away. By keys: arrows on the board, then K Q R B N P for White, k q r b n p for Black, Delete.')];
+}
+/**
+ * @param {Draft} d
+ * @param {string} letter
+ */
+function toolView(d, letter) {
+  const away = letter === 'x', name = away ? 'take away' : manName(letter);
+  const down = (/** @type {any} */ e) => { d.tool = letter; if (!away) takeUp(letter); if (e.target.releasePointerCapture) e.target.releasePointerCapture(e.pointerId); };
+  return h('button', { type: 'button', id: 'man' + letter, class: `${d.tool === letter ? 'on' : ''}${away ? ' text' : ''}`, 'data-man': letter, title: name, 'aria-label': name, 'aria-pressed': `${d.tool === letter}`, onpointerdown: down,
+    onclick: () => { d.tool = letter; parts.show(); } }, away ? name : manIcon(letter));
+}
+/** @param {Draft} d */
+function passedView(d) {
+  const now = d.tail.split(' ')[1];
+  if (!d.passed.length) return null;
+  return h('label', { class: 'note' }, 'en passant on ', h('select', { id: 'passedSquare', onchange: (/** @type {any} */ e) => drafted({ tail: `- ${e.target.value} 0 1` }) },
+    ['-', ...d.passed].map(square => h('option', { value: square, selected: square === now }, square === '-' ? 'no square' : square))));
+}
+/** @param {Draft} d */
+function judgedView(d) {
+  const judged = d.judged, count = Object.keys(d.men).length;
+  const text = !count ? 'Put the men on the board.' : !judged ? '…' : judged.bad ? `Not a position yet: ${judged.bad}.` : judged.lacking.length ? `Its tables are not there yet: ${judged.lacking.join(' ')}.` : judged.text;
+  return [h('p', { id: 'judged', class: judged && judged.text && !judged.bad ? 'judged' : 'note', role: 'status' }, text),
+    judged && judged.lacking.length > 0 && h('p', {}, button('Build them now', 'some seconds to a minute for each; once for all', () => judge(true), { id: 'buildNow' }))];
+}
+/** @param {Draft} d */
+function surveyView(d) {
+  const letter = d.man === null ? '' : d.men[d.man], judged = d.judged;
+  if (!letter || d.man === null || !judged || judged.bad || judged.lacking.length) return null;
+  const sign = (/** @type {string} */ cls) => svg('svg', { width: 12, height: 12, 'aria-hidden': 'true' }, svg('circle', { class: cls, cx: 6, cy: 6, r: 5 }));
+  const only = (d.survey || []).filter(t => t.sign === 'dot').map(t => t.text), more = (d.survey || []).filter(t => t.sign !== 'dot').length;
+  return [h('p', {}, button(`Where else could ${(isWhite(letter) ? '' : 'black ') + letter.toUpperCase() + squareName(d.man)} stand?`, 'all squares of the man that was moved last', survey, { id: 'survey' })),
+    d.survey && h('p', { class: 'note', role: 'status', id: 'stands' }, sign('dot'), ` holds by one first move: ${only.length ? only.join(', ') : 'nowhere'}; `, sign('plain'), ` holds: ${more} more`)];
+}
+/**
+ * @param {Draft} d
+ * @param {boolean} behind
+ */
+function startView(d, behind) {
+  const disabled = !d.judged || Boolean(d.judged.bad), moved = !d.anew && app.view !== null && app.view.root.children.length > 0;
+  const cancel = behind && button('Cancel', 'back to the study', closeSetup, { id: 'cancel' });
+  if (!moved) return [button(d.anew ? 'Start' : 'Take this position', 'play the solution from here', () => takeOver('anew'), { id: 'start', class: 'main', disabled }), cancel];
+  return [button('Keep the moves', 'the same tree on this position', () => takeOver('shift'), { id: 'start', class: 'main', disabled }),
+    button('Without the moves', 'an empty tree', () => takeOver('anew'), { id: 'startEmpty', disabled }), cancel];
+}
