@@ -2,7 +2,7 @@
 // The document, its past, what is looked at, and what the program told of it. Views read this; actions change it.
 import { advance, begin, redo as redone, replace, undo as undone } from './past.js';
 import { editsTo, fensOf, joined, readScript, repliesOf, toRun, wordsOf } from './script.js';
-import { readReview, readView, nodeAt, refusedIn } from './replies.js';
+import { readReview, readView, nodeAt, refusalIn } from './replies.js';
 import { Stopped } from './engine.js';
 import { endedReason, reason } from './words.js';
 /** @typedef {import('./types.js').Doc} Doc @typedef {import('./types.js').Change} Change @typedef {import('./types.js').Script} Script */
@@ -152,7 +152,7 @@ export async function viewOf(text, path) {
   const key = `${path}\n${text}`, old = views.get(key);
   if (old) return old;
   const answer = await parts.core.answer('view ' + path, text, PAGES), view = readView(answer.text);
-  if (!view) return reason(refusedIn(answer.text) || `error ${answer.text.split('\n')[0] || answer.ended}`);
+  if (!view) return reason(refusalIn(answer));
   remember(views, key, view);
   return view;
 }
@@ -193,7 +193,7 @@ async function factsOf(text, fen, stamp) {
     if (review) remember(reviews, text, review);
     if (stamp !== app.stamp) return;
     app.review = review;
-    if (!review) app.noReview = reason(refusedIn(answer.text) || `error ${answer.ended}`);
+    if (!review) app.noReview = reason(refusalIn(answer));
   } catch (fault) { if (stamp === app.stamp) app.noReview = /** @type {Error} */ (fault).message; }
   if (stamp === app.stamp) parts.showFacts();
 }

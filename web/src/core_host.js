@@ -8,8 +8,13 @@
 
 export const CLASSES = ('KK KQK KRK KBK KNK KPK KQQK KQRK KQBK KQNK KQPK KRRK KRBK KRNK KRPK KBBK KBNK KBPK KNNK KNPK KPPK ' +
   'KQKQ KQKR KQKB KQKN KQKP KRKR KRKB KRKN KRKP KBKB KBKN KBKP KNKN KNKP KPKP').split(' ');
-const ENDINGS = ['done', 'ReadDevice', 'WriteDevice', 'LineTooLong', 'TooManyLines', 'OutOfMemory', 'refused'];
 const PAGE = 65536;
+
+/**
+ * How an answer ended: `done`, `refused`, or why it was stopped.
+ * @param {string} line
+ */
+export const ending = line => (/^(answered|ran )/.test(line) ? 'done' : line.replace(/^stopped /, ''));
 
 /**
  * @param {WebAssembly.Module} module
@@ -118,12 +123,11 @@ export function makeCore(module, most = 2 ** 32 - PAGE) {
   function once(request, script, pages, size) {
     top = filled;
     saved = new Map();
-    const asked = put(request), text = put(script), list = put(directory()), out = need(size), told = need(16);
+    const numbers = directory(), asked = put(request), text = put(script), list = put(numbers), out = need(size);
     const slice = (/** @type {number} */ at, /** @type {number} */ n) => [BigInt(at), BigInt(n)];
-    const n = Number(run(...slice(asked, request.length), ...slice(text, script.length), ...slice(list, spans.length), ...slice(base, filled - base),
-      pages, ...slice(out, size), BigInt(told)));
-    const [ending, line] = new Uint32Array(memory.buffer, told, 2);
-    return { length: n, ended: ENDINGS[ending] + (ENDINGS[ending] === 'LineTooLong' ? ' ' + line : ''), bytes: bytesAt(out, Math.min(n, size)) };
+    const n = Number(run(...slice(asked, request.length), ...slice(text, script.length), ...slice(list, numbers.length / 8), ...slice(base, filled - base),
+      pages, ...slice(out, size)));
+    return { length: n, bytes: bytesAt(out, Math.min(n, size)) };
   }
   /**
    * An answer over the tables, read by pages or whole (0). Where the text was longer than its room it is asked once more.
@@ -135,8 +139,9 @@ export function makeCore(module, most = 2 ** 32 - PAGE) {
     const asked = encode(request), text = encode(script), first = Math.max(1 << 18, 16 * text.length);
     let done = once(asked, text, pages, first);
     if (done.length > first) done = once(asked, text, pages, done.length);
-    const bytes = done.bytes.slice();
-    return { bytes, ended: done.ended, saved: [...saved] };
+    if (!done.length) throw new Error('no memory is left');
+    const line = done.bytes.indexOf(10);
+    return { bytes: done.bytes.slice(line + 1), ended: ending(new TextDecoder().decode(done.bytes.subarray(0, line))), saved: [...saved] };
   }
   return { lay, drop, answer, size: () => memory.buffer.byteLength };
 }

@@ -106,7 +106,7 @@ export function typedFen(text, mover) {
   const listing = fromControl(text), fields = (listing ? `${listing} ${mover} - - 0 1` : text).trim().split(/\s+/);
   if (!/^([1-8KQRBNPkqrbnp]+\/){7}[1-8KQRBNPkqrbnp]+$/.test(fields[0]))
     return { bad: 'No position: write a FEN, eight ranks with / between them, or the men as Kb6 Pc6 / Ka1 Rd5.' };
-  if (placement(menOf(fields[0])).length !== fields[0].length && fields[0].split('/').some(r => [...r].reduce((n, c) => n + (Number(c) || 1), 0) !== 8))
+  if (fields[0].split('/').some(r => [...r].reduce((n, c) => n + (Number(c) || 1), 0) !== 8))
     return { bad: 'Each rank of a FEN has eight squares.' };
   const rest = ['w', '-', '-', '0', '1'].map((d, i) => fields[i + 1] || (i === 0 ? mover : d));
   return { fen: [fields[0], ...rest].join(' ') };

@@ -40,12 +40,13 @@ export function readStipulation(text) {
  */
 const rowsOf = text => text.split('\n').filter(Boolean).map(line => line.split(' '));
 /**
- * The line that says that nothing else is told: `refused LINE NAME` or `error NAME`, as `error NAME`.
- * @param {string} text
+ * Why an answer tells nothing, as `error NAME`: its own refusal, or that of a line of the script.
+ * @param {{text: string, ended: string}} answer
  */
-export function refusedIn(text) {
-  const line = text.split('\n').find(row => /^(refused|error) /.test(row));
-  return line === undefined ? null : line.replace(/^refused \d+/, 'error');
+export function refusalIn({ text, ended }) {
+  if (ended === 'refused') return 'error ' + text.trim();
+  const line = text.split('\n').find(row => row.startsWith('refused '));
+  return line === undefined ? 'error ' + (ended === 'done' ? 'NoStudy' : ended) : line.replace(/^refused \d+/, 'error');
 }
 
 /**

@@ -3,7 +3,7 @@
 import { EMPTY, menOf, placement, sideOf, squareName, typedFen } from './fen.js';
 import { PAGES, app, change, parts, say, silent, study, viewOf, work } from './app.js';
 import { addStudy, replacePosition, shiftTo } from './edits.js';
-import { readSurvey, refusedIn } from './replies.js';
+import { readSurvey, refusalIn } from './replies.js';
 import { aimText, aimWords, counted, holds, movesTo, reason } from './words.js';
 import { joined } from './script.js';
 /** @typedef {import('./fen.js').Men} Men */
@@ -150,9 +150,9 @@ async function passedSquares() {
 export const survey = () => work(async () => {
   const d = /** @type {Draft} */ (app.setup), man = d.man;
   if (man === null) return;
-  const { text } = await parts.core.answer(`survey ${squareName(man)} ${d.aim} ${draftFen()}`, '', PAGES), stands = readSurvey(text);
+  const answer = await parts.core.answer(`survey ${squareName(man)} ${d.aim} ${draftFen()}`, '', PAGES), stands = readSurvey(answer.text);
   if (app.setup !== d || d.man !== man) return;
-  if (!stands.length) say('fen', `No survey: ${reason(refusedIn(text) || 'error ' + text.trim())}.`);
+  if (!stands.length) say('fen', `No survey: ${reason(refusalIn(answer))}.`);
   else d.survey = stands.filter(s => s.kind === 'holds' || s.kind === 'only').map(s => ({ to: s.square, sign: s.kind === 'only' ? 'dot' : 'plain', text: squareName(s.square) + (s.san ? ' ' + s.san : '') }));
   parts.show();
 }, 'fen');

@@ -147,7 +147,7 @@ export function makeShelf({ core, spawn, store, tell }) {
       if (stopped) throw new Stopped('stopped');
       const refusal = ended === 'done' ? '' : new TextDecoder().decode(bytes.slice(0, 200)).trim();
       if (/MissingTable/.test(refusal)) return false;
-      if (ended !== 'done') throw new Error(`the table ${name} was not built: ${reason(refusal.startsWith('error ') ? refusal : 'error ' + (refusal || ended))}`);
+      if (ended !== 'done') throw new Error(`the table ${name} was not built: ${reason('error ' + (refusal || ended))}`);
       rate = Math.max(50000, bytes.length > 1000000 ? bytes.length / ((performance.now() - began) / 1000) : rate);
       own.set(name, await sha256(bytes));
       if (!isListed(name, own.get(name) || '')) throw new Error(`the table ${name} is not the one of the list; the browser or the machine is faulty`);

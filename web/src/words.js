@@ -159,6 +159,7 @@ const REASONS = /** @type {Record<string, string>} */ ({
  */
 export function reason(reply) {
   const [, name = '', ...rest] = reply.split(' '), argument = rest.join(' ');
+  if (/^K[QRBNP]*K[QRBNP]*$/.test(name)) return `the file of the table ${name} is damaged (${argument})`;
   if (name === 'ShiftBroken') return `the move at ${argument} is not legal from the new position`;
   if (name === 'NoTable' || name === 'MissingTable') return `the table ${argument} is not there`;
   if (name === 'AlreadyHeld') return `the table ${argument} is there already`;
