@@ -76,18 +76,19 @@ export async function change(make, where = 'board') {
   const first = make(doc());
   if (!first) return false;
   const before = app.history;
+  let note = '';
   try { await parts.shelf.ready(fensOf(first.lines)); } catch (fault) {
     if (!first.lenient) { told(fault, where); return false; }
-    say(where, /** @type {Error} */ (fault).message + '. Without its tables a study is not judged.');
+    note = /** @type {Error} */ (fault).message + '. Without its tables a study is not judged.';
   }
-  await work(() => changed(make, where), where);
+  await work(() => changed(make, where, note), where);
   return app.history !== before;
 }
 /**
  * @param {(doc: Doc) => Change | null} make
  * @param {string} where
  */
-async function changed(make, where) {
+async function changed(make, where, note = '') {
   const now = doc(), wanted = make(now);
   if (!wanted) return;
   if (wanted.lines === now.lines) return look(wanted.at, wanted.path === 'made' ? undefined : wanted.path);
@@ -101,7 +102,8 @@ async function changed(make, where) {
   const at = Math.max(0, Math.min(wanted.at === undefined ? now.at : wanted.at, next.studies.length - 1)), made = next.studies[at] && next.studies[at].made;
   const path = wanted.path === 'made' ? (made ? made.path : 'root') : wanted.path === undefined ? now.path : wanted.path;
   app.history = advance(app.history, { ...next, at, path });
-  if (!wanted.lenient) silent();
+  silent();
+  if (note) say(where, note);
   await arrive();
 }
 /**

@@ -32,12 +32,12 @@ export function navView(n) {
   return [h('div', { class: 'group' }, button('«', 'to the start (Home)', to(root), { id: 'first', disabled: !up, 'aria-label': 'To the start' }),
     button('‹', 'back (←)', to(up), { id: 'back', disabled: !up, 'aria-label': 'Back' }),
     button('›', 'on (→)', to(next), { id: 'on', disabled: !next, 'aria-label': 'On' }),
-    button('»', 'to the end (End)', to(endOf(n)), { id: 'end', disabled: !next, 'aria-label': 'To the end' })),
+    button('»', 'to the end (End)', to(endOf(n)), { id: 'end', disabled: !next, 'aria-label': 'To the end' }),
+    button('⇅', 'turn the board (f)', flip, { id: 'flip', 'aria-label': 'Turn the board' })),
   input,
   button('Delete', 'this move and all below it (Delete)', () => remove(n.path), { id: 'delete', disabled: !up }),
   button('Promote', 'this move one place up among its variations', () => promote(n), { id: 'promote', disabled: !up || up.children[0] === n }),
-  button('Set up', 'change the position', () => openSetup(false), { id: 'setUp' }),
-  button('⇅', 'turn the board (f)', flip, { id: 'flip', 'aria-label': 'Turn the board' })];
+  button('Set up', 'change the position', () => openSetup(false), { id: 'setUp' })];
 }
 /** @param {string} text */
 async function typedMoves(text) {

@@ -16,8 +16,8 @@ export function setupView() {
   if (!d) return null;
   const mover = (/** @type {string} */ m, /** @type {string} */ text) => button(text, '', () => drafted({ mover: m, tail: '- - ' + d.tail.split(' ').slice(2).join(' ') }), { id: 'mover' + m, class: d.mover === m ? 'on' : '', 'aria-pressed': `${d.mover === m}`, 'data-mover': m });
   return [h('div', { class: 'palette', role: 'group', 'aria-label': 'Men' }, [...'KQRBNPxkqrbnp'].map(letter => toolView(d, letter)), button('clear', 'take all men away', () => drafted({ men: {}, tool: 'K' }), { id: 'clear', class: 'text' })),
-    h('div', { class: 'row' }, mover('w', 'White to play'), mover('b', 'Black to play'), passedView(d)),
-    h('div', { class: 'row' }, aimView(readAim(d.aim), words => drafted({ aim: words }), 'draft')),
+    h('div', { class: 'row' }, h('div', { class: 'group', role: 'group', 'aria-label': 'Side to move' }, mover('w', 'White to play'), mover('b', 'Black to play')), passedView(d),
+      aimView(readAim(d.aim), words => drafted({ aim: words }), 'draft')),
     h('input', { class: 'fen', id: 'fen', value: kept('fen', draftFen()), 'aria-label': HELP, title: HELP, autocomplete: 'off', spellcheck: 'false', onchange: (/** @type {any} */ e) => typed(e.target.value) }),
     told('fen'), judgedView(d), surveyView(d), h('div', { class: 'row' }, startView(d, Boolean(s))),
     h('p', { class: 'note keys' }, 'Press a man, then squares; drag a man to move it, off the board to take it away. By keys: arrows on the board, then K Q R B N P for White, k q r b n p for Black, Delete.')];

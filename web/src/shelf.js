@@ -4,6 +4,7 @@
 // A table that was not built in this visit is taken only where its SHA-256 is that of the list: any page of file:// can write to the store.
 import { DIGESTS } from './digests.js';
 import { Stopped } from './engine.js';
+import { buildEach } from './schedule.js';
 import { sha256 } from './store.js';
 import { material } from './fen.js';
 import { reason } from './words.js';
@@ -97,41 +98,24 @@ export function makeShelf({ core, spawn, store, tell }) {
    */
   async function buildAll(lacking, names) {
     if (navigator.storage && navigator.storage.persist) navigator.storage.persist().catch(() => false);
-    const left = [...lacking], running = /** @type {Map<string, number>} */ (new Map()), began = performance.now();
-    const most = Math.max(1, Math.min(3, (navigator.hardwareConcurrency || 2) - 1));
-    const told = () => {
-      const bytes = [...left, ...running.keys()].reduce((sum, name) => sum + sizeOf(name), 0), seconds = (performance.now() - began) / 1000;
-      const done = lacking.length - left.length - running.size;
-      tell({ text: progressText([...running.keys()], done, lacking.length, seconds, bytes / rate / Math.min(most, Math.max(running.size, 1))), done, of: lacking.length });
-    };
+    const most = Math.max(1, Math.min(3, (navigator.hardwareConcurrency || 2) - 1)), began = performance.now();
+    let running = /** @type {string[]} */ ([]), made = 0;
+    const done = new Set();
+    function told() {
+      const bytes = lacking.filter(name => !done.has(name)).reduce((sum, name) => sum + sizeOf(name), 0), seconds = (performance.now() - began) / 1000;
+      tell({ text: progressText(running, made, lacking.length, seconds, bytes / rate / Math.max(1, Math.min(most, running.length))), done: made, of: lacking.length });
+    }
     const ticking = setInterval(told, 500);
-    let fault = /** @type {Error | null} */ (null);
-    /** One builder: takes the next table that can be made, until none is left. */
-    async function work() {
-      for (let name = left.shift(); name !== undefined && !fault; name = left.shift()) {
-        running.set(name, performance.now());
-        told();
-        const made = await build(name, names.filter(other => other !== name));
-        running.delete(name);
-        if (!made) { left.unshift(name); if (!running.size) throw new Error(`the table ${name} was not built`); return; }
-        await helpers();
-      }
-    }
-    const workers = /** @type {Set<Promise<void>>} */ (new Set());
-    async function helpers() {
-      while (workers.size < most && left.length > running.size && !fault) {
-        const one = work().catch(why => { fault = fault || why; }).finally(() => workers.delete(one));
-        workers.add(one);
-        if (workers.size > 1 && !running.size) break;
-      }
-    }
-    while (left.length && !fault) {
-      await helpers();
-      await Promise.race(workers);
-    }
-    await Promise.all(workers);
-    clearInterval(ticking);
-    if (fault) throw stopped ? new Stopped('Stopped. The tables that were built are kept') : fault;
+    try {
+      await buildEach(lacking, most, async name => {
+        const right = await build(name, names.filter(other => other !== name));
+        if (right) done.add(name);
+        return right;
+      }, (now, so) => { [running, made] = [now, so]; told(); });
+    } catch (fault) {
+      for (const builder of builders) builder.end();
+      throw stopped ? new Stopped('Stopped. The tables that were built are kept') : fault;
+    } finally { clearInterval(ticking); }
   }
   /**
    * Builds one table; false where one that it needs is not there yet.

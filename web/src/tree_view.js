@@ -16,9 +16,9 @@ function moveView(s, n, first) {
   const before = n.parent ? n.parent.fen : n.fen, num = first || sideOf(before) === 'White' ? numbered(before).replace(' ', '\u00a0') : '';
   const sign = n.mark === 'only' ? '!' : n.mark === 'mistake' ? '?' : '', here = n === node();
   const title = [valueText(sideOf(n.fen), n.value), markMeaning(n, s.aim ? s.aim.hero : undefined)].filter(Boolean).join('; ');
-  return h('span', { class: 'mv' }, h('button', { type: 'button', class: `m ${n.mark}${here ? ' now' : ''}`, 'data-path': n.path, title, 'aria-current': here && 'true',
+  return [h('span', { class: 'mv' }, h('button', { type: 'button', class: `m ${n.mark}${here ? ' now' : ''}`, 'data-path': n.path, title, 'aria-current': here && 'true',
     'aria-label': `${moveName(n)}: ${title}`, onclick: () => go(n.path) }, num + n.san, sign && h('b', {}, sign)),
-  s.aim && h('sub', {}, valueSign(s.aim.hero, sideOf(n.fen), n.value)), n.mark === 'dual' && h('span', { class: 'tag' }, `dual ${n.duals}`), ' ');
+  s.aim && h('sub', {}, valueSign(s.aim.hero, sideOf(n.fen), n.value)), n.mark === 'dual' && h('span', { class: 'tag' }, `dual ${n.duals}`)), ' '];
 }
 /**
  * @param {Study} s
