@@ -1,7 +1,7 @@
 // @ts-check
 // For other programs: `studyboard` on window. Promises of texts, as the program writes them.
-import { app, doc, parts, PAGES, work } from './app.js';
-import { fensOf, linesOf } from './script.js';
+import { app, doc, parts, PAGES, study, work } from './app.js';
+import { editsTo, fensOf, joined, linesOf } from './script.js';
 import { openText } from './texts_view.js';
 
 /**
@@ -64,6 +64,9 @@ export function makeApi(spawn) {
     open: script => openText(script, 'board'),
     /** The script that is shown. */
     script: () => doc().lines.join('\n') + '\n',
+    /** The lines of the study that is looked at, alone, and the path of its node. */
+    study: () => (study() ? joined(editsTo(doc().lines, study())) : ''),
+    path: () => doc().path,
     /** The games that are shown. */
     pgn: () => doc().studies.map(s => s.pgn).join(''),
     /** Settles when all that was asked for before is done. */

@@ -2,7 +2,7 @@
 // The board: its drawing, and the way from fingers and keys to squares.
 import { $, h, svg } from './dom.js';
 import { isWhite, manName, menOf, sideOf, spokenPosition, squareName, NAMES } from './fen.js';
-import { app, change, doc, node, parts, study } from './app.js';
+import { app, change, doc, node, parts, say, study } from './app.js';
 import { insertMoves } from './edits.js';
 import { draftFen, moveDraft, placeAt, removeAt } from './setup.js';
 import { holds } from './words.js';
@@ -107,8 +107,20 @@ function pressed(e) {
   if (app.setup) { if (letter) hold = { from: s, letter, at: [e.clientX, e.clientY] }; else placeAt(s); return; }
   if (app.chosen !== null && app.chosen !== s && play(app.chosen, s)) return;
   app.chosen = letter && movesFrom(s).length && app.chosen !== s ? s : null;
+  if (app.chosen === null) notMovable(letter, s);
   if (app.chosen !== null) hold = { from: s, letter, at: [e.clientX, e.clientY] };
   showBoard();
+}
+/**
+ * Why a man cannot be taken up, where that is plain.
+ * @param {string | undefined} letter
+ * @param {number} s
+ */
+function notMovable(letter, s) {
+  const view = app.view, side = sideOf(shownFen());
+  if (!letter || !view || app.chosen === s || view.over || movesFrom(s).length) return;
+  say('board', isWhite(letter) === (side === 'White') ? `The ${manName(letter).split(' ')[1]} on ${squareName(s)} has no legal move.` : `It is ${side}'s move.`);
+  parts.show();
 }
 /** @param {PointerEvent} e */
 function dragged(e) {
@@ -129,7 +141,10 @@ function released(e) {
   hold = null;
   if (app.setup) return moveDraft(from, s, letter, Boolean(use));
   if (from === null) return;
-  if (s === from || s === null || !play(from, s)) showBoard();
+  if (s === null || s === from || play(from, s)) return showBoard();
+  app.chosen = null;
+  say('board', `${letter.toUpperCase().replace('P', '')}${squareName(s)}: not a legal move here.`);
+  parts.show();
 }
 export function listen() {
   document.addEventListener('pointermove', dragged);

@@ -36,12 +36,12 @@ parts.facts = spawn();
 parts.shelf = makeShelf({ core: parts.core, spawn, store, tell: p => { app.progress = p; showProgress(); } });
 parts.show = show;
 parts.showFacts = showFacts;
-parts.keep = now => remember('studyboard', JSON.stringify({ script: now.lines.join('\n'), at: now.at, path: now.path }));
+parts.keep = now => { $('unkept').hidden = remember('studyboard', JSON.stringify({ script: now.lines.join('\n'), at: now.at, path: now.path })); };
 /**
  * @param {string} key
  * @param {string} text
  */
-function remember(key, text) { try { localStorage.setItem(key, text); } catch { /* a private window, or no room: the document lives as long as the page */ } }
+function remember(key, text) { try { localStorage.setItem(key, text); return true; } catch { return false; } }
 /** @param {string} key */
 function recalled(key) { try { return localStorage.getItem(key); } catch { return null; } }
 
