@@ -104,7 +104,14 @@ function pressed(e) {
   e.preventDefault();
   $('board').firstChild.focus({ preventScroll: true });
   const letter = menOf(shownFen())[s];
-  if (app.setup) { if (letter) hold = { from: s, letter, at: [e.clientX, e.clientY] }; else placeAt(s); return; }
+  const d = app.setup;
+  if (d) {
+    const there = d.survey && d.man !== null && d.survey.some(t => t.to === s) ? d.men[d.man] : '';
+    if (letter) hold = { from: s, letter, at: [e.clientX, e.clientY] };
+    else if (there) moveDraft(d.man, s, there, true);
+    else placeAt(s);
+    return;
+  }
   if (app.chosen !== null && app.chosen !== s && play(app.chosen, s)) return;
   app.chosen = letter && movesFrom(s).length && app.chosen !== s ? s : null;
   if (app.chosen === null) notMovable(letter, s);

@@ -146,14 +146,18 @@ async function passedSquares() {
   const { text } = await parts.core.answer('passed ' + draftFen().replace(/^(\S+ \S+) .*/, '$1 - - 0 1'), '', 1);
   return text.split(/\s+/).filter(word => /^[a-h][36]$/.test(word));
 }
-/** All squares of the man that was moved last: where the aim holds, and where by one first move. */
-export const survey = () => work(async () => {
-  const d = /** @type {Draft} */ (app.setup), man = d.man;
-  if (man === null) return;
+/**
+ * All squares of a man: where the aim holds, and where by one first move.
+ * @param {number} man
+ */
+export const survey = man => work(async () => {
+  const d = app.setup;
+  if (!d || !d.men[man]) return;
+  d.man = man;
   const answer = await parts.core.answer(`survey ${squareName(man)} ${d.aim} ${draftFen()}`, '', PAGES), stands = readSurvey(answer.text);
   if (app.setup !== d || d.man !== man) return;
   if (!stands.length) say('fen', `No survey: ${reason(refusalIn(answer))}.`);
-  else d.survey = stands.filter(s => s.kind === 'holds' || s.kind === 'only').map(s => ({ to: s.square, sign: s.kind === 'only' ? 'dot' : 'plain', text: squareName(s.square) + (s.san ? ' ' + s.san : '') }));
+  else d.survey = stands.filter(s => s.kind === 'holds' || s.kind === 'only').map(s => ({ to: s.square, sign: s.kind === 'only' ? 'dot' : 'plain', text: squareName(s.square) + (s.san ? ` (${s.san})` : '') }));
   parts.show();
 }, 'fen');
 

@@ -48,12 +48,16 @@ function judgedView(d) {
 }
 /** @param {Draft} d */
 function surveyView(d) {
-  const letter = d.man === null ? '' : d.men[d.man], judged = d.judged;
-  if (!letter || d.man === null || !judged || judged.bad || judged.lacking.length) return null;
+  const judged = d.judged, men = Object.entries(d.men);
+  if (men.length < 2 || !judged || judged.bad || judged.lacking.length) return null;
+  const name = (/** @type {string} */ letter, /** @type {number} */ s) => `${isWhite(letter) ? 'White' : 'Black'} ${letter.toUpperCase()}${squareName(s)}`;
+  const chosen = d.man === null ? Number(men[0][0]) : d.man;
+  const list = h('select', { id: 'surveyMan', 'aria-label': 'The man that could stand elsewhere', onchange: (/** @type {any} */ e) => survey(Number(e.target.value)) },
+    men.map(([s, letter]) => h('option', { value: s, selected: Number(s) === chosen }, name(letter, Number(s)))));
   const sign = (/** @type {string} */ cls) => svg('svg', { width: 12, height: 12, 'aria-hidden': 'true' }, svg('circle', { class: cls, cx: 6, cy: 6, r: 5 }));
   const only = (d.survey || []).filter(t => t.sign === 'dot').map(t => t.text), more = (d.survey || []).filter(t => t.sign !== 'dot').length;
-  return [h('p', {}, button(`Where else could ${(isWhite(letter) ? '' : 'black ') + letter.toUpperCase() + squareName(d.man)} stand?`, 'all squares of the man that was moved last', survey, { id: 'survey' })),
-    d.survey && h('p', { class: 'note', role: 'status', id: 'stands' }, sign('dot'), ` holds by one first move: ${only.length ? only.join(', ') : 'nowhere'}; `, sign('plain'), ` holds: ${more} more`)];
+  return [h('p', { class: 'row' }, 'Where else could ', list, ' stand?', button('Show', 'the squares on which the stipulation holds', () => survey(chosen), { id: 'survey' })),
+    d.survey && h('p', { class: 'note', role: 'status', id: 'stands' }, sign('dot'), ` by one first move: ${only.length ? only.join(', ') : 'nowhere'}; `, sign('plain'), ` it holds: ${more}. A press on a dot puts the man there.`)];
 }
 /**
  * @param {Draft} d
