@@ -1,6 +1,6 @@
 // @ts-check
 // For other programs: `studyboard` on window. Promises of texts, as the program writes them.
-import { app, doc, parts, PAGES, study, work } from './app.js';
+import { app, doc, idle, parts, PAGES, study } from './app.js';
 import { editsTo, fensOf, joined, linesOf } from './script.js';
 import { openText } from './texts_view.js';
 
@@ -70,7 +70,7 @@ export function makeApi(spawn) {
     /** The games that are shown. */
     pgn: () => doc().studies.map(s => s.pgn).join(''),
     /** Settles when all that was asked for before is done. */
-    idle: () => work(async () => {}),
+    idle,
     /** What the last answer took, for measures. */
     last: () => ({ ...parts.core.last, facts: { ...parts.facts.last }, reviewed: app.review !== null }),
   });

@@ -4,7 +4,7 @@ import { advance, begin, redo as redone, replace, undo as undone } from './past.
 import { editsTo, fensOf, joined, readScript, repliesOf, toRun, wordsOf } from './script.js';
 import { readReview, readView, nodeAt, refusalIn } from './replies.js';
 import { Stopped } from './engine.js';
-import { endedReason, reason } from './words.js';
+import { endedReason, moveName, reason } from './words.js';
 /** @typedef {import('./types.js').Doc} Doc @typedef {import('./types.js').Change} Change @typedef {import('./types.js').Script} Script */
 /** @typedef {{where: string, text: string, good: boolean, field?: string, typed?: string}} Say */
 
@@ -62,20 +62,35 @@ export async function evaluate(lines) {
   const sent = toRun(lines), names = (await parts.shelf.classesOf(fensOf(lines))).filter(parts.core.holds);
   const loads = names.map(name => 'load ' + name), texts = [...loads, ...sent.map(s => s.text)];
   const { text, ended } = await parts.core.answer('run', joined(texts), PAGES);
+  if (/^(LineTooLong|TooManyLines)/.test(ended)) throw new Stopped(`Refused: ${endedReason(ended)}. Nothing was changed`);
   if (ended !== 'done') throw new Error(endedReason(ended));
   return readScript(lines, sent, repliesOf(texts, text).slice(loads.length));
 }
 
+const changing = /** @type {Set<Promise<any>>} */ (new Set());
+/** Settles when all that was asked for before is done. */
+export async function idle() {
+  while (changing.size) await Promise.allSettled(changing);
+  await work(async () => {});
+}
 /**
  * What is done to the document: lines are run; where one is newly refused nothing changes, and the reason stands where the user acted.
  * @param {(doc: Doc) => Change | null} make
  * @param {string} where
- * @returns {Promise<boolean>}
+ * @returns {Promise<boolean>} whether it was done
  */
-export async function change(make, where = 'board') {
-  const first = make(doc());
+export function change(make, where = 'board') {
+  const done = changeOnce(make, where);
+  changing.add(done);
+  return done.finally(() => changing.delete(done));
+}
+/**
+ * @param {(doc: Doc) => Change | null} make
+ * @param {string} where
+ */
+async function changeOnce(make, where) {
+  const first = make(doc()), before = app.history;
   if (!first) return false;
-  const before = app.history;
   let note = '';
   try { await parts.shelf.ready(fensOf(first.lines)); } catch (fault) {
     if (!first.lenient) { told(fault, where); return false; }
@@ -96,15 +111,20 @@ async function changed(make, where, note = '') {
   const fresh = next.refused.find(r => !now.refused.some(o => o.text === r.text && o.reply === r.reply));
   if (fresh && !wanted.lenient) {
     const subject = /^ *insert/.test(fresh.text) ? wordsOf(fresh.text)[2] : '';
-    say(where, subject ? `${subject}: ${reason(fresh.reply)}.` : `Refused: ${reason(fresh.reply)}.`);
+    say(where, subject ? `${subject}: ${reason(fresh.reply)}.` : `Refused: ${brokenMove(fresh.reply) || reason(fresh.reply)}.`);
     return parts.show();
   }
   const at = Math.max(0, Math.min(wanted.at === undefined ? now.at : wanted.at, next.studies.length - 1)), made = next.studies[at] && next.studies[at].made;
   const path = wanted.path === 'made' ? (made ? made.path : 'root') : wanted.path === undefined ? now.path : wanted.path;
-  app.history = advance(app.history, { ...next, at, path });
-  silent();
-  if (note) say(where, note);
-  await arrive();
+  await arrive(advance(app.history, { ...next, at, path }), note ? { where, text: note, good: false } : null);
+}
+/**
+ * The move that a shift would break, by its name.
+ * @param {string} reply
+ */
+function brokenMove(reply) {
+  const path = /^error ShiftBroken (\S+)/.exec(reply), broken = path && app.view ? nodeAt(app.view.root, path[1]) : null;
+  return broken ? `the tree's ${moveName(broken)} starts on a square that its man has left, or is not legal from here. Take the position without the moves` : '';
 }
 /**
  * Looks at another study or node.
@@ -113,9 +133,7 @@ async function changed(make, where, note = '') {
  */
 async function look(at, path) {
   const now = doc();
-  app.history = replace(app.history, { ...now, at: at === undefined ? now.at : at, path: path === undefined ? now.path : path });
-  silent();
-  await arrive();
+  await arrive(replace(app.history, { ...now, at: at === undefined ? now.at : at, path: path === undefined ? now.path : path }));
 }
 /** @param {string} path */
 export const go = path => work(() => look(undefined, path));
@@ -125,10 +143,8 @@ export const goStudy = at => work(() => { app.setup = null; return look(at, 'roo
 const step = step => work(async () => {
   const next = step(app.history);
   if (next === app.history) return;
-  app.history = next;
   app.setup = null;
-  silent();
-  await arrive();
+  await arrive(next);
 });
 export const undo = () => step(undone);
 export const redo = () => step(redone);
@@ -158,22 +174,20 @@ export async function viewOf(text, path) {
   remember(views, key, view);
   return view;
 }
-/** Fills in what is shown of the study at hand, then shows it; its facts come after. */
-async function arrive() {
-  const stamp = ++app.stamp, s = study();
-  app.chosen = null;
-  app.view = app.review = null;
-  app.noView = app.noReview = '';
-  if (s) {
-    const text = joined(editsTo(doc().lines, s));
-    let view = await viewOf(text, doc().path);
-    if (typeof view === 'string' && doc().path !== 'root') {
-      app.history = replace(app.history, { ...doc(), path: 'root' });
-      view = await viewOf(text, 'root');
-    }
-    if (typeof view === 'string') app.noView = view; else app.view = view;
-    if (app.view && s.aim) factsOf(text, s.fen, stamp);
+/**
+ * A new state is shown once all is there that is shown of it; its facts come after.
+ * @param {import('./past.js').History<Doc>} next
+ * @param {Say | null} note
+ */
+async function arrive(next, note = null) {
+  const s = next.now.studies[next.now.at], text = s ? joined(editsTo(next.now.lines, s)) : '', stamp = ++app.stamp;
+  let view = s ? await viewOf(text, next.now.path) : null;
+  if (typeof view === 'string' && next.now.path !== 'root') {
+    next = replace(next, { ...next.now, path: 'root' });
+    view = await viewOf(text, 'root');
   }
+  Object.assign(app, { history: next, chosen: null, say: note, view: typeof view === 'string' ? null : view, noView: typeof view === 'string' ? view : '', review: null, noReview: '' });
+  if (app.view && s && s.aim) factsOf(text, s.fen, stamp);
   parts.keep(doc());
   parts.show();
 }

@@ -19,7 +19,7 @@ export function setupView() {
     h('div', { class: 'row' }, h('div', { class: 'group', role: 'group', 'aria-label': 'Side to move' }, mover('w', 'White to play'), mover('b', 'Black to play')), passedView(d),
       aimView(readAim(d.aim), words => drafted({ aim: words }), 'draft')),
     h('input', { class: 'fen', id: 'fen', value: kept('fen', draftFen()), 'aria-label': HELP, title: HELP, autocomplete: 'off', spellcheck: 'false', onchange: (/** @type {any} */ e) => typed(e.target.value) }),
-    told('fen'), judgedView(d), surveyView(d), h('div', { class: 'row' }, startView(d, Boolean(s))),
+    told('fen'), judgedView(d), h('div', { class: 'row' }, startView(d, Boolean(s))), surveyView(d),
     h('p', { class: 'note keys' }, 'Press a man, then squares; drag a man to move it, off the board to take it away. By keys: arrows on the board, then K Q R B N P for White, k q r b n p for Black, Delete.')];
 }
 /**
@@ -57,7 +57,7 @@ function surveyView(d) {
   const sign = (/** @type {string} */ cls) => svg('svg', { width: 12, height: 12, 'aria-hidden': 'true' }, svg('circle', { class: cls, cx: 6, cy: 6, r: 5 }));
   const only = (d.survey || []).filter(t => t.sign === 'dot').map(t => t.text), more = (d.survey || []).filter(t => t.sign !== 'dot').length;
   return [h('p', { class: 'row' }, 'Where else could ', list, ' stand?', button('Show', 'the squares on which the stipulation holds', () => survey(chosen), { id: 'survey' })),
-    d.survey && h('p', { class: 'note', role: 'status', id: 'stands' }, sign('dot'), ` by one first move: ${only.length ? only.join(', ') : 'nowhere'}; `, sign('plain'), ` it holds: ${more}. A press on a dot puts the man there.`)];
+    d.survey && h('p', { class: 'note', role: 'status', id: 'stands' }, sign('dot'), ` by one first move: ${only.length ? only.slice(0, 12).join(', ') + (only.length > 12 ? ` and ${only.length - 12} more` : '') : 'nowhere'}; `, sign('plain'), ` it holds: ${more}. A press on a dot puts the man there.`)];
 }
 /**
  * @param {Draft} d

@@ -17,6 +17,7 @@ import { joined } from './script.js';
  * @param {string} digest
  */
 export const isListed = (name, digest) => DIGESTS[name] !== undefined && DIGESTS[name][1] === digest;
+const STOPPED = 'Stopped. The tables that were built are kept';
 /** @param {string} name */
 const sizeOf = name => (DIGESTS[name] ? DIGESTS[name][0] : 5000000);
 
@@ -37,7 +38,7 @@ export function progressText(running, made, all, seconds, left) {
 export function makeShelf({ core, spawn, store, tell }) {
   const known = /** @type {Map<string, string[]>} */ (new Map());
   const own = /** @type {Map<string, string>} */ (new Map());       // digests of the tables built in this visit
-  let building = /** @type {Promise<void> | null} */ (null), builders = /** @type {Core[]} */ ([]), stopped = false, rate = 250000, kept = true;
+  let building = false, builders = /** @type {Core[]} */ ([]), stopped = false, rate = 250000, kept = true;
 
   /**
    * The classes that positions need, in the order in which to build them.
@@ -79,18 +80,28 @@ export function makeShelf({ core, spawn, store, tell }) {
     }));
     return names.filter(name => lacking.includes(name));
   }
+  let turn = /** @type {Promise<void>} */ (Promise.resolve()), stops = 0;
   /**
-   * All tables of these positions stand in the core afterwards. A stop ends the builders alone.
+   * All tables of these positions stand in the core afterwards, one wish after the other. A stop ends the builders, and the wishes that wait.
    * @param {string[]} fens
+   * @returns {Promise<void>}
    */
-  async function ready(fens) {
-    const names = await classesOf(fens);
-    while (building) await building;
-    const lacking = await lay(names);
+  function ready(fens) {
+    const before = stops, mine = turn.then(() => readyOnce(fens, before));
+    turn = mine.catch(() => {});
+    return mine;
+  }
+  /**
+   * @param {string[]} fens
+   * @param {number} before
+   */
+  async function readyOnce(fens, before) {
+    const names = await classesOf(fens), lacking = await lay(names);
     if (!lacking.length) return;
+    if (before !== stops) throw new Stopped(STOPPED);
     stopped = false;
-    building = buildAll(lacking, names).finally(() => { building = null; builders = []; tell(null); });
-    await building;
+    building = true;
+    await buildAll(lacking, names).finally(() => { building = false; builders = []; tell(null); });
   }
   /**
    * @param {string[]} lacking
@@ -114,7 +125,7 @@ export function makeShelf({ core, spawn, store, tell }) {
       }, (now, so) => { [running, made] = [now, so]; told(); });
     } catch (fault) {
       for (const builder of builders) builder.end();
-      throw stopped ? new Stopped('Stopped. The tables that were built are kept') : fault;
+      throw stopped ? new Stopped(STOPPED) : fault;
     } finally { clearInterval(ticking); }
   }
   /**
@@ -145,6 +156,7 @@ export function makeShelf({ core, spawn, store, tell }) {
   }
   function stop() {
     stopped = true;
+    stops++;
     for (const builder of builders) builder.end(new Stopped('stopped'));
   }
   /**
@@ -169,5 +181,5 @@ export function makeShelf({ core, spawn, store, tell }) {
    * @param {Uint8Array} bytes
    */
   async function keep(name, bytes) { if (isListed(name, await sha256(bytes)) && !await store.put(name, bytes)) kept = false; }
-  return { classesOf, lay, ready, keep, stop, open, store, isBuilding: () => building !== null, isKept: () => kept };
+  return { classesOf, lay, ready, keep, stop, open, store, isBuilding: () => building, isKept: () => kept };
 }

@@ -84,7 +84,7 @@ class User:
         element.click()
 
     def text(self, name):
-        return self.by(name).text
+        return self.js("const e = document.getElementById(arguments[0]); return e.innerText === undefined ? e.textContent : e.innerText", name).strip()
 
     def point(self, square):
         left, top, width = self.js("const b = document.querySelector('#board svg'); b.scrollIntoView({block: 'nearest'}); const r = b.getBoundingClientRect(); return [r.left, r.top, r.width]")
@@ -112,6 +112,9 @@ class User:
 
     def keys(self, *keys):
         ActionChains(self.d).send_keys(*keys).perform()
+
+    def control(self, key):
+        ActionChains(self.d).key_down(Keys.CONTROL).send_keys(key).key_up(Keys.CONTROL).perform()
 
     def open_tables(self, folder, names):
         self.by("tableFiles").send_keys("\n".join(os.path.join(os.path.abspath(folder), name + ".dtm") for name in names))
