@@ -27,6 +27,7 @@ if [ -n "$short" ]; then
 else
     try "$python" page.py "$tables"
     try "$python" gallery.py "$tables"
+    try "$python" monkey.py "$tables" 1 300
     try "$python" scripts.py "$tables" 200
     try "$python" speed.py "$tables"
 fi

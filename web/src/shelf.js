@@ -31,7 +31,7 @@ const sizeOf = name => (DIGESTS[name] ? DIGESTS[name][0] : 5000000);
  */
 export function progressText(running, made, all, seconds, left) {
   const more = left >= 90 ? `about ${Math.round(left / 60)} minutes left` : left >= 1 ? `about ${Math.max(5, Math.round(left / 5) * 5)} s left` : 'almost done';
-  return `Building the table ${running.join(', ')} · ${Math.min(made + 1, all)} of ${all} · ${Math.round(seconds)} s, ${more}. It is done once, and kept.`;
+  return `Building the table${running.length > 1 ? 's' : ''} ${running.join(', ')} · ${Math.min(made + 1, all)} of ${all} · ${Math.round(seconds)} s, ${more}. It is done once, and kept.`;
 }
 
 /** @param {{core: Core, spawn: () => Core, store: ReturnType<typeof import('./store.js').makeStore>, tell: (p: Progress | null) => void}} parts */

@@ -152,6 +152,28 @@ def test_where_else(user):
     assert user.js("return document.getElementById('fen').value").startswith("8/8/8/6k1/8/7K/1P6/8 w")
 
 
+def composed(user, fen, aim, most=30):
+    """Follows what the page offers: the only move of the hero, the best defence; ends before the first dual."""
+    user.set_up(fen, aim)
+    for _ in range(most):
+        only = user.d.find_elements(By.CSS_SELECTOR, ".moves .chip.only")
+        chips = only or user.d.find_elements(By.CSS_SELECTOR, ".moves .chip.reply")
+        if not chips:
+            break
+        user.js("arguments[0].click()", chips[0])
+        user.settle()
+    assert user.text("stamp") == "sound", user.text("stamp")
+    return len(user.d.find_elements(By.CSS_SELECTOR, ".tree [data-path]"))
+
+
+def test_studies_from_nothing(user):
+    assert composed(user, FEN, "white win") > 10
+    user.picture("kpk")
+    user.open_tables(TABLES, "KK KQK KRK KBK KNK KPK KQKR KRKR KRKB KRKN KRKP".split())
+    assert composed(user, "8/2P5/8/8/3r4/8/2K5/k7 w - - 0 1", "white mate 7") > 2
+    user.picture("krkp")
+
+
 def test_reload_in_the_middle(user):
     sample(user)
     user.go("0.0")
