@@ -2,17 +2,18 @@
 // The beginning: workers, what was kept, the bar, files and keys.
 import { $, download } from './dom.js';
 import { makeApi } from './api.js';
-import { app, doc, go, goStudy, node, parts, redo, say, study, undo, change, work } from './app.js';
+import { PAGES, app, change, doc, go, goStudy, node, parts, redo, say, study, undo, work } from './app.js';
 import { closeChoice, flip, listen, setupKey, showBoard } from './board.js';
 import { makeCore } from './engine.js';
 import { endOf, remove } from './node_view.js';
-import { fensOf, linesOf, savedScript } from './script.js';
+import { fensOf, joined, linesOf, savedScript, toRun } from './script.js';
 import { closeSetup, judge, openSetup } from './setup.js';
 import { makeShelf } from './shelf.js';
 import { show, showFacts, showProgress, watch } from './show.js';
 import { makeStore } from './store.js';
 import { openText } from './texts_view.js';
-import { counted } from './words.js';
+import { counted, reason } from './words.js';
+import { refusalIn } from './replies.js';
 
 // ---- the module, in the form that this browser can run
 /**
@@ -82,6 +83,18 @@ on('saveTables', saveTables);
 on('saveScript', () => work(async () => download(fileName('.script'), savedScript(doc(), await parts.shelf.classesOf(fensOf(doc().lines))))));
 on('savePgn', () => download(fileName('.pgn'), doc().studies.map(s => s.pgn).join('')));
 on('print', () => { if (app.setup) closeSetup(); window.print(); });
+/** The printed page of all studies, where the core makes one. */
+const saveReport = () => work(async () => {
+  const { lines } = doc();
+  await parts.shelf.lay(await parts.shelf.classesOf(fensOf(lines)), parts.facts);
+  const answer = await parts.facts.answer('report', joined(toRun(lines).map(s => s.text)), PAGES);
+  if (answer.ended === 'done') return download(fileName('.html'), answer.text);
+  say('board', `No report: ${reason(refusalIn(answer))}.`);
+  show();
+});
+on('saveReport', saveReport);
+/** The button stands there where the core knows the request. */
+const offerReport = () => parts.facts.answer('report', '', PAGES).then(answer => { $('saveReport').hidden = answer.ended === 'refused'; }).catch(() => {});
 on('undo', undo);
 on('redo', redo);
 on('stop', () => parts.shelf.stop());
@@ -151,6 +164,7 @@ async function start() {
     show();
   }
   if (!await openHash() && !doc().lines.length && !app.setup) openSetup(true);
+  offerReport();
 }
 window.addEventListener('hashchange', openHash);
 /** @type {any} */ (window).studyboard = makeApi(spawn);
