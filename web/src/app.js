@@ -18,7 +18,7 @@ export const app = { history: begin(blank), view: null, noView: '', review: null
 /**
  * The parts that main.js puts in.
  * @type {{core: import('./engine.js').Core, facts: import('./engine.js').Core, shelf: ReturnType<typeof import('./shelf.js').makeShelf>,
- *   show: () => void, showFacts: () => void, keep: (doc: Doc) => void}}
+ *   show: () => void, showFacts: () => void, showJudged: () => void, keep: (doc: Doc) => void}}
  */
 export const parts = /** @type {any} */ ({});
 

@@ -9,7 +9,7 @@ import { endOf, remove } from './node_view.js';
 import { fensOf, joined, linesOf, savedScript, toRun } from './script.js';
 import { closeSetup, judge, openSetup } from './setup.js';
 import { makeShelf } from './shelf.js';
-import { show, showFacts, showProgress, watch } from './show.js';
+import { show, showFacts, showJudged, showProgress, watch } from './show.js';
 import { makeStore } from './store.js';
 import { openText } from './texts_view.js';
 import { counted, reason } from './words.js';
@@ -37,6 +37,7 @@ parts.facts = spawn();
 parts.shelf = makeShelf({ core: parts.core, spawn, store, tell: p => { app.progress = p; showProgress(); } });
 parts.show = show;
 parts.showFacts = showFacts;
+parts.showJudged = showJudged;
 parts.keep = now => { $('unkept').hidden = remember('studyboard', JSON.stringify({ script: now.lines.join('\n'), at: now.at, path: now.path })); };
 /**
  * @param {string} key

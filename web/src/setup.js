@@ -120,7 +120,7 @@ export async function judge(build = false) {
   const passed = judged.bad ? [] : await passedSquares().catch(() => []);
   if (mine !== judging || app.setup !== d) return;
   Object.assign(d, { judged, passed });
-  parts.show();
+  parts.showJudged();
 }
 /**
  * @param {Draft} d
@@ -158,7 +158,7 @@ export const survey = man => work(async () => {
   if (app.setup !== d || d.man !== man) return;
   if (!stands.length) say('fen', `No survey: ${reason(refusalIn(answer))}.`);
   else d.survey = stands.filter(s => s.kind === 'holds' || s.kind === 'only').map(s => ({ to: s.square, sign: s.kind === 'only' ? 'dot' : 'plain', text: squareName(s.square) + (s.san ? ` (${s.san})` : '') }));
-  parts.show();
+  parts.showJudged();
 }, 'fen');
 
 /**

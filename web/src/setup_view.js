@@ -1,6 +1,6 @@
 // @ts-check
 // The set-up of men: palette, side to move, stipulation, FEN, what the program says of it, and what it becomes.
-import { button, h, svg } from './dom.js';
+import { $, button, h, put, svg } from './dom.js';
 import { isWhite, manName, squareName } from './fen.js';
 import { app, parts, study } from './app.js';
 import { manIcon, takeUp } from './board.js';
@@ -12,15 +12,26 @@ import { readAim } from './words.js';
 
 const HELP = 'FEN, or men as Kb6 Pc6 / Ka1 Rd5';
 export function setupView() {
-  const d = app.setup, s = study();
+  const d = app.setup;
   if (!d) return null;
   const mover = (/** @type {string} */ m, /** @type {string} */ text) => button(text, '', () => drafted({ mover: m, tail: '- - ' + d.tail.split(' ').slice(2).join(' ') }), { id: 'mover' + m, class: d.mover === m ? 'on' : '', 'aria-pressed': `${d.mover === m}`, 'data-mover': m });
   return [h('div', { class: 'palette', role: 'group', 'aria-label': 'Men' }, [...'KQRBNPxkqrbnp'].map(letter => toolView(d, letter)), button('clear', 'take all men away', () => drafted({ men: {}, tool: 'K' }), { id: 'clear', class: 'text' })),
-    h('div', { class: 'row' }, h('div', { class: 'group', role: 'group', 'aria-label': 'Side to move' }, mover('w', 'White to play'), mover('b', 'Black to play')), passedView(d),
+    h('div', { class: 'row' }, h('div', { class: 'group', role: 'group', 'aria-label': 'Side to move' }, mover('w', 'White to play'), mover('b', 'Black to play')), h('span', { id: 'passedBox' }, passedView(d)),
       aimView(readAim(d.aim), words => drafted({ aim: words }), 'draft')),
     h('input', { class: 'fen', id: 'fen', value: kept('fen', draftFen()), 'aria-label': HELP, title: HELP, autocomplete: 'off', spellcheck: 'false', onchange: (/** @type {any} */ e) => typed(e.target.value) }),
-    told('fen'), judgedView(d), h('div', { class: 'row' }, startView(d, Boolean(s))), surveyView(d),
+    h('div', { id: 'judgedBox' }, judgedBox(d)),
     h('p', { class: 'note keys' }, 'Press a man, then squares; drag a man to move it, off the board to take it away. By keys: arrows on the board, then K Q R B N P for White, k q r b n p for Black, Delete.')];
+}
+/**
+ * What comes late: what the program says of the draft, and what can be done with it.
+ * @param {Draft} d
+ */
+const judgedBox = d => [told('fen'), judgedView(d), h('div', { class: 'row' }, startView(d, Boolean(study()))), surveyView(d)];
+/** Only these parts are written anew, so that nothing moves under a finger that is on the palette. */
+export function redrawJudged() {
+  if (!app.setup || !$('judgedBox')) return;
+  put('judgedBox', judgedBox(app.setup));
+  put('passedBox', passedView(app.setup));
 }
 /**
  * @param {Draft} d

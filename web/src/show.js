@@ -10,16 +10,37 @@ import { hereView, navView } from './node_view.js';
 import { isKnown } from './edits.js';
 import { PAWN, SAAVEDRA } from './samples.js';
 import { joined } from './script.js';
-import { setupView } from './setup_view.js';
+import { redrawJudged, setupView } from './setup_view.js';
 import { openText, studyName, textsView } from './texts_view.js';
 import { keyView, treeView } from './tree_view.js';
 
-let pressing = false, late = false;
+let pressing = false;
+const late = /** @type {Set<() => void>} */ (new Set());
 export function watch() {
-  for (const kind of ['pointerdown', 'pointerup', 'pointercancel']) document.addEventListener(kind, () => { pressing = kind === 'pointerdown'; if (!pressing && late) setTimeout(showFacts); }, true);
+  for (const kind of ['pointerdown', 'pointerup', 'pointercancel']) document.addEventListener(kind, () => { pressing = kind === 'pointerdown'; if (!pressing) setTimeout(afterwards); }, true);
+}
+function afterwards() {
+  const list = [...late];
+  late.clear();
+  list.forEach(draw => draw());
+}
+/**
+ * What comes late is not drawn under a finger that presses, and focus stays where it was.
+ * @param {() => void} draw
+ */
+function lately(draw) {
+  if (pressing) { late.add(draw); return; }
+  const kept = focused();
+  draw();
+  refocus(kept);
+}
+/** @returns {(string | null)[]} */
+function focused() {
+  const focus = document.activeElement;
+  return focus ? [focus.id, focus.getAttribute('data-path'), focus.getAttribute('data-san')] : ['', null, null];
 }
 export function show() {
-  const s = study(), n = node(), focus = document.activeElement, kept = focus ? [focus.id, focus.getAttribute('data-path'), focus.getAttribute('data-san')] : ['', null, null];
+  const s = study(), n = node(), kept = focused();
   showBoard();
   showBar();
   const said = app.say && app.say.where === 'board' ? app.say : null;
@@ -31,7 +52,7 @@ export function show() {
   put('here', !app.setup && s && n && hereView(s, n));
   put('head', s ? headView(s) : welcomeView());
   put('tree', s && treeView(s));
-  showFacts();
+  drawFacts();
   put('texts', textsView(s));
   refocus(kept);
   speak();
@@ -53,16 +74,17 @@ function hint() {
   $('toast').hidden = !alert || !at || (at.top > 0 && at.bottom < innerHeight);
   $('toast').textContent = alert ? alert.textContent : '';
 }
-/** The facts come late: only the parts that tell them are written anew, and not under a finger that presses. */
-export function showFacts() {
+function drawFacts() {
   const s = study();
-  late = pressing;
-  if (pressing) return;
-  const focus = document.activeElement, kept = focus ? [focus.id, focus.getAttribute('data-path'), focus.getAttribute('data-san')] : ['', null, null];
   put('verdict', s && verdictView(s));
   put('review', s && reviewView(s));
-  refocus(kept);
 }
+export const showFacts = () => lately(drawFacts);
+function drawJudged() {
+  showBoard();
+  redrawJudged();
+}
+export const showJudged = () => lately(drawJudged);
 let spoken = '';
 /** The move that was gone to is heard. */
 function speak() {
