@@ -169,6 +169,7 @@ function remember(map, key, value) {
 export async function viewOf(text, path) {
   const key = `${path}\n${text}`, old = views.get(key);
   if (old) return old;
+  await parts.shelf.lay(await parts.shelf.classesOf(fensOf(text.split('\n'))));      // a core that was begun anew has none
   const answer = await parts.core.answer('view ' + path, text, PAGES), view = readView(answer.text);
   if (!view) return reason(refusalIn(answer));
   remember(views, key, view);
