@@ -30,5 +30,6 @@ else
     try "$python" monkey.py "$tables" 1 300
     try "$python" scripts.py "$tables" 200
     try "$python" speed.py "$tables"
+    try "$python" firefox.py
 fi
 exit $status
