@@ -43,15 +43,25 @@ export function makeApi(spawn) {
      * @param {string} script
      * @param {string} path
      */
-    async view(script, path = 'root') { await tablesOf(script); return answer('view ' + path, script); },
+    async view(script, path = 'root') {
+      await tablesOf(script);
+      return answer('view ' + path, script);
+    },
     /** @param {string} script */
-    async review(script) { await tablesOf(script); await parts.shelf.lay(await parts.shelf.classesOf(fensOf(linesOf(script))), parts.facts); return answer('review', script, parts.facts); },
+    async review(script) {
+      await tablesOf(script);
+      await parts.shelf.lay(await parts.shelf.classesOf(fensOf(linesOf(script))), parts.facts);
+      return answer('review', script, parts.facts);
+    },
     /**
      * @param {string} fen
      * @param {string} square
      * @param {string} stipulation      as `white win`, `black draw`, `white mate 3`
      */
-    async survey(fen, square, stipulation) { await parts.shelf.ready([fen]); return answer(`survey ${square} ${stipulation} ${fen}`, ''); },
+    async survey(fen, square, stipulation) {
+      await parts.shelf.ready([fen]);
+      return answer(`survey ${square} ${stipulation} ${fen}`, '');
+    },
     /**
      * The tables that a script's positions need.
      * @param {string} script
@@ -72,6 +82,6 @@ export function makeApi(spawn) {
     /** Settles when all that was asked for before is done. */
     idle,
     /** What the last answer took, for measures. */
-    last: () => ({ ...parts.core.last, facts: { ...parts.facts.last }, reviewed: app.review !== null }),
+    last: () => ({...parts.core.last, facts: {...parts.facts.last}, reviewed: app.review !== null}),
   });
 }

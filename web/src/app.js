@@ -12,9 +12,24 @@ export const PAGES = 1000;
 /** @type {Doc} */
 const blank = { lines: [], studies: [], refused: [], at: 0, path: 'root' };
 
-/** @type {{history: import('./past.js').History<Doc>, view: import('./types.js').View | null, noView: string, review: import('./types.js').Review | null, noReview: string,
- *   say: Say | null, chosen: number | null, flip: boolean, setup: import('./setup.js').Draft | null, progress: import('./shelf.js').Progress | null, spoken: string, stamp: number}} */
-export const app = { history: begin(blank), view: null, noView: '', review: null, noReview: '', say: null, chosen: null, flip: false, setup: null, progress: null, spoken: '', stamp: 0 };
+/**
+ * @type {{history: import('./past.js').History<Doc>, view: import('./types.js').View | null, noView: string,
+ *   review: import('./types.js').Review | null, noReview: string, say: Say | null, chosen: number | null, flip: boolean,
+ *   setup: import('./setup.js').Draft | null, progress: import('./shelf.js').Progress | null, stamp: number}}
+ */
+export const app = {
+  history: begin(blank),
+  view: null,
+  noView: '',
+  review: null,
+  noReview: '',
+  say: null,
+  chosen: null,
+  flip: false,
+  setup: null,
+  progress: null,
+  stamp: 0
+};
 /**
  * The parts that main.js puts in.
  * @type {{core: import('./engine.js').Core, facts: import('./engine.js').Core, shelf: ReturnType<typeof import('./shelf.js').makeShelf>,
@@ -124,7 +139,9 @@ async function changed(make, where, note = '') {
  */
 function brokenMove(reply) {
   const path = /^error ShiftBroken (\S+)/.exec(reply), broken = path && app.view ? nodeAt(app.view.root, path[1]) : null;
-  return broken ? `the tree's ${moveName(broken)} starts on a square that its man has left, or is not legal from here. Take the position without the moves` : '';
+  return broken ?
+      `the tree's ${moveName(broken)} starts on a square that its man has left, or is not legal from here. Take the position without the moves` :
+      '';
 }
 /**
  * Looks at another study or node.
@@ -187,7 +204,15 @@ async function arrive(next, note = null) {
     next = replace(next, { ...next.now, path: 'root' });
     view = await viewOf(text, 'root');
   }
-  Object.assign(app, { history: next, chosen: null, say: note, view: typeof view === 'string' ? null : view, noView: typeof view === 'string' ? view : '', review: null, noReview: '' });
+  Object.assign(app, {
+    history: next,
+    chosen: null,
+    say: note,
+    view: typeof view === 'string' ? null : view,
+    noView: typeof view === 'string' ? view : '',
+    review: null,
+    noReview: ''
+  });
   if (app.view && s && s.aim) factsOf(text, s.fen, stamp);
   parts.keep(doc());
   parts.show();

@@ -35,7 +35,9 @@ export const manIcon = letter => svg('svg', { viewBox: '0 0 45 45', 'aria-hidden
   svg('use', { class: isWhite(letter) ? 'w' : 'b', href: '#m' + letter.toUpperCase(), width: 45, height: 45 }));
 function squares() {
   const dark = [...Array(64).keys()].filter(s => (s + Math.floor(s / 8)) % 2 === 0);
-  return [svg('rect', { class: 'lt', x: X, y: Y, width: 360, height: 360 }), svg('path', { class: 'dk', d: dark.map(s => `M${corner(s)}h45v45h-45z`).join('') })];
+  return [
+    svg('rect', {class: 'lt', x: X, y: Y, width: 360, height: 360}), svg('path', {class: 'dk', d: dark.map(s => `M${corner(s)}h45v45h-45z`).join('')})
+  ];
 }
 function edges() {
   const names = [...Array(8).keys()].flatMap(i => [
@@ -53,9 +55,10 @@ function drawing(fen, marks) {
     const [x, y] = corner(to);
     return svg('circle', { class: sign + (men[to] ? ' over' : ''), cx: x + 22.5, cy: y + 22.5, r: men[to] ? 20 : 7.5 });
   });
-  return svg('svg', { class: 'board', role: 'img', viewBox: '0 -2 377 380', tabindex: 0, 'aria-label': 'Board. ' + spokenPosition(fen), onpointerdown: pressed },
-    squares(), marks.last.map(s => cell(s, 'last')), marks.chosen !== null && cell(marks.chosen, 'pick'), edges(),
-    Object.entries(men).map(([s, c]) => man(c, Number(s))), dots, marks.cursor !== null && cell(marks.cursor, 'cursor'));
+  return svg(
+      'svg', {class: 'board', role: 'img', viewBox: '0 -2 377 380', tabindex: 0, 'aria-label': 'Board. ' + spokenPosition(fen), onpointerdown: pressed},
+      squares(), marks.last.map(s => cell(s, 'last')), marks.chosen !== null && cell(marks.chosen, 'pick'), edges(),
+      Object.entries(men).map(([s, c]) => man(c, Number(s))), dots, marks.cursor !== null && cell(marks.cursor, 'cursor'));
 }
 /**
  * Where the board shows a sign: the moves of the man that is chosen, or the squares of a survey.
@@ -126,7 +129,8 @@ function pressed(e) {
 function notMovable(letter, s) {
   const view = app.view, side = sideOf(shownFen());
   if (!letter || !view || app.chosen === s || view.over || movesFrom(s).length) return;
-  say('board', isWhite(letter) === (side === 'White') ? `The ${manName(letter).split(' ')[1]} on ${squareName(s)} has no legal move.` : `It is ${side}'s move.`);
+  say('board',
+      isWhite(letter) === (side === 'White') ? `The ${manName(letter).split(' ')[1]} on ${squareName(s)} has no legal move.` : `It is ${side}'s move.`);
   parts.show();
 }
 /** @param {PointerEvent} e */
@@ -198,8 +202,21 @@ export function closeChoice() {
  */
 function choose(found, to) {
   const [x, y] = corner(to), b = box(), unit = b.width / 377, path = doc().path, white = sideOf(shownFen()) === 'White';
-  const list = h('div', { class: 'choose', role: 'group', 'aria-label': 'Promote to' }, found.map(m => h('button', { type: 'button', title: m.san, 'aria-label': NAMES[m.promoted], 'data-san': m.san,
-    onclick: () => { list.remove(); insert(path, [m.san]); } }, manIcon(white ? m.promoted : m.promoted.toLowerCase()))));
+  const list =
+      h('div', {class: 'choose', role: 'group', 'aria-label': 'Promote to'},
+        found.map(
+            m =>
+                h('button', {
+                  type: 'button',
+                  title: m.san,
+                  'aria-label': NAMES[m.promoted],
+                  'data-san': m.san,
+                  onclick: () => {
+                    list.remove();
+                    insert(path, [m.san]);
+                  }
+                },
+                  manIcon(white ? m.promoted : m.promoted.toLowerCase()))));
   closeChoice();
   document.body.append(list);
   list.style.left = `${Math.max(4, Math.min(b.left + x * unit - 80, innerWidth - 240))}px`;

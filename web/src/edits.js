@@ -96,7 +96,11 @@ export const isKnown = text => text !== undefined && !/^[?.]*$/.test(text);
  * Text without accents, as a tag can hold it.
  * @param {string} text
  */
-export const withoutAccents = text => text.normalize('NFD').replace(/[\u0300-\u036f]/g, '').replace(/ß/g, 'ss').replace(/[łŁ]/g, c => (c === 'ł' ? 'l' : 'L')).replace(/[øØ]/g, c => (c === 'ø' ? 'o' : 'O'));
+export const withoutAccents = text => text.normalize('NFD')
+                                          .replace(/[\u0300-\u036f]/g, '')
+                                          .replace(/ß/g, 'ss')
+                                          .replace(/[łŁ]/g, c => (c === 'ł' ? 'l' : 'L'))
+                                          .replace(/[øØ]/g, c => (c === 'ø' ? 'o' : 'O'));
 /**
  * @param {string[]} lines
  * @param {Study} study

@@ -6,7 +6,8 @@ import { app } from './app.js';
 import { depth, nodeAt } from './replies.js';
 import { add, alsoView, jump } from './head_view.js';
 import { numberedLine, valueSign, valueText, winner } from './words.js';
-/** @typedef {import('./types.js').Study} Study @typedef {import('./types.js').TreeNode} TreeNode @typedef {import('./types.js').Review} Review @typedef {import('./types.js').Missing} Missing */
+/** @typedef {import('./types.js').Study} Study @typedef {import('./types.js').TreeNode} TreeNode */
+/** @typedef {import('./types.js').Review} Review @typedef {import('./types.js').Missing} Missing */
 
 /**
  * @param {string[]} head
@@ -22,8 +23,17 @@ const closed = new Set();
  * @param {any} body
  */
 function section(id, title, note, body) {
-  return h('details', { class: 'facts', id, open: !closed.has(id), ontoggle: (/** @type {any} */ e) => { if (e.target.open) closed.delete(id); else closed.add(id); } },
-    h('summary', {}, title), note && h('p', { class: 'note' }, note), body);
+  return h(
+      'details', {
+        class: 'facts',
+        id,
+        open: !closed.has(id),
+        ontoggle: (/** @type {any} */ e) => {
+          if (e.target.open) closed.delete(id);
+          else closed.add(id);
+        }
+      },
+      h('summary', {}, title), note && h('p', {class: 'note'}, note), body);
 }
 /**
  * The nodes of some facts, each once, with its facts.
@@ -41,7 +51,8 @@ function byNode(facts, root) {
 export function reviewView(s) {
   const view = app.view, review = app.review;
   if (!view || !s.aim) return null;
-  if (!review) return app.noReview ? h('p', { class: 'note' }, `The facts were not told: ${app.noReview}.`) : h('p', { class: 'note' }, 'The facts are being found …');
+  if (!review)
+    return app.noReview ? h('p', {class: 'note'}, `The facts were not told: ${app.noReview}.`) : h('p', {class: 'note'}, 'The facts are being found …');
   return [dualsView(s, review, view.root), triesView(s, review, view.root), defencesView(s, review, view.root), endsView(review, view.root)];
 }
 /**
@@ -72,7 +83,9 @@ function tryView(n, list) {
   const open = refuting.filter(san => !given.includes(san)), one = refuting.length === 1;
   const cell = stalemate ? 'stalemate' : [open.slice(0, 10).map(san => add(n.path, [san], san)), open.length > 10 && ` and ${open.length - 10} more`,
     one && !open.length && refuting[0], one ? h('b', {}, ' only') : h('small', {}, ` (${refuting.length} in all)`)];
-  return [jump(n), valueText(sideOf(n.fen), n.value), cell, n.children.map(c => c.san + (refuting.includes(c.san) ? '' : ' (does not refute)')).join(' ') || '–'];
+  return [
+    jump(n), valueText(sideOf(n.fen), n.value), cell, n.children.map(c => c.san + (refuting.includes(c.san) ? '' : ' (does not refute)')).join(' ') || '–'
+  ];
 }
 /**
  * @param {Study} s
@@ -81,7 +94,11 @@ function tryView(n, list) {
  */
 function defencesView(s, review, root) {
   const rows = byNode(review.missing, root), aim = s.aim;
-  const note = (aim && aim.goal !== 'draw' ? `The small number tells in how many moves ${aim.hero} mates after the defence; † lasts at least as long as the longest that is given. ` : '') + 'A click adds it, with its answer where only one holds.';
+  const note =
+      (aim && aim.goal !== 'draw' ?
+           `The small number tells in how many moves ${aim.hero} mates after the defence; † lasts at least as long as the longest that is given. ` :
+           '') +
+      'A click adds it, with its answer where only one holds.';
   return rows.length > 0 && section('defences', 'Defences that are not in the tree', note,
     table(['After', 'Given', 'Not given: one answer holds', 'Several hold'], rows.map(([n, list]) => missingView(s, n, list))));
 }
@@ -115,13 +132,18 @@ function defenceView(s, n, d) {
  */
 function endsView(review, root) {
   const rows = byNode(review.ends, root).sort((x, y) => Number(x[1][0].value === null) - Number(y[1][0].value === null));
-  return rows.length > 0 && section('ends', 'Best play from the open ends', null, table(['End', 'Goes on'], rows.map(([n, [end]]) => [n.parent ? jump(n) : 'the start', end.value ? playView(n, end.sans) : keepView(n, end)])));
+  return rows.length > 0 &&
+      section(
+             'ends', 'Best play from the open ends', null,
+             table(['End', 'Goes on'], rows.map(([n, [end]]) => [n.parent ? jump(n) : 'the start', end.value ? playView(n, end.sans) : keepView(n, end)])));
 }
 /**
  * @param {TreeNode} n
  * @param {string[]} sans
  */
-const playView = (n, sans) => [numberedLine(n.fen, sans), ' ', h('span', { class: 'act' }, add(n.path, sans, 'add', 'put this line into the tree'), add(n.path, sans.slice(0, 1), 'add one move'))];
+const playView = (n, sans) =>
+    [numberedLine(n.fen, sans), ' ',
+     h('span', {class: 'act'}, add(n.path, sans, 'add', 'put this line into the tree'), add(n.path, sans.slice(0, 1), 'add one move'))];
 /**
  * @param {TreeNode} n
  * @param {import('./types.js').Ending} end

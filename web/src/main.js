@@ -22,12 +22,14 @@ import { refusalIn } from './replies.js';
  */
 async function unpacked(id) {
   const packed = Uint8Array.from(atob($(id).textContent.trim()), c => c.charCodeAt(0));
-  return new Uint8Array(await new Response(new Blob([packed]).stream().pipeThrough(new (/** @type {any} */ (window).DecompressionStream)('gzip'))).arrayBuffer());
+  return new Uint8Array(
+      await new Response(new Blob([packed]).stream().pipeThrough(new (/** @type {any} */ (window).DecompressionStream)('gzip'))).arrayBuffer());
 }
 // A module of no code whose memory has 64-bit addresses.
 const MEMORY64 = new Uint8Array([0, 97, 115, 109, 1, 0, 0, 0, 5, 3, 1, 4, 0]);
 let module = /** @type {Promise<WebAssembly.Module> | null} */ (null);
-const compiled = () => module = module || unpacked(WebAssembly.validate(MEMORY64) && $('module64') ? 'module64' : 'module32').then(bytes => WebAssembly.compile(bytes));
+const compiled = () => module =
+    module || unpacked(WebAssembly.validate(MEMORY64) && $('module64') ? 'module64' : 'module32').then(bytes => WebAssembly.compile(bytes));
 const source = URL.createObjectURL(new Blob([$('workerSource').textContent], { type: 'text/javascript' }));
 const spawn = () => makeCore(() => new Worker(source), compiled);
 
@@ -48,19 +50,28 @@ function remember(key, text) { try { localStorage.setItem(key, text); return tru
 function recalled(key) { try { return localStorage.getItem(key); } catch { return null; } }
 
 // ---- files
-const fileName = (/** @type {string} */ ending) => ((study() && study().tags.Event) || 'study').replace(/[^A-Za-z0-9]+/g, '_').replace(/^_+|_+$/g, '').slice(0, 40) + ending;
+const fileName = (/** @type {string} */ ending) =>
+    ((study() && study().tags.Event) || 'study').replace(/[^A-Za-z0-9]+/g, '_').replace(/^_+|_+$/g, '').slice(0, 40) + ending;
 /** @param {File | undefined} file */
 async function openFile(file) { if (file) openText(await file.text(), 'board'); }
 /** @param {File[]} files */
 const openTables = files => work(async () => {
   const { taken, bad, kept } = await parts.shelf.open(files.map(f => ({ name: f.name, bytes: async () => new Uint8Array(await f.arrayBuffer()) })));
-  say('board', [taken.length > 0 && `${counted(taken.length, 'table')} opened${kept ? ' and kept in this browser' : ', for as long as this page stands open'}`, ...bad].filter(Boolean).join('; ') + '.', !bad.length);
+  say('board',
+      [
+        taken.length > 0 && `${counted(taken.length, 'table')} opened${kept ? ' and kept in this browser' : ', for as long as this page stands open'}`,
+        ...bad
+      ].filter(Boolean)
+              .join('; ') +
+          '.',
+      !bad.length);
   show();
   if (app.setup) judge();
 });
 /** Those that the script needs, else all that are kept, as downloads one after the other. */
 const saveTables = () => work(async () => {
-  const kept = new Set(await store.names()), need = (await parts.shelf.classesOf(fensOf(doc().lines))).filter(name => kept.has(name)), names = need.length ? need : [...kept];
+  const kept = new Set(await store.names()), need = (await parts.shelf.classesOf(fensOf(doc().lines))).filter(name => kept.has(name)),
+        names = need.length ? need : [...kept];
   for (const name of names) {
     const bytes = await store.get(name);
     if (bytes) download(name + '.dtm', bytes);
@@ -122,8 +133,15 @@ function neighbour(d) {
 }
 /** @type {Record<string, (n: import('./types.js').TreeNode) => any>} */
 const KEYS = {
-  ArrowLeft: n => n.parent && go(n.parent.path), ArrowRight: n => n.children[0] && go(n.children[0].path), ArrowUp: () => neighbour(-1), ArrowDown: () => neighbour(1),
-  Home: () => go('root'), End: n => go(endOf(n).path), Delete: n => remove(n.path), Backspace: n => remove(n.path), m: () => $('san').focus(),
+  ArrowLeft: n => n.parent && go(n.parent.path),
+  ArrowRight: n => n.children[0] && go(n.children[0].path),
+  ArrowUp: () => neighbour(-1),
+  ArrowDown: () => neighbour(1),
+  Home: () => go('root'),
+  End: n => go(endOf(n).path),
+  Delete: n => remove(n.path),
+  Backspace: n => remove(n.path),
+  m: () => $('san').focus(),
 };
 document.addEventListener('keydown', e => {
   const target = /** @type {Element} */ (e.target), ctrl = e.ctrlKey || e.metaKey, n = node();

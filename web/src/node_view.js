@@ -27,8 +27,17 @@ export const kept = (id, text) => (app.say && app.say.field === id ? app.say.typ
 /** @param {TreeNode} n */
 export function navView(n) {
   const view = app.view, up = n.parent, next = n.children[0] || null, root = view ? view.root : null;
-  const input = h('input', { id: 'san', size: 6, placeholder: 'a move', 'aria-label': 'Type a move, as Kb6', autocomplete: 'off', autocapitalize: 'off', spellcheck: 'false',
-    value: kept('san', ''), onchange: (/** @type {any} */ e) => typedMoves(e.target.value) });
+  const input = h('input', {
+    id: 'san',
+    size: 6,
+    placeholder: 'a move',
+    'aria-label': 'Type a move, as Kb6',
+    autocomplete: 'off',
+    autocapitalize: 'off',
+    spellcheck: 'false',
+    value: kept('san', ''),
+    onchange: (/** @type {any} */ e) => typedMoves(e.target.value)
+  });
   return [h('div', { class: 'group' }, button('«', 'to the start (Home)', to(root), { id: 'first', disabled: !up, 'aria-label': 'To the start' }),
     button('‹', 'back (←)', to(up), { id: 'back', disabled: !up, 'aria-label': 'Back' }),
     button('›', 'on (→)', to(next), { id: 'on', disabled: !next, 'aria-label': 'On' }),
@@ -72,9 +81,12 @@ export const promote = (n, front = false) => change(now => (now.studies[now.at] 
  */
 export function hereView(s, n) {
   const view = app.view, mover = sideOf(n.fen), over = view ? view.over : '', meaning = markMeaning(n, s.aim ? s.aim.hero : undefined);
-  const caption = h('p', { class: 'caption' }, h('b', { id: 'value' }, `${n.parent ? 'After ' + moveName(n) : 'At the start'}: ${valueText(mover, n.value)}`),
-    meaning && h('span', { class: 'mark ' + n.mark }, meaning), h('br', {}),
-    h('small', {}, over ? `${mover} is ${over === 'mate' ? 'mated' : 'stalemated'}` : `${mover} to move, ${counted(view ? view.moves.length : 0, 'legal move')}`, ' · ', control(n.fen)));
+  const caption =
+      h('p', {class: 'caption'}, h('b', {id: 'value'}, `${n.parent ? 'After ' + moveName(n) : 'At the start'}: ${valueText(mover, n.value)}`),
+        meaning && h('span', {class: 'mark ' + n.mark}, meaning), h('br', {}),
+        h('small', {},
+          over ? `${mover} is ${over === 'mate' ? 'mated' : 'stalemated'}` : `${mover} to move, ${counted(view ? view.moves.length : 0, 'legal move')}`,
+          ' · ', control(n.fen)));
   return [caption, movesView(s, n)];
 }
 /**
@@ -98,7 +110,11 @@ function movesView(s, n) {
  */
 function chip(s, n, m) {
   const sign = m.mark === 'only' ? '!' : m.mark === 'mistake' ? '?' : '', after = other(sideOf(n.fen)), there = n.children.find(c => c.san === m.san);
-  const meaning = { only: 'the only one that holds', dual: `one of ${m.duals + 1} that hold`, mistake: s.aim && sideOf(n.fen) === s.aim.hero ? 'lets the aim go' : 'gives the aim back' }[m.mark];
+  const meaning = {
+    only: 'the only one that holds',
+    dual: `one of ${m.duals + 1} that hold`,
+    mistake: s.aim && sideOf(n.fen) === s.aim.hero ? 'lets the aim go' : 'gives the aim back'
+  }[m.mark];
   const title = [`${m.san}: ${valueText(after, m.value)}`, meaning, there && 'in the tree'].filter(Boolean).join('; ');
   return h('button', { type: 'button', class: `chip m ${m.mark}${there ? ' in' : ''}`, 'data-san': m.san, title, onclick: () => insert(n.path, [m.san]) },
     m.san, h('b', {}, sign), s.aim && h('sub', {}, valueSign(s.aim.hero, after, m.value)));

@@ -73,7 +73,8 @@ export function readView(text) {
 function addNode(nodes, row) {
   const [, path, san, squares] = row, [value, at] = readValue(row, 4), [mark, duals, next] = readMark(row, at);
   const up = path.includes('.') ? path.slice(0, path.lastIndexOf('.')) : 'root', parent = path === 'root' ? null : nodes.get(up) || null;
-  const node = /** @type {TreeNode} */ ({ path, san, ...readSquares(squares), value, mark, duals, faults: Number(row[next + 1]), fen: row.slice(next + 2).join(' '), parent, children: [] });
+  const node = /** @type {TreeNode} */ (
+      {path, san, ...readSquares(squares), value, mark, duals, faults: Number(row[next + 1]), fen: row.slice(next + 2).join(' '), parent, children: []});
   nodes.set(path, node);
   if (parent) parent.children.push(node);
 }

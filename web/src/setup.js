@@ -31,7 +31,20 @@ import { joined } from './script.js';
 export function openSetup(anew, more = false) {
   const s = study(), blank = anew || !s, fen = blank ? `${EMPTY} w - - 0 1` : app.view ? app.view.fen : s.fen, fields = fen.split(' ');
   const aim = blank || !s.aim ? 'white win' : aimWords(s.aim);
-  app.setup = { men: menOf(fen), mover: fields[1], tail: fields.slice(2).join(' '), aim, tool: 'K', man: null, cursor: null, anew: blank, more, judged: null, passed: [], survey: null };
+  app.setup = {
+    men: menOf(fen),
+    mover: fields[1],
+    tail: fields.slice(2).join(' '),
+    aim,
+    tool: 'K',
+    man: null,
+    cursor: null,
+    anew: blank,
+    more,
+    judged: null,
+    passed: [],
+    survey: null
+  };
   app.chosen = null;
   silent();
   parts.show();
@@ -139,8 +152,13 @@ async function judgement(d, build) {
   const view = await viewOf(`position ${fen}\nstipulate ${d.aim}\n`, 'root');
   if (typeof view === 'string') return { ...none, text: view };
   const own = view.moves.filter(holds).map(m => m.san), wrong = view.verdict === 'wrong', hero = view.aim && sideOf(view.fen) === view.aim.hero;
-  const first = own.length === 1 ? `One first move: ${own[0]}.` : `${counted(own.length, 'first move')} hold: ${own.slice(0, 8).join(' ')}${own.length > 8 ? ' ..' : ''}.`;
-  return { ...none, text: `${view.aim ? aimText(view.aim) : ''}: ${wrong ? 'does not hold' : 'holds'}; ${view.start}. ${!wrong && hero ? first : ''}`, mate: movesTo(view.root.value) };
+  const first = own.length === 1 ? `One first move: ${own[0]}.` :
+                                   `${counted(own.length, 'first move')} hold: ${own.slice(0, 8).join(' ')}${own.length > 8 ? ' ..' : ''}.`;
+  return {
+    ...none,
+    text: `${view.aim ? aimText(view.aim) : ''}: ${wrong ? 'does not hold' : 'holds'}; ${view.start}. ${!wrong && hero ? first : ''}`,
+    mate: movesTo(view.root.value)
+  };
 }
 async function passedSquares() {
   const { text } = await parts.core.answer('passed ' + draftFen().replace(/^(\S+ \S+) .*/, '$1 - - 0 1'), '', 1);
@@ -157,7 +175,9 @@ export const survey = man => work(async () => {
   const answer = await parts.core.answer(`survey ${squareName(man)} ${d.aim} ${draftFen()}`, '', PAGES), stands = readSurvey(answer.text);
   if (app.setup !== d || d.man !== man) return;
   if (!stands.length) say('fen', `No survey: ${reason(refusalIn(answer))}.`);
-  else d.survey = stands.filter(s => s.kind === 'holds' || s.kind === 'only').map(s => ({ to: s.square, sign: s.kind === 'only' ? 'dot' : 'plain', text: squareName(s.square) + (s.san ? ` (${s.san})` : '') }));
+  else
+    d.survey = stands.filter(s => s.kind === 'holds' || s.kind === 'only')
+                   .map(s => ({to: s.square, sign: s.kind === 'only' ? 'dot' : 'plain', text: squareName(s.square) + (s.san ? ` (${s.san})` : '')}));
   parts.showJudged();
 }, 'fen');
 
@@ -169,7 +189,12 @@ export async function takeOver(how) {
   const d = /** @type {Draft} */ (app.setup), fen = draftFen();
   const done = await change(now => {
     const s = now.studies[now.at];
-    if (d.anew || !s) return { lines: addStudy(d.more ? now.lines : [], fen, d.aim, d.more ? now.studies[now.studies.length - 1] : undefined), at: d.more ? now.studies.length : 0, path: 'root' };
+    if (d.anew || !s)
+      return {
+        lines: addStudy(d.more ? now.lines : [], fen, d.aim, d.more ? now.studies[now.studies.length - 1] : undefined),
+        at: d.more ? now.studies.length : 0,
+        path: 'root'
+      };
     return how === 'shift' ? shiftTo(now.lines, s, fen, d.aim) : replacePosition(now.lines, s, fen, d.aim);
   }, 'fen');
   if (done) closeSetup();

@@ -31,7 +31,8 @@ const sizeOf = name => (DIGESTS[name] ? DIGESTS[name][0] : 5000000);
  */
 export function progressText(running, made, all, seconds, left) {
   const more = left >= 90 ? `about ${Math.round(left / 60)} minutes left` : left >= 1 ? `about ${Math.max(5, Math.round(left / 5) * 5)} s left` : 'almost done';
-  return `Building the table${running.length > 1 ? 's' : ''} ${running.join(', ')} · ${Math.min(made + 1, all)} of ${all} · ${Math.round(seconds)} s, ${more}. It is done once, and kept.`;
+  return `Building the table${running.length > 1 ? 's' : ''} ${running.join(', ')} · ${Math.min(made + 1, all)} of ${all} · ${Math.round(seconds)} s, ${
+      more}. It is done once, and kept.`;
 }
 
 /** @param {{core: Core, spawn: () => Core, store: ReturnType<typeof import('./store.js').makeStore>, tell: (p: Progress | null) => void}} parts */
@@ -114,7 +115,11 @@ export function makeShelf({ core, spawn, store, tell }) {
     const done = new Set();
     function told() {
       const bytes = lacking.filter(name => !done.has(name)).reduce((sum, name) => sum + sizeOf(name), 0), seconds = (performance.now() - began) / 1000;
-      tell({ text: progressText(running, made, lacking.length, seconds, bytes / rate / Math.max(1, Math.min(most, running.length))), done: made, of: lacking.length });
+      tell({
+        text: progressText(running, made, lacking.length, seconds, bytes / rate / Math.max(1, Math.min(most, running.length))),
+        done: made,
+        of: lacking.length
+      });
     }
     const ticking = setInterval(told, 500);
     try {
@@ -169,7 +174,10 @@ export function makeShelf({ core, spawn, store, tell }) {
       const name = (/K[QRBNP]*K[QRBNP]*(?=[^A-Z]*$)/.exec(file.name.replace(/\.dtm$/i, '')) || [''])[0];
       if (!DIGESTS[name]) { bad.push(`${file.name}: the name of a table is KQK.dtm, KRKP.dtm and so on`); continue; }
       const bytes = await file.bytes();
-      if (!isListed(name, await sha256(bytes))) { bad.push(`${file.name} is not the table ${name}: it is damaged, or made by something else. Nothing was taken`); continue; }
+      if (!isListed(name, await sha256(bytes))) {
+        bad.push(`${file.name} is not the table ${name}: it is damaged, or made by something else. Nothing was taken`);
+        continue;
+      }
       if (!await store.put(name, bytes)) kept = false;
       taken.push(name);
     }

@@ -17,7 +17,11 @@ import { keyView, treeView } from './tree_view.js';
 let pressing = false;
 const late = /** @type {Set<() => void>} */ (new Set());
 export function watch() {
-  for (const kind of ['pointerdown', 'pointerup', 'pointercancel']) document.addEventListener(kind, () => { pressing = kind === 'pointerdown'; if (!pressing) setTimeout(afterwards); }, true);
+  for (const kind of ['pointerdown', 'pointerup', 'pointercancel'])
+    document.addEventListener(kind, () => {
+      pressing = kind === 'pointerdown';
+      if (!pressing) setTimeout(afterwards);
+    }, true);
 }
 function afterwards() {
   const list = [...late];
@@ -70,7 +74,8 @@ function refocus([id, path, san]) {
 }
 /** A refusal that stands off the screen is told at its foot too. */
 function hint() {
-  const alert = [...document.querySelectorAll('[role=alert]')].find(e => !(/** @type {HTMLElement} */ (e).hidden)), at = alert ? alert.getBoundingClientRect() : null;
+  const alert = [...document.querySelectorAll('[role=alert]')].find(e => !(/** @type {HTMLElement} */ (e).hidden)),
+        at = alert ? alert.getBoundingClientRect() : null;
   $('toast').hidden = !alert || !at || (at.top > 0 && at.bottom < innerHeight);
   $('toast').textContent = alert ? alert.textContent : '';
 }
@@ -111,8 +116,16 @@ export function showProgress() {
 }
 function welcomeView() {
   const sample = (/** @type {string[]} */ lines) => () => openText(joined(lines), 'board');
-  return [h('h1', {}, 'Compose a study'),
-    h('p', {}, 'Two to four men, kings included. Set up the men, say what is to be done, and play the solution with its tries and defences on the board. Each move is judged against all legal moves, by endgame tables that this page builds itself with a proved program.'),
-    h('p', { class: 'row' }, button('Show a sample: king and pawn', 'its tables are built in a few seconds', sample(PAWN), { id: 'sample', class: 'main' }), button('Saavedra, 1895', 'eleven tables are built first, some minutes', sample(SAAVEDRA), { id: 'sample2' })),
-    h('p', { class: 'note' }, 'Keys: ← → ↑ ↓ Home End walk the tree, Delete takes a move away, Ctrl-Z and Ctrl-Y undo and redo, f turns the board, m goes to the field for a move. Nothing leaves this computer; the page works offline.'), keyView()];
+  return [
+    h('h1', {}, 'Compose a study'),
+    h('p', {},
+      'Two to four men, kings included. Set up the men, say what is to be done, and play the solution with its tries and defences on the ' +
+      'board. Each move is judged against all legal moves, by endgame tables that this page builds itself with a proved program.'),
+    h('p', {class: 'row'}, button('Show a sample: king and pawn', 'its tables are built in a few seconds', sample(PAWN), {id: 'sample', class: 'main'}),
+      button('Saavedra, 1895', 'eleven tables are built first, some minutes', sample(SAAVEDRA), {id: 'sample2'})),
+    h('p', {class: 'note'},
+      'Keys: ← → ↑ ↓ Home End walk the tree, Delete takes a move away, Ctrl-Z and Ctrl-Y undo and redo, f turns the board, m goes to the ' +
+      'field for a move. Nothing leaves this computer; the page works offline.'),
+    keyView()
+  ];
 }

@@ -25,11 +25,27 @@ function scriptView(s) {
   const script = h('textarea', { id: 'script', spellcheck: 'false', 'aria-label': 'The script' });
   script.value = app.say && app.say.field === 'script' ? app.say.typed : doc().lines.join('\n');
   const isOpen = open.script || doc().refused.length > 0 || (app.say && app.say.where === 'script');
-  return h('details', { id: 'scriptBox', open: isOpen, ontoggle: (/** @type {any} */ e) => { open.script = e.target.open; } }, h('summary', {}, 'Script'),
-    h('p', { class: 'note' }, 'The script is the study: what you do writes its lines. It can be changed or pasted here, a PGN too.'), script, told('script'),
-    h('div', { class: 'row' }, button('Run the script', 'take the text as it stands', () => openText(script.value), { id: 'runScript' }),
-      s && app.view && button('Tidy', 'write this study anew in its shortest form', () => change(now => (app.view && now.studies[now.at] ? tidy(now.lines, now.studies[now.at], app.view.root) : null), 'script'), { id: 'tidy' }),
-      s && doc().studies.length > 1 && button('Remove this study', 'take its lines out of the script', () => change(now => dropStudy(now.lines, now.studies[now.at], now.at), 'script'), { id: 'drop' })));
+  return h(
+      'details', {
+        id: 'scriptBox',
+        open: isOpen,
+        ontoggle: (/** @type {any} */ e) => {
+          open.script = e.target.open;
+        }
+      },
+      h('summary', {}, 'Script'),
+      h('p', {class: 'note'}, 'The script is the study: what you do writes its lines. It can be changed or pasted here, a PGN too.'), script,
+      told('script'),
+      h('div', {class: 'row'}, button('Run the script', 'take the text as it stands', () => openText(script.value), {id: 'runScript'}),
+        s && app.view &&
+            button(
+                'Tidy', 'write this study anew in its shortest form',
+                () => change(now => (app.view && now.studies[now.at] ? tidy(now.lines, now.studies[now.at], app.view.root) : null), 'script'),
+                {id: 'tidy'}),
+        s && doc().studies.length > 1 &&
+            button(
+                'Remove this study', 'take its lines out of the script', () => change(now => dropStudy(now.lines, now.studies[now.at], now.at), 'script'),
+                {id: 'drop'})));
 }
 /**
  * A script or a PGN takes the place of the document; undo brings the old one back.
@@ -49,10 +65,18 @@ export async function openText(text, where = 'script') {
 }
 function refusedView() {
   const list = doc().refused, rows = list.slice(0, 50).map(r => [`${r.line + 1}`, h('code', {}, r.text.slice(0, 80)), reason(r.reply)]);
-  return [h('h2', { id: 'refused' }, `${counted(list.length, 'line')} of the script ${list.length === 1 ? 'was' : 'were'} refused`), table(['Line', 'Text', 'Reason'], rows), list.length > 50 && h('p', { class: 'note' }, `and ${list.length - 50} more`)];
+  return [
+    h('h2', {id: 'refused'}, `${counted(list.length, 'line')} of the script ${list.length === 1 ? 'was' : 'were'} refused`),
+    table(['Line', 'Text', 'Reason'], rows), list.length > 50 && h('p', {class: 'note'}, `and ${list.length - 50} more`)
+  ];
 }
 /** @param {Study} s */
 export const studyName = s => [s.tags.Event, s.tags.White].filter(isKnown).join(', ') || control(s.fen);
 function studiesView() {
-  return table(['No.', 'Title, author', 'Stipulation', 'Verdict'], doc().studies.map((s, i) => [button(`${i + 1}`, 'show it', () => goStudy(i), { class: 'link', 'aria-current': i === doc().at && 'true' }), studyName(s), s.aim ? aimText(s.aim) : '–', h('b', {}, s.verdict || '–')]));
+  return table(
+      ['No.', 'Title, author', 'Stipulation', 'Verdict'],
+      doc().studies.map(
+          (s, i) =>
+              [button(`${i + 1}`, 'show it', () => goStudy(i), {class: 'link', 'aria-current': i === doc().at && 'true'}), studyName(s),
+               s.aim ? aimText(s.aim) : '–', h('b', {}, s.verdict || '–')]));
 }

@@ -16,9 +16,21 @@ function moveView(s, n, first) {
   const before = n.parent ? n.parent.fen : n.fen, num = first || sideOf(before) === 'White' ? numbered(before).replace(' ', '\u00a0') : '';
   const sign = n.mark === 'only' ? '!' : n.mark === 'mistake' ? '?' : '', here = n === node();
   const title = [valueText(sideOf(n.fen), n.value), markMeaning(n, s.aim ? s.aim.hero : undefined)].filter(Boolean).join('; ');
-  return [h('span', { class: 'mv' }, h('button', { type: 'button', class: `m ${n.mark}${here ? ' now' : ''}`, 'data-path': n.path, title, 'aria-current': here && 'true',
-    'aria-label': `${moveName(n)}: ${title}`, onclick: () => go(n.path) }, num + n.san, sign && h('b', {}, sign)),
-  s.aim && h('sub', {}, valueSign(s.aim.hero, sideOf(n.fen), n.value)), n.mark === 'dual' && h('span', { class: 'tag' }, `dual ${n.duals}`)), ' '];
+  return [
+    h('span', {class: 'mv'},
+      h('button', {
+        type: 'button',
+        class: `m ${n.mark}${here ? ' now' : ''}`,
+        'data-path': n.path,
+        title,
+        'aria-current': here && 'true',
+        'aria-label': `${moveName(n)}: ${title}`,
+        onclick: () => go(n.path)
+      },
+        num + n.san, sign && h('b', {}, sign)),
+      s.aim && h('sub', {}, valueSign(s.aim.hero, sideOf(n.fen), n.value)), n.mark === 'dual' && h('span', {class: 'tag'}, `dual ${n.duals}`)),
+    ' '
+  ];
 }
 /**
  * @param {Study} s
@@ -46,5 +58,7 @@ export function treeView(s) {
       : h('p', { class: 'note' }, 'Play a move on the board, choose one below it, or type it.')];
 }
 const example = (/** @type {string} */ mark, /** @type {string} */ sign) => h('span', { class: 'm ' + mark }, 'move', sign && h('b', {}, sign));
-export const keyView = () => h('p', { class: 'note key' }, example('only', '!'), ' the only one that holds · ', example('dual', ''), ' ', h('span', { class: 'tag' }, 'dual 2'), ' two others hold · ',
-  example('mistake', '?'), ' throws it away · ', example('', ''), h('sub', {}, '7'), ' mate in 7 · ', h('sub', {}, '−7'), ' is mated in 7 · ', h('sub', {}, '='), ' drawn');
+export const keyView = () =>
+    h('p', {class: 'note key'}, example('only', '!'), ' the only one that holds · ', example('dual', ''), ' ', h('span', {class: 'tag'}, 'dual 2'),
+      ' two others hold · ', example('mistake', '?'), ' throws it away · ', example('', ''), h('sub', {}, '7'), ' mate in 7 · ', h('sub', {}, '−7'),
+      ' is mated in 7 · ', h('sub', {}, '='), ' drawn');

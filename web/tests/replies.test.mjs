@@ -7,7 +7,12 @@ import { nodeAt, readReview, readSurvey, readView, refusalIn, written } from '..
 import { aimText, valueSign, valueText, verdictSentence } from '../src/words.js';
 
 const folder = new URL('./data/', import.meta.url), text = name => readFileSync(new URL(name, folder), 'utf8');
-const views = readdirSync(folder).filter(name => name.endsWith('.views')).flatMap(name => text(name).split(/^# view /m).slice(1).map(part => [name, ...[part.indexOf('\n')].flatMap(at => [part.slice(0, at), part.slice(at + 1)])]));
+const views =
+    readdirSync(folder)
+        .filter(name => name.endsWith('.views'))
+        .flatMap(
+            name =>
+                text(name).split(/^# view /m).slice(1).map(part => [name, ...[part.indexOf('\n')].flatMap(at => [part.slice(0, at), part.slice(at + 1)])]));
 const valueWords = v => (v.kind === 'draw' ? 'draw' : `${v.kind} ${v.n}`), markWords = m => (m.mark === 'dual' ? `dual ${m.duals}` : m.mark);
 const squares = m => (m.from < 0 ? '-' : squareName(m.from) + squareName(m.to) + m.promoted.toLowerCase());
 function told(view) {
@@ -48,7 +53,9 @@ test('surveys are read whole', () => {
     assert.equal(stands.length, 63);
     stands.forEach((s, i) => {
       const value = s.value ? valueWords(s.value) : '';
-      const again = s.kind === 'none' ? `${squareName(s.square)} -` : [squareName(s.square), s.kind, value, s.san || (s.kind === 'holds' && s.count ? s.count : '')].filter(x => x !== '').join(' ');
+      const again = s.kind === 'none' ?
+          `${squareName(s.square)} -` :
+          [squareName(s.square), s.kind, value, s.san || (s.kind === 'holds' && s.count ? s.count : '')].filter(x => x !== '').join(' ');
       assert.equal(again, rows[i]);
     });
   }
@@ -64,7 +71,9 @@ test('reviews are read whole', () => {
     }
   }
   const first = readReview(text('saavedra_1895.lines').split(/^(?=study )/m)[0]);
-  assert.deepEqual(first.faults.map(f => [f.path, f.san, f.kind, f.duals, f.time]), [['0.0.0.0.0', 'Kb4', 'dual', 1, 1], ['0.0.0.0.0.0.0', 'Kb3', 'dual', 2, 1], ['0.0.0.0.0.0.0.0.0.0.0', 'c8=R', 'dual', 2, 2]]);
+  assert.deepEqual(
+      first.faults.map(f => [f.path, f.san, f.kind, f.duals, f.time]),
+      [['0.0.0.0.0', 'Kb4', 'dual', 1, 1], ['0.0.0.0.0.0.0', 'Kb3', 'dual', 2, 1], ['0.0.0.0.0.0.0.0.0.0.0', 'c8=R', 'dual', 2, 2]]);
   assert.deepEqual(first.also[0], { path: '0.0.0.0.0', san: 'Kb6', value: { kind: 'loss', n: 50 }, time: 0 });
 });
 test('refusals', () => {

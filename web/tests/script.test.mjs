@@ -16,7 +16,16 @@ function gallery(name) {
   const lines = linesOf(text(name + '.script')).filter(line => !/^ *(#|$)/.test(line)), replies = repliesOf(lines, text(name + '.expected'));
   return { lines, replies, script: readScript(lines, lines.map((t, line) => ({ text: t, line })), replies) };
 }
-const games = name => text(name + '.expected').split('\n').reduce((out, row) => (row.startsWith('[Event') ? [...out, [row]] : out.length && !/^(mark|stipulate|position|insert|shift|fen|moves|solve|error|delete|promote|tag) ?/.test(row) ? [...out.slice(0, -1), [...out[out.length - 1], row]] : out), []).length;
+const games = name => text(name + '.expected')
+                          .split('\n')
+                          .reduce(
+                              (out, row) =>
+                                  (row.startsWith('[Event') ? [...out, [row]] :
+                                       out.length && !/^(mark|stipulate|position|insert|shift|fen|moves|solve|error|delete|promote|tag) ?/.test(row) ?
+                                                              [...out.slice(0, -1), [...out[out.length - 1], row]] :
+                                                              out),
+                              [])
+                          .length;
 
 test('replies are told line by line', () => {
   for (const name of ['saavedra_1895', 'reti_1921', 'knnk_no_forced_mate']) {
@@ -34,7 +43,8 @@ test('studies, verdicts and refused lines', () => {
   const { script } = gallery('saavedra_1895');
   assert.deepEqual(script.studies.map(s => s.verdict), ['unsound 3', 'sound']);
   assert.equal(script.studies[0].tags.White, 'Barbier and Saavedra');
-  assert.deepEqual(script.studies[1].carried, ['stipulate white mate 26', 'tag Event Glasgow Weekly Citizen', 'tag White Barbier and Saavedra', 'tag Date 1895.??.??']);
+  assert.deepEqual(
+      script.studies[1].carried, ['stipulate white mate 26', 'tag Event Glasgow Weekly Citizen', 'tag White Barbier and Saavedra', 'tag Date 1895.??.??']);
   assert.equal(script.refused.length, 0);
   assert.equal(gallery('knnk_no_forced_mate').script.refused.length, 7);
   assert.ok(games('saavedra_1895') >= 1);
@@ -46,9 +56,23 @@ test('what is run has a game behind each study', () => {
 });
 const view = readView(text('saavedra_1895.views').split(/^# view .*\n/m)[1]);
 const START = ['position 8/8/1KP5/3r4/8/8/8/k7 w - - 0 1', 'stipulate white win', 'tag White A', 'insert root c7', 'insert root Kb7', 'pgn'];
-const study = { from: 0, end: 6, last: 4, fen: '8/8/1KP5/3r4/8/8/8/k7 w - - 0 1', aim: { hero: 'White', goal: 'win', k: 0 }, tags: { White: 'A' }, place: { aim: 1, White: 2 }, carried: [], made: { line: 4, path: '1' }, pgn: '', verdict: '' };
+const study = {
+  from: 0,
+  end: 6,
+  last: 4,
+  fen: '8/8/1KP5/3r4/8/8/8/k7 w - - 0 1',
+  aim: {hero: 'White', goal: 'win', k: 0},
+  tags: {White: 'A'},
+  place: {aim: 1, White: 2},
+  carried: [],
+  made: {line: 4, path: '1'},
+  pgn: '',
+  verdict: ''
+};
 test('moves are put in below one another, and walked where they stand', () => {
-  assert.deepEqual(edits.insertMoves(START, study, view.root, '1.0', ['Kc7', 'Rd1']), { lines: [...START.slice(0, 5), 'insert 1.0 Kc7', 'insert 1.0.0 Rd1', 'pgn'], path: '1.0.0.0' });
+  assert.deepEqual(
+      edits.insertMoves(START, study, view.root, '1.0', ['Kc7', 'Rd1']),
+      {lines: [...START.slice(0, 5), 'insert 1.0 Kc7', 'insert 1.0.0 Rd1', 'pgn'], path: '1.0.0.0'});
   const walked = edits.insertMoves(START, study, view.root, 'root', ['c7', 'Rd6+']);
   assert.equal(walked.lines, START);
   assert.equal(walked.path, '0.0');
