@@ -11,7 +11,11 @@ say() { echo "tools/web_test.sh: $1"; }
 try() { "$@" || status=1; }
 
 if command -v tsc > /dev/null; then try tsc -p "$top/web" && echo "types: checked"; else say "no tsc (Debian's node-typescript): types are not checked"; fi
-if command -v node > /dev/null; then (cd "$top/web" && node --test tests/ | grep -E '^(not ok|# (pass|fail))'; exit "${PIPESTATUS[0]}") || status=1; else say "no node: pure functions are not tried"; fi
+if command -v node > /dev/null; then
+    (cd "$top/web" && node --test tests/ | grep -E '^(not ok|# (pass|fail))'; exit "${PIPESTATUS[0]}") || status=1
+else
+    say "no node: pure functions are not tried"
+fi
 lines=$(awk 'FNR > 300 { print FILENAME }' "$top"/web/src/*.js | sort -u); [ -z "$lines" ] || { say "more than 300 lines: $lines"; status=1; }
 
 [ -f "$page" ] || { say "no page: run tools/web.sh first"; exit 1; }

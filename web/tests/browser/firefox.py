@@ -22,7 +22,8 @@ class Firefox:
         self.folder = tempfile.mkdtemp()
         with open(os.path.join(self.folder, "user.js"), "w", encoding="ascii") as file:
             file.write(f'user_pref("marionette.port", {port});\n')
-        self.process = subprocess.Popen(["firefox-esr", "--headless", "--no-remote", "--marionette", "--profile", self.folder, "--window-size=1280,900"], stdout=subprocess.DEVNULL, stderr=subprocess.DEVNULL)
+        words = ["firefox-esr", "--headless", "--no-remote", "--marionette", "--profile", self.folder, "--window-size=1280,900"]
+        self.process = subprocess.Popen(words, stdout=subprocess.DEVNULL, stderr=subprocess.DEVNULL)
         for _ in range(200):
             try:
                 self.socket = socket.create_connection(("127.0.0.1", port))
@@ -54,7 +55,8 @@ class Firefox:
         return value
 
     def promise(self, code):
-        script = "const done = arguments[arguments.length - 1], page = window.wrappedJSObject || window; (async () => { try { done([true, await (" + code + ")]); } catch (e) { done([false, String(e)]); } })()"
+        script = ("const done = arguments[arguments.length - 1]; "
+                  "(async () => { try { done([true, await (" + code + ")]); } catch (e) { done([false, String(e)]); } })()")
         right, value = self.ask("WebDriver:ExecuteAsyncScript", {"script": script, "args": [], "sandbox": None})["value"]
         assert right, value
         return value
@@ -71,11 +73,18 @@ def main():
     try:
         fox.ask("WebDriver:Navigate", {"url": "file://" + PAGE})
         fox.promise("studyboard.idle().then(() => 0)")
-        fox.promise("(async () => { document.getElementById('sample').click(); while (!document.getElementById('stamp') || !document.getElementById('progress').hidden) await new Promise(on => setTimeout(on, 50)); await studyboard.idle(); return 0; })()")
+        fox.promise("""(async () => {
+            document.getElementById('sample').click();
+            const built = () => document.getElementById('stamp') && document.getElementById('progress').hidden;
+            while (!built()) await new Promise(on => setTimeout(on, 50));
+            await studyboard.idle();
+            return 0;
+        })()""")
         assert fox.promise("document.getElementById('stamp').textContent") == "sound"
         fox.promise("(async () => { document.querySelector('.moves [data-san=\"Kh3\"]').click(); await studyboard.idle(); return 0; })()")
         assert "Kh3" in fox.promise("studyboard.script()")
-        told = fox.promise("studyboard.run('load KK\\nload KRK\\nposition k7/8/1K6/8/8/8/8/7R w - - 0 1\\nstipulate white mate 1\\ninsert root Rh8\\nmark 0\\n', 8)")
+        script = "load KK\\nload KRK\\nposition k7/8/1K6/8/8/8/8/7R w - - 0 1\\nstipulate white mate 1\\ninsert root Rh8\\nmark 0\\n"
+        told = fox.promise(f"studyboard.run('{script}', 8)")
         assert told.endswith("insert 0 Rh8#\nmark 0 loss 0 only faults 0\n"), told
         if os.environ.get("SHOTS"):
             with open(os.path.join(os.environ["SHOTS"], "firefox.png"), "wb") as file:

@@ -72,7 +72,8 @@ def refused(lines, expected, line):
 
 
 def main():
-    names = sys.argv[2:] or sorted(name[:-7] for name in os.listdir(EXAMPLES) if os.path.exists(os.path.join(EXAMPLES, name[:-7] + ".expected")) and name.endswith(".script"))
+    scripts = [name[:-7] for name in os.listdir(EXAMPLES) if name.endswith(".script")]
+    names = sys.argv[2:] or sorted(name for name in scripts if os.path.exists(os.path.join(EXAMPLES, name + ".expected")))
     user, bad = User(), 0
     for name in names:
         with open(os.path.join(EXAMPLES, name + ".script"), encoding="utf-8") as file:

@@ -11,7 +11,8 @@ from selenium.common.exceptions import ElementClickInterceptedException, Element
 from user import By, Keys, User
 
 SMALL = "KK KQK KRK KBK KNK KPK".split()
-FENS = ["8/8/8/6k1/8/8/1P5K/8 w - - 0 1", "8/k1P5/2K5/8/8/8/8/8 w - - 0 1", "k7/8/1K6/8/8/8/8/7R w - - 0 1", "8/3k4/8/3KP3/8/8/8/8 b - - 0 1", "Kb6 Pc6 / Ka1 Rd5 Bh8", "nonsense"]
+FENS = ["8/8/8/6k1/8/8/1P5K/8 w - - 0 1", "8/k1P5/2K5/8/8/8/8/8 w - - 0 1", "k7/8/1K6/8/8/8/8/7R w - - 0 1", "8/3k4/8/3KP3/8/8/8/8 b - - 0 1",
+        "Kb6 Pc6 / Ka1 Rd5 Bh8", "nonsense"]
 
 
 def act(user, dice):

@@ -26,7 +26,11 @@ def digest(name):
 def kept(user, name):
     """The SHA-256 of a table in the browser's store, or nothing."""
     return user.promise("""(async () => {
-        const base = await new Promise((ok, no) => { const r = indexedDB.open('studyboard', 1); r.onsuccess = () => ok(r.result); r.onerror = () => no(r.error); });
+        const base = await new Promise((ok, no) => {
+            const r = indexedDB.open('studyboard', 1);
+            r.onsuccess = () => ok(r.result);
+            r.onerror = () => no(r.error);
+        });
         const get = base.transaction('tables').objectStore('tables').get(a[0]), blob = await new Promise(ok => { get.onsuccess = () => ok(get.result); });
         if (!blob) return '';
         const sum = new Uint8Array(await crypto.subtle.digest('SHA-256', await blob.arrayBuffer()));
@@ -36,7 +40,11 @@ def kept(user, name):
 
 def put_forged(user, name):
     user.promise("""(async () => {
-        const base = await new Promise((ok, no) => { const r = indexedDB.open('studyboard', 1); r.onsuccess = () => ok(r.result); r.onerror = () => no(r.error); });
+        const base = await new Promise((ok, no) => {
+            const r = indexedDB.open('studyboard', 1);
+            r.onsuccess = () => ok(r.result);
+            r.onerror = () => no(r.error);
+        });
         const s = base.transaction('tables', 'readwrite').objectStore('tables'), get = s.get(a[0]);
         const blob = await new Promise(ok => { get.onsuccess = () => ok(get.result); }), bytes = new Uint8Array(await blob.arrayBuffer());
         bytes[bytes.length - 100] ^= 1;
@@ -227,7 +235,8 @@ def test_forged_and_damaged_tables(user):
 
 
 def test_hostile_texts_are_texts(user):
-    script = f"position {FEN}\nstipulate white win\ntag Event <img src=x onerror=alert(1)><script>alert(2)</script>\ntag White \"><b>b\n<script>alert(3)</script>\ninsert root Kg3\n"
+    tags = 'tag Event <img src=x onerror=alert(1)><script>alert(2)</script>\ntag White "><b>b\n<script>alert(3)</script>\n'
+    script = f"position {FEN}\nstipulate white win\n{tags}insert root Kg3\n"
     user.promise("studyboard.open(a[0])", script)
     user.settle()
     assert user.by("head").find_element(By.TAG_NAME, "h1").text == "<img src=x onerror=alert(1)><script>alert(2)</script>"

@@ -14,8 +14,8 @@ from user import TOP, User
 
 EXAMPLES = os.path.join(TOP, "examples")
 NATIVE = os.environ.get("STUDYBENCH", os.path.join(TOP, "crates", "studybench", "out", "studybench"))
-FENS = ["8/8/8/6k1/8/8/1P5K/8 w - - 0 1", "8/k1P5/2K5/8/8/8/8/8 w - - 0 1", "k7/8/1K6/8/8/8/8/7R w - - 0 1", "7k/8/5K2/8/8/8/8/6Q1 w - - 0 1", "8/3k4/8/3KP3/8/8/8/8 b - - 0 1",
-        "8/8/8/8/8/2k5/8/K1R5 b - - 0 1", "8/8/8/8/8/k7/8/8 w - - 0 1", "nonsense", "8/8/8/8/8/k7/8/K6P w - - 0 1"]
+FENS = ["8/8/8/6k1/8/8/1P5K/8 w - - 0 1", "8/k1P5/2K5/8/8/8/8/8 w - - 0 1", "k7/8/1K6/8/8/8/8/7R w - - 0 1", "7k/8/5K2/8/8/8/8/6Q1 w - - 0 1",
+        "8/3k4/8/3KP3/8/8/8/8 b - - 0 1", "8/8/8/8/8/2k5/8/K1R5 b - - 0 1", "8/8/8/8/8/k7/8/8 w - - 0 1", "nonsense", "8/8/8/8/8/k7/8/K6P w - - 0 1"]
 SANS = ["Kg3", "Kf5", "Kf3", "b4", "c8=Q", "c8=R", "Rh8", "Qg7", "Ke7", "Kd8", "e6", "Kh1", "Kb1", "Rb1", "O-O", "zzz", "Kb8", "Ka6"]
 
 
@@ -46,7 +46,8 @@ def random_script(dice, tables):
 def main():
     folder, count = os.path.abspath(sys.argv[1]), int(sys.argv[2])
     user, bad = User(), 0
-    names = sorted(name[:-7] for name in os.listdir(EXAMPLES) if name.endswith(".script") and os.path.exists(os.path.join(EXAMPLES, name[:-7] + ".expected")))
+    scripts = [name[:-7] for name in os.listdir(EXAMPLES) if name.endswith(".script")]
+    names = sorted(name for name in scripts if os.path.exists(os.path.join(EXAMPLES, name + ".expected")))
     user.open_tables(folder, [name[:-4] for name in sorted(os.listdir(folder)) if name.endswith(".dtm")])
     for name in names[:: 1 if count > 50 else 6]:
         with open(os.path.join(EXAMPLES, name + ".script"), encoding="utf-8") as file:

@@ -12,7 +12,14 @@ SAAVEDRA = "KK KQK KRK KBK KNK KPK KQKR KRKR KRKB KRKN KRKP".split()
 WATCH = """
 window.measured = [];
 const drawn = () => new Promise(ok => requestAnimationFrame(() => setTimeout(ok)));
-window.timed = async (act, done) => { const began = performance.now(); act(); while (!done()) await new Promise(ok => { const c = new MessageChannel(); c.port1.onmessage = ok; c.port2.postMessage(0); }); const told = performance.now() - began; await drawn(); return [told, performance.now() - began]; };
+window.timed = async (act, done) => {
+    const began = performance.now();
+    act();
+    while (!done()) await new Promise(ok => { const c = new MessageChannel(); c.port1.onmessage = ok; c.port2.postMessage(0); });
+    const told = performance.now() - began;
+    await drawn();
+    return [told, performance.now() - began];
+};
 """
 
 
@@ -24,7 +31,8 @@ def main():
     user.js(WATCH)
     rows = {}
     current = "document.querySelector('.m.now')?.getAttribute('data-path')"
-    rows["a walk"] = [user.promise(f"timed(() => document.querySelector('.tree [data-path=\"' + a[0] + '\"]').click(), () => {current} === a[0])", path) for path in ("0", "0.0", "0.0.0", "0.0.0.0", "0.0.1", "1", "1.0")]
+    walk = f"timed(() => document.querySelector('.tree [data-path=\"' + a[0] + '\"]').click(), () => {current} === a[0])"
+    rows["a walk"] = [user.promise(walk, path) for path in ("0", "0.0", "0.0.0", "0.0.0.0", "0.0.1", "1", "1.0")]
     moves = []
     for san in ("Ka6", "Ka7", "Kc7"):
         user.js("document.getElementById('first').click()")

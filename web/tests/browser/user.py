@@ -12,6 +12,7 @@ from selenium.webdriver.common.keys import Keys
 HERE = os.path.dirname(os.path.abspath(__file__))
 TOP = os.path.join(HERE, "..", "..", "..")
 PAGE = os.environ.get("STUDYBOARD", os.path.join(TOP, "web", "out", "studyboard.html"))
+FILL = "const e = document.getElementById(arguments[0]); e.value = arguments[1]; e.dispatchEvent(new Event('change', {bubbles: true}))"
 PIECES = {"K": "king", "Q": "queen", "R": "rook", "B": "bishop", "N": "knight", "P": "pawn"}
 
 
@@ -35,7 +36,8 @@ def men_of(fen):
 class User:
     def __init__(self, width=1280, height=1000, phone=False, flags=()):
         options = webdriver.ChromeOptions()
-        for flag in ("--headless=new", "--no-sandbox", "--disable-gpu", "--disable-dev-shm-usage", f"--window-size={width},{height}", *flags):
+        common = ("--headless=new", "--no-sandbox", "--disable-gpu", "--disable-dev-shm-usage")
+        for flag in (*common, f"--window-size={width},{height}", *flags):
             options.add_argument(flag)
         options.set_capability("goog:loggingPrefs", {"browser": "ALL", "performance": "ALL"})
         self.d = webdriver.Chrome(options=options, service=Service("/usr/bin/chromedriver"))
@@ -56,7 +58,9 @@ class User:
 
     def promise(self, code, *args):
         """The value of an async expression; a rejection raises."""
-        done = self.d.execute_async_script("const done = arguments[arguments.length - 1], a = arguments; (async () => { try { done([true, await (" + code + ")]); } catch (e) { done([false, String(e)]); } })()", *args)
+        script = ("const done = arguments[arguments.length - 1], a = arguments; "
+                  "(async () => { try { done([true, await (" + code + ")]); } catch (e) { done([false, String(e)]); } })()")
+        done = self.d.execute_async_script(script, *args)
         if not done[0]:
             raise AssertionError(done[1])
         return done[1]
@@ -84,10 +88,11 @@ class User:
         element.click()
 
     def text(self, name):
-        return self.js("const e = document.getElementById(arguments[0]); return e.innerText === undefined ? e.textContent : e.innerText", name).strip()
+        return self.js("return document.getElementById(arguments[0]).innerText", name).strip()
 
     def point(self, square):
-        left, top, width = self.js("const b = document.querySelector('#board svg'); b.scrollIntoView({block: 'nearest'}); const r = b.getBoundingClientRect(); return [r.left, r.top, r.width]")
+        board = "const b = document.querySelector('#board svg'); b.scrollIntoView({block: 'nearest'}); const r = b.getBoundingClientRect();"
+        left, top, width = self.js(board + "return [r.left, r.top, r.width]")
         unit = width / 377
         return int(left + (14 + 45 * "abcdefgh".index(square[0]) + 22) * unit), int(top + (3 + 45 * (8 - int(square[1])) + 22) * unit)
 
@@ -152,11 +157,11 @@ class User:
         self.settle()
 
     def choose(self, name, value):
-        self.js("const e = document.getElementById(arguments[0]); e.value = arguments[1]; e.dispatchEvent(new Event('change', {bubbles: true}))", name, value)
+        self.js(FILL, name, value)
         self.settle()
 
     def fill(self, name, value):
-        self.js("const e = document.getElementById(arguments[0]); e.focus(); e.value = arguments[1]; e.dispatchEvent(new Event('change', {bubbles: true}))", name, value)
+        self.js("document.getElementById(arguments[0]).focus(); " + FILL, name, value)
         self.settle()
 
     def go(self, path):
@@ -168,7 +173,9 @@ class User:
 
     def play(self, san):
         """The move of this text, by the mouse: its squares are those of the view."""
-        squares = self.promise("(async () => { const path = studyboard.path(), v = await studyboard.view(studyboard.study(), path); const row = v.split('\\n').map(l => l.split(' ')).find(w => w[0] === 'move' && w[1].replace(/[+#]/g, '') === a[0].replace(/[+#]/g, '')); return row && row[2]; })()", san)
+        view = self.promise("studyboard.view(studyboard.study(), studyboard.path())")
+        rows = [line.split() for line in view.split("\n") if line.startswith("move ")]
+        squares = next((row[2] for row in rows if row[1].rstrip("+#") == san.rstrip("+#")), None)
         assert squares, f"{san} is not offered"
         self.drag(squares[:2], squares[2:4])
         if len(squares) > 4:
@@ -183,7 +190,8 @@ class User:
             return
         os.makedirs(folder, exist_ok=True)
         width, height = self.js("return [innerWidth, document.documentElement.scrollHeight]")
-        shot = self.d.execute_cdp_cmd("Page.captureScreenshot", {"captureBeyondViewport": whole, "clip": {"x": 0, "y": 0, "width": width, "height": min(height, 4000), "scale": 1}})
+        clip = {"x": 0, "y": 0, "width": width, "height": min(height, 4000), "scale": 1}
+        shot = self.d.execute_cdp_cmd("Page.captureScreenshot", {"captureBeyondViewport": whole, "clip": clip})
         with open(os.path.join(folder, name + ".png"), "wb") as file:
             file.write(base64.b64decode(shot["data"]))
 
