@@ -122,7 +122,7 @@ function welcomeView() {
       'Two to four men, kings included. Set up the men, say what is to be done, and play the solution with its tries and defences on the ' +
       'board. Each move is judged against all legal moves, by endgame tables that this page builds itself with a proved program.'),
     h('p', {class: 'row'}, button('Show a sample: king and pawn', 'its tables are built in a few seconds', sample(PAWN), {id: 'sample', class: 'main'}),
-      button('Saavedra, 1895', 'eleven tables are built first, some minutes', sample(SAAVEDRA), {id: 'sample2'})),
+      button('Saavedra, 1895 (builds tables for some minutes)', 'eleven tables are built first, some minutes', sample(SAAVEDRA), {id: 'sample2'})),
     h('p', {class: 'note'},
       'Keys: ← → ↑ ↓ Home End walk the tree, Delete takes a move away, Ctrl-Z and Ctrl-Y undo and redo, f turns the board, m goes to the ' +
       'field for a move. Nothing leaves this computer; the page works offline.'),
