@@ -12,6 +12,8 @@ import { aimText, counted, reason } from './words.js';
 /** @typedef {import('./types.js').Study} Study */
 
 const open = { pgn: false, script: false };
+/** What was typed in the script and not run yet stays there, as long as the document is the same. */
+let unrun = /** @type {{text: string, lines: string[]} | null} */ (null);
 /** @param {Study | undefined} s */
 export function textsView(s) {
   const many = doc().studies.length > 1;
@@ -22,8 +24,14 @@ const pgnView = s => h('details', { open: open.pgn, id: 'pgnBox', ontoggle: (/**
   h('textarea', { id: 'pgn', readonly: true, 'aria-label': 'The game as PGN' }, s.pgn));
 /** @param {Study | undefined} s */
 function scriptView(s) {
-  const script = h('textarea', { id: 'script', spellcheck: 'false', 'aria-label': 'The script' });
-  script.value = app.say && app.say.field === 'script' ? app.say.typed : doc().lines.join('\n');
+  const script = h('textarea', {
+    id: 'script',
+    spellcheck: 'false',
+    'aria-label': 'The script',
+    oninput: () => { unrun = { text: script.value, lines: doc().lines }; }
+  });
+  const kept = unrun && unrun.lines === doc().lines ? unrun.text : doc().lines.join('\n');
+  script.value = app.say && app.say.field === 'script' ? app.say.typed : kept;
   const isOpen = open.script || doc().refused.length > 0 || (app.say && app.say.where === 'script');
   return h(
       'details', {
