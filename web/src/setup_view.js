@@ -1,13 +1,13 @@
 // @ts-check
 // The set-up of men: palette, side to move, stipulation, FEN, what the program says of it, and what it becomes.
 import { $, button, h, put, svg } from './dom.js';
-import { isWhite, manName, squareName } from './fen.js';
-import { app, parts, study } from './app.js';
+import { isWhite, manName, menOf, squareName } from './fen.js';
+import { app, node, parts, study } from './app.js';
 import { manIcon, takeUp } from './board.js';
 import { aimView, told } from './head_view.js';
 import { kept } from './node_view.js';
 import { closeSetup, draftFen, drafted, judge, survey, takeOver, typed } from './setup.js';
-import { readAim } from './words.js';
+import { moveName, readAim } from './words.js';
 /** @typedef {import('./setup.js').Draft} Draft */
 
 const HELP = 'FEN, or men as Kb6 Pc6 / Ka1 Rd5';
@@ -33,11 +33,23 @@ export function setupView() {
       spellcheck: 'false',
       onchange: (/** @type {any} */ e) => typed(e.target.value)
     }),
+    fromNode(d),
     h('div', {id: 'judgedBox'}, judgedBox(d)),
     h('p', {class: 'note keys'},
       'Press a man, then squares; drag a man to move it, off the board to take it away. By keys: arrows on the board, then K Q R B N P for ' +
       'White, k q r b n p for Black, Delete.')
   ];
+}
+/**
+ * The position of the node that was looked at, as the start of a study of its own.
+ * @param {Draft} d
+ */
+function fromNode(d) {
+  const n = node();
+  if (d.anew || !n || !n.parent) return null;
+  const [placed, mover, ...tail] = n.fen.split(' ');
+  const take = () => drafted({ men: menOf(placed), mover, tail: tail.join(' '), man: null });
+  return h('p', {}, button(`The position after ${moveName(n)}`, 'set up these men instead', take, { id: 'fromNode' }));
 }
 /**
  * What comes late: what the program says of the draft, and what can be done with it.

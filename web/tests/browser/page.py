@@ -182,6 +182,18 @@ def test_studies_from_nothing(user):
     user.picture("krkp")
 
 
+def test_a_study_from_a_node(user):
+    sample(user)
+    user.go("0.0")
+    user.click("setUp")
+    user.click("fromNode")
+    user.until("document.getElementById('startEmpty') && !document.getElementById('startEmpty').disabled", 30)
+    user.click("startEmpty")
+    user.settle()
+    assert user.promise("studyboard.script()").startswith("position 8/8/8/5k2/8/6K1/1P6/8 w - - 2 2\nstipulate white win\n")
+    assert not user.d.find_elements(By.CSS_SELECTOR, ".tree [data-path]")
+
+
 def test_reload_in_the_middle(user):
     sample(user)
     user.go("0.0")
