@@ -35,7 +35,8 @@ def random_script(dice, tables):
         elif kind < 0.85:
             lines.append(f"mark {dice.choice(paths)}")
         elif kind < 0.9:
-            lines.append(f"tag {dice.choice(['White', 'Event', 'Nobody'])} {''.join(dice.choice('abc <>&\"') for _ in range(dice.randrange(0, 70)))}")
+            text = "".join(dice.choice('abc <>&"') for _ in range(dice.randrange(0, 70)))
+            lines.append(f"tag {dice.choice(['White', 'Event', 'Nobody'])} {text}")
         elif kind < 0.94:
             lines.append("shift " + dice.choice(FENS))
         else:
