@@ -44,8 +44,11 @@ def main():
     user.until("document.getElementById('ends')", 60)
     user.js("document.getElementById('first').click()")
     user.settle()
-    before = user.js("return document.querySelectorAll('.tree [data-path]').length")
-    rows["facts after a move"] = [user.promise("timed(() => document.getElementById('undo').click(), () => document.getElementById('ends'))")]
+    user.click("undo")
+    user.settle()
+    before = user.js("return " + count)
+    found = f"{count} > a[1] && !document.getElementById('review').textContent.includes('being found') && document.getElementById('ends')"
+    rows["a move with its facts"] = [user.promise(f"timed(() => document.querySelector('.moves [data-san=\"' + a[0] + '\"]').click(), () => {found})", "Kc7", before)]
     user.click("setUp")
     user.until("document.getElementById('survey')", 60)
     rows["a survey"] = [user.promise("timed(() => document.getElementById('survey').click(), () => document.getElementById('stands'))")]
