@@ -1,6 +1,6 @@
 // @ts-check
 // The beginning: workers, what was kept, the bar, files and keys.
-import { $, download } from './dom.js';
+import { $, download, h, put } from './dom.js';
 import { makeApi } from './api.js';
 import { PAGES, app, change, doc, go, goStudy, node, parts, redo, say, study, undo, work } from './app.js';
 import { closeChoice, flip, listen, setupKey, showBoard } from './board.js';
@@ -92,7 +92,10 @@ on('more', () => openSetup(true, true));
 on('open', () => $('file').click());
 on('openTables', () => $('tableFiles').click());
 on('saveTables', saveTables);
-on('saveScript', () => work(async () => download(fileName('.script'), savedScript(doc(), await parts.shelf.classesOf(fensOf(doc().lines))))));
+on('saveScript', () => work(async () => {
+  const classes = await parts.shelf.classesOf(fensOf(doc().lines)).catch(() => []);
+  download(fileName('.script'), savedScript(doc(), classes));
+}));
 on('savePgn', () => download(fileName('.pgn'), doc().studies.map(s => s.pgn).join('')));
 on('print', () => { if (app.setup) closeSetup(); window.print(); });
 /** The printed page of all studies, where the core makes one. */
@@ -176,12 +179,14 @@ async function start() {
   listen();
   watch();
   theme(recalled('studyboardDark') === null ? matchMedia('(prefers-color-scheme: dark)').matches : recalled('studyboardDark') === '1', false);
-  show();
   if (lines.some(line => line.trim())) {
+    showBoard();
+    put('head', h('p', { class: 'note', role: 'status' }, 'Opening your study …'));
     await change(() => ({ lines, at: kept.at, path: kept.path, lenient: true }), 'board');
-    app.history = { ...app.history, past: [] };
-    show();
+    // Where the program did not run at all the script is shown as it stands, and can be saved.
+    app.history = { ...app.history, past: [], now: doc().lines.length ? doc() : { ...doc(), lines } };
   }
+  show();
   if (!await openHash() && !doc().lines.length && !app.setup) openSetup(true);
   offerReport();
 }

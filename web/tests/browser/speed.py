@@ -48,7 +48,8 @@ def main():
     user.settle()
     before = user.js("return " + count)
     found = f"{count} > a[1] && !document.getElementById('review').textContent.includes('being found') && document.getElementById('ends')"
-    rows["a move with its facts"] = [user.promise(f"timed(() => document.querySelector('.moves [data-san=\"' + a[0] + '\"]').click(), () => {found})", "Kc7", before)]
+    press = "() => document.querySelector('.moves [data-san=\"' + a[0] + '\"]').click()"
+    rows["a move with its facts"] = [user.promise(f"timed({press}, () => {found})", "Kc7", before)]
     user.click("setUp")
     user.until("document.getElementById('survey')", 60)
     rows["a survey"] = [user.promise("timed(() => document.getElementById('survey').click(), () => document.getElementById('stands'))")]
