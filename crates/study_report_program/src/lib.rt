@@ -5,11 +5,14 @@
 #![tactic(auto)]
 
 mod options;
+mod pages;
 mod program;
+mod reasons;
 mod status;
 mod tables;
 
 pub use options::{Form, Options, read_words};
+pub use pages::{Pages, follow_pages};
 pub use program::{report_script, studyreport};
 pub use status::{put_file_fault, put_stop};
 pub use tables::open_tables;

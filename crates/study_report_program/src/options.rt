@@ -7,17 +7,19 @@ use std::alloc::Global;
 use study_program::{VERSION, folder_of};
 
 const ABOUT: &str =
-    "Tells of the studies of a script, from standard input to standard output: each line 'pgn' that is accepted adds a review of the study.";
+    "Prints the studies of a script, from standard input to standard output, as HTML: each line 'pgn' that is accepted adds the study's page.";
 
 const LINES: &str =
     "The script is that of studybench. Its lines 'build', 'load', 'save' and 'verify' are passed over: each table whose file is in
-the folder is opened before the first line. A line that is refused adds 'refused LINE NAME'.
+the folder is opened before the first line. A line that is refused is told where it stands.
 
 Exit status: 0 no line was refused; 1 some line was; 2 the command line was; 3 the run stopped at a fault.";
 
 /// How studies are told.
 #[derive(Clone, Copy, Debug, PartialEq, Eq)]
 pub enum Form {
+    /// As printed pages, in HTML.
+    Pages,
     /// As lines of plain text, a fact a line.
     Lines,
 }
@@ -29,8 +31,8 @@ pub struct Options<'a> {
     pub tables: &'a str,
     /// How many pages of tables are kept: 1 to 4,096.
     pub pages: u16,
-    /// How studies are told, where that is said.
-    pub form: Option<Form>,
+    /// How studies are told.
+    pub form: Form,
     ghost named: { 0 < length tables.now },
     ghost some: { 1 ≤ pages },
     ghost few: { pages ≤ 4096 },
@@ -57,7 +59,7 @@ pub fn read_words<'a>(alloc: Global, words: &'a [String]) -> Result<Options<'a>,
     let lines = Arg::new(alloc, "lines")
         .long("lines")
         .action(ArgAction::SetTrue)
-        .help("Tells facts as lines of plain text, a fact a line");
+        .help("Tells facts as lines of plain text, a fact a line, and not as pages");
     let command = Command::new(alloc, "studyreport")
         .version(VERSION)
         .about(ABOUT)
@@ -88,6 +90,6 @@ fn pages_of(given: Option<u16>) -> u16
 }
 
 /// The form that is asked for.
-fn form_of(lines: bool) -> Option<Form> {
-    if lines { Some(Form::Lines) } else { None }
+fn form_of(lines: bool) -> Form {
+    if lines { Form::Lines } else { Form::Pages }
 }
