@@ -47,7 +47,9 @@ fn measure(rt: HostRuntime, what: &str, name: Option<&str>) -> io::Result<()> {
         "reviews" => reviews::measure(rt, name.unwrap_or(".")),
         "studies" => studies::measure(rt),
         "tables" => measure_tables(rt, name.unwrap_or("KPK")),
-        _ => println!(rt; "calls, numbers, files, probes, studies, all, tables and a class, or reviews and a folder"),
+        _ => println!(rt;
+            "calls, numbers, files, probes, studies, all, tables and a class, or reviews and a folder"
+        ),
     }
 }
 
