@@ -1,11 +1,13 @@
 #!/usr/bin/env python3
-"""Times the reviews of the gallery's studies beside plain Rust, and compares the lines of both.
+"""Times the reviews of the gallery's studies beside plain Rust, or what a board shows of them, and compares the lines of both.
 
-    tools/review_speed.py DIR [NAME..]
+    tools/review_speed.py reviews DIR [NAME..]
+    tools/review_speed.py views DIR [NAME..]
 
-DIR has the files of the tables, as tools/all_tables.sh makes them. Both programs hold them whole, follow the same scripts, and review
-each study some 200 times. What is printed for each script: milliseconds of the fastest review of its studies, added up, in ours and
-in plain Rust, and their ratio. Studies whose tables are not in DIR are passed over."""
+DIR has the files of the tables, as tools/all_tables.sh makes them. Both programs hold them whole, follow the same scripts, and write
+each text some 200 times: the review of each study, or its views along the main line and the surveys of its men. What is printed for
+each script and kind of text: milliseconds of the fastest times, added up, in ours and in plain Rust, their ratio, and the slowest text
+of ours. Studies whose tables are not in DIR are passed over."""
 import os
 import subprocess
 import sys
@@ -30,14 +32,21 @@ def loads(folder):
     return [f'load {name}' for _, name in lines if os.path.exists(os.path.join(folder, name + '.dtm'))]
 
 
-def reviews(command, lines):
-    """What a program writes for a script, and the nanoseconds of each study."""
+def timed(command, lines):
+    """What a program writes for a script, and of each kind of text the nanoseconds of each."""
     done = subprocess.run(command, input='\n'.join(lines) + '\n', capture_output=True, text=True, check=True)
-    return done.stdout, [int(line.split()[1]) for line in done.stderr.split('\n') if line]
+    times = {}
+    for line in done.stderr.split('\n'):
+        if line:
+            kind, nanoseconds = line.split()
+            times.setdefault(kind, []).append(int(nanoseconds))
+    return done.stdout, times
 
 
 def main():
-    folder, *names = sys.argv[1:] or sys.exit(__doc__)
+    if len(sys.argv) < 3 or sys.argv[1] not in ('reviews', 'views'):
+        sys.exit(__doc__)
+    what, folder, *names = sys.argv[1:]
     names = names or sorted(name[:-7] for name in os.listdir(GALLERY) if name.endswith('.script') and name != 'load_all.script')
     tables = loads(folder)
     with tempfile.TemporaryDirectory() as work:
@@ -46,13 +55,13 @@ def main():
                         os.path.join(TOP, 'tools/speed/reviews.rs'), '-o', plain], check=True, stderr=subprocess.DEVNULL)
         for name in names:
             script = read_script(name)
-            text, ours = reviews([PROGRAM, 'reviews', folder], tables + script)
-            plain_text, theirs = reviews([plain, folder, str(GOES)], script)
-            if not ours:
-                continue
-            note = '' if text == plain_text and len(ours) == len(theirs) else '   LINES DIFFER'
-            print(f'{name:28} {sum(ours) / 1e6:8.3f} ms   plain Rust {sum(theirs) / 1e6:8.3f} ms   ratio {sum(ours) / sum(theirs):5.2f}{note}',
-                  flush=True)
+            text, ours = timed([PROGRAM, what, folder], tables + script)
+            plain_text, theirs = timed([plain, folder, str(GOES)] + ['views'] * (what == 'views'), script)
+            for kind, each in ours.items():
+                sums = sum(each), sum(theirs.get(kind, [])) or 1
+                note = '' if text == plain_text and len(each) == len(theirs.get(kind, [])) else '   LINES DIFFER'
+                print(f'{name:28} {kind:6} {sums[0] / 1e6:8.3f} ms   plain Rust {sums[1] / 1e6:8.3f} ms   ratio {sums[0] / sums[1]:5.2f}'
+                      f'   slowest {max(each) / 1e6:7.3f} ms{note}', flush=True)
 
 
 if __name__ == '__main__':

@@ -1,6 +1,6 @@
 #!/usr/bin/env python3
 """Compares docs/SCRIPT.md with the tests of the gate: the lines of its section 'Each refusal once' have to be those of
-crates/study_replies/src/reference.rt, and each name in its table of refusals has to be the reply of some row of those tests.
+crates/test_script/src/script_reference.rt, and each name in its table of refusals has to be the reply of some row of those tests.
 With --write the rows of the test are written anew from the page."""
 import re
 import sys
@@ -8,7 +8,7 @@ from pathlib import Path
 
 TOP = Path(__file__).resolve().parent.parent
 PAGE = TOP / "docs/SCRIPT.md"
-TEST = TOP / "crates/study_replies/src/reference.rt"
+TEST = TOP / "crates/test_script/src/script_reference.rt"
 
 
 def rows_of_page(text):

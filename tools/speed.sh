@@ -6,6 +6,7 @@
 #   tools/speed.sh studies         edits and the PGN of studies of kings alone, of 1,024 and of 4,096 nodes, and the bytes of a node
 #   tools/speed.sh instructions    the tables up to KPK in instructions, counted by valgrind, which other work cannot disturb
 #   tools/speed.sh reviews DIR     the reviews of the gallery's studies over the tables of a folder, by tools/review_speed.py
+#   tools/speed.sh views DIR       what a board shows of them, views and surveys, likewise
 #   tools/speed.sh all [CLASS]     builds all 36 tables (or one, and what it needs) and tells of each: seconds, numbers
 #                                  examined, deepest win and loss in plies, SHA-256 of the cells; then the sum of seconds
 #
@@ -21,8 +22,8 @@ ours="$top/crates/study_speed/out/study_speed"
 
 (cd "$top/crates/study_speed" && rt run) > "$work/log" 2>&1 || { cat "$work/log"; exit 1; }
 
-if [ "$1" = reviews ]; then
-    exec "$top/tools/review_speed.py" "$2"
+if [ "$1" = reviews ] || [ "$1" = views ]; then
+    exec "$top/tools/review_speed.py" "$1" "$2"
 fi
 
 if [ "$1" = all ]; then

@@ -15,7 +15,7 @@ const KINDS: [(char, Kind); 6] = [
     ('P', Kind::Pawn),
 ];
 
-fn letter(kind: Kind) -> char {
+pub fn letter(kind: Kind) -> char {
     KINDS
         .iter()
         .find(|(_, other)| *other == kind)

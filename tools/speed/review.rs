@@ -33,7 +33,7 @@ fn continuations(p: &Position, tables: &Tables) -> Vec<Continuation> {
         .collect()
 }
 
-fn path_text(steps: &[u16]) -> String {
+pub fn path_text(steps: &[u16]) -> String {
     if steps.is_empty() {
         return "root".to_string();
     }

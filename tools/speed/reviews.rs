@@ -1,7 +1,8 @@
-//! Reviews of the studies of a script, in plain Rust, over the tables of a folder.
+//! Reviews of the studies of a script, or what a board shows of them, in plain Rust, over the tables of a folder.
 //!
 //! `reviews DIR N < SCRIPT` writes the lines of each study, and to standard error, for each, the nanoseconds of its review, the
-//! least of N. Lines that studybench would refuse are passed over.
+//! least of N. `reviews DIR N views < SCRIPT` does the same of each view along its main line, and of the survey of each of its men.
+//! Lines that studybench would refuse are passed over.
 #![allow(dead_code)] // what the builder alone uses
 
 mod board;
@@ -18,6 +19,7 @@ mod retro;
 mod review;
 mod sets;
 mod study;
+mod view;
 
 use board::Side;
 use decode::cells;
@@ -82,6 +84,7 @@ struct Desk<'t> {
     study: Option<Study<'t>>,
     count: u32,
     goes: u32,
+    views: bool,
 }
 
 impl Desk<'_> {
@@ -110,18 +113,43 @@ impl Desk<'_> {
         study.insert(&steps, by).map(|_| ())
     }
 
-    fn tell(&mut self) -> Option<()> {
-        let study = self.study.as_ref()?;
-        self.count += 1;
-        let (mut text, mut least) = (String::new(), u128::MAX);
+    /// Writes a text, if there is one, and how long the fastest of some goes took.
+    fn time(&self, name: &str, make: impl Fn() -> Option<String>) -> Option<()> {
+        let (mut text, mut least) = (None, u128::MAX);
         for _ in 0..self.goes {
             let begun = Instant::now();
-            text = review::review(study, self.tables, self.count);
+            text = make();
             least = least.min(begun.elapsed().as_nanos());
         }
-        std::io::stdout().write_all(text.as_bytes()).ok()?;
-        eprintln!("{} {least}", self.count);
+        std::io::stdout().write_all(text?.as_bytes()).ok()?;
+        eprintln!("{name} {least}");
         Some(())
+    }
+
+    fn tell_views(&self, study: &Study) -> Option<()> {
+        let mut steps = Vec::new();
+        while self
+            .time("view", || view::view(study, self.tables, &steps))
+            .is_some()
+        {
+            steps.push(0);
+        }
+        let position = &study.start.position;
+        for man in position.men() {
+            self.time("survey", || {
+                view::survey(position, man.at, study.stipulation, self.tables)
+            })?;
+        }
+        Some(())
+    }
+
+    fn tell(&mut self) -> Option<()> {
+        self.count += 1;
+        let study = self.study.as_ref()?;
+        if self.views {
+            return self.tell_views(study);
+        }
+        self.time("review", || Some(review::review(study, self.tables, self.count)))
     }
 
     fn answer(&mut self, line: &str) -> Option<()> {
@@ -144,9 +172,13 @@ impl Desk<'_> {
 
 fn main() {
     let words: Vec<String> = std::env::args().skip(1).collect();
-    let [folder, goes] = words.as_slice() else {
-        eprintln!("reviews DIR N < SCRIPT");
-        std::process::exit(2);
+    let (folder, goes, views) = match words.as_slice() {
+        [folder, goes] => (folder, goes, false),
+        [folder, goes, what] if what == "views" => (folder, goes, true),
+        _ => {
+            eprintln!("reviews DIR N [views] < SCRIPT");
+            std::process::exit(2);
+        }
     };
     let tables = read_tables(folder);
     let mut desk = Desk {
@@ -155,6 +187,7 @@ fn main() {
         study: None,
         count: 0,
         goes: goes.parse().unwrap_or(1),
+        views,
     };
     for line in std::io::stdin().lock().lines().map_while(Result::ok) {
         let _ = desk.answer(&line);

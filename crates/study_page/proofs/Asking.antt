@@ -1,5 +1,5 @@
 -- Calls that ask values, one after the other.
-use Rattle.std.proofs.Common.{◌≡◌, ℕ, Bool, false, List, Result, Ok, Err, IsErrAnd, IsErrOf, refl, sym, subst, ◌∙◌}
+use Rattle.std.proofs.Common.{◌≡◌, ℕ, Bool, false, List, Result, Ok, Err, IsErrAnd, refl, sym, subst, ◌∙◌}
 use Rattle.study_board.specs.Position.{Position}
 use Rattle.study_material.specs.declared.class.Class.{Class}
 use Rattle.study_tablefile.specs.declared.fault.SourceFault.{SourceFault}
@@ -8,7 +8,7 @@ use Rattle.study_prober.specs.declared.values.ProbeFault.{ProbeFault}
 use Rattle.study_prober.specs.declared.values.ProbeFault.TheVariants as probe
 use Rattle.study_marks.specs.Answers.{WereTold, IsFirstFault}
 use Rattle.study_marks.specs.Told.{failures_told}
-use Rattle.study_review.specs.Asked.{HasTold, AllTold, Stopped}
+use Rattle.study_review.specs.Asked.{AllTold, Stopped}
 use Rattle.study_page.specs.Made.{HasAsked, fault_of}
 use Rattle.study_review.specs.Review.{HasReviewed}
 use Rattle.study_review.specs.declared.fault.ReviewFault.{ReviewFault}

@@ -3,3 +3,4 @@ pub mod MarkupGrows
 pub mod Asking
 pub mod MadeRows
 pub mod WholePage
+pub mod GroupsFound

@@ -1,5 +1,5 @@
 -- What the parts of a page have of one node.
-use Rattle.std.proofs.Common.{◌≡◌, ℕ, Bool, true, List, [], ◌∷◌, ◌++◌, Option, Some, None, length, refl, sym, ap, subst, ◌∙◌}
+use Rattle.std.proofs.Common.{◌≡◌, ℕ, true, List, [], ◌++◌, Option, None, length, refl, sym, ap, subst, ◌∙◌}
 use Rattle.std.specs.Prelude.{MatchOption}
 use Rattle.std.proofs.lemmas.List.{append-nil}
 use Rattle.study_board.specs.Position.{Position}
@@ -13,7 +13,6 @@ use Rattle.study_marks.specs.Bench.{played_by}
 use Rattle.study_marks.specs.Renewal.{below_at}
 use Rattle.study_marks.specs.Study.{Study, position_at}
 use Rattle.study_marks.specs.Goals.{aim_of}
-use Rattle.study_notation.specs.declared.start.Start.{Start}
 use Rattle.study_review.specs.declared.continuation.Continuation.{Continuation}
 use Rattle.study_review.specs.declared.line.Made.{Made}
 use Rattle.study_review.specs.declared.line.Place.{Place}
@@ -21,7 +20,7 @@ use Rattle.study_review.specs.declared.missing.Defence.{Defence}
 use Rattle.study_review.specs.Continuations.{AreRefutations}
 use Rattle.study_review.specs.Defences.{AreDefences}
 use Rattle.study_review.specs.Line.{line_to, moves_of, IsPlaceOf, IsMadeIn}
-use Rattle.study_review.specs.Nodes.{front_of, OnlyWhere, is_try, is_defended, is_open_end, is_solution_move, mark_at, value_at}
+use Rattle.study_review.specs.Nodes.{front_of, is_try, is_defended, is_open_end, is_solution_move, mark_at, value_at}
 use Rattle.study_review.specs.Made.{Grew}
 use Rattle.study_review.proofs.NodesShown.{front-is, are-there}
 use Rattle.study_page.specs.Words.{where_words, label, label_to}

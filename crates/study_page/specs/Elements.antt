@@ -47,6 +47,8 @@ name element.Row = codes "tr"
 name element.Head = codes "th"
 name element.Cell = codes "td"
 name element.Whole = codes "span"
+name element.Group = codes "div"
+name element.Answer = codes "i"
 name element.Foot = codes "footer"
 name element.Said = codes "title"
 name element.Summary = codes "article"
@@ -100,6 +102,8 @@ fixed element.Row = []
 fixed element.Head = []
 fixed element.Cell = []
 fixed element.Whole = codes " class=\"nb\""
+fixed element.Group = []
+fixed element.Answer = []
 fixed element.Foot = []
 fixed element.Said = []
 fixed element.Summary = codes " class=\"sum\""

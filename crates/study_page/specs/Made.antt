@@ -1,5 +1,5 @@
 -- Not part of any public contract but for the rows of each part: how a page is made.
-use Rattle.std.specs.Prelude.{◌≡◌, ℕ, Bool, List, Result, Ok, Err}
+use Rattle.std.specs.Prelude.{ℕ, Bool, List, Result, Ok, Err}
 use Rattle.study_board.specs.Position.{Position}
 use Rattle.study_material.specs.declared.class.Class.{Class}
 use Rattle.study_tablefile.specs.declared.fault.SourceFault.{SourceFault}

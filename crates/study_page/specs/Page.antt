@@ -54,11 +54,20 @@ foot_words =
     ++ (codes "A move holds if the aim is still reached after it; a move that only loses time holds too. "
     ++ codes "A small number tells in how many moves the hero mates, behind a minus in how many he is mated; = is a draw, and # is mate.")
 
+unfoldable pub tries_title : List ℕ
+tries_title = codes "Tries and their refutations"
+
+unfoldable pub missing_title : List ℕ
+missing_title = codes "Defences that are not in the tree"
+
+unfoldable pub ends_title : List ℕ
+ends_title = codes "Best play from the open ends"
+
 unfoldable pub tables : List ℕ → List ℕ → List ℕ → List ℕ
 tables tries defences ends =
-    table_part (codes "Tries") (heads (codes "After") (codes "Left") (codes "Refuted by")) tries
-    ++ (table_part (codes "Not in the tree") (heads (codes "After") (codes "One answer") (codes "Several")) defences
-    ++ table_part (codes "Best play") (heads (codes "After") (codes "Value") (codes "Goes on")) ends)
+    table_part tries_title (heads (codes "After") (codes "Left") (codes "Refuted by")) tries
+    ++ (table_part missing_title (heads (codes "After") (codes "One answer") (codes "Several")) defences
+    ++ table_part ends_title (heads (codes "After") (codes "Value") (codes "Goes on")) ends)
 
 -- the diagram and the verdict, side by side
 unfoldable pub top : Study Mark → List ℕ → List ℕ → List ℕ

@@ -1,7 +1,8 @@
 -- What the parts of a page have of one node.
-use Rattle.std.specs.Prelude.{◌≡◌, ◌==◌, nat_lt, ℕ, ◌+◌, ◌-◌, ◌/◌, Bool, true, false, not, ◌||◌, List, [], ◌∷◌, ◌++◌, length, Option, Some, None}
+use Rattle.std.specs.Prelude.{◌≡◌, ◌==◌, nat_lt, ℕ, ◌+◌, ◌-◌, ◌/◌, Bool, true, false, ◌||◌, List, [], ◌∷◌, ◌++◌, length, take, drop, Option, Some, None}
 use Rattle.std.specs.Prelude.{MatchOption, if◌then◌else◌, codes, decimal}
 use Rattle.std.specs.List.{flat_map}
+use Rattle.std.specs.Str.{bytes_eq}
 use Rattle.study_board.specs.declared.men.Side.{Side}
 use Rattle.study_board.specs.declared.men.Side.TheVariants.{White, Black}
 use Rattle.study_board.specs.Men.{other_side}
@@ -31,66 +32,18 @@ use Rattle.study_review.specs.Time.{AreTimedAlternatives}
 use Rattle.study_review.specs.Defences.{AreDefences}
 use Rattle.study_review.specs.Best.{IsBestPlay}
 use Rattle.study_review.specs.Line.{line_to, moves_of}
-use Rattle.study_review.specs.Words.{move_words, times_lost}
+use Rattle.study_review.specs.Words.{move_words}
 use Rattle.study_review.specs.Nodes.{front_of, OnlyWhere, mark_at, value_at, is_stalemate, is_try, is_defended, is_open_end, is_solution_move}
-use Rattle.study_page.specs.declared.element.Element.TheVariants.{Strong, Below, Item, Card, Beside, CardTitle, Label, Also, Paragraph, Row, Cell, Whole}
+use Rattle.study_page.specs.declared.element.Element.TheVariants.{Strong, Small, Below, Item, Card, Beside, CardTitle, Label, Also}
+use Rattle.study_page.specs.declared.element.Element.TheVariants.{Paragraph, Row, Cell, Whole, Group, Answer}
+use Rattle.study_page.specs.declared.drawing.Drawing.TheVariants.{Break}
 use Rattle.study_page.specs.Escape.{said}
 use Rattle.study_page.specs.Elements.{inside}
+use Rattle.study_page.specs.Drawings.{drawn}
 use Rattle.study_page.specs.Diagram.{mini}
 use Rattle.study_page.specs.Words.{front_words, short_words, label, where_words}
 
--- ---- faults
-
--- `3. Kb4: 1 other holds, 1 loses time`, `3. Kb4: 4 others hold, 0 lose time`
-abbrev pub hold_words : ℕ → List ℕ
-hold_words k = if k == 1 then codes " other holds, " else codes " others hold, "
-
-abbrev pub lose_words : ℕ → List ℕ
-lose_words t = if t == 1 then codes " loses time" else codes " lose time"
-
-unfoldable pub counts_words : ℕ → ℕ → List ℕ
-counts_words k t = codes ": " ++ (decimal k ++ (hold_words k ++ (decimal t ++ lose_words t)))
-
-unfoldable pub dual_item : Start → ℕ → Position → Move → ℕ → ℕ → List ℕ
-dual_item start d p m k t = inside Item (said (label start d p m ++ counts_words k t))
-
-unfoldable pub lets_go : List ℕ
-lets_go = codes " lets the aim go: "
-
--- `3. Kb4 lets the aim go: draw`
-unfoldable pub mistake_item : Start → ℕ → Position → Move → Value → List ℕ
-mistake_item start d p m v = inside Item (said (label start d p m ++ (lets_go ++ value_text (other_side p.to_move) v)))
-
--- of a move from p, the last of a line
-abbrev pub IsFaultOf : Start → Aim → ℕ → List Position → Position → Move → Value → Option MoveMark → List ℕ → Type 0
-IsFaultOf start a d line p m v None text = text ≡ []
-IsFaultOf start a d line p m v (Some (Dual k)) text =
-    (list : List Alternative) × AreTimedAlternatives a d line p m list × (text ≡ dual_item start d p m k (times_lost list))
-IsFaultOf start a d line p m v (Some Mistake) text = text ≡ mistake_item start d p m v
-IsFaultOf start a d line p m v (Some Only) text = text ≡ []
-IsFaultOf start a d line p m v (Some Idle) text = text ≡ []
-IsFaultOf start a d line p m v (Some Reply) text = text ≡ []
-
--- a fault of the solution
-abbrev pub FaultItems : Study Mark → List ℕ → List ℕ → Type 0
-FaultItems s path text =
-    OnlyWhere (is_solution_move s path)
-    (λ t. MatchOption (played_by (spot_at s.tree path)) (t ≡ []) (λ m. IsFaultOf s.start (aim_of s) (length (front_of path))
-    (line_to s (front_of path)) (position_at s (front_of path)) m (value_at s path) (mark_at s path) t)) text
-
--- ---- duals
-
-unfoldable pub loses_time : List ℕ
-loses_time = codes ", loses time"
-
--- ` (2 moves)`, where it takes the opponent more than one
-abbrev pub forced_words : ℕ → List ℕ
-forced_words m = if m == 0 then [] else (codes " (" ++ (decimal (m + 1) ++ codes " moves)"))
-
--- the time that is lost, where some is
-abbrev pub time_words : Option ℕ → List ℕ
-time_words None = []
-time_words (Some m) = loses_time ++ forced_words m
+-- ---- other moves
 
 -- `, 1 move longer`, `, 2 moves quicker`
 abbrev pub move_word : ℕ → List ℕ
@@ -111,6 +64,76 @@ difference (Loss n) (Win k) = []
 difference (Loss n) Draw = []
 difference (Win n) w = []
 difference Draw w = []
+
+unfoldable pub loses_time : List ℕ
+loses_time = codes ", loses time"
+
+-- ---- faults
+
+abbrev pub lost_words : Option ℕ → List ℕ
+lost_words None = []
+lost_words (Some m) = loses_time
+
+-- ` (2 moves longer, loses time)`, of words that begin with a comma
+abbrev pub bracket_words : List ℕ → List ℕ
+bracket_words words = if length words == 0 then [] else (codes " (" ++ (drop 2 words ++ codes ")"))
+
+-- `Kb6 (2 moves longer, loses time)`, beside a move with this value after it
+unfoldable pub named_words : Position → Value → Alternative → List ℕ
+named_words p v x = move_text p x.played ++ bracket_words (difference v x.value ++ lost_words x.time)
+
+unfoldable pub next_words : Position → Value → Alternative → List ℕ
+next_words p v x = codes ", " ++ named_words p v x
+
+abbrev pub list_words : Position → Value → List Alternative → List ℕ
+list_words p v [] = []
+list_words p v (x ∷ xs) = named_words p v x ++ flat_map (next_words p v) xs
+
+abbrev pub more_words : ℕ → List ℕ
+more_words n = if n == 0 then [] else (codes " and " ++ (decimal n ++ codes " more"))
+
+-- `: also Kb6 (2 moves longer, loses time), Kc3 (as quick)`: up to six moves, and how many more there are
+unfoldable pub others_words : Position → Value → List Alternative → List ℕ
+others_words p v list = codes ": also " ++ (list_words p v (take 6 list) ++ more_words (length list - 6))
+
+-- `3. Kb4: also Kb6 (2 moves longer, loses time)`
+unfoldable pub dual_item : Start → ℕ → Position → Move → Value → List Alternative → List ℕ
+dual_item start d p m v list = inside Item (said (label start d p m ++ others_words p v list))
+
+unfoldable pub lets_go : List ℕ
+lets_go = codes " lets the aim go: "
+
+-- `3. Kb4 lets the aim go: draw`
+unfoldable pub mistake_item : Start → ℕ → Position → Move → Value → List ℕ
+mistake_item start d p m v = inside Item (said (label start d p m ++ (lets_go ++ value_text (other_side p.to_move) v)))
+
+-- of a move from p, the last of a line
+abbrev pub IsFaultOf : Start → Aim → ℕ → List Position → Position → Move → Value → Option MoveMark → List ℕ → Type 0
+IsFaultOf start a d line p m v None text = text ≡ []
+IsFaultOf start a d line p m v (Some (Dual k)) text =
+    (list : List Alternative) × AreTimedAlternatives a d line p m list × (text ≡ dual_item start d p m v list)
+IsFaultOf start a d line p m v (Some Mistake) text = text ≡ mistake_item start d p m v
+IsFaultOf start a d line p m v (Some Only) text = text ≡ []
+IsFaultOf start a d line p m v (Some Idle) text = text ≡ []
+IsFaultOf start a d line p m v (Some Reply) text = text ≡ []
+
+-- a fault of the solution
+abbrev pub FaultItems : Study Mark → List ℕ → List ℕ → Type 0
+FaultItems s path text =
+    OnlyWhere (is_solution_move s path)
+    (λ t. MatchOption (played_by (spot_at s.tree path)) (t ≡ []) (λ m. IsFaultOf s.start (aim_of s) (length (front_of path))
+    (line_to s (front_of path)) (position_at s (front_of path)) m (value_at s path) (mark_at s path) t)) text
+
+-- ---- duals
+
+-- ` (2 moves)`, where it takes the opponent more than one
+abbrev pub forced_words : ℕ → List ℕ
+forced_words m = if m == 0 then [] else (codes " (" ++ (decimal (m + 1) ++ codes " moves)"))
+
+-- the time that is lost, where some is
+abbrev pub time_words : Option ℕ → List ℕ
+time_words None = []
+time_words (Some m) = loses_time ++ forced_words m
 
 unfoldable pub also_words : Side → Value → Alternative → List ℕ
 also_words side v x = codes ": " ++ (value_text side x.value ++ (difference v x.value ++ time_words x.time))
@@ -163,8 +186,17 @@ refuted_item p x = inside Whole (told_move p x.played x.value) ++ said (codes " 
 abbrev pub refuted_items : Position → List Continuation → List ℕ
 refuted_items p list = if is_stalemate p then said (codes "stalemate") else flat_map (refuted_item p) list
 
+-- `(3 of 17)`
+unfoldable pub of_all : ℕ → ℕ → List ℕ
+of_all n all = codes "(" ++ (decimal n ++ (codes " of " ++ (decimal all ++ codes ")")))
+
+-- that it is the only refutation, or of how many legal moves so many refute
+abbrev pub refuted_count : Position → ℕ → List ℕ
+refuted_count p n =
+    if is_stalemate p then [] else (if n == 1 then inside Strong (said (codes "only")) else inside Small (said (of_all n (length (legal_list p)))))
+
 unfoldable pub try_row : List ℕ → Position → Value → List Continuation → List ℕ
-try_row node p v list = inside Row (front_cells node p.to_move v ++ inside Cell (refuted_items p list))
+try_row node p v list = inside Row (front_cells node p.to_move v ++ inside Cell (refuted_items p list ++ refuted_count p (length list)))
 
 -- a row for each try
 abbrev pub TryRows : Study Mark → List ℕ → List ℕ → Type 0
@@ -175,28 +207,71 @@ TryRows s path text =
 
 -- ---- defences
 
--- `c8=Q`, `3 hold`, `stalemate`
-abbrev pub answer_words : Position → ℕ → Option Move → List ℕ
-answer_words q n (Some m) = move_text q m
-answer_words q n None = if n == 0 then codes "stalemate" else (decimal n ++ codes " hold")
+-- `3 hold`, `stalemate`
+abbrev pub several_words : ℕ → List ℕ
+several_words n = if n == 0 then codes "stalemate" else (decimal n ++ codes " hold")
 
--- a defence, and what answers it
-unfoldable pub missing_item : Position → Defence → List ℕ
-missing_item p y =
-    inside Whole (told_move p y.played y.value ++ said (codes " " ++ answer_words (after p y.played) y.answers y.only)) ++ said (codes " ")
+-- a defence with none or several answers, and how many
+unfoldable pub several_item : Position → Defence → List ℕ
+several_item p y = inside Whole (told_move p y.played y.value ++ said (codes " " ++ several_words y.answers)) ++ said (codes " ")
 
-abbrev pub is_same : Bool → Bool → Bool
-is_same true b = b
-is_same false b = not b
+abbrev pub with_several : Position → Option Move → Defence → List ℕ
+with_several p None y = several_item p y
+with_several p (Some m) y = []
 
--- those with one answer, and those with none or several
-abbrev pub with_one : Bool → Position → Defence → List ℕ
-with_one one p y = if is_same one (y.answers == 1) then missing_item p y else []
+abbrev pub each_several : Position → Defence → List ℕ
+each_several p y = with_several p y.only y
 
+-- whether the one answer in a position is written so
+abbrev pub is_answer : Position → Option Move → List ℕ → Bool
+is_answer q None text = false
+is_answer q (Some m) text = bytes_eq (move_text q m) text
+
+abbrev pub has_answer : Position → List ℕ → Defence → Bool
+has_answer p text y = is_answer (after p y.played) y.only text
+
+-- a defence
+unfoldable pub defence_item : Position → Defence → List ℕ
+defence_item p y = inside Whole (told_move p y.played y.value) ++ said (codes " ")
+
+abbrev pub with_answer : Position → List ℕ → Defence → List ℕ
+with_answer p text y = if has_answer p text y then defence_item p y else []
+
+-- `c8=Q after Kb1 Ka2`: an answer, and all defences whose one answer it is
+unfoldable pub group : Position → List ℕ → List Defence → List ℕ
+group p text list = inside Group (inside Answer (said text) ++ (said (codes " after ") ++ flat_map (with_answer p text) list))
+
+abbrev pub any_has : Position → List ℕ → List Defence → Bool
+any_has p text [] = false
+any_has p text (y ∷ ys) = has_answer p text y || any_has p text ys
+
+-- the group of a defence's one answer in a position, where no defence before has the same answer
+abbrev pub group_of : Position → List Defence → List Defence → Position → Option Move → List ℕ
+group_of p list before q None = []
+group_of p list before q (Some m) = if any_has p (move_text q m) before then [] else group p (move_text q m) list
+
+abbrev pub group_at : Position → List Defence → List Defence → Defence → List ℕ
+group_at p list before y = group_of p list before (after p y.played) y.only
+
+-- the groups of all defences, each where its answer comes first
+abbrev pub groups_from : Position → List Defence → List Defence → List Defence → List ℕ
+groups_from p list before [] = []
+groups_from p list before (y ∷ ys) = group_at p list before y ++ groups_from p list (before ++ y ∷ []) ys
+
+-- `answers 1 of 17`: how many of the legal moves the tree has, where these are missing
+unfoldable pub answered_words : Position → List Defence → List ℕ
+answered_words p list =
+    codes "answers " ++ (decimal (length (legal_list p) - length list) ++ (codes " of " ++ decimal (length (legal_list p))))
+
+unfoldable pub answered_cell : List ℕ → Position → List Defence → List ℕ
+answered_cell node p list = inside Cell (said node ++ (drawn Break ++ inside Small (said (answered_words p list))))
+
+-- the node, the defences with one answer by this answer, and those with none or several
 abbrev pub defence_row : List ℕ → Position → List Defence → List ℕ
 defence_row node p [] = []
 defence_row node p (y ∷ ys) =
-    inside Row (inside Cell (said node) ++ (inside Cell (flat_map (with_one true p) (y ∷ ys)) ++ inside Cell (flat_map (with_one false p) (y ∷ ys))))
+    inside Row (answered_cell node p (y ∷ ys) ++ (inside Cell (groups_from p (y ∷ ys) [] (y ∷ ys))
+    ++ inside Cell (flat_map (each_several p) (y ∷ ys))))
 
 -- a row for each position of the solution in which a defence is missing
 abbrev pub DefenceRows : Study Mark → List ℕ → List ℕ → Type 0

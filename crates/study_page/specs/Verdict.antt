@@ -1,5 +1,5 @@
 -- The part of a page with the verdict.
-use Rattle.std.specs.Prelude.{ℕ, ◌==◌, Bool, true, false, List, [], ◌++◌, length, if◌then◌else◌, codes, decimal}
+use Rattle.std.specs.Prelude.{ℕ, ◌==◌, Bool, List, [], ◌++◌, length, if◌then◌else◌, codes, decimal}
 use Rattle.study_board.specs.declared.men.Side.{Side}
 use Rattle.study_retro.specs.declared.value.Value.{Value}
 use Rattle.study_marks.specs.declared.mark.Mark.{Mark}

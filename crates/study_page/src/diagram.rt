@@ -1,8 +1,7 @@
 //! Diagrams.
-ghost use Rattle.std.specs.Prelude.{◌≡◌, ◌+◌, ◌++◌, ◌∷◌, [], OnOk, if◌then◌else◌};
+ghost use Rattle.std.specs.Prelude.{◌≡◌, ◌+◌, ◌++◌, OnOk};
 ghost use Rattle.std.specs.List.{flat_map};
 ghost use Rattle.study_board.specs.Letters.{letter};
-ghost use Rattle.study_board.specs.Men.{is_man};
 ghost use Rattle.study_page.specs.Drawings.{standing};
 ghost use Rattle.study_page.specs.Diagram.{man_words, listed, control, heard_words, board, mini};
 

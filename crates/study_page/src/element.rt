@@ -44,7 +44,6 @@ pub enum Element {
     Note,
     /// A part of the page.
     Part,
-    /// A part that is not broken between pages.
     /// The solution.
     Tree,
     /// The only move that holds.
@@ -95,6 +94,10 @@ pub enum Element {
     Cell,
     /// Words that are not broken between lines.
     Whole,
+    /// Defences with one answer.
+    Group,
+    /// The answer to them.
+    Answer,
     /// The foot of a page.
     Foot,
     /// What a drawing shows, for those who hear it.
@@ -118,53 +121,46 @@ fn name(element: Element) -> &'static [u8]
     match element {
         Element::Header => b"header",
         Element::Title => b"h1",
-        Element::Byline => b"p",
-        Element::Top => b"div",
+        Element::Byline | Element::Paragraph | Element::Warning | Element::Note => b"p",
+        Element::Top
+        | Element::Tree
+        | Element::Cards
+        | Element::Card
+        | Element::Beside
+        | Element::Group => b"div",
         Element::Figure => b"figure",
         Element::Caption => b"figcaption",
-        Element::Strong => b"b",
-        Element::Count => b"span",
+        Element::Strong | Element::Sign => b"b",
+        Element::Count
+        | Element::Sound
+        | Element::Unsound
+        | Element::Wrong
+        | Element::Only
+        | Element::Dual
+        | Element::Mistake
+        | Element::Idle
+        | Element::Reply
+        | Element::Label
+        | Element::Whole => b"span",
         Element::Code => b"code",
-        Element::Verdict => b"section",
+        Element::Verdict | Element::Part => b"section",
         Element::Heading => b"h2",
-        Element::Sound => b"span",
-        Element::Unsound => b"span",
-        Element::Wrong => b"span",
-        Element::Paragraph => b"p",
-        Element::Warning => b"p",
-        Element::Note => b"p",
-        Element::Part => b"section",
-        Element::Tree => b"div",
-        Element::Only => b"span",
-        Element::Dual => b"span",
-        Element::Mistake => b"span",
-        Element::Idle => b"span",
-        Element::Reply => b"span",
-        Element::Sign => b"b",
         Element::Small => b"small",
         Element::Below => b"sub",
-        Element::List => b"ul",
+        Element::List | Element::Faults | Element::Also => b"ul",
         Element::Item => b"li",
-        Element::Faults => b"ul",
-        Element::Cards => b"div",
-        Element::Card => b"div",
-        Element::Beside => b"div",
         Element::CardTitle => b"h3",
-        Element::Label => b"span",
-        Element::Also => b"ul",
         Element::Table => b"table",
         Element::Heads => b"thead",
         Element::Rows => b"tbody",
         Element::Row => b"tr",
         Element::Head => b"th",
         Element::Cell => b"td",
-        Element::Whole => b"span",
+        Element::Answer => b"i",
         Element::Foot => b"footer",
         Element::Said => b"title",
-        Element::Summary => b"article",
-        Element::Board => b"svg",
-        Element::Mini => b"svg",
-        Element::Entry(_) => b"article",
+        Element::Summary | Element::Entry(_) => b"article",
+        Element::Board | Element::Mini => b"svg",
         Element::Link(_) => b"a",
     }
 }

@@ -1,6 +1,5 @@
 //! Words in HTML.
-ghost use Rattle.std.specs.Prelude.{◌≡◌, ◌<◌, ◌++◌, ◌∷◌, [], OnOk};
-ghost use Rattle.std.specs.List.{flat_map};
+ghost use Rattle.std.specs.Prelude.{◌≡◌, ◌<◌, ◌++◌, OnOk};
 ghost use Rattle.study_page.specs.Escape.{entity, hex_digit, shown, said};
 
 use std::alloc::{AllocError, Allocator};

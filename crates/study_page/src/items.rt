@@ -1,5 +1,5 @@
-//! What is written of faults, duals and tries.
-ghost use Rattle.std.specs.Prelude.{◌≡◌, ◌++◌, true, OnOk, codes};
+//! What is written of duals and tries.
+ghost use Rattle.std.specs.Prelude.{◌≡◌, ◌++◌, ◌<◌, ◌^◌, true, length, OnOk, codes};
 ghost use Rattle.std.specs.List.{All, flat_map};
 ghost use Rattle.study_moves.specs.Rules.{is_legal};
 ghost use Rattle.study_review.specs.Nodes.{is_stalemate};
@@ -7,9 +7,8 @@ ghost use Rattle.study_notation.specs.Written.{move_text};
 ghost use Rattle.study_pgn.specs.Values.{value_text};
 ghost use Rattle.study_page.specs.Escape.{said};
 ghost use Rattle.study_page.specs.Elements.{inside};
-ghost use Rattle.study_page.specs.Rows.{lets_go, hold_words, lose_words, counts_words, dual_item, mistake_item};
 ghost use Rattle.study_page.specs.Rows.{loses_time, forced_words, time_words, move_word, by_words, later_words, difference, also_words, also_item};
-ghost use Rattle.study_page.specs.Rows.{card_title, card_words, card, front_cells, told_move, refuted_item, refuted_items, try_row};
+ghost use Rattle.study_page.specs.Rows.{card_title, card_words, card, front_cells, told_move, refuted_item, refuted_items, of_all, refuted_count, try_row};
 
 use crate::diagram::draw_mini;
 use crate::element::Element;
@@ -18,7 +17,7 @@ use crate::signs::is_stalemate;
 use crate::words::{add_label, add_san, add_short, add_value};
 use std::alloc::{AllocError, Allocator};
 use study_board::{Position, Side};
-use study_moves::Move;
+use study_moves::{Move, legal_moves};
 use study_notation::Start;
 use study_pgn::Text;
 use study_retro::Value;
@@ -38,87 +37,8 @@ pub fn put_words<'a, A: Allocator>(
     html.put(element, &within)
 }
 
-fn hold_words(count: u8) -> &'static [u8]
-    ensures { result.now ≡ hold_words count }
-{
-    if count == 1 {
-        b" other holds, "
-    } else {
-        b" others hold, "
-    }
-}
-
-fn lose_words(count: u16) -> &'static [u8]
-    ensures { result.now ≡ lose_words count }
-{
-    if count == 1 {
-        b" loses time"
-    } else {
-        b" lose time"
-    }
-}
-
-#[tactic(auto, unfolding(crate::specs::Rows::counts_words))]
-fn add_counts<A: Allocator>(text: &mut Text<'_, A>, counts: (u8, u16)) -> Result<(), AllocError>
-    ensures { OnOk result (text.new ≡ text.old ++ counts_words counts.0 counts.1) }
-{
-    text.add(b": ")?;
-    text.add_number(counts.0 as u32)?;
-    text.add(hold_words(counts.0))?;
-    text.add_number(counts.1 as u32)?;
-    text.add(lose_words(counts.1))
-}
-
-/// A dual with so many others, of which so many lose time.
-#[tactic(auto, unfolding(crate::specs::Rows::dual_item))]
-pub fn put_dual<'a, A: Allocator>(
-    alloc: &'a A,
-    html: &mut Html<'_, A>,
-    start: &Start,
-    depth: usize,
-    p: &Position,
-    m: Move,
-    counts: (u8, u16),
-) -> Result<(), AllocError>
-    requires { is_legal p.now m ≡ true }
-    ensures { OnOk result (html.new ≡ html.old ++ dual_item start.now depth p.now m counts.0 counts.1) }
-{
-    let mut text = Text::new(alloc);
-    add_label(&mut text, start, depth, p, m)?;
-    add_counts(&mut text, counts)?;
-    put_words(alloc, html, Element::Item, text.as_slice())
-}
-
-#[tactic(auto, unfolding(crate::specs::Rows::lets_go))]
-fn lets_go() -> &'static [u8]
-    ensures { result.now ≡ lets_go }
-{
-    b" lets the aim go: "
-}
-
-/// A mistake, with the value after it.
-#[tactic(auto, unfolding(crate::specs::Rows::mistake_item))]
-pub fn put_mistake<'a, A: Allocator>(
-    alloc: &'a A,
-    html: &mut Html<'_, A>,
-    start: &Start,
-    depth: usize,
-    p: &Position,
-    m: Move,
-    value: Value,
-) -> Result<(), AllocError>
-    requires { is_legal p.now m ≡ true }
-    ensures { OnOk result (html.new ≡ html.old ++ mistake_item start.now depth p.now m value) }
-{
-    let mut text = Text::new(alloc);
-    add_label(&mut text, start, depth, p, m)?;
-    text.add(lets_go())?;
-    add_value(&mut text, p.to_move().other(), value)?;
-    put_words(alloc, html, Element::Item, text.as_slice())
-}
-
 #[tactic(auto, unfolding(crate::specs::Rows::loses_time))]
-fn loses_time() -> &'static [u8]
+pub fn loses_time() -> &'static [u8]
     ensures { result.now ≡ loses_time }
 {
     b", loses time"
@@ -175,7 +95,7 @@ fn add_later<A: Allocator>(text: &mut Text<'_, A>, a: u8, b: u8) -> Result<(), A
 }
 
 /// How much later the hero mates by another move than by the one that he played, from the values after both.
-fn add_difference<A: Allocator>(
+pub fn add_difference<A: Allocator>(
     text: &mut Text<'_, A>,
     value: Value,
     other: Value,
@@ -434,6 +354,38 @@ fn put_refutations<'a, A: Allocator>(
     put_each_refuted(alloc, html, p, list)
 }
 
+/// So many of all, in brackets.
+#[tactic(auto, unfolding(crate::specs::Rows::of_all))]
+fn add_of_all<A: Allocator>(text: &mut Text<'_, A>, count: u32, all: u32) -> Result<(), AllocError>
+    ensures { OnOk result (text.new ≡ text.old ++ of_all count all) }
+{
+    text.add(b"(")?;
+    text.add_number(count)?;
+    text.add(b" of ")?;
+    text.add_number(all)?;
+    text.add(b")")
+}
+
+/// That it is the only refutation, or of how many legal moves so many refute.
+fn put_refuted_count<'a, A: Allocator>(
+    alloc: &'a A,
+    html: &mut Html<'_, A>,
+    p: &Position,
+    count: u32,
+) -> Result<(), AllocError>
+    ensures { OnOk result (html.new ≡ html.old ++ refuted_count p.now count) }
+{
+    if is_stalemate(p) {
+        return Ok(());
+    }
+    if count == 1 {
+        return put_words(alloc, html, Element::Strong, b"only");
+    }
+    let mut text = Text::new(alloc);
+    add_of_all(&mut text, count, legal_moves(p).len() as u32)?;
+    put_words(alloc, html, Element::Small, text.as_slice())
+}
+
 /// The row of a try.
 #[tactic(auto, unfolding(crate::specs::Rows::try_row))]
 pub fn put_try<'a, A: Allocator>(
@@ -444,13 +396,15 @@ pub fn put_try<'a, A: Allocator>(
     value: Value,
     list: &[Continuation],
 ) -> Result<(), AllocError>
-    requires { All (λ x. is_legal p.now x.played ≡ true) list.now }
+    requires few { length list.now < 2 ^ 32 }
+    requires legal { All (λ x. is_legal p.now x.played ≡ true) list.now }
     ensures { OnOk result (html.new ≡ html.old ++ try_row node.now p.now value list.now) }
 {
     let mut row = Html::new(alloc);
     let mut cell = Html::new(alloc);
     put_front_cells(alloc, &mut row, node, p.to_move(), value)?;
     put_refutations(alloc, &mut cell, p, list)?;
+    put_refuted_count(alloc, &mut cell, p, list.len() as u32)?;
     row.put(Element::Cell, &cell)?;
     html.put(Element::Row, &row)
 }

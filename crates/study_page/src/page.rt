@@ -6,11 +6,10 @@ ghost use Rattle.study_marks.specs.Kept.{marked, IsKeptRight};
 ghost use Rattle.study_marks.specs.Study.{plain_study};
 ghost use Rattle.study_prober.specs.declared.values.ProbeFault.{ProbeFault as AProbeFault};
 ghost use Rattle.study_review.specs.Review.{HasReviewed};
-ghost use Rattle.study_page.specs.Escape.{said};
-ghost use Rattle.study_page.specs.Elements.{inside};
 ghost use Rattle.study_page.specs.Made.{HasAsked};
 ghost use Rattle.study_page.specs.Markup.{IsWellNested};
 ghost use Rattle.study_page.specs.Page.{AreRows, heads, table_part, full_table, cards_part, full_cards};
+ghost use Rattle.study_page.specs.Page.{tries_title, missing_title, ends_title};
 ghost use Rattle.study_page.specs.Page.{solution_part, duals_title, duals_note, foot_words, tables, top, page_text, IsPage, IsPageOf};
 
 use crate::counts::add_counts;
@@ -214,6 +213,27 @@ A move holds if the aim is still reached after it; a move that only loses time h
 A small number tells in how many moves the hero mates, behind a minus in how many he is mated; = is a draw, and # is mate."
 }
 
+#[tactic(auto, unfolding(crate::specs::Page::tries_title))]
+fn tries_title() -> &'static [u8]
+    ensures { result.now ≡ tries_title }
+{
+    b"Tries and their refutations"
+}
+
+#[tactic(auto, unfolding(crate::specs::Page::missing_title))]
+fn missing_title() -> &'static [u8]
+    ensures { result.now ≡ missing_title }
+{
+    b"Defences that are not in the tree"
+}
+
+#[tactic(auto, unfolding(crate::specs::Page::ends_title))]
+fn ends_title() -> &'static [u8]
+    ensures { result.now ≡ ends_title }
+{
+    b"Best play from the open ends"
+}
+
 /// The tables below the solution.
 #[tactic(auto, unfolding(crate::specs::Page::tables))]
 fn put_tables<'a, A: Allocator>(
@@ -229,9 +249,9 @@ fn put_tables<'a, A: Allocator>(
     put_heads(alloc, &mut tries, b"After", b"Left", b"Refuted by")?;
     put_heads(alloc, &mut defences, b"After", b"One answer", b"Several")?;
     put_heads(alloc, &mut ends, b"After", b"Value", b"Goes on")?;
-    put_table(alloc, html, b"Tries", &tries, &parts.tries)?;
-    put_table(alloc, html, b"Not in the tree", &defences, &parts.defences)?;
-    put_table(alloc, html, b"Best play", &ends, &parts.ends)
+    put_table(alloc, html, tries_title(), &tries, &parts.tries)?;
+    put_table(alloc, html, missing_title(), &defences, &parts.defences)?;
+    put_table(alloc, html, ends_title(), &ends, &parts.ends)
 }
 
 /// The diagram and the verdict, side by side.

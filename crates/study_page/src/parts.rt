@@ -1,12 +1,11 @@
 //! What the parts of a page have of one node.
-ghost use Rattle.std.specs.Prelude.{◌≡◌, ◌++◌, ◌+◌, ◌^◌, ◌<◌, ◌≤◌, true, Some, length, IsTrue, OnOk};
+ghost use Rattle.std.specs.Prelude.{◌≡◌, ◌++◌, ◌+◌, ◌^◌, ◌<◌, true, Some, length, IsTrue, OnOk};
 ghost use Rattle.std.specs.List.{All};
 ghost use Rattle.study_moves.specs.Rules.{is_legal};
 ghost use Rattle.study_tree.specs.Tree.{has_spot};
 ghost use Rattle.study_marks.specs.Kept.{marked};
 ghost use Rattle.study_review.specs.Made.{Grew};
 ghost use Rattle.study_review.specs.Line.{IsPlaceOf};
-ghost use Rattle.study_review.specs.Words.{times_lost};
 ghost use Rattle.study_page.specs.Made.{HasAsked};
 ghost use Rattle.study_page.specs.Rows.{IsFaultOf, FaultItems, IsCardOf, Cards, try_row, TryRows, defence_row, DefenceRows};
 ghost use Rattle.study_page.specs.Rows.{play_words, keep_words, end_row, IsEnd, EndRows};
@@ -15,9 +14,11 @@ ghost use Rattle.study_review.specs.Play.{IsPlayed, ArePlayed};
 ghost use Rattle.study_review.specs.Nodes.{value_at};
 
 use crate::fault::NotMade;
+use crate::faults::{put_dual, put_mistake};
+use crate::groups::put_defences;
 use crate::html::Html;
-use crate::items::{put_card, put_dual, put_mistake, put_try};
-use crate::rows::{add_keep, add_moves, put_defences, put_end};
+use crate::items::{put_card, put_try};
+use crate::rows::{add_keep, add_moves, put_end};
 use crate::signs::{is_defended, is_open_end, is_solution_move, is_try, mark_at, value_at};
 use crate::words::add_where;
 use std::alloc::{AllocError, Allocator};
@@ -31,17 +32,6 @@ use study_review::{
     Alternative, Continuation, Defence, Made, Node, Place, best_play, children_in, defences,
     drawing_moves, made_in, place_in, refutations, timed_alternatives,
 };
-
-/// How many of these lose time.
-fn times_lost(list: &[Alternative]) -> u16
-    requires { length list.now ≤ 256 }
-    ensures { result ≡ times_lost list.now }
-{
-    match list.split_first() {
-        None => 0,
-        Some((x, rest)) => times_lost(rest) + if x.time.is_some() { 1 } else { 0 },
-    }
-}
 
 /// The item of a dual.
 fn add_dual<'a, A: Allocator, V: Values>(
@@ -61,7 +51,10 @@ fn add_dual<'a, A: Allocator, V: Values>(
     match timed_alternatives(&made.before, made.played, values) {
         Err(fault) => Err(NotMade::Untold(fault)),
         Ok(list) => {
-            let time = times_lost(list.as_slice());
+            let x = Continuation {
+                played: made.played,
+                value: told.0,
+            };
             let before = &made.before;
             put_dual(
                 alloc,
@@ -69,8 +62,8 @@ fn add_dual<'a, A: Allocator, V: Values>(
                 start,
                 before.depth,
                 &before.position,
-                made.played,
-                (told.1, time),
+                &x,
+                list.as_slice(),
             )?;
             Ok(())
         }
@@ -185,7 +178,8 @@ fn put_try_at<'a, 'b, A: Allocator, B: Allocator>(
     p: &Position,
     list: &[Continuation],
 ) -> Result<(), AllocError>
-    requires { All (λ x. is_legal p.now x.played ≡ true) list.now }
+    requires few { length list.now < 2 ^ 32 }
+    requires legal { All (λ x. is_legal p.now x.played ≡ true) list.now }
     ensures { OnOk result (html.new ≡ html.old
         ++ try_row (where_words (marked bench.now) steps.now) p.now (value_at (marked bench.now) steps.now) list.now) }
 {
@@ -239,7 +233,8 @@ fn put_defences_at<'a, 'b, A: Allocator, B: Allocator>(
     p: &Position,
     list: &[Defence],
 ) -> Result<(), AllocError>
-    requires { All (IsPlayed p.now) list.now }
+    requires few { length list.now < 2 ^ 32 }
+    requires all { All (IsPlayed p.now) list.now }
     ensures { OnOk result (html.new ≡ html.old ++ defence_row (where_words (marked bench.now) steps.now) p.now list.now) }
 {
     let mut node = Text::new(alloc);

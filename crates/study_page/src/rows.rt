@@ -1,134 +1,22 @@
-//! What is written of defences and of open ends.
-ghost use Rattle.std.specs.Prelude.{◌≡◌, ◌++◌, ◌<◌, ◌+◌, ◌^◌, true, length, OnOk, IfSome};
+//! What is written of open ends.
+ghost use Rattle.std.specs.Prelude.{◌≡◌, ◌++◌, ◌<◌, ◌+◌, ◌^◌, true, length, OnOk};
 ghost use Rattle.std.specs.List.{All, flat_map};
-ghost use Rattle.study_moves.specs.Rules.{is_legal, after};
-ghost use Rattle.study_moves.specs.LegalList.{legal_list};
-ghost use Rattle.study_review.specs.Play.{IsPlayed, ArePlayed};
+ghost use Rattle.study_moves.specs.Rules.{is_legal};
+ghost use Rattle.study_review.specs.Play.{ArePlayed};
 ghost use Rattle.study_review.specs.Words.{move_words};
-ghost use Rattle.study_page.specs.Escape.{said};
-ghost use Rattle.study_page.specs.Elements.{inside};
-ghost use Rattle.study_page.specs.Rows.{answer_words, missing_item, is_same, with_one, defence_row};
 ghost use Rattle.study_page.specs.Rows.{is_white, number_words, play_words, keep_it, keep_words, end_row};
 
 use crate::element::Element;
 use crate::html::Html;
-use crate::items::{put_front_cells, put_told, put_words};
+use crate::items::{put_front_cells, put_words};
 use crate::words::{add_front, add_san};
 use std::alloc::{AllocError, Allocator};
 use study_board::{Position, Side};
-use study_moves::{Move, legal_moves, played};
+use study_moves::{legal_moves, played};
 use study_notation::Start;
 use study_pgn::Text;
 use study_retro::Value;
-use study_review::{Continuation, Defence};
-
-fn add_answer<A: Allocator>(
-    text: &mut Text<'_, A>,
-    q: &Position,
-    answers: u16,
-    only: Option<Move>,
-) -> Result<(), AllocError>
-    requires { IfSome only (λ m. is_legal q.now m ≡ true) }
-    ensures { OnOk result (text.new ≡ text.old ++ answer_words q.now answers only) }
-{
-    match only {
-        Some(m) => add_san(text, q, m),
-        None => {
-            if answers == 0 {
-                return text.add(b"stalemate");
-            }
-            text.add_number(answers as u32)?;
-            text.add(b" hold")
-        }
-    }
-}
-
-#[tactic(auto, unfolding(crate::specs::Rows::missing_item))]
-fn put_missing<'a, A: Allocator>(
-    alloc: &'a A,
-    html: &mut Html<'_, A>,
-    p: &Position,
-    y: &Defence,
-) -> Result<(), AllocError>
-    requires { IsPlayed p.now y.now }
-    ensures { OnOk result (html.new ≡ html.old ++ missing_item p.now y.now) }
-{
-    let next = played(p, y.played);
-    let mut whole = Html::new(alloc);
-    let mut text = Text::new(alloc);
-    put_told(alloc, &mut whole, p, y.played, y.value)?;
-    text.add(b" ")?;
-    add_answer(&mut text, &next, y.answers, y.only)?;
-    whole.say(text.as_slice())?;
-    html.put(Element::Whole, &whole)?;
-    html.say(b" ")
-}
-
-fn is_same(one: bool, other: bool) -> bool
-    ensures { result ≡ is_same one other }
-{
-    if one { other } else { !other }
-}
-
-/// The defence, if it has one answer, or if it has none or several.
-fn put_with_one<'a, A: Allocator>(
-    alloc: &'a A,
-    html: &mut Html<'_, A>,
-    one: bool,
-    p: &Position,
-    y: &Defence,
-) -> Result<(), AllocError>
-    requires { IsPlayed p.now y.now }
-    ensures { OnOk result (html.new ≡ html.old ++ with_one one p.now y.now) }
-{
-    if is_same(one, y.answers == 1) {
-        return put_missing(alloc, html, p, y);
-    }
-    Ok(())
-}
-
-fn put_each_missing<'a, A: Allocator>(
-    alloc: &'a A,
-    html: &mut Html<'_, A>,
-    one: bool,
-    p: &Position,
-    list: &[Defence],
-) -> Result<(), AllocError>
-    requires { All (IsPlayed p.now) list.now }
-    ensures { OnOk result (html.new ≡ html.old ++ flat_map (with_one one p.now) list.now) }
-{
-    for y in list {
-        put_with_one(alloc, html, one, p, y)?;
-    }
-    Ok(())
-}
-
-/// The row of the defences that are missing.
-pub fn put_defences<'a, A: Allocator>(
-    alloc: &'a A,
-    html: &mut Html<'_, A>,
-    node: &[u8],
-    p: &Position,
-    list: &[Defence],
-) -> Result<(), AllocError>
-    requires { All (IsPlayed p.now) list.now }
-    ensures { OnOk result (html.new ≡ html.old ++ defence_row node.now p.now list.now) }
-{
-    match list.split_first() {
-        None => Ok(()),
-        Some(_) => {
-            let mut row = Html::new(alloc);
-            let mut single = Html::new(alloc);
-            let mut several = Html::new(alloc);
-            put_words(alloc, &mut row, Element::Cell, node)?;
-            put_each_missing(alloc, &mut single, true, p, list)?;
-            row.put(Element::Cell, &single)?;
-            put_each_missing(alloc, &mut several, false, p, list)?;
-            row.put(Element::Cell, &several)?;
-            html.put(Element::Row, &row)
-        }
-    }
-}
+use study_review::Continuation;
 
 fn is_white(side: Side) -> bool
     ensures { result ≡ is_white side }

@@ -1,5 +1,5 @@
 //! What a node shows, and which rows it has.
-ghost use Rattle.std.specs.Prelude.{◌≡◌, ◌<◌, ◌+◌, ◌^◌, length};
+ghost use Rattle.std.specs.Prelude.{◌≡◌, ◌<◌};
 ghost use Rattle.study_marks.specs.Goals.{aim_of};
 ghost use Rattle.study_marks.specs.Kept.{marked};
 ghost use Rattle.study_marks.specs.Renewal.{below_at};

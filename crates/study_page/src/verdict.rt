@@ -3,14 +3,12 @@ ghost use Rattle.std.specs.Prelude.{◌≡◌, ◌++◌, ◌≤◌, Some, OnOk};
 ghost use Rattle.study_tree.specs.Edits.{width};
 ghost use Rattle.study_marks.specs.Goals.{aim_of, is_right};
 ghost use Rattle.study_marks.specs.Kept.{marked};
-ghost use Rattle.study_marks.specs.Renewal.{below_at, skipped};
+ghost use Rattle.study_marks.specs.Renewal.{skipped};
 ghost use Rattle.study_marks.specs.Verdict.{verdict};
 ghost use Rattle.study_marks.specs.Study.{Study};
 ghost use Rattle.study_marks.specs.declared.mark.Mark.{Mark as AMark};
 ghost use Rattle.study_pgn.specs.Pgn.{goal_text, stipulation_text};
 ghost use Rattle.study_review.specs.Review.{is_empty, none_below};
-ghost use Rattle.study_page.specs.Escape.{said};
-ghost use Rattle.study_page.specs.Elements.{inside};
 ghost use Rattle.study_page.specs.Verdict.{stamp_of, stamp_element, stamp_words, stamp_part, none_given, faults_words};
 ghost use Rattle.study_page.specs.Verdict.{holds_words, count_words, sentence, at_start, start_words, fault_list, verdict_part, judged};
 

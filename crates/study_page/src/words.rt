@@ -1,5 +1,5 @@
 //! Words of moves and values, as plain text.
-ghost use Rattle.std.specs.Prelude.{◌≡◌, ◌++◌, ◌<◌, true, OnOk, decimal};
+ghost use Rattle.std.specs.Prelude.{◌≡◌, ◌++◌, ◌<◌, true, OnOk};
 ghost use Rattle.study_moves.specs.Rules.{is_legal};
 ghost use Rattle.study_marks.specs.Kept.{marked};
 ghost use Rattle.study_pgn.specs.Values.{side_name, mates_text, value_text};

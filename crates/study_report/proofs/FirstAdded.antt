@@ -12,7 +12,7 @@ use Rattle.study_script.specs.declared.run.RunFault.{RunFault}
 use Rattle.study_script.specs.declared.run.RunFault.TheVariants.{ReadDevice, WriteDevice, LineTooLong, TooManyLines, OutOfMemory}
 use Rattle.study_command.specs.Lines.{script_lines, TakesLine, BeginsLong, GaveFeeds}
 use Rattle.study_command.proofs.LineTaken.{HasMore}
-use Rattle.study_script.specs.State.{State}
+use Rattle.study_script.specs.State.{State, Board}
 use Rattle.study_script.specs.Outcome.{AreShort}
 use Rattle.study_script.proofs.FirstLines.{Gone, gone_write}
 use Rattle.study_tablefile.specs.Taken.{TakesPrefix}
@@ -24,8 +24,8 @@ use Rattle.study_script.specs.Replies.{Reply, refused}
 use Rattle.study_report.specs.declared.kind.Kind.{Kind}
 use Rattle.study_report.specs.declared.kind.Kind.TheVariants.{PassedOver, NoClass, Study, Checked}
 use Rattle.study_report.specs.Told.{Point, Added, IsAdded, IsAddedAs, IsPgnAfter, IsCheckedAfter, kind_in, refusal_count, study_count}
-use Rattle.study_report.specs.Told.{nothing_added, refusal_added}
-use Rattle.study_report.specs.Outcome.{begun, AreAdded, report_text, refusals, point_after, IsFollowed, Outcome, Shape}
+use Rattle.study_report.specs.Told.{nothing_added, refusal_added, studies_on, listed_in, studies_in}
+use Rattle.study_report.specs.Outcome.{begun, AreAdded, report_text, refusals, point_after, IsFollowed, AreListed, Outcome, Shape}
 use Rattle.study_report.specs.Written.{Adds, Stops}
 
 -- ---- the first line that is left
@@ -64,6 +64,20 @@ text-more : (added : List Added) (a : Added) → report_text (added ++ a ∷ [])
 text-more [] a = append-nil a.text
 text-more (x ∷ added) a = ap (λ (t : List ℕ). x.text ++ t) (text-more added a) ∙ sym (append_assoc x.text (report_text added) a.text)
 
+studies-more : (added : List Added) (a : Added)
+    → studies_in (added ++ a ∷ []) ≡ studies_in added ++ listed_in a.told a.after.state.board a.after.studies
+studies-more [] a = append-nil (listed_in a.told a.after.state.board a.after.studies)
+studies-more (x ∷ added) a =
+    ap (λ (t : List (Plainly × ℕ)). listed_in x.told x.after.state.board x.after.studies ++ t) (studies-more added a)
+    ∙ sym (append_assoc (listed_in x.told x.after.state.board x.after.studies) (studies_in added) (listed_in a.told a.after.state.board a.after.studies))
+
+-- the study that a line told is the one on the board, and has the number after the others
+listed-same : (t u : Told) (b c : Board) (i j : ℕ) → t ≡ u → b ≡ c → (study_count u ≡ 1 → i ≡ j) → listed_in t b i ≡ listed_in u c j
+listed-same t Nothing b c i j e f n = ap (λ (x : Told). listed_in x b i) e
+listed-same t ARefusal b c i j e f n = ap (λ (x : Told). listed_in x b i) e
+listed-same t AStudy b c i j e f n =
+    ap (λ (x : Told). listed_in x b i) e ∙ ap (λ (x : Board). studies_on x i) f ∙ ap (studies_on c) (n refl)
+
 module _ (tells : Plainly → ℕ → List ℕ → Type 0) (refusal : ℕ → List ℕ → List ℕ → List ℕ) where
   are-more : (p : Point) (lines : List (List ℕ)) (added : List Added) (line : List ℕ) (a : Added)
       → AreAdded tells refusal p lines added → IsAdded tells refusal (point_after p added) line a
@@ -75,7 +89,8 @@ module _ (tells : Plainly → ℕ → List ℕ → Type 0) (refusal : ℕ → Li
 
   -- ---- what the first n lines add is written
 
-  pub record ToldOver (all left : List (List ℕ)) (old new : Option (List ℕ)) (first : State) (p : Point) (n refused : ℕ) : Type 0 where
+  pub record ToldOver (Lists : List (Plainly × ℕ) → Type 0) (all left : List (List ℕ)) (old new : Option (List ℕ)) (first : State) (p : Point)
+      (n refused : ℕ) : Type 0 where
     pub left_is : drop n all ≡ left
     pub within : n ≤ length all
     pub short : AreShort (take n all)
@@ -84,18 +99,22 @@ module _ (tells : Plainly → ℕ → List ℕ → Type 0) (refusal : ℕ → Li
     pub written : Appends old new (report_text added)
     pub point_is : p ≡ point_after (begun first) added
     pub refused_is : refused ≡ refusals added
+    pub listed : Lists (studies_in added)
 
-  abbrev pub ToldKnown : Option (List ℕ) → Option (List ℕ) → Option (List ℕ) → Option (List ℕ) → State → Point → ℕ → ℕ → Type 0
-  ToldKnown None now old new first p n refused = Unit {0}
-  ToldKnown (Some bs) None old new first p n refused = ⊥
-  ToldKnown (Some bs) (Some rest) old new first p n refused = ToldOver (script_lines bs) (script_lines rest) old new first p n refused
+  abbrev pub ToldKnown : (List (Plainly × ℕ) → Type 0) → Option (List ℕ) → Option (List ℕ) → Option (List ℕ) → Option (List ℕ) → State → Point
+      → ℕ → ℕ → Type 0
+  ToldKnown Lists None now old new first p n refused = Unit {0}
+  ToldKnown Lists (Some bs) None old new first p n refused = ⊥
+  ToldKnown Lists (Some bs) (Some rest) old new first p n refused = ToldOver Lists (script_lines bs) (script_lines rest) old new first p n refused
 
-  pub record HasTold (script now old new : Option (List ℕ)) (first : State) (p : Point) (n refused : ℕ) : Type 0 where
-    pub known : ToldKnown script now old new first p n refused
+  pub record HasTold (Lists : List (Plainly × ℕ) → Type 0) (script now old new : Option (List ℕ)) (first : State) (p : Point)
+      (n refused : ℕ) : Type 0 where
+    pub known : ToldKnown Lists script now old new first p n refused
 
-  pub told_none : (script out : Option (List ℕ)) (first : State) → HasTold script script out out first (begun first) 0 0
-  told_none None out first = record { known = tt }
-  told_none (Some bs) out first =
+  pub told_none : (Lists : List (Plainly × ℕ) → Type 0) → Lists [] → (script out : Option (List ℕ)) (first : State)
+      → HasTold Lists script script out out first (begun first) 0 0
+  told_none Lists h None out first = record { known = tt }
+  told_none Lists h (Some bs) out first =
       record {
         known = record {
           left_is = refl;
@@ -106,18 +125,20 @@ module _ (tells : Plainly → ℕ → List ℕ → Type 0) (refusal : ℕ → Li
           written = Appends-nil out;
           point_is = refl;
           refused_is = refl;
+          listed = h;
         };
       }
 
-  pub told_more : (script now next old mid new : Option (List ℕ)) (first : State) (p : Point) (line : List ℕ)
-      (a : Added) (n refused refused' : ℕ) → HasTold script now old mid first p n refused
+  pub told_more : (Lists Lists' : List (Plainly × ℕ) → Type 0) (script now next old mid new : Option (List ℕ)) (first : State)
+      (p : Point) (line : List ℕ) (a : Added) (n refused refused' : ℕ) → HasTold Lists script now old mid first p n refused
       → TakesLine now next true line → length line ≤ 1024
       → IsAdded tells refusal p line a → Appends mid new a.text → refused' ≡ refused + refusal_count a.told
-      → HasTold script next old new first a.after (n + 1) refused'
-  told_more None now next old mid new first p line a n refused refused' r t short is wrote k = record { known = tt }
-  told_more (Some bs) None next old mid new first p line a n refused refused' r t short is wrote k = absurd r.known
-  told_more (Some bs) (Some rest) None old mid new first p line a n refused refused' r t short is wrote k = absurd t
-  told_more (Some bs) (Some rest) (Some rest') old mid new first p line a n refused refused' r t short is wrote k =
+      → ((more : List (Plainly × ℕ)) → Lists more → Lists' (more ++ listed_in a.told a.after.state.board a.after.studies))
+      → HasTold Lists' script next old new first a.after (n + 1) refused'
+  told_more Lists Lists' None now next old mid new first p line a n refused refused' r t short is wrote k l = record { known = tt }
+  told_more Lists Lists' (Some bs) None next old mid new first p line a n refused refused' r t short is wrote k l = absurd r.known
+  told_more Lists Lists' (Some bs) (Some rest) None old mid new first p line a n refused refused' r t short is wrote k l = absurd t
+  told_more Lists Lists' (Some bs) (Some rest) (Some rest') old mid new first p line a n refused refused' r t short is wrote k l =
       let v = r.known in
       let all = script_lines bs in
       let f = first_left all (script_lines rest') n line (v.left_is ∙ t) in
@@ -134,13 +155,14 @@ module _ (tells : Plainly → ℕ → List ℕ → Type 0) (refusal : ℕ → Li
           written = rw (text-more v.added a) (Appends-trans old mid new (report_text v.added) a.text v.written wrote);
           point_is = sym (point_after-more (begun first) v.added a);
           refused_is = k ∙ ap (λ i. i + refusal_count a.told) v.refused_is ∙ sym (sum_by_push (λ (x : Added). refusal_count x.told) v.added a);
+          listed = subst Lists' (sym (studies-more v.added a)) (l (studies_in v.added) v.listed);
         };
       }
 
   -- ---- the ends of a report
 
-  pub told_ends : (left script now next old new : Option (List ℕ)) (first : State) (p : Point) (line : List ℕ)
-      (n refused : ℕ) → HasTold script now old new first p n refused → TakesLine now next false line → n ≤ 100000
+  pub told_ends : {Lists : List (Plainly × ℕ) → Type 0} (left script now next old new : Option (List ℕ)) (first : State) (p : Point) (line : List ℕ)
+      (n refused : ℕ) → HasTold Lists script now old new first p n refused → TakesLine now next false line → n ≤ 100000
       → IfSome script (λ bytes. Outcome tells refusal first bytes left old new (Ok (record { lines = n; refused = refused })))
   told_ends left None now next old new first p line n refused r t le = tt
   told_ends left (Some bs) None next old new first p line n refused r t le = absurd r.known
@@ -159,8 +181,8 @@ module _ (tells : Plainly → ℕ → List ℕ → Type 0) (refusal : ℕ → Li
       )
 
   -- what is held at the end of the script is what it leaves
-  pub told_after : (holds : State → Type 0) (script now next old new : Option (List ℕ)) (first : State) (p : Point) (line : List ℕ)
-      (n refused : ℕ) → HasTold script now old new first p n refused → TakesLine now next false line → holds p.state
+  pub told_after : {Lists : List (Plainly × ℕ) → Type 0} (holds : State → Type 0) (script now next old new : Option (List ℕ)) (first : State)
+      (p : Point) (line : List ℕ) (n refused : ℕ) → HasTold Lists script now old new first p n refused → TakesLine now next false line → holds p.state
       → IfSome script (λ bytes. IsFollowed tells refusal first bytes old new holds)
   told_after holds None now next old new first p line n refused r t held = tt
   told_after holds (Some bs) None next old new first p line n refused r t held = absurd r.known
@@ -174,8 +196,32 @@ module _ (tells : Plainly → ℕ → List ℕ → Type 0) (refusal : ℕ → Li
         subst (λ (q : Point). holds q.state) v.point_is held,
       )
 
-  pub told_long : (left script now old new : Option (List ℕ)) (first : State) (p : Point) (n refused : ℕ)
-      → HasTold script now old new first p n refused → BeginsLong now → n < 100000
+  -- what is true of the studies that were told
+  pub told_listed : (Lists : List (Plainly × ℕ) → Type 0) (script now next old new : Option (List ℕ)) (first : State) (p : Point) (line : List ℕ)
+      (n refused : ℕ) → HasTold Lists script now old new first p n refused → TakesLine now next false line
+      → IfSome script (λ bytes. AreListed tells refusal first bytes old new Lists)
+  told_listed Lists None now next old new first p line n refused r t = tt
+  told_listed Lists (Some bs) None next old new first p line n refused r t = absurd r.known
+  told_listed Lists (Some bs) (Some rest) None old new first p line n refused r t = absurd t
+  told_listed Lists (Some bs) (Some rest) (Some rest') old new first p line n refused r t =
+      let v = r.known in
+      let d = none_left (script_lines bs) n v.within (v.left_is ∙ t) in (
+        v.added,
+        subst (λ (ls : List (List ℕ)). AreAdded tells refusal (begun first) ls v.added) d.0 v.are,
+        v.written,
+        v.listed,
+      )
+
+  pub listed-before : (Had Has : List (Plainly × ℕ) → Type 0) (before : List (Plainly × ℕ)) → Had before
+      → (script : Option (List ℕ)) (first : State) (old new : Option (List ℕ))
+      → IfSome script (λ bytes. AreListed tells refusal first bytes old new
+      (λ more. (told : List (Plainly × ℕ)) → Had told → Has (told ++ more)))
+      → IfSome script (λ bytes. AreListed tells refusal first bytes old new (λ more. Has (before ++ more)))
+  listed-before Had Has before had None first old new h = tt
+  listed-before Had Has before had (Some bs) first old new (added, are, wrote, l) = (added, are, wrote, l before had)
+
+  pub told_long : {Lists : List (Plainly × ℕ) → Type 0} (left script now old new : Option (List ℕ)) (first : State) (p : Point) (n refused : ℕ)
+      → HasTold Lists script now old new first p n refused → BeginsLong now → n < 100000
       → IfSome script (λ bytes. Outcome tells refusal first bytes left old new (Err (LineTooLong (n + 1))))
   told_long left None now old new first p n refused r t lt = tt
   told_long left (Some bs) None old new first p n refused r t lt = absurd r.known
@@ -185,16 +231,16 @@ module _ (tells : Plainly → ℕ → List ℕ → Type 0) (refusal : ℕ → Li
       let e : n + 1 - 1 ≡ n = omega arith in
       (omega arith, omega arith, rw (e, f.3) long, (rw e v.short, v.added, rw e v.are, v.written))
 
-  pub told_read : (left script now old new : Option (List ℕ)) (first : State) (p : Point) (n refused : ℕ)
-      → HasTold script now old new first p n refused → n ≤ 100000 → GaveFeeds script left n → GaveFeeds now left 0
+  pub told_read : {Lists : List (Plainly × ℕ) → Type 0} (left script now old new : Option (List ℕ)) (first : State) (p : Point) (n refused : ℕ)
+      → HasTold Lists script now old new first p n refused → n ≤ 100000 → GaveFeeds script left n → GaveFeeds now left 0
       → IfSome script (λ bytes. Outcome tells refusal first bytes left old new (Err ReadDevice))
   told_read left None now old new first p n refused r le g h = tt
   told_read left (Some bs) None old new first p n refused r le g h = absurd r.known
   told_read left (Some bs) (Some rest) old new first p n refused r le g h =
       let v = r.known in (n, le, v.within, g, rest, v.left_is, h, (v.short, v.added, v.are, v.written))
 
-  pub told_many : (left script now old new : Option (List ℕ)) (first : State) (p : Point) (refused : ℕ)
-      → HasTold script now old new first p 100000 refused → HasMore now
+  pub told_many : {Lists : List (Plainly × ℕ) → Type 0} (left script now old new : Option (List ℕ)) (first : State) (p : Point) (refused : ℕ)
+      → HasTold Lists script now old new first p 100000 refused → HasMore now
       → IfSome script (λ bytes. Outcome tells refusal first bytes left old new (Err TooManyLines))
   told_many left None now old new first p refused r t = tt
   told_many left (Some bs) None old new first p refused r t = absurd r.known
@@ -202,8 +248,8 @@ module _ (tells : Plainly → ℕ → List ℕ → Type 0) (refusal : ℕ → Li
       let v = r.known in
       (more_left (script_lines bs) (script_lines rest) 100000 v.left_is t, (v.short, v.added, v.are, v.written))
 
-  pub told_write : (script now next old mid new : Option (List ℕ)) (first : State) (p : Point) (line : List ℕ)
-      (n refused : ℕ) → HasTold script now old mid first p n refused → TakesLine now next true line → length line ≤ 1024
+  pub told_write : {Lists : List (Plainly × ℕ) → Type 0} (script now next old mid new : Option (List ℕ)) (first : State) (p : Point) (line : List ℕ)
+      (n refused : ℕ) → HasTold Lists script now old mid first p n refused → TakesLine now next true line → length line ≤ 1024
       → n < 100000 → GaveFeeds script next (n + 1)
       → (a : Added) × IsAdded tells refusal p line a × TakesPrefix mid new a.text
       → IfSome script (λ bytes. Outcome tells refusal first bytes next old new (Err WriteDevice))
@@ -232,8 +278,8 @@ module _ (tells : Plainly → ℕ → List ℕ → Type 0) (refusal : ℕ → Li
         ),
       )
 
-  pub told_memory : (left script now old mid new : Option (List ℕ)) (first : State) (p : Point) (n refused : ℕ)
-      → HasTold script now old mid first p n refused → n ≤ 100000 → new ≡ mid
+  pub told_memory : {Lists : List (Plainly × ℕ) → Type 0} (left script now old mid new : Option (List ℕ)) (first : State) (p : Point) (n refused : ℕ)
+      → HasTold Lists script now old mid first p n refused → n ≤ 100000 → new ≡ mid
       → IfSome script (λ bytes. Outcome tells refusal first bytes left old new (Err OutOfMemory))
   told_memory left None now old mid new first p n refused r le same = tt
   told_memory left (Some bs) None old mid new first p n refused r le same = absurd r.known
@@ -242,8 +288,8 @@ module _ (tells : Plainly → ℕ → List ℕ → Type 0) (refusal : ℕ → Li
       (n, le, v.within, (v.short, v.added, v.are, subst (λ (x : Option (List ℕ)). Appends old x (report_text v.added)) (sym same) v.written))
 
   -- the run stops within a line
-  pub told_stops : (script now next old mid new : Option (List ℕ)) (first : State) (p : Point) (line : List ℕ)
-      (n refused : ℕ) (fault : RunFault) → HasTold script now old mid first p n refused → TakesLine now next true line → length line ≤ 1024
+  pub told_stops : {Lists : List (Plainly × ℕ) → Type 0} (script now next old mid new : Option (List ℕ)) (first : State) (p : Point) (line : List ℕ)
+      (n refused : ℕ) (fault : RunFault) → HasTold Lists script now old mid first p n refused → TakesLine now next true line → length line ≤ 1024
       → n < 100000 → GaveFeeds script next (n + 1) → Stops (IsAdded tells refusal p line) mid new fault
       → IfSome script (λ bytes. Outcome tells refusal first bytes next old new (Err fault))
   told_stops script now next old mid new first p line n refused WriteDevice r t short lt g h =
@@ -257,9 +303,10 @@ module _ (tells : Plainly → ℕ → List ℕ → Type 0) (refusal : ℕ → Li
   -- ---- what the loop knows
 
   -- the lines so far are told, what is held is their state, and the counts are theirs
-  pub record ToldOn (holds : State → Type 0) (script now old new : Option (List ℕ)) (first : State) (n refused studies : ℕ) : Type 0 where
+  pub record ToldOn (holds : State → Type 0) (Lists : List (Plainly × ℕ) → Type 0) (script now old new : Option (List ℕ)) (first : State)
+      (n refused studies : ℕ) : Type 0 where
     pub point : Point
-    pub told : HasTold script now old new first point n refused
+    pub told : HasTold Lists script now old new first point n refused
     pub held : holds point.state
     pub lines_are : n ≡ point.lines
     pub studies_are : studies ≡ point.studies
@@ -289,19 +336,26 @@ module _ (tells : Plainly → ℕ → List ℕ → Type 0) (refusal : ℕ → Li
   counts-more p line a Study (o, reply, is, after) = counts-pgn p line reply a reply.refused after
   counts-more p line a Checked (o, reply, is, after) = counts-checked p line reply a reply.refused after
 
-  pub ToldOn-more : (holds holds' : State → Type 0) (script now next old mid new : Option (List ℕ)) (first : State)
+  pub ToldOn-more : (holds holds' : State → Type 0) (Lists Lists' : List (Plainly × ℕ) → Type 0) (board : Board)
+      (script now next old mid new : Option (List ℕ)) (first : State)
       (line : List ℕ) (n refused refused' studies studies' : ℕ) (told : Told)
-      (r : ToldOn holds script now old mid first n refused studies)
+      (r : ToldOn holds Lists script now old mid first n refused studies)
       → TakesLine now next true line → length line ≤ 1024
       → Adds (IsAdded tells refusal r.point line) holds' mid new told
       → refused' ≡ refused + refusal_count told → studies' ≡ studies + study_count told
-      → ToldOn holds' script next old new first (n + 1) refused' studies'
-  ToldOn-more holds holds' script now next old mid new first line n refused refused' studies studies' told r t short (a, is, wrote, held, same) k j =
+      → ((s : State) → holds' s → board ≡ s.board)
+      → ((more : List (Plainly × ℕ)) → Lists more → Lists' (more ++ listed_in told board (studies + 1)))
+      → ToldOn holds' Lists' script next old new first (n + 1) refused' studies'
+  ToldOn-more holds holds' Lists Lists' board script now next old mid new first line n refused refused' studies studies' told r t short
+      (a, is, wrote, held, same) k j seen l =
       let counts = counts-more r.point line a (kind_in (command_of line)) is in
       record {
         point = a.after;
-        told = told_more script now next old mid new first r.point line a n refused refused' r.told t short is wrote
-            (k ∙ ap (λ (x : Told). refused + refusal_count x) same);
+        told = told_more Lists Lists' script now next old mid new first r.point line a n refused refused' r.told t short is wrote
+            (k ∙ ap (λ (x : Told). refused + refusal_count x) same)
+            (λ more h. subst (λ (x : List (Plainly × ℕ)). Lists' (more ++ x))
+            (listed-same told a.told board a.after.state.board (studies + 1) a.after.studies same (seen a.after.state held)
+            (λ one. ap (λ i. i + 1) r.studies_are ∙ ap (λ i. r.point.studies + i) (sym one) ∙ sym counts.1)) (l more h));
         held = held;
         lines_are = ap (λ i. i + 1) r.lines_are ∙ omega arith ∙ sym counts.0;
         studies_are = j ∙ ap (λ (x : Told). studies + study_count x) same ∙ ap (λ i. i + study_count a.told) r.studies_are ∙ sym counts.1;

@@ -3,6 +3,7 @@ use Rattle.std.proofs.Common.{◌≡◌, ℕ, suc, Bool, true, false, List, [], 
 use Rattle.std.specs.Prelude.{IfOk, IfErr}
 use Rattle.std.specs.Io.KnownBytes.{Appends}
 use Rattle.std.proofs.KnownBytes.{Appends-nil}
+use Rattle.std.proofs.lemmas.List.{append-nil}
 use Rattle.std.proofs.lemmas.Result.{IfOk-weaker, IfErr-weaker}
 use Rattle.study_tablefile.specs.Taken.{TakesPrefix}
 use Rattle.study_marks.specs.Edits.{Plainly}
@@ -15,6 +16,7 @@ use Rattle.study_script.specs.Held.{Answered}
 use Rattle.study_report.specs.declared.kind.Kind.TheVariants.{Study, Checked}
 use Rattle.study_report.specs.declared.told.Told.{Told}
 use Rattle.study_report.specs.declared.told.Told.TheVariants.{Nothing, Study as AStudy, Refusal as ARefusal}
+use Rattle.study_report.specs.Told.{study_count, listed_in}
 use Rattle.study_report.specs.Told.{Point, Added, IsLeftOut, IsStudyTold, IsAddedAs, IsPgnAfter, IsCheckedAfter}
 use Rattle.study_report.specs.Told.{nothing_added, study_added, refusal_added}
 use Rattle.study_report.specs.Written.{Adds, Stops, StopsIn, IsSection, IsSectionPart, IsReplied}
@@ -22,6 +24,27 @@ use Rattle.study_report.specs.Written.{Adds, Stops, StopsIn, IsSection, IsSectio
 -- what holds of whatever is written of a refusal
 abbrev pub RefusalWritten : List ℕ → Option (List ℕ) → Option (List ℕ) → Told → Type 0
 RefusalWritten text old new told = (told ≡ ARefusal) × Appends old new text
+
+-- a refusal is no study
+pub refusal-none : (r : Result Told RunFault) (text : List ℕ) (old new : Option (List ℕ)) → IfOk r (RefusalWritten text old new)
+    → IfOk r (λ t. study_count t ≡ 0)
+refusal-none r text old new h =
+    IfOk-weaker r (RefusalWritten text old new) (λ t. study_count t ≡ 0) (λ t (e, wrote). ap study_count e) h
+
+none-in : (t : Told) (board : Board) (number : ℕ) → study_count t ≡ 0 → listed_in t board number ≡ []
+none-in Nothing board number e = refl
+none-in AStudy board number e = absurd cc
+none-in ARefusal board number e = refl
+
+pub nothing-listed : (Lists : List (Plainly × ℕ) → Type 0) (told : List (Plainly × ℕ)) → Lists told → Lists (told ++ [])
+nothing-listed Lists told kept = subst Lists (sym (append-nil told)) kept
+
+-- where no study was told, the list stays
+pub none-listed : (Lists : List (Plainly × ℕ) → Type 0) (r : Result Told RunFault) (told : List (Plainly × ℕ)) (board : Board) (number : ℕ)
+    → IfOk r (λ t. study_count t ≡ 0) → Lists told → IfOk r (λ t. Lists (told ++ listed_in t board number))
+none-listed Lists r told board number h kept =
+    IfOk-weaker r (λ t. study_count t ≡ 0) (λ t. Lists (told ++ listed_in t board number))
+    (λ t e. subst (λ (x : List (Plainly × ℕ)). Lists (told ++ x)) (sym (none-in t board number e)) (nothing-listed Lists told kept)) h
 
 pub adds-weaker : (I J : Added → Type 0) (H K : State → Type 0) (r : Result Told RunFault) (old new : Option (List ℕ)) → ((a : Added) → I a → J a)
     → ((s : State) → H s → K s) → IfOk r (Adds I H old new) → IfOk r (Adds J K old new)

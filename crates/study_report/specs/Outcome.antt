@@ -12,7 +12,7 @@ use Rattle.study_script.specs.declared.run.RunFault.TheVariants.{ReadDevice, Wri
 use Rattle.study_script.specs.State.{State, empty}
 use Rattle.study_material.specs.declared.class.Class.{Class}
 use Rattle.study_script.specs.Outcome.{AreShort, AreLeft, Shape as ScriptShape}
-use Rattle.study_report.specs.Told.{Point, Added, IsAdded, refusal_count}
+use Rattle.study_report.specs.Told.{Point, Added, IsAdded, refusal_count, studies_in}
 
 -- no study and no start; these classes are held, and their tables may fail in any way; of files nothing is known
 abbrev pub over_tables : List Class → Bool → State
@@ -63,6 +63,11 @@ module _ (tells : Plainly → ℕ → List ℕ → Type 0) (refusal : ℕ → Li
   abbrev pub IsFollowed : State → List ℕ → Option (List ℕ) → Option (List ℕ) → (State → Type 0) → Type 0
   IsFollowed first script old new HoldsIt = (added : List Added) × AreAdded (begun first) (script_lines script) added
       × Appends old new (report_text added) × HoldsIt (point_after (begun first) added).state
+
+  -- what all lines of a script add is written, and this is true of the studies that they told
+  abbrev pub AreListed : State → List ℕ → Option (List ℕ) → Option (List ℕ) → (List (Plainly × ℕ) → Type 0) → Type 0
+  AreListed first script old new Lists = (added : List Added) × AreAdded (begun first) (script_lines script) added
+      × Appends old new (report_text added) × Lists (studies_in added)
 
   -- what is held at the beginning, the bytes of a script, what the reader has left of them, what the writer had and has, and the answer
   abbrev pub Outcome : State → List ℕ → Option (List ℕ) → Option (List ℕ) → Option (List ℕ) → Result Summary RunFault → Type 0

@@ -1,5 +1,5 @@
 -- What a report tells of the lines of a script.
-use Rattle.std.specs.Prelude.{◌≡◌, ◌⊎◌, ℕ, suc, Bool, true, false, List, [], Option, Some, None, Result, Ok, Err}
+use Rattle.std.specs.Prelude.{◌≡◌, ◌⊎◌, ℕ, suc, Bool, true, false, List, [], ◌∷◌, ◌++◌, Option, Some, None, Result, Ok, Err}
 use Rattle.study_board.specs.Position.{Position}
 use Rattle.study_material.specs.declared.class.Class.{Class}
 use Rattle.study_material.specs.Class.{IsOf}
@@ -11,7 +11,7 @@ use Rattle.study_command.specs.Asking.{Asks, of_class, pgn, command_of}
 use Rattle.study_reply.specs.declared.refusal.Refusal.{Refusal}
 use Rattle.study_reply.specs.declared.refusal.Refusal.TheVariants.{NotAClass, OutOfMemory}
 use Rattle.study_reply.specs.Names.{of_probe}
-use Rattle.study_script.specs.State.{State, Outside, study, is_among}
+use Rattle.study_script.specs.State.{State, Board, empty, start, study, Outside, is_among}
 use Rattle.study_script.specs.Replies.{Reply, IsReply, refused, class_told}
 use Rattle.study_report.specs.declared.kind.Kind.{Kind}
 use Rattle.study_report.specs.declared.kind.Kind.TheVariants.{PassedOver, NoClass, Study, Checked}
@@ -81,6 +81,23 @@ IsUntoldIn s fault = IsUntoldBy (is_among s.classes) s.paged (λ c f. s.shelf.fa
 -- why a study is left out: for want of memory, or a value is not told
 abbrev pub IsLeftOut : State → Refusal → Type 0
 IsLeftOut s why = (why ≡ OutOfMemory) ⊎ ((fault : ProbeFault) × IsUntoldIn s fault × (why ≡ of_probe fault))
+
+-- the study on a board, with its number, where there is one
+abbrev pub studies_on : Board → ℕ → List (Plainly × ℕ)
+studies_on empty number = []
+studies_on (start s) number = []
+studies_on (study plain) number = (plain, number) ∷ []
+
+-- the study that a line told, which is on this board
+abbrev pub listed_in : Told → Board → ℕ → List (Plainly × ℕ)
+listed_in Nothing board number = []
+listed_in AStudy board number = studies_on board number
+listed_in ARefusal board number = []
+
+-- the studies that lines told, each with its number
+abbrev pub studies_in : List Added → List (Plainly × ℕ)
+studies_in [] = []
+studies_in (a ∷ more) = listed_in a.told a.after.state.board a.after.studies ++ studies_in more
 
 module _ (tells : Plainly → ℕ → List ℕ → Type 0) (refusal : ℕ → List ℕ → List ℕ → List ℕ) where
   -- the line is refused: it takes no number of a study

@@ -1,5 +1,5 @@
 //! What a line adds to a report.
-ghost use Rattle.std.specs.Prelude.{◌≡◌, ◌<◌, ◌⊎◌, suc, IfOk, IfErr, codes};
+ghost use Rattle.std.specs.Prelude.{◌≡◌, ◌<◌, ◌+◌, ◌⊎◌, ℕ, suc, List, ◌++◌, IfOk, IfErr, codes};
 ghost use Rattle.std.specs.Io.KnownBytes.{Appends};
 ghost use Rattle.study_marks.specs.Edits.{Plainly};
 ghost use Rattle.study_command.specs.Asking.{command_of};
@@ -7,10 +7,10 @@ ghost use Rattle.study_reply.specs.Names.{words_of};
 ghost use Rattle.study_reply.specs.Words.{reply_line};
 ghost use Rattle.study_script.specs.declared.run.RunFault.TheVariants.{WriteDevice, OutOfMemory};
 ghost use Rattle.study_script.specs.State.{State, study};
-ghost use Rattle.study_script.specs.Held.{Holds};
+ghost use Rattle.study_script.specs.Held.{Holds, board_seen};
 ghost use Rattle.study_script.specs.Desk.{DeskHolds};
 ghost use Rattle.study_script.specs.Stored.{HonestOn, IsTrusted};
-ghost use Rattle.study_report.specs.Told.{Point, kind_in, IsAdded, IsAddedAs, IsAt, IsStudyTold};
+ghost use Rattle.study_report.specs.Told.{Point, kind_in, IsAdded, IsAddedAs, IsAt, IsStudyTold, study_count, listed_in};
 ghost use Rattle.study_report.specs.Written.{none_trusted, Adds, StopsIn, Stops, IsReplied};
 
 use crate::kind::{Kind, kind_of};
@@ -70,6 +70,7 @@ fn add_refusal<'a, A: Allocator, W: Write, T: Report>(
     ensures ok { IfOk result (λ told. (told ≡ Told.Refusal)
         × Appends (W.contents out.old) (W.contents out.new) (T.refusal number line.now reply.now)) }
     ensures err { IfErr result (StopsIn (T.refusal number line.now reply.now) (W.contents out.old) (W.contents out.new)) }
+    ensures listed { (told : List (Plainly × ℕ)) → T.lists report.old told → T.lists report.new told }
     ensures stops { IfErr result (λ e. (e ≡ WriteDevice) ⊎ (e ≡ OutOfMemory)) }
 {
     match report.add_refusal(alloc, number, line, reply, out) {
@@ -92,6 +93,7 @@ fn refuse_line<'a, A: Allocator, W: Write, T: Report>(
         × Appends (W.contents out.old) (W.contents out.new) (T.refusal number line.now (reply_line (codes "error ") (words_of refusal)))) }
     ensures err { IfErr result (StopsIn (T.refusal number line.now (reply_line (codes "error ") (words_of refusal)))
         (W.contents out.old) (W.contents out.new)) }
+    ensures listed { (told : List (Plainly × ℕ)) → T.lists report.old told → T.lists report.new told }
     ensures stops { IfErr result (λ e. (e ≡ WriteDevice) ⊎ (e ≡ OutOfMemory)) }
 {
     let mut reply = MemoryWriter::new(alloc);
@@ -122,6 +124,8 @@ fn add_checked<'a, 's, S: TableStore, A: Allocator, W: Write, T: Report>(
         desk.old.board desk.old.tables desk.old.store.now p.state
         → number ≡ suc p.lines
         → IfErr result (Stops (IsAddedAs T.tells T.refusal Kind.Checked p line.now) (W.contents out.old) (W.contents out.new)) }
+    ensures listed { (told : List (Plainly × ℕ)) → T.lists report.old told → T.lists report.new told }
+    ensures told_none { IfOk result (λ t. study_count t ≡ 0) }
     ensures stops { IfErr result (λ e. (e ≡ WriteDevice) ⊎ (e ≡ OutOfMemory)) }
 {
     let reply = reply_to(desk, line)?;
@@ -150,6 +154,8 @@ fn tell_study<'a, P: PageSource, A: Allocator, W: Write, T: Report>(
     ensures err { (p : Point) (s : State) (plain : Plainly) → Holds P.honest P.gives board.now tables.old s → s.board ≡ study plain
         → IsAt p at
         → IfErr result (Stops (IsStudyTold T.tells T.refusal p s line.now) (W.contents out.old) (W.contents out.new)) }
+    ensures listed { (s : State) (told : List (Plainly × ℕ)) → Holds P.honest P.gives board.now tables.old s → T.lists report.old told
+        → IfOk result (λ t. T.lists report.new (told ++ listed_in t s.board (at.studies + 1))) }
     ensures stops { IfErr result (λ e. (e ≡ WriteDevice) ⊎ (e ≡ OutOfMemory)) }
 {
     match add_section(alloc, board, tables, report, at.studies + 1, out) {
@@ -186,6 +192,11 @@ fn add_pgn<'a, 's, S: TableStore, A: Allocator, W: Write, T: Report>(
         desk.old.board desk.old.tables desk.old.store.now p.state
         → IsAt p at
         → IfErr result (Stops (IsAddedAs T.tells T.refusal Kind.Study p line.now) (W.contents out.old) (W.contents out.new)) }
+    ensures listed { (p : Point) (told : List (Plainly × ℕ)) → kind_in (command_of line.now) ≡ Kind.Study →
+        DeskHolds S.Pages.honest S.Pages.gives (HonestOn none_trusted S.honest) S.files S.headers S.faults
+        desk.old.board desk.old.tables desk.old.store.now p.state
+        → T.lists report.old told
+        → IfOk result (λ t. T.lists report.new (told ++ listed_in t (board_seen desk.new.board) (at.studies + 1))) }
     ensures stops { IfErr result (λ e. (e ≡ WriteDevice) ⊎ (e ≡ OutOfMemory)) }
 {
     let alloc = desk.alloc;
@@ -219,6 +230,11 @@ pub fn add_line<'a, 's, S: TableStore, A: Allocator, W: Write, T: Report>(
         desk.old.board desk.old.tables desk.old.store.now p.state
         → IsAt p at
         → IfErr result (Stops (IsAdded T.tells T.refusal p line.now) (W.contents out.old) (W.contents out.new)) }
+    ensures listed { (p : Point) (told : List (Plainly × ℕ)) →
+        DeskHolds S.Pages.honest S.Pages.gives (HonestOn none_trusted S.honest) S.files S.headers S.faults
+        desk.old.board desk.old.tables desk.old.store.now p.state
+        → T.lists report.old told
+        → IfOk result (λ t. T.lists report.new (told ++ listed_in t (board_seen desk.new.board) (at.studies + 1))) }
     ensures stops { IfErr result (λ e. (e ≡ WriteDevice) ⊎ (e ≡ OutOfMemory)) }
 {
     match kind_of(line) {

@@ -1,11 +1,12 @@
 //! A report over a whole script.
-ghost use Rattle.std.specs.Prelude.{◌≡◌, List, IfSome, OnOk};
+ghost use Rattle.std.specs.Prelude.{◌≡◌, ℕ, List, ◌++◌, IfSome, OnOk};
 ghost use Rattle.study_material.specs.declared.class.Class.{Class as AClass};
+ghost use Rattle.study_marks.specs.Edits.{Plainly};
 ghost use Rattle.study_script.specs.State.{State, is_among};
 ghost use Rattle.study_script.specs.Held.{tables_honest, tables_held, are_paged};
 ghost use Rattle.study_script.specs.Desk.{DeskHolds};
 ghost use Rattle.study_script.specs.Stored.{HonestOn};
-ghost use Rattle.study_report.specs.Outcome.{IsFollowed, Outcome, Shape, over_tables};
+ghost use Rattle.study_report.specs.Outcome.{IsFollowed, AreListed, Outcome, Shape, over_tables};
 ghost use Rattle.study_report.specs.Written.{none_trusted};
 
 use crate::adding::add_line;
@@ -41,6 +42,11 @@ pub fn follow<'a, 's, R: Read, W: Write, S: TableStore, A: Allocator, T: Report>
         → OnOk result (IfSome (R.remaining script.old) (λ bytes. IsFollowed T.tells T.refusal first bytes (W.contents out.old) (W.contents out.new)
         (DeskHolds S.Pages.honest S.Pages.gives (HonestOn none_trusted S.honest) S.files S.headers S.faults
         desk.new.board desk.new.tables desk.new.store.now))) }
+    ensures listed { (first : State) (told : List (Plainly × ℕ)) → DeskHolds S.Pages.honest S.Pages.gives (HonestOn none_trusted S.honest)
+        S.files S.headers S.faults desk.old.board desk.old.tables desk.old.store.now first
+        → T.lists report.old told
+        → OnOk result (IfSome (R.remaining script.old) (λ bytes. AreListed T.tells T.refusal first bytes (W.contents out.old) (W.contents out.new)
+        (λ more. T.lists report.new (told ++ more)))) }
     ensures shape { IfSome (R.remaining script.old) (λ bytes. Shape bytes (R.remaining script.new) result) }
 {
     let mut refused = 0u32;
@@ -86,6 +92,10 @@ pub fn follow_script<'a, R: Read, W: Write, P: PageSource, A: Allocator, T: Repo
         → IfSome (R.remaining script.old)
         (λ bytes. Outcome T.tells T.refusal (over_tables classes (are_paged tables.entry)) bytes (R.remaining script.new)
         (W.contents out.old) (W.contents out.new) result) }
+    ensures listed { (classes : List AClass) (told : List (Plainly × ℕ)) → tables_honest P.honest tables.entry
+        → ((c : AClass) → tables_held tables.entry c ≡ is_among classes c) → T.lists report.old told
+        → OnOk result (IfSome (R.remaining script.old) (λ bytes. AreListed T.tells T.refusal (over_tables classes (are_paged tables.entry)) bytes
+        (W.contents out.old) (W.contents out.new) (λ more. T.lists report.new (told ++ more)))) }
     ensures shape { IfSome (R.remaining script.old) (λ bytes. Shape bytes (R.remaining script.new) result) }
 {
     let mut store = NoFiles::new();
@@ -105,6 +115,11 @@ fn follow_over<'a, R: Read, W: Write, S: TableStore, A: Allocator, T: Report>(
         Board.Empty tables.entry store.old first
         → IfSome (R.remaining script.old)
         (λ bytes. Outcome T.tells T.refusal first bytes (R.remaining script.new) (W.contents out.old) (W.contents out.new) result) }
+    ensures listed { (first : State) (told : List (Plainly × ℕ)) → DeskHolds S.Pages.honest S.Pages.gives (HonestOn none_trusted S.honest)
+        S.files S.headers S.faults Board.Empty tables.entry store.old first
+        → T.lists report.old told
+        → OnOk result (IfSome (R.remaining script.old) (λ bytes. AreListed T.tells T.refusal first bytes (W.contents out.old) (W.contents out.new)
+        (λ more. T.lists report.new (told ++ more)))) }
     ensures shape { IfSome (R.remaining script.old) (λ bytes. Shape bytes (R.remaining script.new) result) }
 {
     let Ok(mut line) = Line::new(alloc) else {

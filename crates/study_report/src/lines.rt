@@ -1,5 +1,5 @@
 //! A report in lines of plain text, a fact a line.
-ghost use Rattle.std.specs.Prelude.{◌≡◌, ◌++◌, drop, codes, decimal, Err, OnOk, OnErr};
+ghost use Rattle.std.specs.Prelude.{◌≡◌, drop, OnOk, OnErr};
 ghost use Rattle.std.specs.Io.KnownBytes.{Appends};
 ghost use Rattle.study_tablefile.specs.Taken.{TakesPrefix};
 ghost use Rattle.study_report.specs.Lines.{refusal_line};
@@ -23,6 +23,9 @@ impl Report for Lines {
     ghost tells = { λ plain number text. IsReviewOf plain number text };
 
     ghost refusal = { λ number line reply. refusal_line number reply };
+
+    // Nothing is kept.
+    ghost lists = { λ lines told. Unit {0} };
 
     fn add_study<'a, 'b, A: Allocator, B: Allocator, V: Values, W: Write>(
         &mut self,

@@ -13,6 +13,8 @@ pub struct NoFiles<P: PageSource> {
 }
 
 impl<P: PageSource> NoFiles<P> {
+    /// A store that has no file of any class.
+    /// No contract: what its trait says of it holds of each value of the type.
     pub fn new() -> Self {
         NoFiles { source: None }
     }

@@ -1,5 +1,5 @@
 //! What a report writes.
-ghost use Rattle.std.specs.Prelude.{◌≡◌, ℕ, List, Err, OnOk};
+ghost use Rattle.std.specs.Prelude.{◌≡◌, ℕ, List, [], ◌∷◌, ◌++◌, Err, OnOk, OnErr};
 ghost use Rattle.std.specs.Io.KnownBytes.{Appends};
 ghost use Rattle.study_prober.specs.declared.values.ProbeFault.{ProbeFault as AProbeFault};
 ghost use Rattle.study_tablefile.specs.Taken.{TakesPrefix};
@@ -44,6 +44,9 @@ pub trait Report {
     /// What is told of a refused line: of its number among all lines, its bytes, and the script's reply to it.
     ghost refusal: { ℕ → List ℕ → List ℕ → List ℕ };
 
+    /// What the report keeps for its end is of these studies, each with its number, in the order in which they were told.
+    ghost lists: { Self → List (Plainly × ℕ) → Type 0 };
+
     /// Tells of a study, the one of this number. Nothing is written before its last value was asked.
     fn add_study<'a, 'b, A: Allocator, B: Allocator, V: Values, W: Write>(
         &mut self,
@@ -59,6 +62,9 @@ pub trait Report {
             × tells (plain_study (marked bench.now)) number text × TakesPrefix (W.contents out.old) (W.contents out.new) text }
         ensures memory { result ≡ Err ReviewFault.OutOfMemory → out.new ≡ out.old }
         ensures untold { (fault : AProbeFault) → result ≡ Err (ReviewFault.Values fault) → out.new ≡ out.old }
+        ensures listed { (told : List (Plainly × ℕ)) → V.is_honest values.old → IsKeptRight bench.now → lists self.old told
+            → OnOk result (lists self.new (told ++ (plain_study (marked bench.now), number) ∷ [])) }
+        ensures unlisted { (told : List (Plainly × ℕ)) → lists self.old told → OnErr result (lists self.new told) }
         ensures asked { HasReviewed V.held V.gives V.may_fail V.asked_of V.failed_of V.is_honest values.old result values.new };
 
     /// Tells of a refused line: its number, its bytes, and the script's reply to it.
@@ -72,5 +78,6 @@ pub trait Report {
     ) -> Result<(), NotTold>
         ensures told { OnOk result (Appends (W.contents out.old) (W.contents out.new) (refusal number line.now reply.now)) }
         ensures device { result ≡ Err NotTold.Device → TakesPrefix (W.contents out.old) (W.contents out.new) (refusal number line.now reply.now) }
-        ensures memory { result ≡ Err NotTold.OutOfMemory → out.new ≡ out.old };
+        ensures memory { result ≡ Err NotTold.OutOfMemory → out.new ≡ out.old }
+        ensures listed { (told : List (Plainly × ℕ)) → lists self.old told → lists self.new told };
 }

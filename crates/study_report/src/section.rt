@@ -1,15 +1,16 @@
 //! What an accepted `pgn` line adds.
-ghost use Rattle.std.specs.Prelude.{◌≡◌, ℕ, List, Err, OnOk};
+ghost use Rattle.std.specs.Prelude.{◌≡◌, ℕ, List, [], ◌∷◌, ◌++◌, Err, OnOk, OnErr};
 ghost use Rattle.std.specs.Io.KnownBytes.{Appends};
 ghost use Rattle.study_material.specs.declared.class.Class.{Class as AClass};
 ghost use Rattle.study_tablefile.specs.declared.fault.SourceFault.{SourceFault as ASourceFault};
 ghost use Rattle.study_tablefile.specs.Taken.{TakesPrefix};
 ghost use Rattle.study_prober.specs.declared.values.ProbeFault.{ProbeFault as AProbeFault};
+ghost use Rattle.study_marks.specs.Edits.{Plainly};
 ghost use Rattle.study_marks.specs.Kept.{marked, IsKeptRight};
 ghost use Rattle.study_marks.specs.Study.{plain_study};
 ghost use Rattle.study_script.specs.State.{State};
 ghost use Rattle.study_script.specs.Held.{Holds, tables_honest, tables_held, tables_may_fail, are_paged};
-ghost use Rattle.study_report.specs.Told.{IsUntoldBy, IsUntoldIn};
+ghost use Rattle.study_report.specs.Told.{IsUntoldBy, IsUntoldIn, studies_on};
 ghost use Rattle.study_report.specs.Written.{IsSection, IsSectionPart};
 
 use crate::report::Report;
@@ -37,6 +38,9 @@ pub fn add_study<'a, P: PageSource, A: Allocator, W: Write, T: Report>(
         × T.tells (plain_study (marked bench.now)) number text × TakesPrefix (W.contents out.old) (W.contents out.new) text }
     ensures memory { result ≡ Err ReviewFault.OutOfMemory → out.new ≡ out.old }
     ensures untold { (fault : AProbeFault) → result ≡ Err (ReviewFault.Values fault) → out.new ≡ out.old }
+    ensures listed { (told : List (Plainly × ℕ)) → tables_honest P.honest tables.old → IsKeptRight bench.now → T.lists report.old told
+        → OnOk result (T.lists report.new (told ++ (plain_study (marked bench.now), number) ∷ [])) }
+    ensures unlisted { (told : List (Plainly × ℕ)) → T.lists report.old told → OnErr result (T.lists report.new told) }
     ensures why { (fault : AProbeFault) → tables_honest P.honest tables.old → result ≡ Err (ReviewFault.Values fault)
         → IsUntoldBy (tables_held tables.old) (are_paged tables.old) (tables_may_fail P.gives tables.old) fault }
     ensures honest { tables_honest P.honest tables.old → tables_honest P.honest tables.new }
@@ -65,6 +69,9 @@ pub fn add_section<'a, P: PageSource, A: Allocator, W: Write, T: Report>(
         → IsSectionPart T.tells s.board number (W.contents out.old) (W.contents out.new) }
     ensures memory { result ≡ Err ReviewFault.OutOfMemory → out.new ≡ out.old }
     ensures untold { (fault : AProbeFault) → result ≡ Err (ReviewFault.Values fault) → out.new ≡ out.old }
+    ensures listed { (s : State) (told : List (Plainly × ℕ)) → Holds P.honest P.gives board.now tables.old s → T.lists report.old told
+        → OnOk result (T.lists report.new (told ++ studies_on s.board number)) }
+    ensures unlisted { (told : List (Plainly × ℕ)) → T.lists report.old told → OnErr result (T.lists report.new told) }
     ensures why { (s : State) (fault : AProbeFault) → Holds P.honest P.gives board.now tables.old s → result ≡ Err (ReviewFault.Values fault)
         → IsUntoldIn s fault }
     ensures holds { (s : State) → Holds P.honest P.gives board.now tables.old s → Holds P.honest P.gives board.now tables.new s }

@@ -7,17 +7,19 @@ use std::alloc::Global;
 use study_program::{VERSION, folder_of};
 
 const ABOUT: &str =
-    "Tells of the studies of a script, from standard input to standard output: each line 'pgn' that is accepted adds a review of the study.";
+    "Prints the studies of a script, from standard input to standard output, as HTML: each line 'pgn' that is accepted adds the study's page.";
 
 const LINES: &str =
     "The script is that of studybench. Its lines 'build', 'load', 'save' and 'verify' are passed over: each table whose file is in
-the folder is opened before the first line. A line that is refused adds 'refused LINE NAME'.
+the folder is opened before the first line. A line that is refused is told where it stands.
 
 Exit status: 0 no line was refused; 1 some line was; 2 the command line was; 3 the run stopped at a fault.";
 
 /// How studies are told.
 #[derive(Clone, Copy, Debug, PartialEq, Eq)]
 pub enum Form {
+    /// As printed pages, in HTML.
+    Pages,
     /// As lines of plain text, a fact a line.
     Lines,
 }
@@ -29,8 +31,10 @@ pub struct Options<'a> {
     pub tables: &'a str,
     /// How many pages of tables are kept: 1 to 4,096.
     pub pages: u16,
-    /// How studies are told, where that is said.
-    pub form: Option<Form>,
+    /// How studies are told.
+    pub form: Form,
+    /// Whether standard error is told how many studies were printed, after every ten.
+    pub progress: bool,
     ghost named: { 0 < length tables.now },
     ghost some: { 1 ≤ pages },
     ghost few: { pages ≤ 4096 },
@@ -57,22 +61,31 @@ pub fn read_words<'a>(alloc: Global, words: &'a [String]) -> Result<Options<'a>,
     let lines = Arg::new(alloc, "lines")
         .long("lines")
         .action(ArgAction::SetTrue)
-        .help("Tells facts as lines of plain text, a fact a line");
+        .help("Tells facts as lines of plain text, a fact a line, and not as pages");
+    let progress = Arg::new(alloc, "progress")
+        .long("progress")
+        .action(ArgAction::SetTrue)
+        .help(
+            "Tells on standard error, after every ten pages, how many studies were printed; of lines nothing",
+        );
     let command = Command::new(alloc, "studyreport")
         .version(VERSION)
         .about(ABOUT)
         .after_help(LINES)
         .arg(tables)?
         .arg(pages)?
-        .arg(lines)?;
+        .arg(lines)?
+        .arg(progress)?;
     let matches = command.try_get_matches_from(words)?;
     let tables = folder_of(matches.get_str("tables"));
     let pages = pages_of(matches.get_one::<u16>("pages"));
     let form = form_of(matches.get_flag("lines"));
+    let progress = matches.get_flag("progress");
     Ok(Options {
         tables,
         pages,
         form,
+        progress,
     })
 }
 
@@ -88,6 +101,6 @@ fn pages_of(given: Option<u16>) -> u16
 }
 
 /// The form that is asked for.
-fn form_of(lines: bool) -> Option<Form> {
-    if lines { Some(Form::Lines) } else { None }
+fn form_of(lines: bool) -> Form {
+    if lines { Form::Lines } else { Form::Pages }
 }

@@ -5,6 +5,7 @@ ghost use Rattle.study_program.specs.Status.{status_told, status_unread};
 ghost use Rattle.study_report_program.specs.Ended.{EndsBy, HasReported};
 
 use crate::options::{Form, Options, read_words};
+use crate::progress::Progress;
 use crate::status::put_stop;
 use crate::tables::open_tables;
 use clap::Error;
@@ -13,9 +14,10 @@ use std::io;
 use std::io::{BufReader, ErrorKind, LineWriter, Read, Write};
 use std::process::ExitCode;
 use std::rt::Files;
+use study_print::follow_pages;
 use study_prober::PagedTables;
 use study_program::{FolderStore, status_of, status_without_options, words_of};
-use study_report::{Lines, Report, follow_script};
+use study_report::{Lines, follow_script};
 use study_script::run::{RunFault, Summary};
 use study_script::tables::Tables;
 
@@ -31,7 +33,7 @@ pub fn studyreport(rt: &HostRuntime) -> ExitCode {
         Err(error) => return ExitCode::from(not_read(rt, &error)),
     };
     match read_words(rt.alloc(), words.as_slice()) {
-        Ok(options) => ExitCode::from(report_in_form(rt, &options)),
+        Ok(options) => ExitCode::from(report_streams(rt, &options)),
         Err(error) => ExitCode::from(answered(rt, &error)),
     }
 }
@@ -60,18 +62,7 @@ fn answered(rt: &HostRuntime, error: &Error) -> u8
     status
 }
 
-/// Reports in the form that is asked for.
-fn report_in_form(rt: &HostRuntime, options: &Options<'_>) -> u8 {
-    match options.form {
-        Some(Form::Lines) => report_streams(rt, options, &mut Lines),
-        None => {
-            let _ = eprintln!(rt; "studyreport: say --lines, the one form that there is");
-            2
-        }
-    }
-}
-
-fn report_streams<T: Report>(rt: &HostRuntime, options: &Options<'_>, report: &mut T) -> u8 {
+fn report_streams(rt: &HostRuntime, options: &Options<'_>) -> u8 {
     let alloc = rt.alloc();
     let mut errors = rt.stderr();
     let Ok(mut script) = BufReader::new(alloc, rt.stdin()) else {
@@ -80,31 +71,22 @@ fn report_streams<T: Report>(rt: &HostRuntime, options: &Options<'_>, report: &m
     let Ok(mut out) = LineWriter::new(alloc, rt.stdout()) else {
         return ended(&mut errors, &Err(RunFault::OutOfMemory));
     };
-    report_script(
-        rt,
-        &alloc,
-        options,
-        report,
-        &mut script,
-        &mut out,
-        &mut errors,
-    )
+    report_script(rt, &alloc, options, &mut script, &mut out, &mut errors)
 }
 
 /// Reports a script over the tables of a folder, tells on `errors` which files give no table and why the run stopped, if it did, and
 /// answers the exit status.
-pub fn report_script<F: Files, A: Allocator, T: Report, R: Read, W: Write, E: Write>(
+pub fn report_script<F: Files, A: Allocator, R: Read, W: Write, E: Write>(
     files: &F,
     alloc: &A,
     options: &Options<'_>,
-    report: &mut T,
     script: &mut R,
     out: &mut W,
     errors: &mut E,
 ) -> u8
-    ensures { EndsBy (HasReported (R.remaining script.old) (R.remaining script.new)) result }
+    ensures { EndsBy (HasReported options.now.form (R.remaining script.old) (R.remaining script.new)) result }
 {
-    let mut answer = report_over_files(files, alloc, options, report, script, out, errors);
+    let mut answer = report_over_files(files, alloc, options, script, out, errors);
     // What is left in a buffer of the writer is told too.
     if out.flush().is_err() {
         answer = Err(RunFault::WriteDevice);
@@ -123,16 +105,15 @@ fn ended<E: Write>(errors: &mut E, answer: &Result<Summary, RunFault>) -> u8
 }
 
 /// Reports a script over the tables of a folder, and tells on `errors` which files give no table.
-fn report_over_files<F: Files, A: Allocator, T: Report, R: Read, W: Write, E: Write>(
+fn report_over_files<F: Files, A: Allocator, R: Read, W: Write, E: Write>(
     files: &F,
     alloc: &A,
     options: &Options<'_>,
-    report: &mut T,
     script: &mut R,
     out: &mut W,
     errors: &mut E,
 ) -> Result<Summary, RunFault>
-    ensures { HasReported (R.remaining script.old) (R.remaining script.new) result }
+    ensures { HasReported options.now.form (R.remaining script.old) (R.remaining script.new) result }
 {
     let Ok(mut store) = FolderStore::new(files, alloc, options.tables) else {
         return Err(RunFault::OutOfMemory);
@@ -141,5 +122,12 @@ fn report_over_files<F: Files, A: Allocator, T: Report, R: Read, W: Write, E: Wr
         return Err(RunFault::OutOfMemory);
     };
     open_tables(alloc, &mut tables, &mut store, errors);
-    follow_script(alloc, script, out, report, Tables::Paged(tables))
+    match options.form {
+        Form::Lines => follow_script(alloc, script, out, &mut Lines, Tables::Paged(tables)),
+        Form::Pages => {
+            let asked = options.progress;
+            let progress = Progress { errors, asked };
+            follow_pages(alloc, script, out, progress, Tables::Paged(tables))
+        }
+    }
 }

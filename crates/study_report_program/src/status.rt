@@ -1,4 +1,7 @@
 //! What the program tells on standard error.
+ghost use Rattle.std.specs.Prelude.{◌≡◌, ◌++◌, codes, decimal, OnOk, OnErr};
+ghost use Rattle.std.specs.Io.KnownBytes.{Appends};
+ghost use Rattle.study_tablefile.specs.Taken.{TakesPrefix};
 
 use itoa::Buffer;
 use std::io::Write;
@@ -34,4 +37,21 @@ pub fn put_file_fault<W: Write>(
     put(out, class.name().as_bytes())?;
     put(out, b".dtm: ")?;
     put(out, words)
+}
+
+/// Tells how many studies were printed, in a line of its own: `30 studies`.
+pub fn put_studies<W: Write>(out: &mut W, count: u32) -> Result<(), DeviceFailed>
+    ensures ok { OnOk result (Appends (W.contents out.old) (W.contents out.new) (decimal count ++ codes " studies\n")) }
+    ensures err { OnErr result (TakesPrefix (W.contents out.old) (W.contents out.new) (decimal count ++ codes " studies\n")) }
+{
+    let mut buffer = Buffer::new();
+    put_both(out, buffer.format(count).as_bytes(), b" studies\n")
+}
+
+fn put_both<W: Write>(out: &mut W, front: &[u8], back: &[u8]) -> Result<(), DeviceFailed>
+    ensures ok { OnOk result (Appends (W.contents out.old) (W.contents out.new) (front.now ++ back.now)) }
+    ensures err { OnErr result (TakesPrefix (W.contents out.old) (W.contents out.new) (front.now ++ back.now)) }
+{
+    put(out, front)?;
+    put(out, back)
 }

@@ -1,26 +1,34 @@
 -- Calls that ask values, one after the other.
-use Rattle.std.proofs.Common.{◌≡◌, ℕ, Bool, false, List, Result, Ok, Err, IsErrAnd, IsErrOf, refl, sym, subst, ◌∙◌}
+use Rattle.std.proofs.Common.{◌≡◌, ℕ, Bool, false, List, Result, Ok, Err, IsErrAnd, IsErrOf, IfErr, refl, sym, ap, subst, ◌∙◌}
 use Rattle.study_board.specs.Position.{Position}
 use Rattle.study_material.specs.declared.class.Class.{Class}
 use Rattle.study_tablefile.specs.declared.fault.SourceFault.{SourceFault}
-use Rattle.study_prober.specs.Values.{ProbeAnswer, IsNotDamage}
+use Rattle.study_board.specs.Counts.{counted}
+use Rattle.study_material.specs.Class.{IsOf}
+use Rattle.study_retro.specs.declared.value.Value.{Value}
+use Rattle.study_prober.specs.Values.{ProbeAnswer, IsNotDamage, faults_after}
 use Rattle.study_prober.specs.declared.values.ProbeFault.{ProbeFault}
 use Rattle.study_prober.specs.declared.values.ProbeFault.TheVariants as probe
 use Rattle.study_marks.specs.Answers.{WereTold, IsFirstFault}
 use Rattle.study_marks.specs.Told.{failures_told}
-use Rattle.study_review.specs.Asked.{HasTold, AllTold, Stopped}
+use Rattle.study_review.specs.Asked.{AllTold, Stopped}
 use Rattle.study_review.specs.Made.{HasAsked, fault_of}
 use Rattle.study_review.specs.Review.{HasReviewed}
 use Rattle.study_review.specs.declared.fault.ReviewFault.{ReviewFault}
 use Rattle.study_review.specs.declared.fault.ReviewFault.TheVariants as fault
 use Rattle.study_review.specs.declared.fault.NotMade.{NotMade}
 use Rattle.study_review.specs.declared.fault.NotMade.TheVariants.{OutOfMemory, Untold}
-use Rattle.study_review.proofs.AskedSteps.{told-none, told-then, fault-then}
+use Rattle.study_review.proofs.AskedSteps.{asked-one, told-none, told-then, fault-then}
 
 same-failures : (T U : Type 0) (f : ProbeFault) (n : ℕ) → failures_told {T = T} (Err f) n ≡ failures_told {T = U} (Err f) n
 same-failures T U (probe.NoTable c) n = refl
 same-failures T U (probe.TableRead f) n = refl
 same-failures T U (probe.PageDamaged c k) n = refl
+
+same-faults : (n : ℕ) (f : ProbeFault) → faults_after n (Err f) ≡ failures_told {T = Value} (Err f) n
+same-faults n (probe.NoTable c) = refl
+same-faults n (probe.TableRead f) = refl
+same-faults n (probe.PageDamaged c k) = refl
 
 module _ {V : Type 0} (held : V → Class → Bool) (gives : V → Position → ProbeAnswer → Type 0)
     (may_fail : V → Class → SourceFault → Type 0) (asked_of failed_of : V → ℕ) (is_honest : V → Type 0) where
@@ -107,3 +115,19 @@ module _ {V : Type 0} (held : V → Class → Bool) (gives : V → Position → 
 
   pub review-fails : {T : Type 0} (old new : V) (r : Result T ReviewFault) → IsErrAnd r (λ x. x ≡ fault.Device) → Told old new → Reviews old r new
   review-fails old new r is h = same-reviews old new r fault.Device is h
+
+  -- the answer to one question
+  abbrev pub Answered : V → ProbeAnswer → V → Type 0
+  Answered old (Ok v) new = Told old new
+  Answered old (Err f) new = Stops old f new
+
+  pub value-answered : (old new : V) (p : Position) (r : ProbeAnswer) → gives old p r → asked_of new ≡ counted (asked_of old)
+      → ((c : Class) (f : SourceFault) → IsOf c p → IsErrOf r (probe.TableRead f) → may_fail old c f)
+      → ((c : Class) (f : SourceFault) → may_fail new c f → may_fail old c f)
+      → ((c : Class) → IsErrOf r (probe.NoTable c) → held old c ≡ false) → (is_honest old → IfErr r IsNotDamage)
+      → failed_of new ≡ faults_after (failed_of old) r → (is_honest old → is_honest new) → ((c : Class) → held new c ≡ held old c)
+      → Answered old r new
+  value-answered old new p (Ok v) g n so before u d f i s = of-told old new (asked-one gives may_fail asked_of old new p (Ok v) g n so before) f i s
+  value-answered old new p (Err e) g n so before u d f i s =
+      of-fault Value old new e (asked-one gives may_fail asked_of old new p (Err e) g n so before) (λ c q. u c (ap Err q)) d
+      (f ∙ same-faults (failed_of old) e) i s

@@ -5,6 +5,7 @@ use Rattle.std.proofs.lemmas.List.{append-nil}
 use Rattle.study_board.specs.Position.{Position}
 use Rattle.study_moves.specs.declared.moves.Move.{Move}
 use Rattle.study_moves.specs.Rules.{is_legal, after}
+use Rattle.study_moves.specs.LegalList.{legal_list}
 use Rattle.study_retro.specs.declared.value.Value.{Value}
 use Rattle.study_retro.specs.Game.{IsValueOf}
 use Rattle.study_review.specs.declared.continuation.Continuation.{Continuation}
@@ -60,3 +61,12 @@ legal-goes-on p next x old mid new (Ok y) legal e t g = (
   (legal, subst (λ (q : Position). ArePlayed q g.0) e g.1),
   g.2 ∙ ap (λ (l : List Continuation). l ++ g.0) t ∙ append_assoc old (x ∷ []) g.0,
 )
+
+-- best play from moves that were told
+pub play-told : (p next : Position) (x : Continuation) (told empty mid new : List Continuation) (o : Option Continuation)
+    → AreChosen (λ v. true) p (legal_list p) told → o ≡ first_best told → o ≡ Some x → next ≡ after p x.played → empty ≡ []
+    → mid ≡ empty ++ x ∷ [] → IsPlayed 19 next mid new → IsBestPlay 20 p new
+play-told p next x told empty mid new o all best is n e t g =
+    let k : IsPlayed 20 p empty new =
+    play-goes-on {T = Unit {0}} {E = Unit {0}} 20 p next x empty mid new (Ok tt) (λ z. absurd (omega (arith, z))) (told, all, sym is ∙ best) n t g in
+    subst (λ (l : List Continuation). IsBestPlay 20 p l) (sym (k.2 ∙ ap (λ (u : List Continuation). u ++ k.0) e)) k.1

@@ -1,6 +1,6 @@
 -- The faults of the solution, one by one.
 use Rattle.std.proofs.Common.{◌≡◌, ◌==◌, ℕ, ◌+◌, Bool, true, false, not, ◌&&◌, ◌||◌, List, [], ◌∷◌}
-use Rattle.std.proofs.Common.{◌++◌, length, Option, Some, None, suc, zero, arith, refl, sym, ap, ◌∙◌, subst, length-append}
+use Rattle.std.proofs.Common.{◌++◌, length, Option, Some, None, arith, refl, sym, ap, ◌∙◌, length-append}
 use Rattle.std.specs.Prelude.{if◌then◌else◌}
 use Rattle.study_moves.specs.declared.moves.Move.{Move}
 use Rattle.study_tree.specs.Forest.{Forest, none, more}
@@ -9,7 +9,7 @@ use Rattle.study_marks.specs.declared.mark.MoveMark.{MoveMark}
 use Rattle.study_marks.specs.declared.marking.Aim.{Aim}
 use Rattle.study_marks.specs.Goals.{aim_of, hero_moves}
 use Rattle.study_marks.specs.Marks.{is_fault, own_faults, faults_in}
-use Rattle.study_review.specs.Faults.{Fault, in_solution, fault_of, faults_from, solution_faults, AreAtSolution, FaultsAreOfTheSolution}
+use Rattle.study_review.specs.Faults.{Fault, in_solution, fault_of, faults_from, AreAtSolution, FaultsAreOfTheSolution}
 
 own-listed : (hero : Bool) (path : List ℕ) (m : Move) (o : Option MoveMark) → length (fault_of hero path m o) ≡ own_faults hero o
 own-listed hero path m None = refl
@@ -41,7 +41,7 @@ listed a d path k (more m x b r) =
 
 -- ---- solution steps
 
-step-on : (a : Aim) (d : ℕ) (path : List ℕ) (k : ℕ) → in_solution a d (path ++ k ∷ []) ≡ (in_solution a d path && (not (hero_moves a (d + length path)) || (k == 0)))
+pub step-on : (a : Aim) (d : ℕ) (path : List ℕ) (k : ℕ) → in_solution a d (path ++ k ∷ []) ≡ (in_solution a d path && (not (hero_moves a (d + length path)) || (k == 0)))
 step-on a d [] k = ap (λ n. (not (hero_moves a n) || (k == 0)) && true) (let z : d ≡ d + 0 = omega arith in z) ∙ and-true (not (hero_moves a (d + 0)) || (k == 0))
   where
     and-true : (b : Bool) → (b && true) ≡ b

@@ -14,8 +14,11 @@ pub mod ChildMoves
 pub mod FaultsListed
 pub mod Asking
 pub mod WrittenOrder
+pub mod Stands
 pub mod NodesShown
 pub mod NodesTold
 pub mod OneReview
+pub mod ToldMoves
+pub mod MovesTold
 pub mod TextGrows
 pub mod WholeReview

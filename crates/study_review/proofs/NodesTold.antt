@@ -1,11 +1,14 @@
 -- The lines of one node, kind by kind.
-use Rattle.std.proofs.Common.{◌≡◌, ℕ, ◌+◌, Bool, true, false, List, [], ◌∷◌, ◌++◌, Option, Some, None, length, refl, sym, ap, subst, ◌∙◌, append_assoc}
-use Rattle.std.specs.Prelude.{MatchOption}
+use Rattle.std.proofs.Common.{◌≡◌, ◌==◌, ℕ, Bool, true, false, not, ◌&&◌, List, [], ◌++◌, Option, Some, None, length, refl, sym, ap, subst, ◌∙◌, append_assoc}
+use Rattle.std.specs.Prelude.{MatchOption, if◌then◌else◌}
 use Rattle.std.specs.List.{flat_map}
 use Rattle.std.proofs.lemmas.List.{append-nil}
 use Rattle.study_board.specs.Position.{Position}
 use Rattle.study_moves.specs.declared.moves.Move.{Move}
+use Rattle.study_moves.specs.LegalList.{legal_list}
 use Rattle.study_retro.specs.declared.value.Value.{Value}
+use Rattle.study_retro.specs.declared.value.Value.TheVariants as values
+use Rattle.study_tree.specs.Edits.{width}
 use Rattle.study_tree.specs.Tree.{spot_at}
 use Rattle.study_marks.specs.declared.marking.Aim.{Aim}
 use Rattle.study_marks.specs.declared.mark.Mark.{Mark}
@@ -14,138 +17,205 @@ use Rattle.study_marks.specs.declared.mark.MoveMark.TheVariants.{Only, Dual, Mis
 use Rattle.study_marks.specs.Bench.{played_by}
 use Rattle.study_marks.specs.Renewal.{below_at}
 use Rattle.study_marks.specs.Study.{Study, position_at}
-use Rattle.study_marks.specs.Goals.{aim_of}
+use Rattle.study_marks.specs.Goals.{aim_of, hero_moves, holds}
 use Rattle.study_review.specs.declared.continuation.Continuation.{Continuation}
-use Rattle.study_review.specs.declared.line.Made.{Made}
-use Rattle.study_review.specs.declared.line.Place.{Place}
 use Rattle.study_review.specs.declared.time.Alternative.{Alternative}
-use Rattle.study_review.specs.declared.missing.Defence.{Defence}
-use Rattle.study_review.specs.Continuations.{AreRefutations}
+use Rattle.study_review.specs.Continuations.{AreRefutations, AreChosen}
+use Rattle.study_review.specs.Faults.{in_solution}
 use Rattle.study_review.specs.Time.{AreTimedAlternatives}
 use Rattle.study_review.specs.Defences.{AreDefences}
-use Rattle.study_review.specs.Line.{line_to, moves_of, IsPlaceOf, IsMadeIn}
-use Rattle.study_review.specs.Words.{also_line, missing_line, dual_line, mistake_line, times_lost}
-use Rattle.study_review.specs.Nodes.{front_of, OnlyWhere, is_dual, is_try, is_defended, is_open_end, is_solution_move, mark_at, value_at}
-use Rattle.study_review.specs.Nodes.{refuted_text, AreAlso, AlsoLines, RefutedLines, MissingLines, IsEnd, EndLines, NodeLines, IsDual, IsFaultOf, FaultLines}
+use Rattle.study_review.specs.Line.{line_to, moves_of}
+use Rattle.study_review.specs.Words.{also_line, missing_line, keep_line, dual_line, mistake_line, times_lost}
+use Rattle.study_review.specs.Nodes.{front_of, has_none, is_dual, is_try, is_defended, is_open_end, is_solution_move, mark_at, value_at}
+use Rattle.study_review.specs.Nodes.{refuted_text, AreAlso, AlsoLines, RefutedLines, MissingLines, IsEnd, EndLines, NodeLines, IsFaultOf, FaultLines}
 use Rattle.study_review.specs.Made.{Grew}
-use Rattle.study_review.proofs.NodesShown.{front-is, are-there}
+use Rattle.study_review.specs.Stand.{IsNodeAt, IsStep}
+use Rattle.study_review.specs.Told.{AreAlsoLines, AreMissingLines, OwnLines, failing, drawing}
+use Rattle.study_review.proofs.NodesShown.{are-there, not-there, none-counted}
+use Rattle.study_review.proofs.ToldMoves.{failing-told, drawing-told, apart-told, besides-told}
 
 module _ (s : Study Mark) (path : List ℕ) where
-  module _ (x : Made) (h : IsMadeIn s path x) where
-    front : h.front ≡ front_of path
-    front = front-is path h.front h.place h.path
+  -- ---- the move to the node
 
-    pub position-before : x.before.position ≡ position_at s (front_of path)
-    position-before = h.before.position ∙ ap (position_at s) front
-
-    alternatives-at : (list : List Alternative)
-        → AreTimedAlternatives x.before.aim x.before.depth x.before.line.items x.before.position x.played list
-        → AreTimedAlternatives (aim_of s) (length (front_of path)) (line_to s (front_of path)) (position_at s (front_of path)) x.played list
+  module _ (a : Aim) (d : ℕ) (line : List Position) (p : Position) (m : Move) (h : IsStep s path a d line p m) where
+    alternatives-at : (list : List Alternative) → AreTimedAlternatives a d line p m list
+        → AreTimedAlternatives (aim_of s) (length (front_of path)) (line_to s (front_of path)) (position_at s (front_of path)) m list
     alternatives-at list k =
-        let one = subst (λ (a : Aim). AreTimedAlternatives a x.before.depth x.before.line.items x.before.position x.played list) h.before.aim k in
-        let two = subst (λ d. AreTimedAlternatives (aim_of s) d x.before.line.items x.before.position x.played list) h.before.depth one in
-        let three = subst (λ (l : List Position). AreTimedAlternatives (aim_of s) (length h.front) l x.before.position x.played list) h.before.line two in
-        let four = subst (λ (p : Position). AreTimedAlternatives (aim_of s) (length h.front) (line_to s h.front) p x.played list) h.before.position three in
-        subst (λ (u : List ℕ). AreTimedAlternatives (aim_of s) (length u) (line_to s u) (position_at s u) x.played list) front four
+        let one = subst (λ (x : Aim). AreTimedAlternatives x d line p m list) h.before.aim k in
+        let two = subst (λ n. AreTimedAlternatives (aim_of s) n line p m list) h.before.depth one in
+        let three = subst (λ (l : List Position). AreTimedAlternatives (aim_of s) (length (front_of path)) l p m list) h.line two in
+        subst (λ (q : Position). AreTimedAlternatives (aim_of s) (length (front_of path)) (line_to s (front_of path)) q m list) h.before.position three
 
-    pub also-told : (list : List Alternative) (old new : List ℕ) → is_dual (mark_at s path) ≡ true
-        → AreTimedAlternatives x.before.aim x.before.depth x.before.line.items x.before.position x.played list
-        → new ≡ old ++ flat_map (also_line path x.before.position) list → Grew (AlsoLines s path) old new
-    also-told list old new dual k grew =
-        let text = flat_map (also_line path x.before.position) list in
-        are-there (is_dual (mark_at s path)) _ old new dual (
-          text,
-          subst (λ (o : Option Move). MatchOption o (text ≡ []) (λ m. AreAlso s path m text)) (sym h.played)
-              (list, alternatives-at list k, ap (λ (p : Position). flat_map (also_line path p) list) position-before),
-          grew,
+    -- the alternatives of a dual, of the moves that were told
+    pub timed-told : (told : List Continuation) (n : ℕ) (text : List ℕ) → AreChosen (λ v. true) p (legal_list p) told
+        → AreAlsoLines path a d line p m told n text
+        → (list : List Alternative) × AreTimedAlternatives a d line p m list × (n ≡ times_lost list) × (text ≡ flat_map (also_line path p) list)
+    timed-told told n text all k = (k.0, (_, besides-told a d p m told all, k.1), k.2, k.3)
+
+    pub also-told : (told : List Continuation) (n k : ℕ) (old new : List ℕ) → mark_at s path ≡ Some (Dual k)
+        → AreChosen (λ v. true) p (legal_list p) told → Grew (AreAlsoLines path a d line p m told n) old new → Grew (AlsoLines s path) old new
+    also-told told n k old new mark all grew =
+        let x = timed-told told n grew.0 all grew.1 in
+        are-there (is_dual (mark_at s path)) _ old new (ap is_dual mark) (
+          grew.0,
+          subst (λ (o : Option Move). MatchOption o (grew.0 ≡ []) (λ n. AreAlso s path n grew.0)) (sym h.played)
+              (x.0, alternatives-at x.0 x.1, x.3 ∙ ap (λ (q : Position). flat_map (also_line path q) x.0) h.before.position),
+          grew.2,
         )
-
-    dual-at : (v : Value) (k : ℕ) (text : List ℕ)
-        → IsDual path x.before.aim x.before.depth x.before.line.items x.before.position x.played v k text
-        → IsDual path (aim_of s) (length (front_of path)) (line_to s (front_of path)) (position_at s (front_of path)) x.played v k text
-    dual-at v k text d =
-        (d.0, alternatives-at d.0 d.1, d.2 ∙ ap (λ (p : Position). dual_line path p x.played v k (times_lost d.0)) position-before)
 
     -- a fault of the solution, by its mark
-    pub fault-of : (mark : Option MoveMark) (old new : List ℕ) → is_solution_move s path ≡ true → mark ≡ mark_at s path
-        → Grew (IsFaultOf s path x.played mark) old new → Grew (FaultLines s path) old new
-    fault-of mark old new so e grew =
+    fault-of : (mark : Option MoveMark) (text : List ℕ) → mark ≡ mark_at s path → IsFaultOf s path m mark text
+        → MatchOption (played_by (spot_at s.tree path)) (text ≡ []) (λ n. IsFaultOf s path n (mark_at s path) text)
+    fault-of mark text e k =
+        subst (λ (o : Option Move). MatchOption o (text ≡ []) (λ n. IsFaultOf s path n (mark_at s path) text)) (sym h.played)
+        (subst (λ (o : Option MoveMark). IsFaultOf s path m o text) e k)
+
+    pub dual-told : (told : List Continuation) (n k : ℕ) (v : Value) (listed : Bool) (also old new : List ℕ)
+        → mark_at s path ≡ Some (Dual k) → v ≡ value_at s path → listed ≡ is_solution_move s path
+        → AreChosen (λ w. true) p (legal_list p) told → AreAlsoLines path a d line p m told n also
+        → new ≡ old ++ (if listed then dual_line path p m v k n else []) → Grew (FaultLines s path) old new
+    dual-told told n k v true also old new mark value so all lines grew =
+        let x = timed-told told n also all lines in
+        let text = dual_line path p m v k n in
+        let same : text ≡ dual_line path (position_at s (front_of path)) m (value_at s path) k (times_lost x.0) =
+        ap (λ (q : Position). dual_line path q m v k n) h.before.position
+        ∙ ap (λ (w : Value). dual_line path (position_at s (front_of path)) m w k n) value
+        ∙ ap (dual_line path (position_at s (front_of path)) m (value_at s path) k) x.2 in
+        are-there (is_solution_move s path) _ old new (sym so)
+        (text, fault-of (Some (Dual k)) text (sym mark) (x.0, alternatives-at x.0 x.1, same), grew)
+    dual-told told n k v false also old new mark value so all lines grew =
+        subst (λ (t : List ℕ). Grew (FaultLines s path) old t) (sym (grew ∙ append-nil old)) (not-there (is_solution_move s path) _ old (sym so))
+
+    pub mistake-told : (v : Value) (old new : List ℕ) → mark_at s path ≡ Some Mistake → v ≡ value_at s path → is_solution_move s path ≡ true
+        → new ≡ old ++ mistake_line path p m v → Grew (FaultLines s path) old new
+    mistake-told v old new mark value so grew =
+        let text = mistake_line path p m v in
         are-there (is_solution_move s path) _ old new so (
-          grew.0,
-          subst (λ (o : Option Move). MatchOption o (grew.0 ≡ []) (λ m. IsFaultOf s path m (mark_at s path) grew.0)) (sym h.played)
-              (subst (λ (o : Option MoveMark). IsFaultOf s path x.played o grew.0) e grew.1),
-          grew.2,
-        )
-
-    pub dual-told : (v : Value) (k : ℕ) (mark : Option MoveMark) (old new : List ℕ) → is_solution_move s path ≡ true → mark ≡ mark_at s path
-        → mark ≡ Some (Dual k) → v ≡ value_at s path
-        → Grew (IsDual path x.before.aim x.before.depth x.before.line.items x.before.position x.played v k) old new → Grew (FaultLines s path) old new
-    dual-told v k mark old new so e is same grew =
-        fault-of (Some (Dual k)) old new so (sym is ∙ e) (
-          grew.0,
-          subst (λ w. IsDual path (aim_of s) (length (front_of path)) (line_to s (front_of path)) (position_at s (front_of path)) x.played w k grew.0)
-              same (dual-at v k grew.0 grew.1),
-          grew.2,
-        )
-
-    pub mistake-told : (v : Value) (mark : Option MoveMark) (old new : List ℕ) → is_solution_move s path ≡ true → mark ≡ mark_at s path
-        → mark ≡ Some Mistake → v ≡ value_at s path → new ≡ old ++ mistake_line path x.before.position x.played v → Grew (FaultLines s path) old new
-    mistake-told v mark old new so e is same grew =
-        fault-of (Some Mistake) old new so (sym is ∙ e) (
-          mistake_line path x.before.position x.played v,
-          ap (λ (p : Position). mistake_line path p x.played v) position-before ∙ ap (mistake_line path (position_at s (front_of path)) x.played) same,
+          text,
+          fault-of (Some Mistake) text (sym mark)
+              (ap (λ (q : Position). mistake_line path q m v) h.before.position ∙ ap (mistake_line path (position_at s (front_of path)) m) value),
           grew,
         )
 
-  -- no lines of a move where there is none
-  pub no-also : (text : List ℕ) → is_dual (mark_at s path) ≡ true → played_by (spot_at s.tree path) ≡ None → Grew (AlsoLines s path) text text
-  no-also text dual e =
-      let nothing : List ℕ = [] in
-      are-there (is_dual (mark_at s path)) _ text text dual
-      (nothing, subst (λ (o : Option Move). MatchOption o (nothing ≡ nothing) (λ m. AreAlso s path m nothing)) (sym e) refl, sym (append-nil text))
+    -- a move with no such mark has no such line
+    abbrev IsPlain : Option MoveMark → Type 0
+    IsPlain None = Unit {0}
+    IsPlain (Some Only) = Unit {0}
+    IsPlain (Some (Dual k)) = ⊥
+    IsPlain (Some Mistake) = ⊥
+    IsPlain (Some Idle) = Unit {0}
+    IsPlain (Some Reply) = Unit {0}
 
-  pub no-fault : (text : List ℕ) → is_solution_move s path ≡ true → played_by (spot_at s.tree path) ≡ None → Grew (FaultLines s path) text text
-  no-fault text so e =
-      let nothing : List ℕ = [] in
-      are-there (is_solution_move s path) _ text text so (
-        nothing,
-        subst (λ (o : Option Move). MatchOption o (nothing ≡ nothing) (λ m. IsFaultOf s path m (mark_at s path) nothing)) (sym e) refl,
-        sym (append-nil text),
-      )
+    plain-fault : (mark : Option MoveMark) → IsPlain mark → IsFaultOf s path m mark []
+    plain-fault None i = refl
+    plain-fault (Some Only) i = refl
+    plain-fault (Some (Dual k)) i = absurd i
+    plain-fault (Some Mistake) i = absurd i
+    plain-fault (Some Idle) i = refl
+    plain-fault (Some Reply) i = refl
 
-  module _ (x : Place) (h : IsPlaceOf s path x) where
-    pub refuted-told : (list : List Continuation) (old new : List ℕ) → is_try s path ≡ true → AreRefutations x.aim x.depth x.position list
-        → new ≡ old ++ refuted_text path x.position list → Grew (RefutedLines s path) old new
-    refuted-told list old new is k grew =
-        let one = subst (λ (a : Aim). AreRefutations a x.depth x.position list) h.aim k in
-        let two = subst (λ d. AreRefutations (aim_of s) d x.position list) h.depth one in
-        let three = subst (λ (p : Position). AreRefutations (aim_of s) (length path) p list) h.position two in
+    plain-dual : (mark : Option MoveMark) → IsPlain mark → is_dual mark ≡ false
+    plain-dual None i = refl
+    plain-dual (Some Only) i = refl
+    plain-dual (Some (Dual k)) i = absurd i
+    plain-dual (Some Mistake) i = absurd i
+    plain-dual (Some Idle) i = refl
+    plain-dual (Some Reply) i = refl
+
+    pub no-fault : (mark : Option MoveMark) (text : List ℕ) → mark ≡ mark_at s path → IsPlain mark → Grew (FaultLines s path) text text
+    no-fault mark text e i = go (is_solution_move s path) refl
+      where
+        nothing : List ℕ
+        nothing = []
+
+        go : (b : Bool) → is_solution_move s path ≡ b → Grew (FaultLines s path) text text
+        go false so = not-there (is_solution_move s path) _ text so
+        go true so =
+            are-there (is_solution_move s path) _ text text so
+            (nothing, fault-of mark nothing e (plain-fault mark i), sym (append-nil text))
+
+    pub no-also : (mark : Option MoveMark) (text : List ℕ) → mark ≡ mark_at s path → is_dual mark ≡ false → Grew (AlsoLines s path) text text
+    no-also mark text e i = not-there (is_dual (mark_at s path)) _ text (ap is_dual (sym e) ∙ i)
+
+  -- ---- the node
+
+  -- one kind behind the other
+  pub own-told : (t0 t1 t2 t3 : List ℕ) → Grew (RefutedLines s path) t0 t1 → Grew (MissingLines s path) t1 t2 → Grew (EndLines s path) t2 t3
+      → Grew (OwnLines s path) t0 t3
+  own-told t0 t1 t2 t3 b c d = (
+    b.0 ++ (c.0 ++ d.0),
+    (b.0, c.0, d.0, b.1, c.1, d.1, refl),
+    d.2 ∙ ap (λ (t : List ℕ). t ++ d.0) (c.2 ∙ ap (λ (t : List ℕ). t ++ c.0) b.2) ∙ append_assoc (t0 ++ b.0) c.0 d.0 ∙ append_assoc t0 b.0 (c.0 ++ d.0),
+  )
+
+  module _ (a : Aim) (d : ℕ) (p : Position) (h : IsNodeAt s path a d p) where
+    pub refuted-told : (told : List Continuation) (old new : List ℕ) → is_try s path ≡ true → AreChosen (λ v. true) p (legal_list p) told
+        → new ≡ old ++ refuted_text path p (failing a d told) → Grew (RefutedLines s path) old new
+    refuted-told told old new is all grew =
+        let list = failing a d told in
+        let one = subst (λ (x : Aim). AreRefutations x d p list) h.aim (failing-told a d p told all) in
+        let two = subst (λ n. AreRefutations (aim_of s) n p list) h.depth one in
+        let three = subst (λ (q : Position). AreRefutations (aim_of s) (length path) q list) h.position two in
         are-there (is_try s path) _ old new is
-        (refuted_text path x.position list, (list, three, ap (λ (p : Position). refuted_text path p list) h.position), grew)
+        (refuted_text path p list, (list, three, ap (λ (q : Position). refuted_text path q list) h.position), grew)
 
-    pub missing-told : (there : List Move) (list : List Defence) (old new : List ℕ) → is_defended s path ≡ true
-        → there ≡ moves_of (below_at s.tree.below path) → AreDefences x.aim x.depth x.position there list
-        → new ≡ old ++ flat_map (missing_line path x.position) list → Grew (MissingLines s path) old new
-    missing-told there list old new is all k grew =
-        let one = subst (λ (a : Aim). AreDefences a x.depth x.position there list) h.aim k in
-        let two = subst (λ d. AreDefences (aim_of s) d x.position there list) h.depth one in
-        let three = subst (λ (p : Position). AreDefences (aim_of s) (length path) p there list) h.position two in
+    pub missing-told : (there : List Move) (told : List Continuation) (old new : List ℕ) → is_defended s path ≡ true
+        → there ≡ moves_of (below_at s.tree.below path) → AreChosen (λ v. true) p (legal_list p) told
+        → Grew (AreMissingLines path a d p there told) old new → Grew (MissingLines s path) old new
+    missing-told there told old new is all chosen grew =
+        let list = grew.1.0 in
+        let k : AreDefences a d p there list = (_, apart-told p there told chosen, grew.1.1) in
+        let one = subst (λ (x : Aim). AreDefences x d p there list) h.aim k in
+        let two = subst (λ n. AreDefences (aim_of s) n p there list) h.depth one in
+        let three = subst (λ (q : Position). AreDefences (aim_of s) (length path) q there list) h.position two in
         let four = subst (λ (ms : List Move). AreDefences (aim_of s) (length path) (position_at s path) ms list) all three in
         are-there (is_defended s path) _ old new is
-        (flat_map (missing_line path x.position) list, (list, four, ap (λ (p : Position). flat_map (missing_line path p) list) h.position), grew)
+        (grew.0, (list, four, grew.1.2 ∙ ap (λ (q : Position). flat_map (missing_line path q) list) h.position), grew.2)
 
-    pub end-told : (v : Value) (old new : List ℕ) → is_open_end s path ≡ true → v ≡ value_at s path → Grew (IsEnd path x.position v) old new
+    pub defended-here : (v : Value) (solution : Bool) → v ≡ value_at s path → solution ≡ in_solution (aim_of s) 0 path
+        → (not (hero_moves a d) && (holds a d v && solution)) ≡ is_defended s path
+    defended-here v solution e so =
+        ap (λ (x : Aim). not (hero_moves x d) && (holds x d v && solution)) h.aim
+        ∙ ap (λ n. not (hero_moves (aim_of s) n) && (holds (aim_of s) n v && solution)) h.depth
+        ∙ ap (λ (w : Value). not (hero_moves (aim_of s) (length path)) && (holds (aim_of s) (length path) w && solution)) e
+        ∙ ap (λ b. not (hero_moves (aim_of s) (length path)) && (holds (aim_of s) (length path) (value_at s path) && b)) so
+
+    pub open-here : (children n : ℕ) → children ≡ width (below_at s.tree.below path) → n ≡ length (legal_list p)
+        → ((children == 0) && not (n == 0)) ≡ is_open_end s path
+    open-here children n e k =
+        ap (λ b. b && not (n == 0)) (none-counted (below_at s.tree.below path) children (sym e))
+        ∙ ap (λ i. has_none (below_at s.tree.below path) && not (i == 0)) k
+        ∙ ap (λ (q : Position). has_none (below_at s.tree.below path) && not (length (legal_list q) == 0)) h.position
+
+    pub end-told : (v : Value) (old new : List ℕ) → is_open_end s path ≡ true → v ≡ value_at s path → Grew (IsEnd path p v) old new
         → Grew (EndLines s path) old new
     end-told v old new is e grew =
-        let one = subst (λ (p : Position). IsEnd path p v grew.0) h.position grew.1 in
+        let one = subst (λ (q : Position). IsEnd path q v grew.0) h.position grew.1 in
         are-there (is_open_end s path) _ old new is (grew.0, subst (λ w. IsEnd path (position_at s path) w grew.0) e one, grew.2)
 
-  -- the lines of a node, one kind behind the other
-  pub node-told : (t0 t1 t2 t3 t4 : List ℕ) → Grew (AlsoLines s path) t0 t1 → Grew (RefutedLines s path) t1 t2 → Grew (MissingLines s path) t2 t3
-      → Grew (EndLines s path) t3 t4 → Grew (NodeLines s path) t0 t4
-  node-told t0 t1 t2 t3 t4 a b c d = (
-    a.0 ++ (b.0 ++ (c.0 ++ d.0)),
-    (a.0, b.0, c.0, d.0, a.1, b.1, c.1, d.1, refl),
-    d.2 ∙ ap (λ (t : List ℕ). t ++ d.0) (c.2 ∙ ap (λ (t : List ℕ). t ++ c.0) (b.2 ∙ ap (λ (t : List ℕ). t ++ b.0) a.2))
-        ∙ append_assoc ((t0 ++ a.0) ++ b.0) c.0 d.0 ∙ append_assoc (t0 ++ a.0) b.0 (c.0 ++ d.0) ∙ append_assoc t0 a.0 (b.0 ++ (c.0 ++ d.0)),
-  )
+    -- no lines where there is nothing to tell
+    pub own-none : (v : Value) (solution : Bool) (children : ℕ) (text : List ℕ) → v ≡ value_at s path → solution ≡ in_solution (aim_of s) 0 path
+        → children ≡ width (below_at s.tree.below path) → (children == 0) ≡ false → is_try s path ≡ false
+        → (not (hero_moves a d) && (holds a d v && solution)) ≡ false → Grew (OwnLines s path) text text
+    own-none v solution children text e so c some try def =
+        let r = not-there (is_try s path) _ text try in
+        let m = not-there (is_defended s path) _ text (sym (defended-here v solution e so) ∙ def) in
+        let n = not-there (is_open_end s path) _ text
+        (sym (open-here children (length (legal_list p)) c refl) ∙ ap (λ b. b && not (length (legal_list p) == 0)) some) in
+        own-told text text text text r m n
+
+  -- the lines of a node, behind those of the move to it
+  pub node-told : (t0 t1 t2 : List ℕ) → Grew (AlsoLines s path) t0 t1 → Grew (OwnLines s path) t1 t2 → Grew (NodeLines s path) t0 t2
+  node-told t0 t1 t2 x y =
+      let k = y.1 in (
+        x.0 ++ y.0,
+        (x.0, k.0, k.1, k.2, x.1, k.3, k.4, k.5, ap (λ (t : List ℕ). x.0 ++ t) k.6),
+        y.2 ∙ ap (λ (t : List ℕ). t ++ y.0) x.2 ∙ append_assoc t0 x.0 y.0,
+      )
+
+-- the moves that keep a draw
+pub keep-told : (path : List ℕ) (p : Position) (told : List Continuation) (v : Value) (old new : List ℕ) → v ≡ values.Draw
+    → AreChosen (λ w. true) p (legal_list p) told → new ≡ old ++ keep_line path p (drawing told) → Grew (IsEnd path p v) old new
+keep-told path p told v old new e all grew =
+    let text = keep_line path p (drawing told) in
+    (text, subst (λ w. IsEnd path p w text) (sym e) (drawing told, drawing-told p told all, refl), grew)

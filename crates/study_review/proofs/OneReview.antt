@@ -1,7 +1,7 @@
 -- A study has one review.
-use Rattle.std.proofs.Common.{◌≡◌, ℕ, ◌+◌, ◌<◌, ◌≤◌, suc, zero, Bool, true, false, not, List, []}
-use Rattle.std.proofs.Common.{◌∷◌, ◌++◌, Option, Some, None, length, map, refl, sym, ap, subst, ◌∙◌, arith}
-use Rattle.std.specs.Prelude.{MatchOption, codes}
+use Rattle.std.proofs.Common.{◌≡◌, ℕ, ◌+◌, ◌<◌, suc, zero, Bool, true, false, not, List, []}
+use Rattle.std.proofs.Common.{◌∷◌, ◌++◌, Option, Some, None, length, refl, sym, ap, subst, ◌∙◌, arith}
+use Rattle.std.specs.Prelude.{MatchOption}
 use Rattle.std.specs.List.{flat_map}
 use Rattle.study_board.specs.Position.{Position}
 use Rattle.study_moves.specs.declared.moves.Move.{Move}
@@ -25,16 +25,16 @@ use Rattle.study_marks.proofs.OneAnnotation.{one-list}
 use Rattle.study_review.specs.declared.continuation.Continuation.{Continuation}
 use Rattle.study_review.specs.declared.time.Alternative.{Alternative}
 use Rattle.study_review.specs.declared.missing.Defence.{Defence}
-use Rattle.study_review.specs.Continuations.{chosen, others, AreChosen, AreHoldingMoves}
+use Rattle.study_review.specs.Continuations.{chosen, others, AreChosen}
 use Rattle.study_review.specs.Back.{IsTimeLost}
 use Rattle.study_review.specs.Time.{IsTimeTold, AreTimed, AreTimedAlternatives}
-use Rattle.study_review.specs.Defences.{the_only, IsAnswered, AreAnswered, AreDefences}
+use Rattle.study_review.specs.Defences.{the_only, AreAnswered, AreDefences}
 use Rattle.study_review.specs.Best.{first_best, IsBestMove, IsBestPlay}
 use Rattle.study_review.specs.Line.{line_to, moves_of}
 use Rattle.study_review.specs.Words.{also_line, missing_line, play_line, keep_line, dual_line, times_lost}
 use Rattle.study_review.specs.Nodes.{front_of, OnlyWhere, is_dual, is_try, is_defended, is_open_end, is_solution_move, mark_at, value_at, refuted_text}
-use Rattle.study_review.specs.Nodes.{AreAlso, AlsoLines, RefutedLines, MissingLines, IsPlay, IsEnd, EndLines, NodeLines, IsDual, IsFaultOf, FaultLines}
-use Rattle.study_review.specs.Review.{study_line, stipulation_line, empty_line, written_order, LinesOfEach, IsReview, ReviewsAreUnique}
+use Rattle.study_review.specs.Nodes.{AreAlso, AlsoLines, RefutedLines, MissingLines, IsPlay, IsEnd, EndLines, NodeLines, IsFaultOf, FaultLines}
+use Rattle.study_review.specs.Review.{study_line, stipulation_line, empty_line, written_order, LinesOfEach, ReviewsAreUnique}
 
 one-chosen : EachHasAtMostOneValue → (wanted : Value → Bool) (p : Position) (ms : List Move) (l k : List Continuation)
     → AreChosen wanted p ms l → AreChosen wanted p ms k → l ≡ k

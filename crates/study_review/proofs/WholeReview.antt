@@ -1,30 +1,69 @@
 -- The parts of a review, one behind the other.
-use Rattle.std.proofs.Common.{◌≡◌, ℕ, List, [], ◌∷◌, ◌++◌, ap, subst, ◌∙◌, append_assoc}
+use Rattle.std.proofs.Common.{◌≡◌, ℕ, Bool, true, false, List, [], ◌∷◌, ◌++◌, refl, sym, ap, subst, ◌∙◌, append_assoc, ◌-◌, length, take, arith, length-append}
+use Rattle.std.proofs.lemmas.List.{append-nil}
+use Rattle.std.proofs.Math.Seq.{take-append_seam}
 use Rattle.study_marks.specs.declared.mark.Mark.{Mark}
-use Rattle.study_marks.specs.Renewal.{below_at}
 use Rattle.study_marks.specs.Study.{Study}
-use Rattle.study_review.specs.declared.walk.Part.TheVariants.{Faults, Nodes}
-use Rattle.study_review.specs.Made.{Grew, LinesOf}
-use Rattle.study_review.specs.Nodes.{FaultLines, NodeLines}
+use Rattle.study_review.specs.Made.{Grew}
+use Rattle.study_review.specs.Nodes.{AlsoLines, FaultLines, NodeLines, is_dual, mark_at}
 use Rattle.study_review.specs.Review.{study_line, stipulation_line, empty_line, paths_from, LinesOfEach, written_order, IsReview}
+use Rattle.study_review.specs.Told.{OwnLines}
+use Rattle.study_review.proofs.NodesShown.{are-there, not-there}
+use Rattle.study_review.proofs.NodesTold.{node-told}
+use Rattle.study_review.proofs.WrittenOrder.{both-written}
 
-pub whole : (s : Study Mark) (number : ℕ) (p q t0 t1 t2 t3 : List ℕ) → p ≡ [] → q ≡ p → t0 ≡ []
+-- a last one is pushed, and taken off again
+pub taken-off : {X : Type 0} (xs ys zs : List X) (x : X) (n : ℕ) → ys ≡ xs ++ x ∷ [] → n ≡ length ys → zs ≡ take (n - 1) ys → zs ≡ xs
+taken-off xs ys zs x n pushed len rest =
+    let e : n - 1 ≡ length xs = omega (arith, len, ap length pushed, length-append xs (x ∷ [])) in
+    rest ∙ ap (λ k. take k ys) e ∙ ap (take (length xs)) pushed ∙ take-append_seam xs (x ∷ [])
+
+module _ (s : Study Mark) where
+  -- no move leads to the root
+  root-also : (text : List ℕ) → Grew (AlsoLines s []) text text
+  root-also text = go (is_dual (mark_at s [])) refl
+    where
+      nothing : List ℕ
+      nothing = []
+
+      go : (b : Bool) → is_dual (mark_at s []) ≡ b → Grew (AlsoLines s []) text text
+      go false e = not-there (is_dual (mark_at s [])) _ text e
+      go true e = are-there (is_dual (mark_at s [])) _ text text e (nothing, refl, sym (append-nil text))
+
+  root-fault : (text : List ℕ) → Grew (FaultLines s []) text text
+  root-fault text = ([], refl, sym (append-nil text))
+
+  pub root-told : (old new : List ℕ) → Grew (OwnLines s []) old new → Grew (NodeLines s []) old new
+  root-told old new h = node-told s [] old old new (root-also old) h
+
+  pub faults-all : (p t0 t1 t2 : List ℕ) → p ≡ [] → t1 ≡ t0 → Grew (LinesOfEach (FaultLines s) (paths_from p 0 s.tree.below)) t1 t2
+      → Grew (LinesOfEach (FaultLines s) (written_order s)) t0 t2
+  faults-all p t0 t1 t2 e same h =
+      both-written (FaultLines s) [] (paths_from [] 0 s.tree.below) t0 t0 t2 (root-fault t0)
+      (subst (λ (t : List ℕ). Grew (LinesOfEach (FaultLines s) (paths_from [] 0 s.tree.below)) t t2) same
+      (subst (λ (q : List ℕ). Grew (LinesOfEach (FaultLines s) (paths_from q 0 s.tree.below)) t1 t2) e h))
+
+  pub nodes-all : (p t0 t1 t2 : List ℕ) → p ≡ [] → Grew (NodeLines s []) t0 t1 → Grew (LinesOfEach (NodeLines s) (paths_from p 0 s.tree.below)) t1 t2
+      → Grew (LinesOfEach (NodeLines s) (written_order s)) t0 t2
+  nodes-all p t0 t1 t2 e own h =
+      both-written (NodeLines s) [] (paths_from [] 0 s.tree.below) t0 t1 t2 own
+      (subst (λ (q : List ℕ). Grew (LinesOfEach (NodeLines s) (paths_from q 0 s.tree.below)) t1 t2) e h)
+
+pub whole : (s : Study Mark) (number : ℕ) (t0 t1 t2 n0 n2 text : List ℕ) → t0 ≡ [] → n0 ≡ []
     → t1 ≡ t0 ++ (study_line s number ++ (stipulation_line s ++ empty_line s))
-    → Grew (LinesOfEach (LinesOf Faults s) (p ∷ paths_from p 0 (below_at s.tree.below p))) t1 t2
-    → Grew (LinesOfEach (LinesOf Nodes s) (q ∷ paths_from q 0 (below_at s.tree.below q))) t2 t3 → IsReview s number t3
-whole s number p q t0 t1 t2 t3 pe qe e h f n =
+    → Grew (LinesOfEach (FaultLines s) (written_order s)) t1 t2
+    → Grew (LinesOfEach (NodeLines s) (written_order s)) n0 n2 → text ≡ t2 ++ n2 → IsReview s number text
+whole s number t0 t1 t2 n0 n2 text te ne h f n e =
     let a = study_line s number in
     let b = stipulation_line s in
     let c = empty_line s in
-    let faults : LinesOfEach (FaultLines s) (written_order s) f.0 =
-    subst (λ (x : List ℕ). LinesOfEach (LinesOf Faults s) (x ∷ paths_from x 0 (below_at s.tree.below x)) f.0) pe f.1 in
-    let nodes : LinesOfEach (NodeLines s) (written_order s) n.0 =
-    subst (λ (x : List ℕ). LinesOfEach (LinesOf Nodes s) (x ∷ paths_from x 0 (below_at s.tree.below x)) n.0) (qe ∙ pe) n.1 in (
+    let nodes : n2 ≡ n.0 = n.2 ∙ ap (λ (u : List ℕ). u ++ n.0) ne in (
       f.0,
       n.0,
-      faults,
-      nodes,
-      n.2 ∙ ap (λ (u : List ℕ). u ++ n.0) (f.2 ∙ ap (λ (u : List ℕ). u ++ f.0) (h ∙ ap (λ (u : List ℕ). u ++ (a ++ (b ++ c))) e))
+      f.1,
+      n.1,
+      e ∙ ap (λ (u : List ℕ). t2 ++ u) nodes
+          ∙ ap (λ (u : List ℕ). u ++ n.0) (f.2 ∙ ap (λ (u : List ℕ). u ++ f.0) (h ∙ ap (λ (u : List ℕ). u ++ (a ++ (b ++ c))) te))
           ∙ append_assoc (a ++ (b ++ c)) f.0 n.0 ∙ append_assoc a (b ++ c) (f.0 ++ n.0)
           ∙ ap (λ (u : List ℕ). a ++ u) (append_assoc b c (f.0 ++ n.0)),
     )

@@ -1,12 +1,11 @@
 -- Lines of nodes in written order.
-use Rattle.std.proofs.Common.{◌≡◌, ℕ, ◌+◌, ◌==◌, ◌&&◌, ◌≤◌, ◌<◌, suc, zero, Bool, true, List, [], ◌∷◌}
-use Rattle.std.proofs.Common.{◌++◌, Option, Some, None, refl, sym, ap, subst, ◌∙◌, append_assoc, add-one, arith}
+use Rattle.std.proofs.Common.{◌≡◌, ℕ, ◌+◌, ◌==◌, ◌&&◌, ◌≤◌, ◌<◌, suc, zero, Bool, List, [], ◌∷◌}
+use Rattle.std.proofs.Common.{◌++◌, Some, refl, sym, ap, subst, ◌∙◌, append_assoc, add-one, arith}
 use Rattle.std.specs.Prelude.{IsTrue}
 use Rattle.std.proofs.lemmas.List.{append-nil}
-use Rattle.study_moves.specs.declared.moves.Move.{Move}
 use Rattle.study_tree.specs.Forest.{Forest, none, more, Twig, nodes_in}
 use Rattle.study_tree.specs.Edits.{node_in, width}
-use Rattle.study_tree.specs.Tree.{Plain, Spot, has_spot, spot_at, twig_spot}
+use Rattle.study_tree.specs.Tree.{Plain, has_spot, spot_at, twig_spot}
 use Rattle.study_marks.specs.declared.mark.Mark.{Mark}
 use Rattle.study_marks.specs.Renewal.{below_at, skipped}
 use Rattle.study_marks.proofs.ChildFound.{skipped-end}
@@ -97,3 +96,18 @@ module _ (P : List ℕ → List ℕ → Type 0) where
         (own.0, h.0, own.1, below, refl),
         h.1 ∙ ap (λ (u : List ℕ). u ++ h.0) own.2 ∙ append_assoc old own.0 h.0,
       )
+
+  -- the lines of a node, and those of others behind them
+  pub both-written : (path : List ℕ) (paths : List (List ℕ)) (t0 t1 t2 : List ℕ) → Grew (P path) t0 t1 → Grew (LinesOfEach P paths) t1 t2
+      → Grew (LinesOfEach P (path ∷ paths)) t0 t2
+  both-written path paths t0 t1 t2 x y =
+      (x.0 ++ y.0, (x.0, y.0, x.1, y.1, refl), y.2 ∙ ap (λ (u : List ℕ). u ++ y.0) x.2 ∙ append_assoc t0 x.0 y.0)
+
+  -- all children are written
+  pub below-written : (f : Forest Mark) (steps : List ℕ) (k : ℕ) (old new : List ℕ) → width (below_at f steps) ≤ k
+      → GoesOn steps (below_at f steps) k old new → Grew (LinesOfEach P (paths_from steps 0 (below_at f steps))) old new
+  below-written f steps k old new few h =
+      let g = below_at f steps in
+      let end : LinesOfEach P (paths_from steps k (skipped k g)) [] =
+      subst (λ (r : Forest Mark). LinesOfEach P (paths_from steps k r) []) (sym (skipped-end k g few)) refl in
+      (h.0, subst (λ (u : List ℕ). LinesOfEach P (paths_from steps 0 g) u) (append-nil h.0) (h.2 [] end), h.1)

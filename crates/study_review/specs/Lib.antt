@@ -13,3 +13,5 @@ pub mod Words
 pub mod Nodes
 pub mod Review
 pub mod Made
+pub mod Told
+pub mod Stand

@@ -4,16 +4,11 @@ use Rattle.study_board.specs.Position.{Position}
 use Rattle.study_material.specs.declared.class.Class.{Class}
 use Rattle.study_tablefile.specs.declared.fault.SourceFault.{SourceFault}
 use Rattle.study_prober.specs.Values.{ProbeAnswer}
-use Rattle.study_marks.specs.declared.mark.Mark.{Mark}
-use Rattle.study_marks.specs.Study.{Study}
 use Rattle.study_review.specs.declared.fault.ReviewFault.{ReviewFault}
 use Rattle.study_review.specs.declared.fault.ReviewFault.TheVariants as fault
 use Rattle.study_review.specs.declared.fault.NotMade.{NotMade}
 use Rattle.study_review.specs.declared.fault.NotMade.TheVariants.{OutOfMemory, Untold}
-use Rattle.study_review.specs.declared.walk.Part.{Part}
-use Rattle.study_review.specs.declared.walk.Part.TheVariants.{Faults, Nodes}
 use Rattle.study_review.specs.Asked.{AllTold, Stopped}
-use Rattle.study_review.specs.Nodes.{NodeLines, FaultLines}
 
 -- what is told where the text is not made
 abbrev pub fault_of : NotMade → ReviewFault
@@ -23,10 +18,6 @@ fault_of (Untold f) = fault.Values f
 -- the text grew by some such lines
 abbrev pub Grew : (List ℕ → Type 0) → List ℕ → List ℕ → Type 0
 Grew Lines old new = (text : List ℕ) × Lines text × (new ≡ old ++ text)
-
-abbrev pub LinesOf : Part → Study Mark → List ℕ → List ℕ → Type 0
-LinesOf Faults s path text = FaultLines s path text
-LinesOf Nodes s path text = NodeLines s path text
 
 module _ {V : Type 0} (held : V → Class → Bool) (gives : V → Position → ProbeAnswer → Type 0)
     (may_fail : V → Class → SourceFault → Type 0) (asked_of failed_of : V → ℕ) (is_honest : V → Type 0) where

@@ -17,7 +17,6 @@ use Rattle.study_marks.specs.Bench.{played_by, on_move_of}
 use Rattle.study_marks.specs.Renewal.{below_at}
 use Rattle.study_marks.specs.Study.{Study, position_at}
 use Rattle.study_marks.specs.Goals.{aim_of, hero_moves, holds}
-use Rattle.study_marks.specs.Marks.{is_fault}
 use Rattle.study_review.specs.declared.continuation.Continuation.{Continuation}
 use Rattle.study_review.specs.declared.time.Alternative.{Alternative}
 use Rattle.study_review.specs.declared.missing.Defence.{Defence}

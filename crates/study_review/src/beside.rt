@@ -19,7 +19,7 @@ fn same_move(a: &Move, b: &Move) -> bool
 }
 
 /// Whether the move is one of these.
-fn is_among(m: &Move, moves: &[Move]) -> bool
+pub fn is_among(m: &Move, moves: &[Move]) -> bool
     ensures { result ≡ is_among m.now moves.now }
 {
     match moves.split_first() {

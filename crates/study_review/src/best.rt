@@ -36,7 +36,7 @@ fn is_better(v: Value, w: Value) -> bool
 }
 
 /// The move, unless what follows it is better.
-fn better_of(x: Continuation, later: Option<Continuation>) -> Continuation
+pub fn better_of(x: Continuation, later: Option<Continuation>) -> Continuation
     ensures { result ≡ better_of x later }
 {
     match later {
@@ -106,7 +106,7 @@ pub fn best_move<V: Values>(
 }
 
 /// Adds best play of at most so many plies.
-fn play_on<V: Values>(
+pub fn play_on<V: Values>(
     p: &Position,
     plies: u8,
     values: &mut V,

@@ -1,7 +1,7 @@
 //! The moves of a node's children.
-ghost use Rattle.std.specs.Prelude.{◌≡◌, ◌≤◌, ◌++◌, ◌∷◌, [], None, IsTrue, length, OnOk, IfOk, MatchOption};
+ghost use Rattle.std.specs.Prelude.{◌≡◌, ◌≤◌, ◌++◌, ◌∷◌, [], None, length, OnOk, IfOk, MatchOption};
 ghost use Rattle.study_tree.specs.Edits.{children_at};
-ghost use Rattle.study_tree.specs.Tree.{has_spot, spot_at};
+ghost use Rattle.study_tree.specs.Tree.{spot_at};
 ghost use Rattle.study_marks.specs.Bench.{played_by};
 ghost use Rattle.study_marks.specs.Renewal.{below_at, skipped};
 ghost use Rattle.study_marks.specs.Kept.{marked};

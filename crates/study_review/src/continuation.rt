@@ -1,6 +1,6 @@
 //! Moves with the values after them.
 ghost use Rattle.std.specs.Prelude.{◌≡◌, ◌+◌, ◌<◌, ◌^◌};
-ghost use Rattle.study_review.specs.Continuations.{is_wanted};
+ghost use Rattle.study_review.specs.Continuations.{is_draw, is_wanted};
 
 use study_board::Position;
 use study_marks::{Aim, holds};
@@ -36,6 +36,12 @@ pub struct Node<'n> {
     pub position: &'n Position,
 }
 
+pub fn is_draw(value: Value) -> bool
+    ensures { result ≡ is_draw value }
+{
+    value == Value::Draw
+}
+
 /// Which moves are wanted: those after which the position holds, those after which it does not, those after which it is drawn, or all.
 #[derive(Clone, Copy, Debug, PartialEq, Eq)]
 pub enum Wanted {
@@ -53,7 +59,7 @@ pub fn is_wanted(wanted: Wanted, aim: &Aim, depth: usize, value: Value) -> bool
     match wanted {
         Wanted::Holding => holds(aim, depth + 1, value),
         Wanted::Failing => !holds(aim, depth + 1, value),
-        Wanted::Drawing => value == Value::Draw,
+        Wanted::Drawing => is_draw(value),
         Wanted::All => true,
     }
 }

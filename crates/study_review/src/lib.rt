@@ -4,24 +4,30 @@
 //! the tree has there. `holding_moves`, `alternatives`, `refutations` and `missing_moves`
 //! list legal moves of a position with the values after them, `timed_alternatives` also with the time that they lose:
 //! `time_lost` tells whether a move only loses time. `best_move` and `best_play` tell how it goes on with best play.
-//! `is_in_solution` tells the nodes of the solution. `write_review` writes all of it, a fact a line. Values are asked
-//! where they are needed, and nothing is kept.
+//! `is_in_solution` tells the nodes of the solution. `write_review` writes all of it, a fact a line, in one
+//! walk. Values are asked where they are needed, and kept for the lines of one node.
 #![tactic(auto)]
 
+mod answers;
 mod back;
 mod beside;
 mod best;
 mod children;
 mod continuation;
+mod draft;
+mod ends;
 mod fault;
 mod laws;
 mod line;
 mod lists;
 mod missing;
+mod moves;
 mod nodes;
 mod signs;
 mod solution;
+mod stand;
 mod time;
+mod told;
 mod walk;
 mod words;
 mod writing;

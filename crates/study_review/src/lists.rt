@@ -9,7 +9,6 @@ ghost use Rattle.study_moves.specs.Rules.{is_legal};
 ghost use Rattle.study_moves.specs.LegalList.{legal_list};
 ghost use Rattle.study_retro.specs.declared.value.Value.{Value as AValue};
 ghost use Rattle.study_marks.specs.Annotated.{AreValuesAfter};
-ghost use Rattle.study_marks.specs.Asked.{AreTablesHeld};
 ghost use Rattle.study_marks.specs.Told.{IsUntold, WasAsked, failures_told};
 ghost use Rattle.study_review.specs.Continuations.{each_after, is_wanted, kept, chosen, others};
 ghost use Rattle.study_review.specs.Continuations.{AreChosen, AreAlternatives, AreRefutations, AreMissing, AreHoldingMoves, AreDrawingMoves};

@@ -1,104 +1,101 @@
-//! The lines of one node.
-ghost use Rattle.std.specs.Prelude.{◌≡◌, ◌++◌, ◌+◌, ◌^◌, ◌<◌, ◌≤◌, true, length, IsTrue, OnOk};
+//! The lines of a node: refutations, defences that are missing, and how it goes on.
+ghost use Rattle.std.specs.Prelude.{◌≡◌, ◌++◌, ◌+◌, ◌^◌, ◌<◌, ◌==◌, true, not, ◌&&◌, length, IsTrue, OnOk};
 ghost use Rattle.std.specs.List.{All};
 ghost use Rattle.study_moves.specs.Rules.{is_legal};
+ghost use Rattle.study_moves.specs.LegalList.{legal_list};
 ghost use Rattle.study_tree.specs.Tree.{has_spot};
+ghost use Rattle.study_tree.specs.Edits.{width};
 ghost use Rattle.study_marks.specs.Kept.{marked};
+ghost use Rattle.study_marks.specs.Goals.{aim_of, hero_moves, holds};
+ghost use Rattle.study_marks.specs.Renewal.{below_at};
+ghost use Rattle.study_review.specs.Continuations.{AreChosen};
+ghost use Rattle.study_review.specs.Faults.{in_solution};
 ghost use Rattle.study_review.specs.Made.{Grew, HasAsked};
-ghost use Rattle.study_review.specs.Line.{IsPlaceOf};
-ghost use Rattle.study_review.specs.Words.{times_lost};
-ghost use Rattle.study_review.specs.Nodes.{AlsoLines, RefutedLines, MissingLines, EndLines, IsEnd, NodeLines, FaultLines, IsDual, refuted_text};
+ghost use Rattle.study_review.specs.Nodes.{RefutedLines, MissingLines, EndLines, is_stalemate, refuted_text, is_try, value_at};
+ghost use Rattle.study_review.specs.Stand.{IsNodeAt};
+ghost use Rattle.study_review.specs.Told.{OwnLines, failing};
 
-use crate::best::best_play;
+use crate::answers::add_defences;
 use crate::children::children_in;
 use crate::continuation::{Continuation, Node};
+use crate::ends::add_continued;
 use crate::fault::NotMade;
-use crate::line::{Made, Place, made_in, place_in};
-use crate::lists::{drawing_moves, refutations};
-use crate::missing::defences;
-use crate::signs::{
-    is_defended, is_dual, is_open_end, is_solution_move, is_stalemate, is_try, mark_at, value_at,
-};
-use crate::time::{Alternative, timed_alternatives};
-use crate::words::{
-    add_also_lines, add_dual, add_keep, add_missing_lines, add_mistake, add_play,
-    add_refuted_lines, add_stalemate,
-};
+use crate::told::ask_moves;
+use crate::words::{add_refuted_lines, add_stalemate};
 use std::alloc::{AllocError, Allocator};
 use study_board::Position;
-use study_marks::{Bench, MoveMark};
+use study_marks::{Bench, hero_moves, holds};
+use study_moves::in_check;
 use study_pgn::Text;
 use study_prober::Values;
 use study_retro::Value;
 
-/// The alternatives of a dual.
-fn add_also<'b, A: Allocator, B: Allocator, V: Values>(
-    text: &mut Text<'_, A>,
-    bench: &Bench<'b, B>,
-    steps: &[u16],
-    values: &mut V,
-) -> Result<(), NotMade>
-    ensures text { V.is_honest values.old → OnOk result (Grew (AlsoLines (marked bench.now) steps.now) text.old text.new) }
-    ensures asked { HasAsked V.held V.gives V.may_fail V.asked_of V.failed_of V.is_honest values.old result values.new }
-{
-    if !is_dual(mark_at(bench, steps)) {
-        return Ok(());
-    }
-    match made_in(bench, steps) {
-        None => Ok(()),
-        Some(made) => match timed_alternatives(&made.before, made.played, values) {
-            Err(fault) => Err(NotMade::Untold(fault)),
-            Ok(list) => {
-                add_also_lines(text, steps, &made.before.position, list.as_slice())?;
-                Ok(())
-            }
-        },
-    }
+/// A node of a study: its path, what it shows, whether its path is of the solution, and whether the move to it is a try.
+#[derive(Clone, Copy)]
+pub struct Here<'n> {
+    pub node: Node<'n>,
+    pub steps: &'n [u16],
+    pub value: Value,
+    pub children: u16,
+    pub solution: bool,
+    pub tried: bool,
 }
 
-/// A line for each of these, or that the move stalemates.
+#[tactic(auto, unfolding(crate::specs::Nodes::is_stalemate))]
+fn is_stalemate(q: &Position, told: &[Continuation]) -> bool
+    requires { length told.now ≡ length (legal_list q.now) }
+    ensures { result ≡ is_stalemate q.now }
+{
+    told.is_empty() && !in_check(q)
+}
+
+/// A line for each of these moves that refutes, or that the move to the node stalemates.
 fn add_refutations<A: Allocator>(
     text: &mut Text<'_, A>,
     steps: &[u16],
-    q: &Position,
-    list: &[Continuation],
+    node: &Node<'_>,
+    told: &[Continuation],
 ) -> Result<(), AllocError>
-    requires { All (λ x. is_legal q.now x.played ≡ true) list.now }
-    ensures { OnOk result (text.new ≡ text.old ++ refuted_text steps.now q.now list.now) }
+    requires depth { node.now.depth + 1 < 2 ^ 64 }
+    requires legal { All (λ x. is_legal node.now.position.now x.played ≡ true) told.now }
+    requires all { length told.now ≡ length (legal_list node.now.position.now) }
+    ensures { OnOk result (text.new ≡ text.old
+        ++ refuted_text steps.now node.now.position.now (failing node.now.aim.now node.now.depth told.now)) }
 {
-    if is_stalemate(q) {
+    if is_stalemate(node.position, told) {
         return add_stalemate(text, steps);
     }
-    add_refuted_lines(text, steps, q, list)
+    add_refuted_lines(text, steps, node, told)
 }
 
 /// The refutations of a try.
-fn add_refuted<'b, A: Allocator, B: Allocator, V: Values>(
+fn add_refuted<'b, A: Allocator, B: Allocator>(
     text: &mut Text<'_, A>,
     bench: &Bench<'b, B>,
-    steps: &[u16],
-    place: &Place,
-    values: &mut V,
-) -> Result<(), NotMade>
-    requires { IsPlaceOf (marked bench.now) steps.now place.now }
-    ensures text { V.is_honest values.old → OnOk result (Grew (RefutedLines (marked bench.now) steps.now) text.old text.new) }
-    ensures asked { HasAsked V.held V.gives V.may_fail V.asked_of V.failed_of V.is_honest values.old result values.new }
+    here: &Here<'_>,
+    told: &[Continuation],
+) -> Result<(), AllocError>
+    requires node { IsNodeAt (marked bench.now) here.now.steps.now here.now.node.aim.now here.now.node.depth here.now.node.position.now }
+    requires tried { here.now.tried ≡ is_try (marked bench.now) here.now.steps.now }
+    requires legal { All (λ x. is_legal here.now.node.position.now x.played ≡ true) told.now }
+    requires all { length told.now ≡ length (legal_list here.now.node.position.now) }
+    ensures { AreChosen (λ v. true) here.now.node.position.now (legal_list here.now.node.position.now) told.now
+        → OnOk result (Grew (RefutedLines (marked bench.now) here.now.steps.now) text.old text.new) }
 {
-    if !is_try(bench, steps) {
+    if !here.tried {
         return Ok(());
     }
-    let node = Node {
-        aim: &place.aim,
-        depth: place.depth,
-        position: &place.position,
-    };
-    match refutations(&node, values) {
-        Err(fault) => Err(NotMade::Untold(fault)),
-        Ok(list) => {
-            add_refutations(text, steps, &place.position, list.as_slice())?;
-            Ok(())
-        }
-    }
+    add_refutations(text, here.steps, &here.node, told)
+}
+
+/// Whether the opponent is to move at the node, which is of the solution and holds.
+fn is_defended(here: &Here<'_>) -> bool
+    ensures { result ≡ (not (hero_moves here.now.node.aim.now here.now.node.depth)
+        && (holds here.now.node.aim.now here.now.node.depth here.now.value && here.now.solution)) }
+{
+    !hero_moves(here.node.aim, here.node.depth)
+        && holds(here.node.aim, here.node.depth, here.value)
+        && here.solution
 }
 
 /// The defences that are missing.
@@ -106,177 +103,114 @@ fn add_missing<'a, 'b, A: Allocator, B: Allocator, V: Values>(
     alloc: &'a A,
     text: &mut Text<'_, A>,
     bench: &Bench<'b, B>,
-    steps: &[u16],
-    place: &Place,
+    here: &Here<'_>,
+    told: &[Continuation],
     values: &mut V,
 ) -> Result<(), NotMade>
-    requires found { IsTrue (has_spot (marked bench.now).tree steps.now) }
-    requires place { IsPlaceOf (marked bench.now) steps.now place.now }
-    ensures text { V.is_honest values.old → OnOk result (Grew (MissingLines (marked bench.now) steps.now) text.old text.new) }
+    requires found { IsTrue (has_spot (marked bench.now).tree here.now.steps.now) }
+    requires node { IsNodeAt (marked bench.now) here.now.steps.now here.now.node.aim.now here.now.node.depth here.now.node.position.now }
+    requires value { here.now.value ≡ value_at (marked bench.now) here.now.steps.now }
+    requires solution { here.now.solution ≡ in_solution (aim_of (marked bench.now)) 0 here.now.steps.now }
+    requires legal { All (λ x. is_legal here.now.node.position.now x.played ≡ true) told.now }
+    ensures text { AreChosen (λ v. true) here.now.node.position.now (legal_list here.now.node.position.now) told.now → V.is_honest values.old
+        → OnOk result (Grew (MissingLines (marked bench.now) here.now.steps.now) text.old text.new) }
     ensures asked { HasAsked V.held V.gives V.may_fail V.asked_of V.failed_of V.is_honest values.old result values.new }
 {
-    if !is_defended(bench, steps) {
+    if !is_defended(here) {
         return Ok(());
     }
-    let node = Node {
-        aim: &place.aim,
-        depth: place.depth,
-        position: &place.position,
-    };
-    match children_in(alloc, bench, steps)? {
+    match children_in(alloc, bench, here.steps)? {
         None => Ok(()),
-        Some(there) => match defences(&node, there.as_slice(), values) {
-            Err(fault) => Err(NotMade::Untold(fault)),
-            Ok(list) => {
-                add_missing_lines(text, steps, &place.position, list.as_slice())?;
-                Ok(())
-            }
-        },
+        Some(there) => add_defences(text, here.steps, &here.node, there.as_slice(), told, values),
     }
 }
 
-/// Best play, or the moves that keep a draw.
-fn add_continued<A: Allocator, V: Values>(
-    text: &mut Text<'_, A>,
-    steps: &[u16],
-    place: &Place,
-    value: Value,
-    values: &mut V,
-) -> Result<(), NotMade>
-    ensures text { V.is_honest values.old → OnOk result (Grew (IsEnd steps.now place.now.position value) text.old text.new) }
-    ensures asked { HasAsked V.held V.gives V.may_fail V.asked_of V.failed_of V.is_honest values.old result values.new }
+/// Whether the tree ends at the node, where the game does not.
+fn is_open_end(here: &Here<'_>, told: &[Continuation]) -> bool
+    ensures { result ≡ ((here.now.children == 0) && not (length told.now == 0)) }
 {
-    if value == Value::Draw {
-        let node = Node {
-            aim: &place.aim,
-            depth: 0,
-            position: &place.position,
-        };
-        match drawing_moves(&node, values) {
-            Err(fault) => Err(NotMade::Untold(fault)),
-            Ok(list) => {
-                add_keep(text, steps, &place.position, list.as_slice())?;
-                Ok(())
-            }
-        }
-    } else {
-        match best_play(&place.position, values) {
-            Err(fault) => Err(NotMade::Untold(fault)),
-            Ok(list) => {
-                add_play(text, steps, &place.position, value, list.as_slice())?;
-                Ok(())
-            }
-        }
-    }
+    here.children == 0 && !told.is_empty()
 }
 
 /// How it goes on where the tree ends.
 fn add_end<'b, A: Allocator, B: Allocator, V: Values>(
     text: &mut Text<'_, A>,
     bench: &Bench<'b, B>,
-    steps: &[u16],
-    place: &Place,
+    here: &Here<'_>,
+    told: &[Continuation],
     values: &mut V,
 ) -> Result<(), NotMade>
-    requires { IsPlaceOf (marked bench.now) steps.now place.now }
-    ensures text { V.is_honest values.old → OnOk result (Grew (EndLines (marked bench.now) steps.now) text.old text.new) }
+    requires node { IsNodeAt (marked bench.now) here.now.steps.now here.now.node.aim.now here.now.node.depth here.now.node.position.now }
+    requires value { here.now.value ≡ value_at (marked bench.now) here.now.steps.now }
+    requires children { here.now.children ≡ width (below_at (marked bench.now).tree.below here.now.steps.now) }
+    requires legal { All (λ x. is_legal here.now.node.position.now x.played ≡ true) told.now }
+    requires all { length told.now ≡ length (legal_list here.now.node.position.now) }
+    requires few { length told.now < 2 ^ 32 }
+    ensures text { AreChosen (λ v. true) here.now.node.position.now (legal_list here.now.node.position.now) told.now → V.is_honest values.old
+        → OnOk result (Grew (EndLines (marked bench.now) here.now.steps.now) text.old text.new) }
     ensures asked { HasAsked V.held V.gives V.may_fail V.asked_of V.failed_of V.is_honest values.old result values.new }
 {
-    if !is_open_end(bench, steps, &place.position) {
+    if !is_open_end(here, told) {
         return Ok(());
     }
-    add_continued(text, steps, place, value_at(bench, steps), values)
+    add_continued(
+        text,
+        here.steps,
+        here.node.position,
+        here.value,
+        told,
+        values,
+    )
 }
 
-/// All lines of the node but its fault.
-pub fn add_node<'a, 'b, A: Allocator, B: Allocator, V: Values>(
+/// The lines of a node from the values after its legal moves.
+fn add_told<'a, 'b, A: Allocator, B: Allocator, V: Values>(
     alloc: &'a A,
     text: &mut Text<'_, A>,
     bench: &Bench<'b, B>,
-    steps: &[u16],
+    here: &Here<'_>,
+    told: &[Continuation],
     values: &mut V,
 ) -> Result<(), NotMade>
-    requires { IsTrue (has_spot (marked bench.now).tree steps.now) }
-    ensures text { V.is_honest values.old → OnOk result (Grew (NodeLines (marked bench.now) steps.now) text.old text.new) }
+    requires found { IsTrue (has_spot (marked bench.now).tree here.now.steps.now) }
+    requires node { IsNodeAt (marked bench.now) here.now.steps.now here.now.node.aim.now here.now.node.depth here.now.node.position.now }
+    requires value { here.now.value ≡ value_at (marked bench.now) here.now.steps.now }
+    requires children { here.now.children ≡ width (below_at (marked bench.now).tree.below here.now.steps.now) }
+    requires solution { here.now.solution ≡ in_solution (aim_of (marked bench.now)) 0 here.now.steps.now }
+    requires tried { here.now.tried ≡ is_try (marked bench.now) here.now.steps.now }
+    requires legal { All (λ x. is_legal here.now.node.position.now x.played ≡ true) told.now }
+    requires all { length told.now ≡ length (legal_list here.now.node.position.now) }
+    requires few { length told.now < 2 ^ 32 }
+    ensures text { AreChosen (λ v. true) here.now.node.position.now (legal_list here.now.node.position.now) told.now → V.is_honest values.old
+        → OnOk result (Grew (OwnLines (marked bench.now) here.now.steps.now) text.old text.new) }
     ensures asked { HasAsked V.held V.gives V.may_fail V.asked_of V.failed_of V.is_honest values.old result values.new }
 {
-    match place_in(bench, steps) {
-        None => Ok(()),
-        Some(place) => {
-            add_also(text, bench, steps, values)?;
-            add_refuted(text, bench, steps, &place, values)?;
-            add_missing(alloc, text, bench, steps, &place, values)?;
-            add_end(text, bench, steps, &place, values)
-        }
-    }
+    add_refuted(text, bench, here, told)?;
+    add_missing(alloc, text, bench, here, told, values)?;
+    add_end(text, bench, here, told, values)
 }
 
-/// How many of these lose time.
-fn times_lost(list: &[Alternative]) -> u16
-    requires { length list.now ≤ 256 }
-    ensures { result ≡ times_lost list.now }
-{
-    match list.split_first() {
-        None => 0,
-        Some((x, rest)) => times_lost(rest) + if x.time.is_some() { 1 } else { 0 },
-    }
-}
-
-/// The line of a dual.
-fn add_dual_fault<A: Allocator, V: Values>(
-    text: &mut Text<'_, A>,
-    steps: &[u16],
-    made: &Made,
-    told: (Value, u8),
-    values: &mut V,
-) -> Result<(), NotMade>
-    requires depth { made.now.before.depth + 1 < 2 ^ 64 }
-    requires legal { is_legal made.now.before.position made.now.played ≡ true }
-    ensures text { V.is_honest values.old → OnOk result (Grew (IsDual steps.now
-        made.now.before.aim made.now.before.depth made.now.before.line.items made.now.before.position made.now.played told.0 told.1) text.old text.new) }
-    ensures asked { HasAsked V.held V.gives V.may_fail V.asked_of V.failed_of V.is_honest values.old result values.new }
-{
-    match timed_alternatives(&made.before, made.played, values) {
-        Err(fault) => Err(NotMade::Untold(fault)),
-        Ok(list) => {
-            let x = Continuation {
-                played: made.played,
-                value: told.0,
-            };
-            let time = times_lost(list.as_slice());
-            add_dual(text, steps, &made.before.position, &x, (told.1, time))?;
-            Ok(())
-        }
-    }
-}
-
-/// The line of a fault of the solution.
-pub fn add_fault<'b, A: Allocator, B: Allocator, V: Values>(
+/// The lines of a node but for those of the move to it. Its legal moves are asked once, where any line may need them.
+pub fn add_own<'a, 'b, A: Allocator, B: Allocator, V: Values>(
+    alloc: &'a A,
     text: &mut Text<'_, A>,
     bench: &Bench<'b, B>,
-    steps: &[u16],
+    here: &Here<'_>,
+    told: &mut Vec<Continuation, &'a A>,
     values: &mut V,
 ) -> Result<(), NotMade>
-    ensures text { V.is_honest values.old → OnOk result (Grew (FaultLines (marked bench.now) steps.now) text.old text.new) }
+    requires found { IsTrue (has_spot (marked bench.now).tree here.now.steps.now) }
+    requires node { IsNodeAt (marked bench.now) here.now.steps.now here.now.node.aim.now here.now.node.depth here.now.node.position.now }
+    requires value { here.now.value ≡ value_at (marked bench.now) here.now.steps.now }
+    requires children { here.now.children ≡ width (below_at (marked bench.now).tree.below here.now.steps.now) }
+    requires solution { here.now.solution ≡ in_solution (aim_of (marked bench.now)) 0 here.now.steps.now }
+    requires tried { here.now.tried ≡ is_try (marked bench.now) here.now.steps.now }
+    ensures text { V.is_honest values.old → OnOk result (Grew (OwnLines (marked bench.now) here.now.steps.now) text.old text.new) }
     ensures asked { HasAsked V.held V.gives V.may_fail V.asked_of V.failed_of V.is_honest values.old result values.new }
 {
-    if !is_solution_move(bench, steps) {
+    if here.children != 0 && !here.tried && !is_defended(here) {
         return Ok(());
     }
-    let value = value_at(bench, steps);
-    match made_in(bench, steps) {
-        None => Ok(()),
-        Some(made) => match mark_at(bench, steps) {
-            Some(MoveMark::Dual(k)) => add_dual_fault(text, steps, &made, (value, k), values),
-            Some(MoveMark::Mistake) => {
-                let x = Continuation {
-                    played: made.played,
-                    value,
-                };
-                add_mistake(text, steps, &made.before.position, &x)?;
-                Ok(())
-            }
-            _ => Ok(()),
-        },
-    }
+    ask_moves(here.node.position, values, told)?;
+    add_told(alloc, text, bench, here, told.as_slice(), values)
 }

@@ -1,47 +1,12 @@
-//! What a node shows, and which of its lines there are.
-ghost use Rattle.std.specs.Prelude.{◌≡◌, ◌<◌, ◌+◌, ◌^◌, length};
+//! What the marks of a study tell.
+ghost use Rattle.std.specs.Prelude.{◌≡◌, ◌&&◌, ◌||◌};
 ghost use Rattle.study_marks.specs.Goals.{aim_of};
 ghost use Rattle.study_marks.specs.Kept.{marked};
-ghost use Rattle.study_marks.specs.Renewal.{below_at};
-ghost use Rattle.study_marks.specs.Study.{position_at};
-ghost use Rattle.study_review.specs.Nodes.{is_dual, is_mistake, is_idle, none_idle, hero_made, is_stalemate, mark_at, value_at};
-ghost use Rattle.study_review.specs.Nodes.{front_of, is_try, is_defended, is_open_end, is_solution_move, is_first_idle, has_none};
+ghost use Rattle.study_review.specs.Nodes.{is_mistake, is_idle};
 
-use crate::line::Place;
-use crate::solution::is_in_solution;
+use crate::stand::Stand;
 use std::alloc::Allocator;
-use study_board::Position;
-use study_marks::{Aim, Bench, MoveMark, hero_moves, holds};
-use study_moves::{in_check, legal_moves};
-use study_retro::Value;
-
-/// The mark of the move that led to the node.
-pub fn mark_at<'b, B: Allocator>(bench: &Bench<'b, B>, steps: &[u16]) -> Option<MoveMark>
-    ensures { result ≡ mark_at (marked bench.now) steps.now }
-{
-    match bench.shown(steps) {
-        None => None,
-        Some(node) => node.mark.on_move,
-    }
-}
-
-pub fn value_at<'b, B: Allocator>(bench: &Bench<'b, B>, steps: &[u16]) -> Value
-    ensures { result ≡ value_at (marked bench.now) steps.now }
-{
-    match bench.shown(steps) {
-        None => Value::Draw,
-        Some(node) => node.mark.value,
-    }
-}
-
-pub fn is_dual(mark: Option<MoveMark>) -> bool
-    ensures { result ≡ is_dual mark }
-{
-    match mark {
-        Some(MoveMark::Dual(_)) => true,
-        _ => false,
-    }
-}
+use study_marks::{Aim, Bench, MoveMark};
 
 fn is_mistake(mark: Option<MoveMark>) -> bool
     ensures { result ≡ is_mistake mark }
@@ -52,7 +17,7 @@ fn is_mistake(mark: Option<MoveMark>) -> bool
     }
 }
 
-fn is_idle(mark: Option<MoveMark>) -> bool
+pub fn is_idle(mark: Option<MoveMark>) -> bool
     ensures { result ≡ is_idle mark }
 {
     match mark {
@@ -61,30 +26,18 @@ fn is_idle(mark: Option<MoveMark>) -> bool
     }
 }
 
-/// Whether no move on the way to the node is idle.
-fn none_idle<'b, B: Allocator>(bench: &Bench<'b, B>, steps: &[u16]) -> bool
-    ensures { result ≡ none_idle (marked bench.now).tree.below steps.now }
+/// Whether a move with this mark is a try: of the hero, and a mistake, or an idle move, and the first, where the solution leads.
+pub fn is_try(made: bool, mark: Option<MoveMark>, before: &Stand) -> bool
+    ensures { result ≡ (made && (is_mistake mark || (is_idle mark && (before.now.solution && before.now.quiet)))) }
 {
-    match steps.split_last() {
-        None => true,
-        Some((_, front)) => none_idle(bench, front) && !is_idle(mark_at(bench, steps)),
-    }
+    made && (is_mistake(mark) || (is_idle(mark) && before.solution && before.quiet))
 }
 
-fn hero_made(aim: &Aim, steps: &[u16]) -> bool
-    ensures { result ≡ hero_made aim.now steps.now }
+/// Whether a move is of the hero, and of the solution.
+pub fn is_solution_move(made: bool, here: &Stand) -> bool
+    ensures { result ≡ (made && here.now.solution) }
 {
-    match steps.split_first() {
-        None => false,
-        Some((_, rest)) => hero_moves(aim, rest.len()),
-    }
-}
-
-#[tactic(auto, unfolding(crate::specs::Nodes::is_stalemate))]
-pub fn is_stalemate(p: &Position) -> bool
-    ensures { result ≡ is_stalemate p.now }
-{
-    legal_moves(p).is_empty() && !in_check(p)
+    made && here.solution
 }
 
 pub fn aim_in<'b, B: Allocator>(bench: &Bench<'b, B>) -> Aim
@@ -93,66 +46,4 @@ pub fn aim_in<'b, B: Allocator>(bench: &Bench<'b, B>) -> Aim
     let first = bench.start();
     let stipulation = bench.stipulation();
     study_marks::aim_of(&stipulation, first.position.to_move())
-}
-
-/// The path of the node before, of the root its own.
-fn front_of(steps: &[u16]) -> &[u16]
-    ensures { result.now ≡ front_of steps.now }
-{
-    match steps.split_last() {
-        None => steps,
-        Some((_, front)) => front,
-    }
-}
-
-/// Whether the move to the node is an idle move, and the first, where the solution leads.
-fn is_first_idle<'b, B: Allocator>(bench: &Bench<'b, B>, aim: &Aim, steps: &[u16]) -> bool
-    ensures { result ≡ is_first_idle (marked bench.now) aim.now steps.now }
-{
-    let front = front_of(steps);
-    is_idle(mark_at(bench, steps)) && is_in_solution(aim, front) && none_idle(bench, front)
-}
-
-/// Whether the move to the node is a try of the hero.
-pub fn is_try<'b, B: Allocator>(bench: &Bench<'b, B>, steps: &[u16]) -> bool
-    ensures { result ≡ is_try (marked bench.now) steps.now }
-{
-    let aim = aim_in(bench);
-    hero_made(&aim, steps)
-        && (is_mistake(mark_at(bench, steps)) || is_first_idle(bench, &aim, steps))
-}
-
-/// Whether the opponent is to move at the node, which is of the solution and holds.
-pub fn is_defended<'b, B: Allocator>(bench: &Bench<'b, B>, steps: &[u16]) -> bool
-    ensures { result ≡ is_defended (marked bench.now) steps.now }
-{
-    let aim = aim_in(bench);
-    !hero_moves(&aim, steps.len())
-        && holds(&aim, steps.len(), value_at(bench, steps))
-        && is_in_solution(&aim, steps)
-}
-
-fn has_none<'b, B: Allocator>(bench: &Bench<'b, B>, steps: &[u16]) -> bool
-    ensures { result ≡ has_none (below_at (marked bench.now).tree.below steps.now) }
-{
-    match bench.shown(steps) {
-        None => true,
-        Some(node) => node.children == 0,
-    }
-}
-
-/// Whether the tree ends at the node, where the game does not.
-pub fn is_open_end<'b, B: Allocator>(bench: &Bench<'b, B>, steps: &[u16], p: &Position) -> bool
-    requires { p.now ≡ position_at (marked bench.now) steps.now }
-    ensures { result ≡ is_open_end (marked bench.now) steps.now }
-{
-    has_none(bench, steps) && !legal_moves(p).is_empty()
-}
-
-/// Whether the move to the node is the hero's, and of the solution.
-pub fn is_solution_move<'b, B: Allocator>(bench: &Bench<'b, B>, steps: &[u16]) -> bool
-    ensures { result ≡ is_solution_move (marked bench.now) steps.now }
-{
-    let aim = aim_in(bench);
-    hero_made(&aim, steps) && is_in_solution(&aim, steps)
 }

@@ -45,7 +45,7 @@ impl Default for Alternative {
 }
 
 /// The time that is lost by a move to this position, told where the hero is to win.
-fn time_told<V: Values>(
+pub fn time_told<V: Values>(
     goal: Goal,
     line: &[Position],
     q: &Position,

@@ -1,43 +1,27 @@
-//! The lines of all nodes, in written order.
-ghost use Rattle.std.specs.Prelude.{◌≡◌, ◌∷◌, IsTrue, OnOk};
+//! One walk of a study, in written order: what it finds of each node is handed on to those below it.
+ghost use Rattle.std.specs.Prelude.{◌≡◌, ◌++◌, ◌∷◌, [], ◌<◌, length, Some, OnOk, IfOk};
 ghost use Rattle.study_tree.specs.Edits.{width};
-ghost use Rattle.study_tree.specs.Tree.{has_spot};
+ghost use Rattle.study_tree.specs.Tree.{spot_at};
+ghost use Rattle.study_marks.specs.Goals.{aim_of};
 ghost use Rattle.study_marks.specs.Kept.{marked};
 ghost use Rattle.study_marks.specs.Renewal.{below_at};
-ghost use Rattle.study_review.specs.Made.{Grew, HasAsked, LinesOf};
-ghost use Rattle.study_review.specs.Review.{paths_from, LinesOfEach};
+ghost use Rattle.study_review.specs.Line.{line_to};
+ghost use Rattle.study_review.specs.Made.{Grew, HasAsked};
+ghost use Rattle.study_review.specs.Nodes.{front_of, NodeLines, FaultLines};
+ghost use Rattle.study_review.specs.Review.{paths_from, LinesOfEach, written_order};
+ghost use Rattle.study_review.specs.Stand.{arrival_of, IsStand};
 
+use crate::continuation::Node;
+use crate::draft::{Draft, Trail};
 use crate::fault::NotMade;
-use crate::nodes::{add_fault, add_node};
+use crate::moves::{Step, add_move};
+use crate::nodes::{Here, add_own};
+use crate::signs::{aim_in, is_solution_move, is_try};
+use crate::stand::{Arrival, Stand, arrival_at, root_stand, stand_after};
 use std::alloc::Allocator;
-use study_marks::Bench;
-use study_pgn::Text;
+use study_board::Position;
+use study_marks::{Aim, Bench, Mark, hero_moves};
 use study_prober::Values;
-
-/// Which lines of the nodes: faults of the solution, or all others.
-#[derive(Clone, Copy, Debug, PartialEq, Eq)]
-pub enum Part {
-    Faults,
-    Nodes,
-}
-
-fn add_own<'a, 'b, A: Allocator, B: Allocator, V: Values>(
-    alloc: &'a A,
-    part: Part,
-    text: &mut Text<'_, A>,
-    bench: &Bench<'b, B>,
-    steps: &[u16],
-    values: &mut V,
-) -> Result<(), NotMade>
-    requires { IsTrue (has_spot (marked bench.now).tree steps.now) }
-    ensures text { V.is_honest values.old → OnOk result (Grew (LinesOf part (marked bench.now) steps.now) text.old text.new) }
-    ensures asked { HasAsked V.held V.gives V.may_fail V.asked_of V.failed_of V.is_honest values.old result values.new }
-{
-    match part {
-        Part::Faults => add_fault(text, bench, steps, values),
-        Part::Nodes => add_node(alloc, text, bench, steps, values),
-    }
-}
 
 pub fn count_at<'b, B: Allocator>(bench: &Bench<'b, B>, steps: &[u16]) -> u16
     ensures { result ≡ width (below_at (marked bench.now).tree.below steps.now) }
@@ -48,27 +32,204 @@ pub fn count_at<'b, B: Allocator>(bench: &Bench<'b, B>, steps: &[u16]) -> u16
     }
 }
 
-/// The lines of the node at the path and of all below it.
-pub fn add_each<'a, 'b, A: Allocator, B: Allocator, V: Values>(
+/// The line of the fault of a move, and all other lines of the node that it leads to.
+fn add_lines<'a, 'b, A: Allocator, B: Allocator, V: Values>(
     alloc: &'a A,
-    part: Part,
-    text: &mut Text<'_, A>,
+    draft: &mut Draft<'a, A>,
     bench: &Bench<'b, B>,
-    steps: &mut Vec<u16, &A>,
+    aim: &Aim,
+    steps: &[u16],
+    line: &[Position],
+    stands: (&Stand, &Stand),
+    by: &Arrival,
     values: &mut V,
 ) -> Result<(), NotMade>
-    requires { IsTrue (has_spot (marked bench.now).tree steps.old.items) }
-    ensures text { V.is_honest values.old → OnOk result (Grew (LinesOfEach (LinesOf part (marked bench.now))
-        (steps.old.items ∷ paths_from steps.old.items 0 (below_at (marked bench.now).tree.below steps.old.items))) text.old text.new) }
-    ensures path { OnOk result (steps.new.items ≡ steps.old.items) }
+    requires aim { aim.now ≡ aim_of (marked bench.now) }
+    requires some { 0 < length steps.now }
+    requires line { line.now ≡ line_to (marked bench.now) (front_of steps.now) }
+    requires before { IsStand (marked bench.now) (front_of steps.now) stands.0.now }
+    requires here { IsStand (marked bench.now) steps.now stands.1.now }
+    requires by { arrival_of (spot_at (marked bench.now).tree steps.now) ≡ Some by.now }
+    ensures faults { V.is_honest values.old → OnOk result (Grew (FaultLines (marked bench.now) steps.now) draft.old.faults draft.new.faults) }
+    ensures nodes { V.is_honest values.old → OnOk result (Grew (NodeLines (marked bench.now) steps.now) draft.old.nodes draft.new.nodes) }
     ensures asked { HasAsked V.held V.gives V.may_fail V.asked_of V.failed_of V.is_honest values.old result values.new }
 {
-    add_own(alloc, part, text, bench, steps.as_slice(), values)?;
-    let count = count_at(bench, steps.as_slice());
-    for place in 0..count {
-        steps.push(place)?;
-        add_each(alloc, part, text, bench, steps, values)?;
-        steps.pop();
+    let first = bench.start();
+    let (before, here) = stands;
+    let step = Step {
+        before: Node {
+            aim,
+            depth: steps.len() - 1,
+            position: &before.position,
+        },
+        line,
+        steps,
+        played: by.played,
+    };
+    let made = hero_moves(aim, steps.len() - 1);
+    let listed = is_solution_move(made, here);
+    add_move(draft, bench, &step, by.mark, listed, values)?;
+    let node = Here {
+        node: Node {
+            aim,
+            depth: steps.len(),
+            position: &here.position,
+        },
+        steps,
+        value: by.mark.value,
+        children: by.children,
+        solution: here.solution,
+        tried: is_try(made, by.mark.on_move, before),
+    };
+    add_own(
+        alloc,
+        &mut draft.nodes,
+        bench,
+        &node,
+        &mut draft.told,
+        values,
+    )
+}
+
+/// Goes to the child at this place, and writes its lines.
+fn enter<'a, 'b, A: Allocator, B: Allocator, V: Values>(
+    alloc: &'a A,
+    draft: &mut Draft<'a, A>,
+    trail: &mut Trail<'a, A>,
+    bench: &Bench<'b, B>,
+    aim: &Aim,
+    before: &Stand,
+    place: u16,
+    values: &mut V,
+) -> Result<Stand, NotMade>
+    requires aim { aim.now ≡ aim_of (marked bench.now) }
+    requires line { trail.old.line.items ≡ line_to (marked bench.now) trail.old.steps.items }
+    requires before { IsStand (marked bench.now) trail.old.steps.items before.now }
+    requires there { place < before.now.children }
+    ensures steps { IfOk result (λ x. trail.new.steps.items ≡ trail.old.steps.items ++ place ∷ []) }
+    ensures line { IfOk result (λ x. trail.new.line.items ≡ trail.old.line.items ++ x.position ∷ []) }
+    ensures line_to { IfOk result (λ x. trail.new.line.items ≡ line_to (marked bench.now) trail.new.steps.items) }
+    ensures stand { IfOk result (IsStand (marked bench.now) trail.new.steps.items) }
+    ensures faults { V.is_honest values.old → OnOk result (Grew (FaultLines (marked bench.now) trail.new.steps.items) draft.old.faults draft.new.faults) }
+    ensures nodes { V.is_honest values.old → OnOk result (Grew (NodeLines (marked bench.now) trail.new.steps.items) draft.old.nodes draft.new.nodes) }
+    ensures asked { HasAsked V.held V.gives V.may_fail V.asked_of V.failed_of V.is_honest values.old result values.new }
+{
+    let first = bench.start();
+    trail.steps.push(place)?;
+    let steps = trail.steps.as_slice();
+    match arrival_at(bench, steps) {
+        None => unreachable!(),
+        Some(by) => {
+            let here = stand_after(bench, aim, steps, before, &by);
+            let line = trail.line.as_slice();
+            add_lines(
+                alloc,
+                draft,
+                bench,
+                aim,
+                steps,
+                line,
+                (before, &here),
+                &by,
+                values,
+            )?;
+            trail.line.push(here.position.copied())?;
+            Ok(here)
+        }
+    }
+}
+
+/// The lines of all nodes below the one where the walk stands.
+fn add_below<'a, 'b, A: Allocator, B: Allocator, V: Values>(
+    alloc: &'a A,
+    draft: &mut Draft<'a, A>,
+    trail: &mut Trail<'a, A>,
+    bench: &Bench<'b, B>,
+    aim: &Aim,
+    stand: &Stand,
+    values: &mut V,
+) -> Result<(), NotMade>
+    requires aim { aim.now ≡ aim_of (marked bench.now) }
+    requires line { trail.old.line.items ≡ line_to (marked bench.now) trail.old.steps.items }
+    requires stand { IsStand (marked bench.now) trail.old.steps.items stand.now }
+    ensures steps { OnOk result (trail.new.steps.items ≡ trail.old.steps.items) }
+    ensures line { OnOk result (trail.new.line.items ≡ trail.old.line.items) }
+    ensures faults { V.is_honest values.old → OnOk result (Grew (LinesOfEach (FaultLines (marked bench.now))
+        (paths_from trail.old.steps.items 0 (below_at (marked bench.now).tree.below trail.old.steps.items))) draft.old.faults draft.new.faults) }
+    ensures nodes { V.is_honest values.old → OnOk result (Grew (LinesOfEach (NodeLines (marked bench.now))
+        (paths_from trail.old.steps.items 0 (below_at (marked bench.now).tree.below trail.old.steps.items))) draft.old.nodes draft.new.nodes) }
+    ensures asked { HasAsked V.held V.gives V.may_fail V.asked_of V.failed_of V.is_honest values.old result values.new }
+{
+    for place in 0..stand.children {
+        let next = enter(alloc, draft, trail, bench, aim, stand, place, values)?;
+        add_below(alloc, draft, trail, bench, aim, &next, values)?;
+        trail.line.pop();
+        trail.steps.pop();
     }
     Ok(())
+}
+
+/// The lines of the root.
+fn add_root<'a, 'b, A: Allocator, B: Allocator, V: Values>(
+    alloc: &'a A,
+    draft: &mut Draft<'a, A>,
+    bench: &Bench<'b, B>,
+    aim: &Aim,
+    root: &Stand,
+    mark: Mark,
+    values: &mut V,
+) -> Result<(), NotMade>
+    requires aim { aim.now ≡ aim_of (marked bench.now) }
+    requires root { IsStand (marked bench.now) [] root.now }
+    requires mark { mark ≡ (marked bench.now).tree.label }
+    ensures faults { draft.new.faults ≡ draft.old.faults }
+    ensures nodes { V.is_honest values.old → OnOk result (Grew (NodeLines (marked bench.now) []) draft.old.nodes draft.new.nodes) }
+    ensures asked { HasAsked V.held V.gives V.may_fail V.asked_of V.failed_of V.is_honest values.old result values.new }
+{
+    let here = Here {
+        node: Node {
+            aim,
+            depth: 0,
+            position: &root.position,
+        },
+        steps: &[],
+        value: mark.value,
+        children: root.children,
+        solution: true,
+        tried: false,
+    };
+    add_own(
+        alloc,
+        &mut draft.nodes,
+        bench,
+        &here,
+        &mut draft.told,
+        values,
+    )
+}
+
+/// The lines of all nodes.
+pub fn add_all<'a, 'b, A: Allocator, B: Allocator, V: Values>(
+    alloc: &'a A,
+    draft: &mut Draft<'a, A>,
+    bench: &Bench<'b, B>,
+    root: Mark,
+    values: &mut V,
+) -> Result<(), NotMade>
+    requires { root ≡ (marked bench.now).tree.label }
+    ensures faults { V.is_honest values.old → OnOk result (Grew (LinesOfEach (FaultLines (marked bench.now)) (written_order (marked bench.now)))
+        draft.old.faults draft.new.faults) }
+    ensures nodes { V.is_honest values.old → OnOk result (Grew (LinesOfEach (NodeLines (marked bench.now)) (written_order (marked bench.now)))
+        draft.old.nodes draft.new.nodes) }
+    ensures asked { HasAsked V.held V.gives V.may_fail V.asked_of V.failed_of V.is_honest values.old result values.new }
+{
+    let aim = aim_in(bench);
+    let stand = root_stand(bench, count_at(bench, &[]));
+    add_root(alloc, draft, bench, &aim, &stand, root, values)?;
+    let mut trail = Trail {
+        steps: Vec::new(alloc),
+        line: Vec::new(alloc),
+    };
+    trail.line.push(stand.position.copied())?;
+    add_below(alloc, draft, &mut trail, bench, &aim, &stand, values)
 }

@@ -1,7 +1,7 @@
 //! The words of a review's lines, added to a text.
-ghost use Rattle.std.specs.Prelude.{◌≡◌, ◌++◌, ◌<◌, ◌^◌, true, OnOk, IfSome, length, decimal};
+ghost use Rattle.std.specs.Prelude.{◌≡◌, ◌++◌, ◌+◌, ◌<◌, ◌≤◌, ◌^◌, true, OnOk, IfSome, length, decimal};
 ghost use Rattle.std.specs.List.{All, flat_map};
-ghost use Rattle.study_moves.specs.Rules.{is_legal, after};
+ghost use Rattle.study_moves.specs.Rules.{is_legal};
 ghost use Rattle.study_command.specs.Paths.{path_text, more_places};
 ghost use Rattle.study_review.specs.Play.{IsPlayed, ArePlayed};
 ghost use Rattle.study_notation.specs.Written.{move_text};
@@ -9,13 +9,15 @@ ghost use Rattle.study_review.specs.Words.{value_words, front_words, told_move, 
 ghost use Rattle.study_review.specs.Words.{only_words, none_words, answers_words, missing_line, play_words, play_line};
 ghost use Rattle.study_review.specs.Words.{move_words, keep_line, dual_line, mistake_line};
 ghost use Rattle.study_moves.specs.LegalList.{legal_list};
+ghost use Rattle.study_review.specs.Told.{failing, drawing};
 
-use crate::continuation::Continuation;
+use crate::continuation::{Continuation, Node, is_draw};
 use crate::missing::Defence;
 use crate::time::Alternative;
 use std::alloc::{AllocError, Allocator};
 use study_board::Position;
-use study_moves::{Move, legal_moves, played};
+use study_marks::holds;
+use study_moves::{Move, played};
 use study_notation::write_san;
 use study_pgn::Text;
 use study_retro::Value;
@@ -113,8 +115,9 @@ fn add_time<A: Allocator>(text: &mut Text<'_, A>, time: Option<u8>) -> Result<()
     }
 }
 
+/// The line of an alternative.
 #[tactic(auto, unfolding(crate::specs::Words::also_line))]
-fn add_also_line<A: Allocator>(
+pub fn add_also_line<A: Allocator>(
     text: &mut Text<'_, A>,
     steps: &[u16],
     p: &Position,
@@ -127,22 +130,6 @@ fn add_also_line<A: Allocator>(
     add_told(text, p, x.played, x.value)?;
     add_time(text, x.time)?;
     text.add(b"\n")
-}
-
-/// A line for each alternative.
-pub fn add_also_lines<A: Allocator>(
-    text: &mut Text<'_, A>,
-    steps: &[u16],
-    p: &Position,
-    list: &[Alternative],
-) -> Result<(), AllocError>
-    requires { All (λ x. is_legal p.now x.played ≡ true) list.now }
-    ensures { OnOk result (text.new ≡ text.old ++ flat_map (also_line steps.now p.now) list.now) }
-{
-    for x in list {
-        add_also_line(text, steps, p, x)?;
-    }
-    Ok(())
 }
 
 #[tactic(auto, unfolding(crate::specs::Words::refuted_line))]
@@ -160,18 +147,22 @@ fn add_refuted_line<A: Allocator>(
     text.add(b"\n")
 }
 
-/// A line for each refutation.
+/// A line for each of these moves after which the position does not hold.
 pub fn add_refuted_lines<A: Allocator>(
     text: &mut Text<'_, A>,
     steps: &[u16],
-    p: &Position,
-    list: &[Continuation],
+    node: &Node<'_>,
+    told: &[Continuation],
 ) -> Result<(), AllocError>
-    requires { All (λ x. is_legal p.now x.played ≡ true) list.now }
-    ensures { OnOk result (text.new ≡ text.old ++ flat_map (refuted_line steps.now p.now) list.now) }
+    requires depth { node.now.depth + 1 < 2 ^ 64 }
+    requires legal { All (λ x. is_legal node.now.position.now x.played ≡ true) told.now }
+    ensures { OnOk result (text.new ≡ text.old
+        ++ flat_map (refuted_line steps.now node.now.position.now) (failing node.now.aim.now node.now.depth told.now)) }
 {
-    for x in list {
-        add_refuted_line(text, steps, p, x)?;
+    for x in told {
+        if !holds(node.aim, node.depth + 1, x.value) {
+            add_refuted_line(text, steps, node.position, x)?;
+        }
     }
     Ok(())
 }
@@ -227,8 +218,9 @@ fn add_answers<A: Allocator>(
     add_none(text, answers)
 }
 
+/// The line of a defence that is missing.
 #[tactic(auto, unfolding(crate::specs::Words::missing_line))]
-fn add_missing_line<A: Allocator>(
+pub fn add_missing_line<A: Allocator>(
     text: &mut Text<'_, A>,
     steps: &[u16],
     p: &Position,
@@ -242,22 +234,6 @@ fn add_missing_line<A: Allocator>(
     add_told(text, p, y.played, y.value)?;
     add_answers(text, &next, y.answers, y.only)?;
     text.add(b"\n")
-}
-
-/// A line for each defence.
-pub fn add_missing_lines<A: Allocator>(
-    text: &mut Text<'_, A>,
-    steps: &[u16],
-    p: &Position,
-    list: &[Defence],
-) -> Result<(), AllocError>
-    requires { All (IsPlayed p.now) list.now }
-    ensures { OnOk result (text.new ≡ text.old ++ flat_map (missing_line steps.now p.now) list.now) }
-{
-    for y in list {
-        add_missing_line(text, steps, p, y)?;
-    }
-    Ok(())
 }
 
 fn add_moves<A: Allocator>(
@@ -310,38 +286,53 @@ fn add_move<A: Allocator>(
     add_san(text, p, x.played)
 }
 
-fn add_each_move<A: Allocator>(
+/// The moves that keep a draw, each behind a space.
+fn add_drawing_moves<A: Allocator>(
     text: &mut Text<'_, A>,
     p: &Position,
-    list: &[Continuation],
+    told: &[Continuation],
 ) -> Result<(), AllocError>
-    requires { All (λ x. is_legal p.now x.played ≡ true) list.now }
-    ensures { OnOk result (text.new ≡ text.old ++ flat_map (move_words p.now) list.now) }
+    requires { All (λ x. is_legal p.now x.played ≡ true) told.now }
+    ensures { OnOk result (text.new ≡ text.old ++ flat_map (move_words p.now) (drawing told.now)) }
 {
-    for x in list {
-        add_move(text, p, x)?;
+    for x in told {
+        if is_draw(x.value) {
+            add_move(text, p, x)?;
+        }
     }
     Ok(())
 }
 
-/// The line of the moves that keep a draw.
+/// How many of these keep a draw.
+fn count_drawing(told: &[Continuation]) -> u32
+    requires { length told.now < 2 ^ 32 }
+    ensures count { result ≡ length (drawing told.now) }
+    ensures few { result ≤ length told.now }
+{
+    match told.split_first() {
+        None => 0,
+        Some((x, rest)) => count_drawing(rest) + if is_draw(x.value) { 1 } else { 0 },
+    }
+}
+
+/// The line of the moves that keep a draw, of all legal moves.
 #[tactic(auto, unfolding(crate::specs::Words::keep_line))]
 pub fn add_keep<A: Allocator>(
     text: &mut Text<'_, A>,
     steps: &[u16],
     p: &Position,
-    list: &[Continuation],
+    told: &[Continuation],
 ) -> Result<(), AllocError>
-    requires few { length list.now < 2 ^ 32 }
-    requires legal { All (λ x. is_legal p.now x.played ≡ true) list.now }
-    ensures { OnOk result (text.new ≡ text.old ++ keep_line steps.now p.now list.now) }
+    requires few { length told.now < 2 ^ 32 }
+    requires all { length told.now ≡ length (legal_list p.now) }
+    requires legal { All (λ x. is_legal p.now x.played ≡ true) told.now }
+    ensures { OnOk result (text.new ≡ text.old ++ keep_line steps.now p.now (drawing told.now)) }
 {
-    let all = legal_moves(p).len() as u32;
     add_front(text, b"keep ", steps)?;
-    text.add_number(list.len() as u32)?;
+    text.add_number(count_drawing(told))?;
     text.add(b" ")?;
-    text.add_number(all)?;
-    add_each_move(text, p, list)?;
+    text.add_number(told.len() as u32)?;
+    add_drawing_moves(text, p, told)?;
     text.add(b"\n")
 }
 

@@ -1,20 +1,20 @@
 //! The review of a study, and its way to a writer.
-ghost use Rattle.std.specs.Prelude.{◌≡◌, ◌++◌, ◌≤◌, List, ℕ, IsTrue, OnOk, IfOk, IfErr, Ok, Err, Some, false};
+ghost use Rattle.std.specs.Prelude.{◌≡◌, ◌++◌, ◌≤◌, List, ℕ, OnOk, IfOk, IfErr, Ok, Err, Some};
 ghost use Rattle.std.specs.Io.KnownBytes.{Appends};
-ghost use Rattle.study_material.specs.declared.class.Class.{Class as AClass};
 ghost use Rattle.study_tablefile.specs.Taken.{TakesPrefix};
 ghost use Rattle.study_tree.specs.Edits.{width};
 ghost use Rattle.study_marks.specs.Goals.{aim_of};
 ghost use Rattle.study_marks.specs.Kept.{marked, IsKeptRight};
 ghost use Rattle.study_marks.specs.Study.{plain_study};
 ghost use Rattle.study_prober.specs.declared.values.ProbeFault.{ProbeFault as AProbeFault};
-ghost use Rattle.study_marks.specs.Renewal.{below_at, skipped};
+ghost use Rattle.study_marks.specs.Renewal.{skipped};
 ghost use Rattle.study_review.specs.Made.{HasAsked};
 ghost use Rattle.study_review.specs.Review.{study_line, stipulation_line, empty_line, is_empty, none_below, IsReview, IsReviewOf, HasReviewed};
 
+use crate::draft::Draft;
 use crate::fault::{NotMade, ReviewFault};
 use crate::signs::aim_in;
-use crate::walk::{Part, add_each, count_at};
+use crate::walk::{add_all, count_at};
 use std::alloc::{AllocError, Allocator};
 use std::io::Write;
 use study_marks::{Bench, Mark, hero_moves};
@@ -97,12 +97,12 @@ fn add_empty<'b, A: Allocator, B: Allocator>(
 }
 
 /// The mark of the root.
-fn root_of<'b, B: Allocator>(bench: &Bench<'b, B>) -> Option<Mark>
-    ensures { result ≡ Some (marked bench.now).tree.label }
+fn root_of<'b, B: Allocator>(bench: &Bench<'b, B>) -> Mark
+    ensures { result ≡ (marked bench.now).tree.label }
 {
     match bench.shown(&[]) {
-        None => None,
-        Some(node) => Some(node.mark),
+        None => unreachable!(),
+        Some(node) => node.mark,
     }
 }
 
@@ -110,19 +110,25 @@ fn root_of<'b, B: Allocator>(bench: &Bench<'b, B>) -> Option<Mark>
 fn add_head<'b, A: Allocator, B: Allocator>(
     text: &mut Text<'_, A>,
     bench: &Bench<'b, B>,
+    root: Mark,
     number: u32,
 ) -> Result<(), AllocError>
+    requires { root ≡ (marked bench.now).tree.label }
     ensures { OnOk result (text.new ≡ text.old ++ (study_line (marked bench.now) number
         ++ (stipulation_line (marked bench.now) ++ empty_line (marked bench.now)))) }
 {
-    match root_of(bench) {
-        None => Ok(()),
-        Some(root) => {
-            add_study(text, bench, number)?;
-            add_stipulation(text, bench, root)?;
-            add_empty(text, bench)
-        }
-    }
+    add_study(text, bench, number)?;
+    add_stipulation(text, bench, root)?;
+    add_empty(text, bench)
+}
+
+/// Two texts, one behind the other.
+fn join<'a, A: Allocator>(mut text: Text<'a, A>, rest: Text<'a, A>) -> Result<Text<'a, A>, NotMade>
+    ensures text { IfOk result (λ whole. whole ≡ text.entry ++ rest.entry) }
+    ensures memory { IfErr result (λ reason. reason ≡ NotMade.OutOfMemory) }
+{
+    text.add(rest.as_slice())?;
+    Ok(text)
 }
 
 /// The text of the review.
@@ -135,19 +141,22 @@ fn text_of<'a, 'b, A: Allocator, B: Allocator, V: Values>(
     ensures text { V.is_honest values.old → IfOk result (IsReview (marked bench.now) number) }
     ensures asked { HasAsked V.held V.gives V.may_fail V.asked_of V.failed_of V.is_honest values.old result values.new }
 {
-    let mut text = Text::new(alloc);
-    let mut steps = Vec::new(alloc);
-    add_head(&mut text, bench, number)?;
-    add_each(alloc, Part::Faults, &mut text, bench, &mut steps, values)?;
-    add_each(alloc, Part::Nodes, &mut text, bench, &mut steps, values)?;
-    Ok(text)
+    let root = root_of(bench);
+    let mut draft = Draft {
+        faults: Text::new(alloc),
+        nodes: Text::new(alloc),
+        told: Vec::new(alloc),
+    };
+    add_head(&mut draft.faults, bench, root, number)?;
+    add_all(alloc, &mut draft, bench, root, values)?;
+    join(draft.faults, draft.nodes)
 }
 
 /// Writes the review of a study, the one of this number.
 ///
 /// The text is made whole first, so want of memory, and a value that is not told, is told before the first byte. A writer
-/// that fails or takes nothing ends the call; it took a front of the text then. The time grows with the number of nodes,
-/// and with the square of the depth of each, since a node and those before it are looked up along its path.
+/// that fails or takes nothing ends the call; it took a front of the text then. The study is walked once. The time grows
+/// with the number of nodes, and with the depth of each, since a node is looked up along its path.
 pub fn write_review<'a, 'b, A: Allocator, B: Allocator, V: Values, W: Write>(
     alloc: &'a A,
     bench: &Bench<'b, B>,

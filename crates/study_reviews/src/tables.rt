@@ -14,6 +14,7 @@ use study_retro::{BuildRoom, TableSet, Value, build};
 use study_tree::Path;
 
 /// The values of these classes, built in order.
+/// No contract: tests alone call it.
 pub fn tables<'a, A: Allocator>(
     alloc: &'a A,
     classes: &[Class],
@@ -29,6 +30,8 @@ pub fn tables<'a, A: Allocator>(
     Ok(WholeTables::new(set))
 }
 
+/// The position of a FEN.
+/// No contract: tests alone call it.
 pub fn position(fen: &str) -> Result<Position, Fail> {
     let start = read_fen(fen)?;
     Ok(start.position)
@@ -40,6 +43,7 @@ pub const WHITE_WINS: Stipulation = Stipulation {
 };
 
 /// White is to mate in so many moves.
+/// No contract: tests alone call it.
 pub fn white_mates(moves: u8) -> Result<Stipulation, Fail> {
     let count = MateMoves::new(moves).ok_or("no number of moves")?;
     Ok(Stipulation {
@@ -49,6 +53,7 @@ pub fn white_mates(moves: u8) -> Result<Stipulation, Fail> {
 }
 
 /// A study with these moves, each put last below the node at its path.
+/// No contract: tests alone call it.
 pub fn study<'a, A: Allocator, V: Values>(
     alloc: &'a A,
     fen: &str,
@@ -75,6 +80,7 @@ pub fn study<'a, A: Allocator, V: Values>(
 }
 
 /// Whether the move is legal and has this text.
+/// No contract: tests alone call it.
 pub fn is_written(p: &Position, m: &Move, san: &str) -> bool {
     if !is_legal(p, *m) {
         return false;

@@ -4,14 +4,8 @@
 #![tactic(auto)]
 
 #[cfg(test)]
-mod files;
-#[cfg(test)]
-mod growths;
-#[cfg(test)]
 mod pages;
 #[cfg(test)]
 mod pgn;
-#[cfg(test)]
-mod probes;
 #[cfg(test)]
 mod tables;

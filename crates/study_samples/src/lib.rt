@@ -4,18 +4,4 @@
 #![tactic(auto)]
 
 #[cfg(test)]
-mod board;
-#[cfg(test)]
-mod index;
-#[cfg(test)]
-mod material;
-#[cfg(test)]
-mod moves;
-#[cfg(test)]
-mod notation;
-#[cfg(test)]
-mod samples;
-#[cfg(test)]
-mod tablefile;
-#[cfg(test)]
 mod tree;

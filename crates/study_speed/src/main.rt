@@ -15,7 +15,9 @@ mod reviews;
 mod samples;
 mod studies;
 mod timed;
+mod views;
 
+use reviews::Measured;
 use std::io;
 use std::process::ExitCode;
 use study_material::Class;
@@ -44,11 +46,12 @@ fn measure(rt: HostRuntime, what: &str, name: Option<&str>) -> io::Result<()> {
         "numbers" => numbers::measure(rt),
         "files" => files::measure(rt),
         "probes" => probes::measure(rt),
-        "reviews" => reviews::measure(rt, name.unwrap_or(".")),
+        "reviews" => reviews::measure(rt, Measured::Review, name.unwrap_or(".")),
         "studies" => studies::measure(rt),
+        "views" => reviews::measure(rt, Measured::Views, name.unwrap_or(".")),
         "tables" => measure_tables(rt, name.unwrap_or("KPK")),
         _ => println!(rt;
-            "calls, numbers, files, probes, studies, all, tables and a class, or reviews and a folder"
+            "calls, numbers, files, probes, studies, all, tables and a class, or reviews or views and a folder"
         ),
     }
 }

@@ -1,4 +1,5 @@
-//! How long the reviews of a script's studies take, over the tables of a folder, held whole.
+//! How long the reviews of a script's studies take, or what a board shows of them, over the tables of a folder, held whole.
+use crate::views;
 use std::alloc::Allocator;
 use std::io;
 use std::io::{BufReader, ErrorKind, Read, Write};
@@ -14,6 +15,13 @@ use study_script::desk::{Desk, StudyDesk};
 use study_script::store::TableStore;
 use study_script::tables::Tables;
 use study_tablefile::memory::MemoryWriter;
+
+/// What is measured of a study.
+#[derive(Clone, Copy, Debug, PartialEq, Eq)]
+pub enum Measured {
+    Review,
+    Views,
+}
 
 /// How often each study is reviewed.
 const GOES: u16 = 200;
@@ -43,13 +51,14 @@ fn tell<A: Allocator, V: Values>(
         }
         told = text;
     }
-    eprintln!(rt; "{number} {best}")?;
+    eprintln!(rt; "review {best}")?;
     rt.stdout().write_all(told.taken.as_slice())
 }
 
-/// Answers a line, and reviews the study that an accepted `pgn` line finds on the board, as the one after so many.
+/// Answers a line, and measures the study that an accepted `pgn` line finds on the board, as the one after so many.
 fn follow_line<'a, 's, S: TableStore, A: Allocator>(
     rt: HostRuntime,
+    what: Measured,
     desk: &mut StudyDesk<'a, 's, S, A>,
     line: &[u8],
     studies: u32,
@@ -62,16 +71,20 @@ fn follow_line<'a, 's, S: TableStore, A: Allocator>(
         return Ok(studies);
     }
     let number = studies.wrapping_add(1);
-    match &desk.board {
-        Board::Study(bench) => tell(rt, bench, &mut desk.tables, number)?,
-        Board::Empty | Board::Start(_) => return Ok(studies),
+    let Board::Study(bench) = &desk.board else {
+        return Ok(studies);
+    };
+    match what {
+        Measured::Review => tell(rt, bench, &mut desk.tables, number)?,
+        Measured::Views => views::measure(rt, desk.alloc, bench, &mut desk.tables)?,
     }
     Ok(number)
 }
 
-/// Follows a script from an empty board over a store, and reviews its studies. Refused lines are passed over.
+/// Follows a script from an empty board over a store, and measures its studies. Refused lines are passed over.
 fn follow<'a, R: Read, S: TableStore, A: Allocator>(
     rt: HostRuntime,
+    what: Measured,
     alloc: &'a A,
     script: &mut R,
     store: &mut S,
@@ -86,7 +99,7 @@ fn follow<'a, R: Read, S: TableStore, A: Allocator>(
     let mut studies = 0u32;
     for _ in 0..100_000u32 {
         match line.read(script) {
-            Ok(true) => studies = follow_line(rt, &mut desk, line.as_slice(), studies)?,
+            Ok(true) => studies = follow_line(rt, what, &mut desk, line.as_slice(), studies)?,
             Ok(false) => return Ok(()),
             Err(_) => return Err(broken()),
         }
@@ -94,11 +107,11 @@ fn follow<'a, R: Read, S: TableStore, A: Allocator>(
     Ok(())
 }
 
-/// Reviews the studies of the script on standard input, over the tables of the folder.
+/// Measures the studies of the script on standard input, over the tables of the folder.
 /// No contract: it measures, and what it prints is read by people alone.
-pub fn measure(rt: HostRuntime, folder: &str) -> io::Result<()> {
+pub fn measure(rt: HostRuntime, what: Measured, folder: &str) -> io::Result<()> {
     let alloc = rt.alloc();
     let mut store = FolderStore::new(&rt, &alloc, folder)?;
     let mut script = BufReader::new(&alloc, rt.stdin())?;
-    follow(rt, &alloc, &mut script, &mut store)
+    follow(rt, what, &alloc, &mut script, &mut store)
 }

@@ -9,3 +9,4 @@ pub mod OneSurvey
 pub mod NewNode
 pub mod PassedSquares
 pub mod ClassesNeeded
+pub mod SurveyTold

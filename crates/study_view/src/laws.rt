@@ -1,6 +1,7 @@
 //! Laws over the definitions, stated by functions that do nothing.
 ghost use Rattle.study_view.specs.Insertion.{MarksOfMovesAreThoseOfInsertions};
 ghost use Rattle.study_view.specs.Survey.{SurveysAreUnique};
+ghost use Rattle.study_view.specs.Told.{SurveysTellTheGame};
 ghost use Rattle.study_view.specs.View.{ViewsAreUnique, PlainStudiesHaveOneView};
 
 use study_marks::annotations_are_unique;
@@ -24,6 +25,14 @@ pub fn plain_studies_have_one_view()
 /// There is one survey of a man.
 pub fn surveys_are_unique()
     ensures { SurveysAreUnique }
+{
+    values_are_unique();
+}
+
+/// A square is told `only` exactly where the position with the man there is valid, what the hero is to reach holds in it, and
+/// exactly one legal move keeps it: by the game's values.
+pub fn surveys_tell_the_game()
+    ensures { SurveysTellTheGame }
 {
     values_are_unique();
 }

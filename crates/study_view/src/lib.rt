@@ -21,7 +21,7 @@ pub use classes::classes_needed;
 pub use fault::{SurveyFault, ViewFault};
 pub use laws::{
     marks_of_moves_are_those_of_insertions, plain_studies_have_one_view, surveys_are_unique,
-    views_are_unique,
+    surveys_tell_the_game, views_are_unique,
 };
 pub use passed::passed_squares;
 pub use squares::{Question, Standing, Stood, survey};

@@ -1,6 +1,6 @@
 //! The mark of a move, by the values after all legal moves.
 ghost use Rattle.std.specs.Prelude.{◌≡◌, ◌+◌, ◌≤◌, ◌<◌, ◌^◌, ◌++◌, true, length, Some, OnOk};
-ghost use Rattle.std.specs.List.{All, count_by, flat_map};
+ghost use Rattle.std.specs.List.{All, flat_map};
 ghost use Rattle.study_moves.specs.Rules.{is_legal};
 ghost use Rattle.study_marks.specs.Goals.{hero_moves, holds};
 ghost use Rattle.study_marks.specs.Marks.{only_or_dual, mark_of};
@@ -121,7 +121,8 @@ pub fn add_moves<A: Allocator>(
     requires few { length list.now ≤ 256 }
     requires legal { All (λ x. is_legal here.now.start.now.position x.played ≡ true) list.now }
     ensures { OnOk result (text.new ≡ text.old
-        ++ flat_map (told_line here.now.aim.now here.now.depth here.now.start.now here.now.value (holding_count here.now.aim.now here.now.depth list.now)) list.now) }
+        ++ flat_map (told_line here.now.aim.now here.now.depth here.now.start.now here.now.value
+        (holding_count here.now.aim.now here.now.depth list.now)) list.now) }
 {
     let count = holding_count(here.aim, here.depth, list);
     add_each(text, here, count, list)

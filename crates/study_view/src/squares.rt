@@ -1,6 +1,6 @@
 //! Where else a man could stand.
-ghost use Rattle.std.specs.Prelude.{◌≡◌, ◌+◌, ◌++◌, ◌∷◌, [], ◌-◌, ◌<◌, ◌≤◌, ◌↔◌, true, List, length, map, None, OnOk, IfOk, IfSome, IfNone, IsSome, Err};
-ghost use Rattle.std.specs.List.{All, filter, range_with_len};
+ghost use Rattle.std.specs.Prelude.{◌≡◌, ◌+◌, ◌++◌, ◌∷◌, [], ◌-◌, ◌<◌, ◌≤◌, ◌↔◌, List, length, None, OnOk, IfOk, IfSome, IfNone, IsSome, Err};
+ghost use Rattle.std.specs.List.{All};
 ghost use Rattle.arrayvec.specs.ArrayVec.{array_vec_len};
 ghost use Rattle.study_board.specs.Position.{man_at};
 ghost use Rattle.study_marks.specs.Goals.{holds};

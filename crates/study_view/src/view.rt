@@ -2,7 +2,6 @@
 ghost use Rattle.std.specs.Prelude.{◌≡◌, ◌++◌, ◌≤◌, ◌↔◌, List, ℕ, true, length, OnOk, IfOk, Ok, Err, Some, None, IsTrue};
 ghost use Rattle.std.specs.List.{All, flat_map};
 ghost use Rattle.std.specs.Io.KnownBytes.{Appends};
-ghost use Rattle.study_moves.specs.LegalList.{legal_list};
 ghost use Rattle.study_moves.specs.Rules.{is_legal};
 ghost use Rattle.study_tablefile.specs.Taken.{TakesPrefix};
 ghost use Rattle.study_tree.specs.Tree.{has_spot, spot_at};
@@ -10,7 +9,6 @@ ghost use Rattle.study_marks.specs.Goals.{aim_of};
 ghost use Rattle.study_marks.specs.Kept.{marked, IsKeptRight};
 ghost use Rattle.study_marks.specs.Study.{plain_study};
 ghost use Rattle.study_prober.specs.declared.values.ProbeFault.{ProbeFault as AProbeFault};
-ghost use Rattle.study_review.specs.Continuations.{AreChosen};
 ghost use Rattle.study_review.specs.Review.{stipulation_line, written_order};
 ghost use Rattle.study_review.specs.Nodes.{value_at};
 ghost use Rattle.study_view.specs.Asked.{HasViewed};

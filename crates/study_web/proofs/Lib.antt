@@ -1,2 +1,12 @@
+pub mod Denials
 pub mod Faults
+pub mod Laid
+pub mod Nodes
+pub mod OpenEach
+pub mod Opening
+pub mod PositionsRead
+pub mod Printing
+pub mod Reviews
 pub mod Shelves
+pub mod Unread
+pub mod ViewsLeft

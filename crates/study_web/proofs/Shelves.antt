@@ -1,13 +1,17 @@
 -- A store that was just made is the shelf of its files.
-use Rattle.std.proofs.Common.{◌≡◌, ◌<◌, ℕ, Bool, true, false, List, replicate, Option, Some, refl, ap, subst, sym}
+use Rattle.std.proofs.Common.{◌≡◌, ℕ, Bool, false, List, replicate, Option, Some, None, Result, Ok, Err, is_some, refl, subst, sym}
+use Rattle.std.specs.Prelude.{IfOk}
 use Rattle.std.proofs.lemmas.List.{get_or-replicate}
 use Rattle.study_material.specs.declared.class.Class.{Class}
 use Rattle.study_retro.specs.Table.{class_place}
 use Rattle.study_tablefile.specs.declared.fault.SourceFault.{SourceFault}
-use Rattle.study_script.specs.State.{Shelf}
+use Rattle.study_script.specs.declared.store.StoreFault.{StoreFault}
+use Rattle.study_script.specs.State.{Shelf, is_among}
 use Rattle.study_script.proofs.HeldTables.{place_below}
 use Rattle.study_web.specs.declared.spans.Span.{Span}
 use Rattle.study_web.specs.Spans.{file_in, bytes_given, header_given, file_faults}
+use Rattle.study_web.specs.Opened.{IsHeldAs, AreHandedIn, AreAllRight}
+use Rattle.study_web.specs.Views.{IsViewOver, IsViewAfter, LacksNodeOver, LacksNodeAfter}
 use Rattle.study_web.specs.Store.{is_written, known, faults_known, IsShelf, AreRightFiles}
 
 -- all that is known of a store
@@ -40,3 +44,37 @@ shelf_made {spans} {at} {bytes} {bs} {written} e f w = rw (e, f, w) (first_shelf
 pub honest_made : {spans at : List Span} {bytes bs : List ℕ} (trusted : Class → Bool) (by_pages : Bool) → at ≡ spans → bs ≡ bytes
     → AreRightFiles trusted by_pages spans bytes → AreRightFiles trusted by_pages at bs
 honest_made trusted by_pages e f right = rw (e, f) right
+
+-- ---- by pages
+
+pub right_made : {spans at : List Span} {bytes bs : List ℕ} → at ≡ spans → bs ≡ bytes → AreAllRight spans bytes → AreAllRight at bs
+right_made e f right = rw (e, f) right
+
+-- what is held of a store that was just made is what was handed in
+handed : (file : Option (List ℕ)) (held : Bool) → IsHeldAs (Some (header_given file)) held → held ≡ is_some file
+handed None held h = h
+handed (Some text) held h = h
+
+pub handed_in : {spans at : List Span} {bytes bs : List ℕ} {written : List Bool} (classes : List Class) → at ≡ spans → bs ≡ bytes
+    → written ≡ replicate 36 false → ((c : Class) → IsHeldAs (known header_given at bs written c) (is_among classes c))
+    → AreHandedIn spans bytes classes
+handed_in {spans} {at} {bytes} {bs} {written} classes e f w held = λ c.
+    handed (file_in spans bytes c) (is_among classes c)
+    (subst (λ (k : Option (Result (List ℕ) StoreFault)). IsHeldAs k (is_among classes c)) (known_at_first spans bytes header_given c) (known_as c))
+  where
+    known_as : (c : Class) → IsHeldAs (known header_given spans bytes (replicate 36 false) c) (is_among classes c)
+    known_as c = rw (sym e, sym f, sym w) (held c)
+
+pub views_made : {V E : Type 0} {spans at : List Span} {bytes bs : List ℕ} {written : List Bool} (made : Result V E) (items : V → List ℕ)
+    → at ≡ spans → bs ≡ bytes → written ≡ replicate 36 false → (script steps : List ℕ)
+    → IfOk made (λ v. (classes : List Class) × ((c : Class) → IsHeldAs (known header_given at bs written c) (is_among classes c))
+    × IsViewOver classes script steps (items v))
+    → IfOk made (λ v. IsViewAfter spans bytes script steps (items v))
+views_made (Ok v) items e f w script steps (classes, held, is) = (classes, handed_in classes e f w held, is)
+views_made (Err x) items e f w script steps h = tt
+
+pub lacks_made : {spans at : List Span} {bytes bs : List ℕ} {written : List Bool} → at ≡ spans → bs ≡ bytes → written ≡ replicate 36 false
+    → (script steps : List ℕ)
+    → (classes : List Class) × ((c : Class) → IsHeldAs (known header_given at bs written c) (is_among classes c)) × LacksNodeOver classes script steps
+    → LacksNodeAfter spans bytes script steps
+lacks_made e f w script steps (classes, held, lacks) = (classes, handed_in classes e f w held, lacks)

@@ -1,3 +1,10 @@
 pub mod Making
+pub mod Laid
+pub mod Opened
+pub mod Request
+pub mod Setup
 pub mod Spans
 pub mod Store
+pub mod Told
+pub mod Views
+pub mod Answers

@@ -1,10 +1,10 @@
 -- The file of a class's table, and why it is not made.
-use Rattle.std.specs.Prelude.{◌≡◌, ◌≢◌, ◌⊎◌, ℕ, List, Option, Some, None, Ok, Err}
+use Rattle.std.specs.Prelude.{◌≡◌, ◌≢◌, ◌⊎◌, ℕ, List, Option, Some, Ok, Err}
 use Rattle.study_material.specs.declared.class.Class.{Class}
 use Rattle.study_material.specs.Needs.{IsNeeded}
 use Rattle.study_retro.specs.declared.builder.BuildFault.{BuildFault}
 use Rattle.study_retro.specs.declared.builder.BuildFault.TheVariants as build
-use Rattle.study_retro.specs.Table.{Table}
+use Rattle.study_retro.specs.Table.{Table, IsComplete}
 use Rattle.study_retro.specs.Sound.{IsRight}
 use Rattle.study_tablefile.specs.declared.fault.FileFault.TheVariants as file
 use Rattle.study_tablefile.specs.File.{table_text, written_version}
@@ -18,6 +18,7 @@ use Rattle.study_web.specs.Spans.{file_in}
 pub record IsRightFileOf (c : Class) (text : List ℕ) : Type 0 where
   pub table : Table
   pub of_class : table.class ≡ c
+  pub complete : IsComplete table
   pub right : IsRight table
   pub written : text ≡ table_text table written_version
 

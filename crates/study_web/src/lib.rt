@@ -1,19 +1,37 @@
 //! The workbench for a page of a browser: bytes in, bytes out.
 //!
-//! A page hands in a script and the files of tables that it keeps, as a directory of spans into one text of bytes. `replies_over`
-//! answers the script over them, and the theorem of scripts holds out to the bytes: with no file nothing is presumed, and with files
-//! only that those of the classes which the script loads are right. `make_file` builds the table of a class from the files of those
-//! that it needs and gives its file. Nothing is kept between two calls.
+//! A page hands in a request, a script, and the files of tables that it keeps, as a directory of spans into one text of bytes. `answer`
+//! answers it: `run` with the replies to the script, by `replies_over`, whose theorem of scripts holds out to the bytes: with no file
+//! nothing is presumed, and with files only that those of the classes which the script loads are right. `make_file` builds the table of
+//! a class from the files of those that it needs and gives its file. Nothing is kept between two calls.
 #![tactic(auto)]
 
+mod answering;
+mod denial;
+mod laws;
 mod make;
+mod printed;
+mod refusals;
 mod replies;
+mod reply;
+mod request;
 mod saved;
+mod script;
+mod setup;
 mod spans;
 mod store;
+mod surveyed;
+mod tables;
+mod told;
+mod words;
 
+pub use answering::answer;
+pub use denial::Denial;
+pub use laws::made_files_are_read_again;
 pub use make::{MakeFault, make_file};
 pub use replies::{Ended, replies_over};
+pub use reply::{Ending, Reply};
 pub use saved::{Saved, SavedFile, none_saved};
 pub use spans::{Span, file_in};
 pub use store::SpanStore;
+pub use told::put_ending;

@@ -101,6 +101,7 @@ fn text_of<'a, A: Allocator>(
     ensures ok { (c : AClass) → table.now.class ≡ c → IsRight table.now → IfOk result (λ file. IsRightFileOf c file.items) }
     ensures err { (spans : List ASpan) (bytes : List ℕ) (c : AClass) → IfErr result (IsMakeFault spans bytes c) }
 {
+    let _class = table.class();
     let mut file = Vec::new(alloc);
     match write_table(table, &mut file) {
         Ok(()) => Ok(file),

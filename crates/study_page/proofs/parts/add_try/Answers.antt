@@ -1,14 +1,8 @@
-use Rattle.std.proofs.Common.{map, ap, ◌∙◌, sym, List, ◌++◌}
+use Rattle.std.proofs.Common.{map}
 use Rattle.study_moves.specs.Rules.{after}
 use Rattle.study_moves.specs.LegalList.{legal_list}
-use Rattle.study_marks.specs.Kept.{marked}
-use Rattle.study_review.specs.declared.continuation.Continuation.{Continuation}
-use Rattle.study_review.specs.Nodes.{value_at}
 use Rattle.study_review.proofs.NotHeld.{untold-of}
-use Rattle.study_page.specs.Rows.{try_row}
-use Rattle.study_page.specs.Words.{where_words}
 use Rattle.study_page.proofs.Asking.{of-fault}
-use Rattle.study_page.proofs.MadeRows.{try-told}
 use Rattle.study_page.proofs.parts.add_try.Goals as goal
 
 pub returns-in-Err-clause-asked : goal.returns-in-Err-clause-asked

@@ -1,4 +1,3 @@
-use Rattle.std.proofs.Common.{◌∙◌}
 use Rattle.study_review.proofs.NodesShown.{front-is}
 use Rattle.study_page.proofs.signs.front_of.Goals as goal
 

@@ -1,13 +1,12 @@
-use Rattle.std.proofs.Common.{◌≡◌, ◌≤◌, ◌<◌, ◌++◌, ◌∷◌, [], List, ℕ, refl, sym, ◌∙◌, ap, subst, arith}
-use Rattle.std.specs.Prelude.{vec_len, OnOk}
-use Rattle.std.proofs.lemmas.Result.{on_ok_weaker}
+use Rattle.std.proofs.Common.{◌≡◌, ◌≤◌, ◌<◌, ◌++◌, ◌∷◌, [], List, ℕ, refl, ◌∙◌, ap, subst, arith}
+use Rattle.std.specs.Prelude.{vec_len}
 use Rattle.study_tree.specs.Edits.{width}
 use Rattle.study_marks.specs.Renewal.{below_at}
 use Rattle.study_marks.specs.Kept.{marked}
 use Rattle.study_pgn.proofs.ChildSteps.{popped}
 use Rattle.study_review.specs.Made.{Grew}
 use Rattle.study_page.specs.Made.{RowsOf}
-use Rattle.study_page.proofs.Asking.{all-then, asks-then, stops-then, no-memory, same-asks}
+use Rattle.study_page.proofs.Asking.{all-then, asks-then, same-asks}
 use Rattle.study_review.proofs.WrittenOrder.{there-child, fewer-child, none-yet, child-written, all-written}
 use Rattle.study_page.proofs.walk.+add_each.Goals as goal
 

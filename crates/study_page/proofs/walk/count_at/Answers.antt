@@ -1,4 +1,4 @@
-use Rattle.std.proofs.Common.{sym, arith}
+use Rattle.std.proofs.Common.{sym}
 use Rattle.study_marks.specs.Kept.{marked}
 use Rattle.study_marks.specs.Bench.{node_seen}
 use Rattle.study_pgn.proofs.PathWalks.{width_none, width_some}

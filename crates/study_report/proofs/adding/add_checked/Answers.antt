@@ -3,7 +3,7 @@ use Rattle.study_script.specs.Stored.{HonestOn}
 use Rattle.study_report.specs.Written.{none_trusted}
 use Rattle.study_report.specs.declared.kind.Kind.TheVariants.{Checked}
 use Rattle.study_report.specs.Told.{IsAddedAs}
-use Rattle.study_report.proofs.LineAdds.{checked-refused, replied-adds, replied-stops, checked-nothing}
+use Rattle.study_report.proofs.LineAdds.{checked-refused, replied-adds, replied-stops, checked-nothing, refusal-none}
 use Rattle.study_report.proofs.adding.add_checked.Goals as goal
 
 pub returns-then-reply-clause-ok : goal.returns-then-reply-clause-ok
@@ -33,3 +33,7 @@ returns-clause-ok g c = λ p trust held at. checked-nothing g.T.Report.tells g.T
     p c.args.line.now
     c.in_ok-reply.reply.text.taken.items c.in_ok-reply.reply.refused (g.W.Write.contents c.args.out.now) c.if-reply.false
     (c.in_ok-reply.ensures.ok p.state trust held)
+
+pub returns-then-reply-clause-told_none : goal.returns-then-reply-clause-told_none
+returns-then-reply-clause-told_none g c =
+    refusal-none c.add_refusal.result _ (g.W.Write.contents _) (g.W.Write.contents c.add_refusal.new.out) c.add_refusal.ensures.ok

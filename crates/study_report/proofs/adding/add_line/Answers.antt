@@ -1,4 +1,4 @@
-use Rattle.std.proofs.Common.{◌≡◌, refl, sym, subst, ◌∙◌}
+use Rattle.std.proofs.Common.{◌≡◌, ◌+◌, refl, sym, subst, ◌∙◌}
 use Rattle.std.specs.Prelude.{codes}
 use Rattle.std.proofs.KnownBytes.{Appends-nil}
 use Rattle.study_command.specs.Asking.{command_of}
@@ -8,12 +8,13 @@ use Rattle.study_reply.specs.declared.refusal.Refusal.TheVariants.{NotAClass}
 use Rattle.study_script.specs.Replies.{refused}
 use Rattle.study_report.specs.declared.kind.Kind.{Kind}
 use Rattle.study_report.specs.declared.kind.Kind.TheVariants.{PassedOver, NoClass, Study, Checked}
+use Rattle.study_script.specs.Held.{board_seen}
 use Rattle.study_script.specs.Desk.{DeskHolds}
 use Rattle.study_script.specs.Stored.{HonestOn}
 use Rattle.study_report.specs.Written.{none_trusted}
 use Rattle.study_report.specs.Told.{kind_in, IsAdded, IsAddedAs, nothing_added, refusal_added}
 use Rattle.study_report.proofs.LineKinds.{trusted-checked}
-use Rattle.study_report.proofs.LineAdds.{refusal-adds, refusal-stops, adds-weaker, stops-weaker}
+use Rattle.study_report.proofs.LineAdds.{refusal-adds, refusal-stops, adds-weaker, stops-weaker, refusal-none, none-listed, nothing-listed}
 use Rattle.study_report.proofs.adding.add_line.Goals as goal
 
 pub returns-in-PassedOver-clause-ok : goal.returns-in-PassedOver-clause-ok
@@ -88,3 +89,22 @@ returns-in-Checked-clause-err g c = λ p held at.
     c.add_checked.result (g.W.Write.contents c.args.out.now) (g.W.Write.contents c.add_checked.new.out)
     (λ a. subst (λ (k : Kind). IsAddedAs g.T.Report.tells g.T.Report.refusal k p c.args.line.now a) kind)
     (c.add_checked.ensures.err p (trusted-checked c.args.line.now (sym kind)) held at.0)
+
+pub returns-in-PassedOver-clause-listed : goal.returns-in-PassedOver-clause-listed
+returns-in-PassedOver-clause-listed g c = λ p told held kept. nothing-listed (g.T.Report.lists c.args.report.now) told kept
+
+pub returns-in-NoClass-clause-listed : goal.returns-in-NoClass-clause-listed
+returns-in-NoClass-clause-listed g c = λ p told held kept.
+    none-listed (g.T.Report.lists c.refuse_line.new.report) c.refuse_line.result told (board_seen c.args.desk.now.board) (c.args.at.studies + 1)
+    (refusal-none c.refuse_line.result _ (g.W.Write.contents _) (g.W.Write.contents c.refuse_line.new.out) c.refuse_line.ensures.ok)
+    (c.refuse_line.ensures.listed told kept)
+
+pub returns-in-Study-clause-listed : goal.returns-in-Study-clause-listed
+returns-in-Study-clause-listed g c = λ p told held kept.
+    let kind : Study ≡ kind_in (command_of c.args.line.now) = sym c.in-Study.is ∙ c.kind_of.ensures in
+    c.add_pgn.ensures.listed p told (sym kind) held kept
+
+pub returns-in-Checked-clause-listed : goal.returns-in-Checked-clause-listed
+returns-in-Checked-clause-listed g c = λ p told held kept.
+    none-listed (g.T.Report.lists c.add_checked.new.report) c.add_checked.result told (board_seen c.add_checked.new.desk.board) (c.args.at.studies + 1)
+    c.add_checked.ensures.told_none (c.add_checked.ensures.listed told kept)

@@ -1,15 +1,16 @@
-use Rattle.std.proofs.Common.{◌≡◌, true, false, sym, ap, subst, ◌∙◌}
+use Rattle.std.proofs.Common.{◌≡◌, true, false, ◌+◌, ◌++◌, sym, ap, subst, ◌∙◌}
+use Rattle.std.specs.Prelude.{IfOk}
 use Rattle.study_material.specs.declared.class.Class.{Class}
 use Rattle.study_command.specs.Asking.{command_of}
-use Rattle.study_script.specs.State.{State}
+use Rattle.study_script.specs.State.{State, Board}
 use Rattle.study_script.specs.Desk.{DeskHolds}
-use Rattle.study_script.specs.Held.{Holds}
+use Rattle.study_script.specs.Held.{Holds, board_seen}
 use Rattle.study_script.specs.Stored.{HonestOn, StoreSeen}
 use Rattle.study_report.specs.declared.kind.Kind.TheVariants.{PassedOver, Study}
-use Rattle.study_report.specs.Told.{kind_in, IsAddedAs, IsStudyTold}
+use Rattle.study_report.specs.Told.{kind_in, IsAddedAs, IsStudyTold, listed_in}
 use Rattle.study_report.specs.Written.{none_trusted}
 use Rattle.study_report.proofs.LineKinds.{trusted-study, pgn-asked, pgn-finds}
-use Rattle.study_report.proofs.LineAdds.{pgn-refused, pgn-told, replied-adds, replied-stops, adds-weaker, stops-weaker}
+use Rattle.study_report.proofs.LineAdds.{pgn-refused, pgn-told, replied-adds, replied-stops, adds-weaker, stops-weaker, refusal-none, none-listed}
 use Rattle.study_report.proofs.adding.add_pgn.Goals as goal
 
 pub returns-then-reply-clause-ok : goal.returns-then-reply-clause-ok
@@ -62,3 +63,15 @@ returns-clause-err g c = λ p kind held at.
     c.tell_study.result (g.W.Write.contents c.args.out.now) (g.W.Write.contents c.tell_study.new.out)
     (λ a h. pgn-told g.T.Report.tells g.T.Report.refusal p c.args.line.now r.0 r.1 a r.2 no h)
     (c.tell_study.ensures.err p r.1.state found.0.0 r.4.held (ap (λ (x : State). x.board) found.1 ∙ found.0.1) at)
+
+pub returns-then-reply-clause-listed : goal.returns-then-reply-clause-listed
+returns-then-reply-clause-listed g c = λ p told kind held kept.
+    none-listed (g.T.Report.lists c.add_refusal.new.report) c.add_refusal.result told (board_seen c.reply_to.new.desk.board) (c.args.at.studies + 1)
+    (refusal-none c.add_refusal.result _ (g.W.Write.contents _) (g.W.Write.contents c.add_refusal.new.out) c.add_refusal.ensures.ok)
+    (c.add_refusal.ensures.listed told kept)
+
+pub returns-clause-listed : goal.returns-clause-listed
+returns-clause-listed g c = λ p told kind held kept.
+    let r = c.in_ok-reply.ensures.ok p.state (trusted-study c.args.line.now kind) held in
+    subst (λ (b : Board). IfOk c.tell_study.result (λ t. g.T.Report.lists c.tell_study.new.report (told ++ listed_in t b (c.args.at.studies + 1))))
+    (sym r.4.held.board) (c.tell_study.ensures.listed r.1.state told r.4.held kept)

@@ -7,7 +7,7 @@ use Rattle.study_script.specs.Held.{Holds}
 use Rattle.study_script.specs.Replies.{refused}
 use Rattle.study_report.specs.Told.{IsStudyTold}
 use Rattle.study_report.specs.Written.{StopsIn}
-use Rattle.study_report.proofs.LineAdds.{RefusalWritten, refusal-adds, refusal-stops, section-adds, section-stops, left-out}
+use Rattle.study_report.proofs.LineAdds.{RefusalWritten, refusal-adds, refusal-stops, section-adds, section-stops, left-out, refusal-none, none-listed}
 use Rattle.study_report.proofs.adding.tell_study.Goals as goal
 
 pub returns-in-Ok-clause-ok : goal.returns-in-Ok-clause-ok
@@ -70,3 +70,16 @@ returns-in-Err-Values-clause-err g c = λ p s plain held b at.
     (subst (λ w. IfErr c.refuse_line-in-Err-Values.result (StopsIn (g.T.Report.refusal c.args.at.line c.args.line.now bytes) (g.W.Write.contents w)
     (g.W.Write.contents c.refuse_line-in-Err-Values.new.out))) (c.in-Err-Values.ensures.untold c.in-Err-Values.fault cc)
     c.refuse_line-in-Err-Values.ensures.err)
+
+pub returns-in-Err-OutOfMemory-clause-listed : goal.returns-in-Err-OutOfMemory-clause-listed
+returns-in-Err-OutOfMemory-clause-listed g c s told held kept =
+    none-listed (g.T.Report.lists c.refuse_line.new.report) c.refuse_line.result told s.board (c.args.at.studies + 1)
+    (refusal-none c.refuse_line.result _ (g.W.Write.contents _) (g.W.Write.contents c.refuse_line.new.out) c.refuse_line.ensures.ok)
+    (c.refuse_line.ensures.listed told (c.in-Err-OutOfMemory.ensures.unlisted told kept))
+
+pub returns-in-Err-Values-clause-listed : goal.returns-in-Err-Values-clause-listed
+returns-in-Err-Values-clause-listed g c s told held kept =
+    none-listed (g.T.Report.lists c.refuse_line-in-Err-Values.new.report) c.refuse_line-in-Err-Values.result told s.board (c.args.at.studies + 1)
+    (refusal-none c.refuse_line-in-Err-Values.result _ (g.W.Write.contents _) (g.W.Write.contents c.refuse_line-in-Err-Values.new.out)
+    c.refuse_line-in-Err-Values.ensures.ok)
+    (c.refuse_line-in-Err-Values.ensures.listed told (c.in-Err-Values.ensures.unlisted told kept))

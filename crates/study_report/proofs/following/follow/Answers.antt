@@ -1,14 +1,18 @@
-use Rattle.std.proofs.Common.{◌≡◌, ◌+◌, ◌≤◌, [], refl, ap, subst, arith}
+use Rattle.std.proofs.Common.{◌≡◌, ℕ, ◌+◌, ◌≤◌, List, [], ◌++◌, refl, sym, ap, subst, append_assoc, arith}
+use Rattle.std.proofs.lemmas.List.{append-nil}
 use Rattle.std.proofs.KnownBytes.{Consumes-nil, Consumes-kept}
 use Rattle.study_command.specs.Lines.{GaveFeeds}
 use Rattle.study_command.proofs.LineTaken.{has_more, has_none, gave-more, gave-same}
 use Rattle.study_script.proofs.FirstLines.{Gone, gone_none, gone_ends, gone_long, gone_many, gone_more, gone_read}
+use Rattle.study_marks.specs.Edits.{Plainly}
+use Rattle.study_script.specs.Held.{board_seen}
 use Rattle.study_script.specs.Desk.{DeskHolds}
 use Rattle.study_script.specs.Stored.{HonestOn}
 use Rattle.study_report.specs.Outcome.{begun}
-use Rattle.study_report.specs.Told.{IsAdded}
+use Rattle.study_report.specs.Told.{IsAdded, listed_in}
 use Rattle.study_report.specs.Written.{none_trusted, Adds, Stops}
-use Rattle.study_report.proofs.FirstAdded.{HasTold, ToldOn-more, few-told, told_none, told_after, told_ends, told_long, told_many, told_read, told_stops, gone_stops}
+use Rattle.study_report.proofs.FirstAdded.{HasTold, ToldOn-more, few-told, told_none, told_after, told_listed, listed-before}
+use Rattle.study_report.proofs.FirstAdded.{told_ends, told_long, told_many, told_read, told_stops, gone_stops}
 use Rattle.study_report.proofs.following.follow.Goals as goal
 
 pub returns-in-Err-TooLong-clause-outcome : goal.returns-in-Err-TooLong-clause-outcome
@@ -50,6 +54,31 @@ returns-in-Ok-None-clause-after g c = λ first h.
     (g.W.Write.contents c.args.out.now) (g.W.Write.contents c.loop-n.out) first on.point [] c.loop-n.n c.loop-n.refused on.told
     (has_none now (g.R.Read.remaining c.read_byte.new.script) end.0 end.1) on.held
 
+pub returns-in-Ok-false-clause-listed : goal.returns-in-Ok-false-clause-listed
+returns-in-Ok-false-clause-listed g c = λ first before h kept.
+    let on = c.loop-n.invariant.0 first h in
+    let none = rw c.in-Ok-false.field-0-test at c.in-Ok-false.ensures.line in
+    listed-before g.T.Report.tells g.T.Report.refusal (g.T.Report.lists c.args.report.now) (g.T.Report.lists c.loop-n.report) before kept
+    (g.R.Read.remaining c.args.script.now) first (g.W.Write.contents c.args.out.now) (g.W.Write.contents c.loop-n.out)
+    (told_listed g.T.Report.tells g.T.Report.refusal (λ more. (told : List (Plainly × ℕ))
+    → g.T.Report.lists c.args.report.now told → g.T.Report.lists c.loop-n.report (told ++ more))
+    (g.R.Read.remaining c.args.script.now) (g.R.Read.remaining c.loop-n.script) (g.R.Read.remaining c.read.new.script)
+    (g.W.Write.contents c.args.out.now) (g.W.Write.contents c.loop-n.out) first on.point c.read.new.self
+    c.loop-n.n c.loop-n.refused on.told none)
+
+pub returns-in-Ok-None-clause-listed : goal.returns-in-Ok-None-clause-listed
+returns-in-Ok-None-clause-listed g c = λ first before h kept.
+    let on = c.loop-n.invariant.0 first h in
+    let end = rw c.in-Ok-None.field-0-is at c.in-Ok-None.ensures.end in
+    let now = g.R.Read.remaining c.loop-n.script in
+    listed-before g.T.Report.tells g.T.Report.refusal (g.T.Report.lists c.args.report.now) (g.T.Report.lists c.loop-n.report) before kept
+    (g.R.Read.remaining c.args.script.now) first (g.W.Write.contents c.args.out.now) (g.W.Write.contents c.loop-n.out)
+    (told_listed g.T.Report.tells g.T.Report.refusal (λ more. (told : List (Plainly × ℕ))
+    → g.T.Report.lists c.args.report.now told → g.T.Report.lists c.loop-n.report (told ++ more))
+    (g.R.Read.remaining c.args.script.now) now (g.R.Read.remaining c.read_byte.new.script)
+    (g.W.Write.contents c.args.out.now) (g.W.Write.contents c.loop-n.out) first on.point [] c.loop-n.n c.loop-n.refused on.told
+    (has_none now (g.R.Read.remaining c.read_byte.new.script) end.0 end.1))
+
 pub returns-in-Err-Device-clause-outcome : goal.returns-in-Err-Device-clause-outcome
 returns-in-Err-Device-clause-outcome g c = λ first h.
     let on = c.loop-n.invariant.0 first h in
@@ -69,7 +98,9 @@ returns-in-Ok-None-clause-outcome g c = λ first h.
     let old = g.W.Write.contents c.args.out.now in
     let new = g.W.Write.contents c.loop-n.out in
     let at : c.loop-n.n ≡ 100000 = omega arith in
-    let told = subst (λ k. HasTold g.T.Report.tells g.T.Report.refusal script now old new first on.point k c.loop-n.refused) at on.told in
+    let told = subst (λ k. HasTold g.T.Report.tells g.T.Report.refusal (λ more. (before : List (Plainly × ℕ))
+    → g.T.Report.lists c.args.report.now before → g.T.Report.lists c.loop-n.report (before ++ more))
+    script now old new first on.point k c.loop-n.refused) at on.told in
     told_ends g.T.Report.tells g.T.Report.refusal (g.R.Read.remaining c.read_byte.new.script) script now
     (g.R.Read.remaining c.read_byte.new.script) old new first on.point [] 100000 c.loop-n.refused told
     (has_none now (g.R.Read.remaining c.read_byte.new.script) end.0 end.1) (omega arith)
@@ -83,7 +114,9 @@ returns-in-Ok-Some-clause-outcome g c = λ first h.
     let old = g.W.Write.contents c.args.out.now in
     let new = g.W.Write.contents c.loop-n.out in
     let at : c.loop-n.n ≡ 100000 = omega arith in
-    let told = subst (λ k. HasTold g.T.Report.tells g.T.Report.refusal script now old new first on.point k c.loop-n.refused) at on.told in
+    let told = subst (λ k. HasTold g.T.Report.tells g.T.Report.refusal (λ more. (before : List (Plainly × ℕ))
+    → g.T.Report.lists c.args.report.now before → g.T.Report.lists c.loop-n.report (before ++ more))
+    script now old new first on.point k c.loop-n.refused) at on.told in
     told_many g.T.Report.tells g.T.Report.refusal (g.R.Read.remaining c.read_byte.new.script) script now old new first on.point
     c.loop-n.refused told (has_more now (g.R.Read.remaining c.read_byte.new.script) c.in-Ok-Some.field-0-0 some)
 
@@ -161,7 +194,10 @@ pub loop-n-init : goal.loop-n-init
 loop-n-init g c = (
   λ first h. record {
     point = begun first;
-    told = told_none g.T.Report.tells g.T.Report.refusal (g.R.Read.remaining c.args.script.now) (g.W.Write.contents c.args.out.now) first;
+    told = told_none g.T.Report.tells g.T.Report.refusal (λ more. (told : List (Plainly × ℕ))
+        → g.T.Report.lists c.args.report.now told → g.T.Report.lists c.args.report.now (told ++ more))
+        (λ told kept. subst (λ (l : List (Plainly × ℕ)). g.T.Report.lists c.args.report.now l) (sym (append-nil told)) kept)
+        (g.R.Read.remaining c.args.script.now) (g.W.Write.contents c.args.out.now) first;
     held = h;
     lines_are = refl;
     studies_are = refl;
@@ -195,9 +231,17 @@ loop-n-preserved g c =
           g.S.TableStore.headers g.S.TableStore.faults c.loop-n.desk.board c.loop-n.desk.tables c.loop-n.desk.store.now)
           (DeskHolds g.S.Pages.PageSource.honest g.S.Pages.PageSource.gives (HonestOn none_trusted g.S.TableStore.honest) g.S.TableStore.files
           g.S.TableStore.headers g.S.TableStore.faults c.add_line.new.desk.board c.add_line.new.desk.tables c.add_line.new.desk.store.now)
+          (λ more. (told : List (Plainly × ℕ)) → g.T.Report.lists c.args.report.now told → g.T.Report.lists c.loop-n.report (told ++ more))
+          (λ more. (told : List (Plainly × ℕ)) → g.T.Report.lists c.args.report.now told → g.T.Report.lists c.add_line.new.report (told ++ more))
+          (board_seen c.add_line.new.desk.board)
           (g.R.Read.remaining c.args.script.now) (g.R.Read.remaining c.loop-n.script) (g.R.Read.remaining c.read.new.script)
           (g.W.Write.contents c.args.out.now) mid new first line c.loop-n.n c.loop-n.refused _ c.loop-n.studies _ told on some
-          c.in-Ok-true.ensures.short said (ap (λ i. c.loop-n.refused + i) counted) (ap (λ i. c.loop-n.studies + i) numbered),
+          c.in-Ok-true.ensures.short said (ap (λ i. c.loop-n.refused + i) counted) (ap (λ i. c.loop-n.studies + i) numbered)
+          (λ s after. after.held.board)
+          (λ more kept before have.
+          subst (λ (l : List (Plainly × ℕ)). g.T.Report.lists c.add_line.new.report l)
+          (append_assoc before more (listed_in told (board_seen c.add_line.new.desk.board) (c.loop-n.studies + 1)))
+          (c.in-Ok.ensures.listed on.point (before ++ more) on.held (kept before have))),
       omega (arith, counted, some-more),
       omega (arith, numbered, one-more),
       gave-more (g.R.Read.remaining c.args.script.now) (g.R.Read.remaining c.loop-n.script)

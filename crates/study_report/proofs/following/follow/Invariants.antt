@@ -1,5 +1,6 @@
-use Rattle.std.proofs.Common.{◌≤◌}
+use Rattle.std.proofs.Common.{◌≤◌, ℕ, List, ◌++◌}
 use Rattle.study_command.specs.Lines.{GaveFeeds}
+use Rattle.study_marks.specs.Edits.{Plainly}
 use Rattle.study_script.specs.State.{State}
 use Rattle.study_script.specs.Desk.{DeskHolds}
 use Rattle.study_script.specs.Stored.{HonestOn}
@@ -17,6 +18,7 @@ invariant-loop-n g l =
     (DeskHolds g.S.Pages.PageSource.honest g.S.Pages.PageSource.gives (HonestOn none_trusted g.S.TableStore.honest) g.S.TableStore.files
     g.S.TableStore.headers g.S.TableStore.faults
     l.desk.board l.desk.tables l.desk.store.now)
+    (λ more. (told : List (Plainly × ℕ)) → g.T.Report.lists l.fn.report told → g.T.Report.lists l.report (told ++ more))
     (g.R.Read.remaining l.fn.script) (g.R.Read.remaining l.script)
     (g.W.Write.contents l.fn.out) (g.W.Write.contents l.out) first l.n l.refused l.studies)
     × (l.refused ≤ l.n) × (l.studies ≤ l.n) × GaveFeeds (g.R.Read.remaining l.fn.script) (g.R.Read.remaining l.script) l.n

@@ -19,3 +19,20 @@ returns-clause-outcome g c = λ classes right held. c.follow_over.ensures.outcom
     known = record { files_known = λ d. refl; headers_known = λ d. refl; faults_known = λ d f. refl };
   };
 })
+
+pub returns-clause-listed : goal.returns-clause-listed
+returns-clause-listed g c = λ classes told right held kept. c.follow_over.ensures.listed (over_tables classes (are_paged c.args.tables)) told (record {
+  held =
+      record {
+        board = refl;
+        marks = tt;
+        values = right;
+        classes = held;
+        paged = refl;
+        faults = λ d f m. refl;
+      };
+  seen = record {
+    is_honest = λ d is. absurd cc;
+    known = record { files_known = λ d. refl; headers_known = λ d. refl; faults_known = λ d f. refl };
+  };
+}) kept

@@ -1,13 +1,12 @@
-use Rattle.std.proofs.Common.{map}
-use Rattle.study_moves.specs.Rules.{after}
-use Rattle.study_moves.specs.LegalList.{legal_list}
-use Rattle.study_review.proofs.NotHeld.{untold-of}
-use Rattle.study_review.proofs.Asking.{of-fault}
+use Rattle.std.proofs.Common.{sym, ◌∙◌}
+use Rattle.std.proofs.lemmas.Result.{on_ok_weaker}
+use Rattle.study_marks.specs.Kept.{marked}
+use Rattle.study_review.proofs.NodesTold.{refuted-told}
 use Rattle.study_review.proofs.nodes.add_refuted.Goals as goal
 
-pub returns-in-Err-clause-asked : goal.returns-in-Err-clause-asked
-returns-in-Err-clause-asked g c =
-    of-fault g.V.Values.held g.V.Values.gives g.V.Values.may_fail g.V.Values.asked_of g.V.Values.failed_of g.V.Values.is_honest (Unit {0})
-    c.args.values.now c.refutations.new.values c.in-Err.fault (map (after c.args.place.now.position) (legal_list c.args.place.now.position), c.in-Err.ensures.first)
-    (λ k e. untold-of (g.V.Values.held c.args.values.now) (map (after c.args.place.now.position) (legal_list c.args.place.now.position)) c.in-Err.fault k c.in-Err.ensures.untold e)
-    c.in-Err.ensures.no_damage c.in-Err.ensures.failures c.refutations.ensures.honest c.refutations.ensures.tables
+pub returns : goal.returns
+returns g c all =
+    on_ok_weaker c.add_refutations.result
+    (refuted-told (marked c.args.bench.now) c.args.here.now.steps.now c.args.here.now.node.aim.now c.args.here.now.node.depth c.args.here.now.node.position.now c.requires.node
+    c.args.told.now c.args.text.now c.add_refutations.new.text (sym c.requires.tried ∙ c.if-not-here.false) all)
+    c.add_refutations.ensures

@@ -1,9 +1,5 @@
-use Rattle.std.proofs.Common.{◌≡◌, ℕ, Bool, List, false, replicate, Some, is_some, subst, sym}
-use Rattle.study_material.specs.declared.class.Class.{Class}
+use Rattle.std.proofs.Common.{ℕ, List, Some, is_some, subst}
 use Rattle.study_script.specs.Outcome.{Outcome, begun_state}
-use Rattle.study_web.specs.declared.spans.Span.{Span}
-use Rattle.study_web.specs.Spans.{file_in, IsHonestIn}
-use Rattle.study_web.specs.Store.{IsShelf}
 use Rattle.study_web.proofs.Shelves.{shelf_in, shelf_made, honest_made}
 use Rattle.study_web.proofs.replies.replies_over.Goals as goal
 

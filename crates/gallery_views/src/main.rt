@@ -1,0 +1,122 @@
+//! Answers what a page of a browser asks of studies of the gallery, over tables that it makes by requests, too: for each line of
+//! `requests` the line, and then the answer. Its first word names the script, and is `-` where none is asked of. The gate compares
+//! what it writes with the views and surveys of an independent program.
+#![tactic(auto)]
+
+use std::alloc::{Allocator, Global};
+use std::io::{ErrorKind, LineWriter, Write};
+use std::process::ExitCode;
+use std::{fs, io};
+use study_material::Class;
+use study_web::{Ending, Reply, Span, answer, put_ending};
+
+/// Each after the classes that it needs.
+const MADE: [Class; 7] = [
+    Class::KK,
+    Class::KQK,
+    Class::KRK,
+    Class::KBK,
+    Class::KNK,
+    Class::KPK,
+    Class::KNNK,
+];
+
+/// The files of tables, one after the other, and where each lies.
+#[derive(Drop)]
+struct Files<'a, A: Allocator> {
+    bytes: Vec<u8, &'a A>,
+    spans: Vec<Span, &'a A>,
+}
+
+/// The exit status is 0 where each request was taken to its end, and 1 where one was not.
+fn main(rt: HostRuntime) -> ExitCode {
+    match answer_all(&rt) {
+        Ok(()) => ExitCode::from(0),
+        Err(error) => {
+            let _ = eprintln!(&rt; "gallery_views: {error}");
+            ExitCode::from(1)
+        }
+    }
+}
+
+fn answer_all(rt: &HostRuntime) -> io::Result<()> {
+    let alloc = rt.alloc();
+    let mut files = Files {
+        bytes: Vec::new(&alloc),
+        spans: Vec::new(&alloc),
+    };
+    for class in MADE {
+        make(&alloc, class, &mut files)?;
+    }
+    let requests = fs::read_to_string(rt, "requests")?;
+    let mut out = LineWriter::new(alloc, rt.stdout())?;
+    for line in requests.lines() {
+        if let Some((name, request)) = line.split_once(' ') {
+            writeln!(out, "# {line}")?;
+            let script = script_of(rt, alloc, name)?;
+            tell(&alloc, request, script.as_str(), &files, &mut out)?;
+        }
+    }
+    out.flush()
+}
+
+/// Has the file of a class made, and puts it after the others.
+fn make<'a, A: Allocator>(alloc: &'a A, class: Class, files: &mut Files<'a, A>) -> io::Result<()> {
+    let mut request = String::new(alloc);
+    request.push_str("make ")?;
+    request.push_str(class.name())?;
+    let made = ask(alloc, request.as_str(), "", files);
+    if made.ended != Ending::Answered {
+        return Err(io::Error::from(ErrorKind::Other));
+    }
+    files.spans.push(Span {
+        class: class as usize,
+        start: files.bytes.len(),
+        length: made.text.len(),
+    })?;
+    files.bytes.extend_from_slice(made.text.as_slice())?;
+    Ok(())
+}
+
+fn script_of(rt: &HostRuntime, alloc: Global, name: &str) -> io::Result<String> {
+    if name == "-" {
+        return Ok(String::new(alloc));
+    }
+    let mut path = String::new(alloc);
+    path.push_str(name)?;
+    path.push_str(".script")?;
+    fs::read_to_string(rt, path.as_str())
+}
+
+fn ask<'a, A: Allocator>(
+    alloc: &'a A,
+    request: &str,
+    script: &str,
+    files: &Files<'a, A>,
+) -> Reply<'a, A> {
+    answer(
+        alloc,
+        request.as_bytes(),
+        script.as_bytes(),
+        files.spans.as_slice(),
+        files.bytes.as_slice(),
+        &[],
+        None,
+    )
+}
+
+/// The text of an answer, and how it ended where it is not whole.
+fn tell<'a, A: Allocator, W: Write>(
+    alloc: &'a A,
+    request: &str,
+    script: &str,
+    files: &Files<'a, A>,
+    out: &mut W,
+) -> io::Result<()> {
+    let told = ask(alloc, request, script, files);
+    out.write_all(told.text.as_slice())?;
+    if told.ended != Ending::Answered {
+        let _ = put_ending(out, told.ended);
+    }
+    Ok(())
+}

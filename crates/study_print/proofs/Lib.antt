@@ -1,0 +1,3 @@
+pub mod EntriesGrow
+pub mod FileWritten
+pub mod PageTold

@@ -1,0 +1,74 @@
+-- The printed pages of a report.
+use Rattle.std.specs.Prelude.{◌≡◌, ◌⊎◌, ℕ, Bool, true, false, List, [], ◌++◌, Option, Some, Result, Ok, Err}
+use Rattle.std.specs.Io.KnownBytes.{Appends}
+use Rattle.study_tablefile.specs.Taken.{TakesPrefix}
+use Rattle.study_script.specs.declared.run.Summary.{Summary}
+use Rattle.study_script.specs.declared.run.RunFault.{RunFault}
+use Rattle.study_script.specs.declared.run.RunFault.TheVariants.{WriteDevice, OutOfMemory}
+use Rattle.study_script.specs.State.{State}
+use Rattle.study_report.specs.Outcome.{Outcome, AreListed, Shape}
+use Rattle.study_page.specs.Page.{IsPageOf}
+use Rattle.study_page.specs.Lists.{refusal_part, summary_part}
+use Rattle.study_page.specs.Frame.{opening, closing}
+use Rattle.study_print.specs.declared.pages.Count.{Count}
+use Rattle.study_print.specs.declared.pages.Count.TheVariants.{Nothing, One, Several}
+use Rattle.study_print.specs.Entries.{AreEntries}
+use Rattle.study_print.specs.Reasons.{refusal_in, reason_of}
+
+-- a refused line: its number, its text, and the script's reply to it, with the reason in words
+abbrev pub refusal_text : ℕ → List ℕ → List ℕ → List ℕ
+refusal_text number line reply = refusal_part number line (refusal_in reply) (reason_of (refusal_in reply))
+
+-- the list of all entries, where there are two or more
+abbrev pub summary_text : Count → List ℕ → List ℕ
+summary_text Nothing rows = []
+summary_text One rows = []
+summary_text Several rows = summary_part rows
+
+-- what stands after the last page
+abbrev pub end_text : Count → List ℕ → List ℕ
+end_text count rows = summary_text count rows ++ closing
+
+-- whether the writer failed
+abbrev pub is_broken : Result Summary RunFault → Bool
+is_broken (Err WriteDevice) = true
+is_broken ran = false
+
+-- what stands after the last page is written, or the writer fails in it, or there is no memory for it
+abbrev pub IsClosed : List ℕ → Option (List ℕ) → Option (List ℕ) → Result Summary RunFault → Result Summary RunFault → Type 0
+IsClosed text old new ran answer =
+    ((answer ≡ ran) × Appends old new text)
+    ⊎ (((answer ≡ Err WriteDevice) × TakesPrefix old new text) ⊎ ((answer ≡ Err OutOfMemory) × (new ≡ old)))
+
+-- the same after a run, unless its writer failed
+abbrev pub IsEndedIf : Bool → List ℕ → Option (List ℕ) → Option (List ℕ) → Result Summary RunFault → Result Summary RunFault → Type 0
+IsEndedIf true text old new ran answer = (answer ≡ ran) × (new ≡ old)
+IsEndedIf false text old new ran answer = IsClosed text old new ran answer
+
+abbrev pub IsEnded : List ℕ → Option (List ℕ) → Option (List ℕ) → Result Summary RunFault → Result Summary RunFault → Type 0
+IsEnded text old new ran answer = IsEndedIf (is_broken ran) text old new ran answer
+
+-- The entries of a run that came to its end are those of exactly the studies that it told. Which entries a run has that stopped at a fault is
+-- left open here.
+abbrev pub AreItsEntries : State → List ℕ → Option (List ℕ) → Option (List ℕ) → Result Summary RunFault → Count → List ℕ → Type 0
+AreItsEntries first script old new (Ok summary) count rows = AreListed IsPageOf refusal_text first script old new (AreEntries count rows)
+AreItsEntries first script old new (Err fault) count rows = Unit {0}
+
+-- A file of pages, of what is held at the beginning, the bytes of a script, what the reader has left of them, what the writer had and has, and
+-- the answer: the opening; in script order the page of each study that an accepted `pgn` line told, and each refused line; the list of the
+-- entries; and the closing.
+abbrev pub IsFile : State → List ℕ → Option (List ℕ) → Option (List ℕ) → Option (List ℕ) → Result Summary RunFault → Type 0
+IsFile first script left old new answer =
+    ((answer ≡ Err WriteDevice) × (left ≡ Some script) × TakesPrefix old new opening)
+    ⊎ ((begun ended : Option (List ℕ)) × (ran : Result Summary RunFault) × (count : Count) × (rows : List ℕ) × Appends old begun opening
+    × Outcome IsPageOf refusal_text first script left begun ended ran × AreItsEntries first script begun ended ran count rows
+    × IsEnded (end_text count rows) ended new ran answer)
+
+-- the answer after a run, where what stands after the last page may fail too
+abbrev pub IsAnswerTo : Result Summary RunFault → Result Summary RunFault → Type 0
+IsAnswerTo ran answer = (answer ≡ ran) ⊎ ((answer ≡ Err WriteDevice) ⊎ (answer ≡ Err OutOfMemory))
+
+-- the same without what is told, whatever is held
+abbrev pub FileShape : List ℕ → Option (List ℕ) → Result Summary RunFault → Type 0
+FileShape script left answer =
+    ((answer ≡ Err WriteDevice) × (left ≡ Some script)) ⊎ ((ran : Result Summary RunFault) × Shape script left ran × IsAnswerTo ran answer)

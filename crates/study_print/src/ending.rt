@@ -1,0 +1,76 @@
+//! What stands after the last page.
+ghost use Rattle.std.specs.Prelude.{◌≡◌, Err, OnOk};
+ghost use Rattle.std.specs.Io.KnownBytes.{Appends};
+ghost use Rattle.study_tablefile.specs.Taken.{TakesPrefix};
+ghost use Rattle.study_print.specs.Pages.{summary_text, end_text, is_broken, IsEnded};
+
+use crate::pages::Count;
+use std::alloc::Allocator;
+use std::io::Write;
+use study_page::{Html, PageFault, write_closing, write_summary};
+use study_script::run::{RunFault, Summary};
+
+/// Writes the list of all entries, where there are two or more.
+fn write_entries<'s, S: Allocator, W: Write>(
+    alloc: &'s S,
+    count: Count,
+    rows: &Html<'_, S>,
+    out: &mut W,
+) -> Result<(), PageFault>
+    ensures ok { OnOk result (Appends (W.contents out.old) (W.contents out.new) (summary_text count rows.now)) }
+    ensures device { result ≡ Err PageFault.Device → TakesPrefix (W.contents out.old) (W.contents out.new) (summary_text count rows.now) }
+    ensures memory { result ≡ Err PageFault.OutOfMemory → out.new ≡ out.old }
+{
+    match count {
+        Count::Nothing | Count::One => Ok(()),
+        Count::Several => write_summary(alloc, rows, out),
+    }
+}
+
+/// Writes what stands after the last page.
+fn write_end<'s, S: Allocator, W: Write>(
+    alloc: &'s S,
+    count: Count,
+    rows: &Html<'_, S>,
+    out: &mut W,
+) -> Result<(), PageFault>
+    ensures ok { OnOk result (Appends (W.contents out.old) (W.contents out.new) (end_text count rows.now)) }
+    ensures device { result ≡ Err PageFault.Device → TakesPrefix (W.contents out.old) (W.contents out.new) (end_text count rows.now) }
+    ensures memory { result ≡ Err PageFault.OutOfMemory → out.new ≡ out.old }
+{
+    write_entries(alloc, count, rows, out)?;
+    match write_closing(out) {
+        Ok(()) => Ok(()),
+        Err(_) => Err(PageFault::Device),
+    }
+}
+
+/// Whether the writer failed.
+fn is_broken(ran: &Result<Summary, RunFault>) -> bool
+    ensures { result ≡ is_broken ran.now }
+{
+    match ran {
+        Err(RunFault::WriteDevice) => true,
+        _ => false,
+    }
+}
+
+/// Writes what stands after the last page, unless the writer failed before.
+pub fn write_ending<'s, S: Allocator, W: Write>(
+    alloc: &'s S,
+    count: Count,
+    rows: &Html<'_, S>,
+    ran: Result<Summary, RunFault>,
+    out: &mut W,
+) -> Result<Summary, RunFault>
+    ensures { IsEnded (end_text count rows.now) (W.contents out.old) (W.contents out.new) ran result }
+{
+    if is_broken(&ran) {
+        return ran;
+    }
+    match write_end(alloc, count, rows, out) {
+        Ok(()) => ran,
+        Err(PageFault::Device) => Err(RunFault::WriteDevice),
+        Err(PageFault::OutOfMemory) => Err(RunFault::OutOfMemory),
+    }
+}

@@ -1,0 +1,42 @@
+//! The printed report of a whole script.
+ghost use Rattle.std.specs.Prelude.{◌≡◌, List, IfSome};
+ghost use Rattle.study_material.specs.declared.class.Class.{Class as AClass};
+ghost use Rattle.study_script.specs.State.{is_among};
+ghost use Rattle.study_script.specs.Held.{tables_honest, tables_held, are_paged};
+ghost use Rattle.study_report.specs.Outcome.{over_tables};
+ghost use Rattle.study_print.specs.Pages.{IsFile, FileShape};
+
+use crate::ending::write_ending;
+use crate::pages::Pages;
+use crate::watch::Watch;
+use std::alloc::Allocator;
+use std::io::{Read, Write};
+use study_page::write_opening;
+use study_report::follow_script;
+use study_script::run::{RunFault, Summary};
+use study_script::tables::Tables;
+use study_tablefile::PageSource;
+
+/// Follows a script over these tables, from an empty board, and writes a whole file of pages.
+///
+/// Where the run stops at a fault, but not at one of the writer, what stands after the last page is written too.
+pub fn follow_pages<'a, R: Read, W: Write, P: PageSource, A: Allocator, N: Watch>(
+    alloc: &'a A,
+    script: &mut R,
+    out: &mut W,
+    watch: N,
+    tables: Tables<'a, P, A>,
+) -> Result<Summary, RunFault>
+    ensures file { (classes : List AClass) → tables_honest P.honest tables.entry → ((c : AClass) → tables_held tables.entry c ≡ is_among classes c)
+        → IfSome (R.remaining script.old)
+        (λ bytes. IsFile (over_tables classes (are_paged tables.entry)) bytes (R.remaining script.new)
+        (W.contents out.old) (W.contents out.new) result) }
+    ensures shape { IfSome (R.remaining script.old) (λ bytes. FileShape bytes (R.remaining script.new) result) }
+{
+    if write_opening(out).is_err() {
+        return Err(RunFault::WriteDevice);
+    }
+    let mut pages = Pages::new(alloc, watch);
+    let ran = follow_script(alloc, script, out, &mut pages, tables);
+    write_ending(alloc, pages.count, &pages.rows, ran, out)
+}

@@ -1,0 +1,122 @@
+//! A report in printed pages.
+ghost use Rattle.std.specs.Prelude.{◌≡◌, ◌++◌, [], IfOk};
+ghost use Rattle.study_marks.specs.Kept.{marked};
+ghost use Rattle.study_page.specs.Lists.{summary_row};
+
+use crate::reasons::{reason_of, refusal_in};
+use crate::watch::Watch;
+use std::alloc::{AllocError, Allocator};
+use std::io::Write;
+use study_marks::Bench;
+use study_page::{Html, PageFault, add_entry, write_page, write_refusal};
+use study_prober::Values;
+use study_report::{NotTold, Report};
+use study_review::ReviewFault;
+
+/// How many studies were told.
+#[derive(Clone, Copy, Debug, PartialEq, Eq)]
+pub enum Count {
+    Nothing,
+    One,
+    Several,
+}
+
+impl Count {
+    /// With one study more.
+    pub fn next(self) -> Count
+        ensures nothing { self ≡ Count.Nothing → result ≡ Count.One }
+        ensures one { self ≡ Count.One → result ≡ Count.Several }
+        ensures several { self ≡ Count.Several → result ≡ Count.Several }
+    {
+        match self {
+            Count::Nothing => Count::One,
+            Count::One | Count::Several => Count::Several,
+        }
+    }
+}
+
+/// A page for each study, and a line for each refused one. Of studies that were told, what the list at the end says is kept.
+#[derive(Drop)]
+pub struct Pages<'s, S: Allocator, N: Watch> {
+    alloc: &'s S,
+    /// The rows of the list at the end.
+    pub rows: Html<'s, S>,
+    pub count: Count,
+    watch: N,
+}
+
+impl<'s, S: Allocator, N: Watch> Pages<'s, S, N> {
+    /// No study was told.
+    pub fn new(alloc: &'s S, watch: N) -> Self
+        ensures rows { result.rows ≡ [] }
+        ensures count { result.count ≡ Count.Nothing }
+    {
+        Pages {
+            alloc,
+            rows: Html::new(alloc),
+            count: Count::Nothing,
+            watch,
+        }
+    }
+}
+
+/// The rows with one more, of the study on the bench.
+fn with_row<'s, 'b, S: Allocator, B: Allocator>(
+    alloc: &'s S,
+    rows: &Html<'_, S>,
+    bench: &Bench<'b, B>,
+    number: u32,
+) -> Result<Html<'s, S>, AllocError>
+    ensures { IfOk result (λ more. more ≡ rows.now ++ summary_row (marked bench.now) number) }
+{
+    let mut more = Html::new(alloc);
+    more.append(rows)?;
+    add_entry(alloc, &mut more, bench, number)?;
+    Ok(more)
+}
+
+impl<'s, S: Allocator, N: Watch> Report for Pages<'s, S, N> {
+    ghost use Rattle.study_page.specs.Page.{IsPageOf};
+    ghost use Rattle.study_print.specs.Entries.{AreEntries};
+    ghost use Rattle.study_print.specs.Pages.{refusal_text};
+
+    ghost tells = { λ plain number text. IsPageOf plain number text };
+
+    ghost refusal = { λ number line reply. refusal_text number line reply };
+
+    ghost lists = { λ pages told. AreEntries pages.count pages.rows told };
+
+    fn add_study<'a, 'b, A: Allocator, B: Allocator, V: Values, W: Write>(
+        &mut self,
+        alloc: &'a A,
+        bench: &Bench<'b, B>,
+        values: &mut V,
+        number: u32,
+        out: &mut W,
+    ) -> Result<(), ReviewFault> {
+        let Ok(rows) = with_row(self.alloc, &self.rows, bench, number) else {
+            return Err(ReviewFault::OutOfMemory);
+        };
+        write_page(alloc, bench, values, number, out)?;
+        self.rows = rows;
+        self.count = self.count.next();
+        self.watch.told(number);
+        Ok(())
+    }
+
+    fn add_refusal<'a, A: Allocator, W: Write>(
+        &mut self,
+        alloc: &'a A,
+        number: u32,
+        line: &[u8],
+        reply: &[u8],
+        out: &mut W,
+    ) -> Result<(), NotTold> {
+        let refusal = refusal_in(reply);
+        match write_refusal(alloc, number, line, refusal, reason_of(refusal), out) {
+            Ok(()) => Ok(()),
+            Err(PageFault::OutOfMemory) => Err(NotTold::OutOfMemory),
+            Err(PageFault::Device) => Err(NotTold::Device),
+        }
+    }
+}

@@ -1,0 +1,166 @@
+-- Lines of moves that were told, one move after the other.
+use Rattle.std.proofs.Common.{◌≡◌, ℕ, ◌+◌, ◌==◌, Bool, true, false, not, ◌&&◌, List, [], ◌∷◌, ◌++◌}
+use Rattle.std.proofs.Common.{Some, None, length, refl, sym, ap, subst, ◌∙◌, arith, append_assoc}
+use Rattle.std.specs.Prelude.{if◌then◌else◌, is_some, cond}
+use Rattle.std.specs.List.{filter, flat_map}
+use Rattle.std.proofs.lemmas.List.{append-nil}
+use Rattle.std.proofs.lemmas.List.Concat.{flat_map-append}
+use Rattle.std.proofs.lemmas.List.Sums.{sum_by-append}
+use Rattle.study_board.specs.Position.{Position}
+use Rattle.study_moves.specs.declared.moves.Move.{Move}
+use Rattle.study_moves.specs.Rules.{after}
+use Rattle.study_retro.specs.declared.value.Value.{Value}
+use Rattle.study_retro.specs.Game.{IsValueOf}
+use Rattle.study_marks.specs.declared.marking.Aim.{Aim}
+use Rattle.study_marks.specs.declared.stipulation.Goal.{Goal}
+use Rattle.study_marks.specs.Goals.{holds}
+use Rattle.study_review.specs.declared.continuation.Continuation.{Continuation}
+use Rattle.study_review.specs.declared.time.Alternative.{Alternative}
+use Rattle.study_review.specs.declared.missing.Defence.{Defence}
+use Rattle.study_review.specs.declared.answers.Answers.{Answers}
+use Rattle.study_review.specs.Continuations.{chosen, is_among}
+use Rattle.study_review.specs.Defences.{the_only, AreAnswered, IsAnswered}
+use Rattle.study_review.specs.Made.{Grew}
+use Rattle.study_review.specs.Time.{IsTimeTold, AreTimed}
+use Rattle.study_review.specs.Told.{AreAlsoLines, AreMissingLines, AreAnswers, besides, apart}
+use Rattle.study_review.specs.Words.{also_line, missing_line, times_lost}
+use Rattle.study_review.proofs.NodesShown.{not-zero}
+
+-- ---- alternatives
+
+timed-append : (g : Goal) (line : List Position) (p : Position) (xs us : List Continuation) (ys vs : List Alternative)
+    → AreTimed g line p xs ys → AreTimed g line p us vs → AreTimed g line p (xs ++ us) (ys ++ vs)
+timed-append g line p [] us [] vs h k = k
+timed-append g line p [] us (y ∷ ys) vs h k = absurd h
+timed-append g line p (x ∷ xs) us [] vs h k = absurd h
+timed-append g line p (x ∷ xs) us (y ∷ ys) vs h k = (h.0, h.1, h.2, timed-append g line p xs us ys vs h.3 k)
+
+times-append : (ys vs : List Alternative) → times_lost (ys ++ vs) ≡ times_lost ys + times_lost vs
+times-append ys vs = sum_by-append (λ y. cond (is_some y.time) 1 0) ys vs
+
+module _ {X : Type 0} (f : X → Bool) where
+  filter-more : (x : X) (xs : List X) → filter f (x ∷ xs) ≡ filter f (x ∷ []) ++ filter f xs
+  filter-more x xs = go (f x) refl
+    where
+      go : (b : Bool) → f x ≡ b → filter f (x ∷ xs) ≡ filter f (x ∷ []) ++ filter f xs
+      go true e = rw e refl
+      go false e = rw e refl
+
+  filter-kept : (x : X) → f x ≡ true → filter f (x ∷ []) ≡ x ∷ []
+  filter-kept x e = rw e refl
+
+  filter-left : (x : X) → f x ≡ false → filter f (x ∷ []) ≡ []
+  filter-left x e = rw e refl
+
+module _ (path : List ℕ) (a : Aim) (d : ℕ) (line : List Position) (p : Position) (m : Move) where
+  pub no-alternatives : (told : List Continuation) (text : List ℕ) → length told ≡ 0 → Grew (AreAlsoLines path a d line p m told 0) text text
+  no-alternatives [] text e = ([], ([], tt, refl, refl), sym (append-nil text))
+  no-alternatives (x ∷ xs) text e = absurd (omega (arith, e))
+
+  -- this one is another that holds
+  pub one-besides : (x : Continuation) (y : Alternative) (n : ℕ) (old new : List ℕ) → is_among x.played (m ∷ []) ≡ false
+      → holds a (d + 1) x.value ≡ true → y.played ≡ x.played → y.value ≡ x.value → IsTimeTold a.goal line (after p x.played) y.time
+      → (if is_some y.time then 1 else 0) ≡ n → new ≡ old ++ also_line path p y → Grew (AreAlsoLines path a d line p m (x ∷ []) n) old new
+  one-besides x y n old new e f h v t k grew =
+      let kept = filter-kept (λ z. not (is_among z.played (m ∷ [])) && holds a (d + 1) z.value) x
+      (ap (λ b. not b && holds a (d + 1) x.value) e ∙ f) in (
+        also_line path p y,
+        (
+          y ∷ [],
+          subst (λ (l : List Continuation). AreTimed a.goal line p l (y ∷ [])) (sym kept) (h, v, t, tt),
+          sym k ∙ count (is_some y.time) refl,
+          sym (append-nil (also_line path p y)),
+        ),
+        grew,
+      )
+    where
+      count : (b : Bool) → is_some y.time ≡ b → (if is_some y.time then 1 else 0) ≡ times_lost (y ∷ [])
+      count true e = rw e refl
+      count false e = rw e refl
+
+  pub more-alternatives : (x : Continuation) (told rest : List Continuation) (n k : ℕ) (t0 t1 t2 : List ℕ) → told ≡ x ∷ rest
+      → Grew (AreAlsoLines path a d line p m (x ∷ []) n) t0 t1 → Grew (AreAlsoLines path a d line p m rest k) t1 t2
+      → Grew (AreAlsoLines path a d line p m told (n + k)) t0 t2
+  more-alternatives x told rest n k t0 t1 t2 e h j =
+      let ys = h.1.0 in
+      let vs = j.1.0 in
+      let list : besides a d (m ∷ []) told ≡ besides a d (m ∷ []) (x ∷ []) ++ besides a d (m ∷ []) rest =
+      ap (besides a d (m ∷ [])) e ∙ filter-more (λ y. not (is_among y.played (m ∷ [])) && holds a (d + 1) y.value) x rest in (
+        h.0 ++ j.0,
+        (
+          ys ++ vs,
+          subst (λ (l : List Continuation). AreTimed a.goal line p l (ys ++ vs)) (sym list)
+              (timed-append a.goal line p (besides a d (m ∷ []) (x ∷ [])) (besides a d (m ∷ []) rest) ys vs h.1.1 j.1.1),
+          ap (λ i. i + k) h.1.2 ∙ ap (λ i. times_lost ys + i) j.1.2 ∙ sym (times-append ys vs),
+          ap (λ (t : List ℕ). t ++ j.0) h.1.3 ∙ ap (λ (t : List ℕ). flat_map (also_line path p) ys ++ t) j.1.3
+              ∙ sym (flat_map-append (also_line path p) ys vs),
+        ),
+        j.2 ∙ ap (λ (t : List ℕ). t ++ j.0) h.2 ∙ append_assoc t0 h.0 j.0,
+      )
+
+-- ---- answers
+
+pub no-answers : (a : Aim) (d : ℕ) (q : Position) (ms : List Move) (y : Answers) → length ms ≡ 0 → y.count ≡ 0 → y.only ≡ None → AreAnswers a d q ms y
+no-answers a d q [] y e n o = ([], ([], tt, refl), n, o)
+no-answers a d q (m ∷ ms) y e n o = absurd (omega (arith, e))
+
+only-more : (x : Continuation) (l : List Continuation) (n : ℕ) → n ≡ length l → (if n == 0 then Some x.played else None) ≡ the_only (x ∷ l)
+only-more x [] n e = rw e refl
+only-more x (y ∷ l) n e = ap (λ b. if b then Some x.played else None) (not-zero n (λ z. absurd (omega (arith, e, z))))
+
+pub answer-more : (a : Aim) (d : ℕ) (q : Position) (m : Move) (ms rest : List Move) (v : Value) (later y : Answers) → ms ≡ m ∷ rest
+    → IsValueOf (after q m) v → holds a (d + 1) v ≡ true → AreAnswers a d q rest later → y.count ≡ later.count + 1
+    → y.only ≡ (if later.count == 0 then Some m else None) → AreAnswers a d q ms y
+answer-more a d q m ms rest v later y e g h k n o =
+    let x : Continuation = record { played = m; value = v } in
+    let list = k.0 in
+    let same : chosen (holds a (d + 1)) (m ∷ rest) (v ∷ k.1.0) ≡ x ∷ chosen (holds a (d + 1)) rest k.1.0 = rw h refl in
+    subst (λ (l : List Move). AreAnswers a d q l y) (sym e) (
+      x ∷ list,
+      (v ∷ k.1.0, (g, k.1.1), ap (λ (l : List Continuation). x ∷ l) k.1.2 ∙ sym same),
+      (let c = k.2 in let z : y.count ≡ length (x ∷ list) = omega (arith, n, c) in z),
+      o ∙ only-more x list later.count k.2,
+    )
+
+pub answer-same : (a : Aim) (d : ℕ) (q : Position) (m : Move) (ms rest : List Move) (v : Value) (later : Answers) → ms ≡ m ∷ rest
+    → IsValueOf (after q m) v → holds a (d + 1) v ≡ false → AreAnswers a d q rest later → AreAnswers a d q ms later
+answer-same a d q m ms rest v later e g h k =
+    let same : chosen (holds a (d + 1)) (m ∷ rest) (v ∷ k.1.0) ≡ chosen (holds a (d + 1)) rest k.1.0 = rw h refl in
+    subst (λ (l : List Move). AreAnswers a d q l later) (sym e)
+    (k.0, (v ∷ k.1.0, (g, k.1.1), k.1.2 ∙ sym same), k.2, k.3)
+
+-- ---- defences
+
+module _ (path : List ℕ) (a : Aim) (d : ℕ) (p : Position) (there : List Move) where
+  -- one defence, with its line
+  abbrev pub OneDefence : Continuation → List ℕ → List ℕ → Type 0
+  OneDefence x old new =
+      (y : Defence) × (y.played ≡ x.played) × (y.value ≡ x.value) × IsAnswered a (d + 1) (after p x.played) y × (new ≡ old ++ missing_line path p y)
+
+  pub no-defences : (told : List Continuation) (text : List ℕ) → length told ≡ 0 → Grew (AreMissingLines path a d p there told) text text
+  no-defences [] text e = ([], ([], tt, refl), sym (append-nil text))
+  no-defences (x ∷ xs) text e = absurd (omega (arith, e))
+
+  pub defence-there : (x : Continuation) (told rest : List Continuation) (old new : List ℕ) → told ≡ x ∷ rest → is_among x.played there ≡ true
+      → Grew (AreMissingLines path a d p there rest) old new → Grew (AreMissingLines path a d p there told) old new
+  defence-there x told rest old new e h k =
+      let left = filter-left (λ y. not (is_among y.played there)) x (ap not h) in
+      let list : apart there told ≡ apart there rest =
+      ap (apart there) e ∙ filter-more (λ y. not (is_among y.played there)) x rest ∙ ap (λ (l : List Continuation). l ++ apart there rest) left in
+      (k.0, (k.1.0, subst (λ (l : List Continuation). AreAnswered a d p l k.1.0) (sym list) k.1.1, k.1.2), k.2)
+
+  pub defence-more : (x : Continuation) (told rest : List Continuation) (old mid new : List ℕ) → told ≡ x ∷ rest → is_among x.played there ≡ false
+      → OneDefence x old mid → Grew (AreMissingLines path a d p there rest) mid new → Grew (AreMissingLines path a d p there told) old new
+  defence-more x told rest old mid new e h o k =
+      let y = o.0 in
+      let kept = filter-kept (λ z. not (is_among z.played there)) x (ap not h) in
+      let list : apart there told ≡ x ∷ apart there rest =
+      ap (apart there) e ∙ filter-more (λ z. not (is_among z.played there)) x rest ∙ ap (λ (l : List Continuation). l ++ apart there rest) kept in (
+        missing_line path p y ++ k.0,
+        (
+          y ∷ k.1.0,
+          subst (λ (l : List Continuation). AreAnswered a d p l (y ∷ k.1.0)) (sym list) (o.1, o.2, o.3, k.1.1),
+          ap (λ (t : List ℕ). missing_line path p y ++ t) k.1.2,
+        ),
+        k.2 ∙ ap (λ (t : List ℕ). t ++ k.0) o.4 ∙ append_assoc old (missing_line path p y) k.0,
+      )

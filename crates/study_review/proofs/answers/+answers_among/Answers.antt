@@ -1,0 +1,41 @@
+use Rattle.std.proofs.Common.{sym, subst, ◌∙◌}
+use Rattle.study_board.specs.Position.{Position}
+use Rattle.study_retro.specs.Game.{IsValueOf}
+use Rattle.study_review.proofs.Asking.{all-then, asks-then, same-asks}
+use Rattle.study_review.proofs.MovesTold.{answer-more, answer-same}
+use Rattle.study_review.proofs.answers.+answers_among.Goals as goal
+
+pub returns-in_err-later-in-Some-clause-asked : goal.returns-in_err-later-in-Some-clause-asked
+returns-in_err-later-in-Some-clause-asked g t c =
+    asks-then g.V.Values.held g.V.Values.gives g.V.Values.may_fail g.V.Values.asked_of g.V.Values.failed_of g.V.Values.is_honest
+    c.args.values.now c.ask.new.values c.answers_among.new.values c.from_residual-in_err-later-in-Some.result
+    c.in_ok-value-in-Some.ensures.asked
+    (same-asks g.V.Values.held g.V.Values.gives g.V.Values.may_fail g.V.Values.asked_of g.V.Values.failed_of g.V.Values.is_honest
+    c.ask.new.values c.answers_among.new.values c.from_residual-in_err-later-in-Some.result c.in_err-later-in-Some.field-0.0 c.from_residual-in_err-later-in-Some.ensures.1
+    c.in_err-later-in-Some.ensures.asked)
+
+pub returns-then-holds-clause-game : goal.returns-then-holds-clause-game
+returns-then-holds-clause-game g t c h =
+    let n = c.args.node.now in
+    answer-more n.aim.now n.depth n.position.now c.in-Some.m.now c.args.moves.now c.in-Some.rest.now c.in_ok-value-in-Some.value
+    c.in_ok-later-in-Some.later c.one_more.result c.in-Some.ensures.cases.0
+    (subst (λ (q : Position). IsValueOf q c.in_ok-value-in-Some.value) c.played-next.ensures.value (c.in_ok-value-in-Some.ensures.game h))
+    (sym c.holds.ensures ∙ c.if-holds.true) (c.in_ok-later-in-Some.ensures.game (c.in_ok-value-in-Some.ensures.asked.honest h)) c.one_more.ensures.count c.one_more.ensures.only
+
+pub returns-then-holds-clause-asked : goal.returns-then-holds-clause-asked
+returns-then-holds-clause-asked g t c =
+    all-then g.V.Values.held g.V.Values.gives g.V.Values.may_fail g.V.Values.asked_of g.V.Values.failed_of g.V.Values.is_honest
+    c.args.values.now c.ask.new.values c.answers_among.new.values c.in_ok-value-in-Some.ensures.asked c.in_ok-later-in-Some.ensures.asked
+
+pub returns-else-holds-clause-game : goal.returns-else-holds-clause-game
+returns-else-holds-clause-game g t c h =
+    let n = c.args.node.now in
+    answer-same n.aim.now n.depth n.position.now c.in-Some.m.now c.args.moves.now c.in-Some.rest.now c.in_ok-value-in-Some.value
+    c.in_ok-later-in-Some.later c.in-Some.ensures.cases.0
+    (subst (λ (q : Position). IsValueOf q c.in_ok-value-in-Some.value) c.played-next.ensures.value (c.in_ok-value-in-Some.ensures.game h))
+    (sym c.holds.ensures ∙ c.if-holds.false) (c.in_ok-later-in-Some.ensures.game (c.in_ok-value-in-Some.ensures.asked.honest h))
+
+pub returns-else-holds-clause-asked : goal.returns-else-holds-clause-asked
+returns-else-holds-clause-asked g t c =
+    all-then g.V.Values.held g.V.Values.gives g.V.Values.may_fail g.V.Values.asked_of g.V.Values.failed_of g.V.Values.is_honest
+    c.args.values.now c.ask.new.values c.answers_among.new.values c.in_ok-value-in-Some.ensures.asked c.in_ok-later-in-Some.ensures.asked

@@ -1,0 +1,22 @@
+use Rattle.std.proofs.Common.{sym, ap, subst, refl, ◌∙◌}
+use Rattle.std.specs.Prelude.{if◌then◌else◌}
+use Rattle.study_board.specs.Position.{Position}
+use Rattle.study_review.specs.Time.{IsTimeTold}
+use Rattle.study_review.proofs.MovesTold.{one-besides}
+use Rattle.study_review.proofs.moves.add_alternative.Goals as goal
+
+pub returns-then-is_some-clause-text : goal.returns-then-is_some-clause-text
+returns-then-is_some-clause-text g c h =
+    let time = subst (λ (q : Position). IsTimeTold c.args.step.now.before.aim.now.goal c.args.step.now.line.now q c.in-Ok.time) c.played-next.ensures.value (c.in-Ok.ensures.game h) in
+    one-besides c.args.step.now.steps.now c.args.step.now.before.aim.now c.args.step.now.before.depth c.args.step.now.line.now c.args.step.now.before.position.now c.args.step.now.played c.args.x.now
+    (record { played = c.args.x.now.played; value = c.args.x.now.value; time = c.in-Ok.time }) 1 c.args.text.now c.add_also_line.new.text
+    (sym c.is_among.ensures ∙ c.if-is_among.false) (sym c.holds.ensures ∙ c.if-not-holds.false) refl refl time
+    (ap (λ b. if b then 1 else 0) (sym c.is_some.ensures ∙ c.if-is_some.true)) c.in_ok-add_also_line-in-Ok.ensures
+
+pub returns-else-is_some-clause-text : goal.returns-else-is_some-clause-text
+returns-else-is_some-clause-text g c h =
+    let time = subst (λ (q : Position). IsTimeTold c.args.step.now.before.aim.now.goal c.args.step.now.line.now q c.in-Ok.time) c.played-next.ensures.value (c.in-Ok.ensures.game h) in
+    one-besides c.args.step.now.steps.now c.args.step.now.before.aim.now c.args.step.now.before.depth c.args.step.now.line.now c.args.step.now.before.position.now c.args.step.now.played c.args.x.now
+    (record { played = c.args.x.now.played; value = c.args.x.now.value; time = c.in-Ok.time }) 0 c.args.text.now c.add_also_line.new.text
+    (sym c.is_among.ensures ∙ c.if-is_among.false) (sym c.holds.ensures ∙ c.if-not-holds.false) refl refl time
+    (ap (λ b. if b then 1 else 0) (sym c.is_some.ensures ∙ c.if-is_some.false)) c.in_ok-add_also_line-in-Ok.ensures

@@ -1,0 +1,48 @@
+use Rattle.std.proofs.Common.{true, length, List, sym, ap, subst, arith}
+use Rattle.study_marks.specs.Kept.{marked}
+use Rattle.study_moves.specs.LegalList.{legal_list}
+use Rattle.study_review.specs.declared.continuation.Continuation.{Continuation}
+use Rattle.study_review.specs.Continuations.{AreChosen}
+use Rattle.study_review.proofs.Asking.{all-then, asks-then, same-asks, no-memory}
+use Rattle.study_review.proofs.NodesTold.{also-told, dual-told}
+use Rattle.study_review.proofs.moves.add_dual_lines.Goals as goal
+
+pub add_alternatives-requires-clause-few : goal.add_alternatives-requires-clause-few
+add_alternatives-requires-clause-few g c = omega (arith, c.in_ok-ask_moves.ensures.few, ap length c.as_slice.ensures.value)
+
+pub returns-in_err-time-clause-asked : goal.returns-in_err-time-clause-asked
+returns-in_err-time-clause-asked g c =
+    asks-then g.V.Values.held g.V.Values.gives g.V.Values.may_fail g.V.Values.asked_of g.V.Values.failed_of g.V.Values.is_honest
+    c.args.values.now c.ask_moves.new.values c.add_alternatives.new.values c.from_residual-in_err-time.result
+    c.in_ok-ask_moves.ensures.asked
+    (same-asks g.V.Values.held g.V.Values.gives g.V.Values.may_fail g.V.Values.asked_of g.V.Values.failed_of g.V.Values.is_honest
+    c.ask_moves.new.values c.add_alternatives.new.values c.from_residual-in_err-time.result c.in_err-time.field-0.0 c.from_residual-in_err-time.ensures.1
+    c.in_err-time.ensures.asked)
+
+pub returns-in_err-add_listed_dual-clause-asked : goal.returns-in_err-add_listed_dual-clause-asked
+returns-in_err-add_listed_dual-clause-asked g c =
+    no-memory g.V.Values.held g.V.Values.gives g.V.Values.may_fail g.V.Values.asked_of g.V.Values.failed_of g.V.Values.is_honest
+    c.args.values.now c.add_alternatives.new.values c.from_residual-in_err-add_listed_dual.result c.from_residual-in_err-add_listed_dual.ensures.1
+    (all-then g.V.Values.held g.V.Values.gives g.V.Values.may_fail g.V.Values.asked_of g.V.Values.failed_of g.V.Values.is_honest
+    c.args.values.now c.ask_moves.new.values c.add_alternatives.new.values c.in_ok-ask_moves.ensures.asked c.in_ok-time.ensures.asked)
+
+pub returns-clause-also : goal.returns-clause-also
+returns-clause-also g c h =
+    also-told (marked c.args.bench.now) c.args.step.now.steps.now c.args.step.now.before.aim.now c.args.step.now.before.depth c.args.step.now.line.now c.args.step.now.before.position.now c.args.step.now.played c.requires.step
+    c.as_slice.result.now c.in_ok-time.time c.args.others c.args.draft.now.nodes c.add_alternatives.new.text c.requires.mark
+    (subst (λ (l : List Continuation). AreChosen (λ v. true) c.args.step.now.before.position.now (legal_list c.args.step.now.before.position.now) l) (sym c.as_slice.ensures.value) (c.in_ok-ask_moves.ensures.game h))
+    (c.in_ok-time.ensures.text (c.in_ok-ask_moves.ensures.asked.honest h))
+
+pub returns-clause-fault : goal.returns-clause-fault
+returns-clause-fault g c h =
+    let grew = c.in_ok-time.ensures.text (c.in_ok-ask_moves.ensures.asked.honest h) in
+    dual-told (marked c.args.bench.now) c.args.step.now.steps.now c.args.step.now.before.aim.now c.args.step.now.before.depth c.args.step.now.line.now c.args.step.now.before.position.now c.args.step.now.played c.requires.step
+    c.as_slice.result.now c.in_ok-time.time c.args.others c.args.value c.args.listed grew.0 c.args.draft.now.faults c.add_listed_dual.new.text
+    c.requires.mark c.requires.value c.requires.listed
+    (subst (λ (l : List Continuation). AreChosen (λ v. true) c.args.step.now.before.position.now (legal_list c.args.step.now.before.position.now) l) (sym c.as_slice.ensures.value) (c.in_ok-ask_moves.ensures.game h))
+    grew.1 c.in_ok-add_listed_dual.ensures
+
+pub returns-clause-asked : goal.returns-clause-asked
+returns-clause-asked g c =
+    all-then g.V.Values.held g.V.Values.gives g.V.Values.may_fail g.V.Values.asked_of g.V.Values.failed_of g.V.Values.is_honest
+    c.args.values.now c.ask_moves.new.values c.add_alternatives.new.values c.in_ok-ask_moves.ensures.asked c.in_ok-time.ensures.asked

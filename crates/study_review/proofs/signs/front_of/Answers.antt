@@ -1,6 +1,0 @@
-use Rattle.std.proofs.Common.{◌∙◌}
-use Rattle.study_review.proofs.NodesShown.{front-is}
-use Rattle.study_review.proofs.signs.front_of.Goals as goal
-
-pub returns-in-Some : goal.returns-in-Some
-returns-in-Some c = front-is c.args.steps.now c.in-Some.front.now _ c.in-Some.ensures.cases.0

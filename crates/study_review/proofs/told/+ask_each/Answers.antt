@@ -1,0 +1,34 @@
+use Rattle.std.proofs.Common.{◌≡◌, true, length, suc, ap, arith}
+use Rattle.study_moves.specs.Rules.{is_legal}
+use Rattle.study_review.proofs.Asking.{asks-then}
+use Rattle.study_review.proofs.Chosen.{all-rest}
+use Rattle.study_review.proofs.ToldMoves.{told-one}
+use Rattle.study_review.proofs.told.+ask_each.Goals as goal
+
+pub ask_each-requires : goal.ask_each-requires
+ask_each-requires g t c κs within =
+    let p = c.args.p.now in
+    let long : length c.args.moves.now ≡ suc (length c.in-Some.rest.now) = ap length c.in-Some.ensures.cases.0 in (
+      omega (arith, long, c.decreases),
+      (
+        within.0,
+        (
+          within.1,
+          (
+            all-rest (λ m. is_legal p m ≡ true) c.in-Some.m.now c.args.moves.now c.in-Some.rest.now c.in-Some.ensures.cases.0 c.requires.moves,
+            c.in_ok-ask_one-in-Some.ensures.legal c.requires.legal,
+          ),
+        ),
+      ),
+    )
+
+pub returns-in_ok-ask_one-in-Some-clause-game : goal.returns-in_ok-ask_one-in-Some-clause-game
+returns-in_ok-ask_one-in-Some-clause-game g t c h =
+    told-one c.args.p.now c.in-Some.m.now c.args.moves.now c.in-Some.rest.now c.args.told.now.items c.ask_one.new.told.items c.ask_each.new.told.items
+    c.ask_each.result c.in-Some.ensures.cases.0 (c.in_ok-ask_one-in-Some.ensures.game h)
+    (c.ask_each.ensures.game (c.in_ok-ask_one-in-Some.ensures.asked.honest h))
+
+pub returns-in_ok-ask_one-in-Some-clause-asked : goal.returns-in_ok-ask_one-in-Some-clause-asked
+returns-in_ok-ask_one-in-Some-clause-asked g t c =
+    asks-then g.V.Values.held g.V.Values.gives g.V.Values.may_fail g.V.Values.asked_of g.V.Values.failed_of g.V.Values.is_honest
+    c.args.values.now c.ask_one.new.values c.ask_each.new.values c.ask_each.result c.in_ok-ask_one-in-Some.ensures.asked c.ask_each.ensures.asked

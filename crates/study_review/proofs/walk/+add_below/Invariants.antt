@@ -1,0 +1,25 @@
+use Rattle.std.proofs.Common.{◌≡◌}
+use Rattle.study_tree.specs.Forest.{nodes_in}
+use Rattle.study_marks.specs.Kept.{marked}
+use Rattle.study_marks.specs.Renewal.{below_at}
+use Rattle.study_review.specs.Asked.{AllTold}
+use Rattle.study_review.specs.Nodes.{NodeLines, FaultLines}
+use Rattle.study_review.proofs.WrittenOrder.{GoesOn}
+use Rattle.study_review.proofs.walk.+add_below.Given as goal
+
+-- fewer nodes are below a child
+abbrev pub decreases-add_below : goal.decreases-add_below
+decreases-add_below g l = nodes_in (below_at (marked l.bench.now).tree.below l.trail.now.steps.items)
+
+-- what is written, and any lines of the nodes that are left, are lines of all
+abbrev pub invariant-loop-place : goal.invariant-loop-place
+invariant-loop-place g l = record {
+  faults : g.V.Values.is_honest l.fn.values → GoesOn (FaultLines (marked l.bench)) l.fn.trail.steps.items
+      (below_at (marked l.bench).tree.below l.fn.trail.steps.items) l.place l.fn.draft.faults l.draft.faults;
+  nodes : g.V.Values.is_honest l.fn.values → GoesOn (NodeLines (marked l.bench)) l.fn.trail.steps.items
+      (below_at (marked l.bench).tree.below l.fn.trail.steps.items) l.place l.fn.draft.nodes l.draft.nodes;
+  steps : l.trail.steps.items ≡ l.fn.trail.steps.items;
+  line : l.trail.line.items ≡ l.fn.trail.line.items;
+  told : AllTold g.V.Values.held g.V.Values.gives g.V.Values.may_fail g.V.Values.asked_of g.V.Values.failed_of g.V.Values.is_honest
+      l.fn.values l.values;
+}

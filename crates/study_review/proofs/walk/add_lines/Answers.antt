@@ -1,0 +1,41 @@
+use Rattle.std.proofs.Common.{◌≡◌, ◌+◌, ◌-◌, ◌&&◌, ◌||◌, length, arith, ap, ◌∙◌}
+use Rattle.study_marks.specs.Kept.{marked}
+use Rattle.study_review.proofs.Asking.{asks-then}
+use Rattle.study_review.specs.Nodes.{is_mistake, is_idle}
+use Rattle.study_review.proofs.Stands.{arrival-played, arrival-mark, arrival-children, arrival-there, legal-before, node-before, solution-move, tried-move}
+use Rattle.study_review.proofs.walk.add_lines.Goals as goal
+
+pub add_move-requires-clause-step : goal.add_move-requires-clause-step
+add_move-requires-clause-step g c =
+    record {
+      before = node-before (marked c.args.bench.now) c.args.steps.now c.requires.some c.args.aim.now (length c.args.steps.now - 1) c.args.stands.0.now c.requires.aim (let z : length c.args.steps.now - 1 + 1 ≡ length c.args.steps.now = omega (arith, c.requires.some) in z) c.requires.before;
+      line = c.requires.line;
+      played = arrival-played (marked c.args.bench.now) c.args.steps.now c.args.by.now c.requires.by;
+    }
+
+pub add_move-requires-clause-legal : goal.add_move-requires-clause-legal
+add_move-requires-clause-legal g c =
+    legal-before (marked c.args.bench.now) c.args.steps.now c.requires.some c.args.by.now c.requires.by c.start-first.ensures.study.playable c.args.stands.0.now c.requires.before
+
+pub add_move-requires-clause-listed : goal.add_move-requires-clause-listed
+add_move-requires-clause-listed g c =
+    c.is_solution_move-listed.ensures ∙ ap (λ b. b && c.args.stands.1.now.solution) c.hero_moves-made.ensures
+    ∙ solution-move (marked c.args.bench.now) c.args.steps.now c.requires.some c.args.aim.now (length c.args.steps.now - 1) c.args.stands.1.now c.requires.aim (let z : length c.args.steps.now - 1 + 1 ≡ length c.args.steps.now = omega (arith, c.requires.some) in z) c.requires.here
+
+pub add_own-requires-clause-found : goal.add_own-requires-clause-found
+add_own-requires-clause-found g c = arrival-there (marked c.args.bench.now) c.args.steps.now c.args.by.now c.requires.by
+
+pub add_own-requires-clause-children : goal.add_own-requires-clause-children
+add_own-requires-clause-children g c = arrival-children (marked c.args.bench.now) c.args.steps.now c.args.by.now c.requires.by
+
+pub add_own-requires-clause-tried : goal.add_own-requires-clause-tried
+add_own-requires-clause-tried g c =
+    let mark = c.args.by.now.mark.on_move in
+    let before = c.args.stands.0.now in
+    c.is_try.ensures ∙ ap (λ b. b && (is_mistake mark || (is_idle mark && (before.solution && before.quiet)))) c.hero_moves-made.ensures
+    ∙ tried-move (marked c.args.bench.now) c.args.steps.now c.requires.some c.args.aim.now (length c.args.steps.now - 1) mark before c.requires.aim (let z : length c.args.steps.now - 1 + 1 ≡ length c.args.steps.now = omega (arith, c.requires.some) in z) (arrival-mark (marked c.args.bench.now) c.args.steps.now c.args.by.now c.requires.by) c.requires.before
+
+pub returns-clause-asked : goal.returns-clause-asked
+returns-clause-asked g c =
+    asks-then g.V.Values.held g.V.Values.gives g.V.Values.may_fail g.V.Values.asked_of g.V.Values.failed_of g.V.Values.is_honest
+    c.args.values.now c.add_move.new.values c.add_own.new.values c.add_own.result c.in_ok-add_move.ensures.asked c.add_own.ensures.asked

@@ -1,0 +1,8 @@
+use Rattle.std.proofs.lemmas.Result.{on_ok_weaker}
+use Rattle.study_marks.specs.Kept.{marked}
+use Rattle.study_review.proofs.WholeReview.{root-told}
+use Rattle.study_review.proofs.walk.add_root.Goals as goal
+
+pub returns-clause-nodes : goal.returns-clause-nodes
+returns-clause-nodes g c h =
+    on_ok_weaker c.add_own.result (root-told (marked c.args.bench.now) c.args.draft.now.nodes c.add_own.new.text) (c.add_own.ensures.text h)

@@ -1,7 +1,0 @@
-use Rattle.std.proofs.Common.{◌≡◌, ◌++◌, take}
-use Rattle.std.specs.List.{flat_map}
-use Rattle.study_review.specs.Words.{also_line}
-use Rattle.study_review.proofs.words.add_also_lines.Given as goal
-
-abbrev pub invariant-loop-x : goal.invariant-loop-x
-invariant-loop-x g l = l.text ≡ l.fn.text ++ flat_map (also_line l.fn.steps l.fn.p) (take l.x-index l.list)

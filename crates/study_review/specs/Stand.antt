@@ -1,0 +1,45 @@
+-- Not part of any public contract: where a walk of a study stands.
+use Rattle.std.specs.Prelude.{◌≡◌, ℕ, List, length, Option, Some, None}
+use Rattle.study_board.specs.Position.{Position}
+use Rattle.study_moves.specs.declared.moves.Move.{Move}
+use Rattle.study_tree.specs.Edits.{width}
+use Rattle.study_tree.specs.Tree.{Spot, spot_at}
+use Rattle.study_marks.specs.declared.mark.Mark.{Mark}
+use Rattle.study_marks.specs.declared.marking.Aim.{Aim}
+use Rattle.study_marks.specs.Bench.{played_by}
+use Rattle.study_marks.specs.Renewal.{below_at}
+use Rattle.study_marks.specs.Study.{Study, position_at}
+use Rattle.study_marks.specs.Goals.{aim_of}
+use Rattle.study_review.specs.declared.stand.Stand.{Stand}
+use Rattle.study_review.specs.declared.stand.Arrival.{Arrival}
+use Rattle.study_review.specs.Faults.{in_solution}
+use Rattle.study_review.specs.Line.{line_to}
+use Rattle.study_review.specs.Nodes.{front_of, none_idle}
+
+-- what a node shows, if it is there and not the root
+abbrev pub arrival_by : Option Move → Mark → ℕ → Option Arrival
+arrival_by None x n = None
+arrival_by (Some m) x n = Some (record { played = m; mark = x; children = n })
+
+abbrev pub arrival_of : Option (Spot Mark) → Option Arrival
+arrival_of None = None
+arrival_of (Some s) = arrival_by s.played s.label s.children
+
+-- what a walk knows of the node at the path
+pub record IsStand (s : Study Mark) (path : List ℕ) (x : Stand) : Type 0 where
+  pub position : x.position ≡ position_at s path
+  pub children : x.children ≡ width (below_at s.tree.below path)
+  pub solution : x.solution ≡ in_solution (aim_of s) 0 path
+  pub quiet : x.quiet ≡ none_idle s.tree.below path
+
+-- a node at its depth, with what the study wants
+pub record IsNodeAt (s : Study Mark) (path : List ℕ) (a : Aim) (d : ℕ) (p : Position) : Type 0 where
+  pub aim : a ≡ aim_of s
+  pub depth : d ≡ length path
+  pub position : p ≡ position_at s path
+
+-- the move to the node at the path, from the node before it with its line
+pub record IsStep (s : Study Mark) (path : List ℕ) (a : Aim) (d : ℕ) (ps : List Position) (p : Position) (m : Move) : Type 0 where
+  pub before : IsNodeAt s (front_of path) a d p
+  pub line : ps ≡ line_to s (front_of path)
+  pub played : played_by (spot_at s.tree path) ≡ Some m

@@ -1,0 +1,62 @@
+-- Not part of any public contract: what is written of moves whose values were told.
+use Rattle.std.specs.Prelude.{◌≡◌, ℕ, ◌+◌, true, not, ◌&&◌, List, [], ◌∷◌, ◌++◌, length}
+use Rattle.std.specs.List.{flat_map, filter}
+use Rattle.study_board.specs.Position.{Position}
+use Rattle.study_moves.specs.declared.moves.Move.{Move}
+use Rattle.study_retro.specs.declared.value.Value.{Value}
+use Rattle.study_marks.specs.declared.mark.Mark.{Mark}
+use Rattle.study_marks.specs.declared.marking.Aim.{Aim}
+use Rattle.study_marks.specs.Annotated.{AreValuesAfter}
+use Rattle.study_marks.specs.Goals.{holds}
+use Rattle.study_marks.specs.Study.{Study}
+use Rattle.study_review.specs.declared.continuation.Continuation.{Continuation}
+use Rattle.study_review.specs.declared.time.Alternative.{Alternative}
+use Rattle.study_review.specs.declared.missing.Defence.{Defence}
+use Rattle.study_review.specs.declared.answers.Answers.{Answers}
+use Rattle.study_review.specs.Nodes.{RefutedLines, MissingLines, EndLines}
+use Rattle.study_review.specs.Continuations.{chosen, is_among, is_draw, AreChosen}
+use Rattle.study_review.specs.Time.{AreTimed}
+use Rattle.study_review.specs.Defences.{the_only, AreAnswered}
+use Rattle.study_review.specs.Words.{also_line, missing_line, times_lost}
+
+-- these moves were added, with the values after them
+abbrev pub AreTold : Position → List Move → List Continuation → List Continuation → Type 0
+AreTold p ms old new = (all : List Value) × AreValuesAfter p ms all × (new ≡ old ++ chosen (λ v. true) ms all)
+
+-- of moves that were told at depth d, those after which the position does not hold
+abbrev pub failing : Aim → ℕ → List Continuation → List Continuation
+failing a d list = filter (λ x. not (holds a (d + 1) x.value)) list
+
+-- those after which it is drawn
+abbrev pub drawing : List Continuation → List Continuation
+drawing list = filter (λ x. is_draw x.value) list
+
+-- those that are none of these
+abbrev pub apart : List Move → List Continuation → List Continuation
+apart there list = filter (λ x. not (is_among x.played there)) list
+
+-- those that are none of these, and after which it holds
+abbrev pub besides : Aim → ℕ → List Move → List Continuation → List Continuation
+besides a d there list = filter (λ x. not (is_among x.played there) && holds a (d + 1) x.value) list
+
+-- a line for each of these alternatives of a move from p, the last of a line; so many of them lose time
+abbrev pub AreAlsoLines : List ℕ → Aim → ℕ → List Position → Position → Move → List Continuation → ℕ → List ℕ → Type 0
+AreAlsoLines path a d line p m list n text =
+    (timed : List Alternative) × AreTimed a.goal line p (besides a d (m ∷ []) list) timed
+    × (n ≡ times_lost timed) × (text ≡ flat_map (also_line path p) timed)
+
+-- a line for each of these defences that is missing, with its answers
+abbrev pub AreMissingLines : List ℕ → Aim → ℕ → Position → List Move → List Continuation → List ℕ → Type 0
+AreMissingLines path a d p there list text =
+    (answered : List Defence) × AreAnswered a d p (apart there list) answered × (text ≡ flat_map (missing_line path p) answered)
+
+-- of these moves of q at depth d, how many hold, and which, where it is one
+abbrev pub AreAnswers : Aim → ℕ → Position → List Move → Answers → Type 0
+AreAnswers a d q ms y =
+    (list : List Continuation) × AreChosen (holds a (d + 1)) q ms list × (y.count ≡ length list) × (y.only ≡ the_only list)
+
+-- the lines of a node but for those of the move to it
+abbrev pub OwnLines : Study Mark → List ℕ → List ℕ → Type 0
+OwnLines s path text =
+    (refuted missing end : List ℕ) × RefutedLines s path refuted × MissingLines s path missing × EndLines s path end
+    × (text ≡ refuted ++ (missing ++ end))

@@ -1,0 +1,21 @@
+//! What a review is made of, before it is whole.
+
+use crate::continuation::Continuation;
+use std::alloc::Allocator;
+use study_board::Position;
+use study_pgn::Text;
+
+/// The lines of the faults with those before them, the lines of the nodes, and the moves that were asked last.
+#[derive(Drop)]
+pub struct Draft<'a, A: Allocator> {
+    pub faults: Text<'a, A>,
+    pub nodes: Text<'a, A>,
+    pub told: Vec<Continuation, &'a A>,
+}
+
+/// The path of a node, and the positions from the root to it, both counted.
+#[derive(Drop)]
+pub struct Trail<'a, A: Allocator> {
+    pub steps: Vec<u16, &'a A>,
+    pub line: Vec<Position, &'a A>,
+}

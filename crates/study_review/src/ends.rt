@@ -1,0 +1,106 @@
+//! How it goes on where the tree ends.
+ghost use Rattle.std.specs.Prelude.{◌≡◌, ◌<◌, ◌^◌, true, length, OnOk, IfOk, IfSome};
+ghost use Rattle.std.specs.List.{All};
+ghost use Rattle.study_moves.specs.Rules.{is_legal};
+ghost use Rattle.study_moves.specs.LegalList.{legal_list};
+ghost use Rattle.study_review.specs.Best.{first_best, IsBestPlay};
+ghost use Rattle.study_review.specs.Continuations.{AreChosen};
+ghost use Rattle.study_review.specs.Made.{Grew, HasAsked};
+ghost use Rattle.study_review.specs.Nodes.{IsEnd, IsPlay};
+ghost use Rattle.study_review.specs.Play.{ArePlayed};
+
+use crate::best::{better_of, play_on};
+use crate::continuation::Continuation;
+use crate::fault::NotMade;
+use crate::words::{add_keep, add_play};
+use arrayvec::ArrayVec;
+use std::alloc::Allocator;
+use study_board::Position;
+use study_moves::played;
+use study_pgn::Text;
+use study_prober::Values;
+use study_retro::Value;
+
+/// The first of these moves with the best value.
+fn best_of(p: &Position, told: &[Continuation]) -> Option<Continuation>
+    requires { All (λ x. is_legal p.now x.played ≡ true) told.now }
+    ensures best { result ≡ first_best told.now }
+    ensures legal { IfSome result (λ x. is_legal p.now x.played ≡ true) }
+{
+    match told.split_first() {
+        None => None,
+        Some((x, rest)) => {
+            let later = best_of(p, rest);
+            Some(better_of(*x, later))
+        }
+    }
+}
+
+/// Best play of at most 20 plies, of which the first is one of these legal moves.
+fn play_from<V: Values>(
+    p: &Position,
+    told: &[Continuation],
+    values: &mut V,
+) -> Result<ArrayVec<Continuation, 20>, NotMade>
+    requires { All (λ x. is_legal p.now x.played ≡ true) told.now }
+    ensures game { AreChosen (λ v. true) p.now (legal_list p.now) told.now → V.is_honest values.old → IfOk result (λ list. IsBestPlay 20 p.now list.items) }
+    ensures legal { IfOk result (λ list. ArePlayed p.now list.items) }
+    ensures asked { HasAsked V.held V.gives V.may_fail V.asked_of V.failed_of V.is_honest values.old result values.new }
+{
+    let mut list = ArrayVec::new();
+    match best_of(p, told) {
+        None => Ok(list),
+        Some(best) => {
+            let next = played(p, best.played);
+            list.push(best);
+            match play_on(&next, 19, values, &mut list) {
+                Err(fault) => Err(NotMade::Untold(fault)),
+                Ok(_) => Ok(list),
+            }
+        }
+    }
+}
+
+/// The line of best play.
+fn add_best<A: Allocator, V: Values>(
+    text: &mut Text<'_, A>,
+    steps: &[u16],
+    p: &Position,
+    value: Value,
+    told: &[Continuation],
+    values: &mut V,
+) -> Result<(), NotMade>
+    requires { All (λ x. is_legal p.now x.played ≡ true) told.now }
+    ensures text { AreChosen (λ v. true) p.now (legal_list p.now) told.now → V.is_honest values.old
+        → OnOk result (Grew (IsPlay steps.now p.now value) text.old text.new) }
+    ensures asked { HasAsked V.held V.gives V.may_fail V.asked_of V.failed_of V.is_honest values.old result values.new }
+{
+    let list = play_from(p, told, values)?;
+    add_play(text, steps, p, value, list.as_slice())?;
+    Ok(())
+}
+
+/// Best play, or the moves that keep a draw.
+pub fn add_continued<A: Allocator, V: Values>(
+    text: &mut Text<'_, A>,
+    steps: &[u16],
+    p: &Position,
+    value: Value,
+    told: &[Continuation],
+    values: &mut V,
+) -> Result<(), NotMade>
+    requires legal { All (λ x. is_legal p.now x.played ≡ true) told.now }
+    requires all { length told.now ≡ length (legal_list p.now) }
+    requires few { length told.now < 2 ^ 32 }
+    ensures text { AreChosen (λ v. true) p.now (legal_list p.now) told.now → V.is_honest values.old
+        → OnOk result (Grew (IsEnd steps.now p.now value) text.old text.new) }
+    ensures asked { HasAsked V.held V.gives V.may_fail V.asked_of V.failed_of V.is_honest values.old result values.new }
+{
+    match value {
+        Value::Draw => {
+            add_keep(text, steps, p, told)?;
+            Ok(())
+        }
+        _ => add_best(text, steps, p, value, told, values),
+    }
+}

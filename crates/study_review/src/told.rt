@@ -1,0 +1,89 @@
+//! The legal moves of a position with the values after them, asked once and read by all that is written of the position.
+ghost use Rattle.std.specs.Prelude.{◌≡◌, ◌+◌, ◌≤◌, ◌++◌, ◌∷◌, [], true, length, vec_len, OnOk, IfOk};
+ghost use Rattle.std.specs.List.{All};
+ghost use Rattle.study_moves.specs.Rules.{is_legal, after};
+ghost use Rattle.study_moves.specs.LegalList.{legal_list};
+ghost use Rattle.study_retro.specs.Game.{IsValueOf};
+ghost use Rattle.study_retro.specs.declared.value.Value.{Value as AValue};
+ghost use Rattle.study_review.specs.Continuations.{AreChosen};
+ghost use Rattle.study_review.specs.Made.{HasAsked};
+ghost use Rattle.study_review.specs.Told.{AreTold};
+
+use crate::continuation::Continuation;
+use crate::fault::NotMade;
+use std::alloc::Allocator;
+use study_board::Position;
+use study_moves::{Move, legal_moves, played};
+use study_prober::Values;
+use study_retro::Value;
+
+/// The value of a position.
+pub fn ask<V: Values>(q: &Position, values: &mut V) -> Result<Value, NotMade>
+    ensures game { V.is_honest values.old → IfOk result (IsValueOf q.now) }
+    ensures asked { HasAsked V.held V.gives V.may_fail V.asked_of V.failed_of V.is_honest values.old result values.new }
+{
+    match values.value(q) {
+        Err(fault) => Err(NotMade::Untold(fault)),
+        Ok(value) => Ok(value),
+    }
+}
+
+/// Adds a move with the value after it.
+fn ask_one<'a, A: Allocator, V: Values>(
+    p: &Position,
+    m: &Move,
+    values: &mut V,
+    told: &mut Vec<Continuation, &'a A>,
+) -> Result<(), NotMade>
+    requires { is_legal p.now m.now ≡ true }
+    ensures game { V.is_honest values.old → OnOk result ((v : AValue) × IsValueOf (after p.now m.now) v
+        × (told.new.items ≡ told.old.items ++ (record { played = m.now; value = v }) ∷ [])) }
+    ensures legal { All (λ x. is_legal p.now x.played ≡ true) told.old.items → OnOk result (All (λ x. is_legal p.now x.played ≡ true) told.new.items) }
+    ensures len { OnOk result (vec_len told.new ≡ vec_len told.old + 1) }
+    ensures asked { HasAsked V.held V.gives V.may_fail V.asked_of V.failed_of V.is_honest values.old result values.new }
+{
+    let next = played(p, *m);
+    let value = ask(&next, values)?;
+    told.push(Continuation { played: *m, value })?;
+    Ok(())
+}
+
+/// Adds these moves with the values after them.
+fn ask_each<'a, A: Allocator, V: Values>(
+    p: &Position,
+    moves: &[Move],
+    values: &mut V,
+    told: &mut Vec<Continuation, &'a A>,
+) -> Result<(), NotMade>
+    requires moves { All (λ m. is_legal p.now m ≡ true) moves.now }
+    requires legal { All (λ x. is_legal p.now x.played ≡ true) told.old.items }
+    ensures game { V.is_honest values.old → OnOk result (AreTold p.now moves.now told.old.items told.new.items) }
+    ensures legal { OnOk result (All (λ x. is_legal p.now x.played ≡ true) told.new.items) }
+    ensures len { OnOk result (vec_len told.new ≡ vec_len told.old + length moves.now) }
+    ensures asked { HasAsked V.held V.gives V.may_fail V.asked_of V.failed_of V.is_honest values.old result values.new }
+{
+    match moves.split_first() {
+        None => Ok(()),
+        Some((m, rest)) => {
+            ask_one(p, m, values, told)?;
+            ask_each(p, rest, values, told)
+        }
+    }
+}
+
+/// The legal moves of the position with the values after them, in the place of what was told before.
+pub fn ask_moves<'a, A: Allocator, V: Values>(
+    p: &Position,
+    values: &mut V,
+    told: &mut Vec<Continuation, &'a A>,
+) -> Result<(), NotMade>
+    ensures game { V.is_honest values.old → OnOk result (AreChosen (λ v. true) p.now (legal_list p.now) told.new.items) }
+    ensures legal { OnOk result (All (λ x. is_legal p.now x.played ≡ true) told.new.items) }
+    ensures all { OnOk result (length told.new.items ≡ length (legal_list p.now)) }
+    ensures few { OnOk result (length told.new.items ≤ 256) }
+    ensures asked { HasAsked V.held V.gives V.may_fail V.asked_of V.failed_of V.is_honest values.old result values.new }
+{
+    told.clear();
+    let moves = legal_moves(p);
+    ask_each(p, moves.as_slice(), values, told)
+}

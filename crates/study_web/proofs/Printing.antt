@@ -1,0 +1,42 @@
+-- Printed pages over the files that are handed in.
+use Rattle.std.proofs.Common.{◌≡◌, ℕ, Bool, true, List, [], replicate, false, Option, Some, Result, Ok, Err, refl, sym, ap, subst, ◌∙◌, inl, inr}
+use Rattle.study_material.specs.declared.class.Class.{Class}
+use Rattle.study_print.specs.Pages.{IsFile}
+use Rattle.study_report.specs.Outcome.{over_tables}
+use Rattle.study_script.specs.declared.run.Summary.{Summary}
+use Rattle.study_script.specs.declared.run.RunFault.{RunFault}
+use Rattle.study_script.specs.State.{is_among}
+use Rattle.study_web.specs.declared.denial.Denial.{Denial}
+use Rattle.study_web.specs.declared.reply.Ending.{Ending}
+use Rattle.study_web.specs.declared.reply.Ending.TheVariants.{Answered, Refused, Ran, Stopped}
+use Rattle.study_web.specs.declared.spans.Span.{Span}
+use Rattle.study_web.specs.Answers.{IsPrinted, IsPrintedTo}
+use Rattle.study_web.specs.Opened.{IsHeldAs, IsOfTables}
+use Rattle.study_web.specs.Spans.{header_given}
+use Rattle.study_web.specs.Store.{known}
+use Rattle.study_web.specs.Told.{denial_text, ending_of, IsDenied}
+use Rattle.study_web.proofs.Shelves.{handed_in}
+
+module _ (spans : List Span) (bytes script : List ℕ) where
+  by_summary : (text : List ℕ) (summary : Result Summary RunFault) → IsPrintedTo spans bytes script text summary
+      → IsPrinted spans bytes script text (ending_of summary)
+  by_summary text (Ok summary) h = h
+  by_summary text (Err fault) h = inr h
+
+  pub printed_as : (told text : List ℕ) (summary : Result Summary RunFault) (ended : Ending) → text ≡ told → ended ≡ ending_of summary
+      → IsPrintedTo spans bytes script told summary → IsPrinted spans bytes script text ended
+  printed_as told text summary ended t e h = rw (t, e) (by_summary told summary h)
+
+  pub printed_denied : (d : Denial) (text : List ℕ) (ended : Ending) → IsOfTables d → IsDenied d text ended
+      → IsPrinted spans bytes script text ended
+  printed_denied d text Answered of x = absurd x
+  printed_denied d text (Refused e) of (same, is) = (subst IsOfTables (sym same) of, is ∙ ap denial_text (sym same))
+  printed_denied d text (Stopped fault) of (same, is) = inl (same, is)
+  printed_denied d text (Ran summary) of x = absurd x
+
+pub print_made : {spans at : List Span} {bytes bs : List ℕ} {written : List Bool} → at ≡ spans → bs ≡ bytes → written ≡ replicate 36 false
+    → (script text : List ℕ) (summary : Result Summary RunFault)
+    → (classes : List Class) × ((c : Class) → IsHeldAs (known header_given at bs written c) (is_among classes c)) × (left : Option (List ℕ))
+    × IsFile (over_tables classes true) script left (Some []) (Some text) summary
+    → IsPrintedTo spans bytes script text summary
+print_made e f w script text summary (classes, held, left, is) = λ right. (classes, handed_in classes e f w held, left, is)

@@ -1,0 +1,48 @@
+-- Reviews over the files that are handed in.
+use Rattle.std.proofs.Common.{◌≡◌, ℕ, Bool, true, List, [], replicate, false, filter, Option, Some, None, Result, Ok, Err, is_some}
+use Rattle.std.proofs.Common.{refl, sym, ap, subst, ◌∙◌, arith}
+use Rattle.study_material.specs.declared.class.Class.{Class}
+use Rattle.study_material.specs.Class.{class_list}
+use Rattle.study_review.specs.Review.{IsReviewOf}
+use Rattle.study_report.specs.Outcome.{Outcome, over_tables}
+use Rattle.study_script.specs.declared.run.Summary.{Summary}
+use Rattle.study_script.specs.declared.run.RunFault.{RunFault}
+use Rattle.study_script.specs.State.{is_among}
+use Rattle.study_web.specs.declared.denial.Denial.{Denial}
+use Rattle.study_web.specs.declared.reply.Ending.{Ending}
+use Rattle.study_web.specs.declared.reply.Ending.TheVariants.{Answered, Refused, Ran, Stopped}
+use Rattle.study_web.specs.declared.spans.Span.{Span}
+use Rattle.study_web.specs.Answers.{IsReviewed, IsReviewedTo}
+use Rattle.study_web.specs.Opened.{IsHeldAs, IsOfTables}
+use Rattle.study_web.specs.Spans.{file_in, header_given}
+use Rattle.study_web.specs.Store.{known}
+use Rattle.study_web.specs.Views.{refused_line}
+use Rattle.study_web.specs.Told.{denial_text, ending_of, IsDenied}
+use Rattle.study_web.proofs.Opening.{among_chosen}
+use Rattle.study_web.proofs.Shelves.{handed_in}
+
+module _ (spans : List Span) (bytes script : List ℕ) where
+  by_summary : (text : List ℕ) (summary : Result Summary RunFault) → IsReviewedTo spans bytes script text summary
+      → IsReviewed spans bytes script text (ending_of summary)
+  by_summary text (Ok summary) h = h
+  by_summary text (Err fault) h = h
+
+  pub reviewed_as : (told text : List ℕ) (summary : Result Summary RunFault) (ended : Ending) → text ≡ told → ended ≡ ending_of summary
+      → IsReviewedTo spans bytes script told summary → IsReviewed spans bytes script text ended
+  reviewed_as told text summary ended t e h = rw (t, e) (by_summary told summary h)
+
+  pub reviewed_denied : (d : Denial) (text : List ℕ) (ended : Ending) → IsOfTables d → IsDenied d text ended
+      → IsReviewed spans bytes script text ended
+  reviewed_denied d text Answered of x = absurd x
+  reviewed_denied d text (Refused e) of (same, is) = (subst IsOfTables (sym same) of, is ∙ ap denial_text (sym same))
+  reviewed_denied d text (Stopped fault) of (same, is) =
+      let chosen : Class → Bool = λ c. is_some (file_in spans bytes c) in
+      rw (same, is) (λ right. (filter chosen class_list, among_chosen chosen, None, (0, omega arith, omega arith, (tt, [], tt, refl))))
+  reviewed_denied d text (Ran summary) of x = absurd x
+
+pub review_made : {spans at : List Span} {bytes bs : List ℕ} {written : List Bool} → at ≡ spans → bs ≡ bytes → written ≡ replicate 36 false
+    → (script text : List ℕ) (summary : Result Summary RunFault)
+    → (classes : List Class) × ((c : Class) → IsHeldAs (known header_given at bs written c) (is_among classes c)) × (left : Option (List ℕ))
+    × Outcome IsReviewOf refused_line (over_tables classes true) script left (Some []) (Some text) summary
+    → IsReviewedTo spans bytes script text summary
+review_made e f w script text summary (classes, held, left, is) = λ right. (classes, handed_in classes e f w held, left, is)

@@ -1,0 +1,17 @@
+use Rattle.study_web.proofs.Reviews.{reviewed_as, reviewed_denied, review_made}
+use Rattle.study_web.proofs.Shelves.{right_made}
+use Rattle.study_web.proofs.answering.of_review.Goals as goal
+
+pub returns-in-Ok : goal.returns-in-Ok
+returns-in-Ok g c =
+    let made = c.new-store.ensures in
+    let told = c.in-Ok.told in
+    reviewed_as c.args.spans.now c.args.bytes.now c.args.script.now told.text.items c.ran.result.text.items told.summary c.ran.result.ended
+    c.ran.ensures.text c.ran.ensures.ended
+    (λ right. review_made made.spans made.bytes made.written c.args.script.now told.text.items told.summary
+    (c.in-Ok.ensures.review (right_made made.spans made.bytes right)) right)
+
+pub returns-in-Err : goal.returns-in-Err
+returns-in-Err g c =
+    reviewed_denied c.args.spans.now c.args.bytes.now c.args.script.now c.in-Err.denial c.denied.result.text.items c.denied.result.ended
+    c.in-Err.ensures.denied c.denied.ensures

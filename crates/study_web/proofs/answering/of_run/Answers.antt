@@ -1,0 +1,6 @@
+use Rattle.study_web.proofs.answering.of_run.Goals as goal
+
+pub returns : goal.returns
+returns g c =
+    let ended = c.replies_over-ended in
+    (ended.result.summary, c.ran.ensures.ended, λ trusted right trusts. rw c.ran.ensures.text (ended.ensures trusted right trusts))

@@ -1,0 +1,179 @@
+-- What a page is answered.
+use Rattle.std.specs.Prelude.{◌≡◌, ◌⊎◌, ℕ, Bool, true, false, List, [], Option, Some, None, Result, Ok, Err}
+use Rattle.study_board.specs.Position.{man_at}
+use Rattle.study_material.specs.declared.class.Class.{Class}
+use Rattle.study_material.specs.Needs.{IsNeeded}
+use Rattle.study_notation.specs.declared.start.Start.{Start}
+use Rattle.study_marks.specs.declared.stipulation.Stipulation.{Stipulation}
+use Rattle.study_command.specs.Lines.{script_lines}
+use Rattle.study_reply.specs.declared.refusal.Refusal.TheVariants.{MissingTable, OutOfMemory, File, OtherClass, DistanceTooLarge}
+use Rattle.study_reply.specs.declared.refusal.Refusal.TheVariants.{NoSuchNode, NoTable, TableRead, TableReadPage}
+use Rattle.study_script.specs.declared.run.Summary.{Summary}
+use Rattle.study_script.specs.declared.run.RunFault.{RunFault}
+use Rattle.study_script.specs.declared.run.RunFault.TheVariants as run_fault
+use Rattle.study_script.specs.Outcome.{Outcome, begun_state}
+use Rattle.study_script.specs.State.{Shelf}
+use Rattle.study_script.specs.Stored.{AreTrusted}
+use Rattle.study_report.specs.Outcome.{Outcome as ReportOutcome, Shape, over_tables}
+use Rattle.study_review.specs.Review.{IsReviewOf}
+use Rattle.study_print.specs.Pages.{IsFile}
+use Rattle.study_view.specs.Setup.{passed_squares}
+use Rattle.study_view.specs.Survey.{IsSurvey}
+use Rattle.study_web.specs.declared.denial.Denial.{Denial}
+use Rattle.study_web.specs.declared.denial.Denial.TheVariants as denial
+use Rattle.study_web.specs.declared.make.MakeFault.{MakeFault}
+use Rattle.study_web.specs.declared.make.MakeFault.TheVariants as make_fault
+use Rattle.study_web.specs.declared.reply.NoText.{NoText}
+use Rattle.study_web.specs.declared.reply.NoText.TheVariants as no_text
+use Rattle.study_web.specs.declared.reply.Ending.{Ending}
+use Rattle.study_web.specs.declared.reply.Ending.TheVariants.{Answered, Refused, Ran, Stopped}
+use Rattle.study_web.specs.declared.spans.Span.{Span}
+use Rattle.study_web.specs.Making.{IsRightFileOf, IsMakeFault}
+use Rattle.study_web.specs.Opened.{AreHandedIn, AreAllRight, IsOfTables}
+use Rattle.study_web.specs.Request.{Asked, Asks, run, review, report, tables, make, view, survey, passed}
+use Rattle.study_web.specs.Setup.{AreTables, squares_text}
+use Rattle.study_web.specs.Spans.{file_in, IsHonestIn}
+use Rattle.study_web.specs.Store.{IsShelf, AreRightFiles}
+use Rattle.study_web.specs.Told.{denial_text, ending_of, IsDenied}
+use Rattle.study_web.specs.Views.{refused_line, IsViewAfter, LacksNodeAfter}
+
+-- ---- how a request ends that is answered whole or not at all
+
+-- the text has the property; or the request is refused by its name; or its script is not read to its end
+abbrev pub IsWhole : (List ℕ → Type 0) → (Denial → Type 0) → (RunFault → Type 0) → List ℕ → Ending → Type 0
+IsWhole IsIt May Stops text Answered = IsIt text
+IsWhole IsIt May Stops text (Refused d) = May d × (text ≡ denial_text d)
+IsWhole IsIt May Stops text (Stopped fault) = Stops fault × (text ≡ [])
+IsWhole IsIt May Stops text (Ran summary) = ⊥
+
+-- the same of what has no text
+abbrev pub MayEnd : (Denial → Type 0) → (RunFault → Type 0) → NoText → Type 0
+MayEnd May Stops (no_text.Denied d) = May d
+MayEnd May Stops (no_text.Stopped fault) = Stops fault
+
+-- nothing is stopped but for want of memory
+abbrev pub IsNoMemory : RunFault → Type 0
+IsNoMemory fault = fault ≡ run_fault.OutOfMemory
+
+-- the lines of a script are not read to their end: one is too long, there are too many, or there is no memory
+abbrev pub IsUnread : List ℕ → RunFault → Type 0
+IsUnread script fault = (left : Option (List ℕ)) × Shape script left (Err fault)
+
+abbrev pub IsNever : RunFault → Type 0
+IsNever fault = ⊥
+
+-- ---- each request
+
+-- the replies to the script, over files of which those are right that it loads
+abbrev pub IsRun : List Span → List ℕ → Bool → List ℕ → List ℕ → Ending → Type 0
+IsRun spans bytes by_pages script text ended =
+    (summary : Result Summary RunFault) × (ended ≡ ending_of summary)
+    × ((trusted : Class → Bool) → AreRightFiles trusted by_pages spans bytes → AreTrusted trusted script
+    → (shelf : Shelf) × IsShelf spans bytes shelf × (left : Option (List ℕ))
+    × Outcome (begun_state shelf by_pages) script left (Some []) (Some text) summary)
+
+-- why a file is not made
+abbrev pub of_make : MakeFault → Denial
+of_make (make_fault.MissingTable c) = denial.Refused (MissingTable c)
+of_make (make_fault.File c fault) = denial.OfFile c (File fault)
+of_make (make_fault.OtherClass c d) = denial.OfFile c (OtherClass d)
+of_make make_fault.DistanceTooLarge = denial.Refused DistanceTooLarge
+of_make make_fault.OutOfMemory = denial.Refused OutOfMemory
+
+abbrev pub IsMakeDenial : List Span → List ℕ → Class → Denial → Type 0
+IsMakeDenial spans bytes c d = (fault : MakeFault) × IsMakeFault spans bytes c fault × (d ≡ of_make fault)
+
+-- the file of the class's right table, where the files of those that it needs are right
+abbrev pub IsMadeFile : List Span → List ℕ → Class → List ℕ → Type 0
+IsMadeFile spans bytes c text = ((d : Class) → IsNeeded c d → IsHonestIn false (file_in spans bytes d)) → IsRightFileOf c text
+
+abbrev pub IsMade : List Span → List ℕ → Class → List ℕ → Ending → Type 0
+IsMade spans bytes c = IsWhole (IsMadeFile spans bytes c) (IsMakeDenial spans bytes c) IsNoMemory
+
+-- a value is not told, a file gives no table, or there is no memory
+abbrev pub IsOfValues : Denial → Type 0
+IsOfValues (denial.Refused (NoTable c)) = Unit {0}
+IsOfValues (denial.Refused (TableRead fault)) = Unit {0}
+IsOfValues (denial.Refused (TableReadPage n)) = Unit {0}
+IsOfValues (denial.Refused OutOfMemory) = Unit {0}
+IsOfValues (denial.OfFile c refusal) = Unit {0}
+IsOfValues d = ⊥
+
+-- the same, or no node is at the path
+abbrev pub IsOfView : Denial → Type 0
+IsOfView (denial.Refused NoSuchNode) = Unit {0}
+IsOfView d = IsOfValues d
+
+-- why there is no view; the first reason only where it is so
+abbrev pub IsViewDenial : Type 0 → Denial → Type 0
+IsViewDenial Lacks d = IsOfView d × (d ≡ denial.Refused NoSuchNode → Lacks)
+
+-- the view of what the script leaves, over files that are right
+abbrev pub IsViewed : List Span → List ℕ → List ℕ → List ℕ → List ℕ → Ending → Type 0
+IsViewed spans bytes script steps =
+    IsWhole (λ text. AreAllRight spans bytes → IsViewAfter spans bytes script steps text)
+    (IsViewDenial (AreAllRight spans bytes → LacksNodeAfter spans bytes script steps)) (IsUnread script)
+
+-- the review of the script's studies, over files that are right; or the request is refused for one of the files
+abbrev pub IsReviewedTo : List Span → List ℕ → List ℕ → List ℕ → Result Summary RunFault → Type 0
+IsReviewedTo spans bytes script text summary =
+    AreAllRight spans bytes → (classes : List Class) × AreHandedIn spans bytes classes × (left : Option (List ℕ))
+    × ReportOutcome IsReviewOf refused_line (over_tables classes true) script left (Some []) (Some text) summary
+
+abbrev pub IsReviewed : List Span → List ℕ → List ℕ → List ℕ → Ending → Type 0
+IsReviewed spans bytes script text Answered = ⊥
+IsReviewed spans bytes script text (Refused d) = IsOfTables d × (text ≡ denial_text d)
+IsReviewed spans bytes script text (Ran summary) = IsReviewedTo spans bytes script text (Ok summary)
+IsReviewed spans bytes script text (Stopped fault) = IsReviewedTo spans bytes script text (Err fault)
+
+-- The printed pages of the script's studies, over files that are right; or the request is refused for one of the files, or there is no
+-- memory for its name.
+abbrev pub IsPrintedTo : List Span → List ℕ → List ℕ → List ℕ → Result Summary RunFault → Type 0
+IsPrintedTo spans bytes script text summary =
+    AreAllRight spans bytes → (classes : List Class) × AreHandedIn spans bytes classes × (left : Option (List ℕ))
+    × IsFile (over_tables classes true) script left (Some []) (Some text) summary
+
+abbrev pub IsPrinted : List Span → List ℕ → List ℕ → List ℕ → Ending → Type 0
+IsPrinted spans bytes script text Answered = ⊥
+IsPrinted spans bytes script text (Refused d) = IsOfTables d × (text ≡ denial_text d)
+IsPrinted spans bytes script text (Ran summary) = IsPrintedTo spans bytes script text (Ok summary)
+IsPrinted spans bytes script text (Stopped fault) = ((fault ≡ run_fault.OutOfMemory) × (text ≡ [])) ⊎ IsPrintedTo spans bytes script text (Err fault)
+
+-- The survey of the man, over files that are right. There is none on a square without a man, or where a value is not told, a file gives no
+-- table, or there is no memory.
+abbrev pub IsSurveyDenial : Start → ℕ → Denial → Type 0
+IsSurveyDenial start square denial.NoMan = man_at start.position.men square ≡ None
+IsSurveyDenial start square d = IsOfValues d
+
+abbrev pub IsSurveyed : List Span → List ℕ → ℕ → Stipulation → Start → List ℕ → Ending → Type 0
+IsSurveyed spans bytes square st start =
+    IsWhole (λ text. AreAllRight spans bytes → IsSurvey start.position square st text) (IsSurveyDenial start square) IsNoMemory
+
+abbrev pub IsOutOfMemory : Denial → Type 0
+IsOutOfMemory d = d ≡ denial.Refused OutOfMemory
+
+-- the tables that the script's positions need
+abbrev pub IsTableList : List ℕ → List ℕ → Ending → Type 0
+IsTableList script = IsWhole (AreTables (script_lines script)) IsOutOfMemory (IsUnread script)
+
+-- the squares that a pawn can just have jumped over
+abbrev pub IsPassedList : Start → List ℕ → Ending → Type 0
+IsPassedList start =
+    IsWhole (λ text. text ≡ squares_text (passed_squares start.position.men start.position.to_move)) IsOutOfMemory IsNoMemory
+
+-- ---- the answer
+
+abbrev pub IsAnswerTo : List Span → List ℕ → Bool → List ℕ → Asked → List ℕ → Ending → Type 0
+IsAnswerTo spans bytes by_pages script run text ended = IsRun spans bytes by_pages script text ended
+IsAnswerTo spans bytes by_pages script (make c) text ended = IsMade spans bytes c text ended
+IsAnswerTo spans bytes by_pages script (view steps) text ended = IsViewed spans bytes script steps text ended
+IsAnswerTo spans bytes by_pages script review text ended = IsReviewed spans bytes script text ended
+IsAnswerTo spans bytes by_pages script report text ended = IsPrinted spans bytes script text ended
+IsAnswerTo spans bytes by_pages script (survey square st start) text ended = IsSurveyed spans bytes square st start text ended
+IsAnswerTo spans bytes by_pages script tables text ended = IsTableList script text ended
+IsAnswerTo spans bytes by_pages script (passed start) text ended = IsPassedList start text ended
+
+-- what is asked for, or why the line asks for nothing
+abbrev pub IsAnswer : List Span → List ℕ → Bool → List ℕ → Asks → List ℕ → Ending → Type 0
+IsAnswer spans bytes by_pages script (Ok asked) text ended = IsAnswerTo spans bytes by_pages script asked text ended
+IsAnswer spans bytes by_pages script (Err refusal) text ended = IsDenied (denial.Refused refusal) text ended

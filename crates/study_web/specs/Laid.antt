@@ -1,0 +1,40 @@
+-- Files that were made, handed in with a later request.
+use Rattle.std.specs.Prelude.{◌≡◌, ◌≢◌, ℕ, ◌+◌, ◌≤◌, Bool, List, [], ◌∷◌, ◌++◌, length, Option, Some, None, Ok}
+use Rattle.std.specs.List.{AllByRecursion}
+use Rattle.study_material.specs.declared.class.Class.{Class}
+use Rattle.study_retro.specs.Table.{Table, class_place}
+use Rattle.study_retro.specs.Sound.{IsRight}
+use Rattle.study_tablefile.specs.Reading.{table_read}
+use Rattle.study_web.specs.declared.spans.Span.{Span}
+use Rattle.study_web.specs.Making.{IsRightFileOf}
+use Rattle.study_web.specs.Spans.{file_in, IsHonestIn}
+
+-- the span of the file of a class that follows these bytes
+abbrev pub span_after : List ℕ → Class → List ℕ → Span
+span_after before c file = record { class = class_place c; start = length before; length = length file }
+
+-- no span is one for the class
+abbrev pub HasNoneOf : Class → List Span → Type 0
+HasNoneOf c spans = AllByRecursion (λ s. s.class ≢ class_place c) spans
+
+-- each span lies within the bytes
+abbrev pub AreWithin : List Span → List ℕ → Type 0
+AreWithin spans bytes = AllByRecursion (λ s. s.start + s.length ≤ length bytes) spans
+
+-- the file reads as this right table of the class, and is honest whole and by pages
+abbrev pub OpensAs : Class → Table → Option (List ℕ) → Type 0
+OpensAs c t None = ⊥
+OpensAs c t (Some file) = (t.class ≡ c) × IsRight t × (table_read file ≡ Ok t) × ((by_pages : Bool) → IsHonestIn by_pages (Some file))
+
+-- a file that was made opens as its table, wherever it lies among the bytes that are handed in, by the first span that is for its class
+abbrev pub MadeFilesOpen : Type 0
+MadeFilesOpen =
+    (c : Class) (file : List ℕ) (made : IsRightFileOf c file) (ahead behind : List Span) (before after : List ℕ) → HasNoneOf c ahead
+    → OpensAs c made.table (file_in (ahead ++ span_after before c file ∷ behind) (before ++ (file ++ after)) c)
+
+-- files that are right are so still where a file that was made is laid after them, and so is that file
+abbrev pub MadeFilesJoinOthers : Type 0
+MadeFilesJoinOthers =
+    (by_pages : Bool) (c : Class) (file : List ℕ) (spans : List Span) (bytes : List ℕ) → IsRightFileOf c file → AreWithin spans bytes
+    → ((d : Class) → IsHonestIn by_pages (file_in spans bytes d))
+    → (d : Class) → IsHonestIn by_pages (file_in (spans ++ span_after bytes c file ∷ []) (bytes ++ file) d)

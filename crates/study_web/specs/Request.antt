@@ -1,0 +1,144 @@
+-- What a line of words asks for.
+use Rattle.std.specs.Prelude.{ℕ, ◌+◌, ◌*◌, ◌-◌, ◌&&◌, nat_le, List, [], ◌∷◌, codes, Option, Some, None, Result, Ok, Err, if◌then◌else◌}
+use Rattle.std.specs.List.{list_all}
+use Rattle.std.specs.Str.{bytes_eq}
+use Rattle.study_board.specs.declared.men.Side.{Side}
+use Rattle.study_material.specs.declared.class.Class.{Class}
+use Rattle.study_notation.specs.declared.fault.FenFault.{FenFault}
+use Rattle.study_notation.specs.declared.start.Start.{Start}
+use Rattle.study_notation.specs.Fen.{start_of}
+use Rattle.study_notation.specs.Words.{words, behind_word}
+use Rattle.study_marks.specs.Edits.{is_printable}
+use Rattle.study_marks.specs.declared.stipulation.Goal.{Goal}
+use Rattle.study_marks.specs.declared.stipulation.Goal.TheVariants.{Win, Draw}
+use Rattle.study_marks.specs.declared.stipulation.Stipulation.{Stipulation}
+use Rattle.study_command.specs.Asking.{one_word, path_of, path_seen, side_told, mate_in, mate_moves_of}
+use Rattle.study_command.specs.declared.command.FormFault.TheVariants.{BadByte, UnknownCommand, BadArguments, UnknownStipulation}
+use Rattle.study_reply.specs.declared.refusal.Refusal.{Refusal}
+use Rattle.study_reply.specs.declared.refusal.Refusal.TheVariants.{Form, NotAClass, Fen}
+use Rattle.study_script.specs.Replies.{class_told}
+use Rattle.study_web.specs.declared.request.Request.{Request}
+use Rattle.study_web.specs.declared.request.Request.TheVariants as request
+
+-- a request, with its arguments read
+pub data Asked : Type 0 where
+  run review report tables : Asked
+  make : (class : Class) → Asked
+  view : (steps : List ℕ) → Asked
+  survey : (square : ℕ) (stipulation : Stipulation) (start : Start) → Asked
+  passed : (start : Start) → Asked
+
+abbrev pub Asks : Type 0
+Asks = Result Asked Refusal
+
+-- nothing follows the word
+abbrev pub alone : Asked → List (List ℕ) → Asks
+alone asked [] = Ok asked
+alone asked (word ∷ more) = Err (Form BadArguments)
+
+-- ---- the arguments
+
+abbrev pub make_of : Option Class → Asks
+make_of None = Err NotAClass
+make_of (Some c) = Ok (make c)
+
+abbrev pub make_asked : Option (List ℕ) → Asks
+make_asked None = Err (Form BadArguments)
+make_asked (Some name) = make_of (class_told name)
+
+abbrev pub view_of : Option (List ℕ) → Asks
+view_of None = Err (Form BadArguments)
+view_of (Some steps) = Ok (view steps)
+
+abbrev pub view_asked : Option (List ℕ) → Asks
+view_asked None = Err (Form BadArguments)
+view_asked (Some word) = view_of (path_of word)
+
+-- a start, or the first fault of its FEN
+abbrev pub with_start : (Start → Asked) → Result Start FenFault → Asks
+with_start asked (Ok start) = Ok (asked start)
+with_start asked (Err fault) = Err (Fen fault)
+
+-- a file and a rank
+abbrev pub square_told : List ℕ → Option ℕ
+square_told (file ∷ rank ∷ []) =
+    if nat_le 97 file && nat_le file 104 && (nat_le 49 rank && nat_le rank 56) then Some (8 * (rank - 49) + (file - 97)) else None
+square_told _ = None
+
+-- `win`, `draw` or `mate K`, and what follows it
+abbrev pub with_rest : Option Goal → List ℕ → Option (Goal × List ℕ)
+with_rest None rest = None
+with_rest (Some goal) rest = Some (goal, rest)
+
+abbrev pub mate_begun : List (List ℕ) → List ℕ → Option (Goal × List ℕ)
+mate_begun [] text = None
+mate_begun (count ∷ more) text = with_rest (mate_in (mate_moves_of count)) (behind_word text)
+
+abbrev pub goal_begun : List (List ℕ) → List ℕ → Option (Goal × List ℕ)
+goal_begun [] text = None
+goal_begun (word ∷ more) text =
+    if bytes_eq word (codes "win") then Some (Win, behind_word text)
+    else (if bytes_eq word (codes "draw") then Some (Draw, behind_word text)
+    else (if bytes_eq word (codes "mate") then mate_begun (words (behind_word text)) (behind_word text)
+    else None))
+
+-- `SIDE GOAL`, and what follows it
+abbrev pub aimed_at : Option Side → Option (Goal × List ℕ) → Option (Stipulation × List ℕ)
+aimed_at (Some hero) (Some (goal, rest)) = Some (record { hero = hero; goal = goal }, rest)
+aimed_at _ _ = None
+
+abbrev pub stipulation_begun : List (List ℕ) → List ℕ → Option (Stipulation × List ℕ)
+stipulation_begun [] text = None
+stipulation_begun (side ∷ more) text = aimed_at (side_told side) (goal_begun (words (behind_word text)) (behind_word text))
+
+-- `SQUARE SIDE GOAL FEN`
+abbrev pub survey_for : ℕ → Option (Stipulation × List ℕ) → Asks
+survey_for square None = Err (Form UnknownStipulation)
+survey_for square (Some (stipulation, fen)) = with_start (survey square stipulation) (start_of fen)
+
+abbrev pub survey_at : Option ℕ → List ℕ → Asks
+survey_at None text = Err (Form BadArguments)
+survey_at (Some square) text = survey_for square (stipulation_begun (words text) text)
+
+abbrev pub survey_asked : List (List ℕ) → List ℕ → Asks
+survey_asked [] text = Err (Form BadArguments)
+survey_asked (square ∷ more) text = survey_at (square_told square) (behind_word text)
+
+-- ---- the request
+
+-- the first word, and the text that follows it
+unfoldable pub word_asked : List ℕ → List ℕ → Asks
+word_asked word rest =
+    if bytes_eq word (codes "run") then alone run (words rest)
+    else (if bytes_eq word (codes "view") then view_asked (one_word (words rest))
+    else (if bytes_eq word (codes "review") then alone review (words rest)
+    else (if bytes_eq word (codes "report") then alone report (words rest)
+    else (if bytes_eq word (codes "survey") then survey_asked (words rest) rest
+    else (if bytes_eq word (codes "tables") then alone tables (words rest)
+    else (if bytes_eq word (codes "passed") then with_start passed (start_of rest)
+    else (if bytes_eq word (codes "make") then make_asked (one_word (words rest))
+    else Err (Form UnknownCommand))))))))
+
+abbrev pub words_asked : List (List ℕ) → List ℕ → Asks
+words_asked [] line = Err (Form UnknownCommand)
+words_asked (word ∷ more) line = word_asked word (behind_word line)
+
+-- what the line asks for, or the first reason why it asks for nothing
+unfoldable pub request_of : List ℕ → Asks
+request_of line = if list_all is_printable line then words_asked (words line) line else Err (Form BadByte)
+
+-- ---- what a contract sees of a request that was read
+
+abbrev pub request_seen : Request → Asked
+request_seen request.Run = run
+request_seen (request.Make c) = make c
+request_seen (request.View path) = view (path_seen path)
+request_seen request.Review = review
+request_seen request.Report = report
+request_seen (request.Survey s) = survey s.square s.stipulation s.start
+request_seen request.Tables = tables
+request_seen (request.Passed start) = passed start
+
+abbrev pub asks_seen : Result Request Refusal → Asks
+asks_seen (Ok r) = Ok (request_seen r)
+asks_seen (Err refusal) = Err refusal

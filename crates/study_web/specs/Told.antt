@@ -1,0 +1,54 @@
+-- The names of refusals, and how an answer ended, in words.
+use Rattle.std.specs.Prelude.{◌≡◌, ℕ, List, [], ◌++◌, codes, decimal, Result, Ok, Err}
+use Rattle.study_material.specs.Class.{name_of}
+use Rattle.study_reply.specs.Names.{words_of}
+use Rattle.study_script.specs.declared.run.Summary.{Summary}
+use Rattle.study_script.specs.declared.run.RunFault.{RunFault}
+use Rattle.study_script.specs.declared.run.RunFault.TheVariants.{ReadDevice, WriteDevice, LineTooLong, TooManyLines, OutOfMemory}
+use Rattle.study_web.specs.declared.denial.Denial.{Denial}
+use Rattle.study_web.specs.declared.denial.Denial.TheVariants as denial
+use Rattle.study_web.specs.declared.reply.NoText.{NoText}
+use Rattle.study_web.specs.declared.reply.NoText.TheVariants as no_text
+use Rattle.study_web.specs.declared.reply.Ending.{Ending}
+use Rattle.study_web.specs.declared.reply.Ending.TheVariants.{Answered, Refused, Ran, Stopped}
+
+-- a line
+abbrev pub line_of : List ℕ → List ℕ
+line_of words = words ++ codes "\n"
+
+-- `NoSuchNode`, `MissingTable KQK`, `KRK HeaderDamaged`
+abbrev pub denial_text : Denial → List ℕ
+denial_text (denial.Refused refusal) = line_of (words_of refusal)
+denial_text (denial.OfFile c refusal) = name_of c ++ (codes " " ++ line_of (words_of refusal))
+denial_text denial.NoMan = codes "NoMan\n"
+
+-- how a run over a script ended
+abbrev pub ending_of : Result Summary RunFault → Ending
+ending_of (Ok summary) = Ran summary
+ending_of (Err fault) = Stopped fault
+
+abbrev pub stop_text : RunFault → List ℕ
+stop_text ReadDevice = codes "stopped ReadDevice\n"
+stop_text WriteDevice = codes "stopped WriteDevice\n"
+stop_text (LineTooLong n) = codes "stopped LineTooLong " ++ line_of (decimal n)
+stop_text TooManyLines = codes "stopped TooManyLines\n"
+stop_text OutOfMemory = codes "stopped OutOfMemory\n"
+
+-- `answered`, `refused`, `ran 6 0`, `stopped LineTooLong 3`
+abbrev pub ending_text : Ending → List ℕ
+ending_text Answered = codes "answered\n"
+ending_text (Refused d) = codes "refused\n"
+ending_text (Ran summary) = codes "ran " ++ (decimal summary.lines ++ (codes " " ++ line_of (decimal summary.refused)))
+ending_text (Stopped fault) = stop_text fault
+
+-- the request is refused by its name, or there is no memory for that
+abbrev pub IsDenied : Denial → List ℕ → Ending → Type 0
+IsDenied d text (Refused e) = (e ≡ d) × (text ≡ denial_text d)
+IsDenied d text (Stopped fault) = (fault ≡ OutOfMemory) × (text ≡ [])
+IsDenied d text Answered = ⊥
+IsDenied d text (Ran summary) = ⊥
+
+-- there is no text: the request is refused, or its script was not read to its end
+abbrev pub IsUntold : NoText → List ℕ → Ending → Type 0
+IsUntold (no_text.Denied d) text ended = IsDenied d text ended
+IsUntold (no_text.Stopped fault) text ended = (ended ≡ Stopped fault) × (text ≡ [])

@@ -1,0 +1,184 @@
+//! What a page is answered.
+ghost use Rattle.std.specs.Prelude.{◌≡◌, ◌≤◌, true, is_some, IfSome, IfOk, IfErr};
+ghost use Rattle.study_command.specs.Paths.{steps_of, is_path_word};
+ghost use Rattle.study_web.specs.Answers.{IsAnswer, IsMade, IsMadeFile, IsMakeDenial, IsNoMemory, IsPassedList, IsPrinted, IsReviewed, IsRun, of_make};
+ghost use Rattle.study_web.specs.Answers.{IsSurveyed, IsTableList, IsViewed, MayEnd};
+ghost use Rattle.study_web.specs.Request.{request_of};
+
+use crate::denial::Denial;
+use crate::make::{MakeFault, make_file};
+use crate::printed::printed_of;
+use crate::replies::replies_over;
+use crate::reply::{NoText, Reply, denied, ran, told};
+use crate::request::{Request, Surveyed, read_request};
+use crate::saved::Saved;
+use crate::script::{review_of, view_of};
+use crate::setup::{passed_of, tables_of};
+use crate::spans::Span;
+use crate::store::SpanStore;
+use crate::surveyed::survey_of;
+use std::alloc::Allocator;
+use study_material::Class;
+use study_notation::Start;
+use study_reply::refusal::Refusal;
+
+/// Answers a request for a script, over the files that are handed in.
+///
+/// Requests are lines of words: `run`, `make CLASS`, `view PATH`, `review`, `report`, `survey SQUARE SIDE GOAL FEN`, `tables`,
+/// `passed FEN`. For `view`, `review`, `report` and `survey` each file that is handed in is opened by pages, and must be a table. What `run` saves is put into
+/// the cells, one for each class.
+pub fn answer<'f, 'a, A: Allocator>(
+    alloc: &'a A,
+    request: &[u8],
+    script: &[u8],
+    spans: &'f [Span],
+    bytes: &'f [u8],
+    saved: &[Saved<'a, A>],
+    pages: Option<u16>,
+) -> Reply<'a, A>
+    requires { IfSome pages (λ n. (1 ≤ n) × (n ≤ 4096)) }
+    ensures { IsAnswer spans.now bytes.now (is_some pages) script.now (request_of request.now) result.text.items result.ended }
+{
+    match read_request(request) {
+        Err(refusal) => denied(alloc, Denial::Refused(refusal)),
+        Ok(Request::Run) => of_run(alloc, script, spans, bytes, saved, pages),
+        Ok(Request::Make(class)) => of_make(alloc, class, spans, bytes),
+        Ok(Request::View(path)) => of_view(alloc, path.word, script, spans, bytes, pages),
+        Ok(Request::Review) => of_review(alloc, script, spans, bytes, pages),
+        Ok(Request::Report) => of_report(alloc, script, spans, bytes, pages),
+        Ok(Request::Survey(asked)) => of_survey(alloc, &asked, spans, bytes, pages),
+        Ok(Request::Tables) => of_tables(alloc, script),
+        Ok(Request::Passed(start)) => of_passed(alloc, &start),
+    }
+}
+
+fn of_run<'f, 'a, A: Allocator>(
+    alloc: &'a A,
+    script: &[u8],
+    spans: &'f [Span],
+    bytes: &'f [u8],
+    saved: &[Saved<'a, A>],
+    pages: Option<u16>,
+) -> Reply<'a, A>
+    requires { IfSome pages (λ n. (1 ≤ n) × (n ≤ 4096)) }
+    ensures { IsRun spans.now bytes.now (is_some pages) script.now result.text.items result.ended }
+{
+    let ended = replies_over(alloc, script, spans, bytes, saved, pages);
+    ran(ended.replies, ended.summary)
+}
+
+/// The file of a class, or why it is not made.
+fn file_of<'a, A: Allocator>(
+    alloc: &'a A,
+    class: Class,
+    spans: &[Span],
+    bytes: &[u8],
+) -> Result<Vec<u8, &'a A>, NoText>
+    ensures file { IfOk result (λ file. IsMadeFile spans.now bytes.now class file.items) }
+    ensures none { IfErr result (MayEnd (IsMakeDenial spans.now bytes.now class) IsNoMemory) }
+{
+    match make_file(alloc, class, spans, bytes) {
+        Ok(file) => Ok(file),
+        Err(fault) => Err(NoText::Denied(of_make_fault(fault))),
+    }
+}
+
+/// Why a file is not made.
+fn of_make_fault(fault: MakeFault) -> Denial
+    ensures { result ≡ of_make fault }
+{
+    match fault {
+        MakeFault::MissingTable(class) => Denial::Refused(Refusal::MissingTable(class)),
+        MakeFault::File(class, fault) => Denial::OfFile(class, Refusal::File(fault)),
+        MakeFault::OtherClass(class, other) => Denial::OfFile(class, Refusal::OtherClass(other)),
+        MakeFault::DistanceTooLarge => Denial::Refused(Refusal::DistanceTooLarge),
+        MakeFault::OutOfMemory => Denial::Refused(Refusal::OutOfMemory),
+    }
+}
+
+fn of_make<'a, A: Allocator>(
+    alloc: &'a A,
+    class: Class,
+    spans: &[Span],
+    bytes: &[u8],
+) -> Reply<'a, A>
+    ensures { IsMade spans.now bytes.now class result.text.items result.ended }
+{
+    told(alloc, file_of(alloc, class, spans, bytes))
+}
+
+fn of_view<'f, 'a, A: Allocator>(
+    alloc: &'a A,
+    path: &[u8],
+    script: &[u8],
+    spans: &'f [Span],
+    bytes: &'f [u8],
+    pages: Option<u16>,
+) -> Reply<'a, A>
+    requires pages { IfSome pages (λ n. (1 ≤ n) × (n ≤ 4096)) }
+    requires path { is_path_word path.now ≡ true }
+    ensures { IsViewed spans.now bytes.now script.now (steps_of path.now) result.text.items result.ended }
+{
+    let mut store = SpanStore::new(alloc, spans, bytes, &[]);
+    told(alloc, view_of(alloc, path, script, &mut store, pages))
+}
+
+fn of_review<'f, 'a, A: Allocator>(
+    alloc: &'a A,
+    script: &[u8],
+    spans: &'f [Span],
+    bytes: &'f [u8],
+    pages: Option<u16>,
+) -> Reply<'a, A>
+    requires { IfSome pages (λ n. (1 ≤ n) × (n ≤ 4096)) }
+    ensures { IsReviewed spans.now bytes.now script.now result.text.items result.ended }
+{
+    let mut store = SpanStore::new(alloc, spans, bytes, &[]);
+    match review_of(alloc, script, &mut store, pages) {
+        Ok(told) => ran(told.text, told.summary),
+        Err(denial) => denied(alloc, denial),
+    }
+}
+
+fn of_report<'f, 'a, A: Allocator>(
+    alloc: &'a A,
+    script: &[u8],
+    spans: &'f [Span],
+    bytes: &'f [u8],
+    pages: Option<u16>,
+) -> Reply<'a, A>
+    requires { IfSome pages (λ n. (1 ≤ n) × (n ≤ 4096)) }
+    ensures { IsPrinted spans.now bytes.now script.now result.text.items result.ended }
+{
+    let mut store = SpanStore::new(alloc, spans, bytes, &[]);
+    match printed_of(alloc, script, &mut store, pages) {
+        Ok(told) => ran(told.text, told.summary),
+        Err(denial) => denied(alloc, denial),
+    }
+}
+
+fn of_survey<'f, 'a, A: Allocator>(
+    alloc: &'a A,
+    asked: &Surveyed,
+    spans: &'f [Span],
+    bytes: &'f [u8],
+    pages: Option<u16>,
+) -> Reply<'a, A>
+    requires { IfSome pages (λ n. (1 ≤ n) × (n ≤ 4096)) }
+    ensures { IsSurveyed spans.now bytes.now asked.now.square asked.now.stipulation asked.now.start result.text.items result.ended }
+{
+    let mut store = SpanStore::new(alloc, spans, bytes, &[]);
+    told(alloc, survey_of(alloc, asked, &mut store, pages))
+}
+
+fn of_tables<'a, A: Allocator>(alloc: &'a A, script: &[u8]) -> Reply<'a, A>
+    ensures { IsTableList script.now result.text.items result.ended }
+{
+    told(alloc, tables_of(alloc, script))
+}
+
+fn of_passed<'a, A: Allocator>(alloc: &'a A, start: &Start) -> Reply<'a, A>
+    ensures { IsPassedList start.now result.text.items result.ended }
+{
+    told(alloc, passed_of(alloc, start))
+}

@@ -1,0 +1,15 @@
+//! Why a request is not answered.
+
+use study_material::Class;
+use study_reply::refusal::Refusal;
+
+/// Why a request is not answered.
+#[derive(Clone, Copy, Debug, PartialEq, Eq)]
+pub enum Denial {
+    /// As the script's replies name it.
+    Refused(Refusal),
+    /// The file of the class gives no table: it reads as none, or as that of another class.
+    OfFile(Class, Refusal),
+    /// No man stands on the square.
+    NoMan,
+}

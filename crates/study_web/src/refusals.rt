@@ -1,0 +1,46 @@
+//! A report of refused lines alone.
+
+use std::alloc::Allocator;
+use std::io::Write;
+use study_marks::Bench;
+use study_prober::Values;
+use study_report::{Lines, NotTold, Report};
+use study_review::ReviewFault;
+
+/// Refused lines as `refused 7 NoTable KRK`, and nothing of studies.
+#[derive(Clone, Copy, Debug, PartialEq, Eq)]
+pub struct Refusals;
+
+impl Report for Refusals {
+    ghost use Rattle.study_report.specs.Lines.{refusal_line};
+    ghost use Rattle.study_web.specs.Views.{tells_nothing};
+
+    ghost tells = { λ plain number text. tells_nothing plain number text };
+
+    ghost refusal = { λ number line reply. refusal_line number reply };
+
+    // Nothing is kept.
+    ghost lists = { λ refusals told. Unit {0} };
+
+    fn add_study<'a, 'b, A: Allocator, B: Allocator, V: Values, W: Write>(
+        &mut self,
+        _alloc: &'a A,
+        _bench: &Bench<'b, B>,
+        _values: &mut V,
+        _number: u32,
+        _out: &mut W,
+    ) -> Result<(), ReviewFault> {
+        Ok(())
+    }
+
+    fn add_refusal<'a, A: Allocator, W: Write>(
+        &mut self,
+        alloc: &'a A,
+        number: u32,
+        line: &[u8],
+        reply: &[u8],
+        out: &mut W,
+    ) -> Result<(), NotTold> {
+        Lines.add_refusal(alloc, number, line, reply, out)
+    }
+}

@@ -1,0 +1,226 @@
+//! What a page asks for, in a line of words.
+ghost use Rattle.std.specs.Prelude.{◌≡◌, true, Some, IfOk, IfSome};
+ghost use Rattle.std.specs.Option.{option_map};
+ghost use Rattle.std.specs.List.{list_all};
+ghost use Rattle.study_notation.specs.Fen.{start_of};
+ghost use Rattle.study_notation.specs.Words.{words};
+ghost use Rattle.study_marks.specs.Edits.{is_printable};
+ghost use Rattle.study_command.specs.Asking.{one_word, mate_in, mate_moves_of};
+ghost use Rattle.study_script.specs.Replies.{class_told};
+ghost use Rattle.study_web.specs.Request.{Asked, alone, make_asked, view_asked, with_start, goal_begun, stipulation_begun};
+ghost use Rattle.study_web.specs.Request.{survey_asked, word_asked, request_of, request_seen, asks_seen};
+ghost use Rattle.study_web.specs.Request.{passed as passed_asked};
+
+use crate::words::{
+    as_text, is_printable, read_one_word, read_path_word, read_place, read_side, read_square,
+};
+use study_board::Square;
+use study_command::command::{FormFault, PathWord};
+use study_marks::{Goal, MateMoves, Stipulation};
+use study_material::Class;
+use study_notation::words::next_word;
+use study_notation::{FenFault, Start, read_fen};
+use study_reply::refusal::Refusal;
+
+/// A man of a position, and what a survey of it is to reach.
+#[derive(Drop)]
+pub struct Surveyed {
+    pub square: Square,
+    pub stipulation: Stipulation,
+    pub start: Start,
+}
+
+/// What is asked for.
+#[derive(Drop)]
+pub enum Request<'r> {
+    /// `run`: the replies to the script.
+    Run,
+    /// `make CLASS`: the file of the class's table.
+    Make(Class),
+    /// `view PATH`: the view of the study that the script leaves on the board.
+    View(PathWord<'r>),
+    /// `review`: the review of the script's studies.
+    Review,
+    /// `report`: the page of the script's studies.
+    Report,
+    /// `survey SQUARE SIDE GOAL FEN`: where else the man of the square could stand.
+    Survey(Surveyed),
+    /// `tables`: the classes that the script's positions need.
+    Tables,
+    /// `passed FEN`: the squares that a pawn can just have jumped over.
+    Passed(Start),
+}
+
+/// The request that a line of printable words spells, or the first reason why it spells none.
+#[tactic(auto, using(study_command::proofs::Printable::printable_behind), unfolding(crate::specs::Request::request_of))]
+pub fn read_request(line: &[u8]) -> Result<Request<'_>, Refusal>
+    ensures { asks_seen result ≡ request_of line.now }
+{
+    if !is_printable(line) {
+        return Err(Refusal::Form(FormFault::BadByte));
+    }
+    match next_word(line) {
+        None => Err(Refusal::Form(FormFault::UnknownCommand)),
+        Some((word, rest)) => read_words(word, rest),
+    }
+}
+
+#[tactic(auto, unfolding(crate::specs::Request::word_asked))]
+fn read_words<'r>(word: &'r [u8], rest: &'r [u8]) -> Result<Request<'r>, Refusal>
+    requires { list_all is_printable rest.now ≡ true }
+    ensures { asks_seen result ≡ word_asked word.now rest.now }
+{
+    if word == b"run".as_slice() {
+        alone(rest, Request::Run)
+    } else if word == b"view".as_slice() {
+        read_view(rest)
+    } else if word == b"review".as_slice() {
+        alone(rest, Request::Review)
+    } else if word == b"report".as_slice() {
+        alone(rest, Request::Report)
+    } else if word == b"survey".as_slice() {
+        read_survey(rest)
+    } else if word == b"tables".as_slice() {
+        alone(rest, Request::Tables)
+    } else if word == b"passed".as_slice() {
+        read_passed(rest)
+    } else if word == b"make".as_slice() {
+        read_make(rest)
+    } else {
+        Err(Refusal::Form(FormFault::UnknownCommand))
+    }
+}
+
+/// A request without arguments.
+fn alone<'r>(rest: &[u8], request: Request<'r>) -> Result<Request<'r>, Refusal>
+    ensures { asks_seen result ≡ alone (request_seen request.entry) (words rest.now) }
+{
+    match next_word(rest) {
+        None => Ok(request),
+        Some(_) => Err(Refusal::Form(FormFault::BadArguments)),
+    }
+}
+
+fn read_make(rest: &[u8]) -> Result<Request<'_>, Refusal>
+    requires { list_all is_printable rest.now ≡ true }
+    ensures { asks_seen result ≡ make_asked (one_word (words rest.now)) }
+{
+    match read_one_word(rest) {
+        None => Err(Refusal::Form(FormFault::BadArguments)),
+        Some(name) => match class_named(as_text(name)) {
+            Some(class) => Ok(Request::Make(class)),
+            None => Err(Refusal::NotAClass),
+        },
+    }
+}
+
+#[tactic(auto, unfolding(study_script::specs::Replies::class_told))]
+fn class_named(name: &str) -> Option<Class>
+    ensures { result ≡ class_told name.now }
+{
+    match Class::parse(name) {
+        Ok(class) => Some(class),
+        Err(_) => None,
+    }
+}
+
+fn read_view(rest: &[u8]) -> Result<Request<'_>, Refusal>
+    ensures { asks_seen result ≡ view_asked (one_word (words rest.now)) }
+{
+    match read_one_word(rest) {
+        None => Err(Refusal::Form(FormFault::BadArguments)),
+        Some(word) => match read_path_word(word) {
+            Some(path) => Ok(Request::View(path)),
+            None => Err(Refusal::Form(FormFault::BadArguments)),
+        },
+    }
+}
+
+fn read_start(rest: &[u8]) -> Result<Start, FenFault>
+    requires { list_all is_printable rest.now ≡ true }
+    ensures { result ≡ start_of rest.now }
+{
+    read_fen(as_text(rest))
+}
+
+fn read_passed(rest: &[u8]) -> Result<Request<'_>, Refusal>
+    requires { list_all is_printable rest.now ≡ true }
+    ensures { asks_seen result ≡ with_start passed_asked (start_of rest.now) }
+{
+    match read_start(rest) {
+        Ok(start) => Ok(Request::Passed(start)),
+        Err(fault) => Err(Refusal::Fen(fault)),
+    }
+}
+
+/// One to three digits, with a value from 1 to 127.
+fn read_mate_moves(word: &[u8]) -> Option<Goal>
+    ensures { result ≡ mate_in (mate_moves_of word.now) }
+{
+    let number = read_place(word)?;
+    if number > 127 {
+        return None;
+    }
+    match MateMoves::new(number as u8) {
+        Some(moves) => Some(Goal::MateIn(moves)),
+        None => None,
+    }
+}
+
+/// `win`, `draw` or `mate K`, and what follows it.
+#[tactic(auto, using(study_command::proofs::Printable::printable_behind))]
+fn read_goal(rest: &[u8]) -> Option<(Goal, &[u8])>
+    ensures value { option_map (λ found. (found.0, found.1.now)) result ≡ goal_begun (words rest.now) rest.now }
+    ensures printable { list_all is_printable rest.now ≡ true → IfSome result (λ found. list_all is_printable found.1.now ≡ true) }
+{
+    let (word, rest) = next_word(rest)?;
+    if word == b"win".as_slice() {
+        return Some((Goal::Win, rest));
+    }
+    if word == b"draw".as_slice() {
+        return Some((Goal::Draw, rest));
+    }
+    if word == b"mate".as_slice() {
+        let (count, rest) = next_word(rest)?;
+        let goal = read_mate_moves(count)?;
+        return Some((goal, rest));
+    }
+    None
+}
+
+/// `SIDE GOAL`, and what follows it.
+#[tactic(auto, using(study_command::proofs::Printable::printable_behind))]
+fn read_stipulation(rest: &[u8]) -> Option<(Stipulation, &[u8])>
+    ensures value { option_map (λ found. (found.0, found.1.now)) result ≡ stipulation_begun (words rest.now) rest.now }
+    ensures printable { list_all is_printable rest.now ≡ true → IfSome result (λ found. list_all is_printable found.1.now ≡ true) }
+{
+    let (side, rest) = next_word(rest)?;
+    match (read_side(side), read_goal(rest)) {
+        (Some(hero), Some((goal, rest))) => Some((Stipulation { hero, goal }, rest)),
+        _ => None,
+    }
+}
+
+#[tactic(auto, using(study_command::proofs::Printable::printable_behind))]
+fn read_survey(rest: &[u8]) -> Result<Request<'_>, Refusal>
+    requires { list_all is_printable rest.now ≡ true }
+    ensures { asks_seen result ≡ survey_asked (words rest.now) rest.now }
+{
+    let Some((word, rest)) = next_word(rest) else {
+        return Err(Refusal::Form(FormFault::BadArguments));
+    };
+    let Some(square) = read_square(word) else {
+        return Err(Refusal::Form(FormFault::BadArguments));
+    };
+    let Some((stipulation, rest)) = read_stipulation(rest) else {
+        return Err(Refusal::Form(FormFault::UnknownStipulation));
+    };
+    match read_start(rest) {
+        Err(fault) => Err(Refusal::Fen(fault)),
+        Ok(start) => Ok(Request::Survey(Surveyed {
+            square,
+            stipulation,
+            start,
+        })),
+    }
+}

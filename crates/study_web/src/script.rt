@@ -1,0 +1,259 @@
+//! What is told of a script: its review, and the view of what it leaves on the board.
+ghost use Rattle.std.specs.Prelude.{◌≡◌, ◌≢◌, ◌≤◌, ◌++◌, ℕ, [], true, false, is_some, List, Option, Some, IfSome, IfOk, IfErr, OnOk};
+ghost use Rattle.study_material.specs.declared.class.Class.{Class as AClass};
+ghost use Rattle.study_tree.specs.Tree.{has_spot};
+ghost use Rattle.study_marks.specs.Kept.{marked, IsKeptRight};
+ghost use Rattle.study_marks.specs.Study.{plain_study};
+ghost use Rattle.study_command.specs.Asking.{path_seen};
+ghost use Rattle.study_command.specs.Paths.{steps_of, is_path_word};
+ghost use Rattle.study_notation.specs.declared.start.Start.{Start as AStart};
+ghost use Rattle.study_prober.specs.Paged.{held_of, SourcesAreRight};
+ghost use Rattle.study_review.specs.Review.{IsReviewOf};
+ghost use Rattle.study_report.specs.Outcome.{Outcome, over_tables};
+ghost use Rattle.study_script.specs.Held.{board_seen, tables_honest, IsMarked};
+ghost use Rattle.study_script.specs.State.{is_among};
+ghost use Rattle.study_view.specs.View.{IsViewOf};
+ghost use Rattle.study_view.specs.Words.{study_line};
+ghost use Rattle.study_web.specs.Answers.{MayEnd, IsNever, IsUnread, IsViewDenial};
+ghost use Rattle.study_web.specs.Opened.{IsHeldAs, IsOfTables};
+ghost use Rattle.study_web.specs.Views.{refused_line, IsBoardView, IsLeft, IsViewOver, LacksNode, LacksNodeOver};
+
+use crate::denial::Denial;
+use crate::refusals::Refusals;
+use crate::reply::NoText;
+use crate::tables::open_tables;
+use std::alloc::Allocator;
+use study_command::command::PathWord;
+use study_command::lines::Line;
+use study_command::read_path;
+use study_marks::Bench;
+use study_notation::{Start, write_fen};
+use study_prober::{PagedTables, Values};
+use study_reply::refusal::Refusal;
+use study_reply::words::{of_probe, put_line};
+use study_report::{Lines, NoFiles, follow, follow_script};
+use study_script::board::Board;
+use study_script::desk::StudyDesk;
+use study_script::run::{RunFault, Summary};
+use study_script::store::TableStore;
+use study_script::tables::Tables;
+use study_tablefile::{PageSource, put};
+use study_view::{ViewFault, write_view};
+
+/// What is told of a script, and how the run over it ended.
+#[derive(Drop)]
+pub struct Told<'a, A: Allocator> {
+    pub text: Vec<u8, &'a A>,
+    pub summary: Result<Summary, RunFault>,
+}
+
+/// The review of a script's studies, over all files of a store.
+pub fn review_of<'a, S: TableStore, A: Allocator>(
+    alloc: &'a A,
+    script: &[u8],
+    store: &mut S,
+    pages: Option<u16>,
+) -> Result<Told<'a, A>, Denial>
+    requires { IfSome pages (λ n. (1 ≤ n) × (n ≤ 4096)) }
+    ensures review { ((c : AClass) → S.honest store.old true c) → IfOk result (λ told. (classes : List AClass)
+        × ((c : AClass) → IsHeldAs (S.headers store.old c) (is_among classes c)) × (left : Option (List ℕ))
+        × Outcome IsReviewOf refused_line (over_tables classes true) script.now left (Some []) (Some told.text.items) told.summary) }
+    ensures denied { IfErr result IsOfTables }
+{
+    match open_tables(alloc, store, pages) {
+        Err(denial) => Err(denial),
+        Ok(tables) => {
+            let mut reader = script;
+            let mut text = Vec::new(alloc);
+            let summary = follow_script(
+                alloc,
+                &mut reader,
+                &mut text,
+                &mut Lines,
+                Tables::Paged(tables),
+            );
+            Ok(Told { text, summary })
+        }
+    }
+}
+
+/// The view of a study at a path.
+#[tactic(auto, using(crate::proofs::Denials::memory_denial, crate::proofs::Denials::probe_denial))]
+fn bench_view<'a, A: Allocator, V: Values>(
+    alloc: &'a A,
+    bench: &Bench<'a, A>,
+    path: &[u8],
+    values: &mut V,
+) -> Result<Vec<u8, &'a A>, NoText>
+    requires { is_path_word path.now ≡ true }
+    ensures none { IfErr result (MayEnd (IsViewDenial (has_spot (plain_study (marked bench.now)).tree (steps_of path.now) ≡ false)) IsNever) }
+    ensures text { V.is_honest values.old → IsKeptRight bench.now
+        → IfOk result (λ text. IsViewOf (plain_study (marked bench.now)) (steps_of path.now) text.items) }
+{
+    let Ok(path) = read_path(alloc, path) else {
+        return Err(NoText::Denied(Denial::Refused(Refusal::OutOfMemory)));
+    };
+    let mut text = Vec::new(alloc);
+    match write_view(alloc, bench, &path, values, &mut text) {
+        Ok(()) => Ok(text),
+        Err(ViewFault::NoSuchNode) => Err(NoText::Denied(Denial::Refused(Refusal::NoSuchNode))),
+        Err(ViewFault::Values(fault)) => Err(NoText::Denied(Denial::Refused(of_probe(fault)))),
+        Err(ViewFault::OutOfMemory) | Err(ViewFault::Device) => {
+            Err(NoText::Denied(Denial::Refused(Refusal::OutOfMemory)))
+        }
+    }
+}
+
+/// Where a study will start, of which no stipulation is chosen yet.
+#[tactic(auto, unfolding(study_view::specs::Words::study_line))]
+fn start_view<'a, A: Allocator>(alloc: &'a A, start: &Start) -> Result<Vec<u8, &'a A>, NoText>
+    ensures none { IfErr result (λ why. why ≡ NoText.Denied (Denial.Refused Refusal.OutOfMemory)) }
+    ensures text { IfOk result (λ text. text.items ≡ study_line start.now) }
+{
+    let mut text = Vec::new(alloc);
+    match put_line(&mut text, b"study ", write_fen(start).as_str().as_bytes()) {
+        Ok(()) => Ok(text),
+        Err(_) => Err(NoText::Denied(Denial::Refused(Refusal::OutOfMemory))),
+    }
+}
+
+/// What has a root alone has no other node.
+#[tactic(auto, using(crate::proofs::Denials::node_denial, crate::proofs::Nodes::places_other), unfolding(study_command::specs::Paths::steps_of))]
+fn at_root(path: &[u8]) -> Result<(), NoText>
+    ensures root { OnOk result (steps_of path.now ≡ []) }
+    ensures none { IfErr result (MayEnd (IsViewDenial (steps_of path.now ≢ [])) IsNever) }
+{
+    if path == b"root".as_slice() {
+        Ok(())
+    } else {
+        Err(NoText::Denied(Denial::Refused(Refusal::NoSuchNode)))
+    }
+}
+
+/// The view of what is on a board, at a path: of a start its one line, of nothing no line.
+fn board_view<'a, A: Allocator, V: Values>(
+    alloc: &'a A,
+    board: &Board<'a, A>,
+    path: &[u8],
+    values: &mut V,
+) -> Result<Vec<u8, &'a A>, NoText>
+    requires { is_path_word path.now ≡ true }
+    ensures none { IfErr result (MayEnd (IsViewDenial (LacksNode (board_seen board.now) (steps_of path.now))) IsNever) }
+    ensures text { V.is_honest values.old → IsMarked board.now
+        → IfOk result (λ text. IsBoardView (board_seen board.now) (steps_of path.now) text.items) }
+{
+    match board {
+        Board::Study(bench) => bench_view(alloc, bench, path, values),
+        Board::Start(start) => {
+            at_root(path)?;
+            start_view(alloc, start)
+        }
+        Board::Empty => {
+            at_root(path)?;
+            Ok(Vec::new(alloc))
+        }
+    }
+}
+
+/// What a script leaves behind: what is on the board, the tables, and its refused lines.
+#[derive(Drop)]
+struct Left<'a, P: PageSource, A: Allocator> {
+    board: Board<'a, A>,
+    tables: Tables<'a, P, A>,
+    refused: Vec<u8, &'a A>,
+}
+
+/// Follows a script over these tables.
+fn left_by<'a, P: PageSource, A: Allocator>(
+    alloc: &'a A,
+    script: &[u8],
+    tables: PagedTables<'a, P, A>,
+) -> Result<Left<'a, P, A>, RunFault>
+    ensures left { (classes : List AClass) → SourcesAreRight P.honest tables.entry.sources
+        → ((c : AClass) → is_some (held_of tables.entry.sources c) ≡ is_among classes c)
+        → IfOk result (λ left. tables_honest P.honest left.tables × IsMarked left.board
+        × IsLeft classes script.now (board_seen left.board) left.refused.items) }
+    ensures stops { IfErr result (IsUnread script.now) }
+{
+    let Ok(mut line) = Line::new(alloc) else {
+        return Err(RunFault::OutOfMemory);
+    };
+    let mut store = NoFiles::new();
+    let mut desk = StudyDesk {
+        alloc,
+        board: Board::Empty,
+        tables: Tables::Paged(tables),
+        store: &mut store,
+    };
+    let mut reader = script;
+    let mut refused = Vec::new(alloc);
+    match follow(
+        &mut line,
+        &mut reader,
+        &mut refused,
+        &mut Refusals,
+        &mut desk,
+    ) {
+        // The text in memory does not grow.
+        Err(RunFault::WriteDevice) => Err(RunFault::OutOfMemory),
+        Err(fault) => Err(fault),
+        Ok(_) => {
+            let StudyDesk { board, tables, .. } = desk;
+            Ok(Left {
+                board,
+                tables,
+                refused,
+            })
+        }
+    }
+}
+
+/// The view at a path of what is left, and then the lines that were refused.
+fn left_view<'a, P: PageSource, A: Allocator>(
+    alloc: &'a A,
+    left: Left<'a, P, A>,
+    path: &[u8],
+) -> Result<Vec<u8, &'a A>, NoText>
+    requires { is_path_word path.now ≡ true }
+    ensures none { IfErr result (MayEnd (IsViewDenial (LacksNode (board_seen left.entry.board) (steps_of path.now))) IsNever) }
+    ensures text { tables_honest P.honest left.entry.tables → IsMarked left.entry.board
+        → IfOk result (λ text. (view : List ℕ) × IsBoardView (board_seen left.entry.board) (steps_of path.now) view
+        × (text.items ≡ view ++ left.entry.refused.items)) }
+{
+    let Left {
+        board,
+        mut tables,
+        refused,
+    } = left;
+    let mut text = board_view(alloc, &board, path, &mut tables)?;
+    match put(&mut text, refused.as_slice()) {
+        Ok(()) => Ok(text),
+        Err(_) => Err(NoText::Denied(Denial::Refused(Refusal::OutOfMemory))),
+    }
+}
+
+/// The view at a path of what a script leaves on the board, and then its refused lines; over all files of a store.
+pub fn view_of<'a, S: TableStore, A: Allocator>(
+    alloc: &'a A,
+    path: &[u8],
+    script: &[u8],
+    store: &mut S,
+    pages: Option<u16>,
+) -> Result<Vec<u8, &'a A>, NoText>
+    requires pages { IfSome pages (λ n. (1 ≤ n) × (n ≤ 4096)) }
+    requires path { is_path_word path.now ≡ true }
+    ensures text { ((c : AClass) → S.honest store.old true c) → IfOk result (λ text. (classes : List AClass)
+        × ((c : AClass) → IsHeldAs (S.headers store.old c) (is_among classes c))
+        × IsViewOver classes script.now (steps_of path.now) text.items) }
+    ensures none { IfErr result (MayEnd (IsViewDenial (((c : AClass) → S.honest store.old true c) → (classes : List AClass)
+        × ((c : AClass) → IsHeldAs (S.headers store.old c) (is_among classes c)) × LacksNodeOver classes script.now (steps_of path.now)))
+        (IsUnread script.now)) }
+{
+    match open_tables(alloc, store, pages) {
+        Err(denial) => Err(NoText::Denied(denial)),
+        Ok(tables) => match left_by(alloc, script, tables) {
+            Err(fault) => Err(NoText::Stopped(fault)),
+            Ok(left) => left_view(alloc, left, path),
+        },
+    }
+}

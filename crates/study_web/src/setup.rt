@@ -1,0 +1,159 @@
+//! What a set-up wants to know: the tables that a script's positions need, and passed squares.
+ghost use Rattle.std.specs.Prelude.{◌≡◌, ◌++◌, List, IfOk, IfErr, OnOk};
+ghost use Rattle.study_material.specs.declared.class.Class.{Class as AClass};
+ghost use Rattle.study_command.specs.Lines.{script_lines};
+ghost use Rattle.study_view.specs.Setup.{passed_squares, AreClassesNeeded};
+ghost use Rattle.study_web.specs.Answers.{MayEnd, IsNoMemory, IsOutOfMemory, IsUnread};
+ghost use Rattle.study_web.specs.Setup.{position_in, positions_in, classes_text, squares_text, AreTables};
+ghost use Rattle.study_web.specs.Told.{line_of};
+ghost use Rattle.study_notation.specs.FenSpelling.{square_text};
+ghost use Rattle.study_material.specs.Class.{name_of};
+
+use crate::denial::Denial;
+use crate::reply::NoText;
+use std::alloc::{AllocError, Allocator};
+use study_board::{Position, Square};
+use study_command::command::Command;
+use study_command::lines::{Line, LineFault, read_byte};
+use study_command::read_command;
+use study_material::Class;
+use study_notation::{Start, read_fen};
+use study_reply::refusal::Refusal;
+use study_script::run::RunFault;
+use study_view::{classes_needed, passed_squares};
+
+/// Adds the position of a line `position` or `shift` whose FEN is one.
+fn add_position<'a, A: Allocator>(
+    list: &mut Vec<Position, &'a A>,
+    line: &[u8],
+) -> Result<(), AllocError>
+    ensures { OnOk result (list.new.items ≡ list.old.items ++ position_in line.now) }
+{
+    match read_command(line) {
+        Ok(Some(Command::OfStart(_, fen))) => match read_fen(fen) {
+            Ok(start) => {
+                list.push(start.position)?;
+                Ok(())
+            }
+            Err(_) => Ok(()),
+        },
+        _ => Ok(()),
+    }
+}
+
+/// The positions of the lines of a script, in their order.
+fn positions_in<'a, A: Allocator>(
+    alloc: &'a A,
+    script: &[u8],
+) -> Result<Vec<Position, &'a A>, RunFault>
+    ensures ok { IfOk result (λ list. list.items ≡ positions_in (script_lines script.now)) }
+    ensures err { IfErr result (IsUnread script.now) }
+{
+    let Ok(mut line) = Line::new(alloc) else {
+        return Err(RunFault::OutOfMemory);
+    };
+    let mut reader = script;
+    let mut list = Vec::new(alloc);
+    for n in 0..100_000u32 {
+        match line.read(&mut reader) {
+            Err(LineFault::Device) => return Err(RunFault::ReadDevice),
+            Err(LineFault::TooLong) => return Err(RunFault::LineTooLong(n + 1)),
+            Ok(false) => return Ok(list),
+            Ok(true) => {}
+        }
+        if add_position(&mut list, line.as_slice()).is_err() {
+            return Err(RunFault::OutOfMemory);
+        }
+    }
+    match read_byte(&mut reader) {
+        Err(_) => Err(RunFault::ReadDevice),
+        Ok(None) => Ok(list),
+        Ok(Some(_)) => Err(RunFault::TooManyLines),
+    }
+}
+
+fn add<A: Allocator>(text: &mut Vec<u8, &A>, bytes: &[u8]) -> Result<(), AllocError>
+    ensures { OnOk result (text.new.items ≡ text.old.items ++ bytes.now) }
+{
+    text.extend_from_slice(bytes)?;
+    Ok(())
+}
+
+fn add_name<A: Allocator>(text: &mut Vec<u8, &A>, class: Class) -> Result<(), AllocError>
+    ensures { OnOk result (text.new.items ≡ text.old.items ++ line_of (name_of class)) }
+{
+    add(text, class.name().as_bytes())?;
+    add(text, b"\n")
+}
+
+fn add_names<A: Allocator>(text: &mut Vec<u8, &A>, classes: &[Class]) -> Result<(), AllocError>
+    ensures { OnOk result (text.new.items ≡ text.old.items ++ classes_text classes.now) }
+{
+    match classes.split_first() {
+        None => Ok(()),
+        Some((class, rest)) => {
+            add_name(text, *class)?;
+            add_names(text, rest)
+        }
+    }
+}
+
+fn add_square<A: Allocator>(text: &mut Vec<u8, &A>, x: Square) -> Result<(), AllocError>
+    ensures { OnOk result (text.new.items ≡ text.old.items ++ line_of (square_text x)) }
+{
+    add(text, &[b'a' + x.file(), b'1' + x.rank()])?;
+    add(text, b"\n")
+}
+
+fn add_squares<A: Allocator>(text: &mut Vec<u8, &A>, squares: &[Square]) -> Result<(), AllocError>
+    ensures { OnOk result (text.new.items ≡ text.old.items ++ squares_text squares.now) }
+{
+    match squares.split_first() {
+        None => Ok(()),
+        Some((x, rest)) => {
+            add_square(text, *x)?;
+            add_squares(text, rest)
+        }
+    }
+}
+
+/// The names of the classes that positions need, each after its needs, one a line.
+fn needs_of<'a, A: Allocator>(
+    alloc: &'a A,
+    positions: &[Position],
+) -> Result<Vec<u8, &'a A>, AllocError>
+    ensures { IfOk result (λ text. (classes : List AClass) × AreClassesNeeded positions.now classes × (text.items ≡ classes_text classes)) }
+{
+    let classes = classes_needed(positions);
+    let mut text = Vec::new(alloc);
+    add_names(&mut text, classes.as_slice())?;
+    Ok(text)
+}
+
+/// The classes that the positions of a script need, each after its needs, one a line.
+pub fn tables_of<'a, A: Allocator>(alloc: &'a A, script: &[u8]) -> Result<Vec<u8, &'a A>, NoText>
+    ensures text { IfOk result (λ text. AreTables (script_lines script.now) text.items) }
+    ensures none { IfErr result (MayEnd IsOutOfMemory (IsUnread script.now)) }
+{
+    match positions_in(alloc, script) {
+        Err(fault) => Err(NoText::Stopped(fault)),
+        Ok(positions) => match needs_of(alloc, positions.as_slice()) {
+            Ok(text) => Ok(text),
+            Err(_) => Err(NoText::Denied(Denial::Refused(Refusal::OutOfMemory))),
+        },
+    }
+}
+
+/// The squares that a pawn can just have jumped over, in a position, one a line.
+pub fn passed_of<'a, A: Allocator>(alloc: &'a A, start: &Start) -> Result<Vec<u8, &'a A>, NoText>
+    ensures text { IfOk result (λ text. text.items ≡ squares_text (passed_squares start.now.position.men start.now.position.to_move)) }
+    ensures none { IfErr result (MayEnd IsOutOfMemory IsNoMemory) }
+{
+    let p = &start.position;
+    let squares = passed_squares(p.men(), p.to_move());
+    let mut text = Vec::new(alloc);
+    match add_squares(&mut text, squares.as_slice()) {
+        Ok(()) => Ok(text),
+        Err(_) => Err(NoText::Denied(Denial::Refused(Refusal::OutOfMemory))),
+    }
+}

@@ -1,0 +1,47 @@
+//! The survey of a man of a position.
+ghost use Rattle.std.specs.Prelude.{◌≡◌, ◌≤◌, true, IfSome, IfOk, IfErr};
+ghost use Rattle.study_material.specs.declared.class.Class.{Class as AClass};
+ghost use Rattle.study_view.specs.Survey.{IsSurvey};
+ghost use Rattle.study_web.specs.Answers.{IsSurveyDenial, MayEnd, IsNoMemory};
+
+use crate::denial::Denial;
+use crate::reply::NoText;
+use crate::request::Surveyed;
+use crate::tables::open_tables;
+use std::alloc::Allocator;
+use study_reply::refusal::Refusal;
+use study_reply::words::of_probe;
+use study_script::store::TableStore;
+use study_view::{Question, SurveyFault, write_survey};
+
+/// The survey that is asked for, over all files of a store.
+#[tactic(auto, using(crate::proofs::Denials::survey_over, crate::proofs::Denials::survey_probe))]
+pub fn survey_of<'a, S: TableStore, A: Allocator>(
+    alloc: &'a A,
+    asked: &Surveyed,
+    store: &mut S,
+    pages: Option<u16>,
+) -> Result<Vec<u8, &'a A>, NoText>
+    requires { IfSome pages (λ n. (1 ≤ n) × (n ≤ 4096)) }
+    ensures text { ((c : AClass) → S.honest store.old true c)
+        → IfOk result (λ text. IsSurvey asked.now.start.position asked.now.square asked.now.stipulation text.items) }
+    ensures none { IfErr result (MayEnd (IsSurveyDenial asked.now.start asked.now.square) IsNoMemory) }
+{
+    let mut tables = match open_tables(alloc, store, pages) {
+        Err(denial) => return Err(NoText::Denied(denial)),
+        Ok(tables) => tables,
+    };
+    let question = Question {
+        position: &asked.start.position,
+        square: asked.square,
+        stipulation: &asked.stipulation,
+    };
+    let mut text = Vec::new(alloc);
+    match write_survey(alloc, &question, &mut tables, &mut text) {
+        Ok(()) => Ok(text),
+        Err(SurveyFault::NoMan) => Err(NoText::Denied(Denial::NoMan)),
+        Err(SurveyFault::OutOfMemory) => Err(NoText::Denied(Denial::Refused(Refusal::OutOfMemory))),
+        Err(SurveyFault::Device) => Err(NoText::Denied(Denial::Refused(Refusal::OutOfMemory))),
+        Err(SurveyFault::Values(fault)) => Err(NoText::Denied(Denial::Refused(of_probe(fault)))),
+    }
+}

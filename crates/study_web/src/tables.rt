@@ -1,0 +1,106 @@
+//! The tables of all files of a store, opened by pages.
+ghost use Rattle.std.specs.Prelude.{◌≡◌, ◌≤◌, ◌⊎◌, [], ◌∷◌, true, false, is_some, IfSome, OnOk, IfOk, IfErr, Err};
+ghost use Rattle.study_material.specs.declared.class.Class.{Class as AClass};
+ghost use Rattle.study_prober.specs.Paged.{held_of, SourcesAreRight};
+ghost use Rattle.study_script.specs.declared.store.StoreFault.TheVariants.{NoFile};
+ghost use Rattle.study_script.specs.Names.{of_paged};
+ghost use Rattle.study_script.specs.State.{is_among, IsGiven, IsOpened};
+ghost use Rattle.study_web.specs.Opened.{IsHeldAs, IsOfTables};
+
+use crate::denial::Denial;
+use std::alloc::Allocator;
+use study_material::Class;
+use study_prober::{PagedFault, PagedTables};
+use study_reply::refusal::Refusal;
+use study_script::store::{StoreFault, TableStore};
+
+/// How many pages are kept where nothing is said.
+const PAGES: u16 = 1024;
+
+/// A fault of a source of pages, as a script tells it.
+fn refusal_of(fault: PagedFault) -> Refusal
+    ensures { result ≡ of_paged fault }
+{
+    match fault {
+        PagedFault::AlreadyHeld(class) => Refusal::AlreadyHeld(class),
+        PagedFault::TableRead(fault) => Refusal::TableRead(fault),
+        PagedFault::Header(fault) => Refusal::File(fault),
+        PagedFault::OtherClass(class) => Refusal::OtherClass(class),
+        PagedFault::OutOfMemory => Refusal::OutOfMemory,
+    }
+}
+
+/// Opens the file of a class, if there is one.
+fn open_table<'a, S: TableStore, A: Allocator>(
+    tables: &mut PagedTables<'a, S::Pages, A>,
+    store: &mut S,
+    class: Class,
+) -> Result<(), Denial>
+    ensures right { S.honest store.old true class → SourcesAreRight S.Pages.honest tables.old.sources
+        → OnOk result (SourcesAreRight S.Pages.honest tables.new.sources) }
+    ensures grows { (c : AClass) → is_some (held_of tables.old.sources c) ≡ true → OnOk result (is_some (held_of tables.new.sources c) ≡ true) }
+    ensures opened { (c : AClass) → OnOk result (is_some (held_of tables.new.sources c) ≡ true
+        → (is_some (held_of tables.old.sources c) ≡ true) ⊎ IsOpened (S.headers store.old c)) }
+    ensures given { OnOk result (is_some (held_of tables.new.sources class) ≡ false → IsGiven (S.headers store.old class) (Err NoFile)) }
+    ensures named { IfErr result IsOfTables }
+    ensures stays { (c : AClass) → S.honest store.old true c → S.honest store.new true c }
+    ensures headers { (c : AClass) → S.headers store.new c ≡ S.headers store.old c }
+{
+    match store.pages(class) {
+        Err(StoreFault::NoFile) => Ok(()),
+        Err(StoreFault::Device) => Err(Denial::OfFile(class, Refusal::Device)),
+        Ok(source) => match tables.add(class, source) {
+            Ok(()) => Ok(()),
+            Err(PagedFault::OutOfMemory) => Err(Denial::Refused(Refusal::OutOfMemory)),
+            Err(fault) => Err(Denial::OfFile(class, refusal_of(fault))),
+        },
+    }
+}
+
+/// Opens the files of these classes.
+fn open_each<'a, S: TableStore, A: Allocator>(
+    tables: &mut PagedTables<'a, S::Pages, A>,
+    store: &mut S,
+    classes: &[Class],
+) -> Result<(), Denial>
+    ensures right { ((c : AClass) → S.honest store.old true c) → SourcesAreRight S.Pages.honest tables.old.sources
+        → OnOk result (SourcesAreRight S.Pages.honest tables.new.sources) }
+    ensures grows { (c : AClass) → is_some (held_of tables.old.sources c) ≡ true → OnOk result (is_some (held_of tables.new.sources c) ≡ true) }
+    ensures opened { (c : AClass) → OnOk result (is_some (held_of tables.new.sources c) ≡ true
+        → (is_some (held_of tables.old.sources c) ≡ true) ⊎ IsOpened (S.headers store.old c)) }
+    ensures named { IfErr result IsOfTables }
+    ensures given { (c : AClass) → OnOk result (is_among classes.now c ≡ true → is_some (held_of tables.new.sources c) ≡ false
+        → IsGiven (S.headers store.old c) (Err NoFile)) }
+{
+    match classes.split_first() {
+        None => Ok(()),
+        Some((class, rest)) => match open_table(tables, store, *class) {
+            Err(denial) => Err(denial),
+            Ok(()) => open_each(tables, store, rest),
+        },
+    }
+}
+
+/// The tables of all files of a store, in the order of the class list. A file that gives no table refuses all.
+pub fn open_tables<'a, S: TableStore, A: Allocator>(
+    alloc: &'a A,
+    store: &mut S,
+    pages: Option<u16>,
+) -> Result<PagedTables<'a, S::Pages, A>, Denial>
+    requires { IfSome pages (λ n. (1 ≤ n) × (n ≤ 4096)) }
+    ensures right { ((c : AClass) → S.honest store.old true c) → IfOk result (λ w. SourcesAreRight S.Pages.honest w.sources) }
+    ensures named { IfErr result IsOfTables }
+    ensures held { IfOk result (λ w. (c : AClass) → IsHeldAs (S.headers store.old c) (is_some (held_of w.sources c))) }
+{
+    let room = match pages {
+        None => PAGES,
+        Some(n) => n,
+    };
+    let Ok(mut tables) = PagedTables::new(alloc, room) else {
+        return Err(Denial::Refused(Refusal::OutOfMemory));
+    };
+    match open_each(&mut tables, store, Class::all().as_slice()) {
+        Err(denial) => Err(denial),
+        Ok(()) => Ok(tables),
+    }
+}

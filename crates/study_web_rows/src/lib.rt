@@ -1,7 +1,0 @@
-//! Tests of what is answered to a page: files that are made, scripts over files that are handed in, files that are saved.
-#![tactic(auto)]
-
-#[cfg(test)]
-mod files;
-#[cfg(test)]
-mod scripts;

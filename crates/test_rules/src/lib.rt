@@ -1,0 +1,22 @@
+//! Tests of the rules: positions and their faults, legal moves and unmoves, FEN and SAN, classes, numbers of positions. The
+//! tests of study_X stand in X.rt and the files that begin with its name. There is nothing here but tests, since a crate
+//! with tests is proved twice; what they expect comes from outside of this program. Tests alone call these functions, and
+//! none has a contract.
+#![tactic(auto)]
+
+#[cfg(test)]
+mod board;
+#[cfg(test)]
+mod index;
+#[cfg(test)]
+mod index_samples;
+#[cfg(test)]
+mod material;
+#[cfg(test)]
+mod men;
+#[cfg(test)]
+mod moves;
+#[cfg(test)]
+mod notation;
+#[cfg(test)]
+mod notation_moves;

@@ -1,0 +1,228 @@
+//! Worked positions: that the definitions are chess's.
+use crate::men;
+use std::process::Abort;
+use study_board::{Position, Side};
+use study_moves::{
+    Move, earlier, in_check, is_legal, is_mate, is_stalemate, last_moves, legal_moves, played,
+    solve, taken_back,
+};
+
+/// The position of at most five men, given by letter and square.
+fn position(
+    rt: &impl Abort,
+    letters: &[(char, u8)],
+    to_move: Side,
+    passed: Option<u8>,
+) -> Position {
+    men::position(rt, letters, to_move, passed)
+        .ok()
+        .expect(rt, "a position")
+}
+
+/// That the legal moves go from these squares to these, in this order, and that each is legal and can be played.
+fn expect_moves(rt: &impl Abort, p: &Position, wanted: &[(u8, u8)]) {
+    let list = legal_moves(p);
+    assert_eq!(rt; list.len(), wanted.len());
+    for (m, (origin, target)) in list.as_slice().iter().zip(wanted) {
+        assert_eq!(rt; m.origin.number(), *origin);
+        assert_eq!(rt; m.target.number(), *target);
+        let tested = *m;
+        assert!(rt; is_legal(p, tested));
+        let next = played(p, *m);
+        assert!(rt; next.to_move() != p.to_move());
+        assert!(rt; next.man_at(m.origin).is_none());
+    }
+}
+
+/// Positions, by their men, the side to move and the passed square, and the squares that the legal moves go between.
+static MOVE_LISTS: [(&[(char, u8)], Side, Option<u8>, &[(u8, u8)]); 6] = [
+    // Rook and king: twenty moves, by origin and target.
+    (
+        &[('K', 41), ('k', 56), ('R', 7)],
+        Side::White,
+        None,
+        &[
+            (7, 0),
+            (7, 1),
+            (7, 2),
+            (7, 3),
+            (7, 4),
+            (7, 5),
+            (7, 6),
+            (7, 15),
+            (7, 23),
+            (7, 31),
+            (7, 39),
+            (7, 47),
+            (7, 55),
+            (7, 63),
+            (41, 32),
+            (41, 33),
+            (41, 34),
+            (41, 40),
+            (41, 42),
+            (41, 50),
+        ],
+    ),
+    // Stalemate by the queen.
+    (&[('K', 0), ('k', 56), ('Q', 41)], Side::Black, None, &[]),
+    // The pawn is blocked by its own king.
+    (
+        &[('K', 40), ('P', 32), ('k', 56)],
+        Side::White,
+        None,
+        &[(40, 33), (40, 41)],
+    ),
+    // A promotion counts four times.
+    (
+        &[('K', 41), ('P', 50), ('k', 56)],
+        Side::White,
+        None,
+        &[
+            (41, 32),
+            (41, 33),
+            (41, 34),
+            (41, 40),
+            (41, 42),
+            (50, 58),
+            (50, 58),
+            (50, 58),
+            (50, 58),
+        ],
+    ),
+    // A capture in passing comes before the step.
+    (
+        &[('k', 24), ('P', 27), ('p', 28), ('K', 4)],
+        Side::Black,
+        Some(19),
+        &[
+            (24, 16),
+            (24, 17),
+            (24, 25),
+            (24, 32),
+            (24, 33),
+            (28, 19),
+            (28, 20),
+        ],
+    ),
+    // A passed square that no pawn can take changes nothing.
+    (
+        &[('k', 16), ('P', 28), ('K', 4)],
+        Side::Black,
+        Some(20),
+        &[(16, 8), (16, 9), (16, 17), (16, 24), (16, 25)],
+    ),
+];
+
+#[test]
+fn legal_moves_are_those_of_chess_in_order(rt: HostRuntime) {
+    for (letters, to_move, passed, wanted) in &MOVE_LISTS {
+        let p = position(&rt, letters, *to_move, *passed);
+        expect_moves(&rt, &p, wanted);
+    }
+}
+
+#[test]
+fn mates_and_stalemates_are_told_apart(rt: HostRuntime) {
+    let stale = position(&rt, &[('K', 0), ('k', 56), ('Q', 41)], Side::Black, None);
+    assert!(rt; is_stalemate(&stale) && !is_mate(&stale) && !in_check(&stale));
+    let mate = position(&rt, &[('K', 41), ('k', 56), ('R', 63)], Side::Black, None);
+    assert!(rt; is_mate(&mate) && !is_stalemate(&mate) && in_check(&mate));
+    let one = position(&rt, &[('K', 41), ('k', 56), ('R', 7)], Side::White, None);
+    assert_eq!(rt; solve(&one, 1), Some(1));
+    let two = position(&rt, &[('K', 42), ('k', 56), ('R', 7)], Side::White, None);
+    assert_eq!(rt; solve(&two, 1), None);
+    assert_eq!(rt; solve(&two, 2), Some(3));
+}
+
+/// That the last quiet moves came from these squares to these, in this order, that each can be played again from the
+/// position before it, and that `earlier` gives these positions.
+fn expect_unmoves(rt: &impl Abort, q: &Position, wanted: &[(u8, u8)]) {
+    let list = last_moves(q);
+    let before = earlier(q);
+    assert_eq!(rt; list.len(), wanted.len());
+    assert_eq!(rt; before.len(), wanted.len());
+    for (m, (origin, target)) in list.as_slice().iter().zip(wanted) {
+        assert_eq!(rt; m.origin.number(), *origin);
+        assert_eq!(rt; m.target.number(), *target);
+        let p = taken_back(q, *m);
+        assert!(rt; before.as_slice().iter().any(|x| *x == p));
+        assert!(rt; is_legal(&p, *m));
+        assert!(rt; p.passed().is_none());
+    }
+}
+
+/// Positions, by their men and the side to move, and the squares that the last quiet moves went between.
+static LAST_MOVES: [(&[(char, u8)], Side, &[(u8, u8)]); 7] = [
+    // The rook came not from a1 or h8, where it gave check, and the king not from a7 or b7.
+    (
+        &[('K', 41), ('k', 56), ('R', 7)],
+        Side::Black,
+        &[
+            (1, 7),
+            (2, 7),
+            (3, 7),
+            (4, 7),
+            (5, 7),
+            (6, 7),
+            (15, 7),
+            (23, 7),
+            (31, 7),
+            (39, 7),
+            (47, 7),
+            (55, 7),
+            (32, 41),
+            (33, 41),
+            (34, 41),
+            (40, 41),
+            (42, 41),
+            (50, 41),
+        ],
+    ),
+    // A pawn came one or two squares ahead.
+    (
+        &[('K', 0), ('k', 2), ('P', 28)],
+        Side::Black,
+        &[(8, 0), (12, 28), (20, 28)],
+    ),
+    (
+        &[('k', 0), ('K', 2), ('p', 36)],
+        Side::White,
+        &[(8, 0), (44, 36), (52, 36)],
+    ),
+    // Not over a man, not from its first rank, and not on to its starting rank.
+    (
+        &[('K', 0), ('k', 2), ('P', 28), ('n', 20)],
+        Side::Black,
+        &[(8, 0)],
+    ),
+    (
+        &[('K', 0), ('k', 2), ('P', 20)],
+        Side::Black,
+        &[(8, 0), (12, 20)],
+    ),
+    (&[('K', 0), ('k', 2), ('P', 12)], Side::Black, &[(8, 0)]),
+    // The rook came not along its line to the king, the bishop from where it stood between the two.
+    (
+        &[('K', 0), ('R', 4), ('B', 26), ('k', 60)],
+        Side::Black,
+        &[
+            (1, 4),
+            (2, 4),
+            (3, 4),
+            (5, 4),
+            (6, 4),
+            (7, 4),
+            (12, 26),
+            (44, 26),
+        ],
+    ),
+];
+
+#[test]
+fn unmoves_lead_back_to_each_position_before(rt: HostRuntime) {
+    for (letters, to_move, wanted) in &LAST_MOVES {
+        let q = position(&rt, letters, *to_move, None);
+        expect_unmoves(&rt, &q, wanted);
+    }
+}

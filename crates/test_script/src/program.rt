@@ -1,0 +1,168 @@
+//! The program's command line, its exit status, and what it tells where it stops.
+
+use linked_list_allocator::LocalHeap;
+use std::alloc::{Allocator, Global};
+use std::test::Fail;
+use study_program::{Options, answer_script, read_words};
+use study_tablefile::memory::{MemoryReader, MemoryWriter, WhenFull};
+
+/// Compares what the words of a command line come to: the options, or the exit code and how its text begins.
+fn check_words(
+    rt: &HostRuntime,
+    given: &[&str],
+    wanted: Result<(&str, Option<u16>), (i32, &str)>,
+) -> Result<(), Fail> {
+    let mut words = Vec::new(rt.alloc());
+    words.push(String::from_str(rt.alloc(), "studybench")?)?;
+    for word in given {
+        words.push(String::from_str(rt.alloc(), word)?)?;
+    }
+    let is_right = match read_words(rt.alloc(), words.as_slice()) {
+        Ok(options) => wanted == Ok((options.tables, options.pages)),
+        Err(error) => {
+            let told = format!(in rt.alloc(); "{error}")?;
+            match wanted {
+                Ok(_) => false,
+                Err((code, text)) => error.exit_code() == code && told.as_str().starts_with(text),
+            }
+        }
+    };
+    if is_right {
+        Ok(())
+    } else {
+        Err(Fail::new(format_args!("{given:?}")))
+    }
+}
+
+/// Options are read.
+#[test]
+fn options_are_read(rt: HostRuntime) -> Result<(), Fail> {
+    check_words(&rt, &[], Ok((".", None)))?;
+    check_words(&rt, &["--tables=t"], Ok(("t", None)))?;
+    check_words(&rt, &["--tables", "/"], Ok(("/", None)))?;
+    check_words(&rt, &["--pages=1"], Ok((".", Some(1))))?;
+    check_words(
+        &rt,
+        &["--pages", "4096", "--tables", "t"],
+        Ok(("t", Some(4096))),
+    )
+}
+
+/// Help and the version are asked for; words are refused, an empty name of the folder too.
+#[test]
+fn help_and_version_are_told_and_words_refused(rt: HostRuntime) -> Result<(), Fail> {
+    check_words(&rt, &["--help"], Err((0, "Answers a script of commands")))?;
+    check_words(&rt, &["-h"], Err((0, "Answers a script of commands")))?;
+    check_words(
+        &rt,
+        &["--version"],
+        Err((0, "studybench 0.1.0 (kit rattle-kit-13f)\n")),
+    )?;
+    for words in [
+        ["--pages", "0"],
+        ["--pages", "4097"],
+        ["--pages", "x"],
+        ["--pages", ""],
+        ["--tables", ""],
+        ["--bad", "x"],
+        ["--tables=t", "file.script"],
+    ] {
+        check_words(&rt, words.as_slice(), Err((2, "error: ")))?;
+    }
+    check_words(&rt, &["--tables="], Err((2, "error: ")))?;
+    check_words(&rt, &["--tables"], Err((2, "error: ")))?;
+    check_words(&rt, &["--pages"], Err((2, "error: ")))
+}
+
+/// Runs a script over the folder of the test; compares the replies, the exit status and what is told on the other writer.
+fn check_ends<A: Allocator>(
+    rt: &HostRuntime,
+    alloc: &A,
+    script: &mut MemoryReader<'_>,
+    out: &mut MemoryWriter<'_, Global>,
+    replies: &[u8],
+    status: u8,
+    told: &[u8],
+) -> Result<(), Fail> {
+    let room = rt.alloc();
+    let mut errors = MemoryWriter::new(&room);
+    let options = Options {
+        tables: ".",
+        pages: Some(1),
+    };
+    let ended = answer_script(rt, alloc, &options, script, out, &mut errors);
+    if out.taken.as_slice() == replies && ended == status && errors.taken.as_slice() == told {
+        Ok(())
+    } else {
+        Err(Fail::new(format_args!("status {ended}, not {status}")))
+    }
+}
+
+const ACCEPTED: &[u8] = b"# no reply\nposition k7/8/1K6/8/8/8/8/7R w - - 0 1\nsolve 1 root\n";
+
+const SOLVED: &[u8] = b"position k7/8/1K6/8/8/8/8/7R w - - 0 1\nsolve plies 1\n";
+
+const REFUSED: &[u8] = b"moves root\npgn\nposition k7/8/1K6/8/8/8/8/7R w - - 0 1\nsolve 1 root\n";
+
+const ERRORS: &[u8] =
+    b"error NoPosition\nerror NoStudy\nposition k7/8/1K6/8/8/8/8/7R w - - 0 1\nsolve plies 1\n";
+
+/// 0 where no line is refused, 1 where some line is, and nothing is told; 3 where the writer fails, which is told.
+#[test]
+fn exit_statuses_follow_the_replies(rt: HostRuntime) -> Result<(), Fail> {
+    let alloc = rt.alloc();
+    let rows = [
+        (b"".as_slice(), b"".as_slice(), 0),
+        (ACCEPTED, SOLVED, 0),
+        (REFUSED, ERRORS, 1),
+    ];
+    for (script, replies, status) in rows {
+        let mut script = MemoryReader::new(script);
+        let mut out = MemoryWriter::new(&alloc);
+        check_ends(&rt, &alloc, &mut script, &mut out, replies, status, b"")?;
+    }
+    for when_full in [WhenFull::Fail, WhenFull::TakeNothing] {
+        let mut script = MemoryReader::new(REFUSED);
+        let mut out = MemoryWriter::with_room(&alloc, 5, when_full);
+        let told = b"studybench: WriteDevice\n";
+        check_ends(&rt, &alloc, &mut script, &mut out, b"error", 3, told)?;
+    }
+    Ok(())
+}
+
+/// A line of more than 1,024 bytes, a reader that fails, one line too many, and no memory.
+#[test]
+fn each_stop_is_told(rt: HostRuntime) -> Result<(), Fail> {
+    let alloc = rt.alloc();
+    let mut script = REFUSED.to_vec(&alloc)?;
+    for _ in 0..1025u32 {
+        script.push(b' ')?;
+    }
+    let mut script = MemoryReader::new(script.as_slice());
+    let mut out = MemoryWriter::new(&alloc);
+    let told = b"studybench: LineTooLong 5\n";
+    check_ends(&rt, &alloc, &mut script, &mut out, ERRORS, 3, told)?;
+    let mut script = MemoryReader::failing_after(REFUSED, 14);
+    let mut out = MemoryWriter::new(&alloc);
+    let told = b"studybench: ReadDevice\n";
+    check_ends(
+        &rt,
+        &alloc,
+        &mut script,
+        &mut out,
+        b"error NoPosition\n",
+        3,
+        told,
+    )?;
+    let mut lines = Vec::new(&alloc);
+    lines.resize(100_001, b'\n')?;
+    let mut script = MemoryReader::new(lines.as_slice());
+    let mut out = MemoryWriter::new(&alloc);
+    let told = b"studybench: TooManyLines\n";
+    check_ends(&rt, &alloc, &mut script, &mut out, b"", 3, told)?;
+    let heap = LocalHeap::new(alloc, 256)?;
+    let mut script = MemoryReader::new(REFUSED);
+    let mut out = MemoryWriter::new(&alloc);
+    let told = b"studybench: OutOfMemory\n";
+    check_ends(&rt, &heap, &mut script, &mut out, b"", 3, told)
+}

@@ -1,0 +1,297 @@
+//! Tests over the files of a real folder, a folder of its own for each: tables that one run saves and another loads, whole
+//! and by pages, files that are not the table's, and folders that are not there.
+ghost use Rattle.std.specs.Prelude.{◌≤◌, IfSome};
+
+use std::alloc::{Allocator, Global};
+use std::io::{ErrorKind, Read, Seek, SeekFrom};
+use std::process::Abort;
+use std::test::Fail;
+use std::{fs, io};
+use study_program::{FilePages, FolderStore};
+use study_script::run::{Settings, run};
+use study_script::store::TableStore;
+use study_tablefile::memory::{MemoryReader, MemoryWriter};
+use study_tablefile::{PageSource, SourceFault};
+
+/// A rook mates in one: the commands, and their replies where the table can be read, where it is not held, and where it
+/// is held by pages and the one that is asked for is damaged, or not there.
+const STUDY: &str = "position k7/8/1K6/8/8/8/8/7R w - - 0 1\nstipulate white win\nmark root\n";
+
+const MARKED: &str =
+    "position k7/8/1K6/8/8/8/8/7R w - - 0 1\nstipulate White to win\nmark root win 1 - faults 0\n";
+
+const NOT_HELD: &str = "position k7/8/1K6/8/8/8/8/7R w - - 0 1\nerror NoTable KRK\nerror NoStudy\n";
+
+const DAMAGED: &str =
+    "position k7/8/1K6/8/8/8/8/7R w - - 0 1\nerror TableRead Page 5\nerror NoStudy\n";
+
+const SHORT: &str =
+    "position k7/8/1K6/8/8/8/8/7R w - - 0 1\nerror TableRead Short\nerror NoStudy\n";
+
+const LOADED: &str = "loaded KRK cells 81920\n";
+
+/// What a run over a store writes.
+fn replies_of<'a, S: TableStore, A: Allocator>(
+    alloc: &'a A,
+    store: &mut S,
+    pages: Option<u16>,
+    script: &[u8],
+) -> Vec<u8, &'a A>
+    requires { IfSome pages (λ n. (1 ≤ n) × (n ≤ 4096)) }
+{
+    let mut out = MemoryWriter::new(alloc);
+    let _answer = run(
+        alloc,
+        &mut MemoryReader::new(script),
+        &mut out,
+        store,
+        Settings { pages },
+    );
+    out.taken
+}
+
+/// The parts, one behind the other.
+fn joined(alloc: Global, parts: &[&str]) -> Result<String, Fail> {
+    let mut text = String::new(alloc);
+    for part in parts {
+        text.push_str(part)?;
+    }
+    Ok(text)
+}
+
+/// Compares the replies to a script over the files of a folder, both in parts.
+fn check(
+    rt: &HostRuntime,
+    folder: &str,
+    pages: Option<u16>,
+    script: &[&str],
+    replies: &[&str],
+) -> Result<(), Fail>
+    requires { IfSome pages (λ n. (1 ≤ n) × (n ≤ 4096)) }
+{
+    let alloc = rt.alloc();
+    let lines = joined(alloc, script)?;
+    let wanted = joined(alloc, replies)?;
+    let mut store = FolderStore::new(rt, &alloc, folder)?;
+    let taken = replies_of(&alloc, &mut store, pages, lines.as_bytes());
+    if taken.as_slice() == wanted.as_bytes() {
+        Ok(())
+    } else {
+        Err(Fail::new(format_args!("{folder}: not {wanted}")))
+    }
+}
+
+/// Makes a folder with the files of KK and KRK, in place of one that a broken test left.
+fn save(rt: &HostRuntime, folder: &str) -> Result<(), Fail> {
+    let _absent = fs::remove_dir_all(rt, folder);
+    fs::create_dir(rt, folder)?;
+    check(
+        rt,
+        folder,
+        None,
+        &["build KK\nsave KK\nbuild KRK\nsave KRK\n"],
+        &[
+            "built KK cells 1280 win -\nsaved KK bytes 4192\n",
+            "built KRK cells 81920 win 31\nsaved KRK bytes 82624\n",
+        ],
+    )
+}
+
+/// What one run saves, others load, whole and by pages.
+#[test]
+fn what_one_run_saves_others_load(rt: HostRuntime) -> Result<(), Fail> {
+    save(&rt, "saved")?;
+    check(
+        &rt,
+        "saved",
+        None,
+        &[
+            "load KRK\nload KK\nload KRK\nverify KRK\nverify KK\n",
+            STUDY,
+            "load KQK\n",
+        ],
+        &[
+            "error MissingTable KK\nloaded KK cells 1280\n",
+            LOADED,
+            "verified KRK yes\nverified KK yes\n",
+            MARKED,
+            "error NoFile\n",
+        ],
+    )?;
+    check(
+        &rt,
+        "saved",
+        Some(1),
+        &[
+            "build KK\nload KRK\nverify KRK\nsave KRK\nload KQK\n",
+            STUDY,
+        ],
+        &[
+            "error PagedMode\n",
+            LOADED,
+            "error PagedMode\nerror PagedMode\nerror NoFile\n",
+            MARKED,
+        ],
+    )?;
+    Ok(fs::remove_dir_all(&rt, "saved")?)
+}
+
+/// What `load` answers over a changed file of KRK, of the whole file and by pages, and what a study is told then.
+fn check_load(rt: &HostRuntime, folder: &str, whole: &str, paged: [&str; 2]) -> Result<(), Fail> {
+    check(
+        rt,
+        folder,
+        None,
+        &["load KK\nload KRK\n"],
+        &["loaded KK cells 1280\n", whole],
+    )?;
+    check(rt, folder, Some(1), &["load KRK\n", STUDY], &paged)
+}
+
+/// Changes a byte, or changes it back.
+fn turn(rt: &impl Abort, text: &mut [u8], at: usize) {
+    *text.get_mut(at).expect(rt, "a byte") ^= 11;
+}
+
+/// A byte of the file is another: some are seen when the file is opened, some when their page is read.
+#[test]
+fn a_damaged_file_is_told(rt: HostRuntime) -> Result<(), Fail> {
+    save(&rt, "damaged")?;
+    let mut text = fs::read(&rt, "damaged/KRK.dtm")?;
+    let rows = [
+        (0, "error NotATable\n", ["error NotATable\n", NOT_HELD]),
+        (8, "error Version 9\n", ["error Version 9\n", NOT_HELD]),
+        (
+            17,
+            "error ClassUnknown\n",
+            ["error ClassUnknown\n", NOT_HELD],
+        ),
+        (
+            40,
+            "error HeaderDamaged\n",
+            ["error HeaderDamaged\n", NOT_HELD],
+        ),
+        (
+            64 + 4128 * 5 + 63,
+            "error PageDamaged 5\n",
+            [LOADED, DAMAGED],
+        ),
+        (
+            64 + 4128 * 5 + 4100,
+            "error PageDamaged 5\n",
+            [LOADED, DAMAGED],
+        ),
+        (
+            64 + 4128 * 19 + 7,
+            "error PageDamaged 19\n",
+            [LOADED, MARKED],
+        ),
+    ];
+    for (at, whole, paged) in rows {
+        turn(&rt, text.as_mut_slice(), at);
+        fs::write(&rt, "damaged/KRK.dtm", text.as_slice())?;
+        check_load(&rt, "damaged", whole, paged)?;
+        turn(&rt, text.as_mut_slice(), at);
+    }
+    Ok(fs::remove_dir_all(&rt, "damaged")?)
+}
+
+/// The file ends too early, or too late.
+#[test]
+fn a_file_of_another_length_is_told(rt: HostRuntime) -> Result<(), Fail> {
+    save(&rt, "cut")?;
+    let mut text = fs::read(&rt, "cut/KRK.dtm")?;
+    text.push(b'x')?;
+    let rows = [
+        (82_625, "error TrailingBytes\n", [LOADED, MARKED]),
+        (82_623, "error Cut\n", [LOADED, MARKED]),
+        (64 + 4128 * 5 + 9, "error Cut\n", [LOADED, SHORT]),
+        (63, "error Cut\n", ["error TableRead Short\n", NOT_HELD]),
+        (0, "error Cut\n", ["error TableRead Short\n", NOT_HELD]),
+    ];
+    for (len, whole, paged) in rows {
+        text.truncate(len);
+        fs::write(&rt, "cut/KRK.dtm", text.as_slice())?;
+        check_load(&rt, "cut", whole, paged)?;
+    }
+    Ok(fs::remove_dir_all(&rt, "cut")?)
+}
+
+/// Another class, a folder, or nothing stands in the file's place.
+#[test]
+fn a_file_that_is_not_there_is_told(rt: HostRuntime) -> Result<(), Fail> {
+    save(&rt, "none")?;
+    fs::rename(&rt, "none/KRK.dtm", "none/kept")?;
+    check_load(&rt, "none", "error NoFile\n", ["error NoFile\n", NOT_HELD])?;
+    fs::copy(&rt, "none/KK.dtm", "none/KRK.dtm")?;
+    check_load(
+        &rt,
+        "none",
+        "error OtherClass KK\n",
+        ["error OtherClass KK\n", NOT_HELD],
+    )?;
+    fs::remove_file(&rt, "none/KRK.dtm")?;
+    fs::create_dir(&rt, "none/KRK.dtm")?;
+    check_load(
+        &rt,
+        "none",
+        "error Device\n",
+        ["error TableRead Device\n", NOT_HELD],
+    )?;
+    Ok(fs::remove_dir_all(&rt, "none")?)
+}
+
+/// The folder is not there, or is a file: nothing is loaded or saved, and the session goes on.
+#[test]
+fn a_folder_that_is_not_there_is_told(rt: HostRuntime) -> Result<(), Fail> {
+    let script = ["load KK\nbuild KK\nsave KK\nverify KK\n"];
+    let rest = "built KK cells 1280 win -\nerror Device\nverified KK yes\n";
+    check(&rt, "absent", None, &script, &["error NoFile\n", rest])?;
+    check(&rt, "absent", Some(1), &["load KK\n"], &["error NoFile\n"])?;
+    fs::write(&rt, "plain", b"")?;
+    check(&rt, "plain", None, &script, &["error Device\n", rest])?;
+    check(&rt, "plain", Some(1), &["load KK\n"], &["error Device\n"])?;
+    Ok(fs::remove_file(&rt, "plain")?)
+}
+
+/// A file whose first read is interrupted, and which gives bytes from then on, one at a time.
+#[derive(Drop)]
+struct InterruptedOnce {
+    reads: u64,
+}
+
+impl Read for InterruptedOnce {
+    fn read(&mut self, buf: &mut [u8]) -> io::Result<usize> {
+        self.reads = self.reads.saturating_add(1);
+        if self.reads == 1 {
+            return Err(io::Error::from(ErrorKind::Interrupted));
+        }
+        if buf.is_empty() {
+            return Ok(0);
+        }
+        buf[0] = 7;
+        Ok(1)
+    }
+}
+
+impl Seek for InterruptedOnce {
+    fn seek(&mut self, _to: SeekFrom) -> io::Result<u64> {
+        Ok(0)
+    }
+}
+
+/// Each error of a read ends the question for a page; the next one reads anew.
+#[test]
+fn an_interrupted_read_is_told_and_made_again(rt: HostRuntime) {
+    let mut pages = FilePages {
+        file: InterruptedOnce { reads: 0 },
+        asked: 0,
+        failures: 0,
+    };
+    let mut page = [0u8; 4128];
+    assert_eq!(rt; pages.page(0, &mut page), Err(SourceFault::Device));
+    assert_eq!(rt; pages.failures(), 1);
+    assert_eq!(rt; pages.page(0, &mut page), Ok(()));
+    assert!(rt; page.iter().all(|byte| *byte == 7));
+    assert_eq!(rt; pages.failures(), 1);
+}

@@ -1,0 +1,175 @@
+//! Scripts and trees as large as they may be, and by one too large.
+use crate::rows::{Case, Rows, no_files, replies_of};
+use std::alloc::Allocator;
+use std::process::Abort;
+use std::test::Fail;
+use study_script::run::{RunFault, Summary};
+
+/// A line of 1,024 bytes is read; of one byte more, the run stops.
+#[test]
+fn a_line_has_at_most_1024_bytes(rt: HostRuntime) -> Result<(), Fail> {
+    let alloc = rt.alloc();
+    let mut line = vec![in &alloc; b'#'; 1_024]?;
+    let (text, answer) = replies_of(&alloc, &mut no_files(&alloc), None, line.as_slice());
+    assert!(rt; text.is_empty());
+    let (lines, refused) = (1, 0);
+    assert_eq!(rt; answer, Ok(Summary { lines, refused }));
+    line.push(b'#')?;
+    let (text, answer) = replies_of(&alloc, &mut no_files(&alloc), None, line.as_slice());
+    assert!(rt; text.is_empty());
+    assert_eq!(rt; answer, Err(RunFault::LineTooLong(1)));
+    Ok(())
+}
+
+/// The reply to the line before one that is too long stays.
+#[test]
+fn the_reply_before_a_long_line_stays(rt: HostRuntime) -> Result<(), Fail> {
+    let alloc = rt.alloc();
+    let mut script = Vec::new(&alloc);
+    script.extend_from_slice(b"pgn\n")?;
+    for _ in 0..1_025u32 {
+        script.push(b' ')?;
+    }
+    script.extend_from_slice(b"\npgn\n")?;
+    let (text, answer) = replies_of(&alloc, &mut no_files(&alloc), None, script.as_slice());
+    assert_eq!(rt; text.as_slice(), b"error NoStudy\n".as_slice());
+    assert_eq!(rt; answer, Err(RunFault::LineTooLong(2)));
+    Ok(())
+}
+
+/// A script of 100,000 lines is read; where one more begins, the run stops.
+#[test]
+fn a_script_has_at_most_100000_lines(rt: HostRuntime) -> Result<(), Fail> {
+    let alloc = rt.alloc();
+    let mut script = vec![in &alloc; b'\n'; 100_000]?;
+    let (text, answer) = replies_of(&alloc, &mut no_files(&alloc), None, script.as_slice());
+    assert!(rt; text.is_empty());
+    let (lines, refused) = (100_000, 0);
+    assert_eq!(rt; answer, Ok(Summary { lines, refused }));
+    script.push(b'\n')?;
+    let (text, answer) = replies_of(&alloc, &mut no_files(&alloc), None, script.as_slice());
+    assert!(rt; text.is_empty());
+    assert_eq!(rt; answer, Err(RunFault::TooManyLines));
+    Ok(())
+}
+
+/// The name of the node so far down, by first children from the node at a path.
+fn put_path<A: Allocator>(rt: &impl Abort, text: &mut Vec<u8, &A>, from: &str, depth: usize) {
+    let mut is_first = from.is_empty();
+    assert!(rt; text.extend_from_slice(from.as_bytes()).is_ok());
+    if is_first && depth == 0 {
+        assert!(rt; text.extend_from_slice(b"root").is_ok());
+    }
+    for _ in 0..depth {
+        if !is_first {
+            assert!(rt; text.push(b'.').is_ok());
+        }
+        assert!(rt; text.push(b'0').is_ok());
+        is_first = false;
+    }
+}
+
+/// Adds `insert PATH SAN`, or of its reply the front.
+fn put_insert<A: Allocator>(
+    rt: &impl Abort,
+    text: &mut Vec<u8, &A>,
+    from: &str,
+    depth: usize,
+    san: &str,
+) {
+    assert!(rt; text.extend_from_slice(b"insert ").is_ok());
+    put_path(rt, text, from, depth);
+    assert!(rt; text.push(b' ').is_ok());
+    assert!(rt; text.extend_from_slice(san.as_bytes()).is_ok());
+    assert!(rt; text.push(b'\n').is_ok());
+}
+
+const CORNERS: Rows<'static> = "build KK -> built KK cells 1280 win -
+position k7/8/8/8/8/8/8/K7 w - - 0 1 -> position k7/8/8/8/8/8/8/K7 w - - 0 1
+stipulate white draw -> stipulate White to draw";
+
+/// A line of 256 moves, and one more, which is refused.
+pub fn deep_line<'a, A: Allocator>(rt: &impl Abort, alloc: &'a A) -> Case<'a, A> {
+    let mut case = Case::new(alloc);
+    case.add_rows(rt, CORNERS);
+    for depth in 0..256usize {
+        let san = ["Kb1", "Kb8", "Ka1", "Ka8"][depth % 4];
+        put_insert(rt, &mut case.script, "", depth, san);
+        put_insert(rt, &mut case.replies, "", depth + 1, san);
+    }
+    put_insert(rt, &mut case.script, "", 256, "Kb1");
+    case.add_reply(rt, "error TooDeep");
+    case.lines = 260;
+    case
+}
+
+#[test]
+fn a_line_of_moves_has_at_most_256(rt: HostRuntime) {
+    let alloc = rt.alloc();
+    deep_line(&rt, &alloc).check(&rt, &alloc, &mut no_files(&alloc), None);
+}
+
+/// The moves of the kings as they go to and fro, eight each time; the first of them goes on.
+const MOVES: [[&str; 8]; 4] = [
+    ["Ke3", "Kc2", "Kd2", "Ke2", "Kc3", "Kc4", "Kd4", "Ke4"],
+    ["Ke6", "Kc5", "Kd5", "Ke5", "Kc6", "Kc7", "Kd7", "Ke7"],
+    ["Kd3", "Kd2", "Ke2", "Kf2", "Kf3", "Kd4", "Ke4", "Kf4"],
+    ["Kd6", "Kd5", "Ke5", "Kf5", "Kf6", "Kd7", "Ke7", "Kf7"],
+];
+
+/// All moves of the kings below the nodes from a path on, so many deep, up to so many moves. Answers how many.
+fn put_comb<A: Allocator>(
+    rt: &impl Abort,
+    text: &mut Vec<u8, &A>,
+    from: &str,
+    depths: usize,
+    count: u32,
+) -> u32 {
+    let mut put = 0u32;
+    for depth in 0..depths {
+        for san in MOVES[depth % 4] {
+            if put < count {
+                put_insert(rt, text, from, depth, san);
+                put = put.saturating_add(1);
+            }
+        }
+    }
+    put
+}
+
+const KINGS: &[u8] = b"build KK\nposition 8/8/3k4/8/8/3K4/8/8 w - - 0 1\nstipulate white draw\n";
+
+/// Two more ways to the first position, four moves down.
+const DETOURS: &[u8] =
+    b"insert 1 Ke6\ninsert 1.0 Kd3\ninsert 1.0.0 Kd6\ninsert 2 Ke6\ninsert 2.0 Kd3\ninsert 2.0.0 Kd6\n";
+
+/// Lines for a tree that is full, and their replies.
+const FULL: Rows<'static> = "insert 3 Ke6 -> error TreeFull
+insert root Kc2 -> error AlreadyThere 1
+delete 3 -> delete 3
+insert root Ke2 -> insert 7 Ke2
+insert 7 Ke6 -> error TreeFull";
+
+/// A tree of 4,096 nodes; one more is refused, until one is taken out.
+#[test]
+fn a_tree_has_at_most_4096_nodes(rt: HostRuntime) -> Result<(), Fail> {
+    let alloc = rt.alloc();
+    let mut script = Vec::new(&alloc);
+    script.extend_from_slice(KINGS)?;
+    assert_eq!(rt; put_comb(&rt, &mut script, "", 256, 2_048), 2_048);
+    script.extend_from_slice(DETOURS)?;
+    assert_eq!(rt; put_comb(&rt, &mut script, "1.0.0.0", 252, 2_016), 2_016);
+    assert_eq!(rt; put_comb(&rt, &mut script, "2.0.0.0", 252, 25), 25);
+    let mut end = Case::new(&alloc);
+    end.add_rows(&rt, FULL);
+    script.extend_from_slice(end.script.as_slice())?;
+    let (text, answer) = replies_of(&alloc, &mut no_files(&alloc), None, script.as_slice());
+    let text = std::str::from_utf8(text.as_slice())?;
+    let (_, rest) = text
+        .split_once("\ninsert 2.0.0.0.0.0.0.0 Kd6\n")
+        .ok_or("not full")?;
+    assert_eq!(rt; rest.as_bytes(), end.replies.as_slice());
+    let (lines, refused) = (4_103, 3);
+    assert_eq!(rt; answer, Ok(Summary { lines, refused }));
+    Ok(())
+}

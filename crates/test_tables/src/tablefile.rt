@@ -1,0 +1,306 @@
+//! The text of a table, read back and damaged.
+use crate::texts::{KK, digest, exchanged, fault, one_page, text_of, text_of_kk, zero_table};
+use std::alloc::Allocator;
+use std::io::ErrorKind;
+use std::process::Abort;
+use std::test::Fail;
+use study_material::Class;
+use study_retro::Table;
+use study_tablefile::memory::{MemoryReader, MemorySource, MemoryWriter, WhenFull};
+use study_tablefile::{
+    DeviceFailed, FileFault, PageSource, SourceFault, file_bytes, page_cells, put, read_header,
+    read_table, write_table,
+};
+
+/// The fields of KK, which has 1,280 cells, in version 1.
+const KK_BEFORE: &[u8] =
+    b"STUDYDTM\x01\x00\x00\x10\x00\x05\x00\x00KK\x00\x00\x00\x00\x00\x00\x00\x00\x00\x00\x00\x00\x00\x00";
+
+/// The fields of KRK, which has 81,920 cells, in version 2.
+const KRK: &[u8] =
+    b"STUDYDTM\x02\x00\x00\x10\x00\x40\x01\x00KRK\x00\x00\x00\x00\x00\x00\x00\x00\x00\x00\x00\x00\x00";
+
+/// The fields of KPKP, which has 33,554,432 cells, in version 2.
+const KPKP: &[u8] =
+    b"STUDYDTM\x02\x00\x00\x10\x00\x00\x00\x02KPKP\x00\x00\x00\x00\x00\x00\x00\x00\x00\x00\x00\x00";
+
+/// The first 32 bytes that are written of the table of zero cells of a class.
+fn first_bytes<'a, A: Allocator>(rt: &impl Abort, alloc: &'a A, class: Class) -> Vec<u8, &'a A> {
+    let table = zero_table(rt, alloc, class);
+    let mut writer = MemoryWriter::with_room(alloc, 32, WhenFull::Fail);
+    assert_eq!(rt; write_table(&table, &mut writer), Err(FileFault::Device));
+    writer.taken
+}
+
+/// The fields of the file of KRK as the description of the format prints them.
+#[test]
+fn header_of_krk_is_as_the_format_tells(rt: HostRuntime) {
+    let alloc = rt.alloc();
+    assert_eq!(rt; first_bytes(&rt, &alloc, Class::KRK).as_slice(), KRK);
+}
+
+/// The fields of the file of KPKP.
+#[test]
+fn header_of_kpkp_is_as_the_format_tells(rt: HostRuntime) {
+    let alloc = rt.alloc();
+    assert_eq!(rt; first_bytes(&rt, &alloc, Class::KPKP).as_slice(), KPKP);
+}
+
+/// The header of these fields: the fields and their digest.
+fn header_of<'a, A: Allocator>(rt: &impl Abort, alloc: &'a A, fields: &[u8]) -> Vec<u8, &'a A> {
+    let mut writer = MemoryWriter::new(alloc);
+    for part in [fields, digest(fields).as_slice()] {
+        assert!(rt; put(&mut writer, part).is_ok());
+    }
+    writer.taken
+}
+
+/// A pawn against a pawn is known from version 2 on; of the other classes both versions are read.
+#[test]
+fn versions_that_are_not_known_are_refused(rt: HostRuntime) {
+    let alloc = rt.alloc();
+    for (fields, want) in [
+        (
+            b"STUDYDTM\x01\x00\x00\x10\x00\x00\x00\x02KPKP\x00\x00\x00\x00\x00\x00\x00\x00\x00\x00\x00\x00".as_slice(),
+            FileFault::ClassUnknown,
+        ),
+        (KPKP, FileFault::Cut),
+        (
+            b"STUDYDTM\x03\x00\x00\x10\x00\x00\x00\x02KPKP\x00\x00\x00\x00\x00\x00\x00\x00\x00\x00\x00\x00".as_slice(),
+            FileFault::Version(3),
+        ),
+        (
+            b"STUDYDTM\x01\x00\x00\x10\x00\x00\x00\x01KQKP\x00\x00\x00\x00\x00\x00\x00\x00\x00\x00\x00\x00".as_slice(),
+            FileFault::Cut,
+        ),
+        (
+            b"STUDYDTM\x00\x00\x00\x10\x00\x40\x01\x00KRK\x00\x00\x00\x00\x00\x00\x00\x00\x00\x00\x00\x00\x00".as_slice(),
+            FileFault::Version(0),
+        ),
+    ] {
+        let text = header_of(&rt, &alloc, fields);
+        assert_eq!(rt; fault(&alloc, text.as_slice()), Some(want));
+    }
+}
+
+/// A text of version 1 is read, and what is read is written in version 2. Its pages do not pass under a header of version 2.
+#[test]
+fn version_1_is_read_and_version_2_written(rt: HostRuntime) {
+    let alloc = rt.alloc();
+    let page = [0u8; 4096];
+    let text = one_page(&rt, &alloc, KK_BEFORE, KK_BEFORE, page.as_slice());
+    let table = read_table(&alloc, &mut MemoryReader::new(text.as_slice()))
+        .ok()
+        .expect(&rt, "read");
+    let mut again = MemoryWriter::new(&alloc);
+    assert_eq!(rt; write_table(&table, &mut again), Ok(()));
+    let wanted = text_of_kk(&rt, &alloc);
+    assert!(rt; again.taken.as_slice() == wanted.as_slice());
+    let mixed = one_page(&rt, &alloc, KK, KK_BEFORE, page.as_slice());
+    assert_eq!(rt;
+        fault(&alloc, mixed.as_slice()),
+        Some(FileFault::PageDamaged(0))
+    );
+}
+
+/// The number of bytes of a file of each size.
+#[test]
+fn each_size_of_file_has_its_bytes(rt: HostRuntime) {
+    for (class, bytes) in [
+        (Class::KK, 4_192u32),
+        (Class::KRK, 82_624),
+        (Class::KPK, 264_256),
+        (Class::KBBK, 5_283_904),
+        (Class::KQKP, 16_908_352),
+        (Class::KPKP, 33_816_640),
+    ] {
+        assert_eq!(rt; file_bytes(class), bytes);
+    }
+}
+
+/// A text with one bit turned.
+fn turn(text: &mut [u8], place: usize, bit: u8) {
+    if let Some(byte) = text.get_mut(place) {
+        *byte ^= bit;
+    }
+}
+
+/// What a turned bit is, by its place and the version that is read then.
+fn fault_of_place(place: usize, version: u16) -> FileFault {
+    match place {
+        0..=7 => FileFault::NotATable,
+        8..=9 => FileFault::Version(version),
+        16..=23 => FileFault::ClassUnknown,
+        10..=63 => FileFault::HeaderDamaged,
+        _ => FileFault::PageDamaged(0),
+    }
+}
+
+/// Each proper prefix of a text is told as cut off.
+#[test]
+fn each_prefix_is_told_as_cut_off(rt: HostRuntime) {
+    let alloc = rt.alloc();
+    let text = text_of_kk(&rt, &alloc);
+    assert_eq!(rt; fault(&alloc, text.as_slice()), None);
+    for length in 0..4192usize {
+        let (prefix, _) = text.as_slice().split_at(length.min(text.len()));
+        assert_eq!(rt; fault(&alloc, prefix), Some(FileFault::Cut), "{length}");
+    }
+}
+
+/// Each turned bit is found and named by its place.
+#[test]
+fn each_turned_bit_is_found_and_named(rt: HostRuntime) -> Result<(), Fail> {
+    let alloc = rt.alloc();
+    let mut text = text_of_kk(&rt, &alloc);
+    for place in 0..4192usize {
+        for bit in [1u8, 2, 4, 8, 16, 32, 64, 128] {
+            let version = match place {
+                8 => 2 ^ bit as u16,
+                _ => 2 + 256 * bit as u16,
+            };
+            turn(text.as_mut_slice(), place, bit);
+            let want = fault_of_place(place, version);
+            assert_eq!(rt; fault(&alloc, text.as_slice()), Some(want), "{place}");
+            turn(text.as_mut_slice(), place, bit);
+        }
+    }
+    text.push(0)?;
+    assert_eq!(rt;
+        fault(&alloc, text.as_slice()),
+        Some(FileFault::TrailingBytes)
+    );
+    let mut failing = MemoryReader::failing_after(text.as_slice(), 100);
+    assert_eq!(rt;
+        read_table(&alloc, &mut failing).err(),
+        Some(FileFault::Device)
+    );
+    Ok(())
+}
+
+/// The table is not written; the writer took a prefix of the text, and was not asked again.
+fn stops<A: Allocator>(
+    rt: &impl Abort,
+    table: &Table<'_, A>,
+    writer: &mut MemoryWriter<'_, A>,
+    text: &[u8],
+) {
+    assert_eq!(rt; write_table(table, writer), Err(FileFault::Device));
+    let (front, _) = text.split_at(writer.room.min(text.len()));
+    assert!(rt; writer.taken.as_slice() == front, "{}", writer.room);
+    assert_eq!(rt; writer.errors, 1, "{}", writer.room);
+}
+
+/// A writer that is full before the end has taken a prefix of the text, whatever it answers then, and whether or not it
+/// would go on.
+#[test]
+fn a_full_writer_has_a_prefix(rt: HostRuntime) {
+    let alloc = rt.alloc();
+    let text = text_of_kk(&rt, &alloc);
+    let table = zero_table(&rt, &alloc, Class::KK);
+    for room in 0..4192usize {
+        for when_full in [WhenFull::Fail, WhenFull::TakeNothing] {
+            let mut full = MemoryWriter::with_room(&alloc, room, when_full);
+            stops(&rt, &table, &mut full, text.as_slice());
+            let mut recovers = MemoryWriter::full_once(&alloc, room, when_full);
+            recovers.kind = ErrorKind::Interrupted;
+            stops(&rt, &table, &mut recovers, text.as_slice());
+        }
+    }
+}
+
+/// The pages of a text, one by one, from a source that fails when it is told.
+#[test]
+fn pages_are_read_one_by_one(rt: HostRuntime) -> Result<(), Fail> {
+    let alloc = rt.alloc();
+    let table = zero_table(&rt, &alloc, Class::KK);
+    let mut writer = MemoryWriter::new(&alloc);
+    assert_eq!(rt; write_table(&table, &mut writer), Ok(()));
+    let text = writer.taken;
+    let mut source = MemorySource {
+        text: text.as_slice(),
+        asked: 0,
+        fails_at: Some(1),
+        failures: 0,
+    };
+    let mut bytes = [0u8; 64];
+    assert_eq!(rt; source.header(&mut bytes), Ok(()));
+    let header = read_header(&bytes).ok().expect(&rt, "a header");
+    assert_eq!(rt; header.class, Class::KK);
+    let mut page = [0u8; 4128];
+    assert_eq!(rt; source.page(0, &mut page), Err(SourceFault::Device));
+    assert_eq!(rt; source.page(0, &mut page), Ok(()));
+    assert!(rt; page_cells(&header, 0, &page));
+    assert!(rt; !page_cells(&header, 1, &page));
+    assert_eq!(rt; source.page(1, &mut page), Err(SourceFault::Short));
+    assert_eq!(rt; source.failures(), 2);
+    Ok(())
+}
+
+/// A cell after the last one that is not zero, under the digest that it asks for.
+#[test]
+fn bytes_after_the_last_cell_have_to_be_zero(rt: HostRuntime) {
+    let alloc = rt.alloc();
+    let mut page = [0u8; 4096];
+    page[2000] = 1;
+    let text = one_page(&rt, &alloc, KK, KK, page.as_slice());
+    assert_eq!(rt; fault(&alloc, text.as_slice()), Some(FileFault::Padding));
+}
+
+/// A header with some fields changed and the digest made anew has the first fault in the order of the fields.
+#[test]
+fn the_first_fault_of_a_header_is_told(rt: HostRuntime) {
+    let alloc = rt.alloc();
+    for (changes, want) in [
+        ([(7usize, 0u8), (8, 9)], FileFault::NotATable),
+        ([(8, 9), (16, 0)], FileFault::Version(9)),
+        ([(9, 1), (10, 1)], FileFault::Version(258)),
+        ([(17, b'P'), (19, b'P')], FileFault::HeaderDamaged),
+        ([(16, b'k'), (12, 1)], FileFault::ClassUnknown),
+        ([(8, 1), (24, 1)], FileFault::HeaderDamaged),
+        ([(8, 1), (8, 1)], FileFault::Cut),
+        ([(10, 1), (10, 1)], FileFault::HeaderDamaged),
+        ([(12, 1), (13, 0x40)], FileFault::HeaderDamaged),
+        ([(24, 1), (31, 0)], FileFault::HeaderDamaged),
+    ] {
+        let mut fields = KRK.to_vec(&alloc).ok().expect(&rt, "memory");
+        for (place, byte) in changes {
+            if let Some(field) = fields.as_mut_slice().get_mut(place) {
+                *field = byte;
+            }
+        }
+        let text = header_of(&rt, &alloc, fields.as_slice());
+        assert_eq!(rt; fault(&alloc, text.as_slice()), Some(want));
+    }
+}
+
+/// The texts of faults.
+#[test]
+fn faults_have_texts(rt: HostRuntime) -> Result<(), Fail> {
+    for (fault, want) in [
+        (FileFault::Version(9), "version 9 of the file is not known"),
+        (FileFault::PageDamaged(3), "page 3 of the file is damaged"),
+    ] {
+        let text = format!(in rt.alloc(); "{fault}")?;
+        assert_eq!(rt; text.as_str(), want);
+    }
+    let short = SourceFault::Short;
+    let text = format!(in rt.alloc(); "{short}: {DeviceFailed}")?;
+    assert_eq!(rt;
+        text.as_str(),
+        "the file of a table is too short: a device failed"
+    );
+    Ok(())
+}
+
+/// Of two pages that have changed places the first is told, and nothing after it is read.
+#[test]
+fn exchanged_pages_are_told(rt: HostRuntime) {
+    let alloc = rt.alloc();
+    let text = text_of(&rt, &alloc, Class::KRK);
+    let wrong = exchanged(&rt, &alloc, text.as_slice());
+    let mut reader = MemoryReader::new(wrong.as_slice());
+    let answer = read_table(&alloc, &mut reader).err();
+    assert_eq!(rt; answer, Some(FileFault::PageDamaged(3)));
+    assert_eq!(rt; reader.given, 64 + 4 * 4128);
+}

@@ -1,0 +1,59 @@
+//! Tables as the tests build and change them.
+use std::alloc::Allocator;
+use std::process::Abort;
+use study_index::cells;
+use study_material::Class;
+use study_retro::{BuildReport, BuildRoom, Table, TableSet, build};
+
+/// A table, built over the tables of a set, and the report.
+pub fn table_of<'a, A: Allocator>(
+    rt: &impl Abort,
+    alloc: &'a A,
+    tables: &TableSet<'a, A>,
+    class: Class,
+) -> (Table<'a, A>, BuildReport) {
+    let room = BuildRoom::new(alloc, cells(class)).ok().expect(rt, "room");
+    build(class, tables, room).ok().expect(rt, "a table")
+}
+
+/// Builds a table and adds it to the set; answers the report.
+pub fn built<'a, A: Allocator>(
+    rt: &impl Abort,
+    alloc: &'a A,
+    tables: &mut TableSet<'a, A>,
+    class: Class,
+) -> BuildReport {
+    let (table, report) = table_of(rt, alloc, tables, class);
+    assert!(rt; tables.add(table).is_ok());
+    report
+}
+
+/// A set with the tables of these classes, built in order.
+pub fn set_of<'a, A: Allocator>(
+    rt: &impl Abort,
+    alloc: &'a A,
+    classes: &[Class],
+) -> TableSet<'a, A> {
+    let mut tables = TableSet::new(alloc).ok().expect(rt, "a set");
+    for class in classes {
+        let _report = built(rt, alloc, &mut tables, *class);
+    }
+    tables
+}
+
+/// A copy of the held table with one cell changed.
+pub fn changed<'a, A: Allocator>(
+    rt: &impl Abort,
+    alloc: &'a A,
+    tables: &TableSet<'a, A>,
+    class: Class,
+    number: usize,
+    cell: u8,
+) -> Table<'a, A> {
+    let table = tables.table(class).expect(rt, "held");
+    let mut cells = table.cells().to_vec(alloc).ok().expect(rt, "memory");
+    assert!(rt; number < cells.len());
+    cells[number] = cell;
+    assert!(rt; cells.len() == study_index::cells(class) as usize);
+    Table::from_cells(class, cells)
+}

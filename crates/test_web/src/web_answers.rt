@@ -1,0 +1,372 @@
+//! What a page is answered: each request once. The view, the review and the survey are an independent program's.
+
+use crate::web_scripts::two_files;
+use linked_list_allocator::LocalHeap;
+use std::alloc::{Allocator, Global};
+use std::test::Fail;
+use study_material::Class;
+use study_script::run::{RunFault, Summary};
+use study_web::{Ending, Reply, Span, answer, make_file, put_ending};
+
+const SCRIPT: &str = r#"position k7/1R6/8/K7/8/8/8/8 w - - 0 1
+stipulate white mate 3
+tag Event Found with the tables
+tag White King and rook
+insert root Rc7
+insert root Kb6
+insert root Kb5
+insert 2 Kxb7
+insert 0 Kb8
+insert 0.0 Kb6
+insert 0.0 Rc6
+insert 0.0.1 Ka7
+insert 0.0.0 Ka8
+insert 0.0.0.0 Rc8
+insert root Ra9
+pgn
+"#;
+
+const VIEW: &str = r#"study k7/1R6/8/K7/8/8/8/8 w - - 0 1
+stipulation White to mate in 3: sound, White mates in 3
+node root - - win 5 - faults 0 k7/1R6/8/K7/8/8/8/8 w - - 0 1
+node 0 Rc7 b7c7 loss 4 only faults 0 k7/2R5/8/K7/8/8/8/8 b - - 1 1
+node 0.0 Kb8 a8b8 win 3 reply faults 0 1k6/2R5/8/K7/8/8/8/8 w - - 2 2
+node 0.0.0 Kb6 a5b6 loss 2 only faults 0 1k6/2R5/1K6/8/8/8/8/8 b - - 3 2
+node 0.0.0.0 Ka8 b8a8 win 1 reply faults 0 k7/2R5/1K6/8/8/8/8/8 w - - 4 3
+node 0.0.0.0.0 Rc8# c7c8 loss 0 only faults 0 k1R5/8/1K6/8/8/8/8/8 b - - 5 3
+node 0.0.1 Rc6 c7c6 loss 10 mistake faults 1 1k6/8/2R5/K7/8/8/8/8 b - - 3 2
+node 0.0.1.0 Ka7 b8a7 win 7 reply faults 0 8/k7/2R5/K7/8/8/8/8 w - - 4 3
+node 1 Kb6 a5b6 draw mistake faults 1 k7/1R6/1K6/8/8/8/8/8 b - - 1 1
+node 2 Kb5 a5b5 draw mistake faults 1 k7/1R6/8/1K6/8/8/8/8 b - - 1 1
+node 2.0 Kxb7 a8b7 draw reply faults 0 8/1k6/8/1K6/8/8/8/8 w - - 0 2
+at root 19
+move Ka4 a5a4 draw mistake k7/1R6/8/8/K7/8/8/8 b - - 1 1
+move Kb4 a5b4 draw mistake k7/1R6/8/8/1K6/8/8/8 b - - 1 1
+move Kb5 a5b5 draw mistake k7/1R6/8/1K6/8/8/8/8 b - - 1 1
+move Ka6 a5a6 draw mistake k7/1R6/K7/8/8/8/8/8 b - - 1 1
+move Kb6 a5b6 draw mistake k7/1R6/1K6/8/8/8/8/8 b - - 1 1
+move Rb1 b7b1 loss 8 mistake k7/8/8/K7/8/8/8/1R6 b - - 1 1
+move Rb2 b7b2 loss 8 mistake k7/8/8/K7/8/8/1R6/8 b - - 1 1
+move Rb3 b7b3 loss 8 mistake k7/8/8/K7/8/1R6/8/8 b - - 1 1
+move Rb4 b7b4 loss 8 mistake k7/8/8/K7/1R6/8/8/8 b - - 1 1
+move Rb5 b7b5 loss 8 mistake k7/8/8/KR6/8/8/8/8 b - - 1 1
+move Rb6 b7b6 loss 8 mistake k7/8/1R6/K7/8/8/8/8 b - - 1 1
+move Ra7+ b7a7 draw mistake k7/R7/8/K7/8/8/8/8 b - - 1 1
+move Rc7 b7c7 loss 4 only k7/2R5/8/K7/8/8/8/8 b - - 1 1
+move Rd7 b7d7 loss 6 mistake k7/3R4/8/K7/8/8/8/8 b - - 1 1
+move Re7 b7e7 loss 10 mistake k7/4R3/8/K7/8/8/8/8 b - - 1 1
+move Rf7 b7f7 loss 14 mistake k7/5R2/8/K7/8/8/8/8 b - - 1 1
+move Rg7 b7g7 loss 14 mistake k7/6R1/8/K7/8/8/8/8 b - - 1 1
+move Rh7 b7h7 loss 14 mistake k7/7R/8/K7/8/8/8/8 b - - 1 1
+move Rb8+ b7b8 draw mistake kR6/8/8/K7/8/8/8/8 b - - 1 1
+"#;
+
+const REVIEW: &str = r#"study 1 k7/1R6/8/K7/8/8/8/8 w - - 0 1
+stipulation White to mate in 3: sound, White mates in 3
+refuted 0.0.1 Ka7 win 7
+refuted 0.0.1 Kb7 win 9
+refuted 0.0.1 Ka8 win 5
+play 0.0.1.0 win 7 Rc7+ Ka8 Kb5 Kb8 Kb6 Ka8 Rc8#
+refuted 1 stalemate
+refuted 2 Kxb7 draw
+keep 2.0 5 5 Ka4 Kb4 Kc4 Ka5 Kc5
+"#;
+
+const SURVEY: &str = r#"survey Rh1 White to mate in 1
+a1 -
+b1 fails win 3
+c1 only win 1 Rc8#
+d1 only win 1 Rd8#
+e1 only win 1 Re8#
+f1 only win 1 Rf8#
+g1 only win 1 Rg8#
+a2 -
+b2 fails win 3
+c2 only win 1 Rc8#
+d2 only win 1 Rd8#
+e2 only win 1 Re8#
+f2 only win 1 Rf8#
+g2 only win 1 Rg8#
+h2 only win 1 Rh8#
+a3 -
+b3 fails win 3
+c3 only win 1 Rc8#
+d3 only win 1 Rd8#
+e3 only win 1 Re8#
+f3 only win 1 Rf8#
+g3 only win 1 Rg8#
+h3 only win 1 Rh8#
+a4 -
+b4 fails win 3
+c4 only win 1 Rc8#
+d4 only win 1 Rd8#
+e4 only win 1 Re8#
+f4 only win 1 Rf8#
+g4 only win 1 Rg8#
+h4 only win 1 Rh8#
+a5 -
+b5 fails win 3
+c5 only win 1 Rc8#
+d5 only win 1 Rd8#
+e5 only win 1 Re8#
+f5 only win 1 Rf8#
+g5 only win 1 Rg8#
+h5 only win 1 Rh8#
+a6 -
+b6 -
+c6 only win 1 Rc8#
+d6 only win 1 Rd8#
+e6 only win 1 Re8#
+f6 only win 1 Rf8#
+g6 only win 1 Rg8#
+h6 only win 1 Rh8#
+a7 -
+b7 fails win 3
+c7 only win 1 Rc8#
+d7 only win 1 Rd8#
+e7 only win 1 Re8#
+f7 only win 1 Rf8#
+g7 only win 1 Rg8#
+h7 only win 1 Rh8#
+a8 -
+b8 -
+c8 -
+d8 -
+e8 -
+f8 -
+g8 -
+h8 -
+"#;
+
+fn ask<'a>(
+    alloc: &'a Global,
+    request: &str,
+    script: &str,
+    spans: &[Span],
+    bytes: &[u8],
+) -> Reply<'a, Global> {
+    answer(
+        alloc,
+        request.as_bytes(),
+        script.as_bytes(),
+        spans,
+        bytes,
+        &[],
+        Some(16),
+    )
+}
+
+/// The name of a refusal.
+fn refusal<'a>(
+    alloc: &'a Global,
+    request: &str,
+    script: &str,
+    spans: &[Span],
+    bytes: &[u8],
+) -> Result<Vec<u8, &'a Global>, Fail> {
+    let given = ask(alloc, request, script, spans, bytes);
+    let mut word = Vec::new(alloc);
+    put_ending(&mut word, given.ended)?;
+    if word.as_slice() != b"refused\n".as_slice() {
+        return Err(Fail::from("not refused"));
+    }
+    Ok(given.text)
+}
+
+/// Requests that need no table.
+#[test]
+fn without_tables(rt: HostRuntime) -> Result<(), Fail> {
+    let alloc = rt.alloc();
+    let passed = ask(&alloc, "passed 4k3/8/8/8/4P3/8/8/4K3 b - -", "", &[], &[]);
+    assert!(rt; passed.text.as_slice() == b"e3\n".as_slice());
+    assert!(rt; passed.ended == Ending::Answered);
+    let script =
+        "position 8/8/8/6k1/8/8/1P5K/8 w - - 0 1\nposition 8/8\nshift 4k3/8/8/8/8/8/8/R3K3 b - - 0 1\n";
+    let tables = ask(&alloc, "tables", script, &[], &[]);
+    assert!(rt; tables.text.as_slice() == b"KK\nKQK\nKRK\nKBK\nKNK\nKPK\n".as_slice());
+    let script = "position 4k3/8/8/8/4P3/8/8/4K3 b - - 0 1\nsquare\n";
+    let view = ask(&alloc, "view root", script, &[], &[]);
+    assert!(rt;
+        view.text
+            .as_slice()
+            .starts_with(b"study 4k3/8/8/8/4P3/8/8/4K3 b - - 0 1\n")
+    );
+    assert!(rt;
+        view.text
+            .as_slice()
+            .ends_with(b"b - - 0 1\nrefused 2 UnknownCommand\n")
+    );
+    let run = ask(&alloc, "run", "fen root\n", &[], &[]);
+    assert!(rt; run.text.as_slice() == b"error NoPosition\n".as_slice());
+    assert!(rt;
+        run.ended
+            == Ending::Ran(Summary {
+                lines: 1,
+                refused: 1
+            })
+    );
+    let made = ask(&alloc, "make KK", "", &[], &[]);
+    let kings = make_file(&alloc, Class::KK, &[], &[])?;
+    assert!(rt; made.text.as_slice() == kings.as_slice());
+    Ok(())
+}
+
+/// Whether the words stand in the text.
+fn has(text: &[u8], words: &str) -> bool {
+    for start in 0..text.len() {
+        if text[start..].starts_with(words.as_bytes()) {
+            return true;
+        }
+    }
+    false
+}
+
+/// The printed page of a study, with its refused line before it.
+#[test]
+fn pages_over_tables(rt: HostRuntime) -> Result<(), Fail> {
+    let alloc = rt.alloc();
+    let (bytes, spans) = two_files(&alloc)?;
+    let report = ask(&alloc, "report", SCRIPT, &spans, bytes.as_slice());
+    let text = report.text.as_slice();
+    assert!(rt; text.starts_with(b"<!DOCTYPE html>\n") && text.ends_with(b"</body></html>\n"));
+    let refused = "Line 15 was refused: <code>insert root Ra9</code> <b>NotSan</b>: ";
+    assert!(rt; has(text, refused));
+    assert!(rt;
+        has(
+            text,
+            "<article id=\"e1\"><header><h1>Found with the tables</h1>"
+        )
+    );
+    assert!(rt; has(text, ">sound</span>"));
+    assert!(rt; !has(text, "<article id=\"e2\">") && !has(text, "Entries and verdicts"));
+    assert!(rt;
+        report.ended
+            == Ending::Ran(Summary {
+                lines: 16,
+                refused: 1
+            })
+    );
+    let other = [Span {
+        class: Class::KRK as usize,
+        start: 0,
+        length: 80,
+    }];
+    let text = refusal(&alloc, "report", SCRIPT, &other, bytes.as_slice())?;
+    assert!(rt; text.starts_with(b"KRK "));
+    Ok(())
+}
+
+/// Requests over the tables of king and rook.
+#[test]
+fn over_tables(rt: HostRuntime) -> Result<(), Fail> {
+    let alloc = rt.alloc();
+    let (bytes, spans) = two_files(&alloc)?;
+    let view = ask(&alloc, "view root", SCRIPT, &spans, bytes.as_slice());
+    let text = view.text.as_slice();
+    assert!(rt; text.starts_with(VIEW.as_bytes()));
+    assert!(rt;
+        text.ends_with(b"\nrefused 15 NotSan\n") && text.len() == VIEW.len().saturating_add(18)
+    );
+    let review = ask(&alloc, "review", SCRIPT, &spans, bytes.as_slice());
+    let text = review.text.as_slice();
+    assert!(rt;
+        text.starts_with(b"refused 15 NotSan\nstudy 1 ") && text.ends_with(REVIEW.as_bytes())
+    );
+    assert!(rt;
+        review.ended
+            == Ending::Ran(Summary {
+                lines: 16,
+                refused: 1
+            })
+    );
+    let request = "survey h1 white mate 1 k7/8/1K6/8/8/8/8/7R w - - 0 1";
+    let survey = ask(&alloc, request, "", &spans, bytes.as_slice());
+    assert!(rt; survey.text.as_slice() == SURVEY.as_bytes());
+    assert!(rt; survey.ended == Ending::Answered);
+    Ok(())
+}
+
+/// Refusals by name.
+#[test]
+fn refused_by_name(rt: HostRuntime) -> Result<(), Fail> {
+    let alloc = rt.alloc();
+    let cases = [
+        ("", "UnknownCommand\n"),
+        ("dance", "UnknownCommand\n"),
+        ("run fast", "BadArguments\n"),
+        ("view 0.x", "BadArguments\n"),
+        ("view 0", "NoSuchNode\n"),
+        ("make KQ", "NotAClass\n"),
+        ("make KRK", "MissingTable KK\n"),
+        ("passed 8/8", "FieldCount\n"),
+        (
+            "survey i1 white win 4k3/8/8/8/8/8/8/R3K3 w - -",
+            "BadArguments\n",
+        ),
+        (
+            "survey a1 white 4k3/8/8/8/8/8/8/R3K3 w - -",
+            "UnknownStipulation\n",
+        ),
+        ("survey b1 white win 4k3/8/8/8/8/8/8/R3K3 w - -", "NoMan\n"),
+        (
+            "survey a1 white win 4k3/8/8/8/8/8/8/R3K3 w - -",
+            "NoTable KRK\n",
+        ),
+        ("run\n", "BadByte\n"),
+    ];
+    for (request, name) in cases {
+        let text = refusal(&alloc, request, "", &[], &[])?;
+        assert!(rt; text.as_slice() == name.as_bytes(), "{request}");
+    }
+    Ok(())
+}
+
+/// Spans that lie outside the bytes are no files; one that cuts a file short, or has another class's file, refuses what is asked.
+#[test]
+fn files_that_are_none(rt: HostRuntime) -> Result<(), Fail> {
+    let alloc = rt.alloc();
+    let bytes = make_file(&alloc, Class::KK, &[], &[])?;
+    let request = "survey a1 white draw k7/8/8/8/8/8/8/K7 w - -";
+    let at = |class: Class, start: usize, length: usize| Span {
+        class: class as usize,
+        start,
+        length,
+    };
+    let outside = [at(Class::KK, 1, bytes.len())];
+    let text = refusal(&alloc, request, "", &outside, bytes.as_slice())?;
+    assert!(rt; text.as_slice() == b"NoTable KK\n".as_slice());
+    let other = [at(Class::KRK, 0, bytes.len())];
+    let text = refusal(&alloc, request, "", &other, bytes.as_slice())?;
+    assert!(rt; text.as_slice() == b"KRK OtherClass KK\n".as_slice());
+    let short = [at(Class::KK, 0, 63)];
+    let text = refusal(&alloc, request, "", &short, bytes.as_slice())?;
+    assert!(rt; text.as_slice() == b"KK TableRead Short\n".as_slice());
+    let moved = [at(Class::KK, 1, bytes.len().saturating_sub(1))];
+    let text = refusal(&alloc, request, "", &moved, bytes.as_slice())?;
+    assert!(rt; text.as_slice() == b"KK NotATable\n".as_slice());
+    Ok(())
+}
+
+/// In heaps of growing size a request is refused or stopped for want of memory, until it is answered.
+#[test]
+fn memory_for_an_answer(rt: HostRuntime) -> Result<(), Fail> {
+    let alloc = rt.alloc();
+    let mut refused = 0u32;
+    for step in 0..400usize {
+        let heap = LocalHeap::new(alloc, 64 + step * 32)?;
+        let saved = Vec::new(&heap);
+        let view = b"view root".as_slice();
+        let script = b"square\n".as_slice();
+        let reply = answer(&heap, view, script, &[], &[], saved.as_slice(), Some(1));
+        if reply.ended == Ending::Answered {
+            assert!(rt; reply.text.as_slice() == b"refused 1 UnknownCommand\n".as_slice());
+            assert!(rt; refused > 0);
+            return Ok(());
+        }
+        let named = reply.text.as_slice() == b"OutOfMemory\n".as_slice();
+        let stopped = reply.ended == Ending::Stopped(RunFault::OutOfMemory);
+        assert!(rt; named || stopped && reply.text.is_empty(), "{step}");
+        refused = refused.saturating_add(1);
+    }
+    Err(Fail::from("no heap was large enough"))
+}

@@ -1,0 +1,62 @@
+#!/usr/bin/env python3
+"""Writes what crates/gallery_views is asked, and what it has to answer, from the files of an independent program:
+FOLDER/NAME.views, where each view follows a line `# view PATH`, and FOLDER/surveys.txt, where each survey follows a line
+`# FEN | SQUARE | SIDE GOAL`. Only those are taken whose tables the crate makes. That program has looked at each study where its
+script first asks for the PGN, so the scripts are those of the gallery up to there.
+
+    tools/expected_views.py FOLDER
+"""
+import sys
+from pathlib import Path
+
+CRATES = Path(__file__).resolve().parent.parent / "crates"
+CRATE = CRATES / "gallery_views"
+MADE = {"KK", "KQK", "KRK", "KBK", "KNK", "KPK", "KNNK"}
+ORDER = "KQRBNP"
+
+
+def material(fen):
+    """The name of a FEN's class, the stronger side first."""
+    men = fen.split()[0]
+    sides = [sorted((m.upper() for m in men if m.isalpha() and m.isupper() == white), key=ORDER.index) for white in (True, False)]
+    sides.sort(key=lambda side: (-len(side), [ORDER.index(m) for m in side]))
+    return "".join(sides[0] + sides[1])
+
+
+def parts(text, mark):
+    """The headings that begin with the mark, each with the lines that follow it."""
+    found = []
+    for line in text.splitlines(keepends=True):
+        if line.startswith(mark):
+            found.append((line[len(mark):].rstrip("\n"), []))
+        else:
+            found[-1][1].append(line)
+    return [(heading, "".join(lines)) for heading, lines in found]
+
+
+def script(name):
+    """A script of the gallery up to its first `pgn` line."""
+    lines = (CRATES / f"gallery/data/{name}.script").read_text().splitlines(keepends=True)
+    return "".join(lines[:lines.index("pgn\n") + 1])
+
+
+def main(folder):
+    asked = []
+    for file in sorted(folder.glob("*.views")):
+        for heading, view in parts(file.read_text(), "# "):
+            if material(view.splitlines()[0].removeprefix("study ")) in MADE:
+                asked.append((file.stem, heading, view))
+    for heading, survey in parts((folder / "surveys.txt").read_text(), "# "):
+        fen, square, stipulation = heading.split(" | ")
+        if material(fen) in MADE:
+            asked.append(("-", f"survey {square} {stipulation} {fen}", survey))
+    names = sorted({name for name, request, text in asked if name != "-"})
+    for name in names:
+        (CRATE / f"data/{name}.script").write_text(script(name))
+    (CRATE / "data/requests").write_text("".join(f"{name} {request}\n" for name, request, text in asked))
+    (CRATE / "stdout").write_text("".join(f"# {name} {request}\n{text}" for name, request, text in asked))
+    print(len(asked), "requests of", len(names), "studies")
+
+
+if __name__ == "__main__":
+    main(Path(sys.argv[1]))

@@ -1,0 +1,41 @@
+#!/bin/bash
+# Builds studyboard.html, the workbench as one page that opens by a double click: web/out/studyboard.html.
+#
+#   tools/web.sh [FOLDER]
+#
+# The proved libraries become a WebAssembly module, which web/study_web_module exports, and the page's scripts are bundled around it. The
+# same commit gives the same bytes. FOLDER, outside of the repository, keeps the proof of the module for the next time. The sources of the
+# module end in .txt, since `rt ci` takes no crate for wasm64, and no .rt or .antt file beside its crates.
+set -e
+top=$(cd "$(dirname "$0")/.." && pwd); work=$(realpath -m "${1:-${TMPDIR:-/tmp}/studyboard}")
+for it in "rt:the Rattle toolchain" "python3:Debian's python3" "esbuild:Debian's esbuild" "wasm-opt:Debian's binaryen"; do
+    command -v "${it%%:*}" > /dev/null || { echo "tools/web.sh: ${it%%:*} is not here; it is in ${it#*:}"; exit 1; }
+done
+kit=$(dirname "$(dirname "$(readlink -f "$(command -v rt)")")"); target=wasm64-unknown-unknown; name=study_web_module
+mkdir -p "$work/out" "$top/web/out"
+
+# ---- the module: the libraries proved, then the export over them
+(cd "$top/crates/study_web" && rt lib) > "$work/out/libraries.log" 2>&1 || { tail -5 "$work/out/libraries.log"; exit 1; }
+cd "$work"
+rm -rf src specs proofs
+(cd "$top/web/$name" && find . -name '*.txt') | while read -r file; do install -D -m 644 "$top/web/$name/$file" "${file%.txt}"; done
+words=(-L "dependency=$kit/rlibs")
+for it in std; do words+=(--extern "$it=$kit/rlibs/$it.rlib"); done
+for it in study_tablefile study_web; do words+=(--extern "$it=$top/crates/$it/out/rlib/$it.rlib"); done
+for it in "$top"/crates/*/out/rlib; do words+=(-L "dependency=$it"); done
+"$kit/bin/rattle" build --crate-name $name src/lib.rt "${words[@]}" --antt-project "$kit/rattle/logic/antt-project.json" --logic-built "$kit/logic_built" \
+    --jobs 2 --links $name=c --crate-type staticlib --target $target --toolchain "$kit/toolchain" --backend llvm --incremental out/incremental \
+    -o out/lib$name.a > out/module.log 2>&1 || { grep -v '^statements\|^library' out/module.log | tail -20; exit 1; }
+grep '^logic=' out/module.log
+"$kit/bin/rattle-link" --target $target --toolchain "$kit/toolchain" -o out/$name.64.wasm out/lib$name.a
+
+# ---- the same with 32-bit addresses, for browsers without memory64
+wasm-opt --enable-memory64 --enable-bulk-memory --enable-sign-ext --enable-mutable-globals --enable-multivalue --enable-reference-types \
+    --enable-nontrapping-float-to-int --enable-extended-const --memory64-lowering -O3 out/$name.64.wasm -o out/$name.32.wasm
+
+# ---- the page
+for it in main worker; do
+    esbuild "$top/web/src/$it.js" --bundle --format=iife --target=es2020 --charset=utf8 --log-level=warning --outfile="out/$it.js"
+done
+python3 "$top/tools/web_page.py" out/main.js out/worker.js out/$name.64.wasm out/$name.32.wasm "$top/web/out/studyboard.html"
+sha256sum "$top/web/out/studyboard.html"

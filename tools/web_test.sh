@@ -1,0 +1,39 @@
+#!/bin/bash
+# Tests studyboard.html: types, pure functions, and the page in headless Chromium, opened from its file.
+#
+#   tools/web_test.sh [--short] [TABLES]
+#
+# TABLES has the files of tables that tools/all_tables.sh builds; without it only what needs none is tried. --short: one study by mouse, and 20
+# scripts. STUDYBOARD names another page than web/out/studyboard.html; SHOTS a folder for pictures; STUDYBENCH the native program.
+top=$(cd "$(dirname "$0")/.." && pwd); short=; [ "$1" = --short ] && { short=1; shift; }
+tables=${1:-}; page=${STUDYBOARD:-$top/web/out/studyboard.html}; python=${PYTHON:-/usr/bin/python3}; status=0
+say() { echo "tools/web_test.sh: $1"; }
+try() { "$@" || status=1; }
+
+if command -v tsc > /dev/null; then try tsc -p "$top/web" && echo "types: checked"; else say "no tsc (Debian's node-typescript): types are not checked"; fi
+if command -v node > /dev/null; then
+    (cd "$top/web" && node --test tests/ | grep -E '^(not ok|# (pass|fail))'; exit "${PIPESTATUS[0]}") || status=1
+else
+    say "no node: pure functions are not tried"
+fi
+lines=$(awk 'FNR > 300 { print FILENAME }' "$top"/web/src/*.js | sort -u); [ -z "$lines" ] || { say "more than 300 lines: $lines"; status=1; }
+
+[ -f "$page" ] || { say "no page: run tools/web.sh first"; exit 1; }
+if ! command -v chromedriver > /dev/null || ! "$python" -c 'import selenium' 2> /dev/null; then
+    say "no chromedriver (Debian's chromium-driver, python3-selenium): the page is not tried"
+    exit $status
+fi
+[ -n "$tables" ] || { say "no folder of tables: the page is not tried"; exit $status; }
+cd "$top/web/tests/browser" || exit 1
+if [ -n "$short" ]; then
+    try "$python" gallery.py "$tables" kpk_opposition
+    try "$python" scripts.py "$tables" 20
+else
+    try "$python" page.py "$tables"
+    try "$python" gallery.py "$tables"
+    try "$python" monkey.py "$tables" 1 300
+    try "$python" scripts.py "$tables" 200
+    try "$python" speed.py "$tables"
+    try "$python" firefox.py
+fi
+exit $status

@@ -1,0 +1,174 @@
+// @ts-check
+// What the user does, as a change of the script's lines. Each function gives the lines to be run; the program takes or refuses them.
+import { aimWords } from './words.js';
+import { TAGS, isEdit, wordsOf } from './script.js';
+import { nodeAt, written } from './replies.js';
+/** @typedef {import('./types.js').Study} Study @typedef {import('./types.js').Change} Change @typedef {import('./types.js').TreeNode} TreeNode */
+
+/**
+ * @param {string[]} lines
+ * @param {number} at
+ * @param {number} gone
+ * @param {string[]} more
+ */
+const spliced = (lines, at, gone, ...more) => [...lines.slice(0, at), ...more, ...lines.slice(at + gone)];
+/**
+ * @param {string[]} lines
+ * @param {Study} study
+ * @param {string[]} more
+ */
+const appended = (lines, study, ...more) => spliced(lines, study.last + 1, 0, ...more);
+
+/**
+ * The moves one below the other, from a node on; what is there already is walked.
+ * @param {string[]} lines
+ * @param {Study} study
+ * @param {TreeNode} root
+ * @param {string} path
+ * @param {string[]} sans
+ * @returns {Change}
+ */
+export function insertMoves(lines, study, root, path, sans) {
+  let node = nodeAt(root, path), at = path;
+  const more = [];
+  for (const san of sans) {
+    const plain = (/** @type {string} */ s) => s.replace(/[+#!?=x]/g, '');
+    const there = node ? node.children.findIndex(c => plain(c.san) === plain(san)) : -1;
+    const place = there >= 0 ? there : node ? node.children.length : 0;
+    if (there < 0) more.push(`insert ${at} ${san}`);
+    node = node && there >= 0 ? node.children[there] : null;
+    at = at === 'root' ? `${place}` : `${at}.${place}`;
+  }
+  return { lines: more.length ? appended(lines, study, ...more) : lines, path: at };
+}
+/**
+ * A node goes, with all below it; where it is the newest line, that line goes.
+ * @param {string[]} lines
+ * @param {Study} study
+ * @param {TreeNode} node
+ * @returns {Change}
+ */
+export function removeNode(lines, study, node) {
+  const newest = study.made && study.made.line === study.last && study.made.path === node.path && wordsOf(lines[study.last])[0] === 'insert';
+  return { lines: newest ? spliced(lines, study.last, 1) : appended(lines, study, 'delete ' + node.path), path: node.parent ? node.parent.path : 'root' };
+}
+/**
+ * One place up, or to the front.
+ * @param {string[]} lines
+ * @param {Study} study
+ * @param {TreeNode} node
+ * @param {boolean} toFront
+ * @returns {Change}
+ */
+export function promoteNode(lines, study, node, toFront = false) {
+  const parts = node.path.split('.'), place = Number(parts.pop()), base = parts.map(p => p + '.').join('');
+  const times = toFront ? place : 1;
+  return { lines: appended(lines, study, ...[...Array(times).keys()].map(i => `promote ${base}${place - i}`)), path: 'made' };
+}
+/**
+ * An earlier line of the study is changed in place; else one is added below the position and its stipulation.
+ * @param {string[]} lines
+ * @param {Study} study
+ * @param {string} place
+ * @param {string} line
+ */
+function setLine(lines, study, place, line) {
+  const at = study.place[place];
+  if (at !== undefined && at > study.from) return spliced(lines, at, 1, ...(line ? [line] : []));
+  const aim = study.place.aim !== undefined && study.place.aim > study.from && study.place.aim === study.from + 1 ? 1 : 0;
+  return line ? spliced(lines, study.from + 1 + (place === 'aim' ? 0 : aim), 0, line) : lines;
+}
+/**
+ * @param {string[]} lines
+ * @param {Study} study
+ * @param {string} words
+ * @returns {Change}
+ */
+export const stipulate = (lines, study, words) => ({ lines: setLine(lines, study, 'aim', 'stipulate ' + words) });
+/**
+ * What the PGN Standard writes where a tag is not known.
+ * @param {string} name
+ */
+export const unknown = name => (name === 'Date' ? '????.??.??' : '?');
+/** @param {string | undefined} text */
+export const isKnown = text => text !== undefined && !/^[?.]*$/.test(text);
+/**
+ * Text without accents, as a tag can hold it.
+ * @param {string} text
+ */
+export const withoutAccents = text => text.normalize('NFD')
+                                          .replace(/[\u0300-\u036f]/g, '')
+                                          .replace(/ß/g, 'ss')
+                                          .replace(/[łŁ]/g, c => (c === 'ł' ? 'l' : 'L'))
+                                          .replace(/[øØ]/g, c => (c === 'ø' ? 'o' : 'O'));
+/**
+ * @param {string[]} lines
+ * @param {Study} study
+ * @param {string} name
+ * @param {string} text
+ * @returns {Change}
+ */
+export function setTag(lines, study, name, text) {
+  const carried = study.tags[name] !== undefined && study.place[name] === undefined;
+  return { lines: setLine(lines, study, name, text ? `tag ${name} ${text}` : carried ? `tag ${name} ${unknown(name)}` : '') };
+}
+
+/**
+ * Another position with the same tree.
+ * @param {string[]} lines
+ * @param {Study} study
+ * @param {string} fen
+ * @param {string} aim
+ * @returns {Change}
+ */
+export function shiftTo(lines, study, fen, aim) {
+  const shifted = appended(lines, study, 'shift ' + fen);
+  return { lines: study.aim && aimWords(study.aim) === aim ? shifted : setLine(shifted, study, 'aim', 'stipulate ' + aim) };
+}
+/**
+ * Another position with an empty tree; tags and remarks stay.
+ * @param {string[]} lines
+ * @param {Study} study
+ * @param {string} fen
+ * @param {string} aim
+ * @returns {Change}
+ */
+export function replacePosition(lines, study, fen, aim) {
+  const own = lines.slice(study.from + 1, study.end).filter(l => !/^ *(insert|delete|promote|shift|mark|moves|fen|solve|stipulate)( |$)/.test(l));
+  return { lines: [...lines.slice(0, study.from), 'position ' + fen, 'stipulate ' + aim, ...own, ...lines.slice(study.end)], path: 'root' };
+}
+/**
+ * One more study, with tags of its own.
+ * @param {string[]} lines
+ * @param {string} fen
+ * @param {string} aim
+ * @param {Study | undefined} before
+ */
+export function addStudy(lines, fen, aim, before) {
+  const anew = before ? TAGS.filter(name => isKnown(before.tags[name])).map(name => `tag ${name} ${unknown(name)}`) : [];
+  return [...lines, ...(lines.length && lines[lines.length - 1].trim() ? [''] : []), 'position ' + fen, 'stipulate ' + aim, ...anew];
+}
+/**
+ * A study goes from the script.
+ * @param {string[]} lines
+ * @param {Study} study
+ * @param {number} at
+ * @returns {Change}
+ */
+export const dropStudy = (lines, study, at) => ({ lines: spliced(lines, study.from, study.end - study.from), at: Math.max(at - 1, 0), path: 'root' });
+
+/**
+ * A study written anew in its shortest form, in written order.
+ * @param {string[]} lines
+ * @param {Study} study
+ * @param {TreeNode} root
+ * @returns {Change}
+ */
+export function tidy(lines, study, root) {
+  const notes = lines.slice(study.from + 1, study.end).filter(line => !isEdit(line) && line.trim());
+  const tags = TAGS.filter(name => study.place[name] !== undefined).map(name => `tag ${name} ${study.tags[name]}`);
+  const moves = written(root).filter(n => n.parent).map(n => `insert ${n.parent ? n.parent.path : 'root'} ${n.san}`);
+  const aim = study.aim ? ['stipulate ' + aimWords(study.aim)] : [];
+  const gap = study.end < lines.length && lines[study.end - 1] === '' ? [''] : [];
+  return { lines: spliced(lines, study.from, study.end - study.from, 'position ' + root.fen, ...aim, ...tags, ...moves, ...notes, ...gap) };
+}

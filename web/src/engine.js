@@ -1,0 +1,90 @@
+// @ts-check
+// Workers around the proved core. A trap or a stop ends a worker and never the page; the next question begins a new one.
+
+export class Stopped extends Error {}
+/** @typedef {{bytes: Uint8Array, ended: string, saved: [string, Uint8Array][], ms: number, memory: number}} Told */
+
+/** @typedef {object} Core
+ * @property {(request: string, script: string, pages: number) => Promise<{text: string, ended: string}>} answer
+ * @property {(request: string, script: string, pages: number) => Promise<Told>} ask
+ * @property {(name: string, bytes: Uint8Array) => Promise<any>} lay      the bytes are handed over
+ * @property {(name: string) => boolean} holds
+ * @property {(name: string) => void} drop
+ * @property {(why?: Error) => void} end
+ * @property {{ms: number, memory: number}} last
+ */
+
+/**
+ * @param {() => Worker} spawn
+ * @param {() => Promise<WebAssembly.Module>} compiled
+ * @returns {Core}
+ */
+export function makeCore(spawn, compiled) {
+  let worker = /** @type {Worker | null} */ (null), next = 0;
+  const waiting = /** @type {Map<number, {ok: (told: any) => void, no: (why: Error) => void}>} */ (new Map());
+  const laid = new Set(), last = { ms: 0, memory: 0 };
+
+  /**
+   * @param {any} message
+   * @param {Transferable[]} moved
+   * @returns {Promise<any>}
+   */
+  function call(message, moved = []) {
+    if (!worker) begin();
+    const to = /** @type {Worker} */ (worker), id = ++next;
+    return new Promise((ok, no) => { waiting.set(id, { ok, no }); to.postMessage({ id, ...message }, moved); });
+  }
+  function begin() {
+    const mine = worker = spawn();
+    mine.onmessage = ({ data }) => {
+      if (worker !== mine) return;
+      if (data.failed) return end(new Error(data.failed));
+      if (data.ms !== undefined) [last.ms, last.memory] = [data.ms, data.memory];
+      const who = waiting.get(data.id);
+      waiting.delete(data.id);
+      if (who) who.ok(data);
+    };
+    mine.onerror = e => { if (worker === mine) end(new Error(e.message || 'the worker did not start')); };
+    started = compiled().then(module => { if (worker === mine) return call({ kind: 'start', module }); });
+    started.catch(fault => { if (worker === mine) end(fault); });
+  }
+  let started = /** @type {Promise<any>} */ (Promise.resolve());
+  /**
+   * The worker goes, with all that is in its memory.
+   * @param {Error} why
+   */
+  function end(why = new Stopped('stopped')) {
+    if (worker) worker.terminate();
+    worker = null;
+    laid.clear();
+    const left = [...waiting.values()];
+    waiting.clear();
+    left.forEach(w => w.no(why));
+  }
+  /**
+   * @param {any} message
+   * @param {Transferable[]} moved
+   */
+  async function ready(message, moved = []) {
+    if (!worker) begin();
+    await started;
+    return call(message, moved);
+  }
+  /**
+   * @param {string} request
+   * @param {string} script
+   * @param {number} pages
+   * @returns {Promise<Told>}
+   */
+  const ask = (request, script, pages) => ready({ kind: 'answer', request, script, pages });
+  return {
+    ask, end, last,
+    answer: async (request, script, pages) => {
+      const told = await ask(request, script, pages);
+      return { text: new TextDecoder().decode(told.bytes), ended: told.ended };
+    },
+    lay(name, bytes) { laid.add(name); return ready({ kind: 'lay', name, bytes: bytes.buffer }, [bytes.buffer]); },
+    drop(name) { if (laid.delete(name)) ready({ kind: 'drop', name }).catch(() => {}); },
+    holds: name => laid.has(name),
+  };
+}

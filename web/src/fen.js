@@ -1,0 +1,143 @@
+// @ts-check
+// A FEN as a drawing: who stands where. No rule of chess stands here.
+
+/** @typedef {Record<number, string>} Men      square -> letter, capitals are White */
+
+export const EMPTY = '8/8/8/8/8/8/8/8';
+export const NAMES = /** @type {Record<string, string>} */ ({ K: 'king', Q: 'queen', R: 'rook', B: 'bishop', N: 'knight', P: 'pawn' });
+const FILES = 'abcdefgh';
+
+/** @param {number} square */
+export const squareName = square => FILES[square % 8] + (Math.floor(square / 8) + 1);
+/** @param {string} name */
+export const squareAt = name => 8 * (Number(name[1]) - 1) + FILES.indexOf(name[0]);
+/** @param {string} letter */
+export const isWhite = letter => letter === letter.toUpperCase();
+/**
+ * @param {string} fen
+ * @returns {import('./types.js').Side}
+ */
+export const sideOf = fen => (fen.split(' ')[1] === 'b' ? 'Black' : 'White');
+/**
+ * @param {import('./types.js').Side} side
+ * @returns {import('./types.js').Side}
+ */
+export const other = side => (side === 'White' ? 'Black' : 'White');
+/**
+ * The number before a move from this position, as `3.` or `3...`
+ * @param {string} fen
+ */
+export const numbered = fen => (fen.split(' ')[5] || '1') + (sideOf(fen) === 'White' ? '. ' : '... ');
+/** @param {string} letter */
+export const manName = letter => `${isWhite(letter) ? 'white' : 'black'} ${NAMES[letter.toUpperCase()]}`;
+
+/**
+ * @param {string} fen
+ * @returns {Men}
+ */
+export function menOf(fen) {
+  const men = /** @type {Men} */ ({});
+  fen.trim().split(/ +/)[0].split('/').forEach((rank, i) => {
+    let file = 0;
+    for (const c of rank) {
+      if (/[1-8]/.test(c)) file += Number(c);
+      else if (file < 8 && i < 8) men[8 * (7 - i) + file++] = c;
+    }
+  });
+  return men;
+}
+
+/** @param {Men} men */
+export function placement(men) {
+  const rank = (/** @type {number} */ r) => [...FILES].map((_, f) => men[8 * r + f] || '1').join('').replace(/1+/g, s => `${s.length}`);
+  return [7, 6, 5, 4, 3, 2, 1, 0].map(rank).join('/');
+}
+
+/**
+ * @param {Men} men
+ * @param {boolean} white
+ */
+function listed(men, white) {
+  const order = (/** @type {string} */ c) => 'KQRBNP'.indexOf(c.toUpperCase());
+  return Object.entries(men).filter(([, c]) => isWhite(c) === white)
+    .sort(([s, c], [t, d]) => order(c) - order(d) || Number(s) % 8 - Number(t) % 8 || Number(s) - Number(t))
+    .map(([s, c]) => c.toUpperCase() + squareName(Number(s)));
+}
+/**
+ * `Kb6 Pc6 / Ka1 Rd5`
+ * @param {string} fen
+ */
+export function control(fen) {
+  const men = menOf(fen);
+  return `${listed(men, true).join(' ')} / ${listed(men, false).join(' ')}`;
+}
+/**
+ * What a screen reader hears of a position.
+ * @param {string} fen
+ */
+export const spokenPosition = fen => `White ${control(fen).replace(' / ', '; Black ')}; ${sideOf(fen)} to move`;
+
+/**
+ * `Kb6 Pc6 / Ka1 Rd5`, or `white kb6 pc6 black ka1 rd5`, as a placement; else null.
+ * @param {string} text
+ */
+export function fromControl(text) {
+  const sides = text.trim().replace(/^(pieces )? *white /i, '').replace(/ black /i, ' / ').split('/');
+  if (sides.length !== 2) return null;
+  const men = /** @type {Men} */ ({});
+  for (const [i, part] of sides.entries()) {
+    for (const word of part.trim().split(/[ ,]+/)) {
+      const m = /^([KQRBNSP]?)([a-h][1-8])$/i.exec(word);
+      if (!m) return null;
+      const letter = (m[1] || 'P').toUpperCase().replace('S', 'N');
+      men[squareAt(m[2].toLowerCase())] = i ? letter.toLowerCase() : letter;
+    }
+  }
+  return placement(men);
+}
+
+/**
+ * Six fields of what was typed, or why it is none.
+ * @param {string} text
+ * @param {string} mover
+ * @returns {{fen: string} | {bad: string}}
+ */
+export function typedFen(text, mover) {
+  const listing = fromControl(text), fields = (listing ? `${listing} ${mover} - - 0 1` : text).trim().split(/\s+/);
+  if (!/^([1-8KQRBNPkqrbnp]+\/){7}[1-8KQRBNPkqrbnp]+$/.test(fields[0]))
+    return { bad: 'No position: write a FEN, eight ranks with / between them, or the men as Kb6 Pc6 / Ka1 Rd5.' };
+  if (fields[0].split('/').some(r => [...r].reduce((n, c) => n + (Number(c) || 1), 0) !== 8))
+    return { bad: 'Each rank of a FEN has eight squares.' };
+  const rest = ['w', '-', '-', '0', '1'].map((d, i) => fields[i + 1] || (i === 0 ? mover : d));
+  return { fen: [fields[0], ...rest].join(' ') };
+}
+
+/**
+ * Count of men and the code of EG, `2 + 2 · 0300.10 b6a1`.
+ * @param {string} fen
+ */
+export function gbr(fen) {
+  const men = Object.entries(menOf(fen)), white = men.filter(x => isWhite(x[1])).length;
+  const count = (/** @type {string} */ c) => men.filter(x => x[1] === c).length;
+  const king = (/** @type {string} */ c) => men.filter(x => x[1] === c).map(x => squareName(Number(x[0]))).join('');
+  const pieces = [...'QRBN'].map(c => count(c) + 3 * count(c.toLowerCase())).join('');
+  return `${white} + ${men.length - white} · ${pieces}.${count('P')}${count('p')} ${king('K')}${king('k')}`;
+}
+
+/**
+ * The letters of the men, whatever their squares: what decides which tables are asked.
+ * @param {string} fen
+ */
+export const material = fen => [...fen.trim().split(/ +/)[0].replace(/[^KQRBNPkqrbnp]/g, '')].sort().join('');
+
+/**
+ * What a screen reader hears of a move: `white rook c8, check`.
+ * @param {string} before
+ * @param {{san: string, to: number}} move
+ */
+export function spokenMove(before, move) {
+  const letter = /^[KQRBN]/.test(move.san) ? move.san[0] : 'P', side = sideOf(before).toLowerCase();
+  const takes = move.san.includes('x') ? ' takes' : '', promoted = /=(.)/.exec(move.san);
+  const end = move.san.endsWith('#') ? ', mate' : move.san.endsWith('+') ? ', check' : '';
+  return `${side} ${NAMES[letter]}${takes} ${squareName(move.to)}${promoted ? ', becomes a ' + NAMES[promoted[1]] : ''}${end}`;
+}

@@ -1,0 +1,206 @@
+// @ts-check
+// The head of a study - title, stipulation, tags - and its verdict with the faults, each with what mends it.
+import { h } from './dom.js';
+import { gbr, numbered, other, sideOf } from './fen.js';
+import { app, change, go, parts, say } from './app.js';
+import { insert } from './board.js';
+import { isKnown, setTag, stipulate, withoutAccents } from './edits.js';
+import { nodeAt, written } from './replies.js';
+import { guess } from './setup.js';
+import { kept, promote, remove } from './node_view.js';
+import { TAGS } from './script.js';
+import { aimText, counted, difference, holds, moveName, otherAims, readAim, valueText, verdictSentence, winner } from './words.js';
+/** @typedef {import('./types.js').Study} Study @typedef {import('./types.js').TreeNode} TreeNode */
+/** @typedef {import('./types.js').Aim} Aim @typedef {import('./types.js').Also} Also */
+
+export const LABELS =
+    /** @type {Record<string, string>} */ ({Event: 'Title or source', White: 'Author', Black: 'Second name', Site: 'Site', Date: 'Date', Round: 'Entry'});
+/** @param {string} where */
+export const told = where => app.say && app.say.where === where && h('p', { class: app.say.good ? 'say good' : 'say', role: 'alert' }, app.say.text);
+const open = { tags: false };
+
+/** @param {Study} s */
+export function headView(s) {
+  const t = s.tags, year = (t.Date || '').replace(/(\.\?\?)+$/, '');
+  const by = [t.White, t.Site, year, isKnown(t.Round) && 'entry ' + t.Round].filter(text => typeof text === 'string' && isKnown(text)).join(' · ');
+  const old = Object.keys(t).filter(name => s.place[name] === undefined && isKnown(t[name]));
+  return [
+    h('h1', {}, isKnown(t.Event) ? t.Event : 'Untitled'), by && h('p', {class: 'by'}, by),
+    old.length > 0 && h('p', {class: 'note'}, `Set for an earlier study and not since: ${old.map(name => LABELS[name]).join(', ')}.`),
+    h('div', {class: 'row'},
+      aimView(s.aim, words => change(now => (now.studies[now.at] ? stipulate(now.lines, now.studies[now.at], words) : null), 'head'), 'aim'),
+      h('span', {class: 'note'}, gbr(s.fen))),
+    told('head'),
+    h('details', {
+      id: 'tags',
+      open: open.tags,
+      ontoggle: (/** @type {any} */ e) => {
+        open.tags = e.target.open;
+      }
+    },
+      h('summary', {}, 'Title, author, source'), h('div', {class: 'tags'}, TAGS.map(name => tagView(name, t[name] || ''))))
+  ];
+}
+/**
+ * @param {string} name
+ * @param {string} text
+ */
+const tagView = (name, text) => [h('label', { for: 'tag' + name
+                                 }, LABELS[name]), h('input', {
+                                   id: 'tag' + name,
+                                   value: kept('tag' + name, isKnown(text) ? text : ''),
+                                   maxlength: 60,
+                                   autocomplete: 'off',
+                                   placeholder: name === 'Date' ? '2026.11.24' : '',
+                                   onchange: (/** @type {any} */ e) => tagged(name, e.target.value.trim())
+                                 })];
+/**
+ * Accents are left out, and that is told; other letters are the program's to refuse.
+ * @param {string} name
+ * @param {string} typed
+ */
+async function tagged(name, typed) {
+  const text = withoutAccents(typed), before = app.history;
+  await change(now => (now.studies[now.at] ? setTag(now.lines, now.studies[now.at], name, text) : null), 'head');
+  if (app.history === before && app.say) Object.assign(app.say, { field: 'tag' + name, typed });
+  else if (text !== typed) say('head', `Written without accents, as ${text}: the texts are plain letters.`, true);
+  parts.show();
+}
+/**
+ * `White | to win`: two choices and a number.
+ * @param {Aim | null} aim
+ * @param {(words: string) => any} done
+ * @param {string} id
+ */
+export function aimView(aim, done, id) {
+  const option = (/** @type {string} */ value, /** @type {string} */ text, /** @type {boolean} */ selected) => h('option', { value, selected }, text);
+  const tell = () => { if (goal.value) done(`${hero.value} ${goal.value}${goal.value === 'mate' ? ' ' + (k.value || guess()) : ''}`); };
+  const hero =
+      h('select', {id: id + 'Hero', 'aria-label': 'Side', onchange: tell}, option('white', 'White', !aim || aim.hero === 'White'),
+        option('black', 'Black', Boolean(aim && aim.hero === 'Black')));
+  const goals =
+      [['win', 'to win'], ['draw', 'to draw'], ['mate', 'to mate in']].map(([value, text]) => option(value, text, Boolean(aim && aim.goal === value)));
+  const goal = h('select', { id: id + 'Goal', 'aria-label': 'Aim', onchange: tell }, !aim && option('', 'to …', true), goals);
+  const k = h('input', {
+    id: id + 'K',
+    class: 'num',
+    type: 'number',
+    min: 1,
+    max: 127,
+    value: aim && aim.k ? aim.k : '',
+    'aria-label': 'Moves to mate',
+    hidden: !aim || aim.goal !== 'mate',
+    onchange: tell
+  });
+  return [hero, goal, k];
+}
+
+// ---- the verdict
+/** @param {Study} s */
+export function verdictView(s) {
+  const view = app.view;
+  if (!view) return h('p', { class: 'say' }, `This study is not judged: ${app.noView || 'nothing was told'}.`, lackingTables());
+  if (!s.aim || !view.verdict) return h('p', { class: 'say' }, 'No stipulation yet: choose who is to win or to draw.');
+  const heroic = written(view.root).some(n => n.parent && s.aim && sideOf(n.parent.fen) === s.aim.hero), faults = app.review ? app.review.faults : [];
+  const empty = app.review ? app.review.empty : !heroic;
+  return [
+    h('p', {class: 'verdict'}, h('span', {class: 'stamp ' + view.verdict.split(' ')[0], id: 'stamp'}, view.verdict),
+      h('span', {id: 'sentence'}, verdictSentence(view, empty))),
+    faults.length > 0 && h('ul', {class: 'faults'}, faults.slice(0, 40).map(f => h('li', {}, faultView(s, view.root, f)))), timeView(s, view.root),
+    adviceView(s)
+  ];
+}
+const lackingTables = () => / table /.test(app.noView) && [
+  ' ',
+  h('button',
+    {type: 'button', class: 'chip act', id: 'buildNow', onclick: () => change(now => ({lines: [...now.lines], lenient: true, path: 'root'}), 'head')},
+    'Build the tables')
+];
+/** @param {TreeNode} n */
+export const jump = n => h('button', { type: 'button', class: 'link', onclick: () => go(n.path) }, moveName(n));
+/**
+ * A move that can be put into the tree below a node, with what follows it at once.
+ * @param {string} path
+ * @param {string[]} sans
+ * @param {any} label
+ * @param {string} [title]
+ */
+export const add = (path, sans, label, title) =>
+    h('button', {
+      type: 'button',
+      class: 'chip add',
+      title: title || `put ${sans.join(' ')} into the tree`,
+      'data-path': path,
+      'data-sans': sans.join(' '),
+      onclick: () => insert(path, sans)
+    },
+      label);
+/**
+ * @param {Study} s
+ * @param {TreeNode} n
+ * @param {Also[]} list
+ */
+export function alsoView(s, n, list) {
+  const parent = n.parent;
+  return parent && list.map(a => {
+    const there = parent.children.some(c => c.san === a.san);
+    const notes = [s.aim && difference(s.aim, n.value, a.value), a.time >= 0 && 'loses time', there && 'in the tree'].filter(Boolean).join(', ');
+    return [add(parent.path, [a.san], [h('b', {}, a.san), notes && h('small', {}, ' ' + notes)]), ' '];
+  });
+}
+/**
+ * @param {Study} s
+ * @param {TreeNode} root
+ * @param {import('./types.js').Fault} f
+ */
+function faultView(s, root, f) {
+  const n = nodeAt(root, f.path), all = app.review ? app.review.also.filter(a => a.path === f.path) : [];
+  if (!n) return f.san;
+  if (f.kind === 'mistake') return mistakeView(s, n);
+  return [jump(n), ': also ', alsoView(s, n, all.slice(0, 6)), all.length > 6 && `and ${all.length - 6} more `, cut(n, 'End before it')];
+}
+/**
+ * @param {Study} s
+ * @param {TreeNode} n
+ */
+function mistakeView(s, n) {
+  const late = s.aim && s.aim.goal === 'mate' && winner(sideOf(n.fen), n.value) === s.aim.hero, better = n.parent ? n.parent.children.find(holds) : undefined;
+  const left = late ? `mate comes on move ${Math.ceil((n.path.split('.').length + n.value.n) / 2)}` : valueText(sideOf(n.fen), n.value);
+  return [jump(n), h('b', {}, ' lets the aim go'), `: ${left} `,
+    better && [h('button', { type: 'button', class: 'chip act', onclick: () => promote(better, true) }, `Put ${better.san} first`), ' '], cut(n, 'Delete it')];
+}
+/**
+ * @param {TreeNode} n
+ * @param {string} text
+ */
+const cut = (n, text) =>
+    h('button', {type: 'button', class: 'chip act', title: 'delete this move and all below it', onclick: () => remove(n.path)}, '✕ ', text);
+/**
+ * How many of the other moves only lose time.
+ * @param {Study} s
+ * @param {TreeNode} root
+ */
+function timeView(s, root) {
+  const duals = app.review ? app.review.faults.filter(f => f.kind === 'dual') : [], all = duals.reduce((sum, f) => sum + f.duals, 0),
+        idle = duals.reduce((sum, f) => sum + f.time, 0);
+  if (!idle || !s.aim || !app.review) return null;
+  const also = app.review.also, rest = duals.flatMap(f => also.filter(a => a.path === f.path && a.time < 0).map(a => {
+    const n = nodeAt(root, f.path);
+    return (n && n.parent ? numbered(n.parent.fen) : '') + a.san;
+  }));
+  return h(
+      'p', {}, h('b', {}, all === 1 ? 'This one loses time' : `${idle} of these ${all} ${idle === 1 ? 'loses' : 'lose'} time`),
+      `: ${other(s.aim.hero)} forces a position of the same line again. `,
+      rest.length ? ['There remains: ', h('b', {}, rest.slice(0, 8).join(', ')), '.'] : 'None remains.');
+}
+/**
+ * What could be said of this position instead.
+ * @param {Study} s
+ */
+function adviceView(s) {
+  const view = app.view;
+  if (!view || !s.aim) return null;
+  const offers = otherAims(s.aim, view.verdict, sideOf(view.fen), view.root.value, Boolean(app.review && app.review.faults.some(f => f.kind === 'dual')));
+  return offers.length > 0 && h('p', { class: 'act' }, 'Say instead: ', offers.map(words => [h('button', { type: 'button', class: 'chip add', 'data-aim': words,
+    onclick: () => change(now => (now.studies[now.at] ? stipulate(now.lines, now.studies[now.at], words) : null), 'head') }, aimText(readAim(words))), ' ']));
+}

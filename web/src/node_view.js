@@ -1,0 +1,121 @@
+// @ts-check
+// Below the board: the way through the tree, and the legal moves of the node by what each leaves.
+import { button, h } from './dom.js';
+import { control, other, sideOf } from './fen.js';
+import { app, change, doc, go, node, parts, say } from './app.js';
+import { flip, insert } from './board.js';
+import { promoteNode, removeNode } from './edits.js';
+import { openSetup } from './setup.js';
+import { counted, markMeaning, moveName, valueSign, valueText } from './words.js';
+/** @typedef {import('./types.js').TreeNode} TreeNode @typedef {import('./types.js').Move} Move @typedef {import('./types.js').Study} Study */
+
+/** @param {TreeNode | null} n */
+const to = n => () => { if (n) go(n.path); };
+/** @param {TreeNode} n */
+export function endOf(n) {
+  let end = n;
+  while (end.children[0]) end = end.children[0];
+  return end;
+}
+/**
+ * What was typed and refused stays in its field.
+ * @param {string} id
+ * @param {string} text
+ */
+export const kept = (id, text) => (app.say && app.say.field === id ? app.say.typed : text);
+
+/** @param {TreeNode} n */
+export function navView(n) {
+  const view = app.view, up = n.parent, next = n.children[0] || null, root = view ? view.root : null;
+  const input = h('input', {
+    id: 'san',
+    size: 6,
+    placeholder: 'a move',
+    'aria-label': 'Type a move, as Kb6',
+    autocomplete: 'off',
+    autocapitalize: 'off',
+    spellcheck: 'false',
+    value: kept('san', ''),
+    onchange: (/** @type {any} */ e) => typedMoves(e.target.value)
+  });
+  return [h('div', { class: 'group' }, button('«', 'to the start (Home)', to(root), { id: 'first', disabled: !up, 'aria-label': 'To the start' }),
+    button('‹', 'back (←)', to(up), { id: 'back', disabled: !up, 'aria-label': 'Back' }),
+    button('›', 'on (→)', to(next), { id: 'on', disabled: !next, 'aria-label': 'On' }),
+    button('»', 'to the end (End)', to(endOf(n)), { id: 'end', disabled: !next, 'aria-label': 'To the end' }),
+    button('⇅', 'turn the board (f)', flip, { id: 'flip', 'aria-label': 'Turn the board' })),
+  input,
+  button('Delete', 'this move and all below it (Delete)', () => remove(n.path), { id: 'delete', disabled: !up }),
+  button('Promote', 'this move one place up among its variations', () => promote(n), { id: 'promote', disabled: !up || up.children[0] === n }),
+  button('Set up', 'change the position', () => openSetup(false), { id: 'setUp' })];
+}
+/** @param {string} text */
+async function typedMoves(text) {
+  const sans = text.replace(/\d+\.+/g, ' ').trim();
+  if (!sans) return;
+  await insert(doc().path, sans.split(/ +/));
+  if (app.say) { Object.assign(app.say, { field: 'san', typed: text }); parts.show(); }
+}
+/** @param {string} path */
+export function remove(path) {
+  const n = node();
+  if (path === 'root' || !n) { say('board', 'The start cannot be deleted; choose a move.'); return parts.show(); }
+  return change(now => {
+    const s = now.studies[now.at], found = app.view ? find(app.view.root, path) : null;
+    return s && found ? removeNode(now.lines, s, found) : null;
+  });
+}
+/**
+ * @param {TreeNode} root
+ * @param {string} path
+ */
+const find = (root, path) => path.split('.').reduce((/** @type {TreeNode | null} */ n, k) => (n ? n.children[Number(k)] || null : null), root);
+/**
+ * @param {TreeNode} n
+ * @param {boolean} [front]
+ */
+export const promote = (n, front = false) => change(now => (now.studies[now.at] ? promoteNode(now.lines, now.studies[now.at], n, front) : null));
+
+/**
+ * @param {Study} s
+ * @param {TreeNode} n
+ */
+export function hereView(s, n) {
+  const view = app.view, mover = sideOf(n.fen), over = view ? view.over : '', meaning = markMeaning(n, s.aim ? s.aim.hero : undefined);
+  const caption =
+      h('p', {class: 'caption'}, h('b', {id: 'value'}, `${n.parent ? 'After ' + moveName(n) : 'At the start'}: ${valueText(mover, n.value)}`),
+        meaning && h('span', {class: 'mark ' + n.mark}, meaning), h('br', {}),
+        h('small', {},
+          over ? `${mover} is ${over === 'mate' ? 'mated' : 'stalemated'}` : `${mover} to move, ${counted(view ? view.moves.length : 0, 'legal move')}`,
+          ' · ', control(n.fen)));
+  return [caption, movesView(s, n)];
+}
+/**
+ * All legal moves, by outcome, the best first; those of the tree are bold.
+ * @param {Study} s
+ * @param {TreeNode} n
+ */
+function movesView(s, n) {
+  const mover = sideOf(n.fen), view = app.view;
+  const names = /** @type {[string, string][]} */ ([['loss', `${mover} wins`], ['draw', 'Draw'], ['win', `${other(mover)} wins`]]);
+  const key = (/** @type {Move} */ m) => (m.value.kind === 'loss' ? m.value.n : m.value.kind === 'draw' ? 0 : -m.value.n);
+  return h('div', { class: 'moves', role: 'group', 'aria-label': 'Legal moves' }, ...names.map(([kind, name]) => {
+    const list = (view ? view.moves : []).filter(m => m.value.kind === kind).sort((x, y) => key(x) - key(y));
+    return list.length > 0 && h('p', { class: 'chips' }, h('span', {}, name), list.map(m => chip(s, n, m)));
+  }));
+}
+/**
+ * @param {Study} s
+ * @param {TreeNode} n
+ * @param {Move} m
+ */
+function chip(s, n, m) {
+  const sign = m.mark === 'only' ? '!' : m.mark === 'mistake' ? '?' : '', after = other(sideOf(n.fen)), there = n.children.find(c => c.san === m.san);
+  const meaning = {
+    only: 'the only one that holds',
+    dual: `one of ${m.duals + 1} that hold`,
+    mistake: s.aim && sideOf(n.fen) === s.aim.hero ? 'lets the aim go' : 'gives the aim back'
+  }[m.mark];
+  const title = [`${m.san}: ${valueText(after, m.value)}`, meaning, there && 'in the tree'].filter(Boolean).join('; ');
+  return h('button', { type: 'button', class: `chip m ${m.mark}${there ? ' in' : ''}`, 'data-san': m.san, title, onclick: () => insert(n.path, [m.san]) },
+    m.san, h('b', {}, sign), s.aim && h('sub', {}, valueSign(s.aim.hero, after, m.value)));
+}

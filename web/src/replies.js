@@ -1,0 +1,158 @@
+// @ts-check
+// What the core writes of a study - its view, its review, a survey - read into records.
+import { squareAt } from './fen.js';
+/** @typedef {import('./types.js').Value} Value @typedef {import('./types.js').TreeNode} TreeNode @typedef {import('./types.js').View} View */
+/** @typedef {import('./types.js').Move} Move @typedef {import('./types.js').Review} Review @typedef {import('./types.js').Stand} Stand */
+
+/**
+ * A value at word `at`, and the place of the word behind it.
+ * @param {string[]} words
+ * @param {number} at
+ * @returns {[Value, number]}
+ */
+export function readValue(words, at) {
+  if (words[at] === 'draw') return [{ kind: 'draw', n: 0 }, at + 1];
+  return [{ kind: words[at] === 'win' ? 'win' : 'loss', n: Number(words[at + 1]) }, at + 2];
+}
+/**
+ * `only`, `dual 2` ..
+ * @param {string[]} words
+ * @param {number} at
+ * @returns {[string, number, number]}
+ */
+function readMark(words, at) {
+  return words[at] === 'dual' ? ['dual', Number(words[at + 1]), at + 2] : [words[at], 0, at + 1];
+}
+/**
+ * `White to win: unsound 3, White mates in 26`
+ * @param {string} text
+ */
+export function readStipulation(text) {
+  const m = /^(White|Black) to (win|draw|mate)(?: in (\d+))?: ([^,]*), (.*)$/.exec(text);
+  if (!m) return { aim: null, verdict: '', start: '' };
+  const aim = /** @type {import('./types.js').Aim} */ ({ hero: m[1], goal: m[2], k: Number(m[3]) || 0 });
+  return { aim, verdict: m[4], start: m[5] };
+}
+
+/**
+ * @param {string} text
+ * @returns {string[][]}
+ */
+const rowsOf = text => text.split('\n').filter(Boolean).map(line => line.split(' '));
+/**
+ * Why an answer tells nothing, as `error NAME`: its own refusal, or that of a line of the script.
+ * @param {{text: string, ended: string}} answer
+ */
+export function refusalIn({ text, ended }) {
+  if (ended === 'refused') return 'error ' + text.trim();
+  const line = text.split('\n').find(row => row.startsWith('refused '));
+  return line === undefined ? 'error ' + (ended === 'done' ? 'NoStudy' : ended) : line.replace(/^refused \d+/, 'error');
+}
+
+/**
+ * @param {string} text
+ * @returns {View | null}
+ */
+export function readView(text) {
+  const view = /** @type {View} */ (/** @type {unknown} */ ({ fen: '', verdict: '', start: '', aim: null, path: 'root', over: '', moves: [] }));
+  const nodes = /** @type {Map<string, TreeNode>} */ (new Map());
+  for (const row of rowsOf(text)) {
+    if (row[0] === 'study') view.fen = row.slice(1).join(' ');
+    else if (row[0] === 'stipulation') Object.assign(view, readStipulation(row.slice(1).join(' ')));
+    else if (row[0] === 'node') addNode(nodes, row);
+    else if (row[0] === 'at') [view.path, view.over] = [row[1], /^\d/.test(row[2]) ? '' : /** @type {View['over']} */ (row[2])];
+    else if (row[0] === 'move') view.moves.push(readMove(row));
+  }
+  const root = nodes.get('root');
+  return root ? Object.assign(view, { root }) : null;
+}
+/**
+ * @param {Map<string, TreeNode>} nodes
+ * @param {string[]} row
+ */
+function addNode(nodes, row) {
+  const [, path, san, squares] = row, [value, at] = readValue(row, 4), [mark, duals, next] = readMark(row, at);
+  const up = path.includes('.') ? path.slice(0, path.lastIndexOf('.')) : 'root', parent = path === 'root' ? null : nodes.get(up) || null;
+  const node = /** @type {TreeNode} */ (
+      {path, san, ...readSquares(squares), value, mark, duals, faults: Number(row[next + 1]), fen: row.slice(next + 2).join(' '), parent, children: []});
+  nodes.set(path, node);
+  if (parent) parent.children.push(node);
+}
+/** @param {string} squares */
+function readSquares(squares) {
+  if (squares === '-') return { from: -1, to: -1, promoted: '' };
+  return { from: squareAt(squares.slice(0, 2)), to: squareAt(squares.slice(2, 4)), promoted: squares.slice(4).toUpperCase() };
+}
+/**
+ * @param {string[]} row
+ * @returns {Move}
+ */
+function readMove(row) {
+  const [value, at] = readValue(row, 3), [mark, duals, next] = readMark(row, at);
+  return { san: row[1], ...readSquares(row[2]), value, mark, duals, fen: row.slice(next).join(' ') };
+}
+
+/**
+ * @param {TreeNode} root
+ * @param {string} path
+ * @returns {TreeNode | null}
+ */
+export function nodeAt(root, path) {
+  if (path === 'root') return root;
+  let node = /** @type {TreeNode | null} */ (root);
+  for (const place of path.split('.')) node = node ? node.children[Number(place)] || null : null;
+  return node;
+}
+/**
+ * All nodes in written order.
+ * @param {TreeNode} node
+ * @returns {TreeNode[]}
+ */
+export const written = node => [node, ...node.children.flatMap(written)];
+/** @param {TreeNode} node */
+export const depth = node => (node.path === 'root' ? 0 : node.path.split('.').length);
+
+/**
+ * The facts of one study; null where none are told.
+ * @param {string} text
+ * @returns {Review | null}
+ */
+export function readReview(text) {
+  const review = /** @type {Review} */ ({ empty: false, faults: [], also: [], refuted: [], missing: [], ends: [] });
+  let told = false;
+  for (const row of rowsOf(text)) {
+    if (row[0] === 'study') told = true;
+    else if (row[0] === 'empty') review.empty = true;
+    else if (row[0] === 'fault' || row[0] === 'also' || row[0] === 'refuted' || row[0] === 'missing') addFact(review, row);
+    else if (row[0] === 'play') { const [value, at] = readValue(row, 2); review.ends.push({ path: row[1], value, keeping: 0, of: 0, sans: row.slice(at) }); }
+    else if (row[0] === 'keep') review.ends.push({ path: row[1], value: null, keeping: Number(row[2]), of: Number(row[3]), sans: row.slice(4) });
+  }
+  return told ? review : null;
+}
+/**
+ * @param {Review} review
+ * @param {string[]} row
+ */
+function addFact(review, row) {
+  const [kind, path, san] = row;
+  if (san === 'stalemate') return void review.refuted.push({ path, san, value: null });
+  const [value, at] = readValue(row, 3);
+  if (kind === 'fault' && row[at] === 'dual') review.faults.push({ path, san, value, kind: 'dual', duals: Number(row[at + 1]), time: Number(row[at + 3]) });
+  else if (kind === 'fault') review.faults.push({ path, san, value, kind: 'mistake', duals: 0, time: 0 });
+  else if (kind === 'also') review.also.push({ path, san, value, time: row[at] === 'time' ? Number(row[at + 1]) : -1 });
+  else if (kind === 'refuted') review.refuted.push({ path, san, value });
+  else review.missing.push({ path, san, value, count: Number(row[at]), answer: row[at + 1] || '' });
+}
+
+/**
+ * @param {string} text
+ * @returns {Stand[]}
+ */
+export function readSurvey(text) {
+  return rowsOf(text).filter(row => /^[a-h][1-8]$/.test(row[0])).map(row => {
+    const square = squareAt(row[0]);
+    if (row[1] === '-') return { square, kind: 'none', value: null, count: 0, san: '' };
+    const [value, at] = readValue(row, 2), kind = /** @type {Stand['kind']} */ (row[1]);
+    return { square, kind, value, count: kind === 'only' ? 1 : Number(row[at]) || 0, san: kind === 'only' ? row[at] || '' : '' };
+  });
+}

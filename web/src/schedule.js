@@ -1,0 +1,37 @@
+// @ts-check
+// Which table is built next: some at a time, in their order. A table that wants another first tells so, and waits until one more is made.
+
+/**
+ * @param {string[]} names      in the order in which they can be built one after the other
+ * @param {number} most      how many at a time
+ * @param {(name: string) => Promise<boolean>} make      false where a table that it needs is not there yet
+ * @param {(running: string[], made: number) => void} tell
+ * @returns {Promise<void>}
+ */
+export function buildEach(names, most, make, tell) {
+  const left = [...names], running = /** @type {Set<string>} */ (new Set()), tried = /** @type {Map<string, number>} */ (new Map());
+  let made = 0, fault = /** @type {any} */ (null);
+  return new Promise((ok, no) => {
+    /** @param {string} name */
+    function start(name) {
+      const before = made;
+      left.splice(left.indexOf(name), 1);
+      running.add(name);
+      make(name).catch(why => { fault = fault || why; return true; }).then(done => {
+        running.delete(name);
+        if (done) made++;
+        else { tried.set(name, before); left.push(name); left.sort((a, b) => names.indexOf(a) - names.indexOf(b)); }
+        go();
+      });
+    }
+    function go() {
+      if (!fault) for (const name of [...left]) if (running.size < most && tried.get(name) !== made) start(name);
+      tell([...running], made);
+      if (running.size) return;
+      if (fault) no(fault);
+      else if (left.length) no(new Error(`the table ${left[0]} could not be built`));
+      else ok();
+    }
+    go();
+  });
+}

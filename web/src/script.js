@@ -1,0 +1,172 @@
+// @ts-check
+// The script is the document: lines of edits, run from the first to the last. Here its replies become studies.
+import { aimWords } from './words.js';
+import { readStipulation } from './replies.js';
+/** @typedef {import('./types.js').Script} Script @typedef {import('./types.js').Study} Study @typedef {import('./types.js').Aim} Aim */
+/** @typedef {{text: string, line: number}} Sent      a line that is run, and its place in the script; -1 for one of our own */
+
+export const TAGS = ['Event', 'White', 'Black', 'Site', 'Date', 'Round'];
+
+/** @param {string} line */
+export const wordsOf = line => line.trim().split(/ +/);
+/** @param {string} line */
+export const isSilent = line => /^ *(#.*)?$/.test(line);
+/** @param {string} line */
+export const isTableLine = line => /^ *(build|load|save|verify)( |$)/.test(line);
+/** @param {string} line */
+export const isQuestion = line => /^ *(mark|moves|fen|solve|pgn)( |$)/.test(line);
+/** @param {string} line */
+export const isEdit = line => !isSilent(line) && !isTableLine(line) && !isQuestion(line);
+/** @param {string} text */
+export const linesOf = text => {
+  const lines = text.replace(/^\ufeff/, '').split(/\r?\n/);
+  while (lines.length && lines[lines.length - 1] === '') lines.pop();
+  return lines;
+};
+/**
+ * The positions that lines name.
+ * @param {string[]} lines
+ */
+export const fensOf = lines => lines.filter(line => /^ *(position|shift) /.test(line)).map(line => line.trim().replace(/^\w+ +/, ''));
+
+/**
+ * The edits of a script, with `pgn` at the end of each study.
+ * @param {string[]} lines
+ * @returns {Sent[]}
+ */
+export function toRun(lines) {
+  const sent = /** @type {Sent[]} */ ([]);
+  let begun = false;
+  lines.forEach((text, line) => {
+    if (!isEdit(text)) return;
+    const position = wordsOf(text)[0] === 'position';
+    if (position && begun) sent.push({ text: 'pgn', line: -1 });
+    begun = begun || position;
+    sent.push({ text, line });
+  });
+  if (begun) sent.push({ text: 'pgn', line: -1 });
+  return sent;
+}
+
+/**
+ * One reply for each line, that of an accepted `pgn` its whole text.
+ * @param {string[]} lines
+ * @param {string} text
+ */
+export function repliesOf(lines, text) {
+  const rows = text.split('\n');
+  let at = 0;
+  return lines.map(line => {
+    if (wordsOf(line)[0] !== 'pgn' || (rows[at] || '').startsWith('error ')) return rows[at++] || '';
+    const from = at;
+    for (let empty = 0; empty < 2 && at < rows.length;) if (rows[at++] === '') empty++;
+    return rows.slice(from, at).join('\n') + '\n';
+  });
+}
+
+/**
+ * @param {string[]} lines
+ * @param {Sent[]} sent
+ * @param {string[]} replies
+ * @returns {Script}
+ */
+export function readScript(lines, sent, replies) {
+  const script = /** @type {Script} */ ({ lines, studies: [], refused: [] });
+  const carried = /** @type {Carried} */ ({ aim: null, tags: {} });
+  sent.forEach((s, i) => take(script, carried, s, replies[i] || 'error NoReply'));
+  script.studies.forEach((study, i) => { study.end = script.studies[i + 1] ? script.studies[i + 1].from : lines.length; });
+  return script;
+}
+
+/** @typedef {{aim: Aim | null, tags: Record<string, string>}} Carried */
+/**
+ * @param {Script} script
+ * @param {Carried} carried
+ * @param {Sent} sent
+ * @param {string} reply
+ */
+function take(script, carried, { text, line }, reply) {
+  const [command, name] = wordsOf(text), study = script.studies[script.studies.length - 1];
+  if (reply.startsWith('error ')) {
+    if (line >= 0) script.refused.push({ line, text, reply });
+  } else if (command === 'position') {
+    script.studies.push(begun(line, reply.slice(9), carried));
+  } else if (study && command === 'pgn') {
+    Object.assign(study, { pgn: reply, verdict: verdictIn(reply) });
+  } else {
+    if (study) study.last = Math.max(line, study.last);
+    if (command === 'tag') carry(carried, study, name, text.trim().replace(/^tag +\w+ +/, ''), line);
+    else if (command === 'stipulate') stipulated(carried, study, reply, line);
+    else if (study && command === 'shift') study.fen = reply.slice(6);
+    else if (study && (command === 'insert' || command === 'promote')) study.made = { line, path: wordsOf(reply)[1] };
+  }
+}
+/**
+ * @param {number} line
+ * @param {string} fen
+ * @param {Carried} carried
+ * @returns {Study}
+ */
+function begun(line, fen, carried) {
+  const old = [...(carried.aim ? ['stipulate ' + aimWords(carried.aim)] : []), ...Object.entries(carried.tags).map(([k, v]) => `tag ${k} ${v}`)];
+  return { from: line, end: line + 1, last: line, fen, aim: carried.aim, tags: { ...carried.tags }, place: {}, carried: old, made: null, pgn: '', verdict: '' };
+}
+/**
+ * @param {Carried} carried
+ * @param {Study | undefined} study
+ * @param {string} name
+ * @param {string} text
+ * @param {number} line
+ */
+function carry(carried, study, name, text, line) {
+  carried.tags[name] = text;
+  if (!study) return;
+  study.tags[name] = text;
+  study.place[name] = line;
+}
+/**
+ * @param {Carried} carried
+ * @param {Study | undefined} study
+ * @param {string} reply
+ * @param {number} line
+ */
+function stipulated(carried, study, reply, line) {
+  const [, hero, , goal, , k] = reply.split(' ');
+  carried.aim = /** @type {Aim} */ ({ hero, goal, k: Number(k) || 0 });
+  if (!study) return;
+  study.aim = carried.aim;
+  study.place.aim = line;
+}
+/** @param {string} pgn */
+function verdictIn(pgn) {
+  const comment = /\{([^}]*)\}/.exec(pgn.slice(pgn.indexOf('\n\n')).replace(/\n/g, ' '));
+  return comment ? readStipulation(comment[1]).verdict : '';
+}
+
+/**
+ * The lines that make one study alone: its own, with what it takes over from earlier ones behind its position.
+ * @param {string[]} lines
+ * @param {Study} study
+ */
+export function editsTo(lines, study) {
+  const [position, ...own] = lines.slice(study.from, study.end).filter(isEdit);
+  return [position, ...study.carried, ...own];
+}
+/**
+ * Lines as a text that is run.
+ * @param {string[]} lines
+ */
+export const joined = lines => lines.map(line => line + '\n').join('');
+
+/**
+ * The script as a file that studybench runs as it is: its tables in front, `pgn` behind each study.
+ * @param {Script} script
+ * @param {string[]} classes
+ */
+export function savedScript(script, classes) {
+  const lines = [...script.lines];
+  for (const study of [...script.studies].reverse())
+    if (study.aim && !lines.slice(study.from, study.end).some(line => wordsOf(line)[0] === 'pgn')) lines.splice(study.last + 1, 0, 'pgn');
+  const tables = lines.some(isTableLine) ? [] : classes.map(name => 'build ' + name);
+  return joined([...tables, ...lines]);
+}

@@ -1,0 +1,206 @@
+// @ts-check
+// The set-up of men: a draft until it is taken over. The program says of each draft what is wrong with it, or what its value is.
+import { EMPTY, menOf, placement, sideOf, squareName, typedFen } from './fen.js';
+import { PAGES, app, change, parts, say, silent, study, viewOf, work } from './app.js';
+import { addStudy, replacePosition, shiftTo } from './edits.js';
+import { readSurvey, refusalIn } from './replies.js';
+import { aimText, aimWords, counted, holds, movesTo, reason } from './words.js';
+import { joined } from './script.js';
+/** @typedef {import('./fen.js').Men} Men */
+/** @typedef {{bad: string, text: string, lacking: string[], mate: number}} Judged */
+/**
+ * @typedef {object} Draft
+ * @property {Men} men
+ * @property {string} mover      `w` or `b`
+ * @property {string} tail       the fields of a FEN behind it
+ * @property {string} aim        words of a stipulation
+ * @property {string} tool       the man that a press puts down; `x` takes away
+ * @property {number | null} man      where the man stands that was put down last
+ * @property {number | null} cursor      of the keys
+ * @property {boolean} anew      a new study
+ * @property {boolean} more      one more in this script
+ * @property {Judged | null} judged
+ * @property {string[]} passed
+ * @property {{to: number, sign: string, text: string}[] | null} survey
+ */
+
+/**
+ * @param {boolean} anew
+ * @param {boolean} more
+ */
+export function openSetup(anew, more = false) {
+  const s = study(), blank = anew || !s, fen = blank ? `${EMPTY} w - - 0 1` : app.view ? app.view.fen : s.fen, fields = fen.split(' ');
+  const aim = blank || !s.aim ? 'white win' : aimWords(s.aim);
+  app.setup = {
+    men: menOf(fen),
+    mover: fields[1],
+    tail: fields.slice(2).join(' '),
+    aim,
+    tool: 'K',
+    man: null,
+    cursor: null,
+    anew: blank,
+    more,
+    judged: null,
+    passed: [],
+    survey: null
+  };
+  app.chosen = null;
+  silent();
+  parts.show();
+  judge();
+}
+export function closeSetup() { app.setup = null; silent(); parts.show(); }
+export const draftFen = () => { const d = /** @type {Draft} */ (app.setup); return `${placement(d.men)} ${d.mover} ${d.tail}`; };
+const noPassed = (/** @type {string} */ tail) => '- - ' + tail.split(' ').slice(2).join(' ');
+
+/** @param {Partial<Draft>} changes */
+export function drafted(changes) {
+  const d = app.setup;
+  if (!d) return;
+  Object.assign(d, changes, { judged: null, survey: null });
+  if (changes.men && changes.tail === undefined) d.tail = noPassed(d.tail);
+  if (changes.men && d.man !== null && !d.men[d.man]) d.man = null;
+  if (app.say && app.say.where === 'fen') silent();
+  parts.show();
+  judge();
+}
+/**
+ * One king a side: the old one goes.
+ * @param {Men} men
+ * @param {number} s
+ * @param {string} letter
+ * @returns {Men}
+ */
+function withMan(men, s, letter) {
+  const next = Object.fromEntries(Object.entries(men).filter(([at, c]) => Number(at) !== s && !(/[Kk]/.test(letter) && c === letter)));
+  return letter === 'x' ? next : { ...next, [s]: letter };
+}
+/**
+ * After a white king the black one is offered.
+ * @param {Men} men
+ * @param {string} tool
+ */
+const nextTool = (men, tool) => (tool === 'K' && !Object.values(men).includes('k') ? 'k' : tool);
+/**
+ * @param {number} s
+ * @param {string} [letter]
+ */
+export function placeAt(s, letter) {
+  const d = /** @type {Draft} */ (app.setup), men = withMan(d.men, s, letter || d.tool);
+  drafted({ men, man: s, ...(letter ? {} : { tool: nextTool(men, d.tool) }) });
+}
+/** @param {number} s */
+export function removeAt(s) {
+  const men = { .../** @type {Draft} */ (app.setup).men };
+  delete men[s];
+  drafted({ men });
+}
+/**
+ * A man dragged: from the palette or a square, to a square or off the board.
+ * @param {number | null} from
+ * @param {number | null} to
+ * @param {string} letter
+ * @param {boolean} moved
+ */
+export function moveDraft(from, to, letter, moved) {
+  const d = /** @type {Draft} */ (app.setup), rest = { ...d.men };
+  if (from === null && (to === null || !moved)) return parts.show();
+  if (from !== null) delete rest[from];
+  if (to === null) return drafted({ men: rest });
+  if (from === to) {
+    if (moved) return parts.show();
+    return d.tool === letter || d.tool === 'x' ? drafted({ men: rest }) : placeAt(to);
+  }
+  const men = withMan(rest, to, letter);
+  drafted({ men, man: to, ...(from === null ? { tool: nextTool(men, letter) } : {}) });
+}
+/** @param {string} text */
+export function typed(text) {
+  const d = /** @type {Draft} */ (app.setup), read = typedFen(text, d.mover);
+  if ('bad' in read) { say('fen', read.bad); Object.assign(app.say || {}, { field: 'fen', typed: text }); return parts.show(); }
+  const fields = read.fen.split(' ');
+  silent();
+  drafted({ men: menOf(read.fen), mover: fields[1] === 'b' ? 'b' : 'w', tail: fields.slice(2).join(' '), man: null });
+}
+
+let judging = 0;
+/** What the program says of the draft. Tables of two and three men are built for it; larger ones where the user wants it. */
+export async function judge(build = false) {
+  const mine = ++judging, d = app.setup;
+  if (!d) return;
+  const judged = await judgement(d, build).catch(fault => ({ bad: '', text: `The program did not answer: ${fault.message}.`, lacking: [], mate: 0 }));
+  const passed = judged.bad ? [] : await passedSquares().catch(() => []);
+  if (mine !== judging || app.setup !== d) return;
+  Object.assign(d, { judged, passed });
+  parts.showJudged();
+}
+/**
+ * @param {Draft} d
+ * @param {boolean} build
+ * @returns {Promise<Judged>}
+ */
+async function judgement(d, build) {
+  const fen = draftFen(), none = { bad: '', text: '', lacking: /** @type {string[]} */ ([]), mate: 0 };
+  if (!Object.values(d.men).includes('K') || !Object.values(d.men).includes('k')) return { ...none, bad: 'each side needs exactly one king' };
+  const check = await parts.core.answer('run', `position ${fen}\n`, 1);
+  if (check.text.startsWith('error')) return { ...none, bad: reason(check.text.trim()) };
+  const names = await parts.shelf.classesOf([fen]);
+  if (build || Object.keys(d.men).length < 4) await parts.shelf.ready([fen]);
+  const lacking = await parts.shelf.lay(names);
+  if (lacking.length) return { ...none, lacking };
+  const view = await viewOf(`position ${fen}\nstipulate ${d.aim}\n`, 'root');
+  if (typeof view === 'string') return { ...none, text: view };
+  const own = view.moves.filter(holds).map(m => m.san), wrong = view.verdict === 'wrong', hero = view.aim && sideOf(view.fen) === view.aim.hero;
+  const first = own.length === 1 ? `One first move: ${own[0]}.` :
+                                   `${counted(own.length, 'first move')} hold: ${own.slice(0, 8).join(' ')}${own.length > 8 ? ' ..' : ''}.`;
+  return {
+    ...none,
+    text: `${view.aim ? aimText(view.aim) : ''}: ${wrong ? 'does not hold' : 'holds'}; ${view.start}. ${!wrong && hero ? first : ''}`,
+    mate: movesTo(view.root.value)
+  };
+}
+async function passedSquares() {
+  const { text } = await parts.core.answer('passed ' + draftFen().replace(/^(\S+ \S+) .*/, '$1 - - 0 1'), '', 1);
+  return text.split(/\s+/).filter(word => /^[a-h][36]$/.test(word));
+}
+/**
+ * All squares of a man: where the aim holds, and where by one first move.
+ * @param {number} man
+ */
+export const survey = man => work(async () => {
+  const d = app.setup;
+  if (!d || !d.men[man]) return;
+  d.man = man;
+  const answer = await parts.core.answer(`survey ${squareName(man)} ${d.aim} ${draftFen()}`, '', PAGES), stands = readSurvey(answer.text);
+  if (app.setup !== d || d.man !== man) return;
+  if (!stands.length) say('fen', `No survey: ${reason(refusalIn(answer))}.`);
+  else
+    d.survey = stands.filter(s => s.kind === 'holds' || s.kind === 'only')
+                   .map(s => ({to: s.square, sign: s.kind === 'only' ? 'dot' : 'plain', text: squareName(s.square) + (s.san ? ` (${s.san})` : '')}));
+  parts.showJudged();
+}, 'fen');
+
+/**
+ * The draft becomes lines: a new study, another position for this one, or the same tree shifted.
+ * @param {'anew' | 'shift'} how
+ */
+export async function takeOver(how) {
+  const d = /** @type {Draft} */ (app.setup), fen = draftFen();
+  const done = await change(now => {
+    const s = now.studies[now.at];
+    if (d.anew || !s)
+      return {
+        lines: addStudy(d.more ? now.lines : [], fen, d.aim, d.more ? now.studies[now.studies.length - 1] : undefined),
+        at: d.more ? now.studies.length : 0,
+        path: 'root'
+      };
+    return how === 'shift' ? shiftTo(now.lines, s, fen, d.aim) : replacePosition(now.lines, s, fen, d.aim);
+  }, 'fen');
+  if (done) closeSetup();
+}
+/** The number of moves that an aim of mate begins with. */
+export const guess = () => {
+  const judged = app.setup ? app.setup.judged : null, root = app.view ? app.view.root : null;
+  return (app.setup ? judged && judged.mate : root && movesTo(root.value)) || 2;
+};

@@ -1,0 +1,149 @@
+// @ts-check
+// The set-up of men: palette, side to move, stipulation, FEN, what the program says of it, and what it becomes.
+import { $, button, h, put, svg } from './dom.js';
+import { isWhite, manName, menOf, squareName } from './fen.js';
+import { app, node, parts, study } from './app.js';
+import { manIcon, takeUp } from './board.js';
+import { aimView, told } from './head_view.js';
+import { kept } from './node_view.js';
+import { closeSetup, draftFen, drafted, judge, survey, takeOver, typed } from './setup.js';
+import { moveName, readAim } from './words.js';
+/** @typedef {import('./setup.js').Draft} Draft */
+
+const HELP = 'FEN, or men as Kb6 Pc6 / Ka1 Rd5';
+export function setupView() {
+  const d = app.setup;
+  if (!d) return null;
+  const mover = (/** @type {string} */ m, /** @type {string} */ text) => button(
+      text, '', () => drafted({mover: m, tail: '- - ' + d.tail.split(' ').slice(2).join(' ')}),
+      {id: 'mover' + m, class: d.mover === m ? 'on' : '', 'aria-pressed': `${d.mover === m}`, 'data-mover': m});
+  return [
+    h('div', {class: 'palette', role: 'group', 'aria-label': 'Men'}, [...'KQRBNPxkqrbnp'].map(letter => toolView(d, letter)),
+      button('clear', 'take all men away', () => drafted({men: {}, tool: 'K'}), {id: 'clear', class: 'text'})),
+    h('div', {class: 'row'},
+      h('div', {class: 'group', role: 'group', 'aria-label': 'Side to move'}, mover('w', 'White to play'), mover('b', 'Black to play')),
+      h('span', {id: 'passedBox'}, passedView(d)), aimView(readAim(d.aim), words => drafted({aim: words}), 'draft')),
+    h('input', {
+      class: 'fen',
+      id: 'fen',
+      value: kept('fen', draftFen()),
+      'aria-label': HELP,
+      title: HELP,
+      autocomplete: 'off',
+      spellcheck: 'false',
+      onchange: (/** @type {any} */ e) => typed(e.target.value)
+    }),
+    fromNode(d),
+    h('div', {id: 'judgedBox'}, judgedBox(d)),
+    h('p', {class: 'note keys'},
+      'Press a man, then squares; drag a man to move it, off the board to take it away. By keys: arrows on the board, then K Q R B N P for ' +
+      'White, k q r b n p for Black, Delete.')
+  ];
+}
+/**
+ * The position of the node that was looked at, as the start of a study of its own.
+ * @param {Draft} d
+ */
+function fromNode(d) {
+  const n = node();
+  if (d.anew || !n || !n.parent) return null;
+  const [placed, mover, ...tail] = n.fen.split(' ');
+  const take = () => drafted({ men: menOf(placed), mover, tail: tail.join(' '), man: null });
+  return h('p', {}, button(`The position after ${moveName(n)}`, 'set up these men instead', take, { id: 'fromNode' }));
+}
+/**
+ * What comes late: what the program says of the draft, and what can be done with it.
+ * @param {Draft} d
+ */
+const judgedBox = d => [told('fen'), judgedView(d), h('div', { class: 'row' }, startView(d, Boolean(study()))), surveyView(d)];
+/** Only these parts are written anew, so that nothing moves under a finger that is on the palette. */
+export function redrawJudged() {
+  if (!app.setup || !$('judgedBox')) return;
+  put('judgedBox', judgedBox(app.setup));
+  put('passedBox', passedView(app.setup));
+}
+/**
+ * @param {Draft} d
+ * @param {string} letter
+ */
+function toolView(d, letter) {
+  const away = letter === 'x', name = away ? 'take away' : manName(letter);
+  const down = (/** @type {any} */ e) => {
+    d.tool = letter;
+    if (!away) takeUp(letter);
+    if (e.target.releasePointerCapture) e.target.releasePointerCapture(e.pointerId);
+  };
+  return h(
+      'button', {
+        type: 'button',
+        id: 'man' + letter,
+        class: `${d.tool === letter ? 'on' : ''}${away ? ' text' : ''}`,
+        'data-man': letter,
+        title: name,
+        'aria-label': name,
+        'aria-pressed': `${d.tool === letter}`,
+        onpointerdown: down,
+        onclick: () => {
+          d.tool = letter;
+          parts.show();
+        }
+      },
+      away ? name : manIcon(letter));
+}
+/** @param {Draft} d */
+function passedView(d) {
+  const now = d.tail.split(' ')[1];
+  if (!d.passed.length) return null;
+  return h(
+      'label', {class: 'note'}, 'en passant on ',
+      h('select', {id: 'passedSquare', onchange: (/** @type {any} */ e) => drafted({tail: `- ${e.target.value} 0 1`})},
+        ['-', ...d.passed].map(square => h('option', {value: square, selected: square === now}, square === '-' ? 'no square' : square))));
+}
+/** @param {Draft} d */
+function judgedView(d) {
+  const judged = d.judged, count = Object.keys(d.men).length;
+  const text = !count ? 'Put the men on the board.' :
+      !judged         ? '…' :
+      judged.bad      ? `Not a position yet: ${judged.bad}.` :
+           judged.lacking.length ? `Its tables are not there yet: ${judged.lacking.join(' ')}.` :
+                                   judged.text;
+  return [
+    h('p', {id: 'judged', class: judged && judged.text && !judged.bad ? 'judged' : 'note', role: 'status'}, text),
+    judged && judged.lacking.length > 0 &&
+        h('p', {}, button('Build them now', 'some seconds to a minute for each; once for all', () => judge(true), {id: 'buildNow'}))
+  ];
+}
+/** @param {Draft} d */
+function surveyView(d) {
+  const judged = d.judged, men = Object.entries(d.men);
+  if (men.length < 2 || !judged || judged.bad || judged.lacking.length) return null;
+  const name = (/** @type {string} */ letter, /** @type {number} */ s) => `${isWhite(letter) ? 'White' : 'Black'} ${letter.toUpperCase()}${squareName(s)}`;
+  const chosen = d.man === null ? Number(men[0][0]) : d.man;
+  const list =
+      h('select', {id: 'surveyMan', 'aria-label': 'The man that could stand elsewhere', onchange: (/** @type {any} */ e) => survey(Number(e.target.value))},
+        men.map(([s, letter]) => h('option', {value: s, selected: Number(s) === chosen}, name(letter, Number(s)))));
+  const sign = (/** @type {string} */ cls) => svg('svg', { width: 12, height: 12, 'aria-hidden': 'true' }, svg('circle', { class: cls, cx: 6, cy: 6, r: 5 }));
+  const only = (d.survey || []).filter(t => t.sign === 'dot').map(t => t.text), more = (d.survey || []).filter(t => t.sign !== 'dot').length;
+  return [
+    h('p', {class: 'row'}, 'Where else could ', list, ' stand?',
+      button('Show', 'the squares on which the stipulation holds', () => survey(chosen), {id: 'survey'})),
+    d.survey &&
+        h('p', {class: 'note', role: 'status', id: 'stands'}, sign('dot'),
+          ` by one first move: ${only.length ? only.slice(0, 12).join(', ') + (only.length > 12 ? ` and ${only.length - 12} more` : '') : 'nowhere'}; `,
+          sign('plain'), ` it holds: ${more}. A press on a dot puts the man there.`)
+  ];
+}
+/**
+ * @param {Draft} d
+ * @param {boolean} behind
+ */
+function startView(d, behind) {
+  const disabled = !d.judged || Boolean(d.judged.bad), moved = !d.anew && app.view !== null && app.view.root.children.length > 0;
+  const cancel = behind && button('Cancel', 'back to the study', closeSetup, { id: 'cancel' });
+  if (!moved)
+    return [
+      button(d.anew ? 'Start' : 'Take this position', 'play the solution from here', () => takeOver('anew'), {id: 'start', class: 'main', disabled}), cancel
+    ];
+  return [button('Keep the moves', 'the same tree on this position', () => takeOver('shift'), { id: 'start', class: 'main', disabled }),
+    button('Without the moves', 'an empty tree', () => takeOver('anew'), { id: 'startEmpty', disabled }), cancel];
+}

@@ -1,0 +1,193 @@
+// @ts-check
+// Tables: which a script needs, taken from where they are kept, or built in workers of their own.
+//
+// A table that was not built in this visit is taken only where its SHA-256 is that of the list: any page of file:// can write to the store.
+import { DIGESTS } from './digests.js';
+import { Stopped } from './engine.js';
+import { buildEach } from './schedule.js';
+import { sha256 } from './store.js';
+import { material } from './fen.js';
+import { reason } from './words.js';
+import { joined } from './script.js';
+/** @typedef {import('./engine.js').Core} Core */
+/** @typedef {{text: string, done: number, of: number}} Progress */
+
+/**
+ * @param {string} name
+ * @param {string} digest
+ */
+export const isListed = (name, digest) => DIGESTS[name] !== undefined && DIGESTS[name][1] === digest;
+const STOPPED = 'Stopped. The tables that were built are kept';
+/** @param {string} name */
+const sizeOf = name => (DIGESTS[name] ? DIGESTS[name][0] : 5000000);
+
+/**
+ * The words of a build that goes on.
+ * @param {string[]} running
+ * @param {number} made
+ * @param {number} all
+ * @param {number} seconds
+ * @param {number} left
+ */
+export function progressText(running, made, all, seconds, left) {
+  const more = left >= 90 ? `about ${Math.round(left / 60)} minutes left` : left >= 1 ? `about ${Math.max(5, Math.round(left / 5) * 5)} s left` : 'almost done';
+  return `Building the table${running.length > 1 ? 's' : ''} ${running.join(', ')} · ${Math.min(made + 1, all)} of ${all} · ${Math.round(seconds)} s, ${
+      more}. It is done once, and kept.`;
+}
+
+/** @param {{core: Core, spawn: () => Core, store: ReturnType<typeof import('./store.js').makeStore>, tell: (p: Progress | null) => void}} parts */
+export function makeShelf({ core, spawn, store, tell }) {
+  const known = /** @type {Map<string, string[]>} */ (new Map());
+  const own = /** @type {Map<string, string>} */ (new Map());       // digests of the tables built in this visit
+  let building = false, builders = /** @type {Core[]} */ ([]), stopped = false, rate = 250000, kept = true;
+
+  /**
+   * The classes that positions need, in the order in which to build them.
+   * @param {string[]} fens
+   * @returns {Promise<string[]>}
+   */
+  async function classesOf(fens) {
+    const key = [...new Set(fens.map(material))].sort().join(' ');
+    const old = known.get(key);
+    if (old) return old;
+    const { text } = await core.answer('tables', joined([...new Map(fens.map(fen => [material(fen), fen])).values()].map(fen => 'position ' + fen)), 1);
+    const names = text.split(/\s+/).filter(word => DIGESTS[word] !== undefined);
+    known.set(key, names);
+    return names;
+  }
+  /**
+   * A kept table's bytes, if it is right.
+   * @param {string} name
+   */
+  async function right(name) {
+    const bytes = await store.get(name);
+    if (!bytes) return null;
+    const digest = await sha256(bytes);
+    if (isListed(name, digest) || own.get(name) === digest) return bytes;
+    await store.remove(name);
+    return null;
+  }
+  /**
+   * Lays into a core what is kept; tells what lacks.
+   * @param {string[]} names
+   * @param {Core} into
+   */
+  async function lay(names, into = core) {
+    const lacking = /** @type {string[]} */ ([]);
+    await Promise.all(names.filter(name => !into.holds(name)).map(async name => {
+      const bytes = await right(name);
+      if (!bytes) lacking.push(name);
+      else if (!into.holds(name)) await into.lay(name, bytes);
+    }));
+    return names.filter(name => lacking.includes(name));
+  }
+  let turn = /** @type {Promise<void>} */ (Promise.resolve()), stops = 0;
+  /**
+   * All tables of these positions stand in the core afterwards, one wish after the other. A stop ends the builders, and the wishes that wait.
+   * @param {string[]} fens
+   * @returns {Promise<void>}
+   */
+  function ready(fens) {
+    const before = stops, mine = turn.then(() => readyOnce(fens, before));
+    turn = mine.catch(() => {});
+    return mine;
+  }
+  /**
+   * @param {string[]} fens
+   * @param {number} before
+   */
+  async function readyOnce(fens, before) {
+    const names = await classesOf(fens), lacking = await lay(names);
+    if (!lacking.length) return;
+    if (before !== stops) throw new Stopped(STOPPED);
+    stopped = false;
+    building = true;
+    await buildAll(lacking, names).finally(() => { building = false; builders = []; tell(null); });
+  }
+  /**
+   * @param {string[]} lacking
+   * @param {string[]} names
+   */
+  async function buildAll(lacking, names) {
+    if (navigator.storage && navigator.storage.persist) navigator.storage.persist().catch(() => false);
+    const most = Math.max(1, Math.min(3, (navigator.hardwareConcurrency || 2) - 1)), began = performance.now();
+    let running = /** @type {string[]} */ ([]), made = 0;
+    const done = new Set();
+    function told() {
+      const bytes = lacking.filter(name => !done.has(name)).reduce((sum, name) => sum + sizeOf(name), 0), seconds = (performance.now() - began) / 1000;
+      tell({
+        text: progressText(running, made, lacking.length, seconds, bytes / rate / Math.max(1, Math.min(most, running.length))),
+        done: made,
+        of: lacking.length
+      });
+    }
+    const ticking = setInterval(told, 500);
+    try {
+      await buildEach(lacking, most, async name => {
+        const right = await build(name, names.filter(other => other !== name));
+        if (right) done.add(name);
+        return right;
+      }, (now, so) => { [running, made] = [now, so]; told(); });
+    } catch (fault) {
+      for (const builder of builders) builder.end();
+      throw stopped ? new Stopped(STOPPED) : fault;
+    } finally { clearInterval(ticking); }
+  }
+  /**
+   * Builds one table; false where one that it needs is not there yet.
+   * @param {string} name
+   * @param {string[]} others
+   */
+  async function build(name, others) {
+    const builder = spawn();
+    builders.push(builder);
+    try {
+      await lay(others, builder);
+      const began = performance.now(), { bytes, ended } = await builder.ask('make ' + name, '', 0);
+      if (stopped) throw new Stopped('stopped');
+      const refusal = ended === 'done' ? '' : new TextDecoder().decode(bytes.slice(0, 200)).trim();
+      if (/MissingTable/.test(refusal)) return false;
+      if (ended !== 'done') throw new Error(`the table ${name} was not built: ${reason('error ' + (refusal || ended))}`);
+      rate = Math.max(50000, bytes.length > 1000000 ? bytes.length / ((performance.now() - began) / 1000) : rate);
+      own.set(name, await sha256(bytes));
+      if (!isListed(name, own.get(name) || '')) throw new Error(`the table ${name} is not the one of the list; the browser or the machine is faulty`);
+      if (!await store.put(name, bytes)) kept = false;
+      await core.lay(name, bytes);
+      return true;
+    } finally {
+      builder.end();
+      builders = builders.filter(b => b !== builder);
+    }
+  }
+  function stop() {
+    stopped = true;
+    stops++;
+    for (const builder of builders) builder.end(new Stopped('stopped'));
+  }
+  /**
+   * Files that the user opens: those of the list are kept.
+   * @param {{name: string, bytes: () => Promise<Uint8Array>}[]} files
+   */
+  async function open(files) {
+    const taken = /** @type {string[]} */ ([]), bad = /** @type {string[]} */ ([]);
+    for (const file of files) {
+      const name = (/K[QRBNP]*K[QRBNP]*(?=[^A-Z]*$)/.exec(file.name.replace(/\.dtm$/i, '')) || [''])[0];
+      if (!DIGESTS[name]) { bad.push(`${file.name}: the name of a table is KQK.dtm, KRKP.dtm and so on`); continue; }
+      const bytes = await file.bytes();
+      if (!isListed(name, await sha256(bytes))) {
+        bad.push(`${file.name} is not the table ${name}: it is damaged, or made by something else. Nothing was taken`);
+        continue;
+      }
+      if (!await store.put(name, bytes)) kept = false;
+      taken.push(name);
+    }
+    return { taken, bad, kept };
+  }
+  /**
+   * A table that the program built for a script of another program.
+   * @param {string} name
+   * @param {Uint8Array} bytes
+   */
+  async function keep(name, bytes) { if (isListed(name, await sha256(bytes)) && !await store.put(name, bytes)) kept = false; }
+  return { classesOf, lay, ready, keep, stop, open, store, isBuilding: () => building, isKept: () => kept };
+}

@@ -1,0 +1,131 @@
+// @ts-check
+// What is shown: each part a function of the document, its view and its facts.
+import { $, button, h, put } from './dom.js';
+import { spokenMove } from './fen.js';
+import { app, doc, node, study } from './app.js';
+import { showBoard, tell } from './board.js';
+import { reviewView } from './facts_view.js';
+import { headView, verdictView } from './head_view.js';
+import { hereView, navView } from './node_view.js';
+import { isKnown } from './edits.js';
+import { PAWN, SAAVEDRA } from './samples.js';
+import { joined } from './script.js';
+import { redrawJudged, setupView } from './setup_view.js';
+import { openText, studyName, textsView } from './texts_view.js';
+import { keyView, treeView } from './tree_view.js';
+
+let pressing = false;
+const late = /** @type {Set<() => void>} */ (new Set());
+export function watch() {
+  for (const kind of ['pointerdown', 'pointerup', 'pointercancel'])
+    document.addEventListener(kind, () => {
+      pressing = kind === 'pointerdown';
+      if (!pressing) setTimeout(afterwards);
+    }, true);
+}
+function afterwards() {
+  const list = [...late];
+  late.clear();
+  list.forEach(draw => draw());
+}
+/**
+ * What comes late is not drawn under a finger that presses, and focus stays where it was.
+ * @param {() => void} draw
+ */
+function lately(draw) {
+  if (pressing) { late.add(draw); return; }
+  const kept = focused();
+  draw();
+  refocus(kept);
+}
+/** @returns {(string | null)[]} */
+function focused() {
+  const focus = document.activeElement;
+  return focus ? [focus.id, focus.getAttribute('data-path'), focus.getAttribute('data-san')] : ['', null, null];
+}
+export function show() {
+  const s = study(), n = node(), kept = focused();
+  showBoard();
+  showBar();
+  const said = app.say && app.say.where === 'board' ? app.say : null;
+  $('sayBoard').hidden = !said;
+  $('sayBoard').className = said && said.good ? 'say good' : 'say';
+  $('sayBoard').textContent = said ? said.text : '';
+  put('setup', app.setup && setupView());
+  put('nav', !app.setup && n && navView(n));
+  put('here', !app.setup && s && n && hereView(s, n));
+  put('head', s ? headView(s) : welcomeView());
+  put('tree', s && treeView(s));
+  drawFacts();
+  put('texts', textsView(s));
+  refocus(kept);
+  speak();
+  hint();
+  document.title = s ? `${isKnown(s.tags.Event) ? s.tags.Event : 'Untitled'} · Study board` : 'Study board';
+}
+/**
+ * Focus stays where it was, though all is drawn anew.
+ * @param {(string | null)[]} kept
+ */
+function refocus([id, path, san]) {
+  if (document.activeElement !== document.body) return;
+  const again = id ? $(id) : path ? document.querySelector(`[data-path="${path}"]`) : san ? document.querySelector(`[data-san="${san}"]`) : null;
+  if (again) again.focus({ preventScroll: true });
+}
+/** A refusal that stands off the screen is told at its foot too. */
+function hint() {
+  const alert = [...document.querySelectorAll('[role=alert]')].find(e => !(/** @type {HTMLElement} */ (e).hidden)),
+        at = alert ? alert.getBoundingClientRect() : null;
+  $('toast').hidden = !alert || !at || (at.top > 0 && at.bottom < innerHeight);
+  $('toast').textContent = alert ? alert.textContent : '';
+}
+function drawFacts() {
+  const s = study();
+  put('verdict', s && verdictView(s));
+  put('review', s && reviewView(s));
+}
+export const showFacts = () => lately(drawFacts);
+function drawJudged() {
+  showBoard();
+  redrawJudged();
+}
+export const showJudged = () => lately(drawJudged);
+let spoken = '';
+/** The move that was gone to is heard. */
+function speak() {
+  const n = node(), key = n && !app.setup ? n.path + n.fen : '';
+  if (n && n.parent && key !== spoken) tell(spokenMove(n.parent.fen, n));
+  spoken = key;
+}
+function showBar() {
+  const d = doc(), many = d.studies.length > 1;
+  $('undo').disabled = !app.history.past.length;
+  $('redo').disabled = !app.history.future.length;
+  $('studies').hidden = !many;
+  if (many) put('studies', d.studies.map((s, i) => h('option', { value: i, selected: i === d.at }, `${i + 1}. ${studyName(s)}: ${s.verdict || 'not judged'}`)));
+  $('more').disabled = !d.studies.length;
+  $('saveScript').disabled = $('savePgn').disabled = $('print').disabled = !d.lines.length;
+}
+export function showProgress() {
+  const p = app.progress;
+  $('progress').hidden = !p;
+  if (!p) return;
+  $('progressText').textContent = p.text;
+  $('progressBar').max = p.of;
+  $('progressBar').value = p.done;
+}
+function welcomeView() {
+  const sample = (/** @type {string[]} */ lines) => () => openText(joined(lines), 'board');
+  return [
+    h('h1', {}, 'Compose a study'),
+    h('p', {},
+      'Two to four men, kings included. Set up the men, say what is to be done, and play the solution with its tries and defences on the ' +
+      'board. Each move is judged against all legal moves, by endgame tables that this page builds itself with a proved program.'),
+    h('p', {class: 'row'}, button('Show a sample: king and pawn', 'its tables are built in a few seconds', sample(PAWN), {id: 'sample', class: 'main'}),
+      button('Saavedra, 1895 (builds tables for some minutes)', 'eleven tables are built first, some minutes', sample(SAAVEDRA), {id: 'sample2'})),
+    h('p', {class: 'note'},
+      'Keys: ← → ↑ ↓ Home End walk the tree, Delete takes a move away, Ctrl-Z and Ctrl-Y undo and redo, f turns the board, m goes to the ' +
+      'field for a move. Nothing leaves this computer; the page works offline.'),
+    keyView()
+  ];
+}

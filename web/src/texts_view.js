@@ -1,0 +1,90 @@
+// @ts-check
+// The texts: the game as PGN, the script, refused lines, and the list of studies.
+import { $, button, h } from './dom.js';
+import { control } from './fen.js';
+import { app, change, doc, goStudy, parts, say } from './app.js';
+import { dropStudy, isKnown, tidy } from './edits.js';
+import { table } from './facts_view.js';
+import { told } from './head_view.js';
+import { fromPgn, looksLikePgn } from './pgn.js';
+import { linesOf } from './script.js';
+import { aimText, counted, reason } from './words.js';
+/** @typedef {import('./types.js').Study} Study */
+
+const open = { pgn: false, script: false };
+/** What was typed in the script and not run yet stays there, as long as the document is the same. */
+let unrun = /** @type {{text: string, lines: string[]} | null} */ (null);
+/** @param {Study | undefined} s */
+export function textsView(s) {
+  const many = doc().studies.length > 1;
+  return [doc().refused.length > 0 && refusedView(), many && [h('h2', {}, 'Studies of this script'), studiesView()], s && s.pgn && pgnView(s), scriptView(s)];
+}
+/** @param {Study} s */
+const pgnView = s => h('details', { open: open.pgn, id: 'pgnBox', ontoggle: (/** @type {any} */ e) => { open.pgn = e.target.open; } }, h('summary', {}, 'PGN'),
+  h('textarea', { id: 'pgn', readonly: true, 'aria-label': 'The game as PGN' }, s.pgn));
+/** @param {Study | undefined} s */
+function scriptView(s) {
+  const script = h('textarea', {
+    id: 'script',
+    spellcheck: 'false',
+    'aria-label': 'The script',
+    oninput: () => { unrun = { text: script.value, lines: doc().lines }; }
+  });
+  const kept = unrun && unrun.lines === doc().lines ? unrun.text : doc().lines.join('\n');
+  script.value = app.say && app.say.field === 'script' ? app.say.typed : kept;
+  const isOpen = open.script || doc().refused.length > 0 || (app.say && app.say.where === 'script');
+  return h(
+      'details', {
+        id: 'scriptBox',
+        open: isOpen,
+        ontoggle: (/** @type {any} */ e) => {
+          open.script = e.target.open;
+        }
+      },
+      h('summary', {}, 'Script'),
+      h('p', {class: 'note'}, 'The script is the study: what you do writes its lines. It can be changed or pasted here, a PGN too.'), script,
+      told('script'),
+      h('div', {class: 'row'}, button('Run the script', 'take the text as it stands', () => openText(script.value), {id: 'runScript'}),
+        s && app.view &&
+            button(
+                'Tidy', 'write this study anew in its shortest form',
+                () => change(now => (app.view && now.studies[now.at] ? tidy(now.lines, now.studies[now.at], app.view.root) : null), 'script'),
+                {id: 'tidy'}),
+        s && doc().studies.length > 1 &&
+            button(
+                'Remove this study', 'take its lines out of the script', () => change(now => dropStudy(now.lines, now.studies[now.at], now.at), 'script'),
+                {id: 'drop'})));
+}
+/**
+ * A script or a PGN takes the place of the document; undo brings the old one back.
+ * @param {string} text
+ */
+export async function openText(text, where = 'script') {
+  const lines = looksLikePgn(text) ? fromPgn(text) : linesOf(text);
+  if (!lines.length && text.trim()) {
+    say(where, 'No game with a FEN was found in this text. Nothing was changed.');
+    if (where === 'script') Object.assign(app.say || {}, { field: 'script', typed: text });
+    return parts.show();
+  }
+  const same = where === 'script' && $('script') && lines.length > 0;
+  app.setup = null;
+  await change(now => ({ lines, at: same ? now.at : 0, path: same && lines.length === now.lines.length ? now.path : 'root', lenient: true }), where);
+  if (app.say && app.say.where === where && !app.say.good) { Object.assign(app.say, { field: 'script', typed: text }); parts.show(); }
+}
+function refusedView() {
+  const list = doc().refused, rows = list.slice(0, 50).map(r => [`${r.line + 1}`, h('code', {}, r.text.slice(0, 80)), reason(r.reply)]);
+  return [
+    h('h2', {id: 'refused'}, `${counted(list.length, 'line')} of the script ${list.length === 1 ? 'was' : 'were'} refused`),
+    table(['Line', 'Text', 'Reason'], rows), list.length > 50 && h('p', {class: 'note'}, `and ${list.length - 50} more`)
+  ];
+}
+/** @param {Study} s */
+export const studyName = s => [s.tags.Event, s.tags.White].filter(isKnown).join(', ') || control(s.fen);
+function studiesView() {
+  return table(
+      ['No.', 'Title, author', 'Stipulation', 'Verdict'],
+      doc().studies.map(
+          (s, i) =>
+              [button(`${i + 1}`, 'show it', () => goStudy(i), {class: 'link', 'aria-current': i === doc().at && 'true'}), studyName(s),
+               s.aim ? aimText(s.aim) : '–', h('b', {}, s.verdict || '–')]));
+}

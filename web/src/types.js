@@ -1,0 +1,67 @@
+// @ts-check
+/**
+ * The shapes that the modules hand to each other.
+ *
+ * @typedef {{kind: 'win' | 'loss' | 'draw', n: number}} Value      as the side to move sees it; n in plies to mate
+ * @typedef {'White' | 'Black'} Side
+ * @typedef {{hero: Side, goal: 'win' | 'draw' | 'mate', k: number}} Aim
+ *
+ * @typedef {{san: string, from: number, to: number, promoted: string, value: Value, mark: string, duals: number, fen: string}} Move
+ *   a legal move, and what it would be in the tree: `mark` is only, dual, mistake, idle or reply; `duals` the others that hold
+ *
+ * @typedef {object} TreeNode
+ * @property {string} path         `root`, or the places of children joined by dots
+ * @property {string} san
+ * @property {number} from         squares count from a1, b1 .. h8; -1 at the root
+ * @property {number} to
+ * @property {Value} value
+ * @property {string} mark
+ * @property {number} duals
+ * @property {number} faults
+ * @property {string} fen
+ * @property {TreeNode | null} parent
+ * @property {TreeNode[]} children
+ *
+ * @typedef {object} View          what `view` tells of a study at one of its nodes
+ * @property {string} fen
+ * @property {string} verdict      `sound`, `unsound 3`, `wrong`; empty without a stipulation
+ * @property {string} start        the value at the root in words
+ * @property {Aim | null} aim
+ * @property {TreeNode} root
+ * @property {string} path
+ * @property {'' | 'mate' | 'stalemate'} over
+ * @property {Move[]} moves
+ *
+ * @typedef {{path: string, san: string, value: Value, kind: 'dual' | 'mistake', duals: number, time: number}} Fault
+ * @typedef {{path: string, san: string, value: Value, time: number}} Also      `time` is -1 where it loses none
+ * @typedef {{path: string, san: string, value: Value | null}} Refutation       no value: the move stalemates
+ * @typedef {{path: string, san: string, value: Value, count: number, answer: string}} Missing
+ * @typedef {{path: string, value: Value | null, keeping: number, of: number, sans: string[]}} Ending   no value: drawn
+ * @typedef {{empty: boolean, faults: Fault[], also: Also[], refuted: Refutation[], missing: Missing[], ends: Ending[]}} Review
+ *
+ * @typedef {{square: number, kind: 'none' | 'fails' | 'holds' | 'only', value: Value | null, count: number, san: string}} Stand
+ *
+ * @typedef {object} Study         a study as the lines of the script make it
+ * @property {number} from         its `position` line
+ * @property {number} end          the line behind its last
+ * @property {number} last         its last edit
+ * @property {string} fen          the start that the program read
+ * @property {Aim | null} aim
+ * @property {Record<string, string>} tags
+ * @property {Record<string, number>} place      the line of each tag, and of `aim`, that the study has itself
+ * @property {string[]} carried    what it takes over from earlier studies, as lines
+ * @property {{line: number, path: string} | null} made      the node that the last `insert` or `promote` made
+ * @property {string} pgn
+ * @property {string} verdict
+ *
+ * @typedef {{line: number, text: string, reply: string}} Refused
+ * @typedef {{lines: string[], studies: Study[], refused: Refused[]}} Script
+ * @typedef {Script & {at: number, path: string}} Doc      with the study and the node that are looked at
+ *
+ * @typedef {{lines: string[], at?: number, path?: string, lenient?: boolean}} Change
+ *   lines to run; then the study and the node to look at, where `made` is the node just made; `lenient` takes refused lines too
+ *
+ * @typedef {{text: string, ended: string}} Answer
+ * @typedef {{answer: (request: string, script: string, pages: number) => Promise<Answer>}} Engine
+ */
+export {};

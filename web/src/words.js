@@ -1,0 +1,179 @@
+// @ts-check
+// Values, verdicts and refusals in the words of the printed page.
+import { other, sideOf } from './fen.js';
+/** @typedef {import('./types.js').Value} Value @typedef {import('./types.js').Side} Side @typedef {import('./types.js').Aim} Aim */
+/** @typedef {import('./types.js').TreeNode} TreeNode */
+
+/**
+ * @param {Side} mover
+ * @param {Value} value
+ * @returns {Side | null}
+ */
+export const winner = (mover, value) => (value.kind === 'draw' ? null : value.kind === 'win' ? mover : other(mover));
+/** @param {Value} value */
+export const movesTo = value => Math.ceil(value.n / 2);
+/** @param {Value} value */
+const isMate = value => value.kind === 'loss' && value.n === 0;
+
+/**
+ * @param {Side} mover
+ * @param {Value} value
+ */
+export function valueText(mover, value) {
+  if (value.kind === 'draw') return 'draw';
+  return isMate(value) ? 'mate' : `${winner(mover, value)} mates in ${movesTo(value)}`;
+}
+/**
+ * The small number behind a move.
+ * @param {Side} hero
+ * @param {Side} mover
+ * @param {Value} value
+ */
+export function valueSign(hero, mover, value) {
+  const won = winner(mover, value);
+  if (won === null) return '=';
+  if (isMate(value)) return '#';
+  return won === hero ? `${movesTo(value)}` : `−${movesTo(value)}`;
+}
+/**
+ * @param {number} n
+ * @param {string} one
+ */
+export const counted = (n, one, many = one + 's') => `${n} ${n === 1 ? one : many}`;
+/** @param {Aim} aim */
+export const aimWords = aim => `${aim.hero.toLowerCase()} ${aim.goal}${aim.goal === 'mate' ? ' ' + aim.k : ''}`;
+/** @param {Aim} aim */
+export const aimText = aim => `${aim.hero} to ${aim.goal}${aim.goal === 'mate' ? ' in ' + aim.k : ''}`;
+/**
+ * `white mate 3`
+ * @param {string} words
+ * @returns {Aim}
+ */
+export function readAim(words) {
+  const [hero, goal, k] = words.trim().split(/ +/);
+  return { hero: hero === 'black' ? 'Black' : 'White', goal: /** @type {Aim['goal']} */ (goal), k: Number(k) || 0 };
+}
+/** @param {{mark: string}} move */
+export const holds = move => move.mark === 'only' || move.mark === 'dual';
+
+/** @param {TreeNode} node */
+export const moveName = node => (node.parent ? numberedName(node.parent.fen, node.san) : 'the start');
+/**
+ * @param {string} before
+ * @param {string} san
+ */
+export const numberedName = (before, san) => `${before.split(' ')[5]}${sideOf(before) === 'White' ? '. ' : '... '}${san}`;
+/**
+ * A line of moves with its numbers.
+ * @param {string} fen
+ * @param {string[]} sans
+ */
+export function numberedLine(fen, sans) {
+  let white = sideOf(fen) === 'White', k = Number(fen.split(' ')[5]);
+  return sans.map((san, i) => {
+    const text = (white ? `${k}. ` : i ? '' : `${k}... `) + san;
+    if (!white) k++;
+    white = !white;
+    return text;
+  }).join(' ');
+}
+
+/**
+ * What the stamp says, as a sentence.
+ * @param {{verdict: string, start: string}} view
+ * @param {boolean} empty
+ */
+export function verdictSentence(view, empty) {
+  const [kind, n] = view.verdict.split(' ');
+  const say = /** @type {Record<string, string>} */ ({
+    sound: empty ? 'The stipulation holds. No move of the solution was given.' : 'The stipulation holds, and each move of the solution is the only one.',
+    unsound: `The stipulation holds; the solution has ${n === '1' ? 'one fault' : n + ' faults'}.`,
+    wrong: 'The stipulation does not hold.',
+  });
+  return `${say[kind] || ''} At the start: ${view.start}.`;
+}
+/**
+ * What the mark of a node means.
+ * @param {TreeNode} node
+ * @param {Side | undefined} hero
+ */
+export function markMeaning(node, hero) {
+  if (node.mark === 'only') return 'the only move that holds';
+  if (node.mark === 'dual') return node.duals === 1 ? 'dual: one other move holds' : `dual: ${node.duals} others hold`;
+  if (node.mark === 'idle') return 'nothing was to be gained';
+  if (node.mark === 'mistake') return node.parent && sideOf(node.parent.fen) === hero ? 'lets the aim go' : 'gives the aim back';
+  return '';
+}
+/**
+ * How much longer another move takes than the one played.
+ * @param {Aim} aim
+ * @param {Value} played
+ * @param {Value} value
+ */
+export function difference(aim, played, value) {
+  if (aim.goal === 'draw' || value.kind === 'draw' || played.kind === 'draw') return '';
+  const d = (value.n - played.n) / 2;
+  return d === 0 ? 'as quick' : `${counted(Math.abs(d), 'move')} ${d > 0 ? 'longer' : 'quicker'}`;
+}
+/**
+ * What could be said of the position instead, by its value alone: words of stipulations.
+ * @param {Aim} aim
+ * @param {string} verdict
+ * @param {Side} mover
+ * @param {Value} value
+ * @param {boolean} duals
+ */
+export function otherAims(aim, verdict, mover, value, duals) {
+  const won = winner(mover, value);
+  if (verdict === 'wrong') {
+    if (!won) return aim.goal === 'draw' ? [] : ['white draw', 'black draw'];
+    if (won !== aim.hero) return [`${won.toLowerCase()} win`];
+    return aim.goal === 'mate' ? [`${won.toLowerCase()} mate ${movesTo(value)}`] : [];
+  }
+  return duals && aim.goal === 'win' && movesTo(value) <= 127 ? [`${aim.hero.toLowerCase()} mate ${movesTo(value)}`] : [];
+}
+
+const REASONS = /** @type {Record<string, string>} */ ({
+  BadByte: 'a letter that is not plain ASCII: write names without accents', UnknownCommand: 'the first word is no command',
+  BadArguments: 'a word too few or too many, or a path or a number that is not of its form',
+  UnknownStipulation: 'no stipulation: write white or black, then win, draw, or mate and a number from 1 to 127', UnknownTag: 'not one of the six tags',
+  NoPosition: 'there is no position yet', NoStudy: 'no stipulation is chosen yet', NoSuchNode: 'no move stands at this place of the tree',
+  PagedMode: 'it wants whole tables, and the board reads them by pages', NotAClass: 'there is no such material',
+  FieldCount: 'a FEN has six fields, or four', Placement: 'the first field does not fill the eight ranks',
+  TooManyMen: 'more than four men; the tables go up to four, kings included', KingCount: 'each side needs exactly one king',
+  PawnOnEndRank: 'a pawn stands on the first or last rank', SideField: 'the side to move is w or b',
+  OpponentInCheck: 'the side that is not to move is in check', Castling: 'castling is left out: write -',
+  EnPassantField: 'the en passant square is a square or -', EnPassantImpossible: 'no pawn can just have jumped over that square',
+  Clock: 'the half-move count has one to four digits', MoveNumber: 'the move number has one to four digits',
+  NotSan: 'not the text of a move, as Kb6 or c8=R, without its number', CastlingLeftOut: 'castling is left out',
+  NoSuchMove: 'not legal here', Ambiguous: 'two men can make this move: add the file or rank of the origin',
+  RootNotAllowed: 'the start can be neither deleted nor promoted', AlreadyFirst: 'it is the first already',
+  AlreadyThere: 'the move stands there already', TooDeep: 'more than 256 plies', TreeFull: 'more than 4096 nodes',
+  TagText: 'a text has at most 60 characters', NoFile: 'there is no file of this table', Cut: 'the file is cut short',
+  NotATable: 'the file is no table', HeaderDamaged: 'the head of the file is damaged', TrailingBytes: 'the file is too long',
+  OutOfMemory: 'no memory is left', NoMan: 'no man stands there', Device: 'it could not be written',
+});
+/**
+ * A reply `error NAME ARGUMENT` as words.
+ * @param {string} reply
+ */
+export function reason(reply) {
+  const [, name = '', ...rest] = reply.split(' '), argument = rest.join(' ');
+  if (/^K[QRBNP]*K[QRBNP]*$/.test(name)) return `the file of the table ${name} is damaged (${argument})`;
+  if (name === 'ShiftBroken') return `the move at ${argument} is not legal from the new position`;
+  if (name === 'NoTable' || name === 'MissingTable') return `the table ${argument} is not there`;
+  if (name === 'AlreadyHeld') return `the table ${argument} is there already`;
+  if (name === 'OtherClass') return `the file holds the table ${argument}`;
+  if (name === 'PageDamaged' || name === 'TableRead') return `a table's file is damaged (${argument})`;
+  return REASONS[name] || reply.replace(/^error /, '');
+}
+/**
+ * Why a whole run ended.
+ * @param {string} ended
+ */
+export function endedReason(ended) {
+  const [name, line] = ended.split(' ');
+  if (name === 'LineTooLong') return `line ${line} has more than 1024 characters`;
+  if (name === 'TooManyLines') return 'more than 100,000 lines';
+  return name === 'OutOfMemory' ? 'no memory is left' : ended;
+}

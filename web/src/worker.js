@@ -1,0 +1,32 @@
+// @ts-check
+// The worker around one core: messages in, one answer each, in their order.
+//   {id, kind: 'start', module}                      a compiled module
+//   {id, kind: 'lay', name, bytes}                   a table's file (an ArrayBuffer, handed over)
+//   {id, kind: 'drop', name}
+//   {id, kind: 'answer', request, script, pages}     -> {bytes, ended, saved: [[name, bytes] ..]}
+// Each answer has {id, ms, memory}, or {id, failed} after a trap: then the page ends this worker.
+import { makeCore } from './core_host.js';
+
+/** @type {ReturnType<typeof makeCore> | null} */
+let core = null;
+/**
+ * @param {any} message
+ * @returns {any}
+ */
+function act(message) {
+  if (message.kind === 'start') { core = makeCore(message.module); return {}; }
+  if (!core) throw new Error('no core yet');
+  if (message.kind === 'lay') { core.lay(message.name, new Uint8Array(message.bytes)); return {}; }
+  if (message.kind === 'drop') { core.drop(message.name); return {}; }
+  return core.answer(message.request, message.script, message.pages);
+}
+self.onmessage = e => {
+  const began = performance.now(), id = e.data.id;
+  try {
+    const done = act(e.data), moved = [done.bytes, ...(done.saved || []).map((/** @type {any} */ s) => s[1])].filter(Boolean).map(b => b.buffer);
+    /** @type {any} */ (self).postMessage({ id, ...done, ms: performance.now() - began, memory: core ? core.size() : 0 }, moved);
+  } catch (fault) {
+    const { name, message } = /** @type {Error} */ (fault);
+    self.postMessage({ id, failed: `${name}: ${message}` });
+  }
+};

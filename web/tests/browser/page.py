@@ -1,0 +1,384 @@
+"""What the page owes its users, tried in headless Chromium from its file.
+
+    page.py TABLES [NAME ..]
+
+Each test begins in a new profile: no document, no table. TABLES has the files of the native program.
+"""
+import hashlib
+import os
+import re
+import sys
+import time
+import traceback
+from html.parser import HTMLParser
+
+from user import TOP, By, Keys, User
+
+TABLES = os.path.abspath(sys.argv[1])
+FEN = "8/8/8/6k1/8/8/1P5K/8 w - - 0 1"
+SMALL = "KK KQK KRK KBK KNK KPK".split()
+
+
+def digest(name):
+    with open(os.path.join(TABLES, name + ".dtm"), "rb") as file:
+        return hashlib.sha256(file.read()).hexdigest()
+
+
+def kept(user, name):
+    """The SHA-256 of a table in the browser's store, or nothing."""
+    return user.promise("""(async () => {
+        const base = await new Promise((ok, no) => {
+            const r = indexedDB.open('studyboard', 1);
+            r.onsuccess = () => ok(r.result);
+            r.onerror = () => no(r.error);
+        });
+        const get = base.transaction('tables').objectStore('tables').get(a[0]), blob = await new Promise(ok => { get.onsuccess = () => ok(get.result); });
+        if (!blob) return '';
+        const sum = new Uint8Array(await crypto.subtle.digest('SHA-256', await blob.arrayBuffer()));
+        return [...sum].map(b => b.toString(16).padStart(2, '0')).join('');
+    })()""", name)
+
+
+def put_forged(user, name):
+    user.promise("""(async () => {
+        const base = await new Promise((ok, no) => {
+            const r = indexedDB.open('studyboard', 1);
+            r.onsuccess = () => ok(r.result);
+            r.onerror = () => no(r.error);
+        });
+        const s = base.transaction('tables', 'readwrite').objectStore('tables'), get = s.get(a[0]);
+        const blob = await new Promise(ok => { get.onsuccess = () => ok(get.result); }), bytes = new Uint8Array(await blob.arrayBuffer());
+        bytes[bytes.length - 100] ^= 1;
+        const put = base.transaction('tables', 'readwrite').objectStore('tables').put(new Blob([bytes]), a[0]);
+        await new Promise(ok => { put.onsuccess = ok; });
+        return 0;
+    })()""", name)
+
+
+class Tags(HTMLParser, list):
+    """The names of a page's elements."""
+    def __init__(self):
+        HTMLParser.__init__(self)
+        list.__init__(self)
+
+    def handle_starttag(self, tag, attrs):
+        self.append(tag)
+
+
+def sample(user):
+    user.click("sample")
+    user.until("document.getElementById('stamp') && document.getElementById('progress').hidden", 120)
+    user.settle()
+
+
+def test_sample_in_one_click(user):
+    sample(user)
+    assert user.text("stamp") == "sound"
+    for name in SMALL:
+        assert kept(user, name) == digest(name), name
+
+
+def test_composed_by_keys_alone(user):
+    board = user.d.find_element(By.CSS_SELECTOR, "#board svg")
+    board.send_keys(Keys.ARROW_UP)
+    for key, steps in (("", 0), ("P", 1), ("K", 6)):
+        board = user.d.find_element(By.CSS_SELECTOR, "#board svg")
+        for _ in range(steps):
+            user.keys(Keys.ARROW_RIGHT)
+        if steps == 1:
+            user.keys(Keys.ARROW_UP)
+        if key:
+            user.keys(key)
+    for _ in range(3):
+        user.keys(Keys.ARROW_UP)
+    user.keys(Keys.ARROW_LEFT, "k")
+    assert user.js("return document.getElementById('fen').value") == FEN, user.js("return document.getElementById('fen').value")
+    user.until("!document.getElementById('start').disabled", 60)
+    user.by("start").send_keys(Keys.ENTER)
+    user.until("document.getElementById('san')", 60)
+    user.settle()
+    user.keys("m")
+    user.keys("1. Kg3 Kf5 2. Kf3 Ke5", Keys.ENTER)
+    user.settle()
+    assert user.text("stamp") == "sound"
+    user.by("san").send_keys(Keys.TAB)
+    user.d.find_element(By.CSS_SELECTOR, "#board svg").click()
+    user.keys(Keys.HOME)
+    user.settle()
+    user.keys(Keys.ARROW_RIGHT)
+    user.settle()
+    assert user.js("return document.getElementById('spoken').textContent") == "white king g3"
+    user.keys(Keys.DELETE)
+    user.settle()
+    assert not user.d.find_elements(By.CSS_SELECTOR, ".tree [data-path]")
+    user.control("z")
+    user.settle()
+    assert len(user.d.find_elements(By.CSS_SELECTOR, ".tree [data-path]")) == 4
+
+
+def test_undo_and_redo_of_everything(user):
+    user.set_up(FEN, "white win")
+    for san in ("Kg3", "b4"):
+        user.go("root")
+        user.play(san)
+    user.fill("tagWhite", "A. Composer")
+    user.choose("aimGoal", "draw")
+    user.click("setUp")
+    user.fill("fen", "8/8/8/7k/8/8/1P5K/8 w - - 0 1")
+    user.until("document.getElementById('startEmpty') && !document.getElementById('startEmpty').disabled")
+    user.click("start")
+    user.settle()
+    texts = [user.promise("studyboard.script()")]
+    while not user.js("return document.getElementById('undo').disabled"):
+        user.click("undo")
+        user.settle()
+        texts.append(user.promise("studyboard.script()"))
+    assert len(texts) == 7 and texts[-1].strip() == "", texts
+    for text in reversed(texts[:-1]):
+        user.click("redo")
+        user.settle()
+        assert user.promise("studyboard.script()") == text
+
+
+def test_faults_and_their_repairs(user):
+    user.set_up("8/k1P5/2K5/8/8/8/8/8 w - - 0 1", "white mate 2")
+    user.play("c8=Q")
+    user.until("document.querySelector('.faults')", 30, "the facts")
+    assert user.text("stamp") == "unsound 1" and "lets the aim go" in user.by("verdict").text
+    user.picture("fault")
+    user.go("root")
+    user.play("c8=R")
+    user.until("[...document.querySelectorAll('.faults button')].some(b => b.textContent === 'Put c8=R first')", 30, "a repair")
+    user.d.find_element(By.XPATH, "//button[text()='Put c8=R first']").click()
+    user.settle()
+    assert user.text("stamp") == "sound"
+    user.until("document.querySelector('#ends .add')", 30)
+    user.d.find_element(By.XPATH, "//*[@id='ends']//button[text()='add']").click()
+    user.settle()
+    assert user.text("stamp") == "sound" and "Ra8#" in user.text("tree")
+
+
+def test_where_else(user):
+    user.set_up(FEN, "white win")
+    user.click("setUp")
+    user.until("document.getElementById('survey')", 30)
+    user.choose("surveyMan", "15")
+    user.until("document.getElementById('stands')", 30)
+    assert "g2 (Kg3), h3 (Kg3)" in user.text("stands"), user.text("stands")
+    user.picture("survey")
+    user.press("h3")
+    user.until("document.getElementById('judged').textContent.includes('holds')", 30)
+    assert user.js("return document.getElementById('fen').value").startswith("8/8/8/6k1/8/7K/1P6/8 w")
+
+
+def composed(user, fen, aim, most=30):
+    """Follows what the page offers: the only move of the hero, the best defence; ends before the first dual."""
+    user.set_up(fen, aim)
+    for _ in range(most):
+        only = user.d.find_elements(By.CSS_SELECTOR, ".moves .chip.only")
+        chips = only or user.d.find_elements(By.CSS_SELECTOR, ".moves .chip.reply")
+        if not chips:
+            break
+        user.js("arguments[0].click()", chips[0])
+        user.settle()
+    assert user.text("stamp") == "sound", user.text("stamp")
+    return len(user.d.find_elements(By.CSS_SELECTOR, ".tree [data-path]"))
+
+
+def test_studies_from_nothing(user):
+    assert composed(user, FEN, "white win") > 10
+    user.picture("kpk")
+    user.open_tables(TABLES, "KK KQK KRK KBK KNK KPK KQKR KRKR KRKB KRKN KRKP".split())
+    assert composed(user, "8/2P5/8/8/3r4/8/2K5/k7 w - - 0 1", "white mate 7") > 2
+    user.picture("krkp")
+
+
+def test_a_study_from_a_node(user):
+    sample(user)
+    user.go("0.0")
+    user.click("setUp")
+    user.click("fromNode")
+    user.until("document.getElementById('startEmpty') && !document.getElementById('startEmpty').disabled", 30)
+    user.click("startEmpty")
+    user.settle()
+    assert user.promise("studyboard.script()").startswith("position 8/8/8/5k2/8/6K1/1P6/8 w - - 2 2\nstipulate white win\n")
+    assert not user.d.find_elements(By.CSS_SELECTOR, ".tree [data-path]")
+
+
+def test_reload_in_the_middle(user):
+    sample(user)
+    user.go("0.0")
+    user.play("Kf3")
+    script = user.promise("studyboard.script()")
+    user.d.refresh()
+    user.until("document.getElementById('stamp')", 30)
+    user.idle()
+    assert user.promise("studyboard.script()") == script and user.promise("studyboard.path()") == "0.0.0"
+
+
+def test_a_stop_leaves_all_as_it_was(user):
+    sample(user)
+    before = user.promise("studyboard.script()")
+    user.click("new")
+    user.fill("fen", "8/8/1KP5/3r4/8/8/8/k7 w - - 0 1")
+    user.until("document.getElementById('buildNow')", 30)
+    user.click("start")
+    user.until("!document.getElementById('progress').hidden", 30)
+    time.sleep(1)
+    began = time.time()
+    user.picture("progress")
+    user.click("stop")
+    user.until("document.getElementById('progress').hidden", 10)
+    assert time.time() - began < 5
+    user.settle()
+    assert "Stopped" in user.text("setup") and user.promise("studyboard.script()") == before
+    user.click("cancel")
+    user.go("root")
+    assert user.text("stamp") == "sound"
+
+
+def test_forged_and_damaged_tables(user):
+    sample(user)
+    put_forged(user, "KQK")
+    assert kept(user, "KQK") != digest("KQK")
+    user.d.refresh()
+    user.until("document.getElementById('stamp')", 60)
+    user.idle()
+    assert user.text("stamp") == "sound" and kept(user, "KQK") == digest("KQK")
+    bad = os.path.join(os.environ.get("TMPDIR", "/tmp"), "KRK.dtm")
+    with open(os.path.join(TABLES, "KRK.dtm"), "rb") as file:
+        data = bytearray(file.read())
+    data[5000] ^= 1
+    with open(bad, "wb") as file:
+        file.write(data)
+    user.by("tableFiles").send_keys(bad)
+    user.until("document.getElementById('sayBoard').textContent.includes('KRK')", 30)
+    assert "Nothing was taken" in user.text("sayBoard")
+    os.remove(bad)
+
+
+def test_hostile_texts_are_texts(user):
+    tags = 'tag Event <img src=x onerror=alert(1)><script>alert(2)</script>\ntag White "><b>b\n<script>alert(3)</script>\n'
+    script = f"position {FEN}\nstipulate white win\n{tags}insert root Kg3\n"
+    user.promise("studyboard.open(a[0])", script)
+    user.settle()
+    assert user.by("head").find_element(By.TAG_NAME, "h1").text == "<img src=x onerror=alert(1)><script>alert(2)</script>"
+    assert not user.d.find_elements(By.CSS_SELECTOR, "#right img, #right script, h1 b")
+    assert "1 line of the script was refused" in user.text("texts")
+    user.picture("hostile")
+    before = user.promise("studyboard.script()")
+    user.fill("script", "x" * 2000)
+    user.click("runScript")
+    user.settle()
+    assert user.promise("studyboard.script()") == before and "1024" in user.text("texts")
+    user.js("localStorage.setItem('studyboard', '{\"script\": 7')")
+    user.d.refresh()
+    user.idle()
+    assert user.has("man" + "K") or "refused" in user.text("texts")
+
+
+def test_a_pgn_where_a_script_is_meant(user):
+    with open(os.path.join(TOP, "examples", "kpk_opposition.expected"), encoding="utf-8") as file:
+        pgn = re.search(r"\[Event [\s\S]*?\n\n[\s\S]*?\n\n", file.read()).group(0)
+    user.open_tables(TABLES, SMALL)
+    user.promise("studyboard.open(a[0])", pgn)
+    user.settle()
+    assert user.promise("studyboard.pgn()") == pgn
+    user.promise("studyboard.open(a[0])", '[Event "x"]\n\n1. e4 *\n')
+    assert "Nothing was changed" in user.js("return document.body.textContent") and user.promise("studyboard.pgn()") == pgn
+
+
+def test_a_script_in_the_address(user):
+    from urllib.parse import quote
+    user.open_tables(TABLES, SMALL)
+    user.open("#script=" + quote(f"position {FEN}\nstipulate white win\ninsert root Kg3\n"))
+    user.until("document.getElementById('stamp')", 30)
+    assert user.text("stamp") == "sound"
+
+
+def test_several_studies(user):
+    user.open_tables(TABLES, SMALL)
+    user.set_up(FEN, "white win")
+    user.fill("tagWhite", "First")
+    user.set_up("8/3k4/8/3KP3/8/8/8/8 b - - 0 1", "black draw", first=False)
+    assert user.text("stamp") == "sound" and "Untitled" in user.text("head") and "First" not in user.text("head")
+    assert user.js("return document.getElementById('studies').options.length") == 2
+    user.choose("studies", "0")
+    assert "First" in user.text("head")
+    user.picture("two")
+
+
+def test_report(user):
+    sample(user)
+    script = user.promise("studyboard.script()")
+    told = user.promise("studyboard.report(a[0])", script + "pgn\ndance <b>\n")
+    assert told.startswith("<!DOCTYPE html>\n") and told.endswith("</body></html>\n")
+    assert '<article id="e1">' in told
+    assert "<code>dance &lt;b&gt;</code> <b>UnknownCommand</b>: " in told and "<b>\n" not in told
+    tags = Tags()
+    tags.feed(told)
+    assert tags.count("article") >= 1 and tags.count("script") == 0 and '<span class="stamp sound">sound</span>' in told
+    assert user.by("saveReport").is_displayed()
+
+
+def test_print(user):
+    sample(user)
+    page = user.d.execute_cdp_cmd("Page.printToPDF", {"printBackground": False})
+    assert len(page["data"]) > 10000
+    user.d.execute_cdp_cmd("Emulation.setEmulatedMedia", {"media": "print"})
+    user.picture("print")
+    assert not user.by("saveReport").is_displayed()
+    assert user.by("stamp").is_displayed()
+
+
+def test_no_request_is_made(user):
+    sample(user)
+    assert not user.requests()
+    blocked = user.promise("fetch('https://example.org/').then(() => 'went out', e => 'refused')")
+    assert blocked == "refused"
+
+
+def test_phone(user):
+    user.end()
+    user.__init__(phone=True)
+    user.picture("phone_first")
+    sample(user)
+    assert user.js("return document.documentElement.scrollWidth") <= 390
+    user.press("h2")
+    user.press("g3")
+    user.settle()
+    assert user.text("value").startswith("After 1. Kg3")
+    user.picture("phone")
+    user.click("setUp")
+    user.settle()
+    user.picture("phone_setup")
+    assert user.js("return document.documentElement.scrollWidth") <= 390
+
+
+def test_without_memory64(user):
+    user.end()
+    user.__init__(flags=("--js-flags=--no-experimental-wasm-memory64",))
+    sample(user)
+    assert user.text("stamp") == "sound"
+
+
+def main():
+    names = sys.argv[2:] or [name[5:] for name in globals() if name.startswith("test_")]
+    bad = 0
+    for name in names:
+        user, began = User(), time.time()
+        try:
+            globals()["test_" + name](user)
+            user.no_faults() if name != "no_request_is_made" else None
+            print(f"{name}: passed, {time.time() - began:.1f} s", flush=True)
+        except Exception as fault:
+            bad += 1
+            line = traceback.extract_tb(fault.__traceback__)[1]
+            print(f"{name}: FAILED, line {line.lineno}, {type(fault).__name__}: {str(fault)[:400]}", flush=True)
+            user.picture("failed_" + name)
+        user.end()
+    print(f"{len(names) - bad} of {len(names)} passed")
+    sys.exit(bool(bad))
+
+
+main()

@@ -1,0 +1,26 @@
+// The order of builds: over made-up needs, each table is built once, after what it needs, and never too many at a time.
+import test from 'node:test';
+import assert from 'node:assert/strict';
+import { buildEach } from '../src/schedule.js';
+
+const NEEDS = { A: [], B: ['A'], C: ['A'], D: ['B', 'C'], E: ['D'], F: [] };
+for (const most of [1, 2, 3, 9]) {
+  test(`${most} at a time`, async () => {
+    const there = new Set();
+    let running = 0, highest = 0;
+    await buildEach(Object.keys(NEEDS), most, async name => {
+      highest = Math.max(highest, ++running);
+      const able = NEEDS[name].every(n => there.has(n));
+      await new Promise(on => setTimeout(on, able ? 3 + name.charCodeAt(0) % 5 : 1));
+      running--;
+      if (able) { assert.ok(!there.has(name)); there.add(name); }
+      return able;
+    }, () => {});
+    assert.equal(there.size, 6);
+    assert.ok(highest <= most);
+  });
+}
+test('what cannot be built is told', async () => {
+  await assert.rejects(buildEach(['A', 'B'], 2, async name => name === 'A', () => {}), /B could not be built/);
+  await assert.rejects(buildEach(['A', 'B'], 2, async () => { throw new Error('a trap'); }, () => {}), /a trap/);
+});

@@ -1,0 +1,132 @@
+// The script as the document: its replies read, and what the user does as a change of its lines.
+import test from 'node:test';
+import assert from 'node:assert/strict';
+import { readFileSync } from 'node:fs';
+import * as edits from '../src/edits.js';
+import { advance, begin, redo, undo } from '../src/past.js';
+import { fromPgn } from '../src/pgn.js';
+import { readView } from '../src/replies.js';
+import { editsTo, fensOf, joined, linesOf, readScript, repliesOf, savedScript, toRun } from '../src/script.js';
+import { isListed, progressText } from '../src/shelf.js';
+import { DIGESTS } from '../src/digests.js';
+
+const text = name => readFileSync(new URL('./data/' + name, import.meta.url), 'utf8');
+/** A gallery script with the replies that an independent program gives. */
+function gallery(name) {
+  const lines = linesOf(text(name + '.script')).filter(line => !/^ *(#|$)/.test(line)), replies = repliesOf(lines, text(name + '.expected'));
+  return { lines, replies, script: readScript(lines, lines.map((t, line) => ({ text: t, line })), replies) };
+}
+const games = name => text(name + '.expected')
+                          .split('\n')
+                          .reduce(
+                              (out, row) =>
+                                  (row.startsWith('[Event') ? [...out, [row]] :
+                                       out.length && !/^(mark|stipulate|position|insert|shift|fen|moves|solve|error|delete|promote|tag) ?/.test(row) ?
+                                                              [...out.slice(0, -1), [...out[out.length - 1], row]] :
+                                                              out),
+                              [])
+                          .length;
+
+test('replies are told line by line', () => {
+  for (const name of ['saavedra_1895', 'reti_1921', 'knnk_no_forced_mate']) {
+    const { lines, replies } = gallery(name);
+    lines.forEach((line, i) => {
+      const [command] = line.trim().split(' '), reply = replies[i];
+      if (reply.startsWith('error ')) return;
+      const first = { build: 'built', load: 'loaded', save: 'saved', pgn: '[Event', verify: 'verified' }[command] || command;
+      assert.ok(reply.startsWith(first), `${name}: ${line} -> ${reply.slice(0, 40)}`);
+      if (command === 'pgn') assert.ok(reply.endsWith('\n\n'));
+    });
+  }
+});
+test('studies, verdicts and refused lines', () => {
+  const { script } = gallery('saavedra_1895');
+  assert.deepEqual(script.studies.map(s => s.verdict), ['unsound 3', 'sound']);
+  assert.equal(script.studies[0].tags.White, 'Barbier and Saavedra');
+  assert.deepEqual(
+      script.studies[1].carried, ['stipulate white mate 26', 'tag Event Glasgow Weekly Citizen', 'tag White Barbier and Saavedra', 'tag Date 1895.??.??']);
+  assert.equal(script.refused.length, 0);
+  assert.equal(gallery('knnk_no_forced_mate').script.refused.length, 7);
+  assert.ok(games('saavedra_1895') >= 1);
+});
+test('what is run has a game behind each study', () => {
+  const sent = toRun(['build KK', 'position A', '', 'stipulate white win', '# note', 'pgn', 'position B', 'insert root Kb2']).map(s => s.text);
+  assert.deepEqual(sent, ['position A', 'stipulate white win', 'pgn', 'position B', 'insert root Kb2', 'pgn']);
+  assert.deepEqual(fensOf([' position  8/8 w', 'shift 7/8 b', 'tag Event position 1']), ['8/8 w', '7/8 b']);
+});
+const view = readView(text('saavedra_1895.views').split(/^# view .*\n/m)[1]);
+const START = ['position 8/8/1KP5/3r4/8/8/8/k7 w - - 0 1', 'stipulate white win', 'tag White A', 'insert root c7', 'insert root Kb7', 'pgn'];
+const study = {
+  from: 0,
+  end: 6,
+  last: 4,
+  fen: '8/8/1KP5/3r4/8/8/8/k7 w - - 0 1',
+  aim: {hero: 'White', goal: 'win', k: 0},
+  tags: {White: 'A'},
+  place: {aim: 1, White: 2},
+  carried: [],
+  made: {line: 4, path: '1'},
+  pgn: '',
+  verdict: ''
+};
+test('moves are put in below one another, and walked where they stand', () => {
+  assert.deepEqual(
+      edits.insertMoves(START, study, view.root, '1.0', ['Kc7', 'Rd1']),
+      {lines: [...START.slice(0, 5), 'insert 1.0 Kc7', 'insert 1.0.0 Rd1', 'pgn'], path: '1.0.0.0'});
+  const walked = edits.insertMoves(START, study, view.root, 'root', ['c7', 'Rd6+']);
+  assert.equal(walked.lines, START);
+  assert.equal(walked.path, '0.0');
+  assert.deepEqual(edits.insertMoves(START, study, view.root, 'root', ['c7', 'Kb2']).lines.slice(5), ['insert 0 Kb2', 'pgn']);
+});
+test('the newest move goes with its line, another by a line', () => {
+  const at = path => ({ path, parent: { path: 'root' } });
+  assert.deepEqual(edits.removeNode(START, study, at('1')).lines, [...START.slice(0, 4), 'pgn']);
+  assert.deepEqual(edits.removeNode(START, study, at('0')).lines, [...START.slice(0, 5), 'delete 0', 'pgn']);
+  assert.deepEqual(edits.promoteNode(START, study, at('0.2'), true).lines.slice(5, 7), ['promote 0.2', 'promote 0.1']);
+});
+test('stipulation and tags stand in the lines of the study', () => {
+  assert.equal(edits.stipulate(START, study, 'white mate 26').lines[1], 'stipulate white mate 26');
+  assert.deepEqual(edits.setTag(START, study, 'Event', 'B').lines.slice(0, 4), [START[0], START[1], 'tag Event B', START[2]]);
+  assert.deepEqual(edits.setTag(START, study, 'White', '').lines, START.filter(l => !l.startsWith('tag')));
+  assert.equal(edits.withoutAccents('Réti, Łódź'), 'Reti, Lodz');
+  const old = { ...study, tags: { White: 'A', Date: '1921.??.??' }, place: { aim: 1 } };
+  assert.deepEqual(edits.setTag(START, old, 'Date', '').lines[2], 'tag Date ????.??.??');
+});
+test('another position', () => {
+  assert.deepEqual(edits.shiftTo(START, study, 'F', 'white win').lines[5], 'shift F');
+  assert.deepEqual(edits.replacePosition(START, study, 'F', 'black draw').lines, ['position F', 'stipulate black draw', 'tag White A', 'pgn']);
+  assert.deepEqual(edits.addStudy(START, 'F', 'white win', study).slice(6), ['', 'position F', 'stipulate white win', 'tag White ?']);
+});
+test('tidy writes the tree anew', () => {
+  const { lines } = edits.tidy(START, study, view.root);
+  assert.equal(lines.filter(l => l.startsWith('insert')).length, 26);
+  assert.deepEqual(lines.slice(0, 4), [START[0], START[1], START[2], 'insert root c7']);
+});
+test('a saved script has its tables in front and a game behind each study', () => {
+  const script = { lines: START.slice(0, 5), studies: [{ ...study, end: 5 }], refused: [] };
+  assert.equal(savedScript(script, ['KK', 'KRK']), joined(['build KK', 'build KRK', ...START]));
+});
+test('undo and redo', () => {
+  let h = begin(0);
+  for (const n of [1, 2, 3]) h = advance(h, n);
+  const back = undo(undo(h));
+  assert.equal(back.now, 1);
+  assert.deepEqual(redo(redo(back)), h);
+  assert.equal(undo(undo(undo(undo(h)))).now, 0);
+  assert.deepEqual(redo(h), h);
+  assert.deepEqual(advance(back, 9).future, []);
+});
+test('a game is read as lines that make it again', () => {
+  const { replies, script } = gallery('reti_1921'), pgn = replies.find(r => r.startsWith('[Event'));
+  const lines = fromPgn(pgn), own = editsTo(script.lines, script.studies[0]);
+  assert.equal(lines[0], own[0]);
+  const moves = list => list.filter(l => l.startsWith('insert')).length;
+  assert.equal(moves(lines), script.lines.slice(script.studies[0].from, script.lines.indexOf('pgn')).filter(l => l.startsWith('insert')).length);
+  assert.deepEqual(fromPgn('[Event "x"]\n\n1. e4 *\n'), []);
+});
+test('the list of tables', () => {
+  assert.equal(Object.keys(DIGESTS).length, 36);
+  assert.ok(isListed('KK', DIGESTS.KK[1]));
+  assert.ok(!isListed('KK', DIGESTS.KQK[1]) && !isListed('KKR', ''));
+  assert.equal(progressText(['KRKP'], 10, 11, 12.4, 61), 'Building the table KRKP · 11 of 11 · 12 s, about 60 s left. It is done once, and kept.');
+});
