@@ -1,29 +1,41 @@
 -- Answers that are whole, and refusals.
-use Rattle.std.proofs.Common.{◌≡◌, ℕ, List, Result, Ok, Err, refl, sym, ap, subst, ◌∙◌}
+use Rattle.std.proofs.Common.{◌≡◌, ◌⊎◌, ℕ, Bool, true, List, [], ◌∷◌, Option, Result, Ok, Err, refl, sym, ap, subst, ◌∙◌, inl, inr}
 use Rattle.std.specs.Prelude.{IfOk, IfErr}
 use Rattle.study_script.specs.declared.run.RunFault.{RunFault}
 use Rattle.study_script.specs.declared.run.RunFault.TheVariants as run_fault
+use Rattle.study_board.specs.Position.{Position}
+use Rattle.study_material.specs.declared.class.Class.{Class}
+use Rattle.study_material.specs.Class.{IsOf}
 use Rattle.study_notation.specs.declared.start.Start.{Start}
+use Rattle.study_tablefile.specs.declared.fault.SourceFault.{SourceFault}
+use Rattle.study_marks.specs.Answers.{IsFirstFault}
+use Rattle.study_review.specs.Asked.{Stopped}
+use Rattle.study_view.specs.declared.fault.SurveyFault.{SurveyFault}
+use Rattle.study_view.specs.declared.fault.SurveyFault.TheVariants as survey
+use Rattle.study_view.specs.Asked.{HasSurveyed}
+use Rattle.study_script.specs.declared.store.StoreFault.{StoreFault}
 use Rattle.study_web.specs.declared.denial.Denial.{Denial}
 use Rattle.study_web.specs.declared.denial.Denial.TheVariants as denial
 use Rattle.study_web.specs.declared.reply.NoText.{NoText}
 use Rattle.study_web.specs.declared.reply.NoText.TheVariants as no_text
 use Rattle.study_web.specs.declared.reply.Ending.{Ending}
-use Rattle.study_web.specs.declared.reply.Ending.TheVariants.{Answered, Refused, Ran, Stopped}
+use Rattle.study_web.specs.declared.reply.Ending.TheVariants.{Answered, Refused, Ran}
+use Rattle.study_web.specs.declared.reply.Ending.TheVariants as ending
+use Rattle.study_prober.specs.Values.{ProbeAnswer}
 use Rattle.study_prober.specs.declared.values.ProbeFault.{ProbeFault}
 use Rattle.study_prober.specs.declared.values.ProbeFault.TheVariants as probe
 use Rattle.study_reply.specs.declared.refusal.Refusal.{Refusal}
 use Rattle.study_reply.specs.declared.refusal.Refusal.TheVariants.{NoSuchNode, OutOfMemory}
 use Rattle.study_reply.specs.Names.{of_probe}
-use Rattle.study_web.specs.Answers.{IsWhole, MayEnd, IsNever, IsOfValues, IsViewDenial, IsSurveyDenial}
-use Rattle.study_web.specs.Opened.{IsOfTables}
+use Rattle.study_web.specs.Answers.{IsWhole, MayEnd, IsNever, IsNoMemory, IsViewDenial, IsSurveyDenial}
+use Rattle.study_web.specs.Opened.{IsHeldAs, IsOfTables, IsOfValues, IsValueUntold}
 use Rattle.study_web.specs.Told.{denial_text, IsDenied, IsUntold}
 
 pub whole_denied : (IsIt : List ℕ → Type 0) (May : Denial → Type 0) (Stops : RunFault → Type 0) (d : Denial) (text : List ℕ) (ended : Ending)
     → IsDenied d text ended → May d → Stops run_fault.OutOfMemory → IsWhole IsIt May Stops text ended
 whole_denied IsIt May Stops d text Answered x may stops = absurd x
 whole_denied IsIt May Stops d text (Refused e) (same, is) may stops = (subst May (sym same) may, is ∙ ap denial_text (sym same))
-whole_denied IsIt May Stops d text (Stopped fault) (same, is) may stops = (subst Stops (sym same) stops, is)
+whole_denied IsIt May Stops d text (ending.Stopped fault) (same, is) may stops = (subst Stops (sym same) stops, is)
 whole_denied IsIt May Stops d text (Ran summary) x may stops = absurd x
 
 -- a text that was made, or the reason why there is none
@@ -36,15 +48,47 @@ whole_told (Err (no_text.Denied d)) items IsIt May Stops text ended done untold 
     whole_denied IsIt May Stops d text ended untold may stops
 whole_told (Err (no_text.Stopped fault)) items IsIt May Stops text ended done (e, t) is may stops = rw (e, t) (may, refl)
 
-pub survey_over : (start : Start) (square : ℕ) (d : Denial) → IsOfTables d → IsSurveyDenial start square d
-survey_over start square (denial.Refused refusal) h = subst (λ (r : Refusal). IsOfValues (denial.Refused r)) (sym h) tt
-survey_over start square (denial.OfFile c refusal) h = tt
-survey_over start square denial.NoMan h = absurd h
+-- ---- why the values of an opened store are not told
 
-pub survey_probe : (start : Start) (square : ℕ) (fault : ProbeFault) → IsSurveyDenial start square (denial.Refused (of_probe fault))
-survey_probe start square (probe.NoTable c) = tt
-survey_probe start square (probe.TableRead fault) = tt
-survey_probe start square (probe.PageDamaged c n) = tt
+abbrev Known : Type 0
+Known = Class → Option (Result (List ℕ) StoreFault)
+
+abbrev Faults : Type 0
+Faults = Class → SourceFault → Bool
+
+pub survey_over : (h : Known) (m : Faults) (Right : Type 0) (start : Start) (square : ℕ) (d : Denial) → IsOfTables h m d
+    → IsSurveyDenial (IsOfValues h m Right) start square d
+survey_over h m Right start square (denial.Refused refusal) is = inl is
+survey_over h m Right start square (denial.OfFile c refusal) is = inl is
+survey_over h m Right start square denial.NoMan is = absurd is
+
+module _ {V : Type 0} (held : V → Class → Bool) (gives : V → Position → ProbeAnswer → Type 0) (may_fail : V → Class → SourceFault → Type 0)
+    (asked_of failed_of : V → ℕ) (is_honest : V → Type 0) where
+  -- a table that is not read is one that might fail so at first
+  fails_at : (old new : V) (asked : List Position) (f : SourceFault) → IsFirstFault gives may_fail asked_of old asked (probe.TableRead f) new
+      → (p : Position) × ((c : Class) → IsOf c p → may_fail old c f)
+  fails_at old new [] f h = absurd h
+  fails_at old new (p ∷ ps) f (inl is) = (p, λ c of. is.failed_so c f of refl)
+  fails_at old new (p ∷ ps) f (inr (v, mid, is, more)) =
+      let r = fails_at mid new ps f more in (r.0, λ c of. is.fails_as_before c f (r.1 c of))
+
+  untold : (h : Known) (m : Faults) (Right : Type 0) (old new : V) (fault : ProbeFault)
+      → Stopped held gives may_fail asked_of failed_of is_honest old fault new → ((c : Class) → IsHeldAs (h c) (held old c))
+      → ((c : Class) (f : SourceFault) → may_fail old c f → m c f ≡ true) → (Right → is_honest old) → IsValueUntold h m Right fault
+  untold h m Right old new (probe.NoTable c) is known fails right = subst (IsHeldAs (h c)) (is.untold c refl) (known c)
+  untold h m Right old new (probe.TableRead f) is known fails right =
+      let r = fails_at old new is.told.0 f is.told.1 in (r.0, λ c of. fails c f (r.1 c of))
+  untold h m Right old new (probe.PageDamaged c n) is known fails right = λ k. is.no_damage (right k)
+
+  -- a survey is refused for the value that is not told
+  pub survey_denied : (h : Known) (m : Faults) (Right : Type 0) (old new : V) (fault : ProbeFault) (start : Start) (square : ℕ)
+      (r : Result (Unit {0}) SurveyFault) → r ≡ Err (survey.Values fault)
+      → HasSurveyed held gives may_fail asked_of failed_of is_honest old r new → ((c : Class) → IsHeldAs (h c) (held old c))
+      → ((c : Class) (f : SourceFault) → may_fail old c f → m c f ≡ true) → (Right → is_honest old)
+      → IsSurveyDenial (IsOfValues h m Right) start square (denial.Refused (of_probe fault))
+  survey_denied h m Right old new fault start square r e is known fails right =
+      let stopped = subst (λ (x : Result (Unit {0}) SurveyFault). HasSurveyed held gives may_fail asked_of failed_of is_honest old x new) e is in
+      inr (fault, untold h m Right old new fault stopped known fails right, refl)
 
 -- what is told of each text under a premise
 pub if_right : {V E : Type 0} (made : Result V E) (items : V → List ℕ) (Right : Type 0) (IsIt : List ℕ → Type 0)
@@ -65,22 +109,43 @@ probe_denial Lacks (probe.NoTable c) = (tt, λ e. absurd cc)
 probe_denial Lacks (probe.TableRead fault) = (tt, λ e. absurd cc)
 probe_denial Lacks (probe.PageDamaged c n) = (tt, λ e. absurd cc)
 
-pub tables_denial : (Lacks : Type 0) (d : Denial) → IsOfTables d → IsViewDenial Lacks d
-tables_denial Lacks (denial.Refused refusal) h =
-    subst (λ (r : Refusal). IsViewDenial Lacks (denial.Refused r)) (sym h) (memory_denial Lacks)
-tables_denial Lacks (denial.OfFile c refusal) h = (tt, λ e. absurd cc)
-tables_denial Lacks denial.NoMan h = absurd h
+module _ (May : Denial → Type 0) (Lacks Misses : Type 0) (Stops Ends : RunFault → Type 0) (lacks : Lacks → Misses)
+    (ends : (fault : RunFault) → Stops fault → Ends fault) where
+  weaker_end : (why : NoText) → MayEnd (IsViewDenial Lacks) Stops why → MayEnd (λ d. May d ⊎ IsViewDenial Misses d) Ends why
+  weaker_end (no_text.Denied d) h = inr (h.0, λ e. lacks (h.1 e))
+  weaker_end (no_text.Stopped fault) h = ends fault h
 
-weaker_end : (Lacks Misses : Type 0) (Stops Ends : RunFault → Type 0) → (Lacks → Misses) → ((fault : RunFault) → Stops fault → Ends fault)
-    → (why : NoText) → MayEnd (IsViewDenial Lacks) Stops why → MayEnd (IsViewDenial Misses) Ends why
-weaker_end Lacks Misses Stops Ends f k (no_text.Denied d) h = (h.0, λ e. f (h.1 e))
-weaker_end Lacks Misses Stops Ends f k (no_text.Stopped fault) h = k fault h
+  -- why there is no view of what is left is why there is none of the script
+  pub weaker_denial : {V : Type 0} (made : Result V NoText) → IfErr made (MayEnd (IsViewDenial Lacks) Stops)
+      → IfErr made (MayEnd (λ d. May d ⊎ IsViewDenial Misses d) Ends)
+  weaker_denial (Ok v) h = tt
+  weaker_denial (Err why) h = weaker_end why h
 
-pub weaker_denial : {V : Type 0} (made : Result V NoText) (Lacks Misses : Type 0) (Stops Ends : RunFault → Type 0) → (Lacks → Misses)
-    → ((fault : RunFault) → Stops fault → Ends fault) → IfErr made (MayEnd (IsViewDenial Lacks) Stops)
-    → IfErr made (MayEnd (IsViewDenial Misses) Ends)
-weaker_denial (Ok v) Lacks Misses Stops Ends f k h = tt
-weaker_denial (Err why) Lacks Misses Stops Ends f k h = weaker_end Lacks Misses Stops Ends f k why h
+-- the same over the files that are handed in
+module _ (May Might : Denial → Type 0) (Lacks Misses : Type 0) (Stops : RunFault → Type 0) (may : (d : Denial) → May d → Might d)
+    (lacks : Lacks → Misses) where
+  handed_end : (why : NoText) → MayEnd (λ d. May d ⊎ IsViewDenial Lacks d) Stops why → MayEnd (λ d. Might d ⊎ IsViewDenial Misses d) Stops why
+  handed_end (no_text.Denied d) (inl h) = inl (may d h)
+  handed_end (no_text.Denied d) (inr h) = inr (h.0, λ e. lacks (h.1 e))
+  handed_end (no_text.Stopped fault) h = h
+
+  pub handed_denial : {V : Type 0} (made : Result V NoText) → IfErr made (MayEnd (λ d. May d ⊎ IsViewDenial Lacks d) Stops)
+      → IfErr made (MayEnd (λ d. Might d ⊎ IsViewDenial Misses d) Stops)
+  handed_denial (Ok v) h = tt
+  handed_denial (Err why) h = handed_end why h
+
+-- the same of a survey
+module _ (May Might : Denial → Type 0) (start : Start) (square : ℕ) (may : (d : Denial) → May d → Might d) where
+  survey_end : (why : NoText) → MayEnd (IsSurveyDenial May start square) IsNoMemory why → MayEnd (IsSurveyDenial Might start square) IsNoMemory why
+  survey_end (no_text.Denied (denial.Refused refusal)) h = may (denial.Refused refusal) h
+  survey_end (no_text.Denied (denial.OfFile c refusal)) h = may (denial.OfFile c refusal) h
+  survey_end (no_text.Denied denial.NoMan) h = h
+  survey_end (no_text.Stopped fault) h = h
+
+  pub survey_denial : {V : Type 0} (made : Result V NoText) → IfErr made (MayEnd (IsSurveyDenial May start square) IsNoMemory)
+      → IfErr made (MayEnd (IsSurveyDenial Might start square) IsNoMemory)
+  survey_denial (Ok v) h = tt
+  survey_denial (Err why) h = survey_end why h
 
 pub memory_end : {V : Type 0} (made : Result V NoText) (Lacks : Type 0) → IfErr made (λ why. why ≡ no_text.Denied (denial.Refused OutOfMemory))
     → IfErr made (MayEnd (IsViewDenial Lacks) IsNever)

@@ -1,6 +1,7 @@
 pub mod Denials
 pub mod Faults
 pub mod Laid
+pub mod Needed
 pub mod Nodes
 pub mod OpenEach
 pub mod Opening

@@ -4,6 +4,7 @@ use Rattle.std.specs.Prelude.{OnOk}
 use Rattle.std.proofs.lemmas.Bool.{false≢true, cases_Bool}
 use Rattle.study_material.specs.declared.class.Class.{Class}
 use Rattle.study_retro.specs.Table.{class_place}
+use Rattle.study_tablefile.specs.declared.fault.SourceFault.{SourceFault}
 use Rattle.study_prober.proofs.HeldSources.{same_class}
 use Rattle.study_script.specs.declared.store.StoreFault.{StoreFault}
 use Rattle.study_script.specs.declared.store.StoreFault.TheVariants.{NoFile}
@@ -47,3 +48,13 @@ module _ {E : Type 0} (held held' held'' : Class → Bool) (now next : Known) (r
             (f (rw (other_at c d (λ k. far (ap class_place k))) at among) lacks)
       ]
       go (Err e) up f = tt
+
+-- a table may fail as it might at first, or as the store's source may
+pub fails_on : {E : Type 0} (fails fails' fails'' : Class → SourceFault → Type 0) (now next : Class → SourceFault → Bool) (r : Result (Unit {0}) E)
+    → ((c : Class) (f : SourceFault) → next c f ≡ now c f)
+    → ((c : Class) (f : SourceFault) → fails' c f → fails c f ⊎ (now c f ≡ true))
+    → ((c : Class) (f : SourceFault) → OnOk r (fails'' c f → fails' c f ⊎ (next c f ≡ true)))
+    → (c : Class) (f : SourceFault) → OnOk r (fails'' c f → fails c f ⊎ (now c f ≡ true))
+fails_on fails fails' fails'' now next (Ok u) same one more = λ c f h.
+    elim (more c f h) [ inl k ↦ one c f k | inr t ↦ inr (sym (same c f) ∙ t) ]
+fails_on fails fails' fails'' now next (Err e) same one more = λ c f. tt

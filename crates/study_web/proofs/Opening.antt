@@ -11,14 +11,22 @@ use Rattle.study_material.specs.declared.class.Class.TheVariants.{KQKB, KQKN, KQ
 use Rattle.study_material.specs.declared.class.Class.TheVariants.{KBKB, KBKN, KBKP, KNKN, KNKP, KPKP}
 use Rattle.study_material.specs.Class.{class_list}
 use Rattle.study_retro.specs.Table.{class_place}
+use Rattle.study_tablefile.specs.declared.fault.SourceFault.{SourceFault}
+use Rattle.study_tablefile.specs.File.{pages_of}
+use Rattle.study_tablefile.specs.Source.{Question, of_header, of_page}
+use Rattle.study_prober.specs.declared.fault.PagedFault.{PagedFault}
+use Rattle.study_prober.specs.declared.fault.PagedFault.TheVariants as paged
 use Rattle.study_prober.specs.declared.held.HeldSource.{HeldSource}
-use Rattle.study_prober.specs.Paged.{Paged, held_of, places_for_classes}
+use Rattle.study_prober.specs.Paged.{Paged, MayFail, held_of, places_for_classes}
+use Rattle.study_prober.specs.Sources.{GivesOf, HonestOf, GiveAlike}
+use Rattle.study_prober.specs.Told.{MayAnswer, IsRefusedBy, paged_fault}
 use Rattle.study_prober.proofs.HeldSources.{same_class, held_same, held_other, held_placed}
 use Rattle.study_script.specs.declared.store.StoreFault.{StoreFault}
 use Rattle.study_script.specs.declared.store.StoreFault.TheVariants.{NoFile}
-use Rattle.study_script.specs.State.{is_among, IsGiven, IsOpened}
+use Rattle.study_script.specs.Names.{of_paged}
+use Rattle.study_script.specs.State.{is_among, IsGiven, IsGivenAs, IsOpened, IsQuestionOf}
 use Rattle.study_script.proofs.HeldTables.{place_below, same_at, other_at}
-use Rattle.study_web.specs.Opened.{IsHeldAs}
+use Rattle.study_web.specs.Opened.{denial_of, IsHeldAs, IsBadFile, IsOfTables}
 
 module _ {P : Type 0} (w v : Paged P) (c : Class) (x : HeldSource P) (long : length v.sources ≡ 36)
     (is : v ≡ record w { sources = set (places_for_classes w.sources) (class_place c) (Some x) }) where
@@ -55,6 +63,53 @@ module _ {P : Type 0} (w v : Paged P) (c : Class) (x : HeldSource P) (long : len
 
   pub held_with : is_some (held_of v.sources c) ≡ false → ⊥
   held_with h = false≢true (sym h ∙ ap (λ (o : Option (HeldSource P)). is_some o) (here c refl))
+
+-- what may fail might, or the source that was put in may
+pub fails_with : {P : Type 0} (w v : Paged P) (c : Class) (x : HeldSource P) (long : length v.sources ≡ 36)
+    → v ≡ record w { sources = set (places_for_classes w.sources) (class_place c) (Some x) } → (gives : GivesOf P) (source : P)
+    → GiveAlike gives source x.source → (m : Class → SourceFault → Bool)
+    → ((q : Question) (f : SourceFault) → IsQuestionOf c q → gives source q (Err f) → m c f ≡ true)
+    → (d : Class) (f : SourceFault) → MayFail gives (held_of v.sources d) d f → MayFail gives (held_of w.sources d) d f ⊎ (m d f ≡ true)
+fails_with w v c x long is gives source alike m fails d f h = elim (same_class c d) [
+  | inl e ↦
+      let k = subst (λ (o : Option (HeldSource _)). MayFail gives o d f) (here w v c x long is d e) h in
+      inr (subst (λ (k : Class). m k f ≡ true) e
+      (fails (of_page k.0) f (subst (λ (b : Class). k.0 < pages_of b) (sym e) k.1) (alike.back (of_page k.0) (Err f) k.2)))
+  | inr far ↦ inl (subst (λ (o : Option (HeldSource _)). MayFail gives o d f) (there w v c x long is d far) h)
+]
+
+-- why a source of a class that is not held is refused: by what it told of its header
+module _ {P : Type 0} (held : Bool) (gives : GivesOf P) (honest : HonestOf P) (source : P) (headers : Class → Option (Result (List ℕ) StoreFault))
+    (m : Class → SourceFault → Bool) (c : Class) (lacks : held ≡ false) (opened : IsOpened (headers c))
+    (given : (bytes : List ℕ) → gives source of_header (Ok bytes) → IsGiven (headers c) (Ok bytes))
+    (fails : (q : Question) (f : SourceFault) → IsQuestionOf c q → gives source q (Err f) → m c f ≡ true) where
+  given_as : (told : Result (List ℕ) SourceFault) → gives source of_header told → IsGivenAs (headers c) (m c) told
+  given_as (Ok bytes) g = given bytes g
+  given_as (Err f) g = (opened, fails of_header f tt g)
+
+  abbrev Answers : PagedFault → Type 0
+  Answers fault = (told : Result (List ℕ) SourceFault) × (held ≡ false → MayAnswer gives honest source told)
+      × IsRefusedBy (paged_fault held c told) (Err fault)
+
+  named_by : (fault : PagedFault) → (fault ≡ paged.OutOfMemory → ⊥) → (o : Option PagedFault) → IsRefusedBy o (Err fault) → o ≡ Some fault
+  named_by fault other None is = absurd (other is)
+  named_by fault other (Some x) is = let e : fault ≡ x = cc in ap (λ (k : PagedFault). Some k) (sym e)
+
+  bad_file : (fault : PagedFault) → (fault ≡ paged.OutOfMemory → ⊥) → Answers fault → IsBadFile (headers c) (m c) c (of_paged fault)
+  bad_file fault other (told, answers, by) = inr (
+    told,
+    given_as told (answers lacks).0,
+    fault,
+    named_by fault other (paged_fault false c told) (subst (λ (b : Bool). IsRefusedBy (paged_fault b c told) (Err fault)) lacks by),
+    refl,
+  )
+
+  pub source_denied : (fault : PagedFault) → Answers fault → IsOfTables headers m (denial_of c fault)
+  source_denied paged.OutOfMemory is = refl
+  source_denied (paged.AlreadyHeld d) is = bad_file (paged.AlreadyHeld d) (λ e. absurd cc) is
+  source_denied (paged.TableRead f) is = bad_file (paged.TableRead f) (λ e. absurd cc) is
+  source_denied (paged.Header f) is = bad_file (paged.Header f) (λ e. absurd cc) is
+  source_denied (paged.OtherClass d) is = bad_file (paged.OtherClass d) (λ e. absurd cc) is
 
 -- of a class whose header is known
 pub held_as : (known : Option (Result (List ℕ) StoreFault)) (held : Bool) → (held ≡ true → IsOpened known)

@@ -11,7 +11,7 @@ use Rattle.study_web.specs.declared.reply.Ending.{Ending}
 use Rattle.study_web.specs.declared.reply.Ending.TheVariants.{Answered, Refused, Ran, Stopped}
 use Rattle.study_web.specs.declared.spans.Span.{Span}
 use Rattle.study_web.specs.Answers.{IsPrinted, IsPrintedTo}
-use Rattle.study_web.specs.Opened.{IsHeldAs, IsOfTables}
+use Rattle.study_web.specs.Opened.{IsHeldAs, IsOfFiles}
 use Rattle.study_web.specs.Spans.{header_given}
 use Rattle.study_web.specs.Store.{known}
 use Rattle.study_web.specs.Told.{denial_text, ending_of, IsDenied}
@@ -27,10 +27,10 @@ module _ (spans : List Span) (bytes script : List ℕ) where
       → IsPrintedTo spans bytes script told summary → IsPrinted spans bytes script text ended
   printed_as told text summary ended t e h = rw (t, e) (by_summary told summary h)
 
-  pub printed_denied : (d : Denial) (text : List ℕ) (ended : Ending) → IsOfTables d → IsDenied d text ended
+  pub printed_denied : (d : Denial) (text : List ℕ) (ended : Ending) → IsOfFiles spans bytes d → IsDenied d text ended
       → IsPrinted spans bytes script text ended
   printed_denied d text Answered of x = absurd x
-  printed_denied d text (Refused e) of (same, is) = (subst IsOfTables (sym same) of, is ∙ ap denial_text (sym same))
+  printed_denied d text (Refused e) of (same, is) = (subst (IsOfFiles spans bytes) (sym same) of, is ∙ ap denial_text (sym same))
   printed_denied d text (Stopped fault) of (same, is) = inl (same, is)
   printed_denied d text (Ran summary) of x = absurd x
 

@@ -13,7 +13,7 @@ use Rattle.study_web.specs.declared.reply.Ending.{Ending}
 use Rattle.study_web.specs.declared.reply.Ending.TheVariants.{Answered, Refused, Ran, Stopped}
 use Rattle.study_web.specs.declared.spans.Span.{Span}
 use Rattle.study_web.specs.Answers.{IsReviewed, IsReviewedTo}
-use Rattle.study_web.specs.Opened.{IsHeldAs, IsOfTables}
+use Rattle.study_web.specs.Opened.{IsHeldAs, IsOfFiles}
 use Rattle.study_web.specs.Spans.{file_in, header_given}
 use Rattle.study_web.specs.Store.{known}
 use Rattle.study_web.specs.Views.{refused_line}
@@ -31,10 +31,10 @@ module _ (spans : List Span) (bytes script : List ℕ) where
       → IsReviewedTo spans bytes script told summary → IsReviewed spans bytes script text ended
   reviewed_as told text summary ended t e h = rw (t, e) (by_summary told summary h)
 
-  pub reviewed_denied : (d : Denial) (text : List ℕ) (ended : Ending) → IsOfTables d → IsDenied d text ended
+  pub reviewed_denied : (d : Denial) (text : List ℕ) (ended : Ending) → IsOfFiles spans bytes d → IsDenied d text ended
       → IsReviewed spans bytes script text ended
   reviewed_denied d text Answered of x = absurd x
-  reviewed_denied d text (Refused e) of (same, is) = (subst IsOfTables (sym same) of, is ∙ ap denial_text (sym same))
+  reviewed_denied d text (Refused e) of (same, is) = (subst (IsOfFiles spans bytes) (sym same) of, is ∙ ap denial_text (sym same))
   reviewed_denied d text (Stopped fault) of (same, is) =
       let chosen : Class → Bool = λ c. is_some (file_in spans bytes c) in
       rw (same, is) (λ right. (filter chosen class_list, among_chosen chosen, None, (0, omega arith, omega arith, (tt, [], tt, refl))))

@@ -1,16 +1,24 @@
 -- A store that was just made is the shelf of its files.
-use Rattle.std.proofs.Common.{◌≡◌, ℕ, Bool, false, List, replicate, Option, Some, None, Result, Ok, Err, is_some, refl, subst, sym}
-use Rattle.std.specs.Prelude.{IfOk}
+use Rattle.std.proofs.Common.{◌≡◌, ℕ, Bool, true, false, List, replicate, Option, Some, None, Result, Ok, Err, is_some, refl, subst, sym, ◌∙◌, inl, inr}
+use Rattle.std.specs.Prelude.{IfOk, IfErr}
 use Rattle.std.proofs.lemmas.List.{get_or-replicate}
 use Rattle.study_material.specs.declared.class.Class.{Class}
 use Rattle.study_retro.specs.Table.{class_place}
 use Rattle.study_tablefile.specs.declared.fault.SourceFault.{SourceFault}
 use Rattle.study_script.specs.declared.store.StoreFault.{StoreFault}
-use Rattle.study_script.specs.State.{Shelf, is_among}
+use Rattle.study_script.specs.declared.store.StoreFault.TheVariants as store
+use Rattle.study_script.specs.State.{Shelf, is_among, IsGiven, IsGivenAs, IsOpened}
 use Rattle.study_script.proofs.HeldTables.{place_below}
 use Rattle.study_web.specs.declared.spans.Span.{Span}
 use Rattle.study_web.specs.Spans.{file_in, bytes_given, header_given, file_faults}
-use Rattle.study_web.specs.Opened.{IsHeldAs, AreHandedIn, AreAllRight}
+use Rattle.study_board.specs.Position.{Position}
+use Rattle.study_material.specs.Class.{IsOf}
+use Rattle.study_prober.specs.declared.values.ProbeFault.{ProbeFault}
+use Rattle.study_prober.specs.declared.values.ProbeFault.TheVariants as probe
+use Rattle.study_reply.specs.declared.refusal.Refusal.{Refusal}
+use Rattle.study_web.specs.declared.denial.Denial.{Denial}
+use Rattle.study_web.specs.declared.denial.Denial.TheVariants as denial
+use Rattle.study_web.specs.Opened.{IsHeldAs, AreHandedIn, AreAllRight, IsBadFile, IsOfTables, IsValueUntold, IsOfValues, IsOfFiles, IsOfFileValues}
 use Rattle.study_web.specs.Views.{IsViewOver, IsViewAfter, LacksNodeOver, LacksNodeAfter}
 use Rattle.study_web.specs.Store.{is_written, known, faults_known, IsShelf, AreRightFiles}
 
@@ -78,3 +86,51 @@ pub lacks_made : {spans at : List Span} {bytes bs : List ℕ} {written : List Bo
     → (classes : List Class) × ((c : Class) → IsHeldAs (known header_given at bs written c) (is_among classes c)) × LacksNodeOver classes script steps
     → LacksNodeAfter spans bytes script steps
 lacks_made e f w script steps (classes, held, lacks) = (classes, handed_in classes e f w held, lacks)
+
+-- ---- why tables are not opened
+
+module _ (h k : Class → Option (Result (List ℕ) StoreFault)) (m n : Class → SourceFault → Bool) (same : (c : Class) → h c ≡ k c)
+    (alike : (c : Class) (f : SourceFault) → m c f ≡ n c f) where
+  bad_alike : (c : Class) (refusal : Refusal) → IsBadFile (h c) (m c) c refusal → IsBadFile (k c) (n c) c refusal
+  bad_alike c refusal (inl is) = inl (subst (λ (o : Option (Result (List ℕ) StoreFault)). IsGiven o (Err store.Device)) (same c) is.0, is.1)
+  bad_alike c refusal (inr (told, is, fault, by, named)) = inr (told, given_alike told is, fault, by, named)
+    where
+      given_alike : (told : Result (List ℕ) SourceFault) → IsGivenAs (h c) (m c) told → IsGivenAs (k c) (n c) told
+      given_alike (Ok bytes) is = subst (λ (o : Option (Result (List ℕ) StoreFault)). IsGiven o (Ok bytes)) (same c) is
+      given_alike (Err f) is = (subst (λ (o : Option (Result (List ℕ) StoreFault)). IsOpened o) (same c) is.0, sym (alike c f) ∙ is.1)
+
+  pub tables_alike : (d : Denial) → IsOfTables h m d → IsOfTables k n d
+  tables_alike (denial.Refused refusal) is = is
+  tables_alike (denial.OfFile c refusal) is = bad_alike c refusal is
+  tables_alike denial.NoMan is = is
+
+  pub still_named : {T : Type 0} (r : Result T Denial) → IfErr r (IsOfTables h m) → IfErr r (IsOfTables k n)
+  still_named (Ok x) is = tt
+  still_named (Err d) is = tables_alike d is
+
+  untold_alike : (Right Sound : Type 0) → (Sound → Right) → (fault : ProbeFault) → IsValueUntold h m Right fault → IsValueUntold k n Sound fault
+  untold_alike Right Sound g (probe.NoTable c) is = subst (λ (o : Option (Result (List ℕ) StoreFault)). IsHeldAs o false) (same c) is
+  untold_alike Right Sound g (probe.TableRead f) (p, is) = (p, λ c of. sym (alike c f) ∙ is c of)
+  untold_alike Right Sound g (probe.PageDamaged c i) is = λ k. is (g k)
+
+  pub values_alike : (Right Sound : Type 0) → (Sound → Right) → (d : Denial) → IsOfValues h m Right d → IsOfValues k n Sound d
+  values_alike Right Sound g d (inl is) = inl (tables_alike d is)
+  values_alike Right Sound g d (inr (fault, is, same)) = inr (fault, untold_alike Right Sound g fault is, same)
+
+-- the same of a store that has these spans and bytes
+module _ {spans at : List Span} {bytes bs : List ℕ} {written : List Bool} (e : at ≡ spans) (f : bs ≡ bytes) (w : written ≡ replicate 36 false) where
+  headers_made : (c : Class) → known header_given at bs written c ≡ Some (header_given (file_in spans bytes c))
+  headers_made c = rw (e, f, w) (known_at_first spans bytes header_given c)
+
+  faults_made : (c : Class) (fault : SourceFault) → faults_known at bs written c fault ≡ file_faults (file_in spans bytes c) c fault
+  faults_made c fault = rw (e, f, w) (faults_at_first spans bytes c fault)
+
+  pub tables_made : (d : Denial) → IsOfTables (known header_given at bs written) (faults_known at bs written) d → IsOfFiles spans bytes d
+  tables_made d is = tables_alike (known header_given at bs written) (λ c. Some (header_given (file_in spans bytes c)))
+      (faults_known at bs written) (λ c. file_faults (file_in spans bytes c) c) headers_made faults_made d is
+
+  pub values_made : (d : Denial) → IsOfValues (known header_given at bs written) (faults_known at bs written) (AreAllRight at bs) d
+      → IsOfFileValues spans bytes d
+  values_made d is = values_alike (known header_given at bs written) (λ c. Some (header_given (file_in spans bytes c)))
+      (faults_known at bs written) (λ c. file_faults (file_in spans bytes c) c) headers_made faults_made (AreAllRight at bs)
+      (AreAllRight spans bytes) (right_made e f) d is

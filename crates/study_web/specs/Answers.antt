@@ -2,7 +2,6 @@
 use Rattle.std.specs.Prelude.{◌≡◌, ◌⊎◌, ℕ, Bool, true, false, List, [], Option, Some, None, Result, Ok, Err}
 use Rattle.study_board.specs.Position.{man_at}
 use Rattle.study_material.specs.declared.class.Class.{Class}
-use Rattle.study_material.specs.Needs.{IsNeeded}
 use Rattle.study_notation.specs.declared.start.Start.{Start}
 use Rattle.study_marks.specs.declared.stipulation.Stipulation.{Stipulation}
 use Rattle.study_command.specs.Lines.{script_lines}
@@ -28,11 +27,10 @@ use Rattle.study_web.specs.declared.reply.NoText.TheVariants as no_text
 use Rattle.study_web.specs.declared.reply.Ending.{Ending}
 use Rattle.study_web.specs.declared.reply.Ending.TheVariants.{Answered, Refused, Ran, Stopped}
 use Rattle.study_web.specs.declared.spans.Span.{Span}
-use Rattle.study_web.specs.Making.{IsRightFileOf, IsMakeFault}
-use Rattle.study_web.specs.Opened.{AreHandedIn, AreAllRight, IsOfTables}
+use Rattle.study_web.specs.Making.{IsRightFileOf, IsMakeFault, HasRightNeeds}
+use Rattle.study_web.specs.Opened.{AreHandedIn, AreAllRight, IsOfFiles, IsOfFileValues}
 use Rattle.study_web.specs.Request.{Asked, Asks, run, review, report, tables, make, view, survey, passed}
 use Rattle.study_web.specs.Setup.{AreTables, squares_text}
-use Rattle.study_web.specs.Spans.{file_in, IsHonestIn}
 use Rattle.study_web.specs.Store.{IsShelf, AreRightFiles}
 use Rattle.study_web.specs.Told.{denial_text, ending_of, IsDenied}
 use Rattle.study_web.specs.Views.{refused_line, IsViewAfter, LacksNodeAfter}
@@ -85,24 +83,19 @@ IsMakeDenial spans bytes c d = (fault : MakeFault) × IsMakeFault spans bytes c 
 
 -- the file of the class's right table, where the files of those that it needs are right
 abbrev pub IsMadeFile : List Span → List ℕ → Class → List ℕ → Type 0
-IsMadeFile spans bytes c text = ((d : Class) → IsNeeded c d → IsHonestIn false (file_in spans bytes d)) → IsRightFileOf c text
+IsMadeFile spans bytes c text = HasRightNeeds spans bytes c → IsRightFileOf c text
 
 abbrev pub IsMade : List Span → List ℕ → Class → List ℕ → Ending → Type 0
 IsMade spans bytes c = IsWhole (IsMadeFile spans bytes c) (IsMakeDenial spans bytes c) IsNoMemory
 
--- a value is not told, a file gives no table, or there is no memory
-abbrev pub IsOfValues : Denial → Type 0
-IsOfValues (denial.Refused (NoTable c)) = Unit {0}
-IsOfValues (denial.Refused (TableRead fault)) = Unit {0}
-IsOfValues (denial.Refused (TableReadPage n)) = Unit {0}
-IsOfValues (denial.Refused OutOfMemory) = Unit {0}
-IsOfValues (denial.OfFile c refusal) = Unit {0}
-IsOfValues d = ⊥
-
--- the same, or no node is at the path
+-- a value is not told, no node is at the path, or there is no memory
 abbrev pub IsOfView : Denial → Type 0
+IsOfView (denial.Refused (NoTable c)) = Unit {0}
+IsOfView (denial.Refused (TableRead fault)) = Unit {0}
+IsOfView (denial.Refused (TableReadPage n)) = Unit {0}
 IsOfView (denial.Refused NoSuchNode) = Unit {0}
-IsOfView d = IsOfValues d
+IsOfView (denial.Refused OutOfMemory) = Unit {0}
+IsOfView d = ⊥
 
 -- why there is no view; the first reason only where it is so
 abbrev pub IsViewDenial : Type 0 → Denial → Type 0
@@ -112,9 +105,9 @@ IsViewDenial Lacks d = IsOfView d × (d ≡ denial.Refused NoSuchNode → Lacks)
 abbrev pub IsViewed : List Span → List ℕ → List ℕ → List ℕ → List ℕ → Ending → Type 0
 IsViewed spans bytes script steps =
     IsWhole (λ text. AreAllRight spans bytes → IsViewAfter spans bytes script steps text)
-    (IsViewDenial (AreAllRight spans bytes → LacksNodeAfter spans bytes script steps)) (IsUnread script)
+    (λ d. IsOfFiles spans bytes d ⊎ IsViewDenial (AreAllRight spans bytes → LacksNodeAfter spans bytes script steps) d) (IsUnread script)
 
--- the review of the script's studies, over files that are right; or the request is refused for one of the files
+-- the review of the script's studies, over files that are right; or the request is refused for one of the files, or there is no memory
 abbrev pub IsReviewedTo : List Span → List ℕ → List ℕ → List ℕ → Result Summary RunFault → Type 0
 IsReviewedTo spans bytes script text summary =
     AreAllRight spans bytes → (classes : List Class) × AreHandedIn spans bytes classes × (left : Option (List ℕ))
@@ -122,7 +115,7 @@ IsReviewedTo spans bytes script text summary =
 
 abbrev pub IsReviewed : List Span → List ℕ → List ℕ → List ℕ → Ending → Type 0
 IsReviewed spans bytes script text Answered = ⊥
-IsReviewed spans bytes script text (Refused d) = IsOfTables d × (text ≡ denial_text d)
+IsReviewed spans bytes script text (Refused d) = IsOfFiles spans bytes d × (text ≡ denial_text d)
 IsReviewed spans bytes script text (Ran summary) = IsReviewedTo spans bytes script text (Ok summary)
 IsReviewed spans bytes script text (Stopped fault) = IsReviewedTo spans bytes script text (Err fault)
 
@@ -135,19 +128,20 @@ IsPrintedTo spans bytes script text summary =
 
 abbrev pub IsPrinted : List Span → List ℕ → List ℕ → List ℕ → Ending → Type 0
 IsPrinted spans bytes script text Answered = ⊥
-IsPrinted spans bytes script text (Refused d) = IsOfTables d × (text ≡ denial_text d)
+IsPrinted spans bytes script text (Refused d) = IsOfFiles spans bytes d × (text ≡ denial_text d)
 IsPrinted spans bytes script text (Ran summary) = IsPrintedTo spans bytes script text (Ok summary)
 IsPrinted spans bytes script text (Stopped fault) = ((fault ≡ run_fault.OutOfMemory) × (text ≡ [])) ⊎ IsPrintedTo spans bytes script text (Err fault)
 
--- The survey of the man, over files that are right. There is none on a square without a man, or where a value is not told, a file gives no
--- table, or there is no memory.
-abbrev pub IsSurveyDenial : Start → ℕ → Denial → Type 0
-IsSurveyDenial start square denial.NoMan = man_at start.position.men square ≡ None
-IsSurveyDenial start square d = IsOfValues d
+-- there is no survey on a square without a man, or where the tables or their values are not told
+abbrev pub IsSurveyDenial : (Denial → Type 0) → Start → ℕ → Denial → Type 0
+IsSurveyDenial May start square denial.NoMan = man_at start.position.men square ≡ None
+IsSurveyDenial May start square d = May d
 
+-- the survey of the man, over files that are right
 abbrev pub IsSurveyed : List Span → List ℕ → ℕ → Stipulation → Start → List ℕ → Ending → Type 0
 IsSurveyed spans bytes square st start =
-    IsWhole (λ text. AreAllRight spans bytes → IsSurvey start.position square st text) (IsSurveyDenial start square) IsNoMemory
+    IsWhole (λ text. AreAllRight spans bytes → IsSurvey start.position square st text) (IsSurveyDenial (IsOfFileValues spans bytes) start square)
+    IsNoMemory
 
 abbrev pub IsOutOfMemory : Denial → Type 0
 IsOutOfMemory d = d ≡ denial.Refused OutOfMemory

@@ -1,18 +1,20 @@
 -- The file of a class's table, and why it is not made.
-use Rattle.std.specs.Prelude.{◌≡◌, ◌≢◌, ◌⊎◌, ℕ, List, Option, Some, Ok, Err}
+use Rattle.std.specs.Prelude.{◌≡◌, ◌≢◌, ◌⊎◌, ◌<◌, nat_le, ℕ, Bool, true, false, ◌&&◌, List, [], ◌∷◌, is_some, Option, Some, None, Ok, Err}
+use Rattle.std.specs.List.{list_all, Contains}
 use Rattle.study_material.specs.declared.class.Class.{Class}
-use Rattle.study_material.specs.Needs.{IsNeeded}
+use Rattle.study_material.specs.Needs.{size, needs_of, IsNeeded}
 use Rattle.study_retro.specs.declared.builder.BuildFault.{BuildFault}
 use Rattle.study_retro.specs.declared.builder.BuildFault.TheVariants as build
-use Rattle.study_retro.specs.Table.{Table, IsComplete}
-use Rattle.study_retro.specs.Sound.{IsRight}
+use Rattle.study_retro.specs.Table.{Table, IsComplete, table_of}
+use Rattle.study_retro.specs.Set.{first_missing}
+use Rattle.study_retro.specs.Sound.{IsRight, HasFarPosition}
 use Rattle.study_tablefile.specs.declared.fault.FileFault.TheVariants as file
 use Rattle.study_tablefile.specs.File.{table_text, written_version}
 use Rattle.study_tablefile.specs.Reading.{table_read, HasHeader}
 use Rattle.study_web.specs.declared.make.MakeFault.{MakeFault}
 use Rattle.study_web.specs.declared.make.MakeFault.TheVariants.{MissingTable, File, OtherClass, DistanceTooLarge, OutOfMemory}
 use Rattle.study_web.specs.declared.spans.Span.{Span}
-use Rattle.study_web.specs.Spans.{file_in}
+use Rattle.study_web.specs.Spans.{file_in, IsHonestIn}
 
 -- the file of the right table of a class
 pub record IsRightFileOf (c : Class) (text : List ℕ) : Type 0 where
@@ -33,10 +35,35 @@ IsFaultIn (Some text) c (File d fault) =
 IsFaultIn (Some text) c (OtherClass d e) = (d ≡ c) × (t : Table) × (table_read text ≡ Ok t) × (t.class ≡ e) × (e ≢ c)
 IsFaultIn file c fault = ⊥
 
--- a file of a class that is needed has a fault, or the build has one, or there is no memory
+-- the files of all that a class needs read as right tables, where they read as tables
+abbrev pub HasRightNeeds : List Span → List ℕ → Class → Type 0
+HasRightNeeds spans bytes c = (d : Class) → IsNeeded c d → IsHonestIn false (file_in spans bytes d)
+
+-- the class, or one that it needs, has no file
+abbrev pub LacksFile : List Span → List ℕ → Class → Type 0
+LacksFile spans bytes c = (d : Class) × IsNeeded c d × (file_in spans bytes d ≡ None)
+
+-- The file of a class that is needed has a fault; or there is none for a class that is needed, or for one that this needs; or a position of
+-- the class is further from mate than a file can say, over right files; or there is no memory.
 abbrev pub IsMakeFault : List Span → List ℕ → Class → MakeFault → Type 0
 IsMakeFault spans bytes c (File d fault) = IsNeeded c d × IsFaultIn (file_in spans bytes d) d (File d fault)
 IsMakeFault spans bytes c (OtherClass d e) = IsNeeded c d × IsFaultIn (file_in spans bytes d) d (OtherClass d e)
-IsMakeFault spans bytes c (MissingTable d) = Unit {0}
-IsMakeFault spans bytes c DistanceTooLarge = Unit {0}
+IsMakeFault spans bytes c (MissingTable d) = Contains (needs_of c) d × LacksFile spans bytes d
+IsMakeFault spans bytes c DistanceTooLarge = HasRightNeeds spans bytes c → HasFarPosition c
 IsMakeFault spans bytes c OutOfMemory = Unit {0}
+
+-- ---- while the tables that a class needs are read
+
+-- no class comes before a smaller one
+abbrev pub is_ascending : List Class → Bool
+is_ascending [] = true
+is_ascending (c ∷ ds) = list_all (λ d. nat_le (size c) (size d)) ds && is_ascending ds
+
+-- of a class that is smaller than c a table is held, or a file is lacking
+abbrev pub IsSettled : List Span → List ℕ → Class → List (Option Table) → Class → Type 0
+IsSettled spans bytes c held d = size d < size c → (is_some (table_of held d) ≡ true) ⊎ LacksFile spans bytes d
+
+-- the table of a class is held now, or it has no file, or a table that it needs was not held
+abbrev pub IsTaken : List Span → List ℕ → Class → List (Option Table) → List (Option Table) → Type 0
+IsTaken spans bytes c old new =
+    (is_some (table_of new c) ≡ true) ⊎ (file_in spans bytes c ≡ None) ⊎ ((d : Class) × (first_missing old (needs_of c) ≡ Some d))

@@ -1,13 +1,25 @@
 -- The tables of all files that a store gives by pages.
-use Rattle.std.specs.Prelude.{◌≡◌, ℕ, Bool, true, false, is_some, List, Option, Some, None, Result, Ok, Err}
+use Rattle.std.specs.Prelude.{◌≡◌, ◌⊎◌, ℕ, Bool, true, false, is_some, List, Option, Some, None, Result, Ok, Err}
+use Rattle.study_board.specs.Position.{Position}
 use Rattle.study_material.specs.declared.class.Class.{Class}
+use Rattle.study_material.specs.Class.{IsOf}
+use Rattle.study_tablefile.specs.declared.fault.SourceFault.{SourceFault}
+use Rattle.study_prober.specs.declared.fault.PagedFault.{PagedFault}
+use Rattle.study_prober.specs.declared.values.ProbeFault.{ProbeFault}
+use Rattle.study_prober.specs.declared.values.ProbeFault.TheVariants as probe
+use Rattle.study_prober.specs.declared.fault.PagedFault.TheVariants as paged
+use Rattle.study_prober.specs.Told.{paged_fault}
 use Rattle.study_script.specs.declared.store.StoreFault.{StoreFault}
-use Rattle.study_script.specs.State.{is_among}
-use Rattle.study_reply.specs.declared.refusal.Refusal.TheVariants.{OutOfMemory}
+use Rattle.study_script.specs.declared.store.StoreFault.TheVariants as store
+use Rattle.study_script.specs.Names.{of_paged}
+use Rattle.study_script.specs.State.{is_among, IsGiven, IsGivenAs}
+use Rattle.study_reply.specs.declared.refusal.Refusal.{Refusal}
+use Rattle.study_reply.specs.declared.refusal.Refusal.TheVariants.{OutOfMemory, Device}
+use Rattle.study_reply.specs.Names.{of_probe}
 use Rattle.study_web.specs.declared.denial.Denial.{Denial}
 use Rattle.study_web.specs.declared.denial.Denial.TheVariants as denial
 use Rattle.study_web.specs.declared.spans.Span.{Span}
-use Rattle.study_web.specs.Spans.{file_in, IsHonestIn}
+use Rattle.study_web.specs.Spans.{file_in, header_given, file_faults, IsHonestIn}
 
 -- a table is held of each class whose header is known to be given, and of none whose file is known not to be opened
 abbrev pub IsHeldAs : Option (Result (List ℕ) StoreFault) → Bool → Type 0
@@ -23,8 +35,42 @@ AreHandedIn spans bytes classes = (c : Class) → is_among classes c ≡ is_some
 abbrev pub AreAllRight : List Span → List ℕ → Type 0
 AreAllRight spans bytes = (c : Class) → IsHonestIn true (file_in spans bytes c)
 
--- why a store's tables are not opened: a file gives no table, or there is no memory
-abbrev pub IsOfTables : Denial → Type 0
-IsOfTables (denial.Refused refusal) = refusal ≡ OutOfMemory
-IsOfTables (denial.OfFile c refusal) = Unit {0}
-IsOfTables denial.NoMan = ⊥
+-- a source of pages that is refused, for this fault
+abbrev pub denial_of : Class → PagedFault → Denial
+denial_of c paged.OutOfMemory = denial.Refused OutOfMemory
+denial_of c fault = denial.OfFile c (of_paged fault)
+
+-- Why the file of a class gives no table: it is not opened, or its header is not told, or has a fault, or is that of another class; by what is
+-- known of the header that it tells, and of the faults for which it may not be read.
+abbrev pub IsBadFile : Option (Result (List ℕ) StoreFault) → (SourceFault → Bool) → Class → Refusal → Type 0
+IsBadFile known faults c refusal =
+    (IsGiven known (Err store.Device) × (refusal ≡ Device))
+    ⊎ ((told : Result (List ℕ) SourceFault) × IsGivenAs known faults told
+    × (fault : PagedFault) × (paged_fault false c told ≡ Some fault) × (refusal ≡ of_paged fault))
+
+-- the headers and the faults of the classes' files
+module _ (headers : Class → Option (Result (List ℕ) StoreFault)) (faults : Class → SourceFault → Bool) where
+  -- why the tables are not opened: a file gives no table, or there is no memory
+  abbrev pub IsOfTables : Denial → Type 0
+  IsOfTables (denial.Refused refusal) = refusal ≡ OutOfMemory
+  IsOfTables (denial.OfFile c refusal) = IsBadFile (headers c) (faults c) c refusal
+  IsOfTables denial.NoMan = ⊥
+
+  -- Why the value of a position is not told: there is no file of its class, or that may not be read, or a page of it is damaged, as none is of
+  -- right files.
+  abbrev pub IsValueUntold : Type 0 → ProbeFault → Type 0
+  IsValueUntold Right (probe.NoTable c) = IsHeldAs (headers c) false
+  IsValueUntold Right (probe.TableRead f) = (p : Position) × ((c : Class) → IsOf c p → faults c f ≡ true)
+  IsValueUntold Right (probe.PageDamaged c n) = Right → ⊥
+
+  -- why what is asked of the tables is not told: they are not opened, or a value is not told
+  abbrev pub IsOfValues : Type 0 → Denial → Type 0
+  IsOfValues Right d = IsOfTables d ⊎ ((fault : ProbeFault) × IsValueUntold Right fault × (d ≡ denial.Refused (of_probe fault)))
+
+-- the same of the files that are handed in
+abbrev pub IsOfFiles : List Span → List ℕ → Denial → Type 0
+IsOfFiles spans bytes = IsOfTables (λ c. Some (header_given (file_in spans bytes c))) (λ c. file_faults (file_in spans bytes c) c)
+
+abbrev pub IsOfFileValues : List Span → List ℕ → Denial → Type 0
+IsOfFileValues spans bytes =
+    IsOfValues (λ c. Some (header_given (file_in spans bytes c))) (λ c. file_faults (file_in spans bytes c) c) (AreAllRight spans bytes)

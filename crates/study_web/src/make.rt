@@ -1,18 +1,20 @@
 //! The file of a class's table, built from the files of the tables that it needs.
-ghost use Rattle.std.specs.Prelude.{◌≡◌, ℕ, List, false, Some, Ok, OnOk, IfOk, IfErr};
+ghost use Rattle.std.specs.Prelude.{◌≡◌, ℕ, List, true, false, is_some, Some, Ok, OnOk, IfOk, IfErr};
+ghost use Rattle.std.specs.List.{Contains};
 ghost use Rattle.study_material.specs.declared.class.Class.{Class as AClass};
-ghost use Rattle.study_material.specs.Needs.{IsNeeded};
+ghost use Rattle.study_material.specs.Needs.{needs_of, IsNeeded};
+ghost use Rattle.study_retro.specs.Table.{table_of};
 ghost use Rattle.study_retro.specs.Sound.{IsRight};
 ghost use Rattle.study_prober.specs.Whole.{TablesAreRight};
 ghost use Rattle.study_tablefile.specs.Reading.{table_read};
 ghost use Rattle.study_web.specs.Spans.{file_in, IsHonestIn};
-ghost use Rattle.study_web.specs.Making.{IsRightFileOf, IsFaultIn, IsMakeFault};
+ghost use Rattle.study_web.specs.Making.{IsRightFileOf, IsFaultIn, IsMakeFault, HasRightNeeds, IsSettled, IsTaken, is_ascending};
 ghost use Rattle.study_web.specs.declared.spans.Span.{Span as ASpan};
 
 use crate::spans::{Span, file_in};
 use std::alloc::{AllocError, Allocator};
 use study_index::cells;
-use study_material::{Class, order};
+use study_material::{Class, needs_come_first, order};
 use study_prober::WholeTables;
 use study_retro::{BuildFault, BuildRoom, Table, TableSet, build};
 use study_tablefile::{FileFault, read_table, write_table};
@@ -21,7 +23,7 @@ use thiserror::Error;
 /// Why the file of a class is not made.
 #[derive(Clone, Copy, Debug, PartialEq, Eq, Error)]
 pub enum MakeFault {
-    /// A table that the class needs is not held: it has no file, or one that it needs itself has none.
+    /// The first table that the class needs and that is not held: it has no file, or one that it needs itself has none.
     #[error("MissingTable {0:?}")]
     MissingTable(Class),
     #[error("{0:?}: {1}")]
@@ -68,8 +70,7 @@ pub fn make_file<'a, A: Allocator>(
     spans: &[Span],
     bytes: &[u8],
 ) -> Result<Vec<u8, &'a A>, MakeFault>
-    ensures right { ((d : AClass) → IsNeeded class d → IsHonestIn false (file_in spans.now bytes.now d))
-        → IfOk result (λ file. IsRightFileOf class file.items) }
+    ensures right { HasRightNeeds spans.now bytes.now class → IfOk result (λ file. IsRightFileOf class file.items) }
     ensures fault { IfErr result (IsMakeFault spans.now bytes.now class) }
 {
     let tables = needed_tables(alloc, class, spans, bytes)?;
@@ -86,8 +87,11 @@ fn built<'a, A: Allocator>(
 ) -> Result<Table<'a, A>, MakeFault>
     ensures class { IfOk result (λ t. t.class ≡ class) }
     ensures right { TablesAreRight tables.now.tables → IfOk result IsRight }
-    ensures fault { (spans : List ASpan) (bytes : List ℕ) → IfErr result (IsMakeFault spans bytes class) }
+    ensures fault { (spans : List ASpan) (bytes : List ℕ) → (HasRightNeeds spans bytes class → TablesAreRight tables.now.tables)
+        → ((d : AClass) → IsNeeded class d → IsSettled spans bytes class tables.now.tables d)
+        → IfErr result (IsMakeFault spans bytes class) }
 {
+    needs_come_first();
     let room = BuildRoom::new(alloc, cells(class))?;
     let (table, _) = build(class, tables.tables(), room)?;
     Ok(table)
@@ -116,16 +120,41 @@ fn needed_tables<'a, A: Allocator>(
     spans: &[Span],
     bytes: &[u8],
 ) -> Result<WholeTables<'a, A>, MakeFault>
-    ensures right { ((d : AClass) → IsNeeded class d → IsHonestIn false (file_in spans.now bytes.now d))
-        → IfOk result (λ w. TablesAreRight w.tables) }
+    ensures right { HasRightNeeds spans.now bytes.now class → IfOk result (λ w. TablesAreRight w.tables) }
+    ensures settled { (d : AClass) → IsNeeded class d → IfOk result (λ w. IsSettled spans.now bytes.now class w.tables d) }
     ensures fault { IfErr result (IsMakeFault spans.now bytes.now class) }
 {
+    needs_come_first();
     let mut tables = WholeTables::new(TableSet::new(alloc)?);
     let needed = order(class);
-    for need in needed.as_slice() {
-        hold_needed(alloc, &mut tables, class, *need, spans, bytes)?;
-    }
+    hold_each(alloc, &mut tables, class, needed.as_slice(), spans, bytes)?;
     Ok(tables)
+}
+
+/// Holds the tables of these classes, each after those that it needs.
+fn hold_each<'a, A: Allocator>(
+    alloc: &'a A,
+    tables: &mut WholeTables<'a, A>,
+    class: Class,
+    needed: &[Class],
+    spans: &[Span],
+    bytes: &[u8],
+) -> Result<(), MakeFault>
+    requires needed { (d : AClass) → Contains needed.now d → IsNeeded class d }
+    requires ascending { is_ascending needed.now ≡ true }
+    requires settled { (d : AClass) → IsNeeded class d → (Contains needed.now d → ⊥) → IsSettled spans.now bytes.now class tables.old.tables d }
+    ensures right { HasRightNeeds spans.now bytes.now class → TablesAreRight tables.old.tables → OnOk result (TablesAreRight tables.new.tables) }
+    ensures settled { (d : AClass) → IsNeeded class d → OnOk result (IsSettled spans.now bytes.now class tables.new.tables d) }
+    ensures fault { IfErr result (IsMakeFault spans.now bytes.now class) }
+{
+    needs_come_first();
+    match needed.split_first() {
+        None => Ok(()),
+        Some((need, rest)) => {
+            hold_needed(alloc, tables, class, *need, spans, bytes)?;
+            hold_each(alloc, tables, class, rest, spans, bytes)
+        }
+    }
 }
 
 /// The same for one class that is needed. The class itself is among those that it needs, and is passed over.
@@ -139,10 +168,13 @@ fn hold_needed<'a, A: Allocator>(
     bytes: &[u8],
 ) -> Result<(), MakeFault>
     requires { IsNeeded class need }
-    ensures right { ((d : AClass) → IsNeeded class d → IsHonestIn false (file_in spans.now bytes.now d)) → TablesAreRight tables.old.tables
-        → OnOk result (TablesAreRight tables.new.tables) }
+    ensures right { HasRightNeeds spans.now bytes.now class → TablesAreRight tables.old.tables → OnOk result (TablesAreRight tables.new.tables) }
+    ensures settled { ((d : AClass) → Contains (needs_of need) d → IsSettled spans.now bytes.now class tables.old.tables d)
+        → OnOk result (IsSettled spans.now bytes.now class tables.new.tables need) }
+    ensures keeps { (d : AClass) → is_some (table_of tables.old.tables d) ≡ true → OnOk result (is_some (table_of tables.new.tables d) ≡ true) }
     ensures fault { IfErr result (IsMakeFault spans.now bytes.now class) }
 {
+    needs_come_first();
     if need == class {
         return Ok(());
     }
@@ -159,12 +191,15 @@ fn hold<'a, A: Allocator>(
 ) -> Result<(), MakeFault>
     ensures right { IsHonestIn false (file_in spans.now bytes.now class) → TablesAreRight tables.old.tables
         → OnOk result (TablesAreRight tables.new.tables) }
+    ensures taken { OnOk result (IsTaken spans.now bytes.now class tables.old.tables tables.new.tables) }
+    ensures keeps { (d : AClass) → is_some (table_of tables.old.tables d) ≡ true → OnOk result (is_some (table_of tables.new.tables d) ≡ true) }
     ensures fault { IfErr result (IsFaultIn (file_in spans.now bytes.now class) class) }
 {
     let Some(file) = file_in(spans, bytes, class) else {
         return Ok(());
     };
     let table = table_in(alloc, class, file)?;
+    let _held = tables.tables().table(class);
     let _ = tables.add(table);
     Ok(())
 }
@@ -176,6 +211,7 @@ fn table_in<'a, A: Allocator>(
     file: &[u8],
 ) -> Result<Table<'a, A>, MakeFault>
     ensures ok { IfOk result (λ t. table_read file.now ≡ Ok t) }
+    ensures class { IfOk result (λ t. t.class ≡ class) }
     ensures fault { IfErr result (IsFaultIn (Some file.now) class) }
 {
     let mut reader = file;

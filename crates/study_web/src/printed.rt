@@ -25,7 +25,7 @@ pub fn printed_of<'a, S: TableStore, A: Allocator>(
     ensures file { ((c : AClass) → S.honest store.old true c) → IfOk result (λ told. (classes : List AClass)
         × ((c : AClass) → IsHeldAs (S.headers store.old c) (is_among classes c)) × (left : Option (List ℕ))
         × IsFile (over_tables classes true) script.now left (Some []) (Some told.text.items) told.summary) }
-    ensures denied { IfErr result IsOfTables }
+    ensures denied { IfErr result (IsOfTables (S.headers store.old) (S.faults store.old)) }
 {
     match open_tables(alloc, store, pages) {
         Err(denial) => Err(denial),

@@ -1,5 +1,5 @@
 //! What is told of a script: its review, and the view of what it leaves on the board.
-ghost use Rattle.std.specs.Prelude.{◌≡◌, ◌≢◌, ◌≤◌, ◌++◌, ℕ, [], true, false, is_some, List, Option, Some, IfSome, IfOk, IfErr, OnOk};
+ghost use Rattle.std.specs.Prelude.{◌≡◌, ◌≢◌, ◌≤◌, ◌⊎◌, ◌++◌, ℕ, [], true, false, is_some, List, Option, Some, IfSome, IfOk, IfErr, OnOk};
 ghost use Rattle.study_material.specs.declared.class.Class.{Class as AClass};
 ghost use Rattle.study_tree.specs.Tree.{has_spot};
 ghost use Rattle.study_marks.specs.Kept.{marked, IsKeptRight};
@@ -58,7 +58,7 @@ pub fn review_of<'a, S: TableStore, A: Allocator>(
     ensures review { ((c : AClass) → S.honest store.old true c) → IfOk result (λ told. (classes : List AClass)
         × ((c : AClass) → IsHeldAs (S.headers store.old c) (is_among classes c)) × (left : Option (List ℕ))
         × Outcome IsReviewOf refused_line (over_tables classes true) script.now left (Some []) (Some told.text.items) told.summary) }
-    ensures denied { IfErr result IsOfTables }
+    ensures denied { IfErr result (IsOfTables (S.headers store.old) (S.faults store.old)) }
 {
     match open_tables(alloc, store, pages) {
         Err(denial) => Err(denial),
@@ -245,8 +245,9 @@ pub fn view_of<'a, S: TableStore, A: Allocator>(
     ensures text { ((c : AClass) → S.honest store.old true c) → IfOk result (λ text. (classes : List AClass)
         × ((c : AClass) → IsHeldAs (S.headers store.old c) (is_among classes c))
         × IsViewOver classes script.now (steps_of path.now) text.items) }
-    ensures none { IfErr result (MayEnd (IsViewDenial (((c : AClass) → S.honest store.old true c) → (classes : List AClass)
-        × ((c : AClass) → IsHeldAs (S.headers store.old c) (is_among classes c)) × LacksNodeOver classes script.now (steps_of path.now)))
+    ensures none { IfErr result (MayEnd (λ d. IsOfTables (S.headers store.old) (S.faults store.old) d
+        ⊎ IsViewDenial (((c : AClass) → S.honest store.old true c) → (classes : List AClass)
+        × ((c : AClass) → IsHeldAs (S.headers store.old c) (is_among classes c)) × LacksNodeOver classes script.now (steps_of path.now)) d)
         (IsUnread script.now)) }
 {
     match open_tables(alloc, store, pages) {

@@ -3,6 +3,7 @@ ghost use Rattle.std.specs.Prelude.{◌≡◌, ◌≤◌, true, IfSome, IfOk, If
 ghost use Rattle.study_material.specs.declared.class.Class.{Class as AClass};
 ghost use Rattle.study_view.specs.Survey.{IsSurvey};
 ghost use Rattle.study_web.specs.Answers.{IsSurveyDenial, MayEnd, IsNoMemory};
+ghost use Rattle.study_web.specs.Opened.{IsOfValues};
 
 use crate::denial::Denial;
 use crate::reply::NoText;
@@ -15,7 +16,7 @@ use study_script::store::TableStore;
 use study_view::{Question, SurveyFault, write_survey};
 
 /// The survey that is asked for, over all files of a store.
-#[tactic(auto, using(crate::proofs::Denials::survey_over, crate::proofs::Denials::survey_probe))]
+#[tactic(auto, using(crate::proofs::Denials::survey_over))]
 pub fn survey_of<'a, S: TableStore, A: Allocator>(
     alloc: &'a A,
     asked: &Surveyed,
@@ -25,7 +26,9 @@ pub fn survey_of<'a, S: TableStore, A: Allocator>(
     requires { IfSome pages (λ n. (1 ≤ n) × (n ≤ 4096)) }
     ensures text { ((c : AClass) → S.honest store.old true c)
         → IfOk result (λ text. IsSurvey asked.now.start.position asked.now.square asked.now.stipulation text.items) }
-    ensures none { IfErr result (MayEnd (IsSurveyDenial asked.now.start asked.now.square) IsNoMemory) }
+    ensures none { IfErr result (MayEnd (IsSurveyDenial
+        (IsOfValues (S.headers store.old) (S.faults store.old) ((c : AClass) → S.honest store.old true c)) asked.now.start asked.now.square)
+        IsNoMemory) }
 {
     let mut tables = match open_tables(alloc, store, pages) {
         Err(denial) => return Err(NoText::Denied(denial)),

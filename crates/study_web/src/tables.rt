@@ -1,36 +1,37 @@
 //! The tables of all files of a store, opened by pages.
 ghost use Rattle.std.specs.Prelude.{◌≡◌, ◌≤◌, ◌⊎◌, [], ◌∷◌, true, false, is_some, IfSome, OnOk, IfOk, IfErr, Err};
 ghost use Rattle.study_material.specs.declared.class.Class.{Class as AClass};
-ghost use Rattle.study_prober.specs.Paged.{held_of, SourcesAreRight};
+ghost use Rattle.study_tablefile.specs.declared.fault.SourceFault.{SourceFault as ASourceFault};
+ghost use Rattle.study_prober.specs.Paged.{held_of, SourcesAreRight, MayFail};
 ghost use Rattle.study_script.specs.declared.store.StoreFault.TheVariants.{NoFile};
-ghost use Rattle.study_script.specs.Names.{of_paged};
 ghost use Rattle.study_script.specs.State.{is_among, IsGiven, IsOpened};
-ghost use Rattle.study_web.specs.Opened.{IsHeldAs, IsOfTables};
+ghost use Rattle.study_web.specs.Opened.{denial_of, IsHeldAs, IsOfTables};
 
 use crate::denial::Denial;
 use std::alloc::Allocator;
 use study_material::Class;
-use study_prober::{PagedFault, PagedTables};
+use study_prober::{PagedFault, PagedTables, Values};
 use study_reply::refusal::Refusal;
 use study_script::store::{StoreFault, TableStore};
 
 /// How many pages are kept where nothing is said.
 const PAGES: u16 = 1024;
 
-/// A fault of a source of pages, as a script tells it.
-fn refusal_of(fault: PagedFault) -> Refusal
-    ensures { result ≡ of_paged fault }
+/// Why the file of a class gives no table, as a script tells it; or that there is no memory.
+fn denial_of(class: Class, fault: PagedFault) -> Denial
+    ensures { result ≡ denial_of class fault }
 {
-    match fault {
-        PagedFault::AlreadyHeld(class) => Refusal::AlreadyHeld(class),
+    let refusal = match fault {
+        PagedFault::AlreadyHeld(held) => Refusal::AlreadyHeld(held),
         PagedFault::TableRead(fault) => Refusal::TableRead(fault),
         PagedFault::Header(fault) => Refusal::File(fault),
-        PagedFault::OtherClass(class) => Refusal::OtherClass(class),
-        PagedFault::OutOfMemory => Refusal::OutOfMemory,
-    }
+        PagedFault::OtherClass(other) => Refusal::OtherClass(other),
+        PagedFault::OutOfMemory => return Denial::Refused(Refusal::OutOfMemory),
+    };
+    Denial::OfFile(class, refusal)
 }
 
-/// Opens the file of a class, if there is one.
+/// Opens the file of a class, if there is one and it is not open.
 fn open_table<'a, S: TableStore, A: Allocator>(
     tables: &mut PagedTables<'a, S::Pages, A>,
     store: &mut S,
@@ -42,17 +43,22 @@ fn open_table<'a, S: TableStore, A: Allocator>(
     ensures opened { (c : AClass) → OnOk result (is_some (held_of tables.new.sources c) ≡ true
         → (is_some (held_of tables.old.sources c) ≡ true) ⊎ IsOpened (S.headers store.old c)) }
     ensures given { OnOk result (is_some (held_of tables.new.sources class) ≡ false → IsGiven (S.headers store.old class) (Err NoFile)) }
-    ensures named { IfErr result IsOfTables }
+    ensures fails { (c : AClass) (f : ASourceFault) → OnOk result (MayFail S.Pages.gives (held_of tables.new.sources c) c f
+        → MayFail S.Pages.gives (held_of tables.old.sources c) c f ⊎ (S.faults store.old c f ≡ true)) }
+    ensures named { IfErr result (IsOfTables (S.headers store.old) (S.faults store.old)) }
     ensures stays { (c : AClass) → S.honest store.old true c → S.honest store.new true c }
     ensures headers { (c : AClass) → S.headers store.new c ≡ S.headers store.old c }
+    ensures faults { (c : AClass) (f : ASourceFault) → S.faults store.new c f ≡ S.faults store.old c f }
 {
+    if tables.holds(class) {
+        return Ok(());
+    }
     match store.pages(class) {
         Err(StoreFault::NoFile) => Ok(()),
         Err(StoreFault::Device) => Err(Denial::OfFile(class, Refusal::Device)),
         Ok(source) => match tables.add(class, source) {
             Ok(()) => Ok(()),
-            Err(PagedFault::OutOfMemory) => Err(Denial::Refused(Refusal::OutOfMemory)),
-            Err(fault) => Err(Denial::OfFile(class, refusal_of(fault))),
+            Err(fault) => Err(denial_of(class, fault)),
         },
     }
 }
@@ -68,7 +74,9 @@ fn open_each<'a, S: TableStore, A: Allocator>(
     ensures grows { (c : AClass) → is_some (held_of tables.old.sources c) ≡ true → OnOk result (is_some (held_of tables.new.sources c) ≡ true) }
     ensures opened { (c : AClass) → OnOk result (is_some (held_of tables.new.sources c) ≡ true
         → (is_some (held_of tables.old.sources c) ≡ true) ⊎ IsOpened (S.headers store.old c)) }
-    ensures named { IfErr result IsOfTables }
+    ensures fails { (c : AClass) (f : ASourceFault) → OnOk result (MayFail S.Pages.gives (held_of tables.new.sources c) c f
+        → MayFail S.Pages.gives (held_of tables.old.sources c) c f ⊎ (S.faults store.old c f ≡ true)) }
+    ensures named { IfErr result (IsOfTables (S.headers store.old) (S.faults store.old)) }
     ensures given { (c : AClass) → OnOk result (is_among classes.now c ≡ true → is_some (held_of tables.new.sources c) ≡ false
         → IsGiven (S.headers store.old c) (Err NoFile)) }
 {
@@ -89,7 +97,8 @@ pub fn open_tables<'a, S: TableStore, A: Allocator>(
 ) -> Result<PagedTables<'a, S::Pages, A>, Denial>
     requires { IfSome pages (λ n. (1 ≤ n) × (n ≤ 4096)) }
     ensures right { ((c : AClass) → S.honest store.old true c) → IfOk result (λ w. SourcesAreRight S.Pages.honest w.sources) }
-    ensures named { IfErr result IsOfTables }
+    ensures named { IfErr result (IsOfTables (S.headers store.old) (S.faults store.old)) }
+    ensures fails { IfOk result (λ w. (c : AClass) (f : ASourceFault) → MayFail S.Pages.gives (held_of w.sources c) c f → S.faults store.old c f ≡ true) }
     ensures held { IfOk result (λ w. (c : AClass) → IsHeldAs (S.headers store.old c) (is_some (held_of w.sources c))) }
 {
     let room = match pages {

@@ -1,5 +1,5 @@
 use Rattle.study_web.proofs.Printing.{printed_as, printed_denied, print_made}
-use Rattle.study_web.proofs.Shelves.{right_made}
+use Rattle.study_web.proofs.Shelves.{right_made, tables_made}
 use Rattle.study_web.proofs.answering.of_report.Goals as goal
 
 pub returns-in-Ok : goal.returns-in-Ok
@@ -13,5 +13,6 @@ returns-in-Ok g c =
 
 pub returns-in-Err : goal.returns-in-Err
 returns-in-Err g c =
+    let made = c.new-store.ensures in
     printed_denied c.args.spans.now c.args.bytes.now c.args.script.now c.in-Err.denial c.denied.result.text.items c.denied.result.ended
-    c.in-Err.ensures.denied c.denied.ensures
+    (tables_made made.spans made.bytes made.written c.in-Err.denial c.in-Err.ensures.denied) c.denied.ensures

@@ -1,6 +1,18 @@
-use Rattle.study_material.specs.declared.class.Class.TheVariants.{KK}
-use Rattle.study_web.proofs.Faults.{needed_at}
+use Rattle.std.proofs.Common.{◌≡◌, true, List, sym, subst}
+use Rattle.std.specs.List.{Contains}
+use Rattle.study_material.specs.declared.class.Class.{Class}
+use Rattle.study_web.specs.Making.{is_ascending}
+use Rattle.study_web.proofs.Needed.{order_ascends}
 use Rattle.study_web.proofs.make.needed_tables.Goals as goal
 
-pub hold_needed-requires : goal.hold_needed-requires
-hold_needed-requires g c = needed_at KK c.order-needed.ensures c.as_slice-need-items.ensures.value c.loop-need-test.true
+pub hold_each-requires-clause-needed : goal.hold_each-requires-clause-needed
+hold_each-requires-clause-needed g c = λ d k.
+    (c.order-needed.ensures.each d).0 (subst (λ (cs : List Class). Contains cs d) c.as_slice.ensures.value k)
+
+pub hold_each-requires-clause-ascending : goal.hold_each-requires-clause-ascending
+hold_each-requires-clause-ascending g c =
+    subst (λ (cs : List Class). is_ascending cs ≡ true) (sym c.as_slice.ensures.value) (order_ascends c.order-needed.ensures)
+
+pub hold_each-requires-clause-settled : goal.hold_each-requires-clause-settled
+hold_each-requires-clause-settled g c = λ d needed out.
+    absurd (out (subst (λ (cs : List Class). Contains cs d) (sym c.as_slice.ensures.value) ((c.order-needed.ensures.each d).1 needed)))

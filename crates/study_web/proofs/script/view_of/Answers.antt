@@ -5,6 +5,7 @@ use Rattle.study_prober.specs.Paged.{held_of}
 use Rattle.study_command.specs.Paths.{steps_of}
 use Rattle.study_script.specs.Held.{board_seen}
 use Rattle.study_web.specs.Answers.{IsNever, IsUnread}
+use Rattle.study_web.specs.Opened.{IsOfTables}
 use Rattle.study_web.specs.Views.{LacksNode}
 use Rattle.study_web.proofs.Denials.{weaker_denial}
 use Rattle.study_web.proofs.Opening.{among_chosen}
@@ -26,8 +27,9 @@ returns-in-Ok-left_by-clause-none g c =
     let chosen : Class → Bool = λ d. is_some (held_of c.in-Ok.tables.sources d) in
     let classes = filter chosen class_list in
     let left = c.in-Ok-left_by.left in
-    weaker_denial c.left_view.result (LacksNode (board_seen left.board) (steps_of c.args.path.now)) _ IsNever (IsUnread c.args.script.now)
+    weaker_denial (IsOfTables (g.S.TableStore.headers c.args.store.now) (g.S.TableStore.faults c.args.store.now))
+    (LacksNode (board_seen left.board) (steps_of c.args.path.now)) _ IsNever (IsUnread c.args.script.now)
     (λ lacks right.
     let is = c.in-Ok-left_by.ensures.left classes (c.in-Ok.ensures.right right) (λ d. sym (among_chosen chosen d)) in
     (classes, λ d. rw (among_chosen chosen d) (c.in-Ok.ensures.held d), (board_seen left.board, left.refused.items, is.2, lacks)))
-    (λ fault never. absurd never) c.left_view.ensures.none
+    (λ fault never. absurd never) c.left_view.result c.left_view.ensures.none

@@ -9,3 +9,7 @@ returns-clause-held g c = λ d.
     held_as (g.S.TableStore.headers c.args.store.now d) (is_some (held_of c.open_each.new.tables.sources d))
     (λ h. elim (c.in-Ok-open_each.ensures.opened d h) [ inl k ↦ absurd (false≢true (rw c.in-Ok.ensures at k)) | inr o ↦ o ])
     (λ h. c.in-Ok-open_each.ensures.given d (rw (c.as_slice.ensures, c.all.ensures) (among_all d)) h)
+
+pub returns-clause-fails : goal.returns-clause-fails
+returns-clause-fails g c = λ d f h.
+    elim (c.in-Ok-open_each.ensures.fails d f h) [ inl k ↦ absurd (rw c.in-Ok.ensures at k) | inr t ↦ t ]

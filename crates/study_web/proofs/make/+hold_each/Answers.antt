@@ -1,0 +1,27 @@
+use Rattle.std.proofs.Common.{◌≡◌, ◌∷◌, length, ap, rules, arith}
+use Rattle.study_web.proofs.Needed.{need_needed, rest_needed, rest_ascends, rest_settled}
+use Rattle.study_web.proofs.make.+hold_each.Goals as goal
+
+pub hold_needed-requires : goal.hold_needed-requires
+hold_needed-requires g t c =
+    let e : c.args.needed.now ≡ c.in-Some.need.now ∷ c.in-Some.rest.now = search rules in
+    need_needed c.args.class c.in-Some.need.now c.in-Some.rest.now c.args.needed.now e c.requires.needed
+
+pub hold_each-requires : goal.hold_each-requires
+hold_each-requires g t c κs within =
+    let e : c.args.needed.now ≡ c.in-Some.need.now ∷ c.in-Some.rest.now = search rules in
+    let l = ap length e in (
+      omega (arith, l, c.decreases),
+      (
+        within,
+        (
+          rest_needed c.args.class c.in-Some.need.now c.in-Some.rest.now c.args.needed.now e c.requires.needed,
+          (
+            rest_ascends c.in-Some.need.now c.in-Some.rest.now c.args.needed.now e c.requires.ascending,
+            rest_settled c.needs_come_first.ensures c.args.spans.now c.args.bytes.now c.args.class c.in-Some.need.now c.in-Some.rest.now c.args.needed.now
+                c.args.tables.now.tables c.hold_needed.new.tables.tables e c.requires.needed c.requires.ascending c.requires.settled
+                c.in_ok-hold_needed-in-Some.ensures.settled c.in_ok-hold_needed-in-Some.ensures.keeps,
+          ),
+        ),
+      ),
+    )
