@@ -24,7 +24,6 @@ use Rattle.study_web.specs.declared.reply.Ending.TheVariants as ending
 use Rattle.study_prober.specs.Values.{ProbeAnswer}
 use Rattle.study_prober.specs.declared.values.ProbeFault.{ProbeFault}
 use Rattle.study_prober.specs.declared.values.ProbeFault.TheVariants as probe
-use Rattle.study_reply.specs.declared.refusal.Refusal.{Refusal}
 use Rattle.study_reply.specs.declared.refusal.Refusal.TheVariants.{NoSuchNode, OutOfMemory}
 use Rattle.study_reply.specs.Names.{of_probe}
 use Rattle.study_web.specs.Answers.{IsWhole, MayEnd, IsNever, IsNoMemory, IsViewDenial, IsSurveyDenial}

@@ -1,25 +1,24 @@
 -- Where a table that is needed is not held, a file is lacking.
-use Rattle.std.proofs.Common.{◌≡◌, ◌≢◌, ◌⊎◌, ℕ, zero, suc, ◌+◌, ◌<◌, ◌≤◌, nat_lt, nat_le, Bool, true, false, ◌&&◌, cond, List, [], ◌∷◌, length}
+use Rattle.std.proofs.Common.{◌≡◌, ◌⊎◌, ℕ, zero, suc, ◌<◌, ◌≤◌, nat_lt, nat_le, Bool, true, false, cond, List, [], ◌∷◌, length}
 use Rattle.std.proofs.Common.{get_or, set, filter, Option, Some, None, Result, Ok, Err, is_some, refl, sym, ap, subst, ◌∙◌, inl, inr, arith}
-use Rattle.std.specs.Prelude.{IsOk, OnOk, OnErr, IsErrAnd, MatchOption}
+use Rattle.std.specs.Prelude.{IsOk, OnOk, OnErr, MatchOption}
 use Rattle.std.specs.List.{list_all, Contains}
 use Rattle.std.proofs.lemmas.Bool.{false≢true, and_parts, and_from}
 use Rattle.std.proofs.lemmas.List.{get_or-set_same, get_or-set_other}
 use borrow.Author.Tests.{ltb-true, leb-true}
 use Rattle.study_material.specs.declared.class.Class.{Class}
-use Rattle.study_material.specs.Needs.{size, by_size, needs_of, is_in, Reaches, IsNeeded, IsOrder, NeedsComeFirst}
+use Rattle.study_material.specs.Needs.{size, needs_of, is_in, Reaches, IsNeeded, IsOrder, NeedsComeFirst}
 use Rattle.study_material.proofs.NeedsTables.{size_table, by_size_is}
 use Rattle.study_retro.specs.Table.{Table, IsClosed, class_place, table_of}
 use Rattle.study_retro.specs.declared.builder.BuildFault.{BuildFault}
 use Rattle.study_retro.specs.declared.builder.BuildFault.TheVariants as build
 use Rattle.study_retro.specs.declared.set.AddFault.{AddFault}
-use Rattle.study_retro.specs.Set.{first_missing, missing_fault, add_fault}
+use Rattle.study_retro.specs.Set.{first_missing, add_fault}
 use Rattle.study_retro.specs.Sound.{NeedsAreRight, HasFarPosition}
 use Rattle.study_prober.specs.Whole.{Whole, TablesAreRight}
 use Rattle.study_prober.proofs.HeldSources.{same_class}
 use Rattle.study_script.proofs.HeldTables.{place_below}
 use Rattle.study_web.specs.declared.spans.Span.{Span}
-use Rattle.study_web.specs.Spans.{file_in}
 use Rattle.study_web.specs.Making.{LacksFile, HasRightNeeds, IsMakeFault, IsSettled, IsTaken, is_ascending, of_build}
 use Rattle.study_web.proofs.Faults.{needs_right}
 

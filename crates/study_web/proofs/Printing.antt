@@ -1,5 +1,5 @@
 -- Printed pages over the files that are handed in.
-use Rattle.std.proofs.Common.{◌≡◌, ℕ, Bool, true, List, [], replicate, false, Option, Some, Result, Ok, Err, refl, sym, ap, subst, ◌∙◌, inl, inr}
+use Rattle.std.proofs.Common.{◌≡◌, ℕ, Bool, true, List, [], replicate, false, Option, Some, Result, Ok, Err, sym, ap, subst, ◌∙◌, inl, inr}
 use Rattle.study_material.specs.declared.class.Class.{Class}
 use Rattle.study_print.specs.Pages.{IsFile}
 use Rattle.study_report.specs.Outcome.{over_tables}

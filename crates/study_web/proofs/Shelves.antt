@@ -1,5 +1,5 @@
 -- A store that was just made is the shelf of its files.
-use Rattle.std.proofs.Common.{◌≡◌, ℕ, Bool, true, false, List, replicate, Option, Some, None, Result, Ok, Err, is_some, refl, subst, sym, ◌∙◌, inl, inr}
+use Rattle.std.proofs.Common.{◌≡◌, ℕ, Bool, false, List, replicate, Option, Some, None, Result, Ok, Err, is_some, refl, subst, sym, ◌∙◌, inl, inr}
 use Rattle.std.specs.Prelude.{IfOk, IfErr}
 use Rattle.std.proofs.lemmas.List.{get_or-replicate}
 use Rattle.study_material.specs.declared.class.Class.{Class}
@@ -11,8 +11,6 @@ use Rattle.study_script.specs.State.{Shelf, is_among, IsGiven, IsGivenAs, IsOpen
 use Rattle.study_script.proofs.HeldTables.{place_below}
 use Rattle.study_web.specs.declared.spans.Span.{Span}
 use Rattle.study_web.specs.Spans.{file_in, bytes_given, header_given, file_faults}
-use Rattle.study_board.specs.Position.{Position}
-use Rattle.study_material.specs.Class.{IsOf}
 use Rattle.study_prober.specs.declared.values.ProbeFault.{ProbeFault}
 use Rattle.study_prober.specs.declared.values.ProbeFault.TheVariants as probe
 use Rattle.study_reply.specs.declared.refusal.Refusal.{Refusal}

@@ -1,5 +1,5 @@
 -- What a page is answered.
-use Rattle.std.specs.Prelude.{◌≡◌, ◌⊎◌, ℕ, Bool, true, false, List, [], Option, Some, None, Result, Ok, Err}
+use Rattle.std.specs.Prelude.{◌≡◌, ◌⊎◌, ℕ, Bool, true, List, [], Option, Some, None, Result, Ok, Err}
 use Rattle.study_board.specs.Position.{man_at}
 use Rattle.study_material.specs.declared.class.Class.{Class}
 use Rattle.study_notation.specs.declared.start.Start.{Start}

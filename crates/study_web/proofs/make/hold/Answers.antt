@@ -1,4 +1,4 @@
-use Rattle.study_web.proofs.Needed.{taken, keeps, added_ok}
+use Rattle.study_web.proofs.Needed.{taken, added_ok}
 use Rattle.study_web.proofs.make.hold.Goals as goal
 
 pub returns-clause-taken : goal.returns-clause-taken
