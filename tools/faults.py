@@ -225,6 +225,63 @@ def squeeze():
     return bad
 
 
+REPORTS = [kind for kind in KINDS if kind[0] != "filewrite"]
+
+
+def report_wrong(answer, base, kind, how):
+    """What is wrong with a run of studyreport, or None. A fault ends it with status 3 and its name on standard error; or the file of a table is
+    named there, with its fault, and the run goes on without it; or a line is refused; or it shows nowhere, as where a page of a table finds no
+    room to be kept."""
+    text, status, error = answer
+    stops = {"alloc": "OutOfMemory", "stdin": "ReadDevice", "stdout": "WriteDevice"}
+    same = (text, status) == (base[0], base[1])
+    if status == 3:
+        if how == "short" or kind not in stops or error != f"studyreport: {stops[kind]}\n":
+            return f"status 3 and '{error.strip()}'"
+        if kind == "stdout" and (not base[0].startswith(text) or text == base[0]):
+            return "no front of what is written"
+        return None
+    if status not in (0, 1):
+        return f"status {status} and '{error.strip()}'"
+    if error:
+        named = all(re.fullmatch(r"studyreport: K\w+\.dtm: (TableRead )?Device", line) for line in error.splitlines())
+        if how == "short" or kind not in ("open", "fileread", "seek") or not named:
+            return f"status {status} and '{error.strip()}'"
+        return None if same or (status == 1 and b"NoTable" in text) else "other text without a table"
+    if same:
+        return None if how in ("short", "interrupt") or kind == "alloc" else "the fault is not told"
+    if how == "short" or status != 1:
+        return f"status {status}, and other text"
+    names = [name.encode().removeprefix(b"error ") for name in TOLD.get(kind, ())]
+    return None if any(name in text for name in names) else "the fault is not named"
+
+
+def report():
+    """The same faults under studyreport, over tables by pages: pages and lines."""
+    global PROGRAM
+    PROGRAM = os.environ["FAULTS_REPORT"]
+    script = open(f"{TOP}/examples/kpk_rook_not_queen.script", "rb").read()
+    total = bad = ended = refused = 0
+    for more_words in ([], ["--lines"], ["--pages", "1"]):
+        words = ["--tables", f"{WORK}/tables", *more_words]
+        base = run(script, words)
+        for kind, how, more in REPORTS:
+            faults = dict(more, FAULT_KIND=kind, FAULT_HOW=how, FAULT_COUNT=f"{WORK}/count")
+            if run(script, words, FAULT_AT=0, **faults) != base:
+                print(f"WRONG {' '.join(more_words)}: with no fault {kind} {how} differs")
+                bad += 1
+            places = int(open(f"{WORK}/count").read())
+            for at in range(1, places + 1, max(1, -(-places // RUNS))):
+                answer = run(script, words, FAULT_AT=at, **faults)
+                wrong = report_wrong(answer, base, kind, how)
+                total, ended, refused = total + 1, ended + (answer[1] in (2, 3)), refused + (answer[1] == 1 and answer[:2] != base[:2])
+                if wrong:
+                    bad += 1
+                    print(f"WRONG studyreport {' '.join(more_words)}: {kind} {how} at {at}{' and on' if 'FAULT_ON' in more else ''}: {wrong}")
+    print(f"studyreport: {total} faults in {total} runs: {ended} ended the run, {refused} refused a line; {bad} wrong")
+    return bad
+
+
 def tried(numbers):
     """`rt try --fail-alloc N`: the program is interpreted, and its checks are made as it runs."""
     script = b"load KK\nload KQK\n" + b"\n".join(open(f"{TOP}/crates/studybench/stdin", "rb").read().split(b"\n")[2:])
@@ -244,5 +301,5 @@ def tried(numbers):
     return bad
 
 
-TASKS = {"sweep": sweep, "squeeze": squeeze}
+TASKS = {"sweep": sweep, "squeeze": squeeze, "report": report}
 sys.exit(1 if (TASKS[sys.argv[1]]() if sys.argv[1] in TASKS else tried(sys.argv[2:])) else 0)

@@ -3,7 +3,8 @@
 #
 #   tools/faults.sh            the built program: memory, reads, writes, opened files and places in them that fail, are cut
 #                              short or are broken off, then the deepest tree under limits of stack and addresses, whole
-#                              devices and tools/files.sh; some minutes
+#                              devices and tools/files.sh; then studyreport, with tools/report_faults.py; some minutes
+#   tools/faults.sh report     studyreport alone
 #   tools/faults.sh try [N ..] `rt try --fail-alloc N` over the small scripts, for each N (default 3 19 35 51); slow
 #
 # FAULTS_RUNS=N bounds the runs of one script with one kind of fault (default 24): where there are more places for the fault,
@@ -81,6 +82,13 @@ off_t lseek(int fd, off_t where, int from) {
 }
 END
 cc -shared -fPIC -O1 -fno-builtin -o "$work/fault.so" "$work/fault.c" || { echo "cc is needed for the library of faults"; exit 2; }
+export FAULTS_REPORT=${STUDYREPORT:-$top/crates/studyreport/out/studyreport}
+reported() { # studyreport under the same faults, and its own cases
+    [ -x "$FAULTS_REPORT" ] || (cd "$top/crates/studyreport" && rt run < /dev/null) > /dev/null 2>&1 || { echo "studyreport is not built"; return 2; }
+    python3 "$top/tools/faults.py" report; local swept=$?
+    python3 "$top/tools/report_faults.py" "$work/tables" && [ $swept = 0 ]
+}
+if [ "$1" = report ]; then reported; exit $?; fi
 python3 "$top/tools/faults.py" sweep; swept=$?
 python3 "$top/tools/faults.py" squeeze; squeezed=$?
 
@@ -128,4 +136,5 @@ while_read "a table without a byte" ': > "$work/live/KRK.dtm"' "error TableRead 
 while_read "a byte turned" 'printf "\\377" | dd of="$work/live/KRK.dtm" bs=1 seek=$((64 + 4128 * 5 + 63)) conv=notrunc 2> /dev/null' "error TableRead Page 5"
 echo "$cases cases of whole devices, $wrong wrong"
 "$top/tools/files.sh"; filed=$?
-[ $swept = 0 ] && [ $squeezed = 0 ] && [ $wrong = 0 ] && [ $filed = 0 ]
+reported; told=$?
+[ $swept = 0 ] && [ $squeezed = 0 ] && [ $wrong = 0 ] && [ $filed = 0 ] && [ $told = 0 ]
