@@ -11,6 +11,7 @@
 # The status has to be 1 where a reply is an error, and 0 elsewhere.
 top=$(cd "$(dirname "$0")/.." && pwd); examples="$top/examples"
 mode=${1:-small}; dir=${2:+$(realpath "$2")}
+case $mode in small | pawnless | all | load) ;; *) echo "tools/examples.sh: $mode is none of pawnless, all, load DIR"; exit 2 ;; esac
 program=${STUDYBENCH:-$top/crates/studybench/out/studybench}
 [ -x "$program" ] || (cd "$top/crates/studybench" && rt run < /dev/null) > /dev/null 2>&1 || {
     echo "studybench is not built: cd crates/studybench && rt check"

@@ -18,7 +18,7 @@ name=studybench-$version-linux-x86_64
 work=$(mktemp -d); trap 'rm -rf "$work"' EXIT
 here=$work/$name
 mkdir -p "$here/tools" out
-cp crates/studybench/out/studybench crates/studyreport/out/studyreport README.md CHANGELOG.md "$here/"
+cp crates/studybench/out/studybench crates/studyreport/out/studyreport README.md CHANGELOG.md CONTRIBUTING.md "$here/"
 cp -r docs "$here/"
 cp -rL examples "$here/"
 cp tools/games.sh tools/all_tables.sh "$here/tools/"
