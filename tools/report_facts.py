@@ -378,12 +378,17 @@ def following(study, path, numbered):
     return out + (inside("ul", items) if items else "") + following(study, path + (0,), len(children) > 1)
 
 
+def told_of(study, kind):
+    """The nodes of which there are facts of a kind, in written order, and these."""
+    for path in study.order:
+        facts = study.of(kind, path)
+        if facts:
+            yield path, facts
+
+
 def cards(study):
     out = ""
-    for path in study.order:
-        also = study.of("also", path)
-        if not also:
-            continue
+    for path, also in told_of(study, "also"):
         before = study.position[path[:-1]]
         items = ""
         for fact in also:
@@ -422,10 +427,7 @@ def legal(study, path):
 
 def tries(study):
     rows = ""
-    for path in study.order:
-        refuted = study.of("refuted", path)
-        if not refuted:
-            continue
+    for path, refuted in told_of(study, "refuted"):
         cell = ""
         for fact in refuted:
             if fact[1:] == ["stalemate"]:
@@ -440,10 +442,7 @@ def tries(study):
 
 def defences(study):
     rows = ""
-    for path in study.order:
-        missing = study.of("missing", path)
-        if not missing:
-            continue
+    for path, missing in told_of(study, "missing"):
         one, several = {}, ""
         for fact in missing:
             value = "draw" if fact[2] == "draw" else " ".join(fact[2:4])
