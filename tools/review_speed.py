@@ -4,10 +4,10 @@
     tools/review_speed.py reviews DIR [NAME..]
     tools/review_speed.py views DIR [NAME..]
 
-DIR has the files of the tables, as tools/all_tables.sh makes them. Both programs hold them whole, follow the same scripts, and write
-each text some 200 times: the review of each study, or its views along the main line and the surveys of its men. What is printed for
-each script and kind of text: milliseconds of the fastest times, added up, in ours and in plain Rust, their ratio, and the slowest text
-of ours. Studies whose tables are not in DIR are passed over."""
+DIR has the files of the tables, as tools/all_tables.sh makes them; tools/speed/build.sh builds our program. Both programs hold the tables
+whole, follow the same scripts, and write each text some 200 times: the review of each study, or its views along the main line and the
+surveys of its men. For each script and kind of text this prints milliseconds of the fastest times, added up, in ours and in plain Rust,
+their ratio, and the slowest text of ours. Studies whose tables are not in DIR are passed over."""
 import os
 import subprocess
 import sys
@@ -15,7 +15,7 @@ import tempfile
 
 TOP = os.path.dirname(os.path.dirname(os.path.abspath(__file__)))
 GALLERY = os.path.join(TOP, 'crates/gallery/data')
-PROGRAM = os.path.join(TOP, 'crates/study_speed/out/study_speed')
+PROGRAM = os.path.join(TOP, 'tools/speed/out/study_speed')
 TABLE_COMMANDS = ('build', 'load', 'save', 'verify')
 GOES = 200
 

@@ -18,9 +18,9 @@ top=$(cd "$(dirname "$0")/.." && pwd)
 work=$(mktemp -d)
 trap 'rm -rf "$work"' EXIT
 plain="$work/plain"
-ours="$top/crates/study_speed/out/study_speed"
+ours="$top/tools/speed/out/study_speed"
 
-(cd "$top/crates/study_speed" && rt run) > "$work/log" 2>&1 || { cat "$work/log"; exit 1; }
+"$top/tools/speed/build.sh"
 
 if [ "$1" = reviews ] || [ "$1" = views ]; then
     exec "$top/tools/review_speed.py" "$1" "$2"

@@ -1,3 +1,4 @@
+// Rattle: `rt` builds this file as src/samples.rt of the crate study_speed, which ../build.sh puts together outside of the repository.
 //! Positions on which calls are timed.
 ghost use Rattle.std.specs.Prelude.{◌≡◌, true};
 ghost use Rattle.study_moves.specs.Rules.{is_legal};

@@ -1,3 +1,4 @@
+// Rattle: `rt` builds this file as src/views.rt of the crate study_speed, which ../build.sh puts together outside of the repository.
 //! How long it takes to write what a board shows of a study: its views along the main line, and a survey of each of its men.
 use std::alloc::Allocator;
 use std::io;

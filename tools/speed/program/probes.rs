@@ -1,3 +1,4 @@
+// Rattle: `rt` builds this file as src/probes.rt of the crate study_speed, which ../build.sh puts together outside of the repository.
 //! How long a probe takes through a cache that keeps every page, beside one of a whole table.
 
 use crate::timed::tell;

@@ -1,3 +1,4 @@
+// Rattle: `rt` builds this file as src/numbers.rt of the crate study_speed, which ../build.sh puts together outside of the repository.
 //! How long it takes to read a number as a position.
 
 use crate::timed::show;

@@ -1,3 +1,4 @@
+// Rattle: `rt` builds this file as src/building.rt of the crate study_speed, which ../build.sh puts together outside of the repository.
 //! How long tables take to build and to verify.
 
 use crate::timed::tell;

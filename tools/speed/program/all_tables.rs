@@ -1,3 +1,4 @@
+// Rattle: `rt` builds this file as src/all_tables.rt of the crate study_speed, which ../build.sh puts together outside of the repository.
 //! All tables, or one and those that it needs: how long each takes to build, what was examined, and what its cells are.
 use sha2::{Digest, Sha256};
 use std::alloc::Allocator;

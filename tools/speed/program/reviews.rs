@@ -1,3 +1,4 @@
+// Rattle: `rt` builds this file as src/reviews.rt of the crate study_speed, which ../build.sh puts together outside of the repository.
 //! How long the reviews of a script's studies take, or what a board shows of them, over the tables of a folder, held whole.
 use crate::views;
 use std::alloc::Allocator;

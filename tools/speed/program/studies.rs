@@ -1,3 +1,4 @@
+// Rattle: `rt` builds this file as src/studies.rt of the crate study_speed, which ../build.sh puts together outside of the repository.
 //! Large studies of kings alone: how long their edits and their PGN take, and how many bytes a node takes.
 
 use crate::timed::tell;

@@ -1,3 +1,4 @@
+// Rattle: `rt` builds this file as src/timed.rt of the crate study_speed, which ../build.sh puts together outside of the repository.
 //! Work that is timed.
 use std::io;
 use std::time::Instant;

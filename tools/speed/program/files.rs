@@ -1,3 +1,4 @@
+// Rattle: `rt` builds this file as src/files.rt of the crate study_speed, which ../build.sh puts together outside of the repository.
 //! How long table files take to write and to read, beside SHA-256 alone over the same bytes.
 use crate::timed::{show, tell};
 use sha2::{Digest, Sha256};

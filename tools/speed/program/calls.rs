@@ -1,3 +1,4 @@
+// Rattle: `rt` builds this file as src/calls.rt of the crate study_speed, which ../build.sh puts together outside of the repository.
 //! How long the calls of the inner loop take.
 use crate::samples::{Setting, Turn, turns};
 use crate::timed::show;

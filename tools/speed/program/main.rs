@@ -1,8 +1,9 @@
+// Rattle: `rt` builds this file as src/main.rt of the crate study_speed, which ../build.sh puts together outside of the repository.
 //! Times the calls that a builder of tables makes most, the building of tables, and their files.
 //!
 //! Each line has four words: what was timed, on what, picoseconds a call, and a sum of what the calls answered.
-//! `tools/speed.sh` sets the lines beside those of plain Rust. With no argument nothing is printed, since times are no
-//! test.
+//! `tools/speed.sh` sets the lines beside those of plain Rust. With no argument nothing is printed, so that `rt run` builds the
+//! program and measures nothing.
 #![tactic(auto)]
 
 mod all_tables;

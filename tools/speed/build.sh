@@ -1,0 +1,35 @@
+#!/bin/bash
+# Builds the program that tools/speed.sh times beside plain Rust: tools/speed/out/study_speed.
+#
+#   tools/speed/build.sh [FOLDER]
+#
+# Its sources, program/*.rs, are Rattle, and a crate only here: in the gate a program that measures would be proved with every change, and
+# `rt ci` takes no .rt file outside of its crates, hence the extension .rs. This script copies the repository's crates as they stand to FOLDER,
+# outside of the repository, adds the program as the crate study_speed, and has `rt` prove and build it there. Libraries whose text is proved
+# in any checkout on this machine are taken from it. FOLDER keeps what was proved and built for the next time.
+set -e
+top=$(cd "$(dirname "$0")/../.." && pwd); room=$(realpath -m "${1:-${TMPDIR:-/tmp}/studybench_speed}")
+uses="study_board study_moves study_material study_index study_retro study_tablefile study_prober study_notation study_tree study_marks"
+uses="$uses study_pgn study_command study_review study_view study_script study_program linked_list_allocator sha2"
+
+case "$room/" in "$top"/*) echo "tools/speed/build.sh: $room is in the repository"; exit 2 ;; esac
+if [ -e "$room" ] && [ ! -e "$room/crates.txt" ] && [ -n "$(ls -A "$room")" ]; then
+    echo "tools/speed/build.sh: $room holds other files"
+    exit 2
+fi
+
+# ---- a copy of the crates beside what the last time kept, each in its folder out
+mkdir -p "$room/crates"
+find "$room/crates" -mindepth 2 -maxdepth 2 ! -name out -exec rm -rf {} +
+tar -C "$top" --exclude=out -c HANDLES crates.txt crates | tar -C "$room" -x
+echo "study_speed: $uses" >> "$room/crates.txt"
+mkdir -p "$room/crates/study_speed/src"
+for file in "$top"/tools/speed/program/*.rs; do
+    cp "$file" "$room/crates/study_speed/src/$(basename "$file" .rs).rt"
+done
+
+# ---- the program, which prints nothing when it is run without an argument
+cd "$room/crates/study_speed"
+rt run > "$room/log" 2>&1 || { tail -20 "$room/log"; exit 1; }
+mkdir -p "$top/tools/speed/out"
+cp out/study_speed "$top/tools/speed/out/study_speed"
