@@ -131,17 +131,6 @@ fn name(element: Element) -> &'static [u8]
         Element::Figure => b"figure",
         Element::Caption => b"figcaption",
         Element::Strong | Element::Sign => b"b",
-        Element::Count
-        | Element::Sound
-        | Element::Unsound
-        | Element::Wrong
-        | Element::Only
-        | Element::Dual
-        | Element::Mistake
-        | Element::Idle
-        | Element::Reply
-        | Element::Label
-        | Element::Whole => b"span",
         Element::Code => b"code",
         Element::Verdict | Element::Part => b"section",
         Element::Heading => b"h2",
@@ -162,6 +151,7 @@ fn name(element: Element) -> &'static [u8]
         Element::Summary | Element::Entry(_) => b"article",
         Element::Board | Element::Mini => b"svg",
         Element::Link(_) => b"a",
+        _ => b"span",
     }
 }
 
