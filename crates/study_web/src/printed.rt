@@ -1,5 +1,5 @@
 //! The printed pages of a script's studies.
-ghost use Rattle.std.specs.Prelude.{◌≡◌, ◌≤◌, ℕ, [], true, List, Option, Some, IfSome, IfOk, IfErr};
+ghost use Rattle.std.specs.Prelude.{◌≤◌, ℕ, [], true, List, Option, Some, IfSome, IfOk, IfErr};
 ghost use Rattle.study_material.specs.declared.class.Class.{Class as AClass};
 ghost use Rattle.study_print.specs.Pages.{IsFile};
 ghost use Rattle.study_report.specs.Outcome.{over_tables};

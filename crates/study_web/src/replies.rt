@@ -1,5 +1,5 @@
 //! The replies to a script over the files that are handed in.
-ghost use Rattle.std.specs.Prelude.{◌≡◌, ◌≤◌, ℕ, Bool, List, [], Option, Some, IfSome, is_some};
+ghost use Rattle.std.specs.Prelude.{◌≤◌, ℕ, Bool, List, [], Option, Some, IfSome, is_some};
 ghost use Rattle.study_material.specs.declared.class.Class.{Class as AClass};
 ghost use Rattle.study_script.specs.Outcome.{Outcome, begun_state};
 ghost use Rattle.study_script.specs.State.{Shelf};

@@ -1,5 +1,5 @@
 //! What a page asks for, in a line of words.
-ghost use Rattle.std.specs.Prelude.{◌≡◌, true, Some, IfOk, IfSome};
+ghost use Rattle.std.specs.Prelude.{◌≡◌, true, Some, IfSome};
 ghost use Rattle.std.specs.Option.{option_map};
 ghost use Rattle.std.specs.List.{list_all};
 ghost use Rattle.study_notation.specs.Fen.{start_of};
@@ -7,7 +7,7 @@ ghost use Rattle.study_notation.specs.Words.{words};
 ghost use Rattle.study_marks.specs.Edits.{is_printable};
 ghost use Rattle.study_command.specs.Asking.{one_word, mate_in, mate_moves_of};
 ghost use Rattle.study_script.specs.Replies.{class_told};
-ghost use Rattle.study_web.specs.Request.{Asked, alone, make_asked, view_asked, with_start, goal_begun, stipulation_begun};
+ghost use Rattle.study_web.specs.Request.{alone, make_asked, view_asked, with_start, goal_begun, stipulation_begun};
 ghost use Rattle.study_web.specs.Request.{survey_asked, word_asked, request_of, request_seen, asks_seen};
 ghost use Rattle.study_web.specs.Request.{passed as passed_asked};
 

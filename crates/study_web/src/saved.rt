@@ -1,5 +1,4 @@
 //! Files that a script saves.
-ghost use Rattle.std.specs.Prelude.{◌≡◌, length};
 
 use std::alloc::{AllocError, Allocator};
 use std::cell::RefCell;

@@ -1,5 +1,5 @@
 //! The directory of the files that are handed in.
-ghost use Rattle.std.specs.Prelude.{◌≡◌, ◌≤◌, ◌+◌, ◌↔◌, IsTrue, MatchOption, Some, None, length, take, drop};
+ghost use Rattle.std.specs.Prelude.{◌≡◌, ◌≤◌, ◌+◌, IsTrue, MatchOption, Some, None, length};
 ghost use Rattle.study_web.specs.Spans.{is_file_of, file_in};
 
 use study_material::Class;

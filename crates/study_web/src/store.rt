@@ -1,6 +1,5 @@
 //! A store of tables over the files that are handed in.
 ghost use Rattle.std.specs.Prelude.{◌≡◌, false, replicate, length, IfOk, IfErr};
-ghost use Rattle.study_material.specs.declared.class.Class.{Class as AClass};
 ghost use Rattle.study_web.specs.Spans.{bytes_given, header_given, file_in, IsHonestIn};
 ghost use Rattle.study_web.specs.Store.{known, faults_known, IsFileGiven, IsWithheld};
 

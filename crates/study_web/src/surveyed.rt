@@ -1,5 +1,5 @@
 //! The survey of a man of a position.
-ghost use Rattle.std.specs.Prelude.{◌≡◌, ◌≤◌, true, IfSome, IfOk, IfErr};
+ghost use Rattle.std.specs.Prelude.{◌≤◌, true, IfSome, IfOk, IfErr};
 ghost use Rattle.study_material.specs.declared.class.Class.{Class as AClass};
 ghost use Rattle.study_view.specs.Survey.{IsSurvey};
 ghost use Rattle.study_web.specs.Answers.{IsSurveyDenial, MayEnd, IsNoMemory};

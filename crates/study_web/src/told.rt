@@ -1,5 +1,5 @@
 //! The names of refusals, and how an answer ended, in words.
-ghost use Rattle.std.specs.Prelude.{◌≡◌, ◌++◌, OnOk, codes, decimal};
+ghost use Rattle.std.specs.Prelude.{◌++◌, OnOk, codes, decimal};
 ghost use Rattle.std.specs.Io.KnownBytes.{Appends};
 ghost use Rattle.study_material.specs.Class.{name_of};
 ghost use Rattle.study_reply.specs.Names.{argument_text, words_of};
