@@ -35,7 +35,7 @@ module _ (s : Study Mark) (path : List ℕ) where
     front : h.front ≡ front_of path
     front = front-is path h.front h.place h.path
 
-    -- what holds where the move was made holds at the front of the path
+    -- what holds where the move was made holds at the start of the path
     pub as-made : (P : Aim → ℕ → List Position → Position → Type 0)
         → P x.before.aim x.before.depth x.before.line.items x.before.position
         → P (aim_of s) (length (front_of path)) (line_to s (front_of path)) (position_at s (front_of path))

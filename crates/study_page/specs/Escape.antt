@@ -20,7 +20,7 @@ entity b =
 unfoldable pub said : List ℕ → List ℕ
 said text = flat_map entity text
 
--- one of the five entities stands at the front
+-- one of the five entities comes first
 abbrev pub BeginsEntity : List ℕ → Type 0
 BeginsEntity text =
     (rest : List ℕ)

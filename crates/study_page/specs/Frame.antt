@@ -1,4 +1,4 @@
--- What stands before the first page and behind the last: fixed texts.
+-- What comes before the first page and after the last: fixed texts.
 use Rattle.std.specs.Prelude.{ℕ, List, ◌++◌, codes}
 
 unfoldable pub opening : List ℕ

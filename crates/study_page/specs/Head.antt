@@ -1,4 +1,4 @@
--- The head of a page, and the diagram with what stands below it.
+-- The head of a page, and the diagram with what is below it.
 use Rattle.std.specs.Prelude.{ℕ, ◌==◌, List, [], ◌++◌, length, Option, Some, None, if◌then◌else◌, codes}
 use Rattle.study_board.specs.declared.men.Side.{Side}
 use Rattle.study_board.specs.declared.men.Side.TheVariants as side
@@ -21,11 +21,11 @@ abbrev pub title_words : Option (List ℕ) → List ℕ
 title_words None = codes "Untitled"
 title_words (Some words) = words
 
--- a dot behind what stands there
+-- a dot after what is there
 abbrev pub behind : List ℕ → List ℕ
 behind line = if length line == 0 then line else line ++ drawn Dot
 
--- a tag that is known, behind those before it
+-- a tag that is known, after those before it
 abbrev pub byline_item : Option (List ℕ) → List ℕ → List ℕ
 byline_item None line = line
 byline_item (Some words) line = behind line ++ said words
@@ -57,6 +57,6 @@ caption stipulation start counts =
     ++ (inside Count (said counts) ++ (drawn Break ++ (said (men_words start.position.men)
     ++ (drawn Break ++ inside Code (said (fen_text start))))))))
 
--- the diagram of the start, with what stands below it
+-- the diagram of the start, with what is below it
 unfoldable pub figure : Stipulation → Start → List ℕ → List ℕ
 figure stipulation start counts = inside Figure (board start.position ++ caption stipulation start counts)

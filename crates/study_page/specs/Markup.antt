@@ -6,7 +6,7 @@ use Rattle.study_page.specs.Escape.{said}
 use Rattle.study_page.specs.Elements.{inside}
 use Rattle.study_page.specs.Drawings.{drawn}
 
--- what stands one behind the other: words, elements with what is inside them, and drawings, which have no inside
+-- what comes one after the other: words, elements with what is inside them, and drawings, which have no inside
 pub data Markup : Type 0 where
   nothing : Markup
   words : List ℕ → Markup → Markup
@@ -21,6 +21,6 @@ text_of (element e within rest) = inside e (text_of within) ++ text_of rest
 text_of (drawing d rest) = drawn d ++ text_of rest
 
 -- The text is that of a tree of markup: each element that is opened is closed, in order, and what comes from outside
--- stands in it as words alone.
+-- is in it only as words.
 abbrev pub IsWellNested : List ℕ → Type 0
 IsWellNested text = (tree : Markup) × (text ≡ text_of tree)

@@ -286,7 +286,7 @@ abbrev pub is_white : Side → Bool
 is_white White = true
 is_white Black = false
 
--- the number stands before the first move and before each of White's
+-- the number comes before the first move and before each of White's
 abbrev pub number_words : Bool → Start → ℕ → Side → List ℕ
 number_words first start d side = if first || is_white side then front_words start d side else []
 

@@ -34,7 +34,7 @@ front_words s d side = decimal (number_at s d) ++ (points side ++ codes " ")
 abbrev pub minus_where : Bool → List ℕ
 minus_where b = if b then codes "-" else []
 
--- in how many moves the hero mates, or is mated behind a minus; `=` where it is drawn, and `#` where it is mate
+-- in how many moves the hero mates, or is mated after a minus; `=` where it is drawn, and `#` where it is mate
 abbrev pub short_words : Bool → Value → List ℕ
 short_words hero Draw = codes "="
 short_words hero (Win n) = minus_where (not hero) ++ decimal (n / 2 + n % 2)

@@ -26,7 +26,7 @@ fn letter(kind: Kind) -> u8
     }
 }
 
-/// The man's letter and its square, behind a space.
+/// The man's letter and its square, after a space.
 fn add_man_words<A: Allocator>(text: &mut Text<'_, A>, man: &Man) -> Result<(), AllocError>
     ensures { OnOk result (text.new ≡ text.old ++ man_words man.now) }
 {

@@ -7,7 +7,7 @@ use std::alloc::{AllocError, Allocator};
 use study_board::{Kind, Man, Side, Square};
 use study_pgn::Text;
 
-/// What stands in markup without an inside.
+/// What markup has without anything inside.
 #[derive(Clone, Copy)]
 pub enum Drawing {
     /// A new line.

@@ -18,7 +18,7 @@ pub enum Element {
     Top,
     /// A diagram with its caption.
     Figure,
-    /// What stands below a diagram.
+    /// What is below a diagram.
     Caption,
     /// Bold words.
     Strong,
@@ -56,7 +56,7 @@ pub enum Element {
     Idle,
     /// A move of the opponent.
     Reply,
-    /// The sign behind a move.
+    /// The sign after a move.
     Sign,
     /// Small words.
     Small,
@@ -72,11 +72,11 @@ pub enum Element {
     Cards,
     /// A card.
     Card,
-    /// What stands beside a diagram.
+    /// What is beside a diagram.
     Beside,
     /// The title of a card.
     CardTitle,
-    /// A label behind a move.
+    /// A label after a move.
     Label,
     /// Other moves that hold.
     Also,
@@ -155,7 +155,7 @@ fn name(element: Element) -> &'static [u8]
     }
 }
 
-/// The attributes of an element that has no number, each behind a space.
+/// The attributes of an element that has no number, each after a space.
 fn fixed(element: Element) -> &'static [u8]
     ensures { result.now ≡ fixed element }
 {

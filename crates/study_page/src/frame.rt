@@ -1,4 +1,4 @@
-//! What stands before the first page and behind the last.
+//! What comes before the first page and after the last.
 ghost use Rattle.std.specs.Prelude.{◌≡◌, OnOk, OnErr};
 ghost use Rattle.std.specs.Io.KnownBytes.{Appends};
 ghost use Rattle.study_tablefile.specs.Taken.{TakesPrefix};
@@ -71,7 +71,7 @@ fn closing() -> &'static [u8]
     b"</body></html>\n"
 }
 
-/// Writes what stands before the first page.
+/// Writes what comes before the first page.
 pub fn write_opening<W: Write>(out: &mut W) -> Result<(), DeviceFailed>
     ensures ok { OnOk result (Appends (W.contents out.old) (W.contents out.new) opening) }
     ensures prefix { OnErr result (TakesPrefix (W.contents out.old) (W.contents out.new) opening) }
@@ -79,7 +79,7 @@ pub fn write_opening<W: Write>(out: &mut W) -> Result<(), DeviceFailed>
     put(out, opening())
 }
 
-/// Writes what stands behind the last page.
+/// Writes what comes after the last page.
 pub fn write_closing<W: Write>(out: &mut W) -> Result<(), DeviceFailed>
     ensures ok { OnOk result (Appends (W.contents out.old) (W.contents out.new) closing) }
     ensures prefix { OnErr result (TakesPrefix (W.contents out.old) (W.contents out.new) closing) }

@@ -1,4 +1,4 @@
-//! The head of a page, and the diagram with what stands below it.
+//! The head of a page, and the diagram with what is below it.
 ghost use Rattle.std.specs.Prelude.{◌≡◌, ◌++◌, OnOk};
 ghost use Rattle.study_marks.specs.Kept.{marked};
 ghost use Rattle.study_marks.specs.Study.{tag_of};
@@ -33,7 +33,7 @@ fn put_title<'a, 'b, A: Allocator, B: Allocator>(
     }
 }
 
-/// A dot, where something stands before it.
+/// A dot, where something comes before it.
 fn draw_dot<A: Allocator>(html: &mut Html<'_, A>) -> Result<(), AllocError>
     ensures { OnOk result (html.new ≡ behind html.old) }
 {
@@ -115,7 +115,7 @@ fn add_men<A: Allocator>(text: &mut Text<'_, A>, men: &[Man]) -> Result<(), Allo
     add_control(text, Side::Black, men)
 }
 
-/// What stands below the diagram: the stipulation, these counts, the men and the FEN.
+/// What is below the diagram: the stipulation, these counts, the men and the FEN.
 #[tactic(auto, unfolding(crate::specs::Head::caption))]
 fn put_caption<'a, 'b, A: Allocator, B: Allocator>(
     alloc: &'a A,
@@ -142,7 +142,7 @@ fn put_caption<'a, 'b, A: Allocator, B: Allocator>(
     html.put(Element::Caption, &within)
 }
 
-/// The diagram with what stands below it.
+/// The diagram with what is below it.
 #[tactic(auto, unfolding(crate::specs::Head::figure))]
 pub fn put_figure<'a, 'b, A: Allocator, B: Allocator>(
     alloc: &'a A,

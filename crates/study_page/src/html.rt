@@ -12,8 +12,8 @@ use std::alloc::{AllocError, Allocator};
 use std::marker::Model;
 use study_pgn::Text;
 
-/// Markup in memory, to which more is added at the end: words, whole elements and drawings, and nothing else. Where memory
-/// is wanting, nothing is left of it.
+/// Markup in memory, to which more is added at the end: words, whole elements and drawings, and nothing else. Where there is no
+/// memory for more, nothing is left of it.
 #[derive(Drop)]
 pub struct Html<'a, A: Allocator> {
     alloc: &'a A,
@@ -57,7 +57,7 @@ impl<'a, A: Allocator> Html<'a, A> {
         self.text.as_slice().is_empty()
     }
 
-    /// Adds words: what they are is told, and never read as markup.
+    /// Adds words, which are never read as markup.
     #[tactic(auto, using(crate::proofs::MarkupGrows::said_nested, crate::proofs::MarkupGrows::none_nested))]
     pub fn say(&mut self, words: &[u8]) -> Result<(), AllocError>
         ensures { OnOk result (self.new ≡ self.old ++ said words.now) }

@@ -228,7 +228,7 @@ fn put_others<'a, A: Allocator>(
     html.put(Element::Also, &others)
 }
 
-/// What stands on a card beside the diagram.
+/// What is on a card beside the diagram.
 #[tactic(auto, unfolding(crate::specs::Rows::card_words))]
 fn put_card_words<'a, A: Allocator>(
     alloc: &'a A,

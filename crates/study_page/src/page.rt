@@ -324,9 +324,9 @@ fn page_of<'a, 'b, A: Allocator, B: Allocator, V: Values>(
 
 /// Writes the page of a study, the entry of this number.
 ///
-/// The page is made whole first, so want of memory, and a value that is not told, is told before the first byte. A writer
-/// that fails or takes nothing ends the call; it took a front of the page then. What the counts of men and the tree of the
-/// solution say is not told here, but that they are well nested, and that words from outside are escaped.
+/// The page is made whole first, so want of memory, and a value that cannot be read, are reported before the first byte. A writer
+/// that fails or takes nothing ends the call; it has taken a prefix of the page then. The contract leaves open what the counts of men
+/// and the tree of the solution say; it says that they are well nested, and that words from outside are escaped.
 pub fn write_page<'a, 'b, A: Allocator, B: Allocator, V: Values, W: Write>(
     alloc: &'a A,
     bench: &Bench<'b, B>,

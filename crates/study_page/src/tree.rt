@@ -24,7 +24,7 @@ fn move_element(mark: Option<MoveMark>) -> Element {
     }
 }
 
-/// `!` behind an only move, and `?` behind a mistake.
+/// `!` after an only move, and `?` after a mistake.
 fn put_sign<'a, A: Allocator>(
     alloc: &'a A,
     html: &mut Html<'_, A>,

@@ -59,7 +59,7 @@ fn add_minus<A: Allocator>(text: &mut Text<'_, A>, minus: bool) -> Result<(), Al
     Ok(())
 }
 
-/// In how many moves the hero mates, or is mated behind a minus; `=` where it is drawn, and `#` where it is mate. `hero` tells whether
+/// In how many moves the hero mates, or is mated after a minus; `=` where it is drawn, and `#` where it is mate. `hero` tells whether
 /// he is to move.
 pub fn add_short<A: Allocator>(
     text: &mut Text<'_, A>,

@@ -25,7 +25,7 @@ summary_text Nothing rows = []
 summary_text One rows = []
 summary_text Several rows = summary_part rows
 
--- what stands after the last page
+-- what comes after the last page
 abbrev pub end_text : Count → List ℕ → List ℕ
 end_text count rows = summary_text count rows ++ closing
 
@@ -34,7 +34,7 @@ abbrev pub is_broken : Result Summary RunFault → Bool
 is_broken (Err WriteDevice) = true
 is_broken ran = false
 
--- what stands after the last page is written, or the writer fails in it, or there is no memory for it
+-- what comes after the last page is written, or the writer fails in it, or there is no memory for it
 abbrev pub IsClosed : List ℕ → Option (List ℕ) → Option (List ℕ) → Result Summary RunFault → Result Summary RunFault → Type 0
 IsClosed text old new ran answer =
     ((answer ≡ ran) × Appends old new text)
@@ -64,7 +64,7 @@ IsFile first script left old new answer =
     × Outcome IsPageOf refusal_text first script left begun ended ran × AreItsEntries first script begun ended ran count rows
     × IsEnded (end_text count rows) ended new ran answer)
 
--- the answer after a run, where what stands after the last page may fail too
+-- the answer after a run, where what comes after the last page may fail too
 abbrev pub IsAnswerTo : Result Summary RunFault → Result Summary RunFault → Type 0
 IsAnswerTo ran answer = (answer ≡ ran) ⊎ ((answer ≡ Err WriteDevice) ⊎ (answer ≡ Err OutOfMemory))
 

@@ -1,4 +1,4 @@
-//! What stands after the last page.
+//! What comes after the last page.
 ghost use Rattle.std.specs.Prelude.{◌≡◌, Err, OnOk};
 ghost use Rattle.std.specs.Io.KnownBytes.{Appends};
 ghost use Rattle.study_tablefile.specs.Taken.{TakesPrefix};
@@ -27,7 +27,7 @@ fn write_entries<'s, S: Allocator, W: Write>(
     }
 }
 
-/// Writes what stands after the last page.
+/// Writes what comes after the last page.
 fn write_end<'s, S: Allocator, W: Write>(
     alloc: &'s S,
     count: Count,
@@ -55,7 +55,7 @@ fn is_broken(ran: &Result<Summary, RunFault>) -> bool
     }
 }
 
-/// Writes what stands after the last page, unless the writer failed before.
+/// Writes what comes after the last page, unless the writer failed before.
 pub fn write_ending<'s, S: Allocator, W: Write>(
     alloc: &'s S,
     count: Count,

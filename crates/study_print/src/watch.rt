@@ -1,8 +1,8 @@
-//! Who is told how far a report has come.
+//! Reports of how far a report has come.
 
-/// Is told after each study that was printed how many there are.
+/// Learns after each study that was printed how many there are.
 ///
-/// No contract: what it does with the number is nobody's to say.
+/// No contract: it may do anything with the number.
 pub trait Watch: Drop {
     fn told(&mut self, count: u32);
 }

@@ -19,7 +19,7 @@ use Rattle.study_report.specs.Told.{IsUntoldBy}
 use Rattle.study_report.proofs.Reviewed.{reviewed-fails, reviewed-honest, reviewed-tables, reviewed-why}
 
 module _ {P : Type 0} (honest_of : P → Table → ℕ → Type 0) (gives : GivesOf P) where
-  -- why a value was not told, and what stays
+  -- why a value could not be read, and what stays
   pub record TablesReviewed {T A : Type 0} (old : Tables P A) (r : Result T ReviewFault) (new : Tables P A) : Type 0 where
     pub why : (fault : ProbeFault) → tables_honest honest_of old → r ≡ Err (Values fault)
         → IsUntoldBy (tables_held old) (are_paged old) (tables_may_fail gives old) fault

@@ -67,7 +67,7 @@ nothing_added p s = record { text = []; after = record { state = s; lines = suc 
 abbrev pub study_added : Point → State → List ℕ → Added
 study_added p s text = record { text = text; after = record { state = s; lines = suc p.lines; studies = suc p.studies }; told = AStudy }
 
--- Why the value of a position is not told, by which classes are held, whether tables are read by pages, and how tables may fail: there is
+-- Why the value of a position cannot be read, by which classes are held, whether tables are read by pages, and how tables may fail: there is
 -- no table of its class, or that table is not read.
 abbrev pub IsUntoldBy : (Class → Bool) → Bool → (Class → SourceFault → Type 0) → ProbeFault → Type 0
 IsUntoldBy held paged may (NoTable c) = held c ≡ false
@@ -78,7 +78,7 @@ IsUntoldBy held paged may (PageDamaged c n) = ⊥
 abbrev pub IsUntoldIn : State → ProbeFault → Type 0
 IsUntoldIn s fault = IsUntoldBy (is_among s.classes) s.paged (λ c f. s.shelf.faults c f ≡ true) fault
 
--- why a study is left out: for want of memory, or a value is not told
+-- why a study is left out: for want of memory, or a value cannot be read
 abbrev pub IsLeftOut : State → Refusal → Type 0
 IsLeftOut s why = (why ≡ OutOfMemory) ⊎ ((fault : ProbeFault) × IsUntoldIn s fault × (why ≡ of_probe fault))
 

@@ -1,7 +1,7 @@
 //! A report of the studies of a script.
 //!
 //! `follow` goes through a script as studybench does and has each accepted `pgn` line told by a `Report`, and each refused line
-//! where it stands. Lines of tables are passed over: the tables are those that are held before the first line. `Lines` tells facts as
+//! in its place. Lines of tables are skipped: the tables are those that are held before the first line. `Lines` tells facts as
 //! lines of plain text. `follow_script` takes the tables, and needs no files.
 #![tactic(auto)]
 

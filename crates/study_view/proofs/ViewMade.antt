@@ -1,4 +1,4 @@
--- The parts of a view, one behind the other.
+-- The parts of a view, one after the other.
 use Rattle.std.proofs.Common.{◌≡◌, ℕ, ◌++◌, List, [], ◌∷◌, true, length, refl, sym, ap, subst, ◌∙◌, IsTrue}
 use Rattle.std.specs.List.{flat_map}
 use Rattle.study_board.specs.Position.{Position}

@@ -19,7 +19,7 @@ module _ {V : Type 0} (held : V → Class → Bool) (gives : V → Position → 
     pub each : WereTold gives may_fail asked_of old asked new
     pub all : AllTold held gives may_fail asked_of failed_of is_honest old new
 
-  -- these positions were asked in their order, up to the first whose value was not told, for this fault
+  -- these positions were asked in their order, up to the first whose value could not be read, for this fault
   pub record StoppedAt (asked : List Position) (old : V) (f : ProbeFault) (new : V) : Type 0 where
     pub first : IsFirstFault gives may_fail asked_of old asked f new
     pub stopped : Stopped held gives may_fail asked_of failed_of is_honest old f new
@@ -36,7 +36,7 @@ module _ {V : Type 0} (held : V → Class → Bool) (gives : V → Position → 
   HasViewed asked old (Err Device) new = EachTold asked old new
   HasViewed asked old (Err (Values f)) new = StoppedAt asked old f new
 
-  -- some positions were asked, and each value was told, or the first that was not told was not for this fault
+  -- some positions were asked, and each value was told, or the first that could not be read was not for this fault
   abbrev pub HasToldSome : {T : Type 0} → V → Result T ProbeFault → V → Type 0
   HasToldSome old (Ok x) new = AllTold held gives may_fail asked_of failed_of is_honest old new
   HasToldSome old (Err f) new = Stopped held gives may_fail asked_of failed_of is_honest old f new

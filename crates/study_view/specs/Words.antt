@@ -42,7 +42,7 @@ mark_words v mark = value_words v ++ (codes " " ++ on_move_text mark)
 unfoldable pub study_line : Start → List ℕ
 study_line start = codes "study " ++ (fen_text start ++ codes "\n")
 
--- a kind of line and a path, with a space behind each
+-- a kind of line and a path, with a space after each
 unfoldable pub front_words : List ℕ → List ℕ → List ℕ
 front_words kind path = kind ++ (path_text path ++ codes " ")
 

@@ -209,8 +209,8 @@ fn survey_text<'a, A: Allocator, V: Values>(
 
 /// Writes what a stipulation comes to with the man of a square on each other square.
 ///
-/// The values are asked, and then the text is made whole: want of memory, and a value that is not told, is told before the first
-/// byte. A writer that fails or takes nothing ends the call; it took a front of the text then.
+/// The values are asked, and then the text is made whole: want of memory, and a value that cannot be read, are reported before the first
+/// byte. A writer that fails or takes nothing ends the call; it has taken a prefix of the text then.
 pub fn write_survey<'a, A: Allocator, V: Values, W: Write>(
     alloc: &'a A,
     question: &Question<'_>,

@@ -181,8 +181,8 @@ fn view_at<'a, 'b, A: Allocator, B: Allocator, V: Values>(
 
 /// Writes the view of a study at a path.
 ///
-/// The values after all legal moves at the path are asked, and then the text is made whole: want of memory, and a value that is
-/// not told, is told before the first byte. A writer that fails or takes nothing ends the call; it took a front of the text then.
+/// The values after all legal moves at the path are asked, and then the text is made whole: want of memory, and a value that
+/// cannot be read, are reported before the first byte. A writer that fails or takes nothing ends the call; it has taken a prefix of the text then.
 pub fn write_view<'a, 'b, A: Allocator, B: Allocator, V: Values, W: Write>(
     alloc: &'a A,
     bench: &Bench<'b, B>,

@@ -18,7 +18,7 @@ use study_notation::{Start, write_fen, write_san};
 use study_pgn::Text;
 use study_retro::Value;
 
-/// A word, and a number behind it.
+/// A word, and a number after it.
 pub fn add_counted<A: Allocator>(
     text: &mut Text<'_, A>,
     word: &[u8],

@@ -47,7 +47,7 @@ whole_told (Err (no_text.Denied d)) items IsIt May Stops text ended done untold 
     whole_denied IsIt May Stops d text ended untold may stops
 whole_told (Err (no_text.Stopped fault)) items IsIt May Stops text ended done (e, t) is may stops = rw (e, t) (may, refl)
 
--- ---- why the values of an opened store are not told
+-- ---- why the values of an opened store cannot be read
 
 abbrev Known : Type 0
 Known = Class → Option (Result (List ℕ) StoreFault)
@@ -79,7 +79,7 @@ module _ {V : Type 0} (held : V → Class → Bool) (gives : V → Position → 
       let r = fails_at old new is.told.0 f is.told.1 in (r.0, λ c of. fails c f (r.1 c of))
   untold h m Right old new (probe.PageDamaged c n) is known fails right = λ k. is.no_damage (right k)
 
-  -- a survey is refused for the value that is not told
+  -- a survey is refused for the value that cannot be read
   pub survey_denied : (h : Known) (m : Faults) (Right : Type 0) (old new : V) (fault : ProbeFault) (start : Start) (square : ℕ)
       (r : Result (Unit {0}) SurveyFault) → r ≡ Err (survey.Values fault)
       → HasSurveyed held gives may_fail asked_of failed_of is_honest old r new → ((c : Class) → IsHeldAs (h c) (held old c))

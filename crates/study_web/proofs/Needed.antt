@@ -1,4 +1,4 @@
--- Where a table that is needed is not held, a file is lacking.
+-- Where a table that is needed is not held, a file is missing.
 use Rattle.std.proofs.Common.{◌≡◌, ◌⊎◌, ℕ, zero, suc, ◌<◌, ◌≤◌, nat_lt, nat_le, Bool, true, false, cond, List, [], ◌∷◌, length}
 use Rattle.std.proofs.Common.{get_or, set, filter, Option, Some, None, Result, Ok, Err, is_some, refl, sym, ap, subst, ◌∙◌, inl, inr, arith}
 use Rattle.std.specs.Prelude.{IsOk, OnOk, OnErr, MatchOption}
@@ -184,7 +184,7 @@ settled_still : (spans : List Span) (bytes : List ℕ) (c d : Class) (old new : 
     → (is_some (table_of old d) ≡ true → is_some (table_of new d) ≡ true) → IsSettled spans bytes c old d → IsSettled spans bytes c new d
 settled_still spans bytes c d old new keeps is = λ l. elim (is l) [ inl held ↦ inl (keeps held) | inr lacks ↦ inr lacks ]
 
--- of a class that is needed and missing a file is lacking
+-- a class that is needed and not held has no file
 lacking : NeedsComeFirst → (spans : List Span) (bytes : List ℕ) (c d : Class) (held : List (Option Table))
     → ((e : Class) → IsNeeded c e → IsSettled spans bytes c held e) → first_missing held (needs_of c) ≡ Some d
     → Contains (needs_of c) d × LacksFile spans bytes d

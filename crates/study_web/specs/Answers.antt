@@ -88,7 +88,7 @@ IsMadeFile spans bytes c text = HasRightNeeds spans bytes c → IsRightFileOf c 
 abbrev pub IsMade : List Span → List ℕ → Class → List ℕ → Ending → Type 0
 IsMade spans bytes c = IsWhole (IsMadeFile spans bytes c) (IsMakeDenial spans bytes c) IsNoMemory
 
--- a value is not told, no node is at the path, or there is no memory
+-- a value cannot be read, no node is at the path, or there is no memory
 abbrev pub IsOfView : Denial → Type 0
 IsOfView (denial.Refused (NoTable c)) = Unit {0}
 IsOfView (denial.Refused (TableRead fault)) = Unit {0}
@@ -132,7 +132,7 @@ IsPrinted spans bytes script text (Refused d) = IsOfFiles spans bytes d × (text
 IsPrinted spans bytes script text (Ran summary) = IsPrintedTo spans bytes script text (Ok summary)
 IsPrinted spans bytes script text (Stopped fault) = ((fault ≡ run_fault.OutOfMemory) × (text ≡ [])) ⊎ IsPrintedTo spans bytes script text (Err fault)
 
--- there is no survey on a square without a man, or where the tables or their values are not told
+-- there is no survey on a square without a man, or where the tables or their values cannot be read
 abbrev pub IsSurveyDenial : (Denial → Type 0) → Start → ℕ → Denial → Type 0
 IsSurveyDenial May start square denial.NoMan = man_at start.position.men square ≡ None
 IsSurveyDenial May start square d = May d

@@ -59,7 +59,7 @@ abbrev pub is_ascending : List Class → Bool
 is_ascending [] = true
 is_ascending (c ∷ ds) = list_all (λ d. nat_le (size c) (size d)) ds && is_ascending ds
 
--- of a class that is smaller than c a table is held, or a file is lacking
+-- of a class that is smaller than c a table is held, or a file is missing
 abbrev pub IsSettled : List Span → List ℕ → Class → List (Option Table) → Class → Type 0
 IsSettled spans bytes c held d = size d < size c → (is_some (table_of held d) ≡ true) ⊎ LacksFile spans bytes d
 

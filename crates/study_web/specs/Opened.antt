@@ -40,7 +40,7 @@ abbrev pub denial_of : Class → PagedFault → Denial
 denial_of c paged.OutOfMemory = denial.Refused OutOfMemory
 denial_of c fault = denial.OfFile c (of_paged fault)
 
--- Why the file of a class gives no table: it is not opened, or its header is not told, or has a fault, or is that of another class; by what is
+-- Why the file of a class gives no table: it is not opened, or its header cannot be read, or has a fault, or is that of another class; by what is
 -- known of the header that it tells, and of the faults for which it may not be read.
 abbrev pub IsBadFile : Option (Result (List ℕ) StoreFault) → (SourceFault → Bool) → Class → Refusal → Type 0
 IsBadFile known faults c refusal =
@@ -56,14 +56,14 @@ module _ (headers : Class → Option (Result (List ℕ) StoreFault)) (faults : C
   IsOfTables (denial.OfFile c refusal) = IsBadFile (headers c) (faults c) c refusal
   IsOfTables denial.NoMan = ⊥
 
-  -- Why the value of a position is not told: there is no file of its class, or that may not be read, or a page of it is damaged, as none is of
+  -- Why the value of a position cannot be read: there is no file of its class, or that may not be read, or a page of it is damaged, as none is of
   -- right files.
   abbrev pub IsValueUntold : Type 0 → ProbeFault → Type 0
   IsValueUntold Right (probe.NoTable c) = IsHeldAs (headers c) false
   IsValueUntold Right (probe.TableRead f) = (p : Position) × ((c : Class) → IsOf c p → faults c f ≡ true)
   IsValueUntold Right (probe.PageDamaged c n) = Right → ⊥
 
-  -- why what is asked of the tables is not told: they are not opened, or a value is not told
+  -- why the tables give no answer: they are not opened, or a value cannot be read
   abbrev pub IsOfValues : Type 0 → Denial → Type 0
   IsOfValues Right d = IsOfTables d ⊎ ((fault : ProbeFault) × IsValueUntold Right fault × (d ≡ denial.Refused (of_probe fault)))
 

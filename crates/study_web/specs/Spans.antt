@@ -19,7 +19,7 @@ abbrev pub file_in : List Span → List ℕ → Class → Option (List ℕ)
 file_in [] bytes c = None
 file_in (s ∷ more) bytes c = if is_file_of c bytes s then Some (take s.length (drop s.start bytes)) else file_in more bytes c
 
--- what a file gives from front to back, and what it tells as its header
+-- what a file gives from start to end, and what it gives as its header
 abbrev pub bytes_given : Option (List ℕ) → Result (List ℕ) StoreFault
 bytes_given None = Err NoFile
 bytes_given (Some file) = Ok file
@@ -33,7 +33,7 @@ abbrev pub file_faults : Option (List ℕ) → Class → SourceFault → Bool
 file_faults None c f = false
 file_faults (Some file) c f = text_faults false file c f
 
--- by pages it is the text of a right table; from front to back it reads as a right one, if as a table
+-- by pages it is the text of a right table; from start to end it reads as a right one, if as a table
 abbrev pub IsHonestIn : Bool → Option (List ℕ) → Type 0
 IsHonestIn by_pages None = Unit {0}
 IsHonestIn true (Some file) = IsRightText file

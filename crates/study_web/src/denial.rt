@@ -10,6 +10,6 @@ pub enum Denial {
     Refused(Refusal),
     /// The file of the class gives no table: it reads as none, or as that of another class.
     OfFile(Class, Refusal),
-    /// No man stands on the square.
+    /// There is no man on the square.
     NoMan,
 }

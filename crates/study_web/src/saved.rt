@@ -5,7 +5,7 @@ use std::cell::RefCell;
 use std::io;
 use std::io::{ErrorKind, Write};
 
-/// The bytes of a file that a script saves; `None` where it saved none. A file that is saved again begins anew.
+/// The bytes of a file that a script saves; `None` where it saved none. A file that is saved again starts from nothing.
 pub type Saved<'a, A> = RefCell<Option<Vec<u8, &'a A>>>;
 
 /// A cell for each class, in the order of the class list, of which none is saved.
@@ -24,7 +24,7 @@ pub struct SavedFile<'w, 'a, A: Allocator> {
 }
 
 impl<'w, 'a, A: Allocator> SavedFile<'w, 'a, A> {
-    /// Begins the file anew, without a byte.
+    /// Starts the file again, without a byte.
     pub fn new(alloc: &'a A, cell: &'w Saved<'a, A>) -> io::Result<Self> {
         *cell.try_borrow_mut()? = Some(Vec::new(alloc));
         Ok(SavedFile { cell })

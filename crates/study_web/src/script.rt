@@ -152,7 +152,7 @@ fn board_view<'a, A: Allocator, V: Values>(
     }
 }
 
-/// What a script leaves behind: what is on the board, the tables, and its refused lines.
+/// What a script leaves: what is on the board, the tables, and its refused lines.
 #[derive(Drop)]
 struct Left<'a, P: PageSource, A: Allocator> {
     board: Board<'a, A>,

@@ -1,4 +1,4 @@
-//! What a set-up wants to know: the tables that a script's positions need, and passed squares.
+//! What a set-up needs to know: the tables that a script's positions need, and passed squares.
 ghost use Rattle.std.specs.Prelude.{◌≡◌, ◌++◌, List, IfOk, IfErr, OnOk};
 ghost use Rattle.study_material.specs.declared.class.Class.{Class as AClass};
 ghost use Rattle.study_command.specs.Lines.{script_lines};

@@ -1,4 +1,4 @@
-//! The program's command line, its exit status, and what it tells where it stops.
+//! The program's command line, its exit status, and what it writes where it stops.
 
 use linked_list_allocator::LocalHeap;
 use std::alloc::{Allocator, Global};
@@ -74,7 +74,7 @@ fn help_and_version_are_told_and_words_refused(rt: HostRuntime) -> Result<(), Fa
     check_words(&rt, &["--pages"], Err((2, "error: ")))
 }
 
-/// Runs a script over the folder of the test; compares the replies, the exit status and what is told on the other writer.
+/// Runs a script over the folder of the test; compares the replies, the exit status and what is written to the other writer.
 fn check_ends<A: Allocator>(
     rt: &HostRuntime,
     alloc: &A,
@@ -107,7 +107,7 @@ const REFUSED: &[u8] = b"moves root\npgn\nposition k7/8/1K6/8/8/8/8/7R w - - 0 1
 const ERRORS: &[u8] =
     b"error NoPosition\nerror NoStudy\nposition k7/8/1K6/8/8/8/8/7R w - - 0 1\nsolve plies 1\n";
 
-/// 0 where no line is refused, 1 where some line is, and nothing is told; 3 where the writer fails, which is told.
+/// 0 where no line is refused, 1 where some line is, and nothing is reported; 3 where the writer fails, which is reported.
 #[test]
 fn exit_statuses_follow_the_replies(rt: HostRuntime) -> Result<(), Fail> {
     let alloc = rt.alloc();

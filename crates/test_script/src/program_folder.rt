@@ -50,7 +50,7 @@ fn replies_of<'a, S: TableStore, A: Allocator>(
     out.taken
 }
 
-/// The parts, one behind the other.
+/// The parts, one after the other.
 fn joined(alloc: Global, parts: &[&str]) -> Result<String, Fail> {
     let mut text = String::new(alloc);
     for part in parts {
@@ -136,7 +136,7 @@ fn what_one_run_saves_others_load(rt: HostRuntime) -> Result<(), Fail> {
     Ok(fs::remove_dir_all(&rt, "saved")?)
 }
 
-/// What `load` answers over a changed file of KRK, of the whole file and by pages, and what a study is told then.
+/// What `load` answers over a changed file of KRK, whole and by pages, and what a study is answered then.
 fn check_load(rt: &HostRuntime, folder: &str, whole: &str, paged: [&str; 2]) -> Result<(), Fail> {
     check(
         rt,
@@ -217,7 +217,7 @@ fn a_file_of_another_length_is_told(rt: HostRuntime) -> Result<(), Fail> {
     Ok(fs::remove_dir_all(&rt, "cut")?)
 }
 
-/// Another class, a folder, or nothing stands in the file's place.
+/// Another class, a folder, or nothing is in the file's place.
 #[test]
 fn a_file_that_is_not_there_is_told(rt: HostRuntime) -> Result<(), Fail> {
     save(&rt, "none")?;
@@ -280,7 +280,7 @@ impl Seek for InterruptedOnce {
     }
 }
 
-/// Each error of a read ends the question for a page; the next one reads anew.
+/// Each error of a read ends the request for a page; the next request reads again.
 #[test]
 fn an_interrupted_read_is_told_and_made_again(rt: HostRuntime) {
     let mut pages = FilePages {

@@ -69,7 +69,7 @@ fn put_path<A: Allocator>(rt: &impl Abort, text: &mut Vec<u8, &A>, from: &str, d
     }
 }
 
-/// Adds `insert PATH SAN`, or of its reply the front.
+/// Adds `insert PATH SAN`, or the first part of its reply.
 fn put_insert<A: Allocator>(
     rt: &impl Abort,
     text: &mut Vec<u8, &A>,

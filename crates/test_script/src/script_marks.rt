@@ -97,7 +97,7 @@ promote 0 -> error AlreadyFirst
 insert root Kc5 -> error AlreadyThere 0
 delete 0.0 -> error NoSuchNode";
 
-/// A mate beside many wins; a shift, and one that a move does not outlast; edits that are refused.
+/// A mate beside many wins; a shift, and one after which a move is not legal; edits that are refused.
 #[test]
 fn a_mate_beside_many_wins_and_shifts(rt: HostRuntime) {
     check(&rt, &rt.alloc(), ROOK);
@@ -196,7 +196,7 @@ position k7/2P5/1K6/8/8/8/8/8 w - - 0 1 -> position k7/2P5/1K6/8/8/8/8/8 w - - 0
 insert root c8 -> error NoSuchMove
 insert root c8Q -> insert 0 c8=Q#";
 
-/// A pawn, with the tables of all that it leads to, each in its turn; a promotion is told by its piece.
+/// A pawn, with the tables of all that it leads to, each in its turn; a promotion is named by its piece.
 #[test]
 fn a_pawn_needs_the_tables_it_leads_to(rt: HostRuntime) {
     check(&rt, &rt.alloc(), PAWN);

@@ -8,7 +8,7 @@ use std::test::Fail;
 use study_script::run::{RunFault, Settings, Summary, run};
 use study_tablefile::memory::{MemoryReader, MemoryWriter};
 
-/// Neither table finds room. A room is asked for before the tables that are needed.
+/// There is no room for either table. A room is asked for before the tables that are needed.
 const NO_ROOM: Rows<'static> = "build KK -> error OutOfMemory
 build KQK -> error OutOfMemory
 position k7/8/1K6/8/8/8/8/6Q1 w - - 0 1 -> position k7/8/1K6/8/8/8/8/6Q1 w - - 0 1
@@ -20,7 +20,7 @@ mark 0 -> error NoStudy
 mark 1 -> error NoStudy
 pgn -> error NoStudy";
 
-/// The larger table finds no room.
+/// There is no room for the larger table.
 const NO_QUEEN: Rows<'static> = "build KK -> built KK cells 1280 win -
 build KQK -> error OutOfMemory
 position k7/8/1K6/8/8/8/8/6Q1 w - - 0 1 -> position k7/8/1K6/8/8/8/8/6Q1 w - - 0 1
@@ -138,7 +138,7 @@ fn is_broken_off(text: &str, replies: &[u8]) -> bool {
     holds
 }
 
-/// A heap that grows until a line of 256 moves is whole: before that, one of its moves finds no room.
+/// A heap that grows until a line of 256 moves is whole: before that, there is no room for one of its moves.
 #[test]
 fn a_move_of_a_long_line_finds_no_memory(rt: HostRuntime) -> Result<(), Fail> {
     let alloc = rt.alloc();

@@ -48,7 +48,7 @@ position k7/K7/8/8/8/8/8/8 w - - 0 1 -> error OpponentInCheck
 position k7/8/8/8/8/8/8/8 x K - 0 1 -> error KingCount
 fen root -> fen k7/8/1K6/8/8/8/8/7R w - - 3 1";
 
-/// The first fault of a position's text is told, and the position stays.
+/// The reply names the first fault of a position's text, and the position stays.
 #[test]
 fn the_first_fault_of_a_fen_is_told(rt: HostRuntime) {
     check(&rt, &rt.alloc(), TEXTS);
