@@ -1,5 +1,5 @@
-# Cases of the program, for the scripts of this folder: `run` runs it, `expect` compares. Wants $top and a folder $work of its own;
-# sets $program, and counts in $cases and $wrong. Words in $as stand before the program, as of a command that makes it another user.
+# Cases of the program, for the scripts of this folder: `run` runs it, `expect` compares. Needs $top and a folder $work of its own;
+# sets $program, and counts in $cases and $wrong. The words in $as come before the program, for instance a command that runs it as another user.
 crate="$top/crates/studybench"; program=${STUDYBENCH:-$crate/out/studybench}
 [ -x "$program" ] || (cd "$crate" && rt run < /dev/null) > /dev/null 2>&1 || { echo "studybench is not built: cd crates/studybench && rt check"; exit 2; }
 cases=0; wrong=0; as=

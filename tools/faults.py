@@ -1,10 +1,10 @@
 #!/usr/bin/env python3
 """The runs of faults.sh: one fault a run, and the replies compared with those of the undisturbed program.
 
-A refused line changes nothing. So where the fault is told as a reply, the other replies have to be those of the undisturbed
+A refused line changes nothing. So where the fault is reported in a reply, the other replies have to be those of the undisturbed
 program over the script without that line, byte for byte. Where the run stops with status 3, the fault is named on standard
-error and the replies before it are a front of the undisturbed ones. A read or write that does less than it was asked changes
-nothing; one that is interrupted is made again, or is a fault of the device."""
+error and the replies before it are a prefix of the undisturbed ones. A read or write that does less than it was asked to changes
+nothing; one that is interrupted is repeated, or is a fault of the device."""
 import os
 import re
 import resource
@@ -51,7 +51,7 @@ def commands(script):
 
 
 def replies(text):
-    """The replies, one a command: a game goes up to the second empty line."""
+    """The replies, one a command: a game ends at the second empty line."""
     out, lines = [], text.split(b"\n")[:-1]
     while lines:
         count = 1
@@ -79,9 +79,9 @@ def told_right(script, words, text, kind):
 
 
 def may_show_nowhere(words, kind, at, once):
-    """Whether want of memory need not be told. A page that finds no room is used and forgotten. And std's `collect`, which
-    takes over the words of the command line, asks again for less where its first question is refused: it comes behind one
-    question for each word, the program's name among them, one for the word that is not there, and one for their list."""
+    """Whether want of memory need not be reported. A page that does not fit is used once and not kept. And std's `collect`, which
+    takes over the words of the command line, asks again for less where its first request is refused: it comes after one
+    request for each word, the program's name among them, one for the word that is not there, and one for their list."""
     return kind == "alloc" and ("--pages" in words or (once and at == len(words) + 4))
 
 
@@ -117,7 +117,7 @@ def loads(script):
 
 
 def scripts():
-    """The scripts with tables of up to three men: each as it stands, over saved tables, and by one page."""
+    """The scripts with tables of up to three men: each as it is, over saved tables, and by one page."""
     names = sorted(name for name in os.listdir(f"{TOP}/examples") if name.endswith(".script"))
     texts = [("row of the program's test", open(f"{TOP}/crates/studybench/stdin", "rb").read())]
     for name in names:

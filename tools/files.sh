@@ -1,6 +1,6 @@
 #!/bin/bash
 # Runs of the program over real files: tables that are built, saved, loaded by another run, read by one page and verified; files
-# that are damaged, cut, longer, of another class, not to be opened, folders, or not there. Each run goes on behind a refusal.
+# that are damaged, cut, too long, of another class, unreadable, folders, or not there. Each run goes on after a refusal.
 #
 #   tools/files.sh
 #
@@ -25,7 +25,7 @@ run "read by one page" 1 "" "error PagedMode\n${loaded}error PagedMode\nerror Pa
 run "saved again" 0 "" "loaded KK cells 1280\n${loaded}saved KRK bytes 82624\n" "load KK\nload KRK\nsave KRK\n" --tables "$tables"
 run "loaded again" 0 "" "$kk${loaded}verified KRK yes\n" "build KK\nload KRK\nverify KRK\n" --tables "$tables"
 
-# A file of KRK that is not the table's: what is done to it, the reply to `load`, and where it is not told, the fault by pages.
+# A file of KRK that is not the table's: what is done to it, the reply to `load`, and where that tells no fault, the fault by pages.
 damaged() { # name, command over $file, reply to load, reply to load by pages, and then fault of the page
     local file="$work/odd/KRK.dtm" replies
     rm -rf "$work/odd"; mkdir "$work/odd"; cp "$tables/KRK.dtm" "$file"

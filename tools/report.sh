@@ -3,7 +3,7 @@
 #
 #   tools/report.sh TABLES [FOLDER]     the pages of examples/*.script by the tables of a folder, into FOLDER (else /tmp/report)
 #
-# Each script has a file, all.html has all of them with the list at the end, and index.html names them. `tidy` must find nothing to say,
+# Each script has a file, all.html has all of them with the list at the end, and index.html names them. `tidy` must report nothing,
 # and lines and pages must have the same facts (report_facts.py, where studybench is built too). With chromium there is a picture of each
 # page, all.pdf as it is printed, and with pdftoppm its first sides in grey.
 top=$(cd "$(dirname "$0")/.." && pwd); examples="$top/examples"

@@ -379,7 +379,7 @@ def following(study, path, numbered):
 
 
 def told_of(study, kind):
-    """The nodes of which there are facts of a kind, in written order, and these."""
+    """The nodes that have facts of a kind, in written order, with those facts."""
     for path in study.order:
         facts = study.of(kind, path)
         if facts:

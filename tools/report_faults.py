@@ -132,7 +132,7 @@ def main():
         globals()["wrong"] += 1
     is_whole("a table whose pages are not what they were", text)
 
-    # a study that is left out between two that are told
+    # a study that is left out between two that are printed
     one = b"pgn\n"
     lost = b"position 8/8/8/4k3/8/2R5/1R6/K7 w - - 0 1\n"
     status, error, text = run(SCRIPT + lost + one, "--tables", tables if not os.path.exists(os.path.join(tables, "KRRK.dtm")) else

@@ -7,7 +7,7 @@
 DIR has the files of the tables, as tools/all_tables.sh makes them; tools/speed/build.sh builds our program. Both programs hold the tables
 whole, follow the same scripts, and write each text some 200 times: the review of each study, or its views along the main line and the
 surveys of its men. For each script and kind of text this prints milliseconds of the fastest times, added up, in ours and in plain Rust,
-their ratio, and the slowest text of ours. Studies whose tables are not in DIR are passed over."""
+their ratio, and the slowest text of ours. Studies whose tables are not in DIR are skipped."""
 import os
 import subprocess
 import sys

@@ -1,7 +1,7 @@
 #!/usr/bin/env python3
 """Compares docs/SCRIPT.md with the tests of the gate: the lines of its section 'Each refusal once' have to be those of
 crates/test_script/src/script_reference.rt, and each name in its table of refusals has to be the reply of some row of those tests.
-With --write the rows of the test are written anew from the page."""
+With --write the rows of the test are replaced by those of the page."""
 import re
 import sys
 from pathlib import Path

@@ -7,7 +7,7 @@
 #   tools/speed.sh instructions    the tables up to KPK in instructions, counted by valgrind, which other work cannot disturb
 #   tools/speed.sh reviews DIR     the reviews of the gallery's studies over the tables of a folder, by tools/review_speed.py
 #   tools/speed.sh views DIR       what a board shows of them, views and surveys, likewise
-#   tools/speed.sh all [CLASS]     builds all 36 tables (or one, and what it needs) and tells of each: seconds, numbers
+#   tools/speed.sh all [CLASS]     builds all 36 tables (or one, and what it needs) and prints for each: seconds, numbers
 #                                  examined, deepest win and loss in plies, SHA-256 of the cells; then the sum of seconds
 #
 # Both programs print 'NAME LABEL PICOSECONDS SUM' for the same positions and numbers; a line is marked where the sums

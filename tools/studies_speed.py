@@ -4,7 +4,7 @@
     tools/studies_speed.py [PROGRAM]
 
 Two trees of kings alone: a wide one, filled from the root level by level, and a deep one, a line of 256 plies with side lines.
-Each command is run so many times behind the insertions that make the tree; the time without it is taken off. Best of five."""
+Each command is run many times after the insertions that make the tree; the time without it is subtracted. Best of five."""
 import os
 import subprocess
 import sys

@@ -98,7 +98,7 @@ class Definitions:
 
 
 def seen_lines(lines):
-    """Of what a type tells of itself, the lines that contracts see: not its invariant and its code, which proofs use."""
+    """The lines of a type that contracts see: not its invariant and its code, which proofs use."""
     out, taken = [], True
     for line in lines:
         if found := re.match(r"\s*ghost (\w+) =", line):

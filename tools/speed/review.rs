@@ -118,7 +118,7 @@ impl Review<'_, '_> {
         (0..steps.len()).all(|d| !self.aim.hero_moves(d) || steps[d] == 0)
     }
 
-    /// Whether a move of the hero is idle, behind solution steps alone of which none is idle.
+    /// Whether a move of the hero is idle and only solution steps lead to it, none of them idle.
     fn is_first_idle(&self, steps: &[u16]) -> bool {
         let (_, before) = steps.split_last().expect("a move");
         let idle = |steps: &[u16]| {

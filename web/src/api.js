@@ -21,7 +21,7 @@ async function answer(request, script, core = parts.core, pages = PAGES) {
   return told.text;
 }
 /**
- * What is told of a script's studies, by the worker of facts.
+ * The facts of a script's studies, from the worker of facts.
  * @param {string} request
  * @param {string} script
  */

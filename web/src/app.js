@@ -1,5 +1,5 @@
 // @ts-check
-// The document, its past, what is looked at, and what the program told of it. Views read this; actions change it.
+// The document, its past, what is shown, and what the program answered about it. Views read this; actions change it.
 import { advance, begin, redo as redone, replace, undo as undone } from './past.js';
 import { editsTo, fensOf, joined, readScript, repliesOf, toRun, wordsOf } from './script.js';
 import { readReview, readView, nodeAt, refusalIn } from './replies.js';
@@ -49,7 +49,7 @@ export const silent = () => { app.say = null; };
 
 let queue = Promise.resolve();
 /**
- * One thing after the other; a fault is told and changes nothing.
+ * One action after the other; a fault is shown and changes nothing.
  * @param {() => Promise<any>} job
  * @param {string} where
  * @returns {Promise<void>}
@@ -89,7 +89,7 @@ export async function idle() {
   await work(async () => {});
 }
 /**
- * What is done to the document: lines are run; where one is newly refused nothing changes, and the reason stands where the user acted.
+ * What is done to the document: lines are run; where one is newly refused nothing changes, and the reason is shown where the user acted.
  * @param {(doc: Doc) => Change | null} make
  * @param {string} where
  * @returns {Promise<boolean>} whether it was done
@@ -186,7 +186,7 @@ function remember(map, key, value) {
 export async function viewOf(text, path) {
   const key = `${path}\n${text}`, old = views.get(key);
   if (old) return old;
-  await parts.shelf.lay(await parts.shelf.classesOf(fensOf(text.split('\n'))));      // a core that was begun anew has none
+  await parts.shelf.lay(await parts.shelf.classesOf(fensOf(text.split('\n'))));      // a core that was started again has none
   const answer = await parts.core.answer('view ' + path, text, PAGES), view = readView(answer.text);
   if (!view) return reason(refusalIn(answer));
   remember(views, key, view);

@@ -1,7 +1,7 @@
 // @ts-check
 // The page's side of the proved core: one instance, its memory, the tables in it, and calls over them.
 //
-// Memory, from below: the core's own (up to __heap_base) | the files of tables, one behind another | what a call needs: request, script,
+// Memory, from below: the core's own (up to __heap_base) | the files of tables, one after another | what a call needs: request, script,
 // directory, room for the text, and the blocks that the core asks for while it runs. Nothing of the core outlives a call, so each call
 // begins again at the end of the tables. What the page owes: each block new within its call, aligned, inside of the memory, never null;
 // no export is called during a call; after a trap a new instance.
@@ -91,7 +91,7 @@ export function makeCore(module, most = 2 ** 32 - PAGE) {
     return at;
   }
   /**
-   * Lays the file of a class behind the others. It is the one time that a table is copied.
+   * Puts the file of a class after the others. It is the only time that a table is copied.
    * @param {string} name
    * @param {Uint8Array} bytes
    */
@@ -104,7 +104,7 @@ export function makeCore(module, most = 2 ** 32 - PAGE) {
     filled = even(top);
   }
   /**
-   * The file is not told of any more.
+   * The file is no longer listed.
    * @param {string} name
    */
   function drop(name) {

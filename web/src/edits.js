@@ -42,7 +42,7 @@ export function insertMoves(lines, study, root, path, sans) {
   return { lines: more.length ? appended(lines, study, ...more) : lines, path: at };
 }
 /**
- * A node goes, with all below it; where it is the newest line, that line goes.
+ * Removes a node with all below it; where it is the newest line, that line is removed.
  * @param {string[]} lines
  * @param {Study} study
  * @param {TreeNode} node
@@ -149,7 +149,7 @@ export function addStudy(lines, fen, aim, before) {
   return [...lines, ...(lines.length && lines[lines.length - 1].trim() ? [''] : []), 'position ' + fen, 'stipulate ' + aim, ...anew];
 }
 /**
- * A study goes from the script.
+ * Removes a study from the script.
  * @param {string[]} lines
  * @param {Study} study
  * @param {number} at
@@ -158,7 +158,7 @@ export function addStudy(lines, fen, aim, before) {
 export const dropStudy = (lines, study, at) => ({ lines: spliced(lines, study.from, study.end - study.from), at: Math.max(at - 1, 0), path: 'root' });
 
 /**
- * A study written anew in its shortest form, in written order.
+ * A study written again in its shortest form, in written order.
  * @param {string[]} lines
  * @param {Study} study
  * @param {TreeNode} root

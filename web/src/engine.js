@@ -7,7 +7,7 @@ export class Stopped extends Error {}
 /** @typedef {object} Core
  * @property {(request: string, script: string, pages: number) => Promise<{text: string, ended: string}>} answer
  * @property {(request: string, script: string, pages: number) => Promise<Told>} ask
- * @property {(name: string, bytes: Uint8Array) => Promise<any>} lay      the bytes are handed over
+ * @property {(name: string, bytes: Uint8Array) => Promise<any>} lay      the bytes are transferred
  * @property {(name: string) => boolean} holds
  * @property {(name: string) => void} drop
  * @property {(why?: Error) => void} end
@@ -50,7 +50,7 @@ export function makeCore(spawn, compiled) {
   }
   let started = /** @type {Promise<any>} */ (Promise.resolve());
   /**
-   * The worker goes, with all that is in its memory.
+   * Ends the worker, with all that is in its memory.
    * @param {Error} why
    */
   function end(why = new Stopped('stopped')) {

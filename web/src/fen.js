@@ -1,5 +1,5 @@
 // @ts-check
-// A FEN as a drawing: who stands where. No rule of chess stands here.
+// A FEN as a drawing: which man is where. There is no rule of chess here.
 
 /** @typedef {Record<number, string>} Men      square -> letter, capitals are White */
 

@@ -55,7 +55,7 @@ const tagView = (name, text) => [h('label', { for: 'tag' + name
                                    onchange: (/** @type {any} */ e) => tagged(name, e.target.value.trim())
                                  })];
 /**
- * Accents are left out, and that is told; other letters are the program's to refuse.
+ * Accents are removed, and a note says so; other letters are for the program to refuse.
  * @param {string} name
  * @param {string} typed
  */

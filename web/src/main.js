@@ -181,7 +181,7 @@ async function start() {
     showBoard();
     put('head', h('p', { class: 'note', role: 'status' }, 'Opening your study …'));
     await change(() => ({ lines, at: kept.at, path: kept.path, lenient: true }), 'board');
-    // Where the program did not run at all the script is shown as it stands, and can be saved.
+    // Where the program did not run at all the script is shown as it is, and can be saved.
     app.history = { ...app.history, past: [], now: doc().lines.length ? doc() : { ...doc(), lines } };
   }
   show();

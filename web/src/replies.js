@@ -5,7 +5,7 @@ import { squareAt } from './fen.js';
 /** @typedef {import('./types.js').Move} Move @typedef {import('./types.js').Review} Review @typedef {import('./types.js').Stand} Stand */
 
 /**
- * A value at word `at`, and the place of the word behind it.
+ * A value at word `at`, and the place of the word after it.
  * @param {string[]} words
  * @param {number} at
  * @returns {[Value, number]}
@@ -40,7 +40,7 @@ export function readStipulation(text) {
  */
 const rowsOf = text => text.split('\n').filter(Boolean).map(line => line.split(' '));
 /**
- * Why an answer tells nothing, as `error NAME`: its own refusal, or that of a line of the script.
+ * Why an answer has no text, as `error NAME`: its own refusal, or that of a line of the script.
  * @param {{text: string, ended: string}} answer
  */
 export function refusalIn({ text, ended }) {
@@ -113,7 +113,7 @@ export const written = node => [node, ...node.children.flatMap(written)];
 export const depth = node => (node.path === 'root' ? 0 : node.path.split('.').length);
 
 /**
- * The facts of one study; null where none are told.
+ * The facts of one study; null where there are none.
  * @param {string} text
  * @returns {Review | null}
  */

@@ -1,5 +1,5 @@
 // @ts-check
-// Which table is built next: some at a time, in their order. A table that wants another first tells so, and waits until one more is made.
+// Which table is built next: several at a time, in order. A table that needs another first says so, and waits until one more is made.
 
 /**
  * @param {string[]} names      in the order in which they can be built one after the other

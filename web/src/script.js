@@ -144,7 +144,7 @@ function verdictIn(pgn) {
 }
 
 /**
- * The lines that make one study alone: its own, with what it takes over from earlier ones behind its position.
+ * The lines that make one study alone: its own, with what it takes over from earlier ones after its position.
  * @param {string[]} lines
  * @param {Study} study
  */
@@ -159,7 +159,7 @@ export function editsTo(lines, study) {
 export const joined = lines => lines.map(line => line + '\n').join('');
 
 /**
- * The script as a file that studybench runs as it is: its tables in front, `pgn` behind each study.
+ * The script as a file that studybench runs as it is: its tables first, `pgn` after each study.
  * @param {Script} script
  * @param {string[]} classes
  */

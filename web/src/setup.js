@@ -12,10 +12,10 @@ import { joined } from './script.js';
  * @typedef {object} Draft
  * @property {Men} men
  * @property {string} mover      `w` or `b`
- * @property {string} tail       the fields of a FEN behind it
+ * @property {string} tail       the fields of a FEN after it
  * @property {string} aim        words of a stipulation
  * @property {string} tool       the man that a press puts down; `x` takes away
- * @property {number | null} man      where the man stands that was put down last
+ * @property {number | null} man      where the man is that was put down last
  * @property {number | null} cursor      of the keys
  * @property {boolean} anew      a new study
  * @property {boolean} more      one more in this script
@@ -66,7 +66,7 @@ export function drafted(changes) {
   judge();
 }
 /**
- * One king a side: the old one goes.
+ * One king a side: the old one is removed.
  * @param {Men} men
  * @param {number} s
  * @param {string} letter
@@ -125,7 +125,7 @@ export function typed(text) {
 }
 
 let judging = 0;
-/** What the program says of the draft. Tables of two and three men are built for it; larger ones where the user wants it. */
+/** What the program says of the draft. Tables of two and three men are built for it; larger ones when the user asks for them. */
 export async function judge(build = false) {
   const mine = ++judging, d = app.setup;
   if (!d) return;

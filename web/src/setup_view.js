@@ -56,7 +56,7 @@ function fromNode(d) {
  * @param {Draft} d
  */
 const judgedBox = d => [told('fen'), judgedView(d), h('div', { class: 'row' }, startView(d, Boolean(study()))), surveyView(d)];
-/** Only these parts are written anew, so that nothing moves under a finger that is on the palette. */
+/** Only these parts are drawn again, so that nothing moves under a finger that is on the palette. */
 export function redrawJudged() {
   if (!app.setup || !$('judgedBox')) return;
   put('judgedBox', judgedBox(app.setup));

@@ -22,7 +22,7 @@ const STOPPED = 'Stopped. The tables that were built are kept';
 const sizeOf = name => (DIGESTS[name] ? DIGESTS[name][0] : 5000000);
 
 /**
- * The words of a build that goes on.
+ * The words for a build that is under way.
  * @param {string[]} running
  * @param {number} made
  * @param {number} all
@@ -68,7 +68,7 @@ export function makeShelf({ core, spawn, store, tell }) {
     return null;
   }
   /**
-   * Lays into a core what is kept; tells what lacks.
+   * Puts into a core the tables that are kept, and returns those that are missing.
    * @param {string[]} names
    * @param {Core} into
    */
@@ -83,7 +83,7 @@ export function makeShelf({ core, spawn, store, tell }) {
   }
   let turn = /** @type {Promise<void>} */ (Promise.resolve()), stops = 0;
   /**
-   * All tables of these positions stand in the core afterwards, one wish after the other. A stop ends the builders, and the wishes that wait.
+   * Afterwards all tables of these positions are in the core; one request after the other. A stop ends the builders and the requests that wait.
    * @param {string[]} fens
    * @returns {Promise<void>}
    */

@@ -64,7 +64,7 @@ export function show() {
   document.title = s ? `${isKnown(s.tags.Event) ? s.tags.Event : 'Untitled'} · Study board` : 'Study board';
 }
 /**
- * Focus stays where it was, though all is drawn anew.
+ * Focus stays where it was, though everything is drawn again.
  * @param {(string | null)[]} kept
  */
 function refocus([id, path, san]) {
@@ -72,7 +72,7 @@ function refocus([id, path, san]) {
   const again = id ? $(id) : path ? document.querySelector(`[data-path="${path}"]`) : san ? document.querySelector(`[data-san="${san}"]`) : null;
   if (again) again.focus({ preventScroll: true });
 }
-/** A refusal that stands off the screen is told at its foot too. */
+/** A refusal that is off the screen is shown at its foot too. */
 function hint() {
   const alert = [...document.querySelectorAll('[role=alert]')].find(e => !(/** @type {HTMLElement} */ (e).hidden)),
         at = alert ? alert.getBoundingClientRect() : null;
@@ -91,7 +91,7 @@ function drawJudged() {
 }
 export const showJudged = () => lately(drawJudged);
 let spoken = '';
-/** The move that was gone to is heard. */
+/** A screen reader announces the move that was gone to. */
 function speak() {
   const n = node(), key = n && !app.setup ? n.path + n.fen : '';
   if (n && n.parent && key !== spoken) tell(spokenMove(n.parent.fen, n));

@@ -43,7 +43,7 @@
  *
  * @typedef {object} Study         a study as the lines of the script make it
  * @property {number} from         its `position` line
- * @property {number} end          the line behind its last
+ * @property {number} end          the line after its last
  * @property {number} last         its last edit
  * @property {string} fen          the start that the program read
  * @property {Aim | null} aim

@@ -24,7 +24,7 @@ export function valueText(mover, value) {
   return isMate(value) ? 'mate' : `${winner(mover, value)} mates in ${movesTo(value)}`;
 }
 /**
- * The small number behind a move.
+ * The small number after a move.
  * @param {Side} hero
  * @param {Side} mover
  * @param {Value} value

@@ -1,7 +1,7 @@
 // @ts-check
 // The worker around one core: messages in, one answer each, in their order.
 //   {id, kind: 'start', module}                      a compiled module
-//   {id, kind: 'lay', name, bytes}                   a table's file (an ArrayBuffer, handed over)
+//   {id, kind: 'lay', name, bytes}                   a table's file (an ArrayBuffer, transferred)
 //   {id, kind: 'drop', name}
 //   {id, kind: 'answer', request, script, pages}     -> {bytes, ended, saved: [[name, bytes] ..]}
 // Each answer has {id, ms, memory}, or {id, failed} after a trap: then the page ends this worker.

@@ -1,4 +1,4 @@
-//! Reports of how far a report has come.
+//! Watching how far a report has come.
 
 /// Learns after each study that was printed how many there are.
 ///

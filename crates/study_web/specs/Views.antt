@@ -13,7 +13,7 @@ use Rattle.study_view.specs.Words.{study_line}
 use Rattle.study_web.specs.declared.spans.Span.{Span}
 use Rattle.study_web.specs.Opened.{AreHandedIn}
 
--- a refused line, whose bytes are left open
+-- a refused line, without its bytes
 abbrev pub refused_line : ℕ → List ℕ → List ℕ → List ℕ
 refused_line number line reply = refusal_line number reply
 
