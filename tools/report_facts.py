@@ -2,12 +2,12 @@
 """Lays out the pages of studies from facts of an independent program, and compares the pages of studyreport with them.
 
     tools/report_facts.py check TABLES [NAME ..]    lines and pages of gallery scripts, each alone and all in one run, byte by byte
-    tools/report_facts.py agree TABLES [SCRIPT ..]  the lines and the page of any script by one program: each fact of the lines has to stand
+    tools/report_facts.py agree TABLES [SCRIPT ..]  the lines and the page of any script by one program: each fact of the lines has to be
                                                     in the page, and no other (without scripts, those of the gallery)
     tools/report_facts.py print NAME ..             what is expected of the scripts in one run: the whole file of pages
     tools/report_facts.py gate                      writes what the gate expects of study_pages and studyreport_pages
 
-The facts are those of examples/NAME.lines and the games of PGN in examples/NAME.expected; both stem from a program that shares
+The facts are those of examples/NAME.lines and the games of PGN in examples/NAME.expected; both come from a program that shares
 nothing with this repository. `agree` takes the lines of studyreport itself, and the games of studybench. The layout is that of
 docs/REPORT.md, written here once more.
 """

@@ -1,9 +1,9 @@
 #!/usr/bin/env python3
-"""Puts faults of the outside into runs of studyreport, and names each answer that is not the right one.
+"""Runs studyreport with faults from outside, and names each wrong answer.
 
     tools/report_faults.py TABLES      TABLES is a folder with KK.dtm, KQK.dtm and KRK.dtm at least
 
-Each case says which status, which standard error and which file of pages are wanted. Where a fault takes a study or a line away, the rest of
+Each case says which status, which standard error and which file of pages are expected. Where a fault takes a study or a line away, the rest of
 the file has to be whole: it is compared with that of a script without it, or with what tools/report_facts.py lays out.
 """
 import os
