@@ -1,7 +1,7 @@
 //! Words of moves and values, as plain text.
 ghost use Rattle.std.specs.Prelude.{◌≡◌, ◌++◌, ◌<◌, true, OnOk};
 ghost use Rattle.study_moves.specs.Rules.{is_legal};
-ghost use Rattle.study_marks.specs.Kept.{marked};
+ghost use Rattle.study_marks.specs.BenchState.{marked};
 ghost use Rattle.study_pgn.specs.Values.{side_name, mates_text, value_text};
 ghost use Rattle.study_pgn.specs.Moves.{points};
 ghost use Rattle.study_notation.specs.Written.{move_text};

@@ -13,8 +13,8 @@ use Rattle.study_prober.specs.declared.values.ProbeFault.TheVariants as probe
 use Rattle.study_command.specs.declared.command.FormFault.{FormFault}
 use Rattle.study_command.specs.declared.command.FormFault.TheVariants as form
 use Rattle.study_command.specs.Paths.{path_text}
-use Rattle.study_marks.specs.declared.fault.Refusal.{Refusal as EditRefusal}
-use Rattle.study_marks.specs.declared.fault.Refusal.TheVariants as edit
+use Rattle.study_marks.specs.declared.refusal.Refusal.{Refusal as EditRefusal}
+use Rattle.study_marks.specs.declared.refusal.Refusal.TheVariants as edit
 use Rattle.study_reply.specs.declared.refusal.Refusal.{Refusal}
 use Rattle.study_reply.specs.declared.refusal.Refusal.TheVariants.{Form, NoPosition, NoStudy, OutOfMemory}
 use Rattle.study_reply.specs.declared.refusal.Refusal.TheVariants.{PagedMode, NotAClass, NoSuchNode, Fen, San}

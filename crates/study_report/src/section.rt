@@ -6,7 +6,7 @@ ghost use Rattle.study_tablefile.specs.declared.fault.SourceFault.{SourceFault a
 ghost use Rattle.study_tablefile.specs.Taken.{TakesPrefix};
 ghost use Rattle.study_prober.specs.declared.values.ProbeFault.{ProbeFault as AProbeFault};
 ghost use Rattle.study_marks.specs.Edits.{Plainly};
-ghost use Rattle.study_marks.specs.Kept.{marked, IsKeptRight};
+ghost use Rattle.study_marks.specs.BenchState.{marked, IsKeptRight};
 ghost use Rattle.study_marks.specs.Study.{plain_study};
 ghost use Rattle.study_script.specs.State.{State};
 ghost use Rattle.study_script.specs.Held.{Holds, tables_honest, tables_held, tables_may_fail, are_paged};

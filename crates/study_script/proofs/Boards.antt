@@ -9,7 +9,7 @@ use Rattle.study_tablefile.specs.declared.fault.SourceFault.{SourceFault}
 use Rattle.study_retro.specs.Table.{Table}
 use Rattle.study_notation.specs.declared.start.Start.{Start}
 use Rattle.study_marks.specs.Study.{plain_study}
-use Rattle.study_marks.specs.Kept.{Kept, marked, IsKeptRight}
+use Rattle.study_marks.specs.BenchState.{BenchState, marked, IsKeptRight}
 use Rattle.study_marks.specs.Edits.{Plainly}
 use Rattle.study_script.specs.declared.tables.Tables.{Tables}
 use Rattle.study_script.specs.declared.board.Board.{Board as HeldBoard}
@@ -35,7 +35,7 @@ module _ {P A : Type 0} where
       (record { board = refl; marks = tt; values = h.values; classes = h.classes; paged = h.paged; faults = h.faults })
 
   -- a study is held that asked no table
-  pub study_held : (honest : P → Table → ℕ → Type 0) (gives : GivesOf P) (old k : Kept) (t : Tables P A) (s : State) (new : Plainly)
+  pub study_held : (honest : P → Table → ℕ → Type 0) (gives : GivesOf P) (old k : BenchState) (t : Tables P A) (s : State) (new : Plainly)
       → plain_study (marked k) ≡ new → IsKeptRight k → Holds honest gives (held.Study old) t s
       → Holds honest gives (held.Study k) t (holding s new)
   study_held honest gives old k t s new e r h = record {
@@ -50,7 +50,7 @@ module _ {P A : Type 0} where
 
 module _ {P A : Type 0} where
   -- a study is held that was made by asking tables
-  pub study_made : (honest : P → Table → ℕ → Type 0) (gives : GivesOf P) (b : HeldBoard A) (k : Kept) (t u : Tables P A) (s : State)
+  pub study_made : (honest : P → Table → ℕ → Type 0) (gives : GivesOf P) (b : HeldBoard A) (k : BenchState) (t u : Tables P A) (s : State)
       (new : Plainly) → Holds honest gives b t s → plain_study (marked k) ≡ new → IsKeptRight k → tables_honest honest u
       → ((c : Class) → tables_held u c ≡ tables_held t c) → are_paged u ≡ are_paged t
       → ((c : Class) (f : SourceFault) → tables_may_fail gives u c f → tables_may_fail gives t c f) → Holds honest gives (held.Study k) u (holding s new)

@@ -13,9 +13,9 @@ use Rattle.study_notation.specs.declared.fault.SanFault.{SanFault}
 use Rattle.study_notation.specs.Matching.{move_of}
 use Rattle.study_tree.specs.Tree.{has_spot}
 use Rattle.study_marks.specs.declared.stipulation.Stipulation.{Stipulation}
-use Rattle.study_marks.specs.declared.fault.Refusal.{Refusal as EditRefusal}
+use Rattle.study_marks.specs.declared.refusal.Refusal.{Refusal as EditRefusal}
 use Rattle.study_marks.specs.Study.{position_at}
-use Rattle.study_marks.specs.Asked.{positions_asked}
+use Rattle.study_marks.specs.Queries.{positions_asked}
 use Rattle.study_marks.specs.Edits.{Plainly, shifted, shift_refusal, insert_refusal}
 use Rattle.study_notation.specs.FenSpelling.{fen_text}
 use Rattle.study_reply.specs.Words.{reply_line}

@@ -6,8 +6,8 @@ use Rattle.study_moves.specs.Rules.{is_legal, after}
 use Rattle.study_material.specs.declared.class.Class.{Class}
 use Rattle.study_tree.specs.Tree.{has_spot, size_of}
 use Rattle.study_marks.specs.Study.{position_at, place_at}
-use Rattle.study_marks.specs.declared.fault.Refusal.{Refusal as EditRefusal}
-use Rattle.study_marks.specs.Asked.{asked_at, IsOutside}
+use Rattle.study_marks.specs.declared.refusal.Refusal.{Refusal as EditRefusal}
+use Rattle.study_marks.specs.Queries.{asked_at, IsOutside}
 use Rattle.study_marks.specs.Answers.{IsUndamaged}
 use Rattle.study_marks.specs.Edits.{Plainly, inserted, insert_refusal}
 use Rattle.study_reply.specs.Names.{edit_words}

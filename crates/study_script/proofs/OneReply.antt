@@ -27,10 +27,10 @@ use Rattle.study_notation.specs.Matching.{move_of}
 use Rattle.study_tree.specs.Tree.{has_spot, spot_at}
 use Rattle.study_marks.specs.declared.mark.Mark.{Mark}
 use Rattle.study_marks.specs.declared.stipulation.Stipulation.{Stipulation}
-use Rattle.study_marks.specs.declared.fault.Refusal.{Refusal as EditRefusal}
+use Rattle.study_marks.specs.declared.refusal.Refusal.{Refusal as EditRefusal}
 use Rattle.study_marks.specs.Study.{Study, position_at}
 use Rattle.study_marks.specs.Edits.{Plainly, shifted, shift_refusal, insert_refusal}
-use Rattle.study_marks.specs.Asked.{positions_asked, AreTablesHeld, IsFirstMissing}
+use Rattle.study_marks.specs.Queries.{positions_asked, AreTablesHeld, IsFirstMissing}
 use Rattle.study_marks.specs.Laws.{AnnotationsAreUnique}
 use Rattle.study_marks.proofs.OneAnnotation.{one-value}
 use Rattle.study_pgn.specs.Pgn.{pgn_text}

@@ -12,10 +12,10 @@ use Rattle.study_prober.specs.Values.{ProbeAnswer}
 use Rattle.study_prober.specs.Whole.{TablesAreRight, IsCellAnswer}
 use Rattle.study_prober.specs.Sources.{GivesOf}
 use Rattle.study_prober.specs.Paged.{SourcesAreRight, IsPagedAnswer, MayFail, held_of}
-use Rattle.study_marks.specs.declared.fault.Refusal.{Refusal as EditRefusal}
-use Rattle.study_marks.specs.declared.fault.Refusal.TheVariants as edit
+use Rattle.study_marks.specs.declared.refusal.Refusal.{Refusal as EditRefusal}
+use Rattle.study_marks.specs.declared.refusal.Refusal.TheVariants as edit
 use Rattle.study_marks.specs.Study.{plain_study}
-use Rattle.study_marks.specs.Kept.{Kept, marked, IsKeptRight}
+use Rattle.study_marks.specs.BenchState.{BenchState, marked, IsKeptRight}
 use Rattle.study_script.specs.declared.board.Board.{Board as HeldBoard}
 use Rattle.study_script.specs.declared.board.Board.TheVariants as held
 use Rattle.study_script.specs.declared.tables.Tables.{Tables}
@@ -93,11 +93,11 @@ module _ {A : Type 0} where
     pub shelf : s.shelf ≡ old.shelf
 
 -- the study that is held
-pub record HoldsBench (b : Kept) (s : State) : Type 0 where
+pub record HoldsBench (b : BenchState) (s : State) : Type 0 where
   pub board : study (plain_study (marked b)) ≡ s.board
   pub marks : IsKeptRight b
 
-pub record HoldsBenchFrom (old : State) (b : Kept) (s : State) : Type 0 where
+pub record HoldsBenchFrom (old : State) (b : BenchState) (s : State) : Type 0 where
   pub holds : HoldsBench b s
   pub classes : s.classes ≡ old.classes
   pub paged : s.paged ≡ old.paged

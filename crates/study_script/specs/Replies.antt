@@ -32,12 +32,12 @@ use Rattle.study_tree.specs.Tree.{Spot, has_spot, spot_at}
 use Rattle.study_marks.specs.declared.stipulation.Stipulation.{Stipulation}
 use Rattle.study_marks.specs.declared.mark.Mark.{Mark}
 use Rattle.study_marks.specs.declared.tag.TagName.{TagName}
-use Rattle.study_marks.specs.declared.fault.Refusal.{Refusal as EditRefusal}
+use Rattle.study_marks.specs.declared.refusal.Refusal.{Refusal as EditRefusal}
 use Rattle.study_marks.specs.Study.{Study, plain_study, position_at}
 use Rattle.study_marks.specs.Annotated.{IsAnnotated}
 use Rattle.study_marks.specs.Edits.{Plainly, positioned, shifted, stipulated, inserted, deleted, promoted, tagged}
 use Rattle.study_marks.specs.Edits.{insert_refusal, delete_refusal, promote_refusal, shift_refusal, tag_refusal}
-use Rattle.study_marks.specs.Asked.{asked_at, positions_asked, IsFirstMissing, IsFirstUnread, AllHeld}
+use Rattle.study_marks.specs.Queries.{asked_at, positions_asked, IsFirstMissing, IsFirstUnread, AllHeld}
 use Rattle.study_marks.specs.Bench.{start_at}
 use Rattle.study_pgn.specs.Pgn.{pgn_text}
 use Rattle.study_command.specs.declared.command.FenWord.{FenWord}

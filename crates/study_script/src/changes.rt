@@ -4,7 +4,7 @@ ghost use Rattle.study_moves.specs.Rules.{is_legal};
 ghost use Rattle.study_notation.specs.Matching.{move_of};
 ghost use Rattle.study_tree.specs.Tree.{has_spot};
 ghost use Rattle.study_marks.specs.Study.{plain_study, position_at};
-ghost use Rattle.study_marks.specs.Kept.{marked};
+ghost use Rattle.study_marks.specs.BenchState.{marked};
 ghost use Rattle.study_command.specs.Paths.{steps_of, is_path_word};
 ghost use Rattle.study_script.specs.State.{State, study};
 ghost use Rattle.study_script.specs.Replies.{IsInsertReply, IsMoveReply, IsMoveReplyAt, IsStudyReply, IsStudyReplyAt, tag_reply};

@@ -3,12 +3,12 @@ ghost use Rattle.std.specs.Prelude.{◌≡◌, Err, None, true, MatchOption, IfE
 ghost use Rattle.study_material.specs.declared.class.Class.{Class as AClass};
 ghost use Rattle.study_tablefile.specs.declared.fault.SourceFault.{SourceFault as ASourceFault};
 ghost use Rattle.study_marks.specs.Study.{plain_study};
-ghost use Rattle.study_marks.specs.Kept.{marked, IsKeptRight};
+ghost use Rattle.study_marks.specs.BenchState.{marked, IsKeptRight};
 ghost use Rattle.study_moves.specs.Rules.{after};
 ghost use Rattle.study_tree.specs.Edits.{children_at};
 ghost use Rattle.study_marks.specs.Study.{position_at};
-ghost use Rattle.study_marks.specs.Asked.{asked_at, positions_asked, is_of_tables, AllHeld, IsOutside};
-ghost use Rattle.study_marks.specs.Stop.{IsShiftRefusal};
+ghost use Rattle.study_marks.specs.Queries.{asked_at, positions_asked, is_of_tables, AllHeld, IsOutside};
+ghost use Rattle.study_marks.specs.EditLists.{IsShiftRefusal};
 ghost use Rattle.study_marks.specs.Answers.{IsUndamaged, TellsFirstFault};
 ghost use Rattle.study_marks.specs.Edits.{broken_from, positioned, shifted, inserted, shift_refusal, insert_refusal};
 ghost use Rattle.study_script.specs.Replies.{new_study};

@@ -1,7 +1,7 @@
 //! What is told of a node or of the study, which stays as it is: `moves`, `fen`, `solve`, `mark` and `pgn`.
 ghost use Rattle.std.specs.Prelude.{◌≡◌, true};
 ghost use Rattle.study_marks.specs.Study.{plain_study};
-ghost use Rattle.study_marks.specs.Kept.{marked};
+ghost use Rattle.study_marks.specs.BenchState.{marked};
 ghost use Rattle.study_command.specs.Paths.{steps_of, is_path_word};
 ghost use Rattle.study_script.specs.State.{State, Outside, study, start as begun};
 ghost use Rattle.study_script.specs.Replies.{IsNodeReply, IsSolveReply, IsPgnReply, IsMarkReply};

@@ -7,7 +7,7 @@ ghost use Rattle.study_script.specs.Replies.{IsStartReply, IsPositionReply, IsSh
 ghost use Rattle.study_notation.specs.Fen.{start_of};
 ghost use Rattle.study_script.specs.declared.board.Board.TheVariants as held;
 ghost use Rattle.study_marks.specs.Study.{plain_study};
-ghost use Rattle.study_marks.specs.Kept.{marked, IsKeptRight};
+ghost use Rattle.study_marks.specs.BenchState.{marked, IsKeptRight};
 ghost use Rattle.study_script.specs.Held.{Holds};
 ghost use Rattle.study_script.specs.Executed.{Executed};
 

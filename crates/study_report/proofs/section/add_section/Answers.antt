@@ -1,7 +1,7 @@
 use Rattle.std.proofs.Common.{◌≡◌, ℕ, true, List, ◌++◌, OnOk, refl, sym, ap, subst, ◌∙◌}
 use Rattle.std.proofs.lemmas.List.{append-nil}
 use Rattle.study_marks.specs.Edits.{Plainly}
-use Rattle.study_marks.specs.Kept.{marked}
+use Rattle.study_marks.specs.BenchState.{marked}
 use Rattle.study_marks.specs.Study.{plain_study}
 use Rattle.study_script.specs.Held.{board_seen, IsMarked, tables_held, are_paged, tables_may_fail}
 use Rattle.study_script.specs.State.{Board, empty, start, study, is_among}

@@ -1,7 +1,7 @@
 use Rattle.std.proofs.Common.{sym, subst, OnOk}
 use Rattle.study_marks.specs.Study.{plain_study}
-use Rattle.study_marks.specs.Kept.{marked}
-use Rattle.study_marks.specs.Asked.{positions_asked, AllHeld}
+use Rattle.study_marks.specs.BenchState.{marked}
+use Rattle.study_marks.specs.Queries.{positions_asked, AllHeld}
 use Rattle.study_marks.specs.Edits.{shifted}
 use Rattle.study_script.specs.Held.{tables_held, tables_may_fail}
 use Rattle.study_script.proofs.TablesFaults.{whole_told, paged_told}

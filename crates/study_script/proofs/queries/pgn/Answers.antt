@@ -1,6 +1,6 @@
 use Rattle.std.proofs.Common.{refl, subst}
 use Rattle.study_marks.specs.Study.{plain_study}
-use Rattle.study_marks.specs.Kept.{marked}
+use Rattle.study_marks.specs.BenchState.{marked}
 use Rattle.study_reply.specs.declared.refusal.Refusal.TheVariants.{NoStudy}
 use Rattle.study_script.specs.State.{Board, Outside, quiet, study}
 use Rattle.study_script.specs.Held.{HoldsFrom, HoldsBenchFrom}

@@ -1,5 +1,5 @@
 use Rattle.std.proofs.Common.{◌≡◌, true}
-use Rattle.study_marks.specs.Asked.{asked_at}
+use Rattle.study_marks.specs.Queries.{asked_at}
 use Rattle.study_reply.specs.Words.{stipulation_words}
 use Rattle.study_script.specs.State.{quiet}
 use Rattle.study_script.specs.Held.{tables_held, tables_give, tables_may_fail, tables_asked, are_paged}

@@ -2,8 +2,8 @@ use Rattle.std.proofs.Common.{◌≡◌, true}
 use Rattle.std.specs.Prelude.{codes}
 use Rattle.study_notation.specs.FenSpelling.{fen_text}
 use Rattle.study_marks.specs.Study.{plain_study}
-use Rattle.study_marks.specs.Kept.{marked}
-use Rattle.study_marks.specs.Asked.{asked_at}
+use Rattle.study_marks.specs.BenchState.{marked}
+use Rattle.study_marks.specs.Queries.{asked_at}
 use Rattle.study_marks.specs.Edits.{positioned}
 use Rattle.study_reply.specs.Words.{reply_line}
 use Rattle.study_script.specs.State.{quiet}

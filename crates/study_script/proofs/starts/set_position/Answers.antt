@@ -2,7 +2,7 @@ use Rattle.std.proofs.Common.{refl, subst}
 use Rattle.std.specs.Prelude.{codes}
 use Rattle.study_notation.specs.FenSpelling.{fen_text}
 use Rattle.study_marks.specs.Study.{plain_study}
-use Rattle.study_marks.specs.Kept.{marked}
+use Rattle.study_marks.specs.BenchState.{marked}
 use Rattle.study_script.specs.declared.board.Board.TheVariants as held
 use Rattle.study_reply.specs.Words.{reply_line}
 use Rattle.study_script.specs.State.{Board, Outside, quiet, start, study}
