@@ -15,9 +15,9 @@ use Rattle.study_tree.specs.Edits.{node_in, width}
 use Rattle.study_tree.specs.Tree.{Plain, spot_at, twig_spot}
 use Rattle.study_marks.specs.declared.mark.Mark.{Mark}
 use Rattle.study_marks.specs.Study.{IsPlayable}
-use Rattle.study_pgn.specs.declared.follow.MarkedMove.{MarkedMove}
+use Rattle.study_pgn.specs.declared.variations.MarkedMove.{MarkedMove}
 use Rattle.study_pgn.specs.Moves.{words_of_move, following, variations}
-use Rattle.study_pgn.specs.Walk.{marked_move, Entered, Missing}
+use Rattle.study_pgn.specs.Variations.{marked_move, Entered, Missing}
 use Rattle.study_pgn.proofs.PathWalks.{skip, spot_last, below_entered, fewer, playable_at, following_none}
 use Rattle.study_pgn.proofs.PathWalks.{following_first, others_missing, others_first, others_done}
 

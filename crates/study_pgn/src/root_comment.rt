@@ -6,8 +6,8 @@ ghost use Rattle.study_marks.specs.declared.mark.Mark.{Mark as AMark};
 ghost use Rattle.study_marks.specs.Verdict.{verdict};
 ghost use Rattle.study_pgn.specs.Pgn.{goal_text, verdict_text, opening_words, opening_text};
 
-use crate::text::Text;
-use crate::values::{add_value, side_name};
+use crate::text_buffer::Text;
+use crate::value_text::{add_value, side_name};
 use std::alloc::{AllocError, Allocator};
 use study_board::Side;
 use study_marks::{Goal, Mark, Stipulation, hero_loses, hero_mates};
@@ -84,7 +84,7 @@ pub fn add_opening_words<A: Allocator>(
 
 /// The same in braces.
 #[tactic(auto, unfolding(crate::specs::Pgn::opening_text))]
-pub fn add_opening<A: Allocator>(
+pub fn add_root_comment<A: Allocator>(
     text: &mut Text<'_, A>,
     stipulation: Stipulation,
     first: Side,

@@ -6,12 +6,12 @@ ghost use Rattle.study_marks.specs.BenchState.{marked};
 ghost use Rattle.study_pgn.specs.Pgn.{movetext, pgn_text};
 
 use crate::PgnFault;
-use crate::follow::add_following;
-use crate::lines::add_lines;
-use crate::opening::add_opening;
+use crate::variations::add_moves_below;
+use crate::wrap::add_wrapped;
+use crate::root_comment::add_root_comment;
 use crate::tags::add_tags;
-use crate::text::Text;
-use crate::values::result_of;
+use crate::text_buffer::Text;
+use crate::value_text::result_text;
 use std::alloc::{AllocError, Allocator};
 use std::io::Write;
 use study_marks::{Bench, Mark};
@@ -40,15 +40,15 @@ fn movetext<'a, 'b, A: Allocator, B: Allocator>(
     let mut steps = Vec::new(alloc);
     let mut text = Text::new(alloc);
     let first = start.position.to_move();
-    add_opening(&mut text, bench.stipulation(), first, root)?;
-    add_following(&mut text, bench, &mut steps, start)?;
+    add_root_comment(&mut text, bench.stipulation(), first, root)?;
+    add_moves_below(&mut text, bench, &mut steps, start)?;
     text.add(b" ")?;
-    text.add(result_of(first, root.value))?;
+    text.add(result_text(first, root.value))?;
     Ok(text)
 }
 
 #[tactic(auto, unfolding(crate::specs::Pgn::pgn_text))]
-fn text_of<'a, 'b, A: Allocator, B: Allocator>(
+fn pgn_text<'a, 'b, A: Allocator, B: Allocator>(
     alloc: &'a A,
     bench: &Bench<'b, B>,
 ) -> Result<Text<'a, A>, AllocError>
@@ -59,7 +59,7 @@ fn text_of<'a, 'b, A: Allocator, B: Allocator>(
         let moves = movetext(alloc, bench, root)?;
         add_tags(&mut text, bench, root)?;
         text.add(b"\n")?;
-        add_lines(&mut text, moves.as_slice())?;
+        add_wrapped(&mut text, moves.as_slice())?;
         text.add(b"\n")?;
     }
     Ok(text)
@@ -79,7 +79,7 @@ pub fn write_pgn<'a, 'b, A: Allocator, B: Allocator, W: Write>(
     ensures device { result ≡ Err PgnFault.Device → TakesPrefix (W.contents out.old) (W.contents out.new) (pgn_text (marked bench.now)) }
     ensures memory { result ≡ Err PgnFault.OutOfMemory → out.new ≡ out.old }
 {
-    let text = text_of(alloc, bench)?;
+    let text = pgn_text(alloc, bench)?;
     put(out, text.as_slice())?;
     Ok(())
 }
