@@ -7,7 +7,7 @@ use std::alloc::{Allocator, Global};
 use std::io::{BufReader, ErrorKind, LineWriter, Read, Write};
 use std::process::ExitCode;
 use std::{env, fs, io};
-use study_command::lines::Line;
+use study_command::line::Line;
 use study_prober::WholeTables;
 use study_report::{Lines, follow};
 use study_retro::TableSet;

@@ -19,7 +19,7 @@ use Rattle.study_tablefile.specs.Taken.{TakesPrefix}
 use Rattle.study_report.specs.declared.told.Told.{Told}
 use Rattle.study_report.specs.declared.told.Told.TheVariants.{Nothing, Study as AStudy, Refusal as ARefusal}
 use Rattle.study_reply.specs.declared.refusal.Refusal.TheVariants.{NotAClass}
-use Rattle.study_command.specs.Asking.{command_of}
+use Rattle.study_command.specs.Parser.{command_of}
 use Rattle.study_script.specs.Replies.{Reply, refused}
 use Rattle.study_report.specs.declared.kind.Kind.{Kind}
 use Rattle.study_report.specs.declared.kind.Kind.TheVariants.{PassedOver, NoClass, Study, Checked}

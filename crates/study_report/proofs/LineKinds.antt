@@ -2,8 +2,8 @@
 use Rattle.std.proofs.Common.{◌≡◌, ℕ, true, false, List, Option, Some, None, Ok, Err, refl, sym, ap, ◌∙◌}
 use Rattle.std.specs.Prelude.{IfSome}
 use Rattle.study_material.specs.declared.class.Class.{Class}
-use Rattle.study_command.specs.declared.command.ClassWord.TheVariants.{Build, Load, Save, Verify}
-use Rattle.study_command.specs.Asking.{Asks, of_start, at_node, at_study, of_class, stipulate, insert, tag, solve, pgn, command_of}
+use Rattle.study_command.specs.declared.command.TableCommand.TheVariants.{Build, Load, Save, Verify}
+use Rattle.study_command.specs.Parser.{Asks, fen_command, node_query, node_command, table_command, stipulate, insert, tag, solve, pgn, command_of}
 use Rattle.study_script.specs.Stored.{IsTrusted, IsTrustedAsk}
 use Rattle.study_marks.specs.Edits.{Plainly}
 use Rattle.study_pgn.specs.Pgn.{pgn_text}
@@ -25,13 +25,13 @@ no-class (Some c) h = absurd (h refl)
 pub trusted-ask : (asks : Asks) → (kind_in asks ≡ PassedOver → ⊥) → IsTrustedAsk none_trusted asks
 trusted-ask (Err fault) h = tt
 trusted-ask (Ok None) h = tt
-trusted-ask (Ok (Some (of_class Load name))) h = no-class (class_told name) h
-trusted-ask (Ok (Some (of_class Build name))) h = tt
-trusted-ask (Ok (Some (of_class Save name))) h = tt
-trusted-ask (Ok (Some (of_class Verify name))) h = tt
-trusted-ask (Ok (Some (of_start word fen))) h = tt
-trusted-ask (Ok (Some (at_node word steps))) h = tt
-trusted-ask (Ok (Some (at_study word steps))) h = tt
+trusted-ask (Ok (Some (table_command Load name))) h = no-class (class_told name) h
+trusted-ask (Ok (Some (table_command Build name))) h = tt
+trusted-ask (Ok (Some (table_command Save name))) h = tt
+trusted-ask (Ok (Some (table_command Verify name))) h = tt
+trusted-ask (Ok (Some (fen_command word fen))) h = tt
+trusted-ask (Ok (Some (node_query word steps))) h = tt
+trusted-ask (Ok (Some (node_command word steps))) h = tt
 trusted-ask (Ok (Some (stipulate stipulation))) h = tt
 trusted-ask (Ok (Some (insert steps san))) h = tt
 trusted-ask (Ok (Some (tag name text))) h = tt
@@ -53,10 +53,10 @@ class-no-study (Some c) k = absurd cc
 pub pgn-asked : (s : State) (o : Outside) (reply : Reply) (asks : Asks) → kind_in asks ≡ Study → IsReplyWhere s o asks reply
     → IsPgnReply s o s.board reply
 pgn-asked s o reply (Ok (Some pgn)) k r = r
-pgn-asked s o reply (Ok (Some (of_class word name))) k r = absurd (class-no-study (class_told name) k)
-pgn-asked s o reply (Ok (Some (of_start word fen))) k r = absurd cc
-pgn-asked s o reply (Ok (Some (at_node word steps))) k r = absurd cc
-pgn-asked s o reply (Ok (Some (at_study word steps))) k r = absurd cc
+pgn-asked s o reply (Ok (Some (table_command word name))) k r = absurd (class-no-study (class_told name) k)
+pgn-asked s o reply (Ok (Some (fen_command word fen))) k r = absurd cc
+pgn-asked s o reply (Ok (Some (node_query word steps))) k r = absurd cc
+pgn-asked s o reply (Ok (Some (node_command word steps))) k r = absurd cc
 pgn-asked s o reply (Ok (Some (stipulate stipulation))) k r = absurd cc
 pgn-asked s o reply (Ok (Some (insert steps san))) k r = absurd cc
 pgn-asked s o reply (Ok (Some (tag name text))) k r = absurd cc

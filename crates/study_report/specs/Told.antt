@@ -7,7 +7,7 @@ use Rattle.study_tablefile.specs.declared.fault.SourceFault.{SourceFault}
 use Rattle.study_prober.specs.declared.values.ProbeFault.{ProbeFault}
 use Rattle.study_prober.specs.declared.values.ProbeFault.TheVariants.{NoTable, TableRead, PageDamaged}
 use Rattle.study_marks.specs.Edits.{Plainly}
-use Rattle.study_command.specs.Asking.{Asks, of_class, pgn, command_of}
+use Rattle.study_command.specs.Parser.{Asks, table_command, pgn, command_of}
 use Rattle.study_reply.specs.declared.refusal.Refusal.{Refusal}
 use Rattle.study_reply.specs.declared.refusal.Refusal.TheVariants.{NotAClass, OutOfMemory}
 use Rattle.study_reply.specs.Names.{of_probe}
@@ -27,7 +27,7 @@ class_kind (Some c) = PassedOver
 
 -- a line of a table is passed over, or has no class; a `pgn` line tells a study
 abbrev pub kind_in : Asks → Kind
-kind_in (Ok (Some (of_class word name))) = class_kind (class_told name)
+kind_in (Ok (Some (table_command word name))) = class_kind (class_told name)
 kind_in (Ok (Some pgn)) = Study
 kind_in _ = Checked
 

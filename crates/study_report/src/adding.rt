@@ -2,7 +2,7 @@
 ghost use Rattle.std.specs.Prelude.{◌≡◌, ◌<◌, ◌+◌, ◌⊎◌, ℕ, suc, List, ◌++◌, IfOk, IfErr, codes};
 ghost use Rattle.std.specs.Io.KnownBytes.{Appends};
 ghost use Rattle.study_marks.specs.Edits.{Plainly};
-ghost use Rattle.study_command.specs.Asking.{command_of};
+ghost use Rattle.study_command.specs.Parser.{command_of};
 ghost use Rattle.study_reply.specs.Names.{words_of};
 ghost use Rattle.study_reply.specs.Words.{reply_line};
 ghost use Rattle.study_script.specs.declared.run.RunFault.TheVariants.{WriteDevice, OutOfMemory};

@@ -15,7 +15,7 @@ use crate::report::Report;
 use crate::told::Place;
 use std::alloc::Allocator;
 use std::io::{Read, Write};
-use study_command::lines::{Line, LineFault, read_byte};
+use study_command::line::{Line, LineFault, read_byte};
 use study_script::board::Board;
 use study_script::desk::StudyDesk;
 use study_script::run::{RunFault, Summary};

@@ -19,8 +19,8 @@ use Rattle.study_marks.specs.Queries.{positions_asked}
 use Rattle.study_marks.specs.Edits.{Plainly, shifted, shift_refusal, insert_refusal}
 use Rattle.study_notation.specs.FenSpelling.{fen_text}
 use Rattle.study_reply.specs.Words.{reply_line}
-use Rattle.study_command.specs.declared.command.FenWord.{FenWord}
-use Rattle.study_command.specs.declared.command.FenWord.TheVariants.{Position as PositionWord, Shift}
+use Rattle.study_command.specs.declared.command.FenCommand.{FenCommand}
+use Rattle.study_command.specs.declared.command.FenCommand.TheVariants.{Position as PositionWord, Shift}
 use Rattle.study_script.specs.declared.store.StoreFault.{StoreFault}
 use Rattle.study_script.specs.declared.board.Board.{Board as HeldBoard}
 use Rattle.study_script.specs.declared.tables.Tables.{Tables}
@@ -107,7 +107,7 @@ shift_beside s cut_off old new None reply h = shift_asked s cut_off old new repl
 shift_beside s (file bytes) old new None reply h = shift_asked s (file bytes) old new reply h
 shift_beside s (header told) old new None reply h = shift_asked s (header told) old new reply h
 
-pub start_beside : (s : State) (word : FenWord) (b : Board) (read : Result Start FenFault) (o : Outside)
+pub start_beside : (s : State) (word : FenCommand) (b : Board) (read : Result Start FenFault) (o : Outside)
     (reply : Reply) → IsStartReply s o word b read reply → IsBeside s reply.state
 start_beside s PositionWord b (Err fault) o reply h = beside s _ reply (same_side s) h
 start_beside s PositionWord b (Ok new) o reply h = position_beside s o b new reply h

@@ -40,16 +40,16 @@ use Rattle.study_marks.specs.Edits.{insert_refusal, delete_refusal, promote_refu
 use Rattle.study_marks.specs.Queries.{asked_at, positions_asked, IsFirstMissing, IsFirstUnread, AllHeld}
 use Rattle.study_marks.specs.Bench.{start_at}
 use Rattle.study_pgn.specs.Pgn.{pgn_text}
-use Rattle.study_command.specs.declared.command.FenWord.{FenWord}
-use Rattle.study_command.specs.declared.command.FenWord.TheVariants.{Position as PositionWord, Shift}
-use Rattle.study_command.specs.declared.command.NodeWord.{NodeWord}
-use Rattle.study_command.specs.declared.command.NodeWord.TheVariants.{Moves, Fen as FenAt}
-use Rattle.study_command.specs.declared.command.StudyWord.{StudyWord}
-use Rattle.study_command.specs.declared.command.StudyWord.TheVariants.{Delete, Promote, Mark as MarkWord}
-use Rattle.study_command.specs.declared.command.ClassWord.{ClassWord}
-use Rattle.study_command.specs.declared.command.ClassWord.TheVariants.{Build, Load, Save, Verify}
+use Rattle.study_command.specs.declared.command.FenCommand.{FenCommand}
+use Rattle.study_command.specs.declared.command.FenCommand.TheVariants.{Position as PositionWord, Shift}
+use Rattle.study_command.specs.declared.command.NodeQuery.{NodeQuery}
+use Rattle.study_command.specs.declared.command.NodeQuery.TheVariants.{Moves, Fen as FenAt}
+use Rattle.study_command.specs.declared.command.NodeCommand.{NodeCommand}
+use Rattle.study_command.specs.declared.command.NodeCommand.TheVariants.{Delete, Promote, Mark as MarkWord}
+use Rattle.study_command.specs.declared.command.TableCommand.{TableCommand}
+use Rattle.study_command.specs.declared.command.TableCommand.TheVariants.{Build, Load, Save, Verify}
 use Rattle.study_command.specs.Paths.{path_text}
-use Rattle.study_command.specs.Asking.{Asked, of_start, at_node, at_study, of_class, stipulate, insert, tag, solve, pgn, Asks, command_of}
+use Rattle.study_command.specs.Parser.{Asked, fen_command, node_query, node_command, table_command, stipulate, insert, tag, solve, pgn, Asks, command_of}
 use Rattle.study_reply.specs.declared.refusal.Refusal.{Refusal}
 use Rattle.study_reply.specs.declared.refusal.Refusal.TheVariants.{Form, NoPosition, NoStudy, OutOfMemory}
 use Rattle.study_reply.specs.declared.refusal.Refusal.TheVariants.{PagedMode, NotAClass, NoSuchNode, Fen, San}
@@ -128,7 +128,7 @@ IsShiftReply s no_room old new (Some refusal) reply = reply ≡ refused s OutOfM
 IsShiftReply s _ old new (Some refusal) reply = reply ≡ refused_as s (edit_words refusal)
 IsShiftReply s o old new None reply = IsAskedReply s o (positions_asked (shifted old new)) (shifted old new) (reply_line (codes "shift ") (fen_text new)) reply
 
-abbrev pub IsStartReply : State → Outside → FenWord → Board → Result Start FenFault → Reply → Type 0
+abbrev pub IsStartReply : State → Outside → FenCommand → Board → Result Start FenFault → Reply → Type 0
 IsStartReply s o PositionWord board (Err fault) reply = reply ≡ refused s (Fen fault)
 IsStartReply s o PositionWord board (Ok new) reply = IsPositionReply s o board new reply
 IsStartReply s o Shift (study old) (Err fault) reply = reply ≡ refused s (Fen fault)
@@ -234,21 +234,21 @@ abbrev pub IsMarkReply : State → Plainly → List ℕ → Reply → Type 0
 IsMarkReply s old steps reply = Annotated old (λ annotated. reply ≡ marked_reply s steps (spot_at annotated.tree steps))
 
 -- `delete`, `promote` and `mark`
-abbrev pub IsStudyReply : State → StudyWord → Plainly → List ℕ → Reply → Type 0
+abbrev pub IsStudyReply : State → NodeCommand → Plainly → List ℕ → Reply → Type 0
 IsStudyReply s Delete old steps reply =
     reply ≡ edit_reply s (delete_refusal old steps) (deleted old steps) (reply_line (codes "delete ") (path_text steps))
 IsStudyReply s Promote old steps reply =
     reply ≡ edit_reply s (promote_refusal old steps) (promoted old steps) (reply_line (codes "promote ") (path_text (raised steps)))
 IsStudyReply s MarkWord old steps reply = IsMarkReply s old steps reply
 
-abbrev pub IsStudyReplyAt : State → Outside → StudyWord → Board → List ℕ → Reply → Type 0
+abbrev pub IsStudyReplyAt : State → Outside → NodeCommand → Board → List ℕ → Reply → Type 0
 IsStudyReplyAt s o word empty steps reply = reply ≡ refused s NoStudy
 IsStudyReplyAt s o word (start from) steps reply = reply ≡ refused s NoStudy
 IsStudyReplyAt s no_path word (study old) [] reply = IsStudyReply s word old [] reply
 IsStudyReplyAt s no_path word (study old) (k ∷ ks) reply = reply ≡ refused s OutOfMemory
 IsStudyReplyAt s _ word (study old) steps reply = IsStudyReply s word old steps reply
 
-abbrev pub IsNodeReply : State → Outside → NodeWord → List ℕ → Reply → Type 0
+abbrev pub IsNodeReply : State → Outside → NodeQuery → List ℕ → Reply → Type 0
 IsNodeReply s o Moves steps reply = reply ≡ moves_reply s (start_found o s.board steps)
 IsNodeReply s o FenAt steps reply = reply ≡ fen_reply s (start_found o s.board steps)
 
@@ -322,13 +322,13 @@ abbrev pub IsLoadIn : State → Outside → Bool → Class → Reply → Type 0
 IsLoadIn s o false c reply = IsLoadReply s o c (is_among s.classes c) (first_lacking s.classes c) reply
 IsLoadIn s o true c reply = IsOpenReply s o c (is_among s.classes c) reply
 
-abbrev pub IsTableReply : State → Outside → ClassWord → Class → Reply → Type 0
+abbrev pub IsTableReply : State → Outside → TableCommand → Class → Reply → Type 0
 IsTableReply s o Build c reply = IsBuildReply s o c (is_among s.classes c) (first_lacking s.classes c) reply
 IsTableReply s o Load c reply = IsLoadIn s o s.paged c reply
 IsTableReply s o Save c reply = reply ≡ save_reply s o c (is_among s.classes c)
 IsTableReply s o Verify c reply = reply ≡ verify_reply s c (is_among s.classes c)
 
-abbrev pub IsNamedReply : State → Outside → ClassWord → Option Class → Reply → Type 0
+abbrev pub IsNamedReply : State → Outside → TableCommand → Option Class → Reply → Type 0
 IsNamedReply s o word None reply = reply ≡ refused s NotAClass
 IsNamedReply s o word (Some c) reply = IsTableReply s o word c reply
 
@@ -337,25 +337,25 @@ unfoldable pub class_told : List ℕ → Option Class
 class_told name = find (λ c. bytes_eq name (name_of c)) class_list
 
 -- all of these but `load` want whole tables
-abbrev pub wants_whole : ClassWord → Bool
+abbrev pub wants_whole : TableCommand → Bool
 wants_whole Load = false
 wants_whole _ = true
 
-abbrev pub IsClassReplyIn : State → Outside → ClassWord → List ℕ → Bool → Reply → Type 0
+abbrev pub IsClassReplyIn : State → Outside → TableCommand → List ℕ → Bool → Reply → Type 0
 IsClassReplyIn s o word name true reply = reply ≡ refused s PagedMode
 IsClassReplyIn s o word name false reply = IsNamedReply s o word (class_told name) reply
 
-abbrev pub IsClassReply : State → Outside → ClassWord → List ℕ → Reply → Type 0
+abbrev pub IsClassReply : State → Outside → TableCommand → List ℕ → Reply → Type 0
 IsClassReply s o word name reply = IsClassReplyIn s o word name (wants_whole word && s.paged) reply
 
 -- ---- the lines
 
 -- the reply to a command
 abbrev pub IsReplyTo : State → Outside → Asked → Reply → Type 0
-IsReplyTo s o (of_start word fen) reply = IsStartReply s o word s.board (start_of fen) reply
-IsReplyTo s o (at_node word steps) reply = IsNodeReply s o word steps reply
-IsReplyTo s o (at_study word steps) reply = IsStudyReplyAt s o word s.board steps reply
-IsReplyTo s o (of_class word name) reply = IsClassReply s o word name reply
+IsReplyTo s o (fen_command word fen) reply = IsStartReply s o word s.board (start_of fen) reply
+IsReplyTo s o (node_query word steps) reply = IsNodeReply s o word steps reply
+IsReplyTo s o (node_command word steps) reply = IsStudyReplyAt s o word s.board steps reply
+IsReplyTo s o (table_command word name) reply = IsClassReply s o word name reply
 IsReplyTo s o (stipulate stipulation) reply = IsStipulateReply s o s.board stipulation reply
 IsReplyTo s o (insert steps san) reply = IsInsertReply s o s.board steps san reply
 IsReplyTo s o (tag name text) reply = reply ≡ tag_reply s s.board name text

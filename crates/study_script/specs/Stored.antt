@@ -9,11 +9,11 @@ use Rattle.study_tablefile.specs.File.{IsVersionOf}
 use Rattle.study_tablefile.specs.Reading.{table_read}
 use Rattle.study_script.specs.State.{State, Shelf}
 use Rattle.study_script.specs.Held.{KnowsStore}
-use Rattle.study_command.specs.declared.command.ClassWord.{ClassWord}
-use Rattle.study_command.specs.declared.command.ClassWord.TheVariants.{Load}
+use Rattle.study_command.specs.declared.command.TableCommand.{TableCommand}
+use Rattle.study_command.specs.declared.command.TableCommand.TheVariants.{Load}
 use Rattle.std.specs.List.{AllByRecursion}
 use Rattle.study_command.specs.Lines.{script_lines}
-use Rattle.study_command.specs.Asking.{Asked, of_class, Asks, command_of}
+use Rattle.study_command.specs.Parser.{Asked, table_command, Asks, command_of}
 use Rattle.study_script.specs.Replies.{class_told}
 
 -- a reader tells its bytes, and what they read as, if a table, is right
@@ -55,12 +55,12 @@ abbrev pub HonestOn : {S : Type 0} → (Class → Bool) → (S → Bool → Clas
 HonestOn trusted honest store by_pages = (c : Class) → trusted c ≡ true → honest store by_pages c
 
 -- what loads a table loads that of a class that is trusted; nothing else asks for trust
-abbrev pub IsTrustedClass : (Class → Bool) → ClassWord → List ℕ → Type 0
+abbrev pub IsTrustedClass : (Class → Bool) → TableCommand → List ℕ → Type 0
 IsTrustedClass trusted Load name = IfSome (class_told name) (λ c. trusted c ≡ true)
 IsTrustedClass trusted _ name = Unit {0}
 
 abbrev pub IsTrustedAsked : (Class → Bool) → Asked → Type 0
-IsTrustedAsked trusted (of_class word name) = IsTrustedClass trusted word name
+IsTrustedAsked trusted (table_command word name) = IsTrustedClass trusted word name
 IsTrustedAsked trusted _ = Unit {0}
 
 abbrev pub IsTrustedAsk : (Class → Bool) → Asks → Type 0

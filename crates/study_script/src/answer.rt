@@ -1,6 +1,6 @@
 //! What a line does: its reply, and what is held after it.
 ghost use Rattle.std.specs.Prelude.{Bool, IfOk, OnErr};
-ghost use Rattle.study_command.specs.Asking.{command_seen};
+ghost use Rattle.study_command.specs.Parser.{command_seen};
 ghost use Rattle.study_script.specs.State.{State};
 ghost use Rattle.study_script.specs.Replies.{IsReply, IsReplyTo};
 ghost use Rattle.study_script.specs.Held.{Answered, BrokenOff};
@@ -10,10 +10,10 @@ ghost use Rattle.study_material.specs.declared.class.Class.{Class as AClass};
 ghost use Rattle.study_script.specs.Stored.{HonestOn, IsTrusted, IsTrustedAsked};
 
 use crate::board::Board;
-use crate::changes::{at_study, insert, set_tag};
-use crate::classes::of_class;
-use crate::queries::{at_node, pgn, solve_at};
-use crate::starts::{of_start, stipulate};
+use crate::changes::{node_command, insert, set_tag};
+use crate::classes::table_command;
+use crate::queries::{node_query, pgn, solve_at};
+use crate::starts::{fen_command, stipulate};
 use crate::store::TableStore;
 use crate::tables::Tables;
 use std::alloc::Allocator;
@@ -70,10 +70,10 @@ fn execute<'a, S: TableStore, A: Allocator>(
         (DeskHolds S.Pages.honest S.Pages.gives (HonestOn trusted S.honest) S.files S.headers S.faults board.new tables.new store.new) result }
 {
     match command {
-        Command::OfStart(word, fen) => of_start(board, tables, *word, fen),
-        Command::AtNode(word, path) => at_node(alloc, board, *word, path.word),
-        Command::AtStudy(word, path) => at_study(alloc, board, *word, path.word),
-        Command::OfClass(word, name) => of_class(alloc, tables, store, *word, name),
+        Command::FromFen(word, fen) => fen_command(board, tables, *word, fen),
+        Command::Query(word, path) => node_query(alloc, board, *word, path.word),
+        Command::Node(word, path) => node_command(alloc, board, *word, path.word),
+        Command::Table(word, name) => table_command(alloc, tables, store, *word, name),
         Command::Stipulate(stipulation) => stipulate(alloc, board, tables, stipulation),
         Command::Insert(path, san) => insert(alloc, board, tables, path.word, san),
         Command::Tag(name, text) => set_tag(board, *name, text),

@@ -17,7 +17,7 @@ use crate::edits;
 use crate::queries::mark_at;
 use crate::tables::Tables;
 use std::alloc::Allocator;
-use study_command::command::StudyWord;
+use study_command::command::NodeCommand;
 use study_command::read_path;
 use study_marks::{Bench, TagName};
 use study_moves::Move;
@@ -28,10 +28,10 @@ use study_tablefile::PageSource;
 use study_tree::Path;
 
 /// Commands that take a node of the study and nothing else.
-pub fn at_study<'a, A: Allocator>(
+pub fn node_command<'a, A: Allocator>(
     alloc: &'a A,
     board: &mut Board<'a, A>,
-    word: StudyWord,
+    word: NodeCommand,
     path: &[u8],
 ) -> Answer<'a, A>
     requires { is_path_word path.now ≡ true }
@@ -48,7 +48,7 @@ pub fn at_study<'a, A: Allocator>(
 fn at_path<'a, A: Allocator>(
     alloc: &'a A,
     bench: &mut Bench<'a, A>,
-    word: StudyWord,
+    word: NodeCommand,
     path: &[u8],
 ) -> Answer<'a, A>
     requires { is_path_word path.now ≡ true }
@@ -64,22 +64,22 @@ fn at_path<'a, A: Allocator>(
 
 fn at_place<'a, A: Allocator>(
     bench: &mut Bench<'a, A>,
-    word: StudyWord,
+    word: NodeCommand,
     path: Path<'a, A>,
 ) -> Answer<'a, A>
     ensures { (s : State) → HoldsBench bench.old s
         → Executed (λ o. IsStudyReply s word (plain_study (marked bench.old)) path.entry) (HoldsBenchFrom s bench.new) result }
 {
     match word {
-        StudyWord::Delete => delete(bench, path),
-        StudyWord::Promote => promote(bench, path),
-        StudyWord::Mark => mark_at(bench, path),
+        NodeCommand::Delete => delete(bench, path),
+        NodeCommand::Promote => promote(bench, path),
+        NodeCommand::Mark => mark_at(bench, path),
     }
 }
 
 fn delete<'a, A: Allocator>(bench: &mut Bench<'a, A>, path: Path<'a, A>) -> Answer<'a, A>
     ensures { (s : State) → HoldsBench bench.old s
-        → Executed (λ o. IsStudyReply s StudyWord.Delete (plain_study (marked bench.old)) path.entry) (HoldsBenchFrom s bench.new) result }
+        → Executed (λ o. IsStudyReply s NodeCommand.Delete (plain_study (marked bench.old)) path.entry) (HoldsBenchFrom s bench.new) result }
 {
     match bench.delete(&path) {
         Ok(()) => Ok(Reply::Deleted(path)),
@@ -89,7 +89,7 @@ fn delete<'a, A: Allocator>(bench: &mut Bench<'a, A>, path: Path<'a, A>) -> Answ
 
 fn promote<'a, A: Allocator>(bench: &mut Bench<'a, A>, path: Path<'a, A>) -> Answer<'a, A>
     ensures { (s : State) → HoldsBench bench.old s
-        → Executed (λ o. IsStudyReply s StudyWord.Promote (plain_study (marked bench.old)) path.entry) (HoldsBenchFrom s bench.new) result }
+        → Executed (λ o. IsStudyReply s NodeCommand.Promote (plain_study (marked bench.old)) path.entry) (HoldsBenchFrom s bench.new) result }
 {
     match bench.promote(&path) {
         Ok(()) => Ok(Reply::Promoted(path)),

@@ -18,7 +18,7 @@ use crate::store::{StoreFault, TableStore};
 use crate::tables::Tables;
 use std::alloc::Allocator;
 use std::io::Write;
-use study_command::command::ClassWord;
+use study_command::command::TableCommand;
 use study_index::cells;
 use study_material::Class;
 use study_prober::{PagedFault, PagedTables, Values, WholeTables};
@@ -29,11 +29,11 @@ use study_retro::{BuildFault, BuildRoom, Table, build, verify};
 use study_tablefile::{FileFault, read_table, write_table};
 
 /// Commands that take a class.
-pub fn of_class<'a, S: TableStore, A: Allocator>(
+pub fn table_command<'a, S: TableStore, A: Allocator>(
     alloc: &'a A,
     tables: &mut Tables<'a, S::Pages, A>,
     store: &mut S,
-    word: ClassWord,
+    word: TableCommand,
     name: &str,
 ) -> Answer<'a, A>
     ensures { (trusted : AClass → Bool) (s : State) → IsTrustedClass trusted word name.now
@@ -52,7 +52,7 @@ fn in_tables<'a, S: TableStore, A: Allocator>(
     alloc: &'a A,
     tables: &mut Tables<'a, S::Pages, A>,
     store: &mut S,
-    word: ClassWord,
+    word: TableCommand,
     name: &str,
 ) -> Result<TableReply, Refusal>
     ensures { (trusted : AClass → Bool) (s : State) → IsTrustedClass trusted word name.now
@@ -72,7 +72,7 @@ fn in_whole<'a, S: TableStore, A: Allocator>(
     alloc: &'a A,
     tables: &mut WholeTables<'a, A>,
     store: &mut S,
-    word: ClassWord,
+    word: TableCommand,
     name: &str,
 ) -> Result<TableReply, Refusal>
     ensures { (trusted : AClass → Bool) (s : State) → IsTrustedClass trusted word name.now
@@ -82,10 +82,10 @@ fn in_whole<'a, S: TableStore, A: Allocator>(
 {
     let class = class_of_name(name)?;
     match word {
-        ClassWord::Build => build_class(alloc, tables, class),
-        ClassWord::Load => load_class(alloc, tables, store, class),
-        ClassWord::Save => save_class(tables, store, class),
-        ClassWord::Verify => verify_class(tables, class),
+        TableCommand::Build => build_class(alloc, tables, class),
+        TableCommand::Load => load_class(alloc, tables, store, class),
+        TableCommand::Save => save_class(tables, store, class),
+        TableCommand::Verify => verify_class(tables, class),
     }
 }
 
@@ -93,7 +93,7 @@ fn in_whole<'a, S: TableStore, A: Allocator>(
 fn in_pages<'a, S: TableStore, A: Allocator>(
     tables: &mut PagedTables<'a, S::Pages, A>,
     store: &mut S,
-    word: ClassWord,
+    word: TableCommand,
     name: &str,
 ) -> Result<TableReply, Refusal>
     ensures { (trusted : AClass → Bool) (s : State) → IsTrustedClass trusted word name.now
@@ -104,11 +104,11 @@ fn in_pages<'a, S: TableStore, A: Allocator>(
         result }
 {
     match word {
-        ClassWord::Load => {
+        TableCommand::Load => {
             let class = class_of_name(name)?;
             open_class(tables, store, class)
         }
-        ClassWord::Build | ClassWord::Save | ClassWord::Verify => Err(Refusal::PagedMode),
+        TableCommand::Build | TableCommand::Save | TableCommand::Verify => Err(Refusal::PagedMode),
     }
 }
 

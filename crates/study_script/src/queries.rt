@@ -11,7 +11,7 @@ ghost use Rattle.study_script.specs.Executed.{Executed};
 
 use crate::board::Board;
 use std::alloc::Allocator;
-use study_command::command::{MoveCount, NodeWord};
+use study_command::command::{MoveCount, NodeQuery};
 use study_command::read_path;
 use study_marks::Bench;
 use study_moves::solve;
@@ -22,10 +22,10 @@ use study_reply::reply::{Answer, Refused, Reply};
 use study_tree::Path;
 
 /// Commands that take a node and nothing else, and need no study.
-pub fn at_node<'a, A: Allocator>(
+pub fn node_query<'a, A: Allocator>(
     alloc: &'a A,
     board: &Board<'a, A>,
-    word: NodeWord,
+    word: NodeQuery,
     path: &[u8],
 ) -> Answer<'a, A>
     requires { is_path_word path.now ≡ true }
@@ -33,8 +33,8 @@ pub fn at_node<'a, A: Allocator>(
         → Executed (λ o. IsNodeReply s o word (steps_of path.now)) (HoldsFrom s board.now) result }
 {
     match word {
-        NodeWord::Moves => moves_at(alloc, board, path),
-        NodeWord::Fen => fen_at(alloc, board, path),
+        NodeQuery::Moves => moves_at(alloc, board, path),
+        NodeQuery::Fen => fen_at(alloc, board, path),
     }
 }
 

@@ -15,7 +15,7 @@ use crate::board::Board;
 use crate::edits;
 use crate::tables::Tables;
 use std::alloc::Allocator;
-use study_command::command::FenWord;
+use study_command::command::FenCommand;
 use study_marks::{Bench, Stipulation};
 use study_notation::{Start, read_fen};
 use study_reply::refusal::Refusal;
@@ -23,18 +23,18 @@ use study_reply::reply::{Answer, Refused, Reply};
 use study_tablefile::PageSource;
 
 /// `position` and `shift`.
-pub fn of_start<'a, P: PageSource, A: Allocator>(
+pub fn fen_command<'a, P: PageSource, A: Allocator>(
     board: &mut Board<'a, A>,
     tables: &mut Tables<'a, P, A>,
-    word: FenWord,
+    word: FenCommand,
     fen: &str,
 ) -> Answer<'a, A>
     ensures { (s : State) → Holds P.honest P.gives board.old tables.old s
         → Executed (λ o. IsStartReply s o word s.board (start_of fen.now)) (Holds P.honest P.gives board.new tables.new) result }
 {
     match word {
-        FenWord::Position => read_position(board, tables, fen),
-        FenWord::Shift => shift_board(board, tables, fen),
+        FenCommand::Position => read_position(board, tables, fen),
+        FenCommand::Shift => shift_board(board, tables, fen),
     }
 }
 
@@ -44,7 +44,7 @@ fn read_position<'a, P: PageSource, A: Allocator>(
     fen: &str,
 ) -> Answer<'a, A>
     ensures { (s : State) → Holds P.honest P.gives board.old tables.old s
-        → Executed (λ o. IsStartReply s o FenWord.Position s.board (start_of fen.now)) (Holds P.honest P.gives board.new tables.new) result }
+        → Executed (λ o. IsStartReply s o FenCommand.Position s.board (start_of fen.now)) (Holds P.honest P.gives board.new tables.new) result }
 {
     match read_fen(fen) {
         Ok(start) => set_position(board, tables, start),
@@ -58,7 +58,7 @@ fn shift_board<'a, P: PageSource, A: Allocator>(
     fen: &str,
 ) -> Answer<'a, A>
     ensures { (s : State) → Holds P.honest P.gives board.old tables.old s
-        → Executed (λ o. IsStartReply s o FenWord.Shift s.board (start_of fen.now)) (Holds P.honest P.gives board.new tables.new) result }
+        → Executed (λ o. IsStartReply s o FenCommand.Shift s.board (start_of fen.now)) (Holds P.honest P.gives board.new tables.new) result }
 {
     match board {
         Board::Study(bench) => shift_study(bench, tables, fen),
@@ -73,7 +73,7 @@ fn shift_study<'a, P: PageSource, A: Allocator>(
     fen: &str,
 ) -> Answer<'a, A>
     ensures { (s : State) → Holds P.honest P.gives (held.Study bench.old) tables.old s
-        → Executed (λ o. IsStartReply s o FenWord.Shift (study (plain_study (marked bench.old))) (start_of fen.now))
+        → Executed (λ o. IsStartReply s o FenCommand.Shift (study (plain_study (marked bench.old))) (start_of fen.now))
         (Holds P.honest P.gives (held.Study bench.new) tables.new) result }
 {
     match read_fen(fen) {

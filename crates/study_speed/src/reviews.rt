@@ -4,7 +4,7 @@ use std::alloc::Allocator;
 use std::io;
 use std::io::{BufReader, ErrorKind, Read, Write};
 use std::time::Instant;
-use study_command::lines::Line;
+use study_command::line::Line;
 use study_marks::Bench;
 use study_prober::{Values, WholeTables};
 use study_program::FolderStore;

@@ -1,7 +1,7 @@
 use Rattle.std.proofs.Common.{◌≡◌, ◌+◌, refl, sym, subst, ◌∙◌}
 use Rattle.std.specs.Prelude.{codes}
 use Rattle.std.proofs.KnownBytes.{Appends-nil}
-use Rattle.study_command.specs.Asking.{command_of}
+use Rattle.study_command.specs.Parser.{command_of}
 use Rattle.study_reply.specs.Names.{words_of}
 use Rattle.study_reply.specs.Words.{reply_line}
 use Rattle.study_reply.specs.declared.refusal.Refusal.TheVariants.{NotAClass}

@@ -1,7 +1,7 @@
 use Rattle.std.proofs.Common.{◌≡◌, true, false, ◌+◌, ◌++◌, sym, ap, subst, ◌∙◌}
 use Rattle.std.specs.Prelude.{IfOk}
 use Rattle.study_material.specs.declared.class.Class.{Class}
-use Rattle.study_command.specs.Asking.{command_of}
+use Rattle.study_command.specs.Parser.{command_of}
 use Rattle.study_script.specs.State.{State, Board}
 use Rattle.study_script.specs.Desk.{DeskHolds}
 use Rattle.study_script.specs.Held.{Holds, board_seen}

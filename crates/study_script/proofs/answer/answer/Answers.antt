@@ -3,7 +3,7 @@ use Rattle.std.specs.Prelude.{IfOk, OnErr}
 use Rattle.std.proofs.KnownBytes.{Appends-nil}
 use Rattle.study_tablefile.proofs.TextTaken.{OnErr-known}
 use Rattle.study_reply.specs.declared.refusal.Refusal.TheVariants.{Form}
-use Rattle.study_command.specs.Asking.{Asks, line_seen, command_of, command_seen}
+use Rattle.study_command.specs.Parser.{Asks, line_seen, command_of, command_seen}
 use Rattle.study_script.specs.State.{quiet}
 use Rattle.study_script.specs.Held.{Answered, BrokenOff}
 use Rattle.study_script.specs.Replies.{accepted, refused, IsReplyTo, IsReplyWhere, IsReply}

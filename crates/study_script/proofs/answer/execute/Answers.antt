@@ -1,7 +1,7 @@
 use Rattle.std.proofs.Common.{sym, ap, subst}
 use Rattle.study_notation.specs.Fen.{start_of}
 use Rattle.study_command.specs.Paths.{steps_of}
-use Rattle.study_command.specs.Asking.{Asked, of_start, at_node, at_study, of_class, stipulate, insert, tag, solve, pgn, command_seen}
+use Rattle.study_command.specs.Parser.{Asked, fen_command, node_query, node_command, table_command, stipulate, insert, tag, solve, pgn, command_seen}
 use Rattle.study_script.specs.State.{State, Outside}
 use Rattle.study_script.specs.Held.{Holds, HoldsFrom, TablesFrom}
 use Rattle.study_script.specs.Stored.{StoreSeen, HonestOn, IsTrustedAsked}
@@ -12,50 +12,50 @@ use Rattle.study_script.proofs.HeldBehindCommands.{start_beside, stipulate_besid
 use Rattle.study_script.proofs.HeldBehindCommands.{tables_there, desk_edited, desk_board, desk_class}
 use Rattle.study_script.proofs.answer.execute.Goals as goal
 
-pub returns-in-OfStart : goal.returns-in-OfStart
-returns-in-OfStart g c = λ trusted s may d. executed_kept {I = λ (o : Outside). IsReplyTo s o (of_start c.in-OfStart.word c.in-OfStart.fen.now)}
+pub returns-in-FromFen : goal.returns-in-FromFen
+returns-in-FromFen g c = λ trusted s may d. executed_kept {I = λ (o : Outside). IsReplyTo s o (fen_command c.in-FromFen.word c.in-FromFen.fen.now)}
     {J = λ (o : Outside). IsReplyTo s o (command_seen c.args.command.now)}
-    {H = Holds g.S.Pages.PageSource.honest g.S.Pages.PageSource.gives c.of_start.new.board c.of_start.new.tables}
+    {H = Holds g.S.Pages.PageSource.honest g.S.Pages.PageSource.gives c.fen_command.new.board c.fen_command.new.tables}
     {K = DeskHolds g.S.Pages.PageSource.honest g.S.Pages.PageSource.gives (HonestOn trusted g.S.TableStore.honest) g.S.TableStore.files g.S.TableStore.headers g.S.TableStore.faults
-    c.of_start.new.board c.of_start.new.tables c.args.store.now} c.of_start.result
-    (λ o r i. subst (λ (x : Asked). IsReplyTo s o x r) (sym (ap command_seen c.in-OfStart.is)) i)
+    c.fen_command.new.board c.fen_command.new.tables c.args.store.now} c.fen_command.result
+    (λ o r i. subst (λ (x : Asked). IsReplyTo s o x r) (sym (ap command_seen c.in-FromFen.is)) i)
     (λ o r i h. desk_edited g.S.Pages.PageSource.honest g.S.Pages.PageSource.gives (HonestOn trusted g.S.TableStore.honest) g.S.TableStore.files g.S.TableStore.headers g.S.TableStore.faults
-    c.args.board.now c.of_start.new.board c.args.tables.now c.of_start.new.tables c.args.store.now s r.state d (start_beside s c.in-OfStart.word s.board (start_of c.in-OfStart.fen.now) o r i) h)
-    (c.of_start.ensures s d.held)
+    c.args.board.now c.fen_command.new.board c.args.tables.now c.fen_command.new.tables c.args.store.now s r.state d (start_beside s c.in-FromFen.word s.board (start_of c.in-FromFen.fen.now) o r i) h)
+    (c.fen_command.ensures s d.held)
 
-pub returns-in-AtNode : goal.returns-in-AtNode
-returns-in-AtNode g c = λ trusted s may d. executed_kept {I = λ (o : Outside). IsReplyTo s o (at_node c.in-AtNode.word (steps_of c.in-AtNode.path.word.now))}
+pub returns-in-Query : goal.returns-in-Query
+returns-in-Query g c = λ trusted s may d. executed_kept {I = λ (o : Outside). IsReplyTo s o (node_query c.in-Query.word (steps_of c.in-Query.path.word.now))}
     {J = λ (o : Outside). IsReplyTo s o (command_seen c.args.command.now)}
     {H = HoldsFrom {A = g.row.A.Denot} s c.args.board.now}
     {K = DeskHolds g.S.Pages.PageSource.honest g.S.Pages.PageSource.gives (HonestOn trusted g.S.TableStore.honest) g.S.TableStore.files g.S.TableStore.headers g.S.TableStore.faults
-    c.args.board.now c.args.tables.now c.args.store.now} c.at_node.result
-    (λ o r i. subst (λ (x : Asked). IsReplyTo s o x r) (sym (ap command_seen c.in-AtNode.is)) i)
+    c.args.board.now c.args.tables.now c.args.store.now} c.node_query.result
+    (λ o r i. subst (λ (x : Asked). IsReplyTo s o x r) (sym (ap command_seen c.in-Query.is)) i)
     (λ o r i h. desk_board g.S.Pages.PageSource.honest g.S.Pages.PageSource.gives (HonestOn trusted g.S.TableStore.honest) g.S.TableStore.files g.S.TableStore.headers g.S.TableStore.faults
     c.args.board.now c.args.board.now c.args.tables.now c.args.store.now s r.state d h)
-    (c.at_node.ensures s (board_held g.S.Pages.PageSource.honest g.S.Pages.PageSource.gives c.args.board.now c.args.tables.now s d.held))
+    (c.node_query.ensures s (board_held g.S.Pages.PageSource.honest g.S.Pages.PageSource.gives c.args.board.now c.args.tables.now s d.held))
 
-pub returns-in-AtStudy : goal.returns-in-AtStudy
-returns-in-AtStudy g c = λ trusted s may d. executed_kept {I = λ (o : Outside). IsReplyTo s o (at_study c.in-AtStudy.word (steps_of c.in-AtStudy.path.word.now))}
+pub returns-in-Node : goal.returns-in-Node
+returns-in-Node g c = λ trusted s may d. executed_kept {I = λ (o : Outside). IsReplyTo s o (node_command c.in-Node.word (steps_of c.in-Node.path.word.now))}
     {J = λ (o : Outside). IsReplyTo s o (command_seen c.args.command.now)}
-    {H = HoldsFrom {A = g.row.A.Denot} s c.at_study.new.board}
+    {H = HoldsFrom {A = g.row.A.Denot} s c.node_command.new.board}
     {K = DeskHolds g.S.Pages.PageSource.honest g.S.Pages.PageSource.gives (HonestOn trusted g.S.TableStore.honest) g.S.TableStore.files g.S.TableStore.headers g.S.TableStore.faults
-    c.at_study.new.board c.args.tables.now c.args.store.now} c.at_study.result
-    (λ o r i. subst (λ (x : Asked). IsReplyTo s o x r) (sym (ap command_seen c.in-AtStudy.is)) i)
+    c.node_command.new.board c.args.tables.now c.args.store.now} c.node_command.result
+    (λ o r i. subst (λ (x : Asked). IsReplyTo s o x r) (sym (ap command_seen c.in-Node.is)) i)
     (λ o r i h. desk_board g.S.Pages.PageSource.honest g.S.Pages.PageSource.gives (HonestOn trusted g.S.TableStore.honest) g.S.TableStore.files g.S.TableStore.headers g.S.TableStore.faults
-    c.args.board.now c.at_study.new.board c.args.tables.now c.args.store.now s r.state d h)
-    (c.at_study.ensures s (board_held g.S.Pages.PageSource.honest g.S.Pages.PageSource.gives c.args.board.now c.args.tables.now s d.held))
+    c.args.board.now c.node_command.new.board c.args.tables.now c.args.store.now s r.state d h)
+    (c.node_command.ensures s (board_held g.S.Pages.PageSource.honest g.S.Pages.PageSource.gives c.args.board.now c.args.tables.now s d.held))
 
-pub returns-in-OfClass : goal.returns-in-OfClass
-returns-in-OfClass g c = λ trusted s may d. executed_kept {I = λ (o : Outside). IsReplyTo s o (of_class c.in-OfClass.word c.in-OfClass.name.now)}
+pub returns-in-Table : goal.returns-in-Table
+returns-in-Table g c = λ trusted s may d. executed_kept {I = λ (o : Outside). IsReplyTo s o (table_command c.in-Table.word c.in-Table.name.now)}
     {J = λ (o : Outside). IsReplyTo s o (command_seen c.args.command.now)}
-    {H = λ (t : State). TablesFrom g.S.Pages.PageSource.honest g.S.Pages.PageSource.gives s c.of_class.new.tables t
-    × StoreSeen (HonestOn trusted g.S.TableStore.honest) g.S.TableStore.files g.S.TableStore.headers g.S.TableStore.faults c.of_class.new.store t}
+    {H = λ (t : State). TablesFrom g.S.Pages.PageSource.honest g.S.Pages.PageSource.gives s c.table_command.new.tables t
+    × StoreSeen (HonestOn trusted g.S.TableStore.honest) g.S.TableStore.files g.S.TableStore.headers g.S.TableStore.faults c.table_command.new.store t}
     {K = DeskHolds g.S.Pages.PageSource.honest g.S.Pages.PageSource.gives (HonestOn trusted g.S.TableStore.honest) g.S.TableStore.files g.S.TableStore.headers g.S.TableStore.faults
-    c.args.board.now c.of_class.new.tables c.of_class.new.store} c.of_class.result
-    (λ o r i. subst (λ (x : Asked). IsReplyTo s o x r) (sym (ap command_seen c.in-OfClass.is)) i)
+    c.args.board.now c.table_command.new.tables c.table_command.new.store} c.table_command.result
+    (λ o r i. subst (λ (x : Asked). IsReplyTo s o x r) (sym (ap command_seen c.in-Table.is)) i)
     (λ o r i h. desk_class g.S.Pages.PageSource.honest g.S.Pages.PageSource.gives (HonestOn trusted g.S.TableStore.honest) g.S.TableStore.files g.S.TableStore.headers g.S.TableStore.faults
-    c.args.board.now c.args.tables.now c.of_class.new.tables c.args.store.now c.of_class.new.store s r.state d h)
-    (c.of_class.ensures trusted s (subst (λ (x : Asked). IsTrustedAsked trusted x) (ap command_seen c.in-OfClass.is) may)
+    c.args.board.now c.args.tables.now c.table_command.new.tables c.args.store.now c.table_command.new.store s r.state d h)
+    (c.table_command.ensures trusted s (subst (λ (x : Asked). IsTrustedAsked trusted x) (ap command_seen c.in-Table.is) may)
     (tables_there g.S.Pages.PageSource.honest g.S.Pages.PageSource.gives c.args.board.now c.args.tables.now s d.held) d.seen)
 
 pub returns-in-Stipulate : goal.returns-in-Stipulate

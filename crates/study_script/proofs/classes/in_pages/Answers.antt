@@ -1,8 +1,8 @@
 use Rattle.std.proofs.Common.{rules, ◌≡◌, Err, refl, sym, subst}
 use Rattle.study_script.specs.State.{quiet, is_among}
 use Rattle.study_script.specs.Replies.{IsClassReply, IsOpenReply, refused}
-use Rattle.study_command.specs.declared.command.ClassWord.{ClassWord}
-use Rattle.study_command.specs.declared.command.ClassWord.TheVariants.{Load}
+use Rattle.study_command.specs.declared.command.TableCommand.{TableCommand}
+use Rattle.study_command.specs.declared.command.TableCommand.TheVariants.{Load}
 use Rattle.study_reply.specs.declared.refusal.Refusal.TheVariants.{NotAClass}
 use Rattle.study_script.specs.Stored.{HonestOn, StoreSeen}
 use Rattle.study_script.specs.Decided.{HoldsPaged}
@@ -15,7 +15,7 @@ returns-in_err-class-in-Load g c = λ trusted s may h seen.
     rw is (
       quiet,
       s,
-      subst (λ (w : ClassWord). IsClassReply s quiet w c.args.name.now (refused s NotAClass))
+      subst (λ (w : TableCommand). IsClassReply s quiet w c.args.name.now (refused s NotAClass))
           (sym c.in-Load.is) (not_named s quiet Load c.args.name.now c.in_err-class-in-Load.ensures.err.1),
       (h, refl, seen),
     )
@@ -33,7 +33,7 @@ returns-in_ok-class-in-Load g c = λ trusted s may h seen.
     (λ t. HoldsPaged g.S.Pages.PageSource.honest g.S.Pages.PageSource.gives c.open_class.new.tables t × (t.board ≡ s.board)
     × StoreSeen (HonestOn trusted g.S.TableStore.honest) g.S.TableStore.files g.S.TableStore.headers g.S.TableStore.faults c.open_class.new.store t)
     c.open_class.result
-    (λ o r i. subst (λ (w : ClassWord). IsClassReply s o w c.args.name.now r) (sym c.in-Load.is)
+    (λ o r i. subst (λ (w : TableCommand). IsClassReply s o w c.args.name.now r) (sym c.in-Load.is)
     (open_as s o c.args.name.now class r told h.by_pages i))
     (λ t k. k)
     (c.open_class.ensures trusted s (trust_of trusted c.args.word c.args.name.now class c.in-Load.is told may) h seen)

@@ -3,7 +3,7 @@ use Rattle.study_script.specs.Stored.{HonestOn, StoreSeen}
 use Rattle.study_script.specs.State.{quiet, is_among, first_lacking}
 use Rattle.study_script.specs.Replies.{class_told, IsNamedReply, IsBuildReply, IsTableReply, IsLoadReply, verify_reply, save_reply}
 use Rattle.study_reply.specs.declared.refusal.Refusal.TheVariants.{NotAClass}
-use Rattle.study_command.specs.declared.command.ClassWord.{ClassWord}
+use Rattle.study_command.specs.declared.command.TableCommand.{TableCommand}
 use Rattle.study_script.specs.Decided.{WholeFrom, HoldsWhole}
 use Rattle.study_script.proofs.HeldTables.{store_of}
 use Rattle.study_script.proofs.ClassReplies.{trust_of, load_as, not_named, named_as, decided_weaker}
@@ -23,7 +23,7 @@ returns-in-Build g c = λ trusted s may h seen.
     × StoreSeen (HonestOn trusted g.S.TableStore.honest) g.S.TableStore.files g.S.TableStore.headers g.S.TableStore.faults c.args.store.now t)
     c.build_class.result
     (λ o r i. named_as s o c.args.word c.args.name.now c.in_ok-class.class r c.in_ok-class.ensures.ok
-    (subst (λ (w : ClassWord). IsTableReply s o w c.in_ok-class.class r) (sym c.in-Build.is) i))
+    (subst (λ (w : TableCommand). IsTableReply s o w c.in_ok-class.class r) (sym c.in-Build.is) i))
     (λ t f. (
       f.holds,
       f.board,
@@ -39,7 +39,7 @@ returns-in-Verify g c = λ trusted s may h seen.
     × StoreSeen (HonestOn trusted g.S.TableStore.honest) g.S.TableStore.files g.S.TableStore.headers g.S.TableStore.faults c.args.store.now t)
     c.verify_class.result
     (λ o r i. named_as s o c.args.word c.args.name.now c.in_ok-class.class r c.in_ok-class.ensures.ok
-    (subst (λ (w : ClassWord). IsTableReply s o w c.in_ok-class.class r) (sym c.in-Verify.is) i))
+    (subst (λ (w : TableCommand). IsTableReply s o w c.in_ok-class.class r) (sym c.in-Verify.is) i))
     (λ t f. (
       f.holds,
       f.board,
@@ -58,7 +58,7 @@ returns-in-Load g c = λ trusted s may h seen.
     × StoreSeen (HonestOn trusted g.S.TableStore.honest) g.S.TableStore.files g.S.TableStore.headers g.S.TableStore.faults c.load_class.new.store t)
     c.load_class.result
     (λ o r i. named_as s o c.args.word c.args.name.now class r c.in_ok-class.ensures.ok
-    (subst (λ (w : ClassWord). IsTableReply s o w class r) (sym c.in-Load.is) (load_as s o class r h.whole i)))
+    (subst (λ (w : TableCommand). IsTableReply s o w class r) (sym c.in-Load.is) (load_as s o class r h.whole i)))
     (λ t k. (k.0.holds, k.0.board, k.1))
     (c.load_class.ensures trusted s (trust_of trusted c.args.word c.args.name.now class c.in-Load.is c.in_ok-class.ensures.ok may) h seen)
 
@@ -73,5 +73,5 @@ returns-in-Save g c = λ trusted s may h seen.
     × StoreSeen (HonestOn trusted g.S.TableStore.honest) g.S.TableStore.files g.S.TableStore.headers g.S.TableStore.faults c.save_class.new.store t)
     c.save_class.result
     (λ o r i. named_as s o c.args.word c.args.name.now class r c.in_ok-class.ensures.ok
-    (subst (λ (w : ClassWord). IsTableReply s o w class r) (sym c.in-Save.is) i))
+    (subst (λ (w : TableCommand). IsTableReply s o w class r) (sym c.in-Save.is) i))
     (λ t k. k) (c.save_class.ensures trusted s h seen)

@@ -1,7 +1,7 @@
 use Rattle.std.proofs.Common.{Result, refl, sym, ◌∙◌, subst}
 use Rattle.study_notation.specs.declared.start.Start.{Start}
 use Rattle.study_notation.specs.declared.fault.FenFault.{FenFault}
-use Rattle.study_command.specs.declared.command.FenWord.TheVariants.{Position}
+use Rattle.study_command.specs.declared.command.FenCommand.TheVariants.{Position}
 use Rattle.study_reply.specs.declared.refusal.Refusal.TheVariants.{Fen}
 use Rattle.study_script.specs.State.{quiet}
 use Rattle.study_script.specs.Replies.{refused, IsStartReply}

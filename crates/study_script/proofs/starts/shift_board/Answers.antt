@@ -2,7 +2,7 @@ use Rattle.std.proofs.Common.{refl, subst}
 use Rattle.study_notation.specs.Fen.{start_of}
 use Rattle.study_marks.specs.Study.{plain_study}
 use Rattle.study_marks.specs.BenchState.{marked}
-use Rattle.study_command.specs.declared.command.FenWord.TheVariants.{Shift}
+use Rattle.study_command.specs.declared.command.FenCommand.TheVariants.{Shift}
 use Rattle.study_script.specs.declared.board.Board.TheVariants as held
 use Rattle.study_reply.specs.declared.refusal.Refusal.TheVariants.{NoStudy}
 use Rattle.study_script.specs.State.{Board, Outside, quiet, study}

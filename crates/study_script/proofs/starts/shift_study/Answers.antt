@@ -3,7 +3,7 @@ use Rattle.study_notation.specs.declared.start.Start.{Start}
 use Rattle.study_notation.specs.declared.fault.FenFault.{FenFault}
 use Rattle.study_marks.specs.Study.{plain_study}
 use Rattle.study_marks.specs.BenchState.{marked}
-use Rattle.study_command.specs.declared.command.FenWord.TheVariants.{Shift}
+use Rattle.study_command.specs.declared.command.FenCommand.TheVariants.{Shift}
 use Rattle.study_reply.specs.declared.refusal.Refusal.TheVariants.{Fen}
 use Rattle.study_script.specs.State.{quiet, study}
 use Rattle.study_script.specs.Replies.{refused, IsStartReply}
