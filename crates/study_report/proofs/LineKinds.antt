@@ -4,12 +4,12 @@ use Rattle.std.specs.Prelude.{IfSome}
 use Rattle.study_material.specs.declared.class.Class.{Class}
 use Rattle.study_command.specs.declared.command.TableCommand.TheVariants.{Build, Load, Save, Verify}
 use Rattle.study_command.specs.Parser.{Asks, fen_command, node_query, node_command, table_command, stipulate, insert, tag, solve, pgn, command_of}
-use Rattle.study_script.specs.Stored.{IsTrusted, IsTrustedAsk}
+use Rattle.study_script.specs.Stores.{IsTrusted, IsTrustedAsk}
 use Rattle.study_marks.specs.Edits.{Plainly}
 use Rattle.study_pgn.specs.Pgn.{pgn_text}
 use Rattle.study_reply.specs.declared.refusal.Refusal.{Refusal}
 use Rattle.study_reply.specs.declared.refusal.Refusal.TheVariants.{NoStudy, OutOfMemory}
-use Rattle.study_script.specs.State.{State, Board, empty, start, study, Outside, quiet, no_path, no_room, no_room_for, unread, unopened}
+use Rattle.study_script.specs.State.{State, Document, empty, start, study, Outside, quiet, no_path, no_room, no_room_for, unread, unopened}
 use Rattle.study_script.specs.State.{cut_off, file, header}
 use Rattle.study_script.specs.Replies.{Reply, accepted, refused, class_told, IsPgnReply, IsReplyWhere, Annotated}
 use Rattle.study_report.specs.declared.kind.Kind.TheVariants.{PassedOver, Study, Checked}
@@ -51,7 +51,7 @@ class-no-study None k = absurd cc
 class-no-study (Some c) k = absurd cc
 
 pub pgn-asked : (s : State) (o : Outside) (reply : Reply) (asks : Asks) → kind_in asks ≡ Study → IsReplyWhere s o asks reply
-    → IsPgnReply s o s.board reply
+    → IsPgnReply s o s.document reply
 pgn-asked s o reply (Ok (Some pgn)) k r = r
 pgn-asked s o reply (Ok (Some (table_command word name))) k r = absurd (class-no-study (class_told name) k)
 pgn-asked s o reply (Ok (Some (fen_command word fen))) k r = absurd cc
@@ -65,7 +65,7 @@ pgn-asked s o reply (Ok None) k r = absurd cc
 pgn-asked s o reply (Err fault) k r = absurd cc
 
 -- an accepted one finds a study, and changes nothing
-abbrev pub Finds : State → Board → Reply → Type 0
+abbrev pub Finds : State → Document → Reply → Type 0
 Finds s b reply = ((plain : Plainly) × (b ≡ study plain)) × (reply.state ≡ s)
 
 refused-no : (s : State) (why : Refusal) (reply : Reply) → reply ≡ refused s why → reply.refused ≡ false → ⊥
@@ -76,7 +76,7 @@ found-study : (s : State) (old : Plainly) (reply : Reply) → Annotated old (λ 
     → Finds s (study old) reply
 found-study s old reply (annotated, right, plain, e) = ((old, refl), ap (λ (r : Reply). r.state) e)
 
-pub pgn-finds : (s : State) (o : Outside) (b : Board) (reply : Reply) → IsPgnReply s o b reply → reply.refused ≡ false → Finds s b reply
+pub pgn-finds : (s : State) (o : Outside) (b : Document) (reply : Reply) → IsPgnReply s o b reply → reply.refused ≡ false → Finds s b reply
 pgn-finds s o empty reply r f = absurd (refused-no s NoStudy reply r f)
 pgn-finds s o (start from) reply r f = absurd (refused-no s NoStudy reply r f)
 pgn-finds s no_room (study old) reply r f = absurd (refused-no s OutOfMemory reply r f)

@@ -33,7 +33,7 @@ use Rattle.study_script.specs.Replies.{Reply, refused, refused_as, with_class, b
 use Rattle.study_script.specs.Replies.{IsLoadReply, IsNamedReply, IsTableReply, IsClassReply, IsClassReplyIn, IsOpenReply, IsLoadIn}
 use Rattle.study_script.specs.Replies.{class_told, wants_whole, save_reply, verify_reply}
 use Rattle.study_reply.specs.Names.{words_of}
-use Rattle.study_script.specs.Stored.{IsRightFile, GivesBytes, IsTrustedClass}
+use Rattle.study_script.specs.Stores.{IsRightFile, GivesBytes, IsTrustedClass}
 use Rattle.study_script.specs.Decided.{decided_reply, Decided, HoldsWhole, HoldsPaged, WholeFrom, IsFileRefusal}
 use Rattle.study_script.specs.Held.{HoldsTables, TablesFrom, Answered, BrokenOff}
 use Rattle.study_script.proofs.HeldTables.{lacking, whole_kept}
@@ -148,7 +148,7 @@ module _ (w : Whole) (s : State) (h : HoldsWhole w s) (c : Class) where
   module _ (Seen : State → Type 0) where
     pub save_none : Seen s → is_some (table_of w.tables c) ≡ false
         → Decided (λ o reply. reply ≡ save_reply s o c (is_among s.classes c)) (λ t. HoldsWhole w t
-        × (t.board ≡ s.board) × Seen t) (Err (NoTable c))
+        × (t.document ≡ s.document) × Seen t) (Err (NoTable c))
     save_none seen e = (quiet, s, rw (among false e) refl, (h, refl, seen))
 
     anew : HoldsWhole w (written_anew s c)
@@ -156,17 +156,17 @@ module _ (w : Whole) (s : State) (h : HoldsWhole w s) (c : Class) where
 
     pub save_unopened : Seen (written_anew s c) → (fault : StoreFault) → is_some (table_of w.tables c) ≡ true
         → Decided (λ o reply. reply ≡ save_reply s o c (is_among s.classes c)) (λ t. HoldsWhole w t
-        × (t.board ≡ s.board) × Seen t) (Err Device)
+        × (t.document ≡ s.document) × Seen t) (Err Device)
     save_unopened seen fault e = (unopened fault, written_anew s c, rw (among true e) refl, (anew, refl, seen))
 
     pub save_cut : Seen (written_anew s c) → is_some (table_of w.tables c) ≡ true
         → Decided (λ o reply. reply ≡ save_reply s o c (is_among s.classes c)) (λ t. HoldsWhole w t
-        × (t.board ≡ s.board) × Seen t) (Err Device)
+        × (t.document ≡ s.document) × Seen t) (Err Device)
     save_cut seen e = (cut_off, written_anew s c, rw (among true e) refl, (anew, refl, seen))
 
     pub save_done : Seen (written_anew s c) → is_some (table_of w.tables c) ≡ true
         → Decided (λ o reply. reply ≡ save_reply s o c (is_among s.classes c)) (λ t. HoldsWhole w t
-        × (t.board ≡ s.board) × Seen t) (Ok (Saved c))
+        × (t.document ≡ s.document) × Seen t) (Ok (Saved c))
     save_done seen e = (quiet, written_anew s c, rw (among true e) refl, (anew, refl, seen))
 
 -- ---- which tables are held
@@ -183,16 +183,16 @@ module _ {P A : Type 0} where
       record { values = k.values; classes = k.classes; by_pages = k.paged; faults = k.faults }
 
   pub tables_whole : (honest : P → Table → ℕ → Type 0) (gives : GivesOf P) (w : Whole) (s t : State) → HoldsWhole w t
-      → t.board ≡ s.board → TablesFrom {A = A} honest gives s (held.Whole w) t
+      → t.document ≡ s.document → TablesFrom {A = A} honest gives s (held.Whole w) t
   tables_whole honest gives w s t h e = record {
     holds = record { values = h.values; classes = h.classes; paged = h.whole; faults = λ c f m. absurd m };
-    board
+    document
         = e;
   }
 
   pub tables_paged : (honest : P → Table → ℕ → Type 0) (gives : GivesOf P) (w : Paged P) (s t : State) → HoldsPaged honest gives w t
-      → t.board ≡ s.board → TablesFrom {A = A} honest gives s (held.Paged w) t
-  tables_paged honest gives w s t h e = record { holds = record { values = h.values; classes = h.classes; paged = h.by_pages; faults = h.faults }; board = e }
+      → t.document ≡ s.document → TablesFrom {A = A} honest gives s (held.Paged w) t
+  tables_paged honest gives w s t h e = record { holds = record { values = h.values; classes = h.classes; paged = h.by_pages; faults = h.faults }; document = e }
 
 -- whole tables are asked by any word
 pub asked_whole : (s : State) (o : Outside) (word : TableCommand) (name : List ℕ) (reply : Reply) → false ≡ s.paged

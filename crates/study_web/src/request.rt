@@ -37,7 +37,7 @@ pub enum Request<'r> {
     Run,
     /// `make CLASS`: the file of the class's table.
     Make(Class),
-    /// `view PATH`: the view of the study that the script leaves on the board.
+    /// `view PATH`: the view of the study that the script leaves in the document.
     View(PathWord<'r>),
     /// `review`: the review of the script's studies.
     Review,
