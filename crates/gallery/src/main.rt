@@ -12,9 +12,9 @@ use study_prober::WholeTables;
 use study_report::{Lines, follow};
 use study_retro::TableSet;
 use study_script::document::Document;
-use study_script::session::Session;
 use study_script::memory_store::MemoryStore;
 use study_script::run::{RunFault, Summary, run_session};
+use study_script::session::Session;
 use study_script::store::TableStore;
 use study_script::tables::Tables;
 

@@ -4,13 +4,13 @@
 //! and `read_path` turns a path as it is written into places of children.
 #![tactic(auto)]
 
-mod parser;
+mod arguments;
 pub mod command;
 pub mod laws;
 pub mod line;
+mod parser;
 mod path;
 mod path_text;
-mod arguments;
 
 pub use parser::read_command;
 pub use path::read_path;

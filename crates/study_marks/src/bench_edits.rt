@@ -21,18 +21,18 @@ ghost use Rattle.study_marks.specs.Edits.{promote_refusal, shift_refusal, is_pri
 ghost use Rattle.std.specs.List.{list_all};
 ghost use Rattle.study_marks.specs.Answers.{TellsFirstFault, IsUndamaged};
 
-use crate::evaluate::evaluate;
 use crate::bench::Bench;
-use crate::edit::{Edit, Stopped};
-use crate::refusal::Refusal;
 use crate::child_by_move::find_child;
+use crate::edit::{Edit, Stopped};
+use crate::evaluate::evaluate;
 use crate::evaluate_all::evaluate_all;
 use crate::label::Label;
 use crate::mark_rules::aim_of;
+use crate::refusal::Refusal;
+use crate::relabel::{find_illegal_move, relabel_all};
 use crate::stipulation::Stipulation;
 use crate::tag::{TagName, tag_place};
 use crate::tree_edits::{add_node, promote_node, remove_node};
-use crate::relabel::{find_illegal_move, relabel_all};
 use arrayvec::{ArrayString, ArrayVec};
 use std::alloc::Allocator;
 use study_board::Position;

@@ -15,8 +15,8 @@ ghost use Rattle.study_marks.specs.FaultSums.{below_at};
 ghost use Rattle.study_marks.specs.Relabelled.{positions_in, asked_each, AreToldOf, retold_tree};
 
 use crate::evaluate::evaluate;
-use crate::refusal::Refusal;
 use crate::label::{Label, Told};
+use crate::refusal::Refusal;
 use crate::relabel::{Steps, children_of, move_of};
 use arrayvec::ArrayVec;
 use std::alloc::{AllocError, Allocator};

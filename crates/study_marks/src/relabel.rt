@@ -14,9 +14,9 @@ ghost use Rattle.study_marks.specs.BenchState.{own, faults_below, AllAddUp, told
 ghost use Rattle.study_marks.specs.FaultSums.{below_at};
 ghost use Rattle.study_marks.specs.Relabelled.{told_in, told_to_be, parent_path, retold_tree, refreshed};
 
+use crate::fault_sums::counted_faults;
 use crate::label::{Label, Told};
 use crate::mark_rules::{Aim, hero_moves, own_faults};
-use crate::fault_sums::counted_faults;
 use crate::replay::move_to;
 use arrayvec::ArrayVec;
 use std::alloc::Allocator;

@@ -6,9 +6,9 @@ ghost use Rattle.study_marks.specs.Queries.{counted_times};
 ghost use Rattle.study_marks.specs.BenchState.{AllAddUp, told_tree};
 ghost use Rattle.study_marks.specs.FaultSums.{faults_of};
 
+use crate::fault_sums::{counted_faults, faults_newly_first, faults_of_first, update_faults};
 use crate::label::{Label, Told};
 use crate::mark_rules::{Aim, own_faults};
-use crate::fault_sums::{faults_of_first, faults_newly_first, update_faults, counted_faults};
 use std::alloc::Allocator;
 use study_moves::Move;
 use study_tree::{Tree, TreeFault};

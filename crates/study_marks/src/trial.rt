@@ -13,9 +13,9 @@ ghost use Rattle.study_marks.specs.Answers.{TellsFirstFault, IsUndamaged};
 ghost use Rattle.study_marks.specs.Trial.{trial_refusal, IsMarkOf};
 
 use crate::bench::Bench;
-use crate::refusal::Refusal;
 use crate::mark::Mark;
 use crate::mark_rules::{aim_of, mark_of_move, own_faults};
+use crate::refusal::Refusal;
 use crate::replay::position_at as node_position;
 use std::alloc::Allocator;
 use study_board::Position;

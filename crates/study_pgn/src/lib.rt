@@ -6,14 +6,14 @@
 #![tactic(auto)]
 
 mod fault;
-mod variations;
 mod laws;
-mod wrap;
 mod move_text;
 mod root_comment;
 mod tags;
 mod text_buffer;
 mod value_text;
+mod variations;
+mod wrap;
 mod writer;
 
 pub use fault::PgnFault;

@@ -6,12 +6,12 @@ ghost use Rattle.study_marks.specs.BenchState.{marked};
 ghost use Rattle.study_pgn.specs.Pgn.{movetext, pgn_text};
 
 use crate::PgnFault;
-use crate::variations::add_moves_below;
-use crate::wrap::add_wrapped;
 use crate::root_comment::add_root_comment;
 use crate::tags::add_tags;
 use crate::text_buffer::Text;
 use crate::value_text::result_text;
+use crate::variations::add_moves_below;
+use crate::wrap::add_wrapped;
 use std::alloc::{AllocError, Allocator};
 use std::io::Write;
 use study_marks::{Bench, Mark};

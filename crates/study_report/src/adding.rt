@@ -23,8 +23,8 @@ use study_reply::refusal::Refusal;
 use study_reply::words::{of_probe, refuse};
 use study_review::ReviewFault;
 use study_script::document::Document;
-use study_script::session::{Interpreter, Session};
 use study_script::run::RunFault;
+use study_script::session::{Interpreter, Session};
 use study_script::store::TableStore;
 use study_script::tables::Tables;
 use study_tablefile::PageSource;
@@ -205,7 +205,15 @@ fn add_pgn<'a, 's, S: TableStore, A: Allocator, W: Write, T: Report>(
         let bytes = reply.text.taken.as_slice();
         return add_refusal(alloc, report, at.line, line, bytes, out);
     }
-    tell_study(alloc, &session.document, &mut session.tables, report, at, line, out)
+    tell_study(
+        alloc,
+        &session.document,
+        &mut session.tables,
+        report,
+        at,
+        line,
+        out,
+    )
 }
 
 /// What a line adds, the one at this place.
@@ -239,7 +247,14 @@ pub fn add_line<'a, 's, S: TableStore, A: Allocator, W: Write, T: Report>(
 {
     match kind_of(line) {
         Kind::PassedOver => Ok(Told::Nothing),
-        Kind::NoClass => refuse_line(session.alloc, report, at.line, line, Refusal::NotAClass, out),
+        Kind::NoClass => refuse_line(
+            session.alloc,
+            report,
+            at.line,
+            line,
+            Refusal::NotAClass,
+            out,
+        ),
         Kind::Study => add_pgn(session, report, at, line, out),
         Kind::Checked => add_checked(session, report, at.line, line, out),
     }

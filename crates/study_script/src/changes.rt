@@ -13,8 +13,8 @@ ghost use Rattle.study_script.specs.Held.{Holds, HoldsDocument, HoldsFrom, Holds
 ghost use Rattle.study_script.specs.Executed.{Executed};
 
 use crate::document::Document;
-use crate::table_edits;
 use crate::queries::mark_at;
+use crate::table_edits;
 use crate::tables::Tables;
 use std::alloc::Allocator;
 use study_command::command::NodeCommand;

@@ -9,12 +9,12 @@ ghost use Rattle.study_script.specs.Session.{SessionHolds};
 ghost use Rattle.study_material.specs.declared.class.Class.{Class as AClass};
 ghost use Rattle.study_script.specs.Stores.{HonestOn, IsTrusted, IsTrustedAsked};
 
+use crate::changes::{insert, node_command, set_tag};
 use crate::document::Document;
-use crate::changes::{node_command, insert, set_tag};
-use crate::table_commands::table_command;
-use crate::queries::{node_query, pgn, solve_at};
 use crate::position_commands::{fen_command, stipulate};
+use crate::queries::{node_query, pgn, solve_at};
 use crate::store::TableStore;
+use crate::table_commands::table_command;
 use crate::tables::Tables;
 use std::alloc::Allocator;
 use std::io::Write;

@@ -4,16 +4,16 @@
 //! script by any interpreter. What is replied is said in specs/Replies.antt, over a state that holds a study without marks.
 #![tactic(auto)]
 
+mod changes;
 mod dispatch;
 pub mod document;
-mod changes;
-mod table_commands;
-pub mod session;
-mod table_edits;
 pub mod laws;
 pub mod memory_store;
+mod position_commands;
 mod queries;
 pub mod run;
-mod position_commands;
+pub mod session;
 pub mod store;
+mod table_commands;
+mod table_edits;
 pub mod tables;

@@ -38,7 +38,11 @@ pub fn node_query<'a, A: Allocator>(
     }
 }
 
-fn moves_at<'a, A: Allocator>(alloc: &'a A, document: &Document<'a, A>, path: &[u8]) -> Answer<'a, A>
+fn moves_at<'a, A: Allocator>(
+    alloc: &'a A,
+    document: &Document<'a, A>,
+    path: &[u8],
+) -> Answer<'a, A>
     requires { is_path_word path.now ≡ true }
     ensures { (s : State) → HoldsDocument document.now s
         → Executed (λ o reply. reply ≡ moves_reply s (start_found o s.document (steps_of path.now))) (HoldsFrom s document.now) result }

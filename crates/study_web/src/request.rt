@@ -15,7 +15,7 @@ use crate::words::{
     as_text, is_printable, read_one_word, read_path_word, read_place, read_side, read_square,
 };
 use study_board::Square;
-use study_command::command::{SyntaxFault, PathWord};
+use study_command::command::{PathWord, SyntaxFault};
 use study_marks::{Goal, MateMoves, Stipulation};
 use study_material::Class;
 use study_notation::words::next_word;

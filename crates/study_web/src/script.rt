@@ -33,8 +33,8 @@ use study_reply::refusal::Refusal;
 use study_reply::words::{of_probe, put_line};
 use study_report::{Lines, NoFiles, follow, follow_script};
 use study_script::document::Document;
-use study_script::session::Session;
 use study_script::run::{RunFault, Summary};
+use study_script::session::Session;
 use study_script::store::TableStore;
 use study_script::tables::Tables;
 use study_tablefile::{PageSource, put};
@@ -198,7 +198,11 @@ fn left_by<'a, P: PageSource, A: Allocator>(
         Err(RunFault::WriteDevice) => Err(RunFault::OutOfMemory),
         Err(fault) => Err(fault),
         Ok(_) => {
-            let Session { document, tables, .. } = session;
+            let Session {
+                document,
+                tables,
+                ..
+            } = session;
             Ok(Left {
                 document,
                 tables,
