@@ -222,7 +222,8 @@ abbrev pub refused : {A : Type 0} → Option TreeFault → Option (Refusal A)
 refused None = None
 refused (Some f) = Some (refused_by_tree f)
 
-pub delete-refused : {A : Type 0} (k : BenchState) (ks : List ℕ) → delete_refusal {A = A} (plain_study (marked k)) ks ≡ refused (removal_refusal k.study.tree ks)
+pub delete-refused : {A : Type 0} (k : BenchState) (ks : List ℕ) → delete_refusal {A = A} (plain_study (marked k)) ks
+    ≡ refused (removal_refusal k.study.tree ks)
 delete-refused k [] = refl
 delete-refused {A = A} k (j ∷ js) = ap (λ b. if not b then Some refusal.NoSuchNode else None) (has_spot-plain k (j ∷ js)) ∙ go (has_spot k.study.tree (j ∷ js))
   where
@@ -230,7 +231,8 @@ delete-refused {A = A} k (j ∷ js) = ap (λ b. if not b then Some refusal.NoSuc
     go true = refl
     go false = refl
 
-pub promote-refused : {A : Type 0} (k : BenchState) (ks : List ℕ) → promote_refusal {A = A} (plain_study (marked k)) ks ≡ refused (move_up_refusal k.study.tree ks)
+pub promote-refused : {A : Type 0} (k : BenchState) (ks : List ℕ) → promote_refusal {A = A} (plain_study (marked k)) ks
+    ≡ refused (move_up_refusal k.study.tree ks)
 promote-refused k [] = refl
 promote-refused {A = A} k (j ∷ js) =
     ap (λ b. if not b then Some refusal.NoSuchNode
@@ -294,7 +296,8 @@ pub promote-err : {A : Type 0} (b k : BenchState) (steps path : List ℕ) (r : R
     → MatchOption (promote_refusal {A = A} (plain_study (marked k)) path) (IsOk answer) (λ fault. answer ≡ Err fault)
 promote-err {A = A} b k steps path r f answer same way e h a =
     match-err (promote_refusal {A = A} (plain_study (marked k)) path) answer (refused_by_tree f)
-    (ap (λ (x : BenchState). promote_refusal {A = A} (plain_study (marked x)) path) (sym same) ∙ ap (promote_refusal {A = A} (plain_study (marked b))) (sym way)
+    (ap (λ (x : BenchState). promote_refusal {A = A} (plain_study (marked x)) path) (sym same)
+    ∙ ap (promote_refusal {A = A} (plain_study (marked b))) (sym way)
     ∙ promote-refused b steps ∙ refusal-err (move_up_refusal b.study.tree steps) r f e h) a
 
 pub promote-ok : {A : Type 0} (b k : BenchState) (steps path : List ℕ) (r : Result (Unit {0}) TreeFault) (u : Unit {0}) → b ≡ k → steps ≡ path → r ≡ Ok u

@@ -210,7 +210,8 @@ off-removed a t front k there h =
     let next : nth_faults k (dropped_at k (below_at t.below front)) ≡ faults_of (spot_at new (front ++ k ∷ [])) =
     ap (nth_faults k) (sym (below_at-edited (dropped_at k) t.below front there))
     ∙ sym (faults_of-spot new front k) in
-    let off : IsOff a new front (counted_faults g k (nth_faults k (below_at t.below front))) (faults_newly_first g k (nth_faults k (dropped_at k (below_at t.below front)))) =
+    let off : IsOff a new front (counted_faults g k (nth_faults k (below_at t.below front)))
+    (faults_newly_first g k (nth_faults k (dropped_at k (below_at t.below front)))) =
     IsOff-edited a t (dropped_at k) front (counted_faults g k (nth_faults k (below_at t.below front)))
     (faults_newly_first g k (nth_faults k (dropped_at k (below_at t.below front))))
     (λ s x. AddUp-dropped_at a (length front) (told_at t.label.told t.below front) k s x) (sum-dropped g k (below_at t.below front)) h in

@@ -230,7 +230,8 @@ asked-answer {A = A} n old new f (Err x) e h = subst (λ (y : Refusal A). HasSto
     go (probe.PageDamaged c k) = h
 
 -- the same node of the marks that are shown
-pub children-marked : (b k : BenchState) (steps path : List ℕ) → b ≡ k → steps ≡ path → children_at b.study.tree.below steps ≡ children_at (marked k).tree.below path
+pub children-marked : (b k : BenchState) (steps path : List ℕ) → b ≡ k → steps ≡ path → children_at b.study.tree.below steps
+    ≡ children_at (marked k).tree.below path
 children-marked b k steps path same way =
     sym (children_at-mapped (λ (l : Label). tt {0}) b.study.tree.below steps) ∙ ap (λ (t : Plain (Unit {0})). children_at t.below steps) (sym (bare-marked b))
     ∙ children_at-mapped (λ (x : Mark). tt {0}) (marked b).tree.below steps

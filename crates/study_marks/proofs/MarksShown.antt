@@ -21,7 +21,8 @@ use Rattle.study_marks.specs.Goals.{aim_of, hero_moves, holds, keeps_goal, plies
 use Rattle.study_marks.specs.Marks.{mark_of, move_mark, faults_in}
 use Rattle.study_marks.specs.Annotated.{AreAnnotated}
 use Rattle.study_marks.specs.Tally.{tally_of}
-use Rattle.study_marks.specs.BenchState.{BenchState, count_holding, kept_mark, shown, AreTallied, IsKeptRight, own, all_faults, faults_below, AddUp, AllAddUp, told_tree}
+use Rattle.study_marks.specs.BenchState.{BenchState, count_holding, kept_mark, shown, AreTallied, IsKeptRight}
+use Rattle.study_marks.specs.BenchState.{own, all_faults, faults_below, AddUp, AllAddUp, told_tree}
 use Rattle.study_marks.specs.Told.{IsToldOf, AreTold, AllAreTold}
 
 -- edits keep what is told
@@ -110,7 +111,8 @@ turn a d h = go (d % 2 == 0) refl a.hero_first h
         flip false e = refl
 
 -- the tally counts what holds, where the opponent is to move
-held-counted : (goal : Goal) (first : Bool) (d : ℕ) (vs : List Value) → count_holding goal first d (tally_of vs) ≡ count_by (λ v. keeps_goal goal first d false v) vs
+held-counted : (goal : Goal) (first : Bool) (d : ℕ) (vs : List Value) → count_holding goal first d (tally_of vs)
+    ≡ count_by (λ v. keeps_goal goal first d false v) vs
 held-counted Win first d [] = refl
 held-counted Win first d (values.Win n ∷ vs) =
     let rest : length (tally_of vs).mates ≡ count_by (λ v. keeps_goal Win first d false v) vs = held-counted Win first d vs in

@@ -132,7 +132,8 @@ renewed-step a t [] k n minus plus s e sum h =
     let path : place_edited (labelled_at (record { told = s.label.told; faults = n })) t.below k [] ≡ refaulted n t.below (k ∷ []) =
     ap (λ (x : Label). place_edited (labelled_at (record { told = x.told; faults = n })) t.below k []) (sym w.2) ∙ labelled-refaulted n t.below k [] w.0 w.1 in
     let faults : w.0.label.faults ≡ s.label.faults = ap (λ (x : Label). x.faults) w.2 in
-    subst (λ f. IsOff a (record { label = t.label; below = f }) [] (counted_faults (hero_moves a 0) k s.label.faults) (counted_faults (hero_moves a 0) k n)) (sym path)
+    subst (λ f. IsOff a (record { label = t.label; below = f }) [] (counted_faults (hero_moves a 0) k s.label.faults)
+    (counted_faults (hero_moves a 0) k n)) (sym path)
     (subst (λ x. IsOff a (record { label = t.label; below = refaulted n t.below (k ∷ []) }) [] (counted_faults (hero_moves a 0) k x) (counted_faults (hero_moves a 0) k n)) faults
     (step-in a t [] k n minus plus k [] w.0 refl w.1 (sum ∙ ap (λ x. x + plus) (sym faults)) h))
 renewed-step a t (i ∷ is) k n minus plus s e sum h =

@@ -4,7 +4,8 @@ use Rattle.study_prober.specs.declared.values.ProbeFault.TheVariants as probe
 use Rattle.study_tree.specs.declared.fault.TreeFault.{TreeFault}
 use Rattle.study_tree.specs.declared.fault.TreeFault.TheVariants as tree
 use Rattle.study_marks.specs.declared.refusal.Refusal.{Refusal}
-use Rattle.study_marks.specs.declared.refusal.Refusal.TheVariants.{NoSuchNode, RootNotAllowed, AlreadyFirst, TooDeep, TreeFull, OutOfMemory, NoTable, TableRead}
+use Rattle.study_marks.specs.declared.refusal.Refusal.TheVariants.{NoSuchNode, RootNotAllowed, AlreadyFirst, TooDeep}
+use Rattle.study_marks.specs.declared.refusal.Refusal.TheVariants.{TreeFull, OutOfMemory, NoTable, TableRead}
 
 abbrev pub refused_by : {A : Type 0} → ProbeFault → Refusal A
 refused_by (probe.NoTable c) = NoTable c

@@ -137,7 +137,8 @@ at_beside : (s : State) (o : Outside) (old : Plainly) (steps san : List ℕ) (b 
 at_beside s o old steps san false reply h = beside s _ reply (same_side s) h
 at_beside s o old steps san true reply h = moved_beside s o old steps (move_of (position_at old steps) san) reply h
 
-pub insert_beside : (s : State) (b : Document) (steps san : List ℕ) (o : Outside) (reply : Reply) → IsInsertReply s o b steps san reply → IsBeside s reply.state
+pub insert_beside : (s : State) (b : Document) (steps san : List ℕ) (o : Outside) (reply : Reply) → IsInsertReply s o b steps san reply
+    → IsBeside s reply.state
 insert_beside s empty steps san o reply h = beside s _ reply (same_side s) h
 insert_beside s (start from) steps san o reply h = beside s _ reply (same_side s) h
 insert_beside s (study old) [] san no_path reply h = at_beside s no_path old [] san (has_spot old.tree []) reply h

@@ -83,7 +83,8 @@ module _ {P : Type 0} (honest : P → Table → ℕ → Type 0) (gives : GivesOf
 
       no_room : (t : Result (List ℕ) SourceFault) → IsGivenAs (s.shelf.headers c) (s.shelf.faults c) t → paged_fault false c t ≡ None → fault
           ≡ fault_of.OutOfMemory
-          → Decided (λ o. IsOpenReply s o c (is_among s.classes c)) (λ u. HoldsPaged honest gives v u × (u.document ≡ s.document) × Seen u) (Err (refusal_of_paged fault))
+          → Decided (λ o. IsOpenReply s o c (is_among s.classes c)) (λ u. HoldsPaged honest gives v u × (u.document ≡ s.document) × Seen u)
+          (Err (refusal_of_paged fault))
       no_room (Ok bytes) given none is = (
         no_room_for bytes,
         s,
@@ -95,7 +96,8 @@ module _ {P : Type 0} (honest : P → Table → ℕ → Type 0) (gives : GivesOf
       go : (o : Option PagedFault) → paged_fault false c told ≡ o
           → MatchOption o (fault ≡ fault_of.OutOfMemory)
           (λ f. ◌≡◌ {A = Result (Unit {0}) PagedFault} (Err fault) (Err f))
-          → Decided (λ o. IsOpenReply s o c (is_among s.classes c)) (λ t. HoldsPaged honest gives v t × (t.document ≡ s.document) × Seen t) (Err (refusal_of_paged fault))
+          → Decided (λ o. IsOpenReply s o c (is_among s.classes c)) (λ t. HoldsPaged honest gives v t × (t.document ≡ s.document) × Seen t)
+          (Err (refusal_of_paged fault))
       go None is k = no_room told is_told is k
       go (Some f) is k = (
         header told,

@@ -33,4 +33,5 @@ returns-in-Err-tally_moves-clause-asked g c =
     asked-more (length (map (after c.args.p.now) (legal_list c.args.p.now))) false
     (g.V.Values.asked_of c.args.values.now) (g.V.Values.asked_of c.value.new.self)
     (g.V.Values.asked_of c.tally_moves.new.values) c.value.ensures.asked
-    (subst (λ n. WasAsked n false (g.V.Values.asked_of c.value.new.self) (g.V.Values.asked_of c.tally_moves.new.values)) long c.in-Err-tally_moves.ensures.asked)
+    (subst (λ n. WasAsked n false (g.V.Values.asked_of c.value.new.self) (g.V.Values.asked_of c.tally_moves.new.values)) long
+    c.in-Err-tally_moves.ensures.asked)

@@ -15,7 +15,8 @@ returns-in_err-evaluate_each-clause-refusal g c =
     let same = asked-tree c.args.position.now (plain_tree c.args.tree.now).below c.as_slice.result.now (c.as_slice.ensures.value ∙ c.in-Ok.ensures) in
     let asked = asked_at c.args.position.now ++ asked_below c.args.position.now (plain_tree c.args.tree.now).below in
     outside-answer (g.V.Values.held c.args.values.now) asked c.in_err-evaluate_each.field-0.0 c.from_residual.result c.from_residual.ensures.1
-    (subst (λ (ps : List Position). IsUntold (g.V.Values.held c.args.values.now) ps c.in_err-evaluate_each.field-0.0) same c.in_err-evaluate_each.ensures.untold)
+    (subst (λ (ps : List Position). IsUntold (g.V.Values.held c.args.values.now) ps c.in_err-evaluate_each.field-0.0) same
+    c.in_err-evaluate_each.ensures.untold)
 
 pub returns-in_err-evaluate_each-clause-asked : goal.returns-in_err-evaluate_each-clause-asked
 returns-in_err-evaluate_each-clause-asked g c =

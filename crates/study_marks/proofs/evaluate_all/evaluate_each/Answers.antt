@@ -46,7 +46,8 @@ loop-p-preserved g c = record {
 pub returns-in_err-evaluate_one-clause-first : goal.returns-in_err-evaluate_one-clause-first
 returns-in_err-evaluate_one-clause-first g c =
     same-fault c.from_residual.result c.in_err-evaluate_one.field-0.0
-    (λ f. IsFirstFault g.V.Values.gives g.V.Values.may_fail g.V.Values.asked_of c.args.values.now (asked_each c.args.positions.now) f c.evaluate_one.new.values)
+    (λ f. IsFirstFault g.V.Values.gives g.V.Values.may_fail g.V.Values.asked_of c.args.values.now (asked_each c.args.positions.now) f
+    c.evaluate_one.new.values)
     c.from_residual.ensures.1
     (first-at g.V.Values.gives g.V.Values.may_fail g.V.Values.asked_of c.args.values.now c.loop-p.values c.evaluate_one.new.values c.args.positions.now
     c.loop-p.p-index c.p-item.result c.in_err-evaluate_one.field-0.0 c.loop-p-test.true c.p-item.is c.loop-p.invariant.told

@@ -24,7 +24,8 @@ update_faults-requires g t c κs within =
           off-front c.args.aim.now tree (plain_tree c.write_faults-was.new.tree) c.args.steps.now
               c.in-Some.front.now c.in-Some.place.now c.write_faults-was.result.1 c.args.minus c.args.plus s.0
               c.write_faults-was.result.0
-              c.counted_faults-minus.result c.counted_faults-plus.result c.in-Some.ensures.cases.0 s.1 w.0 w.1 w.2 c.requires.off c.counted_faults-minus.ensures c.counted_faults-plus.ensures,
+              c.counted_faults-minus.result c.counted_faults-plus.result c.in-Some.ensures.cases.0 s.1 w.0 w.1 w.2 c.requires.off
+              c.counted_faults-minus.ensures c.counted_faults-plus.ensures,
         ),
       ),
     )

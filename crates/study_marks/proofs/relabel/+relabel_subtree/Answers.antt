@@ -163,7 +163,8 @@ overflow_add-faults g t c =
     (told_to_be c.args.all.now c.loop-place.next (plain_tree c.loop-place.tree) c.push.new.self.items)) c.push.new.self.items
     c.as_slice-in-loop-place.result.now refl c.loop-place.invariant.0 path
     (c.as_slice-in-loop-place.ensures.value ∙ c.relabel_subtree-below.ensures.steps) c.relabel_subtree-below.ensures.written
-    (plain_tree c.write_node-own.new.tree) c.write_node-own.result c.write_node-own.ensures.written) c.write_node-own.ensures.count c.counted_faults-faults.ensures in
+    (plain_tree c.write_node-own.new.tree) c.write_node-own.result c.write_node-own.ensures.written) c.write_node-own.ensures.count
+    c.counted_faults-faults.ensures in
     let few : c.loop-place.faults + c.counted_faults-faults.result ≤ 4096 =
     done-few j (plain_tree c.write_node-own.new.tree) c.write_node-own.new.tree.relabelled
     (c.loop-place.place + 1) (c.loop-place.faults + c.counted_faults-faults.result) c.relabel_subtree-below.result.1 next
@@ -208,7 +209,8 @@ loop-place-preserved g t c =
     (told_to_be c.args.all.now c.loop-place.next (plain_tree c.loop-place.tree) c.push.new.self.items)) c.push.new.self.items
     c.as_slice-in-loop-place.result.now refl c.loop-place.invariant.0 path
     (c.as_slice-in-loop-place.ensures.value ∙ c.relabel_subtree-below.ensures.steps) c.relabel_subtree-below.ensures.written
-    (plain_tree c.write_node-own.new.tree) c.write_node-own.result c.write_node-own.ensures.written) c.write_node-own.ensures.count c.counted_faults-faults.ensures in (
+    (plain_tree c.write_node-own.new.tree) c.write_node-own.result c.write_node-own.ensures.written) c.write_node-own.ensures.count
+    c.counted_faults-faults.ensures in (
       next,
       c.pop-place.ensures.rest ∙ back j.path c.relabel_subtree-below.new.steps.items c.loop-place.place
           (c.relabel_subtree-below.ensures.steps ∙ path),

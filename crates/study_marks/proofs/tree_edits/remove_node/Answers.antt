@@ -19,7 +19,8 @@ update_faults-requires-clause-off g c =
     removed-off c.args.aim.now t (plain_tree c.remove.new.self) c.args.steps.now c.in-Some.front.now
     c.in-Some.place.now c.faults_at-gone.result c.faults_at-next.result c.counted_faults-minus.result
     c.faults_newly_first-plus.result
-    c.in-Some.ensures.cases.0 c.in_ok-remove.ensures.removed c.faults_at-gone.ensures c.faults_at-next.ensures c.counted_faults-minus.ensures c.faults_newly_first-plus.ensures
+    c.in-Some.ensures.cases.0 c.in_ok-remove.ensures.removed c.faults_at-gone.ensures c.faults_at-next.ensures c.counted_faults-minus.ensures
+    c.faults_newly_first-plus.ensures
     (removal-there t c.args.steps.now c.remove.result c.in_ok-remove.field-0 c.in_ok-remove.was c.remove.ensures.refusal) c.requires
 
 pub returns-in-Some-clause-removed : goal.returns-in-Some-clause-removed

@@ -106,5 +106,6 @@ returns-in-Study-clause-listed g c = λ p told held kept.
 
 pub returns-in-Checked-clause-listed : goal.returns-in-Checked-clause-listed
 returns-in-Checked-clause-listed g c = λ p told held kept.
-    none-listed (g.T.Report.lists c.add_checked.new.report) c.add_checked.result told (document_seen c.add_checked.new.session.document) (c.args.at.studies + 1)
+    none-listed (g.T.Report.lists c.add_checked.new.report) c.add_checked.result told (document_seen c.add_checked.new.session.document)
+    (c.args.at.studies + 1)
     c.add_checked.ensures.told_none (c.add_checked.ensures.listed told kept)

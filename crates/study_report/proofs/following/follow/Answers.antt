@@ -224,7 +224,8 @@ loop-n-preserved g c =
           let on = c.loop-n.invariant.0 first h in
           let said : Adds (IsAdded g.T.Report.tells g.T.Report.refusal on.point line)
           (SessionHolds g.S.Pages.PageSource.honest g.S.Pages.PageSource.gives (HonestOn none_trusted g.S.TableStore.honest) g.S.TableStore.files
-          g.S.TableStore.headers g.S.TableStore.faults c.add_line.new.session.document c.add_line.new.session.tables c.add_line.new.session.store.now) mid new told =
+          g.S.TableStore.headers g.S.TableStore.faults c.add_line.new.session.document c.add_line.new.session.tables c.add_line.new.session.store.now)
+          mid new told =
           rw c.as_slice.ensures at (c.in-Ok.ensures.ok on.point on.held (omega (arith, on.lines_are), on.studies_are)) in
           ToldOn-more g.T.Report.tells g.T.Report.refusal
           (SessionHolds g.S.Pages.PageSource.honest g.S.Pages.PageSource.gives (HonestOn none_trusted g.S.TableStore.honest) g.S.TableStore.files

@@ -32,6 +32,7 @@ pub returns-in-Start : goal.returns-in-Start
 returns-in-Start g c = λ s h. (
   quiet,
   s,
-  subst (λ (x : Document). refused s NoStudy ≡ tag_reply s x c.args.name c.args.text.now) (start_seen c.args.document.now c.in-Start.field-0 s c.in-Start.is h) refl,
+  subst (λ (x : Document). refused s NoStudy ≡ tag_reply s x c.args.name c.args.text.now)
+      (start_seen c.args.document.now c.in-Start.field-0 s c.in-Start.is h) refl,
   document_kept c.args.document.now s h,
 )

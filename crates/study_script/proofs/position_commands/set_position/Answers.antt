@@ -28,7 +28,8 @@ returns-in-Empty g c = λ s h. rw c.set_bare_start.ensures.reply (
   record s { document = start c.args.start },
   subst (λ (x : Document). IsPositionReply s quiet x c.args.start (accepted (record s { document = start c.args.start }) (reply_line (codes "position ") (fen_text c.args.start))))
       (seen_of g.P.PageSource.honest g.P.PageSource.gives c.args.document.now held.Empty c.args.tables.now s c.in-Empty.is h) refl,
-  start_held g.P.PageSource.honest g.P.PageSource.gives c.args.document.now c.set_bare_start.new.document c.args.tables.now s c.args.start c.set_bare_start.ensures.held h,
+  start_held g.P.PageSource.honest g.P.PageSource.gives c.args.document.now c.set_bare_start.new.document c.args.tables.now s c.args.start
+      c.set_bare_start.ensures.held h,
 )
 
 pub returns-in-Start : goal.returns-in-Start

@@ -21,7 +21,8 @@ add_table-requires g c =
     ((c.build.ensures.missing d).1
     (ap (λ (held : List (Option Table)). first_missing held (needs_of c.args.class)) c.tables.ensures ∙ e)) in
     cc) in
-    may_add c.args.tables.now.tables c.args.class c.in-Ok-build.table.class c.in-Ok-build.ensures.class (sym c.has_table.ensures.value ∙ c.if-has_table.false) none
+    may_add c.args.tables.now.tables c.args.class c.in-Ok-build.table.class c.in-Ok-build.ensures.class
+    (sym c.has_table.ensures.value ∙ c.if-has_table.false) none
 
 pub returns-in-Ok-build : goal.returns-in-Ok-build
 returns-in-Ok-build g c = λ s h.
@@ -39,7 +40,8 @@ returns-in-Ok-build g c = λ s h.
     build_done w s h c.args.class c.add_table.new.tables c.in-Ok-build.table c.in-Ok-build.report.deepest_win
     (sym c.has_table.ensures.value ∙ c.if-has_table.false) none c.in-Ok-build.ensures.class c.add_table.ensures.complete
     right c.in-Ok-build.ensures.deepest_win
-    (whole_with w c.add_table.new.tables s c.in-Ok-build.table c.args.class c.has_table.ensures.closed h right c.in-Ok-build.ensures.class c.add_table.ensures.held)
+    (whole_with w c.add_table.new.tables s c.in-Ok-build.table c.args.class c.has_table.ensures.closed h right c.in-Ok-build.ensures.class
+    c.add_table.ensures.held)
 
 pub returns-in-Err-MissingTable : goal.returns-in-Err-MissingTable
 returns-in-Err-MissingTable g c = λ s h.
