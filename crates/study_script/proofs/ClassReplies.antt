@@ -192,8 +192,10 @@ module _ {P A : Type 0} where
 
   pub tables_paged : (honest : P → Table → ℕ → Type 0) (gives : GivesOf P) (w : Paged P) (s t : State) → HoldsPaged honest gives w t
       → t.document ≡ s.document → TablesFrom {A = A} honest gives s (held.Paged w) t
-  tables_paged honest gives w s t h e = record { holds = record { values = h.values; classes = h.classes; paged = h.by_pages; faults = h.faults };
-      document = e }
+  tables_paged honest gives w s t h e = record {
+    holds = record { values = h.values; classes = h.classes; paged = h.by_pages; faults = h.faults };
+    document = e;
+  }
 
 -- whole tables are asked by any word
 pub asked_whole : (s : State) (o : Outside) (word : TableCommand) (name : List ℕ) (reply : Reply) → false ≡ s.paged
