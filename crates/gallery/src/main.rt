@@ -7,14 +7,14 @@ use std::alloc::{Allocator, Global};
 use std::io::{BufReader, ErrorKind, LineWriter, Read, Write};
 use std::process::ExitCode;
 use std::{env, fs, io};
-use study_command::lines::Line;
+use study_command::line::Line;
 use study_prober::WholeTables;
 use study_report::{Lines, follow};
 use study_retro::TableSet;
-use study_script::board::Board;
-use study_script::desk::StudyDesk;
-use study_script::memory::MemoryStore;
-use study_script::run::{RunFault, Summary, run_in};
+use study_script::document::Document;
+use study_script::memory_store::MemoryStore;
+use study_script::run::{RunFault, Summary, run_session};
+use study_script::session::Session;
 use study_script::store::TableStore;
 use study_script::tables::Tables;
 
@@ -65,16 +65,16 @@ fn answer_over<'a, R: Read, W: Write, S: TableStore, A: Allocator>(
     store: &mut S,
 ) -> io::Result<()> {
     let mut line = Line::new(alloc)?;
-    let mut desk = StudyDesk {
+    let mut session = Session {
         alloc,
-        board: Board::Empty,
+        document: Document::Empty,
         tables: Tables::Whole(WholeTables::new(TableSet::new(alloc)?)),
         store,
     };
-    ended(run_in(&mut line, replies, out, &mut desk))?;
+    ended(run_session(&mut line, replies, out, &mut session))?;
     writeln!(out, "== {name}, lines of a report")?;
-    desk.board = Board::Empty;
-    ended(follow(&mut line, lines, out, &mut Lines, &mut desk))
+    session.document = Document::Empty;
+    ended(follow(&mut line, lines, out, &mut Lines, &mut session))
 }
 
 fn ended(answer: Result<Summary, RunFault>) -> io::Result<()> {

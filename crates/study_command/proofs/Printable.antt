@@ -6,7 +6,7 @@ use Rattle.std.specs.Str.{IsAscii}
 use Rattle.std.proofs.lemmas.Bool.{leb-true, cases_Bool}
 use Rattle.study_notation.specs.Words.{is_space, words, begun_word, behind_word}
 use Rattle.study_marks.specs.Edits.{is_printable}
-use Rattle.study_command.specs.Asking.{ended, trimmed}
+use Rattle.study_command.specs.Parser.{ended, trimmed}
 
 pub both : (x y : Bool) → (x && y) ≡ true → (x ≡ true) × (y ≡ true)
 both true y e = (refl, e)

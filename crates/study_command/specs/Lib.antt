@@ -1,4 +1,4 @@
 pub mod Paths
-pub mod Asking
+pub mod Parser
 pub mod Lines
 pub mod Laws

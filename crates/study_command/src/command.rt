@@ -7,21 +7,21 @@ use thiserror::Error;
 
 /// Commands that take a start.
 #[derive(Clone, Copy, Debug, PartialEq, Eq)]
-pub enum FenWord {
+pub enum FenCommand {
     Position,
     Shift,
 }
 
 /// Commands that take a node and nothing else, and need no study.
 #[derive(Clone, Copy, Debug, PartialEq, Eq)]
-pub enum NodeWord {
+pub enum NodeQuery {
     Moves,
     Fen,
 }
 
 /// Commands that take a node of a study and nothing else.
 #[derive(Clone, Copy, Debug, PartialEq, Eq)]
-pub enum StudyWord {
+pub enum NodeCommand {
     Delete,
     Promote,
     Mark,
@@ -29,7 +29,7 @@ pub enum StudyWord {
 
 /// Commands that take a class of material.
 #[derive(Clone, Copy, Debug, PartialEq, Eq)]
-pub enum ClassWord {
+pub enum TableCommand {
     Build,
     Load,
     Save,
@@ -38,11 +38,11 @@ pub enum ClassWord {
 
 /// The first words of lines that ask for something.
 #[derive(Clone, Copy, Debug, PartialEq, Eq)]
-pub enum Word {
-    OfStart(FenWord),
-    AtNode(NodeWord),
-    AtStudy(StudyWord),
-    OfClass(ClassWord),
+pub enum Keyword {
+    FromFen(FenCommand),
+    Query(NodeQuery),
+    Node(NodeCommand),
+    Table(TableCommand),
     Stipulate,
     Insert,
     Tag,
@@ -53,7 +53,7 @@ pub enum Word {
 /// Why a line is no command: in this order, but that words after `stipulate` of whatever number are no stipulation, and
 /// that the name of a tag is looked at before its text.
 #[derive(Clone, Copy, Debug, PartialEq, Eq, Error)]
-pub enum FormFault {
+pub enum SyntaxFault {
     #[error("a byte outside printable ASCII")]
     BadByte,
     #[error("no such command")]
@@ -84,11 +84,11 @@ pub struct PathWord<'a> {
 /// A line that has a reply and no fault of form. Texts have no spaces at their ends.
 #[derive(Clone, Copy)]
 pub enum Command<'a> {
-    OfStart(FenWord, &'a str),
-    AtNode(NodeWord, PathWord<'a>),
-    AtStudy(StudyWord, PathWord<'a>),
+    FromFen(FenCommand, &'a str),
+    Query(NodeQuery, PathWord<'a>),
+    Node(NodeCommand, PathWord<'a>),
     /// With the name of a class, which may be none.
-    OfClass(ClassWord, &'a str),
+    Table(TableCommand, &'a str),
     Stipulate(Stipulation),
     Insert(PathWord<'a>, &'a str),
     Tag(TagName, &'a str),

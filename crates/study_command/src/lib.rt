@@ -4,13 +4,13 @@
 //! and `read_path` turns a path as it is written into places of children.
 #![tactic(auto)]
 
-mod asking;
+mod arguments;
 pub mod command;
 pub mod laws;
-pub mod lines;
-mod path_read;
-mod paths;
-mod words;
+pub mod line;
+mod parser;
+mod path;
+mod path_text;
 
-pub use asking::read_command;
-pub use path_read::read_path;
+pub use parser::read_command;
+pub use path::read_path;

@@ -14,15 +14,15 @@ use Rattle.study_tree.specs.Tree.{Plain, has_spot, without, moved_up, removal_re
 use Rattle.study_marks.specs.declared.mark.Mark.{Mark}
 use Rattle.study_marks.specs.declared.label.Label.{Label}
 use Rattle.study_marks.specs.declared.label.Told.{Told}
-use Rattle.study_marks.specs.declared.marking.Aim.{Aim}
-use Rattle.study_marks.specs.declared.fault.Refusal.{Refusal}
-use Rattle.study_marks.specs.declared.fault.Refusal.TheVariants as refusal
-use Rattle.study_marks.specs.Refused.{refused_by_tree}
+use Rattle.study_marks.specs.declared.mark_rules.Aim.{Aim}
+use Rattle.study_marks.specs.declared.refusal.Refusal.{Refusal}
+use Rattle.study_marks.specs.declared.refusal.Refusal.TheVariants as refusal
+use Rattle.study_marks.specs.Refusals.{refused_by_tree}
 use Rattle.study_marks.specs.Study.{Study, mapped, mapped_tree, plain_study, IsPlayable, AreOthers, AreDistinct}
 use Rattle.study_marks.specs.Goals.{aim_of}
 use Rattle.study_marks.specs.Edits.{deleted, promoted, delete_refusal, promote_refusal}
-use Rattle.study_marks.specs.Asked.{counted_times}
-use Rattle.study_marks.specs.Kept.{Kept, shown, marked, IsStudy, IsKeptRight, AllAddUp, told_tree}
+use Rattle.study_marks.specs.Queries.{counted_times}
+use Rattle.study_marks.specs.BenchState.{BenchState, shown, marked, IsStudy, IsKeptRight, AllAddUp, told_tree}
 use Rattle.study_marks.specs.Told.{AllAreTold}
 use Rattle.study_marks.proofs.SameShape.{mapped-mapped, mapped-without, mapped-moved_up, has_node-mapped}
 use Rattle.study_marks.proofs.SameShape.{IsPlayable-mapped, mapped-IsPlayable, AreDistinct-mapped}
@@ -39,7 +39,7 @@ bare-shown a d q (more m l b r) =
     ap (λ x. more m tt x (mapped (λ _. tt) (shown a d q r))) (bare-shown a (d + 1) l.told b)
     ∙ ap (more m tt (mapped (λ _. tt) b)) (bare-shown a d q r)
 
-pub bare-marked : (k : Kept) → (plain_study (marked k)).tree ≡ bare k.study.tree
+pub bare-marked : (k : BenchState) → (plain_study (marked k)).tree ≡ bare k.study.tree
 bare-marked k = ap (λ f. record { label = tt; below = f }) (bare-shown (aim_of k.study) 0 k.study.tree.label.told k.study.tree.below)
 
 -- what is told and not the faults decides the nodes
@@ -170,14 +170,14 @@ raised-study s u ks e h =
     (fits-moved_up s.start.position (bare s.tree) ks (fits s h)))
 
 -- the plain study after the edit
-pub same-plain : (k : Kept) (u : Plain Label) (n : ℕ)
+pub same-plain : (k : BenchState) (u : Plain Label) (n : ℕ)
     → plain_study (marked (record { study = with_tree k.study u; relabelled = n }))
     ≡ record { start = k.study.start; stipulation = k.study.stipulation; tags = k.study.tags; tree = bare u }
 same-plain k u n =
     ap (λ x. record { start = k.study.start; stipulation = k.study.stipulation; tags = k.study.tags; tree = x })
     (bare-marked (record { study = with_tree k.study u; relabelled = n }))
 
-pub removed-plain : (k : Kept) (u : Plain Label) (n : ℕ) (ks : List ℕ)
+pub removed-plain : (k : BenchState) (u : Plain Label) (n : ℕ) (ks : List ℕ)
     → told_tree u ≡ without (told_tree k.study.tree) ks
     → plain_study (marked (record { study = with_tree k.study u; relabelled = n })) ≡ deleted (plain_study (marked k))
     ks
@@ -185,7 +185,7 @@ removed-plain k u n ks e = same-plain k u n
     ∙ ap (λ x. record { start = k.study.start; stipulation = k.study.stipulation; tags = k.study.tags; tree = x })
     (bare-removed k.study.tree u ks e ∙ ap (λ x. without x ks) (sym (bare-marked k)))
 
-pub raised-plain : (k : Kept) (u : Plain Label) (n : ℕ) (ks : List ℕ)
+pub raised-plain : (k : BenchState) (u : Plain Label) (n : ℕ) (ks : List ℕ)
     → told_tree u ≡ moved_up (told_tree k.study.tree) ks
     → plain_study (marked (record { study = with_tree k.study u; relabelled = n }))
     ≡ promoted (plain_study (marked k)) ks
@@ -202,27 +202,28 @@ told-moved_up : (p : Position) (t : Plain Told) (ks : List ℕ) → AllAreTold p
 told-moved_up p t [] h = h
 told-moved_up p t (k ∷ ks) h = (h.0, AreTold-raised p t.below k ks h.1)
 
-pub removed-right : (k : Kept) (u : Plain Label) (n : ℕ) (ks : List ℕ)
+pub removed-right : (k : BenchState) (u : Plain Label) (n : ℕ) (ks : List ℕ)
     → told_tree u ≡ without (told_tree k.study.tree) ks → AllAddUp (aim_of k.study) u → IsKeptRight k
     → IsKeptRight (record { study = with_tree k.study u; relabelled = n })
 removed-right k u n ks e s h = right-told (record { study = with_tree k.study u; relabelled = n }) s
     (subst (AllAreTold k.study.start.position) (sym e) (told-without k.study.start.position (told_tree k.study.tree) ks (AllAreTold-right k h)))
 
-pub raised-right : (k : Kept) (u : Plain Label) (n : ℕ) (ks : List ℕ)
+pub raised-right : (k : BenchState) (u : Plain Label) (n : ℕ) (ks : List ℕ)
     → told_tree u ≡ moved_up (told_tree k.study.tree) ks → AllAddUp (aim_of k.study) u → IsKeptRight k
     → IsKeptRight (record { study = with_tree k.study u; relabelled = n })
 raised-right k u n ks e s h = right-told (record { study = with_tree k.study u; relabelled = n }) s
     (subst (AllAreTold k.study.start.position) (sym e) (told-moved_up k.study.start.position (told_tree k.study.tree) ks (AllAreTold-right k h)))
 
 -- refusals
-has_spot-plain : (k : Kept) (ks : List ℕ) → has_spot (plain_study (marked k)).tree ks ≡ has_spot k.study.tree ks
+has_spot-plain : (k : BenchState) (ks : List ℕ) → has_spot (plain_study (marked k)).tree ks ≡ has_spot k.study.tree ks
 has_spot-plain k ks = ap (λ (x : Plain (Unit {0})). has_spot x ks) (bare-marked k) ∙ has_node-mapped (λ (l : Label). tt {0}) k.study.tree.below ks
 
 abbrev pub refused : {A : Type 0} → Option TreeFault → Option (Refusal A)
 refused None = None
 refused (Some f) = Some (refused_by_tree f)
 
-pub delete-refused : {A : Type 0} (k : Kept) (ks : List ℕ) → delete_refusal {A = A} (plain_study (marked k)) ks ≡ refused (removal_refusal k.study.tree ks)
+pub delete-refused : {A : Type 0} (k : BenchState) (ks : List ℕ) → delete_refusal {A = A} (plain_study (marked k)) ks
+    ≡ refused (removal_refusal k.study.tree ks)
 delete-refused k [] = refl
 delete-refused {A = A} k (j ∷ js) = ap (λ b. if not b then Some refusal.NoSuchNode else None) (has_spot-plain k (j ∷ js)) ∙ go (has_spot k.study.tree (j ∷ js))
   where
@@ -230,7 +231,8 @@ delete-refused {A = A} k (j ∷ js) = ap (λ b. if not b then Some refusal.NoSuc
     go true = refl
     go false = refl
 
-pub promote-refused : {A : Type 0} (k : Kept) (ks : List ℕ) → promote_refusal {A = A} (plain_study (marked k)) ks ≡ refused (move_up_refusal k.study.tree ks)
+pub promote-refused : {A : Type 0} (k : BenchState) (ks : List ℕ) → promote_refusal {A = A} (plain_study (marked k)) ks
+    ≡ refused (move_up_refusal k.study.tree ks)
 promote-refused k [] = refl
 promote-refused {A = A} k (j ∷ js) =
     ap (λ b. if not b then Some refusal.NoSuchNode
@@ -273,41 +275,42 @@ match-err {A = A} o (Err x) f e h =
     let told : r ≡ err_of f = ap err_of h in
     subst (λ (p : Option (Refusal A)). MatchOption p (IsOk r) (λ fault. r ≡ Err fault)) (sym e) told
 
-pub delete-err : {A : Type 0} (b k : Kept) (steps path : List ℕ) (r : Result (Unit {0}) TreeFault) (f : TreeFault)
+pub delete-err : {A : Type 0} (b k : BenchState) (steps path : List ℕ) (r : Result (Unit {0}) TreeFault) (f : TreeFault)
     (answer : Result (Unit {0}) (Refusal A)) → b ≡ k → steps ≡ path → r ≡ Err f
     → MatchOption (removal_refusal b.study.tree steps) (IsOk r) (λ g. r ≡ Err g) → IsErrAnd answer (λ x. x ≡ refused_by_tree f)
     → MatchOption (delete_refusal {A = A} (plain_study (marked k)) path) (IsOk answer) (λ fault. answer ≡ Err fault)
 delete-err {A = A} b k steps path r f answer same way e h a =
     match-err (delete_refusal {A = A} (plain_study (marked k)) path) answer (refused_by_tree f)
-    (ap (λ (x : Kept). delete_refusal {A = A} (plain_study (marked x)) path) (sym same) ∙ ap (delete_refusal {A = A} (plain_study (marked b))) (sym way)
+    (ap (λ (x : BenchState). delete_refusal {A = A} (plain_study (marked x)) path) (sym same) ∙ ap (delete_refusal {A = A} (plain_study (marked b))) (sym way)
     ∙ delete-refused b steps ∙ refusal-err (removal_refusal b.study.tree steps) r f e h) a
 
-pub delete-ok : {A : Type 0} (b k : Kept) (steps path : List ℕ) (r : Result (Unit {0}) TreeFault) (u : Unit {0}) → b ≡ k → steps ≡ path → r ≡ Ok u
+pub delete-ok : {A : Type 0} (b k : BenchState) (steps path : List ℕ) (r : Result (Unit {0}) TreeFault) (u : Unit {0}) → b ≡ k → steps ≡ path → r ≡ Ok u
     → MatchOption (removal_refusal b.study.tree steps) (IsOk r) (λ g. r ≡ Err g) → delete_refusal {A = A} (plain_study (marked k)) path ≡ None
 delete-ok {A = A} b k steps path r u same way e h =
-    ap (λ (x : Kept). delete_refusal {A = A} (plain_study (marked x)) path) (sym same) ∙ ap (delete_refusal {A = A} (plain_study (marked b))) (sym way)
+    ap (λ (x : BenchState). delete_refusal {A = A} (plain_study (marked x)) path) (sym same) ∙ ap (delete_refusal {A = A} (plain_study (marked b))) (sym way)
     ∙ delete-refused b steps ∙ refusal-ok (removal_refusal b.study.tree steps) r u e h
 
-pub promote-err : {A : Type 0} (b k : Kept) (steps path : List ℕ) (r : Result (Unit {0}) TreeFault) (f : TreeFault)
+pub promote-err : {A : Type 0} (b k : BenchState) (steps path : List ℕ) (r : Result (Unit {0}) TreeFault) (f : TreeFault)
     (answer : Result (Unit {0}) (Refusal A)) → b ≡ k → steps ≡ path → r ≡ Err f
     → MatchOption (move_up_refusal b.study.tree steps) (IsOk r) (λ g. r ≡ Err g) → IsErrAnd answer (λ x. x ≡ refused_by_tree f)
     → MatchOption (promote_refusal {A = A} (plain_study (marked k)) path) (IsOk answer) (λ fault. answer ≡ Err fault)
 promote-err {A = A} b k steps path r f answer same way e h a =
     match-err (promote_refusal {A = A} (plain_study (marked k)) path) answer (refused_by_tree f)
-    (ap (λ (x : Kept). promote_refusal {A = A} (plain_study (marked x)) path) (sym same) ∙ ap (promote_refusal {A = A} (plain_study (marked b))) (sym way)
+    (ap (λ (x : BenchState). promote_refusal {A = A} (plain_study (marked x)) path) (sym same)
+    ∙ ap (promote_refusal {A = A} (plain_study (marked b))) (sym way)
     ∙ promote-refused b steps ∙ refusal-err (move_up_refusal b.study.tree steps) r f e h) a
 
-pub promote-ok : {A : Type 0} (b k : Kept) (steps path : List ℕ) (r : Result (Unit {0}) TreeFault) (u : Unit {0}) → b ≡ k → steps ≡ path → r ≡ Ok u
+pub promote-ok : {A : Type 0} (b k : BenchState) (steps path : List ℕ) (r : Result (Unit {0}) TreeFault) (u : Unit {0}) → b ≡ k → steps ≡ path → r ≡ Ok u
     → MatchOption (move_up_refusal b.study.tree steps) (IsOk r) (λ g. r ≡ Err g) → promote_refusal {A = A} (plain_study (marked k)) path ≡ None
 promote-ok {A = A} b k steps path r u same way e h =
-    ap (λ (x : Kept). promote_refusal {A = A} (plain_study (marked x)) path) (sym same) ∙ ap (promote_refusal {A = A} (plain_study (marked b))) (sym way)
+    ap (λ (x : BenchState). promote_refusal {A = A} (plain_study (marked x)) path) (sym same) ∙ ap (promote_refusal {A = A} (plain_study (marked b))) (sym way)
     ∙ promote-refused b steps ∙ refusal-ok (move_up_refusal b.study.tree steps) r u e h
 
 pub match-ok : {A : Type 0} (o : Option (Refusal A)) (P : Type 0) (Q : Refusal A → Type 0) → o ≡ None → P → MatchOption o P Q
 match-ok o P Q e h = subst (λ p. MatchOption p P Q) (sym e) h
 
 -- the marks that are shown stand on a study
-pub study-marked : (b k : Kept) → b ≡ k → IsStudy b.study → IsStudy (marked k)
+pub study-marked : (b k : BenchState) → b ≡ k → IsStudy b.study → IsStudy (marked k)
 study-marked b k e h =
-    subst (λ (x : Kept). IsStudy (marked x)) e
+    subst (λ (x : BenchState). IsStudy (marked x)) e
     (study b.study (marked b).tree h (subst (Fits b.study.start.position) (sym (bare-marked b)) (fits b.study h)))

@@ -11,14 +11,14 @@ use Rattle.study_marks.specs.declared.stipulation.Stipulation.{Stipulation}
 use Rattle.study_marks.specs.Study.{Study, plain_study, mapped, IsPlayable}
 use Rattle.study_marks.specs.Goals.{aim_of}
 use Rattle.study_marks.specs.Edits.{stipulated, shifted}
-use Rattle.study_marks.specs.Asked.{asked_at, asked_below, positions_asked, IsOutside, HasAsked, HasStopped, is_of_tables}
-use Rattle.study_marks.specs.declared.fault.Refusal.{Refusal}
+use Rattle.study_marks.specs.Queries.{asked_at, asked_below, positions_asked, IsOutside, HasAsked, HasStopped, is_of_tables}
+use Rattle.study_marks.specs.declared.refusal.Refusal.{Refusal}
 use Rattle.study_material.specs.declared.class.Class.{Class}
 use Rattle.std.specs.Prelude.{Bool, Result, Ok, Err, IfErr, IsErrAnd}
-use Rattle.study_marks.specs.Whole.{retold, retold_tree}
+use Rattle.study_marks.specs.Relabelled.{retold, retold_tree}
 use Rattle.study_marks.specs.declared.mark.Mark.{Mark}
 use Rattle.study_marks.proofs.SameShape.{IsPlayable-mapped, mapped-IsPlayable}
-use Rattle.study_marks.specs.Kept.{Kept, marked, IsStudy, IsKeptRight, AllAddUp, told_tree}
+use Rattle.study_marks.specs.BenchState.{BenchState, marked, IsStudy, IsKeptRight, AllAddUp, told_tree}
 use Rattle.study_marks.specs.Told.{AllAreTold}
 use Rattle.study_marks.proofs.BenchEdits.{bare, bare-marked, bare-told, Fits, fits, study}
 use Rattle.study_marks.proofs.MarksShown.{AllAreTold-right, right-told}
@@ -36,13 +36,13 @@ stipulated-study s stipulation u e h =
     let x = study s u h (subst (Fits s.start.position) (sym (same-bare s.tree u e)) (fits s h)) in
     record { valid = x.valid; playable = x.playable; distinct = x.distinct; shallow = x.shallow; printed = x.printed }
 
-pub stipulated-plain : (k : Kept) (stipulation : Stipulation) (u : Plain Label) (n : ℕ) → told_tree u ≡ told_tree k.study.tree
+pub stipulated-plain : (k : BenchState) (stipulation : Stipulation) (u : Plain Label) (n : ℕ) → told_tree u ≡ told_tree k.study.tree
     → plain_study (marked (record { study = restipulated k.study stipulation u; relabelled = n })) ≡ stipulated (plain_study (marked k)) stipulation
 stipulated-plain k stipulation u n e =
     ap (λ x. record { start = k.study.start; stipulation = stipulation; tags = k.study.tags; tree = x })
     (bare-marked (record { study = restipulated k.study stipulation u; relabelled = n }) ∙ same-bare k.study.tree u e ∙ sym (bare-marked k))
 
-pub stipulated-right : (k : Kept) (stipulation : Stipulation) (u : Plain Label) (n : ℕ)
+pub stipulated-right : (k : BenchState) (stipulation : Stipulation) (u : Plain Label) (n : ℕ)
     → told_tree u ≡ told_tree k.study.tree → AllAddUp (aim_of (restipulated k.study stipulation u)) u → IsKeptRight k
     → IsKeptRight (record { study = restipulated k.study stipulation u; relabelled = n })
 stipulated-right k stipulation u n e s h =
@@ -73,7 +73,7 @@ bare-rewritten all t u e = sym (bare-told u) ∙ ap bare e ∙ ap (λ f. record 
 abbrev pub restarted : Study Label → Start → Plain Label → Study Label
 restarted s start u = record { start = start; stipulation = s.stipulation; tags = s.tags; tree = u }
 
-module _ (all : List Told) (k : Kept) (start : Start) (u : Plain Label) (n : ℕ) (e : told_tree u ≡ retold_tree all (told_tree k.study.tree)) where
+module _ (all : List Told) (k : BenchState) (start : Start) (u : Plain Label) (n : ℕ) (e : told_tree u ≡ retold_tree all (told_tree k.study.tree)) where
   pub shifted-study : IsValid start.position → IsPlayable start.position k.study.tree.below → IsStudy k.study → IsStudy (restarted k.study start u)
   shifted-study valid legal h =
       let x = study k.study u h (subst (Fits k.study.start.position) (sym (bare-rewritten all k.study.tree u e)) (fits k.study h)) in
@@ -105,14 +105,14 @@ asked-mapped g p (more m l b r) =
     ap (λ x. asked_at (after p m) ++ (x ++ asked_below p (mapped g r))) (asked-mapped g (after p m) b)
     ∙ ap (λ x. asked_at (after p m) ++ (asked_below (after p m) b ++ x)) (asked-mapped g p r)
 
-pub asked-shifted : (b k : Kept) (start : Start) → b ≡ k
+pub asked-shifted : (b k : BenchState) (start : Start) → b ≡ k
     → asked_at start.position ++ asked_below start.position b.study.tree.below
     ≡ positions_asked (shifted (plain_study (marked k)) start)
 asked-shifted b k start same =
     ap (λ x. asked_at start.position ++ x)
     (sym (asked-mapped (λ (l : Label). tt {0}) start.position b.study.tree.below)
     ∙ ap (λ (t : Plain (Unit {0})). asked_below start.position t.below) (sym (bare-marked b)))
-    ∙ ap (λ (x : Kept). positions_asked (shifted (plain_study (marked x)) start)) same
+    ∙ ap (λ (x : BenchState). positions_asked (shifted (plain_study (marked x)) start)) same
 
 pub asked-plain : (s : Study Mark) → positions_asked (plain_study s) ≡ positions_asked s
 asked-plain s = ap (λ x. asked_at s.start.position ++ x) (asked-mapped (λ (x : Mark). tt {0}) s.start.position s.tree.below)

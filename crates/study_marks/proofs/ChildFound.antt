@@ -7,7 +7,7 @@ use Rattle.study_tree.specs.Edits.{node_in, width, children_at}
 use Rattle.study_tree.specs.Tree.{Plain, Spot, spot_at, twig_spot}
 use Rattle.study_marks.specs.Study.{same_move, place_from, place_at}
 use Rattle.study_marks.specs.Bench.{played_by}
-use Rattle.study_marks.specs.Renewal.{below_at, skipped}
+use Rattle.study_marks.specs.FaultSums.{below_at, skipped}
 use Rattle.study_marks.proofs.MovesToNode.{move_at, move_at-spot}
 
 module _ {L : Type 0} where

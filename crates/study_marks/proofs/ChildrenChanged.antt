@@ -9,13 +9,13 @@ use Rattle.study_tree.specs.declared.fault.TreeFault.TheVariants.{NoSuchNode, Al
 use Rattle.study_board.specs.Counts.{counted}
 use Rattle.study_tree.specs.Tree.{Plain, Spot, spot_at, twig_spot, has_spot, with_child, without, moved_up}
 use Rattle.study_tree.specs.Tree.{removal_refusal, move_up_refusal, child_refusal, size_of}
-use Rattle.study_marks.specs.Asked.{counted_times}
+use Rattle.study_marks.specs.Queries.{counted_times}
 use Rattle.study_marks.specs.declared.label.Label.{Label}
 use Rattle.study_marks.specs.declared.label.Told.{Told}
-use Rattle.study_marks.specs.declared.marking.Aim.{Aim}
+use Rattle.study_marks.specs.declared.mark_rules.Aim.{Aim}
 use Rattle.study_marks.specs.Goals.{hero_moves}
-use Rattle.study_marks.specs.Kept.{own, all_faults, faults_below, AddUp, AllAddUp}
-use Rattle.study_marks.specs.Renewal.{told_at, share, next_share, first_share, faults_of, IsOff, below_at}
+use Rattle.study_marks.specs.BenchState.{own, all_faults, faults_below, AddUp, AllAddUp}
+use Rattle.study_marks.specs.FaultSums.{told_at, counted_faults, faults_newly_first, faults_of_first, faults_of, IsOff, below_at}
 use Rattle.study_marks.proofs.FaultSums.{AddUpBut-edited}
 use Rattle.study_marks.proofs.PathRenewed.{has_spot-front, twig-of}
 
@@ -98,20 +98,20 @@ all-with_last m x none = omega arith
 all-with_last m x (more n l b r) = omega (arith, all-with_last m x r)
 
 sum-with_last : (hero : Bool) (m : Move) (x : Label) (f : Forest Label)
-    → faults_below hero (with_last m x f) ≡ faults_below hero f + share hero (width f) x.faults
+    → faults_below hero (with_last m x f) ≡ faults_below hero f + counted_faults hero (width f) x.faults
 sum-with_last true m x none = omega arith
 sum-with_last false m x none = omega arith
-sum-with_last true m x (more n l b r) = let later : share true (1 + width r) x.faults ≡ 0 = shared (1 + width r) (omega arith) in omega (arith, later)
+sum-with_last true m x (more n l b r) = let later : counted_faults true (1 + width r) x.faults ≡ 0 = shared (1 + width r) (omega arith) in omega (arith, later)
   where
-    shared : (k : ℕ) → 0 < k → share true k x.faults ≡ 0
+    shared : (k : ℕ) → 0 < k → counted_faults true k x.faults ≡ 0
     shared zero h = absurd (omega arith)
     shared (suc k) h = refl
 sum-with_last false m x (more n l b r) =
-    let all : share false (1 + width r) x.faults ≡ x.faults = shared (1 + width r) in
-    let sum : l.faults + all_faults (with_last m x r) ≡ l.faults + all_faults r + share false (1 + width r)
+    let all : counted_faults false (1 + width r) x.faults ≡ x.faults = shared (1 + width r) in
+    let sum : l.faults + all_faults (with_last m x r) ≡ l.faults + all_faults r + counted_faults false (1 + width r)
     x.faults = omega (arith, all-with_last m x r, all) in sum
   where
-    shared : (k : ℕ) → share false k x.faults ≡ x.faults
+    shared : (k : ℕ) → counted_faults false k x.faults ≡ x.faults
     shared zero = refl
     shared (suc k) = refl
 
@@ -121,7 +121,7 @@ all-dropped zero (more m l b r) = omega arith
 all-dropped (suc k) (more m l b r) = omega (arith, all-dropped k r)
 
 sum-dropped : (hero : Bool) (k : ℕ) (f : Forest Label)
-    → faults_below hero (dropped_at k f) + share hero k (nth_faults k f) ≡ faults_below hero f + next_share hero k
+    → faults_below hero (dropped_at k f) + counted_faults hero k (nth_faults k f) ≡ faults_below hero f + faults_newly_first hero k
     (nth_faults k (dropped_at k f))
 sum-dropped true zero none = refl
 sum-dropped false zero none = refl
@@ -143,8 +143,8 @@ all-raised (suc zero) (more m l b (more n x d r)) = omega arith
 all-raised (suc (suc k)) (more m l b r) = ap (λ n. l.faults + n) (all-raised (suc k) r)
 
 sum-raised : (hero : Bool) (k : ℕ) (f : Forest Label)
-    → faults_below hero (raised_at k f) + first_share hero k (nth_faults k (raised_at k f)) ≡ faults_below hero f
-    + first_share hero k (nth_faults k f)
+    → faults_below hero (raised_at k f) + faults_of_first hero k (nth_faults k (raised_at k f)) ≡ faults_below hero f
+    + faults_of_first hero k (nth_faults k f)
 sum-raised hero zero none = refl
 sum-raised true (suc zero) none = refl
 sum-raised false (suc zero) none = refl
@@ -183,13 +183,13 @@ IsOff-edited a t e (k ∷ ks) minus plus keeps sum h = (
 
 pub off-added : (a : Aim) (t : Plain Label) (ks : List ℕ) (m : Move) (x : Label) → AllAddUp a t
     → x.faults ≡ own a (length ks) (told_at t.label.told t.below ks) x.told.value
-    → IsOff a (with_child t ks m x) ks 0 (share (hero_moves a (length ks)) (children_at t.below ks) x.faults)
-off-added a t ks m x h e = IsOff-edited a t (with_last m x) ks 0 (share (hero_moves a (length ks)) (children_at t.below ks) x.faults)
+    → IsOff a (with_child t ks m x) ks 0 (counted_faults (hero_moves a (length ks)) (children_at t.below ks) x.faults)
+off-added a t ks m x h e = IsOff-edited a t (with_last m x) ks 0 (counted_faults (hero_moves a (length ks)) (children_at t.below ks) x.faults)
     (λ s k. AddUp-with_last a (length ks) (told_at t.label.told t.below ks) s m x k e)
     (let sum = sum-with_last (hero_moves a (length ks)) m x (below_at t.below ks) in
-    let same : share (hero_moves a (length ks)) (width (below_at t.below ks)) x.faults
-    ≡ share (hero_moves a (length ks)) (children_at t.below ks) x.faults =
-    ap (λ n. share (hero_moves a (length ks)) n x.faults) (widths t.below ks) in
+    let same : counted_faults (hero_moves a (length ks)) (width (below_at t.below ks)) x.faults
+    ≡ counted_faults (hero_moves a (length ks)) (children_at t.below ks) x.faults =
+    ap (λ n. counted_faults (hero_moves a (length ks)) n x.faults) (widths t.below ks) in
     omega (arith, sum, same)) h
   where
     widths : (f : Forest Label) (ks : List ℕ) → width (below_at f ks) ≡ children_at f ks
@@ -200,8 +200,8 @@ off-added a t ks m x h e = IsOff-edited a t (with_last m x) ks 0 (share (hero_mo
 
 pub off-removed : (a : Aim) (t : Plain Label) (front : List ℕ) (k : ℕ) → IsTrue (has_node t.below front) → AllAddUp a t
     → IsOff a (without t (front ++ k ∷ [])) front
-    (share (hero_moves a (length front)) k (faults_of (spot_at t (front ++ k ∷ []))))
-    (next_share (hero_moves a (length front)) k
+    (counted_faults (hero_moves a (length front)) k (faults_of (spot_at t (front ++ k ∷ []))))
+    (faults_newly_first (hero_moves a (length front)) k
     (faults_of (spot_at (without t (front ++ k ∷ [])) (front ++ k ∷ []))))
 off-removed a t front k there h =
     let g = hero_moves a (length front) in
@@ -210,20 +210,21 @@ off-removed a t front k there h =
     let next : nth_faults k (dropped_at k (below_at t.below front)) ≡ faults_of (spot_at new (front ++ k ∷ [])) =
     ap (nth_faults k) (sym (below_at-edited (dropped_at k) t.below front there))
     ∙ sym (faults_of-spot new front k) in
-    let off : IsOff a new front (share g k (nth_faults k (below_at t.below front))) (next_share g k (nth_faults k (dropped_at k (below_at t.below front)))) =
-    IsOff-edited a t (dropped_at k) front (share g k (nth_faults k (below_at t.below front)))
-    (next_share g k (nth_faults k (dropped_at k (below_at t.below front))))
+    let off : IsOff a new front (counted_faults g k (nth_faults k (below_at t.below front)))
+    (faults_newly_first g k (nth_faults k (dropped_at k (below_at t.below front)))) =
+    IsOff-edited a t (dropped_at k) front (counted_faults g k (nth_faults k (below_at t.below front)))
+    (faults_newly_first g k (nth_faults k (dropped_at k (below_at t.below front))))
     (λ s x. AddUp-dropped_at a (length front) (told_at t.label.told t.below front) k s x) (sum-dropped g k (below_at t.below front)) h in
-    subst (λ (u : Plain Label). IsOff a u front (share g k (faults_of (spot_at t (front ++ k ∷ []))))
-    (next_share g k (faults_of (spot_at u (front ++ k ∷ []))))) (sym (without-below t front k))
-    (subst (λ n. IsOff a new front (share g k (faults_of (spot_at t (front ++ k ∷ [])))) (next_share g k n)) next
-    (subst (λ n. IsOff a new front (share g k n) (next_share g k (nth_faults k (dropped_at k (below_at t.below front))))) gone off))
+    subst (λ (u : Plain Label). IsOff a u front (counted_faults g k (faults_of (spot_at t (front ++ k ∷ []))))
+    (faults_newly_first g k (faults_of (spot_at u (front ++ k ∷ []))))) (sym (without-below t front k))
+    (subst (λ n. IsOff a new front (counted_faults g k (faults_of (spot_at t (front ++ k ∷ [])))) (faults_newly_first g k n)) next
+    (subst (λ n. IsOff a new front (counted_faults g k n) (faults_newly_first g k (nth_faults k (dropped_at k (below_at t.below front))))) gone off))
 
 pub off-raised : (a : Aim) (t : Plain Label) (front : List ℕ) (k : ℕ) → IsTrue (has_node t.below front) → AllAddUp a t
     → IsOff a (moved_up t (front ++ k ∷ [])) front
-    (first_share (hero_moves a (length front)) k
+    (faults_of_first (hero_moves a (length front)) k
     (faults_of (spot_at (moved_up t (front ++ k ∷ [])) (front ++ k ∷ []))))
-    (first_share (hero_moves a (length front)) k (faults_of (spot_at t (front ++ k ∷ []))))
+    (faults_of_first (hero_moves a (length front)) k (faults_of (spot_at t (front ++ k ∷ []))))
 off-raised a t front k there h =
     let g = hero_moves a (length front) in
     let new : Plain Label = record { label = t.label; below = below_edited (raised_at k) t.below front } in
@@ -231,15 +232,15 @@ off-raised a t front k there h =
     let now : nth_faults k (raised_at k (below_at t.below front)) ≡ faults_of (spot_at new (front ++ k ∷ [])) =
     ap (nth_faults k) (sym (below_at-edited (raised_at k) t.below front there))
     ∙ sym (faults_of-spot new front k) in
-    let off : IsOff a new front (first_share g k (nth_faults k (raised_at k (below_at t.below front))))
-    (first_share g k (nth_faults k (below_at t.below front))) =
-    IsOff-edited a t (raised_at k) front (first_share g k (nth_faults k (raised_at k (below_at t.below front))))
-    (first_share g k (nth_faults k (below_at t.below front)))
+    let off : IsOff a new front (faults_of_first g k (nth_faults k (raised_at k (below_at t.below front))))
+    (faults_of_first g k (nth_faults k (below_at t.below front))) =
+    IsOff-edited a t (raised_at k) front (faults_of_first g k (nth_faults k (raised_at k (below_at t.below front))))
+    (faults_of_first g k (nth_faults k (below_at t.below front)))
     (λ s x. AddUp-raised_at a (length front) (told_at t.label.told t.below front) k s x) (sum-raised g k (below_at t.below front)) h in
-    subst (λ (u : Plain Label). IsOff a u front (first_share g k (faults_of (spot_at u (front ++ k ∷ []))))
-    (first_share g k (faults_of (spot_at t (front ++ k ∷ []))))) (sym (moved_up-below t front k))
-    (subst (λ n. IsOff a new front (first_share g k n) (first_share g k (faults_of (spot_at t (front ++ k ∷ []))))) now
-    (subst (λ n. IsOff a new front (first_share g k (nth_faults k (raised_at k (below_at t.below front)))) (first_share g k n)) was off))
+    subst (λ (u : Plain Label). IsOff a u front (faults_of_first g k (faults_of (spot_at u (front ++ k ∷ []))))
+    (faults_of_first g k (faults_of (spot_at t (front ++ k ∷ []))))) (sym (moved_up-below t front k))
+    (subst (λ n. IsOff a new front (faults_of_first g k n) (faults_of_first g k (faults_of (spot_at t (front ++ k ∷ []))))) now
+    (subst (λ n. IsOff a new front (faults_of_first g k (nth_faults k (raised_at k (below_at t.below front)))) (faults_of_first g k n)) was off))
 
 -- the path's front leads to a node still
 kept-front : {L : Type 0} (e : Forest L → Forest L) (f : Forest L) (ks : List ℕ) → IsTrue (has_node f ks) → IsTrue (has_node (below_edited e f ks) ks)
@@ -271,37 +272,37 @@ added-found t new steps m x e h = subst (λ (u : Plain Label). IsTrue (has_spot 
 pub removed-off : (a : Aim) (t new : Plain Label) (steps front : List ℕ) (k gone next minus plus : ℕ)
     → steps ≡ front ++ k ∷ [] → new ≡ without t steps → gone ≡ faults_of (spot_at t steps)
     → next ≡ faults_of (spot_at new steps)
-    → minus ≡ share (hero_moves a (length front)) k gone → plus ≡ next_share (hero_moves a (length front)) k next
+    → minus ≡ counted_faults (hero_moves a (length front)) k gone → plus ≡ faults_newly_first (hero_moves a (length front)) k next
     → IsTrue (has_spot t steps) → AllAddUp a t → IsOff a new front minus plus
 removed-off a t new steps front k gone next minus plus path e eg en em ep h s =
     let g = hero_moves a (length front) in
     let one = off-removed a t front k (has_spot-front t front (k ∷ []) (subst (λ p. IsTrue (has_spot t p)) path h)) s in
     let two =
-    subst (λ p. IsOff a (without t p) front (share g k (faults_of (spot_at t p)))
-    (next_share g k (faults_of (spot_at (without t p) p)))) (sym path) one in
+    subst (λ p. IsOff a (without t p) front (counted_faults g k (faults_of (spot_at t p)))
+    (faults_newly_first g k (faults_of (spot_at (without t p) p)))) (sym path) one in
     let three =
-    subst (λ (u : Plain Label). IsOff a u front (share g k (faults_of (spot_at t steps)))
-    (next_share g k (faults_of (spot_at u steps)))) (sym e) two in
-    let four = subst (λ n. IsOff a new front n (next_share g k (faults_of (spot_at new steps)))) (ap (share g k) (sym eg) ∙ sym em) three in
-    subst (λ n. IsOff a new front minus n) (ap (next_share g k) (sym en) ∙ sym ep) four
+    subst (λ (u : Plain Label). IsOff a u front (counted_faults g k (faults_of (spot_at t steps)))
+    (faults_newly_first g k (faults_of (spot_at u steps)))) (sym e) two in
+    let four = subst (λ n. IsOff a new front n (faults_newly_first g k (faults_of (spot_at new steps)))) (ap (counted_faults g k) (sym eg) ∙ sym em) three in
+    subst (λ n. IsOff a new front minus n) (ap (faults_newly_first g k) (sym en) ∙ sym ep) four
 
 pub raised-off : (a : Aim) (t new : Plain Label) (steps front : List ℕ) (k raised lowered minus plus : ℕ)
     → steps ≡ front ++ k ∷ [] → new ≡ moved_up t steps → raised ≡ faults_of (spot_at t steps)
     → lowered ≡ faults_of (spot_at new steps)
-    → minus ≡ first_share (hero_moves a (length front)) k lowered
-    → plus ≡ first_share (hero_moves a (length front)) k raised → IsTrue (has_spot t steps) → AllAddUp a t
+    → minus ≡ faults_of_first (hero_moves a (length front)) k lowered
+    → plus ≡ faults_of_first (hero_moves a (length front)) k raised → IsTrue (has_spot t steps) → AllAddUp a t
     → IsOff a new front minus plus
 raised-off a t new steps front k raised lowered minus plus path e er el em ep h s =
     let g = hero_moves a (length front) in
     let one = off-raised a t front k (has_spot-front t front (k ∷ []) (subst (λ p. IsTrue (has_spot t p)) path h)) s in
     let two =
-    subst (λ p. IsOff a (moved_up t p) front (first_share g k (faults_of (spot_at (moved_up t p) p)))
-    (first_share g k (faults_of (spot_at t p)))) (sym path) one in
+    subst (λ p. IsOff a (moved_up t p) front (faults_of_first g k (faults_of (spot_at (moved_up t p) p)))
+    (faults_of_first g k (faults_of (spot_at t p)))) (sym path) one in
     let three =
-    subst (λ (u : Plain Label). IsOff a u front (first_share g k (faults_of (spot_at u steps)))
-    (first_share g k (faults_of (spot_at t steps)))) (sym e) two in
-    let four = subst (λ n. IsOff a new front n (first_share g k (faults_of (spot_at t steps)))) (ap (first_share g k) (sym el) ∙ sym em) three in
-    subst (λ n. IsOff a new front minus n) (ap (first_share g k) (sym er) ∙ sym ep) four
+    subst (λ (u : Plain Label). IsOff a u front (faults_of_first g k (faults_of (spot_at u steps)))
+    (faults_of_first g k (faults_of (spot_at t steps)))) (sym e) two in
+    let four = subst (λ n. IsOff a new front n (faults_of_first g k (faults_of (spot_at t steps)))) (ap (faults_of_first g k) (sym el) ∙ sym em) three in
+    subst (λ n. IsOff a new front minus n) (ap (faults_of_first g k) (sym er) ∙ sym ep) four
 
 -- what is told at the path's node is what is shown there
 told-spot-in : (q : Told) (f : Forest Label) (k : ℕ) (ks : List ℕ) (w : Twig Label) → node_in f k ks ≡ Some w → told_at q f (k ∷ ks) ≡ w.label.told
@@ -348,12 +349,12 @@ child-there t steps h = go (has_spot t steps) h
 
 pub added-off : (a : Aim) (t new : Plain Label) (ks : List ℕ) (m : Move) (x : Label) (place plus : ℕ)
     → new ≡ with_child t ks m x → place ≡ children_at t.below ks
-    → plus ≡ share (hero_moves a (length ks)) place x.faults
+    → plus ≡ counted_faults (hero_moves a (length ks)) place x.faults
     → x.faults ≡ own a (length ks) (told_at t.label.told t.below ks) x.told.value → AllAddUp a t → IsOff a new ks 0 plus
 added-off a t new ks m x place plus e ep es eo h =
     let g = hero_moves a (length ks) in
-    let one = subst (λ (u : Plain Label). IsOff a u ks 0 (share g (children_at t.below ks) x.faults)) (sym e) (off-added a t ks m x h eo) in
-    subst (λ n. IsOff a new ks 0 n) (ap (λ n. share g n x.faults) (sym ep) ∙ sym es) one
+    let one = subst (λ (u : Plain Label). IsOff a u ks 0 (counted_faults g (children_at t.below ks) x.faults)) (sym e) (off-added a t ks m x h eo) in
+    subst (λ n. IsOff a new ks 0 n) (ap (λ n. counted_faults g n x.faults) (sym ep) ∙ sym es) one
 
 pub count-two : (n old mid new : ℕ) → mid ≡ counted old → new ≡ counted_times (n + 1) mid → new ≡ counted_times (n + 2) old
 count-two n old mid new e h =

@@ -19,7 +19,7 @@ use Rattle.study_moves.specs.Order.{move_place}
 use Rattle.study_moves.proofs.LegalLists.{in_legal, AscendsFrom-legal_list}
 use Rattle.study_moves.proofs.AscendingKeys.{IsIn, AscendsFrom}
 use Rattle.study_marks.specs.declared.mark.MoveMark.TheVariants.{Only, Dual}
-use Rattle.study_marks.specs.declared.marking.Aim.{Aim}
+use Rattle.study_marks.specs.declared.mark_rules.Aim.{Aim}
 use Rattle.study_marks.specs.Study.{same_move}
 use Rattle.study_marks.specs.Goals.{holds}
 use Rattle.study_marks.specs.Marks.{mark_of, only_or_dual}

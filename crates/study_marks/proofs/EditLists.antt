@@ -5,24 +5,24 @@ use Rattle.std.specs.Prelude.{MatchOption, Ok, Err}
 use Rattle.study_board.specs.Position.{Position}
 use Rattle.study_material.specs.declared.class.Class.{Class}
 use Rattle.study_moves.specs.Rules.{after}
-use Rattle.study_marks.specs.declared.fault.Refusal.{Refusal}
-use Rattle.study_marks.specs.declared.fault.Refusal.TheVariants.{NoSuchNode, RootNotAllowed, AlreadyFirst, IllegalMove}
-use Rattle.study_marks.specs.declared.fault.Refusal.TheVariants.{AlreadyThere, TooDeep, TreeFull, ShiftBroken, TagText}
-use Rattle.study_marks.specs.declared.fault.Refusal.TheVariants.{OutOfMemory, NoTable, TableRead}
+use Rattle.study_marks.specs.declared.refusal.Refusal.{Refusal}
+use Rattle.study_marks.specs.declared.refusal.Refusal.TheVariants.{NoSuchNode, RootNotAllowed, AlreadyFirst, IllegalMove}
+use Rattle.study_marks.specs.declared.refusal.Refusal.TheVariants.{AlreadyThere, TooDeep, TreeFull, ShiftBroken, TagText}
+use Rattle.study_marks.specs.declared.refusal.Refusal.TheVariants.{OutOfMemory, NoTable, TableRead}
 use Rattle.study_marks.specs.declared.edit.Edit.{Edit}
 use Rattle.study_marks.specs.declared.edit.Edit.TheVariants as edits
 use Rattle.study_marks.specs.Study.{plain_study, position_at}
-use Rattle.study_marks.specs.Asked.{asked_at, positions_asked, IsOutside, HasStopped, is_of_tables, counted_times}
+use Rattle.study_marks.specs.Queries.{asked_at, positions_asked, IsOutside, HasStopped, is_of_tables, counted_times}
 use Rattle.study_marks.specs.Edits.{Plainly, shifted, edited, edited_by, insert_refusal, shift_refusal}
 use Rattle.study_tablefile.specs.declared.fault.SourceFault.{SourceFault}
 use Rattle.study_prober.specs.Values.{ProbeAnswer}
 use Rattle.study_marks.specs.Answers.{TellsFirstFault}
-use Rattle.study_marks.specs.Stop.{StopsAtFault}
+use Rattle.study_marks.specs.EditLists.{StopsAtFault}
 use Rattle.study_tree.specs.Tree.{Plain}
 use Rattle.study_marks.specs.declared.label.Told.{Told}
-use Rattle.study_marks.specs.Kept.{Kept, marked, told_tree, IsKeptRight}
-use Rattle.study_marks.specs.Stop.{questions_of, IsKeptAfter, AreKeptAfter, IsRefusalOf, IsAccepted, AreAccepted, labels_after, labels_by}
-use Rattle.study_marks.specs.Stop.{IsStopped, asked_after_edits, HasAskedUpTo, IsApplied}
+use Rattle.study_marks.specs.BenchState.{BenchState, marked, told_tree, IsKeptRight}
+use Rattle.study_marks.specs.EditLists.{questions_of, IsKeptAfter, AreKeptAfter, IsRefusalOf, IsAccepted, AreAccepted, labels_after, labels_by}
+use Rattle.study_marks.specs.EditLists.{IsStopped, asked_after_edits, HasAskedUpTo, IsApplied}
 use Rattle.study_marks.proofs.ValuesAsked.{missing-same, unread-same}
 use Rattle.study_marks.proofs.PositionsListed.{AreTablesHeld-same, take-one}
 
@@ -116,7 +116,7 @@ module _ {A : Type 0} where
 
 -- What these edits, all accepted, did.
 pub record IsRun {A : Type 0} (held held_now : Class → Bool) (honest honest_now : Type 0)
-    (asked asked_now failed failed_now : ℕ) (old new : Kept) (es : List (Edit A)) : Type 0 where
+    (asked asked_now failed failed_now : ℕ) (old new : BenchState) (es : List (Edit A)) : Type 0 where
   pub accepted : AreAccepted held (plain_study (marked old)) es
   pub edit : plain_study (marked new) ≡ edited_by (plain_study (marked old)) es
   pub right : honest → IsKeptRight old → IsKeptRight new
@@ -128,7 +128,7 @@ pub record IsRun {A : Type 0} (held held_now : Class → Bool) (honest honest_no
   pub tables : (c : Class) → held_now c ≡ held c
   pub same : es ≡ [] → new ≡ old
 
-pub run-none : {A : Type 0} (held : Class → Bool) (honest : Type 0) (asked failed : ℕ) (old : Kept)
+pub run-none : {A : Type 0} (held : Class → Bool) (honest : Type 0) (asked failed : ℕ) (old : BenchState)
     → IsRun {A = A} held held honest honest asked asked failed failed old old []
 run-none held honest asked failed old = record {
   accepted = tt;
@@ -144,7 +144,7 @@ run-none held honest asked failed old = record {
 }
 
 module _ {A : Type 0} (held mid now : Class → Bool) (honest honest_mid honest_now : Type 0)
-    (asked asked_mid asked_now failed failed_mid failed_now : ℕ) (old between new : Kept) (xs : List (Edit A)) (i : ℕ)
+    (asked asked_mid asked_now failed failed_mid failed_now : ℕ) (old between new : BenchState) (xs : List (Edit A)) (i : ℕ)
     (e : Edit A)
     (h : IsRun held mid honest honest_mid asked asked_mid failed failed_mid old between (take i xs)) (short : i < length xs) (is : e ≡ get_or xs i e) where
   abbrev s : Plainly

@@ -5,10 +5,10 @@ use Rattle.study_tree.specs.Forest.{Forest, none, more}
 use Rattle.study_tree.specs.Edits.{has_node, below_edited}
 use Rattle.study_marks.specs.declared.label.Label.{Label}
 use Rattle.study_marks.specs.declared.label.Told.{Told}
-use Rattle.study_marks.specs.declared.marking.Aim.{Aim}
+use Rattle.study_marks.specs.declared.mark_rules.Aim.{Aim}
 use Rattle.study_marks.specs.Goals.{hero_moves}
-use Rattle.study_marks.specs.Kept.{own, all_faults, faults_below, AddUp}
-use Rattle.study_marks.specs.Renewal.{told_at, share, AddUpBut, below_at}
+use Rattle.study_marks.specs.BenchState.{own, all_faults, faults_below, AddUp}
+use Rattle.study_marks.specs.FaultSums.{told_at, counted_faults, AddUpBut, below_at}
 
 -- the faults at the end of a path
 abbrev pub faults_at : Forest Label → List ℕ → ℕ
@@ -33,7 +33,7 @@ all-refaulted n (more m l b r) zero h = omega arith
 all-refaulted n (more m l b r) (suc k) h = omega (arith, all-refaulted n r k h)
 
 pub below-refaulted : (hero : Bool) (n : ℕ) (f : Forest Label) (k : ℕ) → IsTrue (has_node f (k ∷ []))
-    → faults_below hero (refaulted n f (k ∷ [])) + share hero k (faults_at f (k ∷ [])) ≡ faults_below hero f + share hero k n
+    → faults_below hero (refaulted n f (k ∷ [])) + counted_faults hero k (faults_at f (k ∷ [])) ≡ faults_below hero f + counted_faults hero k n
 below-refaulted hero n none k h = let no : ⊥ = cc in absurd no
 below-refaulted hero n (more m l b r) zero h = omega arith
 below-refaulted true n (more m l b r) (suc k) h = refl
@@ -66,17 +66,17 @@ module _ (a : Aim) where
   -- the right faults written at the end of a path: then its parent is off by the child's share
   pub refaulted-step : (hero : Bool) (d : ℕ) (q : Told) (f : Forest Label) (front : List ℕ) (k : ℕ) (n minus plus : ℕ) → hero ≡ hero_moves a (d + length front)
       → IsTrue (has_node f (front ++ k ∷ [])) → n + minus ≡ faults_at f (front ++ k ∷ []) + plus → AddUpBut a d q f (front ++ k ∷ []) minus plus
-      → AddUpBut a d q (refaulted n f (front ++ k ∷ [])) front (share hero k (faults_at f (front ++ k ∷ []))) (share hero k n)
+      → AddUpBut a d q (refaulted n f (front ++ k ∷ [])) front (counted_faults hero k (faults_at f (front ++ k ∷ []))) (counted_faults hero k n)
   refaulted-step hero d q none [] k n minus plus e here s h = tt
   refaulted-step hero d q (more m l b r) [] zero n minus plus e here s h = (omega (arith, h.0, s), h.1, h.2)
   refaulted-step hero d q (more m l b r) [] (suc k) n minus plus e here s h = (h.0, h.1, refaulted-step hero d q r [] k n minus plus e here s h.2)
   refaulted-step hero d q none (j ∷ js) k n minus plus e here s h = tt
   refaulted-step hero d q (more m l b r) (zero ∷ []) k n minus plus e here s h =
       let up : hero ≡ hero_moves a (d + 1) = e ∙ ap (hero_moves a) (let one : d + length (zero ∷ []) ≡ d + 1 = omega arith in one) in
-      let sum : faults_below (hero_moves a (d + 1)) (refaulted n b (k ∷ [])) + share hero k (faults_at b (k ∷ []))
-      ≡ faults_below (hero_moves a (d + 1)) b + share hero k n =
-      subst (λ g. faults_below g (refaulted n b (k ∷ [])) + share hero k (faults_at b (k ∷ []))
-      ≡ faults_below g b + share hero k n) up (below-refaulted hero n b k here) in (
+      let sum : faults_below (hero_moves a (d + 1)) (refaulted n b (k ∷ [])) + counted_faults hero k (faults_at b (k ∷ []))
+      ≡ faults_below (hero_moves a (d + 1)) b + counted_faults hero k n =
+      subst (λ g. faults_below g (refaulted n b (k ∷ [])) + counted_faults hero k (faults_at b (k ∷ []))
+      ≡ faults_below g b + counted_faults hero k n) up (below-refaulted hero n b k here) in (
         omega (arith, h.0, sum),
         refaulted-step (hero_moves a (d + 1)) (d + 1) l.told b [] k n minus plus
             (ap (hero_moves a) (let z : d + 1 ≡ d + 1 + length {A = ℕ} [] = omega arith in z)) here s h.1,

@@ -13,7 +13,7 @@ use Rattle.study_tree.specs.Tree.{Spot, twig_spot}
 use Rattle.study_tree.specs.Rows.{Row, rows_in, rows, cut_at}
 use Rattle.study_tree.proofs.RowBlocks.{cut_below, cut-here, cut-down, cut-next}
 use Rattle.study_marks.specs.declared.mark.Mark.{Mark}
-use Rattle.study_marks.specs.declared.marking.Aim.{Aim}
+use Rattle.study_marks.specs.declared.mark_rules.Aim.{Aim}
 use Rattle.study_marks.specs.Goals.{aim_of, hero_moves}
 use Rattle.study_marks.specs.Marks.{own_faults, faults_in}
 use Rattle.study_marks.specs.Annotated.{AreAnnotated}

@@ -7,10 +7,10 @@ use Rattle.study_tablefile.specs.declared.fault.SourceFault.{SourceFault}
 use Rattle.study_prober.specs.Values.{ProbeAnswer, IsNotDamage}
 use Rattle.study_prober.specs.declared.values.ProbeFault.{ProbeFault}
 use Rattle.study_prober.specs.declared.values.ProbeFault.TheVariants as probe
-use Rattle.study_marks.specs.declared.fault.Refusal.{Refusal}
-use Rattle.study_marks.specs.Refused.{refused_by}
-use Rattle.study_marks.specs.Asked.{asked_at}
-use Rattle.study_marks.specs.Whole.{asked_each}
+use Rattle.study_marks.specs.declared.refusal.Refusal.{Refusal}
+use Rattle.study_marks.specs.Refusals.{refused_by}
+use Rattle.study_marks.specs.Queries.{asked_at}
+use Rattle.study_marks.specs.Relabelled.{asked_each}
 use Rattle.study_marks.specs.Answers.{WereTold, IsFirstFault, TellsFirstFault, IsUndamaged}
 use Rattle.study_marks.proofs.PositionsListed.{take-one, split-at, asked_each-append, append-none}
 

@@ -12,7 +12,7 @@ use Rattle.study_marks.specs.declared.label.Label.{Label}
 use Rattle.study_marks.specs.Edits.{broken_from, first_path}
 use Rattle.study_marks.specs.Bench.{played_by}
 use Rattle.study_marks.specs.Study.{IsPlayable}
-use Rattle.study_marks.specs.Renewal.{below_at, skipped}
+use Rattle.study_marks.specs.FaultSums.{below_at, skipped}
 use Rattle.study_marks.proofs.LabelsWritten.{nth, spot-child, below-further, below-nth, has_node-child}
 
 skipped-all : {L : Type 0} (k : ℕ) (f : Forest L) → width f ≤ k → skipped k f ≡ none

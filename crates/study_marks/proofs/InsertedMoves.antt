@@ -18,14 +18,14 @@ use Rattle.study_prober.specs.declared.values.ProbeFault.TheVariants as probe
 use Rattle.study_marks.specs.declared.label.Label.{Label}
 use Rattle.study_marks.specs.declared.label.Told.{Told}
 use Rattle.study_marks.specs.declared.mark.Mark.{Mark}
-use Rattle.study_marks.specs.declared.fault.Refusal.{Refusal}
-use Rattle.study_marks.specs.declared.fault.Refusal.TheVariants as refusal
+use Rattle.study_marks.specs.declared.refusal.Refusal.{Refusal}
+use Rattle.study_marks.specs.declared.refusal.Refusal.TheVariants as refusal
 use Rattle.study_marks.specs.Study.{Study, plain_study, moves_to, position_after, position_at, place_at}
 use Rattle.study_marks.specs.Edits.{there, insert_refusal, inserted}
-use Rattle.study_marks.specs.Kept.{Kept, marked, IsStudy, IsKeptRight, AllAddUp, told_tree}
+use Rattle.study_marks.specs.BenchState.{BenchState, marked, IsStudy, IsKeptRight, AllAddUp, told_tree}
 use Rattle.study_marks.specs.Goals.{aim_of}
-use Rattle.study_marks.specs.Asked.{IsOutside, HasAsked, HasStopped, is_of_tables, counted_times}
-use Rattle.study_marks.specs.Refused.{refused_by}
+use Rattle.study_marks.specs.Queries.{IsOutside, HasAsked, HasStopped, is_of_tables, counted_times}
+use Rattle.study_marks.specs.Refusals.{refused_by}
 use Rattle.study_marks.specs.Told.{IsToldOf, IsUntold, WasAsked, AllAreTold}
 use Rattle.study_marks.proofs.SameShape.{has_node-mapped, moves_to-mapped, place_at-mapped, nodes_in-mapped}
 use Rattle.study_marks.proofs.PathRenewed.{spot-there, there-spot}
@@ -86,10 +86,10 @@ reason-bare p t steps m =
     (ap (λ ms. is_legal (position_after p ms) m) (moves_to-mapped (λ (l : Label). tt {0}) t.below steps))
     (place_at-mapped (λ (l : Label). tt {0}) t.below steps m) refl (ap (λ n. nat_le 4096 (1 + n)) (nodes_in-mapped (λ (l : Label). tt {0}) t.below))
 
-pub insert-reason : {A : Type 0} (b k : Kept) (steps : List ℕ) (m : Move) → b ≡ k
+pub insert-reason : {A : Type 0} (b k : BenchState) (steps : List ℕ) (m : Move) → b ≡ k
     → insert_refusal {A = A} (plain_study (marked k)) steps m ≡ reason b.study.start.position b.study.tree steps m
 insert-reason {A = A} b k steps m same =
-    ap (λ (x : Kept). insert_refusal {A = A} (plain_study (marked x)) steps m) (sym same)
+    ap (λ (x : BenchState). insert_refusal {A = A} (plain_study (marked x)) steps m) (sym same)
     ∙ ap (λ (t : Plain (Unit {0})). reason {A = A} b.study.start.position t steps m) (bare-marked b)
     ∙ reason-bare b.study.start.position b.study.tree steps m
 
@@ -110,7 +110,7 @@ pub not-at-most : (a b : ℕ) → b < a → nat_le a b ≡ false
 not-at-most a b h = lt-leb a b h
 
 -- each reason
-module _ {A : Type 0} (b k : Kept) (steps : List ℕ) (m : Move) (same : b ≡ k) where
+module _ {A : Type 0} (b k : BenchState) (steps : List ℕ) (m : Move) (same : b ≡ k) where
   pub no-node : has_spot b.study.tree steps ≡ false → insert_refusal {A = A} (plain_study (marked k)) steps m ≡ Some refusal.NoSuchNode
   no-node f = insert-reason b k steps m same ∙ chosen-same _ false _ _ _ _ _ _ _ _ f refl refl refl refl
 
@@ -164,24 +164,24 @@ none-refused : {T A : Type 0} (o : Option (Refusal A)) (r : Result T (Refusal A)
 none-refused None r x e h = refl
 none-refused (Some f) r x e h = let no : Ok x ≡ Err f = sym e ∙ h in absurd cc
 
-pub allowed : {A T : Type 0} (b : Kept) (steps : List ℕ) (m : Move) (r : Result T (Refusal A)) (x : T) → r ≡ Ok x
+pub allowed : {A T : Type 0} (b : BenchState) (steps : List ℕ) (m : Move) (r : Result T (Refusal A)) (x : T) → r ≡ Ok x
     → MatchOption (insert_refusal {A = A} (plain_study (marked b)) steps m) (IsOk r) (λ g. r ≡ Err g)
     → Open b.study.start.position b.study.tree steps m
 allowed {A = A} b steps m r x e h =
     let all = chosen-open _ _ _ _ _ (sym (insert-reason {A = A} b b steps m refl) ∙ none-refused _ r x e h) in
     record { found = all.0; legal = all.1; place = all.2; depth = leb-false 256 (length steps) all.3 }
 
-pub open-as : (b k : Kept) (steps : List ℕ) (m : Move) → b ≡ k → Open k.study.start.position k.study.tree steps m
+pub open-as : (b k : BenchState) (steps : List ℕ) (m : Move) → b ≡ k → Open k.study.start.position k.study.tree steps m
     → Open b.study.start.position b.study.tree steps m
-open-as b k steps m same o = subst (λ (y : Kept). Open y.study.start.position y.study.tree steps m) (sym same) o
+open-as b k steps m same o = subst (λ (y : BenchState). Open y.study.start.position y.study.tree steps m) (sym same) o
 
-pub unrefused : {A T : Type 0} (k : Kept) (steps path : List ℕ) (m : Move) (r : Result T (Refusal A)) (x : T)
+pub unrefused : {A T : Type 0} (k : BenchState) (steps path : List ℕ) (m : Move) (r : Result T (Refusal A)) (x : T)
     → steps ≡ path → r ≡ Ok x → MatchOption (insert_refusal {A = A} (plain_study (marked k)) steps m) (IsOk r)
     (λ g. r ≡ Err g)
     → insert_refusal {A = A} (plain_study (marked k)) path m ≡ None
 unrefused {A = A} k steps path m r x way e h = ap (λ p. insert_refusal {A = A} (plain_study (marked k)) p m) (sym way) ∙ none-refused _ r x e h
 
-pub refused-before : {A T U : Type 0} (k : Kept) (steps path : List ℕ) (m : Move) (r : Result T (Refusal A))
+pub refused-before : {A T U : Type 0} (k : BenchState) (steps path : List ℕ) (m : Move) (r : Result T (Refusal A))
     (f : Refusal A) (answer : Result U (Refusal A)) (P : Type 0) → steps ≡ path → r ≡ Err f
     → MatchOption (insert_refusal {A = A} (plain_study (marked k)) steps m) (IsOk r) (λ g. r ≡ Err g) → IsErrAnd answer (λ x. x ≡ f)
     → MatchOption (insert_refusal {A = A} (plain_study (marked k)) path m) P (λ g. answer ≡ Err g)
@@ -230,19 +230,20 @@ asked-answer {A = A} n old new f (Err x) e h = subst (λ (y : Refusal A). HasSto
     go (probe.PageDamaged c k) = h
 
 -- the same node of the marks that are shown
-pub children-marked : (b k : Kept) (steps path : List ℕ) → b ≡ k → steps ≡ path → children_at b.study.tree.below steps ≡ children_at (marked k).tree.below path
+pub children-marked : (b k : BenchState) (steps path : List ℕ) → b ≡ k → steps ≡ path → children_at b.study.tree.below steps
+    ≡ children_at (marked k).tree.below path
 children-marked b k steps path same way =
     sym (children_at-mapped (λ (l : Label). tt {0}) b.study.tree.below steps) ∙ ap (λ (t : Plain (Unit {0})). children_at t.below steps) (sym (bare-marked b))
     ∙ children_at-mapped (λ (x : Mark). tt {0}) (marked b).tree.below steps
-    ∙ ap (λ (x : Kept). children_at (marked x).tree.below steps) same ∙ ap (children_at (marked k).tree.below) way
+    ∙ ap (λ (x : BenchState). children_at (marked x).tree.below steps) same ∙ ap (children_at (marked k).tree.below) way
 
-pub position-marked : (b k : Kept) (steps path : List ℕ) → b ≡ k → steps ≡ path → position_at b.study steps ≡ position_at (marked k) path
+pub position-marked : (b k : BenchState) (steps path : List ℕ) → b ≡ k → steps ≡ path → position_at b.study steps ≡ position_at (marked k) path
 position-marked b k steps path same way =
     ap (position_after b.study.start.position)
     (sym (moves_to-mapped (λ (l : Label). tt {0}) b.study.tree.below steps)
     ∙ ap (λ (t : Plain (Unit {0})). moves_to t.below steps) (sym (bare-marked b))
     ∙ moves_to-mapped (λ (x : Mark). tt {0}) (marked b).tree.below steps)
-    ∙ ap (λ (x : Kept). position_at (marked x) steps) same ∙ ap (position_at (marked k)) way
+    ∙ ap (λ (x : BenchState). position_at (marked x) steps) same ∙ ap (position_at (marked k)) way
 
 -- the nodes after the edit
 bare-inserted : (t u : Plain Label) (ks : List ℕ) (m : Move) (x : Told) → told_tree u ≡ with_child (told_tree t) ks m x → bare u ≡ with_child (bare t) ks m tt
@@ -266,13 +267,13 @@ inserted-study s u ks m x e o h =
     (ap (λ ms. is_legal (position_after s.start.position ms) m) (moves_to-mapped (λ (l : Label). tt {0}) s.tree.below ks) ∙ o.legal)
     (place_at-mapped (λ (l : Label). tt {0}) s.tree.below ks m ∙ o.place) o.depth (fits s h)))
 
-pub inserted-plain : (k : Kept) (u : Plain Label) (n : ℕ) (ks : List ℕ) (m : Move) (x : Told) → told_tree u ≡ with_child (told_tree k.study.tree) ks m x
+pub inserted-plain : (k : BenchState) (u : Plain Label) (n : ℕ) (ks : List ℕ) (m : Move) (x : Told) → told_tree u ≡ with_child (told_tree k.study.tree) ks m x
     → plain_study (marked (record { study = with_tree k.study u; relabelled = n })) ≡ inserted (plain_study (marked k)) ks m
 inserted-plain k u n ks m x e = same-plain k u n
     ∙ ap (λ y. record { start = k.study.start; stipulation = k.study.stipulation; tags = k.study.tags; tree = y })
     (bare-inserted k.study.tree u ks m x e ∙ ap (λ y. with_child y ks m tt) (sym (bare-marked k)))
 
-pub inserted-right : (k : Kept) (u : Plain Label) (n : ℕ) (ks : List ℕ) (m : Move) (x : Told)
+pub inserted-right : (k : BenchState) (u : Plain Label) (n : ℕ) (ks : List ℕ) (m : Move) (x : Told)
     → told_tree u ≡ with_child (told_tree k.study.tree) ks m x → AllAddUp (aim_of k.study) u
     → IsToldOf (after (position_at k.study ks) m) x → IsKeptRight k → IsKeptRight (record { study = with_tree k.study u; relabelled = n })
 inserted-right k u n ks m x e s g h =

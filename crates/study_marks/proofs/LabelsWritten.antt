@@ -11,14 +11,14 @@ use Rattle.study_board.specs.Counts.{counted}
 use Rattle.study_tree.specs.Tree.{Plain, Spot, with_label, spot_at, twig_spot, has_spot, size_of, label_refusal}
 use Rattle.study_marks.specs.declared.label.Label.{Label}
 use Rattle.study_marks.specs.declared.label.Told.{Told}
-use Rattle.study_marks.specs.declared.marking.Aim.{Aim}
-use Rattle.study_marks.specs.Asked.{counted_times}
+use Rattle.study_marks.specs.declared.mark_rules.Aim.{Aim}
+use Rattle.study_marks.specs.Queries.{counted_times}
 use Rattle.study_tree.proofs.TreeDepth.{within-length}
 use Rattle.study_marks.specs.Study.{mapped}
 use Rattle.study_marks.specs.Goals.{hero_moves}
-use Rattle.study_marks.specs.Kept.{own, all_faults, faults_below, AddUp, AllAddUp, told_tree}
-use Rattle.study_marks.specs.Renewal.{below_at, share}
-use Rattle.study_marks.specs.Whole.{told_in, retold, retold_tree, refreshed, refreshed_to, firsts}
+use Rattle.study_marks.specs.BenchState.{own, all_faults, faults_below, AddUp, AllAddUp, told_tree}
+use Rattle.study_marks.specs.FaultSums.{below_at, counted_faults}
+use Rattle.study_marks.specs.Relabelled.{told_in, retold, retold_tree, refreshed, refreshed_to, firsts}
 use Rattle.study_marks.proofs.SameShape.{nodes_in-mapped}
 use Rattle.study_marks.proofs.PathRenewed.{below≤all, all≤nodes}
 use Rattle.study_marks.proofs.ChildrenChanged.{below_at-edited, place-below}
@@ -287,7 +287,7 @@ module _ (all : List Told) (a : Aim) where
 
   pub sum-more : (d n j : ℕ) (hero : Bool) (q : Told) (k : ℕ) (f : Forest Label) (t : Twig Label) → node_in f k [] ≡ Some t → j ≡ n + nodes_in (firsts k f)
       → faults_below hero (refreshed all a d n q (firsts (suc k) f))
-      ≡ faults_below hero (refreshed all a d n q (firsts k f)) + share hero k (label_at all a d j q t).faults
+      ≡ faults_below hero (refreshed all a d n q (firsts k f)) + counted_faults hero k (label_at all a d j q t).faults
   sum-more d n j hero q k none t e h = let no : ⊥ = cc in absurd no
   sum-more d n j true q zero (more m l b r) t e h =
       let same = first-sum d n j q t (twig m l b) (let s : twig m l b ≡ t = cc in s) (let z : j ≡ n = omega (arith, h) in z) in
@@ -404,7 +404,7 @@ pub record IsNext (j : Task) (now : Plain Label) (new k next : ℕ) (after : Pla
   pub sums : sum ≡ own j.aim (length j.path) j.told child.value + below
   pub written : after ≡ with_label between (j.path ++ k ∷ []) (record { told = child; faults = sum })
   pub counts : later ≡ counted labels
-  pub shared : share_of ≡ share (hero_moves j.aim (length j.path)) k sum
+  pub shared : share_of ≡ counted_faults (hero_moves j.aim (length j.path)) k sum
 
 pub done-next : (j : Task) (now : Plain Label) (new k faults next : ℕ) (after : Plain Label) (later share_of beyond : ℕ) → IsDone j now new k faults next
     → IsTrue (has_node j.was.below j.path) → k < width (below_of j)
@@ -496,7 +496,7 @@ done-next j now new k faults next after later share_of beyond h found left n =
         (part (suc k)) j.was.below ks (one-more j.all a d j.number next q k F w.0 w.1 h.number))
 
     sum : faults + share_of ≡ faults_below (hero_moves a d) (refresh j (firsts (suc k) F))
-    sum = let shares : share_of ≡ share (hero_moves a d) k X = n.shared ∙ ap (share (hero_moves a d) k) is_sum in
+    sum = let shares : share_of ≡ counted_faults (hero_moves a d) k X = n.shared ∙ ap (counted_faults (hero_moves a d) k) is_sum in
         ap (λ x. x + share_of) h.sum ∙ ap (λ x. faults_below (hero_moves a d) (refresh j (firsts k F)) + x) shares
         ∙ sym (sum-more j.all a d j.number next (hero_moves a d) q k F w.0 w.1 h.number)
 
@@ -562,7 +562,7 @@ pub done-step : (j : Task) (now : Plain Label) (new k faults next : ℕ) (betwee
     → beyond ≡ next + 1 + nodes_in (below_at now.below push)
     → sum ≡ own j.aim depth j.told child.value + below
     → after ≡ with_label between path2 (record { told = child; faults = sum })
-    → later ≡ counted labels → share_of ≡ share (hero_moves j.aim depth) k sum
+    → later ≡ counted labels → share_of ≡ counted_faults (hero_moves j.aim depth) k sum
     → IsDone j after later (k + 1) (faults + share_of) beyond
 done-step j now new k faults next between labels after later share_of beyond push path1 path2 depth child below sum
     h found left e e1 e2 ed told under adds count number own_sum written counts shared =
@@ -580,7 +580,7 @@ done-step j now new k faults next between labels after later share_of beyond pus
       sums = own_sum ∙ ap (λ d. own j.aim d j.told child.value + below) ed;
       written = written ∙ ap (λ p. with_label between p (record { told = child; faults = sum })) (e2 ∙ e);
       counts = counts;
-      shared = shared ∙ ap (λ d. share (hero_moves j.aim d) k sum) ed;
+      shared = shared ∙ ap (λ d. counted_faults (hero_moves j.aim d) k sum) ed;
     })
 
 pub room-next : (j : Task) (now : Plain Label) (new k faults next : ℕ) (push : List ℕ)

@@ -15,13 +15,14 @@ use Rattle.study_marks.specs.declared.stipulation.Goal.{Goal}
 use Rattle.study_marks.specs.declared.stipulation.Goal.TheVariants.{Win, Draw, MateIn}
 use Rattle.study_marks.specs.declared.label.Label.{Label}
 use Rattle.study_marks.specs.declared.label.Told.{Told}
-use Rattle.study_marks.specs.declared.marking.Aim.{Aim}
+use Rattle.study_marks.specs.declared.mark_rules.Aim.{Aim}
 use Rattle.study_marks.specs.Study.{mapped, moves_to, position_after}
 use Rattle.study_marks.specs.Goals.{aim_of, hero_moves, holds, keeps_goal, plies_of}
 use Rattle.study_marks.specs.Marks.{mark_of, move_mark, faults_in}
 use Rattle.study_marks.specs.Annotated.{AreAnnotated}
 use Rattle.study_marks.specs.Tally.{tally_of}
-use Rattle.study_marks.specs.Kept.{Kept, held_by, kept_mark, shown, AreTallied, IsKeptRight, own, all_faults, faults_below, AddUp, AllAddUp, told_tree}
+use Rattle.study_marks.specs.BenchState.{BenchState, count_holding, kept_mark, shown, AreTallied, IsKeptRight}
+use Rattle.study_marks.specs.BenchState.{own, all_faults, faults_below, AddUp, AllAddUp, told_tree}
 use Rattle.study_marks.specs.Told.{IsToldOf, AreTold, AllAreTold}
 
 -- edits keep what is told
@@ -72,7 +73,7 @@ AreTold-annotated a d p v q none h t = tt
 AreTold-annotated a d p v q (more m l b r) h t =
     ((h.0, t.0), AreTold-annotated a (d + 1) (after p m) l.told.value l.told b h.3 t.1, AreTold-annotated a d p v q r h.4 t.2)
 
-pub AllAreTold-right : (k : Kept) → IsKeptRight k → AllAreTold k.study.start.position (told_tree k.study.tree)
+pub AllAreTold-right : (k : BenchState) → IsKeptRight k → AllAreTold k.study.start.position (told_tree k.study.tree)
 AllAreTold-right k h = (
   (h.marks.value, h.root),
   AreTold-annotated (aim_of k.study) 0 k.study.start.position
@@ -110,7 +111,8 @@ turn a d h = go (d % 2 == 0) refl a.hero_first h
         flip false e = refl
 
 -- the tally counts what holds, where the opponent is to move
-held-counted : (goal : Goal) (first : Bool) (d : ℕ) (vs : List Value) → held_by goal first d (tally_of vs) ≡ count_by (λ v. keeps_goal goal first d false v) vs
+held-counted : (goal : Goal) (first : Bool) (d : ℕ) (vs : List Value) → count_holding goal first d (tally_of vs)
+    ≡ count_by (λ v. keeps_goal goal first d false v) vs
 held-counted Win first d [] = refl
 held-counted Win first d (values.Win n ∷ vs) =
     let rest : length (tally_of vs).mates ≡ count_by (λ v. keeps_goal Win first d false v) vs = held-counted Win first d vs in
@@ -184,7 +186,7 @@ pub kept-move : (a : Aim) (d : ℕ) (q : Told) (all : List Value) (w : Value) �
 kept-move a d q all w e = go (hero_moves a d) refl
   where
     held : ℕ
-    held = held_by a.goal a.hero_first (d + 1) q.tally
+    held = count_holding a.goal a.hero_first (d + 1) q.tally
 
     counted : ℕ
     counted = count_by (holds a (d + 1)) all
@@ -192,7 +194,7 @@ kept-move a d q all w e = go (hero_moves a d) refl
     go : (b : Bool) → hero_moves a d ≡ b → mark_of (hero_moves a d) (holds a d q.value) (holds a (d + 1) w) held
         ≡ mark_of (hero_moves a d) (holds a d q.value) (holds a (d + 1) w) counted
     go true h =
-        let same : held ≡ counted = ap (held_by a.goal a.hero_first (d + 1)) e ∙ held-counted a.goal a.hero_first (d + 1) all
+        let same : held ≡ counted = ap (count_holding a.goal a.hero_first (d + 1)) e ∙ held-counted a.goal a.hero_first (d + 1) all
         ∙ ap (λ b. count_by (λ v. keeps_goal a.goal a.hero_first (d + 1) b v) all) (sym (turn a d h)) in
         ap (mark_of (hero_moves a d) (holds a d q.value) (holds a (d + 1) w)) same
     go false h = subst (λ b. mark_of b (holds a d q.value) (holds a (d + 1) w) held ≡ mark_of b (holds a d q.value) (holds a (d + 1) w) counted) (sym h)
@@ -226,7 +228,7 @@ AreAnnotated-told a d p q (more m l b r) s h t = (
 )
 
 -- from what is told, and faults that add up, to marks that are right
-pub right-told : (k : Kept) → AllAddUp (aim_of k.study) k.study.tree → AllAreTold k.study.start.position (told_tree k.study.tree) → IsKeptRight k
+pub right-told : (k : BenchState) → AllAddUp (aim_of k.study) k.study.tree → AllAreTold k.study.start.position (told_tree k.study.tree) → IsKeptRight k
 right-told k s t = record {
   marks = record {
     value = t.0.0;

@@ -12,7 +12,7 @@ use Rattle.study_marks.specs.declared.mark.Mark.{Mark}
 use Rattle.study_notation.specs.declared.start.Start.{Start}
 use Rattle.study_moves.specs.LegalList.{legal_list}
 use Rattle.study_marks.specs.declared.mark.MoveMark.{MoveMark}
-use Rattle.study_marks.specs.declared.marking.Aim.{Aim}
+use Rattle.study_marks.specs.declared.mark_rules.Aim.{Aim}
 use Rattle.study_marks.specs.declared.stipulation.Stipulation.{Stipulation}
 use Rattle.study_marks.specs.Study.{Study, mapped}
 use Rattle.study_marks.specs.Goals.{aim_of, hero_moves}

@@ -8,24 +8,24 @@ use Rattle.study_notation.specs.declared.start.Start.{Start}
 use Rattle.study_board.specs.Counts.{counted}
 use Rattle.study_tree.specs.Tree.{size_of, with_child}
 use Rattle.study_marks.specs.declared.label.Told.{Told}
-use Rattle.study_marks.specs.declared.fault.Refusal.{Refusal}
+use Rattle.study_marks.specs.declared.refusal.Refusal.{Refusal}
 use Rattle.study_marks.specs.declared.edit.Edit.{Edit}
 use Rattle.study_marks.specs.declared.edit.Edit.TheVariants as edits
 use Rattle.study_marks.specs.declared.mark.Mark.{Mark}
 use Rattle.study_marks.specs.declared.stipulation.Stipulation.{Stipulation}
 use Rattle.study_marks.specs.Study.{plain_study, position_at}
-use Rattle.study_marks.specs.Asked.{asked_at, positions_asked, AllHeld, IsOutside, HasAsked, HasStopped}
-use Rattle.study_marks.specs.Asked.{is_of_tables, is_of_device, counted_times, failures_after}
+use Rattle.study_marks.specs.Queries.{asked_at, positions_asked, AllHeld, IsOutside, HasAsked, HasStopped}
+use Rattle.study_marks.specs.Queries.{is_of_tables, is_of_device, counted_times, failures_after}
 use Rattle.study_marks.specs.Edits.{positioned, shifted, stipulated, inserted, broken, broken_from, insert_refusal, shift_refusal}
-use Rattle.study_marks.specs.Kept.{Kept, marked, told_tree, IsKeptRight}
-use Rattle.study_marks.specs.Stop.{IsShiftRefusal, IsAccepted, IsApplied}
+use Rattle.study_marks.specs.BenchState.{BenchState, marked, told_tree, IsKeptRight}
+use Rattle.study_marks.specs.EditLists.{IsShiftRefusal, IsAccepted, IsApplied}
 use Rattle.study_marks.proofs.SameShape.{nodes_in-mapped}
 use Rattle.study_marks.proofs.StartShifted.{broken-marked}
 
-same-size : (k : Kept) → size_of (marked k).tree ≡ size_of (plain_study (marked k)).tree
+same-size : (k : BenchState) → size_of (marked k).tree ≡ size_of (plain_study (marked k)).tree
 same-size k = ap (λ n. 1 + n) (sym (nodes_in-mapped (λ (x : Mark). tt {0}) (marked k).tree.below))
 
-module _ {A : Type 0} (held held_now : Class → Bool) (honest honest_now : Type 0) (asked asked_now failed failed_now : ℕ) (old new : Kept) where
+module _ {A : Type 0} (held held_now : Class → Bool) (honest honest_now : Type 0) (asked asked_now failed failed_now : ℕ) (old new : BenchState) where
   applied-as : (e same : Edit A) (r : Result (Unit {0}) (Refusal A)) → e ≡ same
       → IsApplied held held_now honest honest_now asked asked_now failed failed_now old new same r
       → IsApplied held held_now honest honest_now asked asked_now failed failed_now old new e r
@@ -115,10 +115,10 @@ module _ {A : Type 0} (held held_now : Class → Bool) (honest honest_now : Type
       → HasAsked (length (positions_asked (shifted (plain_study (marked old)) copied))) r asked asked_now → failed_now ≡ failures_after r failed
       → (honest → honest_now) → ((c : Class) → held_now c ≡ held c) → OnErr r (new ≡ old)
       → IsApplied held held_now honest honest_now asked asked_now failed failed_now old new e r
-  shift-applied e start copied r is e2 broken_at refusal found edit right labels counts failures stays tables same =
+  shift-applied e start copied r is e2 shift_broken_at refusal found edit right labels counts failures stays tables same =
       applied-as e (edits.Shift copied) r (is ∙ ap edits.Shift (sym e2)) (record {
         refusal = refusal;
-        accepted = go r broken_at found;
+        accepted = go r shift_broken_at found;
         edit = edit;
         right = λ h k. right h;
         kept = anew r;

@@ -11,11 +11,11 @@ use Rattle.study_marks.specs.Marks.{own_faults}
 use Rattle.study_marks.proofs.SameShape.{has_node-mapped}
 use Rattle.study_marks.specs.declared.label.Label.{Label}
 use Rattle.study_marks.specs.declared.label.Told.{Told}
-use Rattle.study_marks.specs.declared.marking.Aim.{Aim}
+use Rattle.study_marks.specs.declared.mark_rules.Aim.{Aim}
 use Rattle.study_marks.specs.Study.{mapped}
 use Rattle.study_marks.specs.Goals.{hero_moves}
-use Rattle.study_marks.specs.Kept.{own, kept_mark, all_faults, faults_below, AddUp, AllAddUp, told_tree}
-use Rattle.study_marks.specs.Renewal.{share, AddUpBut, IsOff}
+use Rattle.study_marks.specs.BenchState.{own, kept_mark, all_faults, faults_below, AddUp, AllAddUp, told_tree}
+use Rattle.study_marks.specs.FaultSums.{counted_faults, AddUpBut, IsOff}
 use Rattle.study_marks.proofs.FaultSums.{faults_at, refaulted, refaulted-step, below-refaulted, below-deeper}
 
 -- a label written with other faults alone
@@ -92,17 +92,17 @@ step-in : (a : Aim) (t : Plain Label) (front : List ℕ) (k n minus plus : ℕ) 
     → j ∷ js ≡ front ++ k ∷ [] → node_in t.below j js ≡ Some w → n + minus ≡ w.label.faults + plus
     → IsOff a t (front ++ k ∷ []) minus plus
     → IsOff a (record { label = t.label; below = refaulted n t.below (front ++ k ∷ []) }) front
-    (share (hero_moves a (length front)) k w.label.faults) (share (hero_moves a (length front)) k n)
+    (counted_faults (hero_moves a (length front)) k w.label.faults) (counted_faults (hero_moves a (length front)) k n)
 step-in a t [] k n minus plus j js w path e sum h =
     let there = subst (λ p. IsTrue (has_node t.below p)) path (has-node t.below j js w e) in
     let was : faults_at t.below (k ∷ []) ≡ w.label.faults = ap (faults_at t.below) (sym path) ∙ faults_at-node t.below j js w e in
     let counts = below-refaulted (hero_moves a 0) n t.below k there in
-    let counts2 : faults_below (hero_moves a 0) (refaulted n t.below (k ∷ [])) + share (hero_moves a 0) k
-    w.label.faults ≡ faults_below (hero_moves a 0) t.below + share (hero_moves a 0) k n =
-    subst (λ x. faults_below (hero_moves a 0) (refaulted n t.below (k ∷ [])) + share (hero_moves a 0) k x
-    ≡ faults_below (hero_moves a 0) t.below + share (hero_moves a 0) k n) was counts in (
+    let counts2 : faults_below (hero_moves a 0) (refaulted n t.below (k ∷ [])) + counted_faults (hero_moves a 0) k
+    w.label.faults ≡ faults_below (hero_moves a 0) t.below + counted_faults (hero_moves a 0) k n =
+    subst (λ x. faults_below (hero_moves a 0) (refaulted n t.below (k ∷ [])) + counted_faults (hero_moves a 0) k x
+    ≡ faults_below (hero_moves a 0) t.below + counted_faults (hero_moves a 0) k n) was counts in (
       omega (arith, h.0, counts2),
-      subst (λ x. AddUpBut a 0 t.label.told (refaulted n t.below (k ∷ [])) [] (share (hero_moves a 0) k x) (share (hero_moves a 0) k n)) was
+      subst (λ x. AddUpBut a 0 t.label.told (refaulted n t.below (k ∷ [])) [] (counted_faults (hero_moves a 0) k x) (counted_faults (hero_moves a 0) k n)) was
           (refaulted-step a (hero_moves a 0) 0 t.label.told t.below [] k n minus plus
           (ap (hero_moves a) (let z : 0 ≡ 0 + length {A = ℕ} [] = omega arith in z)) there
           (sum ∙ ap (λ x. x + plus) (sym was)) h.1),
@@ -112,7 +112,7 @@ step-in a t (i ∷ is) k n minus plus j js w path e sum h =
     let was : faults_at t.below (i ∷ (is ++ k ∷ [])) ≡ w.label.faults = ap (faults_at t.below) (sym path) ∙ faults_at-node t.below j js w e in (
       h.0 ∙ sym (deep is),
       subst (λ x. AddUpBut a 0 t.label.told (refaulted n t.below (i ∷ (is ++ k ∷ []))) (i ∷ is)
-          (share (hero_moves a (length (i ∷ is))) k x) (share (hero_moves a (length (i ∷ is))) k n)) was
+          (counted_faults (hero_moves a (length (i ∷ is))) k x) (counted_faults (hero_moves a (length (i ∷ is))) k n)) was
           (refaulted-step a (hero_moves a (length (i ∷ is))) 0 t.label.told t.below (i ∷ is) k n minus plus
           (ap (hero_moves a) (let z : length (i ∷ is) ≡ 0 + length (i ∷ is) = omega arith in z)) there
           (sum ∙ ap (λ x. x + plus) (sym was)) h.1),
@@ -126,14 +126,15 @@ pub renewed-step : (a : Aim) (t : Plain Label) (front : List ℕ) (k n minus plu
     → spot_at t (front ++ k ∷ []) ≡ Some s → n + minus ≡ s.label.faults + plus
     → IsOff a t (front ++ k ∷ []) minus plus
     → IsOff a (with_label t (front ++ k ∷ []) (record { told = s.label.told; faults = n })) front
-    (share (hero_moves a (length front)) k s.label.faults) (share (hero_moves a (length front)) k n)
+    (counted_faults (hero_moves a (length front)) k s.label.faults) (counted_faults (hero_moves a (length front)) k n)
 renewed-step a t [] k n minus plus s e sum h =
     let w = twig-of (node_in t.below k []) s e in
     let path : place_edited (labelled_at (record { told = s.label.told; faults = n })) t.below k [] ≡ refaulted n t.below (k ∷ []) =
     ap (λ (x : Label). place_edited (labelled_at (record { told = x.told; faults = n })) t.below k []) (sym w.2) ∙ labelled-refaulted n t.below k [] w.0 w.1 in
     let faults : w.0.label.faults ≡ s.label.faults = ap (λ (x : Label). x.faults) w.2 in
-    subst (λ f. IsOff a (record { label = t.label; below = f }) [] (share (hero_moves a 0) k s.label.faults) (share (hero_moves a 0) k n)) (sym path)
-    (subst (λ x. IsOff a (record { label = t.label; below = refaulted n t.below (k ∷ []) }) [] (share (hero_moves a 0) k x) (share (hero_moves a 0) k n)) faults
+    subst (λ f. IsOff a (record { label = t.label; below = f }) [] (counted_faults (hero_moves a 0) k s.label.faults)
+    (counted_faults (hero_moves a 0) k n)) (sym path)
+    (subst (λ x. IsOff a (record { label = t.label; below = refaulted n t.below (k ∷ []) }) [] (counted_faults (hero_moves a 0) k x) (counted_faults (hero_moves a 0) k n)) faults
     (step-in a t [] k n minus plus k [] w.0 refl w.1 (sum ∙ ap (λ x. x + plus) (sym faults)) h))
 renewed-step a t (i ∷ is) k n minus plus s e sum h =
     let w = twig-of (node_in t.below i (is ++ k ∷ [])) s e in
@@ -143,10 +144,10 @@ renewed-step a t (i ∷ is) k n minus plus s e sum h =
     let faults : w.0.label.faults ≡ s.label.faults = ap (λ (x : Label). x.faults) w.2 in
     subst
     (λ f. IsOff a (record { label = t.label; below = f }) (i ∷ is)
-    (share (hero_moves a (length (i ∷ is))) k s.label.faults) (share (hero_moves a (length (i ∷ is))) k n))
+    (counted_faults (hero_moves a (length (i ∷ is))) k s.label.faults) (counted_faults (hero_moves a (length (i ∷ is))) k n))
     (sym path)
     (subst (λ x. IsOff a (record { label = t.label; below = refaulted n t.below (i ∷ (is ++ k ∷ [])) }) (i ∷ is)
-    (share (hero_moves a (length (i ∷ is))) k x) (share (hero_moves a (length (i ∷ is))) k n)) faults
+    (counted_faults (hero_moves a (length (i ∷ is))) k x) (counted_faults (hero_moves a (length (i ∷ is))) k n)) faults
     (step-in a t (i ∷ is) k n minus plus i (is ++ k ∷ []) w.0 refl w.1 (sum ∙ ap (λ x. x + plus) (sym faults)) h))
 
 -- No more faults than nodes.
@@ -248,14 +249,14 @@ no-spot t ks h e = let s = spot-there t ks h in let no : Some s.0 ≡ None = sym
 pub off-front : (a : Aim) (t new : Plain Label) (steps front : List ℕ) (k n minus plus : ℕ) (s : Spot Label)
     (was loss gain : ℕ) → steps ≡ front ++ k ∷ [] → spot_at t steps ≡ Some s → was ≡ s.label.faults
     → n + minus ≡ s.label.faults + plus → new ≡ with_label t steps (record { told = s.label.told; faults = n }) → IsOff a t steps minus plus
-    → loss ≡ share (hero_moves a (length front)) k was → gain ≡ share (hero_moves a (length front)) k n → IsOff a new front loss gain
+    → loss ≡ counted_faults (hero_moves a (length front)) k was → gain ≡ counted_faults (hero_moves a (length front)) k n → IsOff a new front loss gain
 off-front a t new steps front k n minus plus s was loss gain path e ew sum written h el em =
     let g = hero_moves a (length front) in
     let step = renewed-step a t front k n minus plus s (subst (λ p. spot_at t p ≡ Some s) path e) sum (subst (λ p. IsOff a t p minus plus) path h) in
     let made : new ≡ with_label t (front ++ k ∷ []) (record { told = s.label.told; faults = n }) =
     written ∙ ap (λ p. with_label t p (record { told = s.label.told; faults = n })) path in
-    let one = subst (λ x. IsOff a x front (share g k s.label.faults) (share g k n)) (sym made) step in
-    let two = subst (λ x. IsOff a new front x (share g k n)) (ap (share g k) (sym ew) ∙ sym el) one in
+    let one = subst (λ x. IsOff a x front (counted_faults g k s.label.faults) (counted_faults g k n)) (sym made) step in
+    let two = subst (λ x. IsOff a new front x (counted_faults g k n)) (ap (counted_faults g k) (sym ew) ∙ sym el) one in
     subst (λ x. IsOff a new front loss x) (sym em) two
 
 pub right-end : (a : Aim) (t new : Plain Label) (steps : List ℕ) (n minus plus : ℕ) (s : Spot Label)

@@ -16,11 +16,11 @@ use Rattle.study_marks.specs.declared.label.Label.{Label}
 use Rattle.study_marks.specs.declared.label.Told.{Told}
 use Rattle.study_marks.specs.Study.{mapped, IsPlayable}
 use Rattle.study_marks.specs.Bench.{played_by}
-use Rattle.study_marks.specs.Asked.{asked_at, asked_below, AreTablesHeld, IsFirstMissing, IsFirstUnread, counted_times}
+use Rattle.study_marks.specs.Queries.{asked_at, asked_below, AreTablesHeld, IsFirstMissing, IsFirstUnread, counted_times}
 use Rattle.study_marks.specs.Told.{IsToldOf, AreTold, AllAreTold, IsUntold, WasAsked}
-use Rattle.study_marks.specs.Kept.{told_tree}
-use Rattle.study_marks.specs.Renewal.{below_at}
-use Rattle.study_marks.specs.Whole.{told_in, retold, retold_tree, firsts, positions_in, asked_each, AreToldOf}
+use Rattle.study_marks.specs.BenchState.{told_tree}
+use Rattle.study_marks.specs.FaultSums.{below_at}
+use Rattle.study_marks.specs.Relabelled.{told_in, retold, retold_tree, firsts, positions_in, asked_each, AreToldOf}
 use Rattle.study_marks.proofs.ValuesAsked.{missing-same, unread-same}
 use Rattle.study_marks.proofs.FirstIllegalMove.{here}
 use Rattle.study_marks.proofs.LabelsWritten.{nth, below-further, below-nth, firsts-all, counted_times-sum}

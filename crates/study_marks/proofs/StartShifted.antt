@@ -7,16 +7,16 @@ use Rattle.study_moves.specs.Rules.{is_legal, after}
 use Rattle.study_notation.specs.declared.start.Start.{Start}
 use Rattle.study_tree.specs.Forest.{Forest, none, more}
 use Rattle.study_tree.specs.Tree.{Plain}
-use Rattle.study_marks.specs.declared.fault.Refusal.{Refusal}
-use Rattle.study_marks.specs.declared.fault.Refusal.TheVariants as refusal
+use Rattle.study_marks.specs.declared.refusal.Refusal.{Refusal}
+use Rattle.study_marks.specs.declared.refusal.Refusal.TheVariants as refusal
 use Rattle.study_marks.specs.declared.label.Label.{Label}
 use Rattle.study_marks.specs.declared.mark.Mark.{Mark}
 use Rattle.study_marks.specs.Study.{mapped, plain_study, IsPlayable}
-use Rattle.study_marks.specs.Asked.{IsOutside}
+use Rattle.study_marks.specs.Queries.{IsOutside}
 use Rattle.study_marks.specs.Edits.{first_path, broken_from, broken, shift_refusal}
-use Rattle.study_marks.specs.Kept.{Kept, marked}
-use Rattle.study_marks.specs.Renewal.{below_at}
-use Rattle.study_marks.specs.Stop.{IsShiftRefusal}
+use Rattle.study_marks.specs.BenchState.{BenchState, marked}
+use Rattle.study_marks.specs.FaultSums.{below_at}
+use Rattle.study_marks.specs.EditLists.{IsShiftRefusal}
 use Rattle.study_marks.proofs.BenchEdits.{bare-marked}
 use Rattle.study_marks.proofs.FirstIllegalMove.{whole-playable}
 
@@ -27,23 +27,23 @@ broken-mapped g k p (more m l b r) =
     ∙ ap (λ x. if is_legal p m then first_path k (broken_from 0 (after p m) b) x else Some (k ∷ [])) (broken-mapped g (suc k) p r)
 
 -- the first broken move is that of the study which is shown
-pub broken-shown : (b k : Kept) (p : Position) (steps : List ℕ) → b ≡ k → steps ≡ []
+pub broken-shown : (b k : BenchState) (p : Position) (steps : List ℕ) → b ≡ k → steps ≡ []
     → broken_from 0 p (below_at b.study.tree.below steps) ≡ broken_from 0 p (plain_study (marked k)).tree.below
 broken-shown b k p steps same e =
     ap (λ x. broken_from 0 p (below_at b.study.tree.below x)) e ∙ sym (broken-mapped (λ (l : Label). tt {0}) 0 p b.study.tree.below)
-    ∙ ap (λ (t : Plain (Unit {0})). broken_from 0 p t.below) (sym (bare-marked b)) ∙ ap (λ (x : Kept). broken_from 0 p (plain_study (marked x)).tree.below) same
+    ∙ ap (λ (t : Plain (Unit {0})). broken_from 0 p t.below) (sym (bare-marked b)) ∙ ap (λ (x : BenchState). broken_from 0 p (plain_study (marked x)).tree.below) same
 
-pub broken-marked : (k : Kept) (p : Position) → broken_from 0 p (plain_study (marked k)).tree.below ≡ broken_from 0 p (marked k).tree.below
+pub broken-marked : (k : BenchState) (p : Position) → broken_from 0 p (plain_study (marked k)).tree.below ≡ broken_from 0 p (marked k).tree.below
 broken-marked k p = broken-mapped (λ (x : Mark). tt {0}) 0 p (marked k).tree.below
 
-pub legal-shifted : (b k : Kept) (p : Position) (steps : List ℕ) → b ≡ k → steps ≡ []
+pub legal-shifted : (b k : BenchState) (p : Position) (steps : List ℕ) → b ≡ k → steps ≡ []
     → broken_from 0 p (below_at b.study.tree.below steps) ≡ None → IsPlayable p k.study.tree.below
 legal-shifted b k p steps same e h =
-    subst (λ (x : Kept). IsPlayable p x.study.tree.below) same
+    subst (λ (x : BenchState). IsPlayable p x.study.tree.below) same
     (whole-playable 0 p b.study.tree.below (sym (ap (λ x. broken_from 0 p (below_at b.study.tree.below x)) e) ∙ h))
 
 -- refused for a broken move, and for anything else
-module _ {A : Type 0} (held : Class → Bool) (asked : List Position) (b k : Kept) (start : Start) (steps : List ℕ) (same : b ≡ k) (e : steps ≡ []) where
+module _ {A : Type 0} (held : Class → Bool) (asked : List Position) (b k : BenchState) (start : Start) (steps : List ℕ) (same : b ≡ k) (e : steps ≡ []) where
   pub shift-broken : (path found now : List ℕ) (r : Refusal A)
       → broken_from 0 start.position (below_at b.study.tree.below steps) ≡ Some path → found ≡ steps ++ path
       → now ≡ found

@@ -5,9 +5,9 @@ use Rattle.study_tree.specs.Edits.{below_edited}
 use Rattle.study_tree.specs.Tree.{Plain, Spot, with_label, spot_at, has_spot}
 use Rattle.study_marks.specs.declared.label.Label.{Label}
 use Rattle.study_marks.specs.declared.label.Told.{Told}
-use Rattle.study_marks.specs.Kept.{own}
-use Rattle.study_marks.specs.Renewal.{told_at}
-use Rattle.study_marks.specs.Whole.{told_in, told_to_be, parent_path, refreshed_to}
+use Rattle.study_marks.specs.BenchState.{own}
+use Rattle.study_marks.specs.FaultSums.{told_at}
+use Rattle.study_marks.specs.Relabelled.{told_in, told_to_be, parent_path, refreshed_to}
 use Rattle.study_marks.proofs.PathRenewed.{spot-there}
 use Rattle.study_marks.proofs.ChildrenChanged.{told-spot}
 use Rattle.study_marks.proofs.LabelsWritten.{Task, IsDone, edited-further, back, length-further}

@@ -14,15 +14,15 @@ use Rattle.study_tree.specs.Tree.{Plain, Spot, has_spot, spot_at, size_of}
 use Rattle.study_marks.specs.declared.label.Label.{Label}
 use Rattle.study_marks.specs.declared.label.Told.{Told}
 use Rattle.study_marks.specs.declared.mark.Mark.{Mark}
-use Rattle.study_marks.specs.declared.fault.Refusal.{Refusal}
-use Rattle.study_marks.specs.declared.fault.Refusal.TheVariants as refusal
+use Rattle.study_marks.specs.declared.refusal.Refusal.{Refusal}
+use Rattle.study_marks.specs.declared.refusal.Refusal.TheVariants as refusal
 use Rattle.study_marks.specs.Study.{plain_study, mapped, moves_to, position_after, position_at, place_at}
 use Rattle.study_marks.specs.Edits.{Plainly, insert_refusal}
 use Rattle.study_marks.specs.Goals.{aim_of}
 use Rattle.study_marks.specs.Annotated.{AreAnnotated}
-use Rattle.study_marks.specs.Kept.{Kept, marked, kept_mark, own, moved_mark, IsKeptRight}
+use Rattle.study_marks.specs.BenchState.{BenchState, marked, kept_mark, own, moved_mark, IsKeptRight}
 use Rattle.study_marks.specs.Told.{IsToldOf, AreTold}
-use Rattle.study_marks.specs.Renewal.{told_at}
+use Rattle.study_marks.specs.FaultSums.{told_at}
 use Rattle.study_marks.specs.Trial.{trial_refusal, IsMarkOf}
 use Rattle.study_marks.proofs.SameShape.{has_node-mapped, moves_to-mapped}
 use Rattle.study_marks.proofs.BenchEdits.{bare-marked}
@@ -40,12 +40,12 @@ tried found legal = if not found then Some refusal.NoSuchNode else (if not legal
 tried-same : {A : Type 0} (found found' legal legal' : Bool) → found ≡ found' → legal ≡ legal' → tried {A = A} found legal ≡ tried found' legal'
 tried-same {A = A} found found' legal legal' a b = ap (λ x. tried {A = A} x legal) a ∙ ap (tried {A = A} found') b
 
-pub trial-reason : {A : Type 0} (b k : Kept) (steps : List ℕ) (m : Move) (found legal : Bool) → b ≡ k → has_spot b.study.tree steps ≡ found
+pub trial-reason : {A : Type 0} (b k : BenchState) (steps : List ℕ) (m : Move) (found legal : Bool) → b ≡ k → has_spot b.study.tree steps ≡ found
     → is_legal (position_after b.study.start.position (moves_to b.study.tree.below steps)) m ≡ legal
     → trial_refusal {A = A} (plain_study (marked k)) steps m ≡ tried found legal
 trial-reason {A = A} b k steps m found legal same e l =
     let p = b.study.start.position in
-    ap (λ (x : Kept). trial_refusal {A = A} (plain_study (marked x)) steps m) (sym same)
+    ap (λ (x : BenchState). trial_refusal {A = A} (plain_study (marked x)) steps m) (sym same)
     ∙ ap (λ (t : Plain (Unit {0})). tried {A = A} (has_spot t steps) (is_legal (position_after p (moves_to t.below steps)) m)) (bare-marked b)
     ∙ tried-same _ found _ legal (has_node-mapped (λ (x : Label). tt {0}) b.study.tree.below steps ∙ e)
     (ap (λ ms. is_legal (position_after p ms) m) (moves_to-mapped (λ (x : Label). tt {0}) b.study.tree.below steps) ∙ l)
@@ -105,7 +105,7 @@ told-node p q (more m l b r) (zero ∷ ks) h t n = told-node (after p m) l.told 
 told-node p q (more m l b r) (suc k ∷ ks) h t n = told-node p q r (k ∷ ks) h t.2 n
 
 -- the mark of the move, by what is kept at the node
-pub tried-mark : (k : Kept) (steps : List ℕ) (m : Move) (w : Value) (mark : Mark) (s : Spot Label) → spot_at k.study.tree steps ≡ Some s
+pub tried-mark : (k : BenchState) (steps : List ℕ) (m : Move) (w : Value) (mark : Mark) (s : Spot Label) → spot_at k.study.tree steps ≡ Some s
     → mark ≡ moved_mark (aim_of k.study) (length steps) s.label.told w → IsValueOf (after (position_at (marked k) steps) m) w → IsKeptRight k
     → IsMarkOf (marked k) steps m mark
 tried-mark k steps m w mark s there is game right = λ x seen.

@@ -10,7 +10,7 @@ use Rattle.study_tree.specs.Forest.{Forest, none, more}
 use Rattle.study_marks.specs.declared.mark.MoveMark.{MoveMark}
 use Rattle.study_marks.specs.declared.mark.Mark.{Mark}
 use Rattle.study_marks.specs.Study.{Study}
-use Rattle.study_marks.specs.declared.marking.Aim.{Aim}
+use Rattle.study_marks.specs.declared.mark_rules.Aim.{Aim}
 use Rattle.study_marks.specs.Goals.{aim_of, hero_moves}
 use Rattle.study_marks.specs.Marks.{move_mark, own_faults, faults_in}
 

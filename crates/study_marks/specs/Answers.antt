@@ -9,10 +9,10 @@ use Rattle.study_tablefile.specs.declared.fault.SourceFault.{SourceFault}
 use Rattle.study_prober.specs.Values.{ProbeAnswer, IsNotDamage}
 use Rattle.study_prober.specs.declared.values.ProbeFault.{ProbeFault}
 use Rattle.study_prober.specs.declared.values.ProbeFault.TheVariants as probe
-use Rattle.study_marks.specs.declared.fault.Refusal.{Refusal}
-use Rattle.study_marks.specs.declared.fault.Refusal.TheVariants.{NoSuchNode, RootNotAllowed, AlreadyFirst, IllegalMove}
-use Rattle.study_marks.specs.declared.fault.Refusal.TheVariants.{AlreadyThere, TooDeep, TreeFull, ShiftBroken, TagText}
-use Rattle.study_marks.specs.declared.fault.Refusal.TheVariants.{OutOfMemory, NoTable, TableRead}
+use Rattle.study_marks.specs.declared.refusal.Refusal.{Refusal}
+use Rattle.study_marks.specs.declared.refusal.Refusal.TheVariants.{NoSuchNode, RootNotAllowed, AlreadyFirst, IllegalMove}
+use Rattle.study_marks.specs.declared.refusal.Refusal.TheVariants.{AlreadyThere, TooDeep, TreeFull, ShiftBroken, TagText}
+use Rattle.study_marks.specs.declared.refusal.Refusal.TheVariants.{OutOfMemory, NoTable, TableRead}
 
 module _ {V : Type 0} where
   -- values answer so to the question for a position, and are as they are then: an answer that they may give there, counted; a table that

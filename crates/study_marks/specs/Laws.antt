@@ -12,7 +12,7 @@ use Rattle.study_tree.specs.Rows.{rows, cut_at, rows_with_child, rows_without, r
 use Rattle.study_marks.specs.declared.mark.Mark.{Mark}
 use Rattle.study_marks.specs.Study.{Study, plain_study, same_move}
 use Rattle.study_marks.specs.declared.mark.MoveMark.TheVariants.{Only, Dual}
-use Rattle.study_marks.specs.declared.marking.Aim.{Aim}
+use Rattle.study_marks.specs.declared.mark_rules.Aim.{Aim}
 use Rattle.study_marks.specs.Goals.{aim_of, hero_moves, holds}
 use Rattle.study_marks.specs.Marks.{move_mark}
 use Rattle.study_marks.specs.Annotated.{AreValuesAfter, IsAnnotated}

@@ -5,8 +5,8 @@ use Rattle.study_moves.specs.Rules.{is_legal}
 use Rattle.study_tree.specs.Forest.{none, more}
 use Rattle.study_tree.specs.Tree.{Spot, has_spot, spot_at}
 use Rattle.study_marks.specs.declared.mark.Mark.{Mark}
-use Rattle.study_marks.specs.declared.fault.Refusal.{Refusal}
-use Rattle.study_marks.specs.declared.fault.Refusal.TheVariants.{NoSuchNode, IllegalMove}
+use Rattle.study_marks.specs.declared.refusal.Refusal.{Refusal}
+use Rattle.study_marks.specs.declared.refusal.Refusal.TheVariants.{NoSuchNode, IllegalMove}
 use Rattle.study_marks.specs.Study.{Study, position_at}
 use Rattle.study_marks.specs.Goals.{aim_of}
 use Rattle.study_marks.specs.Annotated.{AreAnnotated}

@@ -5,31 +5,31 @@
 //! `delete` and `promote` renew what is kept on one path to the root; a refused edit changes nothing.
 #![tactic(auto)]
 
-mod ask;
 mod bench;
+mod bench_edits;
+mod child_by_move;
 mod edit;
-mod edits;
-mod fault;
-mod find;
-mod gather;
+mod evaluate;
+mod evaluate_all;
+mod fault_sums;
 mod label;
 mod laws;
 mod mark;
-mod marking;
-mod renew;
+mod mark_rules;
+mod refusal;
+mod relabel;
+mod replay;
 mod stipulation;
 mod tag;
 mod tally;
-mod treework;
+mod tree_edits;
 mod trial;
-mod walk;
-mod whole;
 
 pub use bench::{Bench, Shown};
 pub use edit::{Edit, Stopped};
-pub use fault::Refusal;
 pub use laws::{annotations_are_unique, duals_count_other_moves, edits_in_rows, faults_in_rows};
 pub use mark::{Mark, MoveMark};
-pub use marking::{Aim, aim_of, hero_loses, hero_mates, hero_moves, holds};
+pub use mark_rules::{Aim, aim_of, hero_loses, hero_mates, hero_moves, holds};
+pub use refusal::Refusal;
 pub use stipulation::{Goal, MateMoves, Stipulation};
 pub use tag::TagName;

@@ -6,11 +6,11 @@ use Rattle.study_board.specs.Position.{Position}
 use Rattle.study_moves.specs.declared.moves.Move.{Move}
 use Rattle.study_retro.specs.declared.value.Value.{Value}
 use Rattle.study_tree.specs.Tree.{spot_at}
-use Rattle.study_marks.specs.declared.marking.Aim.{Aim}
+use Rattle.study_marks.specs.declared.mark_rules.Aim.{Aim}
 use Rattle.study_marks.specs.declared.mark.Mark.{Mark}
 use Rattle.study_marks.specs.declared.mark.MoveMark.{MoveMark}
 use Rattle.study_marks.specs.Bench.{played_by}
-use Rattle.study_marks.specs.Renewal.{below_at}
+use Rattle.study_marks.specs.FaultSums.{below_at}
 use Rattle.study_marks.specs.Study.{Study, position_at}
 use Rattle.study_marks.specs.Goals.{aim_of}
 use Rattle.study_review.specs.declared.continuation.Continuation.{Continuation}

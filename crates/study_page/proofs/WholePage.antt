@@ -1,7 +1,7 @@
 -- The parts of a page over all nodes.
 use Rattle.std.proofs.Common.{◌≡◌, ℕ, List, [], ◌∷◌, ◌++◌, ap, subst, ◌∙◌, sym}
 use Rattle.study_marks.specs.declared.mark.Mark.{Mark}
-use Rattle.study_marks.specs.Renewal.{below_at}
+use Rattle.study_marks.specs.FaultSums.{below_at}
 use Rattle.study_marks.specs.Study.{Study}
 use Rattle.study_review.specs.Made.{Grew}
 use Rattle.study_review.specs.Review.{paths_from, LinesOfEach, written_order}

@@ -11,7 +11,7 @@ use Rattle.study_retro.specs.declared.value.Value.TheVariants.{Win, Loss, Draw}
 use Rattle.study_tree.specs.Tree.{spot_at}
 use Rattle.study_marks.specs.Bench.{played_by}
 use Rattle.study_marks.specs.Study.{Study, position_at}
-use Rattle.study_pgn.specs.Moves.{points}
+use Rattle.study_pgn.specs.Moves.{move_dots}
 use Rattle.study_review.specs.Nodes.{front_of}
 
 -- a study has at most 256 plies
@@ -28,7 +28,7 @@ number_at s d = s.number + (plies_of d + half_of s.position.to_move) / 2
 
 -- `3. ` or `3... `, before a move of this side
 unfoldable pub front_words : Start → ℕ → Side → List ℕ
-front_words s d side = decimal (number_at s d) ++ (points side ++ codes " ")
+front_words s d side = decimal (number_at s d) ++ (move_dots side ++ codes " ")
 
 -- `-` before what is not the hero's
 abbrev pub minus_where : Bool → List ℕ

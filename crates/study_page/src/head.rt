@@ -1,6 +1,6 @@
 //! The head of a page, and the diagram with what is below it.
 ghost use Rattle.std.specs.Prelude.{◌≡◌, ◌++◌, OnOk};
-ghost use Rattle.study_marks.specs.Kept.{marked};
+ghost use Rattle.study_marks.specs.BenchState.{marked};
 ghost use Rattle.study_marks.specs.Study.{tag_of};
 ghost use Rattle.study_marks.specs.declared.tag.TagName.TheVariants as tag;
 ghost use Rattle.study_page.specs.Elements.{inside};

@@ -1,8 +1,8 @@
 //! What a node shows, and which rows it has.
 ghost use Rattle.std.specs.Prelude.{◌≡◌, ◌<◌};
 ghost use Rattle.study_marks.specs.Goals.{aim_of};
-ghost use Rattle.study_marks.specs.Kept.{marked};
-ghost use Rattle.study_marks.specs.Renewal.{below_at};
+ghost use Rattle.study_marks.specs.BenchState.{marked};
+ghost use Rattle.study_marks.specs.FaultSums.{below_at};
 ghost use Rattle.study_marks.specs.Study.{position_at};
 ghost use Rattle.study_review.specs.Nodes.{is_mistake, is_idle, none_idle, hero_made, is_stalemate, mark_at, value_at};
 ghost use Rattle.study_review.specs.Nodes.{front_of, is_try, is_defended, is_open_end, is_solution_move, is_first_idle, has_none};

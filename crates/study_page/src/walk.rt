@@ -2,8 +2,8 @@
 ghost use Rattle.std.specs.Prelude.{◌≡◌, ◌∷◌, IsTrue, OnOk};
 ghost use Rattle.study_tree.specs.Edits.{width};
 ghost use Rattle.study_tree.specs.Tree.{has_spot};
-ghost use Rattle.study_marks.specs.Kept.{marked};
-ghost use Rattle.study_marks.specs.Renewal.{below_at};
+ghost use Rattle.study_marks.specs.BenchState.{marked};
+ghost use Rattle.study_marks.specs.FaultSums.{below_at};
 ghost use Rattle.study_review.specs.Made.{Grew};
 ghost use Rattle.study_review.specs.Review.{paths_from, LinesOfEach};
 ghost use Rattle.study_page.specs.Made.{HasAsked, RowsOf};

@@ -1,9 +1,9 @@
 //! Words of moves and values, as plain text.
 ghost use Rattle.std.specs.Prelude.{◌≡◌, ◌++◌, ◌<◌, true, OnOk};
 ghost use Rattle.study_moves.specs.Rules.{is_legal};
-ghost use Rattle.study_marks.specs.Kept.{marked};
+ghost use Rattle.study_marks.specs.BenchState.{marked};
 ghost use Rattle.study_pgn.specs.Values.{side_name, mates_text, value_text};
-ghost use Rattle.study_pgn.specs.Moves.{points};
+ghost use Rattle.study_pgn.specs.Moves.{move_dots};
 ghost use Rattle.study_notation.specs.Written.{move_text};
 ghost use Rattle.study_page.specs.Words.{plies_of, half_of, number_at, front_words, minus_where, short_words, label, where_words};
 
@@ -82,8 +82,8 @@ pub fn add_short<A: Allocator>(
     }
 }
 
-fn points(side: Side) -> &'static [u8]
-    ensures { result.now ≡ points side }
+fn move_dots(side: Side) -> &'static [u8]
+    ensures { result.now ≡ move_dots side }
 {
     match side {
         Side::White => b".",
@@ -128,7 +128,7 @@ pub fn add_front<A: Allocator>(
     ensures { OnOk result (text.new ≡ text.old ++ front_words start.now depth side) }
 {
     text.add_number(number_at(start, depth))?;
-    text.add(points(side))?;
+    text.add(move_dots(side))?;
     text.add(b" ")
 }
 

@@ -1,5 +1,5 @@
 -- A step to a child, and what is written with it.
-use Rattle.study_marks.specs.Renewal.{below_at}
+use Rattle.study_marks.specs.FaultSums.{below_at}
 use Rattle.std.proofs.Common.{◌≡◌, ℕ, suc, ◌+◌, ◌<◌, ◌≤◌, true, List, [], ◌∷◌, ◌++◌, Option, Some, None, refl, sym}
 use Rattle.std.proofs.Common.{ap, subst, ◌∙◌, arith, append_assoc, add-one, ◌-◌, length, take, length-append}
 use Rattle.std.specs.Prelude.{codes}
@@ -15,9 +15,9 @@ use Rattle.study_tree.specs.Edits.{node_in, width}
 use Rattle.study_tree.specs.Tree.{Plain, spot_at, twig_spot}
 use Rattle.study_marks.specs.declared.mark.Mark.{Mark}
 use Rattle.study_marks.specs.Study.{IsPlayable}
-use Rattle.study_pgn.specs.declared.follow.MarkedMove.{MarkedMove}
+use Rattle.study_pgn.specs.declared.variations.MarkedMove.{MarkedMove}
 use Rattle.study_pgn.specs.Moves.{words_of_move, following, variations}
-use Rattle.study_pgn.specs.Walk.{marked_move, Entered, Missing}
+use Rattle.study_pgn.specs.Variations.{marked_move, Entered, Missing}
 use Rattle.study_pgn.proofs.PathWalks.{skip, spot_last, below_entered, fewer, playable_at, following_none}
 use Rattle.study_pgn.proofs.PathWalks.{following_first, others_missing, others_first, others_done}
 

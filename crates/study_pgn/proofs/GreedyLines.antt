@@ -2,8 +2,8 @@
 use Rattle.std.proofs.Common.{◌≡◌, ℕ, ◌<◌, ◌≤◌, leb, List, [], ◌∷◌, ◌++◌, length, refl, sym, ap, subst, ◌∙◌, inl, inr, append_assoc}
 use Rattle.std.proofs.lemmas.Bool.{cases_Bool, leb-true, leb-false}
 use Rattle.std.proofs.lemmas.List.{append-nil}
-use Rattle.study_pgn.specs.Lines.{line_text, filled, lines_of}
-use Rattle.study_pgn.specs.Greedy.{IsLine, AreFilled, words_in}
+use Rattle.study_pgn.specs.Wrap.{line_text, filled, lines_of}
+use Rattle.study_pgn.specs.WrapLaws.{IsLine, AreFilled, words_in}
 
 parts : (line ws : List (List ℕ)) → words_in (filled line ws) ≡ line ++ ws
 unfolding filled

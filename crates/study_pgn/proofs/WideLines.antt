@@ -4,8 +4,8 @@ use Rattle.std.proofs.Common.{sym, ap, ◌∙◌, inl, inr, arith, length-append
 use Rattle.std.proofs.lemmas.List.{append-nil}
 use Rattle.std.proofs.lemmas.Bool.{cases_Bool}
 use Rattle.std.specs.List.{flat_map}
-use Rattle.study_pgn.specs.Lines.{line_text, filled, lines_of, lines_text}
-use Rattle.study_pgn.specs.Walk.{further_word, next}
+use Rattle.study_pgn.specs.Wrap.{line_text, filled, lines_of, lines_text}
+use Rattle.study_pgn.specs.Variations.{further_word, next}
 
 abbrev pub ended : List (List ℕ) → List ℕ
 ended line = line_text line ++ 10 ∷ []

@@ -6,19 +6,19 @@
 #![tactic(auto)]
 
 mod fault;
-mod follow;
 mod laws;
-mod lines;
-mod moves;
-mod opening;
+mod move_text;
+mod root_comment;
 mod tags;
-mod text;
-mod values;
-mod writing;
+mod text_buffer;
+mod value_text;
+mod variations;
+mod wrap;
+mod writer;
 
 pub use fault::PgnFault;
 pub use laws::lines_are_greedy;
-pub use opening::add_opening_words;
+pub use root_comment::add_opening_words;
 pub use tags::tag_name;
-pub use text::Text;
-pub use writing::write_pgn;
+pub use text_buffer::Text;
+pub use writer::write_pgn;

@@ -17,7 +17,7 @@ use study_script::run::{RunFault, Summary};
 use study_script::tables::Tables;
 use study_tablefile::PageSource;
 
-/// Follows a script over these tables, from an empty board, and writes a whole file of pages.
+/// Follows a script over these tables, from an empty document, and writes a whole file of pages.
 ///
 /// Where the run stops at a fault, but not at one of the writer, what comes after the last page is written too.
 pub fn follow_pages<'a, R: Read, W: Write, P: PageSource, A: Allocator, N: Watch>(

@@ -1,6 +1,6 @@
 //! A report in printed pages.
 ghost use Rattle.std.specs.Prelude.{◌≡◌, ◌++◌, [], IfOk};
-ghost use Rattle.study_marks.specs.Kept.{marked};
+ghost use Rattle.study_marks.specs.BenchState.{marked};
 ghost use Rattle.study_page.specs.Lists.{summary_row};
 
 use crate::reasons::{reason_of, refusal_in};

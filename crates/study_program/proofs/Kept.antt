@@ -6,7 +6,7 @@ use Rattle.study_script.specs.declared.run.Summary.{Summary}
 use Rattle.study_script.specs.declared.run.RunFault.{RunFault}
 use Rattle.study_script.specs.declared.run.RunFault.TheVariants.{ReadDevice, WriteDevice, LineTooLong, TooManyLines, OutOfMemory}
 use Rattle.study_script.specs.State.{State}
-use Rattle.study_script.specs.Stored.{AreTrusted}
+use Rattle.study_script.specs.Stores.{AreTrusted}
 use Rattle.study_script.specs.Replies.{replies_text}
 use Rattle.study_script.specs.Outcome.{Outcome, Shape, AreAnswered, AreBrokenOff, begun_state}
 use Rattle.study_program.specs.Ended.{HasRun, nothing_known}

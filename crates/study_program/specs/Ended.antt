@@ -4,7 +4,7 @@ use Rattle.study_script.specs.declared.run.Summary.{Summary}
 use Rattle.study_script.specs.declared.run.RunFault.{RunFault}
 use Rattle.study_script.specs.declared.run.RunFault.TheVariants.{WriteDevice}
 use Rattle.study_script.specs.State.{Shelf}
-use Rattle.study_script.specs.Stored.{AreTrusted}
+use Rattle.study_script.specs.Stores.{AreTrusted}
 use Rattle.study_script.specs.Outcome.{Outcome, Shape, begun_state}
 use Rattle.study_program.specs.Status.{status_told, IsTold}
 

@@ -10,11 +10,11 @@ use Rattle.study_tablefile.specs.declared.fault.FileFault.TheVariants as file
 use Rattle.study_tablefile.specs.declared.fault.SourceFault.TheVariants as source
 use Rattle.study_prober.specs.declared.values.ProbeFault.{ProbeFault}
 use Rattle.study_prober.specs.declared.values.ProbeFault.TheVariants as probe
-use Rattle.study_command.specs.declared.command.FormFault.{FormFault}
-use Rattle.study_command.specs.declared.command.FormFault.TheVariants as form
+use Rattle.study_command.specs.declared.command.SyntaxFault.{SyntaxFault}
+use Rattle.study_command.specs.declared.command.SyntaxFault.TheVariants as form
 use Rattle.study_command.specs.Paths.{path_text}
-use Rattle.study_marks.specs.declared.fault.Refusal.{Refusal as EditRefusal}
-use Rattle.study_marks.specs.declared.fault.Refusal.TheVariants as edit
+use Rattle.study_marks.specs.declared.refusal.Refusal.{Refusal as EditRefusal}
+use Rattle.study_marks.specs.declared.refusal.Refusal.TheVariants as edit
 use Rattle.study_reply.specs.declared.refusal.Refusal.{Refusal}
 use Rattle.study_reply.specs.declared.refusal.Refusal.TheVariants.{Form, NoPosition, NoStudy, OutOfMemory}
 use Rattle.study_reply.specs.declared.refusal.Refusal.TheVariants.{PagedMode, NotAClass, NoSuchNode, Fen, San}
@@ -26,7 +26,7 @@ use Rattle.study_reply.specs.declared.refusal.Refusal.TheVariants.{DistanceTooLa
 use Rattle.study_reply.specs.declared.refusal.Argument.{Argument}
 use Rattle.study_reply.specs.declared.refusal.Argument.TheVariants.{None as NoArgument, Class as OfClass, Number}
 
-abbrev pub form_name : FormFault → List ℕ
+abbrev pub form_name : SyntaxFault → List ℕ
 form_name form.BadByte = codes "BadByte"
 form_name form.UnknownCommand = codes "UnknownCommand"
 form_name form.BadArguments = codes "BadArguments"

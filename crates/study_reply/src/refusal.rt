@@ -2,7 +2,7 @@
 ghost use Rattle.std.specs.Prelude.{◌≡◌};
 ghost use Rattle.study_reply.specs.Names.{fen_name, san_name, form_name, file_name, name_text, argument_of};
 
-use study_command::command::FormFault;
+use study_command::command::SyntaxFault;
 use study_material::Class;
 use study_notation::{FenFault, SanFault};
 use study_tablefile::{FileFault, SourceFault};
@@ -10,7 +10,7 @@ use study_tablefile::{FileFault, SourceFault};
 /// Why a line is refused. The path of a broken shift is told apart.
 #[derive(Clone, Copy, Debug, PartialEq, Eq)]
 pub enum Refusal {
-    Form(FormFault),
+    Form(SyntaxFault),
     NoPosition,
     NoStudy,
     OutOfMemory,
@@ -100,15 +100,15 @@ impl Refusal {
     }
 }
 
-fn form_name(fault: FormFault) -> &'static [u8]
+fn form_name(fault: SyntaxFault) -> &'static [u8]
     ensures { result.now ≡ form_name fault }
 {
     match fault {
-        FormFault::BadByte => b"BadByte",
-        FormFault::UnknownCommand => b"UnknownCommand",
-        FormFault::BadArguments => b"BadArguments",
-        FormFault::UnknownStipulation => b"UnknownStipulation",
-        FormFault::UnknownTag => b"UnknownTag",
+        SyntaxFault::BadByte => b"BadByte",
+        SyntaxFault::UnknownCommand => b"UnknownCommand",
+        SyntaxFault::BadArguments => b"BadArguments",
+        SyntaxFault::UnknownStipulation => b"UnknownStipulation",
+        SyntaxFault::UnknownTag => b"UnknownTag",
     }
 }
 

@@ -12,14 +12,14 @@ use Rattle.study_script.specs.declared.run.RunFault.{RunFault}
 use Rattle.study_script.specs.declared.run.RunFault.TheVariants.{ReadDevice, WriteDevice, LineTooLong, TooManyLines, OutOfMemory}
 use Rattle.study_command.specs.Lines.{script_lines, TakesLine, BeginsLong, GaveFeeds}
 use Rattle.study_command.proofs.LineTaken.{HasMore}
-use Rattle.study_script.specs.State.{State, Board}
+use Rattle.study_script.specs.State.{State, Document}
 use Rattle.study_script.specs.Outcome.{AreShort}
 use Rattle.study_script.proofs.FirstLines.{Gone, gone_write}
 use Rattle.study_tablefile.specs.Taken.{TakesPrefix}
 use Rattle.study_report.specs.declared.told.Told.{Told}
 use Rattle.study_report.specs.declared.told.Told.TheVariants.{Nothing, Study as AStudy, Refusal as ARefusal}
 use Rattle.study_reply.specs.declared.refusal.Refusal.TheVariants.{NotAClass}
-use Rattle.study_command.specs.Asking.{command_of}
+use Rattle.study_command.specs.Parser.{command_of}
 use Rattle.study_script.specs.Replies.{Reply, refused}
 use Rattle.study_report.specs.declared.kind.Kind.{Kind}
 use Rattle.study_report.specs.declared.kind.Kind.TheVariants.{PassedOver, NoClass, Study, Checked}
@@ -65,18 +65,18 @@ text-more [] a = append-nil a.text
 text-more (x ∷ added) a = ap (λ (t : List ℕ). x.text ++ t) (text-more added a) ∙ sym (append_assoc x.text (report_text added) a.text)
 
 studies-more : (added : List Added) (a : Added)
-    → studies_in (added ++ a ∷ []) ≡ studies_in added ++ listed_in a.told a.after.state.board a.after.studies
-studies-more [] a = append-nil (listed_in a.told a.after.state.board a.after.studies)
+    → studies_in (added ++ a ∷ []) ≡ studies_in added ++ listed_in a.told a.after.state.document a.after.studies
+studies-more [] a = append-nil (listed_in a.told a.after.state.document a.after.studies)
 studies-more (x ∷ added) a =
-    ap (λ (t : List (Plainly × ℕ)). listed_in x.told x.after.state.board x.after.studies ++ t) (studies-more added a)
-    ∙ sym (append_assoc (listed_in x.told x.after.state.board x.after.studies) (studies_in added) (listed_in a.told a.after.state.board a.after.studies))
+    ap (λ (t : List (Plainly × ℕ)). listed_in x.told x.after.state.document x.after.studies ++ t) (studies-more added a)
+    ∙ sym (append_assoc (listed_in x.told x.after.state.document x.after.studies) (studies_in added) (listed_in a.told a.after.state.document a.after.studies))
 
--- the study that a line told is the one on the board, and has the number after the others
-listed-same : (t u : Told) (b c : Board) (i j : ℕ) → t ≡ u → b ≡ c → (study_count u ≡ 1 → i ≡ j) → listed_in t b i ≡ listed_in u c j
+-- the study that a line told is the one in the document, and has the number after the others
+listed-same : (t u : Told) (b c : Document) (i j : ℕ) → t ≡ u → b ≡ c → (study_count u ≡ 1 → i ≡ j) → listed_in t b i ≡ listed_in u c j
 listed-same t Nothing b c i j e f n = ap (λ (x : Told). listed_in x b i) e
 listed-same t ARefusal b c i j e f n = ap (λ (x : Told). listed_in x b i) e
 listed-same t AStudy b c i j e f n =
-    ap (λ (x : Told). listed_in x b i) e ∙ ap (λ (x : Board). studies_on x i) f ∙ ap (studies_on c) (n refl)
+    ap (λ (x : Told). listed_in x b i) e ∙ ap (λ (x : Document). studies_on x i) f ∙ ap (studies_on c) (n refl)
 
 module _ (tells : Plainly → ℕ → List ℕ → Type 0) (refusal : ℕ → List ℕ → List ℕ → List ℕ) where
   are-more : (p : Point) (lines : List (List ℕ)) (added : List Added) (line : List ℕ) (a : Added)
@@ -133,7 +133,7 @@ module _ (tells : Plainly → ℕ → List ℕ → Type 0) (refusal : ℕ → Li
       (p : Point) (line : List ℕ) (a : Added) (n refused refused' : ℕ) → HasTold Lists script now old mid first p n refused
       → TakesLine now next true line → length line ≤ 1024
       → IsAdded tells refusal p line a → Appends mid new a.text → refused' ≡ refused + refusal_count a.told
-      → ((more : List (Plainly × ℕ)) → Lists more → Lists' (more ++ listed_in a.told a.after.state.board a.after.studies))
+      → ((more : List (Plainly × ℕ)) → Lists more → Lists' (more ++ listed_in a.told a.after.state.document a.after.studies))
       → HasTold Lists' script next old new first a.after (n + 1) refused'
   told_more Lists Lists' None now next old mid new first p line a n refused refused' r t short is wrote k l = record { known = tt }
   told_more Lists Lists' (Some bs) None next old mid new first p line a n refused refused' r t short is wrote k l = absurd r.known
@@ -336,17 +336,17 @@ module _ (tells : Plainly → ℕ → List ℕ → Type 0) (refusal : ℕ → Li
   counts-more p line a Study (o, reply, is, after) = counts-pgn p line reply a reply.refused after
   counts-more p line a Checked (o, reply, is, after) = counts-checked p line reply a reply.refused after
 
-  pub ToldOn-more : (holds holds' : State → Type 0) (Lists Lists' : List (Plainly × ℕ) → Type 0) (board : Board)
+  pub ToldOn-more : (holds holds' : State → Type 0) (Lists Lists' : List (Plainly × ℕ) → Type 0) (document : Document)
       (script now next old mid new : Option (List ℕ)) (first : State)
       (line : List ℕ) (n refused refused' studies studies' : ℕ) (told : Told)
       (r : ToldOn holds Lists script now old mid first n refused studies)
       → TakesLine now next true line → length line ≤ 1024
       → Adds (IsAdded tells refusal r.point line) holds' mid new told
       → refused' ≡ refused + refusal_count told → studies' ≡ studies + study_count told
-      → ((s : State) → holds' s → board ≡ s.board)
-      → ((more : List (Plainly × ℕ)) → Lists more → Lists' (more ++ listed_in told board (studies + 1)))
+      → ((s : State) → holds' s → document ≡ s.document)
+      → ((more : List (Plainly × ℕ)) → Lists more → Lists' (more ++ listed_in told document (studies + 1)))
       → ToldOn holds' Lists' script next old new first (n + 1) refused' studies'
-  ToldOn-more holds holds' Lists Lists' board script now next old mid new first line n refused refused' studies studies' told r t short
+  ToldOn-more holds holds' Lists Lists' document script now next old mid new first line n refused refused' studies studies' told r t short
       (a, is, wrote, held, same) k j seen l =
       let counts = counts-more r.point line a (kind_in (command_of line)) is in
       record {
@@ -354,7 +354,7 @@ module _ (tells : Plainly → ℕ → List ℕ → Type 0) (refusal : ℕ → Li
         told = told_more Lists Lists' script now next old mid new first r.point line a n refused refused' r.told t short is wrote
             (k ∙ ap (λ (x : Told). refused + refusal_count x) same)
             (λ more h. subst (λ (x : List (Plainly × ℕ)). Lists' (more ++ x))
-            (listed-same told a.told board a.after.state.board (studies + 1) a.after.studies same (seen a.after.state held)
+            (listed-same told a.told document a.after.state.document (studies + 1) a.after.studies same (seen a.after.state held)
             (λ one. ap (λ i. i + 1) r.studies_are ∙ ap (λ i. r.point.studies + i) (sym one) ∙ sym counts.1)) (l more h));
         held = held;
         lines_are = ap (λ i. i + 1) r.lines_are ∙ omega arith ∙ sym counts.0;

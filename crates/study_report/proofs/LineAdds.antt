@@ -10,7 +10,7 @@ use Rattle.study_marks.specs.Edits.{Plainly}
 use Rattle.study_reply.specs.declared.refusal.Refusal.{Refusal}
 use Rattle.study_script.specs.declared.run.RunFault.{RunFault}
 use Rattle.study_script.specs.declared.run.RunFault.TheVariants.{ReadDevice, WriteDevice, LineTooLong, TooManyLines, OutOfMemory}
-use Rattle.study_script.specs.State.{State, Board, study, Outside}
+use Rattle.study_script.specs.State.{State, Document, study, Outside}
 use Rattle.study_script.specs.Replies.{Reply, refused, IsReply}
 use Rattle.study_script.specs.Held.{Answered}
 use Rattle.study_report.specs.declared.kind.Kind.TheVariants.{Study, Checked}
@@ -31,20 +31,20 @@ pub refusal-none : (r : Result Told RunFault) (text : List ℕ) (old new : Optio
 refusal-none r text old new h =
     IfOk-weaker r (RefusalWritten text old new) (λ t. study_count t ≡ 0) (λ t (e, wrote). ap study_count e) h
 
-none-in : (t : Told) (board : Board) (number : ℕ) → study_count t ≡ 0 → listed_in t board number ≡ []
-none-in Nothing board number e = refl
-none-in AStudy board number e = absurd cc
-none-in ARefusal board number e = refl
+none-in : (t : Told) (document : Document) (number : ℕ) → study_count t ≡ 0 → listed_in t document number ≡ []
+none-in Nothing document number e = refl
+none-in AStudy document number e = absurd cc
+none-in ARefusal document number e = refl
 
 pub nothing-listed : (Lists : List (Plainly × ℕ) → Type 0) (told : List (Plainly × ℕ)) → Lists told → Lists (told ++ [])
 nothing-listed Lists told kept = subst Lists (sym (append-nil told)) kept
 
 -- where no study was told, the list stays
-pub none-listed : (Lists : List (Plainly × ℕ) → Type 0) (r : Result Told RunFault) (told : List (Plainly × ℕ)) (board : Board) (number : ℕ)
-    → IfOk r (λ t. study_count t ≡ 0) → Lists told → IfOk r (λ t. Lists (told ++ listed_in t board number))
-none-listed Lists r told board number h kept =
-    IfOk-weaker r (λ t. study_count t ≡ 0) (λ t. Lists (told ++ listed_in t board number))
-    (λ t e. subst (λ (x : List (Plainly × ℕ)). Lists (told ++ x)) (sym (none-in t board number e)) (nothing-listed Lists told kept)) h
+pub none-listed : (Lists : List (Plainly × ℕ) → Type 0) (r : Result Told RunFault) (told : List (Plainly × ℕ)) (document : Document) (number : ℕ)
+    → IfOk r (λ t. study_count t ≡ 0) → Lists told → IfOk r (λ t. Lists (told ++ listed_in t document number))
+none-listed Lists r told document number h kept =
+    IfOk-weaker r (λ t. study_count t ≡ 0) (λ t. Lists (told ++ listed_in t document number))
+    (λ t e. subst (λ (x : List (Plainly × ℕ)). Lists (told ++ x)) (sym (none-in t document number e)) (nothing-listed Lists told kept)) h
 
 pub adds-weaker : (I J : Added → Type 0) (H K : State → Type 0) (r : Result Told RunFault) (old new : Option (List ℕ)) → ((a : Added) → I a → J a)
     → ((s : State) → H s → K s) → IfOk r (Adds I H old new) → IfOk r (Adds J K old new)
@@ -94,20 +94,20 @@ module _ (tells : Plainly → ℕ → List ℕ → Type 0) (refusal : ℕ → Li
       (λ fault k. stops-in I (refusal_added tells refusal p line reply) old new fault is
       (subst (λ (t : List ℕ). StopsIn t old new fault) same k)) h
 
-  -- the study on the board is written
+  -- the study in the document is written
   pub section-adds : (H : State → Type 0) (p : Point) (s : State) (line : List ℕ) (number studies : ℕ) (plain : Plainly) (old new : Option (List ℕ))
-      → s.board ≡ study plain → number ≡ suc studies → studies ≡ p.studies → H s → IsSection tells s.board number old new
+      → s.document ≡ study plain → number ≡ suc studies → studies ≡ p.studies → H s → IsSection tells s.document number old new
       → Adds (IsStudyTold tells refusal p s line) H old new AStudy
   section-adds H p s line number studies plain old new b n k held sec =
-      let there = subst (λ (x : Board). IsSection tells x number old new) b sec in
+      let there = subst (λ (x : Document). IsSection tells x number old new) b sec in
       let at : number ≡ suc p.studies = n ∙ ap suc k in
       (study_added p s there.0, inl (plain, there.0, b, subst (λ i. tells plain i there.0) at there.1, refl), there.2, held, refl)
 
   pub section-stops : (p : Point) (s : State) (line : List ℕ) (number studies : ℕ) (plain : Plainly) (old new : Option (List ℕ))
-      → s.board ≡ study plain → number ≡ suc studies → studies ≡ p.studies → IsSectionPart tells s.board number old new
+      → s.document ≡ study plain → number ≡ suc studies → studies ≡ p.studies → IsSectionPart tells s.document number old new
       → Stops (IsStudyTold tells refusal p s line) old new WriteDevice
   section-stops p s line number studies plain old new b n k sec =
-      let there = subst (λ (x : Board). IsSectionPart tells x number old new) b sec in
+      let there = subst (λ (x : Document). IsSectionPart tells x number old new) b sec in
       let at : number ≡ suc p.studies = n ∙ ap suc k in
       (study_added p s there.0, inl (plain, there.0, b, subst (λ i. tells plain i there.0) at there.1, refl), there.2)
 
@@ -154,7 +154,7 @@ module _ (tells : Plainly → ℕ → List ℕ → Type 0) (refusal : ℕ → Li
       let a = nothing_added p reply.state in
       (a, (o, reply, is, subst (λ x. IsCheckedAfter tells refusal p line reply x a) (sym (sym same ∙ was-false)) refl), Appends-nil out, held, refl)
 
--- the reply that a desk wrote into memory
+-- the reply that a session wrote into memory
 pub replied : (H : State → Type 0) (s : State) (line old taken : List ℕ) (was : Bool) → old ≡ []
     → Answered (IsReply s line) H (Some old) (Some taken) was → IsReplied s line H taken was
 replied H s line old taken was none (o, reply, is, wrote, held, same) =

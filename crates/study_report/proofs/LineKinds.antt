@@ -2,14 +2,14 @@
 use Rattle.std.proofs.Common.{◌≡◌, ℕ, true, false, List, Option, Some, None, Ok, Err, refl, sym, ap, ◌∙◌}
 use Rattle.std.specs.Prelude.{IfSome}
 use Rattle.study_material.specs.declared.class.Class.{Class}
-use Rattle.study_command.specs.declared.command.ClassWord.TheVariants.{Build, Load, Save, Verify}
-use Rattle.study_command.specs.Asking.{Asks, of_start, at_node, at_study, of_class, stipulate, insert, tag, solve, pgn, command_of}
-use Rattle.study_script.specs.Stored.{IsTrusted, IsTrustedAsk}
+use Rattle.study_command.specs.declared.command.TableCommand.TheVariants.{Build, Load, Save, Verify}
+use Rattle.study_command.specs.Parser.{Asks, fen_command, node_query, node_command, table_command, stipulate, insert, tag, solve, pgn, command_of}
+use Rattle.study_script.specs.Stores.{IsTrusted, IsTrustedAsk}
 use Rattle.study_marks.specs.Edits.{Plainly}
 use Rattle.study_pgn.specs.Pgn.{pgn_text}
 use Rattle.study_reply.specs.declared.refusal.Refusal.{Refusal}
 use Rattle.study_reply.specs.declared.refusal.Refusal.TheVariants.{NoStudy, OutOfMemory}
-use Rattle.study_script.specs.State.{State, Board, empty, start, study, Outside, quiet, no_path, no_room, no_room_for, unread, unopened}
+use Rattle.study_script.specs.State.{State, Document, empty, start, study, Outside, quiet, no_path, no_room, no_room_for, unread, unopened}
 use Rattle.study_script.specs.State.{cut_off, file, header}
 use Rattle.study_script.specs.Replies.{Reply, accepted, refused, class_told, IsPgnReply, IsReplyWhere, Annotated}
 use Rattle.study_report.specs.declared.kind.Kind.TheVariants.{PassedOver, Study, Checked}
@@ -25,13 +25,13 @@ no-class (Some c) h = absurd (h refl)
 pub trusted-ask : (asks : Asks) → (kind_in asks ≡ PassedOver → ⊥) → IsTrustedAsk none_trusted asks
 trusted-ask (Err fault) h = tt
 trusted-ask (Ok None) h = tt
-trusted-ask (Ok (Some (of_class Load name))) h = no-class (class_told name) h
-trusted-ask (Ok (Some (of_class Build name))) h = tt
-trusted-ask (Ok (Some (of_class Save name))) h = tt
-trusted-ask (Ok (Some (of_class Verify name))) h = tt
-trusted-ask (Ok (Some (of_start word fen))) h = tt
-trusted-ask (Ok (Some (at_node word steps))) h = tt
-trusted-ask (Ok (Some (at_study word steps))) h = tt
+trusted-ask (Ok (Some (table_command Load name))) h = no-class (class_told name) h
+trusted-ask (Ok (Some (table_command Build name))) h = tt
+trusted-ask (Ok (Some (table_command Save name))) h = tt
+trusted-ask (Ok (Some (table_command Verify name))) h = tt
+trusted-ask (Ok (Some (fen_command word fen))) h = tt
+trusted-ask (Ok (Some (node_query word steps))) h = tt
+trusted-ask (Ok (Some (node_command word steps))) h = tt
 trusted-ask (Ok (Some (stipulate stipulation))) h = tt
 trusted-ask (Ok (Some (insert steps san))) h = tt
 trusted-ask (Ok (Some (tag name text))) h = tt
@@ -51,12 +51,12 @@ class-no-study None k = absurd cc
 class-no-study (Some c) k = absurd cc
 
 pub pgn-asked : (s : State) (o : Outside) (reply : Reply) (asks : Asks) → kind_in asks ≡ Study → IsReplyWhere s o asks reply
-    → IsPgnReply s o s.board reply
+    → IsPgnReply s o s.document reply
 pgn-asked s o reply (Ok (Some pgn)) k r = r
-pgn-asked s o reply (Ok (Some (of_class word name))) k r = absurd (class-no-study (class_told name) k)
-pgn-asked s o reply (Ok (Some (of_start word fen))) k r = absurd cc
-pgn-asked s o reply (Ok (Some (at_node word steps))) k r = absurd cc
-pgn-asked s o reply (Ok (Some (at_study word steps))) k r = absurd cc
+pgn-asked s o reply (Ok (Some (table_command word name))) k r = absurd (class-no-study (class_told name) k)
+pgn-asked s o reply (Ok (Some (fen_command word fen))) k r = absurd cc
+pgn-asked s o reply (Ok (Some (node_query word steps))) k r = absurd cc
+pgn-asked s o reply (Ok (Some (node_command word steps))) k r = absurd cc
 pgn-asked s o reply (Ok (Some (stipulate stipulation))) k r = absurd cc
 pgn-asked s o reply (Ok (Some (insert steps san))) k r = absurd cc
 pgn-asked s o reply (Ok (Some (tag name text))) k r = absurd cc
@@ -65,7 +65,7 @@ pgn-asked s o reply (Ok None) k r = absurd cc
 pgn-asked s o reply (Err fault) k r = absurd cc
 
 -- an accepted one finds a study, and changes nothing
-abbrev pub Finds : State → Board → Reply → Type 0
+abbrev pub Finds : State → Document → Reply → Type 0
 Finds s b reply = ((plain : Plainly) × (b ≡ study plain)) × (reply.state ≡ s)
 
 refused-no : (s : State) (why : Refusal) (reply : Reply) → reply ≡ refused s why → reply.refused ≡ false → ⊥
@@ -76,7 +76,7 @@ found-study : (s : State) (old : Plainly) (reply : Reply) → Annotated old (λ 
     → Finds s (study old) reply
 found-study s old reply (annotated, right, plain, e) = ((old, refl), ap (λ (r : Reply). r.state) e)
 
-pub pgn-finds : (s : State) (o : Outside) (b : Board) (reply : Reply) → IsPgnReply s o b reply → reply.refused ≡ false → Finds s b reply
+pub pgn-finds : (s : State) (o : Outside) (b : Document) (reply : Reply) → IsPgnReply s o b reply → reply.refused ≡ false → Finds s b reply
 pgn-finds s o empty reply r f = absurd (refused-no s NoStudy reply r f)
 pgn-finds s o (start from) reply r f = absurd (refused-no s NoStudy reply r f)
 pgn-finds s no_room (study old) reply r f = absurd (refused-no s OutOfMemory reply r f)

@@ -17,7 +17,7 @@ use Rattle.study_report.specs.Told.{Point, Added, IsAdded, refusal_count, studie
 -- no study and no start; these classes are held, and their tables may fail in any way; of files nothing is known
 abbrev pub over_tables : List Class → Bool → State
 over_tables classes paged = record {
-  board = empty;
+  document = empty;
   classes = classes;
   paged = paged;
   shelf = record { files = λ c. None; headers = λ c. None; faults = λ c f. true };

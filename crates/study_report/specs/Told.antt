@@ -7,11 +7,11 @@ use Rattle.study_tablefile.specs.declared.fault.SourceFault.{SourceFault}
 use Rattle.study_prober.specs.declared.values.ProbeFault.{ProbeFault}
 use Rattle.study_prober.specs.declared.values.ProbeFault.TheVariants.{NoTable, TableRead, PageDamaged}
 use Rattle.study_marks.specs.Edits.{Plainly}
-use Rattle.study_command.specs.Asking.{Asks, of_class, pgn, command_of}
+use Rattle.study_command.specs.Parser.{Asks, table_command, pgn, command_of}
 use Rattle.study_reply.specs.declared.refusal.Refusal.{Refusal}
 use Rattle.study_reply.specs.declared.refusal.Refusal.TheVariants.{NotAClass, OutOfMemory}
 use Rattle.study_reply.specs.Names.{of_probe}
-use Rattle.study_script.specs.State.{State, Board, empty, start, study, Outside, is_among}
+use Rattle.study_script.specs.State.{State, Document, empty, start, study, Outside, is_among}
 use Rattle.study_script.specs.Replies.{Reply, IsReply, refused, class_told}
 use Rattle.study_report.specs.declared.kind.Kind.{Kind}
 use Rattle.study_report.specs.declared.kind.Kind.TheVariants.{PassedOver, NoClass, Study, Checked}
@@ -27,7 +27,7 @@ class_kind (Some c) = PassedOver
 
 -- a line of a table is passed over, or has no class; a `pgn` line tells a study
 abbrev pub kind_in : Asks → Kind
-kind_in (Ok (Some (of_class word name))) = class_kind (class_told name)
+kind_in (Ok (Some (table_command word name))) = class_kind (class_told name)
 kind_in (Ok (Some pgn)) = Study
 kind_in _ = Checked
 
@@ -82,22 +82,22 @@ IsUntoldIn s fault = IsUntoldBy (is_among s.classes) s.paged (λ c f. s.shelf.fa
 abbrev pub IsLeftOut : State → Refusal → Type 0
 IsLeftOut s why = (why ≡ OutOfMemory) ⊎ ((fault : ProbeFault) × IsUntoldIn s fault × (why ≡ of_probe fault))
 
--- the study on a board, with its number, where there is one
-abbrev pub studies_on : Board → ℕ → List (Plainly × ℕ)
+-- the study in a document, with its number, where there is one
+abbrev pub studies_on : Document → ℕ → List (Plainly × ℕ)
 studies_on empty number = []
 studies_on (start s) number = []
 studies_on (study plain) number = (plain, number) ∷ []
 
--- the study that a line told, which is on this board
-abbrev pub listed_in : Told → Board → ℕ → List (Plainly × ℕ)
-listed_in Nothing board number = []
-listed_in AStudy board number = studies_on board number
-listed_in ARefusal board number = []
+-- the study that a line told, which is in this document
+abbrev pub listed_in : Told → Document → ℕ → List (Plainly × ℕ)
+listed_in Nothing document number = []
+listed_in AStudy document number = studies_on document number
+listed_in ARefusal document number = []
 
 -- the studies that lines told, each with its number
 abbrev pub studies_in : List Added → List (Plainly × ℕ)
 studies_in [] = []
-studies_in (a ∷ more) = listed_in a.told a.after.state.board a.after.studies ++ studies_in more
+studies_in (a ∷ more) = listed_in a.told a.after.state.document a.after.studies ++ studies_in more
 
 module _ (tells : Plainly → ℕ → List ℕ → Type 0) (refusal : ℕ → List ℕ → List ℕ → List ℕ) where
   -- the line is refused: it takes no number of a study
@@ -111,7 +111,7 @@ module _ (tells : Plainly → ℕ → List ℕ → Type 0) (refusal : ℕ → Li
   -- the study that the state holds is told, or it is left out and the line is refused
   abbrev pub IsStudyTold : Point → State → List ℕ → Added → Type 0
   IsStudyTold p s line added =
-      ((plain : Plainly) × (text : List ℕ) × (s.board ≡ study plain) × tells plain (suc p.studies) text × (added ≡ study_added p s text))
+      ((plain : Plainly) × (text : List ℕ) × (s.document ≡ study plain) × tells plain (suc p.studies) text × (added ≡ study_added p s text))
       ⊎ ((why : Refusal) × IsLeftOut s why × (added ≡ refusal_added p line (refused s why)))
 
   -- after the script's reply to a `pgn` line, and to another line that is checked

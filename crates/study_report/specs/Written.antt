@@ -6,7 +6,7 @@ use Rattle.study_material.specs.declared.class.Class.{Class}
 use Rattle.study_marks.specs.Edits.{Plainly}
 use Rattle.study_script.specs.declared.run.RunFault.{RunFault}
 use Rattle.study_script.specs.declared.run.RunFault.TheVariants.{WriteDevice, OutOfMemory}
-use Rattle.study_script.specs.State.{State, Board, empty, start, study, Outside}
+use Rattle.study_script.specs.State.{State, Document, empty, start, study, Outside}
 use Rattle.study_script.specs.Replies.{Reply, IsReply}
 use Rattle.study_report.specs.declared.told.Told.{Told}
 use Rattle.study_report.specs.Told.{Added}
@@ -31,13 +31,13 @@ Stops IsIt old new WriteDevice = (added : Added) × IsIt added × TakesPrefix ol
 Stops IsIt old new OutOfMemory = new ≡ old
 Stops IsIt old new _ = ⊥
 
--- the study on a board is told as the one of this number, whole or in part; without a study nothing is
-abbrev pub IsSection : (Plainly → ℕ → List ℕ → Type 0) → Board → ℕ → Option (List ℕ) → Option (List ℕ) → Type 0
+-- the study in a document is told as the one of this number, whole or in part; without a study nothing is
+abbrev pub IsSection : (Plainly → ℕ → List ℕ → Type 0) → Document → ℕ → Option (List ℕ) → Option (List ℕ) → Type 0
 IsSection tells empty number old new = new ≡ old
 IsSection tells (start s) number old new = new ≡ old
 IsSection tells (study plain) number old new = (text : List ℕ) × tells plain number text × Appends old new text
 
-abbrev pub IsSectionPart : (Plainly → ℕ → List ℕ → Type 0) → Board → ℕ → Option (List ℕ) → Option (List ℕ) → Type 0
+abbrev pub IsSectionPart : (Plainly → ℕ → List ℕ → Type 0) → Document → ℕ → Option (List ℕ) → Option (List ℕ) → Type 0
 IsSectionPart tells empty number old new = ⊥
 IsSectionPart tells (start s) number old new = ⊥
 IsSectionPart tells (study plain) number old new = (text : List ℕ) × tells plain number text × TakesPrefix old new text

@@ -2,14 +2,14 @@
 ghost use Rattle.std.specs.Prelude.{◌≡◌, ◌<◌, ◌+◌, ◌⊎◌, ℕ, suc, List, ◌++◌, IfOk, IfErr, codes};
 ghost use Rattle.std.specs.Io.KnownBytes.{Appends};
 ghost use Rattle.study_marks.specs.Edits.{Plainly};
-ghost use Rattle.study_command.specs.Asking.{command_of};
+ghost use Rattle.study_command.specs.Parser.{command_of};
 ghost use Rattle.study_reply.specs.Names.{words_of};
 ghost use Rattle.study_reply.specs.Words.{reply_line};
 ghost use Rattle.study_script.specs.declared.run.RunFault.TheVariants.{WriteDevice, OutOfMemory};
 ghost use Rattle.study_script.specs.State.{State, study};
-ghost use Rattle.study_script.specs.Held.{Holds, board_seen};
-ghost use Rattle.study_script.specs.Desk.{DeskHolds};
-ghost use Rattle.study_script.specs.Stored.{HonestOn, IsTrusted};
+ghost use Rattle.study_script.specs.Held.{Holds, document_seen};
+ghost use Rattle.study_script.specs.Session.{SessionHolds};
+ghost use Rattle.study_script.specs.Stores.{HonestOn, IsTrusted};
 ghost use Rattle.study_report.specs.Told.{Point, kind_in, IsAdded, IsAddedAs, IsAt, IsStudyTold, study_count, listed_in};
 ghost use Rattle.study_report.specs.Written.{none_trusted, Adds, StopsIn, Stops, IsReplied};
 
@@ -22,9 +22,9 @@ use std::io::Write;
 use study_reply::refusal::Refusal;
 use study_reply::words::{of_probe, refuse};
 use study_review::ReviewFault;
-use study_script::board::Board;
-use study_script::desk::{Desk, StudyDesk};
+use study_script::document::Document;
 use study_script::run::RunFault;
+use study_script::session::{Interpreter, Session};
 use study_script::store::TableStore;
 use study_script::tables::Tables;
 use study_tablefile::PageSource;
@@ -39,20 +39,20 @@ struct Replied<'a, A: Allocator> {
 
 /// Answers a line as a script does.
 fn reply_to<'a, 's, S: TableStore, A: Allocator>(
-    desk: &mut StudyDesk<'a, 's, S, A>,
+    session: &mut Session<'a, 's, S, A>,
     line: &[u8],
 ) -> Result<Replied<'a, A>, RunFault>
     ensures ok { (s : State) → IsTrusted none_trusted line.now
-        → DeskHolds S.Pages.honest S.Pages.gives (HonestOn none_trusted S.honest) S.files S.headers S.faults
-        desk.old.board desk.old.tables desk.old.store.now s
+        → SessionHolds S.Pages.honest S.Pages.gives (HonestOn none_trusted S.honest) S.files S.headers S.faults
+        session.old.document session.old.tables session.old.store.now s
         → IfOk result (λ r. IsReplied s line.now
-        (DeskHolds S.Pages.honest S.Pages.gives (HonestOn none_trusted S.honest) S.files S.headers S.faults
-        desk.new.board desk.new.tables desk.new.store.now)
+        (SessionHolds S.Pages.honest S.Pages.gives (HonestOn none_trusted S.honest) S.files S.headers S.faults
+        session.new.document session.new.tables session.new.store.now)
         r.text.taken.items r.refused) }
     ensures err { IfErr result (λ e. e ≡ OutOfMemory) }
 {
-    let mut text = MemoryWriter::new(desk.alloc);
-    match desk.answer(line, &mut text) {
+    let mut text = MemoryWriter::new(session.alloc);
+    match session.answer(line, &mut text) {
         Ok(refused) => Ok(Replied { text, refused }),
         Err(_) => Err(RunFault::OutOfMemory),
     }
@@ -105,41 +105,41 @@ fn refuse_line<'a, A: Allocator, W: Write, T: Report>(
 
 /// Answers a line that tells nothing where it is accepted.
 fn add_checked<'a, 's, S: TableStore, A: Allocator, W: Write, T: Report>(
-    desk: &mut StudyDesk<'a, 's, S, A>,
+    session: &mut Session<'a, 's, S, A>,
     report: &mut T,
     number: u32,
     line: &[u8],
     out: &mut W,
 ) -> Result<Told, RunFault>
     ensures ok { (p : Point) → IsTrusted none_trusted line.now →
-        DeskHolds S.Pages.honest S.Pages.gives (HonestOn none_trusted S.honest) S.files S.headers S.faults
-        desk.old.board desk.old.tables desk.old.store.now p.state
+        SessionHolds S.Pages.honest S.Pages.gives (HonestOn none_trusted S.honest) S.files S.headers S.faults
+        session.old.document session.old.tables session.old.store.now p.state
         → number ≡ suc p.lines
         → IfOk result (Adds (IsAddedAs T.tells T.refusal Kind.Checked p line.now)
-        (DeskHolds S.Pages.honest S.Pages.gives (HonestOn none_trusted S.honest) S.files S.headers S.faults
-        desk.new.board desk.new.tables desk.new.store.now)
+        (SessionHolds S.Pages.honest S.Pages.gives (HonestOn none_trusted S.honest) S.files S.headers S.faults
+        session.new.document session.new.tables session.new.store.now)
         (W.contents out.old) (W.contents out.new)) }
     ensures err { (p : Point) → IsTrusted none_trusted line.now →
-        DeskHolds S.Pages.honest S.Pages.gives (HonestOn none_trusted S.honest) S.files S.headers S.faults
-        desk.old.board desk.old.tables desk.old.store.now p.state
+        SessionHolds S.Pages.honest S.Pages.gives (HonestOn none_trusted S.honest) S.files S.headers S.faults
+        session.old.document session.old.tables session.old.store.now p.state
         → number ≡ suc p.lines
         → IfErr result (Stops (IsAddedAs T.tells T.refusal Kind.Checked p line.now) (W.contents out.old) (W.contents out.new)) }
     ensures listed { (told : List (Plainly × ℕ)) → T.lists report.old told → T.lists report.new told }
     ensures told_none { IfOk result (λ t. study_count t ≡ 0) }
     ensures stops { IfErr result (λ e. (e ≡ WriteDevice) ⊎ (e ≡ OutOfMemory)) }
 {
-    let reply = reply_to(desk, line)?;
+    let reply = reply_to(session, line)?;
     if reply.refused {
         let bytes = reply.text.taken.as_slice();
-        return add_refusal(desk.alloc, report, number, line, bytes, out);
+        return add_refusal(session.alloc, report, number, line, bytes, out);
     }
     Ok(Told::Nothing)
 }
 
-/// Tells of the study on the board, after so many studies; where it is left out, the line is refused.
+/// Tells of the study in the document, after so many studies; where it is left out, the line is refused.
 fn tell_study<'a, P: PageSource, A: Allocator, W: Write, T: Report>(
     alloc: &'a A,
-    board: &Board<'a, A>,
+    document: &Document<'a, A>,
     tables: &mut Tables<'a, P, A>,
     report: &mut T,
     at: Place,
@@ -147,18 +147,18 @@ fn tell_study<'a, P: PageSource, A: Allocator, W: Write, T: Report>(
     out: &mut W,
 ) -> Result<Told, RunFault>
     requires few { at.studies < 100000 }
-    ensures ok { (p : Point) (s : State) (plain : Plainly) → Holds P.honest P.gives board.now tables.old s → s.board ≡ study plain
+    ensures ok { (p : Point) (s : State) (plain : Plainly) → Holds P.honest P.gives document.now tables.old s → s.document ≡ study plain
         → IsAt p at
-        → IfOk result (Adds (IsStudyTold T.tells T.refusal p s line.now) (λ t. (t ≡ s) × Holds P.honest P.gives board.now tables.new t)
+        → IfOk result (Adds (IsStudyTold T.tells T.refusal p s line.now) (λ t. (t ≡ s) × Holds P.honest P.gives document.now tables.new t)
         (W.contents out.old) (W.contents out.new)) }
-    ensures err { (p : Point) (s : State) (plain : Plainly) → Holds P.honest P.gives board.now tables.old s → s.board ≡ study plain
+    ensures err { (p : Point) (s : State) (plain : Plainly) → Holds P.honest P.gives document.now tables.old s → s.document ≡ study plain
         → IsAt p at
         → IfErr result (Stops (IsStudyTold T.tells T.refusal p s line.now) (W.contents out.old) (W.contents out.new)) }
-    ensures listed { (s : State) (told : List (Plainly × ℕ)) → Holds P.honest P.gives board.now tables.old s → T.lists report.old told
-        → IfOk result (λ t. T.lists report.new (told ++ listed_in t s.board (at.studies + 1))) }
+    ensures listed { (s : State) (told : List (Plainly × ℕ)) → Holds P.honest P.gives document.now tables.old s → T.lists report.old told
+        → IfOk result (λ t. T.lists report.new (told ++ listed_in t s.document (at.studies + 1))) }
     ensures stops { IfErr result (λ e. (e ≡ WriteDevice) ⊎ (e ≡ OutOfMemory)) }
 {
-    match add_section(alloc, board, tables, report, at.studies + 1, out) {
+    match add_section(alloc, document, tables, report, at.studies + 1, out) {
         Ok(()) => Ok(Told::Study),
         Err(ReviewFault::Device) => Err(RunFault::WriteDevice),
         Err(ReviewFault::OutOfMemory) => {
@@ -172,7 +172,7 @@ fn tell_study<'a, P: PageSource, A: Allocator, W: Write, T: Report>(
 
 /// Answers a line that tells the study where it is accepted, after so many studies.
 fn add_pgn<'a, 's, S: TableStore, A: Allocator, W: Write, T: Report>(
-    desk: &mut StudyDesk<'a, 's, S, A>,
+    session: &mut Session<'a, 's, S, A>,
     report: &mut T,
     at: Place,
     line: &[u8],
@@ -180,37 +180,45 @@ fn add_pgn<'a, 's, S: TableStore, A: Allocator, W: Write, T: Report>(
 ) -> Result<Told, RunFault>
     requires few { at.studies < 100000 }
     ensures ok { (p : Point) → kind_in (command_of line.now) ≡ Kind.Study →
-        DeskHolds S.Pages.honest S.Pages.gives (HonestOn none_trusted S.honest) S.files S.headers S.faults
-        desk.old.board desk.old.tables desk.old.store.now p.state
+        SessionHolds S.Pages.honest S.Pages.gives (HonestOn none_trusted S.honest) S.files S.headers S.faults
+        session.old.document session.old.tables session.old.store.now p.state
         → IsAt p at
         → IfOk result (Adds (IsAddedAs T.tells T.refusal Kind.Study p line.now)
-        (DeskHolds S.Pages.honest S.Pages.gives (HonestOn none_trusted S.honest) S.files S.headers S.faults
-        desk.new.board desk.new.tables desk.new.store.now)
+        (SessionHolds S.Pages.honest S.Pages.gives (HonestOn none_trusted S.honest) S.files S.headers S.faults
+        session.new.document session.new.tables session.new.store.now)
         (W.contents out.old) (W.contents out.new)) }
     ensures err { (p : Point) → kind_in (command_of line.now) ≡ Kind.Study →
-        DeskHolds S.Pages.honest S.Pages.gives (HonestOn none_trusted S.honest) S.files S.headers S.faults
-        desk.old.board desk.old.tables desk.old.store.now p.state
+        SessionHolds S.Pages.honest S.Pages.gives (HonestOn none_trusted S.honest) S.files S.headers S.faults
+        session.old.document session.old.tables session.old.store.now p.state
         → IsAt p at
         → IfErr result (Stops (IsAddedAs T.tells T.refusal Kind.Study p line.now) (W.contents out.old) (W.contents out.new)) }
     ensures listed { (p : Point) (told : List (Plainly × ℕ)) → kind_in (command_of line.now) ≡ Kind.Study →
-        DeskHolds S.Pages.honest S.Pages.gives (HonestOn none_trusted S.honest) S.files S.headers S.faults
-        desk.old.board desk.old.tables desk.old.store.now p.state
+        SessionHolds S.Pages.honest S.Pages.gives (HonestOn none_trusted S.honest) S.files S.headers S.faults
+        session.old.document session.old.tables session.old.store.now p.state
         → T.lists report.old told
-        → IfOk result (λ t. T.lists report.new (told ++ listed_in t (board_seen desk.new.board) (at.studies + 1))) }
+        → IfOk result (λ t. T.lists report.new (told ++ listed_in t (document_seen session.new.document) (at.studies + 1))) }
     ensures stops { IfErr result (λ e. (e ≡ WriteDevice) ⊎ (e ≡ OutOfMemory)) }
 {
-    let alloc = desk.alloc;
-    let reply = reply_to(desk, line)?;
+    let alloc = session.alloc;
+    let reply = reply_to(session, line)?;
     if reply.refused {
         let bytes = reply.text.taken.as_slice();
         return add_refusal(alloc, report, at.line, line, bytes, out);
     }
-    tell_study(alloc, &desk.board, &mut desk.tables, report, at, line, out)
+    tell_study(
+        alloc,
+        &session.document,
+        &mut session.tables,
+        report,
+        at,
+        line,
+        out,
+    )
 }
 
 /// What a line adds, the one at this place.
 pub fn add_line<'a, 's, S: TableStore, A: Allocator, W: Write, T: Report>(
-    desk: &mut StudyDesk<'a, 's, S, A>,
+    session: &mut Session<'a, 's, S, A>,
     report: &mut T,
     at: Place,
     line: &[u8],
@@ -218,29 +226,36 @@ pub fn add_line<'a, 's, S: TableStore, A: Allocator, W: Write, T: Report>(
 ) -> Result<Told, RunFault>
     requires few { at.studies < 100000 }
     ensures ok { (p : Point) →
-        DeskHolds S.Pages.honest S.Pages.gives (HonestOn none_trusted S.honest) S.files S.headers S.faults
-        desk.old.board desk.old.tables desk.old.store.now p.state
+        SessionHolds S.Pages.honest S.Pages.gives (HonestOn none_trusted S.honest) S.files S.headers S.faults
+        session.old.document session.old.tables session.old.store.now p.state
         → IsAt p at
         → IfOk result (Adds (IsAdded T.tells T.refusal p line.now)
-        (DeskHolds S.Pages.honest S.Pages.gives (HonestOn none_trusted S.honest) S.files S.headers S.faults
-        desk.new.board desk.new.tables desk.new.store.now)
+        (SessionHolds S.Pages.honest S.Pages.gives (HonestOn none_trusted S.honest) S.files S.headers S.faults
+        session.new.document session.new.tables session.new.store.now)
         (W.contents out.old) (W.contents out.new)) }
     ensures err { (p : Point) →
-        DeskHolds S.Pages.honest S.Pages.gives (HonestOn none_trusted S.honest) S.files S.headers S.faults
-        desk.old.board desk.old.tables desk.old.store.now p.state
+        SessionHolds S.Pages.honest S.Pages.gives (HonestOn none_trusted S.honest) S.files S.headers S.faults
+        session.old.document session.old.tables session.old.store.now p.state
         → IsAt p at
         → IfErr result (Stops (IsAdded T.tells T.refusal p line.now) (W.contents out.old) (W.contents out.new)) }
     ensures listed { (p : Point) (told : List (Plainly × ℕ)) →
-        DeskHolds S.Pages.honest S.Pages.gives (HonestOn none_trusted S.honest) S.files S.headers S.faults
-        desk.old.board desk.old.tables desk.old.store.now p.state
+        SessionHolds S.Pages.honest S.Pages.gives (HonestOn none_trusted S.honest) S.files S.headers S.faults
+        session.old.document session.old.tables session.old.store.now p.state
         → T.lists report.old told
-        → IfOk result (λ t. T.lists report.new (told ++ listed_in t (board_seen desk.new.board) (at.studies + 1))) }
+        → IfOk result (λ t. T.lists report.new (told ++ listed_in t (document_seen session.new.document) (at.studies + 1))) }
     ensures stops { IfErr result (λ e. (e ≡ WriteDevice) ⊎ (e ≡ OutOfMemory)) }
 {
     match kind_of(line) {
         Kind::PassedOver => Ok(Told::Nothing),
-        Kind::NoClass => refuse_line(desk.alloc, report, at.line, line, Refusal::NotAClass, out),
-        Kind::Study => add_pgn(desk, report, at, line, out),
-        Kind::Checked => add_checked(desk, report, at.line, line, out),
+        Kind::NoClass => refuse_line(
+            session.alloc,
+            report,
+            at.line,
+            line,
+            Refusal::NotAClass,
+            out,
+        ),
+        Kind::Study => add_pgn(session, report, at, line, out),
+        Kind::Checked => add_checked(session, report, at.line, line, out),
     }
 }

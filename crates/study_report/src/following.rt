@@ -4,8 +4,8 @@ ghost use Rattle.study_material.specs.declared.class.Class.{Class as AClass};
 ghost use Rattle.study_marks.specs.Edits.{Plainly};
 ghost use Rattle.study_script.specs.State.{State, is_among};
 ghost use Rattle.study_script.specs.Held.{tables_honest, tables_held, are_paged};
-ghost use Rattle.study_script.specs.Desk.{DeskHolds};
-ghost use Rattle.study_script.specs.Stored.{HonestOn};
+ghost use Rattle.study_script.specs.Session.{SessionHolds};
+ghost use Rattle.study_script.specs.Stores.{HonestOn};
 ghost use Rattle.study_report.specs.Outcome.{IsFollowed, AreListed, Outcome, Shape, over_tables};
 ghost use Rattle.study_report.specs.Written.{none_trusted};
 
@@ -15,35 +15,35 @@ use crate::report::Report;
 use crate::told::Place;
 use std::alloc::Allocator;
 use std::io::{Read, Write};
-use study_command::lines::{Line, LineFault, read_byte};
-use study_script::board::Board;
-use study_script::desk::StudyDesk;
+use study_command::line::{Line, LineFault, read_byte};
+use study_script::document::Document;
 use study_script::run::{RunFault, Summary};
+use study_script::session::Session;
 use study_script::store::TableStore;
 use study_script::tables::Tables;
 use study_tablefile::PageSource;
 
-/// Follows a script from what a desk holds, and has its studies and its refused lines told. The desk holds what the script leaves.
+/// Follows a script from what a session holds, and has its studies and its refused lines told. The session holds what the script leaves.
 pub fn follow<'a, 's, R: Read, W: Write, S: TableStore, A: Allocator, T: Report>(
     line: &mut Line<'_, A>,
     script: &mut R,
     out: &mut W,
     report: &mut T,
-    desk: &mut StudyDesk<'a, 's, S, A>,
+    session: &mut Session<'a, 's, S, A>,
 ) -> Result<Summary, RunFault>
-    ensures outcome { (first : State) → DeskHolds S.Pages.honest S.Pages.gives (HonestOn none_trusted S.honest) S.files S.headers S.faults
-        desk.old.board desk.old.tables
-        desk.old.store.now first
+    ensures outcome { (first : State) → SessionHolds S.Pages.honest S.Pages.gives (HonestOn none_trusted S.honest) S.files S.headers S.faults
+        session.old.document session.old.tables
+        session.old.store.now first
         → IfSome (R.remaining script.old)
         (λ bytes. Outcome T.tells T.refusal first bytes (R.remaining script.new) (W.contents out.old) (W.contents out.new) result) }
-    ensures after { (first : State) → DeskHolds S.Pages.honest S.Pages.gives (HonestOn none_trusted S.honest) S.files S.headers S.faults
-        desk.old.board desk.old.tables
-        desk.old.store.now first
+    ensures after { (first : State) → SessionHolds S.Pages.honest S.Pages.gives (HonestOn none_trusted S.honest) S.files S.headers S.faults
+        session.old.document session.old.tables
+        session.old.store.now first
         → OnOk result (IfSome (R.remaining script.old) (λ bytes. IsFollowed T.tells T.refusal first bytes (W.contents out.old) (W.contents out.new)
-        (DeskHolds S.Pages.honest S.Pages.gives (HonestOn none_trusted S.honest) S.files S.headers S.faults
-        desk.new.board desk.new.tables desk.new.store.now))) }
-    ensures listed { (first : State) (told : List (Plainly × ℕ)) → DeskHolds S.Pages.honest S.Pages.gives (HonestOn none_trusted S.honest)
-        S.files S.headers S.faults desk.old.board desk.old.tables desk.old.store.now first
+        (SessionHolds S.Pages.honest S.Pages.gives (HonestOn none_trusted S.honest) S.files S.headers S.faults
+        session.new.document session.new.tables session.new.store.now))) }
+    ensures listed { (first : State) (told : List (Plainly × ℕ)) → SessionHolds S.Pages.honest S.Pages.gives (HonestOn none_trusted S.honest)
+        S.files S.headers S.faults session.old.document session.old.tables session.old.store.now first
         → T.lists report.old told
         → OnOk result (IfSome (R.remaining script.old) (λ bytes. AreListed T.tells T.refusal first bytes (W.contents out.old) (W.contents out.new)
         (λ more. T.lists report.new (told ++ more)))) }
@@ -62,7 +62,7 @@ pub fn follow<'a, 's, R: Read, W: Write, S: TableStore, A: Allocator, T: Report>
             line: n + 1,
             studies,
         };
-        match add_line(desk, report, at, line.as_slice(), out) {
+        match add_line(session, report, at, line.as_slice(), out) {
             Err(fault) => return Err(fault),
             Ok(told) => {
                 studies += told.studies();
@@ -80,7 +80,7 @@ pub fn follow<'a, 's, R: Read, W: Write, S: TableStore, A: Allocator, T: Report>
     }
 }
 
-/// Follows a script over these tables, from an empty board.
+/// Follows a script over these tables, from an empty document.
 pub fn follow_script<'a, R: Read, W: Write, P: PageSource, A: Allocator, T: Report>(
     alloc: &'a A,
     script: &mut R,
@@ -111,12 +111,12 @@ fn follow_over<'a, R: Read, W: Write, S: TableStore, A: Allocator, T: Report>(
     tables: Tables<'a, S::Pages, A>,
     store: &mut S,
 ) -> Result<Summary, RunFault>
-    ensures outcome { (first : State) → DeskHolds S.Pages.honest S.Pages.gives (HonestOn none_trusted S.honest) S.files S.headers S.faults
-        Board.Empty tables.entry store.old first
+    ensures outcome { (first : State) → SessionHolds S.Pages.honest S.Pages.gives (HonestOn none_trusted S.honest) S.files S.headers S.faults
+        Document.Empty tables.entry store.old first
         → IfSome (R.remaining script.old)
         (λ bytes. Outcome T.tells T.refusal first bytes (R.remaining script.new) (W.contents out.old) (W.contents out.new) result) }
-    ensures listed { (first : State) (told : List (Plainly × ℕ)) → DeskHolds S.Pages.honest S.Pages.gives (HonestOn none_trusted S.honest)
-        S.files S.headers S.faults Board.Empty tables.entry store.old first
+    ensures listed { (first : State) (told : List (Plainly × ℕ)) → SessionHolds S.Pages.honest S.Pages.gives (HonestOn none_trusted S.honest)
+        S.files S.headers S.faults Document.Empty tables.entry store.old first
         → T.lists report.old told
         → OnOk result (IfSome (R.remaining script.old) (λ bytes. AreListed T.tells T.refusal first bytes (W.contents out.old) (W.contents out.new)
         (λ more. T.lists report.new (told ++ more)))) }
@@ -125,11 +125,11 @@ fn follow_over<'a, R: Read, W: Write, S: TableStore, A: Allocator, T: Report>(
     let Ok(mut line) = Line::new(alloc) else {
         return Err(RunFault::OutOfMemory);
     };
-    let mut desk = StudyDesk {
+    let mut session = Session {
         alloc,
-        board: Board::Empty,
+        document: Document::Empty,
         tables,
         store,
     };
-    follow(&mut line, script, out, report, &mut desk)
+    follow(&mut line, script, out, report, &mut session)
 }

@@ -1,6 +1,6 @@
 //! What a report does with a line.
 ghost use Rattle.std.specs.Prelude.{◌≡◌};
-ghost use Rattle.study_command.specs.Asking.{command_of};
+ghost use Rattle.study_command.specs.Parser.{command_of};
 ghost use Rattle.study_script.specs.Replies.{class_told};
 ghost use Rattle.study_report.specs.Told.{kind_in, class_kind};
 
@@ -26,7 +26,7 @@ pub fn kind_of(line: &[u8]) -> Kind
     ensures { result ≡ kind_in (command_of line.now) }
 {
     match read_command(line) {
-        Ok(Some(Command::OfClass(_, name))) => class_kind(name),
+        Ok(Some(Command::Table(_, name))) => class_kind(name),
         Ok(Some(Command::Pgn)) => Kind::Study,
         _ => Kind::Checked,
     }

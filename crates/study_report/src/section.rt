@@ -6,7 +6,7 @@ ghost use Rattle.study_tablefile.specs.declared.fault.SourceFault.{SourceFault a
 ghost use Rattle.study_tablefile.specs.Taken.{TakesPrefix};
 ghost use Rattle.study_prober.specs.declared.values.ProbeFault.{ProbeFault as AProbeFault};
 ghost use Rattle.study_marks.specs.Edits.{Plainly};
-ghost use Rattle.study_marks.specs.Kept.{marked, IsKeptRight};
+ghost use Rattle.study_marks.specs.BenchState.{marked, IsKeptRight};
 ghost use Rattle.study_marks.specs.Study.{plain_study};
 ghost use Rattle.study_script.specs.State.{State};
 ghost use Rattle.study_script.specs.Held.{Holds, tables_honest, tables_held, tables_may_fail, are_paged};
@@ -19,7 +19,7 @@ use std::io::Write;
 use study_marks::Bench;
 use study_prober::Values;
 use study_review::ReviewFault;
-use study_script::board::Board;
+use study_script::document::Document;
 use study_script::tables::Tables;
 use study_tablefile::PageSource;
 
@@ -54,31 +54,31 @@ pub fn add_study<'a, P: PageSource, A: Allocator, W: Write, T: Report>(
     }
 }
 
-/// Tells of the study on the board.
+/// Tells of the study in the document.
 pub fn add_section<'a, P: PageSource, A: Allocator, W: Write, T: Report>(
     alloc: &'a A,
-    board: &Board<'a, A>,
+    document: &Document<'a, A>,
     tables: &mut Tables<'a, P, A>,
     report: &mut T,
     number: u32,
     out: &mut W,
 ) -> Result<(), ReviewFault>
-    ensures told { (s : State) → Holds P.honest P.gives board.now tables.old s
-        → OnOk result (IsSection T.tells s.board number (W.contents out.old) (W.contents out.new)) }
-    ensures device { (s : State) → Holds P.honest P.gives board.now tables.old s → result ≡ Err ReviewFault.Device
-        → IsSectionPart T.tells s.board number (W.contents out.old) (W.contents out.new) }
+    ensures told { (s : State) → Holds P.honest P.gives document.now tables.old s
+        → OnOk result (IsSection T.tells s.document number (W.contents out.old) (W.contents out.new)) }
+    ensures device { (s : State) → Holds P.honest P.gives document.now tables.old s → result ≡ Err ReviewFault.Device
+        → IsSectionPart T.tells s.document number (W.contents out.old) (W.contents out.new) }
     ensures memory { result ≡ Err ReviewFault.OutOfMemory → out.new ≡ out.old }
     ensures untold { (fault : AProbeFault) → result ≡ Err (ReviewFault.Values fault) → out.new ≡ out.old }
-    ensures listed { (s : State) (told : List (Plainly × ℕ)) → Holds P.honest P.gives board.now tables.old s → T.lists report.old told
-        → OnOk result (T.lists report.new (told ++ studies_on s.board number)) }
+    ensures listed { (s : State) (told : List (Plainly × ℕ)) → Holds P.honest P.gives document.now tables.old s → T.lists report.old told
+        → OnOk result (T.lists report.new (told ++ studies_on s.document number)) }
     ensures unlisted { (told : List (Plainly × ℕ)) → T.lists report.old told → OnErr result (T.lists report.new told) }
-    ensures why { (s : State) (fault : AProbeFault) → Holds P.honest P.gives board.now tables.old s → result ≡ Err (ReviewFault.Values fault)
+    ensures why { (s : State) (fault : AProbeFault) → Holds P.honest P.gives document.now tables.old s → result ≡ Err (ReviewFault.Values fault)
         → IsUntoldIn s fault }
-    ensures holds { (s : State) → Holds P.honest P.gives board.now tables.old s → Holds P.honest P.gives board.now tables.new s }
+    ensures holds { (s : State) → Holds P.honest P.gives document.now tables.old s → Holds P.honest P.gives document.now tables.new s }
 {
-    match board {
-        Board::Study(bench) => add_study(alloc, bench, tables, report, number, out),
-        Board::Empty => Ok(()),
-        Board::Start(_) => Ok(()),
+    match document {
+        Document::Study(bench) => add_study(alloc, bench, tables, report, number, out),
+        Document::Empty => Ok(()),
+        Document::Start(_) => Ok(()),
     }
 }

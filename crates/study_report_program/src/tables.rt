@@ -1,6 +1,6 @@
 //! The tables of a folder.
 ghost use Rattle.std.specs.Prelude.{◌≡◌, OnErr};
-ghost use Rattle.study_script.specs.Names.{of_paged};
+ghost use Rattle.study_script.specs.StoreRefusals.{refusal_of_paged};
 
 use crate::status::put_file_fault;
 use std::alloc::Allocator;
@@ -22,7 +22,7 @@ enum NoTable {
 
 /// A fault of a source of pages, as a script tells it.
 fn refusal_of(fault: PagedFault) -> Refusal
-    ensures { result ≡ of_paged fault }
+    ensures { result ≡ refusal_of_paged fault }
 {
     match fault {
         PagedFault::AlreadyHeld(class) => Refusal::AlreadyHeld(class),

@@ -10,7 +10,7 @@ use Rattle.study_moves.specs.LegalList.{legal_list}
 use Rattle.study_moves.specs.Laws.{EachHasAtMostOneValue}
 use Rattle.study_retro.specs.declared.value.Value.{Value}
 use Rattle.study_retro.specs.Game.{IsValueOf}
-use Rattle.study_marks.specs.declared.marking.Aim.{Aim}
+use Rattle.study_marks.specs.declared.mark_rules.Aim.{Aim}
 use Rattle.study_marks.specs.declared.mark.MoveMark.{MoveMark}
 use Rattle.study_marks.specs.declared.mark.MoveMark.TheVariants.{Only, Dual, Mistake, Idle, Reply}
 use Rattle.study_marks.specs.Study.{same_move}

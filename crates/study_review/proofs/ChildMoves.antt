@@ -4,7 +4,7 @@ use Rattle.std.proofs.lemmas.List.{append-nil}
 use Rattle.study_moves.specs.declared.moves.Move.{Move}
 use Rattle.study_tree.specs.Forest.{Forest}
 use Rattle.study_tree.specs.Edits.{width, children_at}
-use Rattle.study_marks.specs.Renewal.{below_at, skipped}
+use Rattle.study_marks.specs.FaultSums.{below_at, skipped}
 use Rattle.study_marks.proofs.ChildFound.{Here, children-width, skipped-end}
 use Rattle.study_review.specs.Line.{moves_of}
 

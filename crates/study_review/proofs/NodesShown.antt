@@ -7,7 +7,7 @@ use Rattle.study_tree.specs.Edits.{node_in, width}
 use Rattle.study_tree.specs.Tree.{Plain, spot_at, twig_spot}
 use Rattle.study_marks.specs.declared.mark.Mark.{Mark}
 use Rattle.study_marks.specs.Bench.{on_move_of}
-use Rattle.study_marks.specs.Renewal.{below_at}
+use Rattle.study_marks.specs.FaultSums.{below_at}
 use Rattle.study_pgn.proofs.PathWalks.{spot_last}
 use Rattle.study_review.specs.Nodes.{front_of, none_idle, is_idle, has_none, OnlyWhere}
 use Rattle.study_review.specs.Made.{Grew}

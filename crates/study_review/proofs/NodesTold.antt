@@ -10,12 +10,12 @@ use Rattle.study_retro.specs.declared.value.Value.{Value}
 use Rattle.study_retro.specs.declared.value.Value.TheVariants as values
 use Rattle.study_tree.specs.Edits.{width}
 use Rattle.study_tree.specs.Tree.{spot_at}
-use Rattle.study_marks.specs.declared.marking.Aim.{Aim}
+use Rattle.study_marks.specs.declared.mark_rules.Aim.{Aim}
 use Rattle.study_marks.specs.declared.mark.Mark.{Mark}
 use Rattle.study_marks.specs.declared.mark.MoveMark.{MoveMark}
 use Rattle.study_marks.specs.declared.mark.MoveMark.TheVariants.{Only, Dual, Mistake, Idle, Reply}
 use Rattle.study_marks.specs.Bench.{played_by}
-use Rattle.study_marks.specs.Renewal.{below_at}
+use Rattle.study_marks.specs.FaultSums.{below_at}
 use Rattle.study_marks.specs.Study.{Study, position_at}
 use Rattle.study_marks.specs.Goals.{aim_of, hero_moves, holds}
 use Rattle.study_review.specs.declared.continuation.Continuation.{Continuation}

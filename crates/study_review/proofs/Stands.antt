@@ -10,9 +10,9 @@ use Rattle.study_tree.specs.Edits.{width}
 use Rattle.study_tree.specs.Tree.{Spot, has_spot, spot_at, twig_spot}
 use Rattle.study_marks.specs.declared.mark.Mark.{Mark}
 use Rattle.study_marks.specs.declared.mark.MoveMark.{MoveMark}
-use Rattle.study_marks.specs.declared.marking.Aim.{Aim}
+use Rattle.study_marks.specs.declared.mark_rules.Aim.{Aim}
 use Rattle.study_marks.specs.Bench.{played_by, on_move_of}
-use Rattle.study_marks.specs.Renewal.{below_at}
+use Rattle.study_marks.specs.FaultSums.{below_at}
 use Rattle.study_marks.specs.Study.{Study, position_at, IsPlayable}
 use Rattle.study_marks.specs.Goals.{aim_of, hero_moves}
 use Rattle.study_marks.proofs.MovesToNode.{legal-last, position-last}

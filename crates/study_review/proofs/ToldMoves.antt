@@ -8,7 +8,7 @@ use Rattle.study_moves.specs.LegalList.{legal_list}
 use Rattle.study_moves.specs.Rules.{after}
 use Rattle.study_retro.specs.declared.value.Value.{Value}
 use Rattle.study_retro.specs.Game.{IsValueOf}
-use Rattle.study_marks.specs.declared.marking.Aim.{Aim}
+use Rattle.study_marks.specs.declared.mark_rules.Aim.{Aim}
 use Rattle.study_marks.specs.Goals.{holds}
 use Rattle.study_marks.specs.Annotated.{AreValuesAfter}
 use Rattle.study_review.specs.declared.continuation.Continuation.{Continuation}

@@ -7,7 +7,7 @@ use Rattle.study_tree.specs.Forest.{Forest, none, more, Twig, nodes_in}
 use Rattle.study_tree.specs.Edits.{node_in, width}
 use Rattle.study_tree.specs.Tree.{Plain, has_spot, spot_at, twig_spot}
 use Rattle.study_marks.specs.declared.mark.Mark.{Mark}
-use Rattle.study_marks.specs.Renewal.{below_at, skipped}
+use Rattle.study_marks.specs.FaultSums.{below_at, skipped}
 use Rattle.study_marks.proofs.ChildFound.{skipped-end}
 use Rattle.study_marks.proofs.PathRenewed.{there-spot}
 use Rattle.study_pgn.proofs.PathWalks.{spot_last, below_entered, fewer}

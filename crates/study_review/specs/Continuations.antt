@@ -7,7 +7,7 @@ use Rattle.study_moves.specs.LegalList.{legal_list}
 use Rattle.study_retro.specs.declared.value.Value.{Value}
 use Rattle.study_retro.specs.declared.value.Value.TheVariants.{Win, Loss, Draw}
 use Rattle.study_moves.specs.Rules.{after}
-use Rattle.study_marks.specs.declared.marking.Aim.{Aim}
+use Rattle.study_marks.specs.declared.mark_rules.Aim.{Aim}
 use Rattle.study_marks.specs.Study.{same_move}
 use Rattle.study_marks.specs.Goals.{holds}
 use Rattle.study_marks.specs.Annotated.{AreValuesAfter}

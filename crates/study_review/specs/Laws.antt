@@ -6,7 +6,7 @@ use Rattle.study_moves.specs.Rules.{after}
 use Rattle.study_moves.specs.Game.{IsLegal}
 use Rattle.study_retro.specs.declared.value.Value.{Value}
 use Rattle.study_retro.specs.Game.{IsValueOf}
-use Rattle.study_marks.specs.declared.marking.Aim.{Aim}
+use Rattle.study_marks.specs.declared.mark_rules.Aim.{Aim}
 use Rattle.study_marks.specs.declared.mark.MoveMark.{MoveMark}
 use Rattle.study_marks.specs.declared.mark.MoveMark.TheVariants.{Only, Dual}
 use Rattle.study_marks.specs.declared.stipulation.Goal.TheVariants.{Win}

@@ -5,7 +5,7 @@ use Rattle.study_board.specs.Position.{Position}
 use Rattle.study_moves.specs.declared.moves.Move.{Move}
 use Rattle.study_retro.specs.declared.value.Value.{Value}
 use Rattle.study_marks.specs.declared.mark.Mark.{Mark}
-use Rattle.study_marks.specs.declared.marking.Aim.{Aim}
+use Rattle.study_marks.specs.declared.mark_rules.Aim.{Aim}
 use Rattle.study_marks.specs.Annotated.{AreValuesAfter}
 use Rattle.study_marks.specs.Goals.{holds}
 use Rattle.study_marks.specs.Study.{Study}

@@ -3,8 +3,8 @@ ghost use Rattle.std.specs.Prelude.{◌≡◌, ◌≤◌, ◌++◌, ◌∷◌, [
 ghost use Rattle.study_tree.specs.Edits.{children_at};
 ghost use Rattle.study_tree.specs.Tree.{spot_at};
 ghost use Rattle.study_marks.specs.Bench.{played_by};
-ghost use Rattle.study_marks.specs.Renewal.{below_at, skipped};
-ghost use Rattle.study_marks.specs.Kept.{marked};
+ghost use Rattle.study_marks.specs.FaultSums.{below_at, skipped};
+ghost use Rattle.study_marks.specs.BenchState.{marked};
 ghost use Rattle.study_review.specs.Line.{moves_of};
 
 use crate::line::move_to;

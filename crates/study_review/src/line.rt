@@ -5,7 +5,7 @@ ghost use Rattle.study_moves.specs.Rules.{is_legal};
 ghost use Rattle.study_tree.specs.Tree.{has_spot, spot_at};
 ghost use Rattle.study_marks.specs.Bench.{played_by};
 ghost use Rattle.study_marks.specs.Study.{position_at};
-ghost use Rattle.study_marks.specs.Kept.{marked};
+ghost use Rattle.study_marks.specs.BenchState.{marked};
 ghost use Rattle.study_review.specs.Line.{line_to, IsPlaceOf, IsMadeIn};
 
 use arrayvec::ArrayVec;

@@ -4,7 +4,7 @@ ghost use Rattle.study_tree.specs.Edits.{width};
 ghost use Rattle.study_tree.specs.Tree.{spot_at};
 ghost use Rattle.study_marks.specs.Bench.{node_seen};
 ghost use Rattle.study_marks.specs.Goals.{aim_of, hero_moves};
-ghost use Rattle.study_marks.specs.Kept.{marked};
+ghost use Rattle.study_marks.specs.BenchState.{marked};
 ghost use Rattle.study_review.specs.Nodes.{front_of, is_idle};
 ghost use Rattle.study_review.specs.Stand.{arrival_of, IsStand};
 

@@ -3,8 +3,8 @@ ghost use Rattle.std.specs.Prelude.{◌≡◌, ◌++◌, ◌∷◌, [], ◌<◌,
 ghost use Rattle.study_tree.specs.Edits.{width};
 ghost use Rattle.study_tree.specs.Tree.{spot_at};
 ghost use Rattle.study_marks.specs.Goals.{aim_of};
-ghost use Rattle.study_marks.specs.Kept.{marked};
-ghost use Rattle.study_marks.specs.Renewal.{below_at};
+ghost use Rattle.study_marks.specs.BenchState.{marked};
+ghost use Rattle.study_marks.specs.FaultSums.{below_at};
 ghost use Rattle.study_review.specs.Line.{line_to};
 ghost use Rattle.study_review.specs.Made.{Grew, HasAsked};
 ghost use Rattle.study_review.specs.Nodes.{front_of, NodeLines, FaultLines};

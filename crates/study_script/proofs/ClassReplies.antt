@@ -6,8 +6,8 @@ use Rattle.study_tablefile.specs.Taken.{TakesPrefix}
 use Rattle.study_prober.specs.Paged.{Paged}
 use Rattle.study_script.specs.declared.tables.Tables.{Tables}
 use Rattle.study_script.specs.declared.tables.Tables.TheVariants as held
-use Rattle.study_command.specs.declared.command.ClassWord.{ClassWord}
-use Rattle.study_command.specs.declared.command.ClassWord.TheVariants.{Build, Load, Save, Verify}
+use Rattle.study_command.specs.declared.command.TableCommand.{TableCommand}
+use Rattle.study_command.specs.declared.command.TableCommand.TheVariants.{Build, Load, Save, Verify}
 use Rattle.study_material.specs.declared.class.Class.{Class}
 use Rattle.study_material.specs.Needs.{needs_of}
 use Rattle.study_prober.specs.Sources.{GivesOf}
@@ -33,7 +33,7 @@ use Rattle.study_script.specs.Replies.{Reply, refused, refused_as, with_class, b
 use Rattle.study_script.specs.Replies.{IsLoadReply, IsNamedReply, IsTableReply, IsClassReply, IsClassReplyIn, IsOpenReply, IsLoadIn}
 use Rattle.study_script.specs.Replies.{class_told, wants_whole, save_reply, verify_reply}
 use Rattle.study_reply.specs.Names.{words_of}
-use Rattle.study_script.specs.Stored.{IsRightFile, GivesBytes, IsTrustedClass}
+use Rattle.study_script.specs.Stores.{IsRightFile, GivesBytes, IsTrustedClass}
 use Rattle.study_script.specs.Decided.{decided_reply, Decided, HoldsWhole, HoldsPaged, WholeFrom, IsFileRefusal}
 use Rattle.study_script.specs.Held.{HoldsTables, TablesFrom, Answered, BrokenOff}
 use Rattle.study_script.proofs.HeldTables.{lacking, whole_kept}
@@ -148,7 +148,7 @@ module _ (w : Whole) (s : State) (h : HoldsWhole w s) (c : Class) where
   module _ (Seen : State → Type 0) where
     pub save_none : Seen s → is_some (table_of w.tables c) ≡ false
         → Decided (λ o reply. reply ≡ save_reply s o c (is_among s.classes c)) (λ t. HoldsWhole w t
-        × (t.board ≡ s.board) × Seen t) (Err (NoTable c))
+        × (t.document ≡ s.document) × Seen t) (Err (NoTable c))
     save_none seen e = (quiet, s, rw (among false e) refl, (h, refl, seen))
 
     anew : HoldsWhole w (written_anew s c)
@@ -156,17 +156,17 @@ module _ (w : Whole) (s : State) (h : HoldsWhole w s) (c : Class) where
 
     pub save_unopened : Seen (written_anew s c) → (fault : StoreFault) → is_some (table_of w.tables c) ≡ true
         → Decided (λ o reply. reply ≡ save_reply s o c (is_among s.classes c)) (λ t. HoldsWhole w t
-        × (t.board ≡ s.board) × Seen t) (Err Device)
+        × (t.document ≡ s.document) × Seen t) (Err Device)
     save_unopened seen fault e = (unopened fault, written_anew s c, rw (among true e) refl, (anew, refl, seen))
 
     pub save_cut : Seen (written_anew s c) → is_some (table_of w.tables c) ≡ true
         → Decided (λ o reply. reply ≡ save_reply s o c (is_among s.classes c)) (λ t. HoldsWhole w t
-        × (t.board ≡ s.board) × Seen t) (Err Device)
+        × (t.document ≡ s.document) × Seen t) (Err Device)
     save_cut seen e = (cut_off, written_anew s c, rw (among true e) refl, (anew, refl, seen))
 
     pub save_done : Seen (written_anew s c) → is_some (table_of w.tables c) ≡ true
         → Decided (λ o reply. reply ≡ save_reply s o c (is_among s.classes c)) (λ t. HoldsWhole w t
-        × (t.board ≡ s.board) × Seen t) (Ok (Saved c))
+        × (t.document ≡ s.document) × Seen t) (Ok (Saved c))
     save_done seen e = (quiet, written_anew s c, rw (among true e) refl, (anew, refl, seen))
 
 -- ---- which tables are held
@@ -183,41 +183,44 @@ module _ {P A : Type 0} where
       record { values = k.values; classes = k.classes; by_pages = k.paged; faults = k.faults }
 
   pub tables_whole : (honest : P → Table → ℕ → Type 0) (gives : GivesOf P) (w : Whole) (s t : State) → HoldsWhole w t
-      → t.board ≡ s.board → TablesFrom {A = A} honest gives s (held.Whole w) t
+      → t.document ≡ s.document → TablesFrom {A = A} honest gives s (held.Whole w) t
   tables_whole honest gives w s t h e = record {
     holds = record { values = h.values; classes = h.classes; paged = h.whole; faults = λ c f m. absurd m };
-    board
+    document
         = e;
   }
 
   pub tables_paged : (honest : P → Table → ℕ → Type 0) (gives : GivesOf P) (w : Paged P) (s t : State) → HoldsPaged honest gives w t
-      → t.board ≡ s.board → TablesFrom {A = A} honest gives s (held.Paged w) t
-  tables_paged honest gives w s t h e = record { holds = record { values = h.values; classes = h.classes; paged = h.by_pages; faults = h.faults }; board = e }
+      → t.document ≡ s.document → TablesFrom {A = A} honest gives s (held.Paged w) t
+  tables_paged honest gives w s t h e = record {
+    holds = record { values = h.values; classes = h.classes; paged = h.by_pages; faults = h.faults };
+    document = e;
+  }
 
 -- whole tables are asked by any word
-pub asked_whole : (s : State) (o : Outside) (word : ClassWord) (name : List ℕ) (reply : Reply) → false ≡ s.paged
+pub asked_whole : (s : State) (o : Outside) (word : TableCommand) (name : List ℕ) (reply : Reply) → false ≡ s.paged
     → IsNamedReply s o word (class_told name) reply → IsClassReply s o word name reply
 asked_whole s o word name reply e h = subst (λ b. IsClassReplyIn s o word name b reply) (sym (by_word word s.paged e)) h
   where
-    by_word : (w : ClassWord) (p : Bool) → false ≡ p → wants_whole w && p ≡ false
+    by_word : (w : TableCommand) (p : Bool) → false ≡ p → wants_whole w && p ≡ false
     by_word Build p k = sym k
     by_word Save p k = sym k
     by_word Verify p k = sym k
     by_word Load p k = refl
 
 -- and tables by pages by one alone
-pub refused_paged : (s : State) (word : ClassWord) (name : List ℕ) → true ≡ s.paged → (word ≡ Build)
+pub refused_paged : (s : State) (word : TableCommand) (name : List ℕ) → true ≡ s.paged → (word ≡ Build)
     ⊎ ((word ≡ Save) ⊎ (word ≡ Verify)) → IsClassReply s quiet word name (refused s PagedMode)
 refused_paged s word name e (inl k) = subst (λ w. IsClassReply s quiet w name (refused s PagedMode)) (sym k) (rw (← e) refl)
 refused_paged s word name e (inr (inl k)) = subst (λ w. IsClassReply s quiet w name (refused s PagedMode)) (sym k) (rw (← e) refl)
 refused_paged s word name e (inr (inr k)) = subst (λ w. IsClassReply s quiet w name (refused s PagedMode)) (sym k) (rw (← e) refl)
 
 -- a name that is none
-pub not_named : (s : State) (o : Outside) (word : ClassWord) (name : List ℕ) → class_told name ≡ None
+pub not_named : (s : State) (o : Outside) (word : TableCommand) (name : List ℕ) → class_told name ≡ None
     → IsNamedReply s o word (class_told name) (refused s NotAClass)
 not_named s o word name e = rw e refl
 
-pub named_as : (s : State) (o : Outside) (word : ClassWord) (name : List ℕ) (c : Class) (reply : Reply)
+pub named_as : (s : State) (o : Outside) (word : TableCommand) (name : List ℕ) (c : Class) (reply : Reply)
     → class_told name ≡ Some c → IsTableReply s o word c reply → IsNamedReply s o word (class_told name) reply
 named_as s o word name c reply e i = rw e i
 
@@ -269,10 +272,10 @@ pub memory_words : (fault : FileFault) → fault ≡ file_fault.OutOfMemory → 
 memory_words fault e = sym ((file_words fault OutOfMemory).1 e)
 
 -- a class that a line loads is trusted
-pub trust_of : (trusted : Class → Bool) (word : ClassWord) (name : List ℕ) (c : Class) → word ≡ Load → class_told name ≡ Some c
+pub trust_of : (trusted : Class → Bool) (word : TableCommand) (name : List ℕ) (c : Class) → word ≡ Load → class_told name ≡ Some c
     → IsTrustedClass trusted word name → trusted c ≡ true
 trust_of trusted word name c is told may =
-    subst (λ (o : Option Class). IfSome o (λ k. trusted k ≡ true)) told (subst (λ (w : ClassWord). IsTrustedClass trusted w name) is may)
+    subst (λ (o : Option Class). IfSome o (λ k. trusted k ≡ true)) told (subst (λ (w : TableCommand). IsTrustedClass trusted w name) is may)
 
 pub open_as : (s : State) (o : Outside) (name : List ℕ) (c : Class) (r : Reply) → class_told name ≡ Some c → true ≡ s.paged
     → IsOpenReply s o c (is_among s.classes c) r → IsClassReply s o Load name r

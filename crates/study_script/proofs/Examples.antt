@@ -6,12 +6,12 @@ use Rattle.study_material.specs.declared.class.Class.TheVariants.{KK}
 use Rattle.study_notation.specs.Words.{words, behind_word}
 use Rattle.study_marks.specs.declared.stipulation.Goal.TheVariants.{MateIn}
 use Rattle.study_marks.specs.declared.tag.TagName.TheVariants.{Event}
-use Rattle.study_command.specs.declared.command.FenWord.TheVariants.{Position}
-use Rattle.study_command.specs.declared.command.ClassWord.TheVariants.{Build}
-use Rattle.study_command.specs.declared.command.FormFault.TheVariants.{BadByte, UnknownCommand, BadArguments, UnknownStipulation, UnknownTag}
+use Rattle.study_command.specs.declared.command.FenCommand.TheVariants.{Position}
+use Rattle.study_command.specs.declared.command.TableCommand.TheVariants.{Build}
+use Rattle.study_command.specs.declared.command.SyntaxFault.TheVariants.{BadByte, UnknownCommand, BadArguments, UnknownStipulation, UnknownTag}
 use Rattle.study_command.specs.Lines.{script_lines}
 use Rattle.study_command.specs.Paths.{place_told, is_path, is_path_word, steps_of}
-use Rattle.study_command.specs.Asking.{Asks, of_start, of_class, stipulate, insert, tag, solve, trimmed, word_asked, word_of, command_of}
+use Rattle.study_command.specs.Parser.{Asks, fen_command, table_command, stipulate, insert, tag, solve, trimmed, word_asked, word_of, command_of}
 
 -- ---- lines
 
@@ -47,12 +47,12 @@ unknown : ◌≡◌ {A = Asks} (command_of (codes "castle KK")) (Err UnknownComm
 unfolding command_of words word_of
 unknown = refl
 
-of_position : ◌≡◌ {A = Asks} (command_of (codes "position  k7 ")) (Ok (Some (of_start Position (codes "k7"))))
+of_position : ◌≡◌ {A = Asks} (command_of (codes "position  k7 ")) (Ok (Some (fen_command Position (codes "k7"))))
 unfolding command_of words behind_word word_of word_asked trimmed
 of_position = refl
 
 -- a class is looked at after the mode
-of_build : ◌≡◌ {A = Asks} (command_of (codes "build KX")) (Ok (Some (of_class Build (codes "KX"))))
+of_build : ◌≡◌ {A = Asks} (command_of (codes "build KX")) (Ok (Some (table_command Build (codes "KX"))))
 unfolding command_of words behind_word word_of word_asked
 of_build = refl
 

@@ -15,7 +15,7 @@ use Rattle.study_script.specs.Replies.{Reply, Answer, IsReply, AreReplies, repli
 use Rattle.study_script.specs.Held.{Answered, BrokenOff}
 use Rattle.std.specs.List.{AllByRecursion}
 use Rattle.study_material.specs.declared.class.Class.{Class}
-use Rattle.study_script.specs.Stored.{IsTrusted, AreTrusted}
+use Rattle.study_script.specs.Stores.{IsTrusted, AreTrusted}
 use Rattle.study_script.specs.Outcome.{AreShort, error_count, state_after, Outcome, Shape}
 
 -- ---- one reply more

@@ -13,26 +13,26 @@ use Rattle.study_notation.specs.declared.fault.SanFault.{SanFault}
 use Rattle.study_notation.specs.Matching.{move_of}
 use Rattle.study_tree.specs.Tree.{has_spot}
 use Rattle.study_marks.specs.declared.stipulation.Stipulation.{Stipulation}
-use Rattle.study_marks.specs.declared.fault.Refusal.{Refusal as EditRefusal}
+use Rattle.study_marks.specs.declared.refusal.Refusal.{Refusal as EditRefusal}
 use Rattle.study_marks.specs.Study.{position_at}
-use Rattle.study_marks.specs.Asked.{positions_asked}
+use Rattle.study_marks.specs.Queries.{positions_asked}
 use Rattle.study_marks.specs.Edits.{Plainly, shifted, shift_refusal, insert_refusal}
 use Rattle.study_notation.specs.FenSpelling.{fen_text}
 use Rattle.study_reply.specs.Words.{reply_line}
-use Rattle.study_command.specs.declared.command.FenWord.{FenWord}
-use Rattle.study_command.specs.declared.command.FenWord.TheVariants.{Position as PositionWord, Shift}
+use Rattle.study_command.specs.declared.command.FenCommand.{FenCommand}
+use Rattle.study_command.specs.declared.command.FenCommand.TheVariants.{Position as PositionWord, Shift}
 use Rattle.study_script.specs.declared.store.StoreFault.{StoreFault}
-use Rattle.study_script.specs.declared.board.Board.{Board as HeldBoard}
+use Rattle.study_script.specs.declared.document.Document.{Document as HeldDocument}
 use Rattle.study_script.specs.declared.tables.Tables.{Tables}
-use Rattle.study_script.specs.State.{State, Board, empty, start, study, is_among, Outside, quiet, no_path}
+use Rattle.study_script.specs.State.{State, Document, empty, start, study, is_among, Outside, quiet, no_path}
 use Rattle.study_prober.specs.declared.values.ProbeFault.TheVariants as probe
 use Rattle.study_script.specs.State.{no_room, no_room_for, unread, unopened, cut_off, file, header}
 use Rattle.study_script.specs.Replies.{Reply, IsValued, missing, found, IsAskingReply, IsAskedReply, IsPositionReply}
 use Rattle.study_script.specs.Replies.{IsShiftReply, IsStartReply, IsStipulateReply, IsInserted}
 use Rattle.study_script.specs.Replies.{IsMoveReply, IsMoveReplyAt, IsInsertReply}
-use Rattle.study_script.specs.Held.{Holds, HoldsBoard, HoldsFrom, HoldsTables, TablesFrom, Answered}
-use Rattle.study_script.specs.Stored.{StoreSeen}
-use Rattle.study_script.specs.Desk.{DeskHolds}
+use Rattle.study_script.specs.Held.{Holds, HoldsDocument, HoldsFrom, HoldsTables, TablesFrom, Answered}
+use Rattle.study_script.specs.Stores.{StoreSeen}
+use Rattle.study_script.specs.Session.{SessionHolds}
 
 -- ---- replies that leave the mode, and what is known of the store
 
@@ -76,7 +76,7 @@ asked_beside s cut_off asked new text reply h = valued s asked new text reply h
 asked_beside s (file bytes) asked new text reply h = valued s asked new text reply h
 asked_beside s (header told) asked new text reply h = valued s asked new text reply h
 
-position_beside : (s : State) (o : Outside) (b : Board) (new : Start) (reply : Reply) → IsPositionReply s o b new reply → IsBeside s reply.state
+position_beside : (s : State) (o : Outside) (b : Document) (new : Start) (reply : Reply) → IsPositionReply s o b new reply → IsBeside s reply.state
 position_beside s o empty new reply h = beside s _ reply (record { paged = refl; shelf = refl }) h
 position_beside s o (start old) new reply h = beside s _ reply (record { paged = refl; shelf = refl }) h
 position_beside s o (study old) new reply h = asking_beside s o _ _ _ reply h
@@ -107,7 +107,7 @@ shift_beside s cut_off old new None reply h = shift_asked s cut_off old new repl
 shift_beside s (file bytes) old new None reply h = shift_asked s (file bytes) old new reply h
 shift_beside s (header told) old new None reply h = shift_asked s (header told) old new reply h
 
-pub start_beside : (s : State) (word : FenWord) (b : Board) (read : Result Start FenFault) (o : Outside)
+pub start_beside : (s : State) (word : FenCommand) (b : Document) (read : Result Start FenFault) (o : Outside)
     (reply : Reply) → IsStartReply s o word b read reply → IsBeside s reply.state
 start_beside s PositionWord b (Err fault) o reply h = beside s _ reply (same_side s) h
 start_beside s PositionWord b (Ok new) o reply h = position_beside s o b new reply h
@@ -116,7 +116,7 @@ start_beside s Shift (study old) (Ok new) o reply h = shift_beside s o old new (
 start_beside s Shift empty read o reply h = beside s _ reply (same_side s) h
 start_beside s Shift (start old) read o reply h = beside s _ reply (same_side s) h
 
-pub stipulate_beside : (s : State) (b : Board) (new : Stipulation) (o : Outside) (reply : Reply) → IsStipulateReply s o b new reply → IsBeside s reply.state
+pub stipulate_beside : (s : State) (b : Document) (new : Stipulation) (o : Outside) (reply : Reply) → IsStipulateReply s o b new reply → IsBeside s reply.state
 stipulate_beside s empty new o reply h = beside s _ reply (same_side s) h
 stipulate_beside s (start from) new o reply h = asking_beside s o _ _ _ reply h
 stipulate_beside s (study old) new o reply h = beside s _ reply (record { paged = refl; shelf = refl }) h
@@ -137,7 +137,8 @@ at_beside : (s : State) (o : Outside) (old : Plainly) (steps san : List ℕ) (b 
 at_beside s o old steps san false reply h = beside s _ reply (same_side s) h
 at_beside s o old steps san true reply h = moved_beside s o old steps (move_of (position_at old steps) san) reply h
 
-pub insert_beside : (s : State) (b : Board) (steps san : List ℕ) (o : Outside) (reply : Reply) → IsInsertReply s o b steps san reply → IsBeside s reply.state
+pub insert_beside : (s : State) (b : Document) (steps san : List ℕ) (o : Outside) (reply : Reply) → IsInsertReply s o b steps san reply
+    → IsBeside s reply.state
 insert_beside s empty steps san o reply h = beside s _ reply (same_side s) h
 insert_beside s (start from) steps san o reply h = beside s _ reply (same_side s) h
 insert_beside s (study old) [] san no_path reply h = at_beside s no_path old [] san (has_spot old.tree []) reply h
@@ -153,11 +154,11 @@ insert_beside s (study old) steps san (header told) reply h = at_beside s (heade
 
 -- ---- what is held
 
-pub board_held : {P A : Type 0} (honest : P → Table → ℕ → Type 0) (gives : GivesOf P) (b : HeldBoard A) (t : Tables P A) (s : State)
-    → Holds honest gives b t s → HoldsBoard b s
-board_held honest gives b t s h = record { board = h.board; marks = h.marks }
+pub document_held : {P A : Type 0} (honest : P → Table → ℕ → Type 0) (gives : GivesOf P) (b : HeldDocument A) (t : Tables P A) (s : State)
+    → Holds honest gives b t s → HoldsDocument b s
+document_held honest gives b t s h = record { document = h.document; marks = h.marks }
 
-pub tables_there : {P A : Type 0} (honest : P → Table → ℕ → Type 0) (gives : GivesOf P) (b : HeldBoard A) (t : Tables P A) (s : State)
+pub tables_there : {P A : Type 0} (honest : P → Table → ℕ → Type 0) (gives : GivesOf P) (b : HeldDocument A) (t : Tables P A) (s : State)
     → Holds honest gives b t s → HoldsTables honest gives t s
 tables_there honest gives b t s h = record { values = h.values; classes = h.classes; paged = h.paged; faults = h.faults }
 
@@ -178,18 +179,18 @@ module _ {S : Type 0} (stores : S → Bool → Type 0) (files headers : S → Cl
 module _ {S P A : Type 0} (sources : P → Table → ℕ → Type 0) (gives : GivesOf P) (stores : S → Bool → Type 0)
     (files headers : S → Class → Option (Result (List ℕ) StoreFault)) (faults : S → Class → SourceFault → Bool) where
   -- after an edit that asks the tables
-  pub desk_edited : (b c : HeldBoard A) (t u : Tables P A) (store : S) (s new : State)
-      → DeskHolds sources gives stores files headers faults b t store s → IsBeside s new → Holds sources gives c u new
-      → DeskHolds sources gives stores files headers faults c u store new
-  desk_edited b c t u store s new d e h = record { held = h; seen = store_same stores files headers faults store s new e d.seen }
+  pub session_edited : (b c : HeldDocument A) (t u : Tables P A) (store : S) (s new : State)
+      → SessionHolds sources gives stores files headers faults b t store s → IsBeside s new → Holds sources gives c u new
+      → SessionHolds sources gives stores files headers faults c u store new
+  session_edited b c t u store s new d e h = record { held = h; seen = store_same stores files headers faults store s new e d.seen }
 
-  -- after a command of the board alone
-  pub desk_board : (b c : HeldBoard A) (t : Tables P A) (store : S) (s new : State)
-      → DeskHolds sources gives stores files headers faults b t store s → HoldsFrom s c new
-      → DeskHolds sources gives stores files headers faults c t store new
-  desk_board b c t store s new d h = record {
+  -- after a command of the document alone
+  pub session_document : (b c : HeldDocument A) (t : Tables P A) (store : S) (s new : State)
+      → SessionHolds sources gives stores files headers faults b t store s → HoldsFrom s c new
+      → SessionHolds sources gives stores files headers faults c t store new
+  session_document b c t store s new d h = record {
     held = record {
-      board = h.holds.board;
+      document = h.holds.document;
       marks = h.holds.marks;
       values = d.held.values;
       classes = λ x. d.held.classes x ∙ ap (λ xs. is_among xs x) (sym h.classes);
@@ -200,13 +201,13 @@ module _ {S P A : Type 0} (sources : P → Table → ℕ → Type 0) (gives : Gi
   }
 
   -- after a command of a class
-  pub desk_class : (b : HeldBoard A) (t u : Tables P A) (store other : S) (s new : State)
-      → DeskHolds sources gives stores files headers faults b t store s → TablesFrom sources gives s u new
-      × StoreSeen stores files headers faults other new → DeskHolds sources gives stores files headers faults b u other new
-  desk_class b t u store other s new d h = record {
+  pub session_class : (b : HeldDocument A) (t u : Tables P A) (store other : S) (s new : State)
+      → SessionHolds sources gives stores files headers faults b t store s → TablesFrom sources gives s u new
+      × StoreSeen stores files headers faults other new → SessionHolds sources gives stores files headers faults b u other new
+  session_class b t u store other s new d h = record {
     held =
         record {
-          board = d.held.board ∙ sym h.0.board;
+          document = d.held.document ∙ sym h.0.document;
           marks = d.held.marks;
           values = h.0.holds.values;
           classes = h.0.holds.classes;

@@ -5,7 +5,7 @@ use Rattle.std.proofs.lemmas.Result.{IfOk-weaker, on_err_weaker}
 use Rattle.study_board.specs.Position.{Position}
 use Rattle.study_moves.specs.Game.{MatesWithin}
 use Rattle.study_marks.specs.Study.{plain_study}
-use Rattle.study_marks.specs.Kept.{Kept, marked, IsKeptRight}
+use Rattle.study_marks.specs.BenchState.{BenchState, marked, IsKeptRight}
 use Rattle.study_notation.specs.declared.start.Start.{Start}
 use Rattle.study_marks.specs.Edits.{Plainly}
 use Rattle.std.specs.Option.{option_map}
@@ -18,51 +18,51 @@ use Rattle.study_marks.specs.declared.mark.Mark.{Mark}
 use Rattle.study_reply.specs.declared.refusal.Refusal.TheVariants.{NoSuchNode}
 use Rattle.study_script.specs.declared.tables.Tables.{Tables}
 use Rattle.study_reply.specs.Words.{mark_text}
-use Rattle.study_script.specs.declared.board.Board.{Board as HeldBoard}
-use Rattle.study_script.specs.declared.board.Board.TheVariants as held
+use Rattle.study_script.specs.declared.document.Document.{Document as HeldDocument}
+use Rattle.study_script.specs.declared.document.Document.TheVariants as held
 use Rattle.study_script.specs.State.{State, empty, start, study, Outside}
 use Rattle.study_script.specs.Replies.{Reply, accepted, refused, holding, marked_reply, IsSolution}
-use Rattle.study_script.specs.Held.{board_seen, Holds, tables_honest, tables_held, tables_may_fail, are_paged, HoldsBoard}
+use Rattle.study_script.specs.Held.{document_seen, Holds, tables_honest, tables_held, tables_may_fail, are_paged, HoldsDocument}
 use Rattle.study_script.specs.Held.{HoldsFrom, HoldsBench, HoldsBenchFrom, Answered, BrokenOff}
 
 module _ {A : Type 0} where
-  pub board_kept : (b : HeldBoard A) (s : State) → HoldsBoard b s → HoldsFrom s b s
-  board_kept b s h = record { holds = h; classes = refl; paged = refl; shelf = refl }
+  pub document_kept : (b : HeldDocument A) (s : State) → HoldsDocument b s → HoldsFrom s b s
+  document_kept b s h = record { holds = h; classes = refl; paged = refl; shelf = refl }
 
-  -- what is held is what the board is
-  pub empty_seen : (b : HeldBoard A) (s : State) → b ≡ held.Empty → HoldsBoard b s → empty ≡ s.board
-  empty_seen b s e h = ap board_seen (sym e) ∙ h.board
+  -- what is held is what the document is
+  pub empty_seen : (b : HeldDocument A) (s : State) → b ≡ held.Empty → HoldsDocument b s → empty ≡ s.document
+  empty_seen b s e h = ap document_seen (sym e) ∙ h.document
 
-  pub start_seen : (b : HeldBoard A) (from : Start) (s : State) → b ≡ held.Start from → HoldsBoard b s → start from ≡ s.board
-  start_seen b from s e h = ap board_seen (sym e) ∙ h.board
+  pub start_seen : (b : HeldDocument A) (from : Start) (s : State) → b ≡ held.Start from → HoldsDocument b s → start from ≡ s.document
+  start_seen b from s e h = ap document_seen (sym e) ∙ h.document
 
-  pub study_seen : (b : HeldBoard A) (k : Kept) (s : State) → b ≡ held.Study k → HoldsBoard b s → study (plain_study (marked k)) ≡ s.board
-  study_seen b k s e h = ap board_seen (sym e) ∙ h.board
+  pub study_seen : (b : HeldDocument A) (k : BenchState) (s : State) → b ≡ held.Study k → HoldsDocument b s → study (plain_study (marked k)) ≡ s.document
+  study_seen b k s e h = ap document_seen (sym e) ∙ h.document
 
-  -- a board that is the study is held as a study
-  pub bench_of : (b : HeldBoard A) (k : Kept) (s : State) → b ≡ held.Study k → HoldsBoard b s → HoldsBench k s
-  bench_of b k s e h = let t = subst (λ (x : HeldBoard A). HoldsBoard x s) e h in record { board = t.board; marks = t.marks }
+  -- a document that is the study is held as a study
+  pub bench_of : (b : HeldDocument A) (k : BenchState) (s : State) → b ≡ held.Study k → HoldsDocument b s → HoldsBench k s
+  bench_of b k s e h = let t = subst (λ (x : HeldDocument A). HoldsDocument x s) e h in record { document = t.document; marks = t.marks }
 
-  pub board_of : (b : HeldBoard A) (k : Kept) (old s : State) → b ≡ held.Study k → HoldsBenchFrom old k s → HoldsFrom old b s
-  board_of b k old s e h =
+  pub document_of : (b : HeldDocument A) (k : BenchState) (old s : State) → b ≡ held.Study k → HoldsBenchFrom old k s → HoldsFrom old b s
+  document_of b k old s e h =
       record {
-        holds = subst (λ (x : HeldBoard A). HoldsBoard x s) (sym e)
-            (record { board = h.holds.board; marks = h.holds.marks });
+        holds = subst (λ (x : HeldDocument A). HoldsDocument x s) (sym e)
+            (record { document = h.holds.document; marks = h.holds.marks });
         classes = h.classes;
         paged = h.paged;
         shelf = h.shelf;
       }
 
-pub bench_kept : (k : Kept) (s : State) → HoldsBench k s → HoldsBenchFrom s k s
+pub bench_kept : (k : BenchState) (s : State) → HoldsBench k s → HoldsBenchFrom s k s
 bench_kept k s h = record { holds = h; classes = refl; paged = refl; shelf = refl }
 
 -- a study that was edited is held after an accepted edit
-pub bench_edited : (k : Kept) (s : State) (new : Plainly) → plain_study (marked k) ≡ new → IsKeptRight k → HoldsBenchFrom s k (holding s new)
-bench_edited k s new e r = record { holds = record { board = ap study e; marks = r }; classes = refl; paged = refl; shelf = refl }
+pub bench_edited : (k : BenchState) (s : State) (new : Plainly) → plain_study (marked k) ≡ new → IsKeptRight k → HoldsBenchFrom s k (holding s new)
+bench_edited k s new e r = record { holds = record { document = ap study e; marks = r }; classes = refl; paged = refl; shelf = refl }
 
 -- a study that stays is held after a refused edit
-pub bench_same : (k old : Kept) (s : State) → k ≡ old → HoldsBench old s → HoldsBenchFrom s k s
-bench_same k old s e h = record { holds = subst (λ (x : Kept). HoldsBench x s) (sym e) h; classes = refl; paged = refl; shelf = refl }
+pub bench_same : (k old : BenchState) (s : State) → k ≡ old → HoldsBench old s → HoldsBenchFrom s k s
+bench_same k old s e h = record { holds = subst (λ (x : BenchState). HoldsBench x s) (sym e) h; classes = refl; paged = refl; shelf = refl }
 
 -- the clauses of `solve`
 pub solution_of : (p : Position) (count : ℕ) (plies : Option ℕ) → IfSome plies (λ n. MatesWithin n p)
@@ -86,13 +86,13 @@ mark_missing s steps (Some x) e = absurd cc
 
 module _ {P A : Type 0} where
   -- a study that was edited, and tables that were asked
-  pub study_edited : (honest : P → Table → ℕ → Type 0) (gives : GivesOf P) (old k : Kept) (t u : Tables P A) (s : State) (new : Plainly)
+  pub study_edited : (honest : P → Table → ℕ → Type 0) (gives : GivesOf P) (old k : BenchState) (t u : Tables P A) (s : State) (new : Plainly)
       → Holds honest gives (held.Study old) t s → plain_study (marked k) ≡ new → IsKeptRight k → tables_honest honest u
       → ((c : Class) → tables_held u c ≡ tables_held t c) → are_paged u ≡ are_paged t
       → ((c : Class) (f : SourceFault) → tables_may_fail gives u c f → tables_may_fail gives t c f) → Holds honest gives (held.Study k) u (holding s new)
   study_edited honest gives old k t u s new h e r v same mode fails =
       record {
-        board = ap study e;
+        document = ap study e;
         marks = r;
         values = v;
         classes = λ c. same c ∙ h.classes c;
@@ -102,13 +102,13 @@ module _ {P A : Type 0} where
       }
 
   -- a study that stays, and tables that were asked
-  pub study_same : (honest : P → Table → ℕ → Type 0) (gives : GivesOf P) (old k : Kept) (t u : Tables P A) (s : State)
+  pub study_same : (honest : P → Table → ℕ → Type 0) (gives : GivesOf P) (old k : BenchState) (t u : Tables P A) (s : State)
       → Holds honest gives (held.Study old) t s → k ≡ old → tables_honest honest u
       → ((c : Class) → tables_held u c ≡ tables_held t c) → are_paged u ≡ are_paged t
       → ((c : Class) (f : SourceFault) → tables_may_fail gives u c f → tables_may_fail gives t c f) → Holds honest gives (held.Study k) u s
   study_same honest gives old k t u s h e v same mode fails =
       record {
-        board = subst (λ (x : Kept). study (plain_study (marked x)) ≡ s.board) (sym e) h.board;
+        document = subst (λ (x : BenchState). study (plain_study (marked x)) ≡ s.document) (sym e) h.document;
         marks = subst IsKeptRight (sym e) h.marks;
         values = v;
         classes = λ c. same c ∙ h.classes c;

@@ -22,7 +22,7 @@ use Rattle.study_tablefile.specs.declared.fault.SourceFault.{SourceFault}
 use Rattle.study_script.specs.declared.store.StoreFault.{StoreFault}
 use Rattle.study_script.specs.State.{State, Shelf, is_among, forgotten, forgotten_faults, written_anew}
 use Rattle.study_script.specs.Replies.{with_class, class_told}
-use Rattle.study_script.specs.Stored.{StoreSeen}
+use Rattle.study_script.specs.Stores.{StoreSeen}
 use Rattle.study_script.specs.Decided.{HoldsWhole, WholeFrom}
 
 -- ---- classes and their places
@@ -183,12 +183,12 @@ whole_with w v s t c closed h right same e =
                 closed.places s.classes h.classes;
             whole = h.whole;
           };
-      board = refl;
+      document = refl;
       shelf = refl;
     }))
 
 pub whole_kept : (w : Whole) (s : State) → HoldsWhole w s → WholeFrom s w s
-whole_kept w s h = record { holds = h; board = refl; shelf = refl }
+whole_kept w s h = record { holds = h; document = refl; shelf = refl }
 
 -- a held table has what it needs
 pub ready_of : (held : List (Option Table)) (c : Class) (t : Table) → IsClosed held → Some t ≡ table_of held c → IsReady held t.class

@@ -6,14 +6,14 @@ use Rattle.study_moves.specs.Rules.{is_legal, after}
 use Rattle.study_material.specs.declared.class.Class.{Class}
 use Rattle.study_tree.specs.Tree.{has_spot, size_of}
 use Rattle.study_marks.specs.Study.{position_at, place_at}
-use Rattle.study_marks.specs.declared.fault.Refusal.{Refusal as EditRefusal}
-use Rattle.study_marks.specs.Asked.{asked_at, IsOutside}
+use Rattle.study_marks.specs.declared.refusal.Refusal.{Refusal as EditRefusal}
+use Rattle.study_marks.specs.Queries.{asked_at, IsOutside}
 use Rattle.study_marks.specs.Answers.{IsUndamaged}
 use Rattle.study_marks.specs.Edits.{Plainly, inserted, insert_refusal}
 use Rattle.study_reply.specs.Names.{edit_words}
 use Rattle.study_script.specs.State.{State, is_among, Outside, study, quiet, no_path, no_room, no_room_for, unread, unopened, cut_off, file, header}
 use Rattle.study_script.specs.Replies.{Reply, refused_as, IsInserted, inserted_text, IsMoveReply, IsMoveReplyAt, IsInsertReply, IsStudyReply, IsStudyReplyAt}
-use Rattle.study_command.specs.declared.command.StudyWord.{StudyWord}
+use Rattle.study_command.specs.declared.command.NodeCommand.{NodeCommand}
 use Rattle.study_script.specs.Held.{IsToldBy, TellsFailing}
 use Rattle.study_script.proofs.AskingEdits.{refused_outside}
 use Rattle.study_script.proofs.SilentEdits.{SameWords, same_if, same_there}
@@ -104,7 +104,7 @@ module _ (s : State) (old : Plainly) (steps : List ℕ) where
   with_path san (file bytes) reply h = (file bytes, h)
   with_path san (header told) reply h = (header told, h)
 
-module _ (s : State) (old : Plainly) (word : StudyWord) (steps : List ℕ) where
+module _ (s : State) (old : Plainly) (word : NodeCommand) (steps : List ℕ) where
   -- the same of `delete`, `promote` and `mark`
   pub at_path : (o : Outside) (reply : Reply) → IsStudyReply s word old steps reply → (p : Outside) × IsStudyReplyAt s p word (study old) steps reply
   at_path o reply h = (quiet, h)

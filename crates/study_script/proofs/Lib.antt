@@ -4,7 +4,7 @@ pub mod AskingEdits
 pub mod SilentEdits
 pub mod HeldBehindReplies
 pub mod ShiftReplies
-pub mod Boards
+pub mod Documents
 pub mod PlainNodes
 pub mod InsertReplies
 pub mod HeldBehindCommands

@@ -10,8 +10,8 @@ use Rattle.study_tablefile.specs.declared.fault.SourceFault.TheVariants as sourc
 use Rattle.study_tablefile.specs.File.{pages_of}
 use Rattle.study_tablefile.specs.Source.{Question, of_header, of_page, IsAnswerOf}
 use Rattle.study_prober.proofs.HeldSources.{same_class}
-use Rattle.study_script.specs.declared.memory.MemoryFile.{MemoryFile}
-use Rattle.study_script.specs.declared.memory.MemoryFile.TheVariants.{Written}
+use Rattle.study_script.specs.declared.memory_store.MemoryFile.{MemoryFile}
+use Rattle.study_script.specs.declared.memory_store.MemoryFile.TheVariants.{Written}
 use Rattle.study_script.specs.State.{forgotten, forgotten_faults, IsQuestionOf}
 use Rattle.study_script.specs.Memory.{memory_file, memory_faults, text_faults, IsHonestFile}
 use Rattle.study_script.proofs.HeldTables.{place_below, same_at, other_at}

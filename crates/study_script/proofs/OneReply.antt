@@ -27,24 +27,24 @@ use Rattle.study_notation.specs.Matching.{move_of}
 use Rattle.study_tree.specs.Tree.{has_spot, spot_at}
 use Rattle.study_marks.specs.declared.mark.Mark.{Mark}
 use Rattle.study_marks.specs.declared.stipulation.Stipulation.{Stipulation}
-use Rattle.study_marks.specs.declared.fault.Refusal.{Refusal as EditRefusal}
+use Rattle.study_marks.specs.declared.refusal.Refusal.{Refusal as EditRefusal}
 use Rattle.study_marks.specs.Study.{Study, position_at}
 use Rattle.study_marks.specs.Edits.{Plainly, shifted, shift_refusal, insert_refusal}
-use Rattle.study_marks.specs.Asked.{positions_asked, AreTablesHeld, IsFirstMissing}
+use Rattle.study_marks.specs.Queries.{positions_asked, AreTablesHeld, IsFirstMissing}
 use Rattle.study_marks.specs.Laws.{AnnotationsAreUnique}
 use Rattle.study_marks.proofs.OneAnnotation.{one-value}
 use Rattle.study_pgn.specs.Pgn.{pgn_text}
-use Rattle.study_command.specs.declared.command.FenWord.{FenWord}
-use Rattle.study_command.specs.declared.command.FenWord.TheVariants.{Position as PositionWord, Shift}
-use Rattle.study_command.specs.declared.command.NodeWord.TheVariants.{Moves, Fen}
-use Rattle.study_command.specs.declared.command.StudyWord.{StudyWord}
-use Rattle.study_command.specs.declared.command.StudyWord.TheVariants.{Delete, Promote, Mark as MarkWord}
-use Rattle.study_command.specs.declared.command.ClassWord.{ClassWord}
-use Rattle.study_command.specs.declared.command.ClassWord.TheVariants.{Build, Load, Save, Verify}
+use Rattle.study_command.specs.declared.command.FenCommand.{FenCommand}
+use Rattle.study_command.specs.declared.command.FenCommand.TheVariants.{Position as PositionWord, Shift}
+use Rattle.study_command.specs.declared.command.NodeQuery.TheVariants.{Moves, Fen}
+use Rattle.study_command.specs.declared.command.NodeCommand.{NodeCommand}
+use Rattle.study_command.specs.declared.command.NodeCommand.TheVariants.{Delete, Promote, Mark as MarkWord}
+use Rattle.study_command.specs.declared.command.TableCommand.{TableCommand}
+use Rattle.study_command.specs.declared.command.TableCommand.TheVariants.{Build, Load, Save, Verify}
 use Rattle.study_reply.specs.declared.refusal.Refusal.{Refusal}
 use Rattle.study_reply.specs.declared.refusal.Refusal.TheVariants.{NoTable}
-use Rattle.study_command.specs.Asking.{Asked, of_start, at_node, at_study, of_class, stipulate, insert, tag, solve, pgn, Asks, command_of}
-use Rattle.study_script.specs.State.{State, Board, empty, start, study, is_among, first_lacking, Outside, quiet}
+use Rattle.study_command.specs.Parser.{Asked, fen_command, node_query, node_command, table_command, stipulate, insert, tag, solve, pgn, Asks, command_of}
+use Rattle.study_script.specs.State.{State, Document, empty, start, study, is_among, first_lacking, Outside, quiet}
 use Rattle.study_prober.specs.declared.values.ProbeFault.TheVariants as probe
 use Rattle.study_script.specs.State.{no_path, no_room, no_room_for, unread, unopened, cut_off, file, header}
 use Rattle.std.specs.Prelude.{◌==◌, ◌%◌, ◌&&◌, codes}
@@ -114,7 +114,7 @@ asked_once s (header told) asked new text a b h k = valued_once s asked new text
 
 -- ---- starts and stipulations
 
-position_once : (s : State) (o : Outside) (at : Board) (new : Start) (a b : Reply) → IsPositionReply s o at new a → IsPositionReply s o at new b → a ≡ b
+position_once : (s : State) (o : Outside) (at : Document) (new : Start) (a b : Reply) → IsPositionReply s o at new a → IsPositionReply s o at new b → a ≡ b
 position_once s o empty new a b h k = h ∙ sym k
 position_once s o (start old) new a b h k = h ∙ sym k
 position_once s o (study old) new a b h k = asking_once s o _ _ _ a b h k
@@ -157,7 +157,7 @@ shift_once s (header told) old new None a b h k =
     asked_once s (header told) (positions_asked (shifted old new)) (shifted old new)
     (reply_line (codes "shift ") (fen_text new)) a b h k
 
-start_once : (s : State) (o : Outside) (word : FenWord) (at : Board) (read : Result Start FenFault) (a b : Reply)
+start_once : (s : State) (o : Outside) (word : FenCommand) (at : Document) (read : Result Start FenFault) (a b : Reply)
     → IsStartReply s o word at read a → IsStartReply s o word at read b → a ≡ b
 start_once s o PositionWord at (Err fault) a b h k = h ∙ sym k
 start_once s o PositionWord at (Ok new) a b h k = position_once s o at new a b h k
@@ -166,7 +166,7 @@ start_once s o Shift (study old) (Ok new) a b h k = shift_once s o old new (shif
 start_once s o Shift empty read a b h k = h ∙ sym k
 start_once s o Shift (start old) read a b h k = h ∙ sym k
 
-stipulate_once : (s : State) (o : Outside) (at : Board) (new : Stipulation) (a b : Reply)
+stipulate_once : (s : State) (o : Outside) (at : Document) (new : Stipulation) (a b : Reply)
     → IsStipulateReply s o at new a → IsStipulateReply s o at new b → a ≡ b
 stipulate_once s o empty new a b h k = h ∙ sym k
 stipulate_once s o (start from) new a b h k = asking_once s o _ _ _ a b h k
@@ -190,7 +190,7 @@ move_at_once : (s : State) (o : Outside) (old : Plainly) (steps san : List ℕ) 
 move_at_once s o old steps san false a b h k = h ∙ sym k
 move_at_once s o old steps san true a b h k = moved_once s o old steps (move_of (position_at old steps) san) a b h k
 
-insert_once : (s : State) (o : Outside) (at : Board) (steps san : List ℕ) (a b : Reply)
+insert_once : (s : State) (o : Outside) (at : Document) (steps san : List ℕ) (a b : Reply)
     → IsInsertReply s o at steps san a → IsInsertReply s o at steps san b → a ≡ b
 insert_once s o empty steps san a b h k = h ∙ sym k
 insert_once s o (start from) steps san a b h k = h ∙ sym k
@@ -229,13 +229,13 @@ module _ (one_annotation : AnnotationsAreUnique) where
   annotated_once : (old : Plainly) (told : Study Mark → Reply) (a b : Reply) → Annotated old (λ x. a ≡ told x) → Annotated old (λ x. b ≡ told x) → a ≡ b
   annotated_once old told a b (x, is, from, e) (y, are, same, f) = e ∙ ap told (one_annotation x y is are (from ∙ sym same)) ∙ sym f
 
-  study_once : (s : State) (word : StudyWord) (old : Plainly) (steps : List ℕ) (a b : Reply)
+  study_once : (s : State) (word : NodeCommand) (old : Plainly) (steps : List ℕ) (a b : Reply)
       → IsStudyReply s word old steps a → IsStudyReply s word old steps b → a ≡ b
   study_once s Delete old steps a b h k = h ∙ sym k
   study_once s Promote old steps a b h k = h ∙ sym k
   study_once s MarkWord old steps a b h k = annotated_once old (λ x. marked_reply s steps (spot_at x.tree steps)) a b h k
 
-  study_at_once : (s : State) (o : Outside) (word : StudyWord) (at : Board) (steps : List ℕ) (a b : Reply)
+  study_at_once : (s : State) (o : Outside) (word : NodeCommand) (at : Document) (steps : List ℕ) (a b : Reply)
       → IsStudyReplyAt s o word at steps a → IsStudyReplyAt s o word at steps b → a ≡ b
   study_at_once s o word empty steps a b h k = h ∙ sym k
   study_at_once s o word (start from) steps a b h k = h ∙ sym k
@@ -250,7 +250,7 @@ module _ (one_annotation : AnnotationsAreUnique) where
   study_at_once s (file bytes) word (study old) steps a b h k = study_once s word old steps a b h k
   study_at_once s (header told) word (study old) steps a b h k = study_once s word old steps a b h k
 
-  pgn_once : (s : State) (o : Outside) (at : Board) (a b : Reply) → IsPgnReply s o at a → IsPgnReply s o at b → a ≡ b
+  pgn_once : (s : State) (o : Outside) (at : Document) (a b : Reply) → IsPgnReply s o at a → IsPgnReply s o at b → a ≡ b
   pgn_once s o empty a b h k = h ∙ sym k
   pgn_once s o (start from) a b h k = h ∙ sym k
   pgn_once s quiet (study old) a b h k = annotated_once old (λ x. accepted s (pgn_text x)) a b h k
@@ -381,18 +381,18 @@ load_in_once s o false c a b h k = load_once s o c (is_among s.classes c) (first
 load_in_once s o true c a b h k = open_once s o c (is_among s.classes c) a b h k
 
 module _ (one_value : EachHasAtMostOneValue) (one_annotation : AnnotationsAreUnique) where
-  table_once : (s : State) (o : Outside) (word : ClassWord) (c : Class) (a b : Reply) → IsTableReply s o word c a → IsTableReply s o word c b → a ≡ b
+  table_once : (s : State) (o : Outside) (word : TableCommand) (c : Class) (a b : Reply) → IsTableReply s o word c a → IsTableReply s o word c b → a ≡ b
   table_once s o Build c a b h k = build_once one_value s o c (is_among s.classes c) (first_lacking s.classes c) a b h k
   table_once s o Load c a b h k = load_in_once s o s.paged c a b h k
   table_once s o Save c a b h k = h ∙ sym k
   table_once s o Verify c a b h k = h ∙ sym k
 
-  named_once : (s : State) (o : Outside) (word : ClassWord) (named : Option Class) (a b : Reply)
+  named_once : (s : State) (o : Outside) (word : TableCommand) (named : Option Class) (a b : Reply)
       → IsNamedReply s o word named a → IsNamedReply s o word named b → a ≡ b
   named_once s o word None a b h k = h ∙ sym k
   named_once s o word (Some c) a b h k = table_once s o word c a b h k
 
-  class_once : (s : State) (o : Outside) (word : ClassWord) (name : List ℕ) (refuses : Bool) (a b : Reply)
+  class_once : (s : State) (o : Outside) (word : TableCommand) (name : List ℕ) (refuses : Bool) (a b : Reply)
       → IsClassReplyIn s o word name refuses a → IsClassReplyIn s o word name refuses b → a ≡ b
   class_once s o word name true a b h k = h ∙ sym k
   class_once s o word name false a b h k = named_once s o word (class_told name) a b h k
@@ -400,16 +400,16 @@ module _ (one_value : EachHasAtMostOneValue) (one_annotation : AnnotationsAreUni
   -- ---- lines
 
   command_once : (s : State) (o : Outside) (asked : Asked) (a b : Reply) → IsReplyTo s o asked a → IsReplyTo s o asked b → a ≡ b
-  command_once s o (of_start word fen) a b h k = start_once s o word s.board (start_of fen) a b h k
-  command_once s o (at_node Moves steps) a b h k = h ∙ sym k
-  command_once s o (at_node Fen steps) a b h k = h ∙ sym k
-  command_once s o (at_study word steps) a b h k = study_at_once one_annotation s o word s.board steps a b h k
-  command_once s o (of_class word name) a b h k = class_once s o word name (wants_whole word && s.paged) a b h k
-  command_once s o (stipulate stipulation) a b h k = stipulate_once s o s.board stipulation a b h k
-  command_once s o (insert steps san) a b h k = insert_once s o s.board steps san a b h k
+  command_once s o (fen_command word fen) a b h k = start_once s o word s.document (start_of fen) a b h k
+  command_once s o (node_query Moves steps) a b h k = h ∙ sym k
+  command_once s o (node_query Fen steps) a b h k = h ∙ sym k
+  command_once s o (node_command word steps) a b h k = study_at_once one_annotation s o word s.document steps a b h k
+  command_once s o (table_command word name) a b h k = class_once s o word name (wants_whole word && s.paged) a b h k
+  command_once s o (stipulate stipulation) a b h k = stipulate_once s o s.document stipulation a b h k
+  command_once s o (insert steps san) a b h k = insert_once s o s.document steps san a b h k
   command_once s o (tag name text) a b h k = h ∙ sym k
-  command_once s o (solve count steps) a b h k = solve_once s count (start_found o s.board steps) a b h k
-  command_once s o pgn a b h k = pgn_once one_annotation s o s.board a b h k
+  command_once s o (solve count steps) a b h k = solve_once s count (start_found o s.document steps) a b h k
+  command_once s o pgn a b h k = pgn_once one_annotation s o s.document a b h k
 
   reply_once : (s : State) (o : Outside) (asks : Asks) (a b : Reply) → IsReplyWhere s o asks a → IsReplyWhere s o asks b → a ≡ b
   reply_once s o (Ok None) a b h k = h ∙ sym k

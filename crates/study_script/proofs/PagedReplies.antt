@@ -20,8 +20,8 @@ use Rattle.study_reply.specs.declared.refusal.Refusal.TheVariants.{AlreadyHeld}
 use Rattle.study_reply.specs.declared.table_reply.TableReply.TheVariants.{Loaded}
 use Rattle.study_script.specs.State.{State, is_among, IsGiven, IsOpened, IsGivenAs, quiet, no_room_for, unopened, header}
 use Rattle.study_script.specs.Replies.{refused, with_class, opened, IsOpenReply}
-use Rattle.study_script.specs.Names.{of_store, of_paged}
-use Rattle.study_script.specs.Stored.{IsRightSource}
+use Rattle.study_script.specs.StoreRefusals.{refusal_of_store, refusal_of_paged}
+use Rattle.study_script.specs.Stores.{IsRightSource}
 use Rattle.study_script.specs.Decided.{Decided, HoldsPaged}
 use Rattle.study_script.proofs.HeldTables.{place_below, among_with, among_head}
 
@@ -54,28 +54,28 @@ module _ {P : Type 0} (honest : P → Table → ℕ → Type 0) (gives : GivesOf
   among b e = sym (h.classes c) ∙ e
 
   pub open_held : Seen s → is_some (held_of w.sources c) ≡ true
-      → Decided (λ o. IsOpenReply s o c (is_among s.classes c)) (λ t. HoldsPaged honest gives w t × (t.board ≡ s.board)
+      → Decided (λ o. IsOpenReply s o c (is_among s.classes c)) (λ t. HoldsPaged honest gives w t × (t.document ≡ s.document)
       × Seen t) (Err (AlreadyHeld c))
   open_held seen e = (quiet, s, rw (among true e) refl, (h, refl, seen))
 
   pub open_unopened : Seen s → (fault : StoreFault) → is_some (held_of w.sources c) ≡ false
       → IsGiven (s.shelf.headers c) (Err fault)
-      → Decided (λ o. IsOpenReply s o c (is_among s.classes c)) (λ t. HoldsPaged honest gives w t × (t.board ≡ s.board)
-      × Seen t) (Err (of_store fault))
+      → Decided (λ o. IsOpenReply s o c (is_among s.classes c)) (λ t. HoldsPaged honest gives w t × (t.document ≡ s.document)
+      × Seen t) (Err (refusal_of_store fault))
   open_unopened seen fault e given = (unopened fault, s, rw (among false e) (given, refl), (h, refl, seen))
 
   pub open_done : (v : Paged P) (told : Result (List ℕ) SourceFault) → Seen (with_class s c)
       → HoldsPaged honest gives v (with_class s c) → is_some (held_of w.sources c) ≡ false → IsGivenAs (s.shelf.headers c) (s.shelf.faults c) told
       → paged_fault false c told ≡ None
-      → Decided (λ o. IsOpenReply s o c (is_among s.classes c)) (λ t. HoldsPaged honest gives v t × (t.board ≡ s.board) × Seen t) (Ok (Loaded c))
+      → Decided (λ o. IsOpenReply s o c (is_among s.classes c)) (λ t. HoldsPaged honest gives v t × (t.document ≡ s.document) × Seen t) (Ok (Loaded c))
   open_done v told seen holds e is_told none = (header told, with_class s c, rw (among false e) (is_told, ap (opened s c) (sym none)), (holds, refl, seen))
 
   pub open_refused : (v : Paged P) (told : Result (List ℕ) SourceFault) (fault : PagedFault) → v ≡ w → Seen s
       → is_some (held_of w.sources c) ≡ false → IsGivenAs (s.shelf.headers c) (s.shelf.faults c) told
       → MatchOption (paged_fault false c told) (fault ≡ fault_of.OutOfMemory)
       (λ f. ◌≡◌ {A = Result (Unit {0}) PagedFault} (Err fault) (Err f))
-      → Decided (λ o. IsOpenReply s o c (is_among s.classes c)) (λ t. HoldsPaged honest gives v t × (t.board ≡ s.board)
-      × Seen t) (Err (of_paged fault))
+      → Decided (λ o. IsOpenReply s o c (is_among s.classes c)) (λ t. HoldsPaged honest gives v t × (t.document ≡ s.document)
+      × Seen t) (Err (refusal_of_paged fault))
   open_refused v told fault same seen e is_told m = go (paged_fault false c told) refl m
     where
       kept : HoldsPaged honest gives v s
@@ -83,11 +83,12 @@ module _ {P : Type 0} (honest : P → Table → ℕ → Type 0) (gives : GivesOf
 
       no_room : (t : Result (List ℕ) SourceFault) → IsGivenAs (s.shelf.headers c) (s.shelf.faults c) t → paged_fault false c t ≡ None → fault
           ≡ fault_of.OutOfMemory
-          → Decided (λ o. IsOpenReply s o c (is_among s.classes c)) (λ u. HoldsPaged honest gives v u × (u.board ≡ s.board) × Seen u) (Err (of_paged fault))
+          → Decided (λ o. IsOpenReply s o c (is_among s.classes c)) (λ u. HoldsPaged honest gives v u × (u.document ≡ s.document) × Seen u)
+          (Err (refusal_of_paged fault))
       no_room (Ok bytes) given none is = (
         no_room_for bytes,
         s,
-        rw (among false e) (given, none, ap (λ (f : PagedFault). refused s (of_paged f)) is),
+        rw (among false e) (given, none, ap (λ (f : PagedFault). refused s (refusal_of_paged f)) is),
         (kept, refl, seen),
       )
       no_room (Err f) given none is = absurd (no_fault_of c f none)
@@ -95,14 +96,15 @@ module _ {P : Type 0} (honest : P → Table → ℕ → Type 0) (gives : GivesOf
       go : (o : Option PagedFault) → paged_fault false c told ≡ o
           → MatchOption o (fault ≡ fault_of.OutOfMemory)
           (λ f. ◌≡◌ {A = Result (Unit {0}) PagedFault} (Err fault) (Err f))
-          → Decided (λ o. IsOpenReply s o c (is_among s.classes c)) (λ t. HoldsPaged honest gives v t × (t.board ≡ s.board) × Seen t) (Err (of_paged fault))
+          → Decided (λ o. IsOpenReply s o c (is_among s.classes c)) (λ t. HoldsPaged honest gives v t × (t.document ≡ s.document) × Seen t)
+          (Err (refusal_of_paged fault))
       go None is k = no_room told is_told is k
       go (Some f) is k = (
         header told,
         s,
         rw (among false e) (
           is_told,
-          sym (ap (opened s c) is ∙ ap (λ (x : PagedFault). refused s (of_paged x)) (same_fault fault f k)),
+          sym (ap (opened s c) is ∙ ap (λ (x : PagedFault). refused s (refusal_of_paged x)) (same_fault fault f k)),
         ),
         (kept, refl, seen),
       )

@@ -14,7 +14,7 @@ use Rattle.study_tree.specs.Tree.{has_spot}
 use Rattle.study_marks.specs.Study.{Study, mapped, plain_study, moves_to, position_after, start_along, position_at}
 use Rattle.study_marks.specs.Bench.{start_at}
 use Rattle.study_marks.specs.Edits.{Plainly}
-use Rattle.study_command.specs.declared.command.StudyWord.{StudyWord}
+use Rattle.study_command.specs.declared.command.NodeCommand.{NodeCommand}
 use Rattle.study_reply.specs.declared.refusal.Refusal.{Refusal}
 use Rattle.study_reply.specs.declared.refusal.Refusal.TheVariants.{NoSuchNode, OutOfMemory}
 use Rattle.study_script.specs.State.{State, start, study, quiet, no_path}
@@ -117,7 +117,7 @@ pub no_path_study : (old : Plainly) (ks : List ℕ) → (ks ≡ [] → ⊥) → 
 no_path_study old [] some = absurd (some refl)
 no_path_study old (k ∷ ks) some = refl
 
-pub no_path_word : (s : State) (word : StudyWord) (old : Plainly) (ks : List ℕ) → (ks ≡ [] → ⊥)
+pub no_path_word : (s : State) (word : NodeCommand) (old : Plainly) (ks : List ℕ) → (ks ≡ [] → ⊥)
     → IsStudyReplyAt s no_path word (study old) ks (refused s OutOfMemory)
 no_path_word s word old [] some = absurd (some refl)
 no_path_word s word old (k ∷ ks) some = refl

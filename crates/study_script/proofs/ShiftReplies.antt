@@ -6,11 +6,11 @@ use Rattle.study_moves.specs.Rules.{is_legal, after}
 use Rattle.study_material.specs.declared.class.Class.{Class}
 use Rattle.study_notation.specs.declared.start.Start.{Start}
 use Rattle.study_tree.specs.Forest.{Forest, none, more}
-use Rattle.study_marks.specs.declared.fault.Refusal.{Refusal as EditRefusal}
+use Rattle.study_marks.specs.declared.refusal.Refusal.{Refusal as EditRefusal}
 use Rattle.study_marks.specs.Study.{Study, mapped, plain_study}
-use Rattle.study_marks.specs.Asked.{positions_asked}
+use Rattle.study_marks.specs.Queries.{positions_asked}
 use Rattle.study_marks.specs.Answers.{IsUndamaged}
-use Rattle.study_marks.specs.Stop.{IsShiftRefusal}
+use Rattle.study_marks.specs.EditLists.{IsShiftRefusal}
 use Rattle.study_marks.specs.Edits.{Plainly, first_path, broken_from, broken, shifted, shift_refusal}
 use Rattle.study_reply.specs.Names.{edit_words}
 use Rattle.study_script.specs.State.{State, is_among, Outside, quiet, no_path, no_room, no_room_for, unread, unopened, cut_off, file, header}

@@ -4,7 +4,7 @@ use Rattle.std.specs.Prelude.{MatchOption, IsOk, not, nat_eq, if◌then◌else�
 use mathlib.Core.Bool.{true≢false}
 use Rattle.study_tree.specs.Edits.{last_place}
 use Rattle.study_tree.specs.Tree.{has_spot}
-use Rattle.study_marks.specs.declared.fault.Refusal.{Refusal as EditRefusal}
+use Rattle.study_marks.specs.declared.refusal.Refusal.{Refusal as EditRefusal}
 use Rattle.study_marks.specs.Edits.{Plainly, there, is_tag_text, delete_refusal, promote_refusal, tag_refusal}
 use Rattle.study_reply.specs.Names.{edit_words}
 use Rattle.study_script.specs.State.{State}

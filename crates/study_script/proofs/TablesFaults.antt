@@ -10,8 +10,8 @@ use Rattle.study_prober.specs.declared.values.ProbeFault.{ProbeFault}
 use Rattle.study_prober.specs.declared.values.ProbeFault.TheVariants as probe
 use Rattle.study_prober.specs.Whole.{Whole, IsCellAnswer}
 use Rattle.study_prober.specs.Paged.{Paged, IsPagedAnswer, MayFail, held_of}
-use Rattle.study_marks.specs.declared.fault.Refusal.{Refusal as EditRefusal}
-use Rattle.study_marks.specs.declared.fault.Refusal.TheVariants as edit
+use Rattle.study_marks.specs.declared.refusal.Refusal.{Refusal as EditRefusal}
+use Rattle.study_marks.specs.declared.refusal.Refusal.TheVariants as edit
 use Rattle.study_marks.specs.Answers.{IsFirstFault, TellsFirstFault}
 use Rattle.study_script.specs.declared.tables.Tables.{Tables}
 use Rattle.study_script.specs.declared.tables.Tables.TheVariants as held

@@ -10,7 +10,7 @@ use Rattle.study_reply.specs.declared.table_reply.TableReply.{TableReply}
 use Rattle.study_reply.specs.declared.refusal.Refusal.{Refusal}
 use Rattle.study_reply.specs.Names.{words_of}
 use Rattle.study_reply.specs.TableReply.{decided_text}
-use Rattle.study_script.specs.Names.{of_store}
+use Rattle.study_script.specs.StoreRefusals.{refusal_of_store}
 use Rattle.study_tablefile.specs.declared.fault.FileFault.{FileFault}
 use Rattle.study_tablefile.specs.Reading.{table_read, HasHeader}
 use Rattle.study_script.specs.declared.store.StoreFault.{StoreFault}
@@ -32,10 +32,10 @@ pub record HoldsWhole (w : Whole) (s : State) : Type 0 where
   pub classes : (c : Class) → is_some (table_of w.tables c) ≡ is_among s.classes c
   pub whole : false ≡ s.paged
 
--- the same after a command that leaves the board, and what is known of the store
+-- the same after a command that leaves the document, and what is known of the store
 pub record WholeFrom (old : State) (w : Whole) (s : State) : Type 0 where
   pub holds : HoldsWhole w s
-  pub board : s.board ≡ old.board
+  pub document : s.document ≡ old.document
   pub shelf : s.shelf ≡ old.shelf
 
 -- the sources that are held are those of the script, and each gives a right table
@@ -49,7 +49,7 @@ pub record HoldsPaged {P : Type 0} (honest : P → Table → ℕ → Type 0) (gi
 -- header, or its bytes have a fault
 abbrev pub IsFileRefusal : Option (Result (List ℕ) StoreFault) → Refusal → Type 0
 IsFileRefusal known refusal =
-    ((fault : StoreFault) × IsGiven known (Err fault) × (words_of refusal ≡ words_of (of_store fault)))
+    ((fault : StoreFault) × IsGiven known (Err fault) × (words_of refusal ≡ words_of (refusal_of_store fault)))
     ⊎ (IsOpened known × (words_of refusal ≡ words_of Device))
     ⊎ ((bytes : List ℕ) × IsGiven known (Ok bytes) × HasHeader bytes × (words_of refusal ≡ words_of OutOfMemory))
     ⊎ ((bytes : List ℕ) × (fault : FileFault) × IsGiven known (Ok bytes) × (table_read bytes ≡ Err fault) × (words_of refusal ≡ words_of (File fault)))

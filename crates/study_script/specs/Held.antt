@@ -12,27 +12,27 @@ use Rattle.study_prober.specs.Values.{ProbeAnswer}
 use Rattle.study_prober.specs.Whole.{TablesAreRight, IsCellAnswer}
 use Rattle.study_prober.specs.Sources.{GivesOf}
 use Rattle.study_prober.specs.Paged.{SourcesAreRight, IsPagedAnswer, MayFail, held_of}
-use Rattle.study_marks.specs.declared.fault.Refusal.{Refusal as EditRefusal}
-use Rattle.study_marks.specs.declared.fault.Refusal.TheVariants as edit
+use Rattle.study_marks.specs.declared.refusal.Refusal.{Refusal as EditRefusal}
+use Rattle.study_marks.specs.declared.refusal.Refusal.TheVariants as edit
 use Rattle.study_marks.specs.Study.{plain_study}
-use Rattle.study_marks.specs.Kept.{Kept, marked, IsKeptRight}
-use Rattle.study_script.specs.declared.board.Board.{Board as HeldBoard}
-use Rattle.study_script.specs.declared.board.Board.TheVariants as held
+use Rattle.study_marks.specs.BenchState.{BenchState, marked, IsKeptRight}
+use Rattle.study_script.specs.declared.document.Document.{Document as HeldDocument}
+use Rattle.study_script.specs.declared.document.Document.TheVariants as held
 use Rattle.study_script.specs.declared.tables.Tables.{Tables}
 use Rattle.study_script.specs.declared.tables.Tables.TheVariants.{Whole, Paged}
-use Rattle.study_script.specs.State.{Board, empty, start, study, State, is_among, Outside}
+use Rattle.study_script.specs.State.{Document, empty, start, study, State, is_among, Outside}
 use Rattle.study_prober.specs.declared.values.ProbeFault.TheVariants as probe
 use Rattle.study_script.specs.Replies.{Reply, MayFailAmong}
 
 module _ {A : Type 0} where
   -- the study without its marks
-  abbrev pub board_seen : HeldBoard A → Board
-  board_seen held.Empty = empty
-  board_seen (held.Start s) = start s
-  board_seen (held.Study b) = study (plain_study (marked b))
+  abbrev pub document_seen : HeldDocument A → Document
+  document_seen held.Empty = empty
+  document_seen (held.Start s) = start s
+  document_seen (held.Study b) = study (plain_study (marked b))
 
   -- the marks are those of annotating from scratch
-  abbrev pub IsMarked : HeldBoard A → Type 0
+  abbrev pub IsMarked : HeldDocument A → Type 0
   IsMarked held.Empty = Unit {0}
   IsMarked (held.Start s) = Unit {0}
   IsMarked (held.Study b) = IsKeptRight b
@@ -72,8 +72,8 @@ module _ {P A : Type 0} where
 
   -- what is held is the state of the script, with marks that are right and values that are honest; for which faults a table may not
   -- be read, the state knows
-  pub record Holds (honest : P → Table → ℕ → Type 0) (gives : GivesOf P) (b : HeldBoard A) (t : Tables P A) (s : State) : Type 0 where
-    pub board : board_seen b ≡ s.board
+  pub record Holds (honest : P → Table → ℕ → Type 0) (gives : GivesOf P) (b : HeldDocument A) (t : Tables P A) (s : State) : Type 0 where
+    pub document : document_seen b ≡ s.document
     pub marks : IsMarked b
     pub values : tables_honest honest t
     pub classes : (c : Class) → tables_held t c ≡ is_among s.classes c
@@ -82,22 +82,22 @@ module _ {P A : Type 0} where
 
 -- the same of a part of what is held; and of it after a command that leaves the other part as it was
 module _ {A : Type 0} where
-  pub record HoldsBoard (b : HeldBoard A) (s : State) : Type 0 where
-    pub board : board_seen b ≡ s.board
+  pub record HoldsDocument (b : HeldDocument A) (s : State) : Type 0 where
+    pub document : document_seen b ≡ s.document
     pub marks : IsMarked b
 
-  pub record HoldsFrom (old : State) (b : HeldBoard A) (s : State) : Type 0 where
-    pub holds : HoldsBoard b s
+  pub record HoldsFrom (old : State) (b : HeldDocument A) (s : State) : Type 0 where
+    pub holds : HoldsDocument b s
     pub classes : s.classes ≡ old.classes
     pub paged : s.paged ≡ old.paged
     pub shelf : s.shelf ≡ old.shelf
 
 -- the study that is held
-pub record HoldsBench (b : Kept) (s : State) : Type 0 where
-  pub board : study (plain_study (marked b)) ≡ s.board
+pub record HoldsBench (b : BenchState) (s : State) : Type 0 where
+  pub document : study (plain_study (marked b)) ≡ s.document
   pub marks : IsKeptRight b
 
-pub record HoldsBenchFrom (old : State) (b : Kept) (s : State) : Type 0 where
+pub record HoldsBenchFrom (old : State) (b : BenchState) (s : State) : Type 0 where
   pub holds : HoldsBench b s
   pub classes : s.classes ≡ old.classes
   pub paged : s.paged ≡ old.paged
@@ -112,7 +112,7 @@ module _ {P A : Type 0} where
 
   pub record TablesFrom (honest : P → Table → ℕ → Type 0) (gives : GivesOf P) (old : State) (t : Tables P A) (s : State) : Type 0 where
     pub holds : HoldsTables honest gives t s
-    pub board : s.board ≡ old.board
+    pub document : s.document ≡ old.document
 
 -- what is known of a store is what it gives
 pub record KnowsStore (files headers : Class → Option (Result (List ℕ) StoreFault)) (faults : Class → SourceFault → Bool) (s : State) : Type 0 where

@@ -1,11 +1,11 @@
 pub mod State
-pub mod Stored
-pub mod Names
+pub mod Stores
+pub mod StoreRefusals
 pub mod Replies
 pub mod Held
 pub mod Memory
 pub mod Decided
-pub mod Desk
+pub mod Session
 pub mod Laws
 pub mod Outcome
 pub mod Executed

@@ -8,9 +8,9 @@ use Rattle.study_tablefile.specs.declared.fault.SourceFault.TheVariants as sourc
 use Rattle.study_tablefile.specs.File.{IsVersionOf, pages_of, table_text}
 use Rattle.study_script.specs.declared.store.StoreFault.{StoreFault}
 use Rattle.study_script.specs.declared.store.StoreFault.TheVariants.{NoFile, Device}
-use Rattle.study_script.specs.declared.memory.MemoryFile.{MemoryFile}
-use Rattle.study_script.specs.declared.memory.MemoryFile.TheVariants.{Absent, Closed, Bytes, Written}
-use Rattle.study_script.specs.Stored.{IsRightFile}
+use Rattle.study_script.specs.declared.memory_store.MemoryFile.{MemoryFile}
+use Rattle.study_script.specs.declared.memory_store.MemoryFile.TheVariants.{Absent, Closed, Bytes, Written}
+use Rattle.study_script.specs.Stores.{IsRightFile}
 
 -- the file of a class
 abbrev pub memory_file : List MemoryFile → Class → MemoryFile

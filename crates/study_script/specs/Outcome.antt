@@ -13,7 +13,7 @@ use Rattle.study_script.specs.Replies.{Reply, Answer, IsReply, AreReplies, repli
 
 -- nothing is held before the first line
 abbrev pub begun_state : Shelf → Bool → State
-begun_state shelf paged = record { board = empty; classes = []; paged = paged; shelf = shelf }
+begun_state shelf paged = record { document = empty; classes = []; paged = paged; shelf = shelf }
 
 -- no line has more than 1,024 bytes
 abbrev pub AreShort : List (List ℕ) → Type 0
@@ -66,7 +66,7 @@ Outcome first script left old new (Err TooManyLines) = (100000 < length (script_
 -- memory is taken before anything is read or written
 Outcome first script left old new (Err OutOfMemory) = Keeps old new × (left ≡ Some script)
 
--- the same without what is replied, of any desk and any store: the bytes of a script, what the reader has left of them, and what the run answers
+-- the same without what is replied, of any interpreter and any store: the bytes of a script, what the reader has left of them, and what the run answers
 abbrev pub Shape : List ℕ → Option (List ℕ) → Result Summary RunFault → Type 0
 Shape script left (Ok summary) = (length (script_lines script) ≤ 100000) × AreShort (script_lines script)
     × (summary.lines ≡ length (script_lines script)) × (summary.refused ≤ summary.lines)

@@ -32,32 +32,32 @@ use Rattle.study_tree.specs.Tree.{Spot, has_spot, spot_at}
 use Rattle.study_marks.specs.declared.stipulation.Stipulation.{Stipulation}
 use Rattle.study_marks.specs.declared.mark.Mark.{Mark}
 use Rattle.study_marks.specs.declared.tag.TagName.{TagName}
-use Rattle.study_marks.specs.declared.fault.Refusal.{Refusal as EditRefusal}
+use Rattle.study_marks.specs.declared.refusal.Refusal.{Refusal as EditRefusal}
 use Rattle.study_marks.specs.Study.{Study, plain_study, position_at}
 use Rattle.study_marks.specs.Annotated.{IsAnnotated}
 use Rattle.study_marks.specs.Edits.{Plainly, positioned, shifted, stipulated, inserted, deleted, promoted, tagged}
 use Rattle.study_marks.specs.Edits.{insert_refusal, delete_refusal, promote_refusal, shift_refusal, tag_refusal}
-use Rattle.study_marks.specs.Asked.{asked_at, positions_asked, IsFirstMissing, IsFirstUnread, AllHeld}
+use Rattle.study_marks.specs.Queries.{asked_at, positions_asked, IsFirstMissing, IsFirstUnread, AllHeld}
 use Rattle.study_marks.specs.Bench.{start_at}
 use Rattle.study_pgn.specs.Pgn.{pgn_text}
-use Rattle.study_command.specs.declared.command.FenWord.{FenWord}
-use Rattle.study_command.specs.declared.command.FenWord.TheVariants.{Position as PositionWord, Shift}
-use Rattle.study_command.specs.declared.command.NodeWord.{NodeWord}
-use Rattle.study_command.specs.declared.command.NodeWord.TheVariants.{Moves, Fen as FenAt}
-use Rattle.study_command.specs.declared.command.StudyWord.{StudyWord}
-use Rattle.study_command.specs.declared.command.StudyWord.TheVariants.{Delete, Promote, Mark as MarkWord}
-use Rattle.study_command.specs.declared.command.ClassWord.{ClassWord}
-use Rattle.study_command.specs.declared.command.ClassWord.TheVariants.{Build, Load, Save, Verify}
+use Rattle.study_command.specs.declared.command.FenCommand.{FenCommand}
+use Rattle.study_command.specs.declared.command.FenCommand.TheVariants.{Position as PositionWord, Shift}
+use Rattle.study_command.specs.declared.command.NodeQuery.{NodeQuery}
+use Rattle.study_command.specs.declared.command.NodeQuery.TheVariants.{Moves, Fen as FenAt}
+use Rattle.study_command.specs.declared.command.NodeCommand.{NodeCommand}
+use Rattle.study_command.specs.declared.command.NodeCommand.TheVariants.{Delete, Promote, Mark as MarkWord}
+use Rattle.study_command.specs.declared.command.TableCommand.{TableCommand}
+use Rattle.study_command.specs.declared.command.TableCommand.TheVariants.{Build, Load, Save, Verify}
 use Rattle.study_command.specs.Paths.{path_text}
-use Rattle.study_command.specs.Asking.{Asked, of_start, at_node, at_study, of_class, stipulate, insert, tag, solve, pgn, Asks, command_of}
+use Rattle.study_command.specs.Parser.{Asked, fen_command, node_query, node_command, table_command, stipulate, insert, tag, solve, pgn, Asks, command_of}
 use Rattle.study_reply.specs.declared.refusal.Refusal.{Refusal}
 use Rattle.study_reply.specs.declared.refusal.Refusal.TheVariants.{Form, NoPosition, NoStudy, OutOfMemory}
 use Rattle.study_reply.specs.declared.refusal.Refusal.TheVariants.{PagedMode, NotAClass, NoSuchNode, Fen, San}
 use Rattle.study_reply.specs.declared.refusal.Refusal.TheVariants.{NoTable, MissingTable, AlreadyHeld, OtherClass}
 use Rattle.study_reply.specs.declared.refusal.Refusal.TheVariants.{Device, File, DistanceTooLarge}
 use Rattle.study_reply.specs.Names.{words_of, edit_words, of_probe}
-use Rattle.study_script.specs.Names.{of_paged, of_store}
-use Rattle.study_script.specs.State.{Board, empty, start, study, State, is_among, first_lacking}
+use Rattle.study_script.specs.StoreRefusals.{refusal_of_paged, refusal_of_store}
+use Rattle.study_script.specs.State.{Document, empty, start, study, State, is_among, first_lacking}
 use Rattle.study_script.specs.State.{IsGiven, IsOpened, IsGivenAs, written_anew, Outside, no_path, no_room}
 use Rattle.study_script.specs.State.{no_room_for, unread, unopened, cut_off, file, header}
 use Rattle.study_pgn.specs.Tags.{tag_name}
@@ -82,7 +82,7 @@ refused s refusal = refused_as s (words_of refusal)
 
 -- with another study
 abbrev pub holding : State → Plainly → State
-holding s new = record s { board = study new }
+holding s new = record s { document = study new }
 
 -- ---- edits
 
@@ -117,9 +117,9 @@ IsAskedReply s no_room asked new text reply = reply ≡ refused s OutOfMemory
 IsAskedReply s o asked new text reply = IsAskingReply s o asked new text reply
 
 -- `position`: without a study the start is held, and no table is asked
-abbrev pub IsPositionReply : State → Outside → Board → Start → Reply → Type 0
-IsPositionReply s o empty new reply = reply ≡ accepted (record s { board = start new }) (reply_line (codes "position ") (fen_text new))
-IsPositionReply s o (start old) new reply = reply ≡ accepted (record s { board = start new }) (reply_line (codes "position ") (fen_text new))
+abbrev pub IsPositionReply : State → Outside → Document → Start → Reply → Type 0
+IsPositionReply s o empty new reply = reply ≡ accepted (record s { document = start new }) (reply_line (codes "position ") (fen_text new))
+IsPositionReply s o (start old) new reply = reply ≡ accepted (record s { document = start new }) (reply_line (codes "position ") (fen_text new))
 IsPositionReply s o (study old) new reply = IsAskingReply s o (asked_at new.position) (positioned old new) (reply_line (codes "position ") (fen_text new)) reply
 
 -- `shift`: a move of the tree is not legal, which may also be told as want of memory for its path
@@ -128,9 +128,9 @@ IsShiftReply s no_room old new (Some refusal) reply = reply ≡ refused s OutOfM
 IsShiftReply s _ old new (Some refusal) reply = reply ≡ refused_as s (edit_words refusal)
 IsShiftReply s o old new None reply = IsAskedReply s o (positions_asked (shifted old new)) (shifted old new) (reply_line (codes "shift ") (fen_text new)) reply
 
-abbrev pub IsStartReply : State → Outside → FenWord → Board → Result Start FenFault → Reply → Type 0
-IsStartReply s o PositionWord board (Err fault) reply = reply ≡ refused s (Fen fault)
-IsStartReply s o PositionWord board (Ok new) reply = IsPositionReply s o board new reply
+abbrev pub IsStartReply : State → Outside → FenCommand → Document → Result Start FenFault → Reply → Type 0
+IsStartReply s o PositionWord document (Err fault) reply = reply ≡ refused s (Fen fault)
+IsStartReply s o PositionWord document (Ok new) reply = IsPositionReply s o document new reply
 IsStartReply s o Shift (study old) (Err fault) reply = reply ≡ refused s (Fen fault)
 IsStartReply s o Shift (study old) (Ok new) reply = IsShiftReply s o old new (shift_refusal old new) reply
 IsStartReply s o Shift empty read reply = reply ≡ refused s NoStudy
@@ -146,13 +146,13 @@ new_study from stipulation = record {
 }
 
 -- `stipulate` makes the study, or changes its stipulation
-abbrev pub IsStipulateReply : State → Outside → Board → Stipulation → Reply → Type 0
+abbrev pub IsStipulateReply : State → Outside → Document → Stipulation → Reply → Type 0
 IsStipulateReply s o empty new reply = reply ≡ refused s NoPosition
 IsStipulateReply s o (start from) new reply = IsAskingReply s o (asked_at from.position) (new_study from new) (stipulation_words new) reply
 IsStipulateReply s o (study old) new reply = reply ≡ accepted (holding s (stipulated old new)) (stipulation_words new)
 
 -- `tag`
-abbrev pub tag_reply : State → Board → TagName → List ℕ → Reply
+abbrev pub tag_reply : State → Document → TagName → List ℕ → Reply
 tag_reply s empty name text = refused s NoStudy
 tag_reply s (start from) name text = refused s NoStudy
 tag_reply s (study old) name text = edit_reply s (tag_refusal text) (tagged old name text) (reply_line (codes "tag ") (tag_name name))
@@ -173,7 +173,7 @@ abbrev pub IsMoveReplyAt : State → Outside → Plainly → List ℕ → List �
 IsMoveReplyAt s o old steps san false reply = reply ≡ refused s NoSuchNode
 IsMoveReplyAt s o old steps san true reply = IsMoveReply s o old steps (move_of (position_at old steps) san) reply
 
-abbrev pub IsInsertReply : State → Outside → Board → List ℕ → List ℕ → Reply → Type 0
+abbrev pub IsInsertReply : State → Outside → Document → List ℕ → List ℕ → Reply → Type 0
 IsInsertReply s o empty steps san reply = reply ≡ refused s NoStudy
 IsInsertReply s o (start from) steps san reply = reply ≡ refused s NoStudy
 IsInsertReply s no_path (study old) [] san reply = IsMoveReplyAt s no_path old [] san (has_spot old.tree []) reply
@@ -187,20 +187,20 @@ named (Some at) = Ok at
 named None = Err NoSuchNode
 
 -- the start at a node; without a study the root is the only node
-abbrev pub start_of_node : Board → List ℕ → Result Start Refusal
+abbrev pub start_of_node : Document → List ℕ → Result Start Refusal
 start_of_node empty steps = Err NoPosition
 start_of_node (start from) [] = Ok from
 start_of_node (start from) (k ∷ ks) = Err NoSuchNode
 start_of_node (study old) steps = named (start_at old steps)
 
 -- the same, where there may be no memory for the path, of which the root's takes none; without a position none is asked
-abbrev pub start_found : Outside → Board → List ℕ → Result Start Refusal
+abbrev pub start_found : Outside → Document → List ℕ → Result Start Refusal
 start_found o empty steps = Err NoPosition
 start_found no_path (start from) [] = Ok from
 start_found no_path (start from) (k ∷ ks) = Err OutOfMemory
 start_found no_path (study old) [] = named (start_at old [])
 start_found no_path (study old) (k ∷ ks) = Err OutOfMemory
-start_found _ board steps = start_of_node board steps
+start_found _ document steps = start_of_node document steps
 
 -- `moves` and `fen`
 abbrev pub moves_reply : State → Result Start Refusal → Reply
@@ -234,26 +234,26 @@ abbrev pub IsMarkReply : State → Plainly → List ℕ → Reply → Type 0
 IsMarkReply s old steps reply = Annotated old (λ annotated. reply ≡ marked_reply s steps (spot_at annotated.tree steps))
 
 -- `delete`, `promote` and `mark`
-abbrev pub IsStudyReply : State → StudyWord → Plainly → List ℕ → Reply → Type 0
+abbrev pub IsStudyReply : State → NodeCommand → Plainly → List ℕ → Reply → Type 0
 IsStudyReply s Delete old steps reply =
     reply ≡ edit_reply s (delete_refusal old steps) (deleted old steps) (reply_line (codes "delete ") (path_text steps))
 IsStudyReply s Promote old steps reply =
     reply ≡ edit_reply s (promote_refusal old steps) (promoted old steps) (reply_line (codes "promote ") (path_text (raised steps)))
 IsStudyReply s MarkWord old steps reply = IsMarkReply s old steps reply
 
-abbrev pub IsStudyReplyAt : State → Outside → StudyWord → Board → List ℕ → Reply → Type 0
+abbrev pub IsStudyReplyAt : State → Outside → NodeCommand → Document → List ℕ → Reply → Type 0
 IsStudyReplyAt s o word empty steps reply = reply ≡ refused s NoStudy
 IsStudyReplyAt s o word (start from) steps reply = reply ≡ refused s NoStudy
 IsStudyReplyAt s no_path word (study old) [] reply = IsStudyReply s word old [] reply
 IsStudyReplyAt s no_path word (study old) (k ∷ ks) reply = reply ≡ refused s OutOfMemory
 IsStudyReplyAt s _ word (study old) steps reply = IsStudyReply s word old steps reply
 
-abbrev pub IsNodeReply : State → Outside → NodeWord → List ℕ → Reply → Type 0
-IsNodeReply s o Moves steps reply = reply ≡ moves_reply s (start_found o s.board steps)
-IsNodeReply s o FenAt steps reply = reply ≡ fen_reply s (start_found o s.board steps)
+abbrev pub IsNodeReply : State → Outside → NodeQuery → List ℕ → Reply → Type 0
+IsNodeReply s o Moves steps reply = reply ≡ moves_reply s (start_found o s.document steps)
+IsNodeReply s o FenAt steps reply = reply ≡ fen_reply s (start_found o s.document steps)
 
 -- `pgn`, of a study that is annotated from scratch
-abbrev pub IsPgnReply : State → Outside → Board → Reply → Type 0
+abbrev pub IsPgnReply : State → Outside → Document → Reply → Type 0
 IsPgnReply s o empty reply = reply ≡ refused s NoStudy
 IsPgnReply s o (start from) reply = reply ≡ refused s NoStudy
 IsPgnReply s no_room (study old) reply = reply ≡ refused s OutOfMemory
@@ -286,7 +286,7 @@ loaded s c (Ok t) = if class_place t.class == class_place c then accepted (with_
 abbrev pub IsLoadReply : State → Outside → Class → Bool → Option Class → Reply → Type 0
 IsLoadReply s o c true lacking reply = reply ≡ refused s (AlreadyHeld c)
 IsLoadReply s o c false (Some d) reply = reply ≡ refused s (MissingTable d)
-IsLoadReply s (unopened fault) c false None reply = IsGiven (s.shelf.files c) (Err fault) × (reply ≡ refused s (of_store fault))
+IsLoadReply s (unopened fault) c false None reply = IsGiven (s.shelf.files c) (Err fault) × (reply ≡ refused s (refusal_of_store fault))
 IsLoadReply s cut_off c false None reply = IsOpened (s.shelf.files c) × (reply ≡ refused s Device)
 IsLoadReply s (no_room_for bytes) c false None reply = IsGiven (s.shelf.files c) (Ok bytes) × HasHeader bytes × (reply ≡ refused s OutOfMemory)
 IsLoadReply s (file bytes) c false None reply = IsGiven (s.shelf.files c) (Ok bytes) × (reply ≡ loaded s c (table_read bytes))
@@ -295,11 +295,11 @@ IsLoadReply s _ c false None reply = ⊥
 -- what the header of a source of pages comes to
 abbrev pub opened : State → Class → Option PagedFault → Reply
 opened s c None = accepted (with_class s c) (loaded_text c)
-opened s c (Some fault) = refused s (of_paged fault)
+opened s c (Some fault) = refused s (refusal_of_paged fault)
 
 abbrev pub IsOpenReply : State → Outside → Class → Bool → Reply → Type 0
 IsOpenReply s o c true reply = reply ≡ refused s (AlreadyHeld c)
-IsOpenReply s (unopened fault) c false reply = IsGiven (s.shelf.headers c) (Err fault) × (reply ≡ refused s (of_store fault))
+IsOpenReply s (unopened fault) c false reply = IsGiven (s.shelf.headers c) (Err fault) × (reply ≡ refused s (refusal_of_store fault))
 IsOpenReply s (no_room_for bytes) c false reply =
     IsGiven (s.shelf.headers c) (Ok bytes) × (paged_fault false c (Ok bytes) ≡ None) × (reply ≡ refused s OutOfMemory)
 IsOpenReply s (header told) c false reply = IsGivenAs (s.shelf.headers c) (s.shelf.faults c) told × (reply ≡ opened s c (paged_fault false c told))
@@ -322,13 +322,13 @@ abbrev pub IsLoadIn : State → Outside → Bool → Class → Reply → Type 0
 IsLoadIn s o false c reply = IsLoadReply s o c (is_among s.classes c) (first_lacking s.classes c) reply
 IsLoadIn s o true c reply = IsOpenReply s o c (is_among s.classes c) reply
 
-abbrev pub IsTableReply : State → Outside → ClassWord → Class → Reply → Type 0
+abbrev pub IsTableReply : State → Outside → TableCommand → Class → Reply → Type 0
 IsTableReply s o Build c reply = IsBuildReply s o c (is_among s.classes c) (first_lacking s.classes c) reply
 IsTableReply s o Load c reply = IsLoadIn s o s.paged c reply
 IsTableReply s o Save c reply = reply ≡ save_reply s o c (is_among s.classes c)
 IsTableReply s o Verify c reply = reply ≡ verify_reply s c (is_among s.classes c)
 
-abbrev pub IsNamedReply : State → Outside → ClassWord → Option Class → Reply → Type 0
+abbrev pub IsNamedReply : State → Outside → TableCommand → Option Class → Reply → Type 0
 IsNamedReply s o word None reply = reply ≡ refused s NotAClass
 IsNamedReply s o word (Some c) reply = IsTableReply s o word c reply
 
@@ -337,30 +337,30 @@ unfoldable pub class_told : List ℕ → Option Class
 class_told name = find (λ c. bytes_eq name (name_of c)) class_list
 
 -- all of these but `load` want whole tables
-abbrev pub wants_whole : ClassWord → Bool
+abbrev pub wants_whole : TableCommand → Bool
 wants_whole Load = false
 wants_whole _ = true
 
-abbrev pub IsClassReplyIn : State → Outside → ClassWord → List ℕ → Bool → Reply → Type 0
+abbrev pub IsClassReplyIn : State → Outside → TableCommand → List ℕ → Bool → Reply → Type 0
 IsClassReplyIn s o word name true reply = reply ≡ refused s PagedMode
 IsClassReplyIn s o word name false reply = IsNamedReply s o word (class_told name) reply
 
-abbrev pub IsClassReply : State → Outside → ClassWord → List ℕ → Reply → Type 0
+abbrev pub IsClassReply : State → Outside → TableCommand → List ℕ → Reply → Type 0
 IsClassReply s o word name reply = IsClassReplyIn s o word name (wants_whole word && s.paged) reply
 
 -- ---- the lines
 
 -- the reply to a command
 abbrev pub IsReplyTo : State → Outside → Asked → Reply → Type 0
-IsReplyTo s o (of_start word fen) reply = IsStartReply s o word s.board (start_of fen) reply
-IsReplyTo s o (at_node word steps) reply = IsNodeReply s o word steps reply
-IsReplyTo s o (at_study word steps) reply = IsStudyReplyAt s o word s.board steps reply
-IsReplyTo s o (of_class word name) reply = IsClassReply s o word name reply
-IsReplyTo s o (stipulate stipulation) reply = IsStipulateReply s o s.board stipulation reply
-IsReplyTo s o (insert steps san) reply = IsInsertReply s o s.board steps san reply
-IsReplyTo s o (tag name text) reply = reply ≡ tag_reply s s.board name text
-IsReplyTo s o (solve count steps) reply = IsSolveReply s count (start_found o s.board steps) reply
-IsReplyTo s o pgn reply = IsPgnReply s o s.board reply
+IsReplyTo s o (fen_command word fen) reply = IsStartReply s o word s.document (start_of fen) reply
+IsReplyTo s o (node_query word steps) reply = IsNodeReply s o word steps reply
+IsReplyTo s o (node_command word steps) reply = IsStudyReplyAt s o word s.document steps reply
+IsReplyTo s o (table_command word name) reply = IsClassReply s o word name reply
+IsReplyTo s o (stipulate stipulation) reply = IsStipulateReply s o s.document stipulation reply
+IsReplyTo s o (insert steps san) reply = IsInsertReply s o s.document steps san reply
+IsReplyTo s o (tag name text) reply = reply ≡ tag_reply s s.document name text
+IsReplyTo s o (solve count steps) reply = IsSolveReply s count (start_found o s.document steps) reply
+IsReplyTo s o pgn reply = IsPgnReply s o s.document reply
 
 abbrev pub IsReplyWhere : State → Outside → Asks → Reply → Type 0
 IsReplyWhere s o (Ok None) reply = reply ≡ accepted s []

@@ -13,10 +13,10 @@ use Rattle.study_marks.specs.Edits.{Plainly}
 use Rattle.study_script.specs.declared.store.StoreFault.{StoreFault}
 
 -- nothing, a start, or a study, which has no marks here: they are found anew at each line
-pub data Board : Type 0 where
-  empty : Board
-  start : Start → Board
-  study : Plainly → Board
+pub data Document : Type 0 where
+  empty : Document
+  start : Start → Document
+  study : Plainly → Document
 
 -- What is known of what a store gives for each class: the bytes of its file, read from front to back, or the fault of opening it;
 -- and the header that its source of pages tells, or the fault of opening it. Of a store in memory all is known but of a file that it
@@ -48,7 +48,7 @@ IsQuestionOf c (of_page n) = n < pages_of c
 
 -- the classes whose tables are held, whether tables are read by pages, and what is known of the store
 pub record State : Type 0 where
-  pub board : Board
+  pub document : Document
   pub classes : List Class
   pub paged : Bool
   pub shelf : Shelf

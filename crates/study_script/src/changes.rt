@@ -4,20 +4,20 @@ ghost use Rattle.study_moves.specs.Rules.{is_legal};
 ghost use Rattle.study_notation.specs.Matching.{move_of};
 ghost use Rattle.study_tree.specs.Tree.{has_spot};
 ghost use Rattle.study_marks.specs.Study.{plain_study, position_at};
-ghost use Rattle.study_marks.specs.Kept.{marked};
+ghost use Rattle.study_marks.specs.BenchState.{marked};
 ghost use Rattle.study_command.specs.Paths.{steps_of, is_path_word};
 ghost use Rattle.study_script.specs.State.{State, study};
 ghost use Rattle.study_script.specs.Replies.{IsInsertReply, IsMoveReply, IsMoveReplyAt, IsStudyReply, IsStudyReplyAt, tag_reply};
-ghost use Rattle.study_script.specs.declared.board.Board.TheVariants as held;
-ghost use Rattle.study_script.specs.Held.{Holds, HoldsBoard, HoldsFrom, HoldsBench, HoldsBenchFrom};
+ghost use Rattle.study_script.specs.declared.document.Document.TheVariants as held;
+ghost use Rattle.study_script.specs.Held.{Holds, HoldsDocument, HoldsFrom, HoldsBench, HoldsBenchFrom};
 ghost use Rattle.study_script.specs.Executed.{Executed};
 
-use crate::board::Board;
-use crate::edits;
+use crate::document::Document;
 use crate::queries::mark_at;
+use crate::table_edits;
 use crate::tables::Tables;
 use std::alloc::Allocator;
-use study_command::command::StudyWord;
+use study_command::command::NodeCommand;
 use study_command::read_path;
 use study_marks::{Bench, TagName};
 use study_moves::Move;
@@ -28,27 +28,27 @@ use study_tablefile::PageSource;
 use study_tree::Path;
 
 /// Commands that take a node of the study and nothing else.
-pub fn at_study<'a, A: Allocator>(
+pub fn node_command<'a, A: Allocator>(
     alloc: &'a A,
-    board: &mut Board<'a, A>,
-    word: StudyWord,
+    document: &mut Document<'a, A>,
+    word: NodeCommand,
     path: &[u8],
 ) -> Answer<'a, A>
     requires { is_path_word path.now ≡ true }
-    ensures { (s : State) → HoldsBoard board.old s
-        → Executed (λ o. IsStudyReplyAt s o word s.board (steps_of path.now)) (HoldsFrom s board.new) result }
+    ensures { (s : State) → HoldsDocument document.old s
+        → Executed (λ o. IsStudyReplyAt s o word s.document (steps_of path.now)) (HoldsFrom s document.new) result }
 {
-    match board {
-        Board::Study(bench) => at_path(alloc, bench, word, path),
-        Board::Empty => Err(Refused::Line(Refusal::NoStudy)),
-        Board::Start(_) => Err(Refused::Line(Refusal::NoStudy)),
+    match document {
+        Document::Study(bench) => at_path(alloc, bench, word, path),
+        Document::Empty => Err(Refused::Line(Refusal::NoStudy)),
+        Document::Start(_) => Err(Refused::Line(Refusal::NoStudy)),
     }
 }
 
 fn at_path<'a, A: Allocator>(
     alloc: &'a A,
     bench: &mut Bench<'a, A>,
-    word: StudyWord,
+    word: NodeCommand,
     path: &[u8],
 ) -> Answer<'a, A>
     requires { is_path_word path.now ≡ true }
@@ -64,22 +64,22 @@ fn at_path<'a, A: Allocator>(
 
 fn at_place<'a, A: Allocator>(
     bench: &mut Bench<'a, A>,
-    word: StudyWord,
+    word: NodeCommand,
     path: Path<'a, A>,
 ) -> Answer<'a, A>
     ensures { (s : State) → HoldsBench bench.old s
         → Executed (λ o. IsStudyReply s word (plain_study (marked bench.old)) path.entry) (HoldsBenchFrom s bench.new) result }
 {
     match word {
-        StudyWord::Delete => delete(bench, path),
-        StudyWord::Promote => promote(bench, path),
-        StudyWord::Mark => mark_at(bench, path),
+        NodeCommand::Delete => delete(bench, path),
+        NodeCommand::Promote => promote(bench, path),
+        NodeCommand::Mark => mark_at(bench, path),
     }
 }
 
 fn delete<'a, A: Allocator>(bench: &mut Bench<'a, A>, path: Path<'a, A>) -> Answer<'a, A>
     ensures { (s : State) → HoldsBench bench.old s
-        → Executed (λ o. IsStudyReply s StudyWord.Delete (plain_study (marked bench.old)) path.entry) (HoldsBenchFrom s bench.new) result }
+        → Executed (λ o. IsStudyReply s NodeCommand.Delete (plain_study (marked bench.old)) path.entry) (HoldsBenchFrom s bench.new) result }
 {
     match bench.delete(&path) {
         Ok(()) => Ok(Reply::Deleted(path)),
@@ -89,7 +89,7 @@ fn delete<'a, A: Allocator>(bench: &mut Bench<'a, A>, path: Path<'a, A>) -> Answ
 
 fn promote<'a, A: Allocator>(bench: &mut Bench<'a, A>, path: Path<'a, A>) -> Answer<'a, A>
     ensures { (s : State) → HoldsBench bench.old s
-        → Executed (λ o. IsStudyReply s StudyWord.Promote (plain_study (marked bench.old)) path.entry) (HoldsBenchFrom s bench.new) result }
+        → Executed (λ o. IsStudyReply s NodeCommand.Promote (plain_study (marked bench.old)) path.entry) (HoldsBenchFrom s bench.new) result }
 {
     match bench.promote(&path) {
         Ok(()) => Ok(Reply::Promoted(path)),
@@ -99,17 +99,17 @@ fn promote<'a, A: Allocator>(bench: &mut Bench<'a, A>, path: Path<'a, A>) -> Ans
 
 /// `tag`.
 pub fn set_tag<'a, A: Allocator>(
-    board: &mut Board<'a, A>,
+    document: &mut Document<'a, A>,
     name: TagName,
     text: &str,
 ) -> Answer<'a, A>
-    ensures { (s : State) → HoldsBoard board.old s
-        → Executed (λ o reply. reply ≡ tag_reply s s.board name text.now) (HoldsFrom s board.new) result }
+    ensures { (s : State) → HoldsDocument document.old s
+        → Executed (λ o reply. reply ≡ tag_reply s s.document name text.now) (HoldsFrom s document.new) result }
 {
-    match board {
-        Board::Study(bench) => set_study_tag(bench, name, text),
-        Board::Empty => Err(Refused::Line(Refusal::NoStudy)),
-        Board::Start(_) => Err(Refused::Line(Refusal::NoStudy)),
+    match document {
+        Document::Study(bench) => set_study_tag(bench, name, text),
+        Document::Empty => Err(Refused::Line(Refusal::NoStudy)),
+        Document::Start(_) => Err(Refused::Line(Refusal::NoStudy)),
     }
 }
 
@@ -130,19 +130,19 @@ fn set_study_tag<'a, A: Allocator>(
 /// `insert`.
 pub fn insert<'a, P: PageSource, A: Allocator>(
     alloc: &'a A,
-    board: &mut Board<'a, A>,
+    document: &mut Document<'a, A>,
     tables: &mut Tables<'a, P, A>,
     path: &[u8],
     san: &str,
 ) -> Answer<'a, A>
     requires { is_path_word path.now ≡ true }
-    ensures { (s : State) → Holds P.honest P.gives board.old tables.old s
-        → Executed (λ o. IsInsertReply s o s.board (steps_of path.now) san.now) (Holds P.honest P.gives board.new tables.new) result }
+    ensures { (s : State) → Holds P.honest P.gives document.old tables.old s
+        → Executed (λ o. IsInsertReply s o s.document (steps_of path.now) san.now) (Holds P.honest P.gives document.new tables.new) result }
 {
-    match board {
-        Board::Study(bench) => insert_in_study(alloc, bench, tables, path, san),
-        Board::Empty => Err(Refused::Line(Refusal::NoStudy)),
-        Board::Start(_) => Err(Refused::Line(Refusal::NoStudy)),
+    match document {
+        Document::Study(bench) => insert_in_study(alloc, bench, tables, path, san),
+        Document::Empty => Err(Refused::Line(Refusal::NoStudy)),
+        Document::Start(_) => Err(Refused::Line(Refusal::NoStudy)),
     }
 }
 
@@ -211,7 +211,7 @@ fn insert_move<'a, P: PageSource, A: Allocator>(
         → Executed (λ o. IsMoveReply s o (plain_study (marked bench.old)) path.entry (Ok by.now))
         (Holds P.honest P.gives (held.Study bench.new) tables.new) result }
 {
-    match edits::insert_move(bench, &path, *by, tables) {
+    match table_edits::insert_move(bench, &path, *by, tables) {
         Ok(place) => {
             let san = write_san(&start.position, *by);
             Ok(Reply::Inserted(path, place, san))

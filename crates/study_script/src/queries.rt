@@ -1,17 +1,17 @@
 //! What is told of a node or of the study, which stays as it is: `moves`, `fen`, `solve`, `mark` and `pgn`.
 ghost use Rattle.std.specs.Prelude.{◌≡◌, true};
 ghost use Rattle.study_marks.specs.Study.{plain_study};
-ghost use Rattle.study_marks.specs.Kept.{marked};
+ghost use Rattle.study_marks.specs.BenchState.{marked};
 ghost use Rattle.study_command.specs.Paths.{steps_of, is_path_word};
 ghost use Rattle.study_script.specs.State.{State, Outside, study, start as begun};
 ghost use Rattle.study_script.specs.Replies.{IsNodeReply, IsSolveReply, IsPgnReply, IsMarkReply};
 ghost use Rattle.study_script.specs.Replies.{start_found, moves_reply, fen_reply};
-ghost use Rattle.study_script.specs.Held.{HoldsBoard, HoldsFrom, HoldsBench, HoldsBenchFrom};
+ghost use Rattle.study_script.specs.Held.{HoldsDocument, HoldsFrom, HoldsBench, HoldsBenchFrom};
 ghost use Rattle.study_script.specs.Executed.{Executed};
 
-use crate::board::Board;
+use crate::document::Document;
 use std::alloc::Allocator;
-use study_command::command::{MoveCount, NodeWord};
+use study_command::command::{MoveCount, NodeQuery};
 use study_command::read_path;
 use study_marks::Bench;
 use study_moves::solve;
@@ -22,39 +22,43 @@ use study_reply::reply::{Answer, Refused, Reply};
 use study_tree::Path;
 
 /// Commands that take a node and nothing else, and need no study.
-pub fn at_node<'a, A: Allocator>(
+pub fn node_query<'a, A: Allocator>(
     alloc: &'a A,
-    board: &Board<'a, A>,
-    word: NodeWord,
+    document: &Document<'a, A>,
+    word: NodeQuery,
     path: &[u8],
 ) -> Answer<'a, A>
     requires { is_path_word path.now ≡ true }
-    ensures { (s : State) → HoldsBoard board.now s
-        → Executed (λ o. IsNodeReply s o word (steps_of path.now)) (HoldsFrom s board.now) result }
+    ensures { (s : State) → HoldsDocument document.now s
+        → Executed (λ o. IsNodeReply s o word (steps_of path.now)) (HoldsFrom s document.now) result }
 {
     match word {
-        NodeWord::Moves => moves_at(alloc, board, path),
-        NodeWord::Fen => fen_at(alloc, board, path),
+        NodeQuery::Moves => moves_at(alloc, document, path),
+        NodeQuery::Fen => fen_at(alloc, document, path),
     }
 }
 
-fn moves_at<'a, A: Allocator>(alloc: &'a A, board: &Board<'a, A>, path: &[u8]) -> Answer<'a, A>
+fn moves_at<'a, A: Allocator>(
+    alloc: &'a A,
+    document: &Document<'a, A>,
+    path: &[u8],
+) -> Answer<'a, A>
     requires { is_path_word path.now ≡ true }
-    ensures { (s : State) → HoldsBoard board.now s
-        → Executed (λ o reply. reply ≡ moves_reply s (start_found o s.board (steps_of path.now))) (HoldsFrom s board.now) result }
+    ensures { (s : State) → HoldsDocument document.now s
+        → Executed (λ o reply. reply ≡ moves_reply s (start_found o s.document (steps_of path.now))) (HoldsFrom s document.now) result }
 {
-    match start_at(alloc, board, path) {
+    match start_at(alloc, document, path) {
         Ok(start) => Ok(Reply::Moves(start)),
         Err(refusal) => Err(Refused::Line(refusal)),
     }
 }
 
-fn fen_at<'a, A: Allocator>(alloc: &'a A, board: &Board<'a, A>, path: &[u8]) -> Answer<'a, A>
+fn fen_at<'a, A: Allocator>(alloc: &'a A, document: &Document<'a, A>, path: &[u8]) -> Answer<'a, A>
     requires { is_path_word path.now ≡ true }
-    ensures { (s : State) → HoldsBoard board.now s
-        → Executed (λ o reply. reply ≡ fen_reply s (start_found o s.board (steps_of path.now))) (HoldsFrom s board.now) result }
+    ensures { (s : State) → HoldsDocument document.now s
+        → Executed (λ o reply. reply ≡ fen_reply s (start_found o s.document (steps_of path.now))) (HoldsFrom s document.now) result }
 {
-    match start_at(alloc, board, path) {
+    match start_at(alloc, document, path) {
         Ok(start) => Ok(Reply::Fen(start)),
         Err(refusal) => Err(Refused::Line(refusal)),
     }
@@ -63,15 +67,15 @@ fn fen_at<'a, A: Allocator>(alloc: &'a A, board: &Board<'a, A>, path: &[u8]) -> 
 /// `solve`.
 pub fn solve_at<'a, A: Allocator>(
     alloc: &'a A,
-    board: &Board<'a, A>,
+    document: &Document<'a, A>,
     count: MoveCount,
     path: &[u8],
 ) -> Answer<'a, A>
     requires { is_path_word path.now ≡ true }
-    ensures { (s : State) → HoldsBoard board.now s
-        → Executed (λ o. IsSolveReply s count.number (start_found o s.board (steps_of path.now))) (HoldsFrom s board.now) result }
+    ensures { (s : State) → HoldsDocument document.now s
+        → Executed (λ o. IsSolveReply s count.number (start_found o s.document (steps_of path.now))) (HoldsFrom s document.now) result }
 {
-    match start_at(alloc, board, path) {
+    match start_at(alloc, document, path) {
         Ok(start) => Ok(Reply::Solved(solve(&start.position, count.number))),
         Err(refusal) => Err(Refused::Line(refusal)),
     }
@@ -80,16 +84,16 @@ pub fn solve_at<'a, A: Allocator>(
 /// The start at a node; without a study the root is the only one.
 fn start_at<'a, A: Allocator>(
     alloc: &'a A,
-    board: &Board<'a, A>,
+    document: &Document<'a, A>,
     path: &[u8],
 ) -> Result<Start, Refusal>
     requires { is_path_word path.now ≡ true }
-    ensures { (s : State) → HoldsBoard board.now s → (o : Outside) × (result ≡ start_found o s.board (steps_of path.now)) }
+    ensures { (s : State) → HoldsDocument document.now s → (o : Outside) × (result ≡ start_found o s.document (steps_of path.now)) }
 {
-    match board {
-        Board::Empty => Err(Refusal::NoPosition),
-        Board::Start(start) => root_start(alloc, start, path),
-        Board::Study(bench) => node_start(alloc, bench, path),
+    match document {
+        Document::Empty => Err(Refusal::NoPosition),
+        Document::Start(start) => root_start(alloc, start, path),
+        Document::Study(bench) => node_start(alloc, bench, path),
     }
 }
 
@@ -135,13 +139,13 @@ pub fn mark_at<'a, A: Allocator>(bench: &Bench<'a, A>, path: Path<'a, A>) -> Ans
 }
 
 /// `pgn`.
-pub fn pgn<'a, A: Allocator>(alloc: &'a A, board: &Board<'a, A>) -> Answer<'a, A>
-    ensures { (s : State) → HoldsBoard board.now s → Executed (λ o. IsPgnReply s o s.board) (HoldsFrom s board.now) result }
+pub fn pgn<'a, A: Allocator>(alloc: &'a A, document: &Document<'a, A>) -> Answer<'a, A>
+    ensures { (s : State) → HoldsDocument document.now s → Executed (λ o. IsPgnReply s o s.document) (HoldsFrom s document.now) result }
 {
-    match board {
-        Board::Study(bench) => pgn_of(alloc, bench),
-        Board::Empty => Err(Refused::Line(Refusal::NoStudy)),
-        Board::Start(_) => Err(Refused::Line(Refusal::NoStudy)),
+    match document {
+        Document::Study(bench) => pgn_of(alloc, bench),
+        Document::Empty => Err(Refused::Line(Refusal::NoStudy)),
+        Document::Start(_) => Err(Refused::Line(Refusal::NoStudy)),
     }
 }
 

@@ -3,16 +3,16 @@ ghost use Rattle.std.specs.Prelude.{◌≡◌, ◌≤◌, Err, is_some, IfOk, If
 ghost use Rattle.study_script.specs.Held.{Begun, are_paged};
 ghost use Rattle.study_script.specs.Outcome.{Outcome, Shape, begun_state};
 ghost use Rattle.study_material.specs.declared.class.Class.{Class as AClass};
-ghost use Rattle.study_script.specs.Stored.{shelf_of, HonestOn, AreTrusted};
+ghost use Rattle.study_script.specs.Stores.{shelf_of, HonestOn, AreTrusted};
 ghost use Rattle.study_script.specs.State.{State};
 
-use crate::board::Board;
-use crate::desk::{Desk, StudyDesk};
+use crate::document::Document;
+use crate::session::{Interpreter, Session};
 use crate::store::TableStore;
 use crate::tables::Tables;
 use std::alloc::{AllocError, Allocator};
 use std::io::{Read, Write};
-use study_command::lines::{Line, LineFault, read_byte};
+use study_command::line::{Line, LineFault, read_byte};
 use study_prober::{PagedTables, WholeTables};
 use study_retro::TableSet;
 use study_tablefile::PageSource;
@@ -70,20 +70,20 @@ pub fn run<'a, R: Read, W: Write, S: TableStore, A: Allocator>(
     let Ok(mut line) = Line::new(alloc) else {
         return Err(RunFault::OutOfMemory);
     };
-    let Ok(tables) = no_tables(alloc, settings) else {
+    let Ok(tables) = empty_tables(alloc, settings) else {
         return Err(RunFault::OutOfMemory);
     };
-    let mut desk = StudyDesk {
+    let mut session = Session {
         alloc,
-        board: Board::Empty,
+        document: Document::Empty,
         tables,
         store,
     };
-    run_in(&mut line, script, out, &mut desk)
+    run_session(&mut line, script, out, &mut session)
 }
 
 // No table yet, and room for those that will be held.
-fn no_tables<'a, P: PageSource, A: Allocator>(
+fn empty_tables<'a, P: PageSource, A: Allocator>(
     alloc: &'a A,
     settings: Settings,
 ) -> Result<Tables<'a, P, A>, AllocError>
@@ -97,14 +97,14 @@ fn no_tables<'a, P: PageSource, A: Allocator>(
     }
 }
 
-/// Answers each line of a script, by any desk. Its room for a line is given, so it never ends for want of memory.
-pub fn run_in<R: Read, W: Write, D: Desk, A: Allocator>(
+/// Answers each line of a script, by any interpreter. Its room for a line is given, so it never ends for want of memory.
+pub fn run_session<R: Read, W: Write, D: Interpreter, A: Allocator>(
     line: &mut Line<'_, A>,
     script: &mut R,
     out: &mut W,
-    desk: &mut D,
+    interpreter: &mut D,
 ) -> Result<Summary, RunFault>
-    ensures outcome { (trusted : AClass → Bool) (first : State) → D.holds desk.old trusted first
+    ensures outcome { (trusted : AClass → Bool) (first : State) → D.holds interpreter.old trusted first
         → IfSome (R.remaining script.old)
         (λ bytes. AreTrusted trusted bytes → Outcome first bytes (R.remaining script.new) (W.contents out.old) (W.contents out.new) result) }
     ensures shape { IfSome (R.remaining script.old) (λ bytes. Shape bytes (R.remaining script.new) result) }
@@ -118,7 +118,7 @@ pub fn run_in<R: Read, W: Write, D: Desk, A: Allocator>(
             Ok(false) => return Ok(Summary { lines: n, refused }),
             Ok(true) => {}
         }
-        match desk.answer(line.as_slice(), out) {
+        match interpreter.answer(line.as_slice(), out) {
             Err(_) => return Err(RunFault::WriteDevice),
             Ok(was_refused) => {
                 if was_refused {

@@ -5,7 +5,7 @@ ghost use Rattle.study_tablefile.specs.declared.fault.SourceFault.{SourceFault a
 ghost use Rattle.study_tablefile.specs.Source.{Question, of_header};
 ghost use Rattle.study_script.specs.declared.store.StoreFault.{StoreFault as AStoreFault};
 ghost use Rattle.study_script.specs.State.{IsGiven, IsOpened, IsQuestionOf, forgotten, forgotten_faults};
-ghost use Rattle.study_script.specs.Stored.{IsRightFile, IsRightSource, GivesBytes};
+ghost use Rattle.study_script.specs.Stores.{IsRightFile, IsRightSource, GivesBytes};
 
 use std::io::{Read, Write};
 use study_material::Class;

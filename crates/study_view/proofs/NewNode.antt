@@ -12,7 +12,7 @@ use Rattle.study_tree.specs.Edits.{has_node, node_in, width, children_at, add_la
 use Rattle.study_tree.specs.Tree.{Spot, spot_at, twig_spot, has_spot}
 use Rattle.study_marks.specs.declared.mark.Mark.{Mark}
 use Rattle.study_marks.specs.declared.mark.MoveMark.{MoveMark}
-use Rattle.study_marks.specs.declared.marking.Aim.{Aim}
+use Rattle.study_marks.specs.declared.mark_rules.Aim.{Aim}
 use Rattle.study_marks.specs.Annotated.{IsMoveMark, AreAnnotated, IsAnnotated}
 use Rattle.study_marks.specs.Edits.{inserted}
 use Rattle.study_marks.specs.Goals.{aim_of, hero_moves}

@@ -7,7 +7,7 @@ use Rattle.study_moves.specs.Rules.{is_legal}
 use Rattle.study_notation.specs.declared.start.Start.{Start}
 use Rattle.study_tree.specs.Tree.{spot_at}
 use Rattle.study_marks.specs.declared.mark.Mark.{Mark}
-use Rattle.study_marks.specs.Renewal.{below_at}
+use Rattle.study_marks.specs.FaultSums.{below_at}
 use Rattle.study_marks.specs.Study.{Study}
 use Rattle.study_review.specs.Made.{Grew}
 use Rattle.study_review.specs.Review.{paths_from, LinesOfEach, written_order}

@@ -10,7 +10,7 @@ use Rattle.study_retro.specs.declared.value.Value.{Value}
 use Rattle.study_tree.specs.Tree.{Spot, spot_at}
 use Rattle.study_marks.specs.declared.mark.Mark.{Mark}
 use Rattle.study_marks.specs.declared.mark.MoveMark.{MoveMark}
-use Rattle.study_marks.specs.declared.marking.Aim.{Aim}
+use Rattle.study_marks.specs.declared.mark_rules.Aim.{Aim}
 use Rattle.study_marks.specs.Annotated.{IsMoveMark}
 use Rattle.study_marks.specs.Goals.{aim_of}
 use Rattle.study_marks.specs.Marks.{move_mark}

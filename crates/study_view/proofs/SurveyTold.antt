@@ -23,7 +23,7 @@ use Rattle.study_moves.proofs.LegalLists.{in_legal, is_legal-in, AscendsFrom-leg
 use Rattle.study_retro.specs.declared.value.Value.{Value}
 use Rattle.study_retro.specs.Game.{IsValueOf}
 use Rattle.study_marks.specs.declared.stipulation.Stipulation.{Stipulation}
-use Rattle.study_marks.specs.declared.marking.Aim.{Aim}
+use Rattle.study_marks.specs.declared.mark_rules.Aim.{Aim}
 use Rattle.study_marks.specs.Goals.{holds}
 use Rattle.study_marks.specs.Annotated.{AreValuesAfter}
 use Rattle.study_marks.proofs.OneAnnotation.{one-value}

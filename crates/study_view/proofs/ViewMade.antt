@@ -7,7 +7,7 @@ use Rattle.study_notation.specs.declared.start.Start.{Start}
 use Rattle.study_retro.specs.declared.value.Value.{Value}
 use Rattle.study_tree.specs.Tree.{has_spot}
 use Rattle.study_marks.specs.declared.mark.Mark.{Mark}
-use Rattle.study_marks.specs.declared.marking.Aim.{Aim}
+use Rattle.study_marks.specs.declared.mark_rules.Aim.{Aim}
 use Rattle.study_marks.specs.Goals.{aim_of}
 use Rattle.study_marks.specs.Study.{Study, position_at}
 use Rattle.study_review.specs.declared.continuation.Continuation.{Continuation}

@@ -11,7 +11,7 @@ use Rattle.study_notation.specs.FenSpelling.{square_text}
 use Rattle.study_notation.specs.Written.{move_text}
 use Rattle.study_retro.specs.declared.value.Value.{Value}
 use Rattle.study_retro.specs.Game.{IsValueOf}
-use Rattle.study_marks.specs.declared.marking.Aim.{Aim}
+use Rattle.study_marks.specs.declared.mark_rules.Aim.{Aim}
 use Rattle.study_marks.specs.declared.stipulation.Stipulation.{Stipulation}
 use Rattle.study_marks.specs.Goals.{holds}
 use Rattle.study_pgn.specs.Pgn.{stipulation_text}

@@ -3,8 +3,8 @@ ghost use Rattle.std.specs.Prelude.{◌≡◌, ◌++◌, ◌∷◌, [], None, Is
 ghost use Rattle.study_tree.specs.Edits.{width};
 ghost use Rattle.study_tree.specs.Tree.{has_spot, spot_at};
 ghost use Rattle.study_marks.specs.Bench.{played_by};
-ghost use Rattle.study_marks.specs.Kept.{marked};
-ghost use Rattle.study_marks.specs.Renewal.{below_at};
+ghost use Rattle.study_marks.specs.BenchState.{marked};
+ghost use Rattle.study_marks.specs.FaultSums.{below_at};
 ghost use Rattle.study_review.specs.Made.{Grew};
 ghost use Rattle.study_review.specs.Nodes.{front_of};
 ghost use Rattle.study_review.specs.Review.{paths_from, LinesOfEach};

@@ -6,7 +6,7 @@ ghost use Rattle.study_moves.specs.Rules.{is_legal};
 ghost use Rattle.study_tablefile.specs.Taken.{TakesPrefix};
 ghost use Rattle.study_tree.specs.Tree.{has_spot, spot_at};
 ghost use Rattle.study_marks.specs.Goals.{aim_of};
-ghost use Rattle.study_marks.specs.Kept.{marked, IsKeptRight};
+ghost use Rattle.study_marks.specs.BenchState.{marked, IsKeptRight};
 ghost use Rattle.study_marks.specs.Study.{plain_study};
 ghost use Rattle.study_prober.specs.declared.values.ProbeFault.{ProbeFault as AProbeFault};
 ghost use Rattle.study_review.specs.Review.{stipulation_line, written_order};

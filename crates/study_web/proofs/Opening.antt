@@ -23,7 +23,7 @@ use Rattle.study_prober.specs.Told.{MayAnswer, IsRefusedBy, paged_fault}
 use Rattle.study_prober.proofs.HeldSources.{same_class, held_same, held_other, held_placed}
 use Rattle.study_script.specs.declared.store.StoreFault.{StoreFault}
 use Rattle.study_script.specs.declared.store.StoreFault.TheVariants.{NoFile}
-use Rattle.study_script.specs.Names.{of_paged}
+use Rattle.study_script.specs.StoreRefusals.{refusal_of_paged}
 use Rattle.study_script.specs.State.{is_among, IsGiven, IsGivenAs, IsOpened, IsQuestionOf}
 use Rattle.study_script.proofs.HeldTables.{place_below, same_at, other_at}
 use Rattle.study_web.specs.Opened.{denial_of, IsHeldAs, IsBadFile, IsOfTables}
@@ -95,7 +95,7 @@ module _ {P : Type 0} (held : Bool) (gives : GivesOf P) (honest : HonestOf P) (s
   named_by fault other None is = absurd (other is)
   named_by fault other (Some x) is = let e : fault ≡ x = cc in ap (λ (k : PagedFault). Some k) (sym e)
 
-  bad_file : (fault : PagedFault) → (fault ≡ paged.OutOfMemory → ⊥) → Answers fault → IsBadFile (headers c) (m c) c (of_paged fault)
+  bad_file : (fault : PagedFault) → (fault ≡ paged.OutOfMemory → ⊥) → Answers fault → IsBadFile (headers c) (m c) c (refusal_of_paged fault)
   bad_file fault other (told, answers, by) = inr (
     told,
     given_as told (answers lacks).0,

@@ -12,7 +12,7 @@ use Rattle.study_script.specs.declared.run.RunFault.{RunFault}
 use Rattle.study_script.specs.declared.run.RunFault.TheVariants as run_fault
 use Rattle.study_script.specs.Outcome.{Outcome, begun_state}
 use Rattle.study_script.specs.State.{Shelf}
-use Rattle.study_script.specs.Stored.{AreTrusted}
+use Rattle.study_script.specs.Stores.{AreTrusted}
 use Rattle.study_report.specs.Outcome.{Outcome as ReportOutcome, Shape, over_tables}
 use Rattle.study_review.specs.Review.{IsReviewOf}
 use Rattle.study_print.specs.Pages.{IsFile}

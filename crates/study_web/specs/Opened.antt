@@ -11,7 +11,7 @@ use Rattle.study_prober.specs.declared.fault.PagedFault.TheVariants as paged
 use Rattle.study_prober.specs.Told.{paged_fault}
 use Rattle.study_script.specs.declared.store.StoreFault.{StoreFault}
 use Rattle.study_script.specs.declared.store.StoreFault.TheVariants as store
-use Rattle.study_script.specs.Names.{of_paged}
+use Rattle.study_script.specs.StoreRefusals.{refusal_of_paged}
 use Rattle.study_script.specs.State.{is_among, IsGiven, IsGivenAs}
 use Rattle.study_reply.specs.declared.refusal.Refusal.{Refusal}
 use Rattle.study_reply.specs.declared.refusal.Refusal.TheVariants.{OutOfMemory, Device}
@@ -38,7 +38,7 @@ AreAllRight spans bytes = (c : Class) → IsHonestIn true (file_in spans bytes c
 -- a source of pages that is refused, for this fault
 abbrev pub denial_of : Class → PagedFault → Denial
 denial_of c paged.OutOfMemory = denial.Refused OutOfMemory
-denial_of c fault = denial.OfFile c (of_paged fault)
+denial_of c fault = denial.OfFile c (refusal_of_paged fault)
 
 -- Why the file of a class gives no table: it is not opened, or its header cannot be read, or has a fault, or is that of another class; by what is
 -- known of the header that it tells, and of the faults for which it may not be read.
@@ -46,7 +46,7 @@ abbrev pub IsBadFile : Option (Result (List ℕ) StoreFault) → (SourceFault �
 IsBadFile known faults c refusal =
     (IsGiven known (Err store.Device) × (refusal ≡ Device))
     ⊎ ((told : Result (List ℕ) SourceFault) × IsGivenAs known faults told
-    × (fault : PagedFault) × (paged_fault false c told ≡ Some fault) × (refusal ≡ of_paged fault))
+    × (fault : PagedFault) × (paged_fault false c told ≡ Some fault) × (refusal ≡ refusal_of_paged fault))
 
 -- the headers and the faults of the classes' files
 module _ (headers : Class → Option (Result (List ℕ) StoreFault)) (faults : Class → SourceFault → Bool) where

@@ -12,8 +12,8 @@ use Rattle.study_marks.specs.Edits.{is_printable}
 use Rattle.study_marks.specs.declared.stipulation.Goal.{Goal}
 use Rattle.study_marks.specs.declared.stipulation.Goal.TheVariants.{Win, Draw}
 use Rattle.study_marks.specs.declared.stipulation.Stipulation.{Stipulation}
-use Rattle.study_command.specs.Asking.{one_word, path_of, path_seen, side_told, mate_in, mate_moves_of}
-use Rattle.study_command.specs.declared.command.FormFault.TheVariants.{BadByte, UnknownCommand, BadArguments, UnknownStipulation}
+use Rattle.study_command.specs.Parser.{one_word, path_of, path_seen, side_told, mate_in, mate_moves_of}
+use Rattle.study_command.specs.declared.command.SyntaxFault.TheVariants.{BadByte, UnknownCommand, BadArguments, UnknownStipulation}
 use Rattle.study_reply.specs.declared.refusal.Refusal.{Refusal}
 use Rattle.study_reply.specs.declared.refusal.Refusal.TheVariants.{Form, NotAClass, Fen}
 use Rattle.study_script.specs.Replies.{class_told}

@@ -8,7 +8,7 @@ use Rattle.study_notation.specs.declared.fault.FenFault.{FenFault}
 use Rattle.study_notation.specs.declared.start.Start.{Start}
 use Rattle.study_notation.specs.Fen.{start_of}
 use Rattle.study_notation.specs.FenSpelling.{square_text}
-use Rattle.study_command.specs.Asking.{Asks, of_start, command_of}
+use Rattle.study_command.specs.Parser.{Asks, fen_command, command_of}
 use Rattle.study_view.specs.Setup.{AreClassesNeeded}
 use Rattle.study_web.specs.Told.{line_of}
 
@@ -18,7 +18,7 @@ position_told (Err fault) = []
 
 -- the position of a line `position` or `shift` whose FEN is one
 abbrev pub position_asked : Asks → List Position
-position_asked (Ok (Some (of_start word fen))) = position_told (start_of fen)
+position_asked (Ok (Some (fen_command word fen))) = position_told (start_of fen)
 position_asked _ = []
 
 abbrev pub position_in : List ℕ → List Position

@@ -7,7 +7,7 @@ use Rattle.study_tablefile.specs.declared.fault.SourceFault.{SourceFault}
 use Rattle.study_script.specs.declared.store.StoreFault.{StoreFault}
 use Rattle.study_script.specs.declared.store.StoreFault.TheVariants.{NoFile}
 use Rattle.study_script.specs.Memory.{IsRightText, text_faults}
-use Rattle.study_script.specs.Stored.{IsRightFile}
+use Rattle.study_script.specs.Stores.{IsRightFile}
 use Rattle.study_web.specs.declared.spans.Span.{Span}
 
 -- a span for this class that lies within the bytes

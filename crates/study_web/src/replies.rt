@@ -3,7 +3,7 @@ ghost use Rattle.std.specs.Prelude.{◌≤◌, ℕ, Bool, List, [], Option, Some
 ghost use Rattle.study_material.specs.declared.class.Class.{Class as AClass};
 ghost use Rattle.study_script.specs.Outcome.{Outcome, begun_state};
 ghost use Rattle.study_script.specs.State.{Shelf};
-ghost use Rattle.study_script.specs.Stored.{AreTrusted};
+ghost use Rattle.study_script.specs.Stores.{AreTrusted};
 ghost use Rattle.study_web.specs.Store.{IsShelf, AreRightFiles};
 
 use crate::saved::Saved;

@@ -5,7 +5,7 @@ ghost use Rattle.std.specs.List.{list_all};
 ghost use Rattle.study_notation.specs.Fen.{start_of};
 ghost use Rattle.study_notation.specs.Words.{words};
 ghost use Rattle.study_marks.specs.Edits.{is_printable};
-ghost use Rattle.study_command.specs.Asking.{one_word, mate_in, mate_moves_of};
+ghost use Rattle.study_command.specs.Parser.{one_word, mate_in, mate_moves_of};
 ghost use Rattle.study_script.specs.Replies.{class_told};
 ghost use Rattle.study_web.specs.Request.{alone, make_asked, view_asked, with_start, goal_begun, stipulation_begun};
 ghost use Rattle.study_web.specs.Request.{survey_asked, word_asked, request_of, request_seen, asks_seen};
@@ -15,7 +15,7 @@ use crate::words::{
     as_text, is_printable, read_one_word, read_path_word, read_place, read_side, read_square,
 };
 use study_board::Square;
-use study_command::command::{FormFault, PathWord};
+use study_command::command::{PathWord, SyntaxFault};
 use study_marks::{Goal, MateMoves, Stipulation};
 use study_material::Class;
 use study_notation::words::next_word;
@@ -37,7 +37,7 @@ pub enum Request<'r> {
     Run,
     /// `make CLASS`: the file of the class's table.
     Make(Class),
-    /// `view PATH`: the view of the study that the script leaves on the board.
+    /// `view PATH`: the view of the study that the script leaves in the document.
     View(PathWord<'r>),
     /// `review`: the review of the script's studies.
     Review,
@@ -57,10 +57,10 @@ pub fn read_request(line: &[u8]) -> Result<Request<'_>, Refusal>
     ensures { asks_seen result ≡ request_of line.now }
 {
     if !is_printable(line) {
-        return Err(Refusal::Form(FormFault::BadByte));
+        return Err(Refusal::Form(SyntaxFault::BadByte));
     }
     match next_word(line) {
-        None => Err(Refusal::Form(FormFault::UnknownCommand)),
+        None => Err(Refusal::Form(SyntaxFault::UnknownCommand)),
         Some((word, rest)) => read_words(word, rest),
     }
 }
@@ -87,7 +87,7 @@ fn read_words<'r>(word: &'r [u8], rest: &'r [u8]) -> Result<Request<'r>, Refusal
     } else if word == b"make".as_slice() {
         read_make(rest)
     } else {
-        Err(Refusal::Form(FormFault::UnknownCommand))
+        Err(Refusal::Form(SyntaxFault::UnknownCommand))
     }
 }
 
@@ -97,7 +97,7 @@ fn alone<'r>(rest: &[u8], request: Request<'r>) -> Result<Request<'r>, Refusal>
 {
     match next_word(rest) {
         None => Ok(request),
-        Some(_) => Err(Refusal::Form(FormFault::BadArguments)),
+        Some(_) => Err(Refusal::Form(SyntaxFault::BadArguments)),
     }
 }
 
@@ -106,7 +106,7 @@ fn read_make(rest: &[u8]) -> Result<Request<'_>, Refusal>
     ensures { asks_seen result ≡ make_asked (one_word (words rest.now)) }
 {
     match read_one_word(rest) {
-        None => Err(Refusal::Form(FormFault::BadArguments)),
+        None => Err(Refusal::Form(SyntaxFault::BadArguments)),
         Some(name) => match class_named(as_text(name)) {
             Some(class) => Ok(Request::Make(class)),
             None => Err(Refusal::NotAClass),
@@ -128,10 +128,10 @@ fn read_view(rest: &[u8]) -> Result<Request<'_>, Refusal>
     ensures { asks_seen result ≡ view_asked (one_word (words rest.now)) }
 {
     match read_one_word(rest) {
-        None => Err(Refusal::Form(FormFault::BadArguments)),
+        None => Err(Refusal::Form(SyntaxFault::BadArguments)),
         Some(word) => match read_path_word(word) {
             Some(path) => Ok(Request::View(path)),
-            None => Err(Refusal::Form(FormFault::BadArguments)),
+            None => Err(Refusal::Form(SyntaxFault::BadArguments)),
         },
     }
 }
@@ -207,13 +207,13 @@ fn read_survey(rest: &[u8]) -> Result<Request<'_>, Refusal>
     ensures { asks_seen result ≡ survey_asked (words rest.now) rest.now }
 {
     let Some((word, rest)) = next_word(rest) else {
-        return Err(Refusal::Form(FormFault::BadArguments));
+        return Err(Refusal::Form(SyntaxFault::BadArguments));
     };
     let Some(square) = read_square(word) else {
-        return Err(Refusal::Form(FormFault::BadArguments));
+        return Err(Refusal::Form(SyntaxFault::BadArguments));
     };
     let Some((stipulation, rest)) = read_stipulation(rest) else {
-        return Err(Refusal::Form(FormFault::UnknownStipulation));
+        return Err(Refusal::Form(SyntaxFault::UnknownStipulation));
     };
     match read_start(rest) {
         Err(fault) => Err(Refusal::Fen(fault)),

@@ -1,27 +1,27 @@
-//! What is told of a script: its review, and the view of what it leaves on the board.
+//! What is told of a script: its review, and the view of what it leaves in the document.
 ghost use Rattle.std.specs.Prelude.{◌≡◌, ◌≢◌, ◌≤◌, ◌⊎◌, ◌++◌, ℕ, [], true, false, is_some, List, Option, Some, IfSome, IfOk, IfErr, OnOk};
 ghost use Rattle.study_material.specs.declared.class.Class.{Class as AClass};
 ghost use Rattle.study_tree.specs.Tree.{has_spot};
-ghost use Rattle.study_marks.specs.Kept.{marked, IsKeptRight};
+ghost use Rattle.study_marks.specs.BenchState.{marked, IsKeptRight};
 ghost use Rattle.study_marks.specs.Study.{plain_study};
 ghost use Rattle.study_command.specs.Paths.{steps_of, is_path_word};
 ghost use Rattle.study_prober.specs.Paged.{held_of, SourcesAreRight};
 ghost use Rattle.study_review.specs.Review.{IsReviewOf};
 ghost use Rattle.study_report.specs.Outcome.{Outcome, over_tables};
-ghost use Rattle.study_script.specs.Held.{board_seen, tables_honest, IsMarked};
+ghost use Rattle.study_script.specs.Held.{document_seen, tables_honest, IsMarked};
 ghost use Rattle.study_script.specs.State.{is_among};
 ghost use Rattle.study_view.specs.View.{IsViewOf};
 ghost use Rattle.study_view.specs.Words.{study_line};
 ghost use Rattle.study_web.specs.Answers.{MayEnd, IsNever, IsUnread, IsViewDenial};
 ghost use Rattle.study_web.specs.Opened.{IsHeldAs, IsOfTables};
-ghost use Rattle.study_web.specs.Views.{refused_line, IsBoardView, IsLeft, IsViewOver, LacksNode, LacksNodeOver};
+ghost use Rattle.study_web.specs.Views.{refused_line, IsDocumentView, IsLeft, IsViewOver, LacksNode, LacksNodeOver};
 
 use crate::denial::Denial;
 use crate::refusals::Refusals;
 use crate::reply::NoText;
 use crate::tables::open_tables;
 use std::alloc::Allocator;
-use study_command::lines::Line;
+use study_command::line::Line;
 use study_command::read_path;
 use study_marks::Bench;
 use study_notation::{Start, write_fen};
@@ -29,9 +29,9 @@ use study_prober::{PagedTables, Values};
 use study_reply::refusal::Refusal;
 use study_reply::words::{of_probe, put_line};
 use study_report::{Lines, NoFiles, follow, follow_script};
-use study_script::board::Board;
-use study_script::desk::StudyDesk;
+use study_script::document::Document;
 use study_script::run::{RunFault, Summary};
+use study_script::session::Session;
 use study_script::store::TableStore;
 use study_script::tables::Tables;
 use study_tablefile::{PageSource, put};
@@ -127,35 +127,35 @@ fn at_root(path: &[u8]) -> Result<(), NoText>
     }
 }
 
-/// The view of what is on a board, at a path: of a start its one line, of nothing no line.
-fn board_view<'a, A: Allocator, V: Values>(
+/// The view of what is in a document, at a path: of a start its one line, of nothing no line.
+fn document_view<'a, A: Allocator, V: Values>(
     alloc: &'a A,
-    board: &Board<'a, A>,
+    document: &Document<'a, A>,
     path: &[u8],
     values: &mut V,
 ) -> Result<Vec<u8, &'a A>, NoText>
     requires { is_path_word path.now ≡ true }
-    ensures none { IfErr result (MayEnd (IsViewDenial (LacksNode (board_seen board.now) (steps_of path.now))) IsNever) }
-    ensures text { V.is_honest values.old → IsMarked board.now
-        → IfOk result (λ text. IsBoardView (board_seen board.now) (steps_of path.now) text.items) }
+    ensures none { IfErr result (MayEnd (IsViewDenial (LacksNode (document_seen document.now) (steps_of path.now))) IsNever) }
+    ensures text { V.is_honest values.old → IsMarked document.now
+        → IfOk result (λ text. IsDocumentView (document_seen document.now) (steps_of path.now) text.items) }
 {
-    match board {
-        Board::Study(bench) => bench_view(alloc, bench, path, values),
-        Board::Start(start) => {
+    match document {
+        Document::Study(bench) => bench_view(alloc, bench, path, values),
+        Document::Start(start) => {
             at_root(path)?;
             start_view(alloc, start)
         }
-        Board::Empty => {
+        Document::Empty => {
             at_root(path)?;
             Ok(Vec::new(alloc))
         }
     }
 }
 
-/// What a script leaves: what is on the board, the tables, and its refused lines.
+/// What a script leaves: what is in the document, the tables, and its refused lines.
 #[derive(Drop)]
 struct Left<'a, P: PageSource, A: Allocator> {
-    board: Board<'a, A>,
+    document: Document<'a, A>,
     tables: Tables<'a, P, A>,
     refused: Vec<u8, &'a A>,
 }
@@ -168,17 +168,17 @@ fn left_by<'a, P: PageSource, A: Allocator>(
 ) -> Result<Left<'a, P, A>, RunFault>
     ensures left { (classes : List AClass) → SourcesAreRight P.honest tables.entry.sources
         → ((c : AClass) → is_some (held_of tables.entry.sources c) ≡ is_among classes c)
-        → IfOk result (λ left. tables_honest P.honest left.tables × IsMarked left.board
-        × IsLeft classes script.now (board_seen left.board) left.refused.items) }
+        → IfOk result (λ left. tables_honest P.honest left.tables × IsMarked left.document
+        × IsLeft classes script.now (document_seen left.document) left.refused.items) }
     ensures stops { IfErr result (IsUnread script.now) }
 {
     let Ok(mut line) = Line::new(alloc) else {
         return Err(RunFault::OutOfMemory);
     };
     let mut store = NoFiles::new();
-    let mut desk = StudyDesk {
+    let mut session = Session {
         alloc,
-        board: Board::Empty,
+        document: Document::Empty,
         tables: Tables::Paged(tables),
         store: &mut store,
     };
@@ -189,15 +189,19 @@ fn left_by<'a, P: PageSource, A: Allocator>(
         &mut reader,
         &mut refused,
         &mut Refusals,
-        &mut desk,
+        &mut session,
     ) {
         // The text in memory does not grow.
         Err(RunFault::WriteDevice) => Err(RunFault::OutOfMemory),
         Err(fault) => Err(fault),
         Ok(_) => {
-            let StudyDesk { board, tables, .. } = desk;
+            let Session {
+                document,
+                tables,
+                ..
+            } = session;
             Ok(Left {
-                board,
+                document,
                 tables,
                 refused,
             })
@@ -212,24 +216,24 @@ fn left_view<'a, P: PageSource, A: Allocator>(
     path: &[u8],
 ) -> Result<Vec<u8, &'a A>, NoText>
     requires { is_path_word path.now ≡ true }
-    ensures none { IfErr result (MayEnd (IsViewDenial (LacksNode (board_seen left.entry.board) (steps_of path.now))) IsNever) }
-    ensures text { tables_honest P.honest left.entry.tables → IsMarked left.entry.board
-        → IfOk result (λ text. (view : List ℕ) × IsBoardView (board_seen left.entry.board) (steps_of path.now) view
+    ensures none { IfErr result (MayEnd (IsViewDenial (LacksNode (document_seen left.entry.document) (steps_of path.now))) IsNever) }
+    ensures text { tables_honest P.honest left.entry.tables → IsMarked left.entry.document
+        → IfOk result (λ text. (view : List ℕ) × IsDocumentView (document_seen left.entry.document) (steps_of path.now) view
         × (text.items ≡ view ++ left.entry.refused.items)) }
 {
     let Left {
-        board,
+        document,
         mut tables,
         refused,
     } = left;
-    let mut text = board_view(alloc, &board, path, &mut tables)?;
+    let mut text = document_view(alloc, &document, path, &mut tables)?;
     match put(&mut text, refused.as_slice()) {
         Ok(()) => Ok(text),
         Err(_) => Err(NoText::Denied(Denial::Refused(Refusal::OutOfMemory))),
     }
 }
 
-/// The view at a path of what a script leaves on the board, and then its refused lines; over all files of a store.
+/// The view at a path of what a script leaves in the document, and then its refused lines; over all files of a store.
 pub fn view_of<'a, S: TableStore, A: Allocator>(
     alloc: &'a A,
     path: &[u8],

@@ -14,7 +14,7 @@ use crate::reply::NoText;
 use std::alloc::{AllocError, Allocator};
 use study_board::{Position, Square};
 use study_command::command::Command;
-use study_command::lines::{Line, LineFault, read_byte};
+use study_command::line::{Line, LineFault, read_byte};
 use study_command::read_command;
 use study_material::Class;
 use study_notation::{Start, read_fen};
@@ -30,7 +30,7 @@ fn add_position<'a, A: Allocator>(
     ensures { OnOk result (list.new.items ≡ list.old.items ++ position_in line.now) }
 {
     match read_command(line) {
-        Ok(Some(Command::OfStart(_, fen))) => match read_fen(fen) {
+        Ok(Some(Command::FromFen(_, fen))) => match read_fen(fen) {
             Ok(start) => {
                 list.push(start.position)?;
                 Ok(())

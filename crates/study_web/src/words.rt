@@ -5,7 +5,7 @@ ghost use Rattle.std.specs.List.{list_all};
 ghost use Rattle.study_notation.specs.Fen.{is_digit};
 ghost use Rattle.study_notation.specs.Words.{words};
 ghost use Rattle.study_marks.specs.Edits.{is_printable};
-ghost use Rattle.study_command.specs.Asking.{one_word, path_of, path_seen, side_told};
+ghost use Rattle.study_command.specs.Parser.{one_word, path_of, path_seen, side_told};
 ghost use Rattle.study_command.specs.Paths.{is_place, place_told, is_path, is_path_word};
 ghost use Rattle.study_web.specs.Request.{square_told};
 

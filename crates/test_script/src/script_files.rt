@@ -9,7 +9,7 @@ use std::test::Fail;
 use study_index::cells;
 use study_material::Class;
 use study_retro::Table;
-use study_script::memory::{MemoryFile, MemoryStore};
+use study_script::memory_store::{MemoryFile, MemoryStore};
 use study_tablefile::memory::{MemoryReader, MemoryWriter, WhenFull};
 use study_tablefile::{read_table, write_table};
 

@@ -5,14 +5,14 @@ use std::alloc::Allocator;
 use std::io;
 use std::io::{BufReader, ErrorKind, Read, Write};
 use std::time::Instant;
-use study_command::lines::Line;
+use study_command::line::Line;
 use study_marks::Bench;
 use study_prober::{Values, WholeTables};
 use study_program::FolderStore;
 use study_retro::TableSet;
 use study_review::write_review;
-use study_script::board::Board;
-use study_script::desk::{Desk, StudyDesk};
+use study_script::document::Document;
+use study_script::session::{Interpreter, Session};
 use study_script::store::TableStore;
 use study_script::tables::Tables;
 use study_tablefile::memory::MemoryWriter;
@@ -56,33 +56,33 @@ fn tell<A: Allocator, V: Values>(
     rt.stdout().write_all(told.taken.as_slice())
 }
 
-/// Answers a line, and measures the study that an accepted `pgn` line finds on the board, as the one after so many.
+/// Answers a line, and measures the study that an accepted `pgn` line finds in the document, as the one after so many.
 fn follow_line<'a, 's, S: TableStore, A: Allocator>(
     rt: HostRuntime,
     what: Measured,
-    desk: &mut StudyDesk<'a, 's, S, A>,
+    session: &mut Session<'a, 's, S, A>,
     line: &[u8],
     studies: u32,
 ) -> io::Result<u32> {
-    let mut reply = MemoryWriter::new(desk.alloc);
-    if desk.answer(line, &mut reply).is_err() {
+    let mut reply = MemoryWriter::new(session.alloc);
+    if session.answer(line, &mut reply).is_err() {
         return Err(broken());
     }
     if line != b"pgn".as_slice() {
         return Ok(studies);
     }
     let number = studies.wrapping_add(1);
-    let Board::Study(bench) = &desk.board else {
+    let Document::Study(bench) = &session.document else {
         return Ok(studies);
     };
     match what {
-        Measured::Review => tell(rt, bench, &mut desk.tables, number)?,
-        Measured::Views => views::measure(rt, desk.alloc, bench, &mut desk.tables)?,
+        Measured::Review => tell(rt, bench, &mut session.tables, number)?,
+        Measured::Views => views::measure(rt, session.alloc, bench, &mut session.tables)?,
     }
     Ok(number)
 }
 
-/// Follows a script from an empty board over a store, and measures its studies. Refused lines are passed over.
+/// Follows a script from an empty document over a store, and measures its studies. Refused lines are passed over.
 fn follow<'a, R: Read, S: TableStore, A: Allocator>(
     rt: HostRuntime,
     what: Measured,
@@ -91,16 +91,16 @@ fn follow<'a, R: Read, S: TableStore, A: Allocator>(
     store: &mut S,
 ) -> io::Result<()> {
     let mut line = Line::new(alloc)?;
-    let mut desk = StudyDesk {
+    let mut session = Session {
         alloc,
-        board: Board::Empty,
+        document: Document::Empty,
         tables: Tables::Whole(WholeTables::new(TableSet::new(alloc)?)),
         store,
     };
     let mut studies = 0u32;
     for _ in 0..100_000u32 {
         match line.read(script) {
-            Ok(true) => studies = follow_line(rt, what, &mut desk, line.as_slice(), studies)?,
+            Ok(true) => studies = follow_line(rt, what, &mut session, line.as_slice(), studies)?,
             Ok(false) => return Ok(()),
             Err(_) => return Err(broken()),
         }

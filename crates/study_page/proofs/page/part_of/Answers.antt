@@ -1,4 +1,4 @@
-use Rattle.study_marks.specs.Kept.{marked}
+use Rattle.study_marks.specs.BenchState.{marked}
 use Rattle.study_page.proofs.WholePage.{all-rows}
 use Rattle.study_page.proofs.page.part_of.Goals as goal
 

@@ -2,7 +2,7 @@ use Rattle.std.proofs.Common.{Some, sym, ap, subst, ◌∙◌}
 use Rattle.std.proofs.lemmas.Result.{on_ok_weaker}
 use Rattle.study_notation.specs.declared.start.Start.{Start}
 use Rattle.study_marks.specs.declared.mark.MoveMark.TheVariants.{Dual}
-use Rattle.study_marks.specs.Kept.{marked}
+use Rattle.study_marks.specs.BenchState.{marked}
 use Rattle.study_review.specs.Made.{Grew}
 use Rattle.study_page.specs.Rows.{IsCardOf}
 use Rattle.study_page.proofs.MadeRows.{card-made, no-card}

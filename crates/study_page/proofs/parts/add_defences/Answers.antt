@@ -1,6 +1,6 @@
 use Rattle.std.proofs.Common.{◌≡◌, None}
 use Rattle.study_tree.specs.Tree.{spot_at}
-use Rattle.study_marks.specs.Kept.{marked}
+use Rattle.study_marks.specs.BenchState.{marked}
 use Rattle.study_marks.proofs.PathRenewed.{no-spot}
 use Rattle.study_page.proofs.parts.add_defences.Goals as goal
 

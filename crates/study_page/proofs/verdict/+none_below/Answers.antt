@@ -1,7 +1,7 @@
 use Rattle.std.proofs.Common.{◌≡◌, ◌+◌, ◌<◌, ◌≤◌, ◌==◌, ◌&&◌, false, refl, sym, ap, ◌∙◌, arith}
 use Rattle.study_tree.specs.Edits.{width}
-use Rattle.study_marks.specs.Kept.{marked}
-use Rattle.study_marks.specs.Renewal.{skipped}
+use Rattle.study_marks.specs.BenchState.{marked}
+use Rattle.study_marks.specs.FaultSums.{skipped}
 use Rattle.study_marks.proofs.ChildFound.{skipped-end}
 use Rattle.study_review.specs.Review.{none_below}
 use Rattle.study_review.proofs.NodesShown.{not-zero}

@@ -1,8 +1,8 @@
 use Rattle.std.proofs.Common.{◌≡◌, ◌≤◌, ◌<◌, ◌++◌, ◌∷◌, [], List, ℕ, refl, ◌∙◌, ap, subst, arith}
 use Rattle.std.specs.Prelude.{vec_len}
 use Rattle.study_tree.specs.Edits.{width}
-use Rattle.study_marks.specs.Renewal.{below_at}
-use Rattle.study_marks.specs.Kept.{marked}
+use Rattle.study_marks.specs.FaultSums.{below_at}
+use Rattle.study_marks.specs.BenchState.{marked}
 use Rattle.study_pgn.proofs.ChildSteps.{popped}
 use Rattle.study_review.specs.Made.{Grew}
 use Rattle.study_page.specs.Made.{RowsOf}

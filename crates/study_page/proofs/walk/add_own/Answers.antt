@@ -1,4 +1,4 @@
-use Rattle.study_marks.specs.Kept.{marked}
+use Rattle.study_marks.specs.BenchState.{marked}
 use Rattle.study_marks.proofs.PathRenewed.{no-spot}
 use Rattle.study_page.proofs.walk.add_own.Goals as goal
 

@@ -1,5 +1,5 @@
-use Rattle.study_script.specs.Desk.{DeskHolds}
-use Rattle.study_script.specs.Stored.{HonestOn}
+use Rattle.study_script.specs.Session.{SessionHolds}
+use Rattle.study_script.specs.Stores.{HonestOn}
 use Rattle.study_report.specs.Written.{none_trusted}
 use Rattle.study_report.specs.declared.kind.Kind.TheVariants.{Checked}
 use Rattle.study_report.specs.Told.{IsAddedAs}
@@ -9,8 +9,8 @@ use Rattle.study_report.proofs.adding.add_checked.Goals as goal
 pub returns-then-reply-clause-ok : goal.returns-then-reply-clause-ok
 returns-then-reply-clause-ok g c = λ p trust held at. replied-adds g.T.Report.tells g.T.Report.refusal
     (IsAddedAs g.T.Report.tells g.T.Report.refusal Checked p c.args.line.now)
-    (DeskHolds g.S.Pages.PageSource.honest g.S.Pages.PageSource.gives (HonestOn none_trusted g.S.TableStore.honest) g.S.TableStore.files
-    g.S.TableStore.headers g.S.TableStore.faults c.reply_to.new.desk.board c.reply_to.new.desk.tables c.reply_to.new.desk.store.now)
+    (SessionHolds g.S.Pages.PageSource.honest g.S.Pages.PageSource.gives (HonestOn none_trusted g.S.TableStore.honest) g.S.TableStore.files
+    g.S.TableStore.headers g.S.TableStore.faults c.reply_to.new.session.document c.reply_to.new.session.tables c.reply_to.new.session.store.now)
     p c.args.line.now c.args.number
     c.as_slice-bytes.result.now c.in_ok-reply.reply.refused c.add_refusal.result (g.W.Write.contents c.args.out.now) (g.W.Write.contents c.add_refusal.new.out)
     (checked-refused g.T.Report.tells g.T.Report.refusal p c.args.line.now) at c.if-reply.true
@@ -19,8 +19,8 @@ returns-then-reply-clause-ok g c = λ p trust held at. replied-adds g.T.Report.t
 pub returns-then-reply-clause-err : goal.returns-then-reply-clause-err
 returns-then-reply-clause-err g c = λ p trust held at. replied-stops g.T.Report.tells g.T.Report.refusal
     (IsAddedAs g.T.Report.tells g.T.Report.refusal Checked p c.args.line.now)
-    (DeskHolds g.S.Pages.PageSource.honest g.S.Pages.PageSource.gives (HonestOn none_trusted g.S.TableStore.honest) g.S.TableStore.files
-    g.S.TableStore.headers g.S.TableStore.faults c.reply_to.new.desk.board c.reply_to.new.desk.tables c.reply_to.new.desk.store.now)
+    (SessionHolds g.S.Pages.PageSource.honest g.S.Pages.PageSource.gives (HonestOn none_trusted g.S.TableStore.honest) g.S.TableStore.files
+    g.S.TableStore.headers g.S.TableStore.faults c.reply_to.new.session.document c.reply_to.new.session.tables c.reply_to.new.session.store.now)
     p c.args.line.now c.args.number
     c.as_slice-bytes.result.now c.in_ok-reply.reply.refused c.add_refusal.result (g.W.Write.contents c.args.out.now) (g.W.Write.contents c.add_refusal.new.out)
     (checked-refused g.T.Report.tells g.T.Report.refusal p c.args.line.now) at c.if-reply.true
@@ -28,8 +28,8 @@ returns-then-reply-clause-err g c = λ p trust held at. replied-stops g.T.Report
 
 pub returns-clause-ok : goal.returns-clause-ok
 returns-clause-ok g c = λ p trust held at. checked-nothing g.T.Report.tells g.T.Report.refusal
-    (DeskHolds g.S.Pages.PageSource.honest g.S.Pages.PageSource.gives (HonestOn none_trusted g.S.TableStore.honest) g.S.TableStore.files
-    g.S.TableStore.headers g.S.TableStore.faults c.reply_to.new.desk.board c.reply_to.new.desk.tables c.reply_to.new.desk.store.now)
+    (SessionHolds g.S.Pages.PageSource.honest g.S.Pages.PageSource.gives (HonestOn none_trusted g.S.TableStore.honest) g.S.TableStore.files
+    g.S.TableStore.headers g.S.TableStore.faults c.reply_to.new.session.document c.reply_to.new.session.tables c.reply_to.new.session.store.now)
     p c.args.line.now
     c.in_ok-reply.reply.text.taken.items c.in_ok-reply.reply.refused (g.W.Write.contents c.args.out.now) c.if-reply.false
     (c.in_ok-reply.ensures.ok p.state trust held)

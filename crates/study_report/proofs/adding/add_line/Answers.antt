@@ -1,16 +1,16 @@
 use Rattle.std.proofs.Common.{◌≡◌, ◌+◌, refl, sym, subst, ◌∙◌}
 use Rattle.std.specs.Prelude.{codes}
 use Rattle.std.proofs.KnownBytes.{Appends-nil}
-use Rattle.study_command.specs.Asking.{command_of}
+use Rattle.study_command.specs.Parser.{command_of}
 use Rattle.study_reply.specs.Names.{words_of}
 use Rattle.study_reply.specs.Words.{reply_line}
 use Rattle.study_reply.specs.declared.refusal.Refusal.TheVariants.{NotAClass}
 use Rattle.study_script.specs.Replies.{refused}
 use Rattle.study_report.specs.declared.kind.Kind.{Kind}
 use Rattle.study_report.specs.declared.kind.Kind.TheVariants.{PassedOver, NoClass, Study, Checked}
-use Rattle.study_script.specs.Held.{board_seen}
-use Rattle.study_script.specs.Desk.{DeskHolds}
-use Rattle.study_script.specs.Stored.{HonestOn}
+use Rattle.study_script.specs.Held.{document_seen}
+use Rattle.study_script.specs.Session.{SessionHolds}
+use Rattle.study_script.specs.Stores.{HonestOn}
 use Rattle.study_report.specs.Written.{none_trusted}
 use Rattle.study_report.specs.Told.{kind_in, IsAdded, IsAddedAs, nothing_added, refusal_added}
 use Rattle.study_report.proofs.LineKinds.{trusted-checked}
@@ -33,8 +33,8 @@ returns-in-NoClass-clause-ok g c = λ p held at.
     let kind : NoClass ≡ kind_in (command_of c.args.line.now) = sym c.in-NoClass.is ∙ c.kind_of.ensures in
     let reply = refused p.state NotAClass in
     refusal-adds g.T.Report.tells g.T.Report.refusal (IsAdded g.T.Report.tells g.T.Report.refusal p c.args.line.now)
-    (DeskHolds g.S.Pages.PageSource.honest g.S.Pages.PageSource.gives (HonestOn none_trusted g.S.TableStore.honest) g.S.TableStore.files
-    g.S.TableStore.headers g.S.TableStore.faults c.args.desk.now.board c.args.desk.now.tables c.args.desk.now.store.now)
+    (SessionHolds g.S.Pages.PageSource.honest g.S.Pages.PageSource.gives (HonestOn none_trusted g.S.TableStore.honest) g.S.TableStore.files
+    g.S.TableStore.headers g.S.TableStore.faults c.args.session.now.document c.args.session.now.tables c.args.session.now.store.now)
     p c.args.line.now reply c.args.at.line (reply_line (codes "error ") (words_of NotAClass))
     c.refuse_line.result (g.W.Write.contents c.args.out.now) (g.W.Write.contents c.refuse_line.new.out) at.0 refl
     (subst (λ (k : Kind). IsAddedAs g.T.Report.tells g.T.Report.refusal k p c.args.line.now
@@ -54,10 +54,10 @@ pub returns-in-Study-clause-ok : goal.returns-in-Study-clause-ok
 returns-in-Study-clause-ok g c = λ p held at.
     let kind : Study ≡ kind_in (command_of c.args.line.now) = sym c.in-Study.is ∙ c.kind_of.ensures in
     adds-weaker (IsAddedAs g.T.Report.tells g.T.Report.refusal Study p c.args.line.now) (IsAdded g.T.Report.tells g.T.Report.refusal p c.args.line.now)
-    (DeskHolds g.S.Pages.PageSource.honest g.S.Pages.PageSource.gives (HonestOn none_trusted g.S.TableStore.honest) g.S.TableStore.files
-    g.S.TableStore.headers g.S.TableStore.faults c.add_pgn.new.desk.board c.add_pgn.new.desk.tables c.add_pgn.new.desk.store.now)
-    (DeskHolds g.S.Pages.PageSource.honest g.S.Pages.PageSource.gives (HonestOn none_trusted g.S.TableStore.honest) g.S.TableStore.files
-    g.S.TableStore.headers g.S.TableStore.faults c.add_pgn.new.desk.board c.add_pgn.new.desk.tables c.add_pgn.new.desk.store.now)
+    (SessionHolds g.S.Pages.PageSource.honest g.S.Pages.PageSource.gives (HonestOn none_trusted g.S.TableStore.honest) g.S.TableStore.files
+    g.S.TableStore.headers g.S.TableStore.faults c.add_pgn.new.session.document c.add_pgn.new.session.tables c.add_pgn.new.session.store.now)
+    (SessionHolds g.S.Pages.PageSource.honest g.S.Pages.PageSource.gives (HonestOn none_trusted g.S.TableStore.honest) g.S.TableStore.files
+    g.S.TableStore.headers g.S.TableStore.faults c.add_pgn.new.session.document c.add_pgn.new.session.tables c.add_pgn.new.session.store.now)
     c.add_pgn.result (g.W.Write.contents c.args.out.now) (g.W.Write.contents c.add_pgn.new.out)
     (λ a. subst (λ (k : Kind). IsAddedAs g.T.Report.tells g.T.Report.refusal k p c.args.line.now a) kind) (λ s h. h)
     (c.add_pgn.ensures.ok p (sym kind) held at)
@@ -74,10 +74,10 @@ pub returns-in-Checked-clause-ok : goal.returns-in-Checked-clause-ok
 returns-in-Checked-clause-ok g c = λ p held at.
     let kind : Checked ≡ kind_in (command_of c.args.line.now) = sym c.in-Checked.is ∙ c.kind_of.ensures in
     adds-weaker (IsAddedAs g.T.Report.tells g.T.Report.refusal Checked p c.args.line.now) (IsAdded g.T.Report.tells g.T.Report.refusal p c.args.line.now)
-    (DeskHolds g.S.Pages.PageSource.honest g.S.Pages.PageSource.gives (HonestOn none_trusted g.S.TableStore.honest) g.S.TableStore.files
-    g.S.TableStore.headers g.S.TableStore.faults c.add_checked.new.desk.board c.add_checked.new.desk.tables c.add_checked.new.desk.store.now)
-    (DeskHolds g.S.Pages.PageSource.honest g.S.Pages.PageSource.gives (HonestOn none_trusted g.S.TableStore.honest) g.S.TableStore.files
-    g.S.TableStore.headers g.S.TableStore.faults c.add_checked.new.desk.board c.add_checked.new.desk.tables c.add_checked.new.desk.store.now)
+    (SessionHolds g.S.Pages.PageSource.honest g.S.Pages.PageSource.gives (HonestOn none_trusted g.S.TableStore.honest) g.S.TableStore.files
+    g.S.TableStore.headers g.S.TableStore.faults c.add_checked.new.session.document c.add_checked.new.session.tables c.add_checked.new.session.store.now)
+    (SessionHolds g.S.Pages.PageSource.honest g.S.Pages.PageSource.gives (HonestOn none_trusted g.S.TableStore.honest) g.S.TableStore.files
+    g.S.TableStore.headers g.S.TableStore.faults c.add_checked.new.session.document c.add_checked.new.session.tables c.add_checked.new.session.store.now)
     c.add_checked.result (g.W.Write.contents c.args.out.now) (g.W.Write.contents c.add_checked.new.out)
     (λ a. subst (λ (k : Kind). IsAddedAs g.T.Report.tells g.T.Report.refusal k p c.args.line.now a) kind) (λ s h. h)
     (c.add_checked.ensures.ok p (trusted-checked c.args.line.now (sym kind)) held at.0)
@@ -95,7 +95,7 @@ returns-in-PassedOver-clause-listed g c = λ p told held kept. nothing-listed (g
 
 pub returns-in-NoClass-clause-listed : goal.returns-in-NoClass-clause-listed
 returns-in-NoClass-clause-listed g c = λ p told held kept.
-    none-listed (g.T.Report.lists c.refuse_line.new.report) c.refuse_line.result told (board_seen c.args.desk.now.board) (c.args.at.studies + 1)
+    none-listed (g.T.Report.lists c.refuse_line.new.report) c.refuse_line.result told (document_seen c.args.session.now.document) (c.args.at.studies + 1)
     (refusal-none c.refuse_line.result _ (g.W.Write.contents _) (g.W.Write.contents c.refuse_line.new.out) c.refuse_line.ensures.ok)
     (c.refuse_line.ensures.listed told kept)
 
@@ -106,5 +106,6 @@ returns-in-Study-clause-listed g c = λ p told held kept.
 
 pub returns-in-Checked-clause-listed : goal.returns-in-Checked-clause-listed
 returns-in-Checked-clause-listed g c = λ p told held kept.
-    none-listed (g.T.Report.lists c.add_checked.new.report) c.add_checked.result told (board_seen c.add_checked.new.desk.board) (c.args.at.studies + 1)
+    none-listed (g.T.Report.lists c.add_checked.new.report) c.add_checked.result told (document_seen c.add_checked.new.session.document)
+    (c.args.at.studies + 1)
     c.add_checked.ensures.told_none (c.add_checked.ensures.listed told kept)

@@ -1,11 +1,11 @@
 use Rattle.std.proofs.Common.{◌≡◌, true, false, ◌+◌, ◌++◌, sym, ap, subst, ◌∙◌}
 use Rattle.std.specs.Prelude.{IfOk}
 use Rattle.study_material.specs.declared.class.Class.{Class}
-use Rattle.study_command.specs.Asking.{command_of}
-use Rattle.study_script.specs.State.{State, Board}
-use Rattle.study_script.specs.Desk.{DeskHolds}
-use Rattle.study_script.specs.Held.{Holds, board_seen}
-use Rattle.study_script.specs.Stored.{HonestOn, StoreSeen}
+use Rattle.study_command.specs.Parser.{command_of}
+use Rattle.study_script.specs.State.{State, Document}
+use Rattle.study_script.specs.Session.{SessionHolds}
+use Rattle.study_script.specs.Held.{Holds, document_seen}
+use Rattle.study_script.specs.Stores.{HonestOn, StoreSeen}
 use Rattle.study_report.specs.declared.kind.Kind.TheVariants.{PassedOver, Study}
 use Rattle.study_report.specs.Told.{kind_in, IsAddedAs, IsStudyTold, listed_in}
 use Rattle.study_report.specs.Written.{none_trusted}
@@ -16,8 +16,8 @@ use Rattle.study_report.proofs.adding.add_pgn.Goals as goal
 pub returns-then-reply-clause-ok : goal.returns-then-reply-clause-ok
 returns-then-reply-clause-ok g c = λ p kind held at. replied-adds g.T.Report.tells g.T.Report.refusal
     (IsAddedAs g.T.Report.tells g.T.Report.refusal Study p c.args.line.now)
-    (DeskHolds g.S.Pages.PageSource.honest g.S.Pages.PageSource.gives (HonestOn none_trusted g.S.TableStore.honest) g.S.TableStore.files
-    g.S.TableStore.headers g.S.TableStore.faults c.reply_to.new.desk.board c.reply_to.new.desk.tables c.reply_to.new.desk.store.now)
+    (SessionHolds g.S.Pages.PageSource.honest g.S.Pages.PageSource.gives (HonestOn none_trusted g.S.TableStore.honest) g.S.TableStore.files
+    g.S.TableStore.headers g.S.TableStore.faults c.reply_to.new.session.document c.reply_to.new.session.tables c.reply_to.new.session.store.now)
     p c.args.line.now c.args.at.line
     c.as_slice-bytes.result.now c.in_ok-reply.reply.refused c.add_refusal.result (g.W.Write.contents c.args.out.now) (g.W.Write.contents c.add_refusal.new.out)
     (pgn-refused g.T.Report.tells g.T.Report.refusal p c.args.line.now) at.0 c.if-reply.true
@@ -26,8 +26,8 @@ returns-then-reply-clause-ok g c = λ p kind held at. replied-adds g.T.Report.te
 pub returns-then-reply-clause-err : goal.returns-then-reply-clause-err
 returns-then-reply-clause-err g c = λ p kind held at. replied-stops g.T.Report.tells g.T.Report.refusal
     (IsAddedAs g.T.Report.tells g.T.Report.refusal Study p c.args.line.now)
-    (DeskHolds g.S.Pages.PageSource.honest g.S.Pages.PageSource.gives (HonestOn none_trusted g.S.TableStore.honest) g.S.TableStore.files
-    g.S.TableStore.headers g.S.TableStore.faults c.reply_to.new.desk.board c.reply_to.new.desk.tables c.reply_to.new.desk.store.now)
+    (SessionHolds g.S.Pages.PageSource.honest g.S.Pages.PageSource.gives (HonestOn none_trusted g.S.TableStore.honest) g.S.TableStore.files
+    g.S.TableStore.headers g.S.TableStore.faults c.reply_to.new.session.document c.reply_to.new.session.tables c.reply_to.new.session.store.now)
     p c.args.line.now c.args.at.line
     c.as_slice-bytes.result.now c.in_ok-reply.reply.refused c.add_refusal.result (g.W.Write.contents c.args.out.now) (g.W.Write.contents c.add_refusal.new.out)
     (pgn-refused g.T.Report.tells g.T.Report.refusal p c.args.line.now) at.0 c.if-reply.true
@@ -37,41 +37,41 @@ pub returns-clause-ok : goal.returns-clause-ok
 returns-clause-ok g c = λ p kind held at.
     let r = c.in_ok-reply.ensures.ok p.state (trusted-study c.args.line.now kind) held in
     let no : r.1.refused ≡ false = sym r.5 ∙ c.if-reply.false in
-    let found = pgn-finds p.state r.0 p.state.board r.1 (pgn-asked p.state r.0 r.1 (command_of c.args.line.now) kind r.2) no in
+    let found = pgn-finds p.state r.0 p.state.document r.1 (pgn-asked p.state r.0 r.1 (command_of c.args.line.now) kind r.2) no in
     adds-weaker (IsStudyTold g.T.Report.tells g.T.Report.refusal p r.1.state c.args.line.now)
     (IsAddedAs g.T.Report.tells g.T.Report.refusal Study p c.args.line.now)
     (λ t. (t ≡ r.1.state) × Holds g.S.Pages.PageSource.honest g.S.Pages.PageSource.gives
-    c.reply_to.new.desk.board c.tell_study.new.tables t)
-    (DeskHolds g.S.Pages.PageSource.honest g.S.Pages.PageSource.gives (HonestOn none_trusted g.S.TableStore.honest) g.S.TableStore.files
-    g.S.TableStore.headers g.S.TableStore.faults c.reply_to.new.desk.board c.tell_study.new.tables c.reply_to.new.desk.store.now)
+    c.reply_to.new.session.document c.tell_study.new.tables t)
+    (SessionHolds g.S.Pages.PageSource.honest g.S.Pages.PageSource.gives (HonestOn none_trusted g.S.TableStore.honest) g.S.TableStore.files
+    g.S.TableStore.headers g.S.TableStore.faults c.reply_to.new.session.document c.tell_study.new.tables c.reply_to.new.session.store.now)
     c.tell_study.result (g.W.Write.contents c.args.out.now) (g.W.Write.contents c.tell_study.new.out)
     (λ a h. pgn-told g.T.Report.tells g.T.Report.refusal p c.args.line.now r.0 r.1 a r.2 no h)
     (λ t (e, h). record {
       held = h;
       seen = subst (λ (x : State). StoreSeen (HonestOn none_trusted g.S.TableStore.honest) g.S.TableStore.files g.S.TableStore.headers
-          g.S.TableStore.faults c.reply_to.new.desk.store.now x) (sym e) r.4.seen;
+          g.S.TableStore.faults c.reply_to.new.session.store.now x) (sym e) r.4.seen;
     })
-    (c.tell_study.ensures.ok p r.1.state found.0.0 r.4.held (ap (λ (x : State). x.board) found.1 ∙ found.0.1) at)
+    (c.tell_study.ensures.ok p r.1.state found.0.0 r.4.held (ap (λ (x : State). x.document) found.1 ∙ found.0.1) at)
 
 pub returns-clause-err : goal.returns-clause-err
 returns-clause-err g c = λ p kind held at.
     let r = c.in_ok-reply.ensures.ok p.state (trusted-study c.args.line.now kind) held in
     let no : r.1.refused ≡ false = sym r.5 ∙ c.if-reply.false in
-    let found = pgn-finds p.state r.0 p.state.board r.1 (pgn-asked p.state r.0 r.1 (command_of c.args.line.now) kind r.2) no in
+    let found = pgn-finds p.state r.0 p.state.document r.1 (pgn-asked p.state r.0 r.1 (command_of c.args.line.now) kind r.2) no in
     stops-weaker (IsStudyTold g.T.Report.tells g.T.Report.refusal p r.1.state c.args.line.now)
     (IsAddedAs g.T.Report.tells g.T.Report.refusal Study p c.args.line.now)
     c.tell_study.result (g.W.Write.contents c.args.out.now) (g.W.Write.contents c.tell_study.new.out)
     (λ a h. pgn-told g.T.Report.tells g.T.Report.refusal p c.args.line.now r.0 r.1 a r.2 no h)
-    (c.tell_study.ensures.err p r.1.state found.0.0 r.4.held (ap (λ (x : State). x.board) found.1 ∙ found.0.1) at)
+    (c.tell_study.ensures.err p r.1.state found.0.0 r.4.held (ap (λ (x : State). x.document) found.1 ∙ found.0.1) at)
 
 pub returns-then-reply-clause-listed : goal.returns-then-reply-clause-listed
 returns-then-reply-clause-listed g c = λ p told kind held kept.
-    none-listed (g.T.Report.lists c.add_refusal.new.report) c.add_refusal.result told (board_seen c.reply_to.new.desk.board) (c.args.at.studies + 1)
+    none-listed (g.T.Report.lists c.add_refusal.new.report) c.add_refusal.result told (document_seen c.reply_to.new.session.document) (c.args.at.studies + 1)
     (refusal-none c.add_refusal.result _ (g.W.Write.contents _) (g.W.Write.contents c.add_refusal.new.out) c.add_refusal.ensures.ok)
     (c.add_refusal.ensures.listed told kept)
 
 pub returns-clause-listed : goal.returns-clause-listed
 returns-clause-listed g c = λ p told kind held kept.
     let r = c.in_ok-reply.ensures.ok p.state (trusted-study c.args.line.now kind) held in
-    subst (λ (b : Board). IfOk c.tell_study.result (λ t. g.T.Report.lists c.tell_study.new.report (told ++ listed_in t b (c.args.at.studies + 1))))
-    (sym r.4.held.board) (c.tell_study.ensures.listed r.1.state told r.4.held kept)
+    subst (λ (b : Document). IfOk c.tell_study.result (λ t. g.T.Report.lists c.tell_study.new.report (told ++ listed_in t b (c.args.at.studies + 1))))
+    (sym r.4.held.document) (c.tell_study.ensures.listed r.1.state told r.4.held kept)

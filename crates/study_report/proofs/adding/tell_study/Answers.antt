@@ -12,7 +12,7 @@ use Rattle.study_report.proofs.adding.tell_study.Goals as goal
 
 pub returns-in-Ok-clause-ok : goal.returns-in-Ok-clause-ok
 returns-in-Ok-clause-ok g c = λ p s plain held b at. section-adds g.T.Report.tells g.T.Report.refusal
-    (λ t. (t ≡ s) × Holds g.P.PageSource.honest g.P.PageSource.gives c.args.board.now c.add_section.new.tables t)
+    (λ t. (t ≡ s) × Holds g.P.PageSource.honest g.P.PageSource.gives c.args.document.now c.add_section.new.tables t)
     p s c.args.line.now
     (c.args.at.studies + 1) c.args.at.studies plain (g.W.Write.contents c.args.out.now) (g.W.Write.contents c.add_section.new.out) b (omega arith) at.1
     (refl, c.add_section.ensures.holds s held) (c.in-Ok.ensures.told s held)
@@ -26,7 +26,7 @@ pub returns-in-Err-OutOfMemory-clause-ok : goal.returns-in-Err-OutOfMemory-claus
 returns-in-Err-OutOfMemory-clause-ok g c = λ p s plain held b at.
     let bytes = reply_line (codes "error ") (words_of OutOfMemory) in
     refusal-adds g.T.Report.tells g.T.Report.refusal (IsStudyTold g.T.Report.tells g.T.Report.refusal p s c.args.line.now)
-    (λ t. (t ≡ s) × Holds g.P.PageSource.honest g.P.PageSource.gives c.args.board.now c.add_section.new.tables t)
+    (λ t. (t ≡ s) × Holds g.P.PageSource.honest g.P.PageSource.gives c.args.document.now c.add_section.new.tables t)
     p c.args.line.now (refused s OutOfMemory) c.args.at.line bytes c.refuse_line.result
     (g.W.Write.contents c.args.out.now) (g.W.Write.contents c.refuse_line.new.out) at.0 refl
     (left-out g.T.Report.tells g.T.Report.refusal p s c.args.line.now OutOfMemory (inl refl)) (refl, c.add_section.ensures.holds s held)
@@ -48,7 +48,7 @@ returns-in-Err-Values-clause-ok g c = λ p s plain held b at.
     let why = c.of_probe.result in
     let bytes = reply_line (codes "error ") (words_of why) in
     refusal-adds g.T.Report.tells g.T.Report.refusal (IsStudyTold g.T.Report.tells g.T.Report.refusal p s c.args.line.now)
-    (λ t. (t ≡ s) × Holds g.P.PageSource.honest g.P.PageSource.gives c.args.board.now c.add_section.new.tables t)
+    (λ t. (t ≡ s) × Holds g.P.PageSource.honest g.P.PageSource.gives c.args.document.now c.add_section.new.tables t)
     p c.args.line.now (refused s why) c.args.at.line bytes c.refuse_line-in-Err-Values.result
     (g.W.Write.contents c.args.out.now) (g.W.Write.contents c.refuse_line-in-Err-Values.new.out) at.0 refl
     (left-out g.T.Report.tells g.T.Report.refusal p s c.args.line.now why
@@ -73,13 +73,13 @@ returns-in-Err-Values-clause-err g c = λ p s plain held b at.
 
 pub returns-in-Err-OutOfMemory-clause-listed : goal.returns-in-Err-OutOfMemory-clause-listed
 returns-in-Err-OutOfMemory-clause-listed g c s told held kept =
-    none-listed (g.T.Report.lists c.refuse_line.new.report) c.refuse_line.result told s.board (c.args.at.studies + 1)
+    none-listed (g.T.Report.lists c.refuse_line.new.report) c.refuse_line.result told s.document (c.args.at.studies + 1)
     (refusal-none c.refuse_line.result _ (g.W.Write.contents _) (g.W.Write.contents c.refuse_line.new.out) c.refuse_line.ensures.ok)
     (c.refuse_line.ensures.listed told (c.in-Err-OutOfMemory.ensures.unlisted told kept))
 
 pub returns-in-Err-Values-clause-listed : goal.returns-in-Err-Values-clause-listed
 returns-in-Err-Values-clause-listed g c s told held kept =
-    none-listed (g.T.Report.lists c.refuse_line-in-Err-Values.new.report) c.refuse_line-in-Err-Values.result told s.board (c.args.at.studies + 1)
+    none-listed (g.T.Report.lists c.refuse_line-in-Err-Values.new.report) c.refuse_line-in-Err-Values.result told s.document (c.args.at.studies + 1)
     (refusal-none c.refuse_line-in-Err-Values.result _ (g.W.Write.contents _) (g.W.Write.contents c.refuse_line-in-Err-Values.new.out)
     c.refuse_line-in-Err-Values.ensures.ok)
     (c.refuse_line-in-Err-Values.ensures.listed told (c.in-Err-Values.ensures.unlisted told kept))

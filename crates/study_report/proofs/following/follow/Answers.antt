@@ -5,9 +5,9 @@ use Rattle.study_command.specs.Lines.{GaveFeeds}
 use Rattle.study_command.proofs.LineTaken.{has_more, has_none, gave-more, gave-same}
 use Rattle.study_script.proofs.FirstLines.{Gone, gone_none, gone_ends, gone_long, gone_many, gone_more, gone_read}
 use Rattle.study_marks.specs.Edits.{Plainly}
-use Rattle.study_script.specs.Held.{board_seen}
-use Rattle.study_script.specs.Desk.{DeskHolds}
-use Rattle.study_script.specs.Stored.{HonestOn}
+use Rattle.study_script.specs.Held.{document_seen}
+use Rattle.study_script.specs.Session.{SessionHolds}
+use Rattle.study_script.specs.Stores.{HonestOn}
 use Rattle.study_report.specs.Outcome.{begun}
 use Rattle.study_report.specs.Told.{IsAdded, listed_in}
 use Rattle.study_report.specs.Written.{none_trusted, Adds, Stops}
@@ -36,8 +36,8 @@ returns-in-Ok-false-clause-after g c = λ first h.
     let on = c.loop-n.invariant.0 first h in
     let none = rw c.in-Ok-false.field-0-test at c.in-Ok-false.ensures.line in
     told_after g.T.Report.tells g.T.Report.refusal
-    (DeskHolds g.S.Pages.PageSource.honest g.S.Pages.PageSource.gives (HonestOn none_trusted g.S.TableStore.honest) g.S.TableStore.files
-    g.S.TableStore.headers g.S.TableStore.faults c.loop-n.desk.board c.loop-n.desk.tables c.loop-n.desk.store.now)
+    (SessionHolds g.S.Pages.PageSource.honest g.S.Pages.PageSource.gives (HonestOn none_trusted g.S.TableStore.honest) g.S.TableStore.files
+    g.S.TableStore.headers g.S.TableStore.faults c.loop-n.session.document c.loop-n.session.tables c.loop-n.session.store.now)
     (g.R.Read.remaining c.args.script.now) (g.R.Read.remaining c.loop-n.script) (g.R.Read.remaining c.read.new.script)
     (g.W.Write.contents c.args.out.now) (g.W.Write.contents c.loop-n.out) first on.point c.read.new.self
     c.loop-n.n c.loop-n.refused on.told none on.held
@@ -48,8 +48,8 @@ returns-in-Ok-None-clause-after g c = λ first h.
     let end = rw c.in-Ok-None.field-0-is at c.in-Ok-None.ensures.end in
     let now = g.R.Read.remaining c.loop-n.script in
     told_after g.T.Report.tells g.T.Report.refusal
-    (DeskHolds g.S.Pages.PageSource.honest g.S.Pages.PageSource.gives (HonestOn none_trusted g.S.TableStore.honest) g.S.TableStore.files
-    g.S.TableStore.headers g.S.TableStore.faults c.loop-n.desk.board c.loop-n.desk.tables c.loop-n.desk.store.now)
+    (SessionHolds g.S.Pages.PageSource.honest g.S.Pages.PageSource.gives (HonestOn none_trusted g.S.TableStore.honest) g.S.TableStore.files
+    g.S.TableStore.headers g.S.TableStore.faults c.loop-n.session.document c.loop-n.session.tables c.loop-n.session.store.now)
     (g.R.Read.remaining c.args.script.now) now (g.R.Read.remaining c.read_byte.new.script)
     (g.W.Write.contents c.args.out.now) (g.W.Write.contents c.loop-n.out) first on.point [] c.loop-n.n c.loop-n.refused on.told
     (has_none now (g.R.Read.remaining c.read_byte.new.script) end.0 end.1) on.held
@@ -223,24 +223,25 @@ loop-n-preserved g c =
       λ first h.
           let on = c.loop-n.invariant.0 first h in
           let said : Adds (IsAdded g.T.Report.tells g.T.Report.refusal on.point line)
-          (DeskHolds g.S.Pages.PageSource.honest g.S.Pages.PageSource.gives (HonestOn none_trusted g.S.TableStore.honest) g.S.TableStore.files
-          g.S.TableStore.headers g.S.TableStore.faults c.add_line.new.desk.board c.add_line.new.desk.tables c.add_line.new.desk.store.now) mid new told =
+          (SessionHolds g.S.Pages.PageSource.honest g.S.Pages.PageSource.gives (HonestOn none_trusted g.S.TableStore.honest) g.S.TableStore.files
+          g.S.TableStore.headers g.S.TableStore.faults c.add_line.new.session.document c.add_line.new.session.tables c.add_line.new.session.store.now)
+          mid new told =
           rw c.as_slice.ensures at (c.in-Ok.ensures.ok on.point on.held (omega (arith, on.lines_are), on.studies_are)) in
           ToldOn-more g.T.Report.tells g.T.Report.refusal
-          (DeskHolds g.S.Pages.PageSource.honest g.S.Pages.PageSource.gives (HonestOn none_trusted g.S.TableStore.honest) g.S.TableStore.files
-          g.S.TableStore.headers g.S.TableStore.faults c.loop-n.desk.board c.loop-n.desk.tables c.loop-n.desk.store.now)
-          (DeskHolds g.S.Pages.PageSource.honest g.S.Pages.PageSource.gives (HonestOn none_trusted g.S.TableStore.honest) g.S.TableStore.files
-          g.S.TableStore.headers g.S.TableStore.faults c.add_line.new.desk.board c.add_line.new.desk.tables c.add_line.new.desk.store.now)
+          (SessionHolds g.S.Pages.PageSource.honest g.S.Pages.PageSource.gives (HonestOn none_trusted g.S.TableStore.honest) g.S.TableStore.files
+          g.S.TableStore.headers g.S.TableStore.faults c.loop-n.session.document c.loop-n.session.tables c.loop-n.session.store.now)
+          (SessionHolds g.S.Pages.PageSource.honest g.S.Pages.PageSource.gives (HonestOn none_trusted g.S.TableStore.honest) g.S.TableStore.files
+          g.S.TableStore.headers g.S.TableStore.faults c.add_line.new.session.document c.add_line.new.session.tables c.add_line.new.session.store.now)
           (λ more. (told : List (Plainly × ℕ)) → g.T.Report.lists c.args.report.now told → g.T.Report.lists c.loop-n.report (told ++ more))
           (λ more. (told : List (Plainly × ℕ)) → g.T.Report.lists c.args.report.now told → g.T.Report.lists c.add_line.new.report (told ++ more))
-          (board_seen c.add_line.new.desk.board)
+          (document_seen c.add_line.new.session.document)
           (g.R.Read.remaining c.args.script.now) (g.R.Read.remaining c.loop-n.script) (g.R.Read.remaining c.read.new.script)
           (g.W.Write.contents c.args.out.now) mid new first line c.loop-n.n c.loop-n.refused _ c.loop-n.studies _ told on some
           c.in-Ok-true.ensures.short said (ap (λ i. c.loop-n.refused + i) counted) (ap (λ i. c.loop-n.studies + i) numbered)
-          (λ s after. after.held.board)
+          (λ s after. after.held.document)
           (λ more kept before have.
           subst (λ (l : List (Plainly × ℕ)). g.T.Report.lists c.add_line.new.report l)
-          (append_assoc before more (listed_in told (board_seen c.add_line.new.desk.board) (c.loop-n.studies + 1)))
+          (append_assoc before more (listed_in told (document_seen c.add_line.new.session.document) (c.loop-n.studies + 1)))
           (c.in-Ok.ensures.listed on.point (before ++ more) on.held (kept before have))),
       omega (arith, counted, some-more),
       omega (arith, numbered, one-more),

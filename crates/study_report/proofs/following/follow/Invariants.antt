@@ -2,8 +2,8 @@ use Rattle.std.proofs.Common.{◌≤◌, ℕ, List, ◌++◌}
 use Rattle.study_command.specs.Lines.{GaveFeeds}
 use Rattle.study_marks.specs.Edits.{Plainly}
 use Rattle.study_script.specs.State.{State}
-use Rattle.study_script.specs.Desk.{DeskHolds}
-use Rattle.study_script.specs.Stored.{HonestOn}
+use Rattle.study_script.specs.Session.{SessionHolds}
+use Rattle.study_script.specs.Stores.{HonestOn}
 use Rattle.study_script.proofs.FirstLines.{Gone}
 use Rattle.study_report.specs.Written.{none_trusted}
 use Rattle.study_report.proofs.FirstAdded.{ToldOn}
@@ -11,13 +11,13 @@ use Rattle.study_report.proofs.following.follow.Given as goal
 
 abbrev pub invariant-loop-n : goal.invariant-loop-n
 invariant-loop-n g l =
-    ((first : State) → DeskHolds g.S.Pages.PageSource.honest g.S.Pages.PageSource.gives (HonestOn none_trusted g.S.TableStore.honest) g.S.TableStore.files
+    ((first : State) → SessionHolds g.S.Pages.PageSource.honest g.S.Pages.PageSource.gives (HonestOn none_trusted g.S.TableStore.honest) g.S.TableStore.files
     g.S.TableStore.headers g.S.TableStore.faults
-    l.fn.desk.board l.fn.desk.tables l.fn.desk.store.now first
+    l.fn.session.document l.fn.session.tables l.fn.session.store.now first
     → ToldOn g.T.Report.tells g.T.Report.refusal
-    (DeskHolds g.S.Pages.PageSource.honest g.S.Pages.PageSource.gives (HonestOn none_trusted g.S.TableStore.honest) g.S.TableStore.files
+    (SessionHolds g.S.Pages.PageSource.honest g.S.Pages.PageSource.gives (HonestOn none_trusted g.S.TableStore.honest) g.S.TableStore.files
     g.S.TableStore.headers g.S.TableStore.faults
-    l.desk.board l.desk.tables l.desk.store.now)
+    l.session.document l.session.tables l.session.store.now)
     (λ more. (told : List (Plainly × ℕ)) → g.T.Report.lists l.fn.report told → g.T.Report.lists l.report (told ++ more))
     (g.R.Read.remaining l.fn.script) (g.R.Read.remaining l.script)
     (g.W.Write.contents l.fn.out) (g.W.Write.contents l.out) first l.n l.refused l.studies)

@@ -7,7 +7,7 @@ pub returns-clause-outcome : goal.returns-clause-outcome
 returns-clause-outcome g c = λ classes right held. c.follow_over.ensures.outcome (over_tables classes (are_paged c.args.tables)) (record {
   held =
       record {
-        board = refl;
+        document = refl;
         marks = tt;
         values = right;
         classes = held;
@@ -24,7 +24,7 @@ pub returns-clause-listed : goal.returns-clause-listed
 returns-clause-listed g c = λ classes told right held kept. c.follow_over.ensures.listed (over_tables classes (are_paged c.args.tables)) told (record {
   held =
       record {
-        board = refl;
+        document = refl;
         marks = tt;
         values = right;
         classes = held;

@@ -1,10 +1,10 @@
 use Rattle.std.proofs.Common.{◌≡◌, ℕ, true, List, ◌++◌, OnOk, refl, sym, ap, subst, ◌∙◌}
 use Rattle.std.proofs.lemmas.List.{append-nil}
 use Rattle.study_marks.specs.Edits.{Plainly}
-use Rattle.study_marks.specs.Kept.{marked}
+use Rattle.study_marks.specs.BenchState.{marked}
 use Rattle.study_marks.specs.Study.{plain_study}
-use Rattle.study_script.specs.Held.{board_seen, IsMarked, tables_held, are_paged, tables_may_fail}
-use Rattle.study_script.specs.State.{Board, empty, start, study, is_among}
+use Rattle.study_script.specs.Held.{document_seen, IsMarked, tables_held, are_paged, tables_may_fail}
+use Rattle.study_script.specs.State.{Document, empty, start, study, is_among}
 use Rattle.study_report.specs.Told.{studies_on}
 use Rattle.study_report.specs.Written.{IsSection, IsSectionPart}
 use Rattle.study_report.proofs.Reviewed.{untold-same}
@@ -12,23 +12,23 @@ use Rattle.study_report.proofs.section.add_section.Goals as goal
 
 pub returns-in-Study-clause-told : goal.returns-in-Study-clause-told
 returns-in-Study-clause-told g c s h =
-    let seen : study (plain_study (marked c.in-Study.bench)) ≡ s.board = sym (ap board_seen c.in-Study.is) ∙ h.board in
+    let seen : study (plain_study (marked c.in-Study.bench)) ≡ s.document = sym (ap document_seen c.in-Study.is) ∙ h.document in
     let right = subst (λ b. IsMarked b) c.in-Study.is h.marks in
-    subst (λ (b : Board). OnOk c.add_study.result (IsSection g.T.Report.tells b c.args.number (g.W.Write.contents c.args.out.now)
+    subst (λ (b : Document). OnOk c.add_study.result (IsSection g.T.Report.tells b c.args.number (g.W.Write.contents c.args.out.now)
     (g.W.Write.contents c.add_study.new.out))) seen (c.add_study.ensures.told h.values right)
 
 pub returns-in-Study-clause-device : goal.returns-in-Study-clause-device
 returns-in-Study-clause-device g c s h e =
-    let seen : study (plain_study (marked c.in-Study.bench)) ≡ s.board = sym (ap board_seen c.in-Study.is) ∙ h.board in
+    let seen : study (plain_study (marked c.in-Study.bench)) ≡ s.document = sym (ap document_seen c.in-Study.is) ∙ h.document in
     let right = subst (λ b. IsMarked b) c.in-Study.is h.marks in
-    subst (λ (b : Board). IsSectionPart g.T.Report.tells b c.args.number (g.W.Write.contents c.args.out.now)
+    subst (λ (b : Document). IsSectionPart g.T.Report.tells b c.args.number (g.W.Write.contents c.args.out.now)
     (g.W.Write.contents c.add_study.new.out)) seen (c.add_study.ensures.device h.values right e)
 
 pub returns-in-Study-clause-listed : goal.returns-in-Study-clause-listed
 returns-in-Study-clause-listed g c s told h kept =
-    let seen : study (plain_study (marked c.in-Study.bench)) ≡ s.board = sym (ap board_seen c.in-Study.is) ∙ h.board in
+    let seen : study (plain_study (marked c.in-Study.bench)) ≡ s.document = sym (ap document_seen c.in-Study.is) ∙ h.document in
     let right = subst (λ b. IsMarked b) c.in-Study.is h.marks in
-    subst (λ (b : Board). OnOk c.add_study.result (g.T.Report.lists c.add_study.new.report (told ++ studies_on b c.args.number))) seen
+    subst (λ (b : Document). OnOk c.add_study.result (g.T.Report.lists c.add_study.new.report (told ++ studies_on b c.args.number))) seen
     (c.add_study.ensures.listed told h.values right kept)
 
 pub returns-in-Study-clause-why : goal.returns-in-Study-clause-why
@@ -39,7 +39,7 @@ returns-in-Study-clause-why g c s fault h e =
 
 pub returns-in-Study-clause-holds : goal.returns-in-Study-clause-holds
 returns-in-Study-clause-holds g c s h = record {
-  board = h.board;
+  document = h.document;
   marks = h.marks;
   values = c.add_study.ensures.honest h.values;
   classes = λ d. c.add_study.ensures.tables d ∙ h.classes d;
@@ -49,24 +49,24 @@ returns-in-Study-clause-holds g c s h = record {
 
 pub returns-in-Empty-clause-told : goal.returns-in-Empty-clause-told
 returns-in-Empty-clause-told g c s h =
-    let seen : empty ≡ s.board = sym (ap board_seen c.in-Empty.is) ∙ h.board in
+    let seen : empty ≡ s.document = sym (ap document_seen c.in-Empty.is) ∙ h.document in
     let out = g.W.Write.contents c.args.out.now in
-    subst (λ (b : Board). IsSection g.T.Report.tells b c.args.number out out) seen refl
+    subst (λ (b : Document). IsSection g.T.Report.tells b c.args.number out out) seen refl
 
 pub returns-in-Start-clause-told : goal.returns-in-Start-clause-told
 returns-in-Start-clause-told g c s h =
-    let seen : start c.in-Start.field-0 ≡ s.board = sym (ap board_seen c.in-Start.is) ∙ h.board in
+    let seen : start c.in-Start.field-0 ≡ s.document = sym (ap document_seen c.in-Start.is) ∙ h.document in
     let out = g.W.Write.contents c.args.out.now in
-    subst (λ (b : Board). IsSection g.T.Report.tells b c.args.number out out) seen refl
+    subst (λ (b : Document). IsSection g.T.Report.tells b c.args.number out out) seen refl
 
 pub returns-in-Empty-clause-listed : goal.returns-in-Empty-clause-listed
 returns-in-Empty-clause-listed g c s told h kept =
-    let seen : empty ≡ s.board = sym (ap board_seen c.in-Empty.is) ∙ h.board in
-    subst (λ (b : Board). g.T.Report.lists c.args.report.now (told ++ studies_on b c.args.number)) seen
+    let seen : empty ≡ s.document = sym (ap document_seen c.in-Empty.is) ∙ h.document in
+    subst (λ (b : Document). g.T.Report.lists c.args.report.now (told ++ studies_on b c.args.number)) seen
     (subst (λ (l : List (Plainly × ℕ)). g.T.Report.lists c.args.report.now l) (sym (append-nil told)) kept)
 
 pub returns-in-Start-clause-listed : goal.returns-in-Start-clause-listed
 returns-in-Start-clause-listed g c s told h kept =
-    let seen : start c.in-Start.field-0 ≡ s.board = sym (ap board_seen c.in-Start.is) ∙ h.board in
-    subst (λ (b : Board). g.T.Report.lists c.args.report.now (told ++ studies_on b c.args.number)) seen
+    let seen : start c.in-Start.field-0 ≡ s.document = sym (ap document_seen c.in-Start.is) ∙ h.document in
+    subst (λ (b : Document). g.T.Report.lists c.args.report.now (told ++ studies_on b c.args.number)) seen
     (subst (λ (l : List (Plainly × ℕ)). g.T.Report.lists c.args.report.now l) (sym (append-nil told)) kept)

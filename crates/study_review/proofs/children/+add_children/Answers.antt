@@ -1,6 +1,6 @@
 use Rattle.std.proofs.Common.{◌≡◌, ◌+◌, sym, ◌∙◌, arith, suc, Some, None}
-use Rattle.study_marks.specs.Kept.{marked}
-use Rattle.study_marks.specs.Renewal.{below_at}
+use Rattle.study_marks.specs.BenchState.{marked}
+use Rattle.study_marks.specs.FaultSums.{below_at}
 use Rattle.study_marks.proofs.ChildFound.{here}
 use Rattle.study_review.proofs.ChildMoves.{no-children, one-child}
 use Rattle.study_review.proofs.children.+add_children.Goals as goal

@@ -1,5 +1,5 @@
 use Rattle.std.proofs.Common.{sym}
-use Rattle.study_marks.specs.Kept.{marked}
+use Rattle.study_marks.specs.BenchState.{marked}
 use Rattle.study_marks.specs.Bench.{node_seen}
 use Rattle.study_marks.proofs.PathRenewed.{there-spot}
 use Rattle.study_marks.proofs.ChildFound.{spot-children}

@@ -1,6 +1,6 @@
 use Rattle.std.proofs.Common.{sym, ◌∙◌, arith, ap, ◌∷◌, [], ◌++◌}
 use Rattle.study_board.specs.Position.{Position}
-use Rattle.study_marks.specs.Kept.{marked}
+use Rattle.study_marks.specs.BenchState.{marked}
 use Rattle.study_marks.proofs.MovesToNode.{some-move, front-found, legal-last, position-last}
 use Rattle.study_review.proofs.Lines.{line-last}
 use Rattle.study_review.proofs.line.+walk_to.Goals as goal

@@ -1,5 +1,5 @@
 use Rattle.std.proofs.Common.{sym, ◌∙◌}
-use Rattle.study_marks.specs.Kept.{marked}
+use Rattle.study_marks.specs.BenchState.{marked}
 use Rattle.study_marks.proofs.MovesToNode.{legal-last}
 use Rattle.study_review.proofs.Lines.{no-front}
 use Rattle.study_review.proofs.line.made_in.Goals as goal

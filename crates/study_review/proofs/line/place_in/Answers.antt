@@ -1,5 +1,5 @@
 use Rattle.std.proofs.Common.{sym}
-use Rattle.study_marks.specs.Kept.{marked}
+use Rattle.study_marks.specs.BenchState.{marked}
 use Rattle.study_marks.proofs.PathRenewed.{there-spot}
 use Rattle.study_tree.proofs.TreeDepth.{within-length}
 use Rattle.study_review.proofs.line.place_in.Goals as goal

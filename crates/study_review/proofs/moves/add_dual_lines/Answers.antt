@@ -1,5 +1,5 @@
 use Rattle.std.proofs.Common.{true, length, List, sym, ap, subst, arith}
-use Rattle.study_marks.specs.Kept.{marked}
+use Rattle.study_marks.specs.BenchState.{marked}
 use Rattle.study_moves.specs.LegalList.{legal_list}
 use Rattle.study_review.specs.declared.continuation.Continuation.{Continuation}
 use Rattle.study_review.specs.Continuations.{AreChosen}

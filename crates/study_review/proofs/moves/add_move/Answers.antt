@@ -1,5 +1,5 @@
 use Rattle.std.proofs.Common.{Some, None, sym, ap, ◌∙◌}
-use Rattle.study_marks.specs.Kept.{marked}
+use Rattle.study_marks.specs.BenchState.{marked}
 use Rattle.study_marks.specs.declared.mark.MoveMark.TheVariants as variant
 use Rattle.study_review.proofs.NodesTold.{no-fault}
 use Rattle.study_review.proofs.moves.add_move.Goals as goal

@@ -1,8 +1,8 @@
 use Rattle.std.proofs.Common.{◌≡◌, None, sym, ◌∙◌}
 use Rattle.std.proofs.lemmas.Result.{on_ok_weaker}
 use Rattle.study_tree.specs.Tree.{spot_at}
-use Rattle.study_marks.specs.Kept.{marked}
-use Rattle.study_marks.specs.Renewal.{below_at}
+use Rattle.study_marks.specs.BenchState.{marked}
+use Rattle.study_marks.specs.FaultSums.{below_at}
 use Rattle.study_marks.proofs.PathRenewed.{no-spot}
 use Rattle.study_review.specs.Line.{moves_of}
 use Rattle.study_review.proofs.NodesTold.{missing-told, defended-here}

@@ -1,5 +1,5 @@
 use Rattle.std.proofs.Common.{length, sym, ap, arith, ◌∙◌}
-use Rattle.study_marks.specs.Kept.{marked}
+use Rattle.study_marks.specs.BenchState.{marked}
 use Rattle.study_review.proofs.Asking.{asks-then}
 use Rattle.study_review.proofs.NodesShown.{not-zero}
 use Rattle.study_review.proofs.NodesTold.{own-none}

@@ -1,6 +1,6 @@
 use Rattle.std.proofs.Common.{◌==◌, ◌&&◌, ◌||◌, not, length, refl, ap, ◌∙◌}
-use Rattle.study_marks.specs.Kept.{marked}
-use Rattle.study_marks.specs.declared.marking.Aim.{Aim}
+use Rattle.study_marks.specs.BenchState.{marked}
+use Rattle.study_marks.specs.declared.mark_rules.Aim.{Aim}
 use Rattle.study_marks.specs.Goals.{hero_moves}
 use Rattle.study_review.proofs.Stands.{arrival-legal, stand-after}
 use Rattle.study_review.proofs.stand.stand_after.Goals as goal

@@ -2,8 +2,8 @@ use Rattle.std.proofs.Common.{◌≡◌, ◌≤◌, ◌<◌, ℕ, List, [], ◌�
 use Rattle.std.specs.Prelude.{vec_len}
 use Rattle.study_board.specs.Position.{Position}
 use Rattle.study_tree.specs.Edits.{width}
-use Rattle.study_marks.specs.Kept.{marked}
-use Rattle.study_marks.specs.Renewal.{below_at}
+use Rattle.study_marks.specs.BenchState.{marked}
+use Rattle.study_marks.specs.FaultSums.{below_at}
 use Rattle.study_review.specs.Nodes.{NodeLines, FaultLines}
 use Rattle.study_review.specs.Review.{paths_from}
 use Rattle.study_review.proofs.Asking.{all-then, asks-then, same-asks}

@@ -1,7 +1,7 @@
 use Rattle.std.proofs.Common.{◌≡◌}
 use Rattle.study_tree.specs.Forest.{nodes_in}
-use Rattle.study_marks.specs.Kept.{marked}
-use Rattle.study_marks.specs.Renewal.{below_at}
+use Rattle.study_marks.specs.BenchState.{marked}
+use Rattle.study_marks.specs.FaultSums.{below_at}
 use Rattle.study_review.specs.Asked.{AllTold}
 use Rattle.study_review.specs.Nodes.{NodeLines, FaultLines}
 use Rattle.study_review.proofs.WrittenOrder.{GoesOn}

@@ -1,5 +1,5 @@
 use Rattle.std.proofs.Common.{◌≡◌, ◌+◌, ◌-◌, ◌&&◌, ◌||◌, length, arith, ap, ◌∙◌}
-use Rattle.study_marks.specs.Kept.{marked}
+use Rattle.study_marks.specs.BenchState.{marked}
 use Rattle.study_review.proofs.Asking.{asks-then}
 use Rattle.study_review.specs.Nodes.{is_mistake, is_idle}
 use Rattle.study_review.proofs.Stands.{arrival-played, arrival-mark, arrival-children, arrival-there, legal-before, node-before, solution-move, tried-move}

@@ -1,5 +1,5 @@
 use Rattle.std.proofs.lemmas.Result.{on_ok_weaker}
-use Rattle.study_marks.specs.Kept.{marked}
+use Rattle.study_marks.specs.BenchState.{marked}
 use Rattle.study_review.proofs.WholeReview.{root-told}
 use Rattle.study_review.proofs.walk.add_root.Goals as goal
 

@@ -1,5 +1,5 @@
 use Rattle.std.proofs.Common.{sym}
-use Rattle.study_marks.specs.Kept.{marked}
+use Rattle.study_marks.specs.BenchState.{marked}
 use Rattle.study_marks.specs.Bench.{node_seen}
 use Rattle.study_pgn.proofs.PathWalks.{width_none, width_some}
 use Rattle.study_review.proofs.walk.count_at.Goals as goal

@@ -1,6 +1,6 @@
 use Rattle.std.proofs.Common.{ℕ, List, [], ◌∷◌, ◌++◌, sym, ap, subst, arith, ◌∙◌}
 use Rattle.study_board.specs.Position.{Position}
-use Rattle.study_marks.specs.Kept.{marked}
+use Rattle.study_marks.specs.BenchState.{marked}
 use Rattle.study_review.specs.Line.{line_to}
 use Rattle.study_review.specs.Made.{Grew}
 use Rattle.study_review.specs.Nodes.{NodeLines}

@@ -1,5 +1,5 @@
 use Rattle.std.proofs.Common.{◌≡◌, ℕ, List, ◌++◌}
-use Rattle.study_marks.specs.Kept.{marked}
+use Rattle.study_marks.specs.BenchState.{marked}
 use Rattle.study_review.specs.Review.{IsReview}
 use Rattle.study_review.proofs.BackSteps.{if-ok}
 use Rattle.study_review.proofs.WholeReview.{whole}

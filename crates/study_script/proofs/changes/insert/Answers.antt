@@ -1,32 +1,32 @@
 use Rattle.std.proofs.Common.{refl, subst}
 use Rattle.study_marks.specs.Study.{plain_study}
-use Rattle.study_marks.specs.Kept.{marked}
+use Rattle.study_marks.specs.BenchState.{marked}
 use Rattle.study_command.specs.Paths.{steps_of}
-use Rattle.study_script.specs.declared.board.Board.TheVariants as held
+use Rattle.study_script.specs.declared.document.Document.TheVariants as held
 use Rattle.study_reply.specs.declared.refusal.Refusal.TheVariants.{NoStudy}
-use Rattle.study_script.specs.State.{Board, Outside, quiet, study}
+use Rattle.study_script.specs.State.{Document, Outside, quiet, study}
 use Rattle.study_script.specs.Held.{Holds}
 use Rattle.study_script.specs.Replies.{refused, IsInsertReply}
 use Rattle.study_script.proofs.Executions.{executed_weaker}
-use Rattle.study_script.proofs.Boards.{holds_of, seen_of}
+use Rattle.study_script.proofs.Documents.{holds_of, seen_of}
 use Rattle.study_script.proofs.changes.insert.Goals as goal
 
 pub returns-in-Study : goal.returns-in-Study
 returns-in-Study g c = λ s h. executed_weaker
     {I = λ (o : Outside). IsInsertReply s o (study (plain_study (marked c.in-Study.bench))) (steps_of c.args.path.now) c.args.san.now}
-    {J = λ (o : Outside). IsInsertReply s o s.board (steps_of c.args.path.now) c.args.san.now}
+    {J = λ (o : Outside). IsInsertReply s o s.document (steps_of c.args.path.now) c.args.san.now}
     {H = Holds g.P.PageSource.honest g.P.PageSource.gives (held.Study c.insert_in_study.new.bench) c.insert_in_study.new.tables}
     {K = Holds g.P.PageSource.honest g.P.PageSource.gives (held.Study c.insert_in_study.new.bench) c.insert_in_study.new.tables} c.insert_in_study.result
-    (λ o r i. subst (λ (x : Board). IsInsertReply s o x (steps_of c.args.path.now) c.args.san.now r)
-    (seen_of g.P.PageSource.honest g.P.PageSource.gives c.args.board.now (held.Study c.in-Study.bench) c.args.tables.now s c.in-Study.is h) i) (λ t m. m)
-    (c.insert_in_study.ensures s (holds_of g.P.PageSource.honest g.P.PageSource.gives c.args.board.now (held.Study c.in-Study.bench) c.args.tables.now s c.in-Study.is h))
+    (λ o r i. subst (λ (x : Document). IsInsertReply s o x (steps_of c.args.path.now) c.args.san.now r)
+    (seen_of g.P.PageSource.honest g.P.PageSource.gives c.args.document.now (held.Study c.in-Study.bench) c.args.tables.now s c.in-Study.is h) i) (λ t m. m)
+    (c.insert_in_study.ensures s (holds_of g.P.PageSource.honest g.P.PageSource.gives c.args.document.now (held.Study c.in-Study.bench) c.args.tables.now s c.in-Study.is h))
 
 pub returns-in-Empty : goal.returns-in-Empty
 returns-in-Empty g c = λ s h. (
   quiet,
   s,
-  subst (λ (x : Board). IsInsertReply s quiet x (steps_of c.args.path.now) c.args.san.now (refused s NoStudy))
-      (seen_of g.P.PageSource.honest g.P.PageSource.gives c.args.board.now held.Empty c.args.tables.now s c.in-Empty.is h) refl,
+  subst (λ (x : Document). IsInsertReply s quiet x (steps_of c.args.path.now) c.args.san.now (refused s NoStudy))
+      (seen_of g.P.PageSource.honest g.P.PageSource.gives c.args.document.now held.Empty c.args.tables.now s c.in-Empty.is h) refl,
   h,
 )
 
@@ -34,7 +34,7 @@ pub returns-in-Start : goal.returns-in-Start
 returns-in-Start g c = λ s h. (
   quiet,
   s,
-  subst (λ (x : Board). IsInsertReply s quiet x (steps_of c.args.path.now) c.args.san.now (refused s NoStudy))
-      (seen_of g.P.PageSource.honest g.P.PageSource.gives c.args.board.now (held.Start c.in-Start.field-0) c.args.tables.now s c.in-Start.is h) refl,
+  subst (λ (x : Document). IsInsertReply s quiet x (steps_of c.args.path.now) c.args.san.now (refused s NoStudy))
+      (seen_of g.P.PageSource.honest g.P.PageSource.gives c.args.document.now (held.Start c.in-Start.field-0) c.args.tables.now s c.in-Start.is h) refl,
   h,
 )

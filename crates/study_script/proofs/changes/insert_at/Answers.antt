@@ -3,8 +3,8 @@ use Rattle.study_board.specs.Position.{Position}
 use Rattle.study_notation.specs.Matching.{move_of}
 use Rattle.study_tree.specs.Tree.{has_spot}
 use Rattle.study_marks.specs.Study.{plain_study}
-use Rattle.study_marks.specs.Kept.{marked}
-use Rattle.study_script.specs.declared.board.Board.TheVariants as held
+use Rattle.study_marks.specs.BenchState.{marked}
+use Rattle.study_script.specs.declared.document.Document.TheVariants as held
 use Rattle.study_reply.specs.declared.refusal.Refusal.TheVariants.{NoSuchNode}
 use Rattle.study_script.specs.State.{Outside, quiet}
 use Rattle.study_script.specs.Held.{Holds}

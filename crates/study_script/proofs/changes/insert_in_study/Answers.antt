@@ -2,8 +2,8 @@ use Rattle.std.proofs.Common.{ℕ, List, subst}
 use Rattle.std.proofs.lemmas.Bool.{false≢true}
 use Rattle.study_tree.specs.Tree.{has_spot}
 use Rattle.study_marks.specs.Study.{plain_study}
-use Rattle.study_marks.specs.Kept.{marked}
-use Rattle.study_script.specs.declared.board.Board.TheVariants as held
+use Rattle.study_marks.specs.BenchState.{marked}
+use Rattle.study_script.specs.declared.document.Document.TheVariants as held
 use Rattle.study_command.specs.Paths.{steps_of}
 use Rattle.study_script.specs.State.{Outside, no_path, study}
 use Rattle.study_script.specs.Held.{Holds}

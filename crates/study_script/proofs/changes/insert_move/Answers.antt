@@ -3,8 +3,8 @@ use Rattle.std.specs.Prelude.{MatchOption, IfErr}
 use Rattle.study_board.specs.Position.{Position}
 use Rattle.study_moves.specs.Rules.{after}
 use Rattle.study_marks.specs.Study.{plain_study, position_at}
-use Rattle.study_marks.specs.Kept.{marked}
-use Rattle.study_marks.specs.Asked.{asked_at, AllHeld, IsOutside}
+use Rattle.study_marks.specs.BenchState.{marked}
+use Rattle.study_marks.specs.Queries.{asked_at, AllHeld, IsOutside}
 use Rattle.study_marks.specs.Answers.{TellsFirstFault}
 use Rattle.study_marks.specs.Edits.{inserted, insert_refusal}
 use Rattle.study_script.specs.State.{quiet}

@@ -2,7 +2,7 @@ use Rattle.std.proofs.Common.{Result, refl, sym, ◌∙◌, subst}
 use Rattle.study_moves.specs.declared.moves.Move.{Move}
 use Rattle.study_notation.specs.declared.fault.SanFault.{SanFault}
 use Rattle.study_marks.specs.Study.{plain_study}
-use Rattle.study_marks.specs.Kept.{marked}
+use Rattle.study_marks.specs.BenchState.{marked}
 use Rattle.study_reply.specs.declared.refusal.Refusal.TheVariants.{San}
 use Rattle.study_script.specs.State.{quiet}
 use Rattle.study_script.specs.Replies.{refused, IsMoveReply}

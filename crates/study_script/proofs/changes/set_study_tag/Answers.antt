@@ -1,6 +1,6 @@
 use Rattle.std.specs.Prelude.{codes}
 use Rattle.study_marks.specs.Study.{plain_study}
-use Rattle.study_marks.specs.Kept.{marked}
+use Rattle.study_marks.specs.BenchState.{marked}
 use Rattle.study_marks.specs.Edits.{tagged, tag_refusal}
 use Rattle.study_pgn.specs.Tags.{tag_name}
 use Rattle.study_reply.specs.Words.{reply_line}

@@ -1,6 +1,6 @@
 use Rattle.std.proofs.Common.{refl, sym, ◌∙◌}
 use Rattle.study_tree.specs.Tree.{spot_at}
-use Rattle.study_marks.specs.Kept.{marked}
+use Rattle.study_marks.specs.BenchState.{marked}
 use Rattle.study_script.specs.State.{quiet}
 use Rattle.study_script.proofs.HeldBehindReplies.{bench_kept, mark_told, mark_missing}
 use Rattle.study_script.proofs.queries.mark_at.Goals as goal

@@ -1,35 +1,35 @@
 use Rattle.std.proofs.Common.{refl, subst}
 use Rattle.study_marks.specs.Study.{plain_study}
-use Rattle.study_marks.specs.Kept.{marked}
+use Rattle.study_marks.specs.BenchState.{marked}
 use Rattle.study_reply.specs.declared.refusal.Refusal.TheVariants.{NoStudy}
-use Rattle.study_script.specs.State.{Board, Outside, quiet, study}
+use Rattle.study_script.specs.State.{Document, Outside, quiet, study}
 use Rattle.study_script.specs.Held.{HoldsFrom, HoldsBenchFrom}
 use Rattle.study_script.specs.Replies.{Reply, refused, IsPgnReply}
 use Rattle.study_script.proofs.Executions.{executed_weaker}
-use Rattle.study_script.proofs.HeldBehindReplies.{board_kept, board_of, bench_of, empty_seen, start_seen, study_seen}
+use Rattle.study_script.proofs.HeldBehindReplies.{document_kept, document_of, bench_of, empty_seen, start_seen, study_seen}
 use Rattle.study_script.proofs.queries.pgn.Goals as goal
 
 pub returns-in-Empty : goal.returns-in-Empty
 returns-in-Empty g c = λ s h. (
   quiet,
   s,
-  subst (λ (x : Board). IsPgnReply s quiet x (refused s NoStudy)) (empty_seen c.args.board.now s c.in-Empty.is h) refl,
-  board_kept c.args.board.now s h,
+  subst (λ (x : Document). IsPgnReply s quiet x (refused s NoStudy)) (empty_seen c.args.document.now s c.in-Empty.is h) refl,
+  document_kept c.args.document.now s h,
 )
 
 pub returns-in-Start : goal.returns-in-Start
 returns-in-Start g c = λ s h. (
   quiet,
   s,
-  subst (λ (x : Board). IsPgnReply s quiet x (refused s NoStudy)) (start_seen c.args.board.now c.in-Start.field-0 s c.in-Start.is h) refl,
-  board_kept c.args.board.now s h,
+  subst (λ (x : Document). IsPgnReply s quiet x (refused s NoStudy)) (start_seen c.args.document.now c.in-Start.field-0 s c.in-Start.is h) refl,
+  document_kept c.args.document.now s h,
 )
 
 pub returns-in-Study : goal.returns-in-Study
 returns-in-Study g c = λ s h. executed_weaker
     {I = λ (o : Outside) (r : Reply). IsPgnReply s o (study (plain_study (marked c.in-Study.bench))) r}
-    {J = λ (o : Outside) (r : Reply). IsPgnReply s o s.board r} {H = HoldsBenchFrom s c.in-Study.bench}
-    {K = HoldsFrom {A = g.row.A.Denot} s c.args.board.now} c.pgn_of.result
-    (λ o r i. subst (λ (x : Board). IsPgnReply s o x r) (study_seen c.args.board.now c.in-Study.bench s c.in-Study.is h) i)
-    (λ t m. board_of {A = g.row.A.Denot} c.args.board.now c.in-Study.bench s t c.in-Study.is m)
-    (c.pgn_of.ensures s (bench_of c.args.board.now c.in-Study.bench s c.in-Study.is h))
+    {J = λ (o : Outside) (r : Reply). IsPgnReply s o s.document r} {H = HoldsBenchFrom s c.in-Study.bench}
+    {K = HoldsFrom {A = g.row.A.Denot} s c.args.document.now} c.pgn_of.result
+    (λ o r i. subst (λ (x : Document). IsPgnReply s o x r) (study_seen c.args.document.now c.in-Study.bench s c.in-Study.is h) i)
+    (λ t m. document_of {A = g.row.A.Denot} c.args.document.now c.in-Study.bench s t c.in-Study.is m)
+    (c.pgn_of.ensures s (bench_of c.args.document.now c.in-Study.bench s c.in-Study.is h))

@@ -1,6 +1,6 @@
 use Rattle.std.proofs.Common.{rules, ◌≡◌, ℕ, List, [], ◌++◌, refl, ap, ◌∙◌}
 use Rattle.study_pgn.specs.Pgn.{pgn_text}
-use Rattle.study_marks.specs.Kept.{marked}
+use Rattle.study_marks.specs.BenchState.{marked}
 use Rattle.study_script.specs.State.{quiet, no_room}
 use Rattle.study_script.specs.Replies.{accepted}
 use Rattle.study_script.proofs.HeldBehindReplies.{bench_kept}

@@ -3,7 +3,7 @@ use Rattle.study_notation.specs.declared.start.Start.{Start}
 use Rattle.study_reply.specs.declared.refusal.Refusal.{Refusal}
 use Rattle.study_reply.specs.Words.{solve_text}
 use Rattle.study_script.specs.Replies.{accepted, refused, IsSolveReply}
-use Rattle.study_script.proofs.HeldBehindReplies.{board_kept, solution_of}
+use Rattle.study_script.proofs.HeldBehindReplies.{document_kept, solution_of}
 use Rattle.study_script.proofs.queries.solve_at.Goals as goal
 
 pub returns-in-Ok : goal.returns-in-Ok
@@ -18,7 +18,7 @@ returns-in-Ok g c = λ s h. let found = c.start_at.ensures s h in (
             c.solve.ensures.least c.solve.ensures.within c.solve.ensures.none),
         refl,
       ),
-  board_kept c.args.board.now s h,
+  document_kept c.args.document.now s h,
 )
 
 pub returns-in-Err : goal.returns-in-Err
@@ -27,5 +27,5 @@ returns-in-Err g c = λ s h. let found = c.start_at.ensures s h in (
   s,
   subst (λ (x : Result Start Refusal). IsSolveReply s c.args.count.number x (refused s c.in-Err.refusal))
       (sym c.in-Err.is ∙ found.1) refl,
-  board_kept c.args.board.now s h,
+  document_kept c.args.document.now s h,
 )

@@ -1,5 +1,5 @@
 use Rattle.std.proofs.Common.{sym, ◌∙◌}
-use Rattle.study_marks.specs.Kept.{marked}
+use Rattle.study_marks.specs.BenchState.{marked}
 use Rattle.study_marks.proofs.MovesToNode.{some-move, start-legal-last, start-last, no-start-steps}
 use Rattle.study_view.proofs.StartsAt.{before-front}
 use Rattle.study_view.proofs.nodes.start_from.Goals as goal

@@ -1,7 +1,7 @@
 use Rattle.std.proofs.Common.{sym, ap, ◌∙◌}
 use Rattle.std.specs.Prelude.{codes}
 use Rattle.std.proofs.lemmas.Result.{on_ok_weaker}
-use Rattle.study_marks.specs.Kept.{marked}
+use Rattle.study_marks.specs.BenchState.{marked}
 use Rattle.study_pgn.specs.Pgn.{opening_words}
 use Rattle.study_review.specs.Review.{stipulation_line}
 use Rattle.study_review.proofs.TextGrows.{three}

@@ -1,5 +1,5 @@
 use Rattle.std.proofs.lemmas.Result.{on_ok_weaker}
-use Rattle.study_marks.specs.Kept.{marked}
+use Rattle.study_marks.specs.BenchState.{marked}
 use Rattle.study_view.proofs.NodeLines.{all-lines}
 use Rattle.study_view.proofs.view.add_tree.Goals as goal
 

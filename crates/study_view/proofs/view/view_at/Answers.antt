@@ -1,7 +1,7 @@
 use Rattle.std.proofs.Common.{◌≡◌, List, ℕ, refl, sym, subst, IsTrue}
 use Rattle.study_tree.specs.Tree.{has_spot}
 use Rattle.study_tree.proofs.TreeDepth.{within-length}
-use Rattle.study_marks.specs.Kept.{marked}
+use Rattle.study_marks.specs.BenchState.{marked}
 use Rattle.study_marks.proofs.PathRenewed.{no-spot}
 use Rattle.study_view.proofs.StartsAt.{start-found, start-gone}
 use Rattle.study_view.proofs.view.view_at.Goals as goal

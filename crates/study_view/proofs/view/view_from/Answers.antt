@@ -4,7 +4,7 @@ use Rattle.study_board.specs.Position.{Position}
 use Rattle.study_moves.specs.LegalList.{legal_list}
 use Rattle.study_notation.specs.declared.start.Start.{Start}
 use Rattle.study_marks.specs.Goals.{aim_of}
-use Rattle.study_marks.specs.Kept.{marked}
+use Rattle.study_marks.specs.BenchState.{marked}
 use Rattle.study_review.specs.declared.continuation.Continuation.{Continuation}
 use Rattle.study_review.specs.Continuations.{AreChosen}
 use Rattle.study_view.specs.Asked.{EachTold, StoppedAt}

@@ -1,5 +1,5 @@
 use Rattle.study_command.specs.Paths.{steps_of}
-use Rattle.study_marks.specs.Kept.{marked}
+use Rattle.study_marks.specs.BenchState.{marked}
 use Rattle.study_web.proofs.Denials.{node_denial}
 use Rattle.study_web.proofs.Nodes.{lacks_plainly}
 use Rattle.study_web.proofs.script.bench_view.Goals as goal

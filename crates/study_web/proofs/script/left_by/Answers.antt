@@ -7,7 +7,7 @@ returns-clause-left g c = λ classes right held.
     let all = c.in-Ok-follow.ensures.after (over_tables classes true) (record {
       held =
           record {
-            board = refl;
+            document = refl;
             marks = tt;
             values = right;
             classes = held;
@@ -19,4 +19,4 @@ returns-clause-left g c = λ classes right held.
         known = record { files_known = λ d. refl; headers_known = λ d. refl; faults_known = λ d f. refl };
       };
     }) in
-    (all.3.held.values, all.3.held.marks, (all.0, all.1, all.3.held.board, rw c.new-refused.ensures.items at all.2))
+    (all.3.held.values, all.3.held.marks, (all.0, all.1, all.3.held.document, rw c.new-refused.ensures.items at all.2))

@@ -4,15 +4,15 @@ use Rattle.study_board.specs.Position.{Position, IsValid}
 use Rattle.study_board.specs.Counts.{counted}
 use Rattle.study_tree.specs.Tree.{plain_tree, size_of}
 use Rattle.study_marks.specs.declared.label.Told.{Told}
-use Rattle.study_marks.specs.declared.marking.Aim.{Aim}
+use Rattle.study_marks.specs.declared.mark_rules.Aim.{Aim}
 use Rattle.study_marks.specs.Study.{plain_study, IsPlayable}
 use Rattle.study_marks.specs.Goals.{aim_of}
-use Rattle.study_marks.specs.Kept.{Kept, marked, AllAddUp, told_tree}
+use Rattle.study_marks.specs.BenchState.{BenchState, marked, AllAddUp, told_tree}
 use Rattle.study_marks.specs.Edits.{shifted}
-use Rattle.study_marks.specs.Asked.{positions_asked, AreTablesHeld, IsOutside, HasStopped, is_of_tables, counted_times}
+use Rattle.study_marks.specs.Queries.{positions_asked, AreTablesHeld, IsOutside, HasStopped, is_of_tables, counted_times}
 use Rattle.study_marks.specs.Bench.{kept_of}
 use Rattle.study_marks.specs.Told.{AllAreTold}
-use Rattle.study_marks.specs.Whole.{retold_tree}
+use Rattle.study_marks.specs.Relabelled.{retold_tree}
 use Rattle.study_marks.proofs.BenchEdits.{counted-later}
 use Rattle.study_marks.proofs.Readers.{size-marked}
 use Rattle.study_marks.proofs.BenchRewritten.{restarted, shifted-study, shifted-plain, shifted-right, asked-shifted, same-refusal, refusal-asked}
@@ -34,16 +34,16 @@ returns-in_err-all-clause-asked g c =
     let same = asked-shifted b c.args.self.now c.args.start c.self.view_is in
     refusal-asked c.from_residual.result c.in_err-all.field-0.0
     (length (positions_asked (shifted (plain_study (marked c.args.self.now)) c.args.start)))
-    (g.V.Values.asked_of c.args.values.now) (g.V.Values.asked_of c.gather.new.values) c.from_residual.ensures.1
+    (g.V.Values.asked_of c.args.values.now) (g.V.Values.asked_of c.evaluate_all.new.values) c.from_residual.ensures.1
     (subst (λ (ps : List Position). HasStopped (is_of_tables c.in_err-all.field-0.0) (length ps)
-    (g.V.Values.asked_of c.args.values.now) (g.V.Values.asked_of c.gather.new.values)) same
+    (g.V.Values.asked_of c.args.values.now) (g.V.Values.asked_of c.evaluate_all.new.values)) same
     c.in_err-all.ensures.asked)
 
 pub invariant_of-self : goal.invariant_of-self
 invariant_of-self g c =
     let b = kept_of c.self.inside.start c.self.inside.stipulation c.self.inside.tags c.self.inside.tree in
-    let u = plain_tree c.write_all.new.tree in
-    let told : told_tree u ≡ retold_tree c.as_slice.result.now (told_tree b.study.tree) = c.write_all.ensures.told in
+    let u = plain_tree c.relabel_all.new.tree in
+    let told : told_tree u ≡ retold_tree c.as_slice.result.now (told_tree b.study.tree) = c.relabel_all.ensures.told in
     let aim : c.aim_of-aim.result ≡ aim_of (restarted b.study c.args.start u) =
     c.aim_of-aim.ensures
     ∙ ap
@@ -52,10 +52,10 @@ invariant_of-self g c =
       hero_first = same_side c.self.inside.stipulation.hero
           s;
     }) c.to_move.ensures in
-    let right : AllAddUp (aim_of (restarted b.study c.args.start u)) u = subst (λ (a : Aim). AllAddUp a u) aim c.write_all.ensures.right in
+    let right : AllAddUp (aim_of (restarted b.study c.args.start u)) u = subst (λ (a : Aim). AllAddUp a u) aim c.relabel_all.ensures.right in
     let valid : IsValid c.args.start.position = search rules in
     let legal : IsPlayable c.args.start.position b.study.tree.below =
-    subst (λ (k : Kept). IsPlayable c.args.start.position k.study.tree.below) (sym c.self.view_is)
+    subst (λ (k : BenchState). IsPlayable c.args.start.position k.study.tree.below) (sym c.self.view_is)
     c.requires.playable in
     (shifted-study c.as_slice.result.now b c.args.start u 0 told valid legal c.self.invariant.0, right)
 
@@ -68,16 +68,16 @@ returns-clause-found g c =
 pub returns-clause-edited : goal.returns-clause-edited
 returns-clause-edited g c =
     let b = kept_of c.self.inside.start c.self.inside.stipulation c.self.inside.tags c.self.inside.tree in
-    let u = plain_tree c.write_all.new.tree in
-    let told : told_tree u ≡ retold_tree c.as_slice.result.now (told_tree b.study.tree) = c.write_all.ensures.told in
-    shifted-plain c.as_slice.result.now b c.args.start u (counted c.write_all.new.tree.relabelled) told
-    ∙ ap (λ (k : Kept). shifted (plain_study (marked k)) c.args.start) c.self.view_is
+    let u = plain_tree c.relabel_all.new.tree in
+    let told : told_tree u ≡ retold_tree c.as_slice.result.now (told_tree b.study.tree) = c.relabel_all.ensures.told in
+    shifted-plain c.as_slice.result.now b c.args.start u (counted c.relabel_all.new.tree.relabelled) told
+    ∙ ap (λ (k : BenchState). shifted (plain_study (marked k)) c.args.start) c.self.view_is
 
 pub returns-clause-right : goal.returns-clause-right
 returns-clause-right g c =
     let b = kept_of c.self.inside.start c.self.inside.stipulation c.self.inside.tags c.self.inside.tree in
-    let u = plain_tree c.write_all.new.tree in
-    let told : told_tree u ≡ retold_tree c.as_slice.result.now (told_tree b.study.tree) = c.write_all.ensures.told in
+    let u = plain_tree c.relabel_all.new.tree in
+    let told : told_tree u ≡ retold_tree c.as_slice.result.now (told_tree b.study.tree) = c.relabel_all.ensures.told in
     let aim : c.aim_of-aim.result ≡ aim_of (restarted b.study c.args.start u) =
     c.aim_of-aim.ensures
     ∙ ap
@@ -86,17 +86,17 @@ returns-clause-right g c =
       hero_first = same_side c.self.inside.stipulation.hero
           s;
     }) c.to_move.ensures in
-    let right : AllAddUp (aim_of (restarted b.study c.args.start u)) u = subst (λ (a : Aim). AllAddUp a u) aim c.write_all.ensures.right in
-    λ h. shifted-right c.as_slice.result.now b c.args.start u (counted c.write_all.new.tree.relabelled) told right
+    let right : AllAddUp (aim_of (restarted b.study c.args.start u)) u = subst (λ (a : Aim). AllAddUp a u) aim c.relabel_all.ensures.right in
+    λ h. shifted-right c.as_slice.result.now b c.args.start u (counted c.relabel_all.new.tree.relabelled) told right
     (subst (λ (ts : List Told). AllAreTold c.args.start.position (retold_tree ts (told_tree b.study.tree)))
     (sym c.as_slice.ensures.value) (c.in_ok-all.ensures.game h))
 
 pub returns-clause-relabelled : goal.returns-clause-relabelled
 returns-clause-relabelled g c =
     let b = kept_of c.self.inside.start c.self.inside.stipulation c.self.inside.tags c.self.inside.tree in
-    counted-later (size_of (plain_tree c.self.inside.tree)) c.self.inside.tree.relabelled c.write_all.new.tree.relabelled c.write_all.ensures.count
+    counted-later (size_of (plain_tree c.self.inside.tree)) c.self.inside.tree.relabelled c.relabel_all.new.tree.relabelled c.relabel_all.ensures.count
     ∙ ap (λ n. counted_times n (counted c.self.inside.tree.relabelled)) (size-marked b c.args.self.now c.self.view_is)
-    ∙ ap (λ (k : Kept). counted_times (size_of (marked c.args.self.now).tree) k.relabelled) c.self.view_is
+    ∙ ap (λ (k : BenchState). counted_times (size_of (marked c.args.self.now).tree) k.relabelled) c.self.view_is
 
 pub returns-clause-asked : goal.returns-clause-asked
 returns-clause-asked g c =
@@ -109,9 +109,9 @@ returns-in_err-all-clause-first g c =
     let b = kept_of c.self.inside.start c.self.inside.stipulation c.self.inside.tags c.self.inside.tree in
     let same = asked-shifted b c.args.self.now c.args.start c.self.view_is in
     same-first g.V.Values.gives g.V.Values.may_fail g.V.Values.asked_of c.args.values.now
-    (positions_asked (shifted (plain_study (marked c.args.self.now)) c.args.start)) c.gather.new.values c.from_residual.result
+    (positions_asked (shifted (plain_study (marked c.args.self.now)) c.args.start)) c.evaluate_all.new.values c.from_residual.result
     c.in_err-all.field-0.0 c.from_residual.ensures.1
-    (subst (λ (ps : List Position). TellsFirstFault g.V.Values.gives g.V.Values.may_fail g.V.Values.asked_of c.args.values.now ps c.gather.new.values
+    (subst (λ (ps : List Position). TellsFirstFault g.V.Values.gives g.V.Values.may_fail g.V.Values.asked_of c.args.values.now ps c.evaluate_all.new.values
     c.in_err-all.field-0.0) same c.in_err-all.ensures.first)
 
 pub returns-in_err-all-clause-no_damage : goal.returns-in_err-all-clause-no_damage

@@ -4,12 +4,12 @@ use Rattle.study_moves.specs.Rules.{after}
 use Rattle.study_notation.specs.declared.start.Start.{Start}
 use Rattle.study_marks.specs.declared.mark.Mark.{Mark}
 use Rattle.study_marks.specs.Study.{position_after, position_at, plain_study}
-use Rattle.study_marks.specs.Asked.{asked_at, positions_asked}
+use Rattle.study_marks.specs.Queries.{asked_at, positions_asked}
 use Rattle.study_marks.specs.Edits.{shifted}
-use Rattle.study_marks.specs.Stop.{questions_of}
+use Rattle.study_marks.specs.EditLists.{questions_of}
 use Rattle.study_marks.specs.Answers.{TellsFirstFault}
 use Rattle.study_marks.proofs.FaultsTold.{same-first, same-undamaged}
-use Rattle.study_marks.specs.Kept.{marked}
+use Rattle.study_marks.specs.BenchState.{marked}
 use Rattle.study_marks.proofs.SameShape.{moves_to-mapped}
 use Rattle.study_marks.proofs.OneEdit.{position-applied, insert-refused, insert-accepted, shift-applied, stipulation-applied}
 use Rattle.study_marks.proofs.bench.Bench.apply.Goals as goal

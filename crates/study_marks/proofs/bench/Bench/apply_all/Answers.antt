@@ -1,7 +1,7 @@
 use Rattle.std.proofs.Common.{◌≡◌, ℕ, take, sym, subst, arith}
 use Rattle.study_marks.specs.Study.{plain_study}
-use Rattle.study_marks.specs.Kept.{marked}
-use Rattle.study_marks.specs.Stop.{IsStopped, HasAskedUpTo, StopsAtFault, asked_after_edits, questions_of}
+use Rattle.study_marks.specs.BenchState.{marked}
+use Rattle.study_marks.specs.EditLists.{IsStopped, HasAskedUpTo, StopsAtFault, asked_after_edits, questions_of}
 use Rattle.study_marks.specs.Answers.{TellsFirstFault}
 use Rattle.study_marks.proofs.EditLists.{run-next, run-refusal, run-asked, tells-at}
 use Rattle.study_marks.proofs.bench.Bench.apply_all.Goals as goal

@@ -1,9 +1,9 @@
 use Rattle.std.proofs.Common.{◌≡◌, refl, ap, sym, ◌∙◌, subst, true, false, IsTrue}
 use Rattle.study_tree.specs.Tree.{plain_tree, has_spot}
 use Rattle.study_moves.specs.Rules.{is_legal}
-use Rattle.study_marks.specs.declared.fault.Refusal.TheVariants as refusal
+use Rattle.study_marks.specs.declared.refusal.Refusal.TheVariants as refusal
 use Rattle.study_marks.specs.Study.{position_after, moves_to}
-use Rattle.study_marks.specs.Kept.{Kept}
+use Rattle.study_marks.specs.BenchState.{BenchState}
 use Rattle.study_marks.specs.Bench.{kept_of}
 use Rattle.study_marks.proofs.BenchEdits.{match-ok}
 use Rattle.study_marks.proofs.InsertedMoves.{deep-none, node-gone, node-found, match-some}
@@ -47,5 +47,5 @@ returns-clause-refusal g c =
 
 pub returns-clause-found : goal.returns-clause-found
 returns-clause-found g c =
-    subst (λ (k : Kept). IsTrue (has_spot k.study.tree c.args.steps.now)) c.self.view_is
+    subst (λ (k : BenchState). IsTrue (has_spot k.study.tree c.args.steps.now)) c.self.view_is
     (node-found (plain_tree c.self.inside.tree) c.args.steps.now c.node.result _ c.node.ensures c.if-is_none.ensures)

@@ -3,8 +3,8 @@ use Rattle.study_board.specs.Position.{Position}
 use Rattle.study_moves.specs.Rules.{after}
 use Rattle.study_retro.specs.Game.{IsValueOf}
 use Rattle.study_marks.specs.Study.{plain_study, position_at}
-use Rattle.study_marks.specs.Kept.{marked}
-use Rattle.study_marks.specs.Asked.{AllHeld, IsOutside}
+use Rattle.study_marks.specs.BenchState.{marked}
+use Rattle.study_marks.specs.Queries.{AllHeld, IsOutside}
 use Rattle.study_marks.specs.Answers.{Answers, TellsFirstFault}
 use Rattle.study_marks.specs.Trial.{trial_refusal, IsMarkOf}
 use Rattle.study_marks.proofs.BenchEdits.{match-ok}

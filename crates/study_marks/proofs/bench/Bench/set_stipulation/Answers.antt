@@ -2,64 +2,64 @@ use Rattle.std.proofs.Common.{◌≡◌, ap, sym, ◌∙◌, subst}
 use Rattle.study_board.specs.Men.{same_side}
 use Rattle.study_board.specs.Counts.{counted}
 use Rattle.study_tree.specs.Tree.{plain_tree, size_of}
-use Rattle.study_marks.specs.declared.marking.Aim.{Aim}
+use Rattle.study_marks.specs.declared.mark_rules.Aim.{Aim}
 use Rattle.study_marks.specs.Study.{plain_study}
 use Rattle.study_marks.specs.Goals.{aim_of}
-use Rattle.study_marks.specs.Kept.{Kept, marked, told_tree, IsKeptRight, AllAddUp}
+use Rattle.study_marks.specs.BenchState.{BenchState, marked, told_tree, IsKeptRight, AllAddUp}
 use Rattle.study_marks.specs.Edits.{stipulated}
-use Rattle.study_marks.specs.Asked.{counted_times}
+use Rattle.study_marks.specs.Queries.{counted_times}
 use Rattle.study_marks.specs.Bench.{kept_of}
 use Rattle.study_marks.proofs.BenchEdits.{counted-later}
 use Rattle.study_marks.proofs.Readers.{size-marked}
 use Rattle.study_marks.proofs.BenchRewritten.{told-kept, restipulated, stipulated-study, stipulated-plain, stipulated-right}
 use Rattle.study_marks.proofs.bench.Bench.set_stipulation.Goals as goal
 
-pub write_all-requires : goal.write_all-requires
-write_all-requires g c = record { shallow = c.self.invariant.0.shallow }
+pub relabel_all-requires : goal.relabel_all-requires
+relabel_all-requires g c = record { shallow = c.self.invariant.0.shallow }
 
 pub invariant_of-self : goal.invariant_of-self
 invariant_of-self g c =
     let b = kept_of c.self.inside.start c.self.inside.stipulation c.self.inside.tags c.self.inside.tree in
     let aim : c.aim_of-aim.result
-    ≡ aim_of (restipulated b.study c.args.stipulation (plain_tree c.write_all.new.tree)) =
+    ≡ aim_of (restipulated b.study c.args.stipulation (plain_tree c.relabel_all.new.tree)) =
     c.aim_of-aim.ensures
     ∙ ap (λ s. record { goal = c.args.stipulation.goal; hero_first = same_side c.args.stipulation.hero s })
     c.to_move.ensures in (
-      stipulated-study b.study c.args.stipulation (plain_tree c.write_all.new.tree)
-          (told-kept b.study.tree (plain_tree c.write_all.new.tree) c.write_all.ensures.told) c.self.invariant.0,
-      subst (λ (a : Aim). AllAddUp a (plain_tree c.write_all.new.tree)) aim c.write_all.ensures.right,
+      stipulated-study b.study c.args.stipulation (plain_tree c.relabel_all.new.tree)
+          (told-kept b.study.tree (plain_tree c.relabel_all.new.tree) c.relabel_all.ensures.told) c.self.invariant.0,
+      subst (λ (a : Aim). AllAddUp a (plain_tree c.relabel_all.new.tree)) aim c.relabel_all.ensures.right,
     )
 
 pub returns-clause-edited : goal.returns-clause-edited
 returns-clause-edited g c =
     let b = kept_of c.self.inside.start c.self.inside.stipulation c.self.inside.tags c.self.inside.tree in
-    stipulated-plain b c.args.stipulation (plain_tree c.write_all.new.tree)
-    (counted c.write_all.new.tree.relabelled)
-    (told-kept b.study.tree (plain_tree c.write_all.new.tree) c.write_all.ensures.told)
-    ∙ ap (λ (k : Kept). stipulated (plain_study (marked k)) c.args.stipulation) c.self.view_is
+    stipulated-plain b c.args.stipulation (plain_tree c.relabel_all.new.tree)
+    (counted c.relabel_all.new.tree.relabelled)
+    (told-kept b.study.tree (plain_tree c.relabel_all.new.tree) c.relabel_all.ensures.told)
+    ∙ ap (λ (k : BenchState). stipulated (plain_study (marked k)) c.args.stipulation) c.self.view_is
 
 pub returns-clause-kept : goal.returns-clause-kept
 returns-clause-kept g c =
     let b = kept_of c.self.inside.start c.self.inside.stipulation c.self.inside.tags c.self.inside.tree in
-    told-kept b.study.tree (plain_tree c.write_all.new.tree) c.write_all.ensures.told
-    ∙ ap (λ (k : Kept). told_tree k.study.tree) c.self.view_is
+    told-kept b.study.tree (plain_tree c.relabel_all.new.tree) c.relabel_all.ensures.told
+    ∙ ap (λ (k : BenchState). told_tree k.study.tree) c.self.view_is
 
 pub returns-clause-right : goal.returns-clause-right
 returns-clause-right g c h =
     let b = kept_of c.self.inside.start c.self.inside.stipulation c.self.inside.tags c.self.inside.tree in
     let aim : c.aim_of-aim.result
-    ≡ aim_of (restipulated b.study c.args.stipulation (plain_tree c.write_all.new.tree)) =
+    ≡ aim_of (restipulated b.study c.args.stipulation (plain_tree c.relabel_all.new.tree)) =
     c.aim_of-aim.ensures
     ∙ ap (λ s. record { goal = c.args.stipulation.goal; hero_first = same_side c.args.stipulation.hero s })
     c.to_move.ensures in
-    stipulated-right b c.args.stipulation (plain_tree c.write_all.new.tree)
-    (counted c.write_all.new.tree.relabelled)
-    (told-kept b.study.tree (plain_tree c.write_all.new.tree) c.write_all.ensures.told)
-    (subst (λ (a : Aim). AllAddUp a (plain_tree c.write_all.new.tree)) aim c.write_all.ensures.right) (subst IsKeptRight (sym c.self.view_is) h)
+    stipulated-right b c.args.stipulation (plain_tree c.relabel_all.new.tree)
+    (counted c.relabel_all.new.tree.relabelled)
+    (told-kept b.study.tree (plain_tree c.relabel_all.new.tree) c.relabel_all.ensures.told)
+    (subst (λ (a : Aim). AllAddUp a (plain_tree c.relabel_all.new.tree)) aim c.relabel_all.ensures.right) (subst IsKeptRight (sym c.self.view_is) h)
 
 pub returns-clause-relabelled : goal.returns-clause-relabelled
 returns-clause-relabelled g c =
     let b = kept_of c.self.inside.start c.self.inside.stipulation c.self.inside.tags c.self.inside.tree in
-    counted-later (size_of (plain_tree c.self.inside.tree)) c.self.inside.tree.relabelled c.write_all.new.tree.relabelled c.write_all.ensures.count
+    counted-later (size_of (plain_tree c.self.inside.tree)) c.self.inside.tree.relabelled c.relabel_all.new.tree.relabelled c.relabel_all.ensures.count
     ∙ ap (λ n. counted_times n (counted c.self.inside.tree.relabelled)) (size-marked b c.args.self.now c.self.view_is)
-    ∙ ap (λ (k : Kept). counted_times (size_of (marked c.args.self.now).tree) k.relabelled) c.self.view_is
+    ∙ ap (λ (k : BenchState). counted_times (size_of (marked c.args.self.now).tree) k.relabelled) c.self.view_is

@@ -1,5 +1,5 @@
 use Rattle.std.proofs.Common.{rules}
-use Rattle.study_marks.specs.Kept.{marked}
+use Rattle.study_marks.specs.BenchState.{marked}
 use Rattle.study_print.proofs.EntriesGrow.{entries_after}
 use Rattle.study_print.proofs.PageTold.{told_plain}
 use Rattle.study_print.proofs.pages.PagesReport.add_study.Goals as goal

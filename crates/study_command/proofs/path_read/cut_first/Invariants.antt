@@ -1,6 +1,0 @@
-use Rattle.std.proofs.Common.{◌≡◌, ℕ, ◌<◌, false, slice_index}
-use Rattle.std.specs.Prelude.{◌==◌}
-use Rattle.study_command.proofs.path_read.cut_first.Given as goal
-
-abbrev pub invariant-loop-i : goal.invariant-loop-i
-invariant-loop-i l = (k : ℕ) → k < l.i → (slice_index l.word k == 46) ≡ false

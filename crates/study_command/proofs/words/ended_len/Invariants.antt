@@ -1,9 +1,0 @@
-use Rattle.std.proofs.Common.{◌≡◌, ◌≤◌, length, take}
-use Rattle.study_command.specs.Asking.{ended}
-use Rattle.study_command.proofs.words.ended_len.Given as goal
-
-abbrev pub invariant-loop-n : goal.invariant-loop-n
-invariant-loop-n l = (l.n ≤ length l.text) × (ended (take l.n l.text) ≡ ended l.text)
-
-abbrev pub decreases-loop-n : goal.decreases-loop-n
-decreases-loop-n l = l.n

@@ -1,0 +1,88 @@
+//! Texts, single words and numbers after a command.
+ghost use Rattle.std.specs.Prelude.{◌≡◌, ◌≤◌, true, take, length, IfSome};
+ghost use Rattle.std.specs.Option.{option_map};
+ghost use Rattle.std.specs.List.{list_all};
+ghost use Rattle.study_notation.specs.Words.{words};
+ghost use Rattle.study_marks.specs.Edits.{is_printable};
+ghost use Rattle.study_command.specs.Parser.{ended, trimmed, text_told, one_word, two_words};
+
+use std::str;
+use study_notation::words::{next_word, space_len};
+
+/// Printable ASCII as a text.
+pub fn as_text(bytes: &[u8]) -> &str
+    requires { list_all is_printable bytes.now ≡ true }
+    ensures { result.now ≡ bytes.now }
+{
+    match str::from_utf8(bytes) {
+        Ok(text) => text,
+        Err(_) => unreachable!(),
+    }
+}
+
+/// Whether each byte is printable ASCII.
+pub fn is_printable(line: &[u8]) -> bool
+    ensures { result ≡ list_all is_printable line.now }
+{
+    line.iter().all(|b| *b >= 0x20 && *b <= 0x7e)
+}
+
+/// How much of a text stands before the spaces at its end.
+fn len_without_end_spaces(text: &[u8]) -> usize
+    ensures value { take result text.now ≡ ended text.now }
+    ensures within { result ≤ length text.now }
+{
+    let mut n = text.len();
+    while n > 0 && text[n - 1] == b' ' {
+        n -= 1;
+    }
+    n
+}
+
+/// A text without the spaces at both ends.
+#[tactic(auto, unfolding(crate::specs::Parser::trimmed))]
+fn trim(text: &[u8]) -> &[u8]
+    ensures { result.now ≡ trimmed text.now }
+{
+    let (_, begun) = text.split_at(space_len(text));
+    let (ended, _) = begun.split_at(len_without_end_spaces(begun));
+    ended
+}
+
+/// A text that is not empty, without the spaces at both ends.
+#[tactic(auto, using(crate::proofs::Printable::printable_trimmed))]
+pub fn read_text(rest: &[u8]) -> Option<&str>
+    requires { list_all is_printable rest.now ≡ true }
+    ensures { option_map (λ text. text.now) result ≡ text_told rest.now }
+{
+    let text = trim(rest);
+    if text.is_empty() {
+        return None;
+    }
+    Some(as_text(text))
+}
+
+/// The one word that there is.
+pub fn read_one_word(rest: &[u8]) -> Option<&[u8]>
+    ensures value { option_map (λ word. word.now) result ≡ one_word (words rest.now) }
+    ensures printable { list_all is_printable rest.now ≡ true → IfSome result (λ word. list_all is_printable word.now ≡ true) }
+{
+    let (word, rest) = next_word(rest)?;
+    if next_word(rest).is_some() {
+        return None;
+    }
+    Some(word)
+}
+
+/// The two words that there are.
+pub fn read_two_words(rest: &[u8]) -> Option<(&[u8], &[u8])>
+    ensures value { option_map (λ pair. (pair.0.now, pair.1.now)) result ≡ two_words (words rest.now) }
+    ensures printable { list_all is_printable rest.now ≡ true → IfSome result (λ pair. list_all is_printable pair.1.now ≡ true) }
+{
+    let (first, rest) = next_word(rest)?;
+    let (second, rest) = next_word(rest)?;
+    if next_word(rest).is_some() {
+        return None;
+    }
+    Some((first, second))
+}

@@ -1,0 +1,111 @@
+-- What a bench keeps at each node, and what a contract sees of a bench.
+use Rattle.std.specs.Prelude.{◌≡◌, ℕ, ◌+◌, Bool, true, nat_le, List, length, Option, Some, None, if◌then◌else◌}
+use Rattle.std.specs.List.{count_by, All}
+use Rattle.study_board.specs.Position.{Position, IsValid}
+use Rattle.study_moves.specs.Rules.{after}
+use Rattle.study_retro.specs.declared.value.Value.{Value}
+use Rattle.study_moves.specs.LegalList.{legal_list}
+use Rattle.study_tree.specs.Forest.{Forest, none, more}
+use Rattle.study_tree.specs.Tree.{Plain}
+use Rattle.study_tree.specs.Edits.{IsWithin}
+use Rattle.study_marks.specs.declared.stipulation.Goal.{Goal}
+use Rattle.study_marks.specs.declared.stipulation.Goal.TheVariants.{Win, Draw, MateIn}
+use Rattle.study_marks.specs.declared.mark.MoveMark.{MoveMark}
+use Rattle.study_marks.specs.declared.mark.Mark.{Mark}
+use Rattle.study_marks.specs.declared.label.Label.{Label}
+use Rattle.study_marks.specs.declared.label.Told.{Told}
+use Rattle.study_marks.specs.Tally.{Tally, tally_of}
+use Rattle.study_marks.specs.Study.{Study, mapped_tree, IsPlayable, AreDistinct}
+use Rattle.study_marks.specs.declared.mark_rules.Aim.{Aim}
+use Rattle.study_marks.specs.Goals.{aim_of, hero_moves, holds, plies_of}
+use Rattle.study_marks.specs.Marks.{mark_of, own_faults}
+use Rattle.study_marks.specs.Annotated.{AreValuesAfter, IsAnnotated}
+use Rattle.study_marks.specs.Edits.{is_tag_text}
+
+-- what a contract sees of a bench: the study with what is kept at each node, and how many labels were written
+pub record BenchState : Type 0 where
+  pub study : Study Label
+  pub relabelled : ℕ
+
+-- what is kept at the nodes, without the faults
+abbrev pub told_tree : Plain Label → Plain Told
+told_tree t = mapped_tree (λ l. l.told) t
+
+-- how many of the tallied moves lead to a position at depth d that holds, where the hero makes them
+abbrev pub count_holding : Goal → Bool → ℕ → Tally → ℕ
+count_holding Win first d t = length t.mates
+count_holding Draw first d t = length t.mates + t.draws
+count_holding (MateIn k) first d t = count_by (λ n. nat_le (d + n) (plies_of first k)) t.mates
+
+-- the mark of a move to a position with the value w, by what is kept at the node before it, which is at depth d
+abbrev pub kept_mark : Aim → ℕ → Told → Value → MoveMark
+kept_mark a d q w = mark_of (hero_moves a d) (holds a d q.value) (holds a (d + 1) w) (count_holding a.goal a.hero_first (d + 1) q.tally)
+
+-- the marks that a bench shows: of nodes side by side, whose moves are made at depth d at the node that keeps q
+abbrev pub shown_mark : Aim → ℕ → Told → Label → Mark
+shown_mark a d q l = record { value = l.told.value; on_move = Some (kept_mark a d q l.told.value); faults = l.faults }
+
+abbrev pub shown : Aim → ℕ → Told → Forest Label → Forest Mark
+shown a d q none = none
+shown a d q (more m l b r) = more m (shown_mark a d q l) (shown a (d + 1) l.told b) (shown a d q r)
+
+abbrev pub shown_root : Label → Mark
+shown_root l = record { value = l.told.value; on_move = None; faults = l.faults }
+
+abbrev pub shown_tree : Aim → Plain Label → Plain Mark
+shown_tree a t = record { label = shown_root t.label; below = shown a 0 t.label.told t.below }
+
+-- the study with the marks that the readers show
+abbrev pub marked : BenchState → Study Mark
+marked k = record { start = k.study.start; stipulation = k.study.stipulation; tags = k.study.tags; tree = shown_tree (aim_of k.study) k.study.tree }
+
+-- the tally is that of the game's values after each legal move
+abbrev pub IsTallied : Position → Tally → Type 0
+IsTallied p t = (all : List Value) × AreValuesAfter p (legal_list p) all × (t ≡ tally_of all)
+
+abbrev pub AreTallied : Position → Forest Label → Type 0
+AreTallied p none = Unit {0}
+AreTallied p (more m l b r) = IsTallied (after p m) l.told.tally × AreTallied (after p m) b × AreTallied p r
+
+-- The marks are those of annotating from scratch, and so is what is kept to find them.
+pub record IsKeptRight (k : BenchState) : Type 0 where
+  pub marks : IsAnnotated (marked k)
+  pub root : IsTallied k.study.start.position k.study.tree.label.told.tally
+  pub tallies : AreTallied k.study.start.position k.study.tree.below
+
+-- Faults that add up: each node's are its own and those that its children count for it.
+abbrev pub all_faults : Forest Label → ℕ
+all_faults none = 0
+all_faults (more m l b r) = l.faults + all_faults r
+
+-- of each child where the opponent moves, of the first alone where the hero does
+abbrev pub faults_below : Bool → Forest Label → ℕ
+faults_below hero none = 0
+faults_below hero (more m l b r) = l.faults + (if hero then 0 else all_faults r)
+
+abbrev pub own : Aim → ℕ → Told → Value → ℕ
+own a d q v = own_faults (hero_moves a d) (Some (kept_mark a d q v))
+
+-- the mark of a new node, by what is kept at the node before it
+abbrev pub moved_mark : Aim → ℕ → Told → Value → Mark
+moved_mark a d q v = record { value = v; on_move = Some (kept_mark a d q v); faults = own a d q v }
+
+abbrev pub AddUp : Aim → ℕ → Told → Forest Label → Type 0
+AddUp a d q none = Unit {0}
+AddUp a d q (more m l b r) =
+    (l.faults ≡ own a d q l.told.value + faults_below (hero_moves a (d + 1)) b) × AddUp a (d + 1) l.told b × AddUp a d q r
+
+abbrev pub AllAddUp : Aim → Plain Label → Type 0
+AllAddUp a t = (t.label.faults ≡ faults_below (hero_moves a 0) t.below) × AddUp a 0 t.label.told t.below
+
+abbrev pub IsTag : Option (List ℕ) → Type 0
+IsTag None = Unit {0}
+IsTag (Some text) = is_tag_text text ≡ true
+
+-- what is true of every study that a bench holds
+pub record IsStudy {L : Type 0} (s : Study L) : Type 0 where
+  pub valid : IsValid s.start.position
+  pub playable : IsPlayable s.start.position s.tree.below
+  pub distinct : AreDistinct s.tree.below
+  pub shallow : IsWithin 256 s.tree.below
+  pub printed : All IsTag s.tags

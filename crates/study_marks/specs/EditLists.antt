@@ -1,0 +1,144 @@
+-- A list of edits: what each accepted one asks, finds and writes, and where the list stops.
+use Rattle.std.specs.Prelude.{◌≡◌, ℕ, ◌+◌, ◌⊎◌, Bool, true, List, [], ◌∷◌, length, take, zero, suc, MatchOption}
+use Rattle.std.specs.Prelude.{Option, None, Result, Ok, Err, IfErr, OnOk, OnErr, if◌then◌else◌}
+use Rattle.study_board.specs.Position.{Position}
+use Rattle.study_moves.specs.Rules.{after}
+use Rattle.study_material.specs.declared.class.Class.{Class}
+use Rattle.study_board.specs.Counts.{counted}
+use Rattle.study_tree.specs.Tree.{Plain, size_of, with_child, without, moved_up}
+use Rattle.study_marks.specs.declared.label.Told.{Told}
+use Rattle.study_marks.specs.declared.refusal.Refusal.{Refusal}
+use Rattle.study_marks.specs.declared.refusal.Refusal.TheVariants.{OutOfMemory}
+use Rattle.study_marks.specs.declared.edit.Edit.{Edit}
+use Rattle.study_marks.specs.declared.edit.Edit.TheVariants as edits
+use Rattle.study_marks.specs.declared.edit.Stopped.{Stopped}
+use Rattle.study_marks.specs.Study.{plain_study, position_at}
+use Rattle.study_marks.specs.Queries.{asked_at, positions_asked, AllHeld, IsOutside, HasAsked, HasStopped}
+use Rattle.study_marks.specs.Queries.{is_of_tables, is_of_device, counted_times, failures_after}
+use Rattle.study_marks.specs.Edits.{Plainly, shifted, edited, edit_refusal, insert_refusal, delete_refusal, promote_refusal, shift_refusal, tag_refusal}
+use Rattle.study_marks.specs.BenchState.{BenchState, marked, IsKeptRight, told_tree}
+use Rattle.study_marks.specs.Answers.{TellsFirstFault}
+use Rattle.study_tablefile.specs.declared.fault.SourceFault.{SourceFault}
+use Rattle.study_prober.specs.Values.{ProbeAnswer}
+
+module _ {A : Type 0} where
+  -- the positions whose values an edit of this study asks
+  abbrev pub questions_of : Plainly → Edit A → List Position
+  questions_of s (edits.Position start) = asked_at start.position
+  questions_of s (edits.Shift start) = positions_asked (shifted s start)
+  questions_of s (edits.Stipulate stipulation) = []
+  questions_of s (edits.Insert steps m) = asked_at (after (position_at s steps) m)
+  questions_of s (edits.Delete steps) = []
+  questions_of s (edits.Promote steps) = []
+  questions_of s (edits.Tag name text) = []
+
+  -- a shift is refused for a broken move, or where there is no memory for that move's path
+  abbrev pub IsShiftRefusal : (Class → Bool) → List Position → Option (Refusal A) → Refusal A → Type 0
+  IsShiftRefusal held asked reason r = MatchOption reason (IsOutside held asked r) (λ fault. (r ≡ fault) ⊎ (r ≡ OutOfMemory))
+
+  -- the edit of this study may be refused so; a new position takes no memory
+  abbrev pub IsRefusalOf : (Class → Bool) → Plainly → Edit A → Refusal A → Type 0
+  IsRefusalOf held s (edits.Position start) r = IsOutside held (asked_at start.position) r × (is_of_tables r ≡ true)
+  IsRefusalOf held s (edits.Shift start) r = IsShiftRefusal held (positions_asked (shifted s start)) (shift_refusal s start) r
+  IsRefusalOf held s (edits.Stipulate stipulation) r = ⊥
+  IsRefusalOf held s (edits.Insert steps m) r =
+      MatchOption (insert_refusal s steps m) (IsOutside held (asked_at (after (position_at s steps) m)) r) (λ fault. r ≡ fault)
+  IsRefusalOf held s (edits.Delete steps) r = MatchOption (delete_refusal s steps) ⊥ (λ fault. r ≡ fault)
+  IsRefusalOf held s (edits.Promote steps) r = MatchOption (promote_refusal s steps) ⊥ (λ fault. r ≡ fault)
+  IsRefusalOf held s (edits.Tag name text) r = MatchOption (tag_refusal text.bytes) ⊥ (λ fault. r ≡ fault)
+
+  -- the edit of this study has no reason to be refused, and a table of each position that it asks is held
+  pub record IsAccepted (held : Class → Bool) (s : Plainly) (e : Edit A) : Type 0 where
+    pub allowed : edit_refusal s e ≡ None
+    pub found : AllHeld held (questions_of s e)
+
+  abbrev pub AreAccepted : (Class → Bool) → Plainly → List (Edit A) → Type 0
+  AreAccepted held s [] = Unit {0}
+  AreAccepted held s (e ∷ es) = IsAccepted held s e × AreAccepted held (edited s e) es
+
+  -- the count of labels after an edit of this study: a new position begins it anew
+  abbrev pub labels_after : Plainly → Edit A → ℕ → ℕ
+  labels_after s (edits.Position start) n = 1
+  labels_after s (edits.Shift start) n = counted_times (size_of s.tree) n
+  labels_after s (edits.Stipulate stipulation) n = counted_times (size_of s.tree) n
+  labels_after s (edits.Insert steps m) n = counted_times (length steps + 2) n
+  labels_after s (edits.Delete steps) n = counted_times (length steps) n
+  labels_after s (edits.Promote steps) n = counted_times (length steps) n
+  labels_after s (edits.Tag name text) n = n
+
+  abbrev pub labels_by : Plainly → List (Edit A) → ℕ → ℕ
+  labels_by s [] n = n
+  labels_by s (e ∷ es) n = labels_by (edited s e) es (labels_after s e n)
+
+  -- What is kept at the nodes after an edit, right or not: the nodes that stay keep theirs. A new position and a shift ask all
+  -- of it anew, and so does an insertion at its node.
+  abbrev pub IsKeptAfter : Plain Told → Edit A → Plain Told → Type 0
+  IsKeptAfter old (edits.Position start) new = Unit {0}
+  IsKeptAfter old (edits.Shift start) new = Unit {0}
+  IsKeptAfter old (edits.Stipulate stipulation) new = new ≡ old
+  IsKeptAfter old (edits.Insert steps m) new = (told : Told) × (new ≡ with_child old steps m told)
+  IsKeptAfter old (edits.Delete steps) new = new ≡ without old steps
+  IsKeptAfter old (edits.Promote steps) new = new ≡ moved_up old steps
+  IsKeptAfter old (edits.Tag name text) new = new ≡ old
+
+  abbrev pub AreKeptAfter : Plain Told → List (Edit A) → Plain Told → Type 0
+  AreKeptAfter old [] new = new ≡ old
+  AreKeptAfter old (e ∷ es) new = (mid : Plain Told) × IsKeptAfter old e mid × AreKeptAfter mid es new
+
+  -- after so many of the edits, the next is refused so
+  abbrev pub IsStopped : (Class → Bool) → Plainly → List (Edit A) → ℕ → Refusal A → Type 0
+  IsStopped held s [] n r = ⊥
+  IsStopped held s (e ∷ es) zero r = IsRefusalOf held s e r
+  IsStopped held s (e ∷ es) (suc n) r = IsStopped held (edited s e) es n r
+
+  -- how many values were asked: all of each accepted edit, and up to one that was not told of the refused one
+  abbrev pub asked_after_edits : Plainly → List (Edit A) → ℕ → ℕ
+  asked_after_edits s [] n = n
+  asked_after_edits s (e ∷ es) n = asked_after_edits (edited s e) es (counted_times (length (questions_of s e)) n)
+
+  abbrev pub HasAskedUpTo : Plainly → List (Edit A) → ℕ → Refusal A → ℕ → ℕ → Type 0
+  HasAskedUpTo s [] n r old new = ⊥
+  HasAskedUpTo s (e ∷ es) zero r old new = HasStopped (is_of_tables r) (length (questions_of s e)) old new
+  HasAskedUpTo s (e ∷ es) (suc n) r old new = HasAskedUpTo (edited s e) es n r (counted_times (length (questions_of s e)) old) new
+
+  abbrev pub HasAskedBy : Plainly → List (Edit A) → Result (Unit {0}) (Stopped A) → ℕ → ℕ → Type 0
+  HasAskedBy s es (Ok x) old new = new ≡ asked_after_edits s es old
+  HasAskedBy s es (Err stop) old new = HasAskedUpTo s es stop.done stop.refusal old new
+
+  -- the count of failures rises exactly where a device is refused
+  abbrev pub failures_stopped : Result (Unit {0}) (Stopped A) → ℕ → ℕ
+  failures_stopped (Ok x) old = old
+  failures_stopped (Err s) old = if is_of_device s.refusal then counted old else old
+
+  -- after so many of the edits, the next is refused with the fault of the first value that was not told, of values as they were then
+  abbrev pub StopsAtFault : {V : Type 0} → (V → Position → ProbeAnswer → Type 0) → (V → Class → SourceFault → Type 0) → (V → ℕ) → V → Plainly → List (Edit A)
+      → ℕ → V → Refusal A → Type 0
+  StopsAtFault gives may_fail asked_of mid s [] n new r = ⊥
+  StopsAtFault gives may_fail asked_of mid s (e ∷ es) zero new r = TellsFirstFault gives may_fail asked_of mid (questions_of s e) new r
+  StopsAtFault gives may_fail asked_of mid s (e ∷ es) (suc n) new r = StopsAtFault gives may_fail asked_of mid (edited s e) es n new r
+
+  -- the values were asked what the accepted edits ask, and then what the refused one does, up to the first that was not told
+  pub record TellsStop {V : Type 0} (gives : V → Position → ProbeAnswer → Type 0) (may_fail : V → Class → SourceFault → Type 0)
+      (asked_of : V → ℕ) (old new : V) (s : Plainly)
+      (es : List (Edit A)) (stop : Stopped A) : Type 0 where
+    pub mid : V
+    pub asked : asked_of mid ≡ asked_after_edits s (take stop.done es) (asked_of old)
+    pub fails_as_before : (c : Class) (f : SourceFault) → may_fail mid c f → may_fail old c f
+    pub first : StopsAtFault gives may_fail asked_of mid s es stop.done new stop.refusal
+
+  -- Not part of any public contract: what one edit of a bench does, over tables that are held, values that are
+  -- honest, and the counts of questions and of failures, before and now.
+  pub record IsApplied (held held_now : Class → Bool) (honest honest_now : Type 0)
+      (asked asked_now failed failed_now : ℕ) (old new : BenchState) (e : Edit A) (r : Result (Unit {0}) (Refusal A))
+      : Type 0 where
+    pub refusal : IfErr r (IsRefusalOf held (plain_study (marked old)) e)
+    pub accepted : OnOk r (IsAccepted held (plain_study (marked old)) e)
+    pub edit : OnOk r (plain_study (marked new) ≡ edited (plain_study (marked old)) e)
+    pub right : honest → IsKeptRight old → OnOk r (IsKeptRight new)
+    pub kept : OnOk r (IsKeptAfter (told_tree old.study.tree) e (told_tree new.study.tree))
+    pub labels : OnOk r (new.relabelled ≡ labels_after (plain_study (marked old)) e old.relabelled)
+    pub counts : HasAsked (length (questions_of (plain_study (marked old)) e)) r asked asked_now
+    pub failures : failed_now ≡ failures_after r failed
+    pub stays : honest → honest_now
+    pub tables : (c : Class) → held_now c ≡ held c
+    pub same : OnErr r (new ≡ old)

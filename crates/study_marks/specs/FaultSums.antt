@@ -1,0 +1,69 @@
+-- Not part of any public contract: faults that are renewed along a path.
+use Rattle.std.specs.Prelude.{◌≡◌, ℕ, ◌+◌, Bool, List, [], ◌∷◌, Option, Some, None, zero, suc, if◌then◌else◌}
+use Rattle.study_tree.specs.Forest.{Forest, none, more}
+use Rattle.study_tree.specs.Tree.{Plain, Spot}
+use Rattle.study_marks.specs.declared.label.Label.{Label}
+use Rattle.study_marks.specs.declared.label.Told.{Told}
+use Rattle.study_marks.specs.declared.mark_rules.Aim.{Aim}
+use Rattle.study_marks.specs.Goals.{hero_moves}
+use Rattle.study_marks.specs.BenchState.{own, faults_below, AddUp}
+
+-- what is kept of the path's node, where q is kept at the path's start
+abbrev pub told_at : Told → Forest Label → List ℕ → Told
+told_at q f [] = q
+told_at q none (k ∷ ks) = q
+told_at q (more m l b r) (zero ∷ ks) = told_at l.told b ks
+told_at q (more m l b r) (suc k ∷ ks) = told_at q r (k ∷ ks)
+
+-- what a child at place k with n faults counts for its parent; the truth value says that the hero moves there
+abbrev pub counted_faults : Bool → ℕ → ℕ → ℕ
+counted_faults hero zero n = n
+counted_faults hero (suc k) n = if hero then 0 else n
+
+-- the faults of a node are right, but those of the path's node: there `minus` is still counted and `plus` is not yet
+abbrev pub AddsUp : ℕ → ℕ → List ℕ → ℕ → ℕ → Type 0
+AddsUp n right [] minus plus = n + plus ≡ right + minus
+AddsUp n right (k ∷ ks) minus plus = n ≡ right
+
+abbrev pub AddUpBut : Aim → ℕ → Told → Forest Label → List ℕ → ℕ → ℕ → Type 0
+AddUpBut a d q f [] minus plus = AddUp a d q f
+AddUpBut a d q none (k ∷ ks) minus plus = Unit {0}
+AddUpBut a d q (more m l b r) (zero ∷ ks) minus plus =
+    AddsUp l.faults (own a d q l.told.value + faults_below (hero_moves a (d + 1)) b) ks minus plus
+    × AddUpBut a (d + 1) l.told b ks minus plus × AddUp a d q r
+AddUpBut a d q (more m l b r) (suc k ∷ ks) minus plus =
+    (l.faults ≡ own a d q l.told.value + faults_below (hero_moves a (d + 1)) b)
+    × AddUp a (d + 1) l.told b × AddUpBut a d q r (k ∷ ks) minus plus
+
+abbrev pub IsOff : Aim → Plain Label → List ℕ → ℕ → ℕ → Type 0
+IsOff a t ks minus plus =
+    AddsUp t.label.faults (faults_below (hero_moves a 0) t.below) ks minus plus × AddUpBut a 0 t.label.told t.below ks minus plus
+
+-- the faults of a node, if it is there
+abbrev pub faults_of : Option (Spot Label) → ℕ
+faults_of None = 0
+faults_of (Some s) = s.label.faults
+
+-- what is below the path's node
+abbrev pub below_at : {L : Type 0} → Forest L → List ℕ → Forest L
+below_at f [] = f
+below_at none (k ∷ ks) = none
+below_at (more m l b r) (zero ∷ ks) = below_at b ks
+below_at (more m l b r) (suc k ∷ ks) = below_at r (k ∷ ks)
+
+-- the nodes from a place on
+abbrev pub skipped : {L : Type 0} → ℕ → Forest L → Forest L
+skipped zero f = f
+skipped (suc k) none = none
+skipped (suc k) (more m l b r) = skipped k r
+
+-- of the faults of the node that comes to the place of one that is gone, those that are new to the parent
+abbrev pub faults_newly_first : Bool → ℕ → ℕ → ℕ
+faults_newly_first hero zero n = if hero then n else 0
+faults_newly_first hero (suc k) n = 0
+
+-- of the faults of two nodes that are exchanged, the second from this place, those by which the parent's change
+abbrev pub faults_of_first : Bool → ℕ → ℕ → ℕ
+faults_of_first hero zero n = 0
+faults_of_first hero (suc zero) n = if hero then n else 0
+faults_of_first hero (suc (suc k)) n = 0

@@ -1,0 +1,168 @@
+//! What is told of all nodes, asked in written order.
+ghost use Rattle.std.specs.Prelude.{◌≡◌, ◌+◌, ◌<◌, ◌≤◌, ◌++◌, ◌∷◌, [], List, IsTrue, OnOk, IfOk, IfErr, length, is_ok, vec_len, vec_capacity};
+ghost use Rattle.study_material.specs.declared.class.Class.{Class as AClass};
+ghost use Rattle.study_tablefile.specs.declared.fault.SourceFault.{SourceFault as ASourceFault};
+ghost use Rattle.study_tree.specs.Tree.{plain_tree, has_spot};
+ghost use Rattle.study_marks.specs.declared.label.Told.{Told as ATold};
+ghost use Rattle.study_tree.specs.Edits.{IsWithin};
+ghost use Rattle.study_marks.specs.Study.{IsPlayable};
+ghost use Rattle.study_marks.specs.Queries.{asked_at, asked_below, AreTablesHeld, IsOutside, HasAsked, failures_after};
+ghost use Rattle.study_prober.specs.Values.{IsNotDamage};
+ghost use Rattle.study_marks.specs.Answers.{IsUndamaged, WereTold, IsFirstFault, TellsFirstFault};
+ghost use Rattle.study_marks.specs.Told.{IsToldOf, AllAreTold, IsUntold, WasAsked, failures_told};
+ghost use Rattle.study_marks.specs.BenchState.{told_tree};
+ghost use Rattle.study_marks.specs.FaultSums.{below_at};
+ghost use Rattle.study_marks.specs.Relabelled.{positions_in, asked_each, AreToldOf, retold_tree};
+
+use crate::evaluate::evaluate;
+use crate::label::{Label, Told};
+use crate::refusal::Refusal;
+use crate::relabel::{Steps, children_of, move_of};
+use arrayvec::ArrayVec;
+use std::alloc::{AllocError, Allocator};
+use study_board::Position;
+use study_moves::played;
+use study_prober::{ProbeFault, Values};
+use study_tree::Tree;
+
+/// Puts one more position last.
+fn push_position<'a, A: Allocator>(
+    all: &mut Vec<Position, &'a A>,
+    position: &Position,
+) -> Result<(), AllocError>
+    ensures { OnOk result (all.new.items ≡ all.old.items ++ position.now ∷ []) }
+{
+    match all.push(position.copied()) {
+        Err(_) => Err(AllocError),
+        Ok(_) => Ok(()),
+    }
+}
+
+/// Lists the positions of all below the node, which has this position, in written order.
+fn list_positions_below<'a, A: Allocator>(
+    tree: &Tree<'a, Label, A>,
+    position: &Position,
+    steps: &mut Steps,
+    all: &mut Vec<Position, &'a A>,
+) -> Result<(), AllocError>
+    requires found { IsTrue (has_spot (plain_tree tree.now) steps.old.items) }
+    requires shallow { IsWithin 256 (plain_tree tree.now).below }
+    requires playable { IsPlayable position.now (below_at (plain_tree tree.now).below steps.old.items) }
+    ensures listed { OnOk result (all.new.items ≡ all.old.items ++ positions_in position.now (below_at (plain_tree tree.now).below steps.old.items)) }
+    ensures steps { OnOk result (steps.new.items ≡ steps.old.items) }
+{
+    let count = children_of(tree, steps.as_slice());
+    let mut place = 0u16;
+    while place < count {
+        steps.push(place);
+        let m = move_of(tree, steps.as_slice());
+        let next = played(position, m);
+        push_position(all, &next)?;
+        list_positions_below(tree, &next, steps, all)?;
+        let _place = steps.pop();
+        place += 1;
+    }
+    Ok(())
+}
+
+/// The positions of all nodes in written order, where this is the root's.
+fn list_positions<'a, A: Allocator>(
+    alloc: &'a A,
+    tree: &Tree<'a, Label, A>,
+    position: &Position,
+) -> Result<Vec<Position, &'a A>, AllocError>
+    requires shallow { IsWithin 256 (plain_tree tree.now).below }
+    requires playable { IsPlayable position.now (plain_tree tree.now).below }
+    ensures { IfOk result (λ all. all.items ≡ position.now ∷ positions_in position.now (plain_tree tree.now).below) }
+{
+    let mut all = Vec::with_capacity(alloc, tree.size())?;
+    push_position(&mut all, position)?;
+    let mut steps = ArrayVec::new();
+    list_positions_below(tree, position, &mut steps, &mut all)?;
+    Ok(all)
+}
+
+/// Asks what is told of a position, and puts it last, where there is room.
+fn evaluate_one<'a, A: Allocator, V: Values>(
+    p: &Position,
+    values: &mut V,
+    all: &mut Vec<Told, &'a A>,
+) -> Result<(), ProbeFault>
+    requires room { vec_len all.old < vec_capacity all.old }
+    ensures game { V.is_honest values.old → OnOk result ((t : ATold) × IsToldOf p.now t × (all.new.items ≡ all.old.items ++ t ∷ [])) }
+    ensures untold { IfErr result (IsUntold (V.held values.old) (asked_at p.now)) }
+    ensures held { OnOk result (AreTablesHeld (V.held values.old) (asked_at p.now)) }
+    ensures told { OnOk result (WereTold V.gives V.may_fail V.asked_of values.old (asked_at p.now) values.new) }
+    ensures no_damage { V.is_honest values.old → IfErr result IsNotDamage }
+    ensures first { IfErr result (λ f. IsFirstFault V.gives V.may_fail V.asked_of values.old (asked_at p.now) f values.new) }
+    ensures asked { WasAsked (length (asked_at p.now)) (is_ok result) (V.asked_of values.old) (V.asked_of values.new) }
+    ensures failures { V.failed_of values.new ≡ failures_told result (V.failed_of values.old) }
+    ensures honest { V.is_honest values.old → V.is_honest values.new }
+    ensures fails_as_before { (c : AClass) (f : ASourceFault) → V.may_fail values.new c f → V.may_fail values.old c f }
+    ensures tables { (c : AClass) → V.held values.new c ≡ V.held values.old c }
+    ensures len { OnOk result (vec_len all.new ≡ vec_len all.old + 1) }
+    ensures capacity { vec_capacity all.new ≡ vec_capacity all.old }
+{
+    let told = evaluate(p, values)?;
+    all.push_reserved(told);
+    Ok(())
+}
+
+/// Asks what is told of these positions, one after the other, where there is room for all.
+fn evaluate_each<'a, A: Allocator, V: Values>(
+    positions: &[Position],
+    values: &mut V,
+    all: &mut Vec<Told, &'a A>,
+) -> Result<(), ProbeFault>
+    requires room { vec_len all.old + length positions.now ≤ vec_capacity all.old }
+    ensures game { V.is_honest values.old → OnOk result ((told : List ATold) × AreToldOf positions.now told × (all.new.items ≡ all.old.items ++ told)) }
+    ensures untold { IfErr result (IsUntold (V.held values.old) (asked_each positions.now)) }
+    ensures held { OnOk result (AreTablesHeld (V.held values.old) (asked_each positions.now)) }
+    ensures no_damage { V.is_honest values.old → IfErr result IsNotDamage }
+    ensures first { IfErr result (λ f. IsFirstFault V.gives V.may_fail V.asked_of values.old (asked_each positions.now) f values.new) }
+    ensures asked { WasAsked (length (asked_each positions.now)) (is_ok result) (V.asked_of values.old) (V.asked_of values.new) }
+    ensures failures { V.failed_of values.new ≡ failures_told result (V.failed_of values.old) }
+    ensures honest { V.is_honest values.old → V.is_honest values.new }
+    ensures fails_as_before { (c : AClass) (f : ASourceFault) → V.may_fail values.new c f → V.may_fail values.old c f }
+    ensures tables { (c : AClass) → V.held values.new c ≡ V.held values.old c }
+{
+    for p in positions {
+        evaluate_one(p, values, all)?;
+    }
+    Ok(())
+}
+
+/// Asks what is told of all nodes of the tree, whose root has this position, in written order. All memory is found
+/// before the first value is asked.
+pub fn evaluate_all<'a, A: Allocator, V: Values>(
+    alloc: &'a A,
+    tree: &Tree<'a, Label, A>,
+    position: &Position,
+    values: &mut V,
+) -> Result<Vec<Told, &'a A>, Refusal<'a, A>>
+    requires shallow { IsWithin 256 (plain_tree tree.now).below }
+    requires playable { IsPlayable position.now (plain_tree tree.now).below }
+    ensures game { V.is_honest values.old → IfOk result (λ all. AllAreTold position.now (retold_tree all.items (told_tree (plain_tree tree.now)))) }
+    ensures refusal { IfErr result (IsOutside (V.held values.old) (asked_at position.now ++ asked_below position.now (plain_tree tree.now).below)) }
+    ensures no_damage { V.is_honest values.old → IfErr result IsUndamaged }
+    ensures first { IfErr result (TellsFirstFault V.gives V.may_fail V.asked_of values.old
+        (asked_at position.now ++ asked_below position.now (plain_tree tree.now).below) values.new) }
+    ensures found { OnOk result (AreTablesHeld (V.held values.old) (asked_at position.now ++ asked_below position.now (plain_tree tree.now).below)) }
+    ensures asked { HasAsked (length (asked_at position.now ++ asked_below position.now (plain_tree tree.now).below)) result
+        (V.asked_of values.old) (V.asked_of values.new) }
+    ensures failures { V.failed_of values.new ≡ failures_after result (V.failed_of values.old) }
+    ensures honest { V.is_honest values.old → V.is_honest values.new }
+    ensures fails_as_before { (c : AClass) (f : ASourceFault) → V.may_fail values.new c f → V.may_fail values.old c f }
+    ensures tables { (c : AClass) → V.held values.new c ≡ V.held values.old c }
+{
+    let positions = match list_positions(alloc, tree, position) {
+        Err(_) => return Err(Refusal::OutOfMemory),
+        Ok(positions) => positions,
+    };
+    let mut all = match Vec::with_capacity(alloc, positions.len()) {
+        Err(_) => return Err(Refusal::OutOfMemory),
+        Ok(all) => all,
+    };
+    evaluate_each(positions.as_slice(), values, &mut all)?;
+    Ok(all)
+}

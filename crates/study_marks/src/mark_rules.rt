@@ -1,0 +1,183 @@
+//! The mark of a move, from what is kept at the node before it.
+ghost use Rattle.std.specs.Prelude.{◌≡◌, ◌+◌, ◌^◌, ◌≤◌, ◌<◌, length, nat_le};
+ghost use Rattle.std.specs.List.{count_by};
+ghost use Rattle.study_board.specs.Men.{same_side};
+ghost use Rattle.study_marks.specs.Goals.{hero_moves, hero_mates, hero_loses, plies_of, holds};
+ghost use Rattle.study_marks.specs.Marks.{only_or_dual, is_fault};
+ghost use Rattle.study_marks.specs.BenchState.{count_holding, kept_mark, own};
+
+use crate::label::Told;
+use crate::mark::MoveMark;
+use crate::stipulation::{Goal, MateMoves, Stipulation};
+use crate::tally::Tally;
+use study_board::Side;
+use study_retro::Value;
+
+/// The goal, and whether the hero makes the first move.
+#[derive(Clone, Copy)]
+pub struct Aim {
+    pub goal: Goal,
+    pub hero_first: bool,
+}
+
+/// The aim of a study with this stipulation in which this side moves first.
+pub fn aim_of(stipulation: &Stipulation, first: Side) -> Aim
+    ensures { result ≡ record { goal = stipulation.now.goal; hero_first = same_side stipulation.now.hero first } }
+{
+    Aim {
+        goal: stipulation.goal,
+        hero_first: stipulation.hero.is(first),
+    }
+}
+
+/// Whether the hero moves at this depth.
+pub fn hero_moves(aim: &Aim, depth: usize) -> bool
+    ensures { result ≡ hero_moves aim.now depth }
+{
+    if depth % 2 == 0 {
+        aim.hero_first
+    } else {
+        !aim.hero_first
+    }
+}
+
+/// In how many plies the hero mates, who is the side to move or not.
+pub fn hero_mates(hero: bool, value: Value) -> Option<u8>
+    ensures { result ≡ hero_mates hero value }
+{
+    match value {
+        Value::Win(plies) if hero => Some(plies),
+        Value::Loss(plies) if !hero => Some(plies),
+        _ => None,
+    }
+}
+
+/// Whether the hero is mated.
+pub fn hero_loses(hero: bool, value: Value) -> bool
+    ensures { result ≡ hero_loses hero value }
+{
+    match value {
+        Value::Win(_) => !hero,
+        Value::Loss(_) => hero,
+        Value::Draw => false,
+    }
+}
+
+/// The plies from the root up to the last of the hero's moves.
+fn plies_of(hero_first: bool, moves: MateMoves) -> usize
+    ensures value { result ≡ plies_of hero_first moves }
+    ensures few { result ≤ 254 }
+{
+    let count = moves.count() as usize;
+    if hero_first { 2 * count - 1 } else { 2 * count }
+}
+
+/// Whether so many plies from this depth on are within the limit.
+fn within(depth: usize, plies: u8, limit: usize) -> bool
+    ensures { result ≡ nat_le (depth + plies) limit }
+{
+    depth <= limit && plies as usize <= limit - depth
+}
+
+/// Whether a position at this depth with this value holds.
+pub fn holds(aim: &Aim, depth: usize, value: Value) -> bool
+    ensures { result ≡ holds aim.now depth value }
+{
+    let hero = hero_moves(aim, depth);
+    let goal = aim.goal;
+    match goal {
+        Goal::Win => hero_mates(hero, value).is_some(),
+        Goal::Draw => !hero_loses(hero, value),
+        Goal::MateIn(moves) => match hero_mates(hero, value) {
+            None => false,
+            Some(plies) => within(depth, plies, plies_of(aim.hero_first, moves)),
+        },
+    }
+}
+
+/// How many of the distances, counted from this depth, are within the limit.
+fn count_within(mates: &[u8], depth: usize, limit: usize) -> usize
+    requires { length mates.now ≤ 256 }
+    ensures { result ≡ count_by (λ n. nat_le (depth + n) limit) mates.now }
+{
+    let mut count = 0;
+    for plies in mates {
+        if within(depth, *plies, limit) {
+            count += 1;
+        }
+    }
+    count
+}
+
+/// How many of the tallied moves of the hero lead to a position at this depth that holds.
+fn count_holding(aim: &Aim, depth: usize, tally: &Tally) -> usize
+    ensures value { result ≡ count_holding aim.now.goal aim.now.hero_first depth tally.now }
+    ensures few { result ≤ 256 }
+{
+    let goal = aim.goal;
+    match goal {
+        Goal::Win => tally.mates().len(),
+        Goal::Draw => tally.mates().len() + tally.draws() as usize,
+        Goal::MateIn(moves) => {
+            let limit = plies_of(aim.hero_first, moves);
+            count_within(tally.mates(), depth, limit)
+        }
+    }
+}
+
+/// The mark of a move that holds, as so many of the legal moves do.
+fn only_or_dual(count: usize) -> MoveMark
+    requires { count ≤ 256 }
+    ensures { result ≡ only_or_dual count }
+{
+    if count == 1 {
+        MoveMark::Only
+    } else {
+        MoveMark::Dual(count.saturating_sub(1) as u8)
+    }
+}
+
+/// The mark of a move from a node at this depth to a position with this value.
+pub fn mark_of_move(aim: &Aim, depth: usize, before: &Told, after: Value) -> MoveMark
+    requires { depth + 1 < 2 ^ 64 }
+    ensures { result ≡ kept_mark aim.now depth before.now after }
+{
+    let held = holds(aim, depth, before.value);
+    let holds_after = holds(aim, depth + 1, after);
+    if hero_moves(aim, depth) {
+        if !held {
+            MoveMark::Idle
+        } else if holds_after {
+            only_or_dual(count_holding(aim, depth + 1, &before.tally))
+        } else {
+            MoveMark::Mistake
+        }
+    } else if !held && holds_after {
+        MoveMark::Mistake
+    } else {
+        MoveMark::Reply
+    }
+}
+
+/// Whether a move of the hero with this mark is a fault.
+fn is_fault(mark: MoveMark) -> bool
+    ensures { result ≡ is_fault mark }
+{
+    match mark {
+        MoveMark::Dual(_) | MoveMark::Mistake => true,
+        _ => false,
+    }
+}
+
+/// The faults that a node has by the move that led to it: 1 or none.
+pub fn own_faults(aim: &Aim, depth: usize, before: &Told, after: Value) -> u32
+    requires { depth + 1 < 2 ^ 64 }
+    ensures value { result ≡ own aim.now depth before.now after }
+    ensures few { result ≤ 1 }
+{
+    if hero_moves(aim, depth) && is_fault(mark_of_move(aim, depth, before, after)) {
+        1
+    } else {
+        0
+    }
+}

@@ -1,0 +1,85 @@
+//! The text of a study, and its way to a writer.
+ghost use Rattle.std.specs.Prelude.{◌≡◌, OnOk, IfOk, Err, Some};
+ghost use Rattle.std.specs.Io.KnownBytes.{Appends};
+ghost use Rattle.study_tablefile.specs.Taken.{TakesPrefix};
+ghost use Rattle.study_marks.specs.BenchState.{marked};
+ghost use Rattle.study_pgn.specs.Pgn.{movetext, pgn_text};
+
+use crate::PgnFault;
+use crate::root_comment::add_root_comment;
+use crate::tags::add_tags;
+use crate::text_buffer::Text;
+use crate::value_text::result_text;
+use crate::variations::add_moves_below;
+use crate::wrap::add_wrapped;
+use std::alloc::{AllocError, Allocator};
+use std::io::Write;
+use study_marks::{Bench, Mark};
+use study_tablefile::put;
+
+// The mark of the root.
+fn root_of<'b, B: Allocator>(bench: &Bench<'b, B>) -> Option<Mark>
+    ensures { result ≡ Some (marked bench.now).tree.label }
+{
+    match bench.shown(&[]) {
+        None => None,
+        Some(node) => Some(node.mark),
+    }
+}
+
+#[tactic(auto, unfolding(crate::specs::Pgn::movetext))]
+fn movetext<'a, 'b, A: Allocator, B: Allocator>(
+    alloc: &'a A,
+    bench: &Bench<'b, B>,
+    root: Mark,
+) -> Result<Text<'a, A>, AllocError>
+    requires { root ≡ (marked bench.now).tree.label }
+    ensures { IfOk result (λ text. text ≡ movetext (marked bench.now)) }
+{
+    let start = bench.start();
+    let mut steps = Vec::new(alloc);
+    let mut text = Text::new(alloc);
+    let first = start.position.to_move();
+    add_root_comment(&mut text, bench.stipulation(), first, root)?;
+    add_moves_below(&mut text, bench, &mut steps, start)?;
+    text.add(b" ")?;
+    text.add(result_text(first, root.value))?;
+    Ok(text)
+}
+
+#[tactic(auto, unfolding(crate::specs::Pgn::pgn_text))]
+fn pgn_text<'a, 'b, A: Allocator, B: Allocator>(
+    alloc: &'a A,
+    bench: &Bench<'b, B>,
+) -> Result<Text<'a, A>, AllocError>
+    ensures { IfOk result (λ text. text ≡ pgn_text (marked bench.now)) }
+{
+    let mut text = Text::new(alloc);
+    if let Some(root) = root_of(bench) {
+        let moves = movetext(alloc, bench, root)?;
+        add_tags(&mut text, bench, root)?;
+        text.add(b"\n")?;
+        add_wrapped(&mut text, moves.as_slice())?;
+        text.add(b"\n")?;
+    }
+    Ok(text)
+}
+
+/// Writes the PGN of a study.
+///
+/// The text is made whole first, so want of memory is told before the first byte. A writer that fails or takes nothing
+/// ends the call; it took a prefix of the text then. The time grows with the number of nodes, and with the depth of
+/// each, since a node is looked up along its path.
+pub fn write_pgn<'a, 'b, A: Allocator, B: Allocator, W: Write>(
+    alloc: &'a A,
+    bench: &Bench<'b, B>,
+    out: &mut W,
+) -> Result<(), PgnFault>
+    ensures ok { OnOk result (Appends (W.contents out.old) (W.contents out.new) (pgn_text (marked bench.now))) }
+    ensures device { result ≡ Err PgnFault.Device → TakesPrefix (W.contents out.old) (W.contents out.new) (pgn_text (marked bench.now)) }
+    ensures memory { result ≡ Err PgnFault.OutOfMemory → out.new ≡ out.old }
+{
+    let text = pgn_text(alloc, bench)?;
+    put(out, text.as_slice())?;
+    Ok(())
+}

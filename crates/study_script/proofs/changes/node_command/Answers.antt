@@ -1,0 +1,38 @@
+use Rattle.std.proofs.Common.{refl, subst}
+use Rattle.study_marks.specs.Study.{plain_study}
+use Rattle.study_marks.specs.BenchState.{marked}
+use Rattle.study_command.specs.Paths.{steps_of}
+use Rattle.study_script.specs.declared.document.Document.TheVariants as held
+use Rattle.study_reply.specs.declared.refusal.Refusal.TheVariants.{NoStudy}
+use Rattle.study_script.specs.State.{Document, Outside, quiet, study}
+use Rattle.study_script.specs.Held.{HoldsFrom, HoldsBenchFrom}
+use Rattle.study_script.specs.Replies.{refused, IsStudyReplyAt}
+use Rattle.study_script.proofs.Executions.{executed_weaker}
+use Rattle.study_script.proofs.HeldBehindReplies.{document_kept, document_of, bench_of, empty_seen, start_seen, study_seen}
+use Rattle.study_script.proofs.changes.node_command.Goals as goal
+
+pub returns-in-Study : goal.returns-in-Study
+returns-in-Study g c = λ s h. executed_weaker
+    {I = λ (o : Outside). IsStudyReplyAt s o c.args.word (study (plain_study (marked c.in-Study.bench))) (steps_of c.args.path.now)}
+    {J = λ (o : Outside). IsStudyReplyAt s o c.args.word s.document (steps_of c.args.path.now)} {H = HoldsBenchFrom s c.at_path.new.bench}
+    {K = HoldsFrom {A = g.row.A.Denot} s (held.Study c.at_path.new.bench)} c.at_path.result
+    (λ o r i. subst (λ (x : Document). IsStudyReplyAt s o c.args.word x (steps_of c.args.path.now) r)
+    (study_seen c.args.document.now c.in-Study.bench s c.in-Study.is h) i)
+    (λ t m. document_of {A = g.row.A.Denot} (held.Study c.at_path.new.bench) c.at_path.new.bench s t refl m)
+    (c.at_path.ensures s (bench_of c.args.document.now c.in-Study.bench s c.in-Study.is h))
+
+pub returns-in-Empty : goal.returns-in-Empty
+returns-in-Empty g c = λ s h. (
+  quiet,
+  s,
+  subst (λ (x : Document). IsStudyReplyAt s quiet c.args.word x (steps_of c.args.path.now) (refused s NoStudy)) (empty_seen c.args.document.now s c.in-Empty.is h) refl,
+  document_kept c.args.document.now s h,
+)
+
+pub returns-in-Start : goal.returns-in-Start
+returns-in-Start g c = λ s h. (
+  quiet,
+  s,
+  subst (λ (x : Document). IsStudyReplyAt s quiet c.args.word x (steps_of c.args.path.now) (refused s NoStudy)) (start_seen c.args.document.now c.in-Start.field-0 s c.in-Start.is h) refl,
+  document_kept c.args.document.now s h,
+)

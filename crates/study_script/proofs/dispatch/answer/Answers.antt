@@ -1,0 +1,74 @@
+use Rattle.std.proofs.Common.{◌≡◌, [], Ok, Some, refl, sym, ap, subst, ◌∙◌}
+use Rattle.std.specs.Prelude.{IfOk, OnErr}
+use Rattle.std.proofs.KnownBytes.{Appends-nil}
+use Rattle.study_tablefile.proofs.TextTaken.{OnErr-known}
+use Rattle.study_reply.specs.declared.refusal.Refusal.TheVariants.{Form}
+use Rattle.study_command.specs.Parser.{Asks, line_seen, command_of, command_seen}
+use Rattle.study_script.specs.State.{quiet}
+use Rattle.study_script.specs.Held.{Answered, BrokenOff}
+use Rattle.study_script.specs.Replies.{accepted, refused, IsReplyTo, IsReplyWhere, IsReply}
+use Rattle.study_script.proofs.Executions.{executed_answered, executed_broken}
+use Rattle.study_script.specs.Stores.{HonestOn, IsTrustedAsk}
+use Rattle.study_script.specs.Session.{SessionHolds}
+use Rattle.study_script.proofs.dispatch.answer.Goals as goal
+
+pub returns-in-Ok-None-clause-ok : goal.returns-in-Ok-None-clause-ok
+returns-in-Ok-None-clause-ok g c =
+    λ trusted s may d. (
+      quiet,
+      accepted s [],
+      subst (λ (x : Asks). IsReplyWhere s quiet x (accepted s []))
+          c.read_command.ensures (subst (λ x. IsReplyWhere s quiet (line_seen x) (accepted s [])) (sym c.in-Ok-None.is)
+          (subst (λ x. IsReplyWhere s quiet (line_seen (Ok x)) (accepted s [])) (sym c.in-Ok-None.field-0-is) refl)),
+      Appends-nil (g.W.Write.contents c.args.out.now),
+      d,
+      refl,
+    )
+
+pub returns-in_err-refuse-in-Err-clause-err : goal.returns-in_err-refuse-in-Err-clause-err
+returns-in_err-refuse-in-Err-clause-err g c =
+    λ trusted s may d. let part : BrokenOff (IsReply s c.args.line.now) (g.W.Write.contents c.args.out.now)
+    (g.W.Write.contents c.refuse.new.out) = (
+      quiet,
+      refused s (Form c.in-Err.fault),
+      subst (λ (x : Asks). IsReplyWhere s quiet x (refused s (Form c.in-Err.fault))) c.read_command.ensures
+          (subst (λ x. IsReplyWhere s quiet (line_seen x) (refused s (Form c.in-Err.fault))) (sym c.in-Err.is) refl),
+      c.in_err-refuse-in-Err.ensures.err,
+    ) in OnErr-known _ _ part
+
+pub returns-in_ok-refuse-in-Err-clause-ok : goal.returns-in_ok-refuse-in-Err-clause-ok
+returns-in_ok-refuse-in-Err-clause-ok g c =
+    λ trusted s may d. (
+      quiet,
+      refused s (Form c.in-Err.fault),
+      subst (λ (x : Asks). IsReplyWhere s quiet x (refused s (Form c.in-Err.fault))) c.read_command.ensures
+          (subst (λ x. IsReplyWhere s quiet (line_seen x) (refused s (Form c.in-Err.fault))) (sym c.in-Err.is) refl),
+      c.in_ok-refuse-in-Err.ensures.ok,
+      d,
+      refl,
+    )
+
+pub returns-in-Ok-Some-clause-ok : goal.returns-in-Ok-Some-clause-ok
+returns-in-Ok-Some-clause-ok g c = λ trusted s may d.
+    let seen : command_of c.args.line.now ≡ Ok (Some (command_seen c.in-Ok-Some.command)) =
+    sym c.read_command.ensures ∙ ap line_seen (c.in-Ok-Some.is ∙ ap Ok c.in-Ok-Some.field-0-is) in
+    subst (λ (x : Asks). IfOk c.write_reply.result (Answered (λ o. IsReplyWhere s o x) (SessionHolds g.S.Pages.PageSource.honest g.S.Pages.PageSource.gives (HonestOn trusted g.S.TableStore.honest) g.S.TableStore.files g.S.TableStore.headers g.S.TableStore.faults
+    c.execute-answer.new.document c.execute-answer.new.tables c.execute-answer.new.store)
+    (g.W.Write.contents c.args.out.now) (g.W.Write.contents c.write_reply.new.out))) (sym seen)
+    (executed_answered (λ o. IsReplyTo s o (command_seen c.in-Ok-Some.command)) (SessionHolds g.S.Pages.PageSource.honest g.S.Pages.PageSource.gives (HonestOn trusted g.S.TableStore.honest) g.S.TableStore.files g.S.TableStore.headers g.S.TableStore.faults
+    c.execute-answer.new.document c.execute-answer.new.tables c.execute-answer.new.store)
+    c.execute-answer.result c.write_reply.result (g.W.Write.contents c.args.out.now) (g.W.Write.contents c.write_reply.new.out)
+    (c.execute-answer.ensures trusted s (subst (λ (x : Asks). IsTrustedAsk trusted x) seen may) d)
+    c.write_reply.ensures.ok c.write_reply.ensures.refused)
+
+pub returns-in-Ok-Some-clause-err : goal.returns-in-Ok-Some-clause-err
+returns-in-Ok-Some-clause-err g c = λ trusted s may d.
+    let seen : command_of c.args.line.now ≡ Ok (Some (command_seen c.in-Ok-Some.command)) =
+    sym c.read_command.ensures ∙ ap line_seen (c.in-Ok-Some.is ∙ ap Ok c.in-Ok-Some.field-0-is) in
+    subst (λ (x : Asks). OnErr c.write_reply.result (BrokenOff (λ o. IsReplyWhere s o x)
+    (g.W.Write.contents c.args.out.now) (g.W.Write.contents c.write_reply.new.out))) (sym seen)
+    (executed_broken (λ o. IsReplyTo s o (command_seen c.in-Ok-Some.command)) (SessionHolds g.S.Pages.PageSource.honest g.S.Pages.PageSource.gives (HonestOn trusted g.S.TableStore.honest) g.S.TableStore.files g.S.TableStore.headers g.S.TableStore.faults
+    c.execute-answer.new.document c.execute-answer.new.tables c.execute-answer.new.store)
+    c.execute-answer.result c.write_reply.result (g.W.Write.contents c.args.out.now) (g.W.Write.contents c.write_reply.new.out)
+    (c.execute-answer.ensures trusted s (subst (λ (x : Asks). IsTrustedAsk trusted x) seen may) d)
+    c.write_reply.ensures.err)

@@ -1,0 +1,40 @@
+use Rattle.std.proofs.Common.{◌≡◌, true}
+use Rattle.study_marks.specs.Queries.{asked_at}
+use Rattle.study_reply.specs.Words.{stipulation_words}
+use Rattle.study_script.specs.State.{quiet}
+use Rattle.study_script.specs.Held.{tables_held, tables_give, tables_may_fail, tables_asked, are_paged}
+use Rattle.study_script.specs.Replies.{holding, new_study}
+use Rattle.study_script.proofs.AskingEdits.{refused_asking, accepted_outside}
+use Rattle.study_script.proofs.Documents.{study_made, document_same}
+use Rattle.study_script.proofs.TablesFaults.{failing_known}
+use Rattle.study_script.proofs.position_commands.make_study.Goals as goal
+
+pub returns-in-Ok : goal.returns-in-Ok
+returns-in-Ok g c = λ s h.
+    let new = new_study c.args.start c.args.stipulation.now in
+    let tables = c.args.tables.now in (
+      quiet,
+      holding s new,
+      accepted_outside s (tables_held tables) (asked_at c.args.start.position) new (stipulation_words c.args.stipulation.now) h.classes
+          c.in-Ok.ensures.found,
+      study_made g.P.PageSource.honest g.P.PageSource.gives
+          c.args.document.now c.in-Ok.bench tables c.new_bench.new.tables s new h c.in-Ok.ensures.made (c.in-Ok.ensures.right h.values)
+          (c.new_bench.ensures.honest h.values) c.new_bench.ensures.tables c.new_bench.ensures.mode c.new_bench.ensures.fails_as_before,
+    )
+
+pub returns-in-Err : goal.returns-in-Err
+returns-in-Err g c = λ s h.
+    let asked = asked_at c.args.start.position in
+    let new = new_study c.args.start c.args.stipulation.now in
+    let tables = c.args.tables.now in
+    let told = refused_asking g.row.A.Denot s (tables_held tables) (are_paged tables) asked new (stipulation_words c.args.stipulation.now)
+    c.in-Err.refusal h.classes h.paged c.in-Err.ensures.refusal c.in-Err.ensures.device
+    (c.in-Err.ensures.no_damage h.values) c.in-Err.ensures.takes_no_memory
+    (failing_known (tables_give g.P.PageSource.gives) (tables_may_fail g.P.PageSource.gives) tables_asked
+    (λ d f. s.shelf.faults d f ≡ true) tables c.new_bench.new.tables asked c.in-Err.refusal h.faults c.in-Err.ensures.first) in (
+      told.0,
+      s,
+      told.1,
+      document_same g.P.PageSource.honest g.P.PageSource.gives c.args.document.now tables c.new_bench.new.tables s h (c.new_bench.ensures.honest h.values)
+          c.new_bench.ensures.tables c.new_bench.ensures.mode c.new_bench.ensures.fails_as_before,
+    )

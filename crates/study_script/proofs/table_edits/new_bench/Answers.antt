@@ -1,0 +1,36 @@
+use Rattle.std.proofs.Common.{sym, subst, OnOk}
+use Rattle.study_marks.specs.Queries.{asked_at, AllHeld}
+use Rattle.study_script.specs.Held.{tables_held, tables_may_fail}
+use Rattle.study_script.proofs.TablesFaults.{whole_told, paged_told}
+use Rattle.study_script.proofs.table_edits.new_bench.Goals as goal
+
+pub returns-in-Whole-clause-refusal : goal.returns-in-Whole-clause-refusal
+returns-in-Whole-clause-refusal g c = rw c.in-Whole.is c.new.ensures.refusal
+
+pub returns-in-Whole-clause-found : goal.returns-in-Whole-clause-found
+returns-in-Whole-clause-found g c =
+    subst (λ t. OnOk c.new.result (AllHeld (tables_held t) (asked_at c.args.start.position))) (sym c.in-Whole.is)
+    c.new.ensures.found
+
+pub returns-in-Paged-clause-refusal : goal.returns-in-Paged-clause-refusal
+returns-in-Paged-clause-refusal g c = rw c.in-Paged.is c.new-in-Paged.ensures.refusal
+
+pub returns-in-Paged-clause-found : goal.returns-in-Paged-clause-found
+returns-in-Paged-clause-found g c =
+    subst (λ t. OnOk c.new-in-Paged.result (AllHeld (tables_held t) (asked_at c.args.start.position)))
+    (sym c.in-Paged.is) c.new-in-Paged.ensures.found
+
+pub returns-in-Whole-clause-first : goal.returns-in-Whole-clause-first
+returns-in-Whole-clause-first g c = whole_told g.P.PageSource.gives c.args.tables.now c.in-Whole.tables c.new.new.values
+    (asked_at c.args.start.position) c.new.result c.in-Whole.is c.new.ensures.first
+
+pub returns-in-Paged-clause-first : goal.returns-in-Paged-clause-first
+returns-in-Paged-clause-first g c = paged_told g.P.PageSource.gives c.args.tables.now c.in-Paged.tables c.new-in-Paged.new.values
+    (asked_at c.args.start.position) c.new-in-Paged.result c.in-Paged.is c.new-in-Paged.ensures.first
+
+pub returns-in-Whole-clause-fails_as_before : goal.returns-in-Whole-clause-fails_as_before
+returns-in-Whole-clause-fails_as_before g c = λ d f m. absurd m
+
+pub returns-in-Paged-clause-fails_as_before : goal.returns-in-Paged-clause-fails_as_before
+returns-in-Paged-clause-fails_as_before g c =
+    λ d f m. subst (λ t. tables_may_fail g.P.PageSource.gives t d f) (sym c.in-Paged.is) (c.new-in-Paged.ensures.fails_as_before d f m)

@@ -1,0 +1,83 @@
+//! What a line does: its reply, and what is held after it.
+ghost use Rattle.std.specs.Prelude.{Bool, IfOk, OnErr};
+ghost use Rattle.study_command.specs.Parser.{command_seen};
+ghost use Rattle.study_script.specs.State.{State};
+ghost use Rattle.study_script.specs.Replies.{IsReply, IsReplyTo};
+ghost use Rattle.study_script.specs.Held.{Answered, BrokenOff};
+ghost use Rattle.study_script.specs.Executed.{Executed};
+ghost use Rattle.study_script.specs.Session.{SessionHolds};
+ghost use Rattle.study_material.specs.declared.class.Class.{Class as AClass};
+ghost use Rattle.study_script.specs.Stores.{HonestOn, IsTrusted, IsTrustedAsked};
+
+use crate::changes::{insert, node_command, set_tag};
+use crate::document::Document;
+use crate::position_commands::{fen_command, stipulate};
+use crate::queries::{node_query, pgn, solve_at};
+use crate::store::TableStore;
+use crate::table_commands::table_command;
+use crate::tables::Tables;
+use std::alloc::Allocator;
+use std::io::Write;
+use study_command::command::Command;
+use study_command::read_command;
+use study_reply::refusal::Refusal;
+use study_reply::reply::{Answer, write_reply};
+use study_reply::words::refuse;
+use study_tablefile::DeviceFailed;
+
+/// Writes the reply to a line, keeps what is held after it, and tells whether the line was refused.
+pub fn answer<'a, W: Write, S: TableStore, A: Allocator>(
+    alloc: &'a A,
+    document: &mut Document<'a, A>,
+    tables: &mut Tables<'a, S::Pages, A>,
+    store: &mut S,
+    line: &[u8],
+    out: &mut W,
+) -> Result<bool, DeviceFailed>
+    ensures ok { (trusted : AClass → Bool) (s : State) → IsTrusted trusted line.now
+        → SessionHolds S.Pages.honest S.Pages.gives (HonestOn trusted S.honest) S.files S.headers S.faults document.old tables.old store.old s
+        → IfOk result (Answered (IsReply s line.now)
+        (SessionHolds S.Pages.honest S.Pages.gives (HonestOn trusted S.honest) S.files S.headers S.faults document.new tables.new store.new)
+        (W.contents out.old) (W.contents out.new)) }
+    ensures err { (trusted : AClass → Bool) (s : State) → IsTrusted trusted line.now
+        → SessionHolds S.Pages.honest S.Pages.gives (HonestOn trusted S.honest) S.files S.headers S.faults document.old tables.old store.old s
+        → OnErr result (BrokenOff (IsReply s line.now) (W.contents out.old) (W.contents out.new)) }
+{
+    match read_command(line) {
+        Ok(None) => Ok(false),
+        Ok(Some(command)) => {
+            let answer = execute(alloc, document, tables, store, &command);
+            write_reply(out, answer)
+        }
+        Err(fault) => {
+            refuse(out, Refusal::Form(fault))?;
+            Ok(true)
+        }
+    }
+}
+
+/// Does what a command asks for, and says what it came to. Nothing is written.
+fn execute<'a, S: TableStore, A: Allocator>(
+    alloc: &'a A,
+    document: &mut Document<'a, A>,
+    tables: &mut Tables<'a, S::Pages, A>,
+    store: &mut S,
+    command: &Command<'_>,
+) -> Answer<'a, A>
+    ensures { (trusted : AClass → Bool) (s : State) → IsTrustedAsked trusted (command_seen command.now)
+        → SessionHolds S.Pages.honest S.Pages.gives (HonestOn trusted S.honest) S.files S.headers S.faults document.old tables.old store.old s
+        → Executed (λ o. IsReplyTo s o (command_seen command.now))
+        (SessionHolds S.Pages.honest S.Pages.gives (HonestOn trusted S.honest) S.files S.headers S.faults document.new tables.new store.new) result }
+{
+    match command {
+        Command::FromFen(word, fen) => fen_command(document, tables, *word, fen),
+        Command::Query(word, path) => node_query(alloc, document, *word, path.word),
+        Command::Node(word, path) => node_command(alloc, document, *word, path.word),
+        Command::Table(word, name) => table_command(alloc, tables, store, *word, name),
+        Command::Stipulate(stipulation) => stipulate(alloc, document, tables, stipulation),
+        Command::Insert(path, san) => insert(alloc, document, tables, path.word, san),
+        Command::Tag(name, text) => set_tag(document, *name, text),
+        Command::Solve(count, path) => solve_at(alloc, document, *count, path.word),
+        Command::Pgn => pgn(alloc, document),
+    }
+}

@@ -1,0 +1,189 @@
+//! Starts and stipulations: `position`, `shift` and `stipulate`.
+ghost use Rattle.std.specs.Prelude.{◌≡◌};
+ghost use Rattle.study_reply.specs.declared.reply.Reply.TheVariants as reply;
+ghost use Rattle.study_marks.specs.Edits.{shift_refusal, stipulated};
+ghost use Rattle.study_script.specs.State.{State, study, start as begun};
+ghost use Rattle.study_script.specs.Replies.{IsStartReply, IsPositionReply, IsShiftReply, IsStipulateReply};
+ghost use Rattle.study_notation.specs.Fen.{start_of};
+ghost use Rattle.study_script.specs.declared.document.Document.TheVariants as held;
+ghost use Rattle.study_marks.specs.Study.{plain_study};
+ghost use Rattle.study_marks.specs.BenchState.{marked, IsKeptRight};
+ghost use Rattle.study_script.specs.Held.{Holds};
+ghost use Rattle.study_script.specs.Executed.{Executed};
+
+use crate::document::Document;
+use crate::table_edits;
+use crate::tables::Tables;
+use std::alloc::Allocator;
+use study_command::command::FenCommand;
+use study_marks::{Bench, Stipulation};
+use study_notation::{Start, read_fen};
+use study_reply::refusal::Refusal;
+use study_reply::reply::{Answer, Refused, Reply};
+use study_tablefile::PageSource;
+
+/// `position` and `shift`.
+pub fn fen_command<'a, P: PageSource, A: Allocator>(
+    document: &mut Document<'a, A>,
+    tables: &mut Tables<'a, P, A>,
+    word: FenCommand,
+    fen: &str,
+) -> Answer<'a, A>
+    ensures { (s : State) → Holds P.honest P.gives document.old tables.old s
+        → Executed (λ o. IsStartReply s o word s.document (start_of fen.now)) (Holds P.honest P.gives document.new tables.new) result }
+{
+    match word {
+        FenCommand::Position => read_position(document, tables, fen),
+        FenCommand::Shift => shift_document(document, tables, fen),
+    }
+}
+
+fn read_position<'a, P: PageSource, A: Allocator>(
+    document: &mut Document<'a, A>,
+    tables: &mut Tables<'a, P, A>,
+    fen: &str,
+) -> Answer<'a, A>
+    ensures { (s : State) → Holds P.honest P.gives document.old tables.old s
+        → Executed (λ o. IsStartReply s o FenCommand.Position s.document (start_of fen.now)) (Holds P.honest P.gives document.new tables.new) result }
+{
+    match read_fen(fen) {
+        Ok(start) => set_position(document, tables, start),
+        Err(fault) => Err(Refused::Line(Refusal::Fen(fault))),
+    }
+}
+
+fn shift_document<'a, P: PageSource, A: Allocator>(
+    document: &mut Document<'a, A>,
+    tables: &mut Tables<'a, P, A>,
+    fen: &str,
+) -> Answer<'a, A>
+    ensures { (s : State) → Holds P.honest P.gives document.old tables.old s
+        → Executed (λ o. IsStartReply s o FenCommand.Shift s.document (start_of fen.now)) (Holds P.honest P.gives document.new tables.new) result }
+{
+    match document {
+        Document::Study(bench) => shift_study(bench, tables, fen),
+        Document::Empty => Err(Refused::Line(Refusal::NoStudy)),
+        Document::Start(_) => Err(Refused::Line(Refusal::NoStudy)),
+    }
+}
+
+fn shift_study<'a, P: PageSource, A: Allocator>(
+    bench: &mut Bench<'a, A>,
+    tables: &mut Tables<'a, P, A>,
+    fen: &str,
+) -> Answer<'a, A>
+    ensures { (s : State) → Holds P.honest P.gives (held.Study bench.old) tables.old s
+        → Executed (λ o. IsStartReply s o FenCommand.Shift (study (plain_study (marked bench.old))) (start_of fen.now))
+        (Holds P.honest P.gives (held.Study bench.new) tables.new) result }
+{
+    match read_fen(fen) {
+        Ok(start) => shift(bench, tables, start),
+        Err(fault) => Err(Refused::Line(Refusal::Fen(fault))),
+    }
+}
+
+fn set_position<'a, P: PageSource, A: Allocator>(
+    document: &mut Document<'a, A>,
+    tables: &mut Tables<'a, P, A>,
+    start: Start,
+) -> Answer<'a, A>
+    ensures { (s : State) → Holds P.honest P.gives document.old tables.old s
+        → Executed (λ o. IsPositionReply s o s.document start) (Holds P.honest P.gives document.new tables.new) result }
+{
+    match document {
+        Document::Study(bench) => reposition(bench, tables, start),
+        Document::Empty => Ok(set_bare_start(document, start)),
+        Document::Start(_) => Ok(set_bare_start(document, start)),
+    }
+}
+
+/// `position` without a study.
+fn set_bare_start<'a, A: Allocator>(document: &mut Document<'a, A>, start: Start) -> Reply<'a, A>
+    ensures held { document.new ≡ held.Start start }
+    ensures reply { result ≡ reply.Position start }
+{
+    *document = Document::Start(start.copied());
+    Reply::Position(start)
+}
+
+/// `position` with a study.
+fn reposition<'a, P: PageSource, A: Allocator>(
+    bench: &mut Bench<'a, A>,
+    tables: &mut Tables<'a, P, A>,
+    start: Start,
+) -> Answer<'a, A>
+    ensures { (s : State) → Holds P.honest P.gives (held.Study bench.old) tables.old s
+        → Executed (λ o. IsPositionReply s o (study (plain_study (marked bench.old))) start)
+        (Holds P.honest P.gives (held.Study bench.new) tables.new) result }
+{
+    match table_edits::set_position(bench, start.copied(), tables) {
+        Ok(()) => Ok(Reply::Position(start)),
+        Err(refusal) => Err(Refused::Edit(refusal)),
+    }
+}
+
+fn shift<'a, P: PageSource, A: Allocator>(
+    bench: &mut Bench<'a, A>,
+    tables: &mut Tables<'a, P, A>,
+    start: Start,
+) -> Answer<'a, A>
+    ensures { (s : State) → Holds P.honest P.gives (held.Study bench.old) tables.old s
+        → Executed (λ o. IsShiftReply s o (plain_study (marked bench.old)) start
+        (shift_refusal (plain_study (marked bench.old)) start)) (Holds P.honest P.gives (held.Study bench.new) tables.new) result }
+{
+    match table_edits::shift_position(bench, start.copied(), tables) {
+        Ok(()) => Ok(Reply::Shift(start)),
+        Err(refusal) => Err(Refused::Edit(refusal)),
+    }
+}
+
+/// `stipulate` makes the study, or changes its stipulation.
+pub fn stipulate<'a, P: PageSource, A: Allocator>(
+    alloc: &'a A,
+    document: &mut Document<'a, A>,
+    tables: &mut Tables<'a, P, A>,
+    stipulation: &Stipulation,
+) -> Answer<'a, A>
+    ensures { (s : State) → Holds P.honest P.gives document.old tables.old s
+        → Executed (λ o. IsStipulateReply s o s.document stipulation.now) (Holds P.honest P.gives document.new tables.new) result }
+{
+    match document {
+        Document::Study(bench) => Ok(restipulate(bench, stipulation)),
+        Document::Empty => Err(Refused::Line(Refusal::NoPosition)),
+        Document::Start(start) => {
+            let start = start.copied();
+            make_study(alloc, document, tables, start, stipulation)
+        }
+    }
+}
+
+fn restipulate<'a, A: Allocator>(
+    bench: &mut Bench<'a, A>,
+    stipulation: &Stipulation,
+) -> Reply<'a, A>
+    ensures edited { plain_study (marked bench.new) ≡ stipulated (plain_study (marked bench.old)) stipulation.now }
+    ensures right { IsKeptRight bench.old → IsKeptRight bench.new }
+    ensures reply { result ≡ reply.Stipulated stipulation.now }
+{
+    bench.set_stipulation(*stipulation);
+    Reply::Stipulated(*stipulation)
+}
+
+fn make_study<'a, P: PageSource, A: Allocator>(
+    alloc: &'a A,
+    document: &mut Document<'a, A>,
+    tables: &mut Tables<'a, P, A>,
+    start: Start,
+    stipulation: &Stipulation,
+) -> Answer<'a, A>
+    ensures { (s : State) → Holds P.honest P.gives document.old tables.old s
+        → Executed (λ o. IsStipulateReply s o (begun start) stipulation.now) (Holds P.honest P.gives document.new tables.new) result }
+{
+    match table_edits::new_bench(alloc, start, *stipulation, tables) {
+        Ok(bench) => {
+            *document = Document::Study(bench);
+            Ok(Reply::Stipulated(*stipulation))
+        }
+        Err(refusal) => Err(Refused::Edit(refusal)),
+    }
+}
