@@ -106,5 +106,5 @@ module _ (s : State) (old : Plainly) (steps : List ℕ) where
 
 module _ (s : State) (old : Plainly) (word : NodeCommand) (steps : List ℕ) where
   -- the same of `delete`, `promote` and `mark`
-  pub at_path : (o : Outside) (reply : Reply) → IsStudyReply s word old steps reply → (p : Outside) × IsStudyReplyAt s p word (study old) steps reply
-  at_path o reply h = (quiet, h)
+  pub node_command_on : (o : Outside) (reply : Reply) → IsStudyReply s word old steps reply → (p : Outside) × IsStudyReplyAt s p word (study old) steps reply
+  node_command_on o reply h = (quiet, h)

@@ -39,13 +39,13 @@ pub fn node_command<'a, A: Allocator>(
         → Executed (λ o. IsStudyReplyAt s o word s.document (steps_of path.now)) (HoldsFrom s document.new) result }
 {
     match document {
-        Document::Study(bench) => at_path(alloc, bench, word, path),
+        Document::Study(bench) => node_command_on(alloc, bench, word, path),
         Document::Empty => Err(Refused::Line(Refusal::NoStudy)),
         Document::Start(_) => Err(Refused::Line(Refusal::NoStudy)),
     }
 }
 
-fn at_path<'a, A: Allocator>(
+fn node_command_on<'a, A: Allocator>(
     alloc: &'a A,
     bench: &mut Bench<'a, A>,
     word: NodeCommand,
@@ -57,12 +57,12 @@ fn at_path<'a, A: Allocator>(
         (HoldsBenchFrom s bench.new) result }
 {
     match read_path(alloc, path) {
-        Ok(path) => at_place(bench, word, path),
+        Ok(path) => node_command_at(bench, word, path),
         Err(_) => Err(Refused::Line(Refusal::OutOfMemory)),
     }
 }
 
-fn at_place<'a, A: Allocator>(
+fn node_command_at<'a, A: Allocator>(
     bench: &mut Bench<'a, A>,
     word: NodeCommand,
     path: Path<'a, A>,

@@ -184,7 +184,7 @@ fn load_class<'a, S: TableStore, A: Allocator>(
     if let Some(need) = tables.tables().first_missing(class) {
         return Err(Refusal::MissingTable(need));
     }
-    let table = table_in_file(alloc, store, class)?;
+    let table = read_table_file(alloc, store, class)?;
     if table.class() != class {
         return Err(Refusal::OtherClass(table.class()));
     }
@@ -193,7 +193,7 @@ fn load_class<'a, S: TableStore, A: Allocator>(
 }
 
 // Reads the file of a class, and tells why it gives no table.
-fn table_in_file<'a, S: TableStore, A: Allocator>(
+fn read_table_file<'a, S: TableStore, A: Allocator>(
     alloc: &'a A,
     store: &mut S,
     class: Class,

@@ -14,12 +14,12 @@ use Rattle.study_script.proofs.changes.node_command.Goals as goal
 pub returns-in-Study : goal.returns-in-Study
 returns-in-Study g c = λ s h. executed_weaker
     {I = λ (o : Outside). IsStudyReplyAt s o c.args.word (study (plain_study (marked c.in-Study.bench))) (steps_of c.args.path.now)}
-    {J = λ (o : Outside). IsStudyReplyAt s o c.args.word s.document (steps_of c.args.path.now)} {H = HoldsBenchFrom s c.at_path.new.bench}
-    {K = HoldsFrom {A = g.row.A.Denot} s (held.Study c.at_path.new.bench)} c.at_path.result
+    {J = λ (o : Outside). IsStudyReplyAt s o c.args.word s.document (steps_of c.args.path.now)} {H = HoldsBenchFrom s c.node_command_on.new.bench}
+    {K = HoldsFrom {A = g.row.A.Denot} s (held.Study c.node_command_on.new.bench)} c.node_command_on.result
     (λ o r i. subst (λ (x : Document). IsStudyReplyAt s o c.args.word x (steps_of c.args.path.now) r)
     (study_seen c.args.document.now c.in-Study.bench s c.in-Study.is h) i)
-    (λ t m. document_of {A = g.row.A.Denot} (held.Study c.at_path.new.bench) c.at_path.new.bench s t refl m)
-    (c.at_path.ensures s (bench_of c.args.document.now c.in-Study.bench s c.in-Study.is h))
+    (λ t m. document_of {A = g.row.A.Denot} (held.Study c.node_command_on.new.bench) c.node_command_on.new.bench s t refl m)
+    (c.node_command_on.ensures s (bench_of c.args.document.now c.in-Study.bench s c.in-Study.is h))
 
 pub returns-in-Empty : goal.returns-in-Empty
 returns-in-Empty g c = λ s h. (

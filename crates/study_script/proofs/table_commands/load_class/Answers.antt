@@ -34,8 +34,8 @@ returns-in_err-table g c = λ trusted s may h seen.
     let is : c.from_residual.result ≡ Err refusal = search rules in
     rw is
     (load_refused c.args.tables.now s h c.args.class
-    (StoreSeen (HonestOn trusted g.S.TableStore.honest) g.S.TableStore.files g.S.TableStore.headers g.S.TableStore.faults c.table_in_file.new.store)
-    (c.table_in_file.ensures.store trusted s seen) refusal
+    (StoreSeen (HonestOn trusted g.S.TableStore.honest) g.S.TableStore.files g.S.TableStore.headers g.S.TableStore.faults c.read_table_file.new.store)
+    (c.read_table_file.ensures.store trusted s seen) refusal
     (sym c.has_table.ensures.value ∙ c.if-has_table.false) missing
     (subst (λ (k : Option (Result (List ℕ) StoreFault)). IsFileRefusal k refusal)
     (seen.known.files_known c.args.class) (c.in_err-table.ensures.refused honest)))
@@ -49,8 +49,8 @@ returns-then-ne g c = λ trusted s may h seen.
     let other = differs_true the_type _ _ (sym c.ne.ensures ∙ c.if-ne.true) in
     rw c.class-then-ne.ensures.value
     (load_other c.args.tables.now s h c.args.class
-    (StoreSeen (HonestOn trusted g.S.TableStore.honest) g.S.TableStore.files g.S.TableStore.headers g.S.TableStore.faults c.table_in_file.new.store)
-    (c.table_in_file.ensures.store trusted s seen) read.0 c.in_ok-table.table
+    (StoreSeen (HonestOn trusted g.S.TableStore.honest) g.S.TableStore.files g.S.TableStore.headers g.S.TableStore.faults c.read_table_file.new.store)
+    (c.read_table_file.ensures.store trusted s seen) read.0 c.in_ok-table.table
     (sym c.has_table.ensures.value ∙ c.if-has_table.false) missing
     (subst (λ (k : Option (Result (List ℕ) StoreFault)). IsGiven k (Ok read.0))
     (seen.known.files_known c.args.class) read.1) read.2
@@ -71,9 +71,9 @@ returns g c = λ trusted s may h seen.
     (sym c.tables.ensures) ∙ sym c.first_missing.ensures ∙ c.in_default.is in
     let same = sym c.class.ensures.value ∙ differs_false the_type (search rules) _ _ (sym c.ne.ensures ∙ c.if-ne.false) in
     load_done c.args.tables.now s h c.args.class (StoreSeen (HonestOn trusted g.S.TableStore.honest) g.S.TableStore.files g.S.TableStore.headers
-    g.S.TableStore.faults c.table_in_file.new.store)
-    (store_with (HonestOn trusted g.S.TableStore.honest) g.S.TableStore.files g.S.TableStore.headers g.S.TableStore.faults c.table_in_file.new.store s
-    c.args.class (c.table_in_file.ensures.store trusted s seen)) c.add_table.new.tables read.0 c.in_ok-table.table
+    g.S.TableStore.faults c.read_table_file.new.store)
+    (store_with (HonestOn trusted g.S.TableStore.honest) g.S.TableStore.files g.S.TableStore.headers g.S.TableStore.faults c.read_table_file.new.store s
+    c.args.class (c.read_table_file.ensures.store trusted s seen)) c.add_table.new.tables read.0 c.in_ok-table.table
     (sym c.has_table.ensures.value ∙ c.if-has_table.false) missing
     (subst (λ (k : Option (Result (List ℕ) StoreFault)). IsGiven k (Ok read.0))
     (seen.known.files_known c.args.class) read.1) read.2 (same_at c.in_ok-table.table.class c.args.class same)

@@ -1,4 +1,4 @@
-use Rattle.study_script.proofs.changes.at_place.Goals as goal
+use Rattle.study_script.proofs.changes.node_command_at.Goals as goal
 
 pub returns-in-Delete : goal.returns-in-Delete
 returns-in-Delete g c = λ s h. rw c.in-Delete.is (c.delete.ensures s h)

@@ -9,16 +9,16 @@ use Rattle.study_script.specs.Replies.{IsStudyReply, IsStudyReplyAt}
 use Rattle.study_script.proofs.Executions.{executed_told}
 use Rattle.study_script.proofs.HeldBehindReplies.{bench_kept}
 use Rattle.study_script.proofs.PlainNodes.{no_path_word}
-use Rattle.study_script.proofs.InsertReplies.{at_path}
-use Rattle.study_script.proofs.changes.at_path.Goals as goal
+use Rattle.study_script.proofs.InsertReplies.{node_command_on}
+use Rattle.study_script.proofs.changes.node_command_on.Goals as goal
 
 pub returns-in-Ok : goal.returns-in-Ok
 returns-in-Ok g c = λ s h. let old = plain_study (marked c.args.bench.now) in executed_told
     {I = λ (o : Outside). IsStudyReply s c.args.word old c.in-Ok.path}
     {J = λ (o : Outside). IsStudyReplyAt s o c.args.word (study old) (steps_of c.args.path.now)}
-    {H = HoldsBenchFrom s c.at_place.new.bench} {K = HoldsBenchFrom s c.at_place.new.bench} c.at_place.result
-    (λ o r i. at_path s old c.args.word (steps_of c.args.path.now) o r
-    (subst (λ (x : List ℕ). IsStudyReply s c.args.word old x r) c.in-Ok.ensures.path i)) (λ t m. m) (c.at_place.ensures s h)
+    {H = HoldsBenchFrom s c.node_command_at.new.bench} {K = HoldsBenchFrom s c.node_command_at.new.bench} c.node_command_at.result
+    (λ o r i. node_command_on s old c.args.word (steps_of c.args.path.now) o r
+    (subst (λ (x : List ℕ). IsStudyReply s c.args.word old x r) c.in-Ok.ensures.path i)) (λ t m. m) (c.node_command_at.ensures s h)
 
 pub returns-in-Err : goal.returns-in-Err
 returns-in-Err g c = λ s h. (

@@ -2,7 +2,7 @@ use Rattle.std.proofs.Common.{ℕ, List, Option, refl, subst}
 use Rattle.study_script.specs.Stores.{HonestOn, GivesBytes}
 use Rattle.study_script.proofs.HeldTables.{store_same}
 use Rattle.study_script.proofs.ClassReplies.{reader_tells, given_bytes, file_refusal, memory_words}
-use Rattle.study_script.proofs.table_commands.table_in_file.Goals as goal
+use Rattle.study_script.proofs.table_commands.read_table_file.Goals as goal
 
 pub returns-in-Ok-read_table-clause-read : goal.returns-in-Ok-read_table-clause-read
 returns-in-Ok-read_table-clause-read g c = λ honest.
