@@ -14,10 +14,10 @@ use study_tablefile::write_table;
 
 /// Lines of a script, each with ` -> ` and its reply after it, or ` ->` where it has none. A row without an arrow is one more
 /// line of the reply above it.
-pub type Rows<'r> = &'r str;
+pub(crate) type Rows<'r> = &'r str;
 
 /// What a run writes, and what it answers.
-pub fn replies_of<'a, S: TableStore, A: Allocator>(
+pub(crate) fn replies_of<'a, S: TableStore, A: Allocator>(
     alloc: &'a A,
     store: &mut S,
     pages: Option<u16>,
@@ -38,7 +38,7 @@ pub fn replies_of<'a, S: TableStore, A: Allocator>(
 
 /// A script beside the replies that it is to have.
 #[derive(Drop)]
-pub struct Case<'a, A: Allocator> {
+pub(crate) struct Case<'a, A: Allocator> {
     pub script: Vec<u8, &'a A>,
     pub replies: Vec<u8, &'a A>,
     pub lines: u32,
@@ -46,7 +46,7 @@ pub struct Case<'a, A: Allocator> {
 }
 
 impl<'a, A: Allocator> Case<'a, A> {
-    pub fn new(alloc: &'a A) -> Self {
+    pub(crate) fn new(alloc: &'a A) -> Self {
         Case {
             script: Vec::new(alloc),
             replies: Vec::new(alloc),
@@ -56,13 +56,13 @@ impl<'a, A: Allocator> Case<'a, A> {
     }
 
     /// One more line.
-    pub fn add_line(&mut self, rt: &impl Abort, line: &str) {
+    pub(crate) fn add_line(&mut self, rt: &impl Abort, line: &str) {
         put_line(rt, &mut self.script, line);
         self.lines = self.lines.saturating_add(1);
     }
 
     /// One more line of the replies.
-    pub fn add_reply(&mut self, rt: &impl Abort, reply: &str) {
+    pub(crate) fn add_reply(&mut self, rt: &impl Abort, reply: &str) {
         put_line(rt, &mut self.replies, reply);
         if reply.starts_with("error ") {
             self.refused = self.refused.saturating_add(1);
@@ -70,7 +70,7 @@ impl<'a, A: Allocator> Case<'a, A> {
     }
 
     /// The script and the replies that rows tell.
-    pub fn add_rows(&mut self, rt: &impl Abort, rows: Rows<'_>) {
+    pub(crate) fn add_rows(&mut self, rt: &impl Abort, rows: Rows<'_>) {
         for row in rows.lines() {
             match row.split_once(" ->") {
                 None => self.add_reply(rt, row),
@@ -85,13 +85,13 @@ impl<'a, A: Allocator> Case<'a, A> {
     }
 
     /// Whether these are the replies and the answer of a run over the script.
-    pub fn is_had(&self, text: &[u8], answer: Result<Summary, RunFault>) -> bool {
+    pub(crate) fn is_had(&self, text: &[u8], answer: Result<Summary, RunFault>) -> bool {
         let (lines, refused) = (self.lines, self.refused);
         text == self.replies.as_slice() && answer == Ok(Summary { lines, refused })
     }
 
     /// Runs the script, and compares the replies.
-    pub fn check<S: TableStore>(
+    pub(crate) fn check<S: TableStore>(
         &self,
         rt: &impl Abort,
         alloc: &A,
@@ -115,7 +115,7 @@ fn put_line<A: Allocator>(rt: &impl Abort, text: &mut Vec<u8, &A>, line: &str) {
 }
 
 /// Runs the lines, and compares the replies.
-pub fn check_over<S: TableStore, A: Allocator>(
+pub(crate) fn check_over<S: TableStore, A: Allocator>(
     rt: &impl Abort,
     alloc: &A,
     store: &mut S,
@@ -130,17 +130,17 @@ pub fn check_over<S: TableStore, A: Allocator>(
 }
 
 /// The same over a store without files.
-pub fn check<A: Allocator>(rt: &impl Abort, alloc: &A, rows: Rows<'_>) {
+pub(crate) fn check<A: Allocator>(rt: &impl Abort, alloc: &A, rows: Rows<'_>) {
     check_over(rt, alloc, &mut no_files(alloc), None, rows);
 }
 
 /// A store without files, and without writers for those that are saved.
-pub fn no_files<'f, 'a, A: Allocator>(_alloc: &'a A) -> MemoryStore<'f, 'a, 'a, A> {
+pub(crate) fn no_files<'f, 'a, A: Allocator>(_alloc: &'a A) -> MemoryStore<'f, 'a, 'a, A> {
     MemoryStore::new(&[])
 }
 
 /// The text of the built table of the last of these classes, each of which needs none but those before it.
-pub fn text_of<'a, A: Allocator>(
+pub(crate) fn text_of<'a, A: Allocator>(
     rt: &impl Abort,
     alloc: &'a A,
     classes: &[Class],

@@ -1,11 +1,8 @@
 //! Tables loaded, opened by pages, saved and verified.
-ghost use Rattle.std.specs.Prelude.{◌≤◌, IfSome};
-
 use crate::rows::{Rows, check_over, no_files, text_of};
-use std::alloc::{AllocError, Allocator};
+use std::alloc::Allocator;
 use std::cell::RefCell;
 use std::process::Abort;
-use std::test::Fail;
 use study_index::cells;
 use study_material::Class;
 use study_retro::Table;
@@ -39,235 +36,6 @@ fn a_table_is_loaded_after_its_needs_and_saved_as_built(rt: HostRuntime) {
     }
 }
 
-const OTHERS: Rows<'static> = "build KK -> built KK cells 1280 win -
-load KQK -> error OtherClass KRK
-load KRK -> error Device
-load KQK -> error OtherClass KRK";
-
-/// A table is loaded from a file of its own class alone.
-#[test]
-fn a_file_of_another_class_is_refused(rt: HostRuntime) {
-    let alloc = rt.alloc();
-    let text = text_of(&rt, &alloc, &[Class::KK, Class::KRK]);
-    let mut store = no_files(&alloc);
-    store.put(Class::KQK, MemoryFile::Bytes(text.as_slice()));
-    store.put(Class::KRK, MemoryFile::Closed);
-    check_over(&rt, &alloc, &mut store, None, OTHERS);
-}
-
-const ONE_PAGE: Rows<'static> = "build KK -> error PagedMode
-save KK -> error PagedMode
-verify KRK -> error PagedMode
-load KRK -> loaded KRK cells 81920
-load KRK -> error AlreadyHeld KRK
-load KQK -> error NoFile
-load KQKX -> error NotAClass
-position k7/8/1K6/8/8/8/8/7R w - - 0 1 -> position k7/8/1K6/8/8/8/8/7R w - - 0 1
-stipulate white win -> stipulate White to win
-mark root -> mark root win 1 - faults 0";
-
-/// A table read by pages of which one is kept.
-#[test]
-fn a_study_goes_by_one_page(rt: HostRuntime) {
-    let alloc = rt.alloc();
-    let text = text_of(&rt, &alloc, &[Class::KK, Class::KRK]);
-    let mut store = no_files(&alloc);
-    store.put(Class::KRK, MemoryFile::Bytes(text.as_slice()));
-    check_over(&rt, &alloc, &mut store, Some(1), ONE_PAGE);
-}
-
-const NO_HEADER: Rows<'static> = "load KRK -> error TableRead Device
-position k7/8/1K6/8/8/8/8/7R w - - 0 1 -> position k7/8/1K6/8/8/8/8/7R w - - 0 1
-stipulate white win -> error NoTable KRK
-mark root -> error NoStudy";
-
-const NO_PAGE: Rows<'static> = "load KRK -> loaded KRK cells 81920
-position k7/8/1K6/8/8/8/8/7R w - - 0 1 -> position k7/8/1K6/8/8/8/8/7R w - - 0 1
-stipulate white win -> error TableRead Device
-mark root -> error NoStudy
-stipulate white win -> stipulate White to win
-mark root -> mark root win 1 - faults 0";
-
-/// A source that fails once, at its header or at its first page.
-#[test]
-fn a_source_that_fails_once_is_told_once(rt: HostRuntime) {
-    let alloc = rt.alloc();
-    let text = text_of(&rt, &alloc, &[Class::KK, Class::KRK]);
-    for (fails_at, rows) in [(0, NO_HEADER), (1, NO_PAGE)] {
-        let mut store = no_files(&alloc);
-        store.put(Class::KRK, MemoryFile::Bytes(text.as_slice()));
-        store.fails_at = Some(fails_at);
-        check_over(&rt, &alloc, &mut store, Some(1), rows);
-    }
-}
-
-const DAMAGED: Rows<'static> = "load KQK -> error OtherClass KRK
-load KBK -> error TableRead Short
-load KNK -> error Device
-load KRK -> loaded KRK cells 81920
-position k7/8/1K6/8/8/8/8/7R w - - 0 1 -> position k7/8/1K6/8/8/8/8/7R w - - 0 1
-stipulate white win -> error TableRead Page 5
-mark root -> error NoStudy";
-
-/// Runs rows over files of which each has its own text.
-fn check_damaged<'x, A: Allocator>(
-    rt: &impl Abort,
-    alloc: &A,
-    wrong: &'x [u8],
-    other: &'x [u8],
-    short: &'x [u8],
-) {
-    let mut store = no_files(alloc);
-    store.put(Class::KRK, MemoryFile::Bytes(wrong));
-    store.put(Class::KQK, MemoryFile::Bytes(other));
-    store.put(Class::KBK, MemoryFile::Bytes(short));
-    store.put(Class::KNK, MemoryFile::Closed);
-    check_over(rt, alloc, &mut store, Some(4096), DAMAGED);
-}
-
-/// Sources whose pages are damaged, whose header is not whole, and one that is not opened.
-#[test]
-fn damaged_pages_and_headers_are_told(rt: HostRuntime) -> Result<(), Fail> {
-    let alloc = rt.alloc();
-    let text = text_of(&rt, &alloc, &[Class::KK, Class::KRK]);
-    let mut wrong = text.as_slice().to_vec(&alloc)?;
-    for page in 0..20usize {
-        if let Some(cell) = wrong.as_mut_slice().get_mut(64 + 4128 * page) {
-            *cell ^= 1;
-        }
-    }
-    let (short, _) = text.as_slice().split_at(text.len().min(63));
-    check_damaged(&rt, &alloc, wrong.as_slice(), text.as_slice(), short);
-    Ok(())
-}
-
-const LATER_PAGE: Rows<'static> = "load KRK -> loaded KRK cells 81920
-load KK -> loaded KK cells 1280
-position k7/8/1K6/8/8/8/8/7R w - - 0 1 -> position k7/8/1K6/8/8/8/8/7R w - - 0 1
-stipulate white win -> error TableRead Page 15
-mark root -> error NoStudy";
-
-/// Over the files of KRK and of KK, by one page.
-fn check_by_a_page<'x, A: Allocator>(
-    rt: &impl Abort,
-    alloc: &A,
-    rook: &'x [u8],
-    kings: &'x [u8],
-    rows: Rows<'static>,
-) {
-    let mut store = no_files(alloc);
-    store.put(Class::KRK, MemoryFile::Bytes(rook));
-    store.put(Class::KK, MemoryFile::Bytes(kings));
-    check_over(rt, alloc, &mut store, Some(1), rows);
-}
-
-/// The page of the root is whole, number 20,543, and that of the position after its first move is not: after Ra1+ the number is
-/// `((10 + 5) * 64 + 0) * 64 + 7`, 61,447, on page 15.
-#[test]
-fn damage_of_a_later_page_is_told_where_it_is_read(rt: HostRuntime) -> Result<(), Fail> {
-    let alloc = rt.alloc();
-    let kings = text_of(&rt, &alloc, &[Class::KK]);
-    let text = text_of(&rt, &alloc, &[Class::KK, Class::KRK]);
-    let mut wrong = text.as_slice().to_vec(&alloc)?;
-    for page in 0..20usize {
-        if page == 5 {
-            continue;
-        }
-        if let Some(cell) = wrong.as_mut_slice().get_mut(64 + 4128 * page) {
-            *cell ^= 1;
-        }
-    }
-    check_by_a_page(&rt, &alloc, wrong.as_slice(), kings.as_slice(), LATER_PAGE);
-    Ok(())
-}
-
-const SHORT_PAGE: Rows<'static> = "load KRK -> loaded KRK cells 81920
-position k7/8/1K6/8/8/8/8/7R w - - 0 1 -> position k7/8/1K6/8/8/8/8/7R w - - 0 1
-stipulate white win -> error TableRead Short
-mark root -> error NoStudy";
-
-/// A file that ends within the page of the root, as far as which it is read.
-#[test]
-fn a_file_is_read_as_far_as_it_goes(rt: HostRuntime) {
-    let alloc = rt.alloc();
-    let text = text_of(&rt, &alloc, &[Class::KK, Class::KRK]);
-    let (short, _) = text.as_slice().split_at(text.len().min(64 + 4128 * 6 - 1));
-    let mut store = no_files(&alloc);
-    store.put(Class::KRK, MemoryFile::Bytes(short));
-    check_over(&rt, &alloc, &mut store, Some(1), SHORT_PAGE);
-}
-
-const EDITED_BY_PAGES: Rows<'static> = "load KRK -> loaded KRK cells 81920
-load KK -> loaded KK cells 1280
-position k7/8/1K6/8/8/8/8/7R w - - 0 1 -> position k7/8/1K6/8/8/8/8/7R w - - 0 1
-stipulate white win -> stipulate White to win
-insert root Rh8 -> insert 0 Rh8#
-mark 0 -> mark 0 loss 0 dual 19 faults 1
-shift k7/8/K7/8/8/8/8/7R w - - 0 1 -> shift k7/8/K7/8/8/8/8/7R w - - 0 1
-mark 0 -> mark 0 loss 0 dual 15 faults 1
-position k7/8/1K6/8/8/8/8/7R w - - 0 1 -> position k7/8/1K6/8/8/8/8/7R w - - 0 1
-mark root -> mark root win 1 - faults 0";
-
-/// The edits that ask values, over tables read by pages.
-#[test]
-fn edits_ask_values_by_pages(rt: HostRuntime) {
-    let alloc = rt.alloc();
-    let kings = text_of(&rt, &alloc, &[Class::KK]);
-    let text = text_of(&rt, &alloc, &[Class::KK, Class::KRK]);
-    check_by_a_page(
-        &rt,
-        &alloc,
-        text.as_slice(),
-        kings.as_slice(),
-        EDITED_BY_PAGES,
-    );
-}
-
-/// The text of KRK with a slower mate in one cell.
-fn lying<'a, A: Allocator>(rt: &impl Abort, alloc: &'a A, text: &[u8]) -> Vec<u8, &'a A> {
-    let table = read_table(alloc, &mut MemoryReader::new(text))
-        .ok()
-        .expect(rt, "read");
-    let mut all = table.cells().to_vec(alloc).ok().expect(rt, "memory");
-    assert!(rt; all.len() == cells(Class::KRK) as usize && all.len() > 20_543);
-    all[20_543] = 4;
-    let mut writer = MemoryWriter::new(alloc);
-    assert!(rt; write_table(&Table::from_cells(Class::KRK, all), &mut writer).is_ok());
-    writer.taken
-}
-
-const LIES: Rows<'static> = "build KK -> built KK cells 1280 win -
-load KRK -> loaded KRK cells 81920
-verify KRK -> verified KRK no
-verify KK -> verified KK yes
-verify KQK -> error NoTable KQK";
-
-/// A file with a lie in it is read; `verify` finds the lie.
-#[test]
-fn verify_finds_a_lie(rt: HostRuntime) {
-    let alloc = rt.alloc();
-    let text = text_of(&rt, &alloc, &[Class::KK, Class::KRK]);
-    let lie = lying(&rt, &alloc, text.as_slice());
-    let mut store = no_files(&alloc);
-    store.put(Class::KRK, MemoryFile::Bytes(lie.as_slice()));
-    check_over(&rt, &alloc, &mut store, None, LIES);
-}
-
-const BUILT: Rows<'static> = "build KK -> built KK cells 1280 win -
-build KRK -> built KRK cells 81920 win 31
-verify KRK -> verified KRK yes";
-
-/// A table is built, and not taken from a file that lies.
-#[test]
-fn a_table_is_built_and_not_taken_from_a_lie(rt: HostRuntime) {
-    let alloc = rt.alloc();
-    let text = text_of(&rt, &alloc, &[Class::KK, Class::KRK]);
-    let lie = lying(&rt, &alloc, text.as_slice());
-    let mut store = no_files(&alloc);
-    store.put(Class::KRK, MemoryFile::Bytes(lie.as_slice()));
-    check_over(&rt, &alloc, &mut store, None, BUILT);
-}
-
 const FULL: Rows<'static> = "build KK -> built KK cells 1280 win -
 save KK -> error Device
 verify KK -> verified KK yes";
@@ -285,22 +53,212 @@ fn a_file_that_is_not_written_whole_is_not_saved(rt: HostRuntime) {
     }
 }
 
-/// The text of a table whose cells are all the same.
-fn constant<'a, A: Allocator>(
+/// A file that fails after so many bytes.
+#[test]
+fn a_file_that_fails_after_some_bytes_is_told(rt: HostRuntime) {
+    let alloc = rt.alloc();
+    let text = text_of(&rt, &alloc, &[Class::KK]);
+    for fails_after in 0..text.len() {
+        let mut store = no_files(&alloc);
+        store.put(Class::KK, MemoryFile::Bytes(text.as_slice()));
+        store.fails_after = Some(fails_after);
+        check_over(&rt, &alloc, &mut store, None, "load KK -> error Device");
+    }
+}
+
+/// What stands in the place of a file.
+#[derive(Clone, Copy, Debug, PartialEq, Eq)]
+enum Stored {
+    /// The file of two kings, or of king and rook against king.
+    Kings,
+    Rook,
+    /// The front of one of them.
+    Front(Class, usize),
+    /// The file of two kings with one more byte, or with a byte changed.
+    Longer,
+    Changed(usize, u8),
+    /// The file of two kings with a byte behind the last cell, under its right digest.
+    Padded,
+    /// The file of king and rook against king with a cell of each page damaged, but of one page.
+    Damaged(Option<usize>),
+    /// The same table with a slower mate in one cell, and a table whose cells are all the same.
+    Lie,
+    Constant(Class, u8),
+    /// A file that is not opened.
+    Closed,
+}
+
+/// The SHA-256 of the fields of KK, the number of its page, and 4,096 cells of which the one numbered 2,000 is 1.
+const PADDED_DIGEST: [u8; 32] = [
+    0x4a, 0xda, 0x66, 0x17, 0x10, 0x32, 0x92, 0x98, 0x16, 0x39, 0xe7, 0xdb, 0x5f, 0x91, 0x55, 0x5e,
+    0x85, 0x82, 0x48, 0x9b, 0x7c, 0x75, 0xe2, 0x1c, 0xf7, 0xba, 0xe8, 0xab, 0x09, 0xa0, 0x30, 0x16,
+];
+
+/// The files of two kings, and of king and rook against king.
+#[derive(Drop)]
+struct Texts<'a, A: Allocator> {
+    kings: Vec<u8, &'a A>,
+    rook: Vec<u8, &'a A>,
+}
+
+/// The text of a table with these cells.
+fn text_with<'a, A: Allocator>(
     rt: &impl Abort,
     alloc: &'a A,
     class: Class,
-    cell: u8,
+    all: Vec<u8, &'a A>,
 ) -> Vec<u8, &'a A> {
-    let all = vec![in alloc; cell; cells(class) as usize]
-        .ok()
-        .expect(rt, "cells");
     assert!(rt; all.len() == cells(class) as usize);
     let mut writer = MemoryWriter::new(alloc);
     assert!(rt; write_table(&Table::from_cells(class, all), &mut writer).is_ok());
     writer.taken
 }
 
+/// Puts another byte at a place.
+fn set(rt: &impl Abort, text: &mut [u8], at: usize, byte: u8) {
+    *text.get_mut(at).expect(rt, "a byte") = byte;
+}
+
+impl<'a, A: Allocator> Texts<'a, A> {
+    /// A copy of one of the two files.
+    fn copy(&self, rt: &impl Abort, alloc: &'a A, class: Class) -> Vec<u8, &'a A> {
+        let text = match class {
+            Class::KK => &self.kings,
+            _ => &self.rook,
+        };
+        text.as_slice().to_vec(alloc).ok().expect(rt, "memory")
+    }
+
+    /// The bytes of what is stored; of a file that is not opened, none.
+    fn bytes_of(&self, rt: &impl Abort, alloc: &'a A, stored: Stored) -> Vec<u8, &'a A> {
+        let class = match stored {
+            Stored::Front(class, _) => class,
+            Stored::Rook | Stored::Damaged(_) | Stored::Lie => Class::KRK,
+            _ => Class::KK,
+        };
+        let mut text = self.copy(rt, alloc, class);
+        match stored {
+            Stored::Kings | Stored::Rook | Stored::Closed => {}
+            Stored::Front(_, len) => text.truncate(len),
+            Stored::Longer => assert!(rt; text.push(0).is_ok()),
+            Stored::Changed(at, byte) => set(rt, text.as_mut_slice(), at, byte),
+            Stored::Padded => {
+                set(rt, text.as_mut_slice(), 64 + 2_000, 1);
+                text.truncate(64 + 4_096);
+                assert!(rt; text.extend_from_slice(PADDED_DIGEST.as_slice()).is_ok());
+            }
+            Stored::Damaged(whole) => {
+                for page in 0..20usize {
+                    if whole != Some(page) {
+                        *text.get_mut(64 + 4128 * page).expect(rt, "a byte") ^= 1;
+                    }
+                }
+            }
+            Stored::Lie => {
+                let table = read_table(alloc, &mut MemoryReader::new(text.as_slice())).ok();
+                let cells = table.expect(rt, "a table").cells().to_vec(alloc);
+                let mut cells = cells.ok().expect(rt, "memory");
+                set(rt, cells.as_mut_slice(), 20_543, 4);
+                text = text_with(rt, alloc, Class::KRK, cells);
+            }
+            Stored::Constant(class, cell) => {
+                let all = vec![in alloc; cell; cells(class) as usize].ok();
+                text = text_with(rt, alloc, class, all.expect(rt, "cells"));
+            }
+        }
+        text
+    }
+}
+
+/// A script over files: what stands where, by how many pages they are read, if by pages, which question to a source fails, if
+/// one does, and the rows.
+type Case = (
+    &'static [(Class, Stored)],
+    Option<u16>,
+    Option<u64>,
+    Rows<'static>,
+);
+
+/// A table is loaded from a file of its own class alone.
+const OTHERS: Rows<'static> = "build KK -> built KK cells 1280 win -
+load KQK -> error OtherClass KRK
+load KRK -> error Device
+load KQK -> error OtherClass KRK";
+
+/// A table read by pages of which one is kept.
+const ONE_PAGE: Rows<'static> = "build KK -> error PagedMode
+save KK -> error PagedMode
+verify KRK -> error PagedMode
+load KRK -> loaded KRK cells 81920
+load KRK -> error AlreadyHeld KRK
+load KQK -> error NoFile
+load KQKX -> error NotAClass
+position k7/8/1K6/8/8/8/8/7R w - - 0 1 -> position k7/8/1K6/8/8/8/8/7R w - - 0 1
+stipulate white win -> stipulate White to win
+mark root -> mark root win 1 - faults 0";
+
+/// A source that fails once, at its header.
+const NO_HEADER: Rows<'static> = "load KRK -> error TableRead Device
+position k7/8/1K6/8/8/8/8/7R w - - 0 1 -> position k7/8/1K6/8/8/8/8/7R w - - 0 1
+stipulate white win -> error NoTable KRK
+mark root -> error NoStudy";
+
+/// A source that fails once, at its first page.
+const NO_PAGE: Rows<'static> = "load KRK -> loaded KRK cells 81920
+position k7/8/1K6/8/8/8/8/7R w - - 0 1 -> position k7/8/1K6/8/8/8/8/7R w - - 0 1
+stipulate white win -> error TableRead Device
+mark root -> error NoStudy
+stipulate white win -> stipulate White to win
+mark root -> mark root win 1 - faults 0";
+
+/// Sources whose pages are damaged, whose header is not whole, and one that is not opened.
+const DAMAGED: Rows<'static> = "load KQK -> error OtherClass KRK
+load KBK -> error TableRead Short
+load KNK -> error Device
+load KRK -> loaded KRK cells 81920
+position k7/8/1K6/8/8/8/8/7R w - - 0 1 -> position k7/8/1K6/8/8/8/8/7R w - - 0 1
+stipulate white win -> error TableRead Page 5
+mark root -> error NoStudy";
+
+/// The page of the root is whole, number 20,543, and that of the position after its first move is not: after Ra1+ the number is
+/// `((10 + 5) * 64 + 0) * 64 + 7`, 61,447, on page 15.
+const LATER_PAGE: Rows<'static> = "load KRK -> loaded KRK cells 81920
+load KK -> loaded KK cells 1280
+position k7/8/1K6/8/8/8/8/7R w - - 0 1 -> position k7/8/1K6/8/8/8/8/7R w - - 0 1
+stipulate white win -> error TableRead Page 15
+mark root -> error NoStudy";
+
+/// A file that ends within the page of the root, as far as which it is read.
+const SHORT_PAGE: Rows<'static> = "load KRK -> loaded KRK cells 81920
+position k7/8/1K6/8/8/8/8/7R w - - 0 1 -> position k7/8/1K6/8/8/8/8/7R w - - 0 1
+stipulate white win -> error TableRead Short
+mark root -> error NoStudy";
+
+/// The edits that ask values, over tables read by pages.
+const EDITED_BY_PAGES: Rows<'static> = "load KRK -> loaded KRK cells 81920
+load KK -> loaded KK cells 1280
+position k7/8/1K6/8/8/8/8/7R w - - 0 1 -> position k7/8/1K6/8/8/8/8/7R w - - 0 1
+stipulate white win -> stipulate White to win
+insert root Rh8 -> insert 0 Rh8#
+mark 0 -> mark 0 loss 0 dual 19 faults 1
+shift k7/8/K7/8/8/8/8/7R w - - 0 1 -> shift k7/8/K7/8/8/8/8/7R w - - 0 1
+mark 0 -> mark 0 loss 0 dual 15 faults 1
+position k7/8/1K6/8/8/8/8/7R w - - 0 1 -> position k7/8/1K6/8/8/8/8/7R w - - 0 1
+mark root -> mark root win 1 - faults 0";
+
+/// A file with a lie in it is read; `verify` finds the lie.
+const LIES: Rows<'static> = "build KK -> built KK cells 1280 win -
+load KRK -> loaded KRK cells 81920
+verify KRK -> verified KRK no
+verify KK -> verified KK yes
+verify KQK -> error NoTable KQK";
+
+/// A table is built, and not taken from a file that lies.
+const BUILT: Rows<'static> = "build KK -> built KK cells 1280 win -
+build KRK -> built KRK cells 81920 win 31
+verify KRK -> verified KRK yes";
+
+/// No table has a mate in 255 plies. Over one that lies, by which a new queen is mate in 254, a pawn leads to such a mate.
 const FAR: Rows<'static> = "build KK -> built KK cells 1280 win -
 load KQK -> loaded KQK cells 81920
 load KRK -> loaded KRK cells 81920
@@ -309,87 +267,7 @@ build KNK -> built KNK cells 81920 win -
 build KPK -> error DistanceTooLarge
 verify KQK -> verified KQK no";
 
-fn check_far<'x, A: Allocator>(rt: &impl Abort, alloc: &A, queen: &'x [u8], rook: &'x [u8]) {
-    let mut store = no_files(alloc);
-    store.put(Class::KQK, MemoryFile::Bytes(queen));
-    store.put(Class::KRK, MemoryFile::Bytes(rook));
-    check_over(rt, alloc, &mut store, None, FAR);
-}
-
-/// No table has a mate in 255 plies. Over one that lies, by which a new queen is mate in 254, a pawn leads to such a mate.
-#[test]
-fn no_mate_takes_255_plies(rt: HostRuntime) {
-    let alloc = rt.alloc();
-    let queen = constant(&rt, &alloc, Class::KQK, 255);
-    let rook = constant(&rt, &alloc, Class::KRK, 0);
-    check_far(&rt, &alloc, queen.as_slice(), rook.as_slice());
-}
-
-/// A text with one byte changed.
-fn changed<'a, A: Allocator>(
-    alloc: &'a A,
-    text: &[u8],
-    at: usize,
-    byte: u8,
-) -> Result<Vec<u8, &'a A>, AllocError> {
-    let mut copy = text.to_vec(alloc)?;
-    if let Some(place) = copy.as_mut_slice().get_mut(at) {
-        *place = byte;
-    }
-    Ok(copy)
-}
-
-/// Runs rows over a store that has this file of KK alone.
-fn check_file<A: Allocator>(
-    rt: &impl Abort,
-    alloc: &A,
-    bytes: &[u8],
-    pages: Option<u16>,
-    rows: Rows<'_>,
-)
-    requires { IfSome pages (λ n. (1 ≤ n) × (n ≤ 4096)) }
-{
-    let mut store = no_files(alloc);
-    store.put(Class::KK, MemoryFile::Bytes(bytes));
-    check_over(rt, alloc, &mut store, pages, rows);
-}
-
-const HEADERS: [(usize, u8, Rows<'static>); 4] = [
-    (
-        0,
-        b'T',
-        "load KK -> error NotATable\nload KK -> error NotATable",
-    ),
-    (
-        8,
-        9,
-        "load KK -> error Version 9\nload KK -> error Version 9",
-    ),
-    (
-        17,
-        b'X',
-        "load KK -> error ClassUnknown\nload KK -> error ClassUnknown",
-    ),
-    (
-        40,
-        0,
-        "load KK -> error HeaderDamaged\nload KK -> error HeaderDamaged",
-    ),
-];
-
-/// Each fault of a header has its name, whole and by pages; the session goes on.
-#[test]
-fn each_fault_of_a_header_has_its_name(rt: HostRuntime) -> Result<(), Fail> {
-    let alloc = rt.alloc();
-    let text = text_of(&rt, &alloc, &[Class::KK]);
-    for (at, byte, rows) in HEADERS {
-        let bytes = changed(&alloc, text.as_slice(), at, byte)?;
-        check_file(&rt, &alloc, bytes.as_slice(), None, rows);
-        check_file(&rt, &alloc, bytes.as_slice(), Some(1), rows);
-    }
-    Ok(())
-}
-
+/// Each fault after the header has its name.
 const CUT: Rows<'static> = "load KK -> error Cut
 load KK -> error Cut
 build KK -> built KK cells 1280 win -";
@@ -403,55 +281,148 @@ build KK -> built KK cells 1280 win -";
 const PADDED: Rows<'static> = "load KK -> error Padding
 build KK -> built KK cells 1280 win -";
 
+/// By pages the header alone is read at first.
 const BY_PAGES: Rows<'static> = "load KK -> loaded KK cells 1280
 build KK -> error PagedMode";
 
-/// Each fault after the header has its name. By pages the header alone is read at first.
-#[test]
-fn each_fault_after_the_header_has_its_name(rt: HostRuntime) -> Result<(), Fail> {
-    let alloc = rt.alloc();
-    let text = text_of(&rt, &alloc, &[Class::KK]);
-    let (cut, _) = text.as_slice().split_at(text.len().min(4_191));
-    check_file(&rt, &alloc, cut, None, CUT);
-    check_file(&rt, &alloc, cut, Some(1), BY_PAGES);
-    let mut longer = text.as_slice().to_vec(&alloc)?;
-    longer.push(0)?;
-    check_file(&rt, &alloc, longer.as_slice(), None, LONGER);
-    check_file(&rt, &alloc, longer.as_slice(), Some(1), BY_PAGES);
-    let page = changed(&alloc, text.as_slice(), 100, 1)?;
-    check_file(&rt, &alloc, page.as_slice(), None, PAGE);
-    check_file(&rt, &alloc, page.as_slice(), Some(1), BY_PAGES);
-    Ok(())
-}
+const ROOK: &[(Class, Stored)] = &[(Class::KRK, Stored::Rook)];
 
-/// The SHA-256 of the fields of KK, the number of its page, and 4,096 cells of which the one numbered 2,000 is 1.
-const PADDED_DIGEST: [u8; 32] = [
-    0x4a, 0xda, 0x66, 0x17, 0x10, 0x32, 0x92, 0x98, 0x16, 0x39, 0xe7, 0xdb, 0x5f, 0x91, 0x55, 0x5e,
-    0x85, 0x82, 0x48, 0x9b, 0x7c, 0x75, 0xe2, 0x1c, 0xf7, 0xba, 0xe8, 0xab, 0x09, 0xa0, 0x30, 0x16,
+const ROOK_AND_KINGS: &[(Class, Stored)] = &[
+    (Class::KRK, Stored::Rook),
+    (Class::KK, Stored::Kings),
 ];
 
-/// A byte after the last cell that is not zero, under its right digest.
-#[test]
-fn padding_has_to_be_zero(rt: HostRuntime) -> Result<(), Fail> {
-    let alloc = rt.alloc();
-    let text = text_of(&rt, &alloc, &[Class::KK]);
-    let mut bytes = changed(&alloc, text.as_slice(), 64 + 2_000, 1)?;
-    bytes.truncate(64 + 4_096);
-    bytes.extend_from_slice(PADDED_DIGEST.as_slice())?;
-    check_file(&rt, &alloc, bytes.as_slice(), None, PADDED);
-    check_file(&rt, &alloc, bytes.as_slice(), Some(1), BY_PAGES);
-    Ok(())
+const LYING: &[(Class, Stored)] = &[(Class::KRK, Stored::Lie)];
+
+const CASES: [Case; 11] = [
+    (
+        &[(Class::KQK, Stored::Rook), (Class::KRK, Stored::Closed)],
+        None,
+        None,
+        OTHERS,
+    ),
+    (ROOK, Some(1), None, ONE_PAGE),
+    (ROOK, Some(1), Some(0), NO_HEADER),
+    (ROOK, Some(1), Some(1), NO_PAGE),
+    (
+        &[
+            (Class::KRK, Stored::Damaged(None)),
+            (Class::KQK, Stored::Rook),
+            (Class::KBK, Stored::Front(Class::KRK, 63)),
+            (Class::KNK, Stored::Closed),
+        ],
+        Some(4096),
+        None,
+        DAMAGED,
+    ),
+    (
+        &[
+            (Class::KRK, Stored::Damaged(Some(5))),
+            (Class::KK, Stored::Kings),
+        ],
+        Some(1),
+        None,
+        LATER_PAGE,
+    ),
+    (
+        &[(Class::KRK, Stored::Front(Class::KRK, 64 + 4128 * 6 - 1))],
+        Some(1),
+        None,
+        SHORT_PAGE,
+    ),
+    (ROOK_AND_KINGS, Some(1), None, EDITED_BY_PAGES),
+    (LYING, None, None, LIES),
+    (LYING, None, None, BUILT),
+    (
+        &[
+            (Class::KQK, Stored::Constant(Class::KQK, 255)),
+            (Class::KRK, Stored::Constant(Class::KRK, 0)),
+        ],
+        None,
+        None,
+        FAR,
+    ),
+];
+
+/// A file in the place of that of two kings, and the rows where it is read whole and by pages.
+const FILES: [(Stored, Rows<'static>, Rows<'static>); 8] = [
+    (Stored::Changed(0, b'T'), NOT_A_TABLE, NOT_A_TABLE),
+    (Stored::Changed(8, 9), VERSION_9, VERSION_9),
+    (Stored::Changed(17, b'X'), UNKNOWN, UNKNOWN),
+    (Stored::Changed(40, 0), DAMAGED_HEADER, DAMAGED_HEADER),
+    (Stored::Front(Class::KK, 4_191), CUT, BY_PAGES),
+    (Stored::Longer, LONGER, BY_PAGES),
+    (Stored::Changed(100, 1), PAGE, BY_PAGES),
+    (Stored::Padded, PADDED, BY_PAGES),
+];
+
+/// Each fault of a header has its name, whole and by pages; the session goes on.
+const NOT_A_TABLE: Rows<'static> = "load KK -> error NotATable\nload KK -> error NotATable";
+
+const VERSION_9: Rows<'static> = "load KK -> error Version 9\nload KK -> error Version 9";
+
+const UNKNOWN: Rows<'static> = "load KK -> error ClassUnknown\nload KK -> error ClassUnknown";
+
+const DAMAGED_HEADER: Rows<'static> =
+    "load KK -> error HeaderDamaged\nload KK -> error HeaderDamaged";
+
+/// Runs a script over files, and compares the replies.
+fn check_case<'a, A: Allocator>(
+    rt: &impl Abort,
+    alloc: &'a A,
+    texts: &Texts<'a, A>,
+    (files, pages, fails_at, rows): (&[(Class, Stored)], Option<u16>, Option<u64>, Rows<'_>),
+) {
+    let mut all = Vec::new(alloc);
+    for (_, stored) in files {
+        assert!(rt; all.push(texts.bytes_of(rt, alloc, *stored)).is_ok());
+    }
+    let mut store = no_files(alloc);
+    store.fails_at = fails_at;
+    for ((class, stored), text) in files.iter().zip(all.iter()) {
+        let file = match *stored {
+            Stored::Closed => MemoryFile::Closed,
+            _ => MemoryFile::Bytes(text.as_slice()),
+        };
+        store.put(*class, file);
+    }
+    match pages {
+        None => check_over(rt, alloc, &mut store, None, rows),
+        Some(pages) => {
+            assert!(rt; 1 <= pages && pages <= 4096);
+            check_over(rt, alloc, &mut store, Some(pages), rows);
+        }
+    }
 }
 
-/// A file that fails after so many bytes.
+fn texts_of<'a, A: Allocator>(rt: &impl Abort, alloc: &'a A) -> Texts<'a, A> {
+    Texts {
+        kings: text_of(rt, alloc, &[Class::KK]),
+        rook: text_of(rt, alloc, &[Class::KK, Class::KRK]),
+    }
+}
+
 #[test]
-fn a_file_that_fails_after_some_bytes_is_told(rt: HostRuntime) {
+fn files_are_loaded_whole_and_by_pages_as_far_as_they_are_right(rt: HostRuntime) {
     let alloc = rt.alloc();
-    let text = text_of(&rt, &alloc, &[Class::KK]);
-    for fails_after in 0..text.len() {
-        let mut store = no_files(&alloc);
-        store.put(Class::KK, MemoryFile::Bytes(text.as_slice()));
-        store.fails_after = Some(fails_after);
-        check_over(&rt, &alloc, &mut store, None, "load KK -> error Device");
+    let texts = texts_of(&rt, &alloc);
+    for case in CASES {
+        check_case(&rt, &alloc, &texts, case);
+    }
+}
+
+#[test]
+fn each_fault_of_a_file_has_its_name(rt: HostRuntime) {
+    let alloc = rt.alloc();
+    let texts = texts_of(&rt, &alloc);
+    for (stored, whole, paged) in FILES {
+        let files = [(Class::KK, stored)];
+        check_case(&rt, &alloc, &texts, (files.as_slice(), None, None, whole));
+        check_case(
+            &rt,
+            &alloc,
+            &texts,
+            (files.as_slice(), Some(1), None, paged),
+        );
     }
 }

@@ -5,19 +5,22 @@ use std::process::Abort;
 use std::test::Fail;
 use study_script::run::{RunFault, Summary};
 
-/// A line of 1,024 bytes is read; of one byte more, the run stops.
+/// A line of 1,024 bytes is read, and a script of 100,000 lines; where one byte more comes, the run stops.
 #[test]
-fn a_line_has_at_most_1024_bytes(rt: HostRuntime) -> Result<(), Fail> {
+fn a_line_has_at_most_1024_bytes_and_a_script_100000_lines(rt: HostRuntime) -> Result<(), Fail> {
     let alloc = rt.alloc();
-    let mut line = vec![in &alloc; b'#'; 1_024]?;
-    let (text, answer) = replies_of(&alloc, &mut no_files(&alloc), None, line.as_slice());
-    assert!(rt; text.is_empty());
-    let (lines, refused) = (1, 0);
-    assert_eq!(rt; answer, Ok(Summary { lines, refused }));
-    line.push(b'#')?;
-    let (text, answer) = replies_of(&alloc, &mut no_files(&alloc), None, line.as_slice());
-    assert!(rt; text.is_empty());
-    assert_eq!(rt; answer, Err(RunFault::LineTooLong(1)));
+    for (byte, most, lines, fault) in [
+        (b'#', 1_024usize, 1, RunFault::LineTooLong(1)),
+        (b'\n', 100_000, 100_000, RunFault::TooManyLines),
+    ] {
+        let mut script = vec![in &alloc; byte; most]?;
+        let (text, answer) = replies_of(&alloc, &mut no_files(&alloc), None, script.as_slice());
+        let refused = 0;
+        assert!(rt; text.is_empty() && answer == Ok(Summary { lines, refused }));
+        script.push(byte)?;
+        let (text, answer) = replies_of(&alloc, &mut no_files(&alloc), None, script.as_slice());
+        assert!(rt; text.is_empty() && answer == Err(fault));
+    }
     Ok(())
 }
 
@@ -34,22 +37,6 @@ fn the_reply_before_a_long_line_stays(rt: HostRuntime) -> Result<(), Fail> {
     let (text, answer) = replies_of(&alloc, &mut no_files(&alloc), None, script.as_slice());
     assert_eq!(rt; text.as_slice(), b"error NoStudy\n".as_slice());
     assert_eq!(rt; answer, Err(RunFault::LineTooLong(2)));
-    Ok(())
-}
-
-/// A script of 100,000 lines is read; where one more begins, the run stops.
-#[test]
-fn a_script_has_at_most_100000_lines(rt: HostRuntime) -> Result<(), Fail> {
-    let alloc = rt.alloc();
-    let mut script = vec![in &alloc; b'\n'; 100_000]?;
-    let (text, answer) = replies_of(&alloc, &mut no_files(&alloc), None, script.as_slice());
-    assert!(rt; text.is_empty());
-    let (lines, refused) = (100_000, 0);
-    assert_eq!(rt; answer, Ok(Summary { lines, refused }));
-    script.push(b'\n')?;
-    let (text, answer) = replies_of(&alloc, &mut no_files(&alloc), None, script.as_slice());
-    assert!(rt; text.is_empty());
-    assert_eq!(rt; answer, Err(RunFault::TooManyLines));
     Ok(())
 }
 
@@ -89,7 +76,7 @@ position k7/8/8/8/8/8/8/K7 w - - 0 1 -> position k7/8/8/8/8/8/8/K7 w - - 0 1
 stipulate white draw -> stipulate White to draw";
 
 /// A line of 256 moves, and one more, which is refused.
-pub fn deep_line<'a, A: Allocator>(rt: &impl Abort, alloc: &'a A) -> Case<'a, A> {
+pub(crate) fn deep_line<'a, A: Allocator>(rt: &impl Abort, alloc: &'a A) -> Case<'a, A> {
     let mut case = Case::new(alloc);
     case.add_rows(rt, CORNERS);
     for depth in 0..256usize {

@@ -1,6 +1,7 @@
 //! Studies typed line by line, with the marks and the text of the game that they have.
 use crate::rows::{Rows, check};
 
+/// A win with a dual and a mistake, its game, and the mistake put first; then a stalemate, which is a draw.
 const QUEEN: Rows<'static> = r#"build KK -> built KK cells 1280 win -
 build KQK -> built KQK cells 81920 win 19
 build KQK -> error AlreadyHeld KQK
@@ -43,12 +44,7 @@ dual 21}) 1-0
 position k7/8/1Q6/8/8/8/8/K7 b - - 0 1 -> position k7/8/1Q6/8/8/8/8/K7 b - - 0 1
 mark root -> mark root draw - faults 0"#;
 
-/// A win with a dual and a mistake, its game, and the mistake put first; then a stalemate, which is a draw.
-#[test]
-fn a_win_with_a_dual_and_a_mistake(rt: HostRuntime) {
-    check(&rt, &rt.alloc(), QUEEN);
-}
-
+/// An only move that draws, since it takes the rook.
 const ROOK_LOST: Rows<'static> = r#"build KRK -> error MissingTable KK
 build KK -> built KK cells 1280 win -
 build KRK -> built KRK cells 81920 win 31
@@ -70,12 +66,7 @@ pgn -> [Event "?"]
 
 "#;
 
-/// An only move that draws, since it takes the rook.
-#[test]
-fn an_only_move_that_draws(rt: HostRuntime) {
-    check(&rt, &rt.alloc(), ROOK_LOST);
-}
-
+/// A mate beside many wins; a shift, and one that a move does not outlast; edits that are refused.
 const ROOK: Rows<'static> = "build KK -> built KK cells 1280 win -
 build KRK -> built KRK cells 81920 win 31
 position k7/8/1K6/8/8/8/8/7R w - - 0 1 -> position k7/8/1K6/8/8/8/8/7R w - - 0 1
@@ -97,12 +88,7 @@ promote 0 -> error AlreadyFirst
 insert root Kc5 -> error AlreadyThere 0
 delete 0.0 -> error NoSuchNode";
 
-/// A mate beside many wins; a shift, and one after which a move is not legal; edits that are refused.
-#[test]
-fn a_mate_beside_many_wins_and_shifts(rt: HostRuntime) {
-    check(&rt, &rt.alloc(), ROOK);
-}
-
+/// Black begins and is mated in one move: the only move in time is one of many that win.
 const MATE_IN_ONE: Rows<'static> = r#"build KK -> built KK cells 1280 win -
 build KRK -> built KRK cells 81920 win 31
 position k7/8/1K6/8/8/8/8/7R b - - 0 1 -> position k7/8/1K6/8/8/8/8/7R b - - 0 1
@@ -128,12 +114,7 @@ stipulate white win -> stipulate White to win
 mark 0.0 -> mark 0.0 loss 0 dual 18 faults 1
 mark 0 -> mark 0 win 1 reply faults 1"#;
 
-/// Black begins and is mated in one move: the only move in time is one of many that win.
-#[test]
-fn black_begins_and_is_mated_in_one(rt: HostRuntime) {
-    check(&rt, &rt.alloc(), MATE_IN_ONE);
-}
-
+/// A mate in two moves is no mate in three.
 const MATE_IN_TWO: Rows<'static> = r#"build KK -> built KK cells 1280 win -
 build KRK -> built KRK cells 81920 win 31
 position k7/8/2K5/8/8/8/8/7R w - - 0 1 -> position k7/8/2K5/8/8/8/8/7R w - - 0 1
@@ -169,13 +150,8 @@ dual 1} 1... Kb8 {White mates in 1} 2. Rh8# $1 {mate} 1-0
 
 "#;
 
-/// A mate in two moves is no mate in three.
-#[test]
-fn a_mate_in_two_is_no_mate_in_three(rt: HostRuntime) {
-    check(&rt, &rt.alloc(), MATE_IN_TWO);
-}
-
-const PAWN: Rows<'static> = "build KK -> built KK cells 1280 win -
+/// A pawn, with the tables of all that it leads to, each in its turn; a promotion is told by its piece.
+const PAWN: Rows<'static> = r#"build KK -> built KK cells 1280 win -
 build KPK -> error MissingTable KQK
 build KQK -> built KQK cells 81920 win 19
 build KRK -> built KRK cells 81920 win 31
@@ -192,15 +168,22 @@ insert root Kb6 -> insert 1 Kb6
 mark 0 -> mark 0 draw dual 1 faults 1
 mark 1 -> mark 1 draw dual 1 faults 1
 mark root -> mark root draw - faults 1
+pgn -> [Event "?"]
+[Site "?"]
+[Date "????.??.??"]
+[Round "?"]
+[White "?"]
+[Black "?"]
+[Result "1/2-1/2"]
+[FEN "k7/8/K7/P7/8/8/8/8 w - - 0 1"]
+[SetUp "1"]
+
+{White to draw: unsound 1, draw} 1. Kb5 {draw; dual 1} (1. Kb6 {draw; dual 1})
+1/2-1/2
+
 position k7/2P5/1K6/8/8/8/8/8 w - - 0 1 -> position k7/2P5/1K6/8/8/8/8/8 w - - 0 1
 insert root c8 -> error NoSuchMove
-insert root c8Q -> insert 0 c8=Q#";
-
-/// A pawn, with the tables of all that it leads to, each in its turn; a promotion is named by its piece.
-#[test]
-fn a_pawn_needs_the_tables_it_leads_to(rt: HostRuntime) {
-    check(&rt, &rt.alloc(), PAWN);
-}
+insert root c8Q -> insert 0 c8=Q#"#;
 
 const KNIGHTS: Rows<'static> = "build KK -> built KK cells 1280 win -
 build KNK -> built KNK cells 81920 win -
@@ -219,4 +202,12 @@ insert root Nge2 -> insert 1 Nge2";
 #[test]
 fn an_ambiguous_move_is_refused(rt: HostRuntime) {
     check(&rt, &rt.alloc(), KNIGHTS);
+}
+
+#[test]
+fn studies_typed_line_by_line_have_their_marks_and_games(rt: HostRuntime) {
+    let alloc = rt.alloc();
+    for rows in [QUEEN, ROOK_LOST, ROOK, MATE_IN_ONE, MATE_IN_TWO, PAWN] {
+        check(&rt, &alloc, rows);
+    }
 }

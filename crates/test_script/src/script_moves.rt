@@ -17,11 +17,7 @@ moves root -> moves 0 stalemate
 position k6R/8/1K6/8/8/8/8/8 b - - 0 1 -> position k6R/8/1K6/8/8/8/8/8 b - - 0 1
 moves root -> moves 0 mate";
 
-#[test]
-fn moves_of_pieces_are_listed_in_order(rt: HostRuntime) {
-    check(&rt, &rt.alloc(), PIECES);
-}
-
+/// Promotions, and a passed square that a pawn can take on and one that none can.
 const PAWNS: Rows<'static> = "build KPKP -> error MissingTable KPK
 position k7/2P5/1K6/8/8/8/8/8 w - - 0 1 -> position k7/2P5/1K6/8/8/8/8/8 w - - 0 1
 moves root -> moves 9 Ka5 Kb5 Kc5 Ka6 Kc6 c8=Q# c8=R# c8=B c8=N
@@ -34,12 +30,7 @@ fen root -> fen 8/8/8/8/4P3/k7/8/4K3 b - e3 0 1
 position 8/8/8/8/4P3/k7/8/4K3 b - - 0 1 -> position 8/8/8/8/4P3/k7/8/4K3 b - - 0 1
 moves root -> moves 5 Ka2 Kb2 Kb3 Ka4 Kb4";
 
-/// Promotions, and a passed square that a pawn can take on and one that none can.
-#[test]
-fn promotions_and_en_passant_are_listed(rt: HostRuntime) {
-    check(&rt, &rt.alloc(), PAWNS);
-}
-
+/// The first fault of a position's text is told, and the position stays.
 const TEXTS: Rows<'static> =
     "position rnbqkbnr/pppppppp/8/8/8/8/PPPPPPPP/RNBQKBNR w KQkq - 0 1 -> error TooManyMen
 position 4k3/8/8/8/8/8/8/4K2R w K - 0 1 -> error Castling
@@ -48,8 +39,10 @@ position k7/K7/8/8/8/8/8/8 w - - 0 1 -> error OpponentInCheck
 position k7/8/8/8/8/8/8/8 x K - 0 1 -> error KingCount
 fen root -> fen k7/8/1K6/8/8/8/8/7R w - - 3 1";
 
-/// The reply names the first fault of a position's text, and the position stays.
 #[test]
-fn the_first_fault_of_a_fen_is_told(rt: HostRuntime) {
-    check(&rt, &rt.alloc(), TEXTS);
+fn moves_are_listed_and_faults_of_fens_told(rt: HostRuntime) {
+    let alloc = rt.alloc();
+    for rows in [PIECES, PAWNS, TEXTS] {
+        check(&rt, &alloc, rows);
+    }
 }

@@ -1,6 +1,7 @@
 //! Lines that are refused, each with its name and in its order.
 use crate::rows::{Rows, check};
 
+/// Words that are no command, or not of its form; they come before all that is asked of what is held.
 const FORMS: Rows<'static> = "moves\troot -> error BadByte
 dance root -> error UnknownCommand
 moves -> error BadArguments
@@ -31,12 +32,7 @@ mark root -> error NoStudy
 pgn -> error NoStudy
 build KKK -> error NotAClass";
 
-/// Words that are no command, or not of its form; they come before all that is asked of what is held.
-#[test]
-fn the_form_of_a_line_is_refused_first(rt: HostRuntime) {
-    check(&rt, &rt.alloc(), FORMS);
-}
-
+/// The faults of a position's text.
 const POSITIONS: Rows<'static> = "position k7/8/8/8/8/8/8/K7 w - -> error FieldCount
 position k7/8/8/8/8/8/8 w - - 0 1 -> error Placement
 position k7/8/8/8/8/8/8/K6P w - - 0 1 -> error PawnOnEndRank
@@ -47,12 +43,7 @@ position k7/8/8/8/8/8/8/K7 w - - x 1 -> error Clock
 position k7/8/8/8/8/8/8/K7 w - - 0 x -> error MoveNumber
 moves root -> error NoPosition";
 
-/// The faults of a position's text.
-#[test]
-fn each_fault_of_a_fen_is_refused_by_name(rt: HostRuntime) {
-    check(&rt, &rt.alloc(), POSITIONS);
-}
-
+/// The refusals of edits, over the table of two kings alone.
 const EDITS: Rows<'static> =
     "position k7/8/8/8/8/8/8/K7 w - - 0 1 -> position k7/8/8/8/8/8/8/K7 w - - 0 1
 moves 0 -> error NoSuchNode
@@ -78,12 +69,7 @@ mark 0 -> mark 0 draw dual 2 faults 1
 delete 0 -> delete 0
 mark root -> mark root draw - faults 0";
 
-/// The refusals of edits, over the table of two kings alone.
-#[test]
-fn edits_are_refused_by_name(rt: HostRuntime) {
-    check(&rt, &rt.alloc(), EDITS);
-}
-
+/// The room of each class is found where memory is ample, before its first need is missed.
 const NEEDS: Rows<'static> = "build KQK -> error MissingTable KK
 build KRK -> error MissingTable KK
 build KBK -> error MissingTable KK
@@ -121,8 +107,10 @@ build KNKP -> error MissingTable KQK
 build KPKP -> error MissingTable KPK
 build KK -> built KK cells 1280 win -";
 
-/// The room of each class is found where memory is ample, before its first need is missed.
 #[test]
-fn room_is_found_before_a_need_is_missed(rt: HostRuntime) {
-    check(&rt, &rt.alloc(), NEEDS);
+fn each_refusal_has_its_name_and_its_place(rt: HostRuntime) {
+    let alloc = rt.alloc();
+    for rows in [FORMS, POSITIONS, EDITS, NEEDS] {
+        check(&rt, &alloc, rows);
+    }
 }

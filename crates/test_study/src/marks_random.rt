@@ -1,14 +1,48 @@
 //! Random edits, and after each the marks found another way: by counting over the legal moves and the game's values.
-use super::picture::{Row, rows_of};
-use super::{path, start, tables};
-use std::alloc::{Allocator, Global};
+use crate::studies::{Case, path_of, start_of, tables_of};
+use std::alloc::{AllocError, Allocator, Global};
 use std::process::Abort;
 use study_board::{Position, Side};
-use study_marks::{Bench, Goal, MateMoves, MoveMark, Refusal, Stipulation};
+use study_marks::{Bench, Goal, MateMoves, MoveMark, Refusal, Shown, Stipulation};
 use study_material::Class;
 use study_moves::{Move, is_legal, legal_moves, played};
 use study_prober::Values;
 use study_retro::Value;
+use study_tree::MAX_NODES;
+
+/// A node: the way to it, and what is shown of it.
+#[derive(Drop)]
+struct Row {
+    steps: Vec<u16>,
+    shown: Shown,
+}
+
+/// The nodes of the study in written order.
+fn rows_of<A: Allocator>(alloc: Global, bench: &Bench<'_, A>) -> Result<Vec<Row>, AllocError> {
+    let mut rows = Vec::new(alloc);
+    let mut steps: Vec<u16> = Vec::new(alloc);
+    let mut next = 0u16;
+    for _ in 0..2 * MAX_NODES {
+        let Some(shown) = bench.shown(steps.as_slice()) else {
+            break;
+        };
+        let children = shown.children;
+        if next == 0 {
+            let steps = steps.as_slice().to_vec(alloc)?;
+            rows.push(Row { steps, shown })?;
+        }
+        if next < children {
+            steps.push(next)?;
+            next = 0;
+        } else {
+            match steps.pop() {
+                Some(place) => next = place.saturating_add(1),
+                None => break,
+            }
+        }
+    }
+    Ok(rows)
+}
 
 /// Numbers that follow from a seed.
 #[derive(Drop)]
@@ -28,13 +62,11 @@ impl Numbers {
     }
 }
 
-/// A position in a line: it, its value, and whether the hero still has what is wanted.
+/// A position in a line: it, whether the hero still has what is wanted, and whether the hero moves in it.
 #[derive(Drop)]
 struct Seen {
     position: Position,
-    value: Value,
     holds: bool,
-    /// Whether the hero moves in it.
     hero: bool,
 }
 
@@ -45,70 +77,45 @@ struct Wanted {
     first: bool,
 }
 
-/// Whether a position with this value at this depth holds; `hero` says whether the hero moves in it.
-fn holds(wanted: &Wanted, depth: usize, hero: bool, value: Value) -> bool {
-    let goal = wanted.goal;
-    let (mates, mated) = match value {
-        Value::Win(n) => (if hero { Some(n) } else { None }, !hero),
-        Value::Loss(n) => (if hero { None } else { Some(n) }, hero),
-        Value::Draw => (None, false),
-    };
-    match goal {
-        Goal::Win => mates.is_some(),
-        Goal::Draw => !mated,
-        Goal::MateIn(moves) => {
-            let plies = 2 * moves.count() as usize;
-            let last = if wanted.first {
-                plies.saturating_sub(1)
-            } else {
-                plies
-            };
-            match mates {
-                None => false,
-                Some(n) => depth.saturating_add(n as usize) <= last,
+impl Wanted {
+    /// Whether a position with this value at this depth holds; `hero` says whether the hero moves in it.
+    fn holds(&self, depth: usize, hero: bool, value: Value) -> bool {
+        let (mates, mated) = match value {
+            Value::Win(n) => (if hero { Some(n) } else { None }, !hero),
+            Value::Loss(n) => (if hero { None } else { Some(n) }, hero),
+            Value::Draw => (None, false),
+        };
+        match (self.goal, mates) {
+            (Goal::Win, _) => mates.is_some(),
+            (Goal::Draw, _) => !mated,
+            (Goal::MateIn(_), None) => false,
+            (Goal::MateIn(moves), Some(n)) => {
+                let plies = 2 * moves.count() as usize;
+                let last = plies.saturating_sub(usize::from(self.first));
+                depth.saturating_add(n as usize) <= last
             }
         }
     }
-}
 
-fn value_of<V: Values>(rt: &impl Abort, values: &mut V, p: &Position) -> Value {
-    values.value(p).ok().expect(rt, "a value")
-}
-
-/// Whether the position after a move, at this depth, holds, where the hero makes the move.
-fn holds_after<V: Values>(
-    rt: &impl Abort,
-    values: &mut V,
-    wanted: &Wanted,
-    depth: usize,
-    before: &Position,
-    m: &Move,
-) -> bool {
-    if !is_legal(before, *m) {
-        return false;
-    }
-    let next = played(before, *m);
-    let value = value_of(rt, values, &next);
-    holds(wanted, depth, false, value)
-}
-
-/// After how many other moves of the hero the position, at this depth, holds.
-fn others_of<V: Values>(
-    rt: &impl Abort,
-    values: &mut V,
-    wanted: &Wanted,
-    depth: usize,
-    before: &Position,
-    m: &Move,
-) -> u8 {
-    let mut others = 0u8;
-    for other in legal_moves(before).as_slice() {
-        let is_held = holds_after(rt, values, wanted, depth, before, other);
-        if is_held && *other != *m {
-            others = others.saturating_add(1);
+    /// After how many of the hero's moves but this one the position, at this depth, holds.
+    fn others<V: Values>(
+        &self,
+        rt: &impl Abort,
+        values: &mut V,
+        depth: usize,
+        before: &Position,
+        m: &Move,
+    ) -> u8 {
+        let mut others = 0u8;
+        for other in legal_moves(before).as_slice() {
+            if *other != *m && is_legal(before, *other) {
+                let value = values.value(&played(before, *other)).ok();
+                let value = value.expect(rt, "a value");
+                others = others.saturating_add(u8::from(self.holds(depth, false, value)));
+            }
         }
+        others
     }
-    others
 }
 
 /// The mark of a move, by whether the hero makes it, whether the positions before and after it hold, and the others.
@@ -129,7 +136,7 @@ fn faults_of(rows: &[Row], faulty: &[bool], place: usize, first: bool) -> u32 {
     let mut count = 0u32;
     let mut top = 0usize;
     for (at, (row, fault)) in rows.iter().zip(faulty.iter()).enumerate() {
-        let depth = row.0;
+        let depth = row.steps.len();
         if at < place || depth == 0 && at > 0 || depth >= 258 {
             continue;
         }
@@ -142,11 +149,9 @@ fn faults_of(rows: &[Row], faulty: &[bool], place: usize, first: bool) -> u32 {
             // The root is at depth 0, so whose move led here follows from the depth.
             let by_hero = (depth % 2 == 1) == first;
             let above = depth.saturating_sub(1);
-            joined[depth] = joined[above] && (!by_hero || row.1 == 0);
+            joined[depth] = joined[above] && (!by_hero || row.steps.as_slice().last() == Some(&0));
         }
-        if joined[depth] && *fault {
-            count = count.saturating_add(1);
-        }
+        count = count.saturating_add(u32::from(joined[depth] && *fault));
     }
     count
 }
@@ -167,51 +172,37 @@ fn check<A: Allocator, V: Values>(
     };
     let mut line: Vec<Seen> = Vec::new(alloc);
     let mut faulty: Vec<bool> = Vec::new(alloc);
-    for (depth, _, m, mark) in rows.as_slice() {
-        line.truncate(*depth);
-        let position = match (line.as_slice().last(), *m) {
-            (Some(before), Some(m)) if is_legal(&before.position, m) => played(&before.position, m),
-            _ => root.copied(),
+    for row in rows.as_slice() {
+        let depth = row.steps.len();
+        line.truncate(depth);
+        let (position, others) = match (line.as_slice().last(), row.shown.played) {
+            (Some(before), Some(m)) if is_legal(&before.position, m) => (
+                played(&before.position, m),
+                Some(wanted.others(rt, values, depth, &before.position, &m)),
+            ),
+            _ => (root.copied(), None),
         };
-        let value = value_of(rt, values, &position);
+        let value = values.value(&position).ok().expect(rt, "a value");
         let hero = position.to_move().is(stipulation.hero);
-        let seen = Seen {
-            holds: holds(&wanted, *depth, hero, value),
-            position,
-            value,
-            hero,
-        };
-        let marked = match (line.as_slice().last(), *m) {
-            (Some(before), Some(m)) => {
-                let others = others_of(rt, values, &wanted, *depth, &before.position, &m);
-                Some(mark_of(before.hero, before.holds, seen.holds, others))
-            }
+        let holds = wanted.holds(depth, hero, value);
+        let marked = match (line.as_slice().last(), others) {
+            (Some(before), Some(others)) => Some(mark_of(before.hero, before.holds, holds, others)),
             _ => None,
         };
-        assert!(rt; mark.value == seen.value && mark.on_move == marked);
-        let slip = !seen.hero && marked == Some(MoveMark::Mistake);
+        assert!(rt; row.shown.mark.value == value && row.shown.mark.on_move == marked);
+        let slip = !hero && marked == Some(MoveMark::Mistake);
         let fault = slip || matches!(marked, Some(MoveMark::Dual(_)));
+        let seen = Seen {
+            position,
+            holds,
+            hero,
+        };
         assert!(rt; faulty.push(fault).is_ok() && line.push(seen).is_ok());
     }
     for (place, row) in rows.as_slice().iter().enumerate() {
         let count = faults_of(rows.as_slice(), faulty.as_slice(), place, wanted.first);
-        assert!(rt; row.3.faults == count, "{place}");
+        assert!(rt; row.shown.mark.faults == count, "{place}");
     }
-}
-
-/// The way to one of the rows.
-fn way_to(rt: &impl Abort, alloc: Global, rows: &[Row], row: usize) -> Vec<u16> {
-    let mut steps: Vec<u16> = Vec::new(alloc);
-    for (at, (depth, place, _, _)) in rows.iter().enumerate() {
-        if at > row {
-            break;
-        }
-        if *depth > 0 {
-            steps.truncate(depth.saturating_sub(1));
-            assert!(rt; steps.push(*place).is_ok());
-        }
-    }
-    steps
 }
 
 /// Starts, among them some with the same kings.
@@ -224,11 +215,7 @@ const STARTS: [&str; 5] = [
 ];
 
 fn stipulation_of(rt: &impl Abort, numbers: &mut Numbers) -> Stipulation {
-    let hero = if numbers.below(3) == 0 {
-        Side::Black
-    } else {
-        Side::White
-    };
+    let hero = [Side::Black, Side::White, Side::White][numbers.below(3) % 3];
     let goal = match numbers.below(4) {
         0 => Goal::Win,
         1 => Goal::Draw,
@@ -241,22 +228,20 @@ fn stipulation_of(rt: &impl Abort, numbers: &mut Numbers) -> Stipulation {
 }
 
 /// A random edit; whether it was accepted.
-fn edit<'a, A: Allocator, V: Values>(
+fn edit<'a, V: Values>(
     rt: &impl Abort,
-    alloc: (Global, &'a A),
-    bench: &mut Bench<'a, A>,
+    alloc: &'a Global,
+    bench: &mut Bench<'a, Global>,
     values: &mut V,
     numbers: &mut Numbers,
-) -> Result<(), Refusal<'a, A>> {
-    let (room, alloc) = alloc;
-    let rows = rows_of(room, bench).ok().expect(rt, "rows");
-    let row = numbers.below(rows.len());
-    let steps = way_to(rt, room, rows.as_slice(), row);
-    let at = path(rt, alloc, steps.as_slice());
-    let fen = STARTS[numbers.below(5) % 5];
+) -> Result<(), Refusal<'a, Global>> {
+    let rows = rows_of(*alloc, bench).ok().expect(rt, "rows");
+    let row = rows.get(numbers.below(rows.len())).expect(rt, "a row");
+    let at = path_of(rt, alloc, row.steps.as_slice());
+    let start = start_of(rt, STARTS[numbers.below(5) % 5]);
     match numbers.below(40) {
-        0 => bench.set_position(start(rt, fen), values),
-        1 | 2 => bench.shift_position(start(rt, fen), values),
+        0 => bench.set_position(start, values),
+        1 | 2 => bench.shift_position(start, values),
         3 => bench.reannotate(values),
         4..=6 => {
             bench.set_stipulation(stipulation_of(rt, numbers));
@@ -278,29 +263,23 @@ fn edit<'a, A: Allocator, V: Values>(
 
 /// Some hundred random edits: after each, all marks are those that are counted anew.
 #[test]
-fn random_edits(rt: HostRuntime) {
+fn marks_after_random_edits_are_those_counted_anew(rt: HostRuntime) {
     let alloc = rt.alloc();
-    let mut values = tables(&rt, &alloc, [Class::KK, Class::KRK].as_slice());
+    let mut values = tables_of(&rt, &alloc, &[Class::KK, Class::KRK]);
     let mut numbers = Numbers { state: 2026 };
-    let hero = Stipulation {
+    let case = Case {
+        fen: STARTS[0],
         hero: Side::White,
         goal: Goal::Win,
+        moves: &[],
     };
-    let mut bench = Bench::new(&alloc, start(&rt, STARTS[0]), hero, &mut values)
-        .ok()
-        .expect(&rt, "a bench");
+    let mut bench = case.root(&rt, &alloc, &mut values);
     let mut accepted = 0usize;
     let mut greatest = 0usize;
     for _ in 0..600usize {
-        let result = edit(&rt, (alloc, &alloc), &mut bench, &mut values, &mut numbers);
-        if result.is_ok() {
-            accepted = accepted.saturating_add(1);
-        }
-        greatest = if bench.size() > greatest {
-            bench.size()
-        } else {
-            greatest
-        };
+        let result = edit(&rt, &alloc, &mut bench, &mut values, &mut numbers);
+        accepted = accepted.saturating_add(usize::from(result.is_ok()));
+        greatest = greatest.max(bench.size());
         check(&rt, alloc, &bench, &mut values);
     }
     assert!(rt; accepted > 300 && greatest > 30, "{accepted} {greatest}");

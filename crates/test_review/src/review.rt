@@ -1,0 +1,216 @@
+//! Studies of the gallery: what a review tells of their nodes, by an independent program.
+use crate::studies::{Moves, is_written, node, study, tables_of, white};
+use arrayvec::ArrayVec;
+use std::alloc::Global;
+use std::process::Abort;
+use study_board::Position;
+use study_marks::Bench;
+use study_material::Class;
+use study_moves::{is_legal, played};
+use study_prober::Values;
+use study_retro::Value;
+use study_review::{
+    Continuation, Defence, alternatives, best_play, children_in, defences, drawing_moves,
+    holding_moves, is_in_solution, made_in, missing_moves, place_in, refutations,
+    timed_alternatives,
+};
+
+const WAITING: Moves = &[
+    (&[], "Rc7"),
+    (&[], "Kb6"),
+    (&[], "Kb5"),
+    (&[2], "Kxb7"),
+    (&[0], "Kb8"),
+    (&[0, 0], "Kb6"),
+    (&[0, 0], "Rc6"),
+    (&[0, 0, 1], "Ka7"),
+    (&[0, 0, 0], "Ka8"),
+    (&[0, 0, 0, 0], "Rc8"),
+];
+
+/// A waiting move of the rook, as a mate in so many moves.
+fn waiting<'a, V: Values>(
+    rt: &impl Abort,
+    alloc: &'a Global,
+    moves: u8,
+    values: &mut V,
+) -> Bench<'a, Global> {
+    let fen = "k7/1R6/8/K7/8/8/8/8 w - - 0 1";
+    study(rt, alloc, fen, white(rt, Some(moves)), WAITING, values)
+}
+
+/// A list of moves that is told of a node.
+#[derive(Clone, Copy, Debug, PartialEq, Eq)]
+enum List {
+    /// The alternatives of the move that led to it.
+    Alternatives,
+    Drawing,
+    Holding,
+    /// The moves that the tree has not.
+    Missing,
+    Refutations,
+}
+
+/// The position in which the moves are made, and the list.
+fn list_of<'a, V: Values>(
+    rt: &impl Abort,
+    alloc: &'a Global,
+    bench: &Bench<'a, Global>,
+    steps: &[u16],
+    list: List,
+    values: &mut V,
+) -> (Position, ArrayVec<Continuation, 256>) {
+    if list == List::Alternatives {
+        let made = made_in(bench, steps).expect(rt, "a move");
+        assert!(rt; made.before.depth <= 256);
+        let list = alternatives(&node(&made.before), made.played, values).ok();
+        return (made.before.position, list.expect(rt, "values"));
+    }
+    let place = place_in(bench, steps).expect(rt, "a node");
+    assert!(rt; place.depth <= 256);
+    let there = children_in(alloc, bench, steps).ok().expect(rt, "memory");
+    let there = there.expect(rt, "a node");
+    let at = node(&place);
+    let list = match list {
+        List::Drawing => drawing_moves(&at, values),
+        List::Holding => holding_moves(&at, values),
+        List::Missing => missing_moves(&at, there.as_slice(), values),
+        _ => refutations(&at, values),
+    };
+    (place.position, list.ok().expect(rt, "values"))
+}
+
+/// Of a mate in so many moves the list at a node: its moves, each with the value after it.
+type Row = (u8, &'static [u16], List, &'static [(&'static str, Value)]);
+
+/// Refutations of a slow move, of a rook left to be taken, and of a stalemate; the moves that keep a draw; the alternatives of
+/// two duals; the one move in time, and the answers to a slow move that the tree has not.
+const ROWS: [Row; 9] = [
+    (
+        3,
+        &[0, 0, 1],
+        List::Refutations,
+        &[
+            ("Ka7", Value::Win(7)),
+            ("Kb7", Value::Win(9)),
+            ("Ka8", Value::Win(5)),
+        ],
+    ),
+    (3, &[2], List::Refutations, &[("Kxb7", Value::Draw)]),
+    (3, &[1], List::Refutations, &[]),
+    (
+        3,
+        &[2, 0],
+        List::Drawing,
+        &[
+            ("Ka4", Value::Draw),
+            ("Kb4", Value::Draw),
+            ("Kc4", Value::Draw),
+            ("Ka5", Value::Draw),
+            ("Kc5", Value::Draw),
+        ],
+    ),
+    (4, &[0], List::Alternatives, &[("Rd7", Value::Loss(6))]),
+    (
+        4,
+        &[0, 0, 0, 0, 0],
+        List::Alternatives,
+        &[
+            ("Rd7", Value::Loss(2)),
+            ("Re7", Value::Loss(2)),
+            ("Rf7", Value::Loss(2)),
+            ("Rg7", Value::Loss(2)),
+            ("Rh7", Value::Loss(2)),
+        ],
+    ),
+    (3, &[0], List::Alternatives, &[]),
+    (3, &[], List::Holding, &[("Rc7", Value::Loss(4))]),
+    (
+        3,
+        &[0, 0, 1],
+        List::Missing,
+        &[("Kb7", Value::Win(9)), ("Ka8", Value::Win(5))],
+    ),
+];
+
+#[test]
+fn lists_of_moves_are_those_of_an_independent_program(rt: HostRuntime) {
+    let alloc = rt.alloc();
+    let mut values = tables_of(&rt, &alloc, &[Class::KK, Class::KRK]);
+    for (moves, steps, list, wanted) in ROWS {
+        let bench = waiting(&rt, &alloc, moves, &mut values);
+        let (position, told) = list_of(&rt, &alloc, &bench, steps, list, &mut values);
+        assert_eq!(rt; told.len(), wanted.len(), "{list:?} {steps:?}");
+        for (x, (san, value)) in told.as_slice().iter().zip(wanted.iter()) {
+            assert!(rt; is_written(&position, &x.played, san), "{san}");
+            assert!(rt; x.value == *value, "{san}");
+        }
+    }
+}
+
+/// The one defence to the waiting move, with its one answer, and the nodes of the solution.
+#[test]
+fn the_defence_has_one_answer_in_the_solution(rt: HostRuntime) {
+    let alloc = rt.alloc();
+    let mut values = tables_of(&rt, &alloc, &[Class::KK, Class::KRK]);
+    let bench = waiting(&rt, &alloc, 3, &mut values);
+    let place = place_in(&bench, &[0]).expect(&rt, "a node");
+    assert!(rt; place.depth <= 256);
+    let list = defences(&node(&place), &[], &mut values).ok();
+    let list = list.expect(&rt, "values");
+    let reply = made_in(&bench, &[0, 0]).expect(&rt, "a move");
+    let answer = made_in(&bench, &[0, 0, 0]).expect(&rt, "a move");
+    let wanted = Defence {
+        played: reply.played,
+        value: Value::Win(3),
+        answers: 1,
+        only: Some(answer.played),
+    };
+    assert!(rt; list.as_slice() == [wanted].as_slice());
+    assert!(rt; place_in(&bench, &[3]).is_none() && made_in(&bench, &[]).is_none());
+    for (steps, is_in) in [(&[0, 0, 0][..], true), (&[0, 0, 1], false), (&[1], false)] {
+        assert!(rt; is_in_solution(&place.aim, steps) == is_in, "{steps:?}");
+    }
+}
+
+/// Best play from a won end.
+#[test]
+fn best_play_goes_on_to_the_mate(rt: HostRuntime) {
+    let alloc = rt.alloc();
+    let mut values = tables_of(&rt, &alloc, &[Class::KK, Class::KRK]);
+    let bench = waiting(&rt, &alloc, 3, &mut values);
+    let end = place_in(&bench, &[0, 0, 1, 0]).expect(&rt, "a node");
+    let mut p = end.position;
+    let play = best_play(&p, &mut values).ok().expect(&rt, "values");
+    let moves = ["Rc7+", "Ka8", "Kb5", "Kb8", "Kb6", "Ka8", "Rc8#"];
+    assert_eq!(rt; play.len(), moves.len());
+    for (x, san) in play.as_slice().iter().zip(moves.iter()) {
+        assert!(rt;
+            is_written(&p, &x.played, san) && is_legal(&p, x.played),
+            "{san}"
+        );
+        let next = played(&p, x.played);
+        p = next;
+    }
+}
+
+/// Two duals of a win with a queen: of 21 alternatives none loses time, of 27 the queen's way back alone, within 0.
+#[test]
+fn one_alternative_of_a_win_loses_time(rt: HostRuntime) {
+    let alloc = rt.alloc();
+    let mut values = tables_of(&rt, &alloc, &[Class::KK, Class::KQK]);
+    let moves: Moves = &[(&[], "Qg7"), (&[0], "Kb8"), (&[0, 0], "Qb7")];
+    let fen = "k7/8/1K6/8/8/8/8/6Q1 w - - 0 1";
+    let bench = study(&rt, &alloc, fen, white(&rt, None), moves, &mut values);
+    for (steps, back, count) in [(&[0][..], "none", 21), (&[0, 0, 0], "Qg1", 27)] {
+        let made = made_in(&bench, steps).expect(&rt, "a move");
+        assert!(rt; made.before.depth <= 256);
+        let list = timed_alternatives(&made.before, made.played, &mut values).ok();
+        let list = list.expect(&rt, "values");
+        assert_eq!(rt; list.len(), count);
+        for x in list.as_slice() {
+            let is_back = is_written(&made.before.position, &x.played, back);
+            assert!(rt; x.time == if is_back { Some(0) } else { None });
+        }
+    }
+}

@@ -1,0 +1,81 @@
+//! Values that are not told: a class that is not held, and a device that fails at each question in turn.
+use crate::studies::{position_of, tables_of};
+use arrayvec::ArrayVec;
+use std::process::Abort;
+use study_marks::{Aim, Goal};
+use study_material::Class;
+use study_notation::read_san;
+use study_prober::memory::FailingValues;
+use study_prober::{ProbeFault, Values};
+use study_review::{Node, Place, best_play, defences, timed_alternatives};
+use study_tablefile::SourceFault;
+
+const WIN: Aim = Aim {
+    goal: Goal::Win,
+    hero_first: true,
+};
+
+/// A call that asks values.
+#[derive(Clone, Copy, Debug, PartialEq, Eq)]
+enum Call {
+    TimedAlternatives,
+    BestPlay,
+    Defences,
+}
+
+const CALLS: [Call; 3] = [Call::TimedAlternatives, Call::BestPlay, Call::Defences];
+
+/// The fault of a call at a root with a queen, or at the node after her check.
+fn fault_of<V: Values>(rt: &impl Abort, call: Call, values: &mut V) -> Option<ProbeFault> {
+    let position = position_of(rt, "8/8/8/8/8/2k5/8/K6Q w - - 0 1");
+    let check = read_san(&position, "Qh3+").ok().expect(rt, "a move");
+    let reply = position_of(rt, "8/8/8/8/8/2k4Q/8/K7 b - - 0 1");
+    let mut line = ArrayVec::new();
+    line.push(position.copied());
+    let root = Place {
+        aim: WIN,
+        depth: 0,
+        position,
+        line,
+    };
+    let node = Node {
+        aim: &WIN,
+        depth: 1,
+        position: &reply,
+    };
+    match call {
+        Call::TimedAlternatives => timed_alternatives(&root, check, values).err(),
+        Call::BestPlay => best_play(&root.position, values).err(),
+        Call::Defences => defences(&node, &[], values).err(),
+    }
+}
+
+/// Each of the first forty questions fails in turn; the fault is told, and no more is asked.
+#[test]
+fn each_question_of_a_call_fails_in_turn(rt: HostRuntime) {
+    let alloc = rt.alloc();
+    let whole = tables_of(&rt, &alloc, &[Class::KK, Class::KQK]);
+    let mut values = FailingValues::new(whole, u64::MAX);
+    let device = Some(ProbeFault::TableRead(SourceFault::Device));
+    for call in CALLS {
+        for k in 0..40u64 {
+            values.asked = 0;
+            values.fails_at = Some(k);
+            assert!(rt; fault_of(&rt, call, &mut values) == device, "{call:?} {k}");
+            assert!(rt; values.asked() == k + 1, "{call:?} {k}");
+        }
+    }
+    assert!(rt; values.failures() == 120);
+}
+
+/// A class that is not held is told by its name, and no failure is counted.
+#[test]
+fn a_missing_table_is_told_by_its_name(rt: HostRuntime) {
+    let alloc = rt.alloc();
+    let mut values = tables_of(&rt, &alloc, &[Class::KK]);
+    for call in CALLS {
+        let fault = fault_of(&rt, call, &mut values);
+        assert!(rt; fault == Some(ProbeFault::NoTable(Class::KQK)), "{call:?}");
+    }
+    assert!(rt; values.failures() == 0);
+}

@@ -1,0 +1,97 @@
+//! Alternatives that lose time along best play: how many, counted by another program from values alone.
+use crate::studies::{position_of, tables_of};
+use std::alloc::Global;
+use std::process::Abort;
+use study_board::Position;
+use study_marks::{Aim, Goal};
+use study_material::Class;
+use study_moves::{is_legal, played};
+use study_prober::Values;
+use study_review::{Node, alternatives, best_move, is_back, time_lost};
+
+/// How many alternatives a best move has, and of how many the position is back within 0, within 1 and within 2.
+type Counts = (usize, [usize; 3]);
+
+/// The counts at a node, the last of a line, and the position after its best move.
+fn counts_at<V: Values>(
+    rt: &impl Abort,
+    line: &[Position],
+    p: &Position,
+    values: &mut V,
+) -> (Counts, Position) {
+    let node = Node {
+        aim: &Aim {
+            goal: Goal::Win,
+            hero_first: true,
+        },
+        depth: 0,
+        position: p,
+    };
+    let best = best_move(p, values).ok().expect(rt, "values");
+    let best = best.expect(rt, "a move");
+    let also = alternatives(&node, best.played, values).ok();
+    let also = also.expect(rt, "values");
+    let mut counts = [0usize; 3];
+    for x in also.as_slice() {
+        assert!(rt; is_legal(p, x.played));
+        let lost = time_lost(line, &played(p, x.played), values).ok();
+        if let Some(least) = lost.expect(rt, "values") {
+            for (within, count) in [0u8, 1, 2].iter().zip(counts.iter_mut()) {
+                *count = count.saturating_add(usize::from(least <= *within));
+            }
+        }
+    }
+    assert!(rt; is_legal(p, best.played));
+    ((also.len(), counts), played(p, best.played))
+}
+
+/// Each second node along best play from a position has these counts.
+fn check_line<V: Values>(
+    rt: &impl Abort,
+    alloc: Global,
+    fen: &str,
+    wanted: &[Counts],
+    values: &mut V,
+) {
+    let mut line = Vec::new(alloc);
+    let mut p = position_of(rt, fen);
+    for counts in wanted {
+        assert!(rt; line.push(p.copied()).is_ok());
+        assert!(rt; is_back(line.as_slice(), 0, &p, values) == Ok(true));
+        let (found, reply) = counts_at(rt, line.as_slice(), &p, values);
+        assert_eq!(rt; found, *counts, "{fen}");
+        assert!(rt; line.push(reply.copied()).is_ok());
+        let (_, next) = counts_at(rt, line.as_slice(), &reply, values);
+        p = next;
+    }
+}
+
+/// Rook against king: at each of the later nodes one rook move is taken back.
+const ROOK: [Counts; 4] = [
+    (14, [0, 0, 0]),
+    (9, [1, 1, 1]),
+    (12, [1, 1, 1]),
+    (15, [1, 1, 1]),
+];
+
+/// Pawn against king: most of the king's other moves that win lose time.
+const PAWN: [Counts; 7] = [
+    (0, [0, 0, 0]),
+    (0, [0, 0, 0]),
+    (2, [1, 2, 2]),
+    (0, [0, 0, 0]),
+    (3, [1, 3, 3]),
+    (5, [2, 3, 4]),
+    (2, [0, 2, 2]),
+];
+
+#[test]
+fn time_is_lost_as_another_program_counts(rt: HostRuntime) {
+    use Class::{KBK, KK, KNK, KPK, KQK, KRK};
+    let alloc = rt.alloc();
+    let mut values = tables_of(&rt, &alloc, &[KK, KQK, KRK, KBK, KNK, KPK]);
+    let rook = "8/8/8/8/8/2k5/8/K6R w - - 0 1";
+    check_line(&rt, alloc, rook, ROOK.as_slice(), &mut values);
+    let pawn = "8/8/8/3k4/8/8/3KP3/8 w - - 0 1";
+    check_line(&rt, alloc, pawn, PAWN.as_slice(), &mut values);
+}

@@ -1,0 +1,332 @@
+//! Memory and values that fail in turn: a refused call leaves the study as it was, and is accepted when it is made again.
+use crate::heaps::rest_of;
+use crate::studies::{Case, Snapshot, move_of, path_of, start_of, tables_of};
+use linked_list_allocator::LocalHeap;
+use std::alloc::{Allocator, Global};
+use std::process::Abort;
+use std::test::Fail;
+use study_board::Side;
+use study_marks::{Bench, Edit, Goal, Refusal, Stopped};
+use study_material::Class;
+use study_prober::memory::FailingValues;
+use study_prober::{ProbeFault, Values};
+
+/// A study on which the calls are made: it, its start with another clock, and one more move below its root.
+#[derive(Clone, Copy)]
+pub(crate) struct Subject {
+    pub(crate) case: Case,
+    pub(crate) later: &'static str,
+    pub(crate) more: &'static str,
+}
+
+/// A rook on h5 and kings in two corners: four moves of the rook, and three of Black's king.
+const CORNERS: Subject = Subject {
+    case: Case {
+        fen: "k7/8/8/7R/8/8/8/K7 w - - 0 1",
+        hero: Side::White,
+        goal: Goal::Win,
+        moves: &[
+            (&[], "Rg5"),
+            (&[], "Rf5"),
+            (&[], "Rb5"),
+            (&[], "Ra5"),
+            (&[0], "Kb8"),
+            (&[0], "Ka7"),
+            (&[1], "Kb8"),
+        ],
+    },
+    later: "k7/8/8/7R/8/8/8/K7 w - - 4 7",
+    more: "Rh1",
+};
+
+/// The calls that ask values and that leave the study as it was where they are refused.
+#[derive(Clone, Copy, Debug, PartialEq, Eq)]
+pub(crate) enum Call {
+    New,
+    Position,
+    Shift,
+    Insert,
+    Reannotate,
+}
+
+impl Subject {
+    /// Makes a call on the study.
+    fn call<'a, A: Allocator, V: Values>(
+        &self,
+        rt: &impl Abort,
+        alloc: &'a A,
+        bench: &mut Bench<'a, A>,
+        call: Call,
+        values: &mut V,
+    ) -> Result<(), Refusal<'a, A>> {
+        match call {
+            Call::New => {
+                let start = start_of(rt, self.case.fen);
+                *bench = Bench::new(alloc, start, self.case.stipulation(), values)?;
+                Ok(())
+            }
+            Call::Position => bench.set_position(start_of(rt, self.later), values),
+            Call::Shift => bench.shift_position(start_of(rt, self.later), values),
+            Call::Reannotate => bench.reannotate(values),
+            Call::Insert => {
+                let root = path_of(rt, alloc, &[]);
+                let m = move_of(rt, bench, &root, self.more);
+                let _place = bench.insert(&root, m, values)?;
+                Ok(())
+            }
+        }
+    }
+
+    /// What the study shows after a call over values that do not fail.
+    pub(crate) fn after<V: Values>(
+        &self,
+        rt: &impl Abort,
+        alloc: Global,
+        call: Call,
+        sound: &mut V,
+    ) -> Snapshot {
+        let mut bench = self.case.study(rt, &alloc, sound);
+        assert!(rt; self.call(rt, &alloc, &mut bench, call, sound).is_ok());
+        Snapshot::of(rt, alloc, &bench)
+    }
+
+    /// Whether a call is refused over values of which one fails, none of which was asked yet. Where it is, the study is as it
+    /// was, and the call is made again; in the end the study shows what is wanted.
+    pub(crate) fn is_refused<V: Values, W: Values>(
+        &self,
+        rt: &impl Abort,
+        alloc: Global,
+        call: Call,
+        wanted: &Snapshot,
+        values: &mut V,
+        sound: &mut W,
+    ) -> bool {
+        let mut bench = self.case.study(rt, &alloc, sound);
+        let was = Snapshot::of(rt, alloc, &bench);
+        let answer = self.call(rt, &alloc, &mut bench, call, values);
+        let refused = answer.is_err();
+        assert!(rt; values.failures() == u64::from(refused));
+        if let Err(refusal) = answer {
+            assert!(rt; is_device(&refusal) && was.is_of(rt, alloc, &bench));
+            assert!(rt; self.call(rt, &alloc, &mut bench, call, values).is_ok());
+            assert!(rt; values.failures() == 1);
+        }
+        assert!(rt; wanted.is_of(rt, alloc, &bench));
+        refused
+    }
+
+    /// The moves of the study, a promotion, a deletion and a shift, each an edit.
+    pub(crate) fn edits<'a, A: Allocator, V: Values>(
+        &self,
+        rt: &impl Abort,
+        alloc: Global,
+        room: &'a A,
+        sound: &mut V,
+    ) -> Vec<Edit<'a, A>> {
+        let whole = self.case.study(rt, &alloc, sound);
+        let mut edits = Vec::new(alloc);
+        for (steps, san) in self.case.moves {
+            let m = move_of(rt, &whole, &path_of(rt, &alloc, steps), san);
+            let edit = Edit::Insert(path_of(rt, room, steps), m);
+            assert!(rt; edits.push(edit).is_ok());
+        }
+        for edit in [
+            Edit::Promote(path_of(rt, room, &[1])),
+            Edit::Delete(path_of(rt, room, &[0])),
+            Edit::Shift(start_of(rt, self.later)),
+        ] {
+            assert!(rt; edits.push(edit).is_ok());
+        }
+        edits
+    }
+
+    /// Makes edits over values or memory that may fail. Where they stop, the study is the one after as many of the same edits
+    /// over sound values and ample memory.
+    pub(crate) fn edited<'a, 'g, A: Allocator, V: Values, W: Values>(
+        &self,
+        rt: &impl Abort,
+        (room, edits): (&'a A, &[Edit<'a, A>]),
+        (alloc, same): (&'g Global, &[Edit<'g, Global>]),
+        values: &mut V,
+        sound: &mut W,
+    ) -> Result<(), Stopped<'a, A>> {
+        let mut bench = self.case.root(rt, room, sound);
+        let answer = bench.apply_all(edits, values);
+        let done = match &answer {
+            Ok(()) => edits.len(),
+            Err(stopped) => stopped.done,
+        };
+        let (first, _) = same.split_at(done.min(same.len()));
+        let mut other = self.case.root(rt, alloc, sound);
+        assert!(rt; other.apply_all(first, sound).is_ok());
+        let wanted = Snapshot::of(rt, *alloc, &other);
+        assert!(rt; wanted.is_of(rt, *alloc, &bench), "{done}");
+        answer
+    }
+}
+
+/// Whether a refusal is that a device failed.
+pub(crate) fn is_device<A: Allocator>(refusal: &Refusal<'_, A>) -> bool {
+    matches!(refusal, Refusal::TableRead(ProbeFault::TableRead(_)))
+}
+
+/// How many values each call asks, counted by hand: one for a position and one for each of its moves, which are 17 for White,
+/// but one or two of Black's after Rb5 and Ra5+, and else three.
+const ASKED: [(Call, u64); 5] = [
+    (Call::New, 18),
+    (Call::Position, 18),
+    (Call::Insert, 4),
+    (Call::Shift, 18 + 4 + 4 + 2 + 3 + 3 * 18),
+    (Call::Reannotate, 18 + 4 + 4 + 2 + 3 + 3 * 18),
+];
+
+/// The k-th value fails, for each k until none fails.
+#[test]
+fn each_value_of_a_call_fails_in_turn(rt: HostRuntime) {
+    let alloc = rt.alloc();
+    let mut sound = tables_of(&rt, &alloc, &[Class::KK, Class::KRK]);
+    let whole = tables_of(&rt, &alloc, &[Class::KK, Class::KRK]);
+    let mut values = FailingValues::new(whole, 0);
+    for (call, asked) in ASKED {
+        let wanted = CORNERS.after(&rt, alloc, call, &mut sound);
+        for k in 0..=asked {
+            values.asked = 0;
+            values.failures = 0;
+            values.fails_at = Some(k);
+            let refused = CORNERS.is_refused(&rt, alloc, call, &wanted, &mut values, &mut sound);
+            assert!(rt; refused == (k < asked), "{call:?} {k}");
+        }
+    }
+}
+
+/// The k-th value of a list of edits fails: the list stops at the edit that asks it. The insertions ask 67 values, and the
+/// shift asks those of the root too, and not those of Rf5 and its reply, which were deleted.
+#[test]
+fn each_value_of_a_list_fails_in_turn(rt: HostRuntime) {
+    let alloc = rt.alloc();
+    let mut sound = tables_of(&rt, &alloc, &[Class::KK, Class::KRK]);
+    let whole = tables_of(&rt, &alloc, &[Class::KK, Class::KRK]);
+    let mut values = FailingValues::new(whole, 0);
+    let edits = CORNERS.edits(&rt, alloc, &alloc, &mut sound);
+    let list = (&alloc, edits.as_slice());
+    let (inserted, shifted) = (67, 67 + 18 - 4 - 18);
+    for k in 0..=inserted + shifted {
+        values.asked = 0;
+        values.fails_at = Some(k);
+        match CORNERS.edited(&rt, list, list, &mut values, &mut sound) {
+            Ok(()) => assert!(rt; k == inserted + shifted, "{k}"),
+            Err(stopped) => {
+                assert!(rt;
+                    is_device(&stopped.refusal) && k < inserted + shifted,
+                    "{k}"
+                );
+                assert!(rt; (stopped.done == 9) == (inserted <= k), "{k}");
+            }
+        }
+    }
+}
+
+/// Whether a call was accepted; where it was refused for want of memory, the study has to be as it was.
+fn is_accepted<'a, A: Allocator>(
+    rt: &impl Abort,
+    alloc: Global,
+    bench: &Bench<'a, A>,
+    was: &Snapshot,
+    answer: Result<(), Refusal<'a, A>>,
+) -> bool {
+    if let Err(refusal) = answer {
+        assert!(rt; matches!(refusal, Refusal::OutOfMemory) && was.is_of(rt, alloc, bench));
+        return false;
+    }
+    true
+}
+
+/// Each growth of a list of edits is refused in turn, on heaps from too small to ample: it stops there, after the edits before.
+#[test]
+fn each_growth_of_a_list_is_refused_in_turn(rt: HostRuntime) -> Result<(), Fail> {
+    let alloc = rt.alloc();
+    let mut sound = tables_of(&rt, &alloc, &[Class::KK, Class::KRK]);
+    let mut values = tables_of(&rt, &alloc, &[Class::KK, Class::KRK]);
+    let whole = CORNERS.edits(&rt, alloc, &alloc, &mut sound);
+    let same = (&alloc, whole.as_slice());
+    let (mut last, mut stops) = (0usize, 0u32);
+    for step in 0..4000usize {
+        let heap = LocalHeap::new(alloc, 64 + step * 64)?;
+        let edits = CORNERS.edits(&rt, alloc, &heap, &mut sound);
+        let list = (&heap, edits.as_slice());
+        match CORNERS.edited(&rt, list, same, &mut values, &mut sound) {
+            Ok(()) => {
+                assert!(rt; stops > 2 && last == 9, "{stops} {last}");
+                return Ok(());
+            }
+            Err(stopped) => {
+                assert!(rt; matches!(stopped.refusal, Refusal::OutOfMemory));
+                stops = stops.saturating_add(u32::from(stopped.done != last));
+                last = stopped.done;
+            }
+        }
+    }
+    Err(Fail::from("no heap was large enough"))
+}
+
+/// The memory of single calls is refused in turn, each on a heap where the moves of the study found room.
+#[test]
+fn each_growth_of_a_call_is_refused_in_turn(rt: HostRuntime) -> Result<(), Fail> {
+    let alloc = rt.alloc();
+    let mut values = tables_of(&rt, &alloc, &[Class::KK, Class::KRK]);
+    let case = Case {
+        moves: &[(&[], "Rg5"), (&[], "Rf5"), (&[], "Re5"), (&[], "Rd5")],
+        ..CORNERS.case
+    };
+    let subject = Subject { case, ..CORNERS };
+    for (call, takes_memory) in [
+        (Call::New, false),
+        (Call::Position, false),
+        (Call::Insert, true),
+        (Call::Shift, true),
+        (Call::Reannotate, true),
+    ] {
+        let heap = LocalHeap::new(alloc, 1 << 14)?;
+        let mut bench = subject.case.study(&rt, &heap, &mut values);
+        let was = Snapshot::of(&rt, alloc, &bench);
+        let blocks = rest_of(alloc, &heap)?;
+        let answer = subject.call(&rt, &heap, &mut bench, call, &mut values);
+        let accepted = is_accepted(&rt, alloc, &bench, &was, answer);
+        assert!(rt; accepted != takes_memory, "{call:?}");
+        drop(blocks);
+        let answer = subject.call(&rt, &heap, &mut bench, call, &mut values);
+        assert!(rt; is_accepted(&rt, alloc, &bench, &was, answer), "{call:?}");
+    }
+    Ok(())
+}
+
+/// A shift that breaks a deep move finds no memory for the path to it, and then finds some.
+#[test]
+fn the_path_to_a_broken_move_takes_memory(rt: HostRuntime) -> Result<(), Fail> {
+    let alloc = rt.alloc();
+    let mut values = tables_of(&rt, &alloc, &[Class::KK, Class::KRK]);
+    let heap = LocalHeap::new(alloc, 1 << 18)?;
+    let mut bench = CORNERS.case.root(&rt, &heap, &mut values);
+    let steps = [0u16; 19];
+    for turn in 0..19usize {
+        let at = path_of(&rt, &heap, &steps[..turn]);
+        let san = match turn {
+            18 => "Rh4",
+            _ => ["Kb1", "Kb8", "Ka1", "Ka8"][turn % 4],
+        };
+        let m = move_of(&rt, &bench, &at, san);
+        assert!(rt; bench.insert(&at, m, &mut values).is_ok());
+    }
+    let was = Snapshot::of(&rt, alloc, &bench);
+    let blocks = rest_of(alloc, &heap)?;
+    let moved = "k7/8/8/6R1/8/8/8/K7 w - - 0 1";
+    let answer = bench.shift_position(start_of(&rt, moved), &mut values);
+    assert!(rt; !is_accepted(&rt, alloc, &bench, &was, answer));
+    drop(blocks);
+    match bench.shift_position(start_of(&rt, moved), &mut values) {
+        Err(Refusal::ShiftBroken(at)) => assert_eq!(rt; at.steps(), steps.as_slice()),
+        _ => panic!(rt; "not broken"),
+    }
+    assert!(rt; was.is_of(&rt, alloc, &bench));
+    Ok(())
+}

@@ -1,0 +1,112 @@
+//! Studies over a table that is read by one page, where one page is not read: the call is refused, and accepted when it is
+//! made again.
+use crate::marks_faults::{Call, Subject, is_device};
+use crate::studies::{Case, start_of, tables_of};
+use std::alloc::Global;
+use std::process::Abort;
+use study_board::Side;
+use study_marks::{Bench, Goal};
+use study_material::Class;
+use study_prober::{PagedTables, Values};
+use study_tablefile::memory::{MemorySource, MemoryWriter};
+use study_tablefile::write_table;
+
+/// A mate in one, which a king's move misses.
+const MATE: Subject = Subject {
+    case: Case {
+        fen: "k7/8/1K6/8/8/8/8/7R w - - 0 1",
+        hero: Side::White,
+        goal: Goal::Win,
+        moves: &[(&[], "Rh8"), (&[], "Kc5")],
+    },
+    later: "k7/8/1K6/8/8/8/8/7R w - - 7 9",
+    more: "Rb1",
+};
+
+/// The file of king and rook against king.
+fn file_of<'a>(rt: &impl Abort, alloc: &'a Global) -> Vec<u8, &'a Global> {
+    let values = tables_of(rt, alloc, &[Class::KK, Class::KRK]);
+    let table = values.tables().table(Class::KRK).expect(rt, "held");
+    let mut writer = MemoryWriter::new(alloc);
+    assert!(rt; write_table(table, &mut writer).is_ok());
+    writer.taken
+}
+
+type OnePage<'a, 't> = PagedTables<'a, MemorySource<'t>, Global>;
+
+/// The values of a file by one page. Reads of pages are counted from 1, and one of them fails; with none named, none does.
+fn one_page<'a, 't>(
+    rt: &impl Abort,
+    alloc: &'a Global,
+    text: &'t [u8],
+    fails_at: Option<u64>,
+) -> OnePage<'a, 't> {
+    let mut tables = PagedTables::new(alloc, 1).ok().expect(rt, "a cache");
+    let source = MemorySource {
+        text,
+        asked: 0,
+        fails_at,
+        failures: 0,
+    };
+    assert!(rt; tables.add(Class::KRK, source).is_ok());
+    tables
+}
+
+/// Each read of a page in a call fails in turn, until none does; there are some.
+#[test]
+fn each_read_of_a_page_in_a_call_fails_in_turn(rt: HostRuntime) {
+    use Call::{Insert, New, Position, Reannotate, Shift};
+    let alloc = rt.alloc();
+    let text = file_of(&rt, &alloc);
+    let mut sound = one_page(&rt, &alloc, text.as_slice(), None);
+    for call in [New, Position, Shift, Insert, Reannotate] {
+        let wanted = MATE.after(&rt, alloc, call, &mut sound);
+        let mut reads = 0u64;
+        for k in 1..300u64 {
+            let mut values = one_page(&rt, &alloc, text.as_slice(), Some(k));
+            if !MATE.is_refused(&rt, alloc, call, &wanted, &mut values, &mut sound) {
+                break;
+            }
+            reads = k;
+        }
+        assert!(rt; 1 < reads && reads < 299, "{call:?}");
+    }
+}
+
+/// Each read of a page in a list of edits fails in turn: it stops at the edit that asks for the page, the first two and the
+/// last among them.
+#[test]
+fn each_read_of_a_page_in_a_list_fails_in_turn(rt: HostRuntime) {
+    let alloc = rt.alloc();
+    let text = file_of(&rt, &alloc);
+    let mut sound = one_page(&rt, &alloc, text.as_slice(), None);
+    let edits = MATE.edits(&rt, alloc, &alloc, &mut sound);
+    let list = (&alloc, edits.as_slice());
+    let mut stops = [false; 5];
+    for k in 1..300u64 {
+        let mut values = one_page(&rt, &alloc, text.as_slice(), Some(k));
+        match MATE.edited(&rt, list, list, &mut values, &mut sound) {
+            Ok(()) => break,
+            Err(stopped) => {
+                assert!(rt; is_device(&stopped.refusal) && stopped.done < 5);
+                stops[stopped.done] = true;
+            }
+        }
+    }
+    assert_eq!(rt; stops, [true, true, false, false, true]);
+}
+
+/// Over a file that is cut off after its header there is no study, however often it is asked for.
+#[test]
+fn without_a_page_there_is_no_study(rt: HostRuntime) {
+    let alloc = rt.alloc();
+    let text = file_of(&rt, &alloc);
+    assert!(rt; 64 <= text.len());
+    let mut values = one_page(&rt, &alloc, &text.as_slice()[..64], None);
+    for count in 1..4u64 {
+        let start = start_of(&rt, MATE.case.fen);
+        let refusal = Bench::new(&alloc, start, MATE.case.stipulation(), &mut values).err();
+        let refusal = refusal.expect(&rt, "no study");
+        assert!(rt; is_device(&refusal) && values.failures() == count);
+    }
+}

@@ -1,0 +1,157 @@
+//! Games that are written of studies.
+use crate::studies::{Case, QUEEN, move_of, path_of, tables_of};
+use linked_list_allocator::LocalHeap;
+use std::alloc::{Allocator, Global};
+use std::process::Abort;
+use std::test::Fail;
+use study_board::Side;
+use study_marks::{Bench, Goal};
+use study_material::Class;
+use study_pgn::{PgnFault, write_pgn};
+use study_tablefile::memory::{MemoryWriter, WhenFull};
+
+const QUEEN_TEXT: &str = r#"[Event "?"]
+[Site "?"]
+[Date "????.??.??"]
+[Round "?"]
+[White "?"]
+[Black "?"]
+[Result "1-0"]
+[FEN "k7/8/1K6/8/8/8/8/6Q1 w - - 0 1"]
+[SetUp "1"]
+
+{White to win: unsound 1, White mates in 1} 1. Qg8# {mate; dual 21} (1. Qh2 $4
+{draw}) 1-0
+
+"#;
+
+/// Two kings, from a late move on.
+const KINGS: Case = Case {
+    fen: "k7/8/8/8/8/8/8/K7 b - - 0 9999",
+    hero: Side::White,
+    goal: Goal::Draw,
+    moves: &[
+        (&[], "Kb8"),
+        (&[], "Ka7"),
+        (&[0], "Kb1"),
+        (&[0], "Ka2"),
+        (&[1], "Kb2"),
+        (&[0, 0], "Kc8"),
+    ],
+};
+
+const KINGS_TEXT: &str = r#"[Event "?"]
+[Site "?"]
+[Date "????.??.??"]
+[Round "?"]
+[White "?"]
+[Black "?"]
+[Result "1/2-1/2"]
+[FEN "k7/8/8/8/8/8/8/K7 b - - 0 9999"]
+[SetUp "1"]
+
+{White to draw: unsound 2, draw} 9999... Kb8 {draw} (9999... Ka7 {draw} 10000.
+Kb2 {draw; dual 2}) 10000. Kb1 {draw; dual 2} (10000. Ka2 {draw; dual 2})
+10000... Kc8 {draw} 1/2-1/2
+
+"#;
+
+/// A variation stands before the main line goes on, each move has its number, and numbers go past 9999.
+#[test]
+fn the_main_line_goes_on_behind_its_variations(rt: HostRuntime) {
+    let alloc = rt.alloc();
+    let mut values = tables_of(&rt, &alloc, &[Class::KK, Class::KQK]);
+    for (case, text) in [(QUEEN, QUEEN_TEXT), (KINGS, KINGS_TEXT)] {
+        let bench = case.study(&rt, &alloc, &mut values);
+        let mut out = MemoryWriter::new(&alloc);
+        assert_eq!(rt; write_pgn(&alloc, &bench, &mut out), Ok(()));
+        assert_eq!(rt; std::str::from_utf8(out.taken.as_slice()), Ok(text));
+    }
+}
+
+/// A tree of variations within variations, 80 deep.
+fn nested<'a, A: Allocator>(rt: &impl Abort, alloc: &'a A) -> Bench<'a, A> {
+    let mut values = tables_of(rt, alloc, &[Class::KK]);
+    let case = Case {
+        fen: "k7/8/8/8/8/8/8/K7 w - - 0 1",
+        ..KINGS
+    };
+    let mut bench = case.root(rt, alloc, &mut values);
+    for turn in 0..80usize {
+        let steps = [1u16; 80];
+        let at = path_of(rt, alloc, &steps[..turn]);
+        let moves = [
+            ["Kb1", "Ka2"],
+            ["Kb8", "Ka7"],
+            ["Kb1", "Ka1"],
+            ["Kb8", "Ka8"],
+        ];
+        for san in moves[turn % 4] {
+            let m = move_of(rt, &bench, &at, san);
+            assert!(rt; bench.insert(&at, m, &mut values).is_ok());
+        }
+    }
+    bench
+}
+
+/// A word that is longer than a line stands alone on its line.
+#[test]
+fn a_word_longer_than_a_line_stands_alone(rt: HostRuntime) -> Result<(), Fail> {
+    let alloc = rt.alloc();
+    let bench = nested(&rt, &alloc);
+    let mut out = MemoryWriter::new(&alloc);
+    assert_eq!(rt; write_pgn(&alloc, &bench, &mut out), Ok(()));
+    let text = std::str::from_utf8(out.taken.as_slice())?;
+    let mut lines = text.lines().rev();
+    assert_eq!(rt; lines.next(), Some(""));
+    assert_eq!(rt; lines.next(), Some("1/2-1/2"));
+    let word = lines.next().unwrap_or("none");
+    assert!(rt;
+        word.starts_with("{draw}))))") && word.len() == 86,
+        "{word}"
+    );
+    for line in lines {
+        assert!(rt; line.len() <= 79, "{line}");
+    }
+    Ok(())
+}
+
+fn queen_study<'a>(rt: &impl Abort, alloc: &'a Global) -> Bench<'a, Global> {
+    let mut values = tables_of(rt, alloc, &[Class::KK, Class::KQK]);
+    QUEEN.study(rt, alloc, &mut values)
+}
+
+/// A writer that is full after so many bytes, whatever it answers then, has that front of the game.
+#[test]
+fn a_full_writer_has_a_front_of_the_game(rt: HostRuntime) {
+    let alloc = rt.alloc();
+    let bench = queen_study(&rt, &alloc);
+    for when_full in [WhenFull::Fail, WhenFull::TakeNothing] {
+        for room in 0..QUEEN_TEXT.len() {
+            let mut out = MemoryWriter::with_room(&alloc, room, when_full);
+            assert_eq!(rt; write_pgn(&alloc, &bench, &mut out), Err(PgnFault::Device));
+            let (front, _) = QUEEN_TEXT.as_bytes().split_at(room);
+            assert_eq!(rt; out.taken.as_slice(), front);
+        }
+    }
+}
+
+/// Heaps that grow step by step: nothing is written before there is memory for all.
+#[test]
+fn nothing_is_written_before_there_is_memory_for_all(rt: HostRuntime) -> Result<(), Fail> {
+    let alloc = rt.alloc();
+    let bench = queen_study(&rt, &alloc);
+    for step in 0..400usize {
+        let heap = LocalHeap::new(alloc, 64 + step * 32)?;
+        let mut out = MemoryWriter::new(&alloc);
+        let answer = write_pgn(&heap, &bench, &mut out);
+        if answer.is_ok() {
+            assert!(rt; step > 0);
+            assert_eq!(rt; out.taken.as_slice(), QUEEN_TEXT.as_bytes());
+            return Ok(());
+        }
+        assert_eq!(rt; answer, Err(PgnFault::OutOfMemory));
+        assert!(rt; out.taken.is_empty());
+    }
+    Err(Fail::from("no heap was large enough"))
+}

@@ -1,0 +1,145 @@
+//! Studies over built tables, and what they show.
+use std::alloc::{Allocator, Global};
+use std::process::Abort;
+use study_board::Side;
+use study_index::cells;
+use study_marks::{Bench, Goal, Stipulation};
+use study_material::Class;
+use study_moves::Move;
+use study_notation::{Start, read_fen, read_san};
+use study_pgn::write_pgn;
+use study_prober::{Values, WholeTables};
+use study_retro::{BuildRoom, TableSet, build};
+use study_tablefile::memory::MemoryWriter;
+use study_tree::Path;
+
+/// The values of the tables of these classes, each of which needs none but those before it.
+pub(crate) fn tables_of<'a, A: Allocator>(
+    rt: &impl Abort,
+    alloc: &'a A,
+    classes: &[Class],
+) -> WholeTables<'a, A> {
+    let mut set = TableSet::new(alloc).ok().expect(rt, "a set");
+    for class in classes {
+        let room = BuildRoom::new(alloc, cells(*class)).ok().expect(rt, "room");
+        let (table, _) = build(*class, &set, room).ok().expect(rt, "a table");
+        assert!(rt; set.add(table).is_ok());
+    }
+    WholeTables::new(set)
+}
+
+pub(crate) fn start_of(rt: &impl Abort, fen: &str) -> Start {
+    read_fen(fen).ok().expect(rt, "a start")
+}
+
+pub(crate) fn path_of<'a, A: Allocator>(
+    rt: &impl Abort,
+    alloc: &'a A,
+    steps: &[u16],
+) -> Path<'a, A> {
+    let mut path = Path::root(alloc);
+    for step in steps {
+        assert!(rt; path.push(*step).is_ok());
+    }
+    path
+}
+
+/// The move with this text at a node.
+pub(crate) fn move_of<'a, A: Allocator>(
+    rt: &impl Abort,
+    bench: &Bench<'a, A>,
+    at: &Path<'a, A>,
+    san: &str,
+) -> Move {
+    let start = bench.start_at(at).expect(rt, "a node");
+    read_san(&start.position, san).ok().expect(rt, "a move")
+}
+
+/// A study: its start, what is wanted of whom, and its moves, each put last below the node at a path.
+#[derive(Clone, Copy)]
+pub(crate) struct Case {
+    pub(crate) fen: &'static str,
+    pub(crate) hero: Side,
+    pub(crate) goal: Goal,
+    pub(crate) moves: &'static [(&'static [u16], &'static str)],
+}
+
+impl Case {
+    pub(crate) fn stipulation(&self) -> Stipulation {
+        Stipulation {
+            hero: self.hero,
+            goal: self.goal,
+        }
+    }
+
+    /// The study with the root alone.
+    pub(crate) fn root<'a, A: Allocator, V: Values>(
+        &self,
+        rt: &impl Abort,
+        alloc: &'a A,
+        values: &mut V,
+    ) -> Bench<'a, A> {
+        let start = start_of(rt, self.fen);
+        Bench::new(alloc, start, self.stipulation(), values)
+            .ok()
+            .expect(rt, "a study")
+    }
+
+    /// The study with its moves.
+    pub(crate) fn study<'a, A: Allocator, V: Values>(
+        &self,
+        rt: &impl Abort,
+        alloc: &'a A,
+        values: &mut V,
+    ) -> Bench<'a, A> {
+        let mut bench = self.root(rt, alloc, values);
+        for (steps, san) in self.moves {
+            let at = path_of(rt, alloc, steps);
+            let m = move_of(rt, &bench, &at, san);
+            assert!(rt; bench.insert(&at, m, values).is_ok(), "{san}");
+        }
+        bench
+    }
+}
+
+/// A mate in one beside 21 other winning moves, and a stalemate.
+pub(crate) const QUEEN: Case = Case {
+    fen: "k7/8/1K6/8/8/8/8/6Q1 w - - 0 1",
+    hero: Side::White,
+    goal: Goal::Win,
+    moves: &[(&[], "Qg8"), (&[], "Qh2")],
+};
+
+/// What a study shows: its game, with all its marks, how many nodes it has, and how many labels were written.
+#[derive(Drop)]
+pub(crate) struct Snapshot {
+    game: Vec<u8>,
+    size: usize,
+    relabelled: u64,
+}
+
+impl Snapshot {
+    pub(crate) fn of<A: Allocator>(rt: &impl Abort, alloc: Global, bench: &Bench<'_, A>) -> Self {
+        let mut writer = MemoryWriter::new(&alloc);
+        assert!(rt; write_pgn(&alloc, bench, &mut writer).is_ok());
+        let game = writer.taken.as_slice().to_vec(alloc);
+        Snapshot {
+            game: game.ok().expect(rt, "a game"),
+            size: bench.size(),
+            relabelled: bench.relabelled(),
+        }
+    }
+
+    /// Whether a study shows the same.
+    pub(crate) fn is_of<A: Allocator>(
+        &self,
+        rt: &impl Abort,
+        alloc: Global,
+        bench: &Bench<'_, A>,
+    ) -> bool {
+        let other = Snapshot::of(rt, alloc, bench);
+        self.game.as_slice() == other.game.as_slice()
+            && self.size == other.size
+            && self.relabelled == other.relabelled
+    }
+}
