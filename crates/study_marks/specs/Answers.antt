@@ -1,6 +1,6 @@
 -- What values answered, one question after the other.
 use Rattle.std.specs.Prelude.{◌≡◌, ℕ, ◌⊎◌, List, [], ◌∷◌, Ok, Err, IsErrOf}
-use Rattle.study_board.specs.Position.{Position}
+use Rattle.study_board.specs.Position.{Position, IsValid}
 use Rattle.study_board.specs.Counts.{counted}
 use Rattle.study_material.specs.declared.class.Class.{Class}
 use Rattle.study_material.specs.Class.{IsOf}
@@ -16,9 +16,10 @@ use Rattle.study_marks.specs.declared.refusal.Refusal.TheVariants.{OutOfMemory, 
 
 module _ {V : Type 0} where
   -- values answer so to the question for a position, and are as they are then: an answer that they may give there, counted; a table that
-  -- is not read is one that may fail so, and what may fail then could before
+  -- cannot be read is one that may fail so, and what may fail then could before
   pub record Answers (gives : V → Position → ProbeAnswer → Type 0) (may_fail : V → Class → SourceFault → Type 0)
       (asked_of : V → ℕ) (old : V) (p : Position) (answer : ProbeAnswer) (new : V) : Type 0 where
+    pub valid : IsValid p
     pub given : gives old p answer
     pub asked : asked_of new ≡ counted (asked_of old)
     pub failed_so : (c : Class) (f : SourceFault) → IsOf c p → IsErrOf answer (probe.TableRead f) → may_fail old c f

@@ -69,6 +69,8 @@ pub fn evaluate<V: Values>(p: &Position, values: &mut V) -> Result<Told, ProbeFa
     ensures fails_as_before { (c : AClass) (f : ASourceFault) → V.may_fail values.new c f → V.may_fail values.old c f }
     ensures tables { (c : AClass) → V.held values.new c ≡ V.held values.old c }
 {
+    // (the position is valid, as the clauses on its answer say)
+    let _men = p.men();
     match values.value(p) {
         Err(fault) => Err(fault),
         Ok(value) => {

@@ -2,7 +2,7 @@
 use Rattle.std.proofs.Common.{◌≡◌, ℕ, Bool, true, List, [], ◌∷◌, Result, Ok, Err, refl, sym, subst, ◌∙◌, inl, inr}
 use Rattle.study_board.specs.Position.{Position}
 use Rattle.study_material.specs.declared.class.Class.{Class}
-use Rattle.study_material.specs.Class.{IsOf}
+use Rattle.study_material.proofs.EachHasClass.{class_exists}
 use Rattle.study_tablefile.specs.declared.fault.SourceFault.{SourceFault}
 use Rattle.study_prober.specs.Values.{ProbeAnswer}
 use Rattle.study_prober.specs.declared.values.ProbeFault.{ProbeFault}
@@ -30,11 +30,11 @@ module _ {V : Type 0} (held : V → Class → Bool) (gives : V → Position → 
 
   -- the table that is not read is one that might fail so before
   fault-read : (old new : V) (asked : List Position) (f : SourceFault) → IsFirstFault gives may_fail asked_of old asked (TableRead f) new
-      → (p : Position) × ((c : Class) → IsOf c p → may_fail old c f)
+      → (c : Class) × may_fail old c f
   fault-read old new [] f h = absurd h
-  fault-read old new (p ∷ ps) f (inl a) = (p, λ c is. a.failed_so c f is refl)
+  fault-read old new (p ∷ ps) f (inl a) = let of_class = class_exists p a.valid in (of_class.0, a.failed_so of_class.0 f of_class.1 refl)
   fault-read old new (p ∷ ps) f (inr (v, mid, a, rest)) =
-      let later = fault-read mid new ps f rest in (later.0, λ c is. a.fails_as_before c f (later.1 c is))
+      let later = fault-read mid new ps f rest in (later.0, a.fails_as_before later.0 f later.1)
 
   abbrev pub Reviews : {T : Type 0} → V → Result T ReviewFault → V → Type 0
   Reviews {T = T} old r new = HasReviewed held gives may_fail asked_of failed_of is_honest {T = T} old r new
@@ -78,5 +78,5 @@ module _ {V : Type 0} (held : V → Class → Bool) (gives : V → Position → 
 pub untold-same : (h k : Class → Bool) (paged by : Bool) (may m : Class → SourceFault → Type 0) (fault : ProbeFault) → ((c : Class) → h c ≡ k c)
     → paged ≡ by → ((c : Class) (f : SourceFault) → may c f → m c f) → IsUntoldBy h paged may fault → IsUntoldBy k by m fault
 untold-same h k paged by may m (NoTable c) e b w u = sym (e c) ∙ u
-untold-same h k paged by may m (TableRead f) e b w (paged-is, q, fails) = (sym b ∙ paged-is, q, λ c is. w c f (fails c is))
+untold-same h k paged by may m (TableRead f) e b w (paged-is, c, fails) = (sym b ∙ paged-is, c, w c f fails)
 untold-same h k paged by may m (PageDamaged c n) e b w u = absurd u

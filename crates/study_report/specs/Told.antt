@@ -1,8 +1,6 @@
 -- What a report tells of the lines of a script.
 use Rattle.std.specs.Prelude.{◌≡◌, ◌⊎◌, ℕ, suc, Bool, true, false, List, [], ◌∷◌, ◌++◌, Option, Some, None, Result, Ok, Err}
-use Rattle.study_board.specs.Position.{Position}
 use Rattle.study_material.specs.declared.class.Class.{Class}
-use Rattle.study_material.specs.Class.{IsOf}
 use Rattle.study_tablefile.specs.declared.fault.SourceFault.{SourceFault}
 use Rattle.study_prober.specs.declared.values.ProbeFault.{ProbeFault}
 use Rattle.study_prober.specs.declared.values.ProbeFault.TheVariants.{NoTable, TableRead, PageDamaged}
@@ -68,10 +66,10 @@ abbrev pub study_added : Point → State → List ℕ → Added
 study_added p s text = record { text = text; after = record { state = s; lines = suc p.lines; studies = suc p.studies }; told = AStudy }
 
 -- Why the value of a position cannot be read, by which classes are held, whether tables are read by pages, and how tables may fail: there is
--- no table of its class, or that table is not read.
+-- no table of its class, or tables are read by pages and one of them may fail so.
 abbrev pub IsUntoldBy : (Class → Bool) → Bool → (Class → SourceFault → Type 0) → ProbeFault → Type 0
 IsUntoldBy held paged may (NoTable c) = held c ≡ false
-IsUntoldBy held paged may (TableRead f) = (paged ≡ true) × (p : Position) × ((c : Class) → IsOf c p → may c f)
+IsUntoldBy held paged may (TableRead f) = (paged ≡ true) × (c : Class) × may c f
 IsUntoldBy held paged may (PageDamaged c n) = ⊥
 
 -- the same, where the script holds this state

@@ -1,6 +1,6 @@
 -- Questions, one after the other.
 use Rattle.std.proofs.Common.{◌≡◌, ℕ, List, [], ◌∷◌, ◌++◌, Result, Ok, Err, IsErrOf, inl, inr, refl, subst}
-use Rattle.study_board.specs.Position.{Position}
+use Rattle.study_board.specs.Position.{Position, IsValid}
 use Rattle.study_board.specs.Counts.{counted}
 use Rattle.study_material.specs.declared.class.Class.{Class}
 use Rattle.study_material.specs.Class.{IsOf}
@@ -40,9 +40,9 @@ module _ {V : Type 0} (gives : V → Position → ProbeAnswer → Type 0) (may_f
   asked-then old mid new (Err f) h k = fault-then old mid new f h k
 
   -- one position was asked
-  pub asked-one : (old new : V) (p : Position) (r : ProbeAnswer) → gives old p r → asked_of new ≡ counted (asked_of old)
+  pub asked-one : (old new : V) (p : Position) (r : ProbeAnswer) → IsValid p → gives old p r → asked_of new ≡ counted (asked_of old)
       → ((c : Class) (f : SourceFault) → IsOf c p → IsErrOf r (probe.TableRead f) → may_fail old c f)
       → ((c : Class) (f : SourceFault) → may_fail new c f → may_fail old c f)
       → HasTold gives may_fail asked_of old r new
-  asked-one old new p (Ok v) g n so before = (p ∷ [], (v, new, record { given = g; asked = n; failed_so = so; fails_as_before = before }, refl))
-  asked-one old new p (Err f) g n so before = (p ∷ [], inl (record { given = g; asked = n; failed_so = so; fails_as_before = before }))
+  asked-one old new p (Ok v) valid g n so before = (p ∷ [], (v, new, record { valid = valid; given = g; asked = n; failed_so = so; fails_as_before = before }, refl))
+  asked-one old new p (Err f) valid g n so before = (p ∷ [], inl (record { valid = valid; given = g; asked = n; failed_so = so; fails_as_before = before }))

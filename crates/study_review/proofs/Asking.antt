@@ -1,6 +1,6 @@
 -- Calls that ask values, one after the other.
 use Rattle.std.proofs.Common.{◌≡◌, ℕ, Bool, false, List, Result, Ok, Err, IsErrAnd, IsErrOf, IfErr, refl, sym, ap, subst, ◌∙◌}
-use Rattle.study_board.specs.Position.{Position}
+use Rattle.study_board.specs.Position.{Position, IsValid}
 use Rattle.study_material.specs.declared.class.Class.{Class}
 use Rattle.study_tablefile.specs.declared.fault.SourceFault.{SourceFault}
 use Rattle.study_board.specs.Counts.{counted}
@@ -121,13 +121,13 @@ module _ {V : Type 0} (held : V → Class → Bool) (gives : V → Position → 
   Answered old (Ok v) new = Told old new
   Answered old (Err f) new = Stops old f new
 
-  pub value-answered : (old new : V) (p : Position) (r : ProbeAnswer) → gives old p r → asked_of new ≡ counted (asked_of old)
+  pub value-answered : (old new : V) (p : Position) (r : ProbeAnswer) → IsValid p → gives old p r → asked_of new ≡ counted (asked_of old)
       → ((c : Class) (f : SourceFault) → IsOf c p → IsErrOf r (probe.TableRead f) → may_fail old c f)
       → ((c : Class) (f : SourceFault) → may_fail new c f → may_fail old c f)
       → ((c : Class) → IsErrOf r (probe.NoTable c) → held old c ≡ false) → (is_honest old → IfErr r IsNotDamage)
       → failed_of new ≡ faults_after (failed_of old) r → (is_honest old → is_honest new) → ((c : Class) → held new c ≡ held old c)
       → Answered old r new
-  value-answered old new p (Ok v) g n so before u d f i s = of-told old new (asked-one gives may_fail asked_of old new p (Ok v) g n so before) f i s
-  value-answered old new p (Err e) g n so before u d f i s =
-      of-fault Value old new e (asked-one gives may_fail asked_of old new p (Err e) g n so before) (λ c q. u c (ap Err q)) d
+  value-answered old new p (Ok v) valid g n so before u d f i s = of-told old new (asked-one gives may_fail asked_of old new p (Ok v) valid g n so before) f i s
+  value-answered old new p (Err e) valid g n so before u d f i s =
+      of-fault Value old new e (asked-one gives may_fail asked_of old new p (Err e) valid g n so before) (λ c q. u c (ap Err q)) d
       (f ∙ same-faults (failed_of old) e) i s

@@ -60,6 +60,8 @@ fn has_lost<V: Values>(q: &Position, values: &mut V) -> Result<bool, ProbeFault>
     ensures tables { (c : AClass) → V.held values.new c ≡ V.held values.old c }
 {
     values_are_unique();
+    // (the position is valid, as the clauses on its answer say)
+    let _men = q.men();
     match values.value(q) {
         Err(fault) => Err(fault),
         Ok(value) => Ok(hero_loses(true, value)),

@@ -22,6 +22,8 @@ pub fn ask<V: Values>(q: &Position, values: &mut V) -> Result<Value, NotMade>
     ensures game { V.is_honest values.old → IfOk result (IsValueOf q.now) }
     ensures asked { HasAsked V.held V.gives V.may_fail V.asked_of V.failed_of V.is_honest values.old result values.new }
 {
+    // (the position is valid, as the clauses on its answer say)
+    let _men = q.men();
     match values.value(q) {
         Err(fault) => Err(NotMade::Untold(fault)),
         Ok(value) => Ok(value),

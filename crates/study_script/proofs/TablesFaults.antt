@@ -24,11 +24,12 @@ module _ {P : Type 0} (gives : P → Question → Result (List ℕ) SourceFault 
       f new
       → IsFirstFault (tables_give {A = A} gives) (tables_may_fail gives) tables_asked (held.Whole old) ps f (held.Whole new)
   whole_first A old new [] f h = absurd h
-  whole_first A old new (p ∷ ps) f (inl a) = inl (record { given = a.given; asked = a.asked; failed_so = a.failed_so; fails_as_before = a.fails_as_before })
+  whole_first A old new (p ∷ ps) f (inl a) = inl (record { valid = a.valid; given = a.given; asked = a.asked; failed_so = a.failed_so; fails_as_before = a.fails_as_before })
   whole_first A old new (p ∷ ps) f (inr h) = inr (
     h.0,
     held.Whole h.1,
     record {
+      valid = h.2.valid;
       given = h.2.given;
       asked = h.2.asked;
       failed_so = h.2.failed_so;
@@ -68,11 +69,12 @@ module _ {P : Type 0} (gives : P → Question → Result (List ℕ) SourceFault 
       (held_of w.sources c) c f) (λ (w : Paged P). w.asked) old ps f new
       → IsFirstFault (tables_give {A = A} gives) (tables_may_fail gives) tables_asked (held.Paged old) ps f (held.Paged new)
   paged_first A old new [] f h = absurd h
-  paged_first A old new (p ∷ ps) f (inl a) = inl (record { given = a.given; asked = a.asked; failed_so = a.failed_so; fails_as_before = a.fails_as_before })
+  paged_first A old new (p ∷ ps) f (inl a) = inl (record { valid = a.valid; given = a.given; asked = a.asked; failed_so = a.failed_so; fails_as_before = a.fails_as_before })
   paged_first A old new (p ∷ ps) f (inr h) = inr (
     h.0,
     held.Paged h.1,
     record {
+      valid = h.2.valid;
       given = h.2.given;
       asked = h.2.asked;
       failed_so = h.2.failed_so;

@@ -1,7 +1,7 @@
 -- The values after all legal moves, asked in their order.
 use Rattle.std.proofs.Common.{◌≡◌, ℕ, Bool, true, false, not, List, [], ◌∷◌, Result, Ok, Err, OnOk, IfErr, IsErrAnd, IsErrOf, refl, sym, ap, subst, ◌∙◌}
 use Rattle.std.specs.List.{filter}
-use Rattle.study_board.specs.Position.{Position}
+use Rattle.study_board.specs.Position.{Position, IsValid}
 use Rattle.study_material.specs.declared.class.Class.{Class}
 use Rattle.study_tablefile.specs.declared.fault.SourceFault.{SourceFault}
 use Rattle.study_moves.specs.declared.moves.Move.{Move}
@@ -83,14 +83,14 @@ module _ {V : Type 0} (held : V → Class → Bool) (gives : V → Position → 
   some-then old mid new (Err f) h j = stops-then held gives may_fail asked_of failed_of is_honest old mid new f h j
 
   -- one position was asked
-  pub value-told : (old new : V) (p : Position) (r : ProbeAnswer) → gives old p r → asked_of new ≡ counted (asked_of old)
+  pub value-told : (old new : V) (p : Position) (r : ProbeAnswer) → IsValid p → gives old p r → asked_of new ≡ counted (asked_of old)
       → ((c : Class) (f : SourceFault) → IsOf c p → IsErrOf r (probe.TableRead f) → may_fail old c f)
       → ((c : Class) (f : SourceFault) → may_fail new c f → may_fail old c f)
       → ((c : Class) → IsErrOf r (probe.NoTable c) → held old c ≡ false) → (is_honest old → IfErr r IsNotDamage)
       → failed_of new ≡ faults_after (failed_of old) r → (is_honest old → is_honest new) → ((c : Class) → held new c ≡ held old c)
       → HasToldSome held gives may_fail asked_of failed_of is_honest {T = Value} old r new
-  value-told old new p (Ok v) g n so before u d f i s =
-      of-told held gives may_fail asked_of failed_of is_honest old new (asked-one gives may_fail asked_of old new p (Ok v) g n so before) f i s
-  value-told old new p (Err e) g n so before u d f i s =
-      of-fault held gives may_fail asked_of failed_of is_honest Value old new e (asked-one gives may_fail asked_of old new p (Err e) g n so before)
+  value-told old new p (Ok v) valid g n so before u d f i s =
+      of-told held gives may_fail asked_of failed_of is_honest old new (asked-one gives may_fail asked_of old new p (Ok v) valid g n so before) f i s
+  value-told old new p (Err e) valid g n so before u d f i s =
+      of-fault held gives may_fail asked_of failed_of is_honest Value old new e (asked-one gives may_fail asked_of old new p (Err e) valid g n so before)
       (λ c q. u c (ap Err q)) d (f ∙ same-faults (failed_of old) (Err e)) i s

@@ -34,6 +34,8 @@ pub fn ask_value<V: Values>(q: &Position, values: &mut V) -> Result<Value, Probe
     ensures game { V.is_honest values.old → IfOk result (IsValueOf q.now) }
     ensures asked { HasToldSome V.held V.gives V.may_fail V.asked_of V.failed_of V.is_honest values.old result values.new }
 {
+    // (the position is valid, as the clauses on its answer say)
+    let _men = q.men();
     values.value(q)
 }
 

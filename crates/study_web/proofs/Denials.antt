@@ -5,7 +5,7 @@ use Rattle.study_script.specs.declared.run.RunFault.{RunFault}
 use Rattle.study_script.specs.declared.run.RunFault.TheVariants as run_fault
 use Rattle.study_board.specs.Position.{Position}
 use Rattle.study_material.specs.declared.class.Class.{Class}
-use Rattle.study_material.specs.Class.{IsOf}
+use Rattle.study_material.proofs.EachHasClass.{class_exists}
 use Rattle.study_notation.specs.declared.start.Start.{Start}
 use Rattle.study_tablefile.specs.declared.fault.SourceFault.{SourceFault}
 use Rattle.study_marks.specs.Answers.{IsFirstFault}
@@ -65,18 +65,18 @@ module _ {V : Type 0} (held : V → Class → Bool) (gives : V → Position → 
     (asked_of failed_of : V → ℕ) (is_honest : V → Type 0) where
   -- a table that is not read is one that might fail so at first
   fails_at : (old new : V) (asked : List Position) (f : SourceFault) → IsFirstFault gives may_fail asked_of old asked (probe.TableRead f) new
-      → (p : Position) × ((c : Class) → IsOf c p → may_fail old c f)
+      → (c : Class) × may_fail old c f
   fails_at old new [] f h = absurd h
-  fails_at old new (p ∷ ps) f (inl is) = (p, λ c of. is.failed_so c f of refl)
+  fails_at old new (p ∷ ps) f (inl is) = let of_class = class_exists p is.valid in (of_class.0, is.failed_so of_class.0 f of_class.1 refl)
   fails_at old new (p ∷ ps) f (inr (v, mid, is, more)) =
-      let r = fails_at mid new ps f more in (r.0, λ c of. is.fails_as_before c f (r.1 c of))
+      let r = fails_at mid new ps f more in (r.0, is.fails_as_before r.0 f r.1)
 
   untold : (h : Known) (m : Faults) (Right : Type 0) (old new : V) (fault : ProbeFault)
       → Stopped held gives may_fail asked_of failed_of is_honest old fault new → ((c : Class) → IsHeldAs (h c) (held old c))
       → ((c : Class) (f : SourceFault) → may_fail old c f → m c f ≡ true) → (Right → is_honest old) → IsValueUntold h m Right fault
   untold h m Right old new (probe.NoTable c) is known fails right = subst (IsHeldAs (h c)) (is.untold c refl) (known c)
   untold h m Right old new (probe.TableRead f) is known fails right =
-      let r = fails_at old new is.told.0 f is.told.1 in (r.0, λ c of. fails c f (r.1 c of))
+      let r = fails_at old new is.told.0 f is.told.1 in (r.0, fails r.0 f r.1)
   untold h m Right old new (probe.PageDamaged c n) is known fails right = λ k. is.no_damage (right k)
 
   -- a survey is refused for the value that cannot be read

@@ -108,7 +108,7 @@ module _ (h k : Class → Option (Result (List ℕ) StoreFault)) (m n : Class �
 
   untold_alike : (Right Sound : Type 0) → (Sound → Right) → (fault : ProbeFault) → IsValueUntold h m Right fault → IsValueUntold k n Sound fault
   untold_alike Right Sound g (probe.NoTable c) is = subst (λ (o : Option (Result (List ℕ) StoreFault)). IsHeldAs o false) (same c) is
-  untold_alike Right Sound g (probe.TableRead f) (p, is) = (p, λ c of. sym (alike c f) ∙ is c of)
+  untold_alike Right Sound g (probe.TableRead f) (c, is) = (c, sym (alike c f) ∙ is)
   untold_alike Right Sound g (probe.PageDamaged c i) is = λ k. is (g k)
 
   pub values_alike : (Right Sound : Type 0) → (Sound → Right) → (d : Denial) → IsOfValues h m Right d → IsOfValues k n Sound d

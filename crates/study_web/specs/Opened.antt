@@ -1,8 +1,6 @@
 -- The tables of all files that a store gives by pages.
 use Rattle.std.specs.Prelude.{◌≡◌, ◌⊎◌, ℕ, Bool, true, false, is_some, List, Option, Some, None, Result, Ok, Err}
-use Rattle.study_board.specs.Position.{Position}
 use Rattle.study_material.specs.declared.class.Class.{Class}
-use Rattle.study_material.specs.Class.{IsOf}
 use Rattle.study_tablefile.specs.declared.fault.SourceFault.{SourceFault}
 use Rattle.study_prober.specs.declared.fault.PagedFault.{PagedFault}
 use Rattle.study_prober.specs.declared.values.ProbeFault.{ProbeFault}
@@ -56,11 +54,11 @@ module _ (headers : Class → Option (Result (List ℕ) StoreFault)) (faults : C
   IsOfTables (denial.OfFile c refusal) = IsBadFile (headers c) (faults c) c refusal
   IsOfTables denial.NoMan = ⊥
 
-  -- Why the value of a position cannot be read: there is no file of its class, or that may not be read, or a page of it is damaged, as none is of
+  -- Why the value of a position cannot be read: there is no file of its class, or a file that cannot be read, or a page is damaged, as none is of
   -- right files.
   abbrev pub IsValueUntold : Type 0 → ProbeFault → Type 0
   IsValueUntold Right (probe.NoTable c) = IsHeldAs (headers c) false
-  IsValueUntold Right (probe.TableRead f) = (p : Position) × ((c : Class) → IsOf c p → faults c f ≡ true)
+  IsValueUntold Right (probe.TableRead f) = (c : Class) × (faults c f ≡ true)
   IsValueUntold Right (probe.PageDamaged c n) = Right → ⊥
 
   -- why the tables give no answer: they are not opened, or a value cannot be read

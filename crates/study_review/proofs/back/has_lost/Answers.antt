@@ -1,4 +1,5 @@
 use Rattle.std.proofs.Common.{◌≡◌, true, ◌↔◌, sym, subst}
+use Rattle.study_board.specs.Position.{IsValid}
 use Rattle.study_review.specs.Back.{HasLost}
 use Rattle.study_prober.specs.Values.{ProbeAnswer}
 use Rattle.study_review.specs.Asked.{HasTold}
@@ -13,14 +14,16 @@ returns-in-Ok-clause-game g c h =
 
 pub returns-in-Err-clause-told : goal.returns-in-Err-clause-told
 returns-in-Err-clause-told g c =
+    let valid : IsValid c.args.q.now = search rules in
     subst (λ (r : ProbeAnswer). HasTold g.V.Values.gives g.V.Values.may_fail g.V.Values.asked_of c.args.values.now r c.value.new.self) c.in-Err.is
     (asked-one g.V.Values.gives g.V.Values.may_fail g.V.Values.asked_of c.args.values.now
-    c.value.new.self c.args.q.now c.value.result c.value.ensures.given c.value.ensures.asked
+    c.value.new.self c.args.q.now c.value.result valid c.value.ensures.given c.value.ensures.asked
     c.value.ensures.failed_so c.value.ensures.fails_as_before)
 
 pub returns-in-Ok-clause-told : goal.returns-in-Ok-clause-told
 returns-in-Ok-clause-told g c =
+    let valid : IsValid c.args.q.now = search rules in
     subst (λ (r : ProbeAnswer). HasTold g.V.Values.gives g.V.Values.may_fail g.V.Values.asked_of c.args.values.now r c.value.new.self) c.in-Ok.is
     (asked-one g.V.Values.gives g.V.Values.may_fail g.V.Values.asked_of c.args.values.now
-    c.value.new.self c.args.q.now c.value.result c.value.ensures.given c.value.ensures.asked
+    c.value.new.self c.args.q.now c.value.result valid c.value.ensures.given c.value.ensures.asked
     c.value.ensures.failed_so c.value.ensures.fails_as_before)

@@ -43,6 +43,7 @@ returns-in_err-value-clause-first g c =
     c.args.path.now refl c.steps-steps.ensures) in
     let answered : Answers g.V.Values.gives g.V.Values.may_fail g.V.Values.asked_of c.args.values.now c.played.result
     (Err c.in_err-value.field-0.0) c.value.new.self = record {
+      valid = search rules;
       given = subst (λ r. g.V.Values.gives c.args.values.now c.played.result r) c.in_err-value.was c.value.ensures.given;
       asked = c.value.ensures.asked;
       failed_so = λ t f o e. c.value.ensures.failed_so t f o (c.in_err-value.was ∙ e);
