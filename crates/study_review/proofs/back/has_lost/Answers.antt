@@ -1,4 +1,4 @@
-use Rattle.std.proofs.Common.{◌≡◌, true, ◌↔◌, sym, subst}
+use Rattle.std.proofs.Common.{rules, ◌≡◌, true, ◌↔◌, sym, subst}
 use Rattle.study_board.specs.Position.{IsValid}
 use Rattle.study_review.specs.Back.{HasLost}
 use Rattle.study_prober.specs.Values.{ProbeAnswer}

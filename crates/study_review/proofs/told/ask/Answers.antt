@@ -1,4 +1,4 @@
-use Rattle.std.proofs.Common.{subst}
+use Rattle.std.proofs.Common.{rules, subst}
 use Rattle.study_board.specs.Position.{IsValid}
 use Rattle.study_prober.specs.Values.{ProbeAnswer}
 use Rattle.study_review.proofs.Asking.{Answered, value-answered}

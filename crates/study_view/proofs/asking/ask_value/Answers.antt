@@ -1,3 +1,4 @@
+use Rattle.std.proofs.Common.{rules}
 use Rattle.study_board.specs.Position.{IsValid}
 use Rattle.study_view.proofs.AllAsked.{value-told}
 use Rattle.study_view.proofs.asking.ask_value.Goals as goal
