@@ -5,20 +5,29 @@ use std::process::Abort;
 use study_board::Position;
 use study_marks::{Aim, Goal};
 use study_material::Class;
-use study_moves::{is_legal, played};
+use study_moves::{Move, is_legal, played};
 use study_prober::Values;
 use study_review::{Node, alternatives, best_move, is_back, time_lost};
 
 /// How many alternatives a best move has, and of how many the position is back within 0, within 1 and within 2.
 type Counts = (usize, [usize; 3]);
 
-/// The counts at a node, the last of a line, and the position after its best move.
+/// The best move, and the position after it.
+fn best_at<V: Values>(rt: &impl Abort, p: &Position, values: &mut V) -> (Move, Position) {
+    let best = best_move(p, values).ok().expect(rt, "values");
+    let m = best.expect(rt, "a move").played;
+    assert!(rt; is_legal(p, m));
+    (m, played(p, m))
+}
+
+/// The counts at a node, the last of a line, for its best move.
 fn counts_at<V: Values>(
     rt: &impl Abort,
     line: &[Position],
     p: &Position,
+    best: Move,
     values: &mut V,
-) -> (Counts, Position) {
+) -> Counts {
     let node = Node {
         aim: &Aim {
             goal: Goal::Win,
@@ -27,9 +36,7 @@ fn counts_at<V: Values>(
         depth: 0,
         position: p,
     };
-    let best = best_move(p, values).ok().expect(rt, "values");
-    let best = best.expect(rt, "a move");
-    let also = alternatives(&node, best.played, values).ok();
+    let also = alternatives(&node, best, values).ok();
     let also = also.expect(rt, "values");
     let mut counts = [0usize; 3];
     for x in also.as_slice() {
@@ -41,8 +48,7 @@ fn counts_at<V: Values>(
             }
         }
     }
-    assert!(rt; is_legal(p, best.played));
-    ((also.len(), counts), played(p, best.played))
+    (also.len(), counts)
 }
 
 /// Each second node along best play from a position has these counts.
@@ -58,10 +64,11 @@ fn check_line<V: Values>(
     for counts in wanted {
         assert!(rt; line.push(p.copied()).is_ok());
         assert!(rt; is_back(line.as_slice(), 0, &p, values) == Ok(true));
-        let (found, reply) = counts_at(rt, line.as_slice(), &p, values);
+        let (best, reply) = best_at(rt, &p, values);
+        let found = counts_at(rt, line.as_slice(), &p, best, values);
         assert_eq!(rt; found, *counts, "{fen}");
         assert!(rt; line.push(reply.copied()).is_ok());
-        let (_, next) = counts_at(rt, line.as_slice(), &reply, values);
+        let (_, next) = best_at(rt, &reply, values);
         p = next;
     }
 }
@@ -86,12 +93,18 @@ const PAWN: [Counts; 7] = [
 ];
 
 #[test]
-fn time_is_lost_as_another_program_counts(rt: HostRuntime) {
+fn time_is_lost_with_a_rook_as_another_program_counts(rt: HostRuntime) {
+    let alloc = rt.alloc();
+    let mut values = tables_of(&rt, &alloc, &[Class::KK, Class::KRK]);
+    let rook = "8/8/8/8/8/2k5/8/K6R w - - 0 1";
+    check_line(&rt, alloc, rook, ROOK.as_slice(), &mut values);
+}
+
+#[test]
+fn time_is_lost_with_a_pawn_as_another_program_counts(rt: HostRuntime) {
     use Class::{KBK, KK, KNK, KPK, KQK, KRK};
     let alloc = rt.alloc();
     let mut values = tables_of(&rt, &alloc, &[KK, KQK, KRK, KBK, KNK, KPK]);
-    let rook = "8/8/8/8/8/2k5/8/K6R w - - 0 1";
-    check_line(&rt, alloc, rook, ROOK.as_slice(), &mut values);
     let pawn = "8/8/8/3k4/8/8/3KP3/8 w - - 0 1";
     check_line(&rt, alloc, pawn, PAWN.as_slice(), &mut values);
 }

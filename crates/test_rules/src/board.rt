@@ -1,5 +1,9 @@
 //! What no clause says: that the definitions are chess's, by positions from outside.
 use crate::men::{man, position};
+use study_board::PositionFault::{
+    EnPassantImpossible, KingCount, OpponentInCheck, PawnOnEndRank, SquareTwice, TooManyMen,
+};
+use study_board::Side::{Black, White};
 use study_board::{Position, PositionFault, Side, Square, Symmetry};
 
 /// Letters of men on squares, the side to move, the passed square, and the fault of them.
@@ -7,160 +11,127 @@ const FAULTS: [(&[(char, u8)], Side, Option<u8>, PositionFault); 24] = [
     // Each fault alone.
     (
         &[('K', 0), ('k', 63), ('R', 9), ('R', 18), ('N', 27)],
-        Side::White,
+        White,
         None,
-        PositionFault::TooManyMen,
+        TooManyMen,
     ),
     (
         &[('K', 0), ('k', 63), ('R', 9), ('B', 9)],
-        Side::White,
+        White,
         None,
-        PositionFault::SquareTwice,
+        SquareTwice,
     ),
-    (
-        &[('K', 0), ('R', 9)],
-        Side::White,
-        None,
-        PositionFault::KingCount,
-    ),
+    (&[('K', 0), ('R', 9)], White, None, KingCount),
     (
         &[('K', 0), ('k', 63), ('P', 60)],
-        Side::White,
+        White,
         None,
-        PositionFault::PawnOnEndRank,
+        PawnOnEndRank,
     ),
-    (
-        &[('K', 0), ('k', 63), ('p', 3)],
-        Side::White,
-        None,
-        PositionFault::PawnOnEndRank,
-    ),
+    (&[('K', 0), ('k', 63), ('p', 3)], White, None, PawnOnEndRank),
     (
         &[('K', 0), ('k', 63), ('R', 7)],
-        Side::White,
+        White,
         None,
-        PositionFault::OpponentInCheck,
+        OpponentInCheck,
     ),
-    (
-        &[('K', 48), ('k', 56)],
-        Side::White,
-        None,
-        PositionFault::OpponentInCheck,
-    ),
-    (
-        &[('K', 0), ('k', 63)],
-        Side::White,
-        Some(44),
-        PositionFault::EnPassantImpossible,
-    ),
+    (&[('K', 48), ('k', 56)], White, None, OpponentInCheck),
+    (&[('K', 0), ('k', 63)], White, Some(44), EnPassantImpossible),
     // Each two together: the earlier is told.
     (
         &[('K', 0), ('k', 63), ('R', 9), ('R', 9), ('N', 27)],
-        Side::White,
+        White,
         None,
-        PositionFault::TooManyMen,
+        TooManyMen,
     ),
     (
         &[('K', 0), ('K', 63), ('R', 9), ('R', 8), ('N', 27)],
-        Side::White,
+        White,
         None,
-        PositionFault::TooManyMen,
+        TooManyMen,
     ),
     (
         &[('K', 0), ('k', 63), ('R', 9), ('R', 8), ('P', 60)],
-        Side::White,
+        White,
         None,
-        PositionFault::TooManyMen,
+        TooManyMen,
     ),
     (
         &[('K', 0), ('k', 63), ('R', 7), ('R', 8), ('N', 27)],
-        Side::White,
+        White,
         None,
-        PositionFault::TooManyMen,
+        TooManyMen,
     ),
     (
         &[('K', 0), ('k', 63), ('R', 9), ('R', 8), ('N', 27)],
-        Side::White,
+        White,
         Some(44),
-        PositionFault::TooManyMen,
+        TooManyMen,
     ),
-    (
-        &[('K', 0), ('K', 0)],
-        Side::White,
-        None,
-        PositionFault::SquareTwice,
-    ),
+    (&[('K', 0), ('K', 0)], White, None, SquareTwice),
     (
         &[('K', 0), ('k', 63), ('P', 60), ('P', 60)],
-        Side::White,
+        White,
         None,
-        PositionFault::SquareTwice,
+        SquareTwice,
     ),
     (
         &[('K', 0), ('k', 63), ('R', 7), ('R', 7)],
-        Side::White,
+        White,
         None,
-        PositionFault::SquareTwice,
+        SquareTwice,
     ),
     (
         &[('K', 0), ('k', 63), ('R', 9), ('B', 9)],
-        Side::White,
+        White,
         Some(44),
-        PositionFault::SquareTwice,
+        SquareTwice,
     ),
-    (
-        &[('K', 0), ('P', 60)],
-        Side::White,
-        None,
-        PositionFault::KingCount,
-    ),
+    (&[('K', 0), ('P', 60)], White, None, KingCount),
     (
         &[('K', 0), ('k', 63), ('k', 56), ('R', 7)],
-        Side::White,
+        White,
         None,
-        PositionFault::KingCount,
+        KingCount,
     ),
-    (&[('K', 0)], Side::White, Some(44), PositionFault::KingCount),
+    (&[('K', 0)], White, Some(44), KingCount),
     (
         &[('K', 0), ('k', 63), ('R', 7), ('P', 60)],
-        Side::White,
+        White,
         None,
-        PositionFault::PawnOnEndRank,
+        PawnOnEndRank,
     ),
     (
         &[('K', 0), ('k', 63), ('P', 60)],
-        Side::White,
+        White,
         Some(44),
-        PositionFault::PawnOnEndRank,
+        PawnOnEndRank,
     ),
     (
         &[('K', 0), ('k', 63), ('R', 7)],
-        Side::White,
+        White,
         Some(44),
-        PositionFault::OpponentInCheck,
+        OpponentInCheck,
     ),
     // A man stands behind the passed square.
     (
         &[('K', 4), ('k', 24), ('P', 27), ('R', 11)],
-        Side::Black,
+        Black,
         Some(19),
-        PositionFault::EnPassantImpossible,
+        EnPassantImpossible,
     ),
 ];
 
 #[test]
 fn the_first_fault_of_a_position_is_told(rt: HostRuntime) {
     for (letters, to_move, passed, fault) in FAULTS {
-        match position(&rt, letters, to_move, passed) {
-            Ok(_) => assert!(rt; false, "no fault, and not {fault}"),
-            Err(found) => assert_eq!(rt; found, fault),
-        }
+        let found = position(&rt, letters, to_move, passed).err();
+        assert!(rt; found == Some(fault), "{fault}");
     }
 }
 
 #[test]
 fn sound_positions_are_accepted(rt: HostRuntime) {
-    use Side::{Black, White};
     let table: [(&[(char, u8)], Side, Option<u8>); 5] = [
         (&[('k', 56), ('P', 50), ('K', 41)], White, None),
         (
@@ -198,21 +169,13 @@ fn squares_are_attacked_as_in_chess(rt: HostRuntime) {
     let men = [('K', 4), ('R', 11), ('b', 32), ('k', 63)];
     let white = [3, 5, 8, 9, 10, 11, 12, 13, 14, 15, 19, 27, 35, 43, 51, 59];
     let black = [11, 18, 25, 41, 50, 54, 55, 59, 62];
-    match position(&rt, &men, Side::White, None) {
+    match position(&rt, &men, White, None) {
         Err(fault) => assert!(rt; false, "{fault}"),
         Ok(p) => {
             for number in 0..64 {
                 let x = Square::new(number).expect(&rt, "a square");
-                assert_eq!(rt;
-                    p.attacked(x, Side::White),
-                    white.contains(&number),
-                    "{number}"
-                );
-                assert_eq!(rt;
-                    p.attacked(x, Side::Black),
-                    black.contains(&number),
-                    "{number}"
-                );
+                assert_eq!(rt; p.attacked(x, White), white.contains(&number), "{number}");
+                assert_eq!(rt; p.attacked(x, Black), black.contains(&number), "{number}");
             }
         }
     }
@@ -240,7 +203,7 @@ fn a_position_without_pawns_has_sixteen_images(rt: HostRuntime) {
         (true, true, true, true, [('k', 10), ('K', 0), ('r', 63)]),
     ];
     let men = [('K', 41), ('k', 56), ('R', 7)];
-    match position(&rt, &men, Side::White, None) {
+    match position(&rt, &men, White, None) {
         Err(fault) => assert!(rt; false, "{fault}"),
         Ok(p) => {
             for (files, ranks, diagonal, colours, letters) in table {
@@ -250,7 +213,7 @@ fn a_position_without_pawns_has_sixteen_images(rt: HostRuntime) {
                     diagonal,
                     colours,
                 };
-                let to_move = if colours { Side::Black } else { Side::White };
+                let to_move = if colours { Black } else { White };
                 let wanted = position(&rt, &letters, to_move, None);
                 assert!(rt; p.admits(&s));
                 assert!(rt; wanted.ok() == Some(p.turned(&s)), "{s:?}");
@@ -273,7 +236,7 @@ fn a_position_with_pawns_has_four_images(rt: HostRuntime) {
         ),
         (true, true, [('K', 39), ('p', 36), ('P', 35), ('k', 59)], 44),
     ];
-    match position(&rt, &men, Side::Black, Some(19)) {
+    match position(&rt, &men, Black, Some(19)) {
         Err(fault) => assert!(rt; false, "{fault}"),
         Ok(p) => {
             for (files, colours, letters, passed) in table {
@@ -283,7 +246,7 @@ fn a_position_with_pawns_has_four_images(rt: HostRuntime) {
                     diagonal: false,
                     colours,
                 };
-                let to_move = if colours { Side::White } else { Side::Black };
+                let to_move = if colours { White } else { Black };
                 let wanted = position(&rt, &letters, to_move, Some(passed));
                 assert!(rt; p.admits(&s));
                 assert!(rt; wanted.ok() == Some(p.turned(&s)), "{s:?}");

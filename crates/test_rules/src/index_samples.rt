@@ -1,7 +1,7 @@
 //! Positions with their classes and numbers, by another program: on each line the placement, the side to move, the
 //! number of the passed square (64 for none), the class and the index.
 
-pub static SAMPLES: &str = "\
+pub(crate) static SAMPLES: &str = "\
 8/8/2K5/8/8/k7/8/8,w,64,KK,453
 8/3K4/8/8/8/5k2/8/8,b,64,KK,1069
 2k5/8/8/8/8/K7/8/8,w,64,KK,151

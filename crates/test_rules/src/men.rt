@@ -4,7 +4,7 @@ use std::process::Abort;
 use study_board::{Kind, Man, Position, PositionFault, Side, Square};
 
 /// The man that a FEN letter stands for, on a square.
-pub fn man_at(letter: char, at: Square) -> Option<Man> {
+pub(crate) fn man_at(letter: char, at: Square) -> Option<Man> {
     let kind = match letter.to_ascii_lowercase() {
         'k' => Kind::King,
         'q' => Kind::Queen,
@@ -23,13 +23,13 @@ pub fn man_at(letter: char, at: Square) -> Option<Man> {
 }
 
 /// The man of a letter and the number of a square.
-pub fn man(rt: &impl Abort, letter: char, number: u8) -> Man {
+pub(crate) fn man(rt: &impl Abort, letter: char, number: u8) -> Man {
     let at = Square::new(number).expect(rt, "a square");
     man_at(letter, at).expect(rt, "a man")
 }
 
 /// The position of at most five men, given by letter and square, with the number of the en passant square.
-pub fn position(
+pub(crate) fn position(
     rt: &impl Abort,
     letters: &[(char, u8)],
     to_move: Side,

@@ -3,8 +3,7 @@ use crate::men;
 use std::process::Abort;
 use study_board::{Position, Side};
 use study_moves::{
-    Move, earlier, in_check, is_legal, is_mate, is_stalemate, last_moves, legal_moves, played,
-    solve, taken_back,
+    earlier, in_check, is_legal, is_mate, is_stalemate, last_moves, solve, taken_back,
 };
 
 /// The position of at most five men, given by letter and square.
@@ -17,109 +16,6 @@ fn position(
     men::position(rt, letters, to_move, passed)
         .ok()
         .expect(rt, "a position")
-}
-
-/// That the legal moves go from these squares to these, in this order, and that each is legal and can be played.
-fn expect_moves(rt: &impl Abort, p: &Position, wanted: &[(u8, u8)]) {
-    let list = legal_moves(p);
-    assert_eq!(rt; list.len(), wanted.len());
-    for (m, (origin, target)) in list.as_slice().iter().zip(wanted) {
-        assert_eq!(rt; m.origin.number(), *origin);
-        assert_eq!(rt; m.target.number(), *target);
-        let tested = *m;
-        assert!(rt; is_legal(p, tested));
-        let next = played(p, *m);
-        assert!(rt; next.to_move() != p.to_move());
-        assert!(rt; next.man_at(m.origin).is_none());
-    }
-}
-
-/// Positions, by their men, the side to move and the passed square, and the squares that the legal moves go between.
-static MOVE_LISTS: [(&[(char, u8)], Side, Option<u8>, &[(u8, u8)]); 6] = [
-    // Rook and king: twenty moves, by origin and target.
-    (
-        &[('K', 41), ('k', 56), ('R', 7)],
-        Side::White,
-        None,
-        &[
-            (7, 0),
-            (7, 1),
-            (7, 2),
-            (7, 3),
-            (7, 4),
-            (7, 5),
-            (7, 6),
-            (7, 15),
-            (7, 23),
-            (7, 31),
-            (7, 39),
-            (7, 47),
-            (7, 55),
-            (7, 63),
-            (41, 32),
-            (41, 33),
-            (41, 34),
-            (41, 40),
-            (41, 42),
-            (41, 50),
-        ],
-    ),
-    // Stalemate by the queen.
-    (&[('K', 0), ('k', 56), ('Q', 41)], Side::Black, None, &[]),
-    // The pawn is blocked by its own king.
-    (
-        &[('K', 40), ('P', 32), ('k', 56)],
-        Side::White,
-        None,
-        &[(40, 33), (40, 41)],
-    ),
-    // A promotion counts four times.
-    (
-        &[('K', 41), ('P', 50), ('k', 56)],
-        Side::White,
-        None,
-        &[
-            (41, 32),
-            (41, 33),
-            (41, 34),
-            (41, 40),
-            (41, 42),
-            (50, 58),
-            (50, 58),
-            (50, 58),
-            (50, 58),
-        ],
-    ),
-    // A capture in passing comes before the step.
-    (
-        &[('k', 24), ('P', 27), ('p', 28), ('K', 4)],
-        Side::Black,
-        Some(19),
-        &[
-            (24, 16),
-            (24, 17),
-            (24, 25),
-            (24, 32),
-            (24, 33),
-            (28, 19),
-            (28, 20),
-        ],
-    ),
-    // A passed square that no pawn can take changes nothing.
-    (
-        &[('k', 16), ('P', 28), ('K', 4)],
-        Side::Black,
-        Some(20),
-        &[(16, 8), (16, 9), (16, 17), (16, 24), (16, 25)],
-    ),
-];
-
-#[test]
-fn legal_moves_are_those_of_chess_in_order(rt: HostRuntime) {
-    for (letters, to_move, passed, wanted) in &MOVE_LISTS {
-        let p = position(&rt, letters, *to_move, *passed);
-        expect_moves(&rt, &p, wanted);
-    }
 }
 
 #[test]

@@ -1,7 +1,7 @@
 //! Positions, each with a tab and the SAN of its legal moves in the order of origin, target and promotion, made by another
 //! program.
 
-pub const MOVES: &str = "\
+pub(crate) const MOVES: &str = "\
 k7/8/1K6/8/8/8/8/7R w - - 0 1\tRa1+ Rb1 Rc1 Rd1 Re1 Rf1 Rg1 Rh2 Rh3 Rh4 Rh5 Rh6 Rh7 Rh8# Ka5 Kb5 Kc5 Ka6 Kc6 Kc7\n\
 k7/8/K7/P7/8/8/8/8 w - - 0 1\tKb5 Kb6\n\
 k7/2P5/1K6/8/8/8/8/8 w - - 0 1\tKa5 Kb5 Kc5 Ka6 Kc6 c8=Q# c8=R# c8=B c8=N\n\

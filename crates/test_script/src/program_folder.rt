@@ -2,19 +2,16 @@
 //! and by pages, files that are not the table's, and folders that are not there.
 ghost use Rattle.std.specs.Prelude.{◌≤◌, IfSome};
 
-use std::alloc::{Allocator, Global};
+use crate::rows::replies_of;
+use std::alloc::Global;
 use std::io::{ErrorKind, Read, Seek, SeekFrom};
-use std::process::Abort;
 use std::test::Fail;
 use std::{fs, io};
 use study_program::{FilePages, FolderStore};
-use study_script::run::{Settings, run};
-use study_script::store::TableStore;
-use study_tablefile::memory::{MemoryReader, MemoryWriter};
 use study_tablefile::{PageSource, SourceFault};
 
 /// A rook mates in one: the commands, and their replies where the table can be read, where it is not held, and where it
-/// is held by pages and the one that is asked for is damaged, or not there.
+/// is held by pages and the one that is asked for is not there.
 const STUDY: &str = "position k7/8/1K6/8/8/8/8/7R w - - 0 1\nstipulate white win\nmark root\n";
 
 const MARKED: &str =
@@ -22,33 +19,10 @@ const MARKED: &str =
 
 const NOT_HELD: &str = "position k7/8/1K6/8/8/8/8/7R w - - 0 1\nerror NoTable KRK\nerror NoStudy\n";
 
-const DAMAGED: &str =
-    "position k7/8/1K6/8/8/8/8/7R w - - 0 1\nerror TableRead Page 5\nerror NoStudy\n";
-
 const SHORT: &str =
     "position k7/8/1K6/8/8/8/8/7R w - - 0 1\nerror TableRead Short\nerror NoStudy\n";
 
 const LOADED: &str = "loaded KRK cells 81920\n";
-
-/// What a run over a store writes.
-fn replies_of<'a, S: TableStore, A: Allocator>(
-    alloc: &'a A,
-    store: &mut S,
-    pages: Option<u16>,
-    script: &[u8],
-) -> Vec<u8, &'a A>
-    requires { IfSome pages (λ n. (1 ≤ n) × (n ≤ 4096)) }
-{
-    let mut out = MemoryWriter::new(alloc);
-    let _answer = run(
-        alloc,
-        &mut MemoryReader::new(script),
-        &mut out,
-        store,
-        Settings { pages },
-    );
-    out.taken
-}
 
 /// The parts, one after the other.
 fn joined(alloc: Global, parts: &[&str]) -> Result<String, Fail> {
@@ -73,7 +47,7 @@ fn check(
     let lines = joined(alloc, script)?;
     let wanted = joined(alloc, replies)?;
     let mut store = FolderStore::new(rt, &alloc, folder)?;
-    let taken = replies_of(&alloc, &mut store, pages, lines.as_bytes());
+    let (taken, _answer) = replies_of(&alloc, &mut store, pages, lines.as_bytes());
     if taken.as_slice() == wanted.as_bytes() {
         Ok(())
     } else {
@@ -146,54 +120,6 @@ fn check_load(rt: &HostRuntime, folder: &str, whole: &str, paged: [&str; 2]) -> 
         &["loaded KK cells 1280\n", whole],
     )?;
     check(rt, folder, Some(1), &["load KRK\n", STUDY], &paged)
-}
-
-/// Changes a byte, or changes it back.
-fn turn(rt: &impl Abort, text: &mut [u8], at: usize) {
-    *text.get_mut(at).expect(rt, "a byte") ^= 11;
-}
-
-/// A byte of the file is another: some are seen when the file is opened, some when their page is read.
-#[test]
-fn a_damaged_file_is_told(rt: HostRuntime) -> Result<(), Fail> {
-    save(&rt, "damaged")?;
-    let mut text = fs::read(&rt, "damaged/KRK.dtm")?;
-    let rows = [
-        (0, "error NotATable\n", ["error NotATable\n", NOT_HELD]),
-        (8, "error Version 9\n", ["error Version 9\n", NOT_HELD]),
-        (
-            17,
-            "error ClassUnknown\n",
-            ["error ClassUnknown\n", NOT_HELD],
-        ),
-        (
-            40,
-            "error HeaderDamaged\n",
-            ["error HeaderDamaged\n", NOT_HELD],
-        ),
-        (
-            64 + 4128 * 5 + 63,
-            "error PageDamaged 5\n",
-            [LOADED, DAMAGED],
-        ),
-        (
-            64 + 4128 * 5 + 4100,
-            "error PageDamaged 5\n",
-            [LOADED, DAMAGED],
-        ),
-        (
-            64 + 4128 * 19 + 7,
-            "error PageDamaged 19\n",
-            [LOADED, MARKED],
-        ),
-    ];
-    for (at, whole, paged) in rows {
-        turn(&rt, text.as_mut_slice(), at);
-        fs::write(&rt, "damaged/KRK.dtm", text.as_slice())?;
-        check_load(&rt, "damaged", whole, paged)?;
-        turn(&rt, text.as_mut_slice(), at);
-    }
-    Ok(fs::remove_dir_all(&rt, "damaged")?)
 }
 
 /// The file ends too early, or too late.

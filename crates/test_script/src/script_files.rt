@@ -58,7 +58,7 @@ fn a_file_that_is_not_written_whole_is_not_saved(rt: HostRuntime) {
 fn a_file_that_fails_after_some_bytes_is_told(rt: HostRuntime) {
     let alloc = rt.alloc();
     let text = text_of(&rt, &alloc, &[Class::KK]);
-    for fails_after in 0..text.len() {
+    for fails_after in [0usize, 63, 64, 4_191] {
         let mut store = no_files(&alloc);
         store.put(Class::KK, MemoryFile::Bytes(text.as_slice()));
         store.fails_after = Some(fails_after);
@@ -119,6 +119,15 @@ fn set(rt: &impl Abort, text: &mut [u8], at: usize, byte: u8) {
     *text.get_mut(at).expect(rt, "a byte") = byte;
 }
 
+/// The text of KRK with a slower mate in one cell.
+fn lying<'a, A: Allocator>(rt: &impl Abort, alloc: &'a A, text: &[u8]) -> Vec<u8, &'a A> {
+    let table = read_table(alloc, &mut MemoryReader::new(text)).ok();
+    let table = table.expect(rt, "a table");
+    let mut all = table.cells().to_vec(alloc).ok().expect(rt, "memory");
+    set(rt, all.as_mut_slice(), 20_543, 4);
+    text_with(rt, alloc, Class::KRK, all)
+}
+
 impl<'a, A: Allocator> Texts<'a, A> {
     /// A copy of one of the two files.
     fn copy(&self, rt: &impl Abort, alloc: &'a A, class: Class) -> Vec<u8, &'a A> {
@@ -150,17 +159,14 @@ impl<'a, A: Allocator> Texts<'a, A> {
             Stored::Damaged(whole) => {
                 for page in 0..20usize {
                     if whole != Some(page) {
-                        *text.get_mut(64 + 4128 * page).expect(rt, "a byte") ^= 1;
+                        *text
+                            .as_mut_slice()
+                            .get_mut(64 + 4128 * page)
+                            .expect(rt, "a byte") ^= 1;
                     }
                 }
             }
-            Stored::Lie => {
-                let table = read_table(alloc, &mut MemoryReader::new(text.as_slice())).ok();
-                let cells = table.expect(rt, "a table").cells().to_vec(alloc);
-                let mut cells = cells.ok().expect(rt, "memory");
-                set(rt, cells.as_mut_slice(), 20_543, 4);
-                text = text_with(rt, alloc, Class::KRK, cells);
-            }
+            Stored::Lie => text = lying(rt, alloc, text.as_slice()),
             Stored::Constant(class, cell) => {
                 let all = vec![in alloc; cell; cells(class) as usize].ok();
                 text = text_with(rt, alloc, class, all.expect(rt, "cells"));

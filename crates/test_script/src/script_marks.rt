@@ -150,7 +150,7 @@ dual 1} 1... Kb8 {White mates in 1} 2. Rh8# $1 {mate} 1-0
 
 "#;
 
-/// A pawn, with the tables of all that it leads to, each in its turn; a promotion is told by its piece.
+/// A pawn, with the tables of all that it leads to, each in its turn; a promotion is named by its piece.
 const PAWN: Rows<'static> = r#"build KK -> built KK cells 1280 win -
 build KPK -> error MissingTable KQK
 build KQK -> built KQK cells 81920 win 19

@@ -30,7 +30,7 @@ fen root -> fen 8/8/8/8/4P3/k7/8/4K3 b - e3 0 1
 position 8/8/8/8/4P3/k7/8/4K3 b - - 0 1 -> position 8/8/8/8/4P3/k7/8/4K3 b - - 0 1
 moves root -> moves 5 Ka2 Kb2 Kb3 Ka4 Kb4";
 
-/// The first fault of a position's text is told, and the position stays.
+/// The reply names the first fault of a position's text, and the position stays.
 const TEXTS: Rows<'static> =
     "position rnbqkbnr/pppppppp/8/8/8/8/PPPPPPPP/RNBQKBNR w KQkq - 0 1 -> error TooManyMen
 position 4k3/8/8/8/8/8/8/4K2R w K - 0 1 -> error Castling

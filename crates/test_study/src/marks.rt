@@ -50,16 +50,17 @@ fn expect_queen_marks<'a, A: Allocator>(rt: &impl Abort, alloc: &'a A, bench: &B
     assert_eq!(rt; bench.size(), 3);
 }
 
-/// Each edit writes the labels of one path, a stipulation those of all nodes; none but an insertion asks a value.
+/// Each edit writes the labels of one path, a stipulation those of all nodes; none but an insertion asks a value. The root has 25
+/// moves, and the mate and the stalemate have none.
 #[test]
 fn edits_write_the_labels_of_one_path(rt: HostRuntime) {
     let alloc = rt.alloc();
     let mut values = tables_of(&rt, &alloc, &[Class::KK, Class::KQK]);
     let bench = QUEEN.root(&rt, &alloc, &mut values);
-    assert_eq!(rt; (bench.relabelled(), values.asked()), (1, 24));
+    assert_eq!(rt; (bench.relabelled(), values.asked()), (1, 26));
     let mut bench = QUEEN.study(&rt, &alloc, &mut values);
     expect_queen_marks(&rt, &alloc, &bench);
-    assert_eq!(rt; (bench.relabelled(), values.asked()), (5, 50));
+    assert_eq!(rt; (bench.relabelled(), values.asked()), (5, 54));
     assert!(rt; bench.promote(&path_of(&rt, &alloc, &[1])).is_ok());
     assert_eq!(rt; mark_at(&rt, &alloc, &bench, &[]), ROOT);
     assert_eq!(rt; mark_at(&rt, &alloc, &bench, &[0]), MISTAKE);
@@ -75,7 +76,7 @@ fn edits_write_the_labels_of_one_path(rt: HostRuntime) {
         ..MISTAKE
     };
     assert_eq!(rt; mark_at(&rt, &alloc, &bench, &[0]), one_of_25);
-    assert_eq!(rt; (bench.relabelled(), values.asked()), (9, 50));
+    assert_eq!(rt; (bench.relabelled(), values.asked()), (9, 54));
 }
 
 /// What each reader tells of a study, and that another position leaves the root alone.

@@ -156,6 +156,14 @@ fn faults_of(rows: &[Row], faulty: &[bool], place: usize, first: bool) -> u32 {
     count
 }
 
+/// Compares the faults of each row with those that are counted anew.
+fn check_faults(rt: &impl Abort, rows: &[Row], faulty: &[bool], first: bool) {
+    for (place, row) in rows.iter().enumerate() {
+        let count = faults_of(rows, faulty, place, first);
+        assert!(rt; row.shown.mark.faults == count, "{place}");
+    }
+}
+
 /// Compares each mark of the study with one that is counted anew.
 fn check<A: Allocator, V: Values>(
     rt: &impl Abort,
@@ -199,10 +207,7 @@ fn check<A: Allocator, V: Values>(
         };
         assert!(rt; faulty.push(fault).is_ok() && line.push(seen).is_ok());
     }
-    for (place, row) in rows.as_slice().iter().enumerate() {
-        let count = faults_of(rows.as_slice(), faulty.as_slice(), place, wanted.first);
-        assert!(rt; row.shown.mark.faults == count, "{place}");
-    }
+    check_faults(rt, rows.as_slice(), faulty.as_slice(), wanted.first);
 }
 
 /// Starts, among them some with the same kings.
