@@ -39,7 +39,7 @@ fn waiting<'a, V: Values>(
     study(rt, alloc, fen, white(rt, Some(moves)), WAITING, values)
 }
 
-/// A list of moves that is told of a node.
+/// A list of moves that a review gives of a node.
 #[derive(Clone, Copy, Debug, PartialEq, Eq)]
 enum List {
     /// The alternatives of the move that led to it.

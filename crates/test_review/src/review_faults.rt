@@ -50,7 +50,7 @@ fn fault_of<V: Values>(rt: &impl Abort, call: Call, values: &mut V) -> Option<Pr
     }
 }
 
-/// Each of the first forty questions fails in turn; the fault is told, and no more is asked.
+/// Each of the first forty questions fails in turn; the fault is reported, and no more is asked.
 #[test]
 fn each_question_of_a_call_fails_in_turn(rt: HostRuntime) {
     let alloc = rt.alloc();
@@ -68,7 +68,7 @@ fn each_question_of_a_call_fails_in_turn(rt: HostRuntime) {
     assert!(rt; values.failures() == 120);
 }
 
-/// A class that is not held is told by its name, and no failure is counted.
+/// A class that is not held is named, and no failure is counted.
 #[test]
 fn a_missing_table_is_told_by_its_name(rt: HostRuntime) {
     let alloc = rt.alloc();

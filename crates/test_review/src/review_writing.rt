@@ -72,7 +72,7 @@ fn nothing_is_written_before_there_is_memory_for_all(rt: HostRuntime) -> Result<
     Err(Fail::from("no heap was large enough"))
 }
 
-/// Each question of a review fails in turn: the fault is told, nothing more is asked, and nothing is written.
+/// Each question of a review fails in turn: the fault is reported, nothing more is asked, and nothing is written.
 #[test]
 fn nothing_is_written_where_a_value_is_not_told(rt: HostRuntime) -> Result<(), Fail> {
     let alloc = rt.alloc();

@@ -37,7 +37,7 @@ const FAULTS: [(&[(char, u8)], Side, Option<u8>, PositionFault); 24] = [
     ),
     (&[('K', 48), ('k', 56)], White, None, OpponentInCheck),
     (&[('K', 0), ('k', 63)], White, Some(44), EnPassantImpossible),
-    // Each two together: the earlier is told.
+    // Each two together: the earlier is reported.
     (
         &[('K', 0), ('k', 63), ('R', 9), ('R', 9), ('N', 27)],
         White,
@@ -113,7 +113,7 @@ const FAULTS: [(&[(char, u8)], Side, Option<u8>, PositionFault); 24] = [
         Some(44),
         OpponentInCheck,
     ),
-    // A man stands behind the passed square.
+    // A man is behind the passed square.
     (
         &[('K', 4), ('k', 24), ('P', 27), ('R', 11)],
         Black,

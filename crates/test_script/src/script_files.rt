@@ -77,7 +77,7 @@ enum Stored {
     /// The file of two kings with one more byte, or with a byte changed.
     Longer,
     Changed(usize, u8),
-    /// The file of two kings with a byte behind the last cell, under its right digest.
+    /// The file of two kings with a byte after the last cell, under its right digest.
     Padded,
     /// The file of king and rook against king with a cell of each page damaged, but of one page.
     Damaged(Option<usize>),

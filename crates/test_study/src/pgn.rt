@@ -58,7 +58,7 @@ Kb2 {draw; dual 2}) 10000. Kb1 {draw; dual 2} (10000. Ka2 {draw; dual 2})
 
 /// A variation stands before the main line goes on, each move has its number, and numbers go past 9999.
 #[test]
-fn the_main_line_goes_on_behind_its_variations(rt: HostRuntime) {
+fn the_main_line_goes_on_after_its_variations(rt: HostRuntime) {
     let alloc = rt.alloc();
     let mut values = tables_of(&rt, &alloc, &[Class::KK, Class::KQK]);
     for (case, text) in [(QUEEN, QUEEN_TEXT), (KINGS, KINGS_TEXT)] {

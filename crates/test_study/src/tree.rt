@@ -71,7 +71,7 @@ fn refuses_child<A: Allocator>(
     assert_eq!(rt; tree.add_last(steps, king_move(0), 9), Err(fault));
 }
 
-/// 256 moves in a line and 4,096 nodes are accepted and no more, and the first of two faults is told, without memory too.
+/// 256 moves in a line and 4,096 nodes are accepted and no more, and the first of two faults is reported, without memory too.
 #[test]
 fn a_tree_has_at_most_256_moves_in_a_line_and_4096_nodes(rt: HostRuntime) -> Result<(), Fail> {
     let heap = LocalHeap::new(rt.alloc(), 1 << 22)?;
@@ -157,7 +157,7 @@ fn edits_move_whole_branches(rt: HostRuntime) {
     assert_eq!(rt; tree.relabelled(), 7);
 }
 
-/// Each fault of a small tree; where two hold, the first is told, and nothing changes.
+/// Each fault of a small tree; where two hold, the first is reported, and nothing changes.
 #[test]
 fn faults_are_told_in_their_order(rt: HostRuntime) {
     use TreeFault::{AlreadyFirst, NoSuchNode, Root};

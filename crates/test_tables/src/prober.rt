@@ -232,7 +232,7 @@ fn each_growth_is_refused_and_values_stay_right(rt: HostRuntime) {
     );
 }
 
-/// A source that fails at one page: the fault is told and counted, and the same question is answered next.
+/// A source that fails at one page: the fault is reported and counted, and the same question is answered next.
 #[test]
 fn a_page_that_is_not_read_is_told_once(rt: HostRuntime) {
     let alloc = rt.alloc();
@@ -254,7 +254,7 @@ fn a_page_that_is_not_read_is_told_once(rt: HostRuntime) {
     }
 }
 
-/// A damaged page and one that is cut off are told each time, and no other page is.
+/// A damaged page and one that is cut off are reported each time, and no other page is.
 #[test]
 fn a_damaged_page_is_told_each_time(rt: HostRuntime) {
     let alloc = rt.alloc();
@@ -313,7 +313,7 @@ impl<'t> PageSource for Healing<'t> {
     }
 }
 
-/// A damaged page is not kept: once its source gives it whole, its values are told.
+/// A damaged page is not kept: once its source gives it whole, its values are answered.
 #[test]
 fn a_damaged_page_is_read_again(rt: HostRuntime) {
     let alloc = rt.alloc();

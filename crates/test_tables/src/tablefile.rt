@@ -93,7 +93,7 @@ fn fault_of_place(place: usize, version: u16) -> FileFault {
     }
 }
 
-/// Each proper prefix of a text is told as cut off.
+/// Each proper prefix of a text is reported as cut off.
 #[test]
 fn each_prefix_is_told_as_cut_off(rt: HostRuntime) {
     let alloc = rt.alloc();
@@ -166,7 +166,7 @@ fn a_full_writer_has_a_prefix(rt: HostRuntime) {
     }
 }
 
-/// The pages of a text, one by one, from a source that fails when it is told.
+/// The pages of a text, one by one, from a source that fails on demand.
 #[test]
 fn pages_are_read_one_by_one(rt: HostRuntime) {
     let alloc = rt.alloc();
@@ -257,7 +257,7 @@ fn faults_have_texts(rt: HostRuntime) -> Result<(), Fail> {
     Ok(())
 }
 
-/// Of two pages that have changed places the first is told, and nothing after it is read.
+/// Of two pages that have changed places the first is reported, and nothing after it is read.
 #[test]
 fn exchanged_pages_are_told(rt: HostRuntime) {
     let alloc = rt.alloc();

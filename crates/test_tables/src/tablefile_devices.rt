@@ -9,7 +9,7 @@ use study_material::Class;
 use study_tablefile::memory::{MemoryReader, MemoryWriter};
 use study_tablefile::{DeviceFailed, FileFault, put, read_table};
 
-/// The device's failure is told after so many bytes, and the reader is not asked again.
+/// The device's failure is reported after so many bytes, and the reader is not asked again.
 fn fails_after<A: Allocator>(
     rt: &impl Abort,
     alloc: &A,
