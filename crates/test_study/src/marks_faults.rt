@@ -242,8 +242,8 @@ fn each_growth_of_a_list_is_refused_in_turn(rt: HostRuntime) -> Result<(), Fail>
     let whole = CORNERS.edits(&rt, alloc, &alloc, &mut sound);
     let same = (&alloc, whole.as_slice());
     let (mut last, mut stops) = (0usize, 0u32);
-    for step in 0..4000usize {
-        let heap = LocalHeap::new(alloc, 64 + step * 128)?;
+    for step in 0..400usize {
+        let heap = LocalHeap::new(alloc, 64 + step * 512)?;
         let edits = CORNERS.edits(&rt, alloc, &heap, &mut sound);
         let list = (&heap, edits.as_slice());
         match CORNERS.edited(&rt, list, same, &mut values, &mut sound) {
