@@ -9,11 +9,15 @@ mod prober;
 #[cfg(test)]
 mod retro;
 #[cfg(test)]
+mod retro_memory;
+#[cfg(test)]
 mod tablefile;
 #[cfg(test)]
 mod tablefile_built;
 #[cfg(test)]
 mod tablefile_devices;
+#[cfg(test)]
+mod tablefile_sizes;
 #[cfg(test)]
 mod tables;
 #[cfg(test)]

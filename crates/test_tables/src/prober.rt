@@ -1,9 +1,9 @@
 //! Values through pages that are kept, read, damaged and refused.
 ghost use Rattle.std.specs.Prelude.{◌≡◌, ⊤};
 
-use crate::tables::{set_of, written};
+use crate::tables::set_of;
 use linked_list_allocator::LocalHeap;
-use std::alloc::Allocator;
+use std::alloc::{Allocator, Global};
 use std::process::Abort;
 use study_board::Position;
 use study_index::{cells, decode};
@@ -11,8 +11,8 @@ use study_material::Class;
 use study_prober::memory::FailingValues;
 use study_prober::{PagedFault, PagedTables, ProbeFault, Values, WholeTables};
 use study_retro::{Table, TableSet};
-use study_tablefile::memory::MemorySource;
-use study_tablefile::{FileFault, PageSource, SourceFault};
+use study_tablefile::memory::{MemorySource, MemoryWriter};
+use study_tablefile::{FileFault, PageSource, SourceFault, write_table};
 
 /// A table whose cells differ at the same place of two pages, and for two seeds.
 fn patterned<'a, A: Allocator>(
@@ -33,28 +33,89 @@ fn patterned<'a, A: Allocator>(
     Table::from_cells(class, bytes)
 }
 
-/// A file in memory that fails once, at a question counted from 0, if there is one: 0 asks for the header.
-fn source_of(text: &[u8], fails_at: Option<u64>) -> MemorySource<'_> {
-    MemorySource {
-        text,
-        asked: 0,
-        fails_at,
-        failures: 0,
+/// A file in memory.
+#[derive(Drop)]
+struct File {
+    text: Vec<u8>,
+    asked: u64,
+    /// Which question fails, counted from 0.
+    fails_at: Option<u64>,
+    failures: u64,
+    /// Which byte is turned, once a page was given.
+    turns: Option<usize>,
+}
+
+impl File {
+    fn turn(&mut self, place: usize)
+        ensures asked { self.new.asked ≡ self.old.asked }
+        ensures failures { self.new.failures ≡ self.old.failures }
+    {
+        if let Some(byte) = self.text.as_mut_slice().get_mut(place) {
+            *byte ^= 1;
+        }
+    }
+
+    fn memory(&self) -> MemorySource<'_>
+        ensures asked { result.asked ≡ self.now.asked }
+        ensures failures { result.failures ≡ self.now.failures }
+    {
+        MemorySource {
+            text: self.text.as_slice(),
+            asked: self.asked,
+            fails_at: self.fails_at,
+            failures: self.failures,
+        }
     }
 }
 
-/// A copy of a text with these bytes turned.
-fn turned<'a, A: Allocator>(
-    rt: &impl Abort,
-    alloc: &'a A,
-    text: &[u8],
-    places: &[usize],
-) -> Vec<u8, &'a A> {
-    let mut copy = text.to_vec(alloc).ok().expect(rt, "memory");
-    for place in places {
-        *copy.as_mut_slice().get_mut(*place).expect(rt, "a byte") ^= 1;
+impl PageSource for File {
+    ghost honest = { λ _ _ _. ⊥ };
+
+    ghost gives = { λ _ _ _. ⊤ };
+
+    ghost failed = { λ s. s.failures };
+
+    ghost asked = { λ s. s.asked };
+
+    fn header(&mut self, into: &mut [u8; 64]) -> Result<(), SourceFault> {
+        let mut source = self.memory();
+        let answer = source.header(into);
+        let (asked, failures) = (source.asked, source.failures);
+        self.asked = asked;
+        self.failures = failures;
+        answer
     }
-    copy
+
+    fn page(&mut self, n: u32, into: &mut [u8; 4128]) -> Result<(), SourceFault> {
+        let mut source = self.memory();
+        let answer = source.page(n, into);
+        let (asked, failures) = (source.asked, source.failures);
+        self.asked = asked;
+        self.failures = failures;
+        if let Some(place) = self.turns {
+            self.turns = None;
+            self.turn(place);
+        }
+        answer
+    }
+
+    fn failures(&self) -> u64 {
+        self.failures
+    }
+}
+
+/// The file of a table.
+fn file_of<A: Allocator>(rt: &impl Abort, alloc: Global, table: &Table<'_, A>) -> File {
+    let mut writer = MemoryWriter::new(&alloc);
+    assert!(rt; write_table(table, &mut writer).is_ok());
+    let text = writer.taken.as_slice().to_vec(alloc);
+    File {
+        text: text.ok().expect(rt, "a text"),
+        asked: 0,
+        fails_at: None,
+        failures: 0,
+        turns: None,
+    }
 }
 
 /// The first position of a class whose number stands on a page, if there is one.
@@ -72,28 +133,18 @@ fn position_on(rt: &impl Abort, class: Class, page: u32) -> Position {
     first_on(class, page).expect(rt, "a position")
 }
 
-/// The tables of a source, by so many pages.
-fn paged<'a, A: Allocator, S: PageSource>(
+/// A held table whose file is in memory.
+fn paged<'a, A: Allocator>(
     rt: &impl Abort,
     alloc: &'a A,
     pages: u16,
     class: Class,
-    source: S,
-) -> PagedTables<'a, S, A> {
+    file: File,
+) -> PagedTables<'a, File, A> {
     assert!(rt; 1 <= pages && pages <= 4096);
     let mut tables = PagedTables::new(alloc, pages).ok().expect(rt, "a cache");
-    assert!(rt; tables.add(class, source).is_ok());
+    assert!(rt; tables.add(class, file).is_ok());
     tables
-}
-
-/// Whether the values are those of the table at a position of its class.
-fn is_value<'a, A: Allocator, V: Values>(
-    values: &mut V,
-    table: &Table<'a, A>,
-    p: &Position,
-) -> bool {
-    let (class, _) = study_material::class_of(p);
-    class == table.class() && values.value(p) == Ok(table.at(p))
 }
 
 /// The table of king and rook against king by one page: each position has the value that the whole table tells.
@@ -101,9 +152,8 @@ fn is_value<'a, A: Allocator, V: Values>(
 fn values_by_one_page_are_those_of_the_whole_table(rt: HostRuntime) {
     let alloc = rt.alloc();
     let set = set_of(&rt, &alloc, &[Class::KK, Class::KRK]);
-    let text = written(&rt, &alloc, set.table(Class::KRK).expect(&rt, "held"));
-    let source = source_of(text.as_slice(), None);
-    let mut tables = paged(&rt, &alloc, 1, Class::KRK, source);
+    let file = file_of(&rt, alloc, set.table(Class::KRK).expect(&rt, "held"));
+    let mut tables = paged(&rt, &alloc, 1, Class::KRK, file);
     let mut whole = WholeTables::new(set);
     let mut count = 0u64;
     for number in 0..81_920u32 {
@@ -118,44 +168,54 @@ fn values_by_one_page_are_those_of_the_whole_table(rt: HostRuntime) {
     assert!(rt; tables.failures() == 0 && whole.failures() == 0);
 }
 
-/// With room for all pages none is read again, however much more room there is; with less, one is. A position of each page
-/// is asked for twice, and the source fails once, after it gave each page. The rows: a class, the room, and how many
-/// questions fail.
+/// How many pages of a class have a position.
+fn pages_with_positions(class: Class) -> u32 {
+    let mut count = 0u32;
+    for page in 0..cells(class).div_ceil(4096) {
+        if first_on(class, page).is_some() {
+            count = count.saturating_add(1);
+        }
+    }
+    count
+}
+
+/// How many questions fail where a position of each page is asked for twice, and the source fails once, after it gave each page.
+fn failures_at_the_second_turn(rt: &impl Abort, alloc: Global, class: Class, room: u16) -> u64 {
+    let table = patterned(rt, &alloc, class, 0);
+    let asked = u64::from(pages_with_positions(class));
+    let mut file = file_of(rt, alloc, &table);
+    file.fails_at = Some(1 + asked);
+    let mut tables = paged(rt, &alloc, room, class, file);
+    let mut refused = 0u64;
+    for _ in 0..2u8 {
+        for page in 0..cells(class).div_ceil(4096) {
+            if let Some(p) = first_on(class, page) {
+                let is_right = is_value(&mut tables, &table, &p);
+                refused = refused.saturating_add(u64::from(!is_right));
+            }
+        }
+    }
+    assert!(rt; tables.asked() == 2 * asked);
+    assert!(rt; tables.failures() == refused);
+    refused
+}
+
+/// With room for all 20 pages none is read again, however much more room there is; with less, one is.
 #[test]
 fn kept_pages_are_not_read_again(rt: HostRuntime) {
     let alloc = rt.alloc();
-    for (class, room, failures) in [
-        (Class::KRK, 1u16, 1u64),
-        (Class::KRK, 19, 1),
-        (Class::KRK, 20, 0),
-        (Class::KRK, 4096, 0),
-        (Class::KQKP, 4096, 0),
-    ] {
-        let table = patterned(&rt, &alloc, class, 0);
-        let text = written(&rt, &alloc, &table);
-        let mut positions = Vec::new(&alloc);
-        for page in 0..cells(class).div_ceil(4096) {
-            if let Some(p) = first_on(class, page) {
-                assert!(rt; positions.push(p).is_ok());
-            }
-        }
-        let pages = positions.len() as u64;
-        assert!(rt; pages == 20 || 1000 < pages);
-        let source = source_of(text.as_slice(), Some(pages.saturating_add(1)));
-        let mut tables = paged(&rt, &alloc, room, class, source);
-        let mut refused = 0u64;
-        for _ in 0..2u8 {
-            for p in positions.as_slice() {
-                refused = refused.saturating_add(u64::from(!is_value(&mut tables, &table, p)));
-            }
-        }
-        assert_eq!(rt;
-            (refused, tables.failures()),
-            (failures, failures),
-            "{room}"
-        );
-        assert!(rt; tables.asked() == pages.saturating_mul(2));
+    for (room, failures) in [(1u16, 1u64), (19, 1), (20, 0), (40, 0), (4096, 0)] {
+        let found = failures_at_the_second_turn(&rt, alloc, Class::KRK, room);
+        assert_eq!(rt; found, failures, "{room}");
     }
+}
+
+/// The most room there can be holds all pages of a class that has 4,096; some thousand have a position.
+#[test]
+fn the_most_room_holds_a_whole_class(rt: HostRuntime) {
+    assert!(rt; 1000 < pages_with_positions(Class::KQKP));
+    let failures = failures_at_the_second_turn(&rt, rt.alloc(), Class::KQKP, 4096);
+    assert_eq!(rt; failures, 0);
 }
 
 /// A class that is not held has no table, with pages and without.
@@ -163,8 +223,8 @@ fn kept_pages_are_not_read_again(rt: HostRuntime) {
 fn a_class_that_is_not_held_has_no_table(rt: HostRuntime) {
     let alloc = rt.alloc();
     let table = patterned(&rt, &alloc, Class::KK, 0);
-    let text = written(&rt, &alloc, &table);
-    let mut tables = paged(&rt, &alloc, 3, Class::KK, source_of(text.as_slice(), None));
+    let file = file_of(&rt, alloc, &table);
+    let mut tables = paged(&rt, &alloc, 3, Class::KK, file);
     let mut whole = WholeTables::new(TableSet::new(&alloc).ok().expect(&rt, "a set"));
     assert!(rt; whole.add(table).is_ok());
     assert!(rt; whole.tables().has(Class::KK));
@@ -182,49 +242,65 @@ fn pages_of_two_classes_are_kept_apart(rt: HostRuntime) {
     let alloc = rt.alloc();
     let rook = patterned(&rt, &alloc, Class::KRK, 0);
     let queen = patterned(&rt, &alloc, Class::KQK, 100);
-    let text = written(&rt, &alloc, &rook);
-    let other = written(&rt, &alloc, &queen);
     for room in [1, 2, 40] {
-        let source = source_of(text.as_slice(), None);
-        let mut tables = paged(&rt, &alloc, room, Class::KRK, source);
-        let added = tables.add(Class::KQK, source_of(other.as_slice(), None));
-        assert_eq!(rt; added, Ok(()));
+        let mut tables = paged(&rt, &alloc, room, Class::KRK, file_of(&rt, alloc, &rook));
+        assert_eq!(rt; tables.add(Class::KQK, file_of(&rt, alloc, &queen)), Ok(()));
         for page in [0, 7, 19, 7, 0] {
             let p = position_on(&rt, Class::KRK, page);
-            let q = position_on(&rt, Class::KQK, page);
             assert!(rt; is_value(&mut tables, &rook, &p), "{page}");
+            let q = position_on(&rt, Class::KQK, page);
             assert!(rt; is_value(&mut tables, &queen, &q), "{page}");
         }
     }
 }
 
-/// Where memory is refused, it is the cache, then the source that finds no room; each value is right all the same, the last
-/// of them asked again and again.
+/// Whether the values are those of the table at a position of its class.
+fn is_value<'a, A: Allocator, V: Values>(
+    values: &mut V,
+    table: &Table<'a, A>,
+    p: &Position,
+) -> bool {
+    let (class, _) = study_material::class_of(p);
+    class == table.class() && values.value(p) == Ok(table.at(p))
+}
+
+/// Whether the values at some pages are right, the last of them again and again.
+fn are_values<'a, 'h, A: Allocator, H: Allocator>(
+    rt: &impl Abort,
+    tables: &mut PagedTables<'h, File, H>,
+    table: &Table<'a, A>,
+) -> bool {
+    let mut are_right = true;
+    for page in [0, 1, 2, 3, 4, 5, 0, 5, 19, 3] {
+        let p = position_on(rt, Class::KRK, page);
+        are_right = are_right && is_value(tables, table, &p);
+    }
+    are_right && tables.asked() == 10 && tables.failures() == 0
+}
+
+/// Where memory is refused, it is the cache, then the source that finds no room; each value is right all the same.
 #[test]
 fn each_growth_is_refused_and_values_stay_right(rt: HostRuntime) {
     let alloc = rt.alloc();
     let table = patterned(&rt, &alloc, Class::KRK, 0);
-    let text = written(&rt, &alloc, &table);
     let (mut made, mut held) = (0u32, 0u32);
     for step in 0..120usize {
         let heap = LocalHeap::new(alloc, 64 + step * 256)
             .ok()
             .expect(&rt, "a heap");
-        let Ok(mut tables) = PagedTables::new(&heap, 4) else {
-            continue;
-        };
-        made = made.saturating_add(1);
-        let added = tables.add(Class::KRK, source_of(text.as_slice(), None));
-        if added.is_err() {
-            assert!(rt; added == Err(PagedFault::OutOfMemory) && !tables.holds(Class::KRK));
-            continue;
+        if let Ok(mut tables) = PagedTables::new(&heap, 4) {
+            made = made.saturating_add(1);
+            match tables.add(Class::KRK, file_of(&rt, alloc, &table)) {
+                Err(fault) => {
+                    assert_eq!(rt; fault, PagedFault::OutOfMemory);
+                    assert!(rt; !tables.holds(Class::KRK));
+                }
+                Ok(()) => {
+                    held = held.saturating_add(1);
+                    assert!(rt; are_values(&rt, &mut tables, &table), "{step}");
+                }
+            }
         }
-        held = held.saturating_add(1);
-        for page in [0, 1, 2, 3, 4, 5, 0, 5, 19, 3] {
-            let p = position_on(&rt, Class::KRK, page);
-            assert!(rt; is_value(&mut tables, &table, &p), "{step} {page}");
-        }
-        assert!(rt; tables.asked() == 10 && tables.failures() == 0);
     }
     assert!(rt;
         0 < held && held < made && made < 120,
@@ -232,15 +308,15 @@ fn each_growth_is_refused_and_values_stay_right(rt: HostRuntime) {
     );
 }
 
-/// A source that fails at one page: the fault is reported and counted, and the same question is answered next.
+/// A source that fails at one page: the fault is told and counted, and the same question is answered next.
 #[test]
 fn a_page_that_is_not_read_is_told_once(rt: HostRuntime) {
     let alloc = rt.alloc();
     let table = patterned(&rt, &alloc, Class::KRK, 0);
-    let text = written(&rt, &alloc, &table);
     for bad in 0..20u32 {
-        let source = source_of(text.as_slice(), Some(1 + u64::from(bad)));
-        let mut tables = paged(&rt, &alloc, 1, Class::KRK, source);
+        let mut file = file_of(&rt, alloc, &table);
+        file.fails_at = Some(1 + u64::from(bad));
+        let mut tables = paged(&rt, &alloc, 1, Class::KRK, file);
         for page in 0..20u32 {
             let p = position_on(&rt, Class::KRK, page);
             if page == bad {
@@ -254,190 +330,117 @@ fn a_page_that_is_not_read_is_told_once(rt: HostRuntime) {
     }
 }
 
-/// A damaged page and one that is cut off are reported each time, and no other page is.
+/// A damaged page and one that is cut off are told each time, and no other page is.
 #[test]
 fn a_damaged_page_is_told_each_time(rt: HostRuntime) {
     let alloc = rt.alloc();
     let table = patterned(&rt, &alloc, Class::KRK, 0);
-    let text = written(&rt, &alloc, &table);
-    let mut text = turned(&rt, &alloc, text.as_slice(), &[64 + 4128 * 5 + 7]);
-    assert!(rt; text.pop().is_some());
-    let mut tables = paged(&rt, &alloc, 8, Class::KRK, source_of(text.as_slice(), None));
+    let mut file = file_of(&rt, alloc, &table);
+    file.turn(64 + 4128 * 5 + 7);
+    assert!(rt; file.text.pop().is_some());
+    let mut tables = paged(&rt, &alloc, 8, Class::KRK, file);
     for _ in 0..2u8 {
         for page in 0..20u32 {
             let p = position_on(&rt, Class::KRK, page);
-            let fault = match page {
-                5 => Some(ProbeFault::PageDamaged(Class::KRK, 5)),
-                19 => Some(ProbeFault::TableRead(SourceFault::Short)),
-                _ => None,
-            };
-            let right = is_value(&mut tables, &table, &p);
-            assert!(rt; right == fault.is_none(), "{page}");
-            assert!(rt; tables.value(&p).err() == fault, "{page}");
+            match page {
+                5 => assert_eq!(rt;
+                    tables.value(&p),
+                    Err(ProbeFault::PageDamaged(Class::KRK, 5))
+                ),
+                19 => assert_eq!(rt;
+                    tables.value(&p),
+                    Err(ProbeFault::TableRead(SourceFault::Short))
+                ),
+                _ => assert!(rt; is_value(&mut tables, &table, &p), "{page}"),
+            }
         }
     }
-    assert!(rt; tables.asked() == 80 && tables.failures() == 8);
+    assert!(rt; tables.asked() == 40 && tables.failures() == 4);
 }
 
-/// A file that gives a damaged page at first.
-#[derive(Drop)]
-struct Healing<'t> {
-    memory: MemorySource<'t>,
-    is_damaged: bool,
-}
-
-impl<'t> PageSource for Healing<'t> {
-    ghost honest = { λ _ _ _. ⊥ };
-
-    ghost gives = { λ _ _ _. ⊤ };
-
-    ghost failed = { λ s. s.memory.failures };
-
-    ghost asked = { λ s. s.memory.asked };
-
-    fn header(&mut self, into: &mut [u8; 64]) -> Result<(), SourceFault> {
-        self.memory.header(into)
-    }
-
-    fn page(&mut self, n: u32, into: &mut [u8; 4128]) -> Result<(), SourceFault> {
-        let answer = self.memory.page(n, into);
-        if self.is_damaged {
-            self.is_damaged = false;
-            into[9] ^= 1;
-        }
-        answer
-    }
-
-    fn failures(&self) -> u64 {
-        self.memory.failures()
-    }
-}
-
-/// A damaged page is not kept: once its source gives it whole, its values are answered.
+/// A damaged page is not kept: once its source gives it whole, its values are told.
 #[test]
 fn a_damaged_page_is_read_again(rt: HostRuntime) {
     let alloc = rt.alloc();
     let table = patterned(&rt, &alloc, Class::KK, 0);
-    let text = written(&rt, &alloc, &table);
-    let source = Healing {
-        memory: source_of(text.as_slice(), None),
-        is_damaged: true,
-    };
-    let mut tables = paged(&rt, &alloc, 2, Class::KK, source);
+    let mut file = file_of(&rt, alloc, &table);
+    file.turn(73);
+    file.turns = Some(73);
+    let mut tables = paged(&rt, &alloc, 2, Class::KK, file);
     let p = position_on(&rt, Class::KK, 0);
-    let fault = ProbeFault::PageDamaged(Class::KK, 0);
-    assert_eq!(rt; tables.value(&p), Err(fault));
+    assert_eq!(rt;
+        tables.value(&p),
+        Err(ProbeFault::PageDamaged(Class::KK, 0))
+    );
     assert!(rt; is_value(&mut tables, &table, &p));
     assert!(rt; is_value(&mut tables, &table, &p));
     assert!(rt; tables.asked() == 3 && tables.failures() == 1);
 }
 
-/// A source that is refused: the class, the bytes of the file that are turned, how many of its bytes there are, the question
-/// that fails, and the fault.
-type Refused = (Class, &'static [usize], usize, Option<u64>, PagedFault);
-
-/// The faults in their order, each over a source that has those after it too.
-const REFUSED: [Refused; 12] = [
-    (
-        Class::KRK,
-        &[3],
-        63,
-        Some(0),
-        PagedFault::AlreadyHeld(Class::KRK),
-    ),
-    (
-        Class::KQK,
-        &[3],
-        63,
-        Some(0),
-        PagedFault::TableRead(SourceFault::Device),
-    ),
-    (
-        Class::KQK,
-        &[3],
-        63,
-        None,
-        PagedFault::TableRead(SourceFault::Short),
-    ),
-    (
-        Class::KQK,
-        &[3, 8],
-        64,
-        None,
-        PagedFault::Header(FileFault::NotATable),
-    ),
-    (
-        Class::KQK,
-        &[7, 8],
-        64,
-        None,
-        PagedFault::Header(FileFault::NotATable),
-    ),
-    (
-        Class::KQK,
-        &[8, 16],
-        64,
-        None,
-        PagedFault::Header(FileFault::Version(3)),
-    ),
-    (
-        Class::KQK,
-        &[8],
-        64,
-        None,
-        PagedFault::Header(FileFault::Version(3)),
-    ),
-    (
-        Class::KQK,
-        &[16, 24],
-        64,
-        None,
-        PagedFault::Header(FileFault::ClassUnknown),
-    ),
-    (
-        Class::KQK,
-        &[10, 40],
-        64,
-        None,
-        PagedFault::Header(FileFault::HeaderDamaged),
-    ),
-    (
-        Class::KQK,
-        &[63],
-        64,
-        None,
-        PagedFault::Header(FileFault::HeaderDamaged),
-    ),
-    (
-        Class::KQK,
-        &[],
-        64,
-        None,
-        PagedFault::OtherClass(Class::KRK),
-    ),
-    (
-        Class::KPKP,
-        &[],
-        64,
-        None,
-        PagedFault::OtherClass(Class::KRK),
-    ),
-];
-
+/// The faults of a source in their order, each over a source that has those after it too.
 #[test]
 fn the_first_fault_of_a_source_is_told(rt: HostRuntime) {
     let alloc = rt.alloc();
     let table = patterned(&rt, &alloc, Class::KRK, 0);
-    let text = written(&rt, &alloc, &table);
-    for (class, places, length, fails_at, fault) in REFUSED {
-        let other = turned(&rt, &alloc, text.as_slice(), places);
-        let (front, _) = other.as_slice().split_at(length.min(other.len()));
-        let source = source_of(text.as_slice(), None);
-        let mut tables = paged(&rt, &alloc, 1, Class::KRK, source);
-        let added = tables.add(class, source_of(front, fails_at));
-        assert_eq!(rt; added, Err(fault), "{places:?}");
+    let mut tables = paged(&rt, &alloc, 1, Class::KRK, file_of(&rt, alloc, &table));
+    let device = PagedFault::TableRead(SourceFault::Device);
+    let not_a_table = PagedFault::Header(FileFault::NotATable);
+    let rows = [
+        (
+            Class::KRK,
+            true,
+            Some(0),
+            PagedFault::AlreadyHeld(Class::KRK),
+        ),
+        (Class::KQK, true, Some(0), device),
+        (Class::KQK, true, None, not_a_table),
+        (Class::KQK, false, None, PagedFault::OtherClass(Class::KRK)),
+        (Class::KPKP, false, None, PagedFault::OtherClass(Class::KRK)),
+    ];
+    for (class, is_wrong, fails_at, fault) in rows {
+        let mut file = file_of(&rt, alloc, &table);
+        file.fails_at = fails_at;
+        if is_wrong {
+            file.turn(3);
+        }
+        assert_eq!(rt; tables.add(class, file), Err(fault));
         assert!(rt; tables.holds(Class::KRK) && !tables.holds(Class::KQK));
-        assert!(rt; tables.asked() == 0 && tables.failures() == 0);
+    }
+    let mut short = file_of(&rt, alloc, &table);
+    short.text.truncate(63);
+    assert_eq!(rt;
+        tables.add(Class::KQK, short),
+        Err(PagedFault::TableRead(SourceFault::Short))
+    );
+    assert!(rt; tables.asked() == 0 && tables.failures() == 0);
+}
+
+/// Each fault of a header that was read: its version, its class and its digest, and what comes first of two.
+#[test]
+fn the_first_fault_of_a_header_is_told(rt: HostRuntime) {
+    let alloc = rt.alloc();
+    let table = patterned(&rt, &alloc, Class::KRK, 0);
+    let mut tables = paged(&rt, &alloc, 1, Class::KRK, file_of(&rt, alloc, &table));
+    let rows = [
+        (8usize, 8usize, FileFault::Version(3)),
+        (8, 16, FileFault::Version(3)),
+        (16, 24, FileFault::ClassUnknown),
+        (10, 40, FileFault::HeaderDamaged),
+        (63, 63, FileFault::HeaderDamaged),
+        (7, 8, FileFault::NotATable),
+    ];
+    for (first, second, fault) in rows {
+        let mut file = file_of(&rt, alloc, &table);
+        file.turn(first);
+        if second != first {
+            file.turn(second);
+        }
+        assert_eq!(rt;
+            tables.add(Class::KQK, file),
+            Err(PagedFault::Header(fault)),
+            "{first}"
+        );
+        assert!(rt; !tables.holds(Class::KQK) && tables.failures() == 0);
     }
 }
 
@@ -446,13 +449,12 @@ fn the_first_fault_of_a_source_is_told(rt: HostRuntime) {
 fn a_question_that_failed_is_answered_next(rt: HostRuntime) {
     let alloc = rt.alloc();
     let table = patterned(&rt, &alloc, Class::KK, 0);
-    let text = written(&rt, &alloc, &table);
-    let tables = paged(&rt, &alloc, 1, Class::KK, source_of(text.as_slice(), None));
+    let tables = paged(&rt, &alloc, 1, Class::KK, file_of(&rt, alloc, &table));
     let mut values = FailingValues::new(tables, 1);
     let p = position_on(&rt, Class::KK, 0);
-    let fault = ProbeFault::TableRead(SourceFault::Device);
     assert!(rt; values.holds(Class::KK));
     assert!(rt; is_value(&mut values, &table, &p));
+    let fault = ProbeFault::TableRead(SourceFault::Device);
     assert_eq!(rt; values.value(&p), Err(fault));
     assert!(rt; is_value(&mut values, &table, &p));
     assert!(rt; values.asked() == 3 && values.failures() == 1);

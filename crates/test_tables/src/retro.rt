@@ -1,9 +1,8 @@
 //! The tables of up to three men, against those of an independent builder.
 use crate::tables::{built, changed, set_of, table_of};
-use linked_list_allocator::LocalHeap;
 use sha2::{Digest, Sha256};
-use std::test::Fail;
-use study_index::cells;
+use std::alloc::Allocator;
+use std::process::Abort;
 use study_material::Class;
 use study_retro::{AddFault, BuildFault, BuildRoom, TableSet, build, verify};
 
@@ -92,13 +91,17 @@ fn tables_of_up_to_three_men_are_those_of_another_builder(rt: HostRuntime) {
     for (class, count, win, loss, examined, digest) in ROWS {
         assert!(rt; !tables.ready(Class::KPK) || class == Class::KPK);
         let report = built(&rt, &alloc, &mut tables, class);
-        assert_eq!(rt; (report.cells, report.examined), (count, examined));
-        assert_eq!(rt; (report.deepest_win, report.deepest_loss), (win, loss));
-        let table = tables.table(class).expect(&rt, "held");
-        assert!(rt;
-            table.class() == class && is_digest(table.cells(), digest),
-            "{class:?}"
-        );
+        assert_eq!(rt; report.cells, count);
+        assert_eq!(rt; report.deepest_win, win);
+        assert_eq!(rt; report.deepest_loss, loss);
+        assert_eq!(rt; report.examined, examined);
+        match tables.table(class) {
+            None => assert!(rt; false, "not held"),
+            Some(table) => {
+                assert!(rt; table.class() == class);
+                assert!(rt; is_digest(table.cells(), digest), "{class:?}");
+            }
+        }
     }
 }
 
@@ -109,82 +112,85 @@ fn rook_against_knight_is_that_of_another_builder(rt: HostRuntime) {
     let tables = set_of(&rt, &alloc, &[Class::KK, Class::KRK, Class::KNK]);
     let (table, report) = table_of(&rt, &alloc, &tables, Class::KRKN);
     assert_eq!(rt; report.cells, 5_242_880);
-    assert_eq!(rt;
-        (report.deepest_win, report.deepest_loss),
-        (Some(79), Some(80))
+    assert_eq!(rt; report.deepest_win, Some(79));
+    assert_eq!(rt; report.deepest_loss, Some(80));
+    assert!(rt;
+        is_digest(
+            table.cells(),
+            "f353322202ada647a9d51aac5b2f766639a86c03e1793313f7775d72b84f1fec"
+        )
     );
-    let digest = "f353322202ada647a9d51aac5b2f766639a86c03e1793313f7775d72b84f1fec";
-    assert!(rt; is_digest(table.cells(), digest));
 }
 
-/// A table is not built, or not added, where its needs are not held, nor where it is held already; it is handed back.
+/// A table is refused where its needs are not held, or where it is held already; it is handed back, and the set is as it was.
 #[test]
 fn a_table_is_refused_without_its_needs_or_twice(rt: HostRuntime) {
     let alloc = rt.alloc();
-    let kings = set_of(&rt, &alloc, &[Class::KK]);
-    for (class, need) in [(Class::KPK, Class::KQK), (Class::KPKP, Class::KPK)] {
-        let room = BuildRoom::new(&alloc, cells(class))
-            .ok()
-            .expect(&rt, "room");
-        let fault = build(class, &kings, room).err();
-        assert!(rt; fault == Some(BuildFault::MissingTable(need)), "{class:?}");
+    let tables = set_of(&rt, &alloc, &[Class::KK]);
+    let room = BuildRoom::new(&alloc, 262_144).ok().expect(&rt, "room");
+    match build(Class::KPK, &tables, room) {
+        Err(fault) => assert_eq!(rt; fault, BuildFault::MissingTable(Class::KQK)),
+        Ok(_) => assert!(rt; false, "a table without its needs"),
     }
-    let rows: [(&[Class], AddFault); 2] = [
-        (&[], AddFault::MissingTable(Class::KK)),
-        (&[Class::KK, Class::KQK], AddFault::AlreadyHeld),
-    ];
-    for (classes, fault) in rows {
-        let (table, _) = table_of(&rt, &alloc, &kings, Class::KQK);
+    let room = BuildRoom::new(&alloc, 33_554_432).ok().expect(&rt, "room");
+    match build(Class::KPKP, &tables, room) {
+        Err(fault) => assert_eq!(rt; fault, BuildFault::MissingTable(Class::KPK)),
+        Ok(_) => assert!(rt; false, "a table without its needs"),
+    }
+    for fault in [AddFault::MissingTable(Class::KK), AddFault::AlreadyHeld] {
+        let (table, _) = table_of(&rt, &alloc, &tables, Class::KQK);
+        let held = fault == AddFault::AlreadyHeld;
+        let classes: &[Class] = if held { &[Class::KK, Class::KQK] } else { &[] };
         let mut others = set_of(&rt, &alloc, classes);
-        let refused = others.add(table).err().expect(&rt, "a refusal");
-        assert_eq!(rt; refused.fault, fault);
-        assert!(rt; refused.table.class() == Class::KQK);
-        assert!(rt; others.has(Class::KQK) == (fault == AddFault::AlreadyHeld));
+        match others.add(table) {
+            Ok(()) => assert!(rt; false, "no fault, and not {fault}"),
+            Err(refused) => {
+                assert_eq!(rt; refused.fault, fault);
+                assert!(rt; refused.table.class() == Class::KQK);
+                assert!(rt; others.has(Class::KQK) == held);
+            }
+        }
     }
 }
 
+/// The cell of a number in the held table of a class.
+fn cell_of<A: Allocator>(
+    rt: &impl Abort,
+    tables: &TableSet<'_, A>,
+    class: Class,
+    number: usize,
+) -> u8 {
+    let table = tables.table(class).expect(rt, "held");
+    *table.cells().get(number).expect(rt, "a cell")
+}
+
 /// A built table is verified; one with a slower mate, a false draw, a stalemate as a mate, or a byte where no position
-/// is, is not. The rows: the class, the number, the cell there and the lie.
+/// is, is not.
 #[test]
 fn verify_tells_right_tables_from_wrong_ones(rt: HostRuntime) {
     let alloc = rt.alloc();
     let tables = set_of(&rt, &alloc, &[Class::KK, Class::KQK, Class::KRK]);
-    for (class, number, cell, lie) in [
+    for class in [Class::KQK, Class::KRK] {
+        match tables.table(class) {
+            None => assert!(rt; false, "not held"),
+            Some(table) => {
+                assert!(rt; tables.ready(table.class()));
+                assert!(rt; verify(table, &tables), "{class:?}");
+            }
+        }
+    }
+    let rows = [
         (Class::KRK, 20_543, 2, 4),
         (Class::KRK, 20_543, 2, 0),
         (Class::KQK, 41_421, 0, 1),
         (Class::KQK, 44_585, 0, 1),
-    ] {
-        let table = tables.table(class).expect(&rt, "held");
+    ];
+    for (class, number, is, lie) in rows {
+        assert_eq!(rt; cell_of(&rt, &tables, class, number), is);
         let liar = changed(&rt, &alloc, &tables, class, number, lie);
-        assert_eq!(rt; table.cells().get(number), Some(&cell));
-        assert!(rt; tables.ready(table.class()) && tables.ready(liar.class()));
-        assert!(rt; verify(table, &tables), "{class:?}");
+        assert!(rt; tables.ready(liar.class()));
         assert!(rt; !verify(&liar, &tables), "{class:?} {number} {lie}");
     }
-}
-
-/// On heaps from too small to ample: a set and a room are refused, then the set is made, then both, and then a table is built.
-#[test]
-fn a_set_and_a_room_are_refused_in_turn(rt: HostRuntime) -> Result<(), Fail> {
-    let (mut sets, mut rooms) = (0u32, 0u32);
-    for step in 0..400usize {
-        let heap = LocalHeap::new(rt.alloc(), 64 + step * 64)?;
-        let Ok(set) = TableSet::new(&heap) else {
-            assert!(rt; sets == 0 && rooms == 0, "{step}");
-            continue;
-        };
-        sets = sets.saturating_add(1);
-        let Ok(room) = BuildRoom::new(&heap, 1_280) else {
-            assert!(rt; rooms == 0, "{step}");
-            continue;
-        };
-        rooms = rooms.saturating_add(1);
-        let (table, report) = build(Class::KK, &set, room).ok().expect(&rt, "a table");
-        assert!(rt; table.cells().len() == 1_280 && report.cells == 1_280);
-    }
-    assert!(rt; 0 < rooms && rooms < sets && sets < 400, "{rooms} {sets}");
-    Ok(())
 }
 
 /// Room for the tables of each size.

@@ -1,5 +1,4 @@
 //! The text of a table, read back and damaged.
-use crate::tables::written;
 use crate::texts::{KK, digest, exchanged, fault, one_page, text_of, text_of_kk, zero_table};
 use std::alloc::Allocator;
 use std::io::ErrorKind;
@@ -9,7 +8,7 @@ use study_material::Class;
 use study_retro::Table;
 use study_tablefile::memory::{MemoryReader, MemorySource, MemoryWriter, WhenFull};
 use study_tablefile::{
-    DeviceFailed, FileFault, PageSource, SourceFault, file_bytes, page_cells, read_header,
+    DeviceFailed, FileFault, PageSource, SourceFault, file_bytes, page_cells, put, read_header,
     read_table, write_table,
 };
 
@@ -21,23 +20,66 @@ const KK_BEFORE: &[u8] =
 const KRK: &[u8] =
     b"STUDYDTM\x02\x00\x00\x10\x00\x40\x01\x00KRK\x00\x00\x00\x00\x00\x00\x00\x00\x00\x00\x00\x00\x00";
 
-/// The fields of KQKP, which has 16,777,216 cells, in version 2.
-const KQKP: &[u8] =
-    b"STUDYDTM\x02\x00\x00\x10\x00\x00\x00\x01KQKP\x00\x00\x00\x00\x00\x00\x00\x00\x00\x00\x00\x00";
-
 /// The fields of KPKP, which has 33,554,432 cells, in version 2.
 const KPKP: &[u8] =
     b"STUDYDTM\x02\x00\x00\x10\x00\x00\x00\x02KPKP\x00\x00\x00\x00\x00\x00\x00\x00\x00\x00\x00\x00";
 
-/// The fields that are written of a table are those that the description of the format prints.
+/// The first 32 bytes that are written of the table of zero cells of a class.
+fn first_bytes<'a, A: Allocator>(rt: &impl Abort, alloc: &'a A, class: Class) -> Vec<u8, &'a A> {
+    let table = zero_table(rt, alloc, class);
+    let mut writer = MemoryWriter::with_room(alloc, 32, WhenFull::Fail);
+    assert_eq!(rt; write_table(&table, &mut writer), Err(FileFault::Device));
+    writer.taken
+}
+
+/// The fields of the file of KRK as the description of the format prints them.
 #[test]
-fn headers_are_as_the_format_tells(rt: HostRuntime) {
+fn header_of_krk_is_as_the_format_tells(rt: HostRuntime) {
     let alloc = rt.alloc();
-    for (class, fields) in [(Class::KK, KK), (Class::KRK, KRK), (Class::KPKP, KPKP)] {
-        let table = zero_table(&rt, &alloc, class);
-        let mut writer = MemoryWriter::with_room(&alloc, 32, WhenFull::Fail);
-        assert_eq!(rt; write_table(&table, &mut writer), Err(FileFault::Device));
-        assert_eq!(rt; writer.taken.as_slice(), fields);
+    assert_eq!(rt; first_bytes(&rt, &alloc, Class::KRK).as_slice(), KRK);
+}
+
+/// The fields of the file of KPKP.
+#[test]
+fn header_of_kpkp_is_as_the_format_tells(rt: HostRuntime) {
+    let alloc = rt.alloc();
+    assert_eq!(rt; first_bytes(&rt, &alloc, Class::KPKP).as_slice(), KPKP);
+}
+
+/// The header of these fields: the fields and their digest.
+fn header_of<'a, A: Allocator>(rt: &impl Abort, alloc: &'a A, fields: &[u8]) -> Vec<u8, &'a A> {
+    let mut writer = MemoryWriter::new(alloc);
+    for part in [fields, digest(fields).as_slice()] {
+        assert!(rt; put(&mut writer, part).is_ok());
+    }
+    writer.taken
+}
+
+/// A pawn against a pawn is known from version 2 on; of the other classes both versions are read.
+#[test]
+fn versions_that_are_not_known_are_refused(rt: HostRuntime) {
+    let alloc = rt.alloc();
+    for (fields, want) in [
+        (
+            b"STUDYDTM\x01\x00\x00\x10\x00\x00\x00\x02KPKP\x00\x00\x00\x00\x00\x00\x00\x00\x00\x00\x00\x00".as_slice(),
+            FileFault::ClassUnknown,
+        ),
+        (KPKP, FileFault::Cut),
+        (
+            b"STUDYDTM\x03\x00\x00\x10\x00\x00\x00\x02KPKP\x00\x00\x00\x00\x00\x00\x00\x00\x00\x00\x00\x00".as_slice(),
+            FileFault::Version(3),
+        ),
+        (
+            b"STUDYDTM\x01\x00\x00\x10\x00\x00\x00\x01KQKP\x00\x00\x00\x00\x00\x00\x00\x00\x00\x00\x00\x00".as_slice(),
+            FileFault::Cut,
+        ),
+        (
+            b"STUDYDTM\x00\x00\x00\x10\x00\x40\x01\x00KRK\x00\x00\x00\x00\x00\x00\x00\x00\x00\x00\x00\x00\x00".as_slice(),
+            FileFault::Version(0),
+        ),
+    ] {
+        let text = header_of(&rt, &alloc, fields);
+        assert_eq!(rt; fault(&alloc, text.as_slice()), Some(want));
     }
 }
 
@@ -50,9 +92,10 @@ fn version_1_is_read_and_version_2_written(rt: HostRuntime) {
     let table = read_table(&alloc, &mut MemoryReader::new(text.as_slice()))
         .ok()
         .expect(&rt, "read");
-    let again = written(&rt, &alloc, &table);
+    let mut again = MemoryWriter::new(&alloc);
+    assert_eq!(rt; write_table(&table, &mut again), Ok(()));
     let wanted = text_of_kk(&rt, &alloc);
-    assert!(rt; again.as_slice() == wanted.as_slice());
+    assert!(rt; again.taken.as_slice() == wanted.as_slice());
     let mixed = one_page(&rt, &alloc, KK, KK_BEFORE, page.as_slice());
     assert_eq!(rt;
         fault(&alloc, mixed.as_slice()),
@@ -93,7 +136,7 @@ fn fault_of_place(place: usize, version: u16) -> FileFault {
     }
 }
 
-/// Each proper prefix of a text is reported as cut off.
+/// Each proper prefix of a text is told as cut off.
 #[test]
 fn each_prefix_is_told_as_cut_off(rt: HostRuntime) {
     let alloc = rt.alloc();
@@ -166,11 +209,14 @@ fn a_full_writer_has_a_prefix(rt: HostRuntime) {
     }
 }
 
-/// The pages of a text, one by one, from a source that fails on demand.
+/// The pages of a text, one by one, from a source that fails when it is told.
 #[test]
-fn pages_are_read_one_by_one(rt: HostRuntime) {
+fn pages_are_read_one_by_one(rt: HostRuntime) -> Result<(), Fail> {
     let alloc = rt.alloc();
-    let text = text_of(&rt, &alloc, Class::KK);
+    let table = zero_table(&rt, &alloc, Class::KK);
+    let mut writer = MemoryWriter::new(&alloc);
+    assert_eq!(rt; write_table(&table, &mut writer), Ok(()));
+    let text = writer.taken;
     let mut source = MemorySource {
         text: text.as_slice(),
         asked: 0,
@@ -188,6 +234,7 @@ fn pages_are_read_one_by_one(rt: HostRuntime) {
     assert!(rt; !page_cells(&header, 1, &page));
     assert_eq!(rt; source.page(1, &mut page), Err(SourceFault::Short));
     assert_eq!(rt; source.failures(), 2);
+    Ok(())
 }
 
 /// A cell after the last one that is not zero, under the digest that it asks for.
@@ -200,41 +247,30 @@ fn bytes_after_the_last_cell_have_to_be_zero(rt: HostRuntime) {
     assert_eq!(rt; fault(&alloc, text.as_slice()), Some(FileFault::Padding));
 }
 
-/// Fields with two of their bytes changed, and the fault of a file that has no more than them and their digest.
-type Header = (&'static [u8], [(usize, u8); 2], FileFault);
-
-/// A header has the first fault in the order of the fields. A pawn against a pawn is known from version 2 on; of the other
-/// classes both versions are read.
-const HEADERS: [Header; 15] = [
-    (KRK, [(7, 0), (8, 9)], FileFault::NotATable),
-    (KRK, [(8, 9), (16, 0)], FileFault::Version(9)),
-    (KRK, [(9, 1), (10, 1)], FileFault::Version(258)),
-    (KRK, [(17, b'P'), (19, b'P')], FileFault::HeaderDamaged),
-    (KRK, [(16, b'k'), (12, 1)], FileFault::ClassUnknown),
-    (KRK, [(8, 1), (24, 1)], FileFault::HeaderDamaged),
-    (KRK, [(8, 1), (8, 1)], FileFault::Cut),
-    (KRK, [(10, 1), (10, 1)], FileFault::HeaderDamaged),
-    (KRK, [(12, 1), (13, 0x40)], FileFault::HeaderDamaged),
-    (KRK, [(24, 1), (31, 0)], FileFault::HeaderDamaged),
-    (KRK, [(8, 0), (8, 0)], FileFault::Version(0)),
-    (KPKP, [(8, 1), (8, 1)], FileFault::ClassUnknown),
-    (KPKP, [(8, 2), (8, 2)], FileFault::Cut),
-    (KPKP, [(8, 3), (8, 3)], FileFault::Version(3)),
-    (KQKP, [(8, 1), (8, 1)], FileFault::Cut),
-];
-
+/// A header with some fields changed and the digest made anew has the first fault in the order of the fields.
 #[test]
 fn the_first_fault_of_a_header_is_told(rt: HostRuntime) {
     let alloc = rt.alloc();
-    for (fields, changes, want) in HEADERS {
-        let mut fields = fields.to_vec(&alloc).ok().expect(&rt, "memory");
+    for (changes, want) in [
+        ([(7usize, 0u8), (8, 9)], FileFault::NotATable),
+        ([(8, 9), (16, 0)], FileFault::Version(9)),
+        ([(9, 1), (10, 1)], FileFault::Version(258)),
+        ([(17, b'P'), (19, b'P')], FileFault::HeaderDamaged),
+        ([(16, b'k'), (12, 1)], FileFault::ClassUnknown),
+        ([(8, 1), (24, 1)], FileFault::HeaderDamaged),
+        ([(8, 1), (8, 1)], FileFault::Cut),
+        ([(10, 1), (10, 1)], FileFault::HeaderDamaged),
+        ([(12, 1), (13, 0x40)], FileFault::HeaderDamaged),
+        ([(24, 1), (31, 0)], FileFault::HeaderDamaged),
+    ] {
+        let mut fields = KRK.to_vec(&alloc).ok().expect(&rt, "memory");
         for (place, byte) in changes {
-            *fields.as_mut_slice().get_mut(place).expect(&rt, "a byte") = byte;
+            if let Some(field) = fields.as_mut_slice().get_mut(place) {
+                *field = byte;
+            }
         }
-        let digest = digest(fields.as_slice());
-        assert!(rt; fields.extend_from_slice(digest.as_slice()).is_ok());
-        let told = fault(&alloc, fields.as_slice());
-        assert_eq!(rt; told, Some(want), "{changes:?}");
+        let text = header_of(&rt, &alloc, fields.as_slice());
+        assert_eq!(rt; fault(&alloc, text.as_slice()), Some(want));
     }
 }
 
@@ -257,7 +293,7 @@ fn faults_have_texts(rt: HostRuntime) -> Result<(), Fail> {
     Ok(())
 }
 
-/// Of two pages that have changed places the first is reported, and nothing after it is read.
+/// Of two pages that have changed places the first is told, and nothing after it is read.
 #[test]
 fn exchanged_pages_are_told(rt: HostRuntime) {
     let alloc = rt.alloc();
@@ -267,32 +303,4 @@ fn exchanged_pages_are_told(rt: HostRuntime) {
     let answer = read_table(&alloc, &mut reader).err();
     assert_eq!(rt; answer, Some(FileFault::PageDamaged(3)));
     assert_eq!(rt; reader.given, 64 + 4 * 4128);
-}
-
-/// The table of zero cells of a class is written as so many bytes, byte by byte, which are read as this table.
-fn comes_back<A: Allocator>(rt: &impl Abort, alloc: &A, class: Class, bytes: usize) {
-    let table = zero_table(rt, alloc, class);
-    let text = text_of(rt, alloc, class);
-    assert_eq!(rt; text.len(), bytes);
-    let again = read_table(alloc, &mut MemoryReader::new(text.as_slice())).ok();
-    let again = again.expect(rt, "read");
-    assert!(rt; again.class() == class && again.cells() == table.cells());
-}
-
-#[test]
-fn tables_of_up_to_four_men_come_back(rt: HostRuntime) {
-    let alloc = rt.alloc();
-    for (class, bytes) in [
-        (Class::KK, 4_192),
-        (Class::KNK, 82_624),
-        (Class::KPK, 264_256),
-        (Class::KRKB, 5_283_904),
-    ] {
-        comes_back(&rt, &alloc, class, bytes);
-    }
-}
-
-#[test]
-fn the_table_of_a_pawn_against_a_pawn_comes_back(rt: HostRuntime) {
-    comes_back(&rt, &rt.alloc(), Class::KPKP, 33_816_640);
 }

@@ -1,11 +1,11 @@
 //! A built table, written to a file, read back and damaged.
-use crate::tables::{changed, set_of, written};
+use crate::tables::{changed, set_of};
 use crate::texts::{exchanged, fault};
 use std::test::Fail;
 use study_material::Class;
 use study_retro::verify;
-use study_tablefile::memory::MemoryReader;
-use study_tablefile::{FileFault, read_table};
+use study_tablefile::memory::{MemoryReader, MemoryWriter};
+use study_tablefile::{FileFault, read_table, write_table};
 
 /// The table of king and rook against king, through a writer that takes a byte a call and a reader that gives one.
 #[test]
@@ -13,9 +13,12 @@ fn the_table_of_krk_is_read_as_it_was_written(rt: HostRuntime) -> Result<(), Fai
     let alloc = rt.alloc();
     let tables = set_of(&rt, &alloc, &[Class::KK, Class::KRK]);
     let table = tables.table(Class::KRK).expect(&rt, "held");
-    let mut text = written(&rt, &alloc, table);
+    let mut writer = MemoryWriter::new(&alloc);
+    assert_eq!(rt; write_table(table, &mut writer), Ok(()));
+    let mut text = writer.taken;
     assert_eq!(rt; text.len(), 82_624);
-    assert!(rt; text.get(8) == Some(&2) && text.get(9) == Some(&0));
+    assert_eq!(rt; text.get(8), Some(&2));
+    assert_eq!(rt; text.get(9), Some(&0));
     let again = read_table(&alloc, &mut MemoryReader::new(text.as_slice()))
         .ok()
         .expect(&rt, "read");
@@ -47,8 +50,9 @@ fn a_lying_table_is_read_and_not_verified(rt: HostRuntime) {
     let tables = set_of(&rt, &alloc, &[Class::KK, Class::KRK]);
     for (cell, right) in [(2, true), (4, false)] {
         let table = changed(&rt, &alloc, &tables, Class::KRK, 20_543, cell);
-        let text = written(&rt, &alloc, &table);
-        let read = read_table(&alloc, &mut MemoryReader::new(text.as_slice()))
+        let mut writer = MemoryWriter::new(&alloc);
+        assert_eq!(rt; write_table(&table, &mut writer), Ok(()));
+        let read = read_table(&alloc, &mut MemoryReader::new(writer.taken.as_slice()))
             .ok()
             .expect(&rt, "read");
         assert!(rt; tables.ready(read.class()));

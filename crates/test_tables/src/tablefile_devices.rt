@@ -2,14 +2,84 @@
 use crate::texts::{text_of, text_of_kk};
 use linked_list_allocator::LocalHeap;
 use std::alloc::Allocator;
-use std::io::ErrorKind;
+use std::io::{ErrorKind, Read, Write};
 use std::process::Abort;
 use std::test::Fail;
 use study_material::Class;
-use study_tablefile::memory::{MemoryReader, MemoryWriter};
-use study_tablefile::{DeviceFailed, FileFault, put, read_table};
+use study_tablefile::memory::{MemoryReader, MemorySource, MemoryWriter, WhenFull};
+use study_tablefile::{
+    DeviceFailed, FileFault, PageSource, SourceFault, page_cells, put, read_header, read_table,
+};
 
-/// The device's failure is reported after so many bytes, and the reader is not asked again.
+/// Writes three letters, and compares the answer, what was taken, and that the writer was asked no more after it was full.
+fn put_letters<A: Allocator>(
+    rt: &impl Abort,
+    writer: &mut MemoryWriter<'_, A>,
+    want: Result<(), DeviceFailed>,
+    taken: &str,
+) {
+    assert_eq!(rt; put(writer, b"abc"), want, "{taken}");
+    assert_eq!(rt; writer.taken.as_slice(), taken.as_bytes());
+    assert_eq!(rt; writer.errors, want.is_err() as u64, "{taken}");
+}
+
+/// Writers fail, or take nothing, where they are told, each time or once.
+#[test]
+fn writers_in_memory_fail_where_they_are_told(rt: HostRuntime) {
+    let alloc = rt.alloc();
+    for when_full in [WhenFull::Fail, WhenFull::TakeNothing] {
+        for (room, want, taken) in [
+            (0usize, Err(DeviceFailed), ""),
+            (2, Err(DeviceFailed), "ab"),
+            (3, Ok(()), "abc"),
+        ] {
+            let mut full = MemoryWriter::with_room(&alloc, room, when_full);
+            put_letters(&rt, &mut full, want, taken);
+            let again = put(&mut full, b"d");
+            assert_eq!(rt; again, Err(DeviceFailed), "at {room}");
+            assert_eq!(rt; full.errors, want.is_err() as u64 + 1);
+
+            let mut recovers = MemoryWriter::full_once(&alloc, room, when_full);
+            recovers.kind = ErrorKind::Interrupted;
+            put_letters(&rt, &mut recovers, want, taken);
+            let again = put(&mut recovers, b"d");
+            assert_eq!(rt;
+                again,
+                want.map_or(Ok(()), |_| Err(DeviceFailed)),
+                "at {room}"
+            );
+            assert_eq!(rt; recovers.errors, 1);
+        }
+    }
+    let mut full = MemoryWriter::with_room(&alloc, 0, WhenFull::Fail);
+    assert_eq!(rt; put(&mut full, b""), Ok(()));
+    assert!(rt; full.flush().is_ok() && full.errors == 0);
+}
+
+/// Readers fail where they are told, each time or once.
+#[test]
+fn readers_in_memory_fail_where_they_are_told(rt: HostRuntime) -> Result<(), Fail> {
+    let mut text = Vec::new(rt.alloc());
+    assert_eq!(rt; MemoryReader::new(b"abc").read_to_end(&mut text)?, 3);
+    assert_eq!(rt; text.as_slice(), b"abc".as_slice());
+    let mut failing = MemoryReader::failing_after(b"abc", 2);
+    assert!(rt; failing.read_to_end(&mut text).is_err());
+    assert!(rt; failing.read_to_end(&mut text).is_err());
+    assert_eq!(rt; text.as_slice(), b"abcab".as_slice());
+    assert_eq!(rt; failing.errors, 2);
+    let mut recovers = MemoryReader::failing_once(b"abc", 2);
+    assert!(rt; recovers.read_to_end(&mut text).is_err());
+    assert_eq!(rt; recovers.read_to_end(&mut text)?, 1);
+    assert_eq!(rt; text.as_slice(), b"abcababc".as_slice());
+    assert_eq!(rt; recovers.errors, 1);
+    let mut interrupted = MemoryReader::failing_once(b"abc", 2);
+    interrupted.kind = ErrorKind::Interrupted;
+    assert_eq!(rt; interrupted.read_to_end(&mut text)?, 3);
+    assert_eq!(rt; interrupted.errors, 1);
+    Ok(())
+}
+
+/// The device's failure is told after so many bytes, and the reader is not asked again.
 fn fails_after<A: Allocator>(
     rt: &impl Abort,
     alloc: &A,
@@ -54,20 +124,84 @@ fn a_writer_without_memory_fails_once(rt: HostRuntime) -> Result<(), Fail> {
     Ok(())
 }
 
+/// Question 0 asks for the header, and the others ask for the pages in turn.
+fn ask<S: PageSource>(
+    source: &mut S,
+    question: u32,
+    header: &mut [u8; 64],
+    page: &mut [u8; 4128],
+) -> Result<(), SourceFault> {
+    match question {
+        0 => source.header(header),
+        number => source.page(number - 1, page),
+    }
+}
+
+/// Asks all questions. One of them fails: it is told and counted, and the same question asked again is answered.
+fn ask_all<S: PageSource>(rt: &impl Abort, source: &mut S, fails_at: u32) {
+    let mut bytes = [0u8; 64];
+    let mut page = [0u8; 4128];
+    for question in 0..21u32 {
+        if question == fails_at {
+            let answer = ask(source, question, &mut bytes, &mut page);
+            assert_eq!(rt; answer, Err(SourceFault::Device), "{question}");
+        }
+        let failures = (fails_at <= question) as u64;
+        assert_eq!(rt; source.failures(), failures, "{question}");
+        let answer = ask(source, question, &mut bytes, &mut page);
+        assert_eq!(rt; answer, Ok(()), "{question}");
+        assert_eq!(rt; source.failures(), failures, "{question}");
+        let header = read_header(&bytes).ok().expect(rt, "a header");
+        assert!(rt; header.class == Class::KRK && header.version == 2 && header.cells == 81_920);
+        assert!(rt;
+            question == 0 || page_cells(&header, question - 1, &page),
+            "{question}"
+        );
+    }
+    let answer = ask(source, 21, &mut bytes, &mut page);
+    assert_eq!(rt; answer, Err(SourceFault::Short));
+    assert_eq!(rt; source.failures(), (fails_at <= 20) as u64 + 1);
+}
+
+/// Each question in turn fails.
+#[test]
+fn each_question_to_a_source_fails_in_turn(rt: HostRuntime) {
+    let alloc = rt.alloc();
+    let text = text_of(&rt, &alloc, Class::KRK);
+    for fails_at in 0..=20u32 {
+        let mut source = MemorySource {
+            text: text.as_slice(),
+            asked: 0,
+            fails_at: Some(fails_at as u64),
+            failures: 0,
+        };
+        ask_all(&rt, &mut source, fails_at);
+    }
+}
+
 /// Heaps that grow step by step: there is no memory for the table, until there is.
 #[test]
 fn each_growth_of_a_table_is_refused_in_turn(rt: HostRuntime) -> Result<(), Fail> {
     let alloc = rt.alloc();
-    let text = text_of(&rt, &alloc, Class::KRK);
-    for step in 0..400usize {
-        let heap = LocalHeap::new(rt.alloc(), 64 + step * 512)?;
-        match read_table(&heap, &mut MemoryReader::new(text.as_slice())) {
-            Ok(table) => {
-                assert!(rt; step > 0 && table.class() == Class::KRK);
-                return Ok(());
+    for (class, step) in [(Class::KK, 16usize), (Class::KRK, 512)] {
+        let text = text_of(&rt, &alloc, class);
+        let (mut refused, mut read) = (0u32, false);
+        for turn in 0..400usize {
+            let heap = LocalHeap::new(rt.alloc(), 64 + turn * step)?;
+            match read_table(&heap, &mut MemoryReader::new(text.as_slice())) {
+                Ok(table) => {
+                    assert!(rt; table.class() == class);
+                    assert!(rt; table.cells().iter().all(|cell| *cell == 0));
+                    read = true;
+                    break;
+                }
+                Err(fault) => {
+                    assert_eq!(rt; fault, FileFault::OutOfMemory, "{turn}");
+                    refused = refused.saturating_add(1);
+                }
             }
-            Err(fault) => assert_eq!(rt; fault, FileFault::OutOfMemory, "{step}"),
         }
+        assert!(rt; read && refused > 0);
     }
-    Err(Fail::from("no heap was large enough"))
+    Ok(())
 }

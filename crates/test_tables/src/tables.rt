@@ -4,11 +4,9 @@ use std::process::Abort;
 use study_index::cells;
 use study_material::Class;
 use study_retro::{BuildReport, BuildRoom, Table, TableSet, build};
-use study_tablefile::memory::MemoryWriter;
-use study_tablefile::write_table;
 
 /// A table, built over the tables of a set, and the report.
-pub(crate) fn table_of<'a, A: Allocator>(
+pub fn table_of<'a, A: Allocator>(
     rt: &impl Abort,
     alloc: &'a A,
     tables: &TableSet<'a, A>,
@@ -19,7 +17,7 @@ pub(crate) fn table_of<'a, A: Allocator>(
 }
 
 /// Builds a table and adds it to the set; answers the report.
-pub(crate) fn built<'a, A: Allocator>(
+pub fn built<'a, A: Allocator>(
     rt: &impl Abort,
     alloc: &'a A,
     tables: &mut TableSet<'a, A>,
@@ -31,7 +29,7 @@ pub(crate) fn built<'a, A: Allocator>(
 }
 
 /// A set with the tables of these classes, built in order.
-pub(crate) fn set_of<'a, A: Allocator>(
+pub fn set_of<'a, A: Allocator>(
     rt: &impl Abort,
     alloc: &'a A,
     classes: &[Class],
@@ -44,7 +42,7 @@ pub(crate) fn set_of<'a, A: Allocator>(
 }
 
 /// A copy of the held table with one cell changed.
-pub(crate) fn changed<'a, A: Allocator>(
+pub fn changed<'a, A: Allocator>(
     rt: &impl Abort,
     alloc: &'a A,
     tables: &TableSet<'a, A>,
@@ -58,15 +56,4 @@ pub(crate) fn changed<'a, A: Allocator>(
     cells[number] = cell;
     assert!(rt; cells.len() == study_index::cells(class) as usize);
     Table::from_cells(class, cells)
-}
-
-/// The text of a table.
-pub(crate) fn written<'a, A: Allocator>(
-    rt: &impl Abort,
-    alloc: &'a A,
-    table: &Table<'a, A>,
-) -> Vec<u8, &'a A> {
-    let mut writer = MemoryWriter::new(alloc);
-    assert_eq!(rt; write_table(table, &mut writer), Ok(()));
-    writer.taken
 }

@@ -1,5 +1,4 @@
 //! Texts of tables as the tests make them, and their faults.
-use crate::tables::written;
 use sha2::{Digest, Sha256};
 use std::alloc::Allocator;
 use std::process::Abort;
@@ -7,14 +6,14 @@ use study_index::cells;
 use study_material::Class;
 use study_retro::Table;
 use study_tablefile::memory::{MemoryReader, MemoryWriter};
-use study_tablefile::{FileFault, put, read_table};
+use study_tablefile::{FileFault, put, read_table, write_table};
 
 /// The fields of KK in version 2, which is written.
-pub(crate) const KK: &[u8] =
+pub const KK: &[u8] =
     b"STUDYDTM\x02\x00\x00\x10\x00\x05\x00\x00KK\x00\x00\x00\x00\x00\x00\x00\x00\x00\x00\x00\x00\x00\x00";
 
 /// The SHA-256 of some bytes.
-pub(crate) fn digest(bytes: &[u8]) -> [u8; 32] {
+pub fn digest(bytes: &[u8]) -> [u8; 32] {
     let mut hasher = Sha256::new();
     hasher.update(bytes);
     hasher.finalize()
@@ -31,11 +30,7 @@ fn first_digest(fields: &[u8], cells: &[u8]) -> [u8; 32] {
 }
 
 /// A table of zero cells.
-pub(crate) fn zero_table<'a, A: Allocator>(
-    rt: &impl Abort,
-    alloc: &'a A,
-    class: Class,
-) -> Table<'a, A> {
+pub fn zero_table<'a, A: Allocator>(rt: &impl Abort, alloc: &'a A, class: Class) -> Table<'a, A> {
     let zeros = vec![in alloc; 0u8; cells(class) as usize]
         .ok()
         .expect(rt, "cells");
@@ -43,12 +38,12 @@ pub(crate) fn zero_table<'a, A: Allocator>(
 }
 
 /// The fault of a text.
-pub(crate) fn fault<A: Allocator>(alloc: &A, text: &[u8]) -> Option<FileFault> {
+pub fn fault<A: Allocator>(alloc: &A, text: &[u8]) -> Option<FileFault> {
     read_table(alloc, &mut MemoryReader::new(text)).err()
 }
 
 /// A header of these fields, and a page of KK under the digest that other fields ask for.
-pub(crate) fn one_page<'a, A: Allocator>(
+pub fn one_page<'a, A: Allocator>(
     rt: &impl Abort,
     alloc: &'a A,
     fields: &[u8],
@@ -68,16 +63,15 @@ pub(crate) fn one_page<'a, A: Allocator>(
 }
 
 /// The text of a table with zero cells.
-pub(crate) fn text_of<'a, A: Allocator>(
-    rt: &impl Abort,
-    alloc: &'a A,
-    class: Class,
-) -> Vec<u8, &'a A> {
-    written(rt, alloc, &zero_table(rt, alloc, class))
+pub fn text_of<'a, A: Allocator>(rt: &impl Abort, alloc: &'a A, class: Class) -> Vec<u8, &'a A> {
+    let table = zero_table(rt, alloc, class);
+    let mut writer = MemoryWriter::new(alloc);
+    assert!(rt; write_table(&table, &mut writer).is_ok());
+    writer.taken
 }
 
 /// The text of the table of KK with zero cells, as the description of the format tells it.
-pub(crate) fn text_of_kk<'a, A: Allocator>(rt: &impl Abort, alloc: &'a A) -> Vec<u8, &'a A> {
+pub fn text_of_kk<'a, A: Allocator>(rt: &impl Abort, alloc: &'a A) -> Vec<u8, &'a A> {
     let page = [0u8; 4096];
     let text = one_page(rt, alloc, KK, KK, page.as_slice());
     assert!(rt; text.len() == 4192);
@@ -85,11 +79,7 @@ pub(crate) fn text_of_kk<'a, A: Allocator>(rt: &impl Abort, alloc: &'a A) -> Vec
 }
 
 /// A text of 20 pages whose pages 3 and 4 have changed places.
-pub(crate) fn exchanged<'a, A: Allocator>(
-    rt: &impl Abort,
-    alloc: &'a A,
-    text: &[u8],
-) -> Vec<u8, &'a A> {
+pub fn exchanged<'a, A: Allocator>(rt: &impl Abort, alloc: &'a A, text: &[u8]) -> Vec<u8, &'a A> {
     assert!(rt; text.len() == 82_624);
     let (head, pages) = text.split_at(64 + 3 * 4128);
     let (third, others) = pages.split_at(4128);
