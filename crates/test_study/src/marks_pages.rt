@@ -1,7 +1,7 @@
 //! Studies over a table that is read by one page, where one page is not read: the call is refused, and accepted when it is
 //! made again.
 use crate::marks_faults::{Call, Subject, is_device};
-use crate::studies::{Case, start_of, tables_of};
+use crate::studies::{Case, Snapshot, start_of, tables_of};
 use std::alloc::Global;
 use std::process::Abort;
 use study_board::Side;
@@ -32,15 +32,15 @@ fn file_of<'a>(rt: &impl Abort, alloc: &'a Global) -> Vec<u8, &'a Global> {
     writer.taken
 }
 
-type OnePage<'a, 't> = PagedTables<'a, MemorySource<'t>, Global>;
+type OnePage<'a> = PagedTables<'a, MemorySource<'a>, Global>;
 
 /// The values of a file by one page. Reads of pages are counted from 1, and one of them fails; with none named, none does.
-fn one_page<'a, 't>(
+fn one_page<'a>(
     rt: &impl Abort,
     alloc: &'a Global,
-    text: &'t [u8],
+    text: &'a [u8],
     fails_at: Option<u64>,
-) -> OnePage<'a, 't> {
+) -> OnePage<'a> {
     let mut tables = PagedTables::new(alloc, 1).ok().expect(rt, "a cache");
     let source = MemorySource {
         text,
@@ -52,6 +52,23 @@ fn one_page<'a, 't>(
     tables
 }
 
+/// What the study shows after a call, read by one page.
+fn after(rt: &impl Abort, alloc: Global, call: Call, sound: &mut OnePage<'_>) -> Snapshot {
+    MATE.after(rt, alloc, call, sound)
+}
+
+/// Whether a call is refused over values of which one fails.
+fn is_refused(
+    rt: &impl Abort,
+    alloc: Global,
+    call: Call,
+    wanted: &Snapshot,
+    values: &mut OnePage<'_>,
+    sound: &mut OnePage<'_>,
+) -> bool {
+    MATE.is_refused(rt, alloc, call, wanted, values, sound)
+}
+
 /// Each read of a page in a call fails in turn, until none does; there are some.
 #[test]
 fn each_read_of_a_page_in_a_call_fails_in_turn(rt: HostRuntime) {
@@ -60,11 +77,11 @@ fn each_read_of_a_page_in_a_call_fails_in_turn(rt: HostRuntime) {
     let text = file_of(&rt, &alloc);
     let mut sound = one_page(&rt, &alloc, text.as_slice(), None);
     for call in [New, Position, Shift, Insert, Reannotate] {
-        let wanted = MATE.after(&rt, alloc, call, &mut sound);
+        let wanted = after(&rt, alloc, call, &mut sound);
         let mut reads = 0u64;
         for k in 1..300u64 {
             let mut values = one_page(&rt, &alloc, text.as_slice(), Some(k));
-            if !MATE.is_refused(&rt, alloc, call, &wanted, &mut values, &mut sound) {
+            if !is_refused(&rt, alloc, call, &wanted, &mut values, &mut sound) {
                 break;
             }
             reads = k;
