@@ -5,19 +5,23 @@ use std::process::Abort;
 use study_board::Position;
 use study_marks::{Aim, Goal};
 use study_material::Class;
-use study_moves::{Move, is_legal, played};
+use study_moves::{is_legal, played};
 use study_prober::Values;
-use study_review::{Node, alternatives, best_move, is_back, time_lost};
+use study_review::{Continuation, Node, alternatives, best_move, is_back, time_lost};
 
 /// How many alternatives a best move has, and of how many the position is back within 0, within 1 and within 2.
 type Counts = (usize, [usize; 3]);
 
-/// The best move, and the position after it.
-fn best_at<V: Values>(rt: &impl Abort, p: &Position, values: &mut V) -> (Move, Position) {
+/// The best move, and the value after it.
+fn best_at<V: Values>(rt: &impl Abort, p: &Position, values: &mut V) -> Continuation {
     let best = best_move(p, values).ok().expect(rt, "values");
-    let m = best.expect(rt, "a move").played;
-    assert!(rt; is_legal(p, m));
-    (m, played(p, m))
+    best.expect(rt, "a move")
+}
+
+/// The position after a move, which has to be legal.
+fn after(rt: &impl Abort, p: &Position, by: &Continuation) -> Position {
+    assert!(rt; is_legal(p, by.played));
+    played(p, by.played)
 }
 
 /// The counts at a node, the last of a line, for its best move.
@@ -25,7 +29,7 @@ fn counts_at<V: Values>(
     rt: &impl Abort,
     line: &[Position],
     p: &Position,
-    best: Move,
+    best: &Continuation,
     values: &mut V,
 ) -> Counts {
     let node = Node {
@@ -36,12 +40,11 @@ fn counts_at<V: Values>(
         depth: 0,
         position: p,
     };
-    let also = alternatives(&node, best, values).ok();
+    let also = alternatives(&node, best.played, values).ok();
     let also = also.expect(rt, "values");
     let mut counts = [0usize; 3];
     for x in also.as_slice() {
-        assert!(rt; is_legal(p, x.played));
-        let lost = time_lost(line, &played(p, x.played), values).ok();
+        let lost = time_lost(line, &after(rt, p, x), values).ok();
         if let Some(least) = lost.expect(rt, "values") {
             for (within, count) in [0u8, 1, 2].iter().zip(counts.iter_mut()) {
                 *count = count.saturating_add(usize::from(least <= *within));
@@ -64,12 +67,13 @@ fn check_line<V: Values>(
     for counts in wanted {
         assert!(rt; line.push(p.copied()).is_ok());
         assert!(rt; is_back(line.as_slice(), 0, &p, values) == Ok(true));
-        let (best, reply) = best_at(rt, &p, values);
-        let found = counts_at(rt, line.as_slice(), &p, best, values);
+        let best = best_at(rt, &p, values);
+        let found = counts_at(rt, line.as_slice(), &p, &best, values);
         assert_eq!(rt; found, *counts, "{fen}");
+        let reply = after(rt, &p, &best);
         assert!(rt; line.push(reply.copied()).is_ok());
-        let (_, next) = best_at(rt, &reply, values);
-        p = next;
+        let best = best_at(rt, &reply, values);
+        p = after(rt, &reply, &best);
     }
 }
 

@@ -372,6 +372,29 @@ const UNKNOWN: Rows<'static> = "load KK -> error ClassUnknown\nload KK -> error 
 const DAMAGED_HEADER: Rows<'static> =
     "load KK -> error HeaderDamaged\nload KK -> error HeaderDamaged";
 
+/// The file with this text, which a file that is closed keeps to itself.
+fn file_of<'t>(stored: &Stored, text: &'t [u8]) -> MemoryFile<'t> {
+    match stored {
+        Stored::Closed => MemoryFile::Closed,
+        _ => MemoryFile::Bytes(text),
+    }
+}
+
+/// A store of these files, each with its text.
+fn store_of<'t, 'a, A: Allocator>(
+    alloc: &'a A,
+    files: &[(Class, Stored)],
+    texts: &'t [Vec<u8, &'a A>],
+    fails_at: Option<u64>,
+) -> MemoryStore<'t, 'a, 'a, A> {
+    let mut store = no_files(alloc);
+    for ((class, stored), text) in files.iter().zip(texts.iter()) {
+        store.put(*class, file_of(stored, text.as_slice()));
+    }
+    store.fails_at = fails_at;
+    store
+}
+
 /// Runs a script over files, and compares the replies.
 fn check_case<'a, A: Allocator>(
     rt: &impl Abort,
@@ -383,15 +406,7 @@ fn check_case<'a, A: Allocator>(
     for (_, stored) in files {
         assert!(rt; all.push(texts.bytes_of(rt, alloc, *stored)).is_ok());
     }
-    let mut store = no_files(alloc);
-    store.fails_at = fails_at;
-    for ((class, stored), text) in files.iter().zip(all.iter()) {
-        let file = match *stored {
-            Stored::Closed => MemoryFile::Closed,
-            _ => MemoryFile::Bytes(text.as_slice()),
-        };
-        store.put(*class, file);
-    }
+    let mut store = store_of(alloc, files, all.as_slice(), fails_at);
     match pages {
         None => check_over(rt, alloc, &mut store, None, rows),
         Some(pages) => {

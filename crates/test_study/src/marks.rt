@@ -104,19 +104,26 @@ fn readers_tell_what_was_put_in(rt: HostRuntime) {
     assert_eq!(rt; (bench.size(), bench.relabelled()), (1, 1));
 }
 
+fn moved(origin: u8, target: u8) -> Move {
+    Move {
+        origin: Square::at(origin % 64),
+        target: Square::at(target % 64),
+        promoted: None,
+    }
+}
+
 /// A list of edits stops at the first that is refused, after those before it.
 #[test]
 fn a_list_of_edits_stops_at_the_first_refused(rt: HostRuntime) {
     let alloc = rt.alloc();
     let mut values = tables_of(&rt, &alloc, &[Class::KK, Class::KQK]);
     let mut bench = QUEEN.root(&rt, &alloc, &mut values);
-    let mate = move_of(&rt, &bench, &Path::root(&alloc), "Qg8");
-    let stalemate = move_of(&rt, &bench, &Path::root(&alloc), "Qh2");
+    let (mating, stalemating) = (62, 15);
     let edits = [
         Edit::Tag(TagName::Event, ArrayString::new()),
-        Edit::Insert(Path::root(&alloc), mate),
-        Edit::Insert(Path::root(&alloc), stalemate),
-        Edit::Insert(Path::root(&alloc), mate),
+        Edit::Insert(Path::root(&alloc), moved(6, mating)),
+        Edit::Insert(Path::root(&alloc), moved(6, stalemating)),
+        Edit::Insert(Path::root(&alloc), moved(6, mating)),
     ];
     let (tag, inserts) = edits.as_slice().split_at(1);
     let untold = bench.apply_all(tag, &mut values).err();
@@ -126,7 +133,7 @@ fn a_list_of_edits_stops_at_the_first_refused(rt: HostRuntime) {
     let stopped = stopped.expect(&rt, "a move twice");
     assert!(rt; stopped.done == 2 && matches!(stopped.refusal, Refusal::AlreadyThere(0)));
     expect_queen_marks(&rt, &alloc, &bench);
-    assert!(rt; bench.apply_all(&[], &mut values).is_ok());
+    assert!(rt; bench.apply_all(&edits[..0], &mut values).is_ok());
     expect_queen_marks(&rt, &alloc, &bench);
 }
 
@@ -185,14 +192,6 @@ fn marks_over_wrong_values_are_made_right(rt: HostRuntime) {
     assert_eq!(rt; mark_at(&rt, &alloc, &bench, &[0]), idle);
     assert!(rt; bench.reannotate(&mut values).is_ok());
     expect_queen_marks(&rt, &alloc, &bench);
-}
-
-fn moved(origin: u8, target: u8) -> Move {
-    Move {
-        origin: Square::at(origin % 64),
-        target: Square::at(target % 64),
-        promoted: None,
-    }
 }
 
 /// Moves that are not in the tree have the marks that they have once they are inserted; one value is asked for each, and

@@ -11,24 +11,33 @@ use study_material::Class;
 use study_prober::memory::FailingValues;
 use study_prober::{ProbeFault, Values};
 
-/// A study on which the calls are made: it, its start with another clock, and one more move below its root.
+/// A study on which the calls are made.
 #[derive(Clone, Copy)]
-pub(crate) struct Subject {
-    pub(crate) case: Case,
-    pub(crate) later: &'static str,
-    pub(crate) more: &'static str,
+pub(crate) enum Subject {
+    Corners,
+    Fan,
+    Mate,
 }
 
 /// A rook on h5 and kings in two corners: two moves of the rook, and one of Black's king.
-const CORNERS: Subject = Subject {
-    case: Case {
-        fen: "k7/8/8/7R/8/8/8/K7 w - - 0 1",
-        hero: Side::White,
-        goal: Goal::Win,
-        moves: &[(&[], "Rg5"), (&[], "Ra5"), (&[0], "Kb8")],
-    },
-    later: "k7/8/8/7R/8/8/8/K7 w - - 4 7",
-    more: "Rh1",
+const CORNERS: Case = Case {
+    fen: "k7/8/8/7R/8/8/8/K7 w - - 0 1",
+    hero: Side::White,
+    goal: Goal::Win,
+    moves: &[(&[], "Rg5"), (&[], "Ra5"), (&[0], "Kb8")],
+};
+
+/// Four moves of the same rook.
+const FAN: Case = Case {
+    moves: &[(&[], "Rg5"), (&[], "Rf5"), (&[], "Re5"), (&[], "Rd5")],
+    ..CORNERS
+};
+
+/// A mate in one, which a king's move misses.
+const MATE: Case = Case {
+    fen: "k7/8/1K6/8/8/8/8/7R w - - 0 1",
+    moves: &[(&[], "Rh8"), (&[], "Kc5")],
+    ..CORNERS
 };
 
 /// The calls that ask values and that leave the study as it was where they are refused.
@@ -42,6 +51,30 @@ pub(crate) enum Call {
 }
 
 impl Subject {
+    pub(crate) fn case(&self) -> Case {
+        match self {
+            Subject::Corners => CORNERS,
+            Subject::Fan => FAN,
+            Subject::Mate => MATE,
+        }
+    }
+
+    /// Its start with another clock.
+    fn later(&self) -> &'static str {
+        match self {
+            Subject::Corners | Subject::Fan => "k7/8/8/7R/8/8/8/K7 w - - 4 7",
+            Subject::Mate => "k7/8/1K6/8/8/8/8/7R w - - 7 9",
+        }
+    }
+
+    /// One more move below its root.
+    fn more(&self) -> &'static str {
+        match self {
+            Subject::Corners | Subject::Fan => "Rh1",
+            Subject::Mate => "Rb1",
+        }
+    }
+
     /// Makes a call on the study.
     fn call<'a, A: Allocator, V: Values>(
         &self,
@@ -53,16 +86,16 @@ impl Subject {
     ) -> Result<(), Refusal<'a, A>> {
         match call {
             Call::New => {
-                let start = start_of(rt, self.case.fen);
-                *bench = Bench::new(alloc, start, self.case.stipulation(), values)?;
+                let start = start_of(rt, self.case().fen);
+                *bench = Bench::new(alloc, start, self.case().stipulation(), values)?;
                 Ok(())
             }
-            Call::Position => bench.set_position(start_of(rt, self.later), values),
-            Call::Shift => bench.shift_position(start_of(rt, self.later), values),
+            Call::Position => bench.set_position(start_of(rt, self.later()), values),
+            Call::Shift => bench.shift_position(start_of(rt, self.later()), values),
             Call::Reannotate => bench.reannotate(values),
             Call::Insert => {
                 let root = path_of(rt, alloc, &[]);
-                let m = move_of(rt, bench, &root, self.more);
+                let m = move_of(rt, bench, &root, self.more());
                 let _place = bench.insert(&root, m, values)?;
                 Ok(())
             }
@@ -77,7 +110,7 @@ impl Subject {
         call: Call,
         sound: &mut V,
     ) -> Snapshot {
-        let mut bench = self.case.study(rt, &alloc, sound);
+        let mut bench = self.case().study(rt, &alloc, sound);
         assert!(rt; self.call(rt, &alloc, &mut bench, call, sound).is_ok());
         Snapshot::of(rt, alloc, &bench)
     }
@@ -93,7 +126,7 @@ impl Subject {
         values: &mut V,
         sound: &mut W,
     ) -> bool {
-        let mut bench = self.case.study(rt, &alloc, sound);
+        let mut bench = self.case().study(rt, &alloc, sound);
         let was = Snapshot::of(rt, alloc, &bench);
         let answer = self.call(rt, &alloc, &mut bench, call, values);
         let refused = answer.is_err();
@@ -115,9 +148,9 @@ impl Subject {
         room: &'a A,
         sound: &mut V,
     ) -> Vec<Edit<'a, A>> {
-        let whole = self.case.study(rt, &alloc, sound);
+        let whole = self.case().study(rt, &alloc, sound);
         let mut edits = Vec::new(alloc);
-        for (steps, san) in self.case.moves {
+        for (steps, san) in self.case().moves {
             let m = move_of(rt, &whole, &path_of(rt, &alloc, steps), san);
             let edit = Edit::Insert(path_of(rt, room, steps), m);
             assert!(rt; edits.push(edit).is_ok());
@@ -125,7 +158,7 @@ impl Subject {
         for edit in [
             Edit::Promote(path_of(rt, room, &[1])),
             Edit::Delete(path_of(rt, room, &[0])),
-            Edit::Shift(start_of(rt, self.later)),
+            Edit::Shift(start_of(rt, self.later())),
         ] {
             assert!(rt; edits.push(edit).is_ok());
         }
@@ -142,14 +175,14 @@ impl Subject {
         values: &mut V,
         sound: &mut W,
     ) -> Result<(), Stopped<'a, A>> {
-        let mut bench = self.case.root(rt, room, sound);
+        let mut bench = self.case().root(rt, room, sound);
         let answer = bench.apply_all(edits, values);
         let done = match &answer {
             Ok(()) => edits.len(),
             Err(stopped) => stopped.done,
         };
         let (first, _) = same.split_at(done.min(same.len()));
-        let mut other = self.case.root(rt, alloc, sound);
+        let mut other = self.case().root(rt, alloc, sound);
         assert!(rt; other.apply_all(first, sound).is_ok());
         let wanted = Snapshot::of(rt, *alloc, &other);
         assert!(rt; wanted.is_of(rt, *alloc, &bench), "{done}");
@@ -180,12 +213,19 @@ fn each_value_of_a_call_fails_in_turn(rt: HostRuntime) {
     let whole = tables_of(&rt, &alloc, &[Class::KK, Class::KRK]);
     let mut values = FailingValues::new(whole, 0);
     for (call, asked) in ASKED {
-        let wanted = CORNERS.after(&rt, alloc, call, &mut sound);
+        let wanted = Subject::Corners.after(&rt, alloc, call, &mut sound);
         for k in 0..=asked {
             values.asked = 0;
             values.failures = 0;
             values.fails_at = Some(k);
-            let refused = CORNERS.is_refused(&rt, alloc, call, &wanted, &mut values, &mut sound);
+            let refused = Subject::Corners.is_refused(
+                &rt,
+                alloc,
+                call,
+                &wanted,
+                &mut values,
+                &mut sound,
+            );
             assert!(rt; refused == (k < asked), "{call:?} {k}");
         }
     }
@@ -199,13 +239,13 @@ fn each_value_of_a_list_fails_in_turn(rt: HostRuntime) {
     let mut sound = tables_of(&rt, &alloc, &[Class::KK, Class::KRK]);
     let whole = tables_of(&rt, &alloc, &[Class::KK, Class::KRK]);
     let mut values = FailingValues::new(whole, 0);
-    let edits = CORNERS.edits(&rt, alloc, &alloc, &mut sound);
+    let edits = Subject::Corners.edits(&rt, alloc, &alloc, &mut sound);
     let list = (&alloc, edits.as_slice());
     let (inserted, shifted) = (25, 25 + 18 - 3);
     for k in 0..=inserted + shifted {
         values.asked = 0;
         values.fails_at = Some(k);
-        match CORNERS.edited(&rt, list, list, &mut values, &mut sound) {
+        match Subject::Corners.edited(&rt, list, list, &mut values, &mut sound) {
             Ok(()) => assert!(rt; k == inserted + shifted, "{k}"),
             Err(stopped) => {
                 assert!(rt;
@@ -239,14 +279,14 @@ fn each_growth_of_a_list_is_refused_in_turn(rt: HostRuntime) -> Result<(), Fail>
     let alloc = rt.alloc();
     let mut sound = tables_of(&rt, &alloc, &[Class::KK, Class::KRK]);
     let mut values = tables_of(&rt, &alloc, &[Class::KK, Class::KRK]);
-    let whole = CORNERS.edits(&rt, alloc, &alloc, &mut sound);
+    let whole = Subject::Corners.edits(&rt, alloc, &alloc, &mut sound);
     let same = (&alloc, whole.as_slice());
     let (mut last, mut stops) = (0usize, 0u32);
     for step in 0..400usize {
         let heap = LocalHeap::new(alloc, 64 + step * 512)?;
-        let edits = CORNERS.edits(&rt, alloc, &heap, &mut sound);
+        let edits = Subject::Corners.edits(&rt, alloc, &heap, &mut sound);
         let list = (&heap, edits.as_slice());
-        match CORNERS.edited(&rt, list, same, &mut values, &mut sound) {
+        match Subject::Corners.edited(&rt, list, same, &mut values, &mut sound) {
             Ok(()) => {
                 assert!(rt; stops > 0 && last == 5, "{stops} {last}");
                 return Ok(());
@@ -266,11 +306,6 @@ fn each_growth_of_a_list_is_refused_in_turn(rt: HostRuntime) -> Result<(), Fail>
 fn each_growth_of_a_call_is_refused_in_turn(rt: HostRuntime) -> Result<(), Fail> {
     let alloc = rt.alloc();
     let mut values = tables_of(&rt, &alloc, &[Class::KK, Class::KRK]);
-    let case = Case {
-        moves: &[(&[], "Rg5"), (&[], "Rf5"), (&[], "Re5"), (&[], "Rd5")],
-        ..CORNERS.case
-    };
-    let subject = Subject { case, ..CORNERS };
     for (call, takes_memory) in [
         (Call::New, false),
         (Call::Position, false),
@@ -279,14 +314,14 @@ fn each_growth_of_a_call_is_refused_in_turn(rt: HostRuntime) -> Result<(), Fail>
         (Call::Reannotate, true),
     ] {
         let heap = LocalHeap::new(alloc, 1 << 14)?;
-        let mut bench = subject.case.study(&rt, &heap, &mut values);
+        let mut bench = FAN.study(&rt, &heap, &mut values);
         let was = Snapshot::of(&rt, alloc, &bench);
         let blocks = rest_of(alloc, &heap)?;
-        let answer = subject.call(&rt, &heap, &mut bench, call, &mut values);
+        let answer = Subject::Fan.call(&rt, &heap, &mut bench, call, &mut values);
         let accepted = is_accepted(&rt, alloc, &bench, &was, answer);
         assert!(rt; accepted != takes_memory, "{call:?}");
         drop(blocks);
-        let answer = subject.call(&rt, &heap, &mut bench, call, &mut values);
+        let answer = Subject::Fan.call(&rt, &heap, &mut bench, call, &mut values);
         assert!(rt; is_accepted(&rt, alloc, &bench, &was, answer), "{call:?}");
     }
     Ok(())
@@ -298,7 +333,7 @@ fn the_path_to_a_broken_move_takes_memory(rt: HostRuntime) -> Result<(), Fail> {
     let alloc = rt.alloc();
     let mut values = tables_of(&rt, &alloc, &[Class::KK, Class::KRK]);
     let heap = LocalHeap::new(alloc, 1 << 18)?;
-    let mut bench = CORNERS.case.root(&rt, &heap, &mut values);
+    let mut bench = CORNERS.root(&rt, &heap, &mut values);
     let steps = [0u16; 19];
     for turn in 0..19usize {
         let at = path_of(&rt, &heap, &steps[..turn]);

@@ -1,27 +1,14 @@
 //! Studies over a table that is read by one page, where one page is not read: the call is refused, and accepted when it is
 //! made again.
 use crate::marks_faults::{Call, Subject, is_device};
-use crate::studies::{Case, start_of, tables_of};
+use crate::studies::{start_of, tables_of};
 use std::alloc::Global;
 use std::process::Abort;
-use study_board::Side;
-use study_marks::{Bench, Goal};
+use study_marks::Bench;
 use study_material::Class;
 use study_prober::{PagedTables, Values};
 use study_tablefile::memory::{MemorySource, MemoryWriter};
 use study_tablefile::write_table;
-
-/// A mate in one, which a king's move misses.
-const MATE: Subject = Subject {
-    case: Case {
-        fen: "k7/8/1K6/8/8/8/8/7R w - - 0 1",
-        hero: Side::White,
-        goal: Goal::Win,
-        moves: &[(&[], "Rh8"), (&[], "Kc5")],
-    },
-    later: "k7/8/1K6/8/8/8/8/7R w - - 7 9",
-    more: "Rb1",
-};
 
 /// The file of king and rook against king.
 fn file_of<'a>(rt: &impl Abort, alloc: &'a Global) -> Vec<u8, &'a Global> {
@@ -32,15 +19,15 @@ fn file_of<'a>(rt: &impl Abort, alloc: &'a Global) -> Vec<u8, &'a Global> {
     writer.taken
 }
 
-type OnePage<'a, 't> = PagedTables<'a, MemorySource<'t>, Global>;
+type OnePage<'a> = PagedTables<'a, MemorySource<'a>, Global>;
 
 /// The values of a file by one page. Reads of pages are counted from 1, and one of them fails; with none named, none does.
-fn one_page<'a, 't>(
+fn one_page<'a>(
     rt: &impl Abort,
     alloc: &'a Global,
-    text: &'t [u8],
+    text: &'a [u8],
     fails_at: Option<u64>,
-) -> OnePage<'a, 't> {
+) -> OnePage<'a> {
     let mut tables = PagedTables::new(alloc, 1).ok().expect(rt, "a cache");
     let source = MemorySource {
         text,
@@ -60,11 +47,11 @@ fn each_read_of_a_page_in_a_call_fails_in_turn(rt: HostRuntime) {
     let text = file_of(&rt, &alloc);
     let mut sound = one_page(&rt, &alloc, text.as_slice(), None);
     for call in [New, Position, Shift, Insert, Reannotate] {
-        let wanted = MATE.after(&rt, alloc, call, &mut sound);
+        let wanted = Subject::Mate.after(&rt, alloc, call, &mut sound);
         let mut reads = 0u64;
         for k in 1..300u64 {
             let mut values = one_page(&rt, &alloc, text.as_slice(), Some(k));
-            if !MATE.is_refused(&rt, alloc, call, &wanted, &mut values, &mut sound) {
+            if !Subject::Mate.is_refused(&rt, alloc, call, &wanted, &mut values, &mut sound) {
                 break;
             }
             reads = k;
@@ -80,12 +67,12 @@ fn each_read_of_a_page_in_a_list_fails_in_turn(rt: HostRuntime) {
     let alloc = rt.alloc();
     let text = file_of(&rt, &alloc);
     let mut sound = one_page(&rt, &alloc, text.as_slice(), None);
-    let edits = MATE.edits(&rt, alloc, &alloc, &mut sound);
+    let edits = Subject::Mate.edits(&rt, alloc, &alloc, &mut sound);
     let list = (&alloc, edits.as_slice());
     let mut stops = [false; 5];
     for k in 1..300u64 {
         let mut values = one_page(&rt, &alloc, text.as_slice(), Some(k));
-        match MATE.edited(&rt, list, list, &mut values, &mut sound) {
+        match Subject::Mate.edited(&rt, list, list, &mut values, &mut sound) {
             Ok(()) => break,
             Err(stopped) => {
                 assert!(rt; is_device(&stopped.refusal) && stopped.done < 5);
@@ -104,8 +91,14 @@ fn without_a_page_there_is_no_study(rt: HostRuntime) {
     assert!(rt; 64 <= text.len());
     let mut values = one_page(&rt, &alloc, &text.as_slice()[..64], None);
     for count in 1..4u64 {
-        let start = start_of(&rt, MATE.case.fen);
-        let refusal = Bench::new(&alloc, start, MATE.case.stipulation(), &mut values).err();
+        let start = start_of(&rt, Subject::Mate.case().fen);
+        let refusal = Bench::new(
+            &alloc,
+            start,
+            Subject::Mate.case().stipulation(),
+            &mut values,
+        )
+        .err();
         let refusal = refusal.expect(&rt, "no study");
         assert!(rt; is_device(&refusal) && values.failures() == count);
     }

@@ -85,14 +85,17 @@ impl Wanted {
             Value::Loss(n) => (if hero { None } else { Some(n) }, hero),
             Value::Draw => (None, false),
         };
-        match (self.goal, mates) {
-            (Goal::Win, _) => mates.is_some(),
-            (Goal::Draw, _) => !mated,
-            (Goal::MateIn(_), None) => false,
-            (Goal::MateIn(moves), Some(n)) => {
+        let goal = self.goal;
+        match goal {
+            Goal::Win => mates.is_some(),
+            Goal::Draw => !mated,
+            Goal::MateIn(moves) => {
                 let plies = 2 * moves.count() as usize;
                 let last = plies.saturating_sub(usize::from(self.first));
-                depth.saturating_add(n as usize) <= last
+                match mates {
+                    None => false,
+                    Some(n) => depth.saturating_add(n as usize) <= last,
+                }
             }
         }
     }

@@ -56,17 +56,20 @@ Kb2 {draw; dual 2}) 10000. Kb1 {draw; dual 2} (10000. Ka2 {draw; dual 2})
 
 "#;
 
+/// The game of the study is this text.
+fn expect_text(rt: &impl Abort, alloc: Global, case: &Case, text: &str) {
+    let mut values = tables_of(rt, &alloc, &[Class::KK, Class::KQK]);
+    let bench = case.study(rt, &alloc, &mut values);
+    let mut out = MemoryWriter::new(&alloc);
+    assert_eq!(rt; write_pgn(&alloc, &bench, &mut out), Ok(()));
+    assert_eq!(rt; std::str::from_utf8(out.taken.as_slice()), Ok(text));
+}
+
 /// A variation stands before the main line goes on, each move has its number, and numbers go past 9999.
 #[test]
 fn the_main_line_goes_on_after_its_variations(rt: HostRuntime) {
-    let alloc = rt.alloc();
-    let mut values = tables_of(&rt, &alloc, &[Class::KK, Class::KQK]);
-    for (case, text) in [(QUEEN, QUEEN_TEXT), (KINGS, KINGS_TEXT)] {
-        let bench = case.study(&rt, &alloc, &mut values);
-        let mut out = MemoryWriter::new(&alloc);
-        assert_eq!(rt; write_pgn(&alloc, &bench, &mut out), Ok(()));
-        assert_eq!(rt; std::str::from_utf8(out.taken.as_slice()), Ok(text));
-    }
+    expect_text(&rt, rt.alloc(), &QUEEN, QUEEN_TEXT);
+    expect_text(&rt, rt.alloc(), &KINGS, KINGS_TEXT);
 }
 
 /// A tree of variations within variations, 80 deep.

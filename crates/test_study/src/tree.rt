@@ -26,6 +26,14 @@ fn king_move(turn: usize) -> Move {
 /// A node as it is to be shown: the way to it, the turn of its move, its label and how many children it has.
 type Row = (&'static [u16], Option<usize>, u32, u16);
 
+/// What the node at the path shows: its move, its label and how many children it has.
+fn shown<A: Allocator>(tree: &Tree<'_, u32, A>, steps: &[u16]) -> Option<(Option<Move>, u32, u16)> {
+    match tree.node(steps) {
+        Some(node) => Some((node.played, *node.label, node.children)),
+        None => None,
+    }
+}
+
 /// The tree has these nodes; the counts of children leave no room for another.
 fn expect_rows<A: Allocator>(rt: &impl Abort, tree: &Tree<'_, u32, A>, rows: &[Row]) {
     for (steps, turn, label, children) in rows {
@@ -33,13 +41,8 @@ fn expect_rows<A: Allocator>(rt: &impl Abort, tree: &Tree<'_, u32, A>, rows: &[R
             None => None,
             Some(turn) => Some(king_move(*turn)),
         };
-        let node = tree.node(steps).expect(rt, "a node");
-        assert!(rt; node.played == played, "{steps:?}");
-        assert_eq!(rt;
-            (*node.label, node.children),
-            (*label, *children),
-            "{steps:?}"
-        );
+        let wanted = Some((played, *label, *children));
+        assert!(rt; shown(tree, steps) == wanted, "{steps:?}");
     }
     assert_eq!(rt; tree.size(), rows.len());
 }
@@ -84,15 +87,11 @@ fn a_tree_has_at_most_256_moves_in_a_line_and_4096_nodes(rt: HostRuntime) -> Res
     }
     let blocks = rest_of(rt.alloc(), &heap)?;
     let missing = [3u16; 256];
-    for (steps, fault) in [
-        (&missing[..1], TreeFault::TreeFull),
-        (&missing[..2], TreeFault::NoSuchNode),
-        (&missing[..256], TreeFault::NoSuchNode),
-        (path.steps(), TreeFault::TooDeep),
-        (&[], TreeFault::TreeFull),
-    ] {
-        refuses_child(&rt, &mut tree, steps, fault);
-    }
+    refuses_child(&rt, &mut tree, &missing[..1], TreeFault::TreeFull);
+    refuses_child(&rt, &mut tree, &missing[..2], TreeFault::NoSuchNode);
+    refuses_child(&rt, &mut tree, &missing[..256], TreeFault::NoSuchNode);
+    refuses_child(&rt, &mut tree, path.steps(), TreeFault::TooDeep);
+    refuses_child(&rt, &mut tree, &[], TreeFault::TreeFull);
     drop(blocks);
     assert_eq!(rt; (tree.size(), tree.relabelled()), (4096, 4095));
     assert_eq!(rt; tree.remove(&[0]), Ok(()));
@@ -164,7 +163,7 @@ fn faults_are_told_in_their_order(rt: HostRuntime) {
     let alloc = rt.alloc();
     let mut tree = small_tree(&rt, &alloc);
     for steps in [&[2][..], &[1, 0], &[5, 0], &[0, 0, 0, 0]] {
-        assert!(rt; tree.node(steps).is_none(), "{steps:?}");
+        assert!(rt; shown(&tree, steps).is_none(), "{steps:?}");
         assert_eq!(rt; tree.remove(steps), Err(NoSuchNode), "{steps:?}");
         assert_eq!(rt; tree.move_up(steps), Err(NoSuchNode), "{steps:?}");
         assert_eq!(rt; tree.relabel(steps, 16), Err(NoSuchNode), "{steps:?}");
