@@ -1,7 +1,7 @@
 // @ts-check
 // For other programs: `studyboard` on window. Promises of texts, as the program writes them.
 import { app, doc, idle, parts, PAGES, study } from './app.js';
-import { editsTo, fensOf, joined, linesOf } from './script.js';
+import { editsTo, fensOf, gamesOf, joined, linesOf } from './script.js';
 import { openText } from './texts_view.js';
 
 /**
@@ -91,8 +91,8 @@ export function makeApi(spawn) {
     /** The lines of the study that is looked at, alone, and the path of its node. */
     study: () => (study() ? joined(editsTo(doc().lines, study())) : ''),
     path: () => doc().path,
-    /** The games that are shown. */
-    pgn: () => doc().studies.map(s => s.pgn).join(''),
+    /** The games, as `Save PGN` writes them. */
+    pgn: () => gamesOf(doc()),
     /** Settles when all that was asked for before is done. */
     idle,
     /** What the last answer took, for measures. */

@@ -1,7 +1,7 @@
 // @ts-check
 // What the user does, as a change of the script's lines. Each function gives the lines to be run; the program takes or refuses them.
 import { aimWords } from './words.js';
-import { TAGS, isEdit, wordsOf } from './script.js';
+import { TAGS, isEdit, oneGame, wordsOf } from './script.js';
 import { nodeAt, written } from './replies.js';
 /** @typedef {import('./types.js').Study} Study @typedef {import('./types.js').Change} Change @typedef {import('./types.js').TreeNode} TreeNode */
 
@@ -135,7 +135,7 @@ export function shiftTo(lines, study, fen, aim) {
  */
 export function replacePosition(lines, study, fen, aim) {
   const own = lines.slice(study.from + 1, study.end).filter(l => !/^ *(insert|delete|promote|shift|mark|moves|fen|solve|stipulate)( |$)/.test(l));
-  return { lines: [...lines.slice(0, study.from), 'position ' + fen, 'stipulate ' + aim, ...own, ...lines.slice(study.end)], path: 'root' };
+  return { lines: [...lines.slice(0, study.from), 'position ' + fen, 'stipulate ' + aim, ...oneGame(own), ...lines.slice(study.end)], path: 'root' };
 }
 /**
  * One more study, with tags of its own.
@@ -165,7 +165,7 @@ export const dropStudy = (lines, study, at) => ({ lines: spliced(lines, study.fr
  * @returns {Change}
  */
 export function tidy(lines, study, root) {
-  const notes = lines.slice(study.from + 1, study.end).filter(line => !isEdit(line) && line.trim());
+  const notes = oneGame(lines.slice(study.from + 1, study.end).filter(line => !isEdit(line) && line.trim()));
   const tags = TAGS.filter(name => study.place[name] !== undefined).map(name => `tag ${name} ${study.tags[name]}`);
   const moves = written(root).filter(n => n.parent).map(n => `insert ${n.parent ? n.parent.path : 'root'} ${n.san}`);
   const aim = study.aim ? ['stipulate ' + aimWords(study.aim)] : [];

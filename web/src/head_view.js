@@ -8,7 +8,7 @@ import { isKnown, setTag, stipulate, withoutAccents } from './edits.js';
 import { nodeAt, written } from './replies.js';
 import { guess } from './setup.js';
 import { kept, promote, remove } from './node_view.js';
-import { TAGS } from './script.js';
+import { TAGS, toldBefore } from './script.js';
 import { aimText, counted, difference, holds, moveName, otherAims, readAim, valueText, verdictSentence, winner } from './words.js';
 /** @typedef {import('./types.js').Study} Study @typedef {import('./types.js').TreeNode} TreeNode */
 /** @typedef {import('./types.js').Aim} Aim @typedef {import('./types.js').Also} Also */
@@ -106,9 +106,19 @@ export function verdictView(s) {
   return [
     h('p', {class: 'verdict'}, h('span', {class: 'stamp ' + view.verdict.split(' ')[0], id: 'stamp'}, view.verdict),
       h('span', {id: 'sentence'}, verdictSentence(view, empty))),
+    beforeView(s),
     faults.length > 0 && h('ul', {class: 'faults'}, faults.slice(0, 40).map(f => h('li', {}, faultView(s, view.root, f)))), timeView(s, view.root),
     adviceView(s)
   ];
+}
+/**
+ * The board shows a study as it is after its last line; its script may tell games before that.
+ * @param {Study} s
+ */
+function beforeView(s) {
+  const before = toldBefore(s);
+  return before.length > 0 && h('p', { class: 'note', id: 'before' }, 'After its last line. The script tells this study earlier too: ',
+    h('b', {}, before.join('; ')), '. Save PGN and Save report have ', before.length === 1 ? 'that game' : 'those games', ' as well.');
 }
 const lackingTables = () => / table /.test(app.noView) && [
   ' ',

@@ -6,7 +6,7 @@ import { PAGES, app, change, doc, go, goStudy, node, parts, redo, say, study, un
 import { closeChoice, flip, listen, setupKey, showBoard } from './board.js';
 import { makeCore } from './engine.js';
 import { endOf, remove } from './node_view.js';
-import { fensOf, joined, linesOf, savedScript, toRun } from './script.js';
+import { fensOf, gameLines, gamesOf, joined, linesOf, savedScript } from './script.js';
 import { closeSetup, judge, openSetup } from './setup.js';
 import { makeShelf } from './shelf.js';
 import { show, showFacts, showJudged, showProgress, watch } from './show.js';
@@ -96,13 +96,13 @@ on('saveScript', () => work(async () => {
   const classes = await parts.shelf.classesOf(fensOf(doc().lines)).catch(() => []);
   download(fileName('.script'), savedScript(doc(), classes));
 }));
-on('savePgn', () => download(fileName('.pgn'), doc().studies.map(s => s.pgn).join('')));
+on('savePgn', () => download(fileName('.pgn'), gamesOf(doc())));
 on('print', () => { if (app.setup) closeSetup(); window.print(); });
 /** The printed pages of all studies. */
 const saveReport = () => work(async () => {
   const { lines } = doc();
   await parts.shelf.lay(await parts.shelf.classesOf(fensOf(lines)), parts.facts);
-  const answer = await parts.facts.answer('report', joined(toRun(lines).map(s => s.text)), PAGES);
+  const answer = await parts.facts.answer('report', joined(gameLines(doc())), PAGES);
   if (answer.ended === 'done') return download(fileName('.html'), answer.text);
   say('board', `No report: ${reason(refusalIn(answer))}.`);
   show();

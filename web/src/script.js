@@ -1,6 +1,6 @@
 // @ts-check
 // The script is the document: lines of edits, run from the first to the last. Here its replies become studies.
-import { aimWords } from './words.js';
+import { aimText, aimWords } from './words.js';
 import { readStipulation } from './replies.js';
 /** @typedef {import('./types.js').Script} Script @typedef {import('./types.js').Study} Study @typedef {import('./types.js').Aim} Aim */
 /** @typedef {{text: string, line: number}} Sent      a line that is run, and its place in the script; -1 for one of our own */
@@ -29,22 +29,25 @@ export const linesOf = text => {
  */
 export const fensOf = lines => lines.filter(line => /^ *(position|shift) /.test(line)).map(line => line.trim().replace(/^\w+ +/, ''));
 
+/** @param {string} line */
+export const isGame = line => /^ *pgn *$/.test(line);
 /**
- * The edits of a script, with `pgn` at the end of each study.
+ * The edits of a script and its `pgn` lines, with one more `pgn` at the end of each study that has none after its last edit.
  * @param {string[]} lines
  * @returns {Sent[]}
  */
 export function toRun(lines) {
   const sent = /** @type {Sent[]} */ ([]);
-  let begun = false;
+  let begun = false, untold = false;
   lines.forEach((text, line) => {
-    if (!isEdit(text)) return;
-    const position = wordsOf(text)[0] === 'position';
-    if (position && begun) sent.push({ text: 'pgn', line: -1 });
+    const game = isGame(text) && begun, position = wordsOf(text)[0] === 'position';
+    if (!isEdit(text) && !game) return;
+    if (position && untold) sent.push({ text: 'pgn', line: -1 });
     begun = begun || position;
-    sent.push({ text, line });
+    untold = begun && !game;
+    sent.push({ text: game ? 'pgn' : text, line });
   });
-  if (begun) sent.push({ text: 'pgn', line: -1 });
+  if (untold) sent.push({ text: 'pgn', line: -1 });
   return sent;
 }
 
@@ -88,12 +91,14 @@ export function readScript(lines, sent, replies) {
 function take(script, carried, { text, line }, reply) {
   const [command, name] = wordsOf(text), study = script.studies[script.studies.length - 1];
   if (reply.startsWith('error ')) {
-    if (line >= 0) script.refused.push({ line, text, reply });
+    if (line >= 0 && command !== 'pgn') script.refused.push({ line, text, reply });
   } else if (command === 'position') {
     script.studies.push(begun(line, reply.slice(9), carried));
   } else if (study && command === 'pgn') {
-    Object.assign(study, { pgn: reply, verdict: verdictIn(reply) });
+    if (line >= 0 || !study.told) study.games.push(reply);
+    Object.assign(study, { pgn: reply, verdict: openingOf(reply).verdict, told: true });
   } else {
+    if (study) study.told = false;
     if (study) study.last = Math.max(line, study.last);
     if (command === 'tag') carry(carried, study, name, text.trim().replace(/^tag +\w+ +/, ''), line);
     else if (command === 'stipulate') stipulated(carried, study, reply, line);
@@ -109,7 +114,8 @@ function take(script, carried, { text, line }, reply) {
  */
 function begun(line, fen, carried) {
   const old = [...(carried.aim ? ['stipulate ' + aimWords(carried.aim)] : []), ...Object.entries(carried.tags).map(([k, v]) => `tag ${k} ${v}`)];
-  return { from: line, end: line + 1, last: line, fen, aim: carried.aim, tags: { ...carried.tags }, place: {}, carried: old, made: null, pgn: '', verdict: '' };
+  return { from: line, end: line + 1, last: line, fen, aim: carried.aim, tags: { ...carried.tags }, place: {}, carried: old, made: null,
+    pgn: '', verdict: '', games: [], told: false };
 }
 /**
  * @param {Carried} carried
@@ -137,11 +143,20 @@ function stipulated(carried, study, reply, line) {
   study.aim = carried.aim;
   study.place.aim = line;
 }
-/** @param {string} pgn */
-function verdictIn(pgn) {
+/**
+ * Stipulation and verdict, as a game's first comment has them.
+ * @param {string} pgn
+ */
+function openingOf(pgn) {
   const comment = /\{([^}]*)\}/.exec(pgn.slice(pgn.indexOf('\n\n')).replace(/\n/g, ' '));
-  return comment ? readStipulation(comment[1]).verdict : '';
+  return readStipulation(comment ? comment[1] : '');
 }
+/**
+ * What the script tells of a study before its last edit, as `White to win: unsound 3`.
+ * @param {Study} study
+ */
+export const toldBefore = study => study.games.filter(game => game !== study.pgn).map(openingOf)
+                                       .map(({ aim, verdict }) => `${aim ? aimText(aim) : ''}: ${verdict}`);
 
 /**
  * The lines that make one study alone: its own, with what it takes over from earlier ones after its position.
@@ -159,14 +174,29 @@ export function editsTo(lines, study) {
 export const joined = lines => lines.map(line => line + '\n').join('');
 
 /**
- * The script as a file that studybench runs as it is: its tables first, `pgn` after each study.
+ * The script as a file that studybench runs as it is: its tables first, `pgn` after the last edit of each study.
  * @param {Script} script
  * @param {string[]} classes
  */
 export function savedScript(script, classes) {
   const lines = [...script.lines];
   for (const study of [...script.studies].reverse())
-    if (study.aim && !lines.slice(study.from, study.end).some(line => wordsOf(line)[0] === 'pgn')) lines.splice(study.last + 1, 0, 'pgn');
+    if (study.aim && !lines.slice(study.last + 1, study.end).some(isGame)) lines.splice(study.last + 1, 0, 'pgn');
   const tables = lines.some(isTableLine) ? [] : classes.map(name => 'build ' + name);
   return joined([...tables, ...lines]);
 }
+/**
+ * The games that a script tells: those that studybench writes when it runs the saved script.
+ * @param {Script} script
+ */
+export const gamesOf = script => script.studies.flatMap(study => study.games).join('');
+/**
+ * The lines of the saved script that tell them.
+ * @param {Script} script
+ */
+export const gameLines = script => linesOf(savedScript(script, [])).filter(line => isEdit(line) || isGame(line));
+/**
+ * Remarks and questions of a study that is written anew: the last `pgn` is enough.
+ * @param {string[]} lines
+ */
+export const oneGame = lines => lines.filter((line, i) => !isGame(line) || !lines.slice(i + 1).some(isGame));

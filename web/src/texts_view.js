@@ -7,7 +7,7 @@ import { dropStudy, isKnown, tidy } from './edits.js';
 import { table } from './facts_view.js';
 import { told } from './head_view.js';
 import { fromPgn, looksLikePgn } from './pgn.js';
-import { linesOf } from './script.js';
+import { linesOf, toldBefore } from './script.js';
 import { aimText, counted, reason } from './words.js';
 /** @typedef {import('./types.js').Study} Study */
 
@@ -86,5 +86,5 @@ function studiesView() {
       doc().studies.map(
           (s, i) =>
               [button(`${i + 1}`, 'show it', () => goStudy(i), {class: 'link', 'aria-current': i === doc().at && 'true'}), studyName(s),
-               s.aim ? aimText(s.aim) : '–', h('b', {}, s.verdict || '–')]));
+               s.aim ? aimText(s.aim) : '–', [h('b', {}, s.verdict || '–'), toldBefore(s).map(text => h('div', { class: 'note' }, text))]]));
 }

@@ -51,8 +51,10 @@
  * @property {Record<string, number>} place      the line of each tag, and of `aim`, that the study has itself
  * @property {string[]} carried    what it takes over from earlier studies, as lines
  * @property {{line: number, path: string} | null} made      the node that the last `insert` or `promote` made
- * @property {string} pgn
+ * @property {string} pgn          its game after its last edit
  * @property {string} verdict
+ * @property {string[]} games      those that its script tells: at each `pgn` line, and after the last edit
+ * @property {boolean} told        whether the last of them is `pgn`
  *
  * @typedef {{line: number, text: string, reply: string}} Refused
  * @typedef {{lines: string[], studies: Study[], refused: Refused[]}} Script
