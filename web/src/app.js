@@ -155,7 +155,12 @@ async function look(at, path) {
 /** @param {string} path */
 export const go = path => work(() => look(undefined, path));
 /** @param {number} at */
-export const goStudy = at => work(() => { app.setup = null; return look(at, 'root'); });
+export const goStudy = at => work(async () => {
+  if (!doc().studies[at]) return;
+  app.setup = null;
+  await look(at, 'root');
+  scrollTo(0, 0);
+});
 /** @param {(h: typeof app.history) => typeof app.history} step */
 const step = step => work(async () => {
   const next = step(app.history);

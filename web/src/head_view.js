@@ -117,8 +117,9 @@ export function verdictView(s) {
  */
 function beforeView(s) {
   const before = toldBefore(s);
-  return before.length > 0 && h('p', { class: 'note', id: 'before' }, 'After its last line. The script tells this study earlier too: ',
-    h('b', {}, before.join('; ')), '. Save PGN and Save report have ', before.length === 1 ? 'that game' : 'those games', ' as well.');
+  return before.length > 0 && h('p', { class: 'note', id: 'earlier' }, 'This is the study after its last line. Its script has ',
+    before.length === 1 ? 'one more game' : `${before.length} more games`, ' of it: ', h('b', {}, before.join('; ')), '. Save PGN and Save report include ',
+    before.length === 1 ? 'it.' : 'them.');
 }
 const lackingTables = () => / table /.test(app.noView) && [
   ' ',

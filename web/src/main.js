@@ -112,6 +112,8 @@ on('undo', undo);
 on('redo', redo);
 on('stop', () => parts.shelf.stop());
 on('theme', () => theme(!document.documentElement.classList.contains('dark')));
+on('before', () => goStudy(doc().at - 1));
+on('after', () => goStudy(doc().at + 1));
 $('studies').addEventListener('change', (/** @type {any} */ e) => goStudy(Number(e.target.value)));
 $('file').addEventListener('change', (/** @type {any} */ e) => { openFile(e.target.files[0]); e.target.value = ''; });
 $('tableFiles').addEventListener('change', (/** @type {any} */ e) => { const files = [...e.target.files]; e.target.value = ''; openTables(files); });
@@ -143,6 +145,8 @@ const KEYS = {
   Delete: n => remove(n.path),
   Backspace: n => remove(n.path),
   m: () => $('san').focus(),
+  PageUp: () => goStudy(doc().at - 1),
+  PageDown: () => goStudy(doc().at + 1),
 };
 document.addEventListener('keydown', e => {
   const target = /** @type {Element} */ (e.target), ctrl = e.ctrlKey || e.metaKey, n = node();
@@ -152,7 +156,7 @@ document.addEventListener('keydown', e => {
   if (e.key === 'Escape') { closeChoice(); app.chosen = null; return showBoard(); }
   if (ctrl || e.altKey || target.closest('.choose')) return;
   if (e.key === 'f') { e.preventDefault(); return flip(); }
-  if (app.setup || !n || !KEYS[e.key]) return;
+  if (app.setup || !n || !KEYS[e.key] || (/^Page/.test(e.key) && doc().studies.length < 2)) return;
   e.preventDefault();
   KEYS[e.key](n);
 });

@@ -101,10 +101,12 @@ function showBar() {
   const d = doc(), many = d.studies.length > 1;
   $('undo').disabled = !app.history.past.length;
   $('redo').disabled = !app.history.future.length;
-  $('studies').hidden = !many;
+  $('studies').hidden = $('walk').hidden = !many;
+  $('before').disabled = !d.at;
+  $('after').disabled = d.at + 1 >= d.studies.length;
   if (many) put('studies', d.studies.map((s, i) => h('option', { value: i, selected: i === d.at }, `${i + 1}. ${studyName(s)}: ${s.verdict || 'not judged'}`)));
   $('more').disabled = !d.studies.length;
-  $('saveScript').disabled = $('savePgn').disabled = $('print').disabled = !d.lines.length;
+  for (const id of ['saveScript', 'savePgn', 'saveReport', 'print']) $(id).disabled = !d.lines.length;
 }
 export function showProgress() {
   const p = app.progress;
