@@ -93,6 +93,11 @@ export const unknown = name => (name === 'Date' ? '????.??.??' : '?');
 /** @param {string | undefined} text */
 export const isKnown = text => text !== undefined && !/^[?.]*$/.test(text);
 /**
+ * A year, or a year and a month, as PGN writes a date of which no more is known.
+ * @param {string} text
+ */
+export const wholeDate = text => (/^\d{4}$/.test(text) ? text + '.??.??' : /^\d{4}\.\d\d$/.test(text) ? text + '.??' : text);
+/**
  * Text without accents, as a tag can hold it.
  * @param {string} text
  */

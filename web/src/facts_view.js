@@ -5,7 +5,7 @@ import { other, sideOf } from './fen.js';
 import { app } from './app.js';
 import { depth, nodeAt } from './replies.js';
 import { add, alsoView, jump } from './head_view.js';
-import { numberedLine, valueSign, valueText, winner } from './words.js';
+import { counted, numberedLine, valueSign, valueText, winner } from './words.js';
 /** @typedef {import('./types.js').Study} Study @typedef {import('./types.js').TreeNode} TreeNode */
 /** @typedef {import('./types.js').Review} Review @typedef {import('./types.js').Missing} Missing */
 
@@ -97,21 +97,27 @@ function defencesView(s, review, root) {
   const note =
       (aim && aim.goal !== 'draw' ?
            `The small number tells in how many moves ${aim.hero} mates after the defence; † lasts at least as long as the longest that is given. ` :
-           '') +
+           aim ? `After a defence with = it stays a draw; after one with a small number ${aim.hero} even mates, in so many moves. ` :
+                 '') +
       'A click adds it, with its answer where only one holds.';
   return rows.length > 0 && section('defences', 'Defences that are not in the tree', note,
     table(['After', 'Given', 'Not given: one answer holds', 'Several hold'], rows.map(([n, list]) => missingView(s, n, list))));
 }
+/**
+ * How long a defence lasts: one that draws, for ever.
+ * @param {Missing} d
+ */
+const lasting = d => (d.value.kind === 'draw' ? 1000 : d.value.n);
 /**
  * @param {Study} s
  * @param {TreeNode} n
  * @param {Missing[]} list
  */
 function missingView(s, n, list) {
-  const one = list.filter(d => d.count === 1).sort((x, y) => y.value.n - x.value.n), answers = [...new Set(one.map(d => d.answer))];
+  const byLength = [...list].sort((x, y) => lasting(y) - lasting(x)), one = byLength.filter(d => d.count === 1), answers = [...new Set(one.map(d => d.answer))];
   return [jump(n), n.children.map(c => c.san).join(' ') || '–',
     answers.map(a => h('div', {}, h('i', {}, a), ' after ', one.filter(d => d.answer === a).map(d => defenceView(s, n, d)))),
-    list.filter(d => d.count !== 1).map(d => [defenceView(s, n, d), d.count === 0 && ' stalemate '])];
+    byLength.filter(d => d.count !== 1).map(d => [defenceView(s, n, d), d.count === 0 && ' stalemate '])];
 }
 /**
  * @param {Study} s
@@ -135,15 +141,16 @@ function endsView(review, root) {
   return rows.length > 0 &&
       section(
              'ends', 'Best play from the open ends', null,
-             table(['End', 'Goes on'], rows.map(([n, [end]]) => [n.parent ? jump(n) : 'the start', end.value ? playView(n, end.sans) : keepView(n, end)])));
+             table(['End', 'Goes on'], rows.map(([n, [end]]) => [n.parent ? jump(n) : 'the start', end.value ? playView(n, end.sans, end.value.n) : keepView(n, end)])));
 }
 /**
  * @param {TreeNode} n
  * @param {string[]} sans
+ * @param {number} plies      to the mate
  */
-const playView = (n, sans) =>
-    [numberedLine(n.fen, sans), ' ',
-     h('span', {class: 'act'}, add(n.path, sans, 'add', 'put this line into the tree'), add(n.path, sans.slice(0, 1), 'add one move'))];
+const playView = (n, sans, plies) =>
+    [numberedLine(n.fen, sans), sans.length < plies && ` … (${counted(Math.ceil((plies - sans.length) / 2), 'more move')})`, ' ',
+     h('span', {class: 'act'}, add(n.path, sans, 'add the line', 'put this line into the tree'), add(n.path, sans.slice(0, 1), 'add one move'))];
 /**
  * @param {TreeNode} n
  * @param {import('./types.js').Ending} end

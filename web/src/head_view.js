@@ -4,12 +4,12 @@ import { h } from './dom.js';
 import { gbr, numbered, other, sideOf } from './fen.js';
 import { app, change, go, parts, say } from './app.js';
 import { insert } from './board.js';
-import { isKnown, setTag, stipulate, withoutAccents } from './edits.js';
+import { isKnown, setTag, stipulate, wholeDate, withoutAccents } from './edits.js';
 import { nodeAt, written } from './replies.js';
 import { guess } from './setup.js';
 import { kept, promote, remove } from './node_view.js';
 import { TAGS, toldBefore } from './script.js';
-import { aimText, counted, difference, holds, moveName, otherAims, readAim, valueText, verdictSentence, winner } from './words.js';
+import { aimText, counted, difference, holds, moveName, numberedLine, otherAims, readAim, valueText, verdictSentence, winner } from './words.js';
 /** @typedef {import('./types.js').Study} Study @typedef {import('./types.js').TreeNode} TreeNode */
 /** @typedef {import('./types.js').Aim} Aim @typedef {import('./types.js').Also} Also */
 
@@ -46,7 +46,7 @@ export function headView(s) {
  * @param {string} text
  */
 const tagView = (name, text) => [h('label', { for: 'tag' + name
-                                 }, LABELS[name]), h('input', {
+                                 }, LABELS[name], LABELS[name] !== name && h('small', {}, ' ' + name)), h('input', {
                                    id: 'tag' + name,
                                    value: kept('tag' + name, isKnown(text) ? text : ''),
                                    maxlength: 60,
@@ -60,10 +60,10 @@ const tagView = (name, text) => [h('label', { for: 'tag' + name
  * @param {string} typed
  */
 async function tagged(name, typed) {
-  const text = withoutAccents(typed), before = app.history;
+  const plain = withoutAccents(typed), text = name === 'Date' ? wholeDate(plain) : plain, before = app.history;
   await change(now => (now.studies[now.at] ? setTag(now.lines, now.studies[now.at], name, text) : null), 'head');
   if (app.history === before && app.say) Object.assign(app.say, { field: 'tag' + name, typed });
-  else if (text !== typed) say('head', `Written without accents, as ${text}: the texts are plain letters.`, true);
+  else if (plain !== typed) say('head', `Written without accents, as ${text}: the texts are plain letters.`, true);
   parts.show();
 }
 /**
@@ -127,8 +127,37 @@ const lackingTables = () => / table /.test(app.noView) && [
     {type: 'button', class: 'chip act', id: 'buildNow', onclick: () => change(now => ({lines: [...now.lines], lenient: true, path: 'root'}), 'head')},
     'Build the tables')
 ];
+/**
+ * Names of moves that more than one node of the tree has.
+ * @type {WeakMap<TreeNode, Set<string>>}
+ */
+const shared = new WeakMap();
+/** @param {TreeNode} root */
+function sharedNames(root) {
+  const known = shared.get(root), first = new Set();
+  if (known) return known;
+  const twice = new Set(written(root).map(moveName).filter(name => first.has(name) || !first.add(name)));
+  shared.set(root, twice);
+  return twice;
+}
+/**
+ * A move's name, with the move before it where another move of the tree has the same name.
+ * @param {TreeNode} n
+ */
+const fullName = n => (app.view && n.parent && n.parent.parent && sharedNames(app.view.root).has(moveName(n)) ?
+  numberedLine(n.parent.parent.fen, [n.parent.san, n.san]) : moveName(n));
 /** @param {TreeNode} n */
-export const jump = n => h('button', { type: 'button', class: 'link', onclick: () => go(n.path) }, moveName(n));
+export const jump = n => h('button', { type: 'button', class: 'link', title: lineTo(n), onclick: () => go(n.path) }, fullName(n));
+/**
+ * All moves from the start to a node.
+ * @param {TreeNode} n
+ */
+function lineTo(n) {
+  const sans = [];
+  let at = n;
+  for (; at.parent; at = at.parent) sans.unshift(at.san);
+  return numberedLine(at.fen, sans);
+}
 /**
  * A move that can be put into the tree below a node, with what follows it at once.
  * @param {string} path

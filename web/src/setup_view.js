@@ -130,7 +130,7 @@ function surveyView(d) {
     d.survey &&
         h('p', {class: 'note', role: 'status', id: 'stands'}, sign('dot'),
           ` by one first move: ${only.length ? only.slice(0, 12).join(', ') + (only.length > 12 ? ` and ${only.length - 12} more` : '') : 'nowhere'}; `,
-          sign('plain'), ` it holds: ${more}. A press on a dot puts the man there.`)
+          sign('plain'), ` it holds on ${more}${only.length ? ' more' : ''}. A press on a dot puts the man there.`)
   ];
 }
 /**

@@ -72,12 +72,17 @@ export async function openText(text, where = 'script') {
   if (app.say && app.say.where === where && !app.say.good) { Object.assign(app.say, { field: 'script', typed: text }); parts.show(); }
 }
 function refusedView() {
-  const list = doc().refused, rows = list.slice(0, 50).map(r => [`${r.line + 1}`, h('code', {}, r.text.slice(0, 80)), reason(r.reply)]);
+  const list = doc().refused, studies = doc().studies;
+  const of = (/** @type {number} */ line) => studies.findIndex(s => s.from <= line && line < s.end);
+  const rows = list.slice(0, 50).map(
+      r => [`${r.line + 1}`, of(r.line) < 0 ? '–' : studyLink(of(r.line)), h('code', {}, r.text.slice(0, 80)), reason(r.reply)]);
   return [
     h('h2', {id: 'refused'}, `${counted(list.length, 'line')} of the script ${list.length === 1 ? 'was' : 'were'} refused`),
-    table(['Line', 'Text', 'Reason'], rows), list.length > 50 && h('p', {class: 'note'}, `and ${list.length - 50} more`)
+    table(['Line', 'Study', 'Text', 'Reason'], rows), list.length > 50 && h('p', {class: 'note'}, `and ${list.length - 50} more`)
   ];
 }
+/** @param {number} i */
+const studyLink = i => button(`${i + 1}`, 'show it', () => goStudy(i), { class: 'link', 'aria-current': i === doc().at && 'true' });
 /** @param {Study} s */
 export const studyName = s => [s.tags.Event, s.tags.White].filter(isKnown).join(', ') || control(s.fen);
 function studiesView() {
@@ -85,6 +90,6 @@ function studiesView() {
       ['No.', 'Title, author', 'Stipulation', 'Verdict'],
       doc().studies.map(
           (s, i) =>
-              [button(`${i + 1}`, 'show it', () => goStudy(i), {class: 'link', 'aria-current': i === doc().at && 'true'}), studyName(s),
+              [studyLink(i), studyName(s),
                s.aim ? aimText(s.aim) : '–', [h('b', {}, s.verdict || '–'), toldBefore(s).map(text => h('div', { class: 'note' }, text))]]));
 }
