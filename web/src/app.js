@@ -15,7 +15,7 @@ const blank = { lines: [], studies: [], refused: [], at: 0, path: 'root' };
 /**
  * @type {{history: import('./past.js').History<Doc>, view: import('./types.js').View | null, noView: string,
  *   review: import('./types.js').Review | null, noReview: string, say: Say | null, chosen: number | null, flip: boolean,
- *   setup: import('./setup.js').Draft | null, progress: import('./shelf.js').Progress | null, stamp: number}}
+ *   setup: import('./setup.js').Draft | null, progress: import('./shelf.js').Progress | null, stamp: number, name: string}}
  */
 export const app = {
   history: begin(blank),
@@ -28,7 +28,8 @@ export const app = {
   flip: false,
   setup: null,
   progress: null,
-  stamp: 0
+  stamp: 0,
+  name: ''
 };
 /**
  * The parts that main.js puts in.
@@ -46,6 +47,17 @@ export const node = () => (app.view ? nodeAt(app.view.root, doc().path) || app.v
  */
 export function say(where, text, good = false) { app.say = text ? { where, text, good } : null; }
 export const silent = () => { app.say = null; };
+/**
+ * A script has taken the place of another: what its files are called, and that the other is not lost.
+ * @param {string} name      of the file it came from; empty for none
+ * @param {Doc} before
+ */
+export function opened(name, before) {
+  app.name = name.replace(/\.\w+$/, '');
+  if (!before.studies.length || app.say) return;
+  say('board', 'This script has taken the place of the one before; Undo brings that back.', true);
+  parts.show();
+}
 
 let queue = Promise.resolve();
 /**

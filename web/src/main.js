@@ -50,10 +50,14 @@ function remember(key, text) { try { localStorage.setItem(key, text); return tru
 function recalled(key) { try { return localStorage.getItem(key); } catch { return null; } }
 
 // ---- files
-const fileName = (/** @type {string} */ ending) =>
-    ((study() && study().tags.Event) || 'study').replace(/[^A-Za-z0-9]+/g, '_').replace(/^_+|_+$/g, '').slice(0, 40) + ending;
+/**
+ * A file is saved under the name that it was opened by; else under the title of its one study.
+ * @param {string} ending
+ */
+const fileName = ending => app.name ? app.name + ending :
+    (doc().studies.length > 1 ? 'studies' : (study() && study().tags.Event) || 'study').replace(/[^A-Za-z0-9]+/g, '_').replace(/^_+|_+$/g, '').slice(0, 40) + ending;
 /** @param {File | undefined} file */
-async function openFile(file) { if (file) openText(await file.text(), 'board'); }
+async function openFile(file) { if (file) openText(await file.text(), 'board', file.name); }
 /** @param {File[]} files */
 const openTables = files => work(async () => {
   const { taken, bad, kept } = await parts.shelf.open(files.map(f => ({ name: f.name, bytes: async () => new Uint8Array(await f.arrayBuffer()) })));

@@ -1,7 +1,7 @@
 // @ts-check
 // The set-up of men: a draft until it is taken over. The program says of each draft what is wrong with it, or what its value is.
 import { EMPTY, menOf, placement, sideOf, squareName, typedFen } from './fen.js';
-import { PAGES, app, change, parts, say, silent, study, viewOf, work } from './app.js';
+import { PAGES, app, change, doc, opened, parts, say, silent, study, viewOf, work } from './app.js';
 import { addStudy, replacePosition, shiftTo } from './edits.js';
 import { readSurvey, refusalIn } from './replies.js';
 import { aimText, aimWords, counted, holds, movesTo, reason } from './words.js';
@@ -186,7 +186,7 @@ export const survey = man => work(async () => {
  * @param {'anew' | 'shift'} how
  */
 export async function takeOver(how) {
-  const d = /** @type {Draft} */ (app.setup), fen = draftFen();
+  const d = /** @type {Draft} */ (app.setup), fen = draftFen(), before = doc();
   const done = await change(now => {
     const s = now.studies[now.at];
     if (d.anew || !s)
@@ -197,7 +197,9 @@ export async function takeOver(how) {
       };
     return how === 'shift' ? shiftTo(now.lines, s, fen, d.aim) : replacePosition(now.lines, s, fen, d.aim);
   }, 'fen');
-  if (done) closeSetup();
+  if (!done) return;
+  closeSetup();
+  if (d.anew && !d.more) opened('', before);
 }
 /** The number of moves that an aim of mate begins with. */
 export const guess = () => {

@@ -18,6 +18,7 @@ export function setupView() {
       text, '', () => drafted({mover: m, tail: '- - ' + d.tail.split(' ').slice(2).join(' ')}),
       {id: 'mover' + m, class: d.mover === m ? 'on' : '', 'aria-pressed': `${d.mover === m}`, 'data-mover': m});
   return [
+    study() && h('p', {class: 'caption', id: 'setupFor'}, purpose(d)),
     h('div', {class: 'palette', role: 'group', 'aria-label': 'Men'}, [...'KQRBNPxkqrbnp'].map(letter => toolView(d, letter)),
       button('clear', 'take all men away', () => drafted({men: {}, tool: 'K'}), {id: 'clear', class: 'text'})),
     h('div', {class: 'row'},
@@ -40,6 +41,13 @@ export function setupView() {
       'White, k q r b n p for Black, Delete.')
   ];
 }
+/**
+ * What the set-up is for, where there is a study already.
+ * @param {Draft} d
+ */
+const purpose = d => (!d.anew ? [h('b', {}, 'Another position'), ' for this study'] :
+                      d.more  ? [h('b', {}, 'One more study'), ' in this script'] :
+                                [h('b', {}, 'A new script'), '. The one at hand stays until you press Start.']);
 /**
  * The position of the node that was looked at, as the start of a study of its own.
  * @param {Draft} d

@@ -61,6 +61,7 @@ export function show() {
   refocus(kept);
   speak();
   hint();
+  $('right').classList.toggle('behind', Boolean(app.setup && s));
   document.title = s ? `${isKnown(s.tags.Event) ? s.tags.Event : 'Untitled'} · Study board` : 'Study board';
 }
 /**

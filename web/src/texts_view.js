@@ -2,7 +2,7 @@
 // The texts: the game as PGN, the script, refused lines, and the list of studies.
 import { $, button, h } from './dom.js';
 import { control } from './fen.js';
-import { app, change, doc, goStudy, parts, say } from './app.js';
+import { app, change, doc, goStudy, opened, parts, say } from './app.js';
 import { dropStudy, isKnown, tidy } from './edits.js';
 import { table } from './facts_view.js';
 import { told } from './head_view.js';
@@ -58,17 +58,20 @@ function scriptView(s) {
 /**
  * A script or a PGN takes the place of the document; undo brings the old one back.
  * @param {string} text
+ * @param {string} where
+ * @param {string} name      of its file
  */
-export async function openText(text, where = 'script') {
+export async function openText(text, where = 'script', name = '') {
   const lines = looksLikePgn(text) ? fromPgn(text) : linesOf(text);
   if (!lines.length && text.trim()) {
     say(where, 'No game with a FEN was found in this text. Nothing was changed.');
     if (where === 'script') Object.assign(app.say || {}, { field: 'script', typed: text });
     return parts.show();
   }
-  const same = where === 'script' && $('script') && lines.length > 0;
+  const same = where === 'script' && $('script') && lines.length > 0, before = doc();
   app.setup = null;
   await change(now => ({ lines, at: same ? now.at : 0, path: same && lines.length === now.lines.length ? now.path : 'root', lenient: true }), where);
+  if (where !== 'script' && doc() !== before) opened(name, before);
   if (app.say && app.say.where === where && !app.say.good) { Object.assign(app.say, { field: 'script', typed: text }); parts.show(); }
 }
 function refusedView() {
