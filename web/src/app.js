@@ -4,7 +4,7 @@ import { advance, begin, redo as redone, replace, undo as undone } from './past.
 import { editsTo, fensOf, joined, readScript, repliesOf, toRun, wordsOf } from './script.js';
 import { readReview, readView, nodeAt, refusalIn } from './replies.js';
 import { Stopped } from './engine.js';
-import { endedReason, moveName, reason } from './words.js';
+import { counted, endedReason, moveName, reason } from './words.js';
 /** @typedef {import('./types.js').Doc} Doc @typedef {import('./types.js').Change} Change @typedef {import('./types.js').Script} Script */
 /** @typedef {{where: string, text: string, good: boolean, field?: string, typed?: string}} Say */
 
@@ -48,14 +48,15 @@ export const node = () => (app.view ? nodeAt(app.view.root, doc().path) || app.v
 export function say(where, text, good = false) { app.say = text ? { where, text, good } : null; }
 export const silent = () => { app.say = null; };
 /**
- * A script has taken the place of another: what its files are called, and that the other is not lost.
+ * A script has taken the place of another: what its files are called, what was refused, and that the other is not lost.
  * @param {string} name      of the file it came from; empty for none
  * @param {Doc} before
  */
 export function opened(name, before) {
   app.name = name.replace(/\.\w+$/, '');
-  if (!before.studies.length || app.say) return;
-  say('board', 'This script has taken the place of the one before; Undo brings that back.', true);
+  const refused = doc().refused.length, place = before.studies.length ? 'This script has taken the place of the one before; Undo brings that back.' : '';
+  if (app.say || !(refused || place)) return;
+  say('board', `${refused ? `${counted(refused, 'line')} of this script ${refused === 1 ? 'was' : 'were'} refused, see below the study. ` : ''}${place}`, !refused);
   parts.show();
 }
 

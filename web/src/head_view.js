@@ -26,7 +26,8 @@ export function headView(s) {
   const old = Object.keys(t).filter(name => s.place[name] === undefined && isKnown(t[name]));
   return [
     h('h1', {}, isKnown(t.Event) ? t.Event : 'Untitled'), by && h('p', {class: 'by'}, by),
-    old.length > 0 && h('p', {class: 'note'}, `Set for an earlier study and not since: ${old.map(name => LABELS[name]).join(', ')}.`),
+    old.length > 0 && h('p', {class: 'note'}, `Set for an earlier study and not since: ${old.map(name => LABELS[name]).join(', ')}. `,
+      h('button', {type: 'button', class: 'chip act', id: 'clearOld', title: 'not known for this study', onclick: () => cleared(old)}, 'Clear')),
     h('div', {class: 'row'},
       aimView(s.aim, words => change(now => (now.studies[now.at] ? stipulate(now.lines, now.studies[now.at], words) : null), 'head'), 'aim'),
       h('span', {class: 'note'}, gbr(s.fen))),
@@ -41,6 +42,14 @@ export function headView(s) {
       h('summary', {}, 'Title, author, source'), h('div', {class: 'tags'}, TAGS.map(name => tagView(name, t[name] || ''))))
   ];
 }
+/**
+ * Tags that an earlier study left are not known for this one.
+ * @param {string[]} names
+ */
+const cleared = names => change(now => {
+  const s = now.studies[now.at];
+  return s ? { lines: names.reduce((lines, name) => setTag(lines, s, name, '').lines, now.lines) } : null;
+}, 'head');
 /**
  * @param {string} name
  * @param {string} text

@@ -118,7 +118,12 @@ on('stop', () => parts.shelf.stop());
 on('theme', () => theme(!document.documentElement.classList.contains('dark')));
 on('before', () => goStudy(doc().at - 1));
 on('after', () => goStudy(doc().at + 1));
-$('studies').addEventListener('change', (/** @type {any} */ e) => goStudy(Number(e.target.value)));
+let byPointer = false;
+for (const kind of ['pointerdown', 'keydown']) $('studies').addEventListener(kind, () => { byPointer = kind === 'pointerdown'; });
+$('studies').addEventListener('change', (/** @type {any} */ e) => {
+  if (byPointer) e.target.blur();      // the arrow keys walk the tree again
+  goStudy(Number(e.target.value));
+});
 $('file').addEventListener('change', (/** @type {any} */ e) => { openFile(e.target.files[0]); e.target.value = ''; });
 $('tableFiles').addEventListener('change', (/** @type {any} */ e) => { const files = [...e.target.files]; e.target.value = ''; openTables(files); });
 /** @param {boolean} dark */

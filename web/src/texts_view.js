@@ -36,12 +36,9 @@ function scriptView(s) {
   return h(
       'details', {
         id: 'scriptBox',
-        open: isOpen,
-        ontoggle: (/** @type {any} */ e) => {
-          open.script = e.target.open;
-        }
+        open: isOpen
       },
-      h('summary', {}, 'Script'),
+      h('summary', { onclick: (/** @type {any} */ e) => { open.script = !e.target.parentNode.open; } }, 'Script'),
       h('p', {class: 'note'}, 'The script is the study: what you do writes its lines. It can be changed or pasted here, a PGN too.'), script,
       told('script'),
       h('div', {class: 'row'}, button('Run the script', 'take the text as it stands', () => openText(script.value), {id: 'runScript'}),
@@ -71,8 +68,8 @@ export async function openText(text, where = 'script', name = '') {
   const same = where === 'script' && $('script') && lines.length > 0, before = doc();
   app.setup = null;
   await change(now => ({ lines, at: same ? now.at : 0, path: same && lines.length === now.lines.length ? now.path : 'root', lenient: true }), where);
-  if (where !== 'script' && doc() !== before) opened(name, before);
   if (app.say && app.say.where === where && !app.say.good) { Object.assign(app.say, { field: 'script', typed: text }); parts.show(); }
+  if (where !== 'script' && doc() !== before) opened(name, before);
 }
 function refusedView() {
   const list = doc().refused, studies = doc().studies;

@@ -6,7 +6,7 @@ import * as edits from '../src/edits.js';
 import { advance, begin, redo, undo } from '../src/past.js';
 import { fromPgn } from '../src/pgn.js';
 import { readView } from '../src/replies.js';
-import { editsTo, fensOf, joined, linesOf, readScript, repliesOf, savedScript, toRun } from '../src/script.js';
+import { editsTo, fensOf, gameLines, gamesOf, joined, linesOf, oneGame, readScript, repliesOf, savedScript, toldBefore, toRun } from '../src/script.js';
 import { isListed, progressText } from '../src/shelf.js';
 import { DIGESTS } from '../src/digests.js';
 
@@ -53,6 +53,24 @@ test('what is run has a game behind each study', () => {
   const sent = toRun(['build KK', 'position A', '', 'stipulate white win', '# note', 'pgn', 'position B', 'insert root Kb2']).map(s => s.text);
   assert.deepEqual(sent, ['position A', 'stipulate white win', 'pgn', 'position B', 'insert root Kb2', 'pgn']);
   assert.deepEqual(fensOf([' position  8/8 w', 'shift 7/8 b', 'tag Event position 1']), ['8/8 w', '7/8 b']);
+});
+test('a study that is told more than once', () => {
+  const lines = ['position A', 'stipulate white win', 'pgn', 'stipulate white mate 26', 'position B', 'stipulate white draw', 'insert root Kb2', 'pgn', 'mark root'];
+  const sent = toRun(lines);
+  assert.deepEqual(sent.map(s => s.text), [...lines.slice(0, 4), 'pgn', ...lines.slice(4, 8)]);
+  assert.deepEqual(sent.filter(s => s.text === 'pgn').map(s => s.line), [2, -1, 7]);
+  const game = text => `[Event "?"]\n\n{${text}, draw} *\n\n`;
+  const replies = ['position 8/8/8/8/8/8/8/8 w - - 0 1', 'stipulate White to win', game('White to win: wrong'), 'stipulate White to mate 26',
+    game('White to mate in 26: wrong'), 'position 8/8/8/8/8/8/8/8 w - - 0 1', 'stipulate White to draw', 'insert 0 Kb2', game('White to draw: sound')];
+  const script = readScript(lines, sent, replies);
+  assert.deepEqual(script.studies.map(s => [s.verdict, s.games.length, toldBefore(s)]), [['wrong', 2, ['White to win: wrong']], ['sound', 1, []]]);
+  assert.equal(gamesOf(script), replies.filter(r => r.startsWith('[')).join(''));
+  assert.equal(savedScript(script, []).split('\n').filter(line => line === 'pgn').length, 3);
+  assert.equal(gameLines(script).length, 9);
+  assert.deepEqual(oneGame(['pgn', '# a', 'pgn', '']), ['# a', 'pgn', '']);
+});
+test('dates as PGN writes them', () => {
+  assert.deepEqual(['1895', '1895.05', '1895.05.01', 'May 1895', '?'].map(edits.wholeDate), ['1895.??.??', '1895.05.??', '1895.05.01', 'May 1895', '?']);
 });
 const view = readView(text('saavedra_1895.views').split(/^# view .*\n/m)[1]);
 const START = ['position 8/8/1KP5/3r4/8/8/8/k7 w - - 0 1', 'stipulate white win', 'tag White A', 'insert root c7', 'insert root Kb7', 'pgn'];

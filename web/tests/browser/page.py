@@ -153,7 +153,7 @@ def test_faults_and_their_repairs(user):
     user.settle()
     assert user.text("stamp") == "sound"
     user.until("document.querySelector('#ends .add')", 30)
-    user.d.find_element(By.XPATH, "//*[@id='ends']//button[text()='add']").click()
+    user.d.find_element(By.XPATH, "//*[@id='ends']//button[text()='add the line']").click()
     user.settle()
     assert user.text("stamp") == "sound" and "Ra8#" in user.text("tree")
 
@@ -306,6 +306,36 @@ def test_several_studies(user):
     user.choose("studies", "0")
     assert "First" in user.text("head")
     user.picture("two")
+
+
+def test_a_study_told_twice(user):
+    """A `pgn` line before the last edit of a study has its game in the page's PGN and report, as in studybench's."""
+    with open(os.path.join(TOP, "examples", "kpk_rook_pawn_wrong.script"), encoding="utf-8") as file:
+        script = re.sub(r"^build .*\n", "", file.read(), flags=re.M)
+    with open(os.path.join(TOP, "examples", "kpk_rook_pawn_wrong.expected"), encoding="utf-8") as file:
+        games = re.findall(r"\[Event [\s\S]*?\n\n[\s\S]*?\n\n", file.read())
+    user.open_tables(TABLES, SMALL)
+    user.promise("studyboard.open(a[0])", script)
+    user.settle()
+    assert len(games) == 2 and user.promise("studyboard.pgn()") == "".join(games)
+    assert user.text("stamp") == "unsound 5" and "White to win: wrong" in user.text("earlier")
+
+
+def test_from_study_to_study(user):
+    user.open_tables(TABLES, SMALL)
+    one = f"position {FEN}\nstipulate white win\ninsert root Kg3\n"
+    user.promise("studyboard.open(a[0])", one + "tag White First\ntag Date 1895.??.??\n" + one + "insert root Kg9\n")
+    user.settle()
+    assert "refused" in user.text("sayBoard") and user.text("refused") == "1 line of the script was refused"
+    user.keys(Keys.PAGE_DOWN)
+    user.settle()
+    assert user.js("return document.getElementById('studies').value") == "1" and user.by("after").get_attribute("disabled")
+    user.click("clearOld")
+    user.settle()
+    assert not user.has("clearOld") and "First" not in user.text("head")
+    user.click("before")
+    user.settle()
+    assert "First" in user.text("head") and "1895" in user.text("head")
 
 
 def test_report(user):
