@@ -56,7 +56,8 @@ export function opened(name, before) {
   app.name = name.replace(/\.\w+$/, '');
   const refused = doc().refused.length, place = before.studies.length ? 'This script has taken the place of the one before; Undo brings that back.' : '';
   if (app.say || !(refused || place)) return;
-  say('board', `${refused ? `${counted(refused, 'line')} of this script ${refused === 1 ? 'was' : 'were'} refused, see below the study. ` : ''}${place}`, !refused);
+  const lines = refused ? `${counted(refused, 'line')} of this script ${refused === 1 ? 'was' : 'were'} refused; they are listed below the study. ` : '';
+  say('board', lines + place, !refused);
   parts.show();
 }
 

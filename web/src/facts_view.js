@@ -114,7 +114,8 @@ const lasting = d => (d.value.kind === 'draw' ? 1000 : d.value.n);
  * @param {Missing[]} list
  */
 function missingView(s, n, list) {
-  const byLength = [...list].sort((x, y) => lasting(y) - lasting(x)), one = byLength.filter(d => d.count === 1), answers = [...new Set(one.map(d => d.answer))];
+  const byLength = [...list].sort((x, y) => lasting(y) - lasting(x)), one = byLength.filter(d => d.count === 1);
+  const answers = [...new Set(one.map(d => d.answer))];
   return [jump(n), n.children.map(c => c.san).join(' ') || '–',
     answers.map(a => h('div', {}, h('i', {}, a), ' after ', one.filter(d => d.answer === a).map(d => defenceView(s, n, d)))),
     byLength.filter(d => d.count !== 1).map(d => [defenceView(s, n, d), d.count === 0 && ' stalemate '])];
@@ -141,7 +142,9 @@ function endsView(review, root) {
   return rows.length > 0 &&
       section(
              'ends', 'Best play from the open ends', null,
-             table(['End', 'Goes on'], rows.map(([n, [end]]) => [n.parent ? jump(n) : 'the start', end.value ? playView(n, end.sans, end.value.n) : keepView(n, end)])));
+             table(
+                 ['End', 'Goes on'],
+                 rows.map(([n, [end]]) => [n.parent ? jump(n) : 'the start', end.value ? playView(n, end.sans, end.value.n) : keepView(n, end)])));
 }
 /**
  * @param {TreeNode} n

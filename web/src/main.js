@@ -54,8 +54,10 @@ function recalled(key) { try { return localStorage.getItem(key); } catch { retur
  * A file is saved under the name that it was opened by; else under the title of its one study.
  * @param {string} ending
  */
-const fileName = ending => app.name ? app.name + ending :
-    (doc().studies.length > 1 ? 'studies' : (study() && study().tags.Event) || 'study').replace(/[^A-Za-z0-9]+/g, '_').replace(/^_+|_+$/g, '').slice(0, 40) + ending;
+function fileName(ending) {
+  const title = doc().studies.length > 1 ? 'studies' : (study() && study().tags.Event) || 'study';
+  return (app.name || title.replace(/[^A-Za-z0-9]+/g, '_').replace(/^_+|_+$/g, '').slice(0, 40)) + ending;
+}
 /** @param {File | undefined} file */
 async function openFile(file) { if (file) openText(await file.text(), 'board', file.name); }
 /** @param {File[]} files */

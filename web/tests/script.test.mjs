@@ -55,7 +55,8 @@ test('what is run has a game behind each study', () => {
   assert.deepEqual(fensOf([' position  8/8 w', 'shift 7/8 b', 'tag Event position 1']), ['8/8 w', '7/8 b']);
 });
 test('a study that is told more than once', () => {
-  const lines = ['position A', 'stipulate white win', 'pgn', 'stipulate white mate 26', 'position B', 'stipulate white draw', 'insert root Kb2', 'pgn', 'mark root'];
+  const lines = ['position A', 'stipulate white win', 'pgn', 'stipulate white mate 26', 'position B', 'stipulate white draw', 'insert root Kb2', 'pgn',
+    'mark root'];
   const sent = toRun(lines);
   assert.deepEqual(sent.map(s => s.text), [...lines.slice(0, 4), 'pgn', ...lines.slice(4, 8)]);
   assert.deepEqual(sent.filter(s => s.text === 'pgn').map(s => s.line), [2, -1, 7]);
