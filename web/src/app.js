@@ -10,12 +10,12 @@ import { counted, endedReason, moveName, reason } from './words.js';
 
 export const PAGES = 1000;
 /** @type {Doc} */
-const blank = { lines: [], studies: [], refused: [], at: 0, path: 'root' };
+const blank = { lines: [], studies: [], refused: [], at: 0, path: 'root', name: '' };
 
 /**
  * @type {{history: import('./past.js').History<Doc>, view: import('./types.js').View | null, noView: string,
  *   review: import('./types.js').Review | null, noReview: string, say: Say | null, chosen: number | null, flip: boolean,
- *   setup: import('./setup.js').Draft | null, progress: import('./shelf.js').Progress | null, stamp: number, name: string}}
+ *   setup: import('./setup.js').Draft | null, progress: import('./shelf.js').Progress | null, stamp: number}}
  */
 export const app = {
   history: begin(blank),
@@ -28,8 +28,7 @@ export const app = {
   flip: false,
   setup: null,
   progress: null,
-  stamp: 0,
-  name: ''
+  stamp: 0
 };
 /**
  * The parts that main.js puts in.
@@ -48,12 +47,10 @@ export const node = () => (app.view ? nodeAt(app.view.root, doc().path) || app.v
 export function say(where, text, good = false) { app.say = text ? { where, text, good } : null; }
 export const silent = () => { app.say = null; };
 /**
- * A script has taken the place of another: what its files are called, what was refused, and that the other is not lost.
- * @param {string} name      of the file it came from; empty for none
+ * A script has taken the place of another: what was refused, and that the other is not lost.
  * @param {Doc} before
  */
-export function opened(name, before) {
-  app.name = name.replace(/\.\w+$/, '');
+export function opened(before) {
   const refused = doc().refused.length, place = before.studies.length ? 'This script has taken the place of the one before; Undo brings that back.' : '';
   if (app.say || !(refused || place)) return;
   const lines = refused ? `${counted(refused, 'line')} of this script ${refused === 1 ? 'was' : 'were'} refused; they are listed below the study. ` : '';
@@ -145,7 +142,8 @@ async function changed(make, where, note = '') {
   }
   const at = Math.max(0, Math.min(wanted.at === undefined ? now.at : wanted.at, next.studies.length - 1)), made = next.studies[at] && next.studies[at].made;
   const path = wanted.path === 'made' ? (made ? made.path : 'root') : wanted.path === undefined ? now.path : wanted.path;
-  await arrive(advance(app.history, { ...next, at, path }), note ? { where, text: note, good: false } : null);
+  const name = wanted.name === undefined ? now.name : wanted.name;
+  await arrive(advance(app.history, { ...next, at, path, name }), note ? { where, text: note, good: false } : null);
 }
 /**
  * The move that a shift would break, by its name.

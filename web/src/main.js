@@ -40,7 +40,9 @@ parts.shelf = makeShelf({ core: parts.core, spawn, store, tell: p => { app.progr
 parts.show = show;
 parts.showFacts = showFacts;
 parts.showJudged = showJudged;
-parts.keep = now => { $('unkept').hidden = remember('studyboard', JSON.stringify({ script: now.lines.join('\n'), at: now.at, path: now.path })); };
+parts.keep = ({ lines, at, path, name }) => {
+  $('unkept').hidden = remember('studyboard', JSON.stringify({ script: lines.join('\n'), at, path, name }));
+};
 /**
  * @param {string} key
  * @param {string} text
@@ -56,7 +58,7 @@ function recalled(key) { try { return localStorage.getItem(key); } catch { retur
  */
 function fileName(ending) {
   const title = doc().studies.length > 1 ? 'studies' : (study() && study().tags.Event) || 'study';
-  return (app.name || title.replace(/[^A-Za-z0-9]+/g, '_').replace(/^_+|_+$/g, '').slice(0, 40)) + ending;
+  return (doc().name || title.replace(/[^A-Za-z0-9]+/g, '_').replace(/^_+|_+$/g, '').slice(0, 40)) + ending;
 }
 /** @param {File | undefined} file */
 async function openFile(file) { if (file) openText(await file.text(), 'board', file.name); }
@@ -173,10 +175,10 @@ document.addEventListener('keydown', e => {
 });
 
 // ---- the beginning
-/** @returns {{script: string, at: number, path: string}} */
+/** @returns {{script: string, at: number, path: string, name: string}} */
 function keptDoc() {
   const kept = recalled('studyboard') || '';
-  try { return JSON.parse(kept); } catch { return { script: kept, at: 0, path: 'root' }; }
+  try { return JSON.parse(kept); } catch { return { script: kept, at: 0, path: 'root', name: '' }; }
 }
 async function openHash() {
   const m = /[#&]script=([^&]*)/.exec(location.hash);
@@ -195,7 +197,7 @@ async function start() {
   if (lines.some(line => line.trim())) {
     showBoard();
     put('head', h('p', { class: 'note', role: 'status' }, 'Opening your study …'));
-    await change(() => ({ lines, at: kept.at, path: kept.path, lenient: true }), 'board');
+    await change(() => ({ lines, at: kept.at, path: kept.path, name: kept.name || '', lenient: true }), 'board');
     // Where the program did not run at all the script is shown as it is, and can be saved.
     app.history = { ...app.history, past: [], now: doc().lines.length ? doc() : { ...doc(), lines } };
   }

@@ -193,13 +193,14 @@ export async function takeOver(how) {
       return {
         lines: addStudy(d.more ? now.lines : [], fen, d.aim, d.more ? now.studies[now.studies.length - 1] : undefined),
         at: d.more ? now.studies.length : 0,
-        path: 'root'
+        path: 'root',
+        name: d.more ? now.name : ''
       };
     return how === 'shift' ? shiftTo(now.lines, s, fen, d.aim) : replacePosition(now.lines, s, fen, d.aim);
   }, 'fen');
   if (!done) return;
   closeSetup();
-  if (d.anew && !d.more) opened('', before);
+  if (d.anew && !d.more) opened(before);
 }
 /** The number of moves that an aim of mate begins with. */
 export const guess = () => {

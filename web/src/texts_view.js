@@ -67,9 +67,16 @@ export async function openText(text, where = 'script', name = '') {
   }
   const same = where === 'script' && $('script') && lines.length > 0, before = doc();
   app.setup = null;
-  await change(now => ({ lines, at: same ? now.at : 0, path: same && lines.length === now.lines.length ? now.path : 'root', lenient: true }), where);
+  const file = name.replace(/\.\w+$/, '');
+  await change(now => ({
+    lines,
+    name: where === 'script' ? now.name : file,
+    at: same ? now.at : 0,
+    path: same && lines.length === now.lines.length ? now.path : 'root',
+    lenient: true
+  }), where);
   if (app.say && app.say.where === where && !app.say.good) { Object.assign(app.say, { field: 'script', typed: text }); parts.show(); }
-  if (where !== 'script' && doc() !== before) opened(name, before);
+  if (where !== 'script' && doc() !== before) opened(before);
 }
 function refusedView() {
   const list = doc().refused, studies = doc().studies;
