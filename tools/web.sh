@@ -35,7 +35,8 @@ wasm-opt --enable-memory64 --enable-bulk-memory --enable-sign-ext --enable-mutab
 
 # ---- the page
 for it in main worker; do
-    esbuild "$top/web/src/$it.js" --bundle --format=iife --target=es2020 --charset=utf8 --log-level=warning --outfile="out/$it.js"
+    # (from its own folder, since esbuild writes where each module stands into a comment)
+    (cd "$top/web" && esbuild "src/$it.js" --bundle --format=iife --target=es2020 --charset=utf8 --log-level=warning --outfile="$work/out/$it.js")
 done
 python3 "$top/tools/web_page.py" out/main.js out/worker.js out/$name.64.wasm out/$name.32.wasm "$top/web/out/studyboard.html"
 sha256sum "$top/web/out/studyboard.html"
