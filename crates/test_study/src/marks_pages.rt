@@ -88,8 +88,8 @@ fn each_read_of_a_page_in_a_list_fails_in_turn(rt: HostRuntime) {
 fn without_a_page_there_is_no_study(rt: HostRuntime) {
     let alloc = rt.alloc();
     let text = file_of(&rt, &alloc);
-    assert!(rt; 64 <= text.len());
-    let mut values = one_page(&rt, &alloc, &text.as_slice()[..64], None);
+    let header = text.as_slice().get(..64).expect(&rt, "a header");
+    let mut values = one_page(&rt, &alloc, header, None);
     for count in 1..4u64 {
         let start = start_of(&rt, Subject::Mate.case().fen);
         let refusal = Bench::new(
