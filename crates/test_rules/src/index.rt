@@ -1,14 +1,16 @@
 //! Worked positions, and whole classes.
 use crate::index_samples::SAMPLES;
-use crate::men::man_at;
+use crate::men::{man_at, side, square};
+use crate::rows::{field, number};
 use arrayvec::ArrayVec;
-use study_board::{Man, Position, Side, Square};
+use std::process::Abort;
+use study_board::{Man, Position, Square};
 use study_index::{cells, decode, index};
 use study_material::{Class, class_of};
 
-/// The position of a FEN's placement; the en passant square by its number, 64 for none.
-fn position(placement: &str, side: Side, passed: u8) -> Option<Position> {
-    let mut men: ArrayVec<Man, 4> = ArrayVec::new();
+/// The men of a FEN's placement.
+fn men(placement: &str) -> Option<ArrayVec<Man, 4>> {
+    let mut men = ArrayVec::new();
     let (mut file, mut rank) = (0u8, 7u8);
     for letter in placement.bytes() {
         if letter == b'/' {
@@ -18,75 +20,88 @@ fn position(placement: &str, side: Side, passed: u8) -> Option<Position> {
             file = file.saturating_add(letter.saturating_sub(b'0'));
         } else {
             let at = Square::new(rank.saturating_mul(8).saturating_add(file))?;
-            let man = man_at(letter as char, at)?;
             if men.is_full() {
                 return None;
             }
-            men.push(man);
+            men.push(man_at(letter, at)?);
             file = file.saturating_add(1);
         }
     }
-    Position::new(men.as_slice(), side, Square::new(passed)).ok()
+    Some(men)
 }
 
-/// Whether the position of a line has the class and the index that the line says.
-fn is_right(line: &str) -> Option<bool> {
-    let mut fields = line.split(',');
-    let placement = fields.next()?;
-    let side = if fields.next()? == "w" {
-        Side::White
-    } else {
-        Side::Black
-    };
-    let passed = fields.next()?.parse::<u8>().ok()?;
-    let class = fields.next()?;
-    let number = fields.next()?.parse::<u32>().ok()?;
-    let p = position(placement, side, passed)?;
-    Some(class_of(&p).0.name() == class && index(&p) == number)
+/// The position of a row's first three fields: the placement, the side to move and the passed square.
+fn position(row: &str) -> Option<Position> {
+    let men = men(field(row, 0))?;
+    Position::new(men.as_slice(), side(field(row, 1)), square(field(row, 2))).ok()
+}
+
+/// The position that a row begins with, which has no fault.
+fn sound(rt: &impl Abort, row: &str) -> Position {
+    match position(row) {
+        Some(p) => p,
+        None => panic!(rt; "{row}"),
+    }
+}
+
+/// Whether the position of a row has the class and the index of the row's last two fields.
+fn is_right(row: &str) -> bool {
+    match position(row) {
+        Some(p) => class_of(&p).0.name() == field(row, 3) && has_number(&p, field(row, 4)),
+        None => false,
+    }
+}
+
+/// Whether this is the index of the position.
+fn has_number(p: &Position, text: &str) -> bool {
+    number(text) == Some(index(p))
 }
 
 #[test]
 fn numbers_are_those_of_another_program(rt: HostRuntime) {
     let mut right = 0u32;
-    for line in SAMPLES.lines() {
-        assert_eq!(rt; is_right(line), Some(true), "{line}");
+    for row in SAMPLES.lines() {
+        assert!(rt; is_right(row), "{row}");
         right = right.saturating_add(1);
     }
-    assert_eq!(rt; right, 250);
+    assert!(rt; right == 250);
 }
+
+/// Placements, sides to move, 64 for no passed square, whether the colours are swapped in the class, and the numbers.
+const WORKED: &str = "\
+k7/8/1K6/8/8/8/8/7R,w,64,false,20543
+7r/8/8/8/8/1k6/8/K7,b,64,true,20543
+k7/8/1Q6/8/8/8/8/K7,b,64,false,41421
+8/8/8/8/8/8/1R1K4/k7,b,64,false,65545
+k7/8/K7/P7/8/8/8/8,w,64,false,85536";
 
 #[test]
 fn worked_positions_have_their_numbers(rt: HostRuntime) {
-    for (placement, side, swapped, number) in [
-        ("k7/8/1K6/8/8/8/8/7R", Side::White, false, 20_543),
-        ("7r/8/8/8/8/1k6/8/K7", Side::Black, true, 20_543),
-        ("k7/8/1Q6/8/8/8/8/K7", Side::Black, false, 41_421),
-        ("8/8/8/8/8/8/1R1K4/k7", Side::Black, false, 65_545),
-        ("k7/8/K7/P7/8/8/8/8", Side::White, false, 85_536),
-    ] {
-        let p = position(placement, side, 64).expect(&rt, "a position");
-        assert_eq!(rt; class_of(&p).1, swapped, "{placement}");
-        assert_eq!(rt; index(&p), number, "{placement}");
+    for row in WORKED.lines() {
+        let p = sound(&rt, row);
+        assert!(rt; class_of(&p).1 == (field(row, 3) == "true"), "{row}");
+        assert!(rt; has_number(&p, field(row, 4)), "{row}");
     }
     assert!(rt; decode(Class::KQK, 44_585).is_none());
-    let passed = position("8/8/8/8/4P3/k7/8/4K3", Side::Black, 20).expect(&rt, "a position");
-    let plain = position("8/8/8/8/4P3/k7/8/4K3", Side::Black, 64).expect(&rt, "a position");
+    let passed = sound(&rt, "8/8/8/8/4P3/k7/8/4K3,b,20");
+    let plain = sound(&rt, "8/8/8/8/4P3/k7/8/4K3,b,64");
     assert!(rt; passed.passed().is_some());
-    assert_eq!(rt; index(&passed), index(&plain));
+    assert!(rt; index(&passed) == index(&plain));
 }
+
+/// Placements, the side to move, passed squares (64 for none) and numbers.
+const EN_PASSANT: &str = "\
+8/8/8/8/k2Pp3/8/8/4K3,b,19,26081051
+8/8/8/8/k2Pp3/8/8/4K3,b,64,9303835
+8/8/8/8/k2P3p/8/8/4K3,b,19,9303832
+8/8/8/8/k2P3p/8/8/4K3,b,64,9303832";
 
 #[test]
 fn en_passant_has_numbers_of_its_own_where_it_can_be_played(rt: HostRuntime) {
-    for (placement, passed, number) in [
-        ("8/8/8/8/k2Pp3/8/8/4K3", 19, 26_081_051),
-        ("8/8/8/8/k2Pp3/8/8/4K3", 64, 9_303_835),
-        ("8/8/8/8/k2P3p/8/8/4K3", 19, 9_303_832),
-        ("8/8/8/8/k2P3p/8/8/4K3", 64, 9_303_832),
-    ] {
-        let p = position(placement, Side::Black, passed).expect(&rt, "a position");
-        assert_eq!(rt; index(&p), number, "{placement}");
+    for row in EN_PASSANT.lines() {
+        assert!(rt; has_number(&sound(&rt, row), field(row, 3)), "{row}");
     }
-    let want = position("8/8/8/8/3pP2k/8/8/3K4", Side::Black, 20).expect(&rt, "a position");
+    let want = sound(&rt, "8/8/8/8/3pP2k/8/8/3K4,b,20");
     let read = decode(Class::KPKP, 26_081_051).expect(&rt, "a position");
     assert!(rt; read == want);
     assert!(rt; decode(Class::KPKP, 26_081_048).is_none());
@@ -112,27 +127,30 @@ fn each_en_passant_position_of_kpkp_has_its_number(rt: HostRuntime) {
     assert_eq!(rt; en_passant_positions(), (43_786, 0));
 }
 
+/// Numbers of cells, and the classes that have so many.
+const CELLS: &str = "\
+1280,KK
+81920,KQK KRK KBK KNK
+262144,KPK
+5242880,KQQK KQRK KQBK KQNK KRRK KRBK KRNK KBBK KBNK KNNK
+5242880,KQKQ KQKR KQKB KQKN KRKR KRKB KRKN KBKB KBKN KNKN
+16777216,KQPK KRPK KBPK KNPK KPPK KQKP KRKP KBKP KNKP
+33554432,KPKP";
+
 #[test]
 fn each_class_has_its_number_of_cells(rt: HostRuntime) {
-    for (name, want) in [
-        ("KK", 1_280),
-        ("KQK KRK KBK KNK", 81_920),
-        ("KPK", 262_144),
-        (
-            "KQQK KQRK KQBK KQNK KRRK KRBK KRNK KBBK KBNK KNNK",
-            5_242_880,
-        ),
-        (
-            "KQKQ KQKR KQKB KQKN KRKR KRKB KRKN KBKB KBKN KNKN",
-            5_242_880,
-        ),
-        ("KQPK KRPK KBPK KNPK KPPK KQKP KRKP KBKP KNKP", 16_777_216),
-        ("KPKP", 33_554_432),
-    ] {
-        for word in name.split(' ') {
-            let class = Class::parse(word).expect(&rt, "a class");
-            assert_eq!(rt; cells(class), want, "{word}");
+    for row in CELLS.lines() {
+        for name in field(row, 1).split(' ') {
+            assert!(rt; has_cells(name, field(row, 0)), "{name}");
         }
+    }
+}
+
+/// Whether the class of the name has so many cells.
+fn has_cells(name: &str, text: &str) -> bool {
+    match Class::parse(name) {
+        Ok(class) => number(text) == Some(cells(class)),
+        Err(_) => false,
     }
 }
 

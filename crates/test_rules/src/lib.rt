@@ -20,3 +20,5 @@ mod moves;
 mod notation;
 #[cfg(test)]
 mod notation_moves;
+#[cfg(test)]
+mod rows;

@@ -1,45 +1,81 @@
 //! Names and lists of classes.
+use crate::rows::field;
+use std::process::Abort;
 use study_material::{Class, ClassFault, needs, order};
 
 static NAMES: &str =
     "KK KQK KRK KBK KNK KPK KQQK KQRK KQBK KQNK KQPK KRRK KRBK KRNK KRPK KBBK KBNK KBPK \
     KNNK KNPK KPPK KQKQ KQKR KQKB KQKN KQKP KRKR KRKB KRKN KRKP KBKB KBKN KBKP KNKN KNKP KPKP";
 
+/// The class of a name.
+fn class(rt: &impl Abort, name: &str) -> Class {
+    match Class::parse(name) {
+        Ok(class) => class,
+        Err(_) => panic!(rt; "{name}"),
+    }
+}
+
+/// Whether no class has the name.
+fn is_refused(name: &str) -> bool {
+    match Class::parse(name) {
+        Err(ClassFault::NotAClass) => true,
+        _ => false,
+    }
+}
+
+/// Whether this is the class at the place in the list of all.
+fn is_at(class: Class, place: usize) -> bool {
+    Class::all().get(place) == Some(&class)
+}
+
 #[test]
 fn names_of_classes_are_read_and_written(rt: HostRuntime) {
     let mut parsed = 0usize;
     for name in NAMES.split(' ') {
-        let class = Class::parse(name).expect(&rt, "a class");
-        assert_eq!(rt; class.name(), name);
-        assert!(rt; !class.left_out());
-        assert_eq!(rt; Class::all().get(parsed), Some(&class));
+        let class = class(&rt, name);
+        assert!(rt; class.name() == name, "{name}");
+        assert!(rt; !class.left_out(), "{name}");
+        assert!(rt; is_at(class, parsed), "{name}");
         parsed = parsed.saturating_add(1);
     }
-    assert_eq!(rt; parsed, 36);
-    for (text, want) in [
-        ("KPPKP", ClassFault::NotAClass),
-        ("KRKQ", ClassFault::NotAClass),
-        ("", ClassFault::NotAClass),
-        ("kqk", ClassFault::NotAClass),
-        ("KQK ", ClassFault::NotAClass),
-    ] {
-        assert_eq!(rt; Class::parse(text), Err(want), "{text}");
+    assert!(rt; parsed == 36);
+    for text in "KPPKP,KRKQ,,kqk,KQK ".split(',') {
+        assert!(rt; is_refused(text), "{text}");
     }
 }
 
+/// Whether these are the classes of the names, in this order.
+fn are_named(classes: &[Class], names: &str) -> bool {
+    let mut names = names.split_ascii_whitespace();
+    for class in classes {
+        if names.next() != Some(class.name()) {
+            return false;
+        }
+    }
+    names.next().is_none()
+}
+
+/// Classes with what they need.
+const NEEDS: &str = "\
+KK,
+KPK,KK KQK KRK KBK KNK
+KQKP,KQK KRK KBK KNK KPK KQKQ KQKR KQKB KQKN
+KPKP,KPK KQKP KRKP KBKP KNKP";
+
+/// Classes with their orders.
+const ORDERS: &str = "\
+KK,KK
+KPK,KK KQK KRK KBK KNK KPK";
+
 #[test]
 fn classes_come_after_their_needs(rt: HostRuntime) {
-    use Class::*;
-    assert!(rt; needs(KK).is_empty());
-    assert_eq!(rt; needs(KPK).as_slice(), [KK, KQK, KRK, KBK, KNK].as_slice());
-    let all = [KQK, KRK, KBK, KNK, KPK, KQKQ, KQKR, KQKB, KQKN];
-    assert_eq!(rt; needs(KQKP).as_slice(), all.as_slice());
-    let all = [KPK, KQKP, KRKP, KBKP, KNKP];
-    assert_eq!(rt; needs(KPKP).as_slice(), all.as_slice());
-    assert_eq!(rt; order(KPKP).len(), 21);
-    assert_eq!(rt; order(KK).as_slice(), [KK].as_slice());
-    assert_eq!(rt;
-        order(KPK).as_slice(),
-        [KK, KQK, KRK, KBK, KNK, KPK].as_slice()
-    );
+    for row in NEEDS.lines() {
+        let classes = needs(class(&rt, field(row, 0)));
+        assert!(rt; are_named(classes.as_slice(), field(row, 1)), "{row}");
+    }
+    for row in ORDERS.lines() {
+        let classes = order(class(&rt, field(row, 0)));
+        assert!(rt; are_named(classes.as_slice(), field(row, 1)), "{row}");
+    }
+    assert!(rt; order(Class::KPKP).len() == 21);
 }

@@ -1,19 +1,25 @@
 //! Men and positions as the tests write them.
+use crate::rows::field;
 use arrayvec::ArrayVec;
 use std::process::Abort;
 use study_board::{Kind, Man, Position, PositionFault, Side, Square};
 
+/// The kind of man that a FEN letter stands for.
+fn kind(letter: u8) -> Option<Kind> {
+    match letter {
+        b'K' | b'k' => Some(Kind::King),
+        b'Q' | b'q' => Some(Kind::Queen),
+        b'R' | b'r' => Some(Kind::Rook),
+        b'B' | b'b' => Some(Kind::Bishop),
+        b'N' | b'n' => Some(Kind::Knight),
+        b'P' | b'p' => Some(Kind::Pawn),
+        _ => None,
+    }
+}
+
 /// The man that a FEN letter stands for, on a square.
-pub(crate) fn man_at(letter: char, at: Square) -> Option<Man> {
-    let kind = match letter.to_ascii_lowercase() {
-        'k' => Kind::King,
-        'q' => Kind::Queen,
-        'r' => Kind::Rook,
-        'b' => Kind::Bishop,
-        'n' => Kind::Knight,
-        'p' => Kind::Pawn,
-        _ => return None,
-    };
+pub(crate) fn man_at(letter: u8, at: Square) -> Option<Man> {
+    let kind = kind(letter)?;
     let side = if letter.is_ascii_uppercase() {
         Side::White
     } else {
@@ -22,27 +28,52 @@ pub(crate) fn man_at(letter: char, at: Square) -> Option<Man> {
     Some(Man { side, kind, at })
 }
 
-/// The man of a letter and the number of a square.
-pub(crate) fn man(rt: &impl Abort, letter: char, number: u8) -> Man {
-    let at = Square::new(number).expect(rt, "a square");
-    man_at(letter, at).expect(rt, "a man")
+/// The side to move, `w` or `b`.
+pub(crate) fn side(text: &str) -> Side {
+    if text == "w" {
+        Side::White
+    } else {
+        Side::Black
+    }
 }
 
-/// The position of at most five men, given by letter and square, with the number of the en passant square.
-pub(crate) fn position(
-    rt: &impl Abort,
-    letters: &[(char, u8)],
-    to_move: Side,
-    passed: Option<u8>,
-) -> Result<Position, PositionFault> {
-    let mut men: ArrayVec<Man, 5> = ArrayVec::new();
-    for (letter, number) in letters {
-        assert!(rt; men.len() < 5);
-        men.push(man(rt, *letter, *number));
+/// The square with this number; any other text is for none.
+pub(crate) fn square(text: &str) -> Option<Square> {
+    match text.parse::<u8>() {
+        Ok(number) => Square::new(number),
+        Err(_) => None,
     }
-    let square = match passed {
-        None => None,
-        Some(number) => Square::new(number),
-    };
-    Position::new(men.as_slice(), to_move, square)
+}
+
+/// The man of a word such as `K0`: a letter and the number of a square.
+pub(crate) fn man(word: &str) -> Option<Man> {
+    let letter = word.bytes().next()?;
+    let at = square(word.get(1..)?)?;
+    man_at(letter, at)
+}
+
+/// The men of words such as `K0 k63`, at most five.
+fn men(words: &str) -> Option<ArrayVec<Man, 5>> {
+    let mut men = ArrayVec::new();
+    for word in words.split_ascii_whitespace() {
+        if men.is_full() {
+            return None;
+        }
+        men.push(man(word)?);
+    }
+    Some(men)
+}
+
+/// The position of a row's first three fields: the men, the side to move and the passed square.
+pub(crate) fn position(rt: &impl Abort, row: &str) -> Result<Position, PositionFault> {
+    let men = men(field(row, 0)).expect(rt, "men");
+    Position::new(men.as_slice(), side(field(row, 1)), square(field(row, 2)))
+}
+
+/// The position of a row that has no fault.
+pub(crate) fn sound(rt: &impl Abort, row: &str) -> Position {
+    match position(rt, row) {
+        Ok(p) => p,
+        Err(fault) => panic!(rt; "{row}: {fault}"),
+    }
 }
