@@ -11,20 +11,18 @@ use study_material::{Class, class_of};
 /// The men of a FEN's placement.
 fn men(placement: &str) -> Option<ArrayVec<Man, 4>> {
     let mut men = ArrayVec::new();
-    let (mut file, mut rank) = (0u8, 7u8);
+    let mut at = 56u8;
     for letter in placement.bytes() {
         if letter == b'/' {
-            file = 0;
-            rank = rank.saturating_sub(1);
+            at = at.saturating_sub(16);
         } else if letter.is_ascii_digit() {
-            file = file.saturating_add(letter.saturating_sub(b'0'));
+            at = at.saturating_add(letter.saturating_sub(b'0'));
         } else {
-            let at = Square::new(rank.saturating_mul(8).saturating_add(file))?;
             if men.is_full() {
                 return None;
             }
-            men.push(man_at(letter, at)?);
-            file = file.saturating_add(1);
+            men.push(man_at(letter, Square::new(at)?)?);
+            at = at.saturating_add(1);
         }
     }
     Some(men)
@@ -57,14 +55,24 @@ fn has_number(p: &Position, text: &str) -> bool {
     number(text) == Some(index(p))
 }
 
-#[test]
-fn numbers_are_those_of_another_program(rt: HostRuntime) {
+/// How many rows there are; each is right.
+fn right_rows(rt: &impl Abort, rows: &str) -> u32 {
     let mut right = 0u32;
-    for row in SAMPLES.lines() {
+    for row in rows.lines() {
         assert!(rt; is_right(row), "{row}");
         right = right.saturating_add(1);
     }
-    assert!(rt; right == 250);
+    right
+}
+
+#[test]
+fn numbers_are_those_of_another_program(rt: HostRuntime) {
+    assert!(rt; right_rows(&rt, SAMPLES) == 250);
+}
+
+/// Whether the number is that of no position.
+fn is_of_none(class: Class, number: u32) -> bool {
+    decode(class, number).is_none()
 }
 
 /// Placements, sides to move, 64 for no passed square, whether the colours are swapped in the class, and the numbers.
@@ -82,7 +90,7 @@ fn worked_positions_have_their_numbers(rt: HostRuntime) {
         assert!(rt; class_of(&p).1 == (field(row, 3) == "true"), "{row}");
         assert!(rt; has_number(&p, field(row, 4)), "{row}");
     }
-    assert!(rt; decode(Class::KQK, 44_585).is_none());
+    assert!(rt; is_of_none(Class::KQK, 44_585));
     let passed = sound(&rt, "8/8/8/8/4P3/k7/8/4K3,b,20");
     let plain = sound(&rt, "8/8/8/8/4P3/k7/8/4K3,b,64");
     assert!(rt; passed.passed().is_some());
@@ -104,8 +112,8 @@ fn en_passant_has_numbers_of_its_own_where_it_can_be_played(rt: HostRuntime) {
     let want = sound(&rt, "8/8/8/8/3pP2k/8/8/3K4,b,20");
     let read = decode(Class::KPKP, 26_081_051).expect(&rt, "a position");
     assert!(rt; read == want);
-    assert!(rt; decode(Class::KPKP, 26_081_048).is_none());
-    assert!(rt; decode(Class::KPKP, 33_554_432).is_none());
+    assert!(rt; is_of_none(Class::KPKP, 26_081_048));
+    assert!(rt; is_of_none(Class::KPKP, 33_554_432));
 }
 
 /// How many numbers of KPKP are decoded as positions with an en passant square, and how many of these have another index.

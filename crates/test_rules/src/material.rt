@@ -23,6 +23,11 @@ fn is_refused(name: &str) -> bool {
     }
 }
 
+/// Whether the class is written so, and is no class that is left out.
+fn has_name(class: Class, name: &str) -> bool {
+    class.name() == name && !class.left_out()
+}
+
 /// Whether this is the class at the place in the list of all.
 fn is_at(class: Class, place: usize) -> bool {
     Class::all().get(place) == Some(&class)
@@ -33,8 +38,7 @@ fn names_of_classes_are_read_and_written(rt: HostRuntime) {
     let mut parsed = 0usize;
     for name in NAMES.split(' ') {
         let class = class(&rt, name);
-        assert!(rt; class.name() == name, "{name}");
-        assert!(rt; !class.left_out(), "{name}");
+        assert!(rt; has_name(class, name), "{name}");
         assert!(rt; is_at(class, parsed), "{name}");
         parsed = parsed.saturating_add(1);
     }
@@ -53,6 +57,10 @@ fn are_named(classes: &[Class], names: &str) -> bool {
         }
     }
     names.next().is_none()
+}
+
+fn order_length(class: Class) -> usize {
+    order(class).len()
 }
 
 /// Classes with what they need.
@@ -77,5 +85,5 @@ fn classes_come_after_their_needs(rt: HostRuntime) {
         let classes = order(class(&rt, field(row, 0)));
         assert!(rt; are_named(classes.as_slice(), field(row, 1)), "{row}");
     }
-    assert!(rt; order(Class::KPKP).len() == 21);
+    assert!(rt; order_length(Class::KPKP) == 21);
 }

@@ -22,12 +22,9 @@ fn mates_and_stalemates_are_told_apart(rt: HostRuntime) {
 
 /// Whether the word has the numbers of the two squares, as in `1-7`.
 fn is_between(m: &Move, word: Option<&str>) -> bool {
-    match word.unwrap_or("").split_once('-') {
-        Some((origin, target)) => {
-            square(origin) == Some(m.origin) && square(target) == Some(m.target)
-        }
-        None => false,
-    }
+    let mut numbers = word.unwrap_or("").split('-');
+    square(numbers.next().unwrap_or("")) == Some(m.origin)
+        && square(numbers.next().unwrap_or("")) == Some(m.target)
 }
 
 /// Whether the position before the move is one of the list, and the move can be played from it.
