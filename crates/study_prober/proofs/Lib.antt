@@ -8,3 +8,4 @@ pub mod ProbedSources
 pub mod Headers
 pub mod KeptCells
 pub mod PagedAnswers
+mod LatestPage

@@ -1,5 +1,5 @@
 //! Pages that are kept, the last used first.
-ghost use Rattle.std.specs.Prelude.{◌≡◌, ◌<◌, ◌⊎◌, take, Contains, IfSome, OnOk, OnErr, slice_index};
+ghost use Rattle.std.specs.Prelude.{◌≡◌, ◌<◌, ◌⊎◌, ◌∷◌, take, Contains, IfSome, OnOk, OnErr, slice_get, slice_index};
 ghost use Rattle.std.specs.Map.{lookup};
 ghost use Rattle.lru.specs.LruCache.{promoted, put_entries};
 ghost use Rattle.study_retro.specs.Table.{class_place};
@@ -38,6 +38,22 @@ pub fn key_of(class: Class, cell: u32) -> PageKey
     }
 }
 
+/// The cells of the page that was used last, if it is this one: they are found without a hash, and no link of the list is written.
+fn latest_cells<'p, 'a, A: Allocator>(pages: &'p Pages<'a, A>, key: PageKey) -> Option<&'p [u8]>
+    ensures { IfSome result (λ cells. (v : _) × (older : _) × (pages.now.entries ≡ (key, v) ∷ older) × (v.items ≡ cells.now)) }
+{
+    match pages.peek_mru() {
+        Some((latest, cells)) if *latest == key => Some(cells.as_slice()),
+        _ => None,
+    }
+}
+
+fn cell_of(cells: &[u8], at: usize) -> Option<u8>
+    ensures { result ≡ slice_get cells.now at }
+{
+    cells.get(at).copied()
+}
+
 /// A cell of a page that is kept.
 pub fn kept_byte<'a, A: Allocator>(pages: &mut Pages<'a, A>, key: PageKey, at: usize) -> Option<u8>
     ensures found { IfSome result (λ x. (v : _) × Contains pages.old.entries (key, v) × (x ≡ slice_index v.items at)) }
@@ -46,13 +62,11 @@ pub fn kept_byte<'a, A: Allocator>(pages: &mut Pages<'a, A>, key: PageKey, at: u
     ensures value { result ≡ cell_at (λ v. v.items) at (lookup (same_key key) pages.old.entries) }
     ensures used { pages.new.entries ≡ promoted (same_key key) pages.old.entries }
 {
-    let page = pages.get(&key)?;
-    let cells = page.as_slice();
-    if at < cells.len() {
-        Some(cells[at])
-    } else {
-        None
+    if let Some(cells) = latest_cells(pages, key) {
+        return cell_of(cells, at);
     }
+    let page = pages.get(&key)?;
+    cell_of(page.as_slice(), at)
 }
 
 /// Keeps the cells of a page.
