@@ -11,6 +11,8 @@ mod retro;
 #[cfg(test)]
 mod retro_memory;
 #[cfg(test)]
+mod rows;
+#[cfg(test)]
 mod tablefile;
 #[cfg(test)]
 mod tablefile_built;

@@ -143,8 +143,37 @@ fn paged<'a, A: Allocator>(
 ) -> PagedTables<'a, File, A> {
     assert!(rt; 1 <= pages && pages <= 4096);
     let mut tables = PagedTables::new(alloc, pages).ok().expect(rt, "a cache");
-    assert!(rt; tables.add(class, file).is_ok());
+    assert!(rt; added(&mut tables, class, file).is_ok());
     tables
+}
+
+/// What is answered to one more source.
+fn added<A: Allocator>(
+    tables: &mut PagedTables<'_, File, A>,
+    class: Class,
+    file: File,
+) -> Result<(), PagedFault> {
+    tables.add(class, file)
+}
+
+/// Whether both tell the same value.
+fn agree<V: Values, W: Values>(values: &mut V, others: &mut W, p: &Position) -> bool {
+    let value = others.value(p);
+    value.is_ok() && values.value(p) == value
+}
+
+/// That each position of king and rook against king has one value by both, and how often they were asked.
+fn expect_alike<V: Values, W: Values>(rt: &impl Abort, values: &mut V, others: &mut W) {
+    let mut count = 0u64;
+    for number in 0..81_920u32 {
+        if let Some(p) = decode(Class::KRK, number) {
+            assert!(rt; agree(values, others, &p), "{number}");
+            count = count.saturating_add(1);
+        }
+    }
+    assert!(rt; 40_000 < count);
+    assert!(rt; has_counts(values, count, 0));
+    assert!(rt; has_counts(others, count, 0));
 }
 
 /// The table of king and rook against king by one page: each position has the value that the whole table tells.
@@ -155,17 +184,17 @@ fn values_by_one_page_are_those_of_the_whole_table(rt: HostRuntime) {
     let file = file_of(&rt, alloc, set.table(Class::KRK).expect(&rt, "held"));
     let mut tables = paged(&rt, &alloc, 1, Class::KRK, file);
     let mut whole = WholeTables::new(set);
-    let mut count = 0u64;
-    for number in 0..81_920u32 {
-        if let Some(p) = decode(Class::KRK, number) {
-            let value = whole.value(&p);
-            assert!(rt; value.is_ok());
-            assert_eq!(rt; tables.value(&p), value, "{number}");
-            count = count.saturating_add(1);
-        }
-    }
-    assert!(rt; 40_000 < count && tables.asked() == count && whole.asked() == count);
-    assert!(rt; tables.failures() == 0 && whole.failures() == 0);
+    expect_alike(&rt, &mut tables, &mut whole);
+}
+
+/// Whether so many questions were asked, and so many of them failed.
+fn has_counts<V: Values>(values: &V, asked: u64, failures: u64) -> bool {
+    values.asked() == asked && values.failures() == failures
+}
+
+/// Whether the question is refused for this fault.
+fn is_refused<V: Values>(values: &mut V, p: &Position, fault: ProbeFault) -> bool {
+    values.value(p) == Err(fault)
 }
 
 /// How many pages of a class have a position.
@@ -218,6 +247,24 @@ fn the_most_room_holds_a_whole_class(rt: HostRuntime) {
     assert_eq!(rt; failures, 0);
 }
 
+/// A whole table that is held.
+fn whole_of<'a, A: Allocator>(
+    rt: &impl Abort,
+    alloc: &'a A,
+    table: Table<'a, A>,
+) -> WholeTables<'a, A> {
+    let mut whole = WholeTables::new(TableSet::new(alloc).ok().expect(rt, "a set"));
+    assert!(rt; whole.add(table).is_ok());
+    whole
+}
+
+/// Whether KQK is refused since there is no table of it, and KK is held.
+fn has_only_kings<V: Values>(values: &mut V, p: &Position) -> bool {
+    is_refused(values, p, ProbeFault::NoTable(Class::KQK))
+        && values.holds(Class::KK)
+        && !values.holds(Class::KQK)
+}
+
 /// A class that is not held has no table, with pages and without.
 #[test]
 fn a_class_that_is_not_held_has_no_table(rt: HostRuntime) {
@@ -225,15 +272,23 @@ fn a_class_that_is_not_held_has_no_table(rt: HostRuntime) {
     let table = patterned(&rt, &alloc, Class::KK, 0);
     let file = file_of(&rt, alloc, &table);
     let mut tables = paged(&rt, &alloc, 3, Class::KK, file);
-    let mut whole = WholeTables::new(TableSet::new(&alloc).ok().expect(&rt, "a set"));
-    assert!(rt; whole.add(table).is_ok());
+    let mut whole = whole_of(&rt, &alloc, table);
     assert!(rt; whole.tables().has(Class::KK));
     let p = position_on(&rt, Class::KQK, 0);
-    assert_eq!(rt; tables.value(&p), Err(ProbeFault::NoTable(Class::KQK)));
-    assert_eq!(rt; whole.value(&p), Err(ProbeFault::NoTable(Class::KQK)));
-    assert!(rt; tables.holds(Class::KK) && !tables.holds(Class::KQK));
-    assert!(rt; whole.holds(Class::KK) && !whole.holds(Class::KQK));
-    assert!(rt; tables.asked() == 1 && tables.failures() == 0);
+    assert!(rt; has_only_kings(&mut tables, &p));
+    assert!(rt; has_only_kings(&mut whole, &p));
+    assert!(rt; has_counts(&tables, 1, 0));
+}
+
+/// Whether the values on a page of two tables of different classes are theirs.
+fn are_apart<V: Values, A: Allocator>(
+    rt: &impl Abort,
+    values: &mut V,
+    first: &Table<'_, A>,
+    second: &Table<'_, A>,
+    page: u32,
+) -> bool {
+    is_value_on(rt, values, first, page) && is_value_on(rt, values, second, page)
 }
 
 /// Two classes with pages of the same numbers, with room for all pages and for few.
@@ -244,12 +299,10 @@ fn pages_of_two_classes_are_kept_apart(rt: HostRuntime) {
     let queen = patterned(&rt, &alloc, Class::KQK, 100);
     for room in [1, 2, 40] {
         let mut tables = paged(&rt, &alloc, room, Class::KRK, file_of(&rt, alloc, &rook));
-        assert_eq!(rt; tables.add(Class::KQK, file_of(&rt, alloc, &queen)), Ok(()));
+        let file = file_of(&rt, alloc, &queen);
+        assert!(rt; added(&mut tables, Class::KQK, file).is_ok());
         for page in [0, 7, 19, 7, 0] {
-            let p = position_on(&rt, Class::KRK, page);
-            assert!(rt; is_value(&mut tables, &rook, &p), "{page}");
-            let q = position_on(&rt, Class::KQK, page);
-            assert!(rt; is_value(&mut tables, &queen, &q), "{page}");
+            assert!(rt; are_apart(&rt, &mut tables, &rook, &queen, page), "{page}");
         }
     }
 }
@@ -264,6 +317,17 @@ fn is_value<'a, A: Allocator, V: Values>(
     class == table.class() && values.value(p) == Ok(table.at(p))
 }
 
+/// Whether the value at the first position on a page is that of the table of its class.
+fn is_value_on<'a, A: Allocator, V: Values>(
+    rt: &impl Abort,
+    values: &mut V,
+    table: &Table<'a, A>,
+    page: u32,
+) -> bool {
+    let p = position_on(rt, table.class(), page);
+    is_value(values, table, &p)
+}
+
 /// Whether the values at some pages are right, the last of them again and again.
 fn are_values<'a, 'h, A: Allocator, H: Allocator>(
     rt: &impl Abort,
@@ -272,10 +336,30 @@ fn are_values<'a, 'h, A: Allocator, H: Allocator>(
 ) -> bool {
     let mut are_right = true;
     for page in [0, 1, 2, 3, 4, 5, 0, 5, 19, 3] {
-        let p = position_on(rt, Class::KRK, page);
-        are_right = are_right && is_value(tables, table, &p);
+        are_right = are_right && is_value_on(rt, tables, table, page);
     }
-    are_right && tables.asked() == 10 && tables.failures() == 0
+    are_right && has_counts(tables, 10, 0)
+}
+
+/// Whether a cache takes the file of the table, whose values are right then; where it does not, there is no memory.
+fn takes<A: Allocator, H: Allocator>(
+    rt: &impl Abort,
+    tables: &mut PagedTables<'_, File, H>,
+    table: &Table<'_, A>,
+    file: File,
+    step: usize,
+) -> bool {
+    match added(tables, Class::KRK, file) {
+        Err(fault) => {
+            assert!(rt; fault == PagedFault::OutOfMemory, "{step}: {fault}");
+            assert!(rt; !tables.holds(Class::KRK), "{step}");
+            false
+        }
+        Ok(()) => {
+            assert!(rt; are_values(rt, tables, table), "{step}");
+            true
+        }
+    }
 }
 
 /// Where memory is refused, it is the cache, then the source that finds no room; each value is right all the same.
@@ -290,22 +374,34 @@ fn each_growth_is_refused_and_values_stay_right(rt: HostRuntime) {
             .expect(&rt, "a heap");
         if let Ok(mut tables) = PagedTables::new(&heap, 4) {
             made = made.saturating_add(1);
-            match tables.add(Class::KRK, file_of(&rt, alloc, &table)) {
-                Err(fault) => {
-                    assert_eq!(rt; fault, PagedFault::OutOfMemory);
-                    assert!(rt; !tables.holds(Class::KRK));
-                }
-                Ok(()) => {
-                    held = held.saturating_add(1);
-                    assert!(rt; are_values(&rt, &mut tables, &table), "{step}");
-                }
-            }
+            let file = file_of(&rt, alloc, &table);
+            let is_held = takes(&rt, &mut tables, &table, file, step);
+            held = held.saturating_add(u32::from(is_held));
         }
     }
     assert!(rt;
         0 < held && held < made && made < 120,
         "{made} made, {held} held"
     );
+}
+
+/// That the first question for this page fails, and every other one is answered, the next one for this page too.
+fn fails_once<V: Values, A: Allocator>(
+    rt: &impl Abort,
+    values: &mut V,
+    table: &Table<'_, A>,
+    bad: u32,
+) {
+    for page in 0..20u32 {
+        if page == bad {
+            let p = position_on(rt, Class::KRK, page);
+            let fault = ProbeFault::TableRead(SourceFault::Device);
+            assert!(rt; is_refused(values, &p, fault), "{bad}");
+            assert!(rt; values.failures() == 1, "{bad}");
+        }
+        assert!(rt; is_value_on(rt, values, table, page), "{bad} {page}");
+    }
+    assert!(rt; has_counts(values, 21, 1), "{bad}");
 }
 
 /// A source that fails at one page: the fault is told and counted, and the same question is answered next.
@@ -317,17 +413,23 @@ fn a_page_that_is_not_read_is_told_once(rt: HostRuntime) {
         let mut file = file_of(&rt, alloc, &table);
         file.fails_at = Some(1 + u64::from(bad));
         let mut tables = paged(&rt, &alloc, 1, Class::KRK, file);
-        for page in 0..20u32 {
-            let p = position_on(&rt, Class::KRK, page);
-            if page == bad {
-                let fault = ProbeFault::TableRead(SourceFault::Device);
-                assert_eq!(rt; tables.value(&p), Err(fault));
-                assert!(rt; tables.failures() == 1);
-            }
-            assert!(rt; is_value(&mut tables, &table, &p), "{bad} {page}");
-        }
-        assert!(rt; tables.asked() == 21 && tables.failures() == 1);
+        fails_once(&rt, &mut tables, &table, bad);
     }
+}
+
+/// Whether page 5 is told as damaged and page 19 as cut off, and the value on any other page is that of the table.
+fn is_told<V: Values, A: Allocator>(
+    rt: &impl Abort,
+    values: &mut V,
+    table: &Table<'_, A>,
+    page: u32,
+) -> bool {
+    let fault = match page {
+        5 => ProbeFault::PageDamaged(Class::KRK, 5),
+        19 => ProbeFault::TableRead(SourceFault::Short),
+        _ => return is_value_on(rt, values, table, page),
+    };
+    is_refused(values, &position_on(rt, Class::KRK, page), fault)
 }
 
 /// A damaged page and one that is cut off are told each time, and no other page is.
@@ -341,21 +443,23 @@ fn a_damaged_page_is_told_each_time(rt: HostRuntime) {
     let mut tables = paged(&rt, &alloc, 8, Class::KRK, file);
     for _ in 0..2u8 {
         for page in 0..20u32 {
-            let p = position_on(&rt, Class::KRK, page);
-            match page {
-                5 => assert_eq!(rt;
-                    tables.value(&p),
-                    Err(ProbeFault::PageDamaged(Class::KRK, 5))
-                ),
-                19 => assert_eq!(rt;
-                    tables.value(&p),
-                    Err(ProbeFault::TableRead(SourceFault::Short))
-                ),
-                _ => assert!(rt; is_value(&mut tables, &table, &p), "{page}"),
-            }
+            assert!(rt; is_told(&rt, &mut tables, &table, page), "{page}");
         }
     }
-    assert!(rt; tables.asked() == 40 && tables.failures() == 4);
+    assert!(rt; has_counts(&tables, 40, 4));
+}
+
+/// That page 0 of KK is told as damaged once, and its values are told from then on.
+fn expect_read_again<V: Values, A: Allocator>(
+    rt: &impl Abort,
+    values: &mut V,
+    table: &Table<'_, A>,
+) {
+    let p = position_on(rt, Class::KK, 0);
+    assert!(rt; is_refused(values, &p, ProbeFault::PageDamaged(Class::KK, 0)));
+    assert!(rt; is_value(values, table, &p));
+    assert!(rt; is_value(values, table, &p));
+    assert!(rt; has_counts(values, 3, 1));
 }
 
 /// A damaged page is not kept: once its source gives it whole, its values are told.
@@ -367,14 +471,24 @@ fn a_damaged_page_is_read_again(rt: HostRuntime) {
     file.turn(73);
     file.turns = Some(73);
     let mut tables = paged(&rt, &alloc, 2, Class::KK, file);
-    let p = position_on(&rt, Class::KK, 0);
-    assert_eq!(rt;
-        tables.value(&p),
-        Err(ProbeFault::PageDamaged(Class::KK, 0))
-    );
-    assert!(rt; is_value(&mut tables, &table, &p));
-    assert!(rt; is_value(&mut tables, &table, &p));
-    assert!(rt; tables.asked() == 3 && tables.failures() == 1);
+    expect_read_again(&rt, &mut tables, &table);
+}
+
+/// Whether KRK is held and KQK is not, and no question was asked.
+fn has_only_rook<V: Values>(values: &V) -> bool {
+    values.holds(Class::KRK) && !values.holds(Class::KQK) && has_counts(values, 0, 0)
+}
+
+/// That a source is refused for this fault, and the tables are as they were.
+fn expect_refused<A: Allocator>(
+    rt: &impl Abort,
+    tables: &mut PagedTables<'_, File, A>,
+    class: Class,
+    file: File,
+    fault: PagedFault,
+) {
+    assert!(rt; added(tables, class, file) == Err(fault), "{fault}");
+    assert!(rt; has_only_rook(tables), "{fault}");
 }
 
 /// The faults of a source in their order, each over a source that has those after it too.
@@ -403,16 +517,12 @@ fn the_first_fault_of_a_source_is_told(rt: HostRuntime) {
         if is_wrong {
             file.turn(3);
         }
-        assert_eq!(rt; tables.add(class, file), Err(fault));
-        assert!(rt; tables.holds(Class::KRK) && !tables.holds(Class::KQK));
+        expect_refused(&rt, &mut tables, class, file, fault);
     }
     let mut short = file_of(&rt, alloc, &table);
     short.text.truncate(63);
-    assert_eq!(rt;
-        tables.add(Class::KQK, short),
-        Err(PagedFault::TableRead(SourceFault::Short))
-    );
-    assert!(rt; tables.asked() == 0 && tables.failures() == 0);
+    let fault = PagedFault::TableRead(SourceFault::Short);
+    expect_refused(&rt, &mut tables, Class::KQK, short, fault);
 }
 
 /// Each fault of a header that was read: its version, its class and its digest, and what comes first of two.
@@ -435,13 +545,24 @@ fn the_first_fault_of_a_header_is_told(rt: HostRuntime) {
         if second != first {
             file.turn(second);
         }
-        assert_eq!(rt;
-            tables.add(Class::KQK, file),
-            Err(PagedFault::Header(fault)),
-            "{first}"
-        );
-        assert!(rt; !tables.holds(Class::KQK) && tables.failures() == 0);
+        let fault = PagedFault::Header(fault);
+        expect_refused(&rt, &mut tables, Class::KQK, file, fault);
     }
+}
+
+/// That the first question is answered, the second fails, and the third, which is the same again, is answered.
+fn expect_answered_next<V: Values, A: Allocator>(
+    rt: &impl Abort,
+    values: &mut V,
+    table: &Table<'_, A>,
+) {
+    let p = position_on(rt, Class::KK, 0);
+    assert!(rt; values.holds(Class::KK));
+    assert!(rt; is_value(values, table, &p));
+    let fault = ProbeFault::TableRead(SourceFault::Device);
+    assert!(rt; is_refused(values, &p, fault));
+    assert!(rt; is_value(values, table, &p));
+    assert!(rt; has_counts(values, 3, 1));
 }
 
 /// Values that fail at their second question, and answer it when it is put again.
@@ -451,11 +572,5 @@ fn a_question_that_failed_is_answered_next(rt: HostRuntime) {
     let table = patterned(&rt, &alloc, Class::KK, 0);
     let tables = paged(&rt, &alloc, 1, Class::KK, file_of(&rt, alloc, &table));
     let mut values = FailingValues::new(tables, 1);
-    let p = position_on(&rt, Class::KK, 0);
-    assert!(rt; values.holds(Class::KK));
-    assert!(rt; is_value(&mut values, &table, &p));
-    let fault = ProbeFault::TableRead(SourceFault::Device);
-    assert_eq!(rt; values.value(&p), Err(fault));
-    assert!(rt; is_value(&mut values, &table, &p));
-    assert!(rt; values.asked() == 3 && values.failures() == 1);
+    expect_answered_next(&rt, &mut values, &table);
 }

@@ -1,10 +1,12 @@
 //! The tables of up to three men, against those of an independent builder.
-use crate::tables::{built, changed, set_of, table_of};
+use crate::rows::{byte, class, field, number};
+use crate::tables::{built, changed, is_verified, set_of, table_of};
 use sha2::{Digest, Sha256};
 use std::alloc::Allocator;
 use std::process::Abort;
+use study_index::cells;
 use study_material::Class;
-use study_retro::{AddFault, BuildFault, BuildRoom, TableSet, build, verify};
+use study_retro::{AddFault, BuildFault, BuildReport, BuildRoom, Table, TableSet, build};
 
 /// Whether the cells have this SHA-256, in hexadecimal digits.
 fn is_digest(cells: &[u8], wanted: &str) -> bool {
@@ -31,77 +33,48 @@ fn hex(digit: u8) -> u8 {
     }
 }
 
-/// Cells, deepest distances, how many numbers are examined, and digests of the cells. The examined are those of a plain
-/// program that goes back as `build` does; the rest is from a builder of another kind that was compared with Gaviota's tables.
-const ROWS: [(Class, u32, Option<u8>, Option<u8>, u64, &str); 6] = [
-    (
-        Class::KK,
-        1_280,
-        None,
-        None,
-        1_280,
-        "bfe492baf731a0dbf6e1e050f5bc3fe8c1b049383194dcdf82f023bfa409f462",
-    ),
-    (
-        Class::KQK,
-        81_920,
-        Some(19),
-        Some(20),
-        757_847,
-        "9e23e4707fb87fc86cd619e4f11e27584156c99755bf56bd75beb08a2529a694",
-    ),
-    (
-        Class::KRK,
-        81_920,
-        Some(31),
-        Some(32),
-        736_022,
-        "c44ba016cdd825eddc9b922d55db18a9147c60cb9978c9a8b62eb20a44c0f5ba",
-    ),
-    (
-        Class::KBK,
-        81_920,
-        None,
-        None,
-        81_920,
-        "fa569e2360c540e6280e34a4627516770f1a5f34d81d35689334a99cc1013357",
-    ),
-    (
-        Class::KNK,
-        81_920,
-        None,
-        None,
-        81_920,
-        "fa569e2360c540e6280e34a4627516770f1a5f34d81d35689334a99cc1013357",
-    ),
-    (
-        Class::KPK,
-        262_144,
-        Some(55),
-        Some(56),
-        1_206_872,
-        "31f08f445b1142f1498bb03d4257b8142e27cd53763635385fc85788e8edc067",
-    ),
-];
+/// Classes, cells, deepest distances of a win and of a loss, how many numbers are examined, and digests of the cells. The
+/// examined are those of a plain program that goes back as `build` does; the rest is from a builder of another kind that was
+/// compared with Gaviota's tables.
+const ROWS: &str = "\
+KK,1280,-,-,1280,bfe492baf731a0dbf6e1e050f5bc3fe8c1b049383194dcdf82f023bfa409f462
+KQK,81920,19,20,757847,9e23e4707fb87fc86cd619e4f11e27584156c99755bf56bd75beb08a2529a694
+KRK,81920,31,32,736022,c44ba016cdd825eddc9b922d55db18a9147c60cb9978c9a8b62eb20a44c0f5ba
+KBK,81920,-,-,81920,fa569e2360c540e6280e34a4627516770f1a5f34d81d35689334a99cc1013357
+KNK,81920,-,-,81920,fa569e2360c540e6280e34a4627516770f1a5f34d81d35689334a99cc1013357
+KPK,262144,55,56,1206872,31f08f445b1142f1498bb03d4257b8142e27cd53763635385fc85788e8edc067";
+
+/// The row of a rook against a knight, without the examined.
+const ROOK_AGAINST_KNIGHT: &str =
+    "KRKN,5242880,79,80,,f353322202ada647a9d51aac5b2f766639a86c03e1793313f7775d72b84f1fec";
+
+/// Whether the report has the cells and the deepest distances of a row.
+fn is_report(rt: &impl Abort, report: &BuildReport, row: &str) -> bool {
+    report.cells == number(rt, field(row, 1))
+        && report.deepest_win == byte(field(row, 2))
+        && report.deepest_loss == byte(field(row, 3))
+}
+
+/// Whether the table has the class and the digest of a row.
+fn is_table<A: Allocator>(rt: &impl Abort, table: &Table<'_, A>, row: &str) -> bool {
+    table.class() == class(rt, field(row, 0)) && is_digest(table.cells(), field(row, 5))
+}
 
 #[test]
 fn tables_of_up_to_three_men_are_those_of_another_builder(rt: HostRuntime) {
     let alloc = rt.alloc();
     let mut tables = TableSet::new(&alloc).ok().expect(&rt, "a set");
-    for (class, count, win, loss, examined, digest) in ROWS {
-        assert!(rt; !tables.ready(Class::KPK) || class == Class::KPK);
+    for row in ROWS.lines() {
+        let class = class(&rt, field(row, 0));
+        assert!(rt; !tables.ready(Class::KPK) || class == Class::KPK, "{row}");
         let report = built(&rt, &alloc, &mut tables, class);
-        assert_eq!(rt; report.cells, count);
-        assert_eq!(rt; report.deepest_win, win);
-        assert_eq!(rt; report.deepest_loss, loss);
-        assert_eq!(rt; report.examined, examined);
-        match tables.table(class) {
-            None => assert!(rt; false, "not held"),
-            Some(table) => {
-                assert!(rt; table.class() == class);
-                assert!(rt; is_digest(table.cells(), digest), "{class:?}");
-            }
-        }
+        assert!(rt; is_report(&rt, &report, row), "{row}");
+        assert!(rt;
+            report.examined == u64::from(number(&rt, field(row, 4))),
+            "{row}"
+        );
+        let table = tables.table(class).expect(&rt, "held");
+        assert!(rt; is_table(&rt, table, row), "{row}");
     }
 }
 
@@ -111,15 +84,34 @@ fn rook_against_knight_is_that_of_another_builder(rt: HostRuntime) {
     let alloc = rt.alloc();
     let tables = set_of(&rt, &alloc, &[Class::KK, Class::KRK, Class::KNK]);
     let (table, report) = table_of(&rt, &alloc, &tables, Class::KRKN);
-    assert_eq!(rt; report.cells, 5_242_880);
-    assert_eq!(rt; report.deepest_win, Some(79));
-    assert_eq!(rt; report.deepest_loss, Some(80));
-    assert!(rt;
-        is_digest(
-            table.cells(),
-            "f353322202ada647a9d51aac5b2f766639a86c03e1793313f7775d72b84f1fec"
-        )
-    );
+    assert!(rt; is_report(&rt, &report, ROOK_AGAINST_KNIGHT));
+    assert!(rt; is_table(&rt, &table, ROOK_AGAINST_KNIGHT));
+}
+
+/// Why a table with so many cells is not built, if it is not.
+fn fault_of<'a, A: Allocator>(
+    rt: &impl Abort,
+    alloc: &'a A,
+    tables: &TableSet<'a, A>,
+    class: Class,
+    count: u32,
+) -> Option<BuildFault> {
+    assert!(rt; count == cells(class));
+    let room = BuildRoom::new(alloc, cells(class)).ok().expect(rt, "room");
+    build(class, tables, room).err()
+}
+
+/// Whether the set refuses a table for this fault, and hands it back.
+fn is_refused<'a, A: Allocator>(
+    tables: &mut TableSet<'a, A>,
+    table: Table<'a, A>,
+    fault: AddFault,
+) -> bool {
+    let class = table.class();
+    match tables.add(table) {
+        Ok(()) => false,
+        Err(refused) => refused.fault == fault && refused.table.class() == class,
+    }
 }
 
 /// A table is refused where its needs are not held, or where it is held already; it is handed back, and the set is as it was.
@@ -127,29 +119,18 @@ fn rook_against_knight_is_that_of_another_builder(rt: HostRuntime) {
 fn a_table_is_refused_without_its_needs_or_twice(rt: HostRuntime) {
     let alloc = rt.alloc();
     let tables = set_of(&rt, &alloc, &[Class::KK]);
-    let room = BuildRoom::new(&alloc, 262_144).ok().expect(&rt, "room");
-    match build(Class::KPK, &tables, room) {
-        Err(fault) => assert_eq!(rt; fault, BuildFault::MissingTable(Class::KQK)),
-        Ok(_) => assert!(rt; false, "a table without its needs"),
-    }
-    let room = BuildRoom::new(&alloc, 33_554_432).ok().expect(&rt, "room");
-    match build(Class::KPKP, &tables, room) {
-        Err(fault) => assert_eq!(rt; fault, BuildFault::MissingTable(Class::KPK)),
-        Ok(_) => assert!(rt; false, "a table without its needs"),
-    }
+    let fault = fault_of(&rt, &alloc, &tables, Class::KPK, 262_144);
+    assert!(rt; fault == Some(BuildFault::MissingTable(Class::KQK)));
+    let fault = fault_of(&rt, &alloc, &tables, Class::KPKP, 33_554_432);
+    assert!(rt; fault == Some(BuildFault::MissingTable(Class::KPK)));
     for fault in [AddFault::MissingTable(Class::KK), AddFault::AlreadyHeld] {
         let (table, _) = table_of(&rt, &alloc, &tables, Class::KQK);
+        assert!(rt; table.class() == Class::KQK);
         let held = fault == AddFault::AlreadyHeld;
         let classes: &[Class] = if held { &[Class::KK, Class::KQK] } else { &[] };
         let mut others = set_of(&rt, &alloc, classes);
-        match others.add(table) {
-            Ok(()) => assert!(rt; false, "no fault, and not {fault}"),
-            Err(refused) => {
-                assert_eq!(rt; refused.fault, fault);
-                assert!(rt; refused.table.class() == Class::KQK);
-                assert!(rt; others.has(Class::KQK) == held);
-            }
-        }
+        assert!(rt; is_refused(&mut others, table, fault), "{fault}");
+        assert!(rt; others.has(Class::KQK) == held, "{fault}");
     }
 }
 
@@ -164,6 +145,28 @@ fn cell_of<A: Allocator>(
     *table.cells().get(number).expect(rt, "a cell")
 }
 
+/// Classes, numbers, cells as they are, and cells in their places that lie.
+const LIES: &str = "\
+KRK,20543,2,4
+KRK,20543,2,0
+KQK,41421,0,1
+KQK,44585,0,1";
+
+/// The table that is held but for the lie of a row.
+fn liar<'a, A: Allocator>(
+    rt: &impl Abort,
+    alloc: &'a A,
+    tables: &TableSet<'a, A>,
+    row: &str,
+) -> Table<'a, A> {
+    let class = class(rt, field(row, 0));
+    let number = number(rt, field(row, 1)) as usize;
+    let is = cell_of(rt, tables, class, number);
+    assert!(rt; byte(field(row, 2)) == Some(is), "{row}");
+    let lie = byte(field(row, 3)).expect(rt, "a cell");
+    changed(rt, alloc, tables, class, number, lie)
+}
+
 /// A built table is verified; one with a slower mate, a false draw, a stalemate as a mate, or a byte where no position
 /// is, is not.
 #[test]
@@ -171,25 +174,12 @@ fn verify_tells_right_tables_from_wrong_ones(rt: HostRuntime) {
     let alloc = rt.alloc();
     let tables = set_of(&rt, &alloc, &[Class::KK, Class::KQK, Class::KRK]);
     for class in [Class::KQK, Class::KRK] {
-        match tables.table(class) {
-            None => assert!(rt; false, "not held"),
-            Some(table) => {
-                assert!(rt; tables.ready(table.class()));
-                assert!(rt; verify(table, &tables), "{class:?}");
-            }
-        }
+        let table = tables.table(class).expect(&rt, "held");
+        assert!(rt; is_verified(&rt, table, &tables), "{class:?}");
     }
-    let rows = [
-        (Class::KRK, 20_543, 2, 4),
-        (Class::KRK, 20_543, 2, 0),
-        (Class::KQK, 41_421, 0, 1),
-        (Class::KQK, 44_585, 0, 1),
-    ];
-    for (class, number, is, lie) in rows {
-        assert_eq!(rt; cell_of(&rt, &tables, class, number), is);
-        let liar = changed(&rt, &alloc, &tables, class, number, lie);
-        assert!(rt; tables.ready(liar.class()));
-        assert!(rt; !verify(&liar, &tables), "{class:?} {number} {lie}");
+    for row in LIES.lines() {
+        let liar = liar(&rt, &alloc, &tables, row);
+        assert!(rt; !is_verified(&rt, &liar, &tables), "{row}");
     }
 }
 

@@ -1,5 +1,8 @@
 //! The text of a table, read back and damaged.
-use crate::texts::{KK, digest, exchanged, fault, one_page, text_of, text_of_kk, zero_table};
+use crate::texts::{
+    KK, are_equal, digest, exchanged, fault, has_fault, one_page, read, text_of, text_of_kk,
+    written, zero_table,
+};
 use std::alloc::Allocator;
 use std::io::ErrorKind;
 use std::process::Abort;
@@ -28,7 +31,7 @@ const KPKP: &[u8] =
 fn first_bytes<'a, A: Allocator>(rt: &impl Abort, alloc: &'a A, class: Class) -> Vec<u8, &'a A> {
     let table = zero_table(rt, alloc, class);
     let mut writer = MemoryWriter::with_room(alloc, 32, WhenFull::Fail);
-    assert_eq!(rt; write_table(&table, &mut writer), Err(FileFault::Device));
+    assert!(rt; write_table(&table, &mut writer) == Err(FileFault::Device));
     writer.taken
 }
 
@@ -36,14 +39,14 @@ fn first_bytes<'a, A: Allocator>(rt: &impl Abort, alloc: &'a A, class: Class) ->
 #[test]
 fn header_of_krk_is_as_the_format_tells(rt: HostRuntime) {
     let alloc = rt.alloc();
-    assert_eq!(rt; first_bytes(&rt, &alloc, Class::KRK).as_slice(), KRK);
+    assert!(rt; first_bytes(&rt, &alloc, Class::KRK).as_slice() == KRK);
 }
 
 /// The fields of the file of KPKP.
 #[test]
 fn header_of_kpkp_is_as_the_format_tells(rt: HostRuntime) {
     let alloc = rt.alloc();
-    assert_eq!(rt; first_bytes(&rt, &alloc, Class::KPKP).as_slice(), KPKP);
+    assert!(rt; first_bytes(&rt, &alloc, Class::KPKP).as_slice() == KPKP);
 }
 
 /// The header of these fields: the fields and their digest.
@@ -55,32 +58,37 @@ fn header_of<'a, A: Allocator>(rt: &impl Abort, alloc: &'a A, fields: &[u8]) -> 
     writer.taken
 }
 
+/// The fields of KPKP in version 1, which does not know it.
+const KPKP_BEFORE: &[u8] =
+    b"STUDYDTM\x01\x00\x00\x10\x00\x00\x00\x02KPKP\x00\x00\x00\x00\x00\x00\x00\x00\x00\x00\x00\x00";
+
+/// The fields of KPKP in a version to come.
+const KPKP_AFTER: &[u8] =
+    b"STUDYDTM\x03\x00\x00\x10\x00\x00\x00\x02KPKP\x00\x00\x00\x00\x00\x00\x00\x00\x00\x00\x00\x00";
+
+/// The fields of KQKP in version 1.
+const KQKP_BEFORE: &[u8] =
+    b"STUDYDTM\x01\x00\x00\x10\x00\x00\x00\x01KQKP\x00\x00\x00\x00\x00\x00\x00\x00\x00\x00\x00\x00";
+
+/// The fields of KRK in a version that never was.
+const KRK_NEVER: &[u8] =
+    b"STUDYDTM\x00\x00\x00\x10\x00\x40\x01\x00KRK\x00\x00\x00\x00\x00\x00\x00\x00\x00\x00\x00\x00\x00";
+
+/// Whether the header of these fields, with nothing after it, has this fault.
+fn header_has<A: Allocator>(rt: &impl Abort, alloc: &A, fields: &[u8], want: FileFault) -> bool {
+    let text = header_of(rt, alloc, fields);
+    has_fault(alloc, text.as_slice(), want)
+}
+
 /// A pawn against a pawn is known from version 2 on; of the other classes both versions are read.
 #[test]
 fn versions_that_are_not_known_are_refused(rt: HostRuntime) {
     let alloc = rt.alloc();
-    for (fields, want) in [
-        (
-            b"STUDYDTM\x01\x00\x00\x10\x00\x00\x00\x02KPKP\x00\x00\x00\x00\x00\x00\x00\x00\x00\x00\x00\x00".as_slice(),
-            FileFault::ClassUnknown,
-        ),
-        (KPKP, FileFault::Cut),
-        (
-            b"STUDYDTM\x03\x00\x00\x10\x00\x00\x00\x02KPKP\x00\x00\x00\x00\x00\x00\x00\x00\x00\x00\x00\x00".as_slice(),
-            FileFault::Version(3),
-        ),
-        (
-            b"STUDYDTM\x01\x00\x00\x10\x00\x00\x00\x01KQKP\x00\x00\x00\x00\x00\x00\x00\x00\x00\x00\x00\x00".as_slice(),
-            FileFault::Cut,
-        ),
-        (
-            b"STUDYDTM\x00\x00\x00\x10\x00\x40\x01\x00KRK\x00\x00\x00\x00\x00\x00\x00\x00\x00\x00\x00\x00\x00".as_slice(),
-            FileFault::Version(0),
-        ),
-    ] {
-        let text = header_of(&rt, &alloc, fields);
-        assert_eq!(rt; fault(&alloc, text.as_slice()), Some(want));
-    }
+    assert!(rt; header_has(&rt, &alloc, KPKP_BEFORE, FileFault::ClassUnknown));
+    assert!(rt; header_has(&rt, &alloc, KPKP, FileFault::Cut));
+    assert!(rt; header_has(&rt, &alloc, KPKP_AFTER, FileFault::Version(3)));
+    assert!(rt; header_has(&rt, &alloc, KQKP_BEFORE, FileFault::Cut));
+    assert!(rt; header_has(&rt, &alloc, KRK_NEVER, FileFault::Version(0)));
 }
 
 /// A text of version 1 is read, and what is read is written in version 2. Its pages do not pass under a header of version 2.
@@ -89,18 +97,10 @@ fn version_1_is_read_and_version_2_written(rt: HostRuntime) {
     let alloc = rt.alloc();
     let page = [0u8; 4096];
     let text = one_page(&rt, &alloc, KK_BEFORE, KK_BEFORE, page.as_slice());
-    let table = read_table(&alloc, &mut MemoryReader::new(text.as_slice()))
-        .ok()
-        .expect(&rt, "read");
-    let mut again = MemoryWriter::new(&alloc);
-    assert_eq!(rt; write_table(&table, &mut again), Ok(()));
-    let wanted = text_of_kk(&rt, &alloc);
-    assert!(rt; again.taken.as_slice() == wanted.as_slice());
+    let again = written(&rt, &alloc, &read(&rt, &alloc, text.as_slice()));
+    assert!(rt; again.as_slice() == text_of_kk(&rt, &alloc).as_slice());
     let mixed = one_page(&rt, &alloc, KK, KK_BEFORE, page.as_slice());
-    assert_eq!(rt;
-        fault(&alloc, mixed.as_slice()),
-        Some(FileFault::PageDamaged(0))
-    );
+    assert!(rt; has_fault(&alloc, mixed.as_slice(), FileFault::PageDamaged(0)));
 }
 
 /// The number of bytes of a file of each size.
@@ -141,11 +141,23 @@ fn fault_of_place(place: usize, version: u16) -> FileFault {
 fn each_prefix_is_told_as_cut_off(rt: HostRuntime) {
     let alloc = rt.alloc();
     let text = text_of_kk(&rt, &alloc);
-    assert_eq!(rt; fault(&alloc, text.as_slice()), None);
+    assert!(rt; fault(&alloc, text.as_slice()).is_none());
     for length in 0..4192usize {
         let (prefix, _) = text.as_slice().split_at(length.min(text.len()));
-        assert_eq!(rt; fault(&alloc, prefix), Some(FileFault::Cut), "{length}");
+        assert!(rt; has_fault(&alloc, prefix, FileFault::Cut), "{length}");
     }
+}
+
+/// Whether a bit that is turned at a place is found and named by it. It is turned back.
+fn is_named<A: Allocator>(alloc: &A, text: &mut [u8], place: usize, bit: u8) -> bool {
+    let version = match place {
+        8 => 2 ^ bit as u16,
+        _ => 2 + 256 * bit as u16,
+    };
+    turn(text, place, bit);
+    let is_named = has_fault(alloc, text, fault_of_place(place, version));
+    turn(text, place, bit);
+    is_named
 }
 
 /// Each turned bit is found and named by its place.
@@ -155,27 +167,22 @@ fn each_turned_bit_is_found_and_named(rt: HostRuntime) -> Result<(), Fail> {
     let mut text = text_of_kk(&rt, &alloc);
     for place in 0..4192usize {
         for bit in [1u8, 2, 4, 8, 16, 32, 64, 128] {
-            let version = match place {
-                8 => 2 ^ bit as u16,
-                _ => 2 + 256 * bit as u16,
-            };
-            turn(text.as_mut_slice(), place, bit);
-            let want = fault_of_place(place, version);
-            assert_eq!(rt; fault(&alloc, text.as_slice()), Some(want), "{place}");
-            turn(text.as_mut_slice(), place, bit);
+            assert!(rt;
+                is_named(&alloc, text.as_mut_slice(), place, bit),
+                "{place}"
+            );
         }
     }
     text.push(0)?;
-    assert_eq!(rt;
-        fault(&alloc, text.as_slice()),
-        Some(FileFault::TrailingBytes)
-    );
+    assert!(rt; has_fault(&alloc, text.as_slice(), FileFault::TrailingBytes));
     let mut failing = MemoryReader::failing_after(text.as_slice(), 100);
-    assert_eq!(rt;
-        read_table(&alloc, &mut failing).err(),
-        Some(FileFault::Device)
-    );
+    assert!(rt; read_table(&alloc, &mut failing).err() == Some(FileFault::Device));
     Ok(())
+}
+
+/// Whether the device failed while the table was written.
+fn is_cut_short<A: Allocator>(table: &Table<'_, A>, writer: &mut MemoryWriter<'_, A>) -> bool {
+    write_table(table, writer) == Err(FileFault::Device)
 }
 
 /// The table is not written; the writer took a prefix of the text, and was not asked again.
@@ -185,10 +192,14 @@ fn stops<A: Allocator>(
     writer: &mut MemoryWriter<'_, A>,
     text: &[u8],
 ) {
-    assert_eq!(rt; write_table(table, writer), Err(FileFault::Device));
+    assert!(rt; is_cut_short(table, writer), "{}", writer.room);
     let (front, _) = text.split_at(writer.room.min(text.len()));
-    assert!(rt; writer.taken.as_slice() == front, "{}", writer.room);
-    assert_eq!(rt; writer.errors, 1, "{}", writer.room);
+    assert!(rt;
+        are_equal(writer.taken.as_slice(), front),
+        "{}",
+        writer.room
+    );
+    assert!(rt; writer.errors == 1, "{}", writer.room);
 }
 
 /// A writer that is full before the end has taken a prefix of the text, whatever it answers then, and whether or not it
@@ -209,32 +220,33 @@ fn a_full_writer_has_a_prefix(rt: HostRuntime) {
     }
 }
 
+/// That the source gives the header of KK, and its page after it failed once, and no other page.
+fn expect_pages<S: PageSource>(rt: &impl Abort, source: &mut S) {
+    let mut bytes = [0u8; 64];
+    assert!(rt; source.header(&mut bytes).is_ok());
+    let header = read_header(&bytes).ok().expect(rt, "a header");
+    assert!(rt; header.class == Class::KK);
+    let mut page = [0u8; 4128];
+    assert!(rt; source.page(0, &mut page) == Err(SourceFault::Device));
+    assert!(rt; source.page(0, &mut page).is_ok());
+    assert!(rt; page_cells(&header, 0, &page));
+    assert!(rt; !page_cells(&header, 1, &page));
+    assert!(rt; source.page(1, &mut page) == Err(SourceFault::Short));
+    assert!(rt; source.failures() == 2);
+}
+
 /// The pages of a text, one by one, from a source that fails when it is told.
 #[test]
-fn pages_are_read_one_by_one(rt: HostRuntime) -> Result<(), Fail> {
+fn pages_are_read_one_by_one(rt: HostRuntime) {
     let alloc = rt.alloc();
-    let table = zero_table(&rt, &alloc, Class::KK);
-    let mut writer = MemoryWriter::new(&alloc);
-    assert_eq!(rt; write_table(&table, &mut writer), Ok(()));
-    let text = writer.taken;
+    let text = text_of(&rt, &alloc, Class::KK);
     let mut source = MemorySource {
         text: text.as_slice(),
         asked: 0,
         fails_at: Some(1),
         failures: 0,
     };
-    let mut bytes = [0u8; 64];
-    assert_eq!(rt; source.header(&mut bytes), Ok(()));
-    let header = read_header(&bytes).ok().expect(&rt, "a header");
-    assert_eq!(rt; header.class, Class::KK);
-    let mut page = [0u8; 4128];
-    assert_eq!(rt; source.page(0, &mut page), Err(SourceFault::Device));
-    assert_eq!(rt; source.page(0, &mut page), Ok(()));
-    assert!(rt; page_cells(&header, 0, &page));
-    assert!(rt; !page_cells(&header, 1, &page));
-    assert_eq!(rt; source.page(1, &mut page), Err(SourceFault::Short));
-    assert_eq!(rt; source.failures(), 2);
-    Ok(())
+    expect_pages(&rt, &mut source);
 }
 
 /// A cell after the last one that is not zero, under the digest that it asks for.
@@ -244,7 +256,7 @@ fn bytes_after_the_last_cell_have_to_be_zero(rt: HostRuntime) {
     let mut page = [0u8; 4096];
     page[2000] = 1;
     let text = one_page(&rt, &alloc, KK, KK, page.as_slice());
-    assert_eq!(rt; fault(&alloc, text.as_slice()), Some(FileFault::Padding));
+    assert!(rt; has_fault(&alloc, text.as_slice(), FileFault::Padding));
 }
 
 /// A header with some fields changed and the digest made anew has the first fault in the order of the fields.
@@ -270,7 +282,7 @@ fn the_first_fault_of_a_header_is_told(rt: HostRuntime) {
             }
         }
         let text = header_of(&rt, &alloc, fields.as_slice());
-        assert_eq!(rt; fault(&alloc, text.as_slice()), Some(want));
+        assert!(rt; has_fault(&alloc, text.as_slice(), want), "{want}");
     }
 }
 
@@ -282,14 +294,11 @@ fn faults_have_texts(rt: HostRuntime) -> Result<(), Fail> {
         (FileFault::PageDamaged(3), "page 3 of the file is damaged"),
     ] {
         let text = format!(in rt.alloc(); "{fault}")?;
-        assert_eq!(rt; text.as_str(), want);
+        assert!(rt; text.as_str() == want, "{want}");
     }
     let short = SourceFault::Short;
     let text = format!(in rt.alloc(); "{short}: {DeviceFailed}")?;
-    assert_eq!(rt;
-        text.as_str(),
-        "the file of a table is too short: a device failed"
-    );
+    assert!(rt; text.as_str() == "the file of a table is too short: a device failed");
     Ok(())
 }
 
@@ -301,6 +310,6 @@ fn exchanged_pages_are_told(rt: HostRuntime) {
     let wrong = exchanged(&rt, &alloc, text.as_slice());
     let mut reader = MemoryReader::new(wrong.as_slice());
     let answer = read_table(&alloc, &mut reader).err();
-    assert_eq!(rt; answer, Some(FileFault::PageDamaged(3)));
-    assert_eq!(rt; reader.given, 64 + 4 * 4128);
+    assert!(rt; answer == Some(FileFault::PageDamaged(3)));
+    assert!(rt; reader.given == 64 + 4 * 4128);
 }

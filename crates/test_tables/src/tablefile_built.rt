@@ -1,11 +1,19 @@
 //! A built table, written to a file, read back and damaged.
-use crate::tables::{changed, set_of};
-use crate::texts::{exchanged, fault};
+use crate::tables::{changed, is_verified, set_of};
+use crate::texts::{are_same, exchanged, has_fault, read, written};
+use std::alloc::Allocator;
+use std::process::Abort;
 use std::test::Fail;
 use study_material::Class;
-use study_retro::verify;
-use study_tablefile::memory::{MemoryReader, MemoryWriter};
-use study_tablefile::{FileFault, read_table, write_table};
+use study_tablefile::FileFault;
+
+/// That texts that come of this one, which is whole, have their faults.
+fn expect_faults<A: Allocator>(rt: &impl Abort, alloc: &A, text: &[u8]) {
+    let wrong = exchanged(rt, alloc, text);
+    assert!(rt; has_fault(alloc, wrong.as_slice(), FileFault::PageDamaged(3)));
+    let (_, prefix) = text.split_last().expect(rt, "a byte");
+    assert!(rt; has_fault(alloc, prefix, FileFault::Cut));
+}
 
 /// The table of king and rook against king, through a writer that takes a byte a call and a reader that gives one.
 #[test]
@@ -13,33 +21,20 @@ fn the_table_of_krk_is_read_as_it_was_written(rt: HostRuntime) -> Result<(), Fai
     let alloc = rt.alloc();
     let tables = set_of(&rt, &alloc, &[Class::KK, Class::KRK]);
     let table = tables.table(Class::KRK).expect(&rt, "held");
-    let mut writer = MemoryWriter::new(&alloc);
-    assert_eq!(rt; write_table(table, &mut writer), Ok(()));
-    let mut text = writer.taken;
-    assert_eq!(rt; text.len(), 82_624);
-    assert_eq!(rt; text.get(8), Some(&2));
-    assert_eq!(rt; text.get(9), Some(&0));
-    let again = read_table(&alloc, &mut MemoryReader::new(text.as_slice()))
-        .ok()
-        .expect(&rt, "read");
+    let mut text = written(&rt, &alloc, table);
+    assert!(rt; text.len() == 82_624);
+    assert!(rt; text.get(8) == Some(&2));
+    assert!(rt; text.get(9) == Some(&0));
+    let again = read(&rt, &alloc, text.as_slice());
     assert!(rt; again.class() == Class::KRK);
-    assert!(rt; again.cells() == table.cells());
-    let wrong = exchanged(&rt, &alloc, text.as_slice());
-    assert_eq!(rt;
-        fault(&alloc, wrong.as_slice()),
-        Some(FileFault::PageDamaged(3))
-    );
-    let (prefix, _) = text.as_slice().split_at(text.len().min(82_623));
-    assert_eq!(rt; fault(&alloc, prefix), Some(FileFault::Cut));
+    assert!(rt; are_same(&again, table));
+    expect_faults(&rt, &alloc, text.as_slice());
     text.push(0)?;
-    assert_eq!(rt;
-        fault(&alloc, text.as_slice()),
-        Some(FileFault::TrailingBytes)
-    );
+    assert!(rt; has_fault(&alloc, text.as_slice(), FileFault::TrailingBytes));
     if let Some(version) = text.as_mut_slice().get_mut(8) {
         *version = 9;
     }
-    assert_eq!(rt; fault(&alloc, text.as_slice()), Some(FileFault::Version(9)));
+    assert!(rt; has_fault(&alloc, text.as_slice(), FileFault::Version(9)));
     Ok(())
 }
 
@@ -50,12 +45,8 @@ fn a_lying_table_is_read_and_not_verified(rt: HostRuntime) {
     let tables = set_of(&rt, &alloc, &[Class::KK, Class::KRK]);
     for (cell, right) in [(2, true), (4, false)] {
         let table = changed(&rt, &alloc, &tables, Class::KRK, 20_543, cell);
-        let mut writer = MemoryWriter::new(&alloc);
-        assert_eq!(rt; write_table(&table, &mut writer), Ok(()));
-        let read = read_table(&alloc, &mut MemoryReader::new(writer.taken.as_slice()))
-            .ok()
-            .expect(&rt, "read");
-        assert!(rt; tables.ready(read.class()));
-        assert!(rt; verify(&read, &tables) == right, "{cell}");
+        let text = written(&rt, &alloc, &table);
+        let read = read(&rt, &alloc, text.as_slice());
+        assert!(rt; is_verified(&rt, &read, &tables) == right, "{cell}");
     }
 }

@@ -18,9 +18,37 @@ fn put_letters<A: Allocator>(
     want: Result<(), DeviceFailed>,
     taken: &str,
 ) {
-    assert_eq!(rt; put(writer, b"abc"), want, "{taken}");
-    assert_eq!(rt; writer.taken.as_slice(), taken.as_bytes());
-    assert_eq!(rt; writer.errors, want.is_err() as u64, "{taken}");
+    assert!(rt; put(writer, b"abc") == want, "{taken}");
+    assert!(rt; writer.taken.as_slice() == taken.as_bytes(), "{taken}");
+    assert!(rt; writer.errors == want.is_err() as u64, "{taken}");
+}
+
+/// A writer that is full fails each time.
+fn fails_each_time<A: Allocator>(
+    rt: &impl Abort,
+    mut full: MemoryWriter<'_, A>,
+    want: Result<(), DeviceFailed>,
+    taken: &str,
+) {
+    put_letters(rt, &mut full, want, taken);
+    assert!(rt; put(&mut full, b"d").is_err(), "{taken}");
+    assert!(rt; full.errors == want.is_err() as u64 + 1, "{taken}");
+}
+
+/// A writer that is full once goes on after it failed, whether in the first three letters or in the next.
+fn fails_once<A: Allocator>(
+    rt: &impl Abort,
+    mut recovers: MemoryWriter<'_, A>,
+    want: Result<(), DeviceFailed>,
+    taken: &str,
+) {
+    recovers.kind = ErrorKind::Interrupted;
+    put_letters(rt, &mut recovers, want, taken);
+    assert!(rt;
+        put(&mut recovers, b"d").is_ok() == want.is_err(),
+        "{taken}"
+    );
+    assert!(rt; recovers.errors == 1, "{taken}");
 }
 
 /// Writers fail, or take nothing, where they are told, each time or once.
@@ -33,50 +61,46 @@ fn writers_in_memory_fail_where_they_are_told(rt: HostRuntime) {
             (2, Err(DeviceFailed), "ab"),
             (3, Ok(()), "abc"),
         ] {
-            let mut full = MemoryWriter::with_room(&alloc, room, when_full);
-            put_letters(&rt, &mut full, want, taken);
-            let again = put(&mut full, b"d");
-            assert_eq!(rt; again, Err(DeviceFailed), "at {room}");
-            assert_eq!(rt; full.errors, want.is_err() as u64 + 1);
-
-            let mut recovers = MemoryWriter::full_once(&alloc, room, when_full);
-            recovers.kind = ErrorKind::Interrupted;
-            put_letters(&rt, &mut recovers, want, taken);
-            let again = put(&mut recovers, b"d");
-            assert_eq!(rt;
-                again,
-                want.map_or(Ok(()), |_| Err(DeviceFailed)),
-                "at {room}"
-            );
-            assert_eq!(rt; recovers.errors, 1);
+            let full = MemoryWriter::with_room(&alloc, room, when_full);
+            fails_each_time(&rt, full, want, taken);
+            let recovers = MemoryWriter::full_once(&alloc, room, when_full);
+            fails_once(&rt, recovers, want, taken);
         }
     }
     let mut full = MemoryWriter::with_room(&alloc, 0, WhenFull::Fail);
-    assert_eq!(rt; put(&mut full, b""), Ok(()));
+    assert!(rt; put(&mut full, b"").is_ok());
     assert!(rt; full.flush().is_ok() && full.errors == 0);
+}
+
+/// Reads to the end: how many bytes, if the reader does not fail.
+fn read_on(reader: &mut MemoryReader<'_>, text: &mut Vec<u8>) -> Option<usize> {
+    reader.read_to_end(text).ok()
+}
+
+fn is_text(bytes: &[u8], text: &str) -> bool {
+    bytes == text.as_bytes()
 }
 
 /// Readers fail where they are told, each time or once.
 #[test]
-fn readers_in_memory_fail_where_they_are_told(rt: HostRuntime) -> Result<(), Fail> {
+fn readers_in_memory_fail_where_they_are_told(rt: HostRuntime) {
     let mut text = Vec::new(rt.alloc());
-    assert_eq!(rt; MemoryReader::new(b"abc").read_to_end(&mut text)?, 3);
-    assert_eq!(rt; text.as_slice(), b"abc".as_slice());
+    assert!(rt; read_on(&mut MemoryReader::new(b"abc"), &mut text) == Some(3));
+    assert!(rt; is_text(text.as_slice(), "abc"));
     let mut failing = MemoryReader::failing_after(b"abc", 2);
-    assert!(rt; failing.read_to_end(&mut text).is_err());
-    assert!(rt; failing.read_to_end(&mut text).is_err());
-    assert_eq!(rt; text.as_slice(), b"abcab".as_slice());
-    assert_eq!(rt; failing.errors, 2);
+    assert!(rt; read_on(&mut failing, &mut text).is_none());
+    assert!(rt; read_on(&mut failing, &mut text).is_none());
+    assert!(rt; is_text(text.as_slice(), "abcab"));
+    assert!(rt; failing.errors == 2);
     let mut recovers = MemoryReader::failing_once(b"abc", 2);
-    assert!(rt; recovers.read_to_end(&mut text).is_err());
-    assert_eq!(rt; recovers.read_to_end(&mut text)?, 1);
-    assert_eq!(rt; text.as_slice(), b"abcababc".as_slice());
-    assert_eq!(rt; recovers.errors, 1);
+    assert!(rt; read_on(&mut recovers, &mut text).is_none());
+    assert!(rt; read_on(&mut recovers, &mut text) == Some(1));
+    assert!(rt; is_text(text.as_slice(), "abcababc"));
+    assert!(rt; recovers.errors == 1);
     let mut interrupted = MemoryReader::failing_once(b"abc", 2);
     interrupted.kind = ErrorKind::Interrupted;
-    assert_eq!(rt; interrupted.read_to_end(&mut text)?, 3);
-    assert_eq!(rt; interrupted.errors, 1);
-    Ok(())
+    assert!(rt; read_on(&mut interrupted, &mut text) == Some(3));
+    assert!(rt; interrupted.errors == 1);
 }
 
 /// The device's failure is told after so many bytes, and the reader is not asked again.
@@ -87,9 +111,9 @@ fn fails_after<A: Allocator>(
     count: usize,
 ) {
     let answer = read_table(alloc, reader).err();
-    assert_eq!(rt; answer, Some(FileFault::Device), "{count}");
-    assert_eq!(rt; reader.given, count);
-    assert_eq!(rt; reader.errors, 1, "{count}");
+    assert!(rt; answer == Some(FileFault::Device), "{count}");
+    assert!(rt; reader.given == count);
+    assert!(rt; reader.errors == 1, "{count}");
 }
 
 /// A reader that fails after so many bytes, at the end too, whether or not it would go on.
@@ -137,6 +161,15 @@ fn ask<S: PageSource>(
     }
 }
 
+/// Whether the header is that of KRK in version 2, and the page that the question asked for is whole.
+fn is_given(rt: &impl Abort, bytes: &[u8; 64], question: u32, page: &[u8; 4128]) -> bool {
+    let header = read_header(bytes).ok().expect(rt, "a header");
+    header.class == Class::KRK
+        && header.version == 2
+        && header.cells == 81_920
+        && (question == 0 || page_cells(&header, question - 1, page))
+}
+
 /// Asks all questions. One of them fails: it is told and counted, and the same question asked again is answered.
 fn ask_all<S: PageSource>(rt: &impl Abort, source: &mut S, fails_at: u32) {
     let mut bytes = [0u8; 64];
@@ -144,23 +177,18 @@ fn ask_all<S: PageSource>(rt: &impl Abort, source: &mut S, fails_at: u32) {
     for question in 0..21u32 {
         if question == fails_at {
             let answer = ask(source, question, &mut bytes, &mut page);
-            assert_eq!(rt; answer, Err(SourceFault::Device), "{question}");
+            assert!(rt; answer == Err(SourceFault::Device), "{question}");
         }
         let failures = (fails_at <= question) as u64;
-        assert_eq!(rt; source.failures(), failures, "{question}");
+        assert!(rt; source.failures() == failures, "{question}");
         let answer = ask(source, question, &mut bytes, &mut page);
-        assert_eq!(rt; answer, Ok(()), "{question}");
-        assert_eq!(rt; source.failures(), failures, "{question}");
-        let header = read_header(&bytes).ok().expect(rt, "a header");
-        assert!(rt; header.class == Class::KRK && header.version == 2 && header.cells == 81_920);
-        assert!(rt;
-            question == 0 || page_cells(&header, question - 1, &page),
-            "{question}"
-        );
+        assert!(rt; answer.is_ok(), "{question}");
+        assert!(rt; source.failures() == failures, "{question}");
+        assert!(rt; is_given(rt, &bytes, question, &page), "{question}");
     }
     let answer = ask(source, 21, &mut bytes, &mut page);
-    assert_eq!(rt; answer, Err(SourceFault::Short));
-    assert_eq!(rt; source.failures(), (fails_at <= 20) as u64 + 1);
+    assert!(rt; answer == Err(SourceFault::Short));
+    assert!(rt; source.failures() == (fails_at <= 20) as u64 + 1);
 }
 
 /// Each question in turn fails.
@@ -179,6 +207,21 @@ fn each_question_to_a_source_fails_in_turn(rt: HostRuntime) {
     }
 }
 
+/// Whether the text is read as the table of zero cells of its class; where it is not, there is no memory.
+fn is_read<A: Allocator>(rt: &impl Abort, heap: &A, class: Class, text: &[u8]) -> bool {
+    match read_table(heap, &mut MemoryReader::new(text)) {
+        Ok(table) => {
+            assert!(rt; table.class() == class);
+            assert!(rt; table.cells().iter().all(|cell| *cell == 0));
+            true
+        }
+        Err(fault) => {
+            assert!(rt; fault == FileFault::OutOfMemory, "{fault}");
+            false
+        }
+    }
+}
+
 /// Heaps that grow step by step: there is no memory for the table, until there is.
 #[test]
 fn each_growth_of_a_table_is_refused_in_turn(rt: HostRuntime) -> Result<(), Fail> {
@@ -188,18 +231,11 @@ fn each_growth_of_a_table_is_refused_in_turn(rt: HostRuntime) -> Result<(), Fail
         let (mut refused, mut read) = (0u32, false);
         for turn in 0..400usize {
             let heap = LocalHeap::new(rt.alloc(), 64 + turn * step)?;
-            match read_table(&heap, &mut MemoryReader::new(text.as_slice())) {
-                Ok(table) => {
-                    assert!(rt; table.class() == class);
-                    assert!(rt; table.cells().iter().all(|cell| *cell == 0));
-                    read = true;
-                    break;
-                }
-                Err(fault) => {
-                    assert_eq!(rt; fault, FileFault::OutOfMemory, "{turn}");
-                    refused = refused.saturating_add(1);
-                }
+            if is_read(&rt, &heap, class, text.as_slice()) {
+                read = true;
+                break;
             }
+            refused = refused.saturating_add(1);
         }
         assert!(rt; read && refused > 0);
     }

@@ -1,22 +1,17 @@
 //! A table of zero cells of each size, written byte by byte and read back byte by byte.
-use crate::texts::zero_table;
+use crate::texts::{are_same, read, written, zero_table};
 use std::alloc::Allocator;
 use std::process::Abort;
 use study_material::Class;
-use study_tablefile::memory::{MemoryReader, MemoryWriter};
-use study_tablefile::{read_table, write_table};
 
 /// The table of zero cells is written as so many bytes, which are read as this table.
 fn comes_back<A: Allocator>(rt: &impl Abort, alloc: &A, class: Class, bytes: u32) {
     let table = zero_table(rt, alloc, class);
-    let mut writer = MemoryWriter::new(alloc);
-    assert_eq!(rt; write_table(&table, &mut writer), Ok(()));
-    assert_eq!(rt; writer.taken.len(), bytes as usize);
-    let again = read_table(alloc, &mut MemoryReader::new(writer.taken.as_slice()))
-        .ok()
-        .expect(rt, "read");
+    let text = written(rt, alloc, &table);
+    assert!(rt; text.len() == bytes as usize);
+    let again = read(rt, alloc, text.as_slice());
     assert!(rt; again.class() == class);
-    assert!(rt; again.cells() == table.cells());
+    assert!(rt; are_same(&again, &table));
 }
 
 #[test]

@@ -3,7 +3,7 @@ use std::alloc::Allocator;
 use std::process::Abort;
 use study_index::cells;
 use study_material::Class;
-use study_retro::{BuildReport, BuildRoom, Table, TableSet, build};
+use study_retro::{BuildReport, BuildRoom, Table, TableSet, build, verify};
 
 /// A table, built over the tables of a set, and the report.
 pub fn table_of<'a, A: Allocator>(
@@ -56,4 +56,14 @@ pub fn changed<'a, A: Allocator>(
     cells[number] = cell;
     assert!(rt; cells.len() == study_index::cells(class) as usize);
     Table::from_cells(class, cells)
+}
+
+/// Whether the table, whose needs the set holds, is verified.
+pub fn is_verified<'a, A: Allocator>(
+    rt: &impl Abort,
+    table: &Table<'a, A>,
+    tables: &TableSet<'a, A>,
+) -> bool {
+    assert!(rt; tables.ready(table.class()));
+    verify(table, tables)
 }

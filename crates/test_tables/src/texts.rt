@@ -37,9 +37,42 @@ pub fn zero_table<'a, A: Allocator>(rt: &impl Abort, alloc: &'a A, class: Class)
     Table::from_cells(class, zeros)
 }
 
+/// The text of a table.
+pub fn written<'a, A: Allocator>(
+    rt: &impl Abort,
+    alloc: &'a A,
+    table: &Table<'_, A>,
+) -> Vec<u8, &'a A> {
+    let mut writer = MemoryWriter::new(alloc);
+    assert!(rt; write_table(table, &mut writer).is_ok());
+    writer.taken
+}
+
+/// The table that a text is read as.
+pub fn read<'a, A: Allocator>(rt: &impl Abort, alloc: &'a A, text: &[u8]) -> Table<'a, A> {
+    match read_table(alloc, &mut MemoryReader::new(text)) {
+        Ok(table) => table,
+        Err(fault) => panic!(rt; "{fault}"),
+    }
+}
+
+/// Whether both tables have the same class and the same cells.
+pub fn are_same<A: Allocator>(table: &Table<'_, A>, other: &Table<'_, A>) -> bool {
+    table.class() == other.class() && are_equal(table.cells(), other.cells())
+}
+
+pub fn are_equal(bytes: &[u8], others: &[u8]) -> bool {
+    bytes == others
+}
+
 /// The fault of a text.
 pub fn fault<A: Allocator>(alloc: &A, text: &[u8]) -> Option<FileFault> {
     read_table(alloc, &mut MemoryReader::new(text)).err()
+}
+
+/// Whether a text has this fault.
+pub fn has_fault<A: Allocator>(alloc: &A, text: &[u8], want: FileFault) -> bool {
+    fault(alloc, text) == Some(want)
 }
 
 /// A header of these fields, and a page of KK under the digest that other fields ask for.
@@ -64,10 +97,7 @@ pub fn one_page<'a, A: Allocator>(
 
 /// The text of a table with zero cells.
 pub fn text_of<'a, A: Allocator>(rt: &impl Abort, alloc: &'a A, class: Class) -> Vec<u8, &'a A> {
-    let table = zero_table(rt, alloc, class);
-    let mut writer = MemoryWriter::new(alloc);
-    assert!(rt; write_table(&table, &mut writer).is_ok());
-    writer.taken
+    written(rt, alloc, &zero_table(rt, alloc, class))
 }
 
 /// The text of the table of KK with zero cells, as the description of the format tells it.
