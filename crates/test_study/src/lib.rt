@@ -5,6 +5,8 @@
 #![tactic(auto)]
 
 #[cfg(test)]
+mod calls;
+#[cfg(test)]
 mod heaps;
 #[cfg(test)]
 mod marks;
@@ -12,8 +14,6 @@ mod marks;
 mod marks_faults;
 #[cfg(test)]
 mod marks_pages;
-#[cfg(test)]
-mod marks_random;
 #[cfg(test)]
 mod pgn;
 #[cfg(test)]

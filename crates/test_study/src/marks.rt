@@ -1,16 +1,17 @@
 //! Studies edit by edit: their marks, and what each call tells of them. Most marks are tested by the scripts of test_script.
 ghost use Rattle.std.specs.Prelude.{◌≡◌, Ok, true};
 
+use crate::calls;
 use crate::studies::{QUEEN, move_of, path_of, start_of, tables_of};
 use arrayvec::ArrayString;
-use std::alloc::Allocator;
+use std::alloc::{Allocator, Global};
 use std::process::Abort;
 use study_board::{Position, Side, Square};
 use study_index::cells;
 use study_marks::{Bench, Edit, Goal, Mark, MoveMark, Refusal, Stipulation, TagName};
 use study_material::Class;
 use study_moves::Move;
-use study_notation::write_fen;
+use study_notation::{Start, write_fen};
 use study_prober::{ProbeFault, Values};
 use study_retro::Value;
 use study_tree::Path;
@@ -21,7 +22,18 @@ fn mark_at<'a, A: Allocator>(
     bench: &Bench<'a, A>,
     steps: &[u16],
 ) -> Mark {
-    bench.mark(&path_of(rt, alloc, steps)).expect(rt, "a node")
+    calls::mark(bench, &path_of(rt, alloc, steps)).expect(rt, "a node")
+}
+
+/// The node at these steps has this mark.
+fn expect_mark<'a, A: Allocator>(
+    rt: &impl Abort,
+    alloc: &'a A,
+    bench: &Bench<'a, A>,
+    steps: &[u16],
+    wanted: Mark,
+) {
+    assert_eq!(rt; mark_at(rt, alloc, bench, steps), wanted, "{steps:?}");
 }
 
 const ROOT: Mark = Mark {
@@ -44,10 +56,38 @@ const MISTAKE: Mark = Mark {
 
 /// The marks of the study with a queen: the mate is a dual with 21 others, the stalemate a mistake.
 fn expect_queen_marks<'a, A: Allocator>(rt: &impl Abort, alloc: &'a A, bench: &Bench<'a, A>) {
-    assert_eq!(rt; mark_at(rt, alloc, bench, &[]), ROOT);
-    assert_eq!(rt; mark_at(rt, alloc, bench, &[0]), DUAL);
-    assert_eq!(rt; mark_at(rt, alloc, bench, &[1]), MISTAKE);
-    assert_eq!(rt; bench.size(), 3);
+    expect_mark(rt, alloc, bench, &[], ROOT);
+    expect_mark(rt, alloc, bench, &[0], DUAL);
+    expect_mark(rt, alloc, bench, &[1], MISTAKE);
+    assert_eq!(rt; calls::size(bench), 3);
+}
+
+/// So many labels were written, and so many values asked.
+fn expect_counts<A: Allocator, V: Values>(
+    rt: &impl Abort,
+    bench: &Bench<'_, A>,
+    values: &V,
+    labels: u64,
+    asked: u64,
+) {
+    assert!(rt; calls::relabelled(bench) == labels, "{labels} {asked}");
+    assert!(rt; values.asked() == asked, "{labels} {asked}");
+}
+
+/// The stalemate is put before the mate, and the mate, then the second move, is deleted.
+fn expect_promotion_and_deletion<'a, A: Allocator>(
+    rt: &impl Abort,
+    alloc: &'a A,
+    bench: &mut Bench<'a, A>,
+) {
+    let second = path_of(rt, alloc, &[1]);
+    assert!(rt; calls::promote(bench, &second).is_ok());
+    expect_mark(rt, alloc, bench, &[], ROOT);
+    expect_mark(rt, alloc, bench, &[0], MISTAKE);
+    assert_eq!(rt; calls::relabelled(bench), 6);
+    assert!(rt; calls::delete(bench, &second).is_ok());
+    assert_eq!(rt; calls::size(bench), 2);
+    assert_eq!(rt; calls::relabelled(bench), 7);
 }
 
 /// Each edit writes the labels of one path, a stipulation those of all nodes; none but an insertion asks a value. The root has 25
@@ -57,26 +97,52 @@ fn edits_write_the_labels_of_one_path(rt: HostRuntime) {
     let alloc = rt.alloc();
     let mut values = tables_of(&rt, &alloc, &[Class::KK, Class::KQK]);
     let bench = QUEEN.root(&rt, &alloc, &mut values);
-    assert_eq!(rt; (bench.relabelled(), values.asked()), (1, 26));
+    expect_counts(&rt, &bench, &values, 1, 26);
     let mut bench = QUEEN.study(&rt, &alloc, &mut values);
     expect_queen_marks(&rt, &alloc, &bench);
-    assert_eq!(rt; (bench.relabelled(), values.asked()), (5, 54));
-    assert!(rt; bench.promote(&path_of(&rt, &alloc, &[1])).is_ok());
-    assert_eq!(rt; mark_at(&rt, &alloc, &bench, &[]), ROOT);
-    assert_eq!(rt; mark_at(&rt, &alloc, &bench, &[0]), MISTAKE);
-    assert_eq!(rt; bench.relabelled(), 6);
-    assert!(rt; bench.delete(&path_of(&rt, &alloc, &[1])).is_ok());
-    assert_eq!(rt; (bench.size(), bench.relabelled()), (2, 7));
-    bench.set_stipulation(Stipulation {
+    expect_counts(&rt, &bench, &values, 5, 54);
+    expect_promotion_and_deletion(&rt, &alloc, &mut bench);
+    let draw = Stipulation {
         hero: Side::White,
         goal: Goal::Draw,
-    });
+    };
+    calls::set_stipulation(&mut bench, draw);
     let one_of_25 = Mark {
         on_move: Some(MoveMark::Dual(24)),
         ..MISTAKE
     };
-    assert_eq!(rt; mark_at(&rt, &alloc, &bench, &[0]), one_of_25);
-    assert_eq!(rt; (bench.relabelled(), values.asked()), (9, 54));
+    expect_mark(&rt, &alloc, &bench, &[0], one_of_25);
+    expect_counts(&rt, &bench, &values, 9, 54);
+}
+
+fn expect_fen(rt: &impl Abort, start: &Start, fen: &str) {
+    assert_eq!(rt; write_fen(start).as_str(), fen);
+}
+
+/// What is told of the start and of the root.
+fn expect_root<'a, A: Allocator>(rt: &impl Abort, alloc: &'a A, bench: &Bench<'a, A>) {
+    expect_fen(rt, bench.start(), QUEEN.fen);
+    assert!(rt; bench.stipulation().goal == Goal::Win && bench.stipulation().hero == Side::White);
+    let root = Path::root(alloc);
+    assert!(rt; calls::children(bench, &root) == Some(2) && calls::move_at(bench, &root).is_none());
+}
+
+/// What is told of the stalemate.
+fn expect_stalemate<'a, A: Allocator>(rt: &impl Abort, alloc: &'a A, bench: &Bench<'a, A>) {
+    let second = path_of(rt, alloc, &[1]);
+    let stalemate = move_of(rt, bench, &Path::root(alloc), "Qh2");
+    assert!(rt; calls::children(bench, &second) == Some(0));
+    assert!(rt; calls::move_at(bench, &second) == Some(stalemate));
+    let shown = calls::shown(bench, &[1]).expect(rt, "a node");
+    assert!(rt; shown.played == Some(stalemate) && shown.mark == MISTAKE && shown.children == 0);
+    let start = calls::start_at(bench, &second).expect(rt, "a node");
+    expect_fen(rt, &start, "k7/8/1K6/8/8/8/7Q/8 b - - 1 1");
+}
+
+/// The event has this text once it is set, and the site has none.
+fn expect_tag<A: Allocator>(rt: &impl Abort, bench: &mut Bench<'_, A>, text: &str) {
+    assert!(rt; bench.set_tag(TagName::Event, text).is_ok());
+    assert!(rt; bench.tag(TagName::Event) == Some(text) && bench.tag(TagName::Site).is_none());
 }
 
 /// What each reader tells of a study, and that another position leaves the root alone.
@@ -85,23 +151,13 @@ fn readers_tell_what_was_put_in(rt: HostRuntime) {
     let alloc = rt.alloc();
     let mut values = tables_of(&rt, &alloc, &[Class::KK, Class::KQK]);
     let mut bench = QUEEN.study(&rt, &alloc, &mut values);
-    let root = Path::root(&alloc);
-    let second = path_of(&rt, &alloc, &[1]);
-    let stalemate = move_of(&rt, &bench, &root, "Qh2");
-    assert_eq!(rt; write_fen(bench.start()).as_str(), QUEEN.fen);
-    assert!(rt; bench.stipulation().goal == Goal::Win && bench.stipulation().hero == Side::White);
-    assert!(rt; bench.children(&root) == Some(2) && bench.children(&second) == Some(0));
-    assert!(rt; bench.move_at(&second) == Some(stalemate) && bench.move_at(&root).is_none());
-    let shown = bench.shown(&[1]).expect(&rt, "a node");
-    assert!(rt; shown.played == Some(stalemate) && shown.mark == MISTAKE && shown.children == 0);
-    let start = bench.start_at(&second).expect(&rt, "a node");
-    assert_eq!(rt; write_fen(&start).as_str(), "k7/8/1K6/8/8/8/7Q/8 b - - 1 1");
-    let text = "A \"quoted\" \\ study";
-    assert!(rt; bench.set_tag(TagName::Event, text).is_ok());
-    assert!(rt; bench.tag(TagName::Event) == Some(text) && bench.tag(TagName::Site).is_none());
+    expect_root(&rt, &alloc, &bench);
+    expect_stalemate(&rt, &alloc, &bench);
+    expect_tag(&rt, &mut bench, "A \"quoted\" \\ study");
     let other = start_of(&rt, "8/8/8/8/8/2k5/8/K6Q w - - 0 1");
-    assert!(rt; bench.set_position(other, &mut values).is_ok());
-    assert_eq!(rt; (bench.size(), bench.relabelled()), (1, 1));
+    assert!(rt; calls::set_position(&mut bench, other, &mut values).is_ok());
+    assert_eq!(rt; calls::size(&bench), 1);
+    assert_eq!(rt; calls::relabelled(&bench), 1);
 }
 
 fn moved(origin: u8, target: u8) -> Move {
@@ -112,28 +168,48 @@ fn moved(origin: u8, target: u8) -> Move {
     }
 }
 
+/// The insertions of the queen's moves to these squares.
+fn inserts_of<'a>(rt: &impl Abort, alloc: &'a Global, targets: [u8; 3]) -> Vec<Edit<'a, Global>> {
+    let mut inserts = Vec::new(*alloc);
+    for target in targets {
+        let insert = Edit::Insert(Path::root(alloc), moved(6, target));
+        assert!(rt; inserts.push(insert).is_ok());
+    }
+    inserts
+}
+
+/// A list of a tag without text is refused.
+fn refuses_a_tag<'a, V: Values>(
+    rt: &impl Abort,
+    alloc: &'a Global,
+    bench: &mut Bench<'a, Global>,
+    values: &mut V,
+) {
+    let mut tag = Vec::new(*alloc);
+    assert!(rt;
+        tag.push(Edit::Tag(TagName::Event, ArrayString::new()))
+            .is_ok()
+    );
+    let untold = calls::apply_all(bench, tag.as_slice(), values).err();
+    let untold = untold.expect(rt, "a tag without text");
+    assert!(rt; untold.done == 0 && matches!(untold.refusal, Refusal::TagText));
+}
+
 /// A list of edits stops at the first that is refused, after those before it.
 #[test]
 fn a_list_of_edits_stops_at_the_first_refused(rt: HostRuntime) {
     let alloc = rt.alloc();
     let mut values = tables_of(&rt, &alloc, &[Class::KK, Class::KQK]);
     let mut bench = QUEEN.root(&rt, &alloc, &mut values);
+    refuses_a_tag(&rt, &alloc, &mut bench, &mut values);
     let (mating, stalemating) = (62, 15);
-    let edits = [
-        Edit::Tag(TagName::Event, ArrayString::new()),
-        Edit::Insert(Path::root(&alloc), moved(6, mating)),
-        Edit::Insert(Path::root(&alloc), moved(6, stalemating)),
-        Edit::Insert(Path::root(&alloc), moved(6, mating)),
-    ];
-    let (tag, inserts) = edits.as_slice().split_at(1);
-    let untold = bench.apply_all(tag, &mut values).err();
-    let untold = untold.expect(&rt, "a tag without text");
-    assert!(rt; untold.done == 0 && matches!(untold.refusal, Refusal::TagText));
-    let stopped = bench.apply_all(inserts, &mut values).err();
+    let inserts = inserts_of(&rt, &alloc, [mating, stalemating, mating]);
+    let stopped = calls::apply_all(&mut bench, inserts.as_slice(), &mut values).err();
     let stopped = stopped.expect(&rt, "a move twice");
     assert!(rt; stopped.done == 2 && matches!(stopped.refusal, Refusal::AlreadyThere(0)));
     expect_queen_marks(&rt, &alloc, &bench);
-    assert!(rt; bench.apply_all(&edits[..0], &mut values).is_ok());
+    let none = &inserts.as_slice()[..0];
+    assert!(rt; calls::apply_all(&mut bench, none, &mut values).is_ok());
     expect_queen_marks(&rt, &alloc, &bench);
 }
 
@@ -189,45 +265,69 @@ fn marks_over_wrong_values_are_made_right(rt: HostRuntime) {
         on_move: Some(MoveMark::Idle),
         faults: 0,
     };
-    assert_eq!(rt; mark_at(&rt, &alloc, &bench, &[0]), idle);
-    assert!(rt; bench.reannotate(&mut values).is_ok());
+    expect_mark(&rt, &alloc, &bench, &[0], idle);
+    assert!(rt; calls::reannotate(&mut bench, &mut values).is_ok());
     expect_queen_marks(&rt, &alloc, &bench);
 }
 
+/// A move that is not in the tree: the node, the squares of the move, and its mark.
+type Trial = (&'static [u16], (u8, u8), Value, MoveMark, u32);
+
+const TRIALS: &[Trial] = &[
+    (&[], (6, 62), Value::Loss(0), MoveMark::Dual(21), 1),
+    (&[], (6, 15), Value::Draw, MoveMark::Mistake, 1),
+    (&[], (41, 42), Value::Loss(4), MoveMark::Dual(21), 1),
+    (&[], (6, 54), Value::Loss(2), MoveMark::Dual(21), 1),
+    (&[0], (56, 57), Value::Win(1), MoveMark::Reply, 0),
+];
+
+/// What is told of a move with these squares at a node.
+fn trial<'a, V: Values>(
+    rt: &impl Abort,
+    alloc: &'a Global,
+    bench: &Bench<'a, Global>,
+    steps: &[u16],
+    (origin, target): (u8, u8),
+    values: &mut V,
+) -> Result<Mark, Refusal<'a, Global>> {
+    let at = path_of(rt, alloc, steps);
+    calls::mark_of(bench, &at, moved(origin, target), values)
+}
+
+/// Each move has its mark.
+fn expect_trials<'a, V: Values>(
+    rt: &impl Abort,
+    alloc: &'a Global,
+    bench: &Bench<'a, Global>,
+    trials: &[Trial],
+    values: &mut V,
+) {
+    for (steps, squares, value, on_move, faults) in trials {
+        let mark = Mark {
+            value: *value,
+            on_move: Some(*on_move),
+            faults: *faults,
+        };
+        let told = trial(rt, alloc, bench, steps, *squares, values);
+        assert!(rt; told.ok() == Some(mark), "{steps:?} {squares:?}");
+    }
+}
+
 /// Moves that are not in the tree have the marks that they have once they are inserted; one value is asked for each, and
-/// nothing changes. The rows: the node, the squares of the move and its mark.
+/// nothing changes.
 #[test]
 fn a_move_not_in_the_tree_has_the_mark_it_would_get(rt: HostRuntime) {
     let alloc = rt.alloc();
     let mut values = tables_of(&rt, &alloc, &[Class::KK, Class::KQK]);
     let mut bench = QUEEN.root(&rt, &alloc, &mut values);
     let root = Path::root(&alloc);
-    assert!(rt; bench.insert(&root, moved(6, 54), &mut values).ok() == Some(0));
+    assert!(rt; calls::insert(&mut bench, &root, moved(6, 54), &mut values).ok() == Some(0));
     let asked = values.asked();
-    let rows = [
-        (&[][..], (6, 62), Value::Loss(0), MoveMark::Dual(21), 1),
-        (&[], (6, 15), Value::Draw, MoveMark::Mistake, 1),
-        (&[], (41, 42), Value::Loss(4), MoveMark::Dual(21), 1),
-        (&[], (6, 54), Value::Loss(2), MoveMark::Dual(21), 1),
-        (&[0], (56, 57), Value::Win(1), MoveMark::Reply, 0),
-    ];
-    for (steps, (origin, target), value, on_move, faults) in rows {
-        let at = path_of(&rt, &alloc, steps);
-        let mark = Mark {
-            value,
-            on_move: Some(on_move),
-            faults,
-        };
-        let told = bench.mark_of(&at, moved(origin, target), &mut values);
-        assert!(rt; told.ok() == Some(mark), "{origin} {target}");
-    }
-    assert_eq!(rt;
-        (bench.size(), values.asked()),
-        (2, asked.saturating_add(5))
-    );
-    let foul = bench.mark_of(&root, moved(56, 57), &mut values);
+    expect_trials(&rt, &alloc, &bench, TRIALS, &mut values);
+    assert_eq!(rt; calls::size(&bench), 2);
+    assert_eq!(rt; values.asked(), asked.saturating_add(5));
+    let foul = trial(&rt, &alloc, &bench, &[], (56, 57), &mut values);
     assert!(rt; matches!(foul, Err(Refusal::IllegalMove)));
-    let missing = path_of(&rt, &alloc, &[1]);
-    let nowhere = bench.mark_of(&missing, moved(6, 62), &mut values);
+    let nowhere = trial(&rt, &alloc, &bench, &[1], (6, 62), &mut values);
     assert!(rt; matches!(nowhere, Err(Refusal::NoSuchNode)));
 }

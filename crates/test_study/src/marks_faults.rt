@@ -1,15 +1,16 @@
 //! Memory and values that fail in turn: a refused call leaves the study as it was, and is accepted when it is made again.
+use crate::calls;
 use crate::heaps::rest_of;
-use crate::studies::{Case, Snapshot, move_of, path_of, start_of, tables_of};
+use crate::studies::{Case, Snapshot, insert_text, move_of, path_of, start_of, tables_of};
 use linked_list_allocator::LocalHeap;
-use std::alloc::{Allocator, Global};
+use std::alloc::{AllocError, Allocator, Global};
 use std::process::Abort;
 use std::test::Fail;
 use study_board::Side;
 use study_marks::{Bench, Edit, Goal, Refusal, Stopped};
 use study_material::Class;
 use study_prober::memory::FailingValues;
-use study_prober::{ProbeFault, Values};
+use study_prober::{ProbeFault, Values, WholeTables};
 
 /// A study on which the calls are made.
 #[derive(Clone, Copy)]
@@ -87,16 +88,16 @@ impl Subject {
         match call {
             Call::New => {
                 let start = start_of(rt, self.case().fen);
-                *bench = Bench::new(alloc, start, self.case().stipulation(), values)?;
+                *bench = calls::new_bench(alloc, start, self.case().stipulation(), values)?;
                 Ok(())
             }
-            Call::Position => bench.set_position(start_of(rt, self.later()), values),
-            Call::Shift => bench.shift_position(start_of(rt, self.later()), values),
-            Call::Reannotate => bench.reannotate(values),
+            Call::Position => calls::set_position(bench, start_of(rt, self.later()), values),
+            Call::Shift => calls::shift_position(bench, start_of(rt, self.later()), values),
+            Call::Reannotate => calls::reannotate(bench, values),
             Call::Insert => {
                 let root = path_of(rt, alloc, &[]);
                 let m = move_of(rt, bench, &root, self.more());
-                let _place = bench.insert(&root, m, values)?;
+                let _place = calls::insert(bench, &root, m, values)?;
                 Ok(())
             }
         }
@@ -130,11 +131,11 @@ impl Subject {
         let was = Snapshot::of(rt, alloc, &bench);
         let answer = self.call(rt, &alloc, &mut bench, call, values);
         let refused = answer.is_err();
-        assert!(rt; values.failures() == u64::from(refused));
+        expect_failures(rt, values, u64::from(refused));
         if let Err(refusal) = answer {
             assert!(rt; is_device(&refusal) && was.is_of(rt, alloc, &bench));
             assert!(rt; self.call(rt, &alloc, &mut bench, call, values).is_ok());
-            assert!(rt; values.failures() == 1);
+            expect_failures(rt, values, 1);
         }
         assert!(rt; wanted.is_of(rt, alloc, &bench));
         refused
@@ -148,19 +149,26 @@ impl Subject {
         room: &'a A,
         sound: &mut V,
     ) -> Vec<Edit<'a, A>> {
+        let mut edits = self.inserts(rt, alloc, room, sound);
+        add(rt, &mut edits, Edit::Promote(path_of(rt, room, &[1])));
+        add(rt, &mut edits, Edit::Delete(path_of(rt, room, &[0])));
+        add(rt, &mut edits, Edit::Shift(start_of(rt, self.later())));
+        edits
+    }
+
+    /// The moves of the study, each an edit.
+    fn inserts<'a, A: Allocator, V: Values>(
+        &self,
+        rt: &impl Abort,
+        alloc: Global,
+        room: &'a A,
+        sound: &mut V,
+    ) -> Vec<Edit<'a, A>> {
         let whole = self.case().study(rt, &alloc, sound);
         let mut edits = Vec::new(alloc);
         for (steps, san) in self.case().moves {
             let m = move_of(rt, &whole, &path_of(rt, &alloc, steps), san);
-            let edit = Edit::Insert(path_of(rt, room, steps), m);
-            assert!(rt; edits.push(edit).is_ok());
-        }
-        for edit in [
-            Edit::Promote(path_of(rt, room, &[1])),
-            Edit::Delete(path_of(rt, room, &[0])),
-            Edit::Shift(start_of(rt, self.later())),
-        ] {
-            assert!(rt; edits.push(edit).is_ok());
+            add(rt, &mut edits, Edit::Insert(path_of(rt, room, steps), m));
         }
         edits
     }
@@ -176,18 +184,37 @@ impl Subject {
         sound: &mut W,
     ) -> Result<(), Stopped<'a, A>> {
         let mut bench = self.case().root(rt, room, sound);
-        let answer = bench.apply_all(edits, values);
+        let answer = calls::apply_all(&mut bench, edits, values);
         let done = match &answer {
             Ok(()) => edits.len(),
             Err(stopped) => stopped.done,
         };
         let (first, _) = same.split_at(done.min(same.len()));
-        let mut other = self.case().root(rt, alloc, sound);
-        assert!(rt; other.apply_all(first, sound).is_ok());
-        let wanted = Snapshot::of(rt, *alloc, &other);
+        let wanted = self.after_edits(rt, alloc, first, sound);
         assert!(rt; wanted.is_of(rt, *alloc, &bench), "{done}");
         answer
     }
+
+    /// What the study shows after edits over sound values and ample memory.
+    fn after_edits<'g, W: Values>(
+        &self,
+        rt: &impl Abort,
+        alloc: &'g Global,
+        edits: &[Edit<'g, Global>],
+        sound: &mut W,
+    ) -> Snapshot {
+        let mut bench = self.case().root(rt, alloc, sound);
+        assert!(rt; calls::apply_all(&mut bench, edits, sound).is_ok());
+        Snapshot::of(rt, *alloc, &bench)
+    }
+}
+
+fn add<'a, A: Allocator>(rt: &impl Abort, edits: &mut Vec<Edit<'a, A>>, edit: Edit<'a, A>) {
+    assert!(rt; edits.push(edit).is_ok());
+}
+
+fn expect_failures<V: Values>(rt: &impl Abort, values: &V, count: u64) {
+    assert!(rt; values.failures() == count, "{count}");
 }
 
 /// Whether a refusal is that a device failed.
@@ -205,28 +232,54 @@ const ASKED: [(Call, u64); 5] = [
     (Call::Reannotate, 18 + 4 + 3 + 18),
 ];
 
+type Failing<'a> = FailingValues<WholeTables<'a, Global>>;
+
+/// The values of king and rook against king, of which one can be made to fail.
+fn failing<'a>(rt: &impl Abort, alloc: &'a Global) -> Failing<'a> {
+    FailingValues::new(tables_of(rt, alloc, &[Class::KK, Class::KRK]), 0)
+}
+
+/// From here on the k-th value fails, counted from 0.
+fn fail_at(values: &mut Failing<'_>, k: u64) {
+    values.asked = 0;
+    values.failures = 0;
+    values.fails_at = Some(k);
+}
+
+/// Each of so many values that a call asks fails in turn, and then none.
+fn check_values<V: Values>(rt: &impl Abort, alloc: Global, call: Call, asked: u64, sound: &mut V) {
+    let mut values = failing(rt, &alloc);
+    let wanted = Subject::Corners.after(rt, alloc, call, sound);
+    for k in 0..=asked {
+        fail_at(&mut values, k);
+        let refused = Subject::Corners.is_refused(rt, alloc, call, &wanted, &mut values, sound);
+        assert!(rt; refused == (k < asked), "{call:?} {k}");
+    }
+}
+
 /// The k-th value fails, for each k until none fails.
 #[test]
 fn each_value_of_a_call_fails_in_turn(rt: HostRuntime) {
     let alloc = rt.alloc();
     let mut sound = tables_of(&rt, &alloc, &[Class::KK, Class::KRK]);
-    let whole = tables_of(&rt, &alloc, &[Class::KK, Class::KRK]);
-    let mut values = FailingValues::new(whole, 0);
     for (call, asked) in ASKED {
-        let wanted = Subject::Corners.after(&rt, alloc, call, &mut sound);
-        for k in 0..=asked {
-            values.asked = 0;
-            values.failures = 0;
-            values.fails_at = Some(k);
-            let refused = Subject::Corners.is_refused(
-                &rt,
-                alloc,
-                call,
-                &wanted,
-                &mut values,
-                &mut sound,
-            );
-            assert!(rt; refused == (k < asked), "{call:?} {k}");
+        check_values(&rt, alloc, call, asked, &mut sound);
+    }
+}
+
+/// A list of edits that asks so many values for its insertions and in all ends as it has to where the k-th value fails.
+fn check_end<A: Allocator>(
+    rt: &impl Abort,
+    answer: &Result<(), Stopped<'_, A>>,
+    k: u64,
+    inserted: u64,
+    asked: u64,
+) {
+    match answer {
+        Ok(()) => assert!(rt; k == asked, "{k}"),
+        Err(stopped) => {
+            assert!(rt; is_device(&stopped.refusal) && k < asked, "{k}");
+            assert!(rt; (stopped.done == 5) == (inserted <= k), "{k}");
         }
     }
 }
@@ -237,24 +290,14 @@ fn each_value_of_a_call_fails_in_turn(rt: HostRuntime) {
 fn each_value_of_a_list_fails_in_turn(rt: HostRuntime) {
     let alloc = rt.alloc();
     let mut sound = tables_of(&rt, &alloc, &[Class::KK, Class::KRK]);
-    let whole = tables_of(&rt, &alloc, &[Class::KK, Class::KRK]);
-    let mut values = FailingValues::new(whole, 0);
+    let mut values = failing(&rt, &alloc);
     let edits = Subject::Corners.edits(&rt, alloc, &alloc, &mut sound);
     let list = (&alloc, edits.as_slice());
     let (inserted, shifted) = (25, 25 + 18 - 3);
     for k in 0..=inserted + shifted {
-        values.asked = 0;
-        values.fails_at = Some(k);
-        match Subject::Corners.edited(&rt, list, list, &mut values, &mut sound) {
-            Ok(()) => assert!(rt; k == inserted + shifted, "{k}"),
-            Err(stopped) => {
-                assert!(rt;
-                    is_device(&stopped.refusal) && k < inserted + shifted,
-                    "{k}"
-                );
-                assert!(rt; (stopped.done == 5) == (inserted <= k), "{k}");
-            }
-        }
+        fail_at(&mut values, k);
+        let answer = Subject::Corners.edited(&rt, list, list, &mut values, &mut sound);
+        check_end(&rt, &answer, k, inserted, inserted + shifted);
     }
 }
 
@@ -273,6 +316,27 @@ fn is_accepted<'a, A: Allocator>(
     true
 }
 
+/// After how many edits a list stops on a heap of this size for want of memory, if it does; the study is then the one after
+/// as many of the same edits on an ample heap.
+fn stop_of<'g, V: Values, W: Values>(
+    rt: &impl Abort,
+    (alloc, same): (&'g Global, &[Edit<'g, Global>]),
+    size: usize,
+    values: &mut V,
+    sound: &mut W,
+) -> Result<Option<usize>, AllocError> {
+    let heap = LocalHeap::new(*alloc, size)?;
+    let edits = Subject::Corners.edits(rt, *alloc, &heap, sound);
+    let list = (&heap, edits.as_slice());
+    match Subject::Corners.edited(rt, list, (alloc, same), values, sound) {
+        Ok(()) => Ok(None),
+        Err(stopped) => {
+            assert!(rt; matches!(stopped.refusal, Refusal::OutOfMemory));
+            Ok(Some(stopped.done))
+        }
+    }
+}
+
 /// Each growth of a list of edits is refused in turn, on heaps from too small to ample: it stops there, after the edits before.
 #[test]
 fn each_growth_of_a_list_is_refused_in_turn(rt: HostRuntime) -> Result<(), Fail> {
@@ -283,22 +347,35 @@ fn each_growth_of_a_list_is_refused_in_turn(rt: HostRuntime) -> Result<(), Fail>
     let same = (&alloc, whole.as_slice());
     let (mut last, mut stops) = (0usize, 0u32);
     for step in 0..400usize {
-        let heap = LocalHeap::new(alloc, 64 + step * 512)?;
-        let edits = Subject::Corners.edits(&rt, alloc, &heap, &mut sound);
-        let list = (&heap, edits.as_slice());
-        match Subject::Corners.edited(&rt, list, same, &mut values, &mut sound) {
-            Ok(()) => {
-                assert!(rt; stops > 0 && last == 5, "{stops} {last}");
-                return Ok(());
-            }
-            Err(stopped) => {
-                assert!(rt; matches!(stopped.refusal, Refusal::OutOfMemory));
-                stops = stops.saturating_add(u32::from(stopped.done != last));
-                last = stopped.done;
-            }
-        }
+        let Some(done) = stop_of(&rt, same, 64 + step * 512, &mut values, &mut sound)? else {
+            assert!(rt; stops > 0 && last == 5, "{stops} {last}");
+            return Ok(());
+        };
+        stops = stops.saturating_add(u32::from(done != last));
+        last = done;
     }
     Err(Fail::from("no heap was large enough"))
+}
+
+/// Makes a call on a study on a heap, first with nothing left of it, and then with all that was left.
+fn check_call<V: Values>(
+    rt: &impl Abort,
+    alloc: Global,
+    call: Call,
+    takes_memory: bool,
+    values: &mut V,
+) -> Result<(), AllocError> {
+    let heap = LocalHeap::new(alloc, 1 << 14)?;
+    let mut bench = FAN.study(rt, &heap, values);
+    let was = Snapshot::of(rt, alloc, &bench);
+    let blocks = rest_of(alloc, &heap)?;
+    let answer = Subject::Fan.call(rt, &heap, &mut bench, call, values);
+    let accepted = is_accepted(rt, alloc, &bench, &was, answer);
+    assert!(rt; accepted != takes_memory, "{call:?}");
+    drop(blocks);
+    let answer = Subject::Fan.call(rt, &heap, &mut bench, call, values);
+    assert!(rt; is_accepted(rt, alloc, &bench, &was, answer), "{call:?}");
+    Ok(())
 }
 
 /// The memory of single calls is refused in turn, each on a heap where the moves of the study found room.
@@ -306,25 +383,32 @@ fn each_growth_of_a_list_is_refused_in_turn(rt: HostRuntime) -> Result<(), Fail>
 fn each_growth_of_a_call_is_refused_in_turn(rt: HostRuntime) -> Result<(), Fail> {
     let alloc = rt.alloc();
     let mut values = tables_of(&rt, &alloc, &[Class::KK, Class::KRK]);
-    for (call, takes_memory) in [
-        (Call::New, false),
-        (Call::Position, false),
-        (Call::Insert, true),
-        (Call::Shift, true),
-        (Call::Reannotate, true),
-    ] {
-        let heap = LocalHeap::new(alloc, 1 << 14)?;
-        let mut bench = FAN.study(&rt, &heap, &mut values);
-        let was = Snapshot::of(&rt, alloc, &bench);
-        let blocks = rest_of(alloc, &heap)?;
-        let answer = Subject::Fan.call(&rt, &heap, &mut bench, call, &mut values);
-        let accepted = is_accepted(&rt, alloc, &bench, &was, answer);
-        assert!(rt; accepted != takes_memory, "{call:?}");
-        drop(blocks);
-        let answer = Subject::Fan.call(&rt, &heap, &mut bench, call, &mut values);
-        assert!(rt; is_accepted(&rt, alloc, &bench, &was, answer), "{call:?}");
+    for call in [Call::New, Call::Position] {
+        check_call(&rt, alloc, call, false, &mut values)?;
+    }
+    for call in [Call::Insert, Call::Shift, Call::Reannotate] {
+        check_call(&rt, alloc, call, true, &mut values)?;
     }
     Ok(())
+}
+
+/// A study with a line of 19 moves, of which the last is the rook's.
+fn deep_study<'a, A: Allocator, V: Values>(
+    rt: &impl Abort,
+    alloc: &'a A,
+    values: &mut V,
+) -> Bench<'a, A> {
+    let mut bench = CORNERS.root(rt, alloc, values);
+    let mut at = path_of(rt, alloc, &[]);
+    for turn in 0..19usize {
+        let san = match turn {
+            18 => "Rh4",
+            _ => ["Kb1", "Kb8", "Ka1", "Ka8"][turn % 4],
+        };
+        insert_text(rt, &mut bench, &at, san, values);
+        assert!(rt; at.push(0).is_ok());
+    }
+    bench
 }
 
 /// A shift that breaks a deep move finds no memory for the path to it, and then finds some.
@@ -333,25 +417,15 @@ fn the_path_to_a_broken_move_takes_memory(rt: HostRuntime) -> Result<(), Fail> {
     let alloc = rt.alloc();
     let mut values = tables_of(&rt, &alloc, &[Class::KK, Class::KRK]);
     let heap = LocalHeap::new(alloc, 1 << 18)?;
-    let mut bench = CORNERS.root(&rt, &heap, &mut values);
-    let steps = [0u16; 19];
-    for turn in 0..19usize {
-        let at = path_of(&rt, &heap, &steps[..turn]);
-        let san = match turn {
-            18 => "Rh4",
-            _ => ["Kb1", "Kb8", "Ka1", "Ka8"][turn % 4],
-        };
-        let m = move_of(&rt, &bench, &at, san);
-        assert!(rt; bench.insert(&at, m, &mut values).is_ok());
-    }
+    let mut bench = deep_study(&rt, &heap, &mut values);
     let was = Snapshot::of(&rt, alloc, &bench);
     let blocks = rest_of(alloc, &heap)?;
     let moved = "k7/8/8/6R1/8/8/8/K7 w - - 0 1";
-    let answer = bench.shift_position(start_of(&rt, moved), &mut values);
+    let answer = calls::shift_position(&mut bench, start_of(&rt, moved), &mut values);
     assert!(rt; !is_accepted(&rt, alloc, &bench, &was, answer));
     drop(blocks);
-    match bench.shift_position(start_of(&rt, moved), &mut values) {
-        Err(Refusal::ShiftBroken(at)) => assert_eq!(rt; at.steps(), steps.as_slice()),
+    match calls::shift_position(&mut bench, start_of(&rt, moved), &mut values) {
+        Err(Refusal::ShiftBroken(at)) => assert_eq!(rt; at.steps(), [0u16; 19].as_slice()),
         _ => panic!(rt; "not broken"),
     }
     assert!(rt; was.is_of(&rt, alloc, &bench));

@@ -1,20 +1,20 @@
 //! Studies over a table that is read by one page, where one page is not read: the call is refused, and accepted when it is
 //! made again.
+use crate::calls;
 use crate::marks_faults::{Call, Subject, is_device};
-use crate::studies::{start_of, tables_of};
+use crate::studies::{Snapshot, start_of, tables_of};
 use std::alloc::Global;
 use std::process::Abort;
-use study_marks::Bench;
 use study_material::Class;
 use study_prober::{PagedTables, Values};
-use study_tablefile::memory::{MemorySource, MemoryWriter};
+use study_tablefile::memory::MemorySource;
 use study_tablefile::write_table;
 
 /// The file of king and rook against king.
 fn file_of<'a>(rt: &impl Abort, alloc: &'a Global) -> Vec<u8, &'a Global> {
     let values = tables_of(rt, alloc, &[Class::KK, Class::KRK]);
     let table = values.tables().table(Class::KRK).expect(rt, "held");
-    let mut writer = MemoryWriter::new(alloc);
+    let mut writer = calls::writer(alloc);
     assert!(rt; write_table(table, &mut writer).is_ok());
     writer.taken
 }
@@ -28,15 +28,41 @@ fn one_page<'a>(
     text: &'a [u8],
     fails_at: Option<u64>,
 ) -> OnePage<'a> {
-    let mut tables = PagedTables::new(alloc, 1).ok().expect(rt, "a cache");
+    let mut tables = no_tables(rt, alloc);
     let source = MemorySource {
         text,
         asked: 0,
         fails_at,
         failures: 0,
     };
-    assert!(rt; tables.add(Class::KRK, source).is_ok());
+    add(rt, &mut tables, source);
     tables
+}
+
+fn no_tables<'a>(rt: &impl Abort, alloc: &'a Global) -> OnePage<'a> {
+    PagedTables::new(alloc, 1).ok().expect(rt, "a cache")
+}
+
+fn add<'a>(rt: &impl Abort, tables: &mut OnePage<'a>, source: MemorySource<'a>) {
+    assert!(rt; tables.add(Class::KRK, source).is_ok());
+}
+
+/// How many reads of a page, each of which fails in turn, a call makes.
+fn reads_of<V: Values>(
+    rt: &impl Abort,
+    alloc: Global,
+    text: &[u8],
+    call: Call,
+    wanted: &Snapshot,
+    sound: &mut V,
+) -> u64 {
+    for k in 1..300u64 {
+        let mut values = one_page(rt, &alloc, text, Some(k));
+        if !Subject::Mate.is_refused(rt, alloc, call, wanted, &mut values, sound) {
+            return k - 1;
+        }
+    }
+    299
 }
 
 /// Each read of a page in a call fails in turn, until none does; there are some.
@@ -48,14 +74,7 @@ fn each_read_of_a_page_in_a_call_fails_in_turn(rt: HostRuntime) {
     let mut sound = one_page(&rt, &alloc, text.as_slice(), None);
     for call in [New, Position, Shift, Insert, Reannotate] {
         let wanted = Subject::Mate.after(&rt, alloc, call, &mut sound);
-        let mut reads = 0u64;
-        for k in 1..300u64 {
-            let mut values = one_page(&rt, &alloc, text.as_slice(), Some(k));
-            if !Subject::Mate.is_refused(&rt, alloc, call, &wanted, &mut values, &mut sound) {
-                break;
-            }
-            reads = k;
-        }
+        let reads = reads_of(&rt, alloc, text.as_slice(), call, &wanted, &mut sound);
         assert!(rt; 1 < reads && reads < 299, "{call:?}");
     }
 }
@@ -75,12 +94,19 @@ fn each_read_of_a_page_in_a_list_fails_in_turn(rt: HostRuntime) {
         match Subject::Mate.edited(&rt, list, list, &mut values, &mut sound) {
             Ok(()) => break,
             Err(stopped) => {
-                assert!(rt; is_device(&stopped.refusal) && stopped.done < 5);
+                assert!(rt; is_device(&stopped.refusal) && stopped.done < 5, "{k}");
                 stops[stopped.done] = true;
             }
         }
     }
     assert_eq!(rt; stops, [true, true, false, false, true]);
+}
+
+/// Whether there is no study over these values, since a device fails.
+fn is_without_study<V: Values>(rt: &impl Abort, alloc: &Global, values: &mut V) -> bool {
+    let case = Subject::Mate.case();
+    let refusal = calls::new_bench(alloc, start_of(rt, case.fen), case.stipulation(), values).err();
+    is_device(&refusal.expect(rt, "no study"))
 }
 
 /// Over a file that is cut off after its header there is no study, however often it is asked for.
@@ -91,15 +117,6 @@ fn without_a_page_there_is_no_study(rt: HostRuntime) {
     let header = text.as_slice().get(..64).expect(&rt, "a header");
     let mut values = one_page(&rt, &alloc, header, None);
     for count in 1..4u64 {
-        let start = start_of(&rt, Subject::Mate.case().fen);
-        let refusal = Bench::new(
-            &alloc,
-            start,
-            Subject::Mate.case().stipulation(),
-            &mut values,
-        )
-        .err();
-        let refusal = refusal.expect(&rt, "no study");
-        assert!(rt; is_device(&refusal) && values.failures() == count);
+        assert!(rt; is_without_study(&rt, &alloc, &mut values) && values.failures() == count);
     }
 }

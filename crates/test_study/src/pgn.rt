@@ -1,13 +1,14 @@
 //! Games that are written of studies.
-use crate::studies::{Case, QUEEN, move_of, path_of, tables_of};
+use crate::calls;
+use crate::studies::{Case, QUEEN, game_of, insert_text, path_of, tables_of};
 use linked_list_allocator::LocalHeap;
-use std::alloc::{Allocator, Global};
+use std::alloc::{AllocError, Allocator, Global};
 use std::process::Abort;
 use std::test::Fail;
 use study_board::Side;
 use study_marks::{Bench, Goal};
 use study_material::Class;
-use study_pgn::{PgnFault, write_pgn};
+use study_pgn::PgnFault;
 use study_tablefile::memory::{MemoryWriter, WhenFull};
 
 const QUEEN_TEXT: &str = r#"[Event "?"]
@@ -60,9 +61,8 @@ Kb2 {draw; dual 2}) 10000. Kb1 {draw; dual 2} (10000. Ka2 {draw; dual 2})
 fn expect_text(rt: &impl Abort, alloc: Global, case: &Case, text: &str) {
     let mut values = tables_of(rt, &alloc, &[Class::KK, Class::KQK]);
     let bench = case.study(rt, &alloc, &mut values);
-    let mut out = MemoryWriter::new(&alloc);
-    assert_eq!(rt; write_pgn(&alloc, &bench, &mut out), Ok(()));
-    assert_eq!(rt; std::str::from_utf8(out.taken.as_slice()), Ok(text));
+    let game = game_of(rt, alloc, &bench);
+    assert_eq!(rt; std::str::from_utf8(game.as_slice()), Ok(text));
 }
 
 /// A variation stands before the main line goes on, each move has its number, and numbers go past 9999.
@@ -80,34 +80,26 @@ fn nested<'a, A: Allocator>(rt: &impl Abort, alloc: &'a A) -> Bench<'a, A> {
         ..KINGS
     };
     let mut bench = case.root(rt, alloc, &mut values);
+    let mut at = path_of(rt, alloc, &[]);
     for turn in 0..80usize {
-        let steps = [1u16; 80];
-        let at = path_of(rt, alloc, &steps[..turn]);
-        let moves = [
-            ["Kb1", "Ka2"],
-            ["Kb8", "Ka7"],
-            ["Kb1", "Ka1"],
-            ["Kb8", "Ka8"],
-        ];
-        for san in moves[turn % 4] {
-            let m = move_of(rt, &bench, &at, san);
-            assert!(rt; bench.insert(&at, m, &mut values).is_ok());
-        }
+        let (first, second) = [
+            ("Kb1", "Ka2"),
+            ("Kb8", "Ka7"),
+            ("Kb1", "Ka1"),
+            ("Kb8", "Ka8"),
+        ][turn % 4];
+        insert_text(rt, &mut bench, &at, first, &mut values);
+        insert_text(rt, &mut bench, &at, second, &mut values);
+        assert!(rt; at.push(1).is_ok());
     }
     bench
 }
 
-/// A word that is longer than a line stands alone on its line.
-#[test]
-fn a_word_longer_than_a_line_stands_alone(rt: HostRuntime) -> Result<(), Fail> {
-    let alloc = rt.alloc();
-    let bench = nested(&rt, &alloc);
-    let mut out = MemoryWriter::new(&alloc);
-    assert_eq!(rt; write_pgn(&alloc, &bench, &mut out), Ok(()));
-    let text = std::str::from_utf8(out.taken.as_slice())?;
+/// The word of the closing brackets stands alone above the result, and all lines above it are short.
+fn expect_long_word(rt: &impl Abort, text: &str) {
     let mut lines = text.lines().rev();
-    assert_eq!(rt; lines.next(), Some(""));
-    assert_eq!(rt; lines.next(), Some("1/2-1/2"));
+    assert!(rt; lines.next() == Some(""));
+    assert!(rt; lines.next() == Some("1/2-1/2"));
     let word = lines.next().unwrap_or("none");
     assert!(rt;
         word.starts_with("{draw}))))") && word.len() == 86,
@@ -116,6 +108,15 @@ fn a_word_longer_than_a_line_stands_alone(rt: HostRuntime) -> Result<(), Fail> {
     for line in lines {
         assert!(rt; line.len() <= 79, "{line}");
     }
+}
+
+/// A word that is longer than a line stands alone on its line.
+#[test]
+fn a_word_longer_than_a_line_stands_alone(rt: HostRuntime) -> Result<(), Fail> {
+    let alloc = rt.alloc();
+    let bench = nested(&rt, &alloc);
+    let game = game_of(&rt, alloc, &bench);
+    expect_long_word(&rt, std::str::from_utf8(game.as_slice())?);
     Ok(())
 }
 
@@ -124,19 +125,63 @@ fn queen_study<'a>(rt: &impl Abort, alloc: &'a Global) -> Bench<'a, Global> {
     QUEEN.study(rt, alloc, &mut values)
 }
 
+/// A writer that is full after so many bytes has this front of the game.
+fn expect_front<A: Allocator>(
+    rt: &impl Abort,
+    alloc: Global,
+    bench: &Bench<'_, A>,
+    when_full: WhenFull,
+    front: &[u8],
+) {
+    let mut out = MemoryWriter::with_room(&alloc, front.len(), when_full);
+    assert_eq!(rt;
+        calls::write(&alloc, bench, &mut out),
+        Err(PgnFault::Device)
+    );
+    assert_eq!(rt; out.taken.as_slice(), front);
+}
+
+/// A writer that is full after each number of bytes in turn, and then answers so, has that front of this text.
+fn expect_fronts<A: Allocator>(
+    rt: &impl Abort,
+    alloc: Global,
+    bench: &Bench<'_, A>,
+    when_full: WhenFull,
+    text: &[u8],
+) {
+    for room in 0..text.len() {
+        let (front, _) = text.split_at(room);
+        expect_front(rt, alloc, bench, when_full, front);
+    }
+}
+
 /// A writer that is full after so many bytes, whatever it answers then, has that front of the game.
 #[test]
 fn a_full_writer_has_a_front_of_the_game(rt: HostRuntime) {
     let alloc = rt.alloc();
     let bench = queen_study(&rt, &alloc);
     for when_full in [WhenFull::Fail, WhenFull::TakeNothing] {
-        for room in 0..QUEEN_TEXT.len() {
-            let mut out = MemoryWriter::with_room(&alloc, room, when_full);
-            assert_eq!(rt; write_pgn(&alloc, &bench, &mut out), Err(PgnFault::Device));
-            let (front, _) = QUEEN_TEXT.as_bytes().split_at(room);
-            assert_eq!(rt; out.taken.as_slice(), front);
-        }
+        expect_fronts(&rt, alloc, &bench, when_full, QUEEN_TEXT.as_bytes());
     }
+}
+
+/// Whether there is memory for the game on a heap of this size: where there is, it is this text, and else nothing is written.
+fn is_written<A: Allocator>(
+    rt: &impl Abort,
+    alloc: Global,
+    size: usize,
+    bench: &Bench<'_, A>,
+    text: &str,
+) -> Result<bool, AllocError> {
+    let heap = LocalHeap::new(alloc, size)?;
+    let mut out = calls::writer(&alloc);
+    let answer = calls::write(&heap, bench, &mut out);
+    if answer.is_ok() {
+        assert_eq!(rt; out.taken.as_slice(), text.as_bytes());
+        return Ok(true);
+    }
+    assert!(rt; answer == Err(PgnFault::OutOfMemory) && out.taken.is_empty());
+    Ok(false)
 }
 
 /// Heaps that grow step by step: nothing is written before there is memory for all.
@@ -145,16 +190,10 @@ fn nothing_is_written_before_there_is_memory_for_all(rt: HostRuntime) -> Result<
     let alloc = rt.alloc();
     let bench = queen_study(&rt, &alloc);
     for step in 0..400usize {
-        let heap = LocalHeap::new(alloc, 64 + step * 32)?;
-        let mut out = MemoryWriter::new(&alloc);
-        let answer = write_pgn(&heap, &bench, &mut out);
-        if answer.is_ok() {
+        if is_written(&rt, alloc, 64 + step * 32, &bench, QUEEN_TEXT)? {
             assert!(rt; step > 0);
-            assert_eq!(rt; out.taken.as_slice(), QUEEN_TEXT.as_bytes());
             return Ok(());
         }
-        assert_eq!(rt; answer, Err(PgnFault::OutOfMemory));
-        assert!(rt; out.taken.is_empty());
     }
     Err(Fail::from("no heap was large enough"))
 }

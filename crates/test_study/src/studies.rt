@@ -1,4 +1,5 @@
 //! Studies over built tables, and what they show.
+use crate::calls;
 use std::alloc::{Allocator, Global};
 use std::process::Abort;
 use study_board::Side;
@@ -7,11 +8,25 @@ use study_marks::{Bench, Goal, Stipulation};
 use study_material::Class;
 use study_moves::Move;
 use study_notation::{Start, read_fen, read_san};
-use study_pgn::write_pgn;
 use study_prober::{Values, WholeTables};
-use study_retro::{BuildRoom, TableSet, build};
-use study_tablefile::memory::MemoryWriter;
+use study_retro::{BuildRoom, Table, TableSet, build};
 use study_tree::Path;
+
+/// The table of a class, over those that it needs.
+fn table_of<'a, A: Allocator>(
+    rt: &impl Abort,
+    alloc: &'a A,
+    class: Class,
+    set: &TableSet<'a, A>,
+) -> Table<'a, A> {
+    let room = BuildRoom::new(alloc, cells(class)).ok().expect(rt, "room");
+    let (table, _) = build(class, set, room).ok().expect(rt, "a table");
+    table
+}
+
+fn add<'a, A: Allocator>(rt: &impl Abort, set: &mut TableSet<'a, A>, table: Table<'a, A>) {
+    assert!(rt; set.add(table).is_ok());
+}
 
 /// The values of the tables of these classes, each of which needs none but those before it.
 pub(crate) fn tables_of<'a, A: Allocator>(
@@ -21,9 +36,8 @@ pub(crate) fn tables_of<'a, A: Allocator>(
 ) -> WholeTables<'a, A> {
     let mut set = TableSet::new(alloc).ok().expect(rt, "a set");
     for class in classes {
-        let room = BuildRoom::new(alloc, cells(*class)).ok().expect(rt, "room");
-        let (table, _) = build(*class, &set, room).ok().expect(rt, "a table");
-        assert!(rt; set.add(table).is_ok());
+        let table = table_of(rt, alloc, *class, &set);
+        add(rt, &mut set, table);
     }
     WholeTables::new(set)
 }
@@ -51,8 +65,20 @@ pub(crate) fn move_of<'a, A: Allocator>(
     at: &Path<'a, A>,
     san: &str,
 ) -> Move {
-    let start = bench.start_at(at).expect(rt, "a node");
+    let start = calls::start_at(bench, at).expect(rt, "a node");
     read_san(&start.position, san).ok().expect(rt, "a move")
+}
+
+/// Puts the move with this text last below a node.
+pub(crate) fn insert_text<'a, A: Allocator, V: Values>(
+    rt: &impl Abort,
+    bench: &mut Bench<'a, A>,
+    at: &Path<'a, A>,
+    san: &str,
+    values: &mut V,
+) {
+    let m = move_of(rt, bench, at, san);
+    assert!(rt; calls::insert(bench, at, m, values).is_ok(), "{san}");
 }
 
 /// A study: its start, what is wanted of whom, and its moves, each put last below the node at a path.
@@ -80,7 +106,7 @@ impl Case {
         values: &mut V,
     ) -> Bench<'a, A> {
         let start = start_of(rt, self.fen);
-        Bench::new(alloc, start, self.stipulation(), values)
+        calls::new_bench(alloc, start, self.stipulation(), values)
             .ok()
             .expect(rt, "a study")
     }
@@ -95,8 +121,7 @@ impl Case {
         let mut bench = self.root(rt, alloc, values);
         for (steps, san) in self.moves {
             let at = path_of(rt, alloc, steps);
-            let m = move_of(rt, &bench, &at, san);
-            assert!(rt; bench.insert(&at, m, values).is_ok(), "{san}");
+            insert_text(rt, &mut bench, &at, san, values);
         }
         bench
     }
@@ -110,6 +135,21 @@ pub(crate) const QUEEN: Case = Case {
     moves: &[(&[], "Qg8"), (&[], "Qh2")],
 };
 
+/// The game of a study.
+pub(crate) fn game_of<A: Allocator>(
+    rt: &impl Abort,
+    alloc: Global,
+    bench: &Bench<'_, A>,
+) -> Vec<u8> {
+    let mut writer = calls::writer(&alloc);
+    assert!(rt; calls::write(&alloc, bench, &mut writer).is_ok());
+    copied(rt, alloc, writer.taken.as_slice())
+}
+
+fn copied(rt: &impl Abort, alloc: Global, bytes: &[u8]) -> Vec<u8> {
+    bytes.to_vec(alloc).ok().expect(rt, "memory")
+}
+
 /// What a study shows: its game, with all its marks, how many nodes it has, and how many labels were written.
 #[derive(Drop)]
 pub(crate) struct Snapshot {
@@ -120,13 +160,10 @@ pub(crate) struct Snapshot {
 
 impl Snapshot {
     pub(crate) fn of<A: Allocator>(rt: &impl Abort, alloc: Global, bench: &Bench<'_, A>) -> Self {
-        let mut writer = MemoryWriter::new(&alloc);
-        assert!(rt; write_pgn(&alloc, bench, &mut writer).is_ok());
-        let game = writer.taken.as_slice().to_vec(alloc);
         Snapshot {
-            game: game.ok().expect(rt, "a game"),
-            size: bench.size(),
-            relabelled: bench.relabelled(),
+            game: game_of(rt, alloc, bench),
+            size: calls::size(bench),
+            relabelled: calls::relabelled(bench),
         }
     }
 

@@ -23,6 +23,50 @@ fn king_move(turn: usize) -> Move {
     }
 }
 
+// The calls of a tree, each in a function without a contract: a test that goes through them is proved without their clauses.
+
+fn new_tree<'a, A: Allocator>(alloc: &'a A, label: u32) -> Tree<'a, u32, A> {
+    Tree::new(alloc, label)
+}
+
+fn reserve<A: Allocator>(tree: &mut Tree<'_, u32, A>, steps: &[u16]) -> Result<(), TreeFault> {
+    tree.reserve(steps)
+}
+
+/// Adds the king's move of this turn.
+fn add<A: Allocator>(
+    tree: &mut Tree<'_, u32, A>,
+    steps: &[u16],
+    turn: usize,
+    label: u32,
+) -> Result<u16, TreeFault> {
+    tree.add_last(steps, king_move(turn), label)
+}
+
+fn relabel<A: Allocator>(
+    tree: &mut Tree<'_, u32, A>,
+    steps: &[u16],
+    label: u32,
+) -> Result<(), TreeFault> {
+    tree.relabel(steps, label)
+}
+
+fn remove<A: Allocator>(tree: &mut Tree<'_, u32, A>, steps: &[u16]) -> Result<(), TreeFault> {
+    tree.remove(steps)
+}
+
+fn move_up<A: Allocator>(tree: &mut Tree<'_, u32, A>, steps: &[u16]) -> Result<(), TreeFault> {
+    tree.move_up(steps)
+}
+
+fn size<A: Allocator>(tree: &Tree<'_, u32, A>) -> usize {
+    tree.size()
+}
+
+fn relabelled<A: Allocator>(tree: &Tree<'_, u32, A>) -> u64 {
+    tree.relabelled()
+}
+
 /// A node as it is to be shown: the way to it, the turn of its move, its label and how many children it has.
 type Row = (&'static [u16], Option<usize>, u32, u16);
 
@@ -44,7 +88,7 @@ fn expect_rows<A: Allocator>(rt: &impl Abort, tree: &Tree<'_, u32, A>, rows: &[R
         let wanted = Some((played, *label, *children));
         assert!(rt; shown(tree, steps) == wanted, "{steps:?}");
     }
-    assert_eq!(rt; tree.size(), rows.len());
+    assert!(rt; size(tree) == rows.len());
 }
 
 /// A line of 256 moves below the root, each with room made for it first, and the path to its end.
@@ -55,9 +99,8 @@ fn long_line<'a, A: Allocator>(
 ) -> Result<Path<'a, A>, AllocError> {
     let mut path = Path::root(alloc);
     for turn in 0..MAX_DEPTH {
-        assert!(rt; tree.reserve(path.steps()).is_ok());
-        let place = tree.add_last(path.steps(), king_move(turn), 7);
-        assert!(rt; place == Ok(0));
+        assert!(rt; reserve(tree, path.steps()) == Ok(()));
+        assert!(rt; add(tree, path.steps(), turn, 7) == Ok(0));
         path.push(0)?;
     }
     Ok(path)
@@ -70,38 +113,47 @@ fn refuses_child<A: Allocator>(
     steps: &[u16],
     fault: TreeFault,
 ) {
-    assert_eq!(rt; tree.reserve(steps), Err(fault));
-    assert_eq!(rt; tree.add_last(steps, king_move(0), 9), Err(fault));
+    assert!(rt; reserve(tree, steps) == Err(fault), "{fault:?}");
+    assert!(rt; add(tree, steps, 0, 9) == Err(fault), "{fault:?}");
+}
+
+/// Nodes below the root, beside the line, until there are 4,096.
+fn fill<A: Allocator>(rt: &impl Abort, tree: &mut Tree<'_, u32, A>) {
+    for count in 1..MAX_NODES - MAX_DEPTH {
+        assert!(rt; add(tree, &[], 0, 8) == Ok(count as u16), "{count}");
+    }
+}
+
+/// The first of two faults of a full tree is reported; the path leads to the end of its longest line.
+fn expect_full<'a, A: Allocator>(rt: &impl Abort, tree: &mut Tree<'a, u32, A>, path: &Path<'a, A>) {
+    let missing = [3u16; 256];
+    refuses_child(rt, tree, &missing[..1], TreeFault::TreeFull);
+    refuses_child(rt, tree, &missing[..2], TreeFault::NoSuchNode);
+    refuses_child(rt, tree, &missing[..256], TreeFault::NoSuchNode);
+    refuses_child(rt, tree, path.steps(), TreeFault::TooDeep);
+    refuses_child(rt, tree, &[], TreeFault::TreeFull);
 }
 
 /// 256 moves in a line and 4,096 nodes are accepted and no more, and the first of two faults is reported, without memory too.
 #[test]
 fn a_tree_has_at_most_256_moves_in_a_line_and_4096_nodes(rt: HostRuntime) -> Result<(), Fail> {
     let heap = LocalHeap::new(rt.alloc(), 1 << 22)?;
-    let mut tree = Tree::new(&heap, 0);
+    let mut tree = new_tree(&heap, 0);
     let path = long_line(&rt, &heap, &mut tree)?;
     refuses_child(&rt, &mut tree, path.steps(), TreeFault::TooDeep);
-    for count in 1..MAX_NODES - MAX_DEPTH {
-        let place = tree.add_last(&[], king_move(0), 8);
-        assert_eq!(rt; place, Ok(count as u16));
-    }
+    fill(&rt, &mut tree);
     let blocks = rest_of(rt.alloc(), &heap)?;
-    let missing = [3u16; 256];
-    refuses_child(&rt, &mut tree, &missing[..1], TreeFault::TreeFull);
-    refuses_child(&rt, &mut tree, &missing[..2], TreeFault::NoSuchNode);
-    refuses_child(&rt, &mut tree, &missing[..256], TreeFault::NoSuchNode);
-    refuses_child(&rt, &mut tree, path.steps(), TreeFault::TooDeep);
-    refuses_child(&rt, &mut tree, &[], TreeFault::TreeFull);
+    expect_full(&rt, &mut tree, &path);
     drop(blocks);
-    assert_eq!(rt; (tree.size(), tree.relabelled()), (4096, 4095));
-    assert_eq!(rt; tree.remove(&[0]), Ok(()));
-    assert_eq!(rt; tree.size(), 3840);
+    assert!(rt; size(&tree) == 4096 && relabelled(&tree) == 4095);
+    assert!(rt; remove(&mut tree, &[0]) == Ok(()));
+    assert!(rt; size(&tree) == 3840);
     Ok(())
 }
 
 /// A tree of six nodes: below the root two moves, below the first of them two, and below the first of those one.
 fn small_tree<'a, A: Allocator>(rt: &impl Abort, alloc: &'a A) -> Tree<'a, u32, A> {
-    let mut tree = Tree::new(alloc, 10);
+    let mut tree = new_tree(alloc, 10);
     for (steps, turn, label, place) in [
         (&[][..], 0, 11, 0),
         (&[], 2, 12, 1),
@@ -109,8 +161,7 @@ fn small_tree<'a, A: Allocator>(rt: &impl Abort, alloc: &'a A) -> Tree<'a, u32, 
         (&[0], 3, 14, 1),
         (&[0, 0], 0, 15, 0),
     ] {
-        let added = tree.add_last(steps, king_move(turn), label);
-        assert!(rt; added == Ok(place));
+        assert!(rt; add(&mut tree, steps, turn, label) == Ok(place), "{label}");
     }
     tree
 }
@@ -146,36 +197,42 @@ fn edits_move_whole_branches(rt: HostRuntime) {
     let alloc = rt.alloc();
     let mut tree = small_tree(&rt, &alloc);
     expect_rows(&rt, &tree, BUILT);
-    assert_eq!(rt; tree.relabelled(), 5);
-    assert_eq!(rt; tree.move_up(&[1]), Ok(()));
-    assert_eq!(rt; tree.relabel(&[1, 0], 17), Ok(()));
-    assert_eq!(rt; tree.relabel(&[], 18), Ok(()));
+    assert!(rt; relabelled(&tree) == 5);
+    assert!(rt; move_up(&mut tree, &[1]) == Ok(()));
+    assert!(rt; relabel(&mut tree, &[1, 0], 17) == Ok(()));
+    assert!(rt; relabel(&mut tree, &[], 18) == Ok(()));
     expect_rows(&rt, &tree, MOVED_UP);
-    assert_eq!(rt; tree.remove(&[1, 0]), Ok(()));
+    assert!(rt; remove(&mut tree, &[1, 0]) == Ok(()));
     expect_rows(&rt, &tree, REMOVED);
-    assert_eq!(rt; tree.relabelled(), 7);
+    assert!(rt; relabelled(&tree) == 7);
+}
+
+/// There is no such node for any call.
+fn refuses_node<A: Allocator>(rt: &impl Abort, tree: &mut Tree<'_, u32, A>, steps: &[u16]) {
+    let missing = TreeFault::NoSuchNode;
+    assert!(rt; shown(tree, steps).is_none(), "{steps:?}");
+    assert!(rt; remove(tree, steps) == Err(missing), "{steps:?}");
+    assert!(rt; move_up(tree, steps) == Err(missing), "{steps:?}");
+    assert!(rt; relabel(tree, steps, 16) == Err(missing), "{steps:?}");
+    refuses_child(rt, tree, steps, missing);
 }
 
 /// Each fault of a small tree; where two hold, the first is reported, and nothing changes.
 #[test]
 fn faults_are_told_in_their_order(rt: HostRuntime) {
-    use TreeFault::{AlreadyFirst, NoSuchNode, Root};
+    use TreeFault::{AlreadyFirst, Root};
     let alloc = rt.alloc();
     let mut tree = small_tree(&rt, &alloc);
     for steps in [&[2][..], &[1, 0], &[5, 0], &[0, 0, 0, 0]] {
-        assert!(rt; shown(&tree, steps).is_none(), "{steps:?}");
-        assert_eq!(rt; tree.remove(steps), Err(NoSuchNode), "{steps:?}");
-        assert_eq!(rt; tree.move_up(steps), Err(NoSuchNode), "{steps:?}");
-        assert_eq!(rt; tree.relabel(steps, 16), Err(NoSuchNode), "{steps:?}");
-        refuses_child(&rt, &mut tree, steps, NoSuchNode);
+        refuses_node(&rt, &mut tree, steps);
     }
-    assert_eq!(rt; tree.remove(&[]), Err(Root));
+    assert!(rt; remove(&mut tree, &[]) == Err(Root));
     for (steps, want) in [
         (&[][..], Root),
         (&[0], AlreadyFirst),
         (&[0, 0], AlreadyFirst),
     ] {
-        assert_eq!(rt; tree.move_up(steps), Err(want), "{steps:?}");
+        assert!(rt; move_up(&mut tree, steps) == Err(want), "{steps:?}");
     }
     expect_rows(&rt, &tree, BUILT);
 }
@@ -188,34 +245,52 @@ enum Growth {
     Push,
 }
 
-/// Grows a line of 24 moves on a heap, with room made for every second one, up to the first refused growth, if there is one.
+/// Grows a line by the move of this turn, with room made for it at every second one; the growth that was refused, if one was.
 /// Where room was made, the move is added though no memory is left.
+fn refused_at<'a>(
+    rt: &impl Abort,
+    alloc: Global,
+    tree: &mut Tree<'a, u32, LocalHeap>,
+    heap: &'a LocalHeap,
+    path: &mut Path<'a, LocalHeap>,
+    turn: usize,
+) -> Result<Option<Growth>, AllocError> {
+    if turn % 2 == 0 {
+        if reserve(tree, path.steps()).is_err() {
+            return Ok(Some(Growth::Reserve));
+        }
+        let blocks = rest_of(alloc, heap)?;
+        let added = add(tree, path.steps(), turn, 2);
+        drop(blocks);
+        assert!(rt; added == Ok(0), "at {turn}");
+    } else {
+        let added = add(tree, path.steps(), turn, 2);
+        if added == Err(TreeFault::OutOfMemory) {
+            assert!(rt; size(tree) == turn.saturating_add(1), "at {turn}");
+            assert!(rt; relabelled(tree) == turn as u64, "at {turn}");
+            return Ok(Some(Growth::AddLast));
+        }
+        assert!(rt; added == Ok(0), "at {turn}");
+    }
+    if path.push(0).is_err() {
+        assert!(rt; [0u16; 24].get(..turn) == Some(path.steps()), "at {turn}");
+        return Ok(Some(Growth::Push));
+    }
+    Ok(None)
+}
+
+/// Grows a line of 24 moves on a heap, up to the first refused growth, if there is one.
 fn first_refused(
     rt: &impl Abort,
     alloc: Global,
     heap: &LocalHeap,
 ) -> Result<Option<Growth>, AllocError> {
-    let mut tree = Tree::new(heap, 1);
+    let mut tree = new_tree(heap, 1);
     let mut path = Path::root(heap);
     for turn in 0..24usize {
-        let mut blocks = Vec::new(alloc);
-        if turn % 2 == 0 {
-            if tree.reserve(path.steps()).is_err() {
-                return Ok(Some(Growth::Reserve));
-            }
-            blocks = rest_of(alloc, heap)?;
-        }
-        let added = tree.add_last(path.steps(), king_move(turn), 2);
-        drop(blocks);
-        if added == Err(TreeFault::OutOfMemory) {
-            assert!(rt; turn % 2 == 1, "room was made at {turn}");
-            assert_eq!(rt; (tree.size(), tree.relabelled()), (turn + 1, turn as u64));
-            return Ok(Some(Growth::AddLast));
-        }
-        assert_eq!(rt; added, Ok(0), "at {turn}");
-        if path.push(0).is_err() {
-            assert_eq!(rt; path.steps(), &[0u16; 24][..turn]);
-            return Ok(Some(Growth::Push));
+        let refused = refused_at(rt, alloc, &mut tree, heap, &mut path, turn)?;
+        if refused.is_some() {
+            return Ok(refused);
         }
     }
     Ok(None)
