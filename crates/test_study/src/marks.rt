@@ -59,7 +59,7 @@ fn expect_queen_marks<'a, A: Allocator>(rt: &impl Abort, alloc: &'a A, bench: &B
     expect_mark(rt, alloc, bench, &[], ROOT);
     expect_mark(rt, alloc, bench, &[0], DUAL);
     expect_mark(rt, alloc, bench, &[1], MISTAKE);
-    assert_eq!(rt; calls::size(bench), 3);
+    assert!(rt; calls::size(bench) == 3);
 }
 
 /// So many labels were written, and so many values asked.
@@ -70,24 +70,22 @@ fn expect_counts<A: Allocator, V: Values>(
     labels: u64,
     asked: u64,
 ) {
-    assert!(rt; calls::relabelled(bench) == labels, "{labels} {asked}");
-    assert!(rt; values.asked() == asked, "{labels} {asked}");
+    assert_eq!(rt; calls::relabelled(bench), labels);
+    assert_eq!(rt; values.asked(), asked);
 }
 
-/// The stalemate is put before the mate, and the mate, then the second move, is deleted.
-fn expect_promotion_and_deletion<'a, A: Allocator>(
-    rt: &impl Abort,
-    alloc: &'a A,
-    bench: &mut Bench<'a, A>,
-) {
-    let second = path_of(rt, alloc, &[1]);
-    assert!(rt; calls::promote(bench, &second).is_ok());
+/// The stalemate is put before the mate.
+fn expect_promotion<'a, A: Allocator>(rt: &impl Abort, alloc: &'a A, bench: &mut Bench<'a, A>) {
+    assert!(rt; calls::promote(bench, &path_of(rt, alloc, &[1])).is_ok());
     expect_mark(rt, alloc, bench, &[], ROOT);
     expect_mark(rt, alloc, bench, &[0], MISTAKE);
-    assert_eq!(rt; calls::relabelled(bench), 6);
-    assert!(rt; calls::delete(bench, &second).is_ok());
-    assert_eq!(rt; calls::size(bench), 2);
-    assert_eq!(rt; calls::relabelled(bench), 7);
+    assert!(rt; calls::relabelled(bench) == 6);
+}
+
+/// The mate, now the second move, is deleted.
+fn expect_deletion<'a, A: Allocator>(rt: &impl Abort, alloc: &'a A, bench: &mut Bench<'a, A>) {
+    assert!(rt; calls::delete(bench, &path_of(rt, alloc, &[1])).is_ok());
+    assert!(rt; calls::size(bench) == 2 && calls::relabelled(bench) == 7);
 }
 
 /// Each edit writes the labels of one path, a stipulation those of all nodes; none but an insertion asks a value. The root has 25
@@ -101,7 +99,8 @@ fn edits_write_the_labels_of_one_path(rt: HostRuntime) {
     let mut bench = QUEEN.study(&rt, &alloc, &mut values);
     expect_queen_marks(&rt, &alloc, &bench);
     expect_counts(&rt, &bench, &values, 5, 54);
-    expect_promotion_and_deletion(&rt, &alloc, &mut bench);
+    expect_promotion(&rt, &alloc, &mut bench);
+    expect_deletion(&rt, &alloc, &mut bench);
     let draw = Stipulation {
         hero: Side::White,
         goal: Goal::Draw,
@@ -156,8 +155,7 @@ fn readers_tell_what_was_put_in(rt: HostRuntime) {
     expect_tag(&rt, &mut bench, "A \"quoted\" \\ study");
     let other = start_of(&rt, "8/8/8/8/8/2k5/8/K6Q w - - 0 1");
     assert!(rt; calls::set_position(&mut bench, other, &mut values).is_ok());
-    assert_eq!(rt; calls::size(&bench), 1);
-    assert_eq!(rt; calls::relabelled(&bench), 1);
+    assert!(rt; calls::size(&bench) == 1 && calls::relabelled(&bench) == 1);
 }
 
 fn moved(origin: u8, target: u8) -> Move {
@@ -294,6 +292,11 @@ fn trial<'a, V: Values>(
     calls::mark_of(bench, &at, moved(origin, target), values)
 }
 
+/// Of the move to this square this mark is told.
+fn expect_told(rt: &impl Abort, told: Result<Mark, Refusal<'_, Global>>, wanted: Mark, target: u8) {
+    assert!(rt; told.ok() == Some(wanted), "{target}");
+}
+
 /// Each move has its mark.
 fn expect_trials<'a, V: Values>(
     rt: &impl Abort,
@@ -309,7 +312,7 @@ fn expect_trials<'a, V: Values>(
             faults: *faults,
         };
         let told = trial(rt, alloc, bench, steps, *squares, values);
-        assert!(rt; told.ok() == Some(mark), "{steps:?} {squares:?}");
+        expect_told(rt, told, mark, squares.1);
     }
 }
 

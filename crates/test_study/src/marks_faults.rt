@@ -185,10 +185,7 @@ impl Subject {
     ) -> Result<(), Stopped<'a, A>> {
         let mut bench = self.case().root(rt, room, sound);
         let answer = calls::apply_all(&mut bench, edits, values);
-        let done = match &answer {
-            Ok(()) => edits.len(),
-            Err(stopped) => stopped.done,
-        };
+        let done = done_of(&answer, edits.len());
         let (first, _) = same.split_at(done.min(same.len()));
         let wanted = self.after_edits(rt, alloc, first, sound);
         assert!(rt; wanted.is_of(rt, *alloc, &bench), "{done}");
@@ -206,6 +203,14 @@ impl Subject {
         let mut bench = self.case().root(rt, alloc, sound);
         assert!(rt; calls::apply_all(&mut bench, edits, sound).is_ok());
         Snapshot::of(rt, *alloc, &bench)
+    }
+}
+
+/// How many of so many edits were made.
+fn done_of<A: Allocator>(answer: &Result<(), Stopped<'_, A>>, count: usize) -> usize {
+    match answer {
+        Ok(()) => count,
+        Err(stopped) => stopped.done,
     }
 }
 
@@ -411,6 +416,14 @@ fn deep_study<'a, A: Allocator, V: Values>(
     bench
 }
 
+/// A shift was refused since it breaks the move that leads to the node at these steps.
+fn expect_broken<A: Allocator>(rt: &impl Abort, answer: Result<(), Refusal<'_, A>>, steps: &[u16]) {
+    match answer {
+        Err(Refusal::ShiftBroken(at)) => assert_eq!(rt; at.steps(), steps),
+        _ => panic!(rt; "not broken"),
+    }
+}
+
 /// A shift that breaks a deep move finds no memory for the path to it, and then finds some.
 #[test]
 fn the_path_to_a_broken_move_takes_memory(rt: HostRuntime) -> Result<(), Fail> {
@@ -424,10 +437,8 @@ fn the_path_to_a_broken_move_takes_memory(rt: HostRuntime) -> Result<(), Fail> {
     let answer = calls::shift_position(&mut bench, start_of(&rt, moved), &mut values);
     assert!(rt; !is_accepted(&rt, alloc, &bench, &was, answer));
     drop(blocks);
-    match calls::shift_position(&mut bench, start_of(&rt, moved), &mut values) {
-        Err(Refusal::ShiftBroken(at)) => assert_eq!(rt; at.steps(), [0u16; 19].as_slice()),
-        _ => panic!(rt; "not broken"),
-    }
+    let answer = calls::shift_position(&mut bench, start_of(&rt, moved), &mut values);
+    expect_broken(&rt, answer, &[0; 19]);
     assert!(rt; was.is_of(&rt, alloc, &bench));
     Ok(())
 }

@@ -5,6 +5,7 @@ use crate::marks_faults::{Call, Subject, is_device};
 use crate::studies::{Snapshot, start_of, tables_of};
 use std::alloc::Global;
 use std::process::Abort;
+use study_marks::Edit;
 use study_material::Class;
 use study_prober::{PagedTables, Values};
 use study_tablefile::memory::MemorySource;
@@ -79,6 +80,26 @@ fn each_read_of_a_page_in_a_call_fails_in_turn(rt: HostRuntime) {
     }
 }
 
+/// After how many edits a list stops where the k-th read of a page fails, if it does.
+fn stop_of<'a, V: Values>(
+    rt: &impl Abort,
+    alloc: &'a Global,
+    text: &[u8],
+    edits: &[Edit<'a, Global>],
+    k: u64,
+    sound: &mut V,
+) -> Option<usize> {
+    let mut values = one_page(rt, alloc, text, Some(k));
+    let list = (alloc, edits);
+    match Subject::Mate.edited(rt, list, list, &mut values, sound) {
+        Ok(()) => None,
+        Err(stopped) => {
+            assert!(rt; is_device(&stopped.refusal), "{k}");
+            Some(stopped.done)
+        }
+    }
+}
+
 /// Each read of a page in a list of edits fails in turn: it stops at the edit that asks for the page, the first two and the
 /// last among them.
 #[test]
@@ -87,17 +108,20 @@ fn each_read_of_a_page_in_a_list_fails_in_turn(rt: HostRuntime) {
     let text = file_of(&rt, &alloc);
     let mut sound = one_page(&rt, &alloc, text.as_slice(), None);
     let edits = Subject::Mate.edits(&rt, alloc, &alloc, &mut sound);
-    let list = (&alloc, edits.as_slice());
     let mut stops = [false; 5];
     for k in 1..300u64 {
-        let mut values = one_page(&rt, &alloc, text.as_slice(), Some(k));
-        match Subject::Mate.edited(&rt, list, list, &mut values, &mut sound) {
-            Ok(()) => break,
-            Err(stopped) => {
-                assert!(rt; is_device(&stopped.refusal) && stopped.done < 5, "{k}");
-                stops[stopped.done] = true;
-            }
-        }
+        let Some(done) = stop_of(
+            &rt,
+            &alloc,
+            text.as_slice(),
+            edits.as_slice(),
+            k,
+            &mut sound,
+        ) else {
+            break;
+        };
+        assert!(rt; done < 5, "{k}");
+        stops[done] = true;
     }
     assert_eq!(rt; stops, [true, true, false, false, true]);
 }

@@ -72,6 +72,16 @@ fn the_main_line_goes_on_after_its_variations(rt: HostRuntime) {
     expect_text(&rt, rt.alloc(), &KINGS, KINGS_TEXT);
 }
 
+/// The two moves of a turn, the second of which goes on.
+fn moves_at(turn: usize) -> (&'static str, &'static str) {
+    match turn % 4 {
+        0 => ("Kb1", "Ka2"),
+        1 => ("Kb8", "Ka7"),
+        2 => ("Kb1", "Ka1"),
+        _ => ("Kb8", "Ka8"),
+    }
+}
+
 /// A tree of variations within variations, 80 deep.
 fn nested<'a, A: Allocator>(rt: &impl Abort, alloc: &'a A) -> Bench<'a, A> {
     let mut values = tables_of(rt, alloc, &[Class::KK]);
@@ -82,12 +92,7 @@ fn nested<'a, A: Allocator>(rt: &impl Abort, alloc: &'a A) -> Bench<'a, A> {
     let mut bench = case.root(rt, alloc, &mut values);
     let mut at = path_of(rt, alloc, &[]);
     for turn in 0..80usize {
-        let (first, second) = [
-            ("Kb1", "Ka2"),
-            ("Kb8", "Ka7"),
-            ("Kb1", "Ka1"),
-            ("Kb8", "Ka8"),
-        ][turn % 4];
+        let (first, second) = moves_at(turn);
         insert_text(rt, &mut bench, &at, first, &mut values);
         insert_text(rt, &mut bench, &at, second, &mut values);
         assert!(rt; at.push(1).is_ok());

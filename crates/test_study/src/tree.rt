@@ -245,8 +245,43 @@ enum Growth {
     Push,
 }
 
+/// Makes room for the move of this turn, and adds it though no memory is left; whether there was room.
+fn adds_in_room<'a>(
+    rt: &impl Abort,
+    alloc: Global,
+    tree: &mut Tree<'a, u32, LocalHeap>,
+    heap: &'a LocalHeap,
+    path: &Path<'a, LocalHeap>,
+    turn: usize,
+) -> Result<bool, AllocError> {
+    if reserve(tree, path.steps()).is_err() {
+        return Ok(false);
+    }
+    let blocks = rest_of(alloc, heap)?;
+    let added = add(tree, path.steps(), turn, 2);
+    drop(blocks);
+    assert!(rt; added == Ok(0), "at {turn}");
+    Ok(true)
+}
+
+/// Adds the move of this turn, for which no room was made; whether there was memory.
+fn adds<'a>(
+    rt: &impl Abort,
+    tree: &mut Tree<'a, u32, LocalHeap>,
+    path: &Path<'a, LocalHeap>,
+    turn: usize,
+) -> bool {
+    let added = add(tree, path.steps(), turn, 2);
+    if added == Err(TreeFault::OutOfMemory) {
+        assert!(rt; size(tree) == turn.saturating_add(1), "at {turn}");
+        assert!(rt; relabelled(tree) == turn as u64, "at {turn}");
+        return false;
+    }
+    assert!(rt; added == Ok(0), "at {turn}");
+    true
+}
+
 /// Grows a line by the move of this turn, with room made for it at every second one; the growth that was refused, if one was.
-/// Where room was made, the move is added though no memory is left.
 fn refused_at<'a>(
     rt: &impl Abort,
     alloc: Global,
@@ -256,21 +291,11 @@ fn refused_at<'a>(
     turn: usize,
 ) -> Result<Option<Growth>, AllocError> {
     if turn % 2 == 0 {
-        if reserve(tree, path.steps()).is_err() {
+        if !adds_in_room(rt, alloc, tree, heap, path, turn)? {
             return Ok(Some(Growth::Reserve));
         }
-        let blocks = rest_of(alloc, heap)?;
-        let added = add(tree, path.steps(), turn, 2);
-        drop(blocks);
-        assert!(rt; added == Ok(0), "at {turn}");
-    } else {
-        let added = add(tree, path.steps(), turn, 2);
-        if added == Err(TreeFault::OutOfMemory) {
-            assert!(rt; size(tree) == turn.saturating_add(1), "at {turn}");
-            assert!(rt; relabelled(tree) == turn as u64, "at {turn}");
-            return Ok(Some(Growth::AddLast));
-        }
-        assert!(rt; added == Ok(0), "at {turn}");
+    } else if !adds(rt, tree, path, turn) {
+        return Ok(Some(Growth::AddLast));
     }
     if path.push(0).is_err() {
         assert!(rt; [0u16; 24].get(..turn) == Some(path.steps()), "at {turn}");
@@ -279,7 +304,8 @@ fn refused_at<'a>(
     Ok(None)
 }
 
-/// Grows a line of 24 moves on a heap, up to the first refused growth, if there is one.
+/// Grows a line of 24 moves on a heap, with room made for every second one, up to the first refused growth, if there is one.
+/// Where room was made, the move is added though no memory is left.
 fn first_refused(
     rt: &impl Abort,
     alloc: Global,
