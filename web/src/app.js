@@ -233,6 +233,22 @@ async function arrive(next, note = null) {
   if (app.view && s && s.aim) factsOf(text, s.fen, stamp);
   parts.keep(doc());
   parts.show();
+  if (app.view && text.length < 10000) lookAhead(text, stamp);
+}
+/**
+ * The views to which a key leads from here are asked for one after the other, as long as the user does nothing else.
+ * @param {string} text
+ * @param {number} stamp
+ */
+async function lookAhead(text, stamp) {
+  const n = node(), row = n && n.parent ? n.parent.children : [], at = n ? row.indexOf(n) : 0;
+  const near = n ? [n.children[0], n.parent, row[at - 1], row[at + 1], ...n.children.slice(1, 4)] : [];
+  for (const next of near) {
+    if (!next) continue;
+    await new Promise(on => setTimeout(on, 20));
+    if (stamp !== app.stamp || app.setup) return;
+    await viewOf(text, next.path).catch(() => {});      // who goes there is told why there is none
+  }
 }
 /**
  * The facts, by a worker of their own: no move waits for them.

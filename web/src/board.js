@@ -45,20 +45,47 @@ function edges() {
     svg('text', { x: 6, y: Y + 45 * (7 - i) + 27 }, `${app.flip ? 8 - i : i + 1}`)]);
   return [svg('rect', { class: 'fr', x: X, y: Y, width: 360, height: 360 }), ...names];
 }
+/** @typedef {{last: number[], chosen: number | null, cursor: number | null, targets: Target[]}} Marks */
 /**
- * @param {string} fen
- * @param {{last: number[], chosen: number | null, cursor: number | null, targets: Target[]}} marks
+ * The squares that are marked, below the men.
+ * @param {Marks} marks
  */
-function drawing(fen, marks) {
+const markedSquares = marks => svg('g', {}, marks.last.map(s => cell(s, 'last')), marks.chosen !== null && cell(marks.chosen, 'pick'));
+/**
+ * The men, and what is drawn over them.
+ * @param {string} fen
+ * @param {Marks} marks
+ */
+function standing(fen, marks) {
   const men = menOf(fen);
   const dots = marks.targets.map(({ to, sign }) => {
     const [x, y] = corner(to);
     return svg('circle', { class: sign + (men[to] ? ' over' : ''), cx: x + 22.5, cy: y + 22.5, r: men[to] ? 20 : 7.5 });
   });
-  return svg(
-      'svg', {class: 'board', role: 'img', viewBox: '0 -2 377 380', tabindex: 0, 'aria-label': 'Board. ' + spokenPosition(fen), onpointerdown: pressed},
-      squares(), marks.last.map(s => cell(s, 'last')), marks.chosen !== null && cell(marks.chosen, 'pick'), edges(),
-      Object.entries(men).map(([s, c]) => man(c, Number(s))), dots, marks.cursor !== null && cell(marks.cursor, 'cursor'));
+  return svg('g', {}, Object.entries(men).map(([s, c]) => man(c, Number(s))), dots, marks.cursor !== null && cell(marks.cursor, 'cursor'));
+}
+/**
+ * The board that is shown; its squares and coordinates stay until it is turned.
+ * @type {{flip: boolean, board: any, marked: any, standing: any} | null}
+ */
+let shown = null;
+function newBoard() {
+  const marked = svg('g', {}), standing = svg('g', {});
+  const board = svg('svg', { class: 'board', role: 'img', viewBox: '0 -2 377 380', tabindex: 0, onpointerdown: pressed }, squares(), marked, edges(), standing);
+  return { flip: app.flip, board, marked, standing };
+}
+/**
+ * @param {string} fen
+ * @param {Marks} marks
+ */
+function drawing(fen, marks) {
+  const now = shown = shown && shown.flip === app.flip ? shown : newBoard(), fresh = { marked: markedSquares(marks), standing: standing(fen, marks) };
+  now.board.setAttribute('aria-label', 'Board. ' + spokenPosition(fen));
+  now.marked.replaceWith(fresh.marked);
+  now.standing.replaceWith(fresh.standing);
+  while (fresh.standing.nextSibling) fresh.standing.nextSibling.remove();       // a man of the palette that was dragged
+  Object.assign(now, fresh);
+  return now.board;
 }
 /**
  * Where the board shows a sign: the moves of the man that is chosen, or the squares of a survey.
@@ -77,10 +104,12 @@ export const shownFen = () => {
   return app.setup ? draftFen() : n ? n.fen : s ? s.fen : '8/8/8/8/8/8/8/8 w - - 0 1';
 };
 export function showBoard() {
-  const n = node(), focused = document.activeElement === $('board').firstChild;
-  const last = !app.setup && n && n.parent ? [n.from, n.to] : [];
-  $('board').replaceChildren(drawing(shownFen(), { last, chosen: app.chosen, cursor: app.setup ? app.setup.cursor : null, targets: targets() }));
-  if (focused) $('board').firstChild.focus({ preventScroll: true });
+  const n = node(), before = $('board').firstChild, last = !app.setup && n && n.parent ? [n.from, n.to] : [];
+  const board = drawing(shownFen(), { last, chosen: app.chosen, cursor: app.setup ? app.setup.cursor : null, targets: targets() });
+  if (board === before) return;
+  const focused = document.activeElement === before;
+  $('board').replaceChildren(board);
+  if (focused) board.focus({ preventScroll: true });
 }
 export function flip() { app.flip = !app.flip; showBoard(); }
 

@@ -21,7 +21,8 @@ import { refusalIn } from './replies.js';
  * @returns {Promise<Uint8Array>}
  */
 async function unpacked(id) {
-  const packed = Uint8Array.from(atob($(id).textContent.trim()), c => c.charCodeAt(0));
+  const text = atob($(id).textContent.trim()), packed = new Uint8Array(text.length);
+  for (let i = 0; i < packed.length; i++) packed[i] = text.charCodeAt(i);
   return new Uint8Array(
       await new Response(new Blob([packed]).stream().pipeThrough(new (/** @type {any} */ (window).DecompressionStream)('gzip'))).arrayBuffer());
 }
@@ -41,7 +42,8 @@ parts.show = show;
 parts.showFacts = showFacts;
 parts.showJudged = showJudged;
 parts.keep = ({ lines, at, path, name }) => {
-  $('unkept').hidden = remember('studyboard', JSON.stringify({ script: lines.join('\n'), at, path, name }));
+  const tables = parts.shelf.named(fensOf(lines));
+  $('unkept').hidden = remember('studyboard', JSON.stringify({ script: lines.join('\n'), at, path, name, tables }));
 };
 /**
  * @param {string} key
@@ -175,10 +177,10 @@ document.addEventListener('keydown', e => {
 });
 
 // ---- the beginning
-/** @returns {{script: string, at: number, path: string, name: string}} */
+/** @returns {{script: string, at: number, path: string, name: string, tables: string[]}} */
 function keptDoc() {
   const kept = recalled('studyboard') || '';
-  try { return JSON.parse(kept); } catch { return { script: kept, at: 0, path: 'root', name: '' }; }
+  try { return JSON.parse(kept); } catch { return { script: kept, at: 0, path: 'root', name: '', tables: [] }; }
 }
 async function openHash() {
   const m = /[#&]script=([^&]*)/.exec(location.hash);
@@ -191,6 +193,7 @@ async function openHash() {
 }
 async function start() {
   const kept = keptDoc(), lines = linesOf(kept.script || '');
+  if (lines.length && Array.isArray(kept.tables)) parts.shelf.fetchAhead(kept.tables);
   listen();
   watch();
   theme(recalled('studyboardDark') === null ? matchMedia('(prefers-color-scheme: dark)').matches : recalled('studyboardDark') === '1', false);

@@ -47,13 +47,34 @@ export function makeShelf({ core, spawn, store, tell }) {
    * @returns {Promise<string[]>}
    */
   async function classesOf(fens) {
-    const key = [...new Set(fens.map(material))].sort().join(' ');
-    const old = known.get(key);
+    const key = keyOf(fens), old = known.get(key);
     if (old) return old;
     const { text } = await core.answer('tables', joined([...new Map(fens.map(fen => [material(fen), fen])).values()].map(fen => 'position ' + fen)), 1);
     const names = text.split(/\s+/).filter(word => DIGESTS[word] !== undefined);
     known.set(key, names);
     return names;
+  }
+  /** @param {string[]} fens */
+  const keyOf = fens => [...new Set(fens.map(material))].sort().join(' ');
+  /**
+   * The classes that positions need, as far as they were asked for before.
+   * @param {string[]} fens
+   */
+  const named = fens => known.get(keyOf(fens)) || [];
+  const fetched = /** @type {Map<string, Promise<Uint8Array | null>>} */ (new Map());
+  /**
+   * Tables that will be wanted are read, and compared with the list, while the program starts.
+   * @param {string[]} names
+   */
+  function fetchAhead(names) { for (const name of names) if (DIGESTS[name]) fetched.set(name, right(name).catch(() => null)); }
+  /**
+   * What was fetched ahead is given once, since its bytes go to a core.
+   * @param {string} name
+   */
+  function taken(name) {
+    const bytes = fetched.get(name);
+    fetched.delete(name);
+    return bytes || right(name);
   }
   /**
    * A kept table's bytes, if it is right.
@@ -75,7 +96,7 @@ export function makeShelf({ core, spawn, store, tell }) {
   async function lay(names, into = core) {
     const lacking = /** @type {string[]} */ ([]);
     await Promise.all(names.filter(name => !into.holds(name)).map(async name => {
-      const bytes = await right(name);
+      const bytes = await taken(name);
       if (!bytes) lacking.push(name);
       else if (!into.holds(name)) await into.lay(name, bytes);
     }));
@@ -98,6 +119,7 @@ export function makeShelf({ core, spawn, store, tell }) {
    */
   async function readyOnce(fens, before) {
     const names = await classesOf(fens), lacking = await lay(names);
+    fetched.clear();
     if (!lacking.length) return;
     if (before !== stops) throw new Stopped(STOPPED);
     stopped = false;
@@ -189,5 +211,5 @@ export function makeShelf({ core, spawn, store, tell }) {
    * @param {Uint8Array} bytes
    */
   async function keep(name, bytes) { if (isListed(name, await sha256(bytes)) && !await store.put(name, bytes)) kept = false; }
-  return { classesOf, lay, ready, keep, stop, open, store, isBuilding: () => building, isKept: () => kept };
+  return { classesOf, named, fetchAhead, lay, ready, keep, stop, open, store, isBuilding: () => building, isKept: () => kept };
 }

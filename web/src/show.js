@@ -12,7 +12,7 @@ import { PAWN, SAAVEDRA } from './samples.js';
 import { joined } from './script.js';
 import { redrawJudged, setupView } from './setup_view.js';
 import { openText, studyName, textsView } from './texts_view.js';
-import { keyView, treeView } from './tree_view.js';
+import { keyView, markCurrent, treeView } from './tree_view.js';
 
 let pressing = false;
 const late = /** @type {Set<() => void>} */ (new Set());
@@ -43,8 +43,27 @@ function focused() {
   const focus = document.activeElement;
   return focus ? [focus.id, focus.getAttribute('data-path'), focus.getAttribute('data-san')] : ['', null, null];
 }
+/**
+ * What each part was last drawn from.
+ * @type {Map<string, any[]>}
+ */
+const drawnFrom = new Map();
+/**
+ * Draws a part, but where it stands there already, drawn from the same things: then what the user opened or typed in it stays too.
+ * @param {string} id
+ * @param {any[]} from
+ * @param {() => any} make
+ */
+function part(id, from, make) {
+  const before = drawnFrom.get(id);
+  if (before && before.every((thing, i) => thing === from[i])) return;
+  drawnFrom.set(id, from);
+  put(id, make());
+}
+/** A refusal or a note, with what was typed there: whatever shows it is drawn again with it. */
+const saying = () => [app.say, app.say && app.say.text, app.say && app.say.field, app.say && app.say.typed];
 export function show() {
-  const s = study(), n = node(), kept = focused();
+  const s = study(), n = node(), kept = focused(), d = doc();
   showBoard();
   showBar();
   const said = app.say && app.say.where === 'board' ? app.say : null;
@@ -54,10 +73,11 @@ export function show() {
   put('setup', app.setup && setupView());
   put('nav', !app.setup && n && navView(n));
   put('here', !app.setup && s && n && hereView(s, n));
-  put('head', s ? headView(s) : welcomeView());
-  put('tree', s && treeView(s));
+  part('head', [s && JSON.stringify([s.fen, s.aim, s.tags, Object.keys(s.place)]), ...saying()], () => (s ? headView(s) : welcomeView()));
+  part('tree', [s, app.view !== null], () => s && treeView(s));
+  markCurrent(n ? n.path : '');
   drawFacts();
-  put('texts', textsView(s));
+  part('texts', [d.lines, d.studies, d.at, app.view !== null, ...saying()], () => textsView(s));
   refocus(kept);
   speak();
   hint();
@@ -82,8 +102,8 @@ function hint() {
 }
 function drawFacts() {
   const s = study();
-  put('verdict', s && verdictView(s));
-  put('review', s && reviewView(s));
+  part('verdict', [s, app.view !== null, app.noView, app.review], () => s && verdictView(s));
+  part('review', [s, app.view !== null, app.review, app.noReview], () => s && reviewView(s));
 }
 export const showFacts = () => lately(drawFacts);
 function drawJudged() {
@@ -105,7 +125,10 @@ function showBar() {
   $('studies').hidden = $('walk').hidden = !many;
   $('before').disabled = !d.at;
   $('after').disabled = d.at + 1 >= d.studies.length;
-  if (many) put('studies', d.studies.map((s, i) => h('option', { value: i, selected: i === d.at }, `${i + 1}. ${studyName(s)}: ${s.verdict || 'not judged'}`)));
+  if (many)
+    part('studies', [d.studies],
+         () => d.studies.map((s, i) => h('option', {value: i}, `${i + 1}. ${studyName(s)}: ${s.verdict || 'not judged'}`)));
+  if (many) $('studies').value = d.at;
   $('more').disabled = !d.studies.length;
   for (const id of ['saveScript', 'savePgn', 'saveReport', 'print']) $(id).disabled = !d.lines.length;
 }

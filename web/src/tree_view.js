@@ -57,8 +57,18 @@ export function treeView(s) {
     nodes ? [h('div', { class: 'tree', role: 'group', 'aria-labelledby': 'solution' }, lineView(s, view.root, true)), keyView()]
       : h('p', { class: 'note' }, 'Play a move on the board, choose one below it, or type it.')];
 }
+/**
+ * Marks the node that is looked at, in a tree that stands there already.
+ * @param {string} path
+ */
+export function markCurrent(path) {
+  const before = document.querySelector('#tree .m.now'), now = document.querySelector(`#tree [data-path="${path}"]`);
+  if (before === now) return;
+  if (before) { before.classList.remove('now'); before.removeAttribute('aria-current'); }
+  if (now) { now.classList.add('now'); now.setAttribute('aria-current', 'true'); }
+}
 const example = (/** @type {string} */ mark, /** @type {string} */ sign) => h('span', { class: 'm ' + mark }, 'move', sign && h('b', {}, sign));
 export const keyView = () =>
     h('p', {class: 'note key'}, example('only', '!'), ' the only one that holds · ', example('dual', ''), ' ', h('span', {class: 'tag'}, 'dual 2'),
-      ' two others hold · ', example('mistake', '?'), ' throws it away · ', example('', ''), h('sub', {}, '7'), ' mate in 7 · ', h('sub', {}, '−7'),
+      ' two others hold · ', example('mistake', '?'), ' lets the aim go · ', example('', ''), h('sub', {}, '7'), ' mate in 7 · ', h('sub', {}, '−7'),
       ' is mated in 7 · ', h('sub', {}, '='), ' drawn');
