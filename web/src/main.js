@@ -8,6 +8,7 @@ import { makeCore } from './engine.js';
 import { endOf, remove } from './node_view.js';
 import { fensOf, gameLines, gamesOf, joined, linesOf, savedScript } from './script.js';
 import { closeSetup, judge, openSetup } from './setup.js';
+import { makeReaders } from './readers.js';
 import { makeShelf } from './shelf.js';
 import { show, showFacts, showJudged, showProgress, watch } from './show.js';
 import { makeStore } from './store.js';
@@ -32,12 +33,12 @@ let module = /** @type {Promise<WebAssembly.Module> | null} */ (null);
 const compiled = () => module =
     module || unpacked(WebAssembly.validate(MEMORY64) && $('module64') ? 'module64' : 'module32').then(bytes => WebAssembly.compile(bytes));
 const source = URL.createObjectURL(new Blob([$('workerSource').textContent], { type: 'text/javascript' }));
-const spawn = () => makeCore(() => new Worker(source), compiled);
+const spawn = () => makeCore(() => new Worker(source), compiled), readers = makeReaders(() => new Worker(source));
 
 const store = makeStore();
 parts.core = spawn();
 parts.facts = spawn();
-parts.shelf = makeShelf({ core: parts.core, spawn, store, tell: p => { app.progress = p; showProgress(); } });
+parts.shelf = makeShelf({ core: parts.core, spawn, readers, store, tell: p => { app.progress = p; showProgress(); } });
 parts.show = show;
 parts.showFacts = showFacts;
 parts.showJudged = showJudged;
@@ -66,7 +67,7 @@ function fileName(ending) {
 async function openFile(file) { if (file) openText(await file.text(), 'board', file.name); }
 /** @param {File[]} files */
 const openTables = files => work(async () => {
-  const { taken, bad, kept } = await parts.shelf.open(files.map(f => ({ name: f.name, bytes: async () => new Uint8Array(await f.arrayBuffer()) })));
+  const { taken, bad, kept } = await parts.shelf.open(files);
   say('board',
       [
         taken.length > 0 && `${counted(taken.length, 'table')} opened${kept ? ' and kept in this browser' : ', for as long as this page stands open'}`,
@@ -83,8 +84,8 @@ const saveTables = () => work(async () => {
   const kept = new Set(await store.names()), need = (await parts.shelf.classesOf(fensOf(doc().lines))).filter(name => kept.has(name)),
         names = need.length ? need : [...kept];
   for (const name of names) {
-    const bytes = await store.get(name);
-    if (bytes) download(name + '.dtm', bytes);
+    const file = await store.get(name);
+    if (file) download(name + '.dtm', file);
     await new Promise(on => setTimeout(on, 150));
   }
   say('board', names.length ? `${counted(names.length, 'table')} saved: ${names.join(' ')}.` : 'No table is kept yet.', true);

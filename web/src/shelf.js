@@ -1,11 +1,10 @@
 // @ts-check
 // Tables: which a script needs, taken from where they are kept, or built in workers of their own.
 //
-// A table that was not built in this visit is taken only where its SHA-256 is that of the list: any page of file:// can write to the store.
+// A table is taken only where its SHA-256 is that of the list: any page of file:// can write to the store.
 import { DIGESTS } from './digests.js';
 import { Stopped } from './engine.js';
 import { buildEach } from './schedule.js';
-import { sha256 } from './store.js';
 import { material } from './fen.js';
 import { reason } from './words.js';
 import { joined } from './script.js';
@@ -35,10 +34,13 @@ export function progressText(running, made, all, seconds, left) {
       more}. It is done once, and kept.`;
 }
 
-/** @param {{core: Core, spawn: () => Core, store: ReturnType<typeof import('./store.js').makeStore>, tell: (p: Progress | null) => void}} parts */
-export function makeShelf({ core, spawn, store, tell }) {
+/**
+ * @param {{core: Core, spawn: () => Core, readers: ReturnType<typeof import('./readers.js').makeReaders>,
+ *   store: ReturnType<typeof import('./store.js').makeStore>, tell: (p: Progress | null) => void}} parts
+ */
+export function makeShelf({ core, spawn, readers, store, tell }) {
   const known = /** @type {Map<string, string[]>} */ (new Map());
-  const own = /** @type {Map<string, string>} */ (new Map());       // digests of the tables built in this visit
+  const right = /** @type {Map<string, Blob>} */ (new Map());       // compared with the list in this visit: a blob never changes
   let building = false, builders = /** @type {Core[]} */ ([]), stopped = false, rate = 250000, kept = true;
 
   /**
@@ -66,7 +68,7 @@ export function makeShelf({ core, spawn, store, tell }) {
    * Tables that will be wanted are read, and compared with the list, while the program starts.
    * @param {string[]} names
    */
-  function fetchAhead(names) { for (const name of names) if (DIGESTS[name]) fetched.set(name, right(name).catch(() => null)); }
+  function fetchAhead(names) { for (const name of names) if (DIGESTS[name]) fetched.set(name, bytesOf(name)); }
   /**
    * What was fetched ahead is given once, since its bytes go to a core.
    * @param {string} name
@@ -74,19 +76,20 @@ export function makeShelf({ core, spawn, store, tell }) {
   function taken(name) {
     const bytes = fetched.get(name);
     fetched.delete(name);
-    return bytes || right(name);
+    return bytes || bytesOf(name);
   }
   /**
    * A kept table's bytes, if it is right.
    * @param {string} name
    */
-  async function right(name) {
-    const bytes = await store.get(name);
-    if (!bytes) return null;
-    const digest = await sha256(bytes);
-    if (isListed(name, digest) || own.get(name) === digest) return bytes;
-    await store.remove(name);
-    return null;
+  async function bytesOf(name) {
+    const known = right.get(name);
+    if (known) try { return new Uint8Array(await known.arrayBuffer()); } catch { right.delete(name); }
+    const blob = await store.get(name), file = blob ? await readers.read(blob).catch(() => null) : null;
+    if (!blob || !file) return null;
+    if (!isListed(name, file.digest)) { await store.remove(name); return null; }
+    right.set(name, blob);
+    return file.bytes;
   }
   /**
    * Puts into a core the tables that are kept, and returns those that are missing.
@@ -171,10 +174,10 @@ export function makeShelf({ core, spawn, store, tell }) {
       if (/MissingTable/.test(refusal)) return false;
       if (ended !== 'done') throw new Error(`the table ${name} was not built: ${reason('error ' + (refusal || ended))}`);
       rate = Math.max(50000, bytes.length > 1000000 ? bytes.length / ((performance.now() - began) / 1000) : rate);
-      own.set(name, await sha256(bytes));
-      if (!isListed(name, own.get(name) || '')) throw new Error(`the table ${name} is not the one of the list; the browser or the machine is faulty`);
-      if (!await store.put(name, bytes)) kept = false;
-      await core.lay(name, bytes);
+      const blob = new Blob([bytes]), file = await readers.read(blob);
+      if (!isListed(name, file.digest)) throw new Error(`the table ${name} is not the one of the list; the browser or the machine is faulty`);
+      if (!await store.put(name, blob)) kept = false;
+      await core.lay(name, file.bytes);
       return true;
     } finally {
       builder.end();
@@ -188,19 +191,23 @@ export function makeShelf({ core, spawn, store, tell }) {
   }
   /**
    * Files that the user opens: those of the list are kept.
-   * @param {{name: string, bytes: () => Promise<Uint8Array>}[]} files
+   * @param {File[]} files
    */
   async function open(files) {
     const taken = /** @type {string[]} */ ([]), bad = /** @type {string[]} */ ([]);
-    for (const file of files) {
-      const name = (/K[QRBNP]*K[QRBNP]*(?=[^A-Z]*$)/.exec(file.name.replace(/\.dtm$/i, '')) || [''])[0];
-      if (!DIGESTS[name]) { bad.push(`${file.name}: the name of a table is KQK.dtm, KRKP.dtm and so on`); continue; }
-      const bytes = await file.bytes();
-      if (!isListed(name, await sha256(bytes))) {
+    const named = files.map(file => ({ file, name: (/K[QRBNP]*K[QRBNP]*(?=[^A-Z]*$)/.exec(file.name.replace(/\.dtm$/i, '')) || [''])[0] }));
+    for (const { file, name } of named)
+      if (!DIGESTS[name]) bad.push(`${file.name}: the name of a table is KQK.dtm, KRKP.dtm and so on`);
+    const tables = named.filter(({ name }) => DIGESTS[name]), read = /** @type {Promise<import('./readers.js').Read | null>[]} */ ([]);
+    for (const [i, { file, name }] of tables.entries()) {
+      for (const { file } of tables.slice(read.length, i + 3)) read.push(readers.read(file).catch(() => null));
+      const found = await read[i];
+      read[i] = Promise.resolve(null);
+      if (!found || !isListed(name, found.digest)) {
         bad.push(`${file.name} is not the table ${name}: it is damaged, or made by something else. Nothing was taken`);
         continue;
       }
-      if (!await store.put(name, bytes)) kept = false;
+      if (!await store.put(name, new Blob([found.bytes]))) kept = false;
       taken.push(name);
     }
     return { taken, bad, kept };
@@ -210,6 +217,9 @@ export function makeShelf({ core, spawn, store, tell }) {
    * @param {string} name
    * @param {Uint8Array} bytes
    */
-  async function keep(name, bytes) { if (isListed(name, await sha256(bytes)) && !await store.put(name, bytes)) kept = false; }
+  async function keep(name, bytes) {
+    const blob = new Blob([bytes]), { digest } = await readers.read(blob);
+    if (isListed(name, digest) && !await store.put(name, blob)) kept = false;
+  }
   return { classesOf, named, fetchAhead, lay, ready, keep, stop, open, store, isBuilding: () => building, isKept: () => kept };
 }

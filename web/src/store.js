@@ -28,21 +28,20 @@ export function makeStore(name = 'studyboard') {
     },
     /**
      * @param {string} key
-     * @returns {Promise<Uint8Array | undefined>}
+     * @returns {Promise<Blob | undefined>}
      */
     async get(key) {
       try {
         const blob = here.get(key) || await asked((await objects('readonly')).get(key));
-        return blob instanceof Blob ? new Uint8Array(await blob.arrayBuffer()) : undefined;
+        return blob instanceof Blob ? blob : undefined;
       } catch { return undefined; }
     },
     /**
      * Whether the browser keeps it; else it lives as long as the page.
      * @param {string} key
-     * @param {Uint8Array} bytes
+     * @param {Blob} blob
      */
-    async put(key, bytes) {
-      const blob = new Blob([bytes]);
+    async put(key, blob) {
       try {
         const s = await objects('readwrite');
         const done = new Promise((ok, no) => { s.transaction.oncomplete = ok; s.transaction.onabort = s.transaction.onerror = () => no(s.transaction.error); });
@@ -58,10 +57,4 @@ export function makeStore(name = 'studyboard') {
       await objects('readwrite').then(s => asked(s.delete(key))).catch(() => {});
     },
   };
-}
-
-/** @param {Uint8Array} bytes */
-export async function sha256(bytes) {
-  const digest = new Uint8Array(await crypto.subtle.digest('SHA-256', bytes));
-  return [...digest].map(b => b.toString(16).padStart(2, '0')).join('');
 }

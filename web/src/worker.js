@@ -4,6 +4,7 @@
 //   {id, kind: 'lay', name, bytes}                   a table's file (an ArrayBuffer, transferred)
 //   {id, kind: 'drop', name}
 //   {id, kind: 'answer', request, script, pages}     -> {bytes, ended, saved: [[name, bytes] ..]}
+//   {id, kind: 'read', blob}                         -> {bytes, digest}: a file and its SHA-256; no core is needed
 // Each answer has {id, ms, memory}, or {id, failed} after a trap: then the page ends this worker.
 import { makeCore } from './core_host.js';
 
@@ -20,10 +21,16 @@ function act(message) {
   if (message.kind === 'drop') { core.drop(message.name); return {}; }
   return core.answer(message.request, message.script, message.pages);
 }
-self.onmessage = e => {
+/** @param {Blob} blob */
+async function read(blob) {
+  const bytes = new Uint8Array(await blob.arrayBuffer()), digest = new Uint8Array(await crypto.subtle.digest('SHA-256', bytes));
+  return { bytes, digest: [...digest].map(b => b.toString(16).padStart(2, '0')).join('') };
+}
+self.onmessage = async e => {
   const began = performance.now(), id = e.data.id;
   try {
-    const done = act(e.data), moved = [done.bytes, ...(done.saved || []).map((/** @type {any} */ s) => s[1])].filter(Boolean).map(b => b.buffer);
+    const done = e.data.kind === 'read' ? await read(e.data.blob) : act(e.data);
+    const moved = [done.bytes, ...(done.saved || []).map((/** @type {any} */ s) => s[1])].filter(Boolean).map(b => b.buffer);
     /** @type {any} */ (self).postMessage({ id, ...done, ms: performance.now() - began, memory: core ? core.size() : 0 }, moved);
   } catch (fault) {
     const { name, message } = /** @type {Error} */ (fault);

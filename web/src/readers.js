@@ -1,0 +1,43 @@
+// @ts-check
+// Files of tables, each with its digest, read by workers: a digest of 17 MB holds up the thread that asks for it, though it is a promise.
+
+/** @typedef {{bytes: Uint8Array, digest: string}} Read */
+const MOST = 3, REST = 2000;
+
+/** @param {() => Worker} spawn */
+export function makeReaders(spawn) {
+  const resting = /** @type {Worker[]} */ ([]);
+  const waiting = /** @type {{blob: Blob, ok: (file: Read) => void, no: (why: Error) => void}[]} */ ([]);
+  let working = 0, timer = 0;
+  function go() {
+    clearTimeout(timer);
+    if (!working && !waiting.length) timer = setTimeout(() => resting.splice(0).forEach(worker => worker.terminate()), REST);
+    while (working < MOST && waiting.length) begin(/** @type {typeof waiting[0]} */ (waiting.shift()));
+  }
+  /** @param {typeof waiting[0]} task */
+  function begin({ blob, ok, no }) {
+    const worker = resting.pop() || spawn();
+    working++;
+    worker.onmessage = ({ data }) => {
+      working--;
+      resting.push(worker);
+      if (data.failed) no(new Error(data.failed));
+      else ok(data);
+      go();
+    };
+    worker.onerror = e => {
+      working--;
+      worker.terminate();
+      no(new Error(e.message || 'the worker did not start'));
+      go();
+    };
+    worker.postMessage({ id: 0, kind: 'read', blob });
+  }
+  return {
+    /**
+     * @param {Blob} blob
+     * @returns {Promise<Read>}
+     */
+    read: blob => new Promise((ok, no) => { waiting.push({ blob, ok, no }); go(); }),
+  };
+}
