@@ -133,6 +133,7 @@ async function changed(make, where, note = '') {
   const now = doc(), wanted = make(now);
   if (!wanted) return;
   if (wanted.lines === now.lines) return look(wanted.at, wanted.path === 'made' ? undefined : wanted.path);
+  viewAhead(now, wanted).catch(() => {});
   const next = await evaluate(wanted.lines);
   const fresh = next.refused.find(r => !now.refused.some(o => o.text === r.text && o.reply === r.reply));
   if (fresh && !wanted.lenient) {
@@ -195,13 +196,30 @@ function remember(map, key, value) {
   map.set(key, value);
 }
 /**
+ * @param {string} text
+ * @param {string} path
+ */
+const keyOf = (text, path) => `${path}\n${text}`;
+/**
+ * While a script runs, the other worker is asked for the view to which it will lead; where that is there first, nobody waits for it.
+ * @param {Doc} now
+ * @param {Change} wanted
+ */
+async function viewAhead(now, wanted) {
+  const s = now.studies[now.at], path = wanted.path || 'made', names = parts.shelf.named(fensOf(wanted.lines));
+  if (!s || path === 'made' || wanted.at !== undefined || !names.length || !names.every(parts.facts.holds)) return;
+  const text = joined(editsTo(wanted.lines, { ...s, end: s.end + wanted.lines.length - now.lines.length }));
+  const answer = await parts.facts.answer('view ' + path, text, PAGES), view = readView(answer.text);
+  if (view) remember(views, keyOf(text, path), view);
+}
+/**
  * The view of a script's one study at a path.
  * @param {string} text
  * @param {string} path
  * @returns {Promise<import('./types.js').View | string>}
  */
 export async function viewOf(text, path) {
-  const key = `${path}\n${text}`, old = views.get(key);
+  const key = keyOf(text, path), old = views.get(key);
   if (old) return old;
   await parts.shelf.lay(await parts.shelf.classesOf(fensOf(text.split('\n'))));      // a core that was started again has none
   const answer = await parts.core.answer('view ' + path, text, PAGES), view = readView(answer.text);
