@@ -9,12 +9,22 @@ import { counted, numberedLine, valueSign, valueText, winner } from './words.js'
 /** @typedef {import('./types.js').Study} Study @typedef {import('./types.js').TreeNode} TreeNode */
 /** @typedef {import('./types.js').Review} Review @typedef {import('./types.js').Missing} Missing */
 
+const MOST = 60;
 /**
+ * A table; of a long one the first rows, and the others once they are asked for, or printed.
+ * @template T
  * @param {string[]} head
- * @param {any[][]} rows
+ * @param {T[]} items
+ * @param {(item: T) => any[]} cells
  */
-export const table = (head, rows) => h('div', { class: 'scroll' }, h('table', {}, h('thead', {}, h('tr', {}, head.map(t => h('th', { scope: 'col' }, t)))),
-  h('tbody', {}, rows.map(r => h('tr', {}, r.map(c => h('td', {}, c)))))));
+export function table(head, items, cells) {
+  const row = (/** @type {T} */ item) => h('tr', {}, cells(item).map(c => h('td', {}, c)));
+  const body = h('tbody', {}, items.slice(0, MOST).map(row)), rest = items.slice(MOST);
+  const all = () => { more.remove(); body.append(...rest.map(row)); };
+  const more = h('button', { type: 'button', class: 'chip act more', onclick: all }, `Show ${rest.length} more`);
+  const heads = h('thead', {}, h('tr', {}, head.map(t => h('th', { scope: 'col' }, t))));
+  return h('div', { class: 'scroll' }, h('table', {}, heads, body), rest.length > 0 && more);
+}
 const closed = new Set();
 /**
  * @param {string} id
@@ -62,7 +72,7 @@ export function reviewView(s) {
  */
 function dualsView(s, review, root) {
   const main = new Set(review.faults.map(f => f.path)), rows = byNode(review.also.filter(a => !main.has(a.path)), root);
-  return rows.length > 0 && section('duals', 'Duals in side lines', null, table(['Move', 'Also'], rows.map(([n, list]) => [jump(n), alsoView(s, n, list)])));
+  return rows.length > 0 && section('duals', 'Duals in side lines', null, table(['Move', 'Also'], rows, ([n, list]) => [jump(n), alsoView(s, n, list)]));
 }
 /**
  * @param {Study} s
@@ -72,7 +82,7 @@ function dualsView(s, review, root) {
 function triesView(s, review, root) {
   const rows = byNode(review.refuted, root).sort((x, y) => depth(x[0]) - depth(y[0])), wrong = s.verdict === 'wrong';
   return rows.length > 0 && section('tries', wrong ? 'What refutes the moves' : 'Tries and their refutations', null,
-    table([wrong ? 'Move' : 'Try', 'Left', 'Refuted by', 'In the tree'], rows.map(([n, list]) => tryView(n, list))));
+    table([wrong ? 'Move' : 'Try', 'Left', 'Refuted by', 'In the tree'], rows, ([n, list]) => tryView(n, list)));
 }
 /**
  * @param {TreeNode} n
@@ -101,7 +111,7 @@ function defencesView(s, review, root) {
                  '') +
       'A click adds it, with its answer where only one holds.';
   return rows.length > 0 && section('defences', 'Defences that are not in the tree', note,
-    table(['After', 'Given', 'Not given: one answer holds', 'Several hold'], rows.map(([n, list]) => missingView(s, n, list))));
+    table(['After', 'Given', 'Not given: one answer holds', 'Several hold'], rows, ([n, list]) => missingView(s, n, list)));
 }
 /**
  * How long a defence lasts: one that draws, for ever.
@@ -143,8 +153,8 @@ function endsView(review, root) {
       section(
              'ends', 'Best play from the open ends', null,
              table(
-                 ['End', 'Goes on'],
-                 rows.map(([n, [end]]) => [n.parent ? jump(n) : 'the start', end.value ? playView(n, end.sans, end.value.n) : keepView(n, end)])));
+                 ['End', 'Goes on'], rows,
+                 ([n, [end]]) => [n.parent ? jump(n) : 'the start', end.value ? playView(n, end.sans, end.value.n) : keepView(n, end)]));
 }
 /**
  * @param {TreeNode} n

@@ -108,6 +108,7 @@ on('saveScript', () => work(async () => {
   download(fileName('.script'), savedScript(doc(), classes));
 }));
 on('savePgn', () => download(fileName('.pgn'), gamesOf(doc())));
+addEventListener('beforeprint', () => { for (const more of document.querySelectorAll('button.more')) /** @type {HTMLElement} */ (more).click(); });
 on('print', () => { if (app.setup) closeSetup(); window.print(); });
 /** The printed pages of all studies. */
 const saveReport = () => work(async () => {

@@ -81,11 +81,11 @@ export async function openText(text, where = 'script', name = '') {
 function refusedView() {
   const list = doc().refused, studies = doc().studies;
   const of = (/** @type {number} */ line) => studies.findIndex(s => s.from <= line && line < s.end);
-  const rows = list.slice(0, 50).map(
-      r => [`${r.line + 1}`, of(r.line) < 0 ? '–' : studyLink(of(r.line)), h('code', {}, r.text.slice(0, 80)), reason(r.reply)]);
+  const cells = (/** @type {import('./types.js').Refused} */ r) => [`${r.line + 1}`, of(r.line) < 0 ? '–' : studyLink(of(r.line)),
+    h('code', {}, r.text.slice(0, 80)), reason(r.reply)];
   return [
     h('h2', {id: 'refused'}, `${counted(list.length, 'line')} of the script ${list.length === 1 ? 'was' : 'were'} refused`),
-    table(['Line', 'Study', 'Text', 'Reason'], rows), list.length > 50 && h('p', {class: 'note'}, `and ${list.length - 50} more`)
+    table(['Line', 'Study', 'Text', 'Reason'], list, cells)
   ];
 }
 /** @param {number} i */
@@ -94,9 +94,7 @@ const studyLink = i => button(`${i + 1}`, 'show it', () => goStudy(i), { class: 
 export const studyName = s => [s.tags.Event, s.tags.White].filter(isKnown).join(', ') || control(s.fen);
 function studiesView() {
   return table(
-      ['No.', 'Title, author', 'Stipulation', 'Verdict'],
-      doc().studies.map(
-          (s, i) =>
-              [studyLink(i), studyName(s),
-               s.aim ? aimText(s.aim) : '–', [h('b', {}, s.verdict || '–'), toldBefore(s).map(text => h('div', { class: 'note' }, text))]]));
+      ['No.', 'Title, author', 'Stipulation', 'Verdict'], doc().studies,
+      s => [studyLink(doc().studies.indexOf(s)), studyName(s), s.aim ? aimText(s.aim) : '–',
+        [h('b', {}, s.verdict || '–'), toldBefore(s).map(text => h('div', { class: 'note' }, text))]]);
 }
