@@ -1,0 +1,46 @@
+// Files read by workers: three at a time, each answer to its own question.
+import assert from 'node:assert/strict';
+import { test } from 'node:test';
+import { makeReaders } from '../src/readers.js';
+
+/** Workers that answer when they are told to, a file named `bad` by a fault and one named `dead` by none at all. */
+function fakes() {
+  const asked = [];
+  let spawned = 0, ended = 0;
+  const spawn = () => {
+    spawned++;
+    const worker = {
+      terminate() { ended++; },
+      postMessage({ kind, blob }) {
+        assert.equal(kind, 'read');
+        asked.push(() => {
+          if (blob === 'dead') worker.onerror({ message: 'gone' });
+          else worker.onmessage({ data: blob === 'bad' ? { failed: 'NotReadableError: bad' } : { bytes: blob, digest: 'of ' + blob } });
+        });
+      },
+    };
+    return worker;
+  };
+  return { spawn, asked, counts: () => [spawned, ended] };
+}
+
+test('three files are read at a time, by workers that are used again', async () => {
+  const { spawn, asked, counts } = fakes(), readers = makeReaders(spawn);
+  const answers = ['a', 'b', 'c', 'd', 'e'].map(blob => readers.read(blob));
+  assert.equal(asked.length, 3);
+  asked[1]();
+  assert.equal(asked.length, 4);
+  asked[0](); asked[3](); asked[2](); asked[4]();
+  assert.deepEqual((await Promise.all(answers)).map(file => file.digest), ['of a', 'of b', 'of c', 'of d', 'of e']);
+  assert.deepEqual(counts(), [3, 0]);
+});
+
+test('a file that cannot be read, and a worker that ends, are told and hold nothing up', async () => {
+  const { spawn, asked, counts } = fakes(), readers = makeReaders(spawn);
+  const answers = ['bad', 'dead', 'a', 'b', 'c'].map(blob => readers.read(blob));
+  const told = Promise.allSettled(answers);
+  for (let i = 0; i < 5; i++) asked[i]();
+  assert.deepEqual((await told).map(a => a.status === 'fulfilled' ? a.value.digest : a.reason.message),
+    ['NotReadableError: bad', 'gone', 'of a', 'of b', 'of c']);
+  assert.equal(counts()[1], 1);
+});
