@@ -27,7 +27,7 @@ use Rattle.study_board.proofs.Coordinates.{and_comm, KeepsPawns, turned_small, t
 use Rattle.study_board.proofs.Coordinates.{on_bishop_line-turned, knight_jump-turned, king_step-turned}
 use Rattle.study_board.proofs.Coordinates.{strictly_between-turned, pawn_captures-turned, same_side-turned}
 use Rattle.study_board.proofs.Coordinates.{other_side-turned, rank_of-kept, rank_small, and_under, home_rank}
-use Rattle.study_board.proofs.Coordinates.{behind, ahead, turned_behind, turned_ahead, home_rank-turned, eqb_then}
+use Rattle.study_board.proofs.Coordinates.{shadow, ahead, turned_behind, turned_ahead, home_rank-turned, eqb_then}
 
 -- what holds of each man of a list
 abbrev pub Each : (Man → Type 0) → List Man → Type 0
@@ -339,7 +339,7 @@ module _ (s : Symmetry) where
     could_be : List Man → Side → ℕ → Bool
     could_be men side x =
         (rank_of x == home_rank side) &&
-        (is_empty men x && (is_empty men (behind side x) && has_man men (other_side side) Pawn (ahead side x)))
+        (is_empty men x && (is_empty men (shadow side x) && has_man men (other_side side) Pawn (ahead side x)))
 
     pub could_be_passed-turned : KeepsPawns s → (side : Side) (x : ℕ) → x < 64
         → could_be_passed (turned_men s xs) (turned_side s.colours side) (turned_square s x) ≡ could_be_passed xs side
@@ -348,9 +348,9 @@ module _ (s : Symmetry) where
     could_be_passed-turned keeps side x lx =
         by_home (turned_men s xs) (turned_side s.colours side) (turned_square s x)
         ∙ and_under (rank_of x == home_rank side) (rank_of (turned_square s x) == home_rank (turned_side s.colours side))
-        (is_empty xs x && (is_empty xs (behind side x) && has_man xs (other_side side) Pawn (ahead side x)))
+        (is_empty xs x && (is_empty xs (shadow side x) && has_man xs (other_side side) Pawn (ahead side x)))
         (is_empty (turned_men s xs) (turned_square s x) &&
-        (is_empty (turned_men s xs) (behind (turned_side s.colours side) (turned_square s x)) && has_man
+        (is_empty (turned_men s xs) (shadow (turned_side s.colours side) (turned_square s x)) && has_man
         (turned_men s xs) (other_side (turned_side s.colours side)) Pawn
         (ahead (turned_side s.colours side) (turned_square s x))))
         (rw (rank_of-kept s keeps x lx) (home_rank-turned s.colours side (rank_of x) (rank_small x lx)))
@@ -361,7 +361,7 @@ module _ (s : Symmetry) where
           ← turned_behind s keeps side x r,
           ← turned_ahead s keeps side x r,
           is_occupied-turned x lx,
-          is_occupied-turned (behind side x) b.0,
+          is_occupied-turned (shadow side x) b.0,
           other_side-turned s.colours side,
           has_man-turned (other_side side) Pawn (ahead side x) b.1,
         ))
@@ -376,7 +376,7 @@ module _ (s : Symmetry) where
         by_home men White x = assoc (rank_of x == 5) (is_empty men x) (is_empty men (x + 8)) (has_man men Black Pawn (x - 8))
         by_home men Black x = assoc (rank_of x == 2) (is_empty men x) (is_empty men (x - 8)) (has_man men White Pawn (x + 8))
 
-        near : (side : Side) (x : ℕ) → rank_of x ≡ home_rank side → (behind side x < 64) × (ahead side x < 64)
+        near : (side : Side) (x : ℕ) → rank_of x ≡ home_rank side → (shadow side x < 64) × (ahead side x < 64)
         near White x r = (omega arith, omega arith)
         near Black x r = (omega arith, omega arith)
 

@@ -1,7 +1,7 @@
 -- Not part of any public contract: the tables of lines, that is in which direction a square lies from another, and the squares in a direction.
 use Rattle.std.specs.Prelude.{ℕ, [], slice_index_or}
-use Rattle.study_board.specs.declared.tables.TheConstants.{DIRECTION}
-use Rattle.study_board.specs.declared.rays.TheConstants.{RAY}
+use Rattle.study_board.specs.declared.attack_tables.TheConstants.{DIRECTION}
+use Rattle.study_board.specs.declared.ray_tables.TheConstants.{RAY}
 
 unfoldable pub direction_of : ℕ → ℕ → ℕ
 direction_of a y = slice_index_or (slice_index_or DIRECTION a []) y 0

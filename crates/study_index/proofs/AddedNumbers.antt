@@ -11,7 +11,7 @@ use Rattle.study_board.proofs.Lists.{count_by-cons}
 use Rattle.study_material.specs.declared.class.Class.{Class}
 use Rattle.study_index.specs.Number.{without_bit, cells_of}
 use Rattle.study_index.specs.Decoded.{slots_of, slots_have_pawn, slot_filled, told_men}
-use Rattle.study_index.specs.Found.{index_of}
+use Rattle.study_index.specs.Computed.{index_of}
 use Rattle.study_index.specs.Stepped.{moved_to, stepped, are_like_slots}
 use Rattle.study_index.specs.Moved.{from_to, IsMoved}
 use Rattle.study_index.proofs.Fillings.{AreApart-ascending}

@@ -9,10 +9,10 @@ use Rattle.study_board.specs.Geometry.{file_of, rank_of}
 use Rattle.study_board.specs.Images.{differ}
 use Rattle.study_board.specs.Symmetry.{turned_square, turned_man, mirrored}
 use Rattle.study_index.specs.Filling.{man_slot_number}
-use Rattle.study_index.specs.Found.{put, sorted}
-use Rattle.study_index.specs.Number.{place, listed_count, side_number, counted_on, number}
-use Rattle.study_index.specs.Chosen.{chosen, last_two_exchanged, are_like, falls, turned_number, least, least_by, least_of}
-use Rattle.study_index.specs.Squares.{key, put_key, squares_of_keys, brought, counted_at, number_at, exchanged_at, falls_at, least_turned, least_at}
+use Rattle.study_index.specs.Computed.{put, sorted}
+use Rattle.study_index.specs.Number.{place, listed_count, side_number, append_squares, number}
+use Rattle.study_index.specs.Canonical.{canonical_symmetry, last_two_exchanged, are_like, descends, turned_number, least, least_by, least_of}
+use Rattle.study_index.specs.Squares.{key, put_key, squares_of_keys, square_symmetry, counted_at, number_at, exchanged_at, descends_at, least_turned, least_at}
 
 abbrev pub AreOnBoard : List Man → Type 0
 AreOnBoard [] = Unit {0}
@@ -54,14 +54,14 @@ across false top true x l =
     let e : file_of x ≡ 7 - (7 - file_of x) = sym (twice (file_of x) (omega arith)) in
     ap (λ f. 8 * f + mirrored top (rank_of x)) e
 
-brought_so : (pawns diagonal c : Bool) (k : ℕ) → TakeSame (brought pawns diagonal c k) (chosen pawns diagonal c k)
-unfolding brought chosen
+brought_so : (pawns diagonal c : Bool) (k : ℕ) → TakeSame (square_symmetry pawns diagonal c k) (canonical_symmetry pawns diagonal c k)
+unfolding square_symmetry canonical_symmetry
 brought_so true diagonal c k = with_pawns (nat_lt 3 (file_of k)) c
 brought_so false false c k = straight (nat_lt 3 (file_of k)) (nat_lt 3 (rank_of k)) c
 brought_so false true c k = across (nat_lt 3 (file_of k)) (nat_lt 3 (rank_of k)) c
 
 module _ (pawns : Bool) (to_move : Side) (t u : Symmetry) (same : TakeSame t u) where
-  counted_men : (n : ℕ) (ms : List Man) → AreOnBoard ms → counted_at (turned_square t) n (map square ms) ≡ counted_on n (map (turned_man u) ms)
+  counted_men : (n : ℕ) (ms : List Man) → AreOnBoard ms → counted_at (turned_square t) n (map square ms) ≡ append_squares n (map (turned_man u) ms)
   counted_men n [] h = refl
   counted_men n (m ∷ ms) h =
       ap (λ x. counted_at (turned_square t) (n * 64 + x) (map square ms)) (same m.at h.0) ∙ counted_men (n * 64 + turned_square u m.at) ms h.1
@@ -75,11 +75,11 @@ module _ (pawns : Bool) (to_move : Side) (t u : Symmetry) (same : TakeSame t u) 
     where
       by_place : (o : Option ℕ)
           → option_map (λ q. counted_at (turned_square t) (side_number to_move * listed_count pawns + q) (map square ms)) o
-          ≡ option_map (λ q. counted_on (side_number to_move * listed_count pawns + q) (map (turned_man u) ms)) o
+          ≡ option_map (λ q. append_squares (side_number to_move * listed_count pawns + q) (map (turned_man u) ms)) o
       by_place None = refl
       by_place (Some q) = ap (λ n. Some n) (counted_men (side_number to_move * listed_count pawns + q) ms h.1)
 
-  falls_men : (ms : List Man) → AreOnBoard ms → falls_at (turned_square t) (map square ms) ≡ falls u ms
+  falls_men : (ms : List Man) → AreOnBoard ms → descends_at (turned_square t) (map square ms) ≡ descends u ms
   falls_men [] h = refl
   falls_men (a ∷ []) h = refl
   falls_men (a ∷ b ∷ []) h = refl
@@ -122,7 +122,7 @@ least_by_squares pawns to_move t u same ms h =
     (number_at pawns to_move (turned_square t) (map square ms)))
     (number_at pawns to_move (turned_square t) (map square ms)))
     (falls_men pawns to_move t u same ms h)
-    ∙ one_of_three (are_like u.colours ms) (falls u ms) _ _ _ _ e n
+    ∙ one_of_three (are_like u.colours ms) (descends u ms) _ _ _ _ e n
 
 two_least : (x y v w : Option ℕ) → x ≡ v → y ≡ w → least x y ≡ least v w
 two_least x y v w e f = rw (e, f) refl
@@ -130,13 +130,13 @@ two_least x y v w e f = rw (e, f) refl
 -- the least number of men by their squares
 pub least_of_squares : (pawns : Bool) (to_move : Side) (c : Bool) (ms : List Man) → AreOnBoard ms
     → least_at pawns to_move c (are_like c ms) (map square ms) ≡ least_of pawns to_move c ms
-unfolding least_at least_of chosen
+unfolding least_at least_of canonical_symmetry
 least_of_squares pawns to_move c [] h = refl
 least_of_squares true to_move c (k ∷ ms) h =
-    least_by_squares true to_move (brought true false c k.at) (chosen true false c k.at) (brought_so true false c k.at) (k ∷ ms) h
+    least_by_squares true to_move (square_symmetry true false c k.at) (canonical_symmetry true false c k.at) (brought_so true false c k.at) (k ∷ ms) h
 least_of_squares false to_move c (k ∷ ms) h =
-    two_least _ _ _ _ (least_by_squares false to_move (brought false false c k.at) (chosen false false c k.at) (brought_so false false c k.at) (k ∷ ms) h)
-    (least_by_squares false to_move (brought false true c k.at) (chosen false true c k.at) (brought_so false true c k.at) (k ∷ ms) h)
+    two_least _ _ _ _ (least_by_squares false to_move (square_symmetry false false c k.at) (canonical_symmetry false false c k.at) (brought_so false false c k.at) (k ∷ ms) h)
+    (least_by_squares false to_move (square_symmetry false true c k.at) (canonical_symmetry false true c k.at) (brought_so false true c k.at) (k ∷ ms) h)
 
 key-slot : (c : Bool) (m : Man) → m.at < 64 → key c m / 64 ≡ man_slot_number c m
 unfolding key

@@ -14,7 +14,7 @@ use Rattle.study_board.proofs.ImagesOfImages.{IsTurnable-from_valid, image_back,
 use Rattle.study_moves.specs.Rules.{after}
 use Rattle.study_moves.specs.Symmetry.{image_move}
 use Rattle.study_moves.specs.Game.{IsLegal}
-use Rattle.study_moves.specs.Bare.{is_live, without_passed, bare}
+use Rattle.study_moves.specs.EnPassant.{has_legal_en_passant, without_passed, bare}
 use Rattle.study_moves.specs.Laws.{HasSameGame}
 use Rattle.study_moves.specs.Alike.{AreAlike, Leads}
 use Rattle.study_moves.proofs.RulesOfImages.{after-turned, image_legal}
@@ -56,7 +56,7 @@ below c n q d =
     let o = IsOfMen-decoded (slots_of c) n q (AreSlots-class c) d in
     let small = ltb-true (without_bit n) (numbers_of c) (sym (is_cell-below c (without_bit n)) ∙ o.cell) in
     let parts = HasParts-from q n d.valid d.index in
-    by_live (is_live q) refl parts.is parts.small small
+    by_live (has_legal_en_passant q) refl parts.is parts.small small
   where
     same : lists q.men ≡ lists_of c
     same = lists-filled c q.men d.read_off.filling d.read_off.fills.each_once d.read_off.slots_are
@@ -71,7 +71,7 @@ below c n q d =
     doubled true k m l = omega arith
     doubled false k m l = l
 
-    by_live : (b : Bool) → is_live q ≡ b → n ≡ with_bit b (without_bit n) → without_bit n < 16777216 → without_bit n < numbers_of c → n < cells_of c
+    by_live : (b : Bool) → has_legal_en_passant q ≡ b → n ≡ with_bit b (without_bit n) → without_bit n < 16777216 → without_bit n < numbers_of c → n < cells_of c
     by_live true e is l small = subst (λ m. n < m) (sym (live_cells c (live_class c q d.valid of_class e))) (let h : n < 33554432 = omega arith in h)
     by_live false e is l small = doubled (has_both_pawns (lists_of c)) n (numbers_of c) (subst (λ m. m < numbers_of c) (sym is) small)
 
@@ -91,7 +91,7 @@ entry c n q d =
       valid = d.valid;
       of_class = sym same ∙ unchanged (lists q.men) in_order;
       in_order = in_order;
-      is_bare = by_live (is_live q) refl;
+      is_bare = by_live (has_legal_en_passant q) refl;
       index = d.index;
     }
   where
@@ -104,7 +104,7 @@ entry c n q d =
     without men side None e = refl
     without men side (Some x) e = cc
 
-    by_live : (b : Bool) → is_live q ≡ b → cond b q (without_passed q) ≡ q
+    by_live : (b : Bool) → has_legal_en_passant q ≡ b → cond b q (without_passed q) ≡ q
     by_live true e = refl
     by_live false e =
         without q.men q.to_move q.passed (d.read_off.passed ∙ none (has_bit n) q.to_move d.read_off.filling ((HasParts-from q n d.valid d.index).bit ∙ e))
@@ -239,7 +239,7 @@ HasParts-number p n v i = IsLeastNumber-unique p (without_bit n) i.number (HasPa
 
 -- the passed square of a position that is its own bare form is the one that the bit tells
 told_passed : (q : Position) (xs : List Man) (b : Bool) → IsValid q → bare q ≡ q → IsFilling false q.men xs
-    → is_live q ≡ b → q.passed ≡ passed_behind b q.to_move xs
+    → has_legal_en_passant q ≡ b → q.passed ≡ passed_behind b q.to_move xs
 told_passed q xs true v own f e = live_behind q xs v f.each_once e
 told_passed q xs false v own f e = not_live_passed q own e
 
@@ -269,7 +269,7 @@ numbered_bare c p b n v w plain own o i =
     ∙ differ_same (is_swapped b.men) in
     let same : lists q.men ≡ lists_of c = sym (of_class ∙ unchanged (lists q.men) in_order) in
     let own_image : bare q ≡ q = bare_image t b turn ∙ ap (image t) own in
-    let live : is_live q ≡ is_live b = live_along t b q (own_image ∙ sym (ap (image t) own)) in
+    let live : has_legal_en_passant q ≡ has_legal_en_passant b = live_along t b q (own_image ∙ sym (ap (image t) own)) in
     let index : IsIndex q n = record {
       number = i.number;
       least = IsLeastNumber-image t b i.number w a keeps i.least;

@@ -8,7 +8,7 @@ use Rattle.study_board.specs.declared.men.Kind.TheVariants.{King}
 use Rattle.study_board.specs.Men.{same_side, same_kind}
 use Rattle.study_material.specs.Lists.{of, put_kind, is_exchanged}
 use Rattle.study_material.specs.Class.{lists_of}
-use Rattle.study_index.specs.declared.reading.Slot.{Slot}
+use Rattle.study_index.specs.declared.decoding.Slot.{Slot}
 use Rattle.study_material.specs.declared.class.Class.{Class}
 use Rattle.study_material.specs.declared.class.Class.TheVariants.{KK, KQK, KRK, KBK, KNK, KPK, KQQK, KQRK, KQBK}
 use Rattle.study_material.specs.declared.class.Class.TheVariants.{KQNK, KQPK, KRRK, KRBK, KRNK, KRPK, KBBK}

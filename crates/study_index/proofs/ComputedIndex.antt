@@ -16,11 +16,11 @@ use Rattle.study_board.proofs.MenInOrder.{IsPermutation-in_order, IsSortedByAt-i
 use Rattle.study_board.proofs.Valid.{IsFaultless-from_first, IsAscending-from_sorted}
 use Rattle.study_material.specs.declared.class.Class.{Class}
 use Rattle.study_material.specs.Lists.{is_swapped}
-use Rattle.study_index.specs.declared.reading.Slot.{Slot}
+use Rattle.study_index.specs.declared.decoding.Slot.{Slot}
 use Rattle.study_index.specs.Number.{IsLeastNumber, IsIndex, listed_count, numbers_of, cells_of, without_bit}
-use Rattle.study_index.specs.Decoded.{IsDecoded, AreSlots, slots_of, slots_have_pawn, men_of, told_men, listed, man}
+use Rattle.study_index.specs.Decoded.{IsDecoded, AreSlots, slots_of, slots_have_pawn, men_of, told_men, listed_square, man}
 use borrow.Author.Tests.{ltb-true}
-use Rattle.study_index.specs.Found.{least_number, index_of, position_told, is_entry, position_numbered}
+use Rattle.study_index.specs.Computed.{least_number, index_of, position_told, is_entry, position_numbered}
 use Rattle.study_index.proofs.ClassLaws.{below}
 use Rattle.study_index.proofs.ClassSlots.{AreSlots-class, is_cell-below, number_below}
 use Rattle.study_index.proofs.TurnedNumbers.{least_is}
@@ -43,8 +43,8 @@ IsIndex-index_of p v = record { number = least_number p; least = IsLeastNumber-l
 pub index_of-only : (p : Position) (n : ℕ) → IsValid p → IsIndex p n → n ≡ index_of p
 index_of-only p n v i = IsIndex-unique p n (index_of p) i (IsIndex-index_of p v)
 
-listed_small : (pawns : Bool) (q : ℕ) → q < listed_count pawns → listed pawns q < 64
-unfolding listed
+listed_small : (pawns : Bool) (q : ℕ) → q < listed_count pawns → listed_square pawns q < 64
+unfolding listed_square
 listed_small true q l = omega arith
 listed_small false q l = small (nat_lt q 4) (nat_lt q 7) (nat_lt q 9) refl refl refl
   where
@@ -64,8 +64,8 @@ OnBoard m = m.at < 64
 one_on : (s : Slot) (x : ℕ) (xs : List Man) → x < 64 → All OnBoard xs → All OnBoard (man s x ∷ xs)
 one_on s x xs l h = All-cons OnBoard (man s x) xs l h
 
-one_more : (s : Slot) (pawns : Bool) (q : ℕ) (xs : List Man) → q < listed_count pawns → All OnBoard xs → All OnBoard (man s (listed pawns q) ∷ xs)
-one_more s pawns q xs l h = one_on s (listed pawns q) xs (listed_small pawns q l) h
+one_more : (s : Slot) (pawns : Bool) (q : ℕ) (xs : List Man) → q < listed_count pawns → All OnBoard xs → All OnBoard (man s (listed_square pawns q) ∷ xs)
+one_more s pawns q xs l h = one_on s (listed_square pawns q) xs (listed_small pawns q l) h
 
 on_board : (pawns : Bool) (slots : List Slot) (n : ℕ) → AreSlots slots → All OnBoard (men_of pawns slots n)
 on_board pawns (k ∷ b ∷ []) n a =

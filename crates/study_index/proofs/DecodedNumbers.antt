@@ -5,10 +5,10 @@ use Rattle.std.proofs.lemmas.Bool.{false≢true}
 use Rattle.std.proofs.lemmas.List.Sorted.{IsPermutation-sym, IsPermutation-trans}
 use Rattle.study_board.specs.Position.{Position}
 use Rattle.study_board.specs.Symmetry.{turned_side}
-use Rattle.study_moves.specs.Bare.{is_live}
+use Rattle.study_moves.specs.EnPassant.{has_legal_en_passant}
 use Rattle.study_material.specs.declared.class.Class.{Class}
 use Rattle.study_material.specs.Lists.{is_exchanged, is_swapped}
-use Rattle.study_index.specs.Chosen.{least_of}
+use Rattle.study_index.specs.Canonical.{least_of}
 use Rattle.study_index.specs.Filling.{IsFilling}
 use Rattle.study_index.specs.Number.{has_pawn, with_bit, has_bit, without_bit, IsLeastNumber}
 use Rattle.study_index.specs.Decoded.{slots_of, slots_have_pawn, told_men, told_side, passed_behind, is_cell, IsPlaced, HasLeast, IsDecoded}
@@ -54,7 +54,7 @@ IsLeastTold c n = HasLeast (slots_have_pawn (slots_of c)) (told_side (slots_of c
 
 -- men whose least number it is are decoded, where the bit tells whether a capture in passing is legal
 pub read_decoded : (c : Class) (n : ℕ) (p : Position) → is_cell (slots_of c) (without_bit n) ≡ true → IsTold c n p
-    → IsLeastTold c n → n ≡ with_bit (is_live p) (without_bit n) → IsDecoded c n p
+    → IsLeastTold c n → n ≡ with_bit (has_legal_en_passant p) (without_bit n) → IsDecoded c n p
 read_decoded c n p cell l h e =
     let r = placed_least c (without_bit n) _ p l in
     decoded (slots_of c) n p (AreSlots-class c) cell l
@@ -75,7 +75,7 @@ not_least c n h q d =
     (told_men (slots_of c) (without_bit n))) (IsLeastNumber-unique q r.0 (without_bit n) r.2 i.least) r.1)
 
 -- where the bit is set and no capture in passing is legal nothing is decoded
-pub not_passing : (c : Class) (n : ℕ) (p : Position) → IsTold c n p → has_bit n ≡ true → is_live p ≡ false → (q : Position) → IsDecoded c n q → ⊥
+pub not_passing : (c : Class) (n : ℕ) (p : Position) → IsTold c n p → has_bit n ≡ true → has_legal_en_passant p ≡ false → (q : Position) → IsDecoded c n q → ⊥
 not_passing c n p l bit dead q d =
     let k = told_of c n q d in
     let men = told_men (slots_of c) (without_bit n) in
@@ -83,4 +83,4 @@ not_passing c n p l bit dead q d =
     same_position p q l.valid d.valid
     (IsPermutation-trans p.men men q.men (IsPermutation-sym men p.men l.same_men) k.same_men)
     (l.same_side ∙ sym k.same_side) (l.same_passed ∙ sym k.same_passed) in
-    false≢true (sym dead ∙ ap (λ r. is_live r) same ∙ sym (HasParts-from q n d.valid d.index).bit ∙ bit)
+    false≢true (sym dead ∙ ap (λ r. has_legal_en_passant r) same ∙ sym (HasParts-from q n d.valid d.index).bit ∙ bit)

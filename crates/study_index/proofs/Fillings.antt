@@ -19,7 +19,7 @@ use Rattle.study_board.proofs.Lists.{count_by-cons}
 use Rattle.study_board.proofs.Valid.{IsFaultless-from_first}
 use Rattle.study_index.specs.Filling.{slot_number, man_slot_number, NoneBefore, IsInSlots, IsFilling}
 use Rattle.study_board.specs.Symmetry.{turned_side}
-use Rattle.study_index.specs.Chosen.{last_two_exchanged, are_like}
+use Rattle.study_index.specs.Canonical.{last_two_exchanged, are_like}
 
 -- an element, by recursion
 abbrev pub In : Man → List Man → Type 0

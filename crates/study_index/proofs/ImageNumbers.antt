@@ -7,7 +7,7 @@ use Rattle.study_board.specs.Symmetry.{image, admits}
 use Rattle.study_board.specs.Images.{differ, composed, back}
 use Rattle.study_board.proofs.ImagesValid.{any_turned, seats, valid_image}
 use Rattle.study_board.proofs.ImagesOfImages.{IsTurnable-from_valid, image_joined, image_back, admits_image, admits_joined, admits_back}
-use Rattle.study_moves.specs.Bare.{is_live, without_passed, bare}
+use Rattle.study_moves.specs.EnPassant.{has_legal_en_passant, without_passed, bare}
 use Rattle.study_material.specs.Lists.{Lists, lists, is_swapped}
 use Rattle.study_material.proofs.ClassOfImage.{turned_lists, lists-image, swapped-image}
 use Rattle.study_index.specs.Filling.{IsFilling}
@@ -75,14 +75,14 @@ pub IsLeastNumber-passed : (p q : Position) (n : ℕ) → p.men ≡ q.men → p.
 IsLeastNumber-passed p q n e f h = record { number = IsNumber-passed p q n e f h.number; least = λ m k. h.least m (IsNumber-passed q p m (sym e) (sym f) k) }
 
 pub bare_men : (p : Position) → (bare p).men ≡ p.men
-bare_men p = by_live (is_live p)
+bare_men p = by_live (has_legal_en_passant p)
   where
     by_live : (b : Bool) → (cond b p (without_passed p)).men ≡ p.men
     by_live true = refl
     by_live false = refl
 
 pub bare_to_move : (p : Position) → (bare p).to_move ≡ p.to_move
-bare_to_move p = by_live (is_live p)
+bare_to_move p = by_live (has_legal_en_passant p)
   where
     by_live : (b : Bool) → (cond b p (without_passed p)).to_move ≡ p.to_move
     by_live true = refl

@@ -13,8 +13,8 @@ use Rattle.study_board.specs.Position.{Position, IsValid}
 use Rattle.study_board.specs.declared.symmetry.Symmetry.{Symmetry}
 use Rattle.study_board.specs.Symmetry.{turned_square, turned_side, turned_man}
 use Rattle.study_index.specs.Filling.{IsFilling}
-use Rattle.study_index.specs.Number.{place, number, has_pawn, counted_on, listed_count, side_number}
-use Rattle.study_index.specs.Chosen.{chosen, last_two_exchanged, are_like, falls, least, least_by, least_of, turned_number}
+use Rattle.study_index.specs.Number.{place, number, has_pawn, append_squares, listed_count, side_number}
+use Rattle.study_index.specs.Canonical.{canonical_symmetry, last_two_exchanged, are_like, descends, least, least_by, least_of, turned_number}
 use Rattle.study_index.proofs.Fillings.{IsMaterial, IsMaterial-from_valid, HasKings-from_filling, fillings_of, exchanged-fills}
 use Rattle.study_index.proofs.Symmetries.{admitted, chosen-only, some-listed, chosen-admitted, chosen-colours, chosen-pawns}
 
@@ -63,7 +63,7 @@ IsLeast-both S T (Some x) (Some y) h k =
 -- of like men the one on the lower square comes first in the lesser number
 least-falls : (pawns : Bool) (side : Side) (t : Symmetry) (xs : List Man) → are_like t.colours xs ≡ true
     → least (turned_number pawns side t xs) (turned_number pawns side t (last_two_exchanged xs))
-    ≡ cond (falls t xs) (turned_number pawns side t (last_two_exchanged xs)) (turned_number pawns side t xs)
+    ≡ cond (descends t xs) (turned_number pawns side t (last_two_exchanged xs)) (turned_number pawns side t xs)
 unfolding turned_number number
 least-falls pawns side t (a ∷ b ∷ x ∷ y ∷ []) e = by_place (place pawns (turned_square t a.at)) (turned_square t x.at) (turned_square t y.at)
   where
@@ -130,11 +130,11 @@ module _ (pawns : Bool) (side : Side) (t : Symmetry) (men xs : List Man) (m : Is
   IsLeast-least_by =
       let go : (b : Bool) → are_like t.colours xs ≡ b
       → IsLeast (IsNumberBy pawns side t men)
-      (cond b (cond (falls t xs) (turned_number pawns side t (last_two_exchanged xs)) (turned_number pawns side t xs))
+      (cond b (cond (descends t xs) (turned_number pawns side t (last_two_exchanged xs)) (turned_number pawns side t xs))
       (turned_number pawns side t xs)) =
       λ b. elim b as (λ v. are_like t.colours xs ≡ v
       → IsLeast (IsNumberBy pawns side t men)
-      (cond v (cond (falls t xs) (turned_number pawns side t (last_two_exchanged xs)) (turned_number pawns side t xs))
+      (cond v (cond (descends t xs) (turned_number pawns side t (last_two_exchanged xs)) (turned_number pawns side t xs))
       (turned_number pawns side t xs))) [
         | true ↦ λ e. IsLeast-same (λ n. at_filling xs n ⊎ at_filling (last_two_exchanged xs) n) (IsNumberBy pawns side t men) (from_two e) to_two _
             (subst (λ r. IsLeast (λ n. at_filling xs n ⊎ at_filling (last_two_exchanged xs) n) r) (least-falls pawns side t xs e)
@@ -164,9 +164,9 @@ number-listed : (pawns : Bool) (side : Side) (t : Symmetry) (k : Man) (rest : Li
     → turned_number pawns side t (k ∷ rest) ≡ Some n → (q : ℕ) × (place pawns (turned_square t k.at) ≡ Some q)
 unfolding turned_number number
 number-listed pawns side t k rest n e =
-    let go : (o : Option ℕ) → option_map (λ q. counted_on (side_number side * listed_count pawns + q) (map (turned_man t) rest)) o ≡ Some n
+    let go : (o : Option ℕ) → option_map (λ q. append_squares (side_number side * listed_count pawns + q) (map (turned_man t) rest)) o ≡ Some n
     → (q : ℕ) × (o ≡ Some q) =
-    λ o. elim o as (λ v. option_map (λ q. counted_on (side_number side * listed_count pawns + q) (map (turned_man t) rest)) v ≡ Some n → (q : ℕ) × (v ≡ Some q))
+    λ o. elim o as (λ v. option_map (λ q. append_squares (side_number side * listed_count pawns + q) (map (turned_man t) rest)) v ≡ Some n → (q : ℕ) × (v ≡ Some q))
     [ None ↦ λ d. cc | Some q ↦ λ d. (q, refl) ]
     in go (place pawns (turned_square t k.at)) e
 
@@ -197,12 +197,12 @@ module _ (c : Bool) (p : Position) (k : Man) (rest : List Man) (v : IsValid p) (
   on_board = All-head (λ x. x.at < 64) k rest (All-permutation (λ x. x.at < 64) p.men (k ∷ rest) f.each_once v.on_board)
 
   abbrev by_chosen : Bool → ℕ → Type 0
-  by_chosen d = IsNumberBy pawns side (chosen pawns d c k.at) p.men
+  by_chosen d = IsNumberBy pawns side (canonical_symmetry pawns d c k.at) p.men
 
-  IsLeast-chosen : (d : Bool) → IsLeast (by_chosen d) (least_by pawns side (chosen pawns d c k.at) (k ∷ rest))
+  IsLeast-chosen : (d : Bool) → IsLeast (by_chosen d) (least_by pawns side (canonical_symmetry pawns d c k.at) (k ∷ rest))
   IsLeast-chosen d =
-      let e : c ≡ (chosen pawns d c k.at).colours = sym (chosen-colours pawns d c k.at) in
-      IsLeast-least_by pawns side (chosen pawns d c k.at) p.men (k ∷ rest)
+      let e : c ≡ (canonical_symmetry pawns d c k.at).colours = sym (chosen-colours pawns d c k.at) in
+      IsLeast-least_by pawns side (canonical_symmetry pawns d c k.at) p.men (k ∷ rest)
       (IsMaterial-from_valid _ p v) (subst (λ b. IsFilling b p.men (k ∷ rest)) e f)
 
   to_chosen : (n : ℕ) → IsNumberOf c p n → (d : Bool) × by_chosen d n
@@ -212,24 +212,24 @@ module _ (c : Bool) (p : Position) (k : Man) (rest : List Man) (v : IsValid p) (
       let first = same_king c p.men k rest h.by.filling (IsMaterial-from_valid c p v) f fill in
       let is : turned_number pawns side t (k ∷ first.0) ≡ Some n = subst (λ ys. turned_number pawns side t ys ≡ Some n) first.1 h.by.is in
       let listed = number-listed pawns side t k first.0 n is in
-      let same : t ≡ chosen pawns t.diagonal t.colours k.at = chosen-only pawns t k.at listed.0 on_board h.admits listed.1 in
-      let same' : t ≡ chosen pawns t.diagonal c k.at = subst (λ b. t ≡ chosen pawns t.diagonal b k.at) h.coloured_so same in
+      let same : t ≡ canonical_symmetry pawns t.diagonal t.colours k.at = chosen-only pawns t k.at listed.0 on_board h.admits listed.1 in
+      let same' : t ≡ canonical_symmetry pawns t.diagonal c k.at = subst (λ b. t ≡ canonical_symmetry pawns t.diagonal b k.at) h.coloured_so same in
       (t.diagonal, subst (λ u. IsNumberBy pawns side u p.men n) same' h.by)
 
   from_chosen : (d : Bool) → (pawns && d) ≡ false → (n : ℕ) → by_chosen d n → IsNumberOf c p n
   from_chosen d e n h = record {
-    symmetry = chosen pawns d c k.at;
+    symmetry = canonical_symmetry pawns d c k.at;
     admits = chosen-admitted pawns d c k.at e;
     coloured_so = chosen-colours pawns d c k.at;
     by = h;
   }
 
-  listed_number : (d : Bool) (q : ℕ) → place pawns (turned_square (chosen pawns d c k.at) k.at) ≡ Some q → (n : ℕ) × by_chosen d n
+  listed_number : (d : Bool) (q : ℕ) → place pawns (turned_square (canonical_symmetry pawns d c k.at) k.at) ≡ Some q → (n : ℕ) × by_chosen d n
   unfolding turned_number number
   listed_number d q e =
-      let t = chosen pawns d c k.at in
+      let t = canonical_symmetry pawns d c k.at in
       let b : c ≡ t.colours = sym (chosen-colours pawns d c k.at) in
-      let n = counted_on (side_number side * listed_count pawns + q) (map (turned_man t) rest) in
+      let n = append_squares (side_number side * listed_count pawns + q) (map (turned_man t) rest) in
       (n, record { filling = k ∷ rest; fills = subst (λ b. IsFilling b p.men (k ∷ rest)) b f; is = rw e refl })
 
   pub some_number : (n : ℕ) × IsNumberOf c p n
@@ -266,21 +266,21 @@ module _ (c : Bool) (p : Position) (k : Man) (rest : List Man) (v : IsValid p) (
       in go r.0 r.1
 
   straight : Option ℕ
-  straight = least_by pawns side (chosen pawns false c k.at) (k ∷ rest)
+  straight = least_by pawns side (canonical_symmetry pawns false c k.at) (k ∷ rest)
 
-  crossed : Option ℕ
-  crossed = least_by pawns side (chosen pawns true c k.at) (k ∷ rest)
+  transposed : Option ℕ
+  transposed = least_by pawns side (canonical_symmetry pawns true c k.at) (k ∷ rest)
 
   pub IsLeast-least_of : IsLeast (IsNumberOf c p) (least_of pawns side c (k ∷ rest))
-  unfolding least_of straight crossed
+  unfolding least_of straight transposed
   IsLeast-least_of =
-      let go : (b : Bool) → pawns ≡ b → IsLeast (IsNumberOf c p) (cond b straight (least straight crossed)) =
-      λ b. elim b as (λ v. pawns ≡ v → IsLeast (IsNumberOf c p) (cond v straight (least straight crossed))) [
+      let go : (b : Bool) → pawns ≡ b → IsLeast (IsNumberOf c p) (cond b straight (least straight transposed)) =
+      λ b. elim b as (λ v. pawns ≡ v → IsLeast (IsNumberOf c p) (cond v straight (least straight transposed))) [
         | true ↦ λ e. IsLeast-same (by_chosen false) (IsNumberOf c p) (from_chosen false (no_diagonal pawns)) (to_straight e) straight (IsLeast-chosen false)
         | false ↦ λ e. IsLeast-same (λ n. by_chosen false n ⊎ by_chosen true n) (IsNumberOf c p)
             (λ n h. elim h [ inl b ↦ from_chosen false (any_diagonal pawns false e) n b | inr b ↦ from_chosen true (any_diagonal pawns true e) n b ])
-            to_either (least straight crossed)
-            (IsLeast-both (by_chosen false) (by_chosen true) straight crossed (IsLeast-chosen false) (IsLeast-chosen true))
+            to_either (least straight transposed)
+            (IsLeast-both (by_chosen false) (by_chosen true) straight transposed (IsLeast-chosen false) (IsLeast-chosen true))
       ]
       in go pawns refl
 

@@ -19,8 +19,8 @@ use Rattle.study_board.specs.Position.{Position, IsValid, could_be_passed, has_m
 use Rattle.study_board.proofs.Valid.{IsFaultless-from_first}
 use Rattle.study_moves.specs.declared.moves.Move.{Move}
 use Rattle.study_moves.specs.Rules.{is_en_passant, is_square, is_legal}
-use Rattle.study_moves.specs.Bare.{is_taken, is_live, without_passed, bare}
-use Rattle.study_index.specs.Decoded.{square_behind, behind}
+use Rattle.study_moves.specs.EnPassant.{is_taken, has_legal_en_passant, without_passed, bare}
+use Rattle.study_index.specs.Decoded.{square_behind, square_behind_pawn}
 use Rattle.study_moves.proofs.MenOfList.{IsAmong, some_among, same_square, found_among}
 use Rattle.study_moves.proofs.NoMoveBetween.{HasMover-from_is_legal}
 use Rattle.study_material.specs.declared.class.Class.{Class}
@@ -37,11 +37,11 @@ many-among side k (x ∷ xs) m (inl s) e = counted (is_man side k x) (ap (λ z. 
     counted : (b : Bool) → b ≡ true → 1 ≤ cond b (suc (many side k xs)) (many side k xs)
     counted true h = omega arith
     counted false h = absurd (false≢true h)
-many-among side k (x ∷ xs) m (inr i) e = more (is_man side k x) (many-among side k xs m i e)
+many-among side k (x ∷ xs) m (inr i) e = append_square (is_man side k x) (many-among side k xs m i e)
   where
-    more : (b : Bool) → 1 ≤ many side k xs → 1 ≤ cond b (suc (many side k xs)) (many side k xs)
-    more true h = omega arith
-    more false h = h
+    append_square : (b : Bool) → 1 ≤ many side k xs → 1 ≤ cond b (suc (many side k xs)) (many side k xs)
+    append_square true h = omega arith
+    append_square false h = h
 
 many-has_man : (men : List Man) (side : Side) (k : Kind) (x : ℕ) → has_man men side k x ≡ true → 1 ≤ many side k men
 unfolding has_man
@@ -84,7 +84,7 @@ both_pawns men White a b = (a, b)
 both_pawns men Black a b = (b, a)
 
 -- where a capture in passing is legal each side has a pawn, and that is all
-pub live_pawns : (p : Position) → IsValid p → is_live p ≡ true
+pub live_pawns : (p : Position) → IsValid p → has_legal_en_passant p ≡ true
     → (x : ℕ) × (p.passed ≡ Some x) × (could_be_passed p.men p.to_move x ≡ true) × (1 ≤ many White Pawn p.men) × (1 ≤ many Black Pawn p.men)
 live_pawns p v taken = by_passed p.passed refl taken
   where
@@ -101,14 +101,14 @@ live_pawns p v taken = by_passed p.passed refl taken
         at_square x e (subst (λ q. passed_possible p.men p.to_move q ≡ true) e (IsFaultless-from_first p.men p.to_move p.passed v.faultless).possible) t
 
 -- the class is that of a pawn against a pawn
-pub live_class : (c : Class) (p : Position) → IsValid p → IsOf c p → is_live p ≡ true → lists_of c ≡ of (Pawn ∷ []) (Pawn ∷ [])
+pub live_class : (c : Class) (p : Position) → IsValid p → IsOf c p → has_legal_en_passant p ≡ true → lists_of c ≡ of (Pawn ∷ []) (Pawn ∷ [])
 live_class c p v o taken =
     let r = live_pawns p v taken in
     o ∙ ap (λ l. ordered l) (two_pawns p.men (few_others p v) (r.3) (r.4))
 
 -- the first pawn of a side is its one pawn
 behind-one : (side : Side) (xs : List Man) (m : Man) → IsAmong m xs → is_man side Pawn m ≡ true
-    → many side Pawn xs ≤ 1 → behind side xs ≡ Some (square_behind side m.at)
+    → many side Pawn xs ≤ 1 → square_behind_pawn side xs ≡ Some (square_behind side m.at)
 behind-one side [] m i e few = absurd i
 behind-one side (x ∷ xs) m (inl s) e few = found (is_man side Pawn x) (ap (λ z. is_man side Pawn z) s ∙ e)
   where
@@ -119,13 +119,13 @@ behind-one side (x ∷ xs) m (inl s) e few = found (is_man side Pawn x) (ap (λ 
     found false h = absurd (false≢true h)
 behind-one side (x ∷ xs) m (inr i) e few = further (is_man side Pawn x) few (λ l. behind-one side xs m i e l)
   where
-    further : (b : Bool) → cond b (suc (many side Pawn xs)) (many side Pawn xs) ≤ 1 → (many side Pawn xs ≤ 1 → behind side xs ≡ Some (square_behind side m.at))
+    further : (b : Bool) → cond b (suc (many side Pawn xs)) (many side Pawn xs) ≤ 1 → (many side Pawn xs ≤ 1 → square_behind_pawn side xs ≡ Some (square_behind side m.at))
         → option_map (λ y. square_behind side y.at) (cond b (Some x) (find (λ y. is_man side Pawn y) xs)) ≡ Some (square_behind side m.at)
     further true l rest = absurd (let n = many-among side Pawn xs m i e in omega arith)
     further false l rest = rest l
 
 -- a live passed square is the one behind the pawn of the side that is not to move
-pub live_behind : (p : Position) (xs : List Man) → IsValid p → IsPermutation p.men xs → is_live p ≡ true → p.passed ≡ behind (other_side p.to_move) xs
+pub live_behind : (p : Position) (xs : List Man) → IsValid p → IsPermutation p.men xs → has_legal_en_passant p ≡ true → p.passed ≡ square_behind_pawn (other_side p.to_move) xs
 unfolding has_man could_be_passed
 live_behind p xs v same taken =
     let r = live_pawns p v taken in
@@ -137,7 +137,7 @@ live_behind p xs v same taken =
     let b = r.3 in omega (arith, a, f, b, many-IsPermutation Black Pawn p.men xs same)) in
     r.1 ∙ by_side p.to_move r.0 r.2 white black
   where
-    among : (side : Side) (y : ℕ) → has_man p.men side Pawn y ≡ true → many side Pawn xs ≤ 1 → behind side xs ≡ Some (square_behind side y)
+    among : (side : Side) (y : ℕ) → has_man p.men side Pawn y ≡ true → many side Pawn xs ≤ 1 → square_behind_pawn side xs ≡ Some (square_behind side y)
     among side y e few =
         let f : list_any (λ m. is_man side Pawn m && (m.at == y)) xs ≡ true =
         sym (list_any-IsPermutation (λ m. is_man side Pawn m && (m.at == y)) p.men xs same) ∙ e in
@@ -146,7 +146,7 @@ live_behind p xs v same taken =
         behind-one side xs s.0 s.1 both.0 few ∙ ap (λ z. Some (square_behind side z)) (eqb-true s.0.at y both.1)
 
     by_side : (side : Side) (x : ℕ) → could_be_passed p.men side x ≡ true → many White Pawn xs ≤ 1
-        → many Black Pawn xs ≤ 1 → Some x ≡ behind (other_side side) xs
+        → many Black Pawn xs ≤ 1 → Some x ≡ square_behind_pawn (other_side side) xs
     by_side White x e white black =
         let front = (rank_of x == 5) && is_empty p.men x && is_empty p.men (x + 8) in
         let parts = and_parts front (has_man p.men Black Pawn (x - 8)) e in
@@ -163,19 +163,19 @@ live_behind p xs v same taken =
         ap (λ z. Some z) back ∙ sym (among White (x + 8) parts.1 white)
 
 -- whether a position is live is told by its bare form
-live-bare : (p : Position) → is_live p ≡ is_some (bare p).passed
-live-bare p = by_live (is_live p) refl
+live-bare : (p : Position) → has_legal_en_passant p ≡ is_some (bare p).passed
+live-bare p = by_live (has_legal_en_passant p) refl
   where
     some_passed : (q : Option ℕ) → is_taken p q ≡ true → is_some q ≡ true
     some_passed None e = absurd (false≢true e)
     some_passed (Some x) e = refl
 
-    by_live : (b : Bool) → is_live p ≡ b → b ≡ is_some (cond b p (without_passed p)).passed
+    by_live : (b : Bool) → has_legal_en_passant p ≡ b → b ≡ is_some (cond b p (without_passed p)).passed
     by_live true e = sym (some_passed p.passed e)
     by_live false e = refl
 
 -- what has an image as its bare form is live where it is
-pub live_along : (s : Symmetry) (p q : Position) → bare q ≡ image s (bare p) → is_live q ≡ is_live p
+pub live_along : (s : Symmetry) (p q : Position) → bare q ≡ image s (bare p) → has_legal_en_passant q ≡ has_legal_en_passant p
 live_along s p q e = live-bare q ∙ ap (λ (r : Position). is_some r.passed) e ∙ turned s (bare p).passed ∙ sym (live-bare p)
   where
     turned : (s : Symmetry) (o : Option ℕ) → is_some (turned_passed s o) ≡ is_some o
@@ -184,18 +184,18 @@ live_along s p q e = live-bare q ∙ ap (λ (r : Position). is_some r.passed) e 
 
 -- the bare form is its own
 pub bare_twice : (p : Position) → bare (bare p) ≡ bare p
-bare_twice p = by_live (is_live p) refl
+bare_twice p = by_live (has_legal_en_passant p) refl
   where
-    by_live : (b : Bool) → is_live p ≡ b → (let q : Position = cond b p (without_passed p) in bare q ≡ q)
+    by_live : (b : Bool) → has_legal_en_passant p ≡ b → (let q : Position = cond b p (without_passed p) in bare q ≡ q)
     by_live true e = rw e refl
     by_live false e = refl
 
-pub live_bare : (p : Position) → is_live (bare p) ≡ is_live p
+pub live_bare : (p : Position) → has_legal_en_passant (bare p) ≡ has_legal_en_passant p
 live_bare p = live-bare (bare p) ∙ ap (λ (r : Position). is_some r.passed) (bare_twice p) ∙ sym (live-bare p)
 
 -- a position that is its own bare form and is not live has no passed square
-pub not_live_passed : (p : Position) → bare p ≡ p → is_live p ≡ false → p.passed ≡ None
-not_live_passed p e f = sym (ap (λ (r : Position). r.passed) e) ∙ by_live (is_live p) f
+pub not_live_passed : (p : Position) → bare p ≡ p → has_legal_en_passant p ≡ false → p.passed ≡ None
+not_live_passed p e f = sym (ap (λ (r : Position). r.passed) e) ∙ by_live (has_legal_en_passant p) f
   where
     by_live : (b : Bool) → b ≡ false → (cond b p (without_passed p)).passed ≡ None
     by_live true h = absurd (false≢true (sym h))

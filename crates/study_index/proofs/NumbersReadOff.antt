@@ -17,11 +17,11 @@ use Rattle.study_board.specs.Men.{same_kind}
 use Rattle.study_board.specs.Position.{Position, IsValid, first_fault}
 use Rattle.study_index.proofs.MenInOrder.{ascending_same}
 use Rattle.study_board.proofs.Faults.{first_fault_same}
-use Rattle.study_moves.specs.Bare.{is_live}
-use Rattle.study_index.specs.declared.reading.Slot.{Slot}
+use Rattle.study_moves.specs.EnPassant.{has_legal_en_passant}
+use Rattle.study_index.specs.declared.decoding.Slot.{Slot}
 use Rattle.study_index.specs.Filling.{IsInSlots, man_slot_number}
-use Rattle.study_index.specs.Number.{place, listed_count, number, has_pawn, counted_on, side_number, with_bit, has_bit, without_bit, IsLeastNumber, IsIndex}
-use Rattle.study_index.specs.Decoded.{slot_filled, IsDecodedAt, AreSlots, listed, slots_have_pawn, man, head, men_of}
+use Rattle.study_index.specs.Number.{place, listed_count, number, has_pawn, append_squares, side_number, with_bit, has_bit, without_bit, IsLeastNumber, IsIndex}
+use Rattle.study_index.specs.Decoded.{slot_filled, IsDecodedAt, AreSlots, listed_square, slots_have_pawn, man, head, men_of}
 use Rattle.study_index.specs.Decoded.{side_numbered, told_men, told_side, passed_behind, is_cell, IsPlaced, IsFaulty}
 use Rattle.study_index.proofs.Symmetries.{all_below, at_below}
 
@@ -34,20 +34,20 @@ is_number-true : (q : ℕ) (o : Option ℕ) → is_number q o ≡ true → o ≡
 is_number-true q None e = absurd (false≢true e)
 is_number-true q (Some r) e = ap (λ x. Some x) (let d : r ≡ q = grind (arith, nat_tests) in d)
 
-place_test : (pawns : Bool) → all_below (listed_count pawns) (λ q. is_number q (place pawns (listed pawns q))) ≡ true
-unfolding place listed
+place_test : (pawns : Bool) → all_below (listed_count pawns) (λ q. is_number q (place pawns (listed_square pawns q))) ≡ true
+unfolding place listed_square
 place_test true = refl
 place_test false = refl
 
-pub place-listed : (pawns : Bool) (q : ℕ) → q < listed_count pawns → place pawns (listed pawns q) ≡ Some q
-place-listed pawns q l = is_number-true q _ (at_below (listed_count pawns) (λ q. is_number q (place pawns (listed pawns q))) (place_test pawns) q l)
+pub place-listed : (pawns : Bool) (q : ℕ) → q < listed_count pawns → place pawns (listed_square pawns q) ≡ Some q
+place-listed pawns q l = is_number-true q _ (at_below (listed_count pawns) (λ q. is_number q (place pawns (listed_square pawns q))) (place_test pawns) q l)
 
 abbrev pub listed_back : Bool → ℕ → Option ℕ → Bool
 listed_back pawns s None = true
-listed_back pawns s (Some q) = (listed pawns q == s) && nat_lt q (listed_count pawns)
+listed_back pawns s (Some q) = (listed_square pawns q == s) && nat_lt q (listed_count pawns)
 
 listed_test : (pawns : Bool) → all_below 64 (λ s. listed_back pawns s (place pawns s)) ≡ true
-unfolding place listed
+unfolding place listed_square
 listed_test true = refl
 listed_test false = refl
 
@@ -55,23 +55,23 @@ both : (x y : Bool) → (x && y) ≡ true → (x ≡ true) × (y ≡ true)
 both true y e = (refl, e)
 both false y e = absurd (false≢true e)
 
-pub listed-place : (pawns : Bool) (s q : ℕ) → s < 64 → place pawns s ≡ Some q → (listed pawns q ≡ s) × (q < listed_count pawns)
+pub listed-place : (pawns : Bool) (s q : ℕ) → s < 64 → place pawns s ≡ Some q → (listed_square pawns q ≡ s) × (q < listed_count pawns)
 listed-place pawns s q l e =
     let t : listed_back pawns s (Some q) ≡ true =
     subst (λ o. listed_back pawns s o ≡ true) e
     (at_below 64 (λ s. listed_back pawns s (place pawns s)) (listed_test pawns) s l) in
-    let parts = both (listed pawns q == s) (nat_lt q (listed_count pawns)) t in
-    (eqb-true (listed pawns q) s parts.0, ltb-true q (listed_count pawns) parts.1)
+    let parts = both (listed_square pawns q == s) (nat_lt q (listed_count pawns)) t in
+    (eqb-true (listed_square pawns q) s parts.0, ltb-true q (listed_count pawns) parts.1)
 
 -- the parts of a number
 pub number-parts : (pawns : Bool) (side : Side) (k : Man) (rest : List Man) (n : ℕ) → number pawns side (k ∷ rest) ≡ Some n
-    → (q : ℕ) × (place pawns k.at ≡ Some q) × (n ≡ counted_on (side_number side * listed_count pawns + q) rest)
+    → (q : ℕ) × (place pawns k.at ≡ Some q) × (n ≡ append_squares (side_number side * listed_count pawns + q) rest)
 unfolding number
 number-parts pawns side k rest n e =
-    let go : (o : Option ℕ) → option_map (λ q. counted_on (side_number side * listed_count pawns + q) rest) o ≡ Some n
-    → (q : ℕ) × (o ≡ Some q) × (n ≡ counted_on (side_number side * listed_count pawns + q) rest) =
-    λ o. elim o as (λ v. option_map (λ q. counted_on (side_number side * listed_count pawns + q) rest) v ≡ Some n
-    → (q : ℕ) × (v ≡ Some q) × (n ≡ counted_on (side_number side * listed_count pawns + q) rest))
+    let go : (o : Option ℕ) → option_map (λ q. append_squares (side_number side * listed_count pawns + q) rest) o ≡ Some n
+    → (q : ℕ) × (o ≡ Some q) × (n ≡ append_squares (side_number side * listed_count pawns + q) rest) =
+    λ o. elim o as (λ v. option_map (λ q. append_squares (side_number side * listed_count pawns + q) rest) v ≡ Some n
+    → (q : ℕ) × (v ≡ Some q) × (n ≡ append_squares (side_number side * listed_count pawns + q) rest))
     [ None ↦ λ d. cc | Some q ↦ λ d. (q, refl, cc) ]
     in
     let r = go (place pawns (k.at)) e in
@@ -101,7 +101,7 @@ IsRead-number pawns side (k ∷ b ∷ []) n a all e =
     let d : n % 64 ≡ b.at = (let w = p.2 in omega (arith, w)) in
     let r = head_parts pawns side p.0 (n / 64) l.1 h in
     record {
-      men = sym (two k b _ _ (ap (λ q. listed pawns q) r.0 ∙ l.0) d);
+      men = sym (two k b _ _ (ap (λ q. listed_square pawns q) r.0 ∙ l.0) d);
       side_is = r.1;
       cell = r.2;
     }
@@ -119,7 +119,7 @@ IsRead-number pawns side (k ∷ b ∷ x ∷ []) n a all e =
     let h' : n / 64 % 64 ≡ b.at = omega arith in
     let r = head_parts pawns side p.0 (n / 64 / 64) l.1 h in
     record {
-      men = sym (three k b x _ _ _ (ap (λ q. listed pawns q) r.0 ∙ l.0) h' d');
+      men = sym (three k b x _ _ _ (ap (λ q. listed_square pawns q) r.0 ∙ l.0) h' d');
       side_is = r.1;
       cell = r.2;
     }
@@ -140,7 +140,7 @@ IsRead-number pawns side (k ∷ b ∷ x ∷ y ∷ []) n a all e =
     let h' : n / 64 / 64 % 64 ≡ b.at = omega arith in
     let r = head_parts pawns side p.0 (n / 64 / 64 / 64) l.1 h in
     record {
-      men = sym (four k b x y _ _ _ _ (ap (λ q. listed pawns q) r.0 ∙ l.0) h' g' d');
+      men = sym (four k b x y _ _ _ _ (ap (λ q. listed_square pawns q) r.0 ∙ l.0) h' g' d');
       side_is = r.1;
       cell = r.2;
     }
@@ -167,7 +167,7 @@ head_back : (pawns : Bool) (h : ℕ) → nat_lt (h / listed_count pawns) 2 ≡ t
 head_back true h e = (let s = side_back (h / 32) e in omega (arith, s))
 head_back false h e = (let s = side_back (h / 10) e in omega (arith, s))
 
-place-king : (pawns : Bool) (h : ℕ) → place pawns ((listed pawns (h % listed_count pawns))) ≡ Some (h % listed_count pawns)
+place-king : (pawns : Bool) (h : ℕ) → place pawns ((listed_square pawns (h % listed_count pawns))) ≡ Some (h % listed_count pawns)
 place-king true h = place-listed true (h % 32) (omega arith)
 place-king false h = place-listed false (h % 10) (omega arith)
 
@@ -216,7 +216,7 @@ pub IsLeastNumber-unique : (p : Position) (m n : ℕ) → IsLeastNumber p m → 
 IsLeastNumber-unique p m n h k = omega (arith, h.least n k.number, k.least m h.number)
 
 pub IsIndex-unique : (p : Position) (m n : ℕ) → IsIndex p m → IsIndex p n → m ≡ n
-IsIndex-unique p m n h k = h.is ∙ ap (λ l. with_bit (is_live p) l) (IsLeastNumber-unique p h.number k.number h.least k.least) ∙ sym k.is
+IsIndex-unique p m n h k = h.is ∙ ap (λ l. with_bit (has_legal_en_passant p) l) (IsLeastNumber-unique p h.number k.number h.least k.least) ∙ sym k.is
 
 -- a decoded position is that of the men that are read off
 pub record IsOfMen (slots : List Slot) (n : ℕ) (q : Position) : Type 0 where

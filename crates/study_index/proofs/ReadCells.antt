@@ -12,9 +12,9 @@ use Rattle.study_board.specs.declared.fault.PositionFault.{PositionFault}
 use Rattle.study_board.specs.Geometry.{rank_of}
 use Rattle.study_board.specs.Position.{Position, is_empty, has_man, could_be_passed, passed_possible, first_fault}
 use Rattle.study_board.proofs.Valid.{IsFaultless-from_first}
-use Rattle.study_moves.specs.Bare.{is_live, is_taken}
+use Rattle.study_moves.specs.EnPassant.{has_legal_en_passant, is_taken}
 use Rattle.study_material.specs.declared.class.Class.{Class}
-use Rattle.study_index.specs.declared.reading.Slot.{Slot}
+use Rattle.study_index.specs.declared.decoding.Slot.{Slot}
 use Rattle.study_index.specs.Number.{numbers_of, cells_of, with_bit, has_bit, without_bit}
 use Rattle.study_index.specs.Decoded.{slots_of, slots_have_pawn, told_men, told_side, passed_behind, is_cell, IsDecoded, IsPlaced, IsFaulty, HasLeast}
 use Rattle.study_index.proofs.ClassSlots.{AreSlots-class, is_cell-below, number_below, few_cells}
@@ -53,7 +53,7 @@ not_parts c n m b s e f g h =
     elim (subst (λ d. Unread (slots_of c) (without_bit n) d) g (subst (λ k. Unread (slots_of c) k b) f (subst (λ t. Unread t m b) e h)))
     [ inl faulty ↦ no_position (slots_of c) n (AreSlots-class c) faulty | inr other ↦ not_least c n other ]
 
-dead_without : (p : Position) → p.passed ≡ None → is_live p ≡ false
+dead_without : (p : Position) → p.passed ≡ None → has_legal_en_passant p ≡ false
 dead_without p e = ap (is_taken p) e
 
 pub some_plain : (c : Class) (n : ℕ) (s : List Slot) (o : Option Position) → n < cells_of c → n < 16777216
@@ -70,7 +70,7 @@ none_plain c n s (Some q) k e h = tt
 none_plain c n s None k e h = let p = plain n k in not_parts c n n false s e p.0 p.1 h
 
 pub some_passing : (c : Class) (n : ℕ) (s : List Slot) (q : Position) → n < cells_of c → 16777216 ≤ n
-    → s ≡ slots_of c → Read s (n - 16777216) true q → is_live q ≡ true → IsDecoded c n q
+    → s ≡ slots_of c → Read s (n - 16777216) true q → has_legal_en_passant q ≡ true → IsDecoded c n q
 some_passing c n s q l k e h live =
     let p = passing c n l k in
     let r = with_parts c n (n - 16777216) true s q e p.0 p.1 h in
@@ -83,7 +83,7 @@ pub none_passing : (c : Class) (n : ℕ) (s : List Slot) → n < cells_of c → 
 none_passing c n s l k e h = let p = passing c n l k in not_parts c n (n - 16777216) true s e p.0 p.1 h
 
 pub dead_passing : (c : Class) (n : ℕ) (s : List Slot) (p : Position) → n < cells_of c → 16777216 ≤ n
-    → s ≡ slots_of c → Read s (n - 16777216) true p → is_live p ≡ false → (q : Position) → IsDecoded c n q → ⊥
+    → s ≡ slots_of c → Read s (n - 16777216) true p → has_legal_en_passant p ≡ false → (q : Position) → IsDecoded c n q → ⊥
 dead_passing c n s p l k e h dead =
     let w = passing c n l k in
     not_passing c n p (with_parts c n (n - 16777216) true s p e w.0 w.1 h).0 (sym w.1) dead

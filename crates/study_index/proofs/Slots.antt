@@ -7,7 +7,7 @@ use Rattle.std.proofs.lemmas.List.Sorted.{IsPermutation-insert, IsPermutation-co
 use Rattle.std.proofs.lemmas.Bool.Decides.{nat_tests}
 use Rattle.study_board.specs.declared.men.Man.{Man}
 use Rattle.study_index.specs.Filling.{man_slot_number, NoneBefore, IsInSlots, IsFilling}
-use Rattle.study_index.specs.Found.{put, sorted}
+use Rattle.study_index.specs.Computed.{put, sorted}
 use Rattle.study_index.proofs.Fillings.{NoneBefore-less}
 
 -- how many men it is put after

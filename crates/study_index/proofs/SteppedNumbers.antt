@@ -11,11 +11,11 @@ use Rattle.study_board.specs.Geometry.{file_of}
 use Rattle.study_board.specs.Men.{other_side}
 use Rattle.study_board.specs.Symmetry.{turned_man, turned_side, turned_square}
 use Rattle.study_material.specs.Lists.{is_exchanged, is_swapped}
-use Rattle.study_index.specs.declared.reading.Slot.{Slot}
+use Rattle.study_index.specs.declared.decoding.Slot.{Slot}
 use Rattle.study_index.specs.Filling.{man_slot_number, NoneBefore, IsInSlots, IsFilling}
 use Rattle.study_index.specs.Number.{number, place, has_pawn, side_number, listed_count, with_bit, without_bit, numbers_of, IsLeastNumber}
-use Rattle.study_index.specs.Decoded.{slot_filled, slots_of, AreSlots, listed, man, men_of, head, side_numbered, told_men}
-use Rattle.study_index.specs.Chosen.{chosen, are_like, least_of, least_by, turned_number}
+use Rattle.study_index.specs.Decoded.{slot_filled, slots_of, AreSlots, listed_square, man, men_of, head, side_numbered, told_men}
+use Rattle.study_index.specs.Canonical.{canonical_symmetry, are_like, least_of, least_by, turned_number}
 use Rattle.study_index.specs.Stepped.{moved_to, side_turned, stepped, are_like_slots, NumbersStep}
 use Rattle.study_index.proofs.NumbersReadOff.{place-listed, filled-men_of, has_pawn-slots, IsInSlots-men_of}
 use Rattle.study_index.proofs.ClassSlots.{AreSlots-class, is_cell-below, number_below, class_in_order}
@@ -68,7 +68,7 @@ turned_four n e = by_test (nat_lt n 8388608) refl
         let z : n / 64 / 64 / 64 / 32 ≡ 1 = omega (arith, l, h) in
         rw z (omega (arith, l, z))
 
-king_placed : (h : ℕ) → place true (listed true (h % 32)) ≡ Some (h % 32)
+king_placed : (h : ℕ) → place true (listed_square true (h % 32)) ≡ Some (h % 32)
 king_placed h = place-listed true (h % 32) (omega arith)
 
 one_or : (i j : ℕ) → j ≤ i → (j ≡ i) ⊎ (j + 1 ≤ i)
@@ -124,8 +124,8 @@ men_as_they_are : (ms : List Man) → map (turned_man as_it_is) ms ≡ ms
 men_as_they_are [] = refl
 men_as_they_are (m ∷ ms) = ap (λ x. x ∷ map (turned_man as_it_is) ms) (man_as_it_is m) ∙ ap (λ xs. m ∷ xs) (men_as_they_are ms)
 
-chosen_as_it_is : (x : ℕ) → nat_lt 3 (file_of x) ≡ false → chosen true false false x ≡ as_it_is
-unfolding chosen
+chosen_as_it_is : (x : ℕ) → nat_lt 3 (file_of x) ≡ false → canonical_symmetry true false false x ≡ as_it_is
+unfolding canonical_symmetry
 chosen_as_it_is x f = rw f refl
 
 least_as_it_is : (side : Side) (ms : List Man) → are_like false ms ≡ false → least_by true side as_it_is ms ≡ number true side ms
@@ -195,8 +195,8 @@ least_kept side i a k rest o f l =
     (least_listed side k after f
     (are_like-slots (k ∷ after) ∙ (ap (λ ss. are_like_slots (slot_filled k ∷ ss)) (filled_moved (i - 1) a rest) ∙ l)))
 
-listed_left : (q : ℕ) → nat_lt 3 (file_of (listed true q)) ≡ false
-unfolding listed
+listed_left : (q : ℕ) → nat_lt 3 (file_of (listed_square true q)) ≡ false
+unfolding listed_square
 listed_left q = by_test (nat_lt 3 ((8 * (q / 4) + q % 4) % 8)) refl
   where
     by_test : (b : Bool) → nat_lt 3 ((8 * (q / 4) + q % 4) % 8) ≡ b → b ≡ false
@@ -207,11 +207,11 @@ listed_left q = by_test (nat_lt 3 ((8 * (q / 4) + q % 4) % 8)) refl
 least_moved : (slots : List Slot) (n i a : ℕ) (side : Side) → AreSlots slots → are_like_slots slots ≡ false → 1 ≤ i
     → least_of true side false (moved_to i a (men_of true slots n)) ≡ number true side (moved_to i a (men_of true slots n))
 least_moved (k ∷ b ∷ []) n i a side s l o =
-    least_kept side i a (man k (listed true (n / 64 % 32))) (man b (n % 64) ∷ []) o (listed_left (n / 64 % 32)) l
+    least_kept side i a (man k (listed_square true (n / 64 % 32))) (man b (n % 64) ∷ []) o (listed_left (n / 64 % 32)) l
 least_moved (k ∷ b ∷ x ∷ []) n i a side s l o =
-    least_kept side i a (man k (listed true (n / 64 / 64 % 32))) (man b (n / 64 % 64) ∷ man x (n % 64) ∷ []) o (listed_left (n / 64 / 64 % 32)) l
+    least_kept side i a (man k (listed_square true (n / 64 / 64 % 32))) (man b (n / 64 % 64) ∷ man x (n % 64) ∷ []) o (listed_left (n / 64 / 64 % 32)) l
 least_moved (k ∷ b ∷ x ∷ y ∷ []) n i a side s l o =
-    least_kept side i a (man k (listed true (n / 64 / 64 / 64 % 32)))
+    least_kept side i a (man k (listed_square true (n / 64 / 64 / 64 % 32)))
     (man b (n / 64 / 64 % 64) ∷ man x (n / 64 % 64) ∷ man y (n % 64) ∷ []) o (listed_left (n / 64 / 64 / 64 % 32)) l
 least_moved [] n i a side s l o = absurd s
 least_moved (k ∷ []) n i a side s l o = absurd s

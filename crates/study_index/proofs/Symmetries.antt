@@ -6,7 +6,7 @@ use Rattle.std.proofs.lemmas.Bool.Decides.{nat_tests}
 use Rattle.study_board.specs.declared.symmetry.Symmetry.{Symmetry}
 use Rattle.study_board.specs.Symmetry.{turned_square, keeps_pawns}
 use Rattle.study_index.specs.Number.{place}
-use Rattle.study_index.specs.Chosen.{chosen}
+use Rattle.study_index.specs.Canonical.{canonical_symmetry}
 
 -- what symmetries men admit, with a pawn among them or not
 abbrev pub admitted : Bool → Symmetry → Bool
@@ -61,12 +61,12 @@ same_flags-true t u e =
 -- a symmetry that brings a square to a listed one is the chosen one
 abbrev pub is_chosen : Bool → Symmetry → ℕ → Bool
 is_chosen pawns t s =
-    not (admitted pawns t && is_some (place pawns (turned_square t s))) || same_flags t (chosen pawns t.diagonal t.colours s)
+    not (admitted pawns t && is_some (place pawns (turned_square t s))) || same_flags t (canonical_symmetry pawns t.diagonal t.colours s)
 
 for_squares : (pawns files ranks diagonal colours : Bool)
     → all_below 64 (is_chosen pawns (record { files = files; ranks = ranks; diagonal = diagonal; colours = colours }))
     ≡ true
-unfolding turned_square place chosen
+unfolding turned_square place canonical_symmetry
 for_squares true true true true true = refl
 for_squares true true true true false = refl
 for_squares true true true false true = refl
@@ -101,19 +101,19 @@ for_squares false false false false true = refl
 for_squares false false false false false = refl
 
 pub chosen-only : (pawns : Bool) (t : Symmetry) (s q : ℕ) → s < 64 → admitted pawns t ≡ true
-    → place pawns (turned_square t s) ≡ Some q → t ≡ chosen pawns t.diagonal t.colours s
+    → place pawns (turned_square t s) ≡ Some q → t ≡ canonical_symmetry pawns t.diagonal t.colours s
 chosen-only pawns t s q l a e =
     let h : is_chosen pawns t s ≡ true = at_below 64 (is_chosen pawns t) (for_squares pawns t.files t.ranks t.diagonal t.colours) s l in
-    let i : same_flags t (chosen pawns t.diagonal t.colours s) ≡ true = rw (a, e) at h in
-    same_flags-true t (chosen pawns t.diagonal t.colours s) i
+    let i : same_flags t (canonical_symmetry pawns t.diagonal t.colours s) ≡ true = rw (a, e) at h in
+    same_flags-true t (canonical_symmetry pawns t.diagonal t.colours s) i
 
 -- some symmetry brings a square to a listed one
 abbrev pub some_is_listed : Bool → Bool → ℕ → Bool
 some_is_listed pawns c s =
-    is_some (place pawns (turned_square (chosen pawns false c s) s)) || (not pawns && is_some (place pawns (turned_square (chosen pawns true c s) s)))
+    is_some (place pawns (turned_square (canonical_symmetry pawns false c s) s)) || (not pawns && is_some (place pawns (turned_square (canonical_symmetry pawns true c s) s)))
 
 listed_squares : (pawns c : Bool) → all_below 64 (some_is_listed pawns c) ≡ true
-unfolding turned_square place chosen
+unfolding turned_square place canonical_symmetry
 listed_squares true true = refl
 listed_squares true false = refl
 listed_squares false true = refl
@@ -122,20 +122,20 @@ listed_squares false false = refl
 pub some-listed : (pawns c : Bool) (s : ℕ) → s < 64 → some_is_listed pawns c s ≡ true
 some-listed pawns c s l = at_below 64 (some_is_listed pawns c) (listed_squares pawns c) s l
 
-pub chosen-admitted : (pawns d c : Bool) (s : ℕ) → (pawns && d) ≡ false → admitted pawns (chosen pawns d c s) ≡ true
-unfolding chosen
+pub chosen-admitted : (pawns d c : Bool) (s : ℕ) → (pawns && d) ≡ false → admitted pawns (canonical_symmetry pawns d c s) ≡ true
+unfolding canonical_symmetry
 chosen-admitted true true c s e = cc
 chosen-admitted true false c s e = refl
 chosen-admitted false d c s e = refl
 
-pub chosen-colours : (pawns d c : Bool) (s : ℕ) → (chosen pawns d c s).colours ≡ c
-unfolding chosen
+pub chosen-colours : (pawns d c : Bool) (s : ℕ) → (canonical_symmetry pawns d c s).colours ≡ c
+unfolding canonical_symmetry
 chosen-colours true d c s = refl
 chosen-colours false true c s = refl
 chosen-colours false false c s = refl
 
 -- with pawns file and rank stay
-pub chosen-pawns : (pawns d c : Bool) (s : ℕ) → pawns ≡ true → chosen pawns d c s ≡ chosen pawns false c s
-unfolding chosen
+pub chosen-pawns : (pawns d c : Bool) (s : ℕ) → pawns ≡ true → canonical_symmetry pawns d c s ≡ canonical_symmetry pawns false c s
+unfolding canonical_symmetry
 chosen-pawns true d c s e = refl
 chosen-pawns false d c s e = absurd (false≢true e)

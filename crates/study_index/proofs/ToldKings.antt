@@ -9,7 +9,7 @@ use Rattle.study_board.specs.declared.men.Man.{Man}
 use Rattle.study_board.specs.Men.{same_side, same_kind, is_man}
 use Rattle.study_board.specs.Position.{has_one_king}
 use Rattle.study_board.proofs.Lists.{count_by-cons}
-use Rattle.study_index.specs.declared.reading.Slot.{Slot}
+use Rattle.study_index.specs.declared.decoding.Slot.{Slot}
 use Rattle.study_index.specs.Filling.{slot_number}
 use Rattle.study_index.specs.Decoded.{number_of_slot, AreSlots, man}
 

@@ -10,9 +10,9 @@ use Rattle.study_board.specs.declared.men.Man.{Man}
 use Rattle.study_board.specs.Position.{Position, IsValid}
 use Rattle.study_board.specs.Symmetry.{image}
 use Rattle.study_board.proofs.ImagesValid.{valid_image}
-use Rattle.study_moves.specs.Bare.{is_live}
+use Rattle.study_moves.specs.EnPassant.{has_legal_en_passant}
 use Rattle.study_material.proofs.MenBesideKings.{few_men}
-use Rattle.study_index.specs.Number.{number, listed_count, side_number, counted_on, with_bit, has_bit, without_bit, has_pawn, IsNumber, IsLeastNumber, IsIndex}
+use Rattle.study_index.specs.Number.{number, listed_count, side_number, append_squares, with_bit, has_bit, without_bit, has_pawn, IsNumber, IsLeastNumber, IsIndex}
 use Rattle.study_index.proofs.NumbersReadOff.{number-parts, listed-place}
 
 pub without-with : (b : Bool) (m : ℕ) → m < 16777216 → without_bit (with_bit b m) ≡ m
@@ -26,7 +26,7 @@ has-with false m l = grind (arith, nat_tests)
 abbrev OnBoard : Man → Type 0
 OnBoard m = m.at < 64
 
-counted_small : (h : ℕ) (xs : List Man) → h < 64 → length xs ≤ 3 → All OnBoard xs → counted_on h xs < 16777216
+counted_small : (h : ℕ) (xs : List Man) → h < 64 → length xs ≤ 3 → All OnBoard xs → append_squares h xs < 16777216
 counted_small h [] l few all = omega arith
 counted_small h (a ∷ []) l few all = (let la = all 0 a (omega arith) in omega (arith, la))
 counted_small h (a ∷ b ∷ []) l few all = (let la = all 0 a (omega arith) in let lb = all 1 b (omega arith) in omega (arith, la, lb))
@@ -60,17 +60,17 @@ number_small p n v h =
 -- the parts of an index
 pub record HasParts (p : Position) (n : ℕ) : Type 0 where
   pub least : IsLeastNumber p (without_bit n)
-  pub bit : has_bit n ≡ is_live p
+  pub bit : has_bit n ≡ has_legal_en_passant p
   pub small : without_bit n < 16777216
-  pub is : n ≡ with_bit (is_live p) (without_bit n)
+  pub is : n ≡ with_bit (has_legal_en_passant p) (without_bit n)
 
 pub HasParts-from : (p : Position) (n : ℕ) → IsValid p → IsIndex p n → HasParts p n
 HasParts-from p n v i =
     let small = number_small p i.number v i.least.number in
-    let number : without_bit n ≡ i.number = ap without_bit i.is ∙ without-with (is_live p) i.number small in
+    let number : without_bit n ≡ i.number = ap without_bit i.is ∙ without-with (has_legal_en_passant p) i.number small in
     record {
       least = subst (λ m. IsLeastNumber p m) (sym number) i.least;
-      bit = ap has_bit i.is ∙ has-with (is_live p) i.number small;
+      bit = ap has_bit i.is ∙ has-with (has_legal_en_passant p) i.number small;
       small = subst (λ m. m < 16777216) (sym number) small;
-      is = i.is ∙ ap (λ m. with_bit (is_live p) m) (sym number);
+      is = i.is ∙ ap (λ m. with_bit (has_legal_en_passant p) m) (sym number);
     }

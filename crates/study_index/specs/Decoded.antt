@@ -14,8 +14,8 @@ use Rattle.study_board.specs.declared.fault.PositionFault.{PositionFault}
 use Rattle.study_board.specs.Position.{Position, IsValid, first_fault}
 use Rattle.study_material.specs.declared.class.Class.{Class}
 use Rattle.study_material.specs.Class.{lists_of}
-use Rattle.study_index.specs.declared.reading.Slot.{Slot}
-use Rattle.study_index.specs.Chosen.{least_of}
+use Rattle.study_index.specs.declared.decoding.Slot.{Slot}
+use Rattle.study_index.specs.Canonical.{least_of}
 use Rattle.study_index.specs.Filling.{IsFilling, slot_number}
 use Rattle.study_index.specs.Number.{number, listed_count, has_pawn, has_bit, without_bit, IsIndex}
 
@@ -35,12 +35,12 @@ abbrev pub square_behind : Side → ℕ → ℕ
 square_behind White x = x - 8
 square_behind Black x = x + 8
 
-abbrev pub behind : Side → List Man → Option ℕ
-behind side men = option_map (λ m. square_behind side m.at) (find (λ m. is_man side Pawn m) men)
+abbrev pub square_behind_pawn : Side → List Man → Option ℕ
+square_behind_pawn side men = option_map (λ m. square_behind side m.at) (find (λ m. is_man side Pawn m) men)
 
 -- where the bit is set the square behind the pawn of the side that is not to move is passed
 abbrev pub passed_behind : Bool → Side → List Man → Option ℕ
-passed_behind true to_move men = behind (other_side to_move) men
+passed_behind true to_move men = square_behind_pawn (other_side to_move) men
 passed_behind false to_move men = None
 
 -- the position whose men fill these slots so that n is their number, with the passed square that its bit tells
@@ -74,9 +74,9 @@ AreSlots (k ∷ b ∷ x ∷ y ∷ []) = (number_of_slot k ≡ 0) × (number_of_s
 AreSlots slots = ⊥
 
 -- the listed square of a place
-unfoldable pub listed : Bool → ℕ → ℕ
-listed true q = 8 * (q / 4) + q % 4
-listed false q = if nat_lt q 4 then q else (if nat_lt q 7 then q + 5 else (if nat_lt q 9 then q + 11 else 27))
+unfoldable pub listed_square : Bool → ℕ → ℕ
+listed_square true q = 8 * (q / 4) + q % 4
+listed_square false q = if nat_lt q 4 then q else (if nat_lt q 7 then q + 5 else (if nat_lt q 9 then q + 11 else 27))
 
 abbrev pub slots_have_pawn : List Slot → Bool
 slots_have_pawn slots = list_any (λ s. same_kind s.kind Pawn) slots
@@ -93,11 +93,11 @@ head slots n = n
 
 -- the men on the squares that the number tells
 abbrev pub men_of : Bool → List Slot → ℕ → List Man
-men_of pawns (k ∷ b ∷ []) n = man k (listed pawns (n / 64 % listed_count pawns)) ∷ man b (n % 64) ∷ []
+men_of pawns (k ∷ b ∷ []) n = man k (listed_square pawns (n / 64 % listed_count pawns)) ∷ man b (n % 64) ∷ []
 men_of pawns (k ∷ b ∷ x ∷ []) n =
-    man k (listed pawns (n / 64 / 64 % listed_count pawns)) ∷ man b (n / 64 % 64) ∷ man x (n % 64) ∷ []
+    man k (listed_square pawns (n / 64 / 64 % listed_count pawns)) ∷ man b (n / 64 % 64) ∷ man x (n % 64) ∷ []
 men_of pawns (k ∷ b ∷ x ∷ y ∷ []) n =
-    man k (listed pawns (n / 64 / 64 / 64 % listed_count pawns)) ∷ man b (n / 64 / 64 % 64) ∷ man x (n / 64 % 64) ∷ man y (n % 64) ∷ []
+    man k (listed_square pawns (n / 64 / 64 / 64 % listed_count pawns)) ∷ man b (n / 64 / 64 % 64) ∷ man x (n / 64 % 64) ∷ man y (n % 64) ∷ []
 men_of pawns slots n = []
 
 abbrev pub side_numbered : ℕ → Side

@@ -4,7 +4,7 @@ use Rattle.std.specs.List.Sorted.{IsPermutation}
 use Rattle.study_board.specs.declared.men.Man.{Man}
 use Rattle.study_board.specs.Position.{Position, IsValid}
 use Rattle.study_board.specs.Images.{IsImage}
-use Rattle.study_moves.specs.Bare.{bare}
+use Rattle.study_moves.specs.EnPassant.{bare}
 use Rattle.study_moves.specs.Game.{IsMate}
 use Rattle.study_moves.specs.Laws.{HasSameGame}
 use Rattle.study_moves.specs.Alike.{AreAlike, Leads}
@@ -14,7 +14,7 @@ use Rattle.study_material.specs.Class.{lists_of, IsOf}
 use Rattle.study_material.specs.Needs.{LeadsOn}
 use Rattle.study_index.specs.Number.{IsIndex, cells_of, without_bit, has_bit}
 use Rattle.study_index.specs.Decoded.{IsDecoded, slots_of, told_men, told_side, passed_behind}
-use Rattle.study_index.specs.Found.{index_of, position_numbered}
+use Rattle.study_index.specs.Computed.{index_of, position_numbered}
 
 -- positions that are alike, the colours kept where the lists of the class are equal
 pub record AreAlikeIn (c : Class) (p q : Position) : Type 0 where

@@ -1,9 +1,9 @@
 pub mod Filling
 pub mod Number
 pub mod Bits
-pub mod Chosen
+pub mod Canonical
 pub mod Decoded
-pub mod Found
+pub mod Computed
 pub mod Laws
 pub mod Moved
 pub mod Squares

@@ -5,7 +5,7 @@ use Rattle.std.specs.List.Sorted.{IsPermutation}
 use Rattle.study_board.specs.declared.men.Man.{Man}
 use Rattle.study_board.specs.Men.{other_side}
 use Rattle.study_board.specs.Position.{Position, IsValid}
-use Rattle.study_moves.specs.Bare.{is_live}
+use Rattle.study_moves.specs.EnPassant.{has_legal_en_passant}
 use Rattle.study_material.specs.declared.class.Class.{Class}
 use Rattle.study_index.specs.Number.{without_bit}
 use Rattle.study_index.specs.Decoded.{slots_of, told_men, told_side}
@@ -19,4 +19,4 @@ pub record IsMoved (c : Class) (n x a : ℕ) (p : Position) : Type 0 where
   pub valid : IsValid p
   pub men : IsPermutation p.men (map (from_to x a) (told_men (slots_of c) (without_bit n)))
   pub to_move : p.to_move ≡ other_side (told_side (slots_of c) (without_bit n))
-  pub dead : is_live p ≡ false
+  pub dead : has_legal_en_passant p ≡ false

@@ -14,7 +14,7 @@ use Rattle.study_board.specs.Men.{same_kind, is_pawn}
 use Rattle.study_board.specs.Position.{Position}
 use Rattle.study_board.specs.Symmetry.{image, admits}
 use Rattle.study_material.specs.declared.class.Class.{Class}
-use Rattle.study_moves.specs.Bare.{is_live}
+use Rattle.study_moves.specs.EnPassant.{has_legal_en_passant}
 use Rattle.study_material.specs.Lists.{Lists, is_swapped}
 use Rattle.study_material.specs.Class.{lists_of}
 use Rattle.study_index.specs.Filling.{IsFilling}
@@ -43,15 +43,15 @@ side_number White = 0
 side_number Black = 1
 
 -- the squares of further men, each 64 times less than what comes before
-abbrev pub counted_on : ℕ → List Man → ℕ
-counted_on n [] = n
-counted_on n (x ∷ xs) = counted_on (n * 64 + x.at) xs
+abbrev pub append_squares : ℕ → List Man → ℕ
+append_squares n [] = n
+append_squares n (x ∷ xs) = append_squares (n * 64 + x.at) xs
 
 -- the number of a filling, if the first man, the white king, stands on a listed square
 unfoldable pub number : Bool → Side → List Man → Option ℕ
 number pawns to_move [] = None
 number pawns to_move (k ∷ rest) =
-    option_map (λ q. counted_on (side_number to_move * listed_count pawns + q) rest) (place pawns k.at)
+    option_map (λ q. append_squares (side_number to_move * listed_count pawns + q) rest) (place pawns k.at)
 
 -- a number of the position: that of a filling with the men of an image, the colours swapped where the class asks for it
 pub record IsNumber (p : Position) (n : ℕ) : Type 0 where
@@ -82,7 +82,7 @@ without_bit n = n % 16777216
 pub record IsIndex (p : Position) (n : ℕ) : Type 0 where
   pub number : ℕ
   pub least : IsLeastNumber p number
-  pub is : n ≡ with_bit (is_live p) number
+  pub is : n ≡ with_bit (has_legal_en_passant p) number
 
 abbrev pub kinds_have_pawn : List Kind → Bool
 kinds_have_pawn kinds = list_any (λ k. same_kind k Pawn) kinds

@@ -8,7 +8,7 @@ use Rattle.study_board.specs.Geometry.{file_of, rank_of}
 use Rattle.study_board.specs.Symmetry.{turned_square}
 use Rattle.study_index.specs.Filling.{man_slot_number}
 use Rattle.study_index.specs.Number.{place, listed_count, side_number}
-use Rattle.study_index.specs.Chosen.{least}
+use Rattle.study_index.specs.Canonical.{least}
 
 -- the slot and the square of a man in one number
 unfoldable pub key : Bool → Man → ℕ
@@ -24,9 +24,9 @@ abbrev pub squares_of_keys : List ℕ → List ℕ
 squares_of_keys ks = map (λ k. k % 64) ks
 
 -- the symmetry that leaves the colours alone and takes squares where the chosen one takes them
-unfoldable pub brought : Bool → Bool → Bool → ℕ → Symmetry
-brought true diagonal colours s = record { files = nat_lt 3 (file_of s); ranks = colours; diagonal = false; colours = false }
-brought false diagonal colours s = record { files = nat_lt 3 (file_of s); ranks = nat_lt 3 (rank_of s); diagonal = diagonal; colours = false }
+unfoldable pub square_symmetry : Bool → Bool → Bool → ℕ → Symmetry
+square_symmetry true diagonal colours s = record { files = nat_lt 3 (file_of s); ranks = colours; diagonal = false; colours = false }
+square_symmetry false diagonal colours s = record { files = nat_lt 3 (file_of s); ranks = nat_lt 3 (rank_of s); diagonal = diagonal; colours = false }
 
 -- further squares turned, each 64 times less than what comes before
 abbrev pub counted_at : (ℕ → ℕ) → ℕ → List ℕ → ℕ
@@ -43,20 +43,20 @@ abbrev pub exchanged_at : List ℕ → List ℕ
 exchanged_at (a ∷ b ∷ x ∷ y ∷ []) = a ∷ b ∷ y ∷ x ∷ []
 exchanged_at xs = xs
 
-abbrev pub falls_at : (ℕ → ℕ) → List ℕ → Bool
-falls_at turn (a ∷ b ∷ x ∷ y ∷ []) = nat_lt (turn y) (turn x)
-falls_at turn xs = false
+abbrev pub descends_at : (ℕ → ℕ) → List ℕ → Bool
+descends_at turn (a ∷ b ∷ x ∷ y ∷ []) = nat_lt (turn y) (turn x)
+descends_at turn xs = false
 
 -- the least number by one symmetry, where the last two of four squares can be exchanged
 unfoldable pub least_turned : Bool → Side → (ℕ → ℕ) → Bool → List ℕ → Option ℕ
 least_turned pawns to_move turn like xs =
-    if like then (if falls_at turn xs then number_at pawns to_move turn (exchanged_at xs) else number_at pawns to_move turn xs)
+    if like then (if descends_at turn xs then number_at pawns to_move turn (exchanged_at xs) else number_at pawns to_move turn xs)
     else number_at pawns to_move turn xs
 
 -- the least number by the symmetries that bring the first square to a listed one
 unfoldable pub least_at : Bool → Side → Bool → Bool → List ℕ → Option ℕ
 least_at pawns to_move colours like [] = None
 least_at pawns to_move colours like (k ∷ rest) =
-    if pawns then least_turned pawns to_move (turned_square (brought pawns false colours k)) like (k ∷ rest)
-    else least (least_turned pawns to_move (turned_square (brought pawns false colours k)) like (k ∷ rest))
-    (least_turned pawns to_move (turned_square (brought pawns true colours k)) like (k ∷ rest))
+    if pawns then least_turned pawns to_move (turned_square (square_symmetry pawns false colours k)) like (k ∷ rest)
+    else least (least_turned pawns to_move (turned_square (square_symmetry pawns false colours k)) like (k ∷ rest))
+    (least_turned pawns to_move (turned_square (square_symmetry pawns true colours k)) like (k ∷ rest))

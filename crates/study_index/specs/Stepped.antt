@@ -4,12 +4,12 @@ use Rattle.std.specs.List.Sorted.{IsPermutation}
 use Rattle.study_board.specs.declared.men.Man.{Man}
 use Rattle.study_board.specs.Men.{other_side}
 use Rattle.study_board.specs.Position.{Position, IsValid}
-use Rattle.study_moves.specs.Bare.{is_live}
+use Rattle.study_moves.specs.EnPassant.{has_legal_en_passant}
 use Rattle.study_material.specs.declared.class.Class.{Class}
-use Rattle.study_index.specs.declared.reading.Slot.{Slot}
+use Rattle.study_index.specs.declared.decoding.Slot.{Slot}
 use Rattle.study_index.specs.Number.{without_bit, cells_of}
 use Rattle.study_index.specs.Decoded.{slots_of, slots_have_pawn, number_of_slot, told_men, told_side}
-use Rattle.study_index.specs.Found.{index_of}
+use Rattle.study_index.specs.Computed.{index_of}
 
 -- the man of one place of a list, the first at 0, on another square
 abbrev pub moved_to : ℕ → ℕ → List Man → List Man
@@ -46,7 +46,7 @@ pub record IsStepped (c : Class) (n i a : ℕ) (p : Position) : Type 0 where
   pub valid : IsValid p
   pub men : IsPermutation p.men (moved_to i a (told_men (slots_of c) (without_bit n)))
   pub to_move : p.to_move ≡ other_side (told_side (slots_of c) (without_bit n))
-  pub dead : is_live p ≡ false
+  pub dead : has_legal_en_passant p ≡ false
 
 -- classes with a pawn and no like men, and any man but the white king
 abbrev pub NumbersStep : Type 0

@@ -28,7 +28,7 @@ fn slot_number(side: Side, kind: Kind) -> u8
 
 /// The side, or the other where the colours are swapped.
 #[inline]
-pub fn coloured(colours: bool, side: Side) -> Side
+pub fn side_after(colours: bool, side: Side) -> Side
     ensures { result ≡ turned_side colours side }
 {
     if colours { side.other() } else { side }
@@ -39,12 +39,12 @@ pub fn coloured(colours: bool, side: Side) -> Side
 pub fn man_slot_number(colours: bool, m: &Man) -> u8
     ensures { result ≡ man_slot_number colours m.now }
 {
-    slot_number(coloured(colours, m.side), m.kind)
+    slot_number(side_after(colours, m.side), m.kind)
 }
 
 /// The square of a man.
 #[inline]
-pub fn standing(m: Man) -> Square
+pub fn square_of_man(m: Man) -> Square
     ensures value { result ≡ m.at }
     ensures on_board { m.at < 64 }
 {
@@ -88,7 +88,7 @@ fn comes_first(x: u16, k: u16) -> bool
 
 // One of two keys: no branch is taken where both are known.
 #[inline]
-fn chosen(flag: bool, x: u16, y: u16) -> u16
+fn select(flag: bool, x: u16, y: u16) -> u16
     ensures { result ≡ (if flag then x else y) }
 {
     if flag { x } else { y }
@@ -101,7 +101,7 @@ pub fn with_one(k: u16, x: u16) -> (u16, u16)
     ensures { result.0 ∷ result.1 ∷ [] ≡ put_key k (x ∷ []) }
 {
     let first = comes_first(x, k);
-    (chosen(first, x, k), chosen(first, k, x))
+    (select(first, x, k), select(first, k, x))
 }
 
 /// A key put at its place in the order of slots.
@@ -113,9 +113,9 @@ pub fn with_two(k: u16, x: u16, y: u16) -> (u16, u16, u16)
     let first = comes_first(x, k);
     let second = first & comes_first(y, k);
     (
-        chosen(first, x, k),
-        chosen(second, y, chosen(first, k, x)),
-        chosen(second, k, y),
+        select(first, x, k),
+        select(second, y, select(first, k, x)),
+        select(second, k, y),
     )
 }
 
@@ -129,9 +129,9 @@ pub fn with_three(k: u16, x: u16, y: u16, z: u16) -> (u16, u16, u16, u16)
     let second = first & comes_first(y, k);
     let third = second & comes_first(z, k);
     (
-        chosen(first, x, k),
-        chosen(second, y, chosen(first, k, x)),
-        chosen(third, z, chosen(second, k, y)),
-        chosen(third, k, z),
+        select(first, x, k),
+        select(second, y, select(first, k, x)),
+        select(third, z, select(second, k, y)),
+        select(third, k, z),
     )
 }

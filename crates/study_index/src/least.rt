@@ -1,26 +1,27 @@
 //! The index of a position.
 ghost use Rattle.std.specs.Prelude.{◌≡◌, ◌≤◌, ◌<◌, length, [], ◌∷◌};
 ghost use Rattle.study_index.specs.Number.{IsLeastNumber, IsIndex};
-ghost use Rattle.study_index.specs.Found.{least_number, index_of, sorted};
+ghost use Rattle.study_index.specs.Computed.{least_number, index_of, sorted};
 ghost use Rattle.study_board.specs.Symmetry.{turned_square};
-ghost use Rattle.study_index.specs.Chosen.{least, least_of};
-ghost use Rattle.study_index.specs.Squares.{brought, exchanged_at, falls_at, number_at, least_turned, least_at};
+ghost use Rattle.study_index.specs.Canonical.{least, least_of};
+ghost use Rattle.study_index.specs.Squares.{square_symmetry, exchanged_at, descends_at, number_at, least_turned, least_at};
 
+use crate::colour_swap::is_swapped;
+use crate::en_passant::has_legal_en_passant;
 use crate::filling::{
-    coloured, is_like, key, man_slot_number, square_of, standing, with_one, with_three, with_two,
+    is_like, key, man_slot_number, side_after, square_of, square_of_man, with_one, with_three,
+    with_two,
 };
 use crate::number::{has_pawn, number};
-use crate::passing::is_live;
-use crate::swap::is_swapped;
-use crate::turn::turned;
+use crate::transform::turned;
 use study_board::{Man, Position, Side, Square, Symmetry};
 
 /// The symmetry that brings the square to a listed one, if any does, written without a swap of colours: the ranks that
 /// a swap mirrors are mirrored back where there is no pawn.
 #[inline]
-#[tactic(auto, unfolding(crate::specs::Squares::brought))]
-fn brought(pawns: bool, diagonal: bool, colours: bool, s: Square) -> Symmetry
-    ensures { result ≡ brought pawns diagonal colours s }
+#[tactic(auto, unfolding(crate::specs::Squares::square_symmetry))]
+fn square_symmetry(pawns: bool, diagonal: bool, colours: bool, s: Square) -> Symmetry
+    ensures { result ≡ square_symmetry pawns diagonal colours s }
 {
     let (right, top) = (s.file() > 3, s.rank() > 3);
     if pawns {
@@ -59,7 +60,7 @@ fn least_by(pawns: bool, to_move: Side, t: Symmetry, like: bool, squares: &[Squa
     requires { length squares.now ≤ 4 }
     ensures { result ≡ least_turned pawns to_move (turned_square t) like squares.now }
 {
-    if like && falls(t, squares) {
+    if like && descends(t, squares) {
         exchanged_number(pawns, to_move, t, squares)
     } else {
         number(pawns, to_move, t, squares)
@@ -68,8 +69,8 @@ fn least_by(pawns: bool, to_move: Side, t: Symmetry, like: bool, squares: &[Squa
 
 // Whether the last of four squares comes to a lower one than that before it.
 #[inline]
-fn falls(t: Symmetry, squares: &[Square]) -> bool
-    ensures { result ≡ falls_at (turned_square t) squares.now }
+fn descends(t: Symmetry, squares: &[Square]) -> bool
+    ensures { result ≡ descends_at (turned_square t) squares.now }
 {
     match squares {
         [_, _, x, y] => turned(t, *y).number() < turned(t, *x).number(),
@@ -105,12 +106,12 @@ fn least_at(
     match squares {
         [] => None,
         [king, ..] => {
-            let t = brought(pawns, false, colours, *king);
+            let t = square_symmetry(pawns, false, colours, *king);
             let straight = least_by(pawns, to_move, t, like, squares);
             if pawns {
                 straight
             } else {
-                let t = brought(pawns, true, colours, *king);
+                let t = square_symmetry(pawns, true, colours, *king);
                 least(straight, least_by(pawns, to_move, t, like, squares))
             }
         }
@@ -119,7 +120,7 @@ fn least_at(
 
 /// The least number of men who stand in the order of their slots.
 #[inline(always)]
-#[tactic(auto, unfolding(crate::specs::Squares::least_at, crate::specs::Chosen::least_of))]
+#[tactic(auto, unfolding(crate::specs::Squares::least_at, crate::specs::Canonical::least_of))]
 pub fn least_of(pawns: bool, to_move: Side, colours: bool, men: &[Man]) -> Option<u32>
     requires { length men.now ≤ 4 }
     ensures { result ≡ least_of pawns to_move colours men.now }
@@ -138,14 +139,14 @@ pub fn least_of(pawns: bool, to_move: Side, colours: bool, men: &[Man]) -> Optio
 fn least_of_king(pawns: bool, to_move: Side, colours: bool, a: Man) -> Option<u32>
     ensures { result ≡ least_of pawns to_move colours (a ∷ []) }
 {
-    least_at(pawns, to_move, colours, false, &[standing(a)])
+    least_at(pawns, to_move, colours, false, &[square_of_man(a)])
 }
 
 #[inline]
 fn least_of_kings(pawns: bool, to_move: Side, colours: bool, a: Man, b: Man) -> Option<u32>
     ensures { result ≡ least_of pawns to_move colours (a ∷ b ∷ []) }
 {
-    let squares = [standing(a), standing(b)];
+    let squares = [square_of_man(a), square_of_man(b)];
     least_at(pawns, to_move, colours, false, &squares)
 }
 
@@ -153,7 +154,7 @@ fn least_of_kings(pawns: bool, to_move: Side, colours: bool, a: Man, b: Man) -> 
 fn least_with_one(pawns: bool, to_move: Side, colours: bool, a: Man, b: Man, c: Man) -> Option<u32>
     ensures { result ≡ least_of pawns to_move colours (a ∷ b ∷ c ∷ []) }
 {
-    let squares = [standing(a), standing(b), standing(c)];
+    let squares = [square_of_man(a), square_of_man(b), square_of_man(c)];
     least_at(pawns, to_move, colours, false, &squares)
 }
 
@@ -170,13 +171,18 @@ fn least_with_two(
     ensures { result ≡ least_of pawns to_move colours (a ∷ b ∷ c ∷ d ∷ []) }
 {
     let like = man_slot_number(colours, &c) == man_slot_number(colours, &d);
-    let squares = [standing(a), standing(b), standing(c), standing(d)];
+    let squares = [
+        square_of_man(a),
+        square_of_man(b),
+        square_of_man(c),
+        square_of_man(d),
+    ];
     least_at(pawns, to_move, colours, like, &squares)
 }
 
 /// The least number of the men, put in the order of their slots.
 #[inline]
-#[tactic(auto, unfolding(crate::specs::Chosen::least_of))]
+#[tactic(auto, unfolding(crate::specs::Canonical::least_of))]
 fn least_in_slots(pawns: bool, to_move: Side, colours: bool, men: &[Man]) -> Option<u32>
     requires { length men.now ≤ 4 }
     ensures { result ≡ least_of pawns to_move colours (sorted colours men.now) }
@@ -242,7 +248,12 @@ fn least_number(p: &Position) -> u32
 {
     let men = p.men();
     let colours = is_swapped(p);
-    match least_in_slots(has_pawn(men), coloured(colours, p.to_move()), colours, men) {
+    match least_in_slots(
+        has_pawn(men),
+        side_after(colours, p.to_move()),
+        colours,
+        men,
+    ) {
         Some(n) => n,
         None => unreachable!(),
     }
@@ -250,13 +261,13 @@ fn least_number(p: &Position) -> u32
 
 /// The number of a position in the tables of its class: the least number of the images that the class admits, and
 /// 16,777,216 more where a capture in passing is legal.
-#[tactic(auto, unfolding(crate::specs::Found::index_of))]
+#[tactic(auto, unfolding(crate::specs::Computed::index_of))]
 pub fn index(p: &Position) -> u32
     ensures least { IsIndex p.now result }
     ensures value { result ≡ index_of p.now }
 {
     let least = least_number(p);
-    if is_live(p) {
+    if has_legal_en_passant(p) {
         16_777_216 + least
     } else {
         least

@@ -5,21 +5,21 @@
 //! reads as a position that is alike, and positions that are alike have one number, like moves and one game.
 #![tactic(auto)]
 
+mod colour_swap;
+mod decoding;
+mod en_passant;
 mod filling;
 mod laws;
 mod least;
 mod moved;
 mod number;
-mod passing;
-mod reading;
 mod stepped;
-mod swap;
-mod turn;
+mod transform;
 
+pub use decoding::{cells, decode};
 pub use laws::{
     alike_mates_agree, classes_are_numbered, numbers_are_read, numbers_step, numbers_tell,
     positions_have_an_index,
 };
 pub use least::index;
 pub use moved::number_moved;
-pub use reading::{cells, decode};

@@ -3,16 +3,16 @@ ghost use Rattle.std.specs.Prelude.{◌≡◌, ◌≤◌, ◌<◌, true, false, 
 ghost use Rattle.study_board.specs.declared.men.Man.{Man as AMan};
 ghost use Rattle.study_board.specs.Men.{other_side};
 ghost use Rattle.study_board.specs.Position.{Position as Seen};
-ghost use Rattle.study_index.specs.Chosen.{least_of};
+ghost use Rattle.study_index.specs.Canonical.{least_of};
 ghost use Rattle.study_index.specs.Decoded.{AreSlots, slots_of, slots_have_pawn, told_men, told_side};
-ghost use Rattle.study_index.specs.Found.{index_of};
+ghost use Rattle.study_index.specs.Computed.{index_of};
 ghost use Rattle.study_index.specs.Number.{cells_of};
 ghost use Rattle.study_index.specs.Stepped.{are_like_slots};
 ghost use Rattle.study_index.specs.Moved.{IsMoved, from_to};
 
+use crate::decoding::{Slot, has_pawn, head, king, man, side_numbered, slots};
 use crate::least::least_of;
 use crate::number::listed_count;
-use crate::reading::{Slot, has_pawn, head, king, man, side_numbered, slots};
 use crate::stepped::stepped;
 use study_board::{Man, Square};
 use study_material::Class;

@@ -5,7 +5,7 @@ ghost use Rattle.study_board.specs.Symmetry.{turned_square};
 ghost use Rattle.study_index.specs.Number.{place, listed_count, side_number, has_pawn, places_before};
 ghost use Rattle.study_index.specs.Squares.{counted_at, number_at};
 
-use crate::turn::turned;
+use crate::transform::turned;
 use study_board::{Kind, Man, Side, Square, Symmetry};
 
 // What is added to a file for its square's place in the triangle a1, d1, d4.
@@ -68,7 +68,7 @@ pub fn has_pawn(men: &[Man]) -> bool
 
 // One more square, counted on.
 #[inline]
-fn more(t: Symmetry, n: u32, x: Square) -> u32
+fn append_square(t: Symmetry, n: u32, x: Square) -> u32
     requires { n < 2 ^ 18 }
     ensures value { result ≡ n * 64 + turned_square t x }
     ensures small { result < n * 64 + 64 }
@@ -78,16 +78,16 @@ fn more(t: Symmetry, n: u32, x: Square) -> u32
 
 /// Further squares, each 64 times less than what comes before.
 #[inline(always)]
-fn counted_on(t: Symmetry, n: u32, squares: &[Square]) -> u32
+fn append_squares(t: Symmetry, n: u32, squares: &[Square]) -> u32
     requires small { n < 64 }
     requires few { length squares.now ≤ 3 }
     ensures { result ≡ counted_at (turned_square t) n squares.now }
 {
     match squares {
         [] => n,
-        [a] => more(t, n, *a),
-        [a, b] => more(t, more(t, n, *a), *b),
-        [a, b, c] => more(t, more(t, more(t, n, *a), *b), *c),
+        [a] => append_square(t, n, *a),
+        [a, b] => append_square(t, append_square(t, n, *a), *b),
+        [a, b, c] => append_square(t, append_square(t, append_square(t, n, *a), *b), *c),
         _ => unreachable!(),
     }
 }
@@ -124,7 +124,7 @@ pub fn number(pawns: bool, to_move: Side, t: Symmetry, squares: &[Square]) -> Op
         [] => None,
         [king, rest @ ..] => match place(pawns, turned(t, *king)) {
             None => None,
-            Some(q) => Some(counted_on(
+            Some(q) => Some(append_squares(
                 t,
                 side_number(to_move) * listed_count(pawns) + u32::from(q),
                 rest,

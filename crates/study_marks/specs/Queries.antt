@@ -5,7 +5,7 @@ use Rattle.study_moves.specs.Rules.{after}
 use Rattle.study_material.specs.declared.class.Class.{Class}
 use Rattle.study_material.specs.Class.{IsOf}
 use Rattle.study_moves.specs.LegalList.{legal_list}
-use Rattle.study_index.specs.Found.{index_of}
+use Rattle.study_index.specs.Computed.{index_of}
 use Rattle.study_prober.specs.declared.values.ProbeFault.{ProbeFault}
 use Rattle.study_prober.specs.declared.values.ProbeFault.TheVariants as probe
 use Rattle.study_tree.specs.Forest.{Forest, none, more}

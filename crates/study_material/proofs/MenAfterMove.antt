@@ -11,11 +11,11 @@ use Rattle.study_board.specs.Position.{Position, AllAbove, IsAscending}
 use Rattle.study_board.proofs.Lists.{count_by-cons, or_false}
 use Rattle.study_board.proofs.MenInOrder.{IsPermutation-placed}
 use Rattle.study_moves.specs.declared.moves.Move.{Move}
-use Rattle.study_moves.specs.Rules.{stays, moved, men_after, is_en_passant}
+use Rattle.study_moves.specs.Rules.{survives, moved, men_after, is_en_passant}
 
 -- a man that the move takes away, the mover too
 abbrev pub goes_away : Option ℕ → Man → ℕ → Man → Bool
-goes_away passed man x m = not (stays passed man x m)
+goes_away passed man x m = not (survives passed man x m)
 
 -- on a square at most one man
 count-above : (n s : ℕ) (xs : List Man) → AllAbove n xs → s ≤ n → count_by (λ y. y.at == s) xs ≡ 0
@@ -98,16 +98,16 @@ count-taken passed man x xs h empty =
 
 -- the men before a move and after it
 pub record IsStep (p : Position) (man : Man) (m : Move) : Type 0 where
-  pub before : IsPermutation p.men (filter (stays p.passed man m.target) p.men ++ filter (goes_away p.passed man m.target) p.men)
-  pub after : IsPermutation (moved man m ∷ filter (stays p.passed man m.target) p.men) (men_after p man m)
+  pub before : IsPermutation p.men (filter (survives p.passed man m.target) p.men ++ filter (goes_away p.passed man m.target) p.men)
+  pub after : IsPermutation (moved man m ∷ filter (survives p.passed man m.target) p.men) (men_after p man m)
   pub few : length (filter (goes_away p.passed man m.target) p.men) ≤ 2
 
 pub IsStep-move : (p : Position) (man : Man) (m : Move) → IsAscending p.men
     → (is_en_passant p.passed man m.target ≡ true → list_any (λ y. y.at == m.target) p.men ≡ false) → IsStep p man m
-unfolding men_after stays
+unfolding men_after survives
 IsStep-move p man m h empty = record {
-  before = IsPermutation-filter_both (stays p.passed man m.target) (goes_away p.passed man m.target) (λ y. refl) p.men;
-  after = IsPermutation-placed (moved man m) (filter (stays p.passed man m.target) p.men);
+  before = IsPermutation-filter_both (survives p.passed man m.target) (goes_away p.passed man m.target) (λ y. refl) p.men;
+  after = IsPermutation-placed (moved man m) (filter (survives p.passed man m.target) p.men);
   few =
       (let few = count_by-either (goes_away p.passed man m.target) (λ y. y.at == man.at)
       (taken p.passed man m.target)

@@ -20,7 +20,7 @@ use Rattle.study_board.proofs.Lists.{not_true}
 use Rattle.study_board.proofs.Valid.{IsFaultless-from_first}
 use Rattle.study_board.proofs.Ascending.{IsAscending-filter}
 use Rattle.study_moves.specs.declared.moves.Move.{Move}
-use Rattle.study_moves.specs.Rules.{is_en_passant, is_square, has_side, stays, moved, is_legal, after, is_choice, is_officer, reaches_end, last_rank}
+use Rattle.study_moves.specs.Rules.{is_en_passant, is_square, has_side, survives, moved, is_legal, after, is_promotion_choice, is_promotion_piece, reaches_last_rank, last_rank}
 use Rattle.study_moves.specs.Alike.{Leads}
 use Rattle.study_moves.proofs.MenOfList.{IsAmong, none_among, IsAmong-filter, found_among}
 use Rattle.study_moves.proofs.NoMoveBetween.{HasMover-from_is_legal}
@@ -55,7 +55,7 @@ taken Black j b xs e =
     (by_white (of (kinds_of White xs) (put_kind j (kinds_of Black xs))) (of (kinds_of White xs) (kinds_of Black xs))
     (captured_by_white (kinds_of White xs) (kinds_of Black xs) j))
 
-officer : (k : Kind) → is_officer k ≡ true → In k officers × (same_kind k King ≡ false)
+officer : (k : Kind) → is_promotion_piece k ≡ true → In k officers × (same_kind k King ≡ false)
 officer Queen e = (inl refl, refl)
 officer Rook e = (inr (inl refl), refl)
 officer Bishop e = (inr (inr (inl refl)), refl)
@@ -64,7 +64,7 @@ officer King e = absurd (false≢true e)
 officer Pawn e = absurd (false≢true e)
 
 -- a pawn is promoted
-promotes : (s : Side) (k : Kind) (a b : ℕ) (xs : List Man) → is_officer k ≡ true → In (lists (man s k b ∷ xs)) (reached (lists (man s Pawn a ∷ xs)))
+promotes : (s : Side) (k : Kind) (a b : ℕ) (xs : List Man) → is_promotion_piece k ≡ true → In (lists (man s k b ∷ xs)) (reached (lists (man s Pawn a ∷ xs)))
 promotes White k a b xs e =
     let o = officer k e in
     let none : same_kind k King ≡ false = o.1 in
@@ -79,7 +79,7 @@ promotes Black k a b xs e =
     (promoted_by_white (kinds_of Black xs) (kinds_of White xs) k o.0))
 
 -- a pawn takes and is promoted
-promotes_taking : (s t : Side) (k j : Kind) (a b d : ℕ) (xs : List Man) → is_officer k ≡ true
+promotes_taking : (s t : Side) (k j : Kind) (a b d : ℕ) (xs : List Man) → is_promotion_piece k ≡ true
     → same_side t s ≡ false → same_kind j King ≡ false → same_kind j Pawn ≡ false
     → In (lists (man s k b ∷ xs)) (reached (lists (man s Pawn a ∷ man t j d ∷ xs)))
 promotes_taking White Black k j a b d xs e h f g =
@@ -191,7 +191,7 @@ module _ (p : Position) (m : Move) (v : IsValid p) (legal : is_legal p m ≡ tru
   mover = (HasMover-from_is_legal p m legal).man
 
   abbrev left : List Man
-  left = filter (stays p.passed mover m.target) p.men
+  left = filter (survives p.passed mover m.target) p.men
 
   abbrev gone : List Man
   gone = filter (goes_away p.passed mover m.target) p.men
@@ -203,7 +203,7 @@ module _ (p : Position) (m : Move) (v : IsValid p) (legal : is_legal p m ≡ tru
   mover_among = (found_among p.men m.origin mover (HasMover-from_is_legal p m legal).here).0
 
   mover_goes : goes_away p.passed mover m.target mover ≡ true
-  unfolding stays
+  unfolding survives
   mover_goes = (let same : eqb mover.at mover.at ≡ true = same_number mover.at in rw same)
     where
       same_number : (n : ℕ) → eqb n n ≡ true
@@ -257,15 +257,15 @@ module _ (p : Position) (m : Move) (v : IsValid p) (legal : is_legal p m ≡ tru
       counted_after : many x.side King (moved mover m ∷ left) ≡ 1
       counted_after = sym (many-IsPermutation x.side King (moved mover m ∷ left) (after p m).men after_men) ∙ one_after x.side
 
-      moved_king : (o : Option Kind) → is_choice (reaches_end mover m.target) o ≡ true
+      moved_king : (o : Option Kind) → is_promotion_choice (reaches_last_rank mover m.target) o ≡ true
           → is_man x.side King (moved_as o) ≡ true → is_man x.side King mover ≡ true
       moved_king None c h = h
       moved_king (Some k) c h =
           absurd
-          (false≢true (sym (officer k (chosen (reaches_end mover m.target) c)).1
+          (false≢true (sym (officer k (chosen (reaches_last_rank mover m.target) c)).1
           ∙ (and_parts (same_side mover.side x.side) (same_kind k King) h).1))
         where
-          chosen : (b : Bool) → is_choice b (Some k) ≡ true → is_officer k ≡ true
+          chosen : (b : Bool) → is_promotion_choice b (Some k) ≡ true → is_promotion_piece k ≡ true
           chosen true c = c
           chosen false c = absurd (false≢true c)
 
@@ -283,8 +283,8 @@ module _ (p : Position) (m : Move) (v : IsValid p) (legal : is_legal p m ≡ tru
           absurd (contradiction (is_man x.side King mover) (is_man x.side King (moved mover m)) refl refl k (rw k at counted_before) counted_after)
 
   -- where a pawn is promoted, what is taken stands on the target
-  on_target : (x : Man) → more ≡ x ∷ [] → reaches_end mover m.target ≡ true → IsAmong x p.men × (x.at ≡ m.target)
-  unfolding stays
+  on_target : (x : Man) → more ≡ x ∷ [] → reaches_last_rank mover m.target ≡ true → IsAmong x p.men × (x.at ≡ m.target)
+  unfolding survives
   on_target x e end =
       let i : IsAmong x more = subst (λ ys. IsAmong x ys) (sym e) (inl refl) in
       let r = has_gone.each x i in
@@ -334,7 +334,7 @@ module _ (p : Position) (m : Move) (v : IsValid p) (legal : is_legal p m ≡ tru
       by_side s White Black b e f g = absurd (false≢true f)
       by_side s Black White b e f g = absurd (false≢true f)
 
-  taken_kind : (x : Man) → IsAmong x p.men → x.at ≡ m.target → reaches_end mover m.target ≡ true → same_kind x.kind Pawn ≡ false
+  taken_kind : (x : Man) → IsAmong x p.men → x.at ≡ m.target → reaches_last_rank mover m.target ≡ true → same_kind x.kind Pawn ≡ false
   unfolding has_end_pawn is_end_pawn
   taken_kind x i e end =
       let none =
@@ -355,18 +355,18 @@ module _ (p : Position) (m : Move) (v : IsValid p) (legal : is_legal p m ≡ tru
       by_kind true Black e h = absurd (false≢true (sym h ∙ e))
 
   -- the lists after a move, by what is taken and by the promotion
-  goes_on : (gone : List Man) → more ≡ gone → length gone ≤ 1 → (o : Option Kind) → is_choice (reaches_end mover m.target) o ≡ true
+  goes_on : (gone : List Man) → more ≡ gone → length gone ≤ 1 → (o : Option Kind) → is_promotion_choice (reaches_last_rank mover m.target) o ≡ true
       → Goes (lists (mover ∷ gone ++ left)) (lists (moved_as o ∷ left))
   goes_on [] e l None c = inl refl
   goes_on [] e l (Some k) c =
-      let end = ended (reaches_end mover m.target) c in
+      let end = ended (reaches_last_rank mover m.target) c in
       inr (subst (λ j. In (lists (moved_as (Some k) ∷ left)) (reached (lists (man mover.side j mover.at ∷ left))))
       (sym
       (kinds_equal mover.kind Pawn
       (and_parts (is_pawn mover) (rank_of m.target == last_rank mover.side) end.0).0))
       (promotes mover.side k mover.at m.target left end.1))
     where
-      ended : (b : Bool) → is_choice b (Some k) ≡ true → (b ≡ true) × (is_officer k ≡ true)
+      ended : (b : Bool) → is_promotion_choice b (Some k) ≡ true → (b ≡ true) × (is_promotion_piece k ≡ true)
       ended true c = (refl, c)
       ended false c = absurd (false≢true c)
   goes_on (x ∷ []) e l None c =
@@ -377,7 +377,7 @@ module _ (p : Position) (m : Move) (v : IsValid p) (legal : is_legal p m ≡ tru
       (IsPermutation-append_comm (mover ∷ []) (x ∷ []))))
       (taken x.side x.kind x.at (mover ∷ left) (no_king x e)))
   goes_on (x ∷ []) e l (Some k) c =
-      let end = ended (reaches_end mover m.target) c in
+      let end = ended (reaches_last_rank mover m.target) c in
       let there = on_target x e end.0 in
       inr
       (subst (λ j. In (lists (moved_as (Some k) ∷ left)) (reached (lists (man mover.side j mover.at ∷ x ∷ left))))
@@ -387,7 +387,7 @@ module _ (p : Position) (m : Move) (v : IsValid p) (legal : is_legal p m ≡ tru
       (promotes_taking mover.side x.side k x.kind mover.at m.target x.at left end.1 (taken_side x there.0 there.1)
       (no_king x e) (taken_kind x there.0 there.1 end.0)))
     where
-      ended : (b : Bool) → is_choice b (Some k) ≡ true → (b ≡ true) × (is_officer k ≡ true)
+      ended : (b : Bool) → is_promotion_choice b (Some k) ≡ true → (b ≡ true) × (is_promotion_piece k ≡ true)
       ended true c = (refl, c)
       ended false c = absurd (false≢true c)
   goes_on (x ∷ y ∷ ys) e l o c = absurd (omega arith)

@@ -26,9 +26,9 @@ use Rattle.study_board.proofs.Faults.{has_one_king_same, has_end_pawn_same, pass
 use Rattle.study_board.proofs.Valid.{IsFaultless, IsFaultless-from_first, first_fault-from_IsFaultless}
 use Rattle.std.proofs.lemmas.List.Sorted.{length_permutation}
 use Rattle.study_moves.specs.declared.moves.Move.{Move}
-use Rattle.study_moves.specs.Rules.{is_legal, is_legal_for, can_go, has_side, is_square, men_after}
-use Rattle.study_moves.specs.Rules.{stays, moved, jumped, after_by, after, is_en_passant}
-use Rattle.study_moves.specs.Rules.{half_way, is_choice, reaches_end, last_rank}
+use Rattle.study_moves.specs.Rules.{is_legal, is_legal_for, is_pseudo_legal, has_side, is_square, men_after}
+use Rattle.study_moves.specs.Rules.{survives, moved, passed_by, after_by, after, is_en_passant}
+use Rattle.study_moves.specs.Rules.{half_way, is_promotion_choice, reaches_last_rank, last_rank}
 use Rattle.study_moves.proofs.MenFound.{fewer_stay}
 use Rattle.study_moves.proofs.NoMoveBetween.{IsMoveOf, HasMover-from_is_legal}
 use Rattle.study_moves.proofs.MenOfList.{IsAmong, list_any-from, list_any-none, none_among, some_among}
@@ -157,7 +157,7 @@ pub record IsMoveFrom (p : Position) (man : Man) (m : Move) : Type 0 where
 
 module _ (p : Position) (man : Man) (m : Move) (h : IsMoveFrom p man m) where
   abbrev pub those : List Man
-  those = filter (stays p.passed man m.target) p.men
+  those = filter (survives p.passed man m.target) p.men
 
   abbrev pub all_after : List Man
   all_after = moved man m ∷ those
@@ -201,8 +201,8 @@ module _ (p : Position) (man : Man) (m : Move) (h : IsMoveFrom p man m) where
 
   -- a king that does not move stays
   pub king_stays : (k : Man) → IsAmong k p.men → same_kind k.kind King ≡ true → (k.at ≡ man.at → ⊥)
-      → (k.at ≡ m.target → ⊥) → stays p.passed man m.target k ≡ true
-  unfolding stays has_man
+      → (k.at ≡ m.target → ⊥) → survives p.passed man m.target k ≡ true
+  unfolding survives has_man
   king_stays k i e a t =
       let square = 8 * rank_of man.at + file_of m.target in
       let no_king : (n : Man) → IsAmong n p.men → (is_man (other_side p.to_move) Pawn n && (n.at == square)) ≡ true → k.at ≡ square → ⊥ =
@@ -230,7 +230,7 @@ module _ (p : Position) (man : Man) (m : Move) (h : IsMoveFrom p man m) where
   unfolding has_one_king
   others_king =
       let q : Man → Bool = is_man (other_side p.to_move) King in
-      let kept = count_by-filter-kept q (stays p.passed man m.target) p.men (λ k i e.
+      let kept = count_by-filter-kept q (survives p.passed man m.target) p.men (λ k i e.
       let b = and_parts (same_side k.side (other_side p.to_move)) (same_kind k.kind King) e in
       king_stays k i b.1
       (λ a.
@@ -247,8 +247,8 @@ module _ (p : Position) (man : Man) (m : Move) (h : IsMoveFrom p man m) where
       let total : count_by q all_after ≡ 1 = whole ∙ rw none (omega arith) in
       eq-eqb _ _ total
 
-  mover_leaves : stays p.passed man m.target man ≡ false
-  unfolding stays
+  mover_leaves : survives p.passed man m.target man ≡ false
+  unfolding survives
   mover_leaves = and_left _ _ (and_left _ _ (not_from_true _ (eq-eqb man.at man.at refl)))
 
   not_to_own : (k : Man) → IsAmong k p.men → same_side k.side p.to_move ≡ true → k.at ≡ m.target → ⊥
@@ -267,12 +267,12 @@ module _ (p : Position) (man : Man) (m : Move) (h : IsMoveFrom p man m) where
       let total : count_by q all_after ≡ 1 = elim (cases_Bool (same_kind man.kind King)) [
         | inl king ↦
             let yes : q (moved man m) ≡ true = and_from _ _ h.moves.mine (kind ∙ king) in
-            let leaves : stays p.passed man m.target man ≡ false = mover_leaves in
-            let less = count_by-filter-less q (stays p.passed man m.target) p.men man h.among (and_from _ _ h.moves.mine king) leaves in
+            let leaves : survives p.passed man m.target man ≡ false = mover_leaves in
+            let less = count_by-filter-less q (survives p.passed man m.target) p.men man h.among (and_from _ _ h.moves.mine king) leaves in
             whole ∙ rw yes (omega arith)
         | inr other ↦
             let no : q (moved man m) ≡ false = and_right _ _ (kind ∙ other) in
-            let kept = count_by-filter-kept q (stays p.passed man m.target) p.men (λ k i e.
+            let kept = count_by-filter-kept q (survives p.passed man m.target) p.men (λ k i e.
             let b = and_parts (same_side k.side p.to_move) (same_kind k.kind King) e in
             king_stays k i b.1
             (λ a.
@@ -324,22 +324,22 @@ module _ (p : Position) (man : Man) (m : Move) (h : IsMoveFrom p man m) where
       here : (k : Man) → IsAmong k all_after → is_end_pawn k ≡ false
       here k (inl s) = rw (← s) mover_inside
       here k (inr i) =
-          let r = IsAmong-filter (stays p.passed man m.target) p.men k i in
+          let r = IsAmong-filter (survives p.passed man m.target) p.men k i in
           none_among is_end_pawn p.men k faultless.pawns r.0
 
   -- a square that is empty after the move
-  empty_after : (y : ℕ) → (m.target ≡ y → ⊥) → ((k : Man) → IsAmong k p.men → stays p.passed man m.target k ≡ true → k.at ≡ y → ⊥) → is_empty all_after y ≡ true
+  empty_after : (y : ℕ) → (m.target ≡ y → ⊥) → ((k : Man) → IsAmong k p.men → survives p.passed man m.target k ≡ true → k.at ≡ y → ⊥) → is_empty all_after y ≡ true
   unfolding is_occupied
   empty_after y away others = not_from_false _ (list_any-none (λ k. k.at == y) all_after here)
     where
       here : (k : Man) → IsAmong k all_after → (k.at == y) ≡ false
       here k (inl s) = rw (← s) (ne_eqb _ _ away)
       here k (inr i) =
-          let r = IsAmong-filter (stays p.passed man m.target) p.men k i in
+          let r = IsAmong-filter (survives p.passed man m.target) p.men k i in
           ne_eqb _ _ (others k r.0 r.1)
 
   by_double_step : is_pawn man ≡ true → ranks_apart man.at m.target ≡ 2 → could_be_passed all_after (other_side p.to_move) (half_way man.at m.target) ≡ true
-  unfolding stays has_man
+  unfolding survives has_man
   by_double_step pawn two =
       let d : IsDoubleStep p.men man.side man.at m.target = elim (pawn_ways p.men p.passed man m.target pawn h.moves.going) [
         | inl s ↦ absurd (one_apart man.side man.at m.target s.ahead two)
@@ -357,7 +357,7 @@ module _ (p : Position) (man : Man) (m : Move) (h : IsMoveFrom p man m) where
       (list_any-from (λ n. is_man p.to_move Pawn n && (n.at == m.target)) all_after (moved man m) (inl refl)
       (and_from _ _ (and_from _ _ h.moves.mine (ap (λ v. same_kind v Pawn) kind ∙ pawn)) (eq-eqb m.target m.target refl)))
     where
-      left_there : (k : Man) → stays p.passed man m.target k ≡ true → k.at ≡ man.at → ⊥
+      left_there : (k : Man) → survives p.passed man m.target k ≡ true → k.at ≡ man.at → ⊥
       left_there k u e =
           let a =
           and_parts (not (k.at == man.at) && not (k.at == m.target))
@@ -365,7 +365,7 @@ module _ (p : Position) (man : Man) (m : Move) (h : IsMoveFrom p man m) where
           let b = and_parts (not (k.at == man.at)) (not (k.at == m.target)) a.0 in
           false≢true (sym (not_from_true _ (eq-eqb _ _ e)) ∙ b.0)
 
-  passes : passed_possible all_after (other_side p.to_move) (jumped man m.target) ≡ true
+  passes : passed_possible all_after (other_side p.to_move) (passed_by man m.target) ≡ true
   passes =
       let go : (b : Bool) → (is_pawn man && (ranks_apart man.at m.target == 2)) ≡ b
       → passed_possible all_after (other_side p.to_move) (cond b (Some (half_way man.at m.target)) None) ≡ true =
@@ -388,9 +388,9 @@ module _ (p : Position) (man : Man) (m : Move) (h : IsMoveFrom p man m) where
       le-ltb 4 (length (men_after p man m)) (omega arith)
 
   none_on_target : list_any (λ y. y.at == m.target) those ≡ false
-  unfolding stays
+  unfolding survives
   none_on_target = list_any-none (λ y. y.at == m.target) those (λ k i.
-      let r = IsAmong-filter (stays p.passed man m.target) p.men k i in
+      let r = IsAmong-filter (survives p.passed man m.target) p.men k i in
       let a =
       and_parts (not (k.at == man.at) && not (k.at == m.target))
       (not (is_en_passant p.passed man m.target && (k.at == 8 * rank_of man.at + file_of m.target))) r.1 in
@@ -399,34 +399,34 @@ module _ (p : Position) (man : Man) (m : Move) (h : IsMoveFrom p man m) where
 
   ordered : IsAscending (men_after p man m)
   unfolding men_after
-  ordered = IsAscending-placed (moved man m) those (IsAscending-filter (stays p.passed man m.target) p.men h.valid.ordered) none_on_target
+  ordered = IsAscending-placed (moved man m) those (IsAscending-filter (survives p.passed man m.target) p.men h.valid.ordered) none_on_target
 
   on_board : All (λ k. k.at < 64) (men_after p man m)
   unfolding men_after
-  on_board = All-placed (moved man m) those h.moves.target (All-filter (stays p.passed man m.target) (λ k. k.at < 64) p.men h.valid.on_board)
+  on_board = All-placed (moved man m) those h.moves.target (All-filter (survives p.passed man m.target) (λ k. k.at < 64) p.men h.valid.on_board)
 
   pub IsValid-after_by : IsValid (after_by p man m)
   IsValid-after_by =
       let kings_same : (s : Side) → has_one_king all_after s ≡ has_one_king (men_after p man m) s = has_one_king_same all_after (men_after p man m) permuted in
-      let found : IsFaultless (men_after p man m) (other_side p.to_move) (jumped man m.target) = record {
+      let found : IsFaultless (men_after p man m) (other_side p.to_move) (passed_by man m.target) = record {
         few = few;
         once = has_square_twice-ascending (men_after p man m) ordered;
         kings = rw (← kings_same White, ← kings_same Black) kings;
         pawns = sym (has_end_pawn_same all_after (men_after p man m) permuted) ∙ no_end_pawn;
         safe = rw (other_twice p.to_move) h.safe;
-        possible = sym (passed_possible_same all_after (men_after p man m) permuted (other_side p.to_move) (jumped man m.target)) ∙ passes;
+        possible = sym (passed_possible_same all_after (men_after p man m) permuted (other_side p.to_move) (passed_by man m.target)) ∙ passes;
       } in
       record {
         ordered = ordered;
         on_board = on_board;
-        faultless = first_fault-from_IsFaultless (men_after p man m) (other_side p.to_move) (jumped man m.target) found;
+        faultless = first_fault-from_IsFaultless (men_after p man m) (other_side p.to_move) (passed_by man m.target) found;
       }
 
 pub IsMoveFrom-is_legal : (p : Position) (man : Man) (m : Move) → IsValid p → man_at p.men m.origin ≡ Some man → IsMoveOf p man m → IsMoveFrom p man m
-unfolding is_legal_for can_go
+unfolding is_legal_for is_pseudo_legal
 IsMoveFrom-is_legal p man m valid here moves =
-    let a = and_parts (can_go p man m) (not (in_check (men_after p man m) p.to_move)) moves.legal in
-    let b = and_parts _ (is_choice (reaches_end man m.target) m.promoted) a.0 in
+    let a = and_parts (is_pseudo_legal p man m) (not (in_check (men_after p man m) p.to_move)) moves.legal in
+    let b = and_parts _ (is_promotion_choice (reaches_last_rank man m.target) m.promoted) a.0 in
     let c = and_parts _ (not (has_side p.men p.to_move m.target)) b.0 in
     record {
       valid = valid;

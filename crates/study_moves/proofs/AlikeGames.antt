@@ -2,7 +2,7 @@
 use Rattle.std.proofs.Common.{sym, subst}
 use Rattle.study_board.specs.Position.{Position}
 use Rattle.study_board.proofs.ImagesOfImages.{IsTurnable-from_valid}
-use Rattle.study_moves.specs.Bare.{bare}
+use Rattle.study_moves.specs.EnPassant.{bare}
 use Rattle.study_moves.specs.Alike.{AreAlike}
 use Rattle.study_moves.specs.Laws.{HasSameGame, AgreesAlike}
 use Rattle.study_moves.proofs.ImageMates.{HasSameGame-image}

@@ -10,10 +10,10 @@ use Rattle.study_board.specs.Symmetry.{image, admits, keeps_pawns}
 use Rattle.study_board.proofs.ImagesValid.{list_any-placed}
 use Rattle.study_board.proofs.ImagesOfImages.{IsTurnable-from_valid, IsImage-sym}
 use Rattle.study_moves.specs.declared.moves.Move.{Move}
-use Rattle.study_moves.specs.Rules.{is_legal, after, men_after, stays, moved, reaches_end}
+use Rattle.study_moves.specs.Rules.{is_legal, after, men_after, survives, moved, reaches_last_rank}
 use Rattle.study_moves.specs.Symmetry.{image_move}
 use Rattle.study_moves.specs.Game.{IsLegal, IsMate}
-use Rattle.study_moves.specs.Bare.{is_live, without_passed, bare}
+use Rattle.study_moves.specs.EnPassant.{has_legal_en_passant, without_passed, bare}
 use Rattle.study_moves.specs.Alike.{AreAlike, Leads}
 use Rattle.study_moves.proofs.NoMoveBetween.{HasMover-from_is_legal}
 use Rattle.study_moves.proofs.RulesOfImages.{after-turned, image_legal, moved_pawn}
@@ -38,10 +38,10 @@ unfolding after men_after
 no_pawn_after p m l e =
     let h = HasMover-from_is_legal p m l in
     let none : is_pawn (moved h.man m) ≡ false =
-    no_pawn (is_pawn (moved h.man m)) (λ k. moved_pawn h.man m (reaches_end h.man m.target) h.moves.choice k)
+    no_pawn (is_pawn (moved h.man m)) (λ k. moved_pawn h.man m (reaches_last_rank h.man m.target) h.moves.choice k)
     (is_pawn h.man) (λ k. found_any is_pawn p.men m.origin h.man h.here k) in
-    rw (h.here, list_any-placed is_pawn (moved h.man m) (filter (stays p.passed h.man m.target) p.men), none)
-    (none-filter is_pawn (stays p.passed h.man m.target) p.men e)
+    rw (h.here, list_any-placed is_pawn (moved h.man m) (filter (survives p.passed h.man m.target) p.men), none)
+    (none-filter is_pawn (survives p.passed h.man m.target) p.men e)
   where
     no_pawn : (b : Bool) → ((b ≡ true) → is_pawn (HasMover-from_is_legal p m l).man ≡ true) → (c : Bool)
         → (is_pawn (HasMover-from_is_legal p m l).man ≡ true → list_any is_pawn p.men ≡ true) → b ≡ false
@@ -61,7 +61,7 @@ admits_after s p m l a = by_pawn (list_any is_pawn p.men) refl (list_any is_pawn
     by_pawn false e c f k = let none : c ≡ false = sym f ∙ no_pawn_after p m l e in rw none
 
 pub admits_bare : (s : Symmetry) (p : Position) → admits (bare p) s ≡ admits p s
-admits_bare s p = by_live (is_live p)
+admits_bare s p = by_live (has_legal_en_passant p)
   where
     by_live : (b : Bool) → admits (cond b p (without_passed p)) s ≡ admits p s
     by_live true = refl

@@ -19,11 +19,11 @@ use Rattle.study_board.proofs.Valid.{IsFaultless-from_first, first_fault-from_Is
 use Rattle.study_board.proofs.Coordinates.{and_under, eqb_then}
 use Rattle.study_moves.specs.declared.moves.Move.{Move}
 use Rattle.study_moves.specs.Rules.{has_side, is_square, is_ahead, starting_rank, last_rank, half_way}
-use Rattle.study_moves.specs.Rules.{pawn_steps, pawn_double_steps, pawn_takes, goes}
-use Rattle.study_moves.specs.Rules.{is_choice, reaches_end, is_en_passant, stays, moved, men_after}
-use Rattle.study_moves.specs.Rules.{can_go, is_legal_for, is_legal, after_by, after}
+use Rattle.study_moves.specs.Rules.{pawn_steps, pawn_double_steps, pawn_takes, reaches_target}
+use Rattle.study_moves.specs.Rules.{is_promotion_choice, reaches_last_rank, is_en_passant, survives, moved, men_after}
+use Rattle.study_moves.specs.Rules.{is_pseudo_legal, is_legal_for, is_legal, after_by, after}
 use Rattle.study_moves.specs.Game.{HasNoMove, IsMate, IsStalemate, MatesWithin, IsMatedWithin}
-use Rattle.study_moves.specs.Bare.{is_taken, is_live, without_passed, bare}
+use Rattle.study_moves.specs.EnPassant.{is_taken, has_legal_en_passant, without_passed, bare}
 use Rattle.study_moves.specs.Laws.{HasSameGame, AgreesWithBare}
 use Rattle.study_moves.proofs.OneValue.{HasSameValue-from_game}
 use Rattle.study_moves.proofs.NoMoveBetween.{HasMover-from_is_legal}
@@ -65,8 +65,8 @@ module _ (q : Option ℕ) (man : Man) (x : ℕ) (no : is_en_passant q man x ≡ 
       drop_two true false c e f g = absurd (false≢true f)
       drop_two false b c e f g = absurd (false≢true e)
 
-  goes_bare : (men : List Man) → goes men None man x ≡ goes men q man x
-  unfolding goes pawn_takes
+  goes_bare : (men : List Man) → reaches_target men None man x ≡ reaches_target men q man x
+  unfolding reaches_target pawn_takes
   goes_bare men =
       cond_under (is_pawn man) (pawn_steps men man.side man.at x || pawn_double_steps men man.side man.at x || pawn_takes men q man.side man.at x)
       (pawn_steps men man.side man.at x || pawn_double_steps men man.side man.at x || pawn_takes men None man.side
@@ -79,8 +79,8 @@ module _ (q : Option ℕ) (man : Man) (x : ℕ) (no : is_en_passant q man x ≡ 
       ap (λ b. pawn_steps men man.side man.at x || pawn_double_steps men man.side man.at x || b) same)
       (λ _. refl)
 
-  stays_bare : (m : Man) → stays None man x m ≡ stays q man x m
-  unfolding stays
+  stays_bare : (m : Man) → survives None man x m ≡ survives q man x m
+  unfolding survives
   stays_bare m =
       let none : is_en_passant None man x ≡ false = no_passed man x in
       rw (no, none)
@@ -88,10 +88,10 @@ module _ (q : Option ℕ) (man : Man) (x : ℕ) (no : is_en_passant q man x ≡ 
 module _ (p : Position) (man : Man) (m : Move) (no : is_en_passant p.passed man m.target ≡ false) where
   pub men_after_bare : men_after (without_passed p) man m ≡ men_after p man m
   unfolding men_after
-  men_after_bare = ap (placed (moved man m)) (filter_agree (stays None man m.target) (stays p.passed man m.target) (stays_bare p.passed man m.target no) p.men)
+  men_after_bare = ap (placed (moved man m)) (filter_agree (survives None man m.target) (survives p.passed man m.target) (stays_bare p.passed man m.target no) p.men)
 
   pub is_legal_for_bare : is_legal_for (without_passed p) man m ≡ is_legal_for p man m
-  unfolding is_legal_for can_go
+  unfolding is_legal_for is_pseudo_legal
   is_legal_for_bare = rw (men_after_bare, goes_bare p.passed man m.target no p.men)
 
 -- a pawn that captures on the passed square does not go there without it
@@ -110,8 +110,8 @@ not_ahead side n a x e = by_side side (flip (file_of x) (file_of a) e)
     by_side White f = rw f
     by_side Black f = rw f
 
-pub goes_without : (men : List Man) (q : Option ℕ) (man : Man) (x : ℕ) → is_en_passant q man x ≡ true → is_empty men x ≡ true → goes men None man x ≡ false
-unfolding goes is_en_passant pawn_steps pawn_double_steps pawn_takes
+pub goes_without : (men : List Man) (q : Option ℕ) (man : Man) (x : ℕ) → is_en_passant q man x ≡ true → is_empty men x ≡ true → reaches_target men None man x ≡ false
+unfolding reaches_target is_en_passant pawn_steps pawn_double_steps pawn_takes
 goes_without men q man x e empty =
     let a = and_parts (is_pawn man && not (file_of man.at == file_of x)) (is_square q x) e in
     let b = and_parts (is_pawn man) (not (file_of man.at == file_of x)) a.0 in
@@ -125,11 +125,11 @@ goes_without men q man x e empty =
     all_false false b c true = refl
     all_false false b c false = refl
 
-not_legal_for : (p : Position) (man : Man) (m : Move) → goes p.men p.passed man m.target ≡ false → is_legal_for p man m ≡ false
-unfolding is_legal_for can_go
+not_legal_for : (p : Position) (man : Man) (m : Move) → reaches_target p.men p.passed man m.target ≡ false → is_legal_for p man m ≡ false
+unfolding is_legal_for is_pseudo_legal
 not_legal_for p man m e =
     rw e (off (same_side man.side p.to_move) (not (has_side p.men p.to_move m.target))
-    (is_choice (reaches_end man m.target) m.promoted) (not (in_check (men_after p man m) p.to_move)))
+    (is_promotion_choice (reaches_last_rank man m.target) m.promoted) (not (in_check (men_after p man m) p.to_move)))
   where
     off : (a b c d : Bool) → ((a && false) && b && c && d) ≡ false
     off true b c d = refl
@@ -169,10 +169,10 @@ found_any q (y ∷ ys) x m e h = by_test (y.at == x) e (λ k. found_any q ys x m
     by_test true k rest = let same : m ≡ y = cc in let t : q y ≡ true = ap q (sym same) ∙ h in rw t
     by_test false k rest = rw (rest k) (or_true (q y))
 
-no_choice : (man : Man) (x : ℕ) (o : Option Kind) → (rank_of x ≡ 5) ⊎ (rank_of x ≡ 2) → is_choice (reaches_end man x) o ≡ true → o ≡ None
+no_choice : (man : Man) (x : ℕ) (o : Option Kind) → (rank_of x ≡ 5) ⊎ (rank_of x ≡ 2) → is_promotion_choice (reaches_last_rank man x) o ≡ true → o ≡ None
 no_choice man x o r e =
-    let end : reaches_end man x ≡ false = rw (not_last man.side) (and_false (is_pawn man)) in
-    by_choice o (ap (λ b. is_choice b o) (sym end) ∙ e)
+    let end : reaches_last_rank man x ≡ false = rw (not_last man.side) (and_false (is_pawn man)) in
+    by_choice o (ap (λ b. is_promotion_choice b o) (sym end) ∙ e)
   where
     apart : (a b : ℕ) → ((a ≡ 5) ⊎ (a ≡ 2)) → ((b ≡ 7) ⊎ (b ≡ 0)) → eqb a b ≡ false
     apart a b h k = grind (arith, nat_tests)
@@ -181,12 +181,12 @@ no_choice man x o r e =
     not_last White = apart (rank_of x) 7 r (inl refl)
     not_last Black = apart (rank_of x) 0 r (inr refl)
 
-    by_choice : (o : Option Kind) → is_choice false o ≡ true → o ≡ None
+    by_choice : (o : Option Kind) → is_promotion_choice false o ≡ true → o ≡ None
     by_choice None e = refl
     by_choice (Some k) e = absurd (false≢true e)
 
 -- where no legal move captures on the passed square, no move that goes there is legal
-module _ (p : Position) (possible : passed_possible p.men p.to_move p.passed ≡ true) (dead : is_live p ≡ false) where
+module _ (p : Position) (possible : passed_possible p.men p.to_move p.passed ≡ true) (dead : has_legal_en_passant p ≡ false) where
   passed_here : (man : Man) (x : ℕ) → is_en_passant p.passed man x ≡ true → (p.passed ≡ Some x) × IsPassed p.men x
   unfolding is_en_passant
   passed_here man x e = by_passed p.passed possible (and_parts (is_pawn man && not (file_of man.at == file_of x)) (is_square p.passed x) e).1
@@ -201,8 +201,8 @@ module _ (p : Position) (possible : passed_possible p.men p.to_move p.passed ≡
       let h = HasMover-from_is_legal p m legal in
       let both : Some h.man ≡ Some man = sym h.here ∙ here in
       let same : h.man ≡ man = cc in
-      let choice : is_choice (reaches_end man m.target) m.promoted ≡ true =
-      subst (λ (y : Man). is_choice (reaches_end y m.target) m.promoted ≡ true) same h.moves.choice in
+      let choice : is_promotion_choice (reaches_last_rank man m.target) m.promoted ≡ true =
+      subst (λ (y : Man). is_promotion_choice (reaches_last_rank y m.target) m.promoted ≡ true) same h.moves.choice in
       let o = no_choice man m.target m.promoted (at.1).inside choice in
       let from = (IsFound-from_man_at p.men m.origin man here).at in
       let try : ℕ → Option Kind → Move = λ a k. record { origin = a; target = m.target; promoted = k } in
@@ -300,7 +300,7 @@ record Agrees (p q : Position) : Type 0 where
   after : (m : Move) → is_legal p m ≡ true → after q m ≡ after p m
   game : HasSameGame p q
 
-Agrees-without : (p : Position) → IsValid p → is_live p ≡ false → Agrees p (without_passed p)
+Agrees-without : (p : Position) → IsValid p → has_legal_en_passant p ≡ false → Agrees p (without_passed p)
 Agrees-without p v dead =
     let f = IsFaultless-from_first p.men p.to_move p.passed v.faultless in
     let l = legal_without p f.possible dead in
@@ -329,9 +329,9 @@ Agrees-itself : (p : Position) → IsValid p → Agrees p p
 Agrees-itself p v = record { valid = v; legal = λ m. refl; after = λ m l. refl; game = HasSameGame-from p p refl (λ m. refl) (λ m l. refl) }
 
 Agrees-bare : (p : Position) → IsValid p → Agrees p (bare p)
-Agrees-bare p v = by_live (is_live p) refl
+Agrees-bare p v = by_live (has_legal_en_passant p) refl
   where
-    by_live : (b : Bool) → is_live p ≡ b → Agrees p (cond b p (without_passed p))
+    by_live : (b : Bool) → has_legal_en_passant p ≡ b → Agrees p (cond b p (without_passed p))
     by_live true e = Agrees-itself p v
     by_live false e = Agrees-without p v e
 

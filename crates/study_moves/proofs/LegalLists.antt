@@ -8,7 +8,7 @@ use Rattle.study_board.specs.declared.men.Kind.{Kind}
 use Rattle.study_board.specs.declared.men.Kind.TheVariants.{King, Queen, Rook, Bishop, Knight, Pawn}
 use Rattle.study_board.specs.Position.{Position, IsValid, in_check}
 use Rattle.study_moves.specs.declared.moves.Move.{Move}
-use Rattle.study_moves.specs.Rules.{is_legal, is_choice, reaches_end}
+use Rattle.study_moves.specs.Rules.{is_legal, is_promotion_choice, reaches_last_rank}
 use Rattle.study_moves.specs.Order.{move_place, IsBefore}
 use Rattle.study_moves.specs.Game.{IsMate, HasNoMove}
 use Rattle.study_moves.proofs.MenOfList.{found_among, All-among}
@@ -57,13 +57,13 @@ in_range f m start (suc n) k le lt i = elim (cases_Bool (start == k)) [
     apart : (start == k) ≡ false → start + 1 ≤ k
     apart ne = elim (cases_lt start k) [ inl lt ↦ omega arith | inr ge ↦ absurd (false≢true (sym ne ∙ eq-eqb start k (omega arith))) ]
 
-in_between : (m : Move) (b : Bool) → is_choice b m.promoted ≡ true → IsIn m (moves_between m.origin m.target)
+in_between : (m : Move) (b : Bool) → is_promotion_choice b m.promoted ≡ true → IsIn m (moves_between m.origin m.target)
 in_between m b e = go m.promoted e
   where
     made : Option Kind → Move
     made q = record { origin = m.origin; target = m.target; promoted = q }
 
-    go : (q : Option Kind) → is_choice b q ≡ true → IsIn (made q) (moves_between m.origin m.target)
+    go : (q : Option Kind) → is_promotion_choice b q ≡ true → IsIn (made q) (moves_between m.origin m.target)
     go None e = inl refl
     go (Some Queen) e = inr (inl refl)
     go (Some Rook) e = inr (inr (inl refl))
@@ -71,12 +71,12 @@ in_between m b e = go m.promoted e
     go (Some Knight) e = inr (inr (inr (inr (inl refl))))
     go (Some King) e = absurd (none b e)
       where
-        none : (b : Bool) → is_choice b (Some King) ≡ true → ⊥
+        none : (b : Bool) → is_promotion_choice b (Some King) ≡ true → ⊥
         none true e = false≢true e
         none false e = false≢true e
     go (Some Pawn) e = absurd (none b e)
       where
-        none : (b : Bool) → is_choice b (Some Pawn) ≡ true → ⊥
+        none : (b : Bool) → is_promotion_choice b (Some Pawn) ≡ true → ⊥
         none true e = false≢true e
         none false e = false≢true e
 
@@ -89,7 +89,7 @@ in_all p m valid e =
     let origin : m.origin < 64 = subst (λ a. a < 64) found.1 on_board in
     in_range moves_from m 0 64 m.origin (omega arith) origin
     (in_range (moves_between m.origin) m 0 64 m.target (omega arith) h.moves.target
-    (in_between m (reaches_end h.man m.target) h.moves.choice))
+    (in_between m (reaches_last_rank h.man m.target) h.moves.choice))
 
 pub in_legal : (p : Position) (m : Move) → IsValid p → is_legal p m ≡ true → IsIn m (legal_list p)
 unfolding legal_list

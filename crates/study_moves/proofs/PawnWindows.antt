@@ -10,7 +10,7 @@ use Rattle.study_board.specs.declared.men.Side.{Side}
 use Rattle.study_board.specs.declared.men.Side.TheVariants.{White, Black}
 use Rattle.study_board.specs.Men.{pawn_captures, is_pawn}
 use Rattle.study_board.specs.Position.{man_at, AllAbove, IsAscending}
-use Rattle.study_moves.specs.Rules.{goes, pawn_steps, pawn_double_steps, pawn_takes, is_ahead}
+use Rattle.study_moves.specs.Rules.{reaches_target, pawn_steps, pawn_double_steps, pawn_takes, is_ahead}
 
 equal_from : (a b : ℕ) → (a == b) ≡ true → a ≡ b
 equal_from a b e = grind (arith, nat_tests)
@@ -71,8 +71,8 @@ takes_beside : (men : List Man) (q : Option ℕ) (side : Side) (a x : ℕ) → p
 unfolding pawn_takes
 takes_beside men q side a x e = (and_parts _ _ e).0
 
-pawn_in_reach : (man : Man) (men : List Man) (q : Option ℕ) (x : ℕ) → is_pawn man ≡ true → goes men q man x ≡ true → IsInReach man.side man.at x
-unfolding goes
+pawn_in_reach : (man : Man) (men : List Man) (q : Option ℕ) (x : ℕ) → is_pawn man ≡ true → reaches_target men q man x ≡ true → IsInReach man.side man.at x
+unfolding reaches_target
 pawn_in_reach man men q x pawn e =
     let a = pawn_steps men man.side man.at x in
     let b = pawn_double_steps men man.side man.at x in
@@ -90,12 +90,12 @@ pawn_in_reach man men q x pawn e =
     ]
 
 pub white_pawn_reach : (man : Man) (men : List Man) (q : Option ℕ) (x : ℕ) → is_pawn man ≡ true → man.side ≡ White
-    → goes men q man x ≡ true → (man.at + 7 ≤ x) × (x < man.at + 17)
+    → reaches_target men q man x ≡ true → (man.at + 7 ≤ x) × (x < man.at + 17)
 unfolding IsInReach
 white_pawn_reach man men q x pawn s e = let P : Side → Type 0 = λ v. IsInReach v man.at x in subst P s (pawn_in_reach man men q x pawn e)
 
 pub black_pawn_reach : (man : Man) (men : List Man) (q : Option ℕ) (x : ℕ) → is_pawn man ≡ true → man.side ≡ Black
-    → goes men q man x ≡ true → (x + 7 ≤ man.at) × (man.at < x + 17)
+    → reaches_target men q man x ≡ true → (x + 7 ≤ man.at) × (man.at < x + 17)
 unfolding IsInReach
 black_pawn_reach man men q x pawn s e = let P : Side → Type 0 = λ v. IsInReach v man.at x in subst P s (pawn_in_reach man men q x pawn e)
 

@@ -5,8 +5,8 @@ use Rattle.std.proofs.lemmas.Bool.{false≢true, and_parts, and_from, cases_Bool
 use Rattle.study_board.specs.declared.men.Man.{Man}
 use Rattle.study_board.specs.Position.{AllAbove, IsAscending, is_occupied, placed, man_at}
 use Rattle.study_board.proofs.ImagesValid.{list_any-placed, man_at-placed}
-use Rattle.study_moves.specs.Rules.{stays}
-use Rattle.study_moves.specs.Quiet.{set_back, men_before}
+use Rattle.study_moves.specs.Rules.{survives}
+use Rattle.study_moves.specs.Unmoves.{set_back, men_before}
 use Rattle.study_moves.proofs.MenOfList.{IsAmong, IsAmong-filter, above_among, none_among}
 use Rattle.study_moves.proofs.KingSafety.{filter_any}
 use Rattle.study_moves.proofs.SafeTargets.{none_passed}
@@ -59,18 +59,18 @@ and_true true = refl
 and_true false = refl
 
 -- what stays, where no man is taken in passing
-pub stays_plain : (man : Man) (a : ℕ) (m : Man) → stays None man a m ≡ (not (m.at == man.at) && not (m.at == a))
-unfolding stays
+pub stays_plain : (man : Man) (a : ℕ) (m : Man) → survives None man a m ≡ (not (m.at == man.at) && not (m.at == a))
+unfolding survives
 stays_plain man a m = rw (none_passed None man a refl) (and_true (not (m.at == man.at) && not (m.at == a)))
 
-pub stays-from : (man : Man) (a : ℕ) (m : Man) → (m.at ≡ man.at → ⊥) → (m.at ≡ a → ⊥) → stays None man a m ≡ true
+pub stays-from : (man : Man) (a : ℕ) (m : Man) → (m.at ≡ man.at → ⊥) → (m.at ≡ a → ⊥) → survives None man a m ≡ true
 stays-from man a m h k = stays_plain man a m ∙ and_from _ _ (not_from_false _ (ne_eqb _ _ h)) (not_from_false _ (ne_eqb _ _ k))
 
 pub record IsElsewhere (man : Man) (a : ℕ) (m : Man) : Type 0 where
   pub square : m.at ≡ man.at → ⊥
   pub origin : m.at ≡ a → ⊥
 
-pub elsewhere : (man : Man) (a : ℕ) (m : Man) → stays None man a m ≡ true → IsElsewhere man a m
+pub elsewhere : (man : Man) (a : ℕ) (m : Man) → survives None man a m ≡ true → IsElsewhere man a m
 elsewhere man a m e =
     let p = and_parts (not (m.at == man.at)) (not (m.at == a)) (sym (stays_plain man a m) ∙ e) in
     record {
@@ -86,7 +86,7 @@ pub record CanBeMoved (men : List Man) (man : Man) (a : ℕ) : Type 0 where
 
 module _ (men : List Man) (man : Man) (a : ℕ) (h : CanBeMoved men man a) where
   abbrev pub others : List Man
-  others = filter (stays None man a) men
+  others = filter (survives None man a) men
 
   pub no_man_on_origin : (m : Man) → IsAmong m men → m.at ≡ a → ⊥
   unfolding is_occupied
@@ -95,21 +95,21 @@ module _ (men : List Man) (man : Man) (a : ℕ) (h : CanBeMoved men man a) where
   pub apart_from_origin : man.at ≡ a → ⊥
   apart_from_origin t = no_man_on_origin man h.among t
 
-  pub mover_leaves : stays None man a man ≡ false
+  pub mover_leaves : survives None man a man ≡ false
   mover_leaves = stays_plain man a man ∙ rw (eq-eqb man.at man.at refl) refl
 
   -- the man put back among the others
   pub others_and_man : placed man others ≡ men
-  others_and_man = put_back (stays None man a) man men h.ordered h.among mover_leaves (λ m i t. stays-from man a m t (no_man_on_origin m i))
+  others_and_man = put_back (survives None man a) man men h.ordered h.among mover_leaves (λ m i t. stays-from man a m t (no_man_on_origin m i))
 
   -- taken back, and played again
   pub back_and_forth : men_before (men_before men man a) (set_back man a) man.at ≡ men
   unfolding men_before
   back_and_forth =
-      let q = stays None (set_back man a) man.at in
+      let q = survives None (set_back man a) man.at in
       let gone : q (set_back man a) ≡ false = stays_plain (set_back man a) man.at (set_back man a) ∙ rw (eq-eqb a a refl) refl in
       let all = filter_all q others (λ m i.
-      let r = IsAmong-filter (stays None man a) men m i in
+      let r = IsAmong-filter (survives None man a) men m i in
       let e = elsewhere man a m r.1 in
       stays-from (set_back man a) man.at m e.origin e.square) in
       rw (filter_dropped q (set_back man a) others gone, all) others_and_man
@@ -120,14 +120,14 @@ module _ (men : List Man) (man : Man) (a : ℕ) (h : CanBeMoved men man a) where
   occupied_before x =
       list_any-placed (λ m. m.at == x) (set_back man a) others
       ∙ ap (λ (b : Bool). (a == x) || b)
-      (filter_any (λ m. m.at == x) (stays None man a) men
-      ∙ list_any_same (λ m. stays None man a m && (m.at == x)) (λ m. (not (x == man.at) && not (x == a)) && (m.at == x)) same men
+      (filter_any (λ m. m.at == x) (survives None man a) men
+      ∙ list_any_same (λ m. survives None man a m && (m.at == x)) (λ m. (not (x == man.at) && not (x == a)) && (m.at == x)) same men
       ∙ drawn_out (not (x == man.at) && not (x == a)) men)
     where
-      same : (m : Man) → (stays None man a m && (m.at == x)) ≡ ((not (x == man.at) && not (x == a)) && (m.at == x))
+      same : (m : Man) → (survives None man a m && (m.at == x)) ≡ ((not (x == man.at) && not (x == a)) && (m.at == x))
       same m = elim (cases_Bool (m.at == x)) [
         | inl e ↦ let t = eqb-true m.at x e in rw (stays_plain man a m, t) refl
-        | inr e ↦ rw e (off (stays None man a m) (not (x == man.at) && not (x == a)))
+        | inr e ↦ rw e (off (survives None man a m) (not (x == man.at) && not (x == a)))
       ]
         where
           off : (b c : Bool) → (b && false) ≡ (c && false)

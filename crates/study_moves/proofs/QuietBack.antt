@@ -18,9 +18,9 @@ use Rattle.study_board.proofs.MenInOrder.{All-placed}
 use Rattle.study_board.proofs.ImagesValid.{list_any-placed, count_by-placed, length-placed}
 use Rattle.study_board.proofs.Valid.{IsFaultless, IsFaultless-from_first, first_fault-from_IsFaultless}
 use Rattle.study_moves.specs.declared.moves.Move.{Move}
-use Rattle.study_moves.specs.Rules.{is_legal, goes, stays, men_after, after, is_choice, reaches_end}
-use Rattle.study_moves.specs.Bare.{without_passed}
-use Rattle.study_moves.specs.Quiet.{LeadsQuietly, move_from, set_back, men_before, position_before, pawn_comes, comes, was_check, came_from}
+use Rattle.study_moves.specs.Rules.{is_legal, reaches_target, survives, men_after, after, is_promotion_choice, reaches_last_rank}
+use Rattle.study_moves.specs.EnPassant.{without_passed}
+use Rattle.study_moves.specs.Unmoves.{LeadsQuietly, move_from, set_back, men_before, position_before, pawn_comes, comes, was_check, came_from}
 use Rattle.study_moves.proofs.MenFound.{fewer_stay}
 use Rattle.study_moves.proofs.MenOfList.{IsAmong, above_among, list_any-from, list_any-none, none_among, IsAmong-filter}
 use Rattle.study_moves.proofs.MenOfList.{found_among, All-among, same_square, has_square_twice-ascending}
@@ -36,7 +36,7 @@ and_false : (b : Bool) → (b && false) ≡ false
 and_false true = refl
 and_false false = refl
 
-pub men_before_is : (men : List Man) (man : Man) (a : ℕ) → placed (set_back man a) (filter (stays None man a) men) ≡ men_before men man a
+pub men_before_is : (men : List Man) (man : Man) (a : ℕ) → placed (set_back man a) (filter (survives None man a) men) ≡ men_before men man a
 unfolding men_before
 men_before_is men man a = refl
 
@@ -67,7 +67,7 @@ inside_among men man e i = none_among is_end_pawn men man e i
 
 module _ (q : Position) (valid : IsValid q) (man : Man) (a : ℕ) (h : CameFrom q man a) where
   abbrev pub ys : List Man
-  ys = filter (stays None man a) q.men
+  ys = filter (survives None man a) q.men
 
   abbrev pub z : Man
   z = set_back man a
@@ -109,12 +109,12 @@ module _ (q : Position) (valid : IsValid q) (man : Man) (a : ℕ) (h : CameFrom 
   no_end_pawn =
       list_any-placed is_end_pawn z ys
       ∙ or_from _ _ (stands_inside q.men man a movable on_square comes_so)
-      (list_any-none is_end_pawn ys (λ k i. let r = IsAmong-filter (stays None man a) q.men k i in none_among
+      (list_any-none is_end_pawn ys (λ k i. let r = IsAmong-filter (survives None man a) q.men k i in none_among
       is_end_pawn q.men k (faultless q valid).pawns r.0))
 
   none_there : list_any (λ y. y.at == a) ys ≡ false
   none_there = list_any-none (λ y. y.at == a) ys (λ k i.
-      let r = IsAmong-filter (stays None man a) q.men k i in
+      let r = IsAmong-filter (survives None man a) q.men k i in
       not_there k (no_man_on_origin q.men man a movable k r.0))
     where
       not_there : (k : Man) → (k.at ≡ a → ⊥) → (k.at == a) ≡ false
@@ -122,11 +122,11 @@ module _ (q : Position) (valid : IsValid q) (man : Man) (a : ℕ) (h : CameFrom 
 
   ordered : IsAscending (men_before q.men man a)
   unfolding men_before
-  ordered = IsAscending-placed z ys (IsAscending-filter (stays None man a) q.men valid.ordered) none_there
+  ordered = IsAscending-placed z ys (IsAscending-filter (survives None man a) q.men valid.ordered) none_there
 
   on_board : All (λ k. k.at < 64) (men_before q.men man a)
   unfolding men_before
-  on_board = All-placed z ys h.on (All-filter (stays None man a) (λ k. k.at < 64) q.men valid.on_board)
+  on_board = All-placed z ys h.on (All-filter (survives None man a) (λ k. k.at < 64) q.men valid.on_board)
 
   few : nat_lt 4 (length (men_before q.men man a)) ≡ false
   unfolding men_before
@@ -169,7 +169,7 @@ module _ (q : Position) (valid : IsValid q) (man : Man) (a : ℕ) (h : CameFrom 
       let mine : same_side man.side (other_side q.to_move) ≡ true = rw h.his (same_side-self (other_side q.to_move)) in
       let none = no_side_there (men_before q.men man a) (other_side q.to_move) man.at (target_is_empty q.men man a movable) in
       let end = not_last man (inside_among q.men man (faultless q valid).pawns h.among) in
-      let choice : is_choice (reaches_end z man.at) None ≡ true = rw end refl in
+      let choice : is_promotion_choice (reaches_last_rank z man.at) None ≡ true = rw end refl in
       let safe : in_check (men_after b z onward) (other_side q.to_move) ≡ false = rw played_on (faultless q valid).safe in
       rw (lt-ltb man.at 64 on_square, here) (legal_from b z onward mine (going q.men man a movable comes_so) none choice safe)
 
@@ -240,7 +240,7 @@ module _ (q : Position) (by : Move) (p : Position) (valid : IsValid q) (e : Lead
   unfolding men_before
   among_now =
       let P : List Man → Type 0 = λ xs. IsAmong then xs in
-      subst P men_now (IsAmong-placed then (filter (stays None man by.target) p.men))
+      subst P men_now (IsAmong-placed then (filter (survives None man by.target) p.men))
 
   free_now : is_occupied q.men man.at ≡ false
   free_now = ap (λ (xs : List Man). is_occupied xs man.at) (sym men_now) ∙ target_is_empty p.men man by.target movable_on
@@ -251,17 +251,17 @@ module _ (q : Position) (by : Move) (p : Position) (valid : IsValid q) (e : Lead
   his_now : man.side ≡ other_side q.to_move
   his_now = sides_equal man.side p.to_move mover.moves.mine ∙ sym side_before
 
-  goes_on : goes (men_before q.men then man.at) None man by.target ≡ true
+  goes_on : reaches_target (men_before q.men then man.at) None man by.target ≡ true
   goes_on =
-      let P : Option ℕ → Type 0 = λ o. goes p.men o man by.target ≡ true in
+      let P : Option ℕ → Type 0 = λ o. reaches_target p.men o man by.target ≡ true in
       rw men_then (subst P e.unpassed mover.moves.going)
 
   came_now : came_from q.men q.to_move then man.at ≡ true
   came_now =
-      let ways : comes q.men then man.at ≡ true = coming q.men then man.at movable_back goes_on (inside_among p.men man (faultless p e.valid).pawns found.0) in
+      let pseudo_targets : comes q.men then man.at ≡ true = coming q.men then man.at movable_back goes_on (inside_among p.men man (faultless p e.valid).pawns found.0) in
       let safe : was_check q.men q.to_move then man.at ≡ false =
       sym (in_check_before q.men then man.at free_now q.to_move his_now) ∙ rw (men_then, ← side_now) (faultless p e.valid).safe in
-      rw (ways, safe) refl
+      rw (pseudo_targets, safe) refl
 
   by_man : by ≡ move_from then man.at
   by_man =

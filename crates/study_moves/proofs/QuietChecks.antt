@@ -13,9 +13,9 @@ use Rattle.study_board.specs.Sets.{is_slider, bears_past}
 use Rattle.study_board.proofs.Lists.{list_any_weaker}
 use Rattle.study_board.proofs.MenInOrder.{IsPermutation-placed}
 use Rattle.study_board.proofs.Faults.{list_any_same, in_check_same}
-use Rattle.study_moves.specs.Rules.{has_side, stays}
-use Rattle.study_moves.specs.Safety.{threatened_past, threatens}
-use Rattle.study_moves.specs.Quiet.{king_was_attacked, was_check, set_back, men_before}
+use Rattle.study_moves.specs.Rules.{has_side, survives}
+use Rattle.study_moves.specs.KingSafety.{threatened_past, threatens}
+use Rattle.study_moves.specs.Unmoves.{king_was_attacked, was_check, set_back, men_before}
 use Rattle.study_moves.proofs.SafeTargets.{none_passed}
 use Rattle.study_moves.proofs.BearsBothWays.{between-both}
 use Rattle.study_moves.proofs.PutBack.{stays_plain}
@@ -62,7 +62,7 @@ module _ (men : List Man) (man : Man) (a : ℕ) (free : is_occupied men a ≡ fa
   z = set_back man a
 
   abbrev pub ys : List Man
-  ys = filter (stays None man a) men
+  ys = filter (survives None man a) men
 
   bears_then : (m : Man) (k : ℕ) → bears_on (z ∷ ys) m k ≡ (bears_past men man.at m k && not (is_slider m.kind && strictly_between m.at a k))
   bears_then m k = bears_after men None man a man.side z refl (same_side-self man.side) (none_passed None man a refl) (no_side_there men man.side a free) m k
@@ -74,8 +74,8 @@ module _ (men : List Man) (man : Man) (a : ℕ) (free : is_occupied men a ≡ fa
 
   others_attack : (k : ℕ) → list_any (λ m. same_side m.side (other_side side) && bears_on (z ∷ ys) m k) ys ≡ threatened_past men (other_side side) man.at k a
   others_attack k =
-      filter_any (λ m. same_side m.side (other_side side) && bears_on (z ∷ ys) m k) (stays None man a) men
-      ∙ list_any_same (λ m. stays None man a m && (same_side m.side (other_side side) && bears_on (z ∷ ys) m k)) (threatens men (other_side side) man.at k a)
+      filter_any (λ m. same_side m.side (other_side side) && bears_on (z ∷ ys) m k) (survives None man a) men
+      ∙ list_any_same (λ m. survives None man a m && (same_side m.side (other_side side) && bears_on (z ∷ ys) m k)) (threatens men (other_side side) man.at k a)
       (λ m. rw (stays_plain man a m, bears_then m k)
       (shuffle (not (m.at == man.at)) (not (m.at == a)) (same_side m.side (other_side side))
       (bears_past men man.at m k) (not (is_slider m.kind && strictly_between m.at a k)))) men
@@ -88,7 +88,7 @@ module _ (men : List Man) (man : Man) (a : ℕ) (free : is_occupied men a ≡ fa
       two_ways _ _ _ _ _ mine (own_attack k) (others_attack k)
 
   king_then : (k : Man) → (k.at == a) ≡ false
-      → (stays None man a k && (is_man side King k && is_attacked (z ∷ ys) (other_side side) k.at))
+      → (survives None man a k && (is_man side King k && is_attacked (z ∷ ys) (other_side side) k.at))
       ≡ king_was_attacked men side man a k
   king_then k e =
       rw (stays_plain man a k)
@@ -101,7 +101,7 @@ module _ (men : List Man) (man : Man) (a : ℕ) (free : is_occupied men a ≡ fa
       let other : same_side man.side side ≡ false = own_not man.side side his in
       sym (in_check_same (z ∷ ys) _ (IsPermutation-placed z ys) side)
       ∙ rw other
-      (filter_any (λ k. is_man side King k && is_attacked (z ∷ ys) (other_side side) k.at) (stays None man a) men
+      (filter_any (λ k. is_man side King k && is_attacked (z ∷ ys) (other_side side) k.at) (survives None man a) men
       ∙ any_same_where (λ y. y.at == a)
-      (λ k. stays None man a k && (is_man side King k && is_attacked (z ∷ ys) (other_side side) k.at))
+      (λ k. survives None man a k && (is_man side King k && is_attacked (z ∷ ys) (other_side side) k.at))
       (king_was_attacked men side man a) king_then men free)

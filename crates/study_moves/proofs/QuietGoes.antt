@@ -13,8 +13,8 @@ use Rattle.study_board.specs.Position.{is_empty, is_end_pawn}
 use Rattle.study_board.specs.Sets.{reaches_if, is_blocked_past}
 use Rattle.study_board.proofs.MenInOrder.{IsPermutation-placed}
 use Rattle.study_board.proofs.Faults.{list_any_same, is_blocked_same}
-use Rattle.study_moves.specs.Rules.{is_ahead, starting_rank, half_way, pawn_steps, pawn_double_steps, pawn_takes, goes, stays, reaches_end, last_rank}
-use Rattle.study_moves.specs.Quiet.{set_back, men_before, first_rank, pawn_comes, comes}
+use Rattle.study_moves.specs.Rules.{is_ahead, starting_rank, half_way, pawn_steps, pawn_double_steps, pawn_takes, reaches_target, survives, reaches_last_rank, last_rank}
+use Rattle.study_moves.specs.Unmoves.{set_back, men_before, first_rank, pawn_comes, comes}
 use Rattle.study_moves.proofs.SafeTargets.{none_passed}
 use Rattle.study_moves.proofs.BearsBothWays.{between-both, reaches-both, eqb-both}
 use Rattle.study_moves.proofs.KingSafety.{not_at_end, blocked_after, reaches_is}
@@ -96,7 +96,7 @@ not_first man a p n = first man.side (rw p at n)
     first Black e = (or_parts (rank_of a == 0) (rank_of a == 7) e).1
 
 -- a pawn that is not on an end rank is not on its last
-pub not_last : (man : Man) → is_end_pawn man ≡ false → reaches_end man man.at ≡ false
+pub not_last : (man : Man) → is_end_pawn man ≡ false → reaches_last_rank man man.at ≡ false
 unfolding is_end_pawn
 not_last man n = elim (cases_Bool (is_pawn man)) [
   | inl p ↦ rw p (last man.side (rw p at n))
@@ -114,7 +114,7 @@ module _ (men : List Man) (man : Man) (a : ℕ) (h : CanBeMoved men man a) where
   z = set_back man a
 
   abbrev pub ys : List Man
-  ys = filter (stays None man a) men
+  ys = filter (survives None man a) men
 
   -- lines are open then where they are now
   blocked_before : is_blocked (men_before men man a) a man.at ≡ is_blocked men man.at a
@@ -142,10 +142,10 @@ module _ (men : List Man) (man : Man) (a : ℕ) (h : CanBeMoved men man a) where
       ∙ side_apart (is_blocked men man.at a) (other_side man.side) man.side man.kind man.at a e))
 
   -- the ways of a pawn, with no man to take
-  pawn_goes : is_pawn man ≡ true → goes (men_before men man a) None z man.at
+  pawn_goes : is_pawn man ≡ true → reaches_target (men_before men man a) None z man.at
       ≡ (is_ahead man.side 1 a man.at ||
       ((rank_of a == starting_rank man.side) && is_ahead man.side 2 a man.at && is_empty men (half_way a man.at)))
-  unfolding goes pawn_steps pawn_double_steps pawn_takes
+  unfolding reaches_target pawn_steps pawn_double_steps pawn_takes
   pawn_goes e =
       rw (
         e,
@@ -166,12 +166,12 @@ module _ (men : List Man) (man : Man) (a : ℕ) (h : CanBeMoved men man a) where
         | inr f ↦ rw (f, and_false (rank_of a == starting_rank man.side)) refl
       ]
 
-  goes_bears : is_pawn man ≡ false → goes (men_before men man a) None z man.at ≡ bears_on (men_before men man a) z man.at
-  unfolding goes
+  goes_bears : is_pawn man ≡ false → reaches_target (men_before men man a) None z man.at ≡ bears_on (men_before men man a) z man.at
+  unfolding reaches_target
   goes_bears p = rw p refl
 
   -- a man that can have come from a square goes from there to its own
-  pub going : comes men man a ≡ true → goes (men_before men man a) None z man.at ≡ true
+  pub going : comes men man a ≡ true → reaches_target (men_before men man a) None z man.at ≡ true
   unfolding comes pawn_comes
   going e = elim (cases_Bool (is_pawn man)) [
     | inl p ↦
@@ -206,7 +206,7 @@ module _ (men : List Man) (man : Man) (a : ℕ) (h : CanBeMoved men man a) where
   ]
 
   -- a man that goes to its square, and is no pawn on an end rank, can have come from there
-  pub coming : goes (men_before men man a) None z man.at ≡ true → is_end_pawn z ≡ false → comes men man a ≡ true
+  pub coming : reaches_target (men_before men man a) None z man.at ≡ true → is_end_pawn z ≡ false → comes men man a ≡ true
   unfolding comes pawn_comes
   coming g n = elim (cases_Bool (is_pawn man)) [
     | inl p ↦

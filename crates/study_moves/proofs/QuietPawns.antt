@@ -9,7 +9,7 @@ use Rattle.study_board.specs.Position.{is_occupied, is_empty}
 use Rattle.study_board.specs.Sets.{has}
 use Rattle.study_board.proofs.SetBits.{has-zero}
 use Rattle.study_moves.specs.Rules.{is_ahead, half_way}
-use Rattle.study_moves.specs.Quiet.{pawn_comes, pawn_came}
+use Rattle.study_moves.specs.Unmoves.{pawn_comes, pawn_came}
 use Rattle.study_moves.proofs.BearsBothWays.{same_test}
 
 and_false : (b : Bool) → (b && false) ≡ false

@@ -27,9 +27,9 @@ use Rattle.study_board.proofs.Ascending.{IsAscending-filter, IsAscending-placed}
 use Rattle.study_board.proofs.ImagesOfImages.{IsOnBoard, IsTurnable}
 use Rattle.study_moves.specs.declared.moves.Move.{Move}
 use Rattle.study_moves.specs.Rules.{has_side, is_square, is_ahead, starting_rank, last_rank, half_way}
-use Rattle.study_moves.specs.Rules.{pawn_steps, pawn_double_steps, pawn_takes, goes, is_officer}
-use Rattle.study_moves.specs.Rules.{is_choice, reaches_end, is_en_passant, stays, moved, men_after}
-use Rattle.study_moves.specs.Rules.{can_go, is_legal_for, is_legal, jumped, after_by, after}
+use Rattle.study_moves.specs.Rules.{pawn_steps, pawn_double_steps, pawn_takes, reaches_target, is_promotion_piece}
+use Rattle.study_moves.specs.Rules.{is_promotion_choice, reaches_last_rank, is_en_passant, survives, moved, men_after}
+use Rattle.study_moves.specs.Rules.{is_pseudo_legal, is_legal_for, is_legal, passed_by, after_by, after}
 use Rattle.study_moves.specs.Symmetry.{image_move}
 use Rattle.study_moves.specs.Game.{IsLegal}
 use Rattle.study_moves.proofs.NoMoveBetween.{HasMover, HasMover-from_is_legal}
@@ -121,8 +121,8 @@ not_two-from_capture White a x e t = let r = eqb_then (rank_of x) (rank_of a + 1
 not_two-from_capture Black a x e t = let r = eqb_then (rank_of x + 1) (rank_of a) e in omega arith
 
 -- a pawn that goes two ranks goes along its file
-pub IsDouble-from_goes : (men : List Man) (q : Option ℕ) (m : Man) (x : ℕ) → goes men q m x ≡ true → is_pawn m ≡ true → ranks_apart m.at x ≡ 2 → IsDouble m.at x
-unfolding goes pawn_steps pawn_double_steps pawn_takes pawn_captures
+pub IsDouble-from_goes : (men : List Man) (q : Option ℕ) (m : Man) (x : ℕ) → reaches_target men q m x ≡ true → is_pawn m ≡ true → ranks_apart m.at x ≡ 2 → IsDouble m.at x
+unfolding reaches_target pawn_steps pawn_double_steps pawn_takes pawn_captures
 IsDouble-from_goes men q m x g k t =
     let e : (pawn_steps men m.side m.at x || pawn_double_steps men m.side m.at x || pawn_takes men q m.side m.at x) ≡ true = rw k at g in
     elim (or_cases (pawn_steps men m.side m.at x || pawn_double_steps men m.side m.at x) (pawn_takes men q m.side m.at x) e) [
@@ -189,7 +189,7 @@ module _ (s : Symmetry) where
           let start : eqb (rank_of (turned_square s a)) (starting_rank (turned_side s.colours side)) ≡ eqb (rank_of a) (starting_rank side) =
           ap (λ r. eqb r (starting_rank (turned_side s.colours side))) (rank_of-kept s keeps a la)
           ∙ starting_rank-turned s.colours side (rank_of a) (rank_small a la) in
-          let goes : (eqb (rank_of (turned_square s a)) (starting_rank (turned_side s.colours side)) && is_ahead
+          let reaches_target : (eqb (rank_of (turned_square s a)) (starting_rank (turned_side s.colours side)) && is_ahead
           (turned_side s.colours side) 2 (turned_square s a) (turned_square s x))
           ≡ (eqb (rank_of a) (starting_rank side) && is_ahead side 2 a x) =
           rw (start, is_ahead-turned keeps side 2 a x la lx) in
@@ -198,7 +198,7 @@ module _ (s : Symmetry) where
           (half_way (turned_square s a) (turned_square s x)))
           ≡ (eqb (rank_of a) (starting_rank side) && is_ahead side 2 a x && is_empty xs (half_way a x)) =
           and_under (eqb (rank_of a) (starting_rank side) && is_ahead side 2 a x) _ (is_empty xs (half_way a x))
-          (is_empty (turned_men s xs) (half_way (turned_square s a) (turned_square s x))) goes
+          (is_empty (turned_men s xs) (half_way (turned_square s a) (turned_square s x))) reaches_target
           (λ e. rw (
             half_way-turned keeps a x la lx
                 (IsDouble-from_ahead side a x
@@ -220,8 +220,8 @@ module _ (s : Symmetry) where
           )
 
     goes-turned : (q : Option ℕ) → IsOnBoard q → (m : Man) → IsSeated s m → (x : ℕ) → x < 64
-        → goes (turned_men s xs) (turned_passed s q) (turned_man s m) (turned_square s x) ≡ goes xs q m x
-    unfolding goes
+        → reaches_target (turned_men s xs) (turned_passed s q) (turned_man s m) (turned_square s x) ≡ reaches_target xs q m x
+    unfolding reaches_target
     goes-turned q hq m k x lx =
         cond_under (is_pawn m) (pawn_steps xs m.side m.at x || pawn_double_steps xs m.side m.at x || pawn_takes xs q m.side m.at x) _ (bears_on xs m x) _
         (λ e. rw (
@@ -232,8 +232,8 @@ module _ (s : Symmetry) where
         ))
         (λ _. bears_on-turned s xs h m x k lx)
 
-  reaches_end-turned : (m : Man) → IsSeated s m → (x : ℕ) → x < 64 → reaches_end (turned_man s m) (turned_square s x) ≡ reaches_end m x
-  reaches_end-turned m k x lx =
+  reaches_last_rank-turned : (m : Man) → IsSeated s m → (x : ℕ) → x < 64 → reaches_last_rank (turned_man s m) (turned_square s x) ≡ reaches_last_rank m x
+  reaches_last_rank-turned m k x lx =
       and_under (is_pawn m) (is_pawn m) (eqb (rank_of x) (last_rank m.side)) (eqb (rank_of (turned_square s x)) (last_rank (turned_side s.colours m.side))) refl
       (λ e. rw (rank_of-kept s (k.pawn e) x lx) (last_rank-turned s.colours m.side (rank_of x) (rank_small x lx)))
 
@@ -252,9 +252,9 @@ module _ (s : Symmetry) where
   pawn_of q man x e = (and_parts _ _ (and_parts _ _ e).0).0
 
   stays-turned : (q : Option ℕ) → IsOnBoard q → (man : Man) → IsSeated s man → (x : ℕ) → x < 64 → (m : Man)
-      → IsSeated s m → stays (turned_passed s q) (turned_man s man) (turned_square s x) (turned_man s m)
-      ≡ stays q man x m
-  unfolding stays
+      → IsSeated s m → survives (turned_passed s q) (turned_man s man) (turned_square s x) (turned_man s m)
+      ≡ survives q man x m
+  unfolding survives
   stays-turned q hq man k x lx m l =
       let taken : (is_en_passant (turned_passed s q) (turned_man s man) (turned_square s x) && eqb
       (turned_square s m.at) (8 * rank_of (turned_square s man.at) + file_of (turned_square s x)))
@@ -268,19 +268,19 @@ module _ (s : Symmetry) where
 
 -- what a move can be: a man of the mover goes
 pub record IsGoing (p : Position) (man : Man) (m : Move) : Type 0 where
-  pub goes : goes p.men p.passed man m.target ≡ true
-  pub choice : is_choice (reaches_end man m.target) m.promoted ≡ true
+  pub reaches_target : reaches_target p.men p.passed man m.target ≡ true
+  pub choice : is_promotion_choice (reaches_last_rank man m.target) m.promoted ≡ true
 
-IsGoing-from : (p : Position) (man : Man) (m : Move) → can_go p man m ≡ true → IsGoing p man m
-unfolding can_go
+IsGoing-from : (p : Position) (man : Man) (m : Move) → is_pseudo_legal p man m ≡ true → IsGoing p man m
+unfolding is_pseudo_legal
 IsGoing-from p man m e =
-    let b = and_parts _ _ e in let c = and_parts _ _ b.0 in let d = and_parts _ _ c.0 in record { goes = d.1; choice = b.1 }
+    let b = and_parts _ _ e in let c = and_parts _ _ b.0 in let d = and_parts _ _ c.0 in record { reaches_target = d.1; choice = b.1 }
 
 -- what is promoted is no pawn
-pub moved_pawn : (man : Man) (m : Move) (b : Bool) → is_choice b m.promoted ≡ true → is_pawn (moved man m) ≡ true → is_pawn man ≡ true
+pub moved_pawn : (man : Man) (m : Move) (b : Bool) → is_promotion_choice b m.promoted ≡ true → is_pawn (moved man m) ≡ true → is_pawn man ≡ true
 moved_pawn man m b e k = by_choice b m.promoted e k
   where
-    no_officer : (k : Kind) → is_officer k ≡ true → same_kind k Pawn ≡ true → ⊥
+    no_officer : (k : Kind) → is_promotion_piece k ≡ true → same_kind k Pawn ≡ true → ⊥
     no_officer King e k = false≢true e
     no_officer Queen e k = false≢true k
     no_officer Rook e k = false≢true k
@@ -288,7 +288,7 @@ moved_pawn man m b e k = by_choice b m.promoted e k
     no_officer Knight e k = false≢true k
     no_officer Pawn e k = false≢true e
 
-    by_choice : (b : Bool) (o : Option Kind) → is_choice b o ≡ true → same_kind (unwrap_or o man.kind) Pawn ≡ true → same_kind man.kind Pawn ≡ true
+    by_choice : (b : Bool) (o : Option Kind) → is_promotion_choice b o ≡ true → same_kind (unwrap_or o man.kind) Pawn ≡ true → same_kind man.kind Pawn ≡ true
     by_choice b None e k = k
     by_choice true (Some n) e k = absurd (no_officer n e k)
     by_choice false (Some n) e k = absurd (false≢true e)
@@ -297,14 +297,14 @@ no_third : (u w : Bool) → (u && false && w) ≡ false
 no_third true w = refl
 no_third false w = refl
 
-pub no_one_on_target : (q : Option ℕ) (man : Man) (x : ℕ) (xs : List Man) → list_any (λ y. y.at == x) (filter (stays q man x) xs) ≡ false
-unfolding stays
+pub no_one_on_target : (q : Option ℕ) (man : Man) (x : ℕ) (xs : List Man) → list_any (λ y. y.at == x) (filter (survives q man x) xs) ≡ false
+unfolding survives
 no_one_on_target q man x [] = refl
 no_one_on_target q man x (y ∷ ys) =
     kept (not (y.at == man.at)) (y.at == x) (not (is_en_passant q man x && (y.at == 8 * rank_of man.at + file_of x))) refl (no_one_on_target q man x ys)
   where
-    kept : (u v w : Bool) → (y.at == x) ≡ v → list_any (λ z. z.at == x) (filter (stays q man x) ys) ≡ false
-        → list_any (λ z. z.at == x) (cond (u && not v && w) (y ∷ filter (stays q man x) ys) (filter (stays q man x) ys)) ≡ false
+    kept : (u v w : Bool) → (y.at == x) ≡ v → list_any (λ z. z.at == x) (filter (survives q man x) ys) ≡ false
+        → list_any (λ z. z.at == x) (cond (u && not v && w) (y ∷ filter (survives q man x) ys) (filter (survives q man x) ys)) ≡ false
     kept u true w e rest = rw (no_third u w) rest
     kept true false true e rest = rw e rest
     kept true false false e rest = rest
@@ -312,41 +312,41 @@ no_one_on_target q man x (y ∷ ys) =
 
 module _ (s : Symmetry) (p : Position) (turn : IsTurnable s p) where
   module _ (man : Man) (seat : IsSeated s man) (m : Move) (lt : m.target < 64) where
-    can_go-turned : can_go (image s p) (turned_man s man) (image_move s m) ≡ can_go p man m
-    unfolding can_go
-    can_go-turned =
+    is_pseudo_legal-turned : is_pseudo_legal (image s p) (turned_man s man) (image_move s m) ≡ is_pseudo_legal p man m
+    unfolding is_pseudo_legal
+    is_pseudo_legal-turned =
         rw (
           same_side-turned s.colours man.side p.to_move,
           goes-turned s p.men turn.seats p.passed turn.passed man seat m.target lt,
           has_side-turned s p.men turn.seats p.to_move m.target lt,
-          reaches_end-turned s man seat m.target lt,
+          reaches_last_rank-turned s man seat m.target lt,
         )
 
-    stay_seats : Each (IsSeated s) (filter (stays p.passed man m.target) p.men)
-    stay_seats = Each-filter (IsSeated s) (stays p.passed man m.target) p.men turn.seats
+    stay_seats : Each (IsSeated s) (filter (survives p.passed man m.target) p.men)
+    stay_seats = Each-filter (IsSeated s) (survives p.passed man m.target) p.men turn.seats
 
     men_after-turned : men_after (image s p) (turned_man s man) (image_move s m) ≡ turned_men s (men_after p man m)
     unfolding men_after
     men_after-turned =
-        rw (filter_turned s (stays (turned_passed s p.passed) (turned_man s man) (turned_square s m.target)) (stays p.passed man m.target)
+        rw (filter_turned s (survives (turned_passed s p.passed) (turned_man s man) (turned_square s m.target)) (survives p.passed man m.target)
         (λ y l. stays-turned s p.passed turn.passed man seat m.target lt y l) p.men turn.seats)
-        (sym (placed_turned s (moved man m) lt (filter (stays p.passed man m.target) p.men) stay_seats (no_one_on_target p.passed man m.target p.men)))
+        (sym (placed_turned s (moved man m) lt (filter (survives p.passed man m.target) p.men) stay_seats (no_one_on_target p.passed man m.target p.men)))
 
     men_after_seats : IsGoing p man m → Each (IsSeated s) (men_after p man m)
     unfolding men_after
     men_after_seats g =
-        Each-placed (IsSeated s) (moved man m) (filter (stays p.passed man m.target) p.men)
-        (record { on = lt; pawn = λ k. seat.pawn (moved_pawn man m (reaches_end man m.target) g.choice k) }) stay_seats
+        Each-placed (IsSeated s) (moved man m) (filter (survives p.passed man m.target) p.men)
+        (record { on = lt; pawn = λ k. seat.pawn (moved_pawn man m (reaches_last_rank man m.target) g.choice k) }) stay_seats
 
     is_legal_for-turned : is_legal_for (image s p) (turned_man s man) (image_move s m) ≡ is_legal_for p man m
     unfolding is_legal_for
     is_legal_for-turned =
-        and_under (can_go p man m) (can_go (image s p) (turned_man s man) (image_move s m)) (not (in_check (men_after p man m) p.to_move))
-        (not (in_check (men_after (image s p) (turned_man s man) (image_move s m)) (turned_side s.colours p.to_move))) can_go-turned
+        and_under (is_pseudo_legal p man m) (is_pseudo_legal (image s p) (turned_man s man) (image_move s m)) (not (in_check (men_after p man m) p.to_move))
+        (not (in_check (men_after (image s p) (turned_man s man) (image_move s m)) (turned_side s.colours p.to_move))) is_pseudo_legal-turned
         (λ e. rw (men_after-turned, in_check-turned s (men_after p man m) (men_after_seats (IsGoing-from p man m e)) p.to_move))
 
     -- the square that is jumped over
-    jumped-turned : IsGoing p man m → jumped (turned_man s man) (turned_square s m.target) ≡ turned_passed s (jumped man m.target)
+    jumped-turned : IsGoing p man m → passed_by (turned_man s man) (turned_square s m.target) ≡ turned_passed s (passed_by man m.target)
     jumped-turned g =
         let two : (is_pawn man && eqb (ranks_apart (turned_square s man.at) (turned_square s m.target)) 2)
         ≡ (is_pawn man && eqb (ranks_apart man.at m.target) 2) =
@@ -360,7 +360,7 @@ module _ (s : Symmetry) (p : Position) (turn : IsTurnable s p) where
             ≡ turned_passed s (cond b (Some (half_way man.at m.target)) None)
         by_test true e =
             let a = and_parts (is_pawn man) (eqb (ranks_apart man.at m.target) 2) e in
-            let d = IsDouble-from_goes p.men p.passed man m.target g.goes a.0 (eqb_then (ranks_apart man.at m.target) 2 a.1) in
+            let d = IsDouble-from_goes p.men p.passed man m.target g.reaches_target a.0 (eqb_then (ranks_apart man.at m.target) 2 a.1) in
             rw (half_way-turned s (seat.pawn a.0) man.at m.target seat.on lt d)
         by_test false e = refl
 
@@ -372,8 +372,8 @@ module _ (s : Symmetry) (p : Position) (turn : IsTurnable s p) where
     unfolding men_after
     turnable_after g = record {
       seats = men_after_seats g;
-      ordered = IsAscending-placed (moved man m) (filter (stays p.passed man m.target) p.men)
-          (IsAscending-filter (stays p.passed man m.target) p.men turn.ordered)
+      ordered = IsAscending-placed (moved man m) (filter (survives p.passed man m.target) p.men)
+          (IsAscending-filter (survives p.passed man m.target) p.men turn.ordered)
           (no_one_on_target p.passed man m.target p.men);
       passed = on_board (is_pawn man && eqb (ranks_apart man.at m.target) 2);
     }
@@ -418,7 +418,7 @@ module _ (s : Symmetry) (p : Position) (turn : IsTurnable s p) where
       (omega (arith, found.1), h.moves.target)
 
   going_mover : (m : Move) (h : HasMover p m) → IsGoing p h.man m
-  going_mover m h = record { goes = h.moves.going; choice = h.moves.choice }
+  going_mover m h = record { reaches_target = h.moves.going; choice = h.moves.choice }
 
   -- the position after the image of a legal move is the image of the position after it
   pub after-turned : (m : Move) → is_legal p m ≡ true → after (image s p) (image_move s m) ≡ image s (after p m)

@@ -30,5 +30,5 @@ unfoldable pub is_mate : Position → Bool
 is_mate p = in_check p.men p.to_move && length (legal_list p) == 0
 
 -- a legal move of the man to the square is a capture: a man stands there, or the pawn takes in passing
-unfoldable pub takes : Position → Man → ℕ → Bool
-takes p man x = is_occupied p.men x || is_en_passant p.passed man x
+unfoldable pub is_capture : Position → Man → ℕ → Bool
+is_capture p man x = is_occupied p.men x || is_en_passant p.passed man x

@@ -15,11 +15,11 @@ use Rattle.study_notation.specs.Words.{words}
 use Rattle.study_notation.specs.Fen.{fields_of, squares_of, is_rank, placement, placement_fault, position_of, count_of, start_of}
 use Rattle.study_notation.specs.FenSpelling.{rank_field, ranks_text, placement_text}
 use Rattle.study_moves.specs.declared.moves.Move.{Move}
-use Rattle.study_moves.specs.Rules.{is_legal, is_legal_for, can_go, goes, has_side, men_after, stays, is_en_passant, pawn_steps, pawn_double_steps, pawn_takes}
+use Rattle.study_moves.specs.Rules.{is_legal, is_legal_for, is_pseudo_legal, reaches_target, has_side, men_after, survives, is_en_passant, pawn_steps, pawn_double_steps, pawn_takes}
 use Rattle.study_notation.specs.San.{san_text}
-use Rattle.study_moves.specs.LegalList.{takes}
+use Rattle.study_moves.specs.LegalList.{is_capture}
 use Rattle.study_notation.specs.Written.{is_rival, has_rival, has_file_rival, gives_file, gives_rank, san_for}
-use Rattle.study_notation.specs.SanParts.{kind_at, file_at, rank_at, takes_at, officer_of, officer_at, promotion_at, squares_at, san_of, is_castling}
+use Rattle.study_notation.specs.SanParts.{kind_at, file_at, rank_at, takes_at, promotion_piece, promotion_piece_at, promotion_at, squares_at, san_of, is_castling}
 
 abbrev man : Side → Kind → ℕ → Man
 man s k a = record { side = s; kind = k; at = a }
@@ -56,8 +56,8 @@ abbrev to_e2 : ℕ → Move
 to_e2 a = record { origin = a; target = 12; promoted = None }
 
 knights : san_text (san_for row_11 (man White Knight 18) (to_e2 18)) true ≡ codes "Nce2"
-unfolding san_for gives_file gives_rank has_rival has_file_rival is_rival takes is_legal is_legal_for can_go goes
-    pawn_steps pawn_double_steps pawn_takes has_side men_after stays is_en_passant in_check is_attacked reaches
+unfolding san_for gives_file gives_rank has_rival has_file_rival is_rival is_capture is_legal is_legal_for is_pseudo_legal reaches_target
+    pawn_steps pawn_double_steps pawn_takes has_side men_after survives is_en_passant in_check is_attacked reaches
     is_blocked on_rook_line on_bishop_line king_step knight_jump strictly_between pawn_captures is_occupied
 knights = refl
 
@@ -70,8 +70,8 @@ in_passing : san_text
       passed = Some 19;
     }) (man Black Pawn 28)
     (record { origin = 28; target = 19; promoted = None })) true ≡ codes "exd3"
-unfolding san_for gives_file gives_rank has_rival has_file_rival is_rival takes is_legal is_legal_for can_go goes
-    pawn_steps pawn_double_steps pawn_takes has_side men_after stays is_en_passant in_check is_attacked reaches
+unfolding san_for gives_file gives_rank has_rival has_file_rival is_rival is_capture is_legal is_legal_for is_pseudo_legal reaches_target
+    pawn_steps pawn_double_steps pawn_takes has_side men_after survives is_en_passant in_check is_attacked reaches
     is_blocked on_rook_line on_bishop_line king_step knight_jump strictly_between pawn_captures is_occupied
 in_passing = refl
 
@@ -98,20 +98,20 @@ unfolding count_of
 long_count = refl
 
 -- row 11
-with_origin : san_of (codes "Nc3e2+!?") ≡ Some (record { kind = Knight; file = Some 2; rank = Some 2; takes = false; target = 12; promoted = None })
-unfolding san_of kind_at squares_at file_at rank_at takes_at promotion_at officer_at officer_of
+with_origin : san_of (codes "Nc3e2+!?") ≡ Some (record { kind = Knight; file = Some 2; rank = Some 2; is_capture = false; target = 12; promoted = None })
+unfolding san_of kind_at squares_at file_at rank_at takes_at promotion_at promotion_piece_at promotion_piece
 with_origin = refl
 
-promotion : san_of (codes "exd8Q#") ≡ Some (record { kind = Pawn; file = Some 4; rank = None; takes = true; target = 59; promoted = Some Queen })
-unfolding san_of kind_at squares_at file_at rank_at takes_at promotion_at officer_at officer_of
+promotion : san_of (codes "exd8Q#") ≡ Some (record { kind = Pawn; file = Some 4; rank = None; is_capture = true; target = 59; promoted = Some Queen })
+unfolding san_of kind_at squares_at file_at rank_at takes_at promotion_at promotion_piece_at promotion_piece
 promotion = refl
 
 no_move : san_of (codes "Nz9") ≡ None
-unfolding san_of kind_at squares_at file_at rank_at takes_at promotion_at officer_at officer_of
+unfolding san_of kind_at squares_at file_at rank_at takes_at promotion_at promotion_piece_at promotion_piece
 no_move = refl
 
 two_ends : san_of (codes "e4+#") ≡ None
-unfolding san_of kind_at squares_at file_at rank_at takes_at promotion_at officer_at officer_of
+unfolding san_of kind_at squares_at file_at rank_at takes_at promotion_at promotion_piece_at promotion_piece
 two_ends = refl
 
 castling : is_castling (codes "0-0-0+!") ≡ true

@@ -7,7 +7,7 @@ use Rattle.study_board.specs.declared.men.Kind.{Kind}
 use Rattle.study_board.specs.Geometry.{file_of, rank_of}
 use Rattle.study_board.specs.Position.{Position, IsValid, man_at, in_check}
 use Rattle.study_moves.specs.declared.moves.Move.{Move}
-use Rattle.study_moves.specs.Rules.{is_legal, is_choice, is_officer, reaches_end, after}
+use Rattle.study_moves.specs.Rules.{is_legal, is_promotion_choice, is_promotion_piece, reaches_last_rank, after}
 use Rattle.study_moves.proofs.MenOfList.{found_among, All-among}
 use Rattle.study_moves.proofs.NoMoveBetween.{HasMover-from_is_legal}
 use Rattle.study_notation.specs.declared.san.San.{San}
@@ -24,18 +24,18 @@ some_below : (b : Bool) (n k : ℕ) → n < k → IfSome (cond b (Some n) None) 
 some_below true n k lt = lt
 some_below false n k lt = tt
 
-officer_chosen : (b : Bool) (q : Option Kind) → is_choice b q ≡ true → IfSome q (λ k. is_officer k ≡ true)
+officer_chosen : (b : Bool) (q : Option Kind) → is_promotion_choice b q ≡ true → IfSome q (λ k. is_promotion_piece k ≡ true)
 officer_chosen b None e = tt
 officer_chosen true (Some k) e = e
 officer_chosen false (Some k) e = absurd (false≢true e)
 
-fits_for : (p : Position) (man : Man) (m : Move) → man.at < 64 → m.target < 64 → is_choice (reaches_end man m.target) m.promoted ≡ true → Fits (san_for p man m)
+fits_for : (p : Position) (man : Man) (m : Move) → man.at < 64 → m.target < 64 → is_promotion_choice (reaches_last_rank man m.target) m.promoted ≡ true → Fits (san_for p man m)
 unfolding san_for
 fits_for p man m at target choice = record {
   file = some_below (gives_file p man m.target) (file_of man.at) 8 (omega arith);
   rank = some_below (gives_rank p man m.target) (rank_of man.at) 8 (omega arith);
   target = target;
-  promoted = officer_chosen (reaches_end man m.target) m.promoted choice;
+  promoted = officer_chosen (reaches_last_rank man m.target) m.promoted choice;
 }
 
 check_ending : (p : Position) → is_ending (check_text p) ≡ true

@@ -11,13 +11,13 @@ use Rattle.study_board.specs.Men.{same_side, same_kind, is_man, is_pawn}
 use Rattle.study_board.specs.EqualLaws.{side_self, sides_equal, kind_self, kinds_equal}
 use Rattle.study_board.specs.Position.{Position, IsValid, man_at}
 use Rattle.study_moves.specs.declared.moves.Move.{Move}
-use Rattle.study_moves.specs.Rules.{is_legal, is_choice, reaches_end}
+use Rattle.study_moves.specs.Rules.{is_legal, is_promotion_choice, reaches_last_rank}
 use Rattle.study_moves.specs.Order.{move_place}
 use Rattle.study_moves.proofs.HowMenGo.{IsCapture}
 use Rattle.study_moves.proofs.MenOfList.{IsAmong, found_among, list_any-from, some_among}
 use Rattle.study_moves.proofs.NoMoveBetween.{IsMoveOf, HasMover-from_is_legal}
 use Rattle.study_notation.specs.declared.san.San.{San}
-use Rattle.study_moves.specs.LegalList.{legal_list, takes}
+use Rattle.study_moves.specs.LegalList.{legal_list, is_capture}
 use Rattle.study_notation.specs.Matching.{same_promotion, fits_given, fits_takes, agrees, matches}
 use Rattle.study_notation.specs.Written.{is_rival, has_rival, has_file_rival, gives_file, gives_rank, san_for}
 use Rattle.study_moves.proofs.AscendingKeys.{alone}
@@ -42,7 +42,7 @@ record Agrees (p : Position) (s : San) (man : Man) (m : Move) : Type 0 where
   file : fits_given s.file (file_of m.origin) ≡ true
   rank : fits_given s.rank (rank_of m.origin) ≡ true
   promoted : same_promotion s.promoted m.promoted ≡ true
-  captures : fits_takes s.takes (takes p man m.target) (is_pawn man) ≡ true
+  captures : fits_takes s.is_capture (is_capture p man m.target) (is_pawn man) ≡ true
 
 agrees_parts : (p : Position) (s : San) (man : Man) (m : Move) → agrees p s man m ≡ true → Agrees p s man m
 unfolding agrees
@@ -78,10 +78,10 @@ given_is : (b : Bool) (g n : ℕ) → b ≡ true → fits_given (cond b (Some g)
 given_is true g n e h = eqb-true g n h
 given_is false g n e h = absurd (false≢true e)
 
-piece_choice : (man : Man) (x : ℕ) (q : Option Kind) → is_pawn man ≡ false → is_choice (reaches_end man x) q ≡ true → q ≡ None
+piece_choice : (man : Man) (x : ℕ) (q : Option Kind) → is_pawn man ≡ false → is_promotion_choice (reaches_last_rank man x) q ≡ true → q ≡ None
 piece_choice man x None e h = refl
 piece_choice man x (Some k) e h =
-    let c : is_choice false (Some k) ≡ true = rw e at h in
+    let c : is_promotion_choice false (Some k) ≡ true = rw e at h in
     absurd (false≢true c)
 
 -- a legal move and its man
@@ -129,23 +129,23 @@ module _ (p : Position) (valid : IsValid p) (man : Man) (m : Move) (h : IsMove p
   unfolding san_for
   rank_given e = given_is (gives_rank p man m.target) (rank_of man.at) (rank_of n.origin) e a.rank
 
-  takes_written : is_pawn man ≡ true → takes p other m.target ≡ takes p man m.target
+  takes_written : is_pawn man ≡ true → is_capture p other m.target ≡ is_capture p man m.target
   unfolding san_for
-  takes_written e = pawn_written (takes p man m.target) (takes p other m.target) (is_pawn other)
-      (is_pawn_too true e) (subst (λ x. fits_takes (takes p man m.target) (takes p other x) (is_pawn other) ≡ true)
+  takes_written e = pawn_written (is_capture p man m.target) (is_capture p other m.target) (is_pawn other)
+      (is_pawn_too true e) (subst (λ x. fits_takes (is_capture p man m.target) (is_capture p other x) (is_pawn other) ≡ true)
       same_targets a.captures)
 
-  pawn_gives : is_pawn man ≡ true → gives_file p man m.target ≡ takes p man m.target
+  pawn_gives : is_pawn man ≡ true → gives_file p man m.target ≡ is_capture p man m.target
   unfolding gives_file
   pawn_gives e = rw e refl
 
-  others : is_pawn other ≡ true → ((takes p other m.target ≡ false) × Advances p.men man.side other.at m.target)
-      ⊎ ((takes p other m.target ≡ true) × IsCapture man.side other.at m.target)
+  others : is_pawn other ≡ true → ((is_capture p other m.target ≡ false) × Advances p.men man.side other.at m.target)
+      ⊎ ((is_capture p other m.target ≡ true) × IsCapture man.side other.at m.target)
   others pawn =
-      let X : ℕ → Type 0 = λ x. ((takes p other x ≡ false) × Advances p.men other.side other.at x)
-      ⊎ ((takes p other x ≡ true) × IsCapture other.side other.at x) in
-      let S : Side → Type 0 = λ s. ((takes p other m.target ≡ false) × Advances p.men s other.at m.target)
-      ⊎ ((takes p other m.target ≡ true) × IsCapture s other.at m.target) in
+      let X : ℕ → Type 0 = λ x. ((is_capture p other x ≡ false) × Advances p.men other.side other.at x)
+      ⊎ ((is_capture p other x ≡ true) × IsCapture other.side other.at x) in
+      let S : Side → Type 0 = λ s. ((is_capture p other m.target ≡ false) × Advances p.men s other.at m.target)
+      ⊎ ((is_capture p other m.target ≡ true) × IsCapture s other.at m.target) in
       subst S same_sides (subst X same_targets (advances_or_captures p other n.target pawn k.moves.going))
 
   same_pawn : is_pawn man ≡ true → man.at ≡ other.at
@@ -255,7 +255,7 @@ itself p man m h = agrees_from p (san_for p man m) man m (record {
   rank = subst (λ o. fits_given (cond (gives_rank p man m.target) (Some (rank_of man.at)) None) (rank_of o) ≡ true)
       h.at (given_fits (gives_rank p man m.target) (rank_of man.at));
   promoted = promotion_self m.promoted;
-  captures = fits_itself (takes p man m.target) (is_pawn man);
+  captures = fits_itself (is_capture p man m.target) (is_pawn man);
 })
 
 matches_at : (p : Position) (s : San) (man : Man) (m : Move) → man_at p.men m.origin ≡ Some man → matches p s m ≡ agrees p s man m

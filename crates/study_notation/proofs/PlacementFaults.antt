@@ -20,7 +20,7 @@ use Rattle.study_board.specs.Men.{other_side}
 use Rattle.study_moves.proofs.MenOfList.{has_square_twice-ascending}
 use Rattle.study_notation.specs.declared.placement.Piece.{Piece}
 use Rattle.study_notation.specs.declared.fault.FenFault.{FenFault}
-use Rattle.study_notation.specs.Fen.{placement, placement_fault, of_placement, position_of, men_from, squares}
+use Rattle.study_notation.specs.Fen.{placement, placement_fault, fen_fault_of_men, position_of, men_from, squares}
 
 AllAbove-men_from : (k n : ℕ) (cells : List (Option Piece)) → k < n → AllAbove k (men_from n cells)
 AllAbove-men_from k n [] lt = tt
@@ -43,7 +43,7 @@ IsAscending-placement text men e =
 
 abbrev pub told : Option PositionFault → Option FenFault
 told None = None
-told (Some fault) = of_placement fault
+told (Some fault) = fen_fault_of_men fault
 
 pub placement_fault-told : (men : List Man) → IsAscending men → placement_fault men ≡ told (first_fault men White None)
 unfolding placement_fault first_fault

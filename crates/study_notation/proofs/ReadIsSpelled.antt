@@ -7,10 +7,10 @@ use Rattle.std.proofs.lemmas.Bool.{cases_Bool, eqb-true, leb-true, and_parts}
 use Rattle.study_board.specs.declared.men.Kind.{Kind}
 use Rattle.study_notation.specs.declared.san.San.{San}
 use Rattle.study_notation.specs.San.{Says, kind_text, file_text, rank_text, takes_text, promotion_text, is_ending}
-use Rattle.study_moves.specs.Rules.{is_officer}
+use Rattle.study_moves.specs.Rules.{is_promotion_piece}
 use Rattle.study_notation.specs.FenSpelling.{square_text}
-use Rattle.study_notation.specs.SanParts.{◌>>=◌, Squares, kind_at, file_at, rank_at, takes_at}
-use Rattle.study_notation.specs.SanParts.{officer_of, officer_at, given, wanted, promotion_at}
+use Rattle.study_notation.specs.SanParts.{◌>>=◌, SanSquares, kind_at, file_at, rank_at, takes_at}
+use Rattle.study_notation.specs.SanParts.{promotion_piece, promotion_piece_at, given, wanted, promotion_at}
 use Rattle.study_notation.specs.SanParts.{squares_from, rank_behind, squares_at, san_of}
 
 bind_some : {A B : Type 0} (o : Option A) (f : A → Option B) (y : B) → (o >>= f) ≡ Some y → (x : A) × (o ≡ Some x) × (f x ≡ Some y)
@@ -71,23 +71,23 @@ unfolding takes_at
 takes_takes [] = refl
 takes_takes (b ∷ bs) = elim (cases_Bool (eqb b 120)) [ inl h ↦ rw h (ap (λ c. c ∷ bs) (eqb-true b 120 h)) | inr h ↦ rw h refl ]
 
-abbrev coords : Squares → List ℕ → List ℕ
-coords q t = file_text q.file ++ (rank_text q.rank ++ (takes_text q.takes ++ (square_text q.target ++ t)))
+abbrev coords : SanSquares → List ℕ → List ℕ
+coords q t = file_text q.file ++ (rank_text q.rank ++ (takes_text q.is_capture ++ (square_text q.target ++ t)))
 
-pub record Found (text : List ℕ) (q : Squares) (rest : List ℕ) : Type 0 where
+pub record Found (text : List ℕ) (q : SanSquares) (rest : List ℕ) : Type 0 where
   pub parts : text ≡ coords q rest
   pub file : IfSome q.file (λ f. f < 8)
   pub rank : IfSome q.rank (λ r. r < 8)
   pub target : q.target < 64
 
 found_at : (f r : Option ℕ) (x : Bool) (a b : ℕ) (t : List ℕ) → IfSome f (λ k. k < 8) → IfSome r (λ k. k < 8) → a < 8 → b < 8
-    → Found (file_text f ++ (rank_text r ++ (takes_text x ++ ((97 + a) ∷ (49 + b) ∷ t)))) (record { file = f; rank = r; takes = x; target = 8 * b + a }) t
+    → Found (file_text f ++ (rank_text r ++ (takes_text x ++ ((97 + a) ∷ (49 + b) ∷ t)))) (record { file = f; rank = r; is_capture = x; target = 8 * b + a }) t
 found_at f r x a b t hf hr ha hb =
     let m : (8 * b + a) % 8 ≡ a = omega arith in
     let d : (8 * b + a) / 8 ≡ b = omega arith in
     record { parts = rw (m, d) refl; file = hf; rank = hr; target = omega arith }
 
-abbrev ends : List ℕ → Squares → Option (Squares × List ℕ)
+abbrev ends : List ℕ → SanSquares → Option (SanSquares × List ℕ)
 ends t s = Some (s, t)
 
 abbrev some : {A : Type 0} → A → Option A
@@ -96,19 +96,19 @@ some x = Some x
 some_is : {A : Type 0} (x y : A) → some x ≡ some y → x ≡ y
 some_is x y e = cc
 
-behind : (f r : Option ℕ) (x : Bool) (a : ℕ) (u : List ℕ) (tr : Option ℕ) (t : List ℕ) (q : Squares) (rest : List ℕ)
+behind : (f r : Option ℕ) (x : Bool) (a : ℕ) (u : List ℕ) (tr : Option ℕ) (t : List ℕ) (q : SanSquares) (rest : List ℕ)
     → IfSome f (λ k. k < 8) → IfSome r (λ k. k < 8) → a < 8 → u ≡ rank_text tr ++ t → IfSome tr (λ k. k < 8)
     → (squares_from f r x (Some a) tr >>= ends t) ≡ Some (q, rest) → Found (file_text f ++ (rank_text r ++ (takes_text x ++ ((97 + a) ∷ u)))) q rest
 behind f r x a u None t q rest hf hr ha k hb e = absurd cc
 behind f r x a u (Some b) t q rest hf hr ha k hb e =
-    let made : Squares × List ℕ = (record { file = f; rank = r; takes = x; target = 8 * b + a }, t) in
+    let made : SanSquares × List ℕ = (record { file = f; rank = r; is_capture = x; target = 8 * b + a }, t) in
     subst (λ (v : List ℕ). Found (file_text f ++ (rank_text r ++ (takes_text x ++ ((97 + a) ∷ v)))) q rest) (sym k)
     (subst
-    (λ (y : Squares × List ℕ). Found
+    (λ (y : SanSquares × List ℕ). Found
     (file_text f ++ (rank_text r ++ (takes_text x ++ ((97 + a) ∷ (49 + b) ∷ t)))) y.0 y.1)
     (some_is made (q, rest) e) (found_at f r x a b t hf hr ha hb))
 
-from_takes : (f r : Option ℕ) (x : Bool) (tf : Option ℕ) (u : List ℕ) (q : Squares) (rest : List ℕ)
+from_takes : (f r : Option ℕ) (x : Bool) (tf : Option ℕ) (u : List ℕ) (q : SanSquares) (rest : List ℕ)
     → IfSome f (λ k. k < 8) → IfSome r (λ k. k < 8) → IfSome tf (λ k. k < 8)
     → (squares_from f r x tf (rank_behind (tf, u)).0 >>= ends (rank_behind (tf, u)).1) ≡ Some (q, rest)
     → Found (file_text f ++ (rank_text r ++ (takes_text x ++ (file_text tf ++ u)))) q rest
@@ -119,10 +119,10 @@ from_takes None r x None u q rest hf hr ha e = absurd cc
 from_takes (Some f) None x None u q rest hf hr ha e = absurd cc
 from_takes (Some f) (Some r) true None u q rest hf hr ha e = absurd cc
 from_takes (Some f) (Some r) false None u q rest hf hr ha e =
-    let made : Squares × List ℕ = (record { file = None; rank = None; takes = false; target = 8 * r + f }, u) in
-    subst (λ (y : Squares × List ℕ). Found ((97 + f) ∷ (49 + r) ∷ u) y.0 y.1) (some_is made (q, rest) e) (found_at None None false f r u tt tt hf hr)
+    let made : SanSquares × List ℕ = (record { file = None; rank = None; is_capture = false; target = 8 * r + f }, u) in
+    subst (λ (y : SanSquares × List ℕ). Found ((97 + f) ∷ (49 + r) ∷ u) y.0 y.1) (some_is made (q, rest) e) (found_at None None false f r u tt tt hf hr)
 
-squares_takes : (text : List ℕ) (q : Squares) (rest : List ℕ) → squares_at text ≡ Some (q, rest) → Found text q rest
+squares_takes : (text : List ℕ) (q : SanSquares) (rest : List ℕ) → squares_at text ≡ Some (q, rest) → Found text q rest
 unfolding squares_at
 squares_takes text q rest e =
     let f = file_at text in
@@ -141,10 +141,10 @@ squares_takes text q rest e =
 -- ---- the promotion
 
 abbrev IsLetter : ℕ → Option Kind → Type 0
-IsLetter b o = IfSome o (λ k. (b ∷ [] ≡ kind_text k) × (is_officer k ≡ true))
+IsLetter b o = IfSome o (λ k. (b ∷ [] ≡ kind_text k) × (is_promotion_piece k ≡ true))
 
-officer_takes : (b : ℕ) → IsLetter b (officer_of b)
-unfolding officer_of
+officer_takes : (b : ℕ) → IsLetter b (promotion_piece b)
+unfolding promotion_piece
 officer_takes b =
     elim (cases_Bool (eqb b 81)) [
       | inl h ↦ rw h (ap (λ c. c ∷ []) (eqb-true b 81 h), refl)
@@ -161,7 +161,7 @@ officer_takes b =
     ]
 
 abbrev Promotes : List ℕ → Option Kind → List ℕ → Type 0
-Promotes text p rest = ((equals : Bool) × (text ≡ promotion_text equals p ++ rest)) × IfSome p (λ k. is_officer k ≡ true)
+Promotes text p rest = ((equals : Bool) × (text ≡ promotion_text equals p ++ rest)) × IfSome p (λ k. is_promotion_piece k ≡ true)
 
 -- a letter or none, and the bytes after it
 given_takes : (o : Option Kind) (b : ℕ) (bs : List ℕ) → IsLetter b o → Promotes (b ∷ bs) (given o b bs).0 (given o b bs).1
@@ -175,16 +175,16 @@ wanted_takes (Some k) b bs p rest h e =
     let made : Option Kind × List ℕ = (Some k, bs) in
     subst (λ (y : Option Kind × List ℕ). Promotes (61 ∷ b ∷ bs) y.0 y.1) (some_is made (p, rest) e) ((true, ap (λ (t : List ℕ). 61 ∷ (t ++ bs)) h.0), h.1)
 
-equals_takes : (bs : List ℕ) (p : Option Kind) (rest : List ℕ) → wanted (officer_at bs) ≡ Some (p, rest) → Promotes (61 ∷ bs) p rest
-unfolding officer_at
+equals_takes : (bs : List ℕ) (p : Option Kind) (rest : List ℕ) → wanted (promotion_piece_at bs) ≡ Some (p, rest) → Promotes (61 ∷ bs) p rest
+unfolding promotion_piece_at
 equals_takes [] p rest e = absurd cc
-equals_takes (b ∷ bs) p rest e = wanted_takes (officer_of b) b bs p rest (officer_takes b) e
+equals_takes (b ∷ bs) p rest e = wanted_takes (promotion_piece b) b bs p rest (officer_takes b) e
 
-plain_takes : (b : ℕ) (bs : List ℕ) (p : Option Kind) (rest : List ℕ) → some (officer_at (b ∷ bs)) ≡ some (p, rest) → Promotes (b ∷ bs) p rest
-unfolding officer_at
+plain_takes : (b : ℕ) (bs : List ℕ) (p : Option Kind) (rest : List ℕ) → some (promotion_piece_at (b ∷ bs)) ≡ some (p, rest) → Promotes (b ∷ bs) p rest
+unfolding promotion_piece_at
 plain_takes b bs p rest e =
     subst (λ (y : Option Kind × List ℕ). Promotes (b ∷ bs) y.0 y.1)
-    (some_is (given (officer_of b) b bs) (p, rest) e) (given_takes (officer_of b) b bs (officer_takes b))
+    (some_is (given (promotion_piece b) b bs) (p, rest) e) (given_takes (promotion_piece b) b bs (officer_takes b))
 
 promotion_takes : (text : List ℕ) (p : Option Kind) (rest : List ℕ) → promotion_at text ≡ Some (p, rest) → Promotes text p rest
 unfolding promotion_at
@@ -206,27 +206,27 @@ guard_some false x y e = absurd cc
 regrouped : (a b c d e f t : List ℕ) → (a ++ (b ++ (c ++ (d ++ (e ++ f))))) ++ t ≡ a ++ (b ++ (c ++ (d ++ (e ++ (f ++ t)))))
 regrouped a b c d e f t = simp append_assoc
 
-abbrev made : Kind → Squares → Option Kind → San
-made k q p = record { kind = k; file = q.file; rank = q.rank; takes = q.takes; target = q.target; promoted = p }
+abbrev made : Kind → SanSquares → Option Kind → San
+made k q p = record { kind = k; file = q.file; rank = q.rank; is_capture = q.is_capture; target = q.target; promoted = p }
 
 -- the parts of a text, one after another
-assembled : (text : List ℕ) (k : Kind) (at_squares : List ℕ) (q : Squares) (at_promotion : List ℕ) (p : Option Kind) (ending : List ℕ)
+assembled : (text : List ℕ) (k : Kind) (at_squares : List ℕ) (q : SanSquares) (at_promotion : List ℕ) (p : Option Kind) (ending : List ℕ)
     → text ≡ kind_text k ++ at_squares → Found at_squares q at_promotion → Promotes at_promotion p ending → is_ending ending ≡ true → Says text (made k q p)
 assembled text k at_squares q at_promotion p ending begins found promotes ends =
     let equals = promotes.0.0 in
     let rest : at_squares ≡ coords q (promotion_text equals p ++ ending) = found.parts ∙ ap (λ (t : List ℕ). coords q t) promotes.0.1 in
     let whole : text ≡ kind_text k ++ coords q (promotion_text equals p ++ ending) = begins ∙ ap (λ (t : List ℕ). kind_text k ++ t) rest in
-    let grouped = regrouped (kind_text k) (file_text q.file) (rank_text q.rank) (takes_text q.takes) (square_text q.target) (promotion_text equals p) ending in
+    let grouped = regrouped (kind_text k) (file_text q.file) (rank_text q.rank) (takes_text q.is_capture) (square_text q.target) (promotion_text equals p) ending in
     (record { file = found.file; rank = found.rank; target = found.target; promoted = promotes.1 }, (equals, ending, ends, whole ∙ sym grouped))
 
-abbrev ended : Kind → Squares → Option Kind × List ℕ → Option San
+abbrev ended : Kind → SanSquares → Option Kind × List ℕ → Option San
 ended k q p = cond (is_ending p.1) (Some (made k q p.0)) None
 
 pub says : (text : List ℕ) (s : San) → san_of text ≡ Some s → Says text s
 unfolding san_of
 says text s e =
     let k = kind_at text in
-    let a = bind_some (squares_at k.1) (λ (q : Squares × List ℕ). promotion_at q.1 >>= ended k.0 q.0) s e in
+    let a = bind_some (squares_at k.1) (λ (q : SanSquares × List ℕ). promotion_at q.1 >>= ended k.0 q.0) s e in
     let q = a.0 in
     let b = bind_some (promotion_at q.1) (ended k.0 q.0) s a.2 in
     let p = b.0 in

@@ -7,9 +7,9 @@ use Rattle.study_board.specs.declared.men.Kind.{Kind}
 use Rattle.study_board.specs.declared.men.Kind.TheVariants.{King, Queen, Rook, Bishop, Knight, Pawn}
 use Rattle.study_notation.specs.declared.san.San.{San}
 use Rattle.study_notation.specs.San.{Fits, kind_text, file_text, rank_text, takes_text, promotion_text, san_text, is_glyph, is_glyphs, is_ending}
-use Rattle.study_moves.specs.Rules.{is_officer}
+use Rattle.study_moves.specs.Rules.{is_promotion_piece}
 use Rattle.study_notation.specs.FenSpelling.{square_text}
-use Rattle.study_notation.specs.SanParts.{Squares, kind_at, file_at, rank_at, takes_at, officer_of, officer_at, promotion_at, squares_at, san_of}
+use Rattle.study_notation.specs.SanParts.{SanSquares, kind_at, file_at, rank_at, takes_at, promotion_piece, promotion_piece_at, promotion_at, squares_at, san_of}
 
 -- a byte that is no coordinate and no `x`
 abbrev pub Aside : ℕ → Type 0
@@ -68,8 +68,8 @@ takes_aside (b ∷ t) h = let lt = h.0 in rw (ne_eqb b 120 (λ e. omega arith)) 
 abbrev pub coords : Option ℕ → Option ℕ → Bool → ℕ → List ℕ → List ℕ
 coords f r x s t = file_text f ++ (rank_text r ++ (takes_text x ++ (square_text s ++ t)))
 
-abbrev made : Option ℕ → Option ℕ → Bool → ℕ → Squares
-made f r x s = record { file = f; rank = r; takes = x; target = s }
+abbrev made : Option ℕ → Option ℕ → Bool → ℕ → SanSquares
+made f r x s = record { file = f; rank = r; is_capture = x; target = s }
 
 squares_again : (f r : Option ℕ) (x : Bool) (s : ℕ) (t : List ℕ) → IfSome f (λ k. k < 8) → IfSome r (λ k. k < 8)
     → s < 64 → AsideFirst t → squares_at (coords f r x s t) ≡ Some (made f r x s, t)
@@ -222,15 +222,15 @@ ending_aside [] h = tt
 ending_aside (b ∷ bs) h = aside_byte b (ending_byte b bs h)
 
 no_promotion : (b : ℕ) (bs : List ℕ) → EndingByte b → promotion_at (b ∷ bs) ≡ Some (None, b ∷ bs)
-unfolding promotion_at officer_at officer_of
+unfolding promotion_at promotion_piece_at promotion_piece
 no_promotion b bs (inl e) = rw e refl
 no_promotion b bs (inr (inl e)) = rw e refl
 no_promotion b bs (inr (inr (inl e))) = rw e refl
 no_promotion b bs (inr (inr (inr e))) = rw e refl
 
-promotion_again : (equals : Bool) (p : Option Kind) (t : List ℕ) → IfSome p (λ k. is_officer k ≡ true)
+promotion_again : (equals : Bool) (p : Option Kind) (t : List ℕ) → IfSome p (λ k. is_promotion_piece k ≡ true)
     → is_ending t ≡ true → promotion_at (promotion_text equals p ++ t) ≡ Some (p, t)
-unfolding promotion_at officer_at officer_of
+unfolding promotion_at promotion_piece_at promotion_piece
 promotion_again equals None [] h e = refl
 promotion_again equals None (b ∷ t) h e = no_promotion b t (ending_byte b t e)
 promotion_again true (Some Queen) t h e = refl
@@ -246,7 +246,7 @@ promotion_again false (Some Knight) t h e = refl
 promotion_again false (Some King) t h e = absurd cc
 promotion_again false (Some Pawn) t h e = absurd cc
 
-promotion_aside : (equals : Bool) (p : Option Kind) (t : List ℕ) → IfSome p (λ k. is_officer k ≡ true)
+promotion_aside : (equals : Bool) (p : Option Kind) (t : List ℕ) → IfSome p (λ k. is_promotion_piece k ≡ true)
     → is_ending t ≡ true → AsideFirst (promotion_text equals p ++ t)
 promotion_aside equals None t h e = ending_aside t e
 promotion_aside true (Some k) t h e = (omega arith, inr (omega arith))
@@ -266,13 +266,13 @@ pub san_again : (s : San) (equals : Bool) (ending : List ℕ) → Fits s → is_
 unfolding san_of
 san_again s equals ending fits e =
     let p = promotion_text equals s.promoted ++ ending in
-    let t = coords s.file s.rank s.takes s.target p in
+    let t = coords s.file s.rank s.is_capture s.target p in
     let whole : san_text s equals ++ ending ≡ kind_text s.kind ++ t =
-    regrouped (kind_text s.kind) (file_text s.file) (rank_text s.rank) (takes_text s.takes)
+    regrouped (kind_text s.kind) (file_text s.file) (rank_text s.rank) (takes_text s.is_capture)
     (square_text s.target) (promotion_text equals s.promoted) ending in
     ap san_of whole ∙ rw (
-      kind_again s.kind t (coords_start s.file s.rank s.takes s.target p fits.rank),
-      squares_again s.file s.rank s.takes s.target p fits.file fits.rank fits.target
+      kind_again s.kind t (coords_start s.file s.rank s.is_capture s.target p fits.rank),
+      squares_again s.file s.rank s.is_capture s.target p fits.file fits.rank fits.target
           (promotion_aside equals s.promoted ending fits.promoted e),
       promotion_again equals s.promoted ending
           fits.promoted e,

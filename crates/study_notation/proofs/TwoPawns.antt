@@ -9,10 +9,10 @@ use Rattle.study_board.specs.Geometry.{file_of, rank_of, files_apart}
 use Rattle.study_board.specs.Men.{same_side, other_side, pawn_captures, is_pawn}
 use Rattle.study_board.specs.Position.{Position, is_occupied, is_empty}
 use Rattle.study_moves.specs.Rules.{has_side, is_square, is_ahead, starting_rank, half_way, pawn_steps}
-use Rattle.study_moves.specs.Rules.{pawn_double_steps, pawn_takes, goes, is_en_passant}
+use Rattle.study_moves.specs.Rules.{pawn_double_steps, pawn_takes, reaches_target, is_en_passant}
 use Rattle.study_moves.proofs.HowMenGo.{IsAheadBy, IsStep, IsDoubleStep, IsCapture, pawn_ways}
 use Rattle.study_moves.proofs.MenOfList.{IsAmong, list_any-from, some_among}
-use Rattle.study_moves.specs.LegalList.{takes}
+use Rattle.study_moves.specs.LegalList.{is_capture}
 
 occupied_by : (men : List Man) (m : Man) → IsAmong m men → is_occupied men m.at ≡ true
 unfolding is_occupied
@@ -35,8 +35,8 @@ passing : (q : Option ℕ) (man : Man) (x : ℕ) → is_pawn man ≡ true → (f
 unfolding is_en_passant
 passing q man x pawn aside e = and_from _ _ (and_from _ _ pawn (not_from_false _ (ne_eqb (file_of man.at) (file_of x) aside))) e
 
-no_capture : (p : Position) (man : Man) (x : ℕ) → file_of x ≡ file_of man.at → is_empty p.men x ≡ true → takes p man x ≡ false
-unfolding takes
+no_capture : (p : Position) (man : Man) (x : ℕ) → file_of x ≡ file_of man.at → is_empty p.men x ≡ true → is_capture p man x ≡ false
+unfolding is_capture
 no_capture p man x file empty =
     or_from (is_occupied p.men x) (is_en_passant p.passed man x) (not-true (is_occupied p.men x) empty)
     (not_passing p.passed man x file)
@@ -59,8 +59,8 @@ steps_ahead men side a x e = elim (or_cases (pawn_steps men side a x) (pawn_doub
     file White n h = eqb-true _ _ (and_parts (file_of x == file_of a) (rank_of x == rank_of a + n) h).0
     file Black n h = eqb-true _ _ (and_parts (file_of x == file_of a) (rank_of x + n == rank_of a) h).0
 
-capture_takes : (p : Position) (man : Man) (x : ℕ) → is_pawn man ≡ true → goes p.men p.passed man x ≡ true → files_apart man.at x ≡ 1 → takes p man x ≡ true
-unfolding goes takes pawn_takes
+capture_takes : (p : Position) (man : Man) (x : ℕ) → is_pawn man ≡ true → reaches_target p.men p.passed man x ≡ true → files_apart man.at x ≡ 1 → is_capture p man x ≡ true
+unfolding reaches_target is_capture pawn_takes
 capture_takes p man x pawn e files =
     let a = pawn_steps p.men man.side man.at x || pawn_double_steps p.men man.side man.at x in
     let other = aside man.at x files in
@@ -75,8 +75,8 @@ capture_takes p man x pawn e files =
     ]
 
 -- a pawn's move advances, or is a capture
-pub advances_or_captures : (p : Position) (man : Man) (x : ℕ) → is_pawn man ≡ true → goes p.men p.passed man x ≡ true
-    → ((takes p man x ≡ false) × Advances p.men man.side man.at x) ⊎ ((takes p man x ≡ true) × IsCapture man.side man.at x)
+pub advances_or_captures : (p : Position) (man : Man) (x : ℕ) → is_pawn man ≡ true → reaches_target p.men p.passed man x ≡ true
+    → ((is_capture p man x ≡ false) × Advances p.men man.side man.at x) ⊎ ((is_capture p man x ≡ true) × IsCapture man.side man.at x)
 advances_or_captures p man x pawn e = elim (pawn_ways p.men p.passed man x pawn e) [
   | inl s ↦ inl (no_capture p man x s.file s.empty, inl s)
   | inr r ↦ elim r [

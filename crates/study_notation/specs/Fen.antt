@@ -102,11 +102,11 @@ placement_fault men =
     else (if has_end_pawn men then Some PawnOnEndRank else None))
 
 -- what is told of a position's fault before the side to move is known
-abbrev pub of_placement : PositionFault → Option FenFault
-of_placement board.TooManyMen = Some TooManyMen
-of_placement board.KingCount = Some KingCount
-of_placement board.PawnOnEndRank = Some PawnOnEndRank
-of_placement _ = None
+abbrev pub fen_fault_of_men : PositionFault → Option FenFault
+fen_fault_of_men board.TooManyMen = Some TooManyMen
+fen_fault_of_men board.KingCount = Some KingCount
+fen_fault_of_men board.PawnOnEndRank = Some PawnOnEndRank
+fen_fault_of_men _ = None
 
 -- ---- the other fields
 

@@ -1,8 +1,8 @@
 -- Not part of any public contract: what a clause sees of the fields of a text.
 use Rattle.study_notation.specs.Fen.{Fields}
-use Rattle.study_notation.specs.declared.fields.FieldTexts.{FieldTexts}
+use Rattle.study_notation.specs.declared.fields.FenFields.{FenFields}
 
-abbrev pub fields_view : FieldTexts → Fields
+abbrev pub fields_view : FenFields → Fields
 fields_view f =
     record {
       placement = f.placement.now;

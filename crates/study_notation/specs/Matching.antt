@@ -11,7 +11,7 @@ use Rattle.study_notation.specs.declared.san.San.{San}
 use Rattle.study_notation.specs.declared.fault.SanFault.{SanFault}
 use Rattle.study_notation.specs.declared.fault.SanFault.TheVariants.{NotSan, CastlingLeftOut, NoSuchMove, Ambiguous}
 use Rattle.study_notation.specs.SanParts.{san_of, is_castling}
-use Rattle.study_moves.specs.LegalList.{legal_list, takes}
+use Rattle.study_moves.specs.LegalList.{legal_list, is_capture}
 
 abbrev pub same_promotion : Option Kind → Option Kind → Bool
 same_promotion None None = true
@@ -31,7 +31,7 @@ fits_takes written capture pawn = if capture then (written || not pawn) else not
 unfoldable pub agrees : Position → San → Man → Move → Bool
 agrees p s man m =
     same_kind man.kind s.kind && (m.target == s.target) && fits_given s.file (file_of m.origin) && fits_given s.rank (rank_of m.origin)
-    && same_promotion s.promoted m.promoted && fits_takes s.takes (takes p man m.target) (is_pawn man)
+    && same_promotion s.promoted m.promoted && fits_takes s.is_capture (is_capture p man m.target) (is_pawn man)
 
 unfoldable pub matches : Position → San → Move → Bool
 matches p s m = option_map_or (λ man. agrees p s man m) (man_at p.men m.origin) false

@@ -8,7 +8,7 @@ use Rattle.study_board.specs.Position.{Position, man_at}
 use Rattle.study_moves.specs.declared.moves.Move.{Move}
 use Rattle.study_moves.specs.Rules.{after}
 use Rattle.study_notation.specs.declared.start.Start.{Start}
-use Rattle.study_moves.specs.LegalList.{takes}
+use Rattle.study_moves.specs.LegalList.{is_capture}
 
 -- one more, up to 65,535
 abbrev pub one_more : ℕ → ℕ
@@ -16,7 +16,7 @@ one_more n = if nat_lt n 65535 then n + 1 else n
 
 -- a capture or a pawn's move sets the clock back
 unfoldable pub resets_clock : Position → Move → Bool
-resets_clock p m = option_map_or (λ man. is_pawn man || takes p man m.target) (man_at p.men m.origin) false
+resets_clock p m = option_map_or (λ man. is_pawn man || is_capture p man m.target) (man_at p.men m.origin) false
 
 -- the number rises after Black's move
 abbrev pub number_after : Side → ℕ → ℕ

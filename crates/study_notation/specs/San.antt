@@ -3,7 +3,7 @@ use Rattle.std.specs.Prelude.{◌≡◌, ℕ, ◌+◌, ◌<◌, Bool, true, fals
 use Rattle.study_board.specs.declared.men.Kind.{Kind}
 use Rattle.study_board.specs.declared.men.Kind.TheVariants.{King, Queen, Rook, Bishop, Knight, Pawn}
 use Rattle.study_board.specs.Letters.{letter}
-use Rattle.study_moves.specs.Rules.{is_officer}
+use Rattle.study_moves.specs.Rules.{is_promotion_piece}
 use Rattle.study_notation.specs.declared.san.San.{San}
 use Rattle.study_notation.specs.FenSpelling.{square_text}
 
@@ -35,7 +35,7 @@ promotion_text true (Some k) = 61 ∷ kind_text k
 
 abbrev pub san_text : San → Bool → List ℕ
 san_text s equals =
-    kind_text s.kind ++ (file_text s.file ++ (rank_text s.rank ++ (takes_text s.takes ++ (square_text s.target ++ promotion_text equals s.promoted))))
+    kind_text s.kind ++ (file_text s.file ++ (rank_text s.rank ++ (takes_text s.is_capture ++ (square_text s.target ++ promotion_text equals s.promoted))))
 
 -- `!` or `?`
 abbrev pub is_glyph : ℕ → Bool
@@ -58,7 +58,7 @@ pub record Fits (s : San) : Type 0 where
   pub file : IfSome s.file (λ f. f < 8)
   pub rank : IfSome s.rank (λ r. r < 8)
   pub target : s.target < 64
-  pub promoted : IfSome s.promoted (λ k. is_officer k ≡ true)
+  pub promoted : IfSome s.promoted (λ k. is_promotion_piece k ≡ true)
 
 -- the text has these parts, and an ending
 abbrev pub Says : List ℕ → San → Type 0

@@ -11,8 +11,8 @@ abbrev pub ◌>>=◌ : {A B : Type 0} → Option A → (A → Option B) → Opti
 (Some x) >>= f = f x
 None >>= f = None
 
-unfoldable pub officer_of : ℕ → Option Kind
-officer_of b =
+unfoldable pub promotion_piece : ℕ → Option Kind
+promotion_piece b =
     if b == letter Queen then Some Queen else (if b == letter Rook then Some Rook
     else (if b == letter Bishop then Some Bishop else (if b == letter Knight then Some Knight else None)))
 
@@ -38,9 +38,9 @@ abbrev pub given : Option Kind → ℕ → List ℕ → Option Kind × List ℕ
 given None b bs = (None, b ∷ bs)
 given (Some k) b bs = (Some k, bs)
 
-unfoldable pub officer_at : List ℕ → Option Kind × List ℕ
-officer_at [] = (None, [])
-officer_at (b ∷ bs) = given (officer_of b) b bs
+unfoldable pub promotion_piece_at : List ℕ → Option Kind × List ℕ
+promotion_piece_at [] = (None, [])
+promotion_piece_at (b ∷ bs) = given (promotion_piece b) b bs
 
 -- `=` wants a kind after it
 abbrev pub wanted : Option Kind × List ℕ → Option (Option Kind × List ℕ)
@@ -48,27 +48,27 @@ wanted x = elim x.0 [ None ↦ None | Some k ↦ Some (Some k, x.1) ]
 
 unfoldable pub promotion_at : List ℕ → Option (Option Kind × List ℕ)
 promotion_at [] = Some (None, [])
-promotion_at (b ∷ bs) = if b == 61 then wanted (officer_at bs) else Some (officer_at (b ∷ bs))
+promotion_at (b ∷ bs) = if b == 61 then wanted (promotion_piece_at bs) else Some (promotion_piece_at (b ∷ bs))
 
 -- the coordinates of origin and target
-pub record Squares : Type 0 where
+pub record SanSquares : Type 0 where
   pub file : Option ℕ
   pub rank : Option ℕ
-  pub takes : Bool
+  pub is_capture : Bool
   pub target : ℕ
 
 -- after the origin a target follows, or what was read as the origin is the target
-abbrev pub squares_from : Option ℕ → Option ℕ → Bool → Option ℕ → Option ℕ → Option Squares
-squares_from f r x (Some tf) (Some tr) = Some (record { file = f; rank = r; takes = x; target = 8 * tr + tf })
+abbrev pub squares_from : Option ℕ → Option ℕ → Bool → Option ℕ → Option ℕ → Option SanSquares
+squares_from f r x (Some tf) (Some tr) = Some (record { file = f; rank = r; is_capture = x; target = 8 * tr + tf })
 squares_from f r x (Some tf) None = None
-squares_from (Some tf) (Some tr) false None tr' = Some (record { file = None; rank = None; takes = false; target = 8 * tr + tf })
+squares_from (Some tf) (Some tr) false None tr' = Some (record { file = None; rank = None; is_capture = false; target = 8 * tr + tf })
 squares_from _ _ _ _ _ = None
 
 -- the rank of a target is looked for after its file only
 abbrev pub rank_behind : Option ℕ × List ℕ → Option ℕ × List ℕ
 rank_behind x = elim x.0 [ None ↦ (None, x.1) | Some f ↦ rank_at x.1 ]
 
-unfoldable pub squares_at : List ℕ → Option (Squares × List ℕ)
+unfoldable pub squares_at : List ℕ → Option (SanSquares × List ℕ)
 squares_at text =
     let f = file_at text in
     let r = rank_at f.1 in
@@ -83,7 +83,7 @@ san_of text = do
   let k = kind_at text
   s ← squares_at k.1
   p ← promotion_at s.1
-  if is_ending p.1 then Some (record { kind = k.0; file = s.0.file; rank = s.0.rank; takes = s.0.takes; target = s.0.target; promoted = p.0 }) else None
+  if is_ending p.1 then Some (record { kind = k.0; file = s.0.file; rank = s.0.rank; is_capture = s.0.is_capture; target = s.0.target; promoted = p.0 }) else None
 
 -- `O-O` or `O-O-O`, with letters or digits, and an ending
 abbrev pub is_castling_with : ℕ → List ℕ → Bool

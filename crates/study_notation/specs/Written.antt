@@ -10,7 +10,7 @@ use Rattle.study_moves.specs.declared.moves.Move.{Move}
 use Rattle.study_moves.specs.Rules.{is_legal, after}
 use Rattle.study_notation.specs.declared.san.San.{San}
 use Rattle.study_notation.specs.San.{san_text}
-use Rattle.study_moves.specs.LegalList.{is_mate, takes}
+use Rattle.study_moves.specs.LegalList.{is_mate, is_capture}
 
 -- another man of the same kind and side, which can legally go to the square
 unfoldable pub is_rival : Position → Man → ℕ → Man → Bool
@@ -25,7 +25,7 @@ has_file_rival p man x = list_any (λ o. is_rival p man x o && file_of o.at == f
 
 -- a pawn's capture has the origin's file; a piece has it where there is a rival, and none on that file
 unfoldable pub gives_file : Position → Man → ℕ → Bool
-gives_file p man x = if is_pawn man then takes p man x else (has_rival p man x && not (has_file_rival p man x))
+gives_file p man x = if is_pawn man then is_capture p man x else (has_rival p man x && not (has_file_rival p man x))
 
 -- a piece has the origin's rank where there is a rival on its file
 unfoldable pub gives_rank : Position → Man → ℕ → Bool
@@ -42,7 +42,7 @@ san_for p man m = record {
   kind = man.kind;
   file = if gives_file p man m.target then Some (file_of man.at) else None;
   rank = if gives_rank p man m.target then Some (rank_of man.at) else None;
-  takes = takes p man m.target;
+  is_capture = is_capture p man m.target;
   target = m.target;
   promoted = m.promoted;
 }

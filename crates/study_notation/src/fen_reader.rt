@@ -2,7 +2,7 @@
 ghost use Rattle.std.specs.Prelude.{◌≡◌, ◌<◌, None, false};
 ghost use Rattle.study_board.specs.Men.{other_side};
 ghost use Rattle.study_board.specs.Position.{IsAscending, in_check};
-ghost use Rattle.study_notation.specs.Fen.{placement_fault, of_placement, position_of, start_of};
+ghost use Rattle.study_notation.specs.Fen.{placement_fault, fen_fault_of_men, position_of, start_of};
 
 use crate::fields::{is_dash, read_count, read_passed, read_side, split_fields};
 use crate::placement::read_placement;
@@ -62,14 +62,14 @@ fn placement_fault(men: &[Man]) -> Option<FenFault>
     ensures { result ≡ placement_fault men.now }
 {
     match first_fault(men, Side::White, None) {
-        Some(fault) => of_placement(fault),
+        Some(fault) => fen_fault_of_men(fault),
         None => None,
     }
 }
 
 // A position's fault, where it is one of the placement.
-fn of_placement(fault: PositionFault) -> Option<FenFault>
-    ensures { result ≡ of_placement fault }
+fn fen_fault_of_men(fault: PositionFault) -> Option<FenFault>
+    ensures { result ≡ fen_fault_of_men fault }
 {
     match fault {
         PositionFault::TooManyMen => Some(FenFault::TooManyMen),

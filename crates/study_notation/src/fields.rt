@@ -10,7 +10,7 @@ use study_board::{Side, Square};
 
 /// The six fields of a FEN text.
 #[derive(Clone, Copy)]
-pub struct FieldTexts<'a> {
+pub struct FenFields<'a> {
     pub placement: &'a [u8],
     pub side: &'a [u8],
     pub castling: &'a [u8],
@@ -21,7 +21,7 @@ pub struct FieldTexts<'a> {
 
 /// The fields of a text that has six of them, or four.
 #[tactic(auto, unfolding(crate::specs::Fen::fields_of))]
-pub fn split_fields(text: &[u8]) -> Option<FieldTexts<'_>>
+pub fn split_fields(text: &[u8]) -> Option<FenFields<'_>>
     ensures { option_map fields_view result ≡ fields_of (words text.now) }
 {
     let (placement, rest) = next_word(text)?;
@@ -29,7 +29,7 @@ pub fn split_fields(text: &[u8]) -> Option<FieldTexts<'_>>
     let (castling, rest) = next_word(rest)?;
     let (passed, rest) = next_word(rest)?;
     let Some((clock, rest)) = next_word(rest) else {
-        return Some(FieldTexts {
+        return Some(FenFields {
             placement,
             side,
             castling,
@@ -42,7 +42,7 @@ pub fn split_fields(text: &[u8]) -> Option<FieldTexts<'_>>
     if next_word(rest).is_some() {
         return None;
     }
-    Some(FieldTexts {
+    Some(FenFields {
         placement,
         side,
         castling,

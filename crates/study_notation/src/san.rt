@@ -8,7 +8,7 @@ pub struct San {
     pub kind: Kind,
     pub file: Option<u8>,
     pub rank: Option<u8>,
-    pub takes: bool,
+    pub is_capture: bool,
     pub target: Square,
     pub promoted: Option<Kind>,
 }

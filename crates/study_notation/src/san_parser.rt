@@ -19,7 +19,7 @@ pub fn parse_san(text: &[u8]) -> Option<San>
             kind,
             file: squares.file,
             rank: squares.rank,
-            takes: squares.takes,
+            is_capture: squares.is_capture,
             target: Square::at(squares.target),
             promoted,
         })

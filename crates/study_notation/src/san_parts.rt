@@ -2,7 +2,7 @@
 ghost use Rattle.std.specs.Prelude.{◌≡◌, ◌<◌, IfSome};
 ghost use Rattle.std.specs.Option.{option_map};
 ghost use Rattle.study_notation.specs.San.{is_glyphs, is_ending};
-ghost use Rattle.study_notation.specs.SanParts.{officer_of, kind_at, file_at, rank_at, takes_at, officer_at, promotion_at, squares_at};
+ghost use Rattle.study_notation.specs.SanParts.{promotion_piece, kind_at, file_at, rank_at, takes_at, promotion_piece_at, promotion_at, squares_at};
 ghost use Rattle.study_notation.specs.SquaresView.{squares_view};
 
 use study_board::Kind;
@@ -55,9 +55,9 @@ fn read_takes(text: &[u8]) -> (bool, &[u8])
     }
 }
 
-#[tactic(auto, unfolding(crate::specs::SanParts::officer_of))]
-fn officer_of(b: u8) -> Option<Kind>
-    ensures { result ≡ officer_of b }
+#[tactic(auto, unfolding(crate::specs::SanParts::promotion_piece))]
+fn promotion_piece(b: u8) -> Option<Kind>
+    ensures { result ≡ promotion_piece b }
 {
     match b {
         b'Q' => Some(Kind::Queen),
@@ -68,12 +68,12 @@ fn officer_of(b: u8) -> Option<Kind>
     }
 }
 
-#[tactic(auto, unfolding(crate::specs::SanParts::officer_at))]
-fn read_officer(text: &[u8]) -> (Option<Kind>, &[u8])
-    ensures { (result.0, result.1.now) ≡ officer_at text.now }
+#[tactic(auto, unfolding(crate::specs::SanParts::promotion_piece_at))]
+fn read_promotion_piece(text: &[u8]) -> (Option<Kind>, &[u8])
+    ensures { (result.0, result.1.now) ≡ promotion_piece_at text.now }
 {
     match text {
-        [b, rest @ ..] => match officer_of(*b) {
+        [b, rest @ ..] => match promotion_piece(*b) {
             Some(kind) => (Some(kind), rest),
             None => (None, text),
         },
@@ -90,12 +90,12 @@ pub fn read_promotion(text: &[u8]) -> Option<(Option<Kind>, &[u8])>
     match text {
         [b, rest @ ..] => {
             if *b == b'=' {
-                match read_officer(rest) {
+                match read_promotion_piece(rest) {
                     (Some(kind), rest) => Some((Some(kind), rest)),
                     (None, _) => None,
                 }
             } else {
-                Some(read_officer(text))
+                Some(read_promotion_piece(text))
             }
         }
         [] => Some((None, text)),
@@ -120,10 +120,10 @@ pub fn is_ending(text: &[u8]) -> bool
 
 /// The coordinates of a move: of its origin what the text gives, and its target.
 #[derive(Clone, Copy)]
-pub struct Squares {
+pub struct SanSquares {
     pub file: Option<u8>,
     pub rank: Option<u8>,
-    pub takes: bool,
+    pub is_capture: bool,
     pub target: u8,
 }
 
@@ -131,31 +131,31 @@ pub struct Squares {
 ///
 /// Where no target follows, what was read as the origin is the target.
 #[tactic(auto, unfolding(crate::specs::SanParts::squares_at))]
-pub fn read_squares(text: &[u8]) -> Option<(Squares, &[u8])>
+pub fn read_squares(text: &[u8]) -> Option<(SanSquares, &[u8])>
     ensures value { option_map squares_view result ≡ squares_at text.now }
     ensures inside { IfSome result (λ x. x.0.target < 64) }
 {
     let (file, rest) = read_file(text);
     let (rank, rest) = read_rank(rest);
-    let (takes, rest) = read_takes(rest);
+    let (is_capture, rest) = read_takes(rest);
     let (target_file, rest) = read_file(rest);
     match target_file {
         Some(f) => {
             let (target_rank, rest) = read_rank(rest);
-            let squares = Squares {
+            let squares = SanSquares {
                 file,
                 rank,
-                takes,
+                is_capture,
                 target: 8 * target_rank? + f,
             };
             Some((squares, rest))
         }
-        None => match (file, rank, takes) {
+        None => match (file, rank, is_capture) {
             (Some(f), Some(r), false) => {
-                let squares = Squares {
+                let squares = SanSquares {
                     file: None,
                     rank: None,
-                    takes: false,
+                    is_capture: false,
                     target: 8 * r + f,
                 };
                 Some((squares, rest))

@@ -5,7 +5,7 @@ ghost use Rattle.study_notation.specs.SanParts.{is_castling, is_castling_with};
 ghost use Rattle.study_notation.specs.Matching.{same_promotion, fits_given, fits_takes, agrees, matches, picked, move_of};
 
 use crate::SanFault;
-use crate::captures::takes;
+use crate::captures::is_capture;
 use crate::san::San;
 use crate::san_parser::parse_san;
 use crate::san_parts::is_ending;
@@ -73,7 +73,11 @@ fn agrees(p: &Position, san: &San, man: &Man, m: &Move) -> bool
         && fits_given(san.file, m.origin.file())
         && fits_given(san.rank, m.origin.rank())
         && same_promotion(san.promoted, m.promoted)
-        && fits_takes(san.takes, takes(p, man, m.target), man.kind.is(Kind::Pawn))
+        && fits_takes(
+            san.is_capture,
+            is_capture(p, man, m.target),
+            man.kind.is(Kind::Pawn),
+        )
 }
 
 /// Whether two promotions are one.

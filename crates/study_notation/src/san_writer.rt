@@ -7,7 +7,7 @@ ghost use Rattle.study_notation.specs.San.{kind_text, file_text, rank_text, take
 ghost use Rattle.study_moves.specs.LegalList.{is_mate};
 ghost use Rattle.study_notation.specs.Written.{is_rival, has_rival, has_file_rival, gives_file, gives_rank, GivesOne, san_for, check_text, move_text};
 
-use crate::captures::takes;
+use crate::captures::is_capture;
 use crate::pushing::{push_byte, push_square};
 use crate::san::San;
 use arrayvec::ArrayString;
@@ -42,7 +42,7 @@ fn push_san(out: &mut ArrayString<8>, san: &San)
 {
     push_kind(out, san.kind);
     push_origin(out, san.file, san.rank);
-    push_takes(out, san.takes);
+    push_takes(out, san.is_capture);
     push_square(out, san.target);
     push_promotion(out, san.promoted);
 }
@@ -78,12 +78,12 @@ fn push_origin(out: &mut ArrayString<8>, file: Option<u8>, rank: Option<u8>)
     }
 }
 
-fn push_takes(out: &mut ArrayString<8>, takes: bool)
+fn push_takes(out: &mut ArrayString<8>, is_capture: bool)
     requires { array_string_len out.old < 8 }
-    ensures bytes { out.new.bytes ≡ out.old.bytes ++ takes_text takes }
+    ensures bytes { out.new.bytes ≡ out.old.bytes ++ takes_text is_capture }
     ensures len { array_string_len out.new ≤ array_string_len out.old + 1 }
 {
-    if takes {
+    if is_capture {
         push_byte(out, b'x');
     }
 }
@@ -140,7 +140,7 @@ fn describe(p: &Position, man: &Man, m: &Move) -> San
         } else {
             None
         },
-        takes: takes(p, man, x),
+        is_capture: is_capture(p, man, x),
         target: x,
         promoted: m.promoted,
     }
@@ -152,7 +152,7 @@ fn gives_file(p: &Position, man: &Man, x: Square) -> bool
     ensures { result ≡ gives_file p.now man.now x }
 {
     if man.kind.is(Kind::Pawn) {
-        takes(p, man, x)
+        is_capture(p, man, x)
     } else {
         has_rival(p, man, x) && !has_file_rival(p, man, x)
     }

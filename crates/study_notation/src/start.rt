@@ -4,7 +4,7 @@ ghost use Rattle.study_board.specs.Position.{IsValid};
 ghost use Rattle.study_moves.specs.Rules.{is_legal};
 ghost use Rattle.study_notation.specs.Played.{one_more, resets_clock, number_after, start_after};
 
-use crate::captures::takes;
+use crate::captures::is_capture;
 use study_board::{Kind, Position, Side};
 use study_moves::{Move, played};
 
@@ -75,6 +75,6 @@ fn resets_clock(p: &Position, m: &Move) -> bool
 {
     match p.man_at(m.origin) {
         None => false,
-        Some(man) => man.kind.is(Kind::Pawn) || takes(p, &man, m.target),
+        Some(man) => man.kind.is(Kind::Pawn) || is_capture(p, &man, m.target),
     }
 }

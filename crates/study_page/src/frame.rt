@@ -5,7 +5,7 @@ ghost use Rattle.study_tablefile.specs.Taken.{TakesPrefix};
 ghost use Rattle.study_page.specs.Frame.{opening, closing};
 
 use std::io::Write;
-use study_tablefile::{DeviceFailed, put};
+use study_tablefile::{DeviceFailed, write_text};
 
 /// The style sheet, the shapes of the men, and the board.
 fn opening() -> &'static [u8]
@@ -76,7 +76,7 @@ pub fn write_opening<W: Write>(out: &mut W) -> Result<(), DeviceFailed>
     ensures ok { OnOk result (Appends (W.contents out.old) (W.contents out.new) opening) }
     ensures prefix { OnErr result (TakesPrefix (W.contents out.old) (W.contents out.new) opening) }
 {
-    put(out, opening())
+    write_text(out, opening())
 }
 
 /// Writes what comes after the last page.
@@ -84,5 +84,5 @@ pub fn write_closing<W: Write>(out: &mut W) -> Result<(), DeviceFailed>
     ensures ok { OnOk result (Appends (W.contents out.old) (W.contents out.new) closing) }
     ensures prefix { OnErr result (TakesPrefix (W.contents out.old) (W.contents out.new) closing) }
 {
-    put(out, closing())
+    write_text(out, closing())
 }

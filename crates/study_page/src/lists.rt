@@ -21,7 +21,7 @@ use std::alloc::{AllocError, Allocator};
 use std::io::Write;
 use study_marks::{Bench, TagName};
 use study_pgn::Text;
-use study_tablefile::put;
+use study_tablefile::write_text;
 
 fn put_number<'a, A: Allocator>(
     alloc: &'a A,
@@ -78,7 +78,7 @@ pub fn write_refusal<'a, A: Allocator, W: Write>(
     ensures memory { result ≡ Err PageFault.OutOfMemory → out.new ≡ out.old }
 {
     let html = refusal_of(alloc, line, text, name, reason)?;
-    put(out, html.as_slice())?;
+    write_text(out, html.as_slice())?;
     Ok(())
 }
 
@@ -245,6 +245,6 @@ pub fn write_summary<'a, A: Allocator, W: Write>(
     ensures memory { result ≡ Err PageFault.OutOfMemory → out.new ≡ out.old }
 {
     let html = summary_of(alloc, rows)?;
-    put(out, html.as_slice())?;
+    write_text(out, html.as_slice())?;
     Ok(())
 }

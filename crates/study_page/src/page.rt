@@ -27,7 +27,7 @@ use study_marks::Bench;
 use study_pgn::Text;
 use study_prober::Values;
 use study_review::ReviewFault;
-use study_tablefile::put;
+use study_tablefile::write_text;
 
 /// What is made of the nodes, part by part.
 #[derive(Drop)]
@@ -346,6 +346,6 @@ pub fn write_page<'a, 'b, A: Allocator, B: Allocator, V: Values, W: Write>(
     ensures asked { HasReviewed V.held V.gives V.may_fail V.asked_of V.failed_of V.is_honest values.old result values.new }
 {
     let page = page_of(alloc, bench, values, number)?;
-    put(out, page.as_slice())?;
+    write_text(out, page.as_slice())?;
     Ok(())
 }

@@ -15,7 +15,7 @@ use crate::wrap::add_wrapped;
 use std::alloc::{AllocError, Allocator};
 use std::io::Write;
 use study_marks::{Bench, Mark};
-use study_tablefile::put;
+use study_tablefile::write_text;
 
 // The mark of the root.
 fn root_of<'b, B: Allocator>(bench: &Bench<'b, B>) -> Option<Mark>
@@ -80,6 +80,6 @@ pub fn write_pgn<'a, 'b, A: Allocator, B: Allocator, W: Write>(
     ensures memory { result ≡ Err PgnFault.OutOfMemory → out.new ≡ out.old }
 {
     let text = pgn_text(alloc, bench)?;
-    put(out, text.as_slice())?;
+    write_text(out, text.as_slice())?;
     Ok(())
 }

@@ -4,7 +4,7 @@ use Rattle.std.proofs.lemmas.Bool.{false≢true}
 use Rattle.std.proofs.lemmas.Bool.Decides.{nat_tests}
 use Rattle.std.specs.Prelude.{Result, Ok, Err, Some, None, IfErr, IsErrAnd, IsErrOf, MatchOption}
 use Rattle.study_material.specs.declared.class.Class.{Class}
-use Rattle.study_retro.specs.Table.{class_place}
+use Rattle.study_retro.specs.Table.{class_number}
 use Rattle.study_tablefile.specs.declared.fault.SourceFault.{SourceFault}
 use Rattle.study_tablefile.specs.declared.fault.SourceFault.TheVariants.{Device}
 use Rattle.study_tablefile.specs.declared.fault.FileFault.{FileFault}
@@ -13,7 +13,7 @@ use Rattle.study_tablefile.specs.Reading.{class_read}
 use Rattle.study_prober.specs.declared.fault.PagedFault.{PagedFault}
 use Rattle.study_prober.specs.declared.fault.PagedFault.TheVariants.{AlreadyHeld, Header as BadHeader, OtherClass, OutOfMemory}
 use Rattle.study_prober.proofs.HeldSources.{same_class}
-use Rattle.study_prober.specs.Told.{IsTold, class_fault, paged_fault}
+use Rattle.study_prober.specs.HeaderAnswers.{IsTold, class_fault, paged_fault}
 
 pub bad_header : (bytes : List ℕ) (f : FileFault) (r : Result Header PagedFault) → IsErrAnd r (λ e. e ≡ BadHeader f)
     → class_read bytes ≡ Err f → IsTold (Ok bytes) r
@@ -36,11 +36,11 @@ alike n m f = grind (arith, nat_tests)
 other_fault : (c d : Class) → (d ≡ c → ⊥) → class_fault c (Ok d) ≡ Some (OtherClass d)
 other_fault c d f = elim (same_class d c) [
   | inl e ↦ absurd (f e)
-  | inr far ↦ rw (differ (class_place d) (class_place c) far) refl
+  | inr far ↦ rw (differ (class_number d) (class_number c) far) refl
 ]
 
 no_fault : (c d : Class) → d ≡ c → class_fault c (Ok d) ≡ None
-no_fault c d e = rw (alike (class_place d) (class_place c) (ap class_place e)) refl
+no_fault c d e = rw (alike (class_number d) (class_number c) (ap class_number e)) refl
 
 -- a header was told: the fault is the class's
 pub fault_told : (May : Result (List ℕ) SourceFault → Type 0) (held : Bool) (c : Class) (h : Header) (r : Result (Unit {0}) PagedFault) → held ≡ false

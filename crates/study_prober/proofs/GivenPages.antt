@@ -5,15 +5,15 @@ use Rattle.std.specs.Prelude.{Option, Some, is_some, Result, Ok, Err, IfOk, OnEr
 use Rattle.std.proofs.lemmas.Bool.{false≢true}
 use Rattle.study_material.specs.declared.class.Class.{Class}
 use Rattle.study_retro.specs.declared.value.Value.{Value}
-use Rattle.study_retro.specs.Table.{Table, class_place}
+use Rattle.study_retro.specs.Table.{Table, class_number}
 use Rattle.study_tablefile.specs.declared.fault.SourceFault.{SourceFault}
 use Rattle.study_tablefile.specs.declared.source.Header.{Header}
 use Rattle.study_tablefile.specs.Source.{Question, of_page, is_whole_page}
-use Rattle.study_prober.specs.declared.cache.PageKey.{PageKey}
-use Rattle.study_prober.specs.declared.held.HeldSource.{HeldSource}
+use Rattle.study_prober.specs.declared.page_cache.PageKey.{PageKey}
+use Rattle.study_prober.specs.declared.open_table.OpenTable.{OpenTable}
 use Rattle.study_prober.specs.declared.values.ProbeFault.{ProbeFault}
 use Rattle.study_prober.specs.Sources.{IsGivenPage, HasBadPage, IsReadFrom, GiveAlike}
-use Rattle.study_prober.specs.Paged.{held_of, places_for_classes, IsKept, AreGiven}
+use Rattle.study_prober.specs.PagedTables.{held_of, places_for_classes, IsKept, AreGiven}
 use Rattle.study_prober.proofs.HeldSources.{held_either, held_placed, some_same}
 
 module _ {S : Type 0} (gives : S → Question → Result (List ℕ) SourceFault → Type 0) where
@@ -21,7 +21,7 @@ module _ {S : Type 0} (gives : S → Question → Result (List ℕ) SourceFault 
   give_refl s = record { on = λ q a g. g; back = λ q a g. g }
 
   -- a page of a source is one of its later state
-  pub page_on : (h k : HeldSource S) (n : ℕ) (cells : List ℕ) → k.header ≡ h.header
+  pub page_on : (h k : OpenTable S) (n : ℕ) (cells : List ℕ) → k.header ≡ h.header
       → GiveAlike gives h.source k.source → IsGivenPage gives h n cells → IsGivenPage gives k n cells
   page_on h k n cells header alike page = record {
     page = page.page;
@@ -31,52 +31,52 @@ module _ {S : Type 0} (gives : S → Question → Result (List ℕ) SourceFault 
   }
 
   -- what two states of one source that is held may answer
-  pub alike_after : (xs : List (Option (HeldSource S))) (c d : Class) (h k i j : HeldSource S)
-      → class_place c < length xs → held_of xs c ≡ Some h → GiveAlike gives h.source k.source
-      → held_of xs d ≡ Some i → held_of (set xs (class_place c) (Some k)) d ≡ Some j → GiveAlike gives i.source j.source
+  pub alike_after : (xs : List (Option (OpenTable S))) (c d : Class) (h k i j : OpenTable S)
+      → class_number c < length xs → held_of xs c ≡ Some h → GiveAlike gives h.source k.source
+      → held_of xs d ≡ Some i → held_of (set xs (class_number c) (Some k)) d ≡ Some j → GiveAlike gives i.source j.source
   alike_after xs c d h k i j small is alike was now = elim (held_either xs c d k j small now) [
     | inl same ↦
         let one : h ≡ i = some_same h i (sym is ∙ ap (λ (x : Class). held_of xs x) same.0 ∙ was) in
-        subst (λ (x : HeldSource S). GiveAlike gives i.source x.source) same.1 (subst (λ (x : HeldSource S). GiveAlike gives x.source k.source) one alike)
+        subst (λ (x : OpenTable S). GiveAlike gives i.source x.source) same.1 (subst (λ (x : OpenTable S). GiveAlike gives x.source k.source) one alike)
     | inr far ↦
         let one : i ≡ j = some_same i j (sym was ∙ far.1) in
-        subst (λ (x : HeldSource S). GiveAlike gives i.source x.source) one (give_refl i.source)
+        subst (λ (x : OpenTable S). GiveAlike gives i.source x.source) one (give_refl i.source)
   ]
 
   -- one source of a class is another
-  pub one_held : (xs : List (Option (HeldSource S))) (c d : Class) (h k : HeldSource S) → held_of xs c ≡ Some h → d ≡ c → held_of xs d ≡ Some k → h ≡ k
+  pub one_held : (xs : List (Option (OpenTable S))) (c d : Class) (h k : OpenTable S) → held_of xs c ≡ Some h → d ≡ c → held_of xs d ≡ Some k → h ≡ k
   one_held xs c d h k is same was = some_same h k (sym is ∙ ap (λ (x : Class). held_of xs x) (sym same) ∙ was)
 
-  pub read_at : (h k : HeldSource S) (m n : ℕ) (r : Result Value ProbeFault) → h ≡ k → m ≡ n → IfOk r (IsReadFrom gives h m) → IfOk r (IsReadFrom gives k n)
-  read_at h k m n r e f told = subst (λ (x : HeldSource S). IfOk r (IsReadFrom gives x n)) e (subst (λ (l : ℕ). IfOk r (IsReadFrom gives h l)) f told)
+  pub read_at : (h k : OpenTable S) (m n : ℕ) (r : Result Value ProbeFault) → h ≡ k → m ≡ n → IfOk r (IsReadFrom gives h m) → IfOk r (IsReadFrom gives k n)
+  read_at h k m n r e f told = subst (λ (x : OpenTable S). IfOk r (IsReadFrom gives x n)) e (subst (λ (l : ℕ). IfOk r (IsReadFrom gives h l)) f told)
 
-  pub unread_at : (h k : HeldSource S) (m n : ℕ) (f : SourceFault) → h ≡ k → m ≡ n
+  pub unread_at : (h k : OpenTable S) (m n : ℕ) (f : SourceFault) → h ≡ k → m ≡ n
       → gives h.source (of_page (m / 4096)) (Err f) → gives k.source (of_page (n / 4096)) (Err f)
-  unread_at h k m n f e g told = subst (λ (x : HeldSource S). gives x.source (of_page (n / 4096)) (Err f)) e
+  unread_at h k m n f e g told = subst (λ (x : OpenTable S). gives x.source (of_page (n / 4096)) (Err f)) e
       (subst (λ (l : ℕ). gives h.source (of_page (l / 4096)) (Err f)) g told)
 
-  pub bad_at : (h k : HeldSource S) (m n : ℕ) → h ≡ k → m ≡ n → HasBadPage gives h m → HasBadPage gives k n
-  bad_at h k m n e f bad = subst (λ (x : HeldSource S). HasBadPage gives x n) e (subst (λ (l : ℕ). HasBadPage gives h l) f bad)
+  pub bad_at : (h k : OpenTable S) (m n : ℕ) → h ≡ k → m ≡ n → HasBadPage gives h m → HasBadPage gives k n
+  bad_at h k m n e f bad = subst (λ (x : OpenTable S). HasBadPage gives x n) e (subst (λ (l : ℕ). HasBadPage gives h l) f bad)
 
   module _ {V : Type 0} (cells : V → List ℕ) where
     -- a source was asked, and at most a page of it is kept more
-    pub given_after : (xs : List (Option (HeldSource S))) (kept kept' : List (PageKey × V)) (c : Class)
-        (h k : HeldSource S) → AreGiven gives cells xs kept → class_place c < length xs → held_of xs c ≡ Some h
+    pub given_after : (xs : List (Option (OpenTable S))) (kept kept' : List (PageKey × V)) (c : Class)
+        (h k : OpenTable S) → AreGiven gives cells xs kept → class_number c < length xs → held_of xs c ≡ Some h
         → h.header.class ≡ c
         → k.header ≡ h.header → GiveAlike gives h.source k.source
-        → ((e : PageKey × V) → Contains kept' e → Contains kept e ⊎ ((e.0.class ≡ class_place c) × IsGivenPage gives h e.0.number (cells e.1)))
-        → AreGiven gives cells (set xs (class_place c) (Some k)) kept'
+        → ((e : PageKey × V) → Contains kept' e → Contains kept e ⊎ ((e.0.class ≡ class_number c) × IsGivenPage gives h e.0.number (cells e.1)))
+        → AreGiven gives cells (set xs (class_number c) (Some k)) kept'
     given_after xs kept kept' c h k was small is of_class header alike more = record { given = after }
       where
-        after : (e : PageKey × V) (d : Class) (j : HeldSource S) → Contains kept' e → e.0.class ≡ class_place d
-            → held_of (set xs (class_place c) (Some k)) d ≡ Some j → IsGivenPage gives j e.0.number (cells e.1)
+        after : (e : PageKey × V) (d : Class) (j : OpenTable S) → Contains kept' e → e.0.class ≡ class_number d
+            → held_of (set xs (class_number c) (Some k)) d ≡ Some j → IsGivenPage gives j e.0.number (cells e.1)
         after e d j i at now = elim (held_either xs c d k j small now) [
           | inl same ↦
               let here : IsGivenPage gives h e.0.number (cells e.1) = elim (more e i) [
-                | inl old ↦ was.given e c h old (at ∙ ap class_place (sym same.0)) is
+                | inl old ↦ was.given e c h old (at ∙ ap class_number (sym same.0)) is
                 | inr new ↦ new.1
               ] in
-              subst (λ (x : HeldSource S). IsGivenPage gives x e.0.number (cells e.1)) same.1 (page_on h k e.0.number (cells e.1) header alike here)
+              subst (λ (x : OpenTable S). IsGivenPage gives x e.0.number (cells e.1)) same.1 (page_on h k e.0.number (cells e.1) header alike here)
           | inr far ↦ elim (more e i) [
             | inl old ↦ was.given e d j old at far.1
             | inr new ↦ absurd (far.0 (sym new.0 ∙ at))
@@ -84,14 +84,14 @@ module _ {S : Type 0} (gives : S → Question → Result (List ℕ) SourceFault 
         ]
 
     -- a source is added
-    pub given_with : (honest : S → Table → ℕ → Type 0) (xs : List (Option (HeldSource S)))
-        (kept : List (PageKey × V)) (c : Class) (k : HeldSource S) → IsKept honest cells xs kept
+    pub given_with : (honest : S → Table → ℕ → Type 0) (xs : List (Option (OpenTable S)))
+        (kept : List (PageKey × V)) (c : Class) (k : OpenTable S) → IsKept honest cells xs kept
         → AreGiven gives cells xs kept
-        → is_some (held_of xs c) ≡ false → class_place c < length (places_for_classes xs)
-        → AreGiven gives cells (set (places_for_classes xs) (class_place c) (Some k)) kept
+        → is_some (held_of xs c) ≡ false → class_number c < length (places_for_classes xs)
+        → AreGiven gives cells (set (places_for_classes xs) (class_number c) (Some k)) kept
     given_with honest xs kept c k kept_was was none room = record {
       given = λ e d j i at now. elim (held_either (places_for_classes xs) c d k j room now) [
-        | inl same ↦ absurd (false≢true (sym none ∙ kept_was.held e c i (at ∙ ap class_place (sym same.0))))
+        | inl same ↦ absurd (false≢true (sym none ∙ kept_was.held e c i (at ∙ ap class_number (sym same.0))))
         | inr far ↦ was.given e d j i at (sym (held_placed xs d) ∙ far.1)
       ];
     }

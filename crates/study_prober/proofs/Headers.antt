@@ -10,7 +10,7 @@ use Rattle.study_tablefile.specs.declared.fault.SourceFault.{SourceFault}
 use Rattle.study_tablefile.specs.declared.source.Header.{Header}
 use Rattle.study_prober.specs.declared.fault.PagedFault.{PagedFault}
 use Rattle.study_prober.specs.declared.fault.PagedFault.TheVariants.{TableRead}
-use Rattle.study_prober.specs.Told.{IsHonestHeader}
+use Rattle.study_prober.specs.HeaderAnswers.{IsHonestHeader}
 use Rattle.study_tablefile.proofs.ReadAgain.{header_again, version_again}
 
 -- a header that was given reads as the class of each table for which the source is honest, and its version

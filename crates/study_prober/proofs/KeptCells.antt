@@ -9,12 +9,12 @@ use Rattle.lru.proofs.CallerLemmas.{Contains-lookup}
 use Rattle.study_material.specs.declared.class.Class.{Class}
 use Rattle.study_retro.specs.declared.value.Value.{Value}
 use Rattle.study_retro.specs.Cells.{value_of}
-use Rattle.study_retro.specs.Table.{Table, class_place}
-use Rattle.study_prober.specs.declared.cache.PageKey.{PageKey}
-use Rattle.study_prober.specs.declared.held.HeldSource.{HeldSource}
+use Rattle.study_retro.specs.Table.{Table, class_number}
+use Rattle.study_prober.specs.declared.page_cache.PageKey.{PageKey}
+use Rattle.study_prober.specs.declared.open_table.OpenTable.{OpenTable}
 use Rattle.study_prober.specs.declared.values.ProbeFault.{ProbeFault}
-use Rattle.study_prober.specs.Cache.{same_key, key_at, cell_at, kept_cell}
-use Rattle.study_prober.specs.Paged.{held_of, IsKept}
+use Rattle.study_prober.specs.PageCache.{same_key, key_at, cell_at, kept_cell}
+use Rattle.study_prober.specs.PagedTables.{held_of, IsKept}
 use Rattle.study_prober.proofs.Keys.{same_key-is}
 
 then_some : {X : Type 0} (P Q : X → Type 0) (o : Option X) → ((x : X) → P x → Q x) → IfSome o P → IfSome o Q
@@ -25,7 +25,7 @@ then_some P Q (Some x) f h = f x h
 abbrev pub IsAgain : {S V : Type 0} → (V → List ℕ) → List S → List S → List (PageKey × V) → Result Value ProbeFault → Class → ℕ → Type 0
 IsAgain cells xs ys kept r c n = IfSome (kept_cell cells kept c n) (λ x. (r ≡ Ok (value_of x)) × (ys ≡ xs))
 
-module _ {S V : Type 0} (honest : S → Table → ℕ → Type 0) (cells : V → List ℕ) (xs : List (Option (HeldSource S))) (kept : List (PageKey × V)) (c : Class) where
+module _ {S V : Type 0} (honest : S → Table → ℕ → Type 0) (cells : V → List ℕ) (xs : List (Option (OpenTable S))) (kept : List (PageKey × V)) (c : Class) where
   -- no page is kept of a class without a source
   no_page : IsKept honest cells xs kept → held_of xs c ≡ None → (n : ℕ) (o : Option V) → lookup (same_key (key_at c n)) kept ≡ o → o ≡ None
   no_page was none n None e = refl
@@ -33,7 +33,7 @@ module _ {S V : Type 0} (honest : S → Table → ℕ → Type 0) (cells : V →
       let found = Contains-lookup (same_key (key_at c n)) kept v e in
       let key : key_at c n ≡ found.0 = same_key-is (key_at c n) found.0 found.2 in
       let held = was.held (found.0, v) c found.1 (ap (λ (k : PageKey). k.class) (sym key)) in
-      absurd (false≢true (sym (ap (λ (o : Option (HeldSource S)). is_some o) none) ∙ held))
+      absurd (false≢true (sym (ap (λ (o : Option (OpenTable S)). is_some o) none) ∙ held))
 
   none_kept : IsKept honest cells xs kept → held_of xs c ≡ None → (n : ℕ) → lookup (same_key (key_at c n)) kept ≡ None
   none_kept was none n = no_page was none n (lookup (same_key (key_at c n)) kept) refl
@@ -44,9 +44,9 @@ module _ {S V : Type 0} (honest : S → Table → ℕ → Type 0) (cells : V →
       (subst (λ (o : Option ℕ). IfSome o P)
       (sym (ap (λ (o : Option V). cell_at cells (n % 4096) o) (none_kept was none n))) tt)
 
-module _ {S V : Type 0} (cells : V → List ℕ) (xs : List (Option (HeldSource S))) (kept : List (PageKey × V)) (r : Result Value ProbeFault) where
+module _ {S V : Type 0} (cells : V → List ℕ) (xs : List (Option (OpenTable S))) (kept : List (PageKey × V)) (r : Result Value ProbeFault) where
   -- the source that was not asked stands where it stood
-  pub again_at : (b c d : Class) (i m n : ℕ) (h k : HeldSource S) → i ≡ class_place c → held_of xs c ≡ Some h → b ≡ d → m ≡ n
+  pub again_at : (b c d : Class) (i m n : ℕ) (h k : OpenTable S) → i ≡ class_number c → held_of xs c ≡ Some h → b ≡ d → m ≡ n
       → IfSome (kept_cell cells kept b m) (λ x. (r ≡ Ok (value_of x)) × (k ≡ h))
       → IsAgain cells xs (set xs i (Some k)) kept r d n
   again_at b c d i m n h k at is same number told =
@@ -56,8 +56,8 @@ module _ {S V : Type 0} (cells : V → List ℕ) (xs : List (Option (HeldSource 
       then_some Told (λ x. (r ≡ Ok (value_of x)) × (set xs i (Some k) ≡ xs)) (kept_cell cells kept d n)
       (λ x t. (
         t.0,
-        ap (λ (j : ℕ). set xs j (Some k)) at ∙ ap (λ (o : Option (HeldSource S)). set xs (class_place c) o)
-            (ap (λ (y : HeldSource S). Some y) t.1 ∙ sym is) ∙ set-get_or xs (class_place c) None,
+        ap (λ (j : ℕ). set xs j (Some k)) at ∙ ap (λ (o : Option (OpenTable S)). set xs (class_number c) o)
+            (ap (λ (y : OpenTable S). Some y) t.1 ∙ sym is) ∙ set-get_or xs (class_number c) None,
       )) of_number
 
 cell_of : {V : Type 0} (cells : V → List ℕ) (i : ℕ) (o : Option V) → cell_at (λ xs. xs) i (option_map cells o) ≡ cell_at cells i o

@@ -5,21 +5,21 @@ use Rattle.study_board.specs.Position.{Position, IsValid}
 use Rattle.study_material.specs.declared.class.Class.{Class}
 use Rattle.study_material.specs.Class.{IsOf}
 use Rattle.study_index.specs.Number.{IsIndex, cells_of}
-use Rattle.study_index.specs.Found.{index_of}
+use Rattle.study_index.specs.Computed.{index_of}
 use Rattle.study_index.proofs.ClassLaws.{below, numbered}
 use Rattle.study_retro.specs.declared.value.Value.{Value}
 use Rattle.study_retro.specs.Cells.{value_of}
 use Rattle.study_retro.specs.Game.{IsValueOf}
 use Rattle.study_retro.specs.Sound.{IsRight}
-use Rattle.study_retro.specs.Table.{Table, IsComplete, class_place}
+use Rattle.study_retro.specs.Table.{Table, IsComplete, class_number}
 use Rattle.study_retro.proofs.SoundLemmas.{at_value}
 use Rattle.study_tablefile.specs.declared.source.Header.{Header}
-use Rattle.study_prober.specs.declared.cache.PageKey.{PageKey}
-use Rattle.study_prober.specs.declared.held.HeldSource.{HeldSource}
+use Rattle.study_prober.specs.declared.page_cache.PageKey.{PageKey}
+use Rattle.study_prober.specs.declared.open_table.OpenTable.{OpenTable}
 use Rattle.study_prober.specs.declared.values.ProbeFault.{ProbeFault}
 use Rattle.study_prober.specs.declared.values.ProbeFault.TheVariants.{PageDamaged}
 use Rattle.study_prober.specs.Sources.{IsHeaderOf, AreOf}
-use Rattle.study_prober.specs.Paged.{held_of, IsKept, SourcesAreRight}
+use Rattle.study_prober.specs.PagedTables.{held_of, IsKept, SourcesAreRight}
 use Rattle.study_prober.proofs.HeldSources.{held_same, some_same}
 
 -- the index of a position is below the cells of its class
@@ -30,12 +30,12 @@ number_in h c p n header valid of is =
 
 module _ {S : Type 0} where
   -- two sources of one class are one
-  same_held : (xs : List (Option (HeldSource S))) (c d : Class) (h k : HeldSource S) → held_of xs c ≡ Some h → d ≡ c → held_of xs d ≡ Some k → k ≡ h
+  same_held : (xs : List (Option (OpenTable S))) (c d : Class) (h k : OpenTable S) → held_of xs c ≡ Some h → d ≡ c → held_of xs d ≡ Some k → k ≡ h
   same_held xs c d h k is same held = some_same k h (sym held ∙ ap (λ (x : Class). held_of xs x) same ∙ is)
 
-  module _ (honest : S → Table → ℕ → Type 0) {V : Type 0} (cells : V → List ℕ) (xs : List (Option (HeldSource S)))
+  module _ (honest : S → Table → ℕ → Type 0) {V : Type 0} (cells : V → List ℕ) (xs : List (Option (OpenTable S)))
       (kept : List (PageKey × V)) (c d : Class) where
-    pub told_at : (p : Position) (h k : HeldSource S) (t : Table) (n : ℕ) (r : Result Value ProbeFault)
+    pub told_at : (p : Position) (h k : OpenTable S) (t : Table) (n : ℕ) (r : Result Value ProbeFault)
         → IsKept honest cells xs kept → held_of xs c ≡ Some h → d ≡ c → held_of xs d ≡ Some k
         → honest k.source t k.header.version → t.class ≡ d
         → n ≡ index_of p → ((u : Table) → honest h.source u h.header.version → u.class ≡ h.header.class
@@ -43,35 +43,35 @@ module _ {S : Type 0} where
         → IfOk r (λ v. v ≡ value_of (get_or t.cells (index_of p) 0))
     told_at p h k t n r was is same held gives of e ok =
         let gives_h : honest h.source t h.header.version =
-        subst (λ (x : HeldSource S). honest x.source t x.header.version) (same_held xs c d h k is same held)
+        subst (λ (x : OpenTable S). honest x.source t x.header.version) (same_held xs c d h k is same held)
         gives in
         let of_c : t.class ≡ c = of ∙ same in
         subst (λ (m : ℕ). IfOk r (λ v. v ≡ value_of (get_or t.cells m 0))) e
         (ok t gives_h (of_c ∙ sym (was.header c h is).class) (was.right c h t is gives_h of_c))
 
-    pub whole_at : (h k : HeldSource S) (t : Table) (n : ℕ) (r : Result Value ProbeFault)
+    pub whole_at : (h k : OpenTable S) (t : Table) (n : ℕ) (r : Result Value ProbeFault)
         → IsKept honest cells xs kept → held_of xs c ≡ Some h → d ≡ c → held_of xs d ≡ Some k
         → honest k.source t k.header.version → t.class ≡ d → IsComplete t
         → ((u : Table) → honest h.source u h.header.version → u.class ≡ h.header.class → IsComplete u
         → (b : Class) (m : ℕ) → IsErrOf r (PageDamaged b m) → ⊥) → IsErrOf r (PageDamaged d n) → ⊥
     whole_at h k t n r was is same held gives of complete whole told =
         whole t
-        (subst (λ (x : HeldSource S). honest x.source t x.header.version) (same_held xs c d h k is same held)
+        (subst (λ (x : OpenTable S). honest x.source t x.header.version) (same_held xs c d h k is same held)
         gives) (of ∙ same ∙ sym (was.header c h is).class) complete d n told
 
   -- a count of the source of a class, before and after the source at a place was asked
-  pub count_at : (count : S → ℕ) (step : ℕ → ℕ) (xs : List (Option (HeldSource S))) (c d : Class) (i : ℕ)
-      (h before k after : HeldSource S) → i ≡ class_place c → class_place c < length xs
+  pub count_at : (count : S → ℕ) (step : ℕ → ℕ) (xs : List (Option (OpenTable S))) (c d : Class) (i : ℕ)
+      (h before k after : OpenTable S) → i ≡ class_number c → class_number c < length xs
       → held_of xs c ≡ Some h → d ≡ c
       → held_of xs d ≡ Some before → held_of (set xs i (Some k)) d ≡ Some after
       → count k.source ≡ step (count h.source) → count after.source ≡ step (count before.source)
   count_at count step xs c d i h before k after at small is same was now counts =
       let one : before ≡ h = same_held xs c d h before is same was in
-      let place : held_of (set xs (class_place c) (Some k)) c ≡ Some after =
-      ap (λ (x : Class). held_of (set xs (class_place c) (Some k)) x) (sym same)
+      let place : held_of (set xs (class_number c) (Some k)) c ≡ Some after =
+      ap (λ (x : Class). held_of (set xs (class_number c) (Some k)) x) (sym same)
       ∙ ap (λ (m : ℕ). held_of (set xs m (Some k)) d) (sym at) ∙ now in
       let new : k ≡ after = some_same k after (sym (held_same xs c (Some k) small) ∙ place) in
-      rw one (subst (λ (x : HeldSource S). count x.source ≡ step (count h.source)) new counts)
+      rw one (subst (λ (x : OpenTable S). count x.source ≡ step (count h.source)) new counts)
 
 value_right : (t : Table) (c : Class) (p : Position) (r : Result Value ProbeFault) → t.class ≡ c → IsComplete t
     → IsRight t → IsValid p → IsOf c p → IfOk r (λ v. v ≡ value_of (get_or t.cells (index_of p) 0))
@@ -81,7 +81,7 @@ value_right t c p (Err fault) of complete right valid is told = told
 
 -- where all sources are right, a value is the game's
 pub game_at : {S V : Type 0} (honest : S → Table → ℕ → Type 0) (cells : V → List ℕ)
-    (xs : List (Option (HeldSource S))) (kept : List (PageKey × V)) (c : Class) (p : Position) (h : HeldSource S)
+    (xs : List (Option (OpenTable S))) (kept : List (PageKey × V)) (c : Class) (p : Position) (h : OpenTable S)
     (n : ℕ) (r : Result Value ProbeFault)
     → IsKept honest cells xs kept → held_of xs c ≡ Some h → IsValid p → IsOf c p → n ≡ index_of p
     → ((u : Table) → honest h.source u h.header.version → u.class ≡ h.header.class → AreOf cells kept u

@@ -9,10 +9,10 @@ use Rattle.study_material.specs.declared.class.Class.{Class}
 use Rattle.study_material.specs.Class.{IsOf}
 use Rattle.study_material.proofs.Classes.{lists_of-injective}
 use Rattle.study_retro.specs.declared.value.Value.{Value}
-use Rattle.study_retro.specs.Table.{Table, table_of, class_place, IsClosed}
+use Rattle.study_retro.specs.Table.{Table, table_of, class_number, IsClosed}
 use Rattle.study_retro.specs.Sound.{IsRight}
 use Rattle.study_prober.specs.Values.{ProbeAnswer}
-use Rattle.study_prober.specs.Whole.{TablesAreRight, IsCellAnswer, cell_answer}
+use Rattle.study_prober.specs.WholeTables.{TablesAreRight, IsCellAnswer, cell_answer}
 use Rattle.study_prober.proofs.HeldSources.{same_class}
 use Rattle.study_prober.specs.declared.values.ProbeFault.{ProbeFault}
 use Rattle.study_prober.specs.declared.values.ProbeFault.TheVariants.{NoTable}
@@ -63,25 +63,25 @@ set_past [] i x past = refl
 set_past (y ∷ ys) zero x past = absurd (omega (arith, past))
 set_past {A} (y ∷ ys) (suc i) x past = ap (λ (zs : List A). y ∷ zs) (set_past ys i x (omega (arith, past)))
 
-right_set : (held : List (Option Table)) (t : Table) → TablesAreRight held → IsRight t → TablesAreRight (set held (class_place t.class) (Some t))
+right_set : (held : List (Option Table)) (t : Table) → TablesAreRight held → IsRight t → TablesAreRight (set held (class_number t.class) (Some t))
 right_set held t all own = record {
   right = λ c u e. elim (same_class t.class c) [
-    | inl same ↦ elim (cases_lt (class_place t.class) (length held)) [
+    | inl same ↦ elim (cases_lt (class_number t.class) (length held)) [
       | inl small ↦
           let here : ◌≡◌ {A = Option Table} (Some t) (Some u) =
-          sym (get_or-set_same held (class_place t.class) (Some t) None small)
-          ∙ ap (λ (k : Class). table_of (set held (class_place t.class) (Some t)) k) same ∙ e in
+          sym (get_or-set_same held (class_number t.class) (Some t) None small)
+          ∙ ap (λ (k : Class). table_of (set held (class_number t.class) (Some t)) k) same ∙ e in
           let one : t ≡ u = cc in
           subst IsRight one own
-      | inr past ↦ all.right c u (sym (ap (λ (xs : List (Option Table)). table_of xs c) (set_past held (class_place t.class) (Some t) past)) ∙ e)
+      | inr past ↦ all.right c u (sym (ap (λ (xs : List (Option Table)). table_of xs c) (set_past held (class_number t.class) (Some t) past)) ∙ e)
     ]
-    | inr far ↦ all.right c u (sym (get_or-set_other held (class_place t.class) (class_place c) (Some t) None (λ i. far (sym i))) ∙ e)
+    | inr far ↦ all.right c u (sym (get_or-set_other held (class_number t.class) (class_number c) (Some t) None (λ i. far (sym i))) ∙ e)
   ];
 }
 
 -- a right table that is added to right ones
 pub right_added : {T E : Type 0} (r : Result T E) (old new : List (Option Table)) (t : Table)
-    → OnOk r (new ≡ set old (class_place t.class) (Some t)) → OnErr r (new ≡ old) → TablesAreRight old → IsRight t
+    → OnOk r (new ≡ set old (class_number t.class) (Some t)) → OnErr r (new ≡ old) → TablesAreRight old → IsRight t
     → TablesAreRight new
 right_added (Ok x) old new t added same all own = subst TablesAreRight (sym added) (right_set old t all own)
 right_added (Err e) old new t added same all own = subst TablesAreRight (sym same) all

@@ -1,7 +1,7 @@
 pub mod Values
-pub mod Whole
+pub mod WholeTables
 pub mod Sources
-pub mod Paged
-pub mod Told
-pub mod Cache
-pub mod Failing
+pub mod PagedTables
+pub mod HeaderAnswers
+pub mod PageCache
+pub mod FailingValues

@@ -2,7 +2,7 @@
 use Rattle.std.specs.Prelude.{◌≡◌, ◌⊎◌, ℕ, ◌*◌, ◌/◌, ◌%◌, List, slice_index, take, drop, Contains, Bool, true, false, Result, Ok, Err, if◌then◌else◌}
 use Rattle.study_material.specs.declared.class.Class.{Class}
 use Rattle.study_index.specs.Number.{cells_of}
-use Rattle.study_retro.specs.Table.{Table, IsComplete, class_place}
+use Rattle.study_retro.specs.Table.{Table, IsComplete, class_number}
 use Rattle.study_retro.specs.Sound.{IsRight}
 use Rattle.study_retro.specs.Cells.{value_of}
 use Rattle.study_retro.specs.declared.value.Value.{Value}
@@ -11,8 +11,8 @@ use Rattle.study_tablefile.specs.File.{IsVersionOf, fields_text, page_cells_of}
 use Rattle.study_tablefile.specs.declared.fault.SourceFault.{SourceFault}
 use Rattle.study_board.specs.Counts.{counted}
 use Rattle.study_tablefile.specs.Source.{is_whole_page, Question, of_page}
-use Rattle.study_prober.specs.declared.held.HeldSource.{HeldSource}
-use Rattle.study_prober.specs.declared.cache.PageKey.{PageKey}
+use Rattle.study_prober.specs.declared.open_table.OpenTable.{OpenTable}
+use Rattle.study_prober.specs.declared.page_cache.PageKey.{PageKey}
 use Rattle.study_prober.specs.Values.{ProbeAnswer}
 use Rattle.study_prober.specs.declared.values.ProbeFault.{ProbeFault}
 use Rattle.study_prober.specs.declared.values.ProbeFault.TheVariants.{NoTable, TableRead, PageDamaged}
@@ -36,25 +36,25 @@ abbrev pub HonestOf : Type 0 → Type 1
 HonestOf S = S → Table → ℕ → Type 0
 
 -- the cells are those of a page that the source may give as page n, and that passes the check of the source's header
-pub record IsGivenPage {S : Type 0} (gives : GivesOf S) (h : HeldSource S) (n : ℕ) (cells : List ℕ) : Type 0 where
+pub record IsGivenPage {S : Type 0} (gives : GivesOf S) (h : OpenTable S) (n : ℕ) (cells : List ℕ) : Type 0 where
   pub page : List ℕ
   pub given : gives h.source (of_page n) (Ok page)
   pub whole : is_whole_page h.header.fields h.header.cells n page ≡ true
   pub is : cells ≡ take 4096 page
 
 -- the source may give a page n that does not pass it
-pub record HasBadPage {S : Type 0} (gives : GivesOf S) (h : HeldSource S) (n : ℕ) : Type 0 where
+pub record HasBadPage {S : Type 0} (gives : GivesOf S) (h : OpenTable S) (n : ℕ) : Type 0 where
   pub page : List ℕ
   pub given : gives h.source (of_page n) (Ok page)
   pub not_whole : is_whole_page h.header.fields h.header.cells n page ≡ false
 
 -- the value stands at a number, in such a page
-abbrev pub IsReadFrom : {S : Type 0} → GivesOf S → HeldSource S → ℕ → Value → Type 0
+abbrev pub IsReadFrom : {S : Type 0} → GivesOf S → OpenTable S → ℕ → Value → Type 0
 IsReadFrom gives h n v = (cells : List ℕ) × IsGivenPage gives h (n / 4096) cells × (v ≡ value_of (slice_index cells (n % 4096)))
 
 -- the answer for the cell of a number, through a source that is held for a class: its value; a fault that the source may answer when it
 -- is asked for the page; or that the page is damaged, where it may give one that is not whole
-abbrev pub IsAnswerFrom : {S : Type 0} → GivesOf S → Class → HeldSource S → ℕ → ProbeAnswer → Type 0
+abbrev pub IsAnswerFrom : {S : Type 0} → GivesOf S → Class → OpenTable S → ℕ → ProbeAnswer → Type 0
 IsAnswerFrom gives c h n (Ok v) = IsReadFrom gives h n v
 IsAnswerFrom gives c h n (Err (NoTable d)) = ⊥
 IsAnswerFrom gives c h n (Err (TableRead f)) = gives h.source (of_page (n / 4096)) (Err f)
@@ -67,7 +67,7 @@ pub record GiveAlike {S : Type 0} (gives : GivesOf S) (old new : S) : Type 0 whe
 
 -- the pages of a table's class that are kept are the table's
 pub record AreOf {V : Type 0} (cells : V → List ℕ) (kept : List (PageKey × V)) (t : Table) : Type 0 where
-  pub is : (e : PageKey × V) → Contains kept e → e.0.class ≡ class_place t.class → cells e.1 ≡ cells_on_page t e.0.number
+  pub is : (e : PageKey × V) → Contains kept e → e.0.class ≡ class_number t.class → cells e.1 ≡ cells_on_page t e.0.number
 
 -- the source gives the file of a right table of the class, in this version
 pub record GivesRight {S : Type 0} (honest : HonestOf S) (source : S) (version : ℕ) (c : Class) : Type 0 where

@@ -7,15 +7,15 @@
 //! table, and whatever it keeps changes no answer. `memory` has values that fail where a test wants it.
 #![tactic(auto)]
 
-mod cache;
+pub mod failing_values;
 mod fault;
-mod held;
-pub mod memory;
-mod paged;
+mod open_table;
+mod page_cache;
+mod paged_tables;
 mod values;
-mod whole;
+mod whole_tables;
 
 pub use fault::PagedFault;
-pub use paged::PagedTables;
+pub use paged_tables::PagedTables;
 pub use values::{ProbeFault, Values};
-pub use whole::WholeTables;
+pub use whole_tables::WholeTables;

@@ -3,7 +3,7 @@ ghost use Rattle.std.specs.Prelude.{◌≡◌, ◌↔◌, ◌/◌, ℕ, Bool, fa
 ghost use Rattle.study_board.specs.Position.{Position as APosition};
 ghost use Rattle.study_material.specs.declared.class.Class.{Class as AClass};
 ghost use Rattle.study_material.specs.Class.{IsOf};
-ghost use Rattle.study_index.specs.Found.{index_of};
+ghost use Rattle.study_index.specs.Computed.{index_of};
 ghost use Rattle.study_retro.specs.Game.{IsValueOf};
 ghost use Rattle.study_board.specs.Counts.{counted};
 ghost use Rattle.study_tablefile.specs.declared.fault.SourceFault.{SourceFault as ASourceFault};
@@ -38,7 +38,7 @@ impl From<SourceFault> for ProbeFault {
 }
 
 /// A count of faults after an answer.
-pub fn counted_fault(count: u64, answer: &Result<Value, ProbeFault>) -> u64
+pub fn failures_after(count: u64, answer: &Result<Value, ProbeFault>) -> u64
     ensures { result ≡ faults_after count answer.now }
 {
     match answer {

@@ -10,7 +10,7 @@ use clap::error::ErrorKind;
 use itoa::Buffer;
 use std::io::Write;
 use study_script::run::{RunFault, Summary};
-use study_tablefile::{DeviceFailed, put};
+use study_tablefile::{DeviceFailed, write_text};
 
 /// The exit status after a run.
 pub fn status_of(answer: &Result<Summary, RunFault>) -> u8
@@ -40,11 +40,11 @@ pub fn put_stop<W: Write>(out: &mut W, fault: RunFault) -> Result<(), DeviceFail
     ensures err { OnErr result (TakesPrefix (W.contents out.old) (W.contents out.new) (stop_text fault)) }
 {
     match fault {
-        RunFault::ReadDevice => put(out, b"studybench: ReadDevice\n"),
-        RunFault::WriteDevice => put(out, b"studybench: WriteDevice\n"),
+        RunFault::ReadDevice => write_text(out, b"studybench: ReadDevice\n"),
+        RunFault::WriteDevice => write_text(out, b"studybench: WriteDevice\n"),
         RunFault::LineTooLong(line) => put_too_long(out, line),
-        RunFault::TooManyLines => put(out, b"studybench: TooManyLines\n"),
-        RunFault::OutOfMemory => put(out, b"studybench: OutOfMemory\n"),
+        RunFault::TooManyLines => write_text(out, b"studybench: TooManyLines\n"),
+        RunFault::OutOfMemory => write_text(out, b"studybench: OutOfMemory\n"),
     }
 }
 
@@ -64,7 +64,7 @@ fn put_line<W: Write>(out: &mut W, front: &[u8], back: &[u8]) -> Result<(), Devi
     ensures ok { OnOk result (Appends (W.contents out.old) (W.contents out.new) (front.now ++ (back.now ++ 10 ∷ []))) }
     ensures err { OnErr result (TakesPrefix (W.contents out.old) (W.contents out.new) (front.now ++ (back.now ++ 10 ∷ []))) }
 {
-    put(out, front)?;
-    put(out, back)?;
-    put(out, b"\n")
+    write_text(out, front)?;
+    write_text(out, back)?;
+    write_text(out, b"\n")
 }

@@ -8,7 +8,7 @@ ghost use Rattle.study_reply.specs.Words.{reply_line};
 
 use itoa::Buffer;
 use std::io::Write;
-use study_tablefile::{DeviceFailed, put};
+use study_tablefile::{DeviceFailed, write_text};
 
 /// Writes a path, without leading zeros.
 pub fn put_path<W: Write>(out: &mut W, steps: &[u16]) -> Result<(), DeviceFailed>
@@ -16,7 +16,7 @@ pub fn put_path<W: Write>(out: &mut W, steps: &[u16]) -> Result<(), DeviceFailed
     ensures err { OnErr result (TakesPrefix (W.contents out.old) (W.contents out.new) (path_text steps.now)) }
 {
     let Some((first, rest)) = steps.split_first() else {
-        return put(out, b"root");
+        return write_text(out, b"root");
     };
     put_place(out, *first)?;
     put_more(out, rest)
@@ -28,7 +28,7 @@ pub fn put_place<W: Write>(out: &mut W, place: u16) -> Result<(), DeviceFailed>
     ensures err { OnErr result (TakesPrefix (W.contents out.old) (W.contents out.new) (decimal place)) }
 {
     let mut buffer = Buffer::new();
-    put(out, buffer.format(place).as_bytes())
+    write_text(out, buffer.format(place).as_bytes())
 }
 
 fn put_more<W: Write>(out: &mut W, steps: &[u16]) -> Result<(), DeviceFailed>
@@ -46,7 +46,7 @@ fn put_next<W: Write>(out: &mut W, place: u16) -> Result<(), DeviceFailed>
     ensures ok { OnOk result (Appends (W.contents out.old) (W.contents out.new) (46 ∷ decimal place)) }
     ensures err { OnErr result (TakesPrefix (W.contents out.old) (W.contents out.new) (46 ∷ decimal place)) }
 {
-    put(out, b".")?;
+    write_text(out, b".")?;
     put_place(out, place)
 }
 
@@ -79,9 +79,9 @@ pub fn put_node<W: Write>(out: &mut W, front: &[u8], steps: &[u16]) -> Result<()
     ensures ok { OnOk result (Appends (W.contents out.old) (W.contents out.new) (reply_line front.now (path_text steps.now))) }
     ensures err { OnErr result (TakesPrefix (W.contents out.old) (W.contents out.new) (reply_line front.now (path_text steps.now))) }
 {
-    put(out, front)?;
+    write_text(out, front)?;
     put_path(out, steps)?;
-    put(out, b"\n")
+    write_text(out, b"\n")
 }
 
 /// Writes the reply to `promote`.
@@ -89,7 +89,7 @@ pub fn put_promoted<W: Write>(out: &mut W, steps: &[u16]) -> Result<(), DeviceFa
     ensures ok { OnOk result (Appends (W.contents out.old) (W.contents out.new) (reply_line (codes "promote ") (path_text (raised steps.now)))) }
     ensures err { OnErr result (TakesPrefix (W.contents out.old) (W.contents out.new) (reply_line (codes "promote ") (path_text (raised steps.now)))) }
 {
-    put(out, b"promote ")?;
+    write_text(out, b"promote ")?;
     put_raised(out, steps)?;
-    put(out, b"\n")
+    write_text(out, b"\n")
 }

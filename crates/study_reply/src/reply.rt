@@ -18,7 +18,7 @@ use std::io::Write;
 use study_marks::{Mark, Refusal as EditRefusal, Stipulation, TagName};
 use study_notation::{Start, write_fen};
 use study_pgn::tag_name;
-use study_tablefile::{DeviceFailed, put};
+use study_tablefile::{DeviceFailed, write_text};
 use study_tree::Path;
 
 /// What a line did, with what its reply needs.
@@ -108,7 +108,7 @@ fn put_reply<'a, W: Write, A: Allocator>(
         Reply::Moves(start) => list_moves(out, &start.position),
         Reply::Fen(start) => put_start(out, b"fen ", &start),
         Reply::Solved(plies) => put_solution(out, plies),
-        Reply::Pgn(text) => put(out, text.as_slice()),
+        Reply::Pgn(text) => write_text(out, text.as_slice()),
         Reply::Table(reply) => put_table_reply(out, reply),
     }
 }
@@ -132,7 +132,7 @@ fn put_inserted<W: Write>(
     ensures ok { OnOk result (Appends (W.contents out.old) (W.contents out.new) (insert_text (steps.now ++ place ∷ []) san.now)) }
     ensures err { OnErr result (TakesPrefix (W.contents out.old) (W.contents out.new) (insert_text (steps.now ++ place ∷ []) san.now)) }
 {
-    put(out, b"insert ")?;
+    write_text(out, b"insert ")?;
     put_child(out, steps, place)?;
     put_line(out, b" ", san)
 }

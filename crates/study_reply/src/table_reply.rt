@@ -11,7 +11,7 @@ use itoa::Buffer;
 use std::io::Write;
 use study_index::cells;
 use study_material::Class;
-use study_tablefile::{DeviceFailed, file_bytes, put};
+use study_tablefile::{DeviceFailed, file_bytes, write_text};
 
 /// What a command of a class did.
 #[derive(Clone, Copy, Debug, PartialEq, Eq)]
@@ -69,10 +69,10 @@ fn put_counts<W: Write>(
         (TakesPrefix (W.contents out.old) (W.contents out.new)
         (codes "built " ++ (name.now ++ (codes " cells " ++ (cells.now ++ reply_line (codes " win ") win.now))))) }
 {
-    put(out, b"built ")?;
-    put(out, name)?;
-    put(out, b" cells ")?;
-    put(out, cells)?;
+    write_text(out, b"built ")?;
+    write_text(out, name)?;
+    write_text(out, b" cells ")?;
+    write_text(out, cells)?;
     put_line(out, b" win ", win)
 }
 
@@ -107,8 +107,8 @@ fn put_words<W: Write>(
     ensures ok { OnOk result (Appends (W.contents out.old) (W.contents out.new) (word.now ++ (name.now ++ reply_line label.now number.now))) }
     ensures err { OnErr result (TakesPrefix (W.contents out.old) (W.contents out.new) (word.now ++ (name.now ++ reply_line label.now number.now))) }
 {
-    put(out, word)?;
-    put(out, name)?;
+    write_text(out, word)?;
+    write_text(out, name)?;
     put_line(out, label, number)
 }
 
@@ -133,7 +133,7 @@ fn put_named<W: Write>(
     ensures ok { OnOk result (Appends (W.contents out.old) (W.contents out.new) (word.now ++ (name.now ++ end.now))) }
     ensures err { OnErr result (TakesPrefix (W.contents out.old) (W.contents out.new) (word.now ++ (name.now ++ end.now))) }
 {
-    put(out, word)?;
-    put(out, name)?;
-    put(out, end)
+    write_text(out, word)?;
+    write_text(out, name)?;
+    write_text(out, end)
 }

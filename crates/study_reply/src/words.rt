@@ -23,16 +23,16 @@ use study_moves::{Move, in_check, legal_moves};
 use study_notation::write_san;
 use study_prober::ProbeFault;
 use study_retro::Value;
-use study_tablefile::{DeviceFailed, put};
+use study_tablefile::{DeviceFailed, write_text};
 
 /// Writes words and a line feed.
 pub fn put_line<W: Write>(out: &mut W, front: &[u8], back: &[u8]) -> Result<(), DeviceFailed>
     ensures ok { OnOk result (Appends (W.contents out.old) (W.contents out.new) (reply_line front.now back.now)) }
     ensures err { OnErr result (TakesPrefix (W.contents out.old) (W.contents out.new) (reply_line front.now back.now)) }
 {
-    put(out, front)?;
-    put(out, back)?;
-    put(out, b"\n")
+    write_text(out, front)?;
+    write_text(out, back)?;
+    write_text(out, b"\n")
 }
 
 /// Writes the reply to a refused line.
@@ -40,9 +40,9 @@ pub fn refuse<W: Write>(out: &mut W, refusal: Refusal) -> Result<(), DeviceFaile
     ensures ok { OnOk result (Appends (W.contents out.old) (W.contents out.new) (reply_line (codes "error ") (words_of refusal))) }
     ensures err { OnErr result (TakesPrefix (W.contents out.old) (W.contents out.new) (reply_line (codes "error ") (words_of refusal))) }
 {
-    put(out, b"error ")?;
+    write_text(out, b"error ")?;
     put_words(out, refusal)?;
-    put(out, b"\n")
+    write_text(out, b"\n")
 }
 
 // A refusal in words.
@@ -51,7 +51,7 @@ fn put_words<W: Write>(out: &mut W, refusal: Refusal) -> Result<(), DeviceFailed
     ensures ok { OnOk result (Appends (W.contents out.old) (W.contents out.new) (words_of refusal)) }
     ensures err { OnErr result (TakesPrefix (W.contents out.old) (W.contents out.new) (words_of refusal)) }
 {
-    put(out, refusal.name())?;
+    write_text(out, refusal.name())?;
     put_argument(out, refusal.argument())
 }
 
@@ -60,11 +60,11 @@ fn put_argument<W: Write>(out: &mut W, argument: Argument) -> Result<(), DeviceF
     ensures err { OnErr result (TakesPrefix (W.contents out.old) (W.contents out.new) (argument_text argument)) }
 {
     match argument {
-        Argument::None => put(out, b""),
-        Argument::Class(class) => put(out, class.name().as_bytes()),
+        Argument::None => write_text(out, b""),
+        Argument::Class(class) => write_text(out, class.name().as_bytes()),
         Argument::Number(number) => {
             let mut buffer = Buffer::new();
-            put(out, buffer.format(number).as_bytes())
+            write_text(out, buffer.format(number).as_bytes())
         }
     }
 }
@@ -86,10 +86,10 @@ fn put_list<W: Write>(out: &mut W, p: &Position, moves: &[Move]) -> Result<(), D
     if moves.is_empty() {
         return put_no_moves(out, p);
     }
-    put(out, b"moves ")?;
+    write_text(out, b"moves ")?;
     put_number(out, moves.len())?;
     put_moves(out, p, moves)?;
-    put(out, b"\n")
+    write_text(out, b"\n")
 }
 
 fn put_no_moves<W: Write>(out: &mut W, p: &Position) -> Result<(), DeviceFailed>
@@ -97,9 +97,9 @@ fn put_no_moves<W: Write>(out: &mut W, p: &Position) -> Result<(), DeviceFailed>
     ensures err { OnErr result (TakesPrefix (W.contents out.old) (W.contents out.new) (list_text p.now [])) }
 {
     if in_check(p) {
-        put(out, b"moves 0 mate\n")
+        write_text(out, b"moves 0 mate\n")
     } else {
-        put(out, b"moves 0 stalemate\n")
+        write_text(out, b"moves 0 stalemate\n")
     }
 }
 
@@ -108,7 +108,7 @@ fn put_number<W: Write>(out: &mut W, number: usize) -> Result<(), DeviceFailed>
     ensures err { OnErr result (TakesPrefix (W.contents out.old) (W.contents out.new) (decimal number)) }
 {
     let mut buffer = Buffer::new();
-    put(out, buffer.format(number).as_bytes())
+    write_text(out, buffer.format(number).as_bytes())
 }
 
 fn put_moves<W: Write>(out: &mut W, p: &Position, moves: &[Move]) -> Result<(), DeviceFailed>
@@ -128,9 +128,9 @@ fn put_move<W: Write>(out: &mut W, p: &Position, m: Move) -> Result<(), DeviceFa
     ensures ok { OnOk result (Appends (W.contents out.old) (W.contents out.new) (32 ∷ move_text p.now m)) }
     ensures err { OnErr result (TakesPrefix (W.contents out.old) (W.contents out.new) (32 ∷ move_text p.now m)) }
 {
-    put(out, b" ")?;
+    write_text(out, b" ")?;
     let text = write_san(p, m);
-    put(out, text.as_str().as_bytes())
+    write_text(out, text.as_str().as_bytes())
 }
 
 /// Writes how soon the side to move forces mate.
@@ -139,7 +139,7 @@ pub fn put_solution<W: Write>(out: &mut W, plies: Option<u8>) -> Result<(), Devi
     ensures err { OnErr result (TakesPrefix (W.contents out.old) (W.contents out.new) (solve_text plies)) }
 {
     let Some(plies) = plies else {
-        return put(out, b"solve none\n");
+        return write_text(out, b"solve none\n");
     };
     let mut buffer = Buffer::new();
     put_line(out, b"solve plies ", buffer.format(plies).as_bytes())
@@ -186,9 +186,9 @@ fn refuse_shift<W: Write>(out: &mut W, steps: &[u16]) -> Result<(), DeviceFailed
     ensures err { OnErr result (TakesPrefix (W.contents out.old) (W.contents out.new)
         (reply_line (codes "error ") (codes "ShiftBroken " ++ path_text steps.now))) }
 {
-    put(out, b"error ShiftBroken ")?;
+    write_text(out, b"error ShiftBroken ")?;
     put_path(out, steps)?;
-    put(out, b"\n")
+    write_text(out, b"\n")
 }
 
 /// Writes a stipulation.
@@ -196,11 +196,11 @@ pub fn put_stipulation<W: Write>(out: &mut W, stipulation: Stipulation) -> Resul
     ensures ok { OnOk result (Appends (W.contents out.old) (W.contents out.new) (stipulation_words stipulation)) }
     ensures err { OnErr result (TakesPrefix (W.contents out.old) (W.contents out.new) (stipulation_words stipulation)) }
 {
-    put(out, b"stipulate ")?;
+    write_text(out, b"stipulate ")?;
     put_side(out, stipulation.hero)?;
-    put(out, b" to ")?;
+    write_text(out, b" to ")?;
     put_goal(out, stipulation.goal)?;
-    put(out, b"\n")
+    write_text(out, b"\n")
 }
 
 fn put_side<W: Write>(out: &mut W, side: Side) -> Result<(), DeviceFailed>
@@ -208,8 +208,8 @@ fn put_side<W: Write>(out: &mut W, side: Side) -> Result<(), DeviceFailed>
     ensures err { OnErr result (TakesPrefix (W.contents out.old) (W.contents out.new) (side_word side)) }
 {
     match side {
-        Side::White => put(out, b"White"),
-        Side::Black => put(out, b"Black"),
+        Side::White => write_text(out, b"White"),
+        Side::Black => write_text(out, b"Black"),
     }
 }
 
@@ -218,8 +218,8 @@ fn put_goal<W: Write>(out: &mut W, goal: Goal) -> Result<(), DeviceFailed>
     ensures err { OnErr result (TakesPrefix (W.contents out.old) (W.contents out.new) (goal_words goal)) }
 {
     match goal {
-        Goal::Win => put(out, b"win"),
-        Goal::Draw => put(out, b"draw"),
+        Goal::Win => write_text(out, b"win"),
+        Goal::Draw => write_text(out, b"draw"),
         Goal::MateIn(moves) => put_counted(out, b"mate in ", moves.count() as usize),
     }
 }
@@ -229,15 +229,15 @@ pub fn put_mark<W: Write>(out: &mut W, steps: &[u16], mark: &Mark) -> Result<(),
     ensures ok { OnOk result (Appends (W.contents out.old) (W.contents out.new) (mark_text steps.now mark.now)) }
     ensures err { OnErr result (TakesPrefix (W.contents out.old) (W.contents out.new) (mark_text steps.now mark.now)) }
 {
-    put(out, b"mark ")?;
+    write_text(out, b"mark ")?;
     put_path(out, steps)?;
-    put(out, b" ")?;
+    write_text(out, b" ")?;
     put_value(out, mark.value)?;
-    put(out, b" ")?;
+    write_text(out, b" ")?;
     put_on_move(out, mark.on_move)?;
-    put(out, b" faults ")?;
+    write_text(out, b" faults ")?;
     put_number(out, mark.faults as usize)?;
-    put(out, b"\n")
+    write_text(out, b"\n")
 }
 
 fn put_value<W: Write>(out: &mut W, value: Value) -> Result<(), DeviceFailed>
@@ -247,7 +247,7 @@ fn put_value<W: Write>(out: &mut W, value: Value) -> Result<(), DeviceFailed>
     match value {
         Value::Win(n) => put_counted(out, b"win ", n as usize),
         Value::Loss(n) => put_counted(out, b"loss ", n as usize),
-        Value::Draw => put(out, b"draw"),
+        Value::Draw => write_text(out, b"draw"),
     }
 }
 
@@ -256,12 +256,12 @@ fn put_on_move<W: Write>(out: &mut W, mark: Option<MoveMark>) -> Result<(), Devi
     ensures err { OnErr result (TakesPrefix (W.contents out.old) (W.contents out.new) (on_move_text mark)) }
 {
     match mark {
-        None => put(out, b"-"),
-        Some(MoveMark::Only) => put(out, b"only"),
+        None => write_text(out, b"-"),
+        Some(MoveMark::Only) => write_text(out, b"only"),
         Some(MoveMark::Dual(k)) => put_counted(out, b"dual ", k as usize),
-        Some(MoveMark::Mistake) => put(out, b"mistake"),
-        Some(MoveMark::Idle) => put(out, b"idle"),
-        Some(MoveMark::Reply) => put(out, b"reply"),
+        Some(MoveMark::Mistake) => write_text(out, b"mistake"),
+        Some(MoveMark::Idle) => write_text(out, b"idle"),
+        Some(MoveMark::Reply) => write_text(out, b"reply"),
     }
 }
 
@@ -270,6 +270,6 @@ fn put_counted<W: Write>(out: &mut W, word: &[u8], number: usize) -> Result<(), 
     ensures ok { OnOk result (Appends (W.contents out.old) (W.contents out.new) (word.now ++ decimal number)) }
     ensures err { OnErr result (TakesPrefix (W.contents out.old) (W.contents out.new) (word.now ++ decimal number)) }
 {
-    put(out, word)?;
+    write_text(out, word)?;
     put_number(out, number)
 }

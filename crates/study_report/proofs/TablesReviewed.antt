@@ -7,8 +7,8 @@ use Rattle.study_tablefile.specs.declared.fault.SourceFault.{SourceFault}
 use Rattle.study_prober.specs.Values.{ProbeAnswer}
 use Rattle.study_prober.specs.Sources.{GivesOf}
 use Rattle.study_prober.specs.declared.values.ProbeFault.{ProbeFault}
-use Rattle.study_prober.specs.Whole.{Whole, TablesAreRight, IsCellAnswer}
-use Rattle.study_prober.specs.Paged.{Paged, SourcesAreRight, IsPagedAnswer, MayFail, held_of}
+use Rattle.study_prober.specs.WholeTables.{Whole, TablesAreRight, IsCellAnswer}
+use Rattle.study_prober.specs.PagedTables.{Paged, SourcesAreRight, IsPagedAnswer, MayFail, held_of}
 use Rattle.study_review.specs.declared.fault.ReviewFault.{ReviewFault}
 use Rattle.study_review.specs.declared.fault.ReviewFault.TheVariants.{Values}
 use Rattle.study_review.specs.Review.{HasReviewed}

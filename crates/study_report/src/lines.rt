@@ -11,7 +11,7 @@ use std::io::Write;
 use study_marks::Bench;
 use study_prober::Values;
 use study_review::{ReviewFault, write_review};
-use study_tablefile::{DeviceFailed, put};
+use study_tablefile::{DeviceFailed, write_text};
 
 /// Studies as their reviews, and refused lines as `refused 7 NoTable KRK`.
 #[derive(Clone, Copy, Debug, PartialEq, Eq)]
@@ -65,9 +65,9 @@ fn put_refusal<W: Write>(out: &mut W, number: u32, reply: &[u8]) -> Result<(), D
     ensures ok { OnOk result (Appends (W.contents out.old) (W.contents out.new) (refusal_line number reply.now)) }
     ensures err { OnErr result (TakesPrefix (W.contents out.old) (W.contents out.new) (refusal_line number reply.now)) }
 {
-    put(out, b"refused ")?;
+    write_text(out, b"refused ")?;
     let mut buffer = Buffer::new();
-    put(out, buffer.format(number).as_bytes())?;
-    put(out, b" ")?;
-    put(out, without_error(reply))
+    write_text(out, buffer.format(number).as_bytes())?;
+    write_text(out, b" ")?;
+    write_text(out, without_error(reply))
 }

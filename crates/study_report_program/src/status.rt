@@ -7,24 +7,24 @@ use itoa::Buffer;
 use std::io::Write;
 use study_material::Class;
 use study_script::run::RunFault;
-use study_tablefile::{DeviceFailed, put};
+use study_tablefile::{DeviceFailed, write_text};
 
 /// Tells why a run stopped, in a line of its own: `studyreport: LineTooLong 3`.
 pub fn put_stop<W: Write>(out: &mut W, fault: RunFault) -> Result<(), DeviceFailed> {
     match fault {
-        RunFault::ReadDevice => put(out, b"studyreport: ReadDevice\n"),
-        RunFault::WriteDevice => put(out, b"studyreport: WriteDevice\n"),
+        RunFault::ReadDevice => write_text(out, b"studyreport: ReadDevice\n"),
+        RunFault::WriteDevice => write_text(out, b"studyreport: WriteDevice\n"),
         RunFault::LineTooLong(line) => put_too_long(out, line),
-        RunFault::TooManyLines => put(out, b"studyreport: TooManyLines\n"),
-        RunFault::OutOfMemory => put(out, b"studyreport: OutOfMemory\n"),
+        RunFault::TooManyLines => write_text(out, b"studyreport: TooManyLines\n"),
+        RunFault::OutOfMemory => write_text(out, b"studyreport: OutOfMemory\n"),
     }
 }
 
 fn put_too_long<W: Write>(out: &mut W, line: u32) -> Result<(), DeviceFailed> {
     let mut buffer = Buffer::new();
-    put(out, b"studyreport: LineTooLong ")?;
-    put(out, buffer.format(line).as_bytes())?;
-    put(out, b"\n")
+    write_text(out, b"studyreport: LineTooLong ")?;
+    write_text(out, buffer.format(line).as_bytes())?;
+    write_text(out, b"\n")
 }
 
 /// Tells why the file of a class gives no table: `studyreport: KRK.dtm: HeaderDamaged`. The words end with a line feed.
@@ -33,10 +33,10 @@ pub fn put_file_fault<W: Write>(
     class: Class,
     words: &[u8],
 ) -> Result<(), DeviceFailed> {
-    put(out, b"studyreport: ")?;
-    put(out, class.name().as_bytes())?;
-    put(out, b".dtm: ")?;
-    put(out, words)
+    write_text(out, b"studyreport: ")?;
+    write_text(out, class.name().as_bytes())?;
+    write_text(out, b".dtm: ")?;
+    write_text(out, words)
 }
 
 /// Tells how many studies were printed, in a line of its own: `30 studies`.
@@ -52,6 +52,6 @@ fn put_both<W: Write>(out: &mut W, front: &[u8], back: &[u8]) -> Result<(), Devi
     ensures ok { OnOk result (Appends (W.contents out.old) (W.contents out.new) (front.now ++ back.now)) }
     ensures err { OnErr result (TakesPrefix (W.contents out.old) (W.contents out.new) (front.now ++ back.now)) }
 {
-    put(out, front)?;
-    put(out, back)
+    write_text(out, front)?;
+    write_text(out, back)
 }

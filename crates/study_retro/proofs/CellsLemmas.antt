@@ -8,7 +8,7 @@ use Rattle.std.proofs.lemmas.Bool.{eqb-true}
 use Rattle.std.proofs.lemmas.List.{take_more}
 use Rattle.std.proofs.lemmas.List.Elements.{Contains-push_cases}
 use Rattle.study_retro.specs.Forced.{LeadsBy}
-use Rattle.study_retro.specs.Back.{IsWonCell, TellsWins, IsLostBy, AreAdded, AreDropped, AreLowered, IsSetBy}
+use Rattle.study_retro.specs.Propagation.{IsWonCell, TellsWins, IsLostBy, AreAdded, AreDropped, AreLowered, IsSetBy}
 
 pub not_won-zero : (k c : ℕ) → c ≡ 0 → IsWonCell k c → ⊥
 not_won-zero k c e w = w.1 e

@@ -19,7 +19,7 @@ use Rattle.study_index.specs.Laws.{AreAlikeIn}
 use Rattle.study_index.proofs.ClassLaws.{below, entry, numbered, same_class, same_index, alike_back, alike_move, same_game}
 use Rattle.study_retro.specs.Cells.{distance_of, value_of}
 use Rattle.study_retro.specs.Class.{IsClass}
-use Rattle.study_index.specs.Found.{index_of, position_numbered}
+use Rattle.study_index.specs.Computed.{index_of, position_numbered}
 use Rattle.study_retro.specs.Table.{Table, table_of, IsClosed}
 use Rattle.study_material.specs.Class.{is_of, class_in, class_found}
 use Rattle.study_material.proofs.Classes.{IsOf-is_of, is_of-IsOf}

@@ -12,11 +12,11 @@ use Rattle.study_board.specs.Symmetry.{image, admits, keeps_pawns}
 use Rattle.study_board.proofs.ImagesValid.{valid_image}
 use Rattle.study_board.proofs.ImagesOfImages.{IsTurnable-from_valid}
 use Rattle.study_moves.specs.declared.moves.Move.{Move}
-use Rattle.study_moves.specs.Rules.{is_legal, after, goes, is_en_passant}
+use Rattle.study_moves.specs.Rules.{is_legal, after, reaches_target, is_en_passant}
 use Rattle.study_moves.specs.Symmetry.{image_move}
-use Rattle.study_moves.specs.Bare.{is_taken, is_live, without_passed, bare}
+use Rattle.study_moves.specs.EnPassant.{is_taken, has_legal_en_passant, without_passed, bare}
 use Rattle.study_moves.specs.Alike.{Leads}
-use Rattle.study_moves.specs.Quiet.{IsQuiet, LeadsQuietly}
+use Rattle.study_moves.specs.Unmoves.{IsQuiet, LeadsQuietly}
 use Rattle.study_moves.proofs.RulesOfImages.{after-turned, image_legal}
 use Rattle.study_moves.proofs.BarePassing.{goes_without, is_legal_for_bare, men_after_bare}
 use Rattle.study_moves.proofs.BareImages.{bare_image}
@@ -28,28 +28,28 @@ use Rattle.study_material.specs.Lists.{Lists, lists, ordered}
 use Rattle.study_material.specs.Class.{IsOf}
 use Rattle.study_index.specs.Number.{IsIndex, with_bit, without_bit}
 use Rattle.study_index.specs.Decoded.{slots_of, told_men, told_side}
-use Rattle.study_index.specs.Found.{index_of, position_told, is_entry, position_numbered}
+use Rattle.study_index.specs.Computed.{index_of, position_told, is_entry, position_numbered}
 use Rattle.study_index.specs.Laws.{AreAlikeIn}
 use Rattle.study_index.proofs.ClassLaws.{entry, numbered, same_class, same_index, alike_back, alike_move}
 use Rattle.study_index.proofs.ComputedIndex.{IsIndex-index_of, index_of-only, told_decoded, decoded_told}
 use Rattle.study_index.proofs.ImageNumbers.{IsLeastNumber-passed}
 use Rattle.study_index.proofs.LivePassing.{live_along, not_live_passed}
 use Rattle.study_index.proofs.WithBit.{HasParts-from}
-use Rattle.study_retro.specs.Back.{LeadsTo}
-use Rattle.study_retro.specs.Before.{IsPlainNumber, IsNumberBefore, ComesBefore}
+use Rattle.study_retro.specs.Propagation.{LeadsTo}
+use Rattle.study_retro.specs.Predecessors.{IsPlainNumber, IsNumberBefore, ComesBefore}
 use Rattle.study_material.specs.Class.{is_of}
 use Rattle.study_material.proofs.Classes.{IsOf-is_of, is_of-IsOf}
 use Rattle.study_retro.proofs.QuietClass.{quiet_lists, quiet_any, quiet_within, passes_none, unpassing, unoccupied}
 
 without_bare : (p : Position) → without_passed (bare p) ≡ without_passed p
-without_bare p = by_live (is_live p)
+without_bare p = by_live (has_legal_en_passant p)
   where
     by_live : (b : Bool) → without_passed (cond b p (without_passed p)) ≡ without_passed p
     by_live true = refl
     by_live false = refl
 
 without_image : (s : Symmetry) (p : Position) → without_passed (image s (bare p)) ≡ without_passed (image s p)
-without_image s p = by_live (is_live p)
+without_image s p = by_live (has_legal_en_passant p)
   where
     by_live : (b : Bool) → without_passed (image s (cond b p (without_passed p))) ≡ without_passed (image s p)
     by_live true = refl
@@ -136,7 +136,7 @@ module _ (p : Position) (m : Move) (man : Man) (here : man_at p.men m.origin ≡
 -- the number of a position with the bit of a live passed square is that of the position without it, and as much more
 record HasPlain (p : Position) (i : ℕ) : Type 0 where
   pub plain : IsIndex (without_passed p) (without_bit i)
-  pub is : i ≡ with_bit (is_live p) (without_bit i)
+  pub is : i ≡ with_bit (has_legal_en_passant p) (without_bit i)
 
 HasPlain-from : (p : Position) (i : ℕ) → IsValid p → IsIndex p i → HasPlain p i
 HasPlain-from p i v x =
@@ -154,7 +154,7 @@ HasPlain-from p i v x =
 pub small_index : (p : Position) → IsValid p → p.passed ≡ None → index_of p < 16777216
 small_index p v u =
     let h = HasParts-from p (index_of p) v (IsIndex-index_of p v) in
-    let dead : is_live p ≡ false = ap (λ (o : Option ℕ). is_taken p o) u in
+    let dead : has_legal_en_passant p ≡ false = ap (λ (o : Option ℕ). is_taken p o) u in
     let is : index_of p ≡ without_bit (index_of p) = h.is ∙ ap (λ (b : Bool). with_bit b (without_bit (index_of p))) dead in
     subst (λ (n : ℕ). n < 16777216) (sym is) h.small
 
@@ -206,7 +206,7 @@ module _ (c : Class) where
       let ix : IsIndex x n = subst (λ (k : ℕ). IsIndex x k) lands (IsIndex-index_of x vx) in
       let it : IsIndex t.0 n = same_index c x t.0 n t.2 ox ix in
       let d = entry c (index_of r) p.0 p.1 in
-      let dead : is_live p.0 ≡ false = sym (live_along p.2.alike.images.by p.0 r p.2.alike.images.is) ∙ ap (λ (o : Option ℕ). is_taken r o) b.unpassed in
+      let dead : has_legal_en_passant p.0 ≡ false = sym (live_along p.2.alike.images.by p.0 r p.2.alike.images.is) ∙ ap (λ (o : Option ℕ). is_taken r o) b.unpassed in
       record {
         from = p.0;
         to = t.0;
@@ -229,8 +229,8 @@ module _ (c : Class) where
       let quiet = quiet_within o m d.valid l.1 (unpassing o m d.valid l.1 u) c d.of_class k in
       let h = HasMover-from_is_legal o m l.1 in
       let here : man_at p.men m.origin ≡ Some h.man = ap (λ (xs : List Man). man_at xs m.origin) men ∙ h.here in
-      let going : goes p.men None h.man m.target ≡ true = ap (λ (xs : List Man). goes xs None h.man m.target) men
-      ∙ ap (λ (y : Option ℕ). goes o.men y h.man m.target) (sym u) ∙ h.moves.going in
+      let going : reaches_target p.men None h.man m.target ≡ true = ap (λ (xs : List Man). reaches_target xs None h.man m.target) men
+      ∙ ap (λ (y : Option ℕ). reaches_target o.men y h.man m.target) (sym u) ∙ h.moves.going in
       let empty : is_empty p.men m.target ≡ true = ap (λ (xs : List Man). is_empty xs m.target) men ∙ ap not quiet.0 in
       let no : is_en_passant p.passed h.man m.target ≡ false =
       false_from_ne_true (is_en_passant p.passed h.man m.target)
@@ -293,7 +293,7 @@ module _ (c : Class) where
       (subst (λ (k : ℕ). IsIndex x k) ix (IsIndex-index_of x vx))) in
       record {
         by = r.by;
-        is = record { from = r.from; leads = r.leads; lands = sym (index_of-only (after r.from r.by) n vy iy); is = by_live (is_live t.0) plain.is at };
+        is = record { from = r.from; leads = r.leads; lands = sym (index_of-only (after r.from r.by) n vy iy); is = by_live (has_legal_en_passant t.0) plain.is at };
       }
     where
       by_live : (b : Bool) {k : ℕ} → i ≡ with_bit b (without_bit i) → without_bit i ≡ k → (i ≡ k)

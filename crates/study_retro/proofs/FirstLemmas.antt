@@ -5,7 +5,7 @@ use Rattle.study_retro.specs.declared.value.Value.TheVariants.{Win, Loss, Draw}
 use Rattle.study_retro.specs.Forced.{Mated, Mates, IsGame, IsWin, IsLoss, GivesOutside}
 use Rattle.study_retro.specs.Right.{IsRightOutside}
 use Rattle.study_retro.specs.Class.{IsClass}
-use Rattle.study_retro.specs.Back.{IsFirst, IsHeld}
+use Rattle.study_retro.specs.Propagation.{IsInitial, IsHeld}
 use Rattle.study_retro.proofs.ForcedLemmas.{Mates-Mated, IsGame-unique}
 use Rattle.study_retro.proofs.ParityLemmas.{odd-win, even-loss}
 
@@ -125,7 +125,7 @@ module _ {P : Type 0} {leads : P → P → Type 0} {mate : P → Type 0} {known 
         no_loss q j l out x (Loss i) e h = g.no_loss q i (l, out) e
         no_loss q j l out x Draw e h = h.no_loss j x
 
-    pub held-first : (v : Value) (c : ℕ) (far : Bool) → GivesOutside leads home outside p v → IsFirst v c far → IsHeld leads mate home far 0 p c
+    pub held-first : (v : Value) (c : ℕ) (far : Bool) → GivesOutside leads home outside p v → IsInitial v c far → IsHeld leads mate home far 0 p c
     held-first (Win zero) c far g f = absurd g
     held-first (Win (suc n)) c far g (inl f) = absurd (let e : Win (suc n) ≡ Draw = f.0 in let no : ⊥ = cc in no)
     held-first (Win (suc n)) c far g (inr (inl f)) = held-win n c far g (inl (omega (arith, f.2), f.3))

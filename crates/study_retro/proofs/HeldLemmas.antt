@@ -7,7 +7,7 @@ use Rattle.study_retro.specs.Forced.{Mated, Mates, IsGame}
 use Rattle.study_retro.specs.Cells.{value_of, label_of}
 use Rattle.study_retro.specs.Right.{IsRightOutside}
 use Rattle.study_retro.specs.Class.{IsClass}
-use Rattle.study_retro.specs.Back.{IsLostBy, IsWonCell, TellsWins, IsHeld, IsHeldCell, AreHeld}
+use Rattle.study_retro.specs.Propagation.{IsLostBy, IsWonCell, TellsWins, IsHeld, IsHeldCell, AreHeld}
 use Rattle.study_retro.proofs.ForcedLemmas.{Mates-le, Mates-Mated}
 use Rattle.study_retro.proofs.AlongLemmas.{Mates-along, Mated-along}
 use Rattle.study_retro.proofs.ClassLemmas.{true_or_false, image_keeps, label-home, label-outside}

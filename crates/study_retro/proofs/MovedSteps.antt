@@ -13,8 +13,8 @@ use Rattle.study_board.specs.Men.{other_side}
 use Rattle.study_board.specs.Position.{Position, is_occupied}
 use Rattle.study_moves.specs.declared.moves.Move.{Move}
 use Rattle.study_moves.specs.Rules.{is_legal, after}
-use Rattle.study_moves.specs.Bare.{is_taken, is_live, without_passed}
-use Rattle.study_moves.specs.Quiet.{IsQuiet, LeadsQuietly}
+use Rattle.study_moves.specs.EnPassant.{is_taken, has_legal_en_passant, without_passed}
+use Rattle.study_moves.specs.Unmoves.{IsQuiet, LeadsQuietly}
 use Rattle.study_moves.proofs.AfterMove.{IsValid-after}
 use Rattle.study_material.specs.declared.class.Class.{Class}
 use Rattle.study_material.specs.Lists.{ordered}
@@ -22,7 +22,7 @@ use Rattle.study_material.specs.Class.{lists_of, IsOf}
 use Rattle.study_material.proofs.Classes.{is_of-IsOf}
 use Rattle.study_index.specs.Number.{with_bit, without_bit, has_both_pawns, cells_of}
 use Rattle.study_index.specs.Decoded.{slots_of, told_men, told_side}
-use Rattle.study_index.specs.Found.{index_of, least_number, position_numbered}
+use Rattle.study_index.specs.Computed.{index_of, least_number, position_numbered}
 use Rattle.study_index.specs.Moved.{from_to, IsMoved}
 use Rattle.study_index.proofs.ClassLaws.{entry}
 use Rattle.study_index.proofs.ComputedIndex.{told_decoded}
@@ -65,7 +65,7 @@ other_again White = refl
 other_again Black = refl
 
 -- the number tells nothing of a passed square on which no capture is legal
-plain_index : (x y : Position) → is_live x ≡ false → is_live y ≡ false → without_passed x ≡ without_passed y → index_of x ≡ index_of y
+plain_index : (x y : Position) → has_legal_en_passant x ≡ false → has_legal_en_passant y ≡ false → without_passed x ≡ without_passed y → index_of x ≡ index_of y
 unfolding index_of least_number
 plain_index x y d e s =
     ap (λ (b : Bool). with_bit b (least_number x)) d ∙ ap (λ (z : Position). least_number z) s ∙ sym (ap (λ (b : Bool). with_bit b (least_number y)) e)

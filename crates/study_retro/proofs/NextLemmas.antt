@@ -7,7 +7,7 @@ use Rattle.study_retro.specs.Forced.{Mated, Mates, IsWin, IsLoss, IsGame}
 use Rattle.study_retro.specs.Cells.{value_of}
 use Rattle.study_retro.specs.Right.{IsRightOutside}
 use Rattle.study_retro.specs.Class.{IsClass}
-use Rattle.study_retro.specs.Back.{LeadsTo, IsHeld, IsHeldCell, AreHeld}
+use Rattle.study_retro.specs.Propagation.{LeadsTo, IsHeld, IsHeldCell, AreHeld}
 use Rattle.study_retro.proofs.ForcedLemmas.{Mates-le, Mates-Mated}
 use Rattle.study_retro.proofs.ParityLemmas.{Mated-odd, Mates-even}
 use Rattle.study_retro.proofs.ClassLemmas.{true_or_false, some_or_none}

@@ -8,18 +8,18 @@ use Rattle.study_material.specs.Class.{IsOf}
 use Rattle.study_material.specs.Needs.{LeadsOn}
 use Rattle.study_material.proofs.Classes.{lists_of-injective}
 use Rattle.study_index.specs.Number.{IsIndex, cells_of}
-use Rattle.study_index.specs.Found.{index_of, position_numbered}
+use Rattle.study_index.specs.Computed.{index_of, position_numbered}
 use Rattle.study_index.specs.Decoded.{IsDecoded}
 use Rattle.study_index.proofs.ComputedIndex.{index_of-only, told_decoded, decoded_told}
 use Rattle.study_retro.specs.declared.value.Value.{Value}
 use Rattle.study_retro.specs.Cells.{value_of}
-use Rattle.study_retro.specs.Table.{Table, table_of, class_place, IsReady, IsClosed}
+use Rattle.study_retro.specs.Table.{Table, table_of, class_number, IsReady, IsClosed}
 use Rattle.study_material.specs.Class.{is_of}
 use Rattle.study_material.proofs.Classes.{IsOf-is_of, is_of-IsOf}
 use Rattle.study_retro.specs.Game.{value_in}
 use Rattle.study_retro.proofs.ClassLemmas.{some_or_none}
 use Rattle.study_retro.proofs.ChessClass.{chess_class, value_in-held}
-use Rattle.study_retro.proofs.SetLemmas.{class_place-injective}
+use Rattle.study_retro.proofs.SetLemmas.{class_number-injective}
 
 pub decode_at : (c : Class) (n : ℕ) (o : Option Position) → IfSome o (λ q. IsDecoded c n q)
     → IfNone o ((q : Position) → IsDecoded c n q → ⊥) → o ≡ position_numbered c n
@@ -30,10 +30,10 @@ one_class : (c d : Class) (p : Position) → IsOf c p → IsOf d p → c ≡ d
 one_class c d p h k = lists_of-injective c d (h ∙ sym k)
 
 module _ (held : List (Option Table)) (c d : Class) (p : Position) (closed : IsClosed held) (is : IsOf d p) where
-  pub place_home : (i j n : ℕ) → IsValid p → i ≡ class_place d → j ≡ class_place c → i ≡ j → IsIndex p n
+  pub place_home : (i j n : ℕ) → IsValid p → i ≡ class_number d → j ≡ class_number c → i ≡ j → IsIndex p n
       → (is_of c p ≡ true) × (index_of p ≡ n) × (n < cells_of c)
   place_home i j n valid e f g x =
-      let same : d ≡ c = class_place-injective d c (sym e ∙ g ∙ f) in
+      let same : d ≡ c = class_number-injective d c (sym e ∙ g ∙ f) in
       let home : IsOf c p = subst (λ (k : Class). IsOf k p) same is in
       let laws = chess_class c held closed in
       let q = laws.numbered p (record { valid = valid; of_class = inl home }) (is_of-IsOf c p home) in
@@ -41,10 +41,10 @@ module _ (held : List (Option Table)) (c d : Class) (p : Position) (closed : IsC
       let number : index_of p ≡ n = sym (index_of-only p n valid x) in
       (is_of-IsOf c p home, number, subst (λ (m : ℕ). m < cells_of c) number small)
 
-  other_class : (i j : ℕ) → i ≡ class_place d → j ≡ class_place c → (i ≡ j → ⊥) → IsOf c p → ⊥
-  other_class i j e f g h = g (e ∙ ap class_place (one_class d c p is h) ∙ sym f)
+  other_class : (i j : ℕ) → i ≡ class_number d → j ≡ class_number c → (i ≡ j → ⊥) → IsOf c p → ⊥
+  other_class i j e f g h = g (e ∙ ap class_number (one_class d c p is h) ∙ sym f)
 
-  pub place_away : (i j : ℕ) → i ≡ class_place d → j ≡ class_place c → (i ≡ j → ⊥) → is_of c p ≡ false
+  pub place_away : (i j : ℕ) → i ≡ class_number d → j ≡ class_number c → (i ≡ j → ⊥) → is_of c p ≡ false
   place_away i j e f g = false_from_ne_true (is_of c p) (λ h. other_class i j e f g (IsOf-is_of c p h))
 
   pub table_class : (t : Table) → Some t ≡ table_of held d → IsOf t.class p
@@ -53,7 +53,7 @@ module _ (held : List (Option Table)) (c d : Class) (p : Position) (closed : IsC
   pub table_value : (t : Table) (v : Value) → Some t ≡ table_of held d → v ≡ value_of (slice_index t.cells (index_of p)) → value_in held p ≡ v
   table_value t v e f = value_in-held held d t p is (sym e) ∙ sym f
 
-  pub table_held : (i j : ℕ) → i ≡ class_place d → j ≡ class_place c → (i ≡ j → ⊥) → IsReady held c → LeadsOn c p → None ≡ table_of held d → ⊥
+  pub table_held : (i j : ℕ) → i ≡ class_number d → j ≡ class_number c → (i ≡ j → ⊥) → IsReady held c → LeadsOn c p → None ≡ table_of held d → ⊥
   table_held i j e f g ready known none = elim known.of_class [
     | inl h ↦ other_class i j e f g h
     | inr h ↦

@@ -21,8 +21,8 @@ use Rattle.study_board.specs.Geometry.{file_of, rank_of}
 use Rattle.study_board.specs.Men.{same_side, other_side, is_man, is_pawn}
 use Rattle.study_board.specs.Position.{Position, IsValid, AllAbove, IsAscending, is_occupied, has_man, man_at}
 use Rattle.study_moves.specs.declared.moves.Move.{Move}
-use Rattle.study_moves.specs.Rules.{is_en_passant, is_square, has_side, stays, moved, is_legal, after, is_choice, is_officer, reaches_end, last_rank}
-use Rattle.study_moves.specs.Quiet.{IsQuiet}
+use Rattle.study_moves.specs.Rules.{is_en_passant, is_square, has_side, survives, moved, is_legal, after, is_promotion_choice, is_promotion_piece, reaches_last_rank, last_rank}
+use Rattle.study_moves.specs.Unmoves.{IsQuiet}
 use Rattle.study_moves.proofs.MenOfList.{IsAmong, none_among, some_among, found_among}
 use Rattle.study_moves.proofs.NoMoveBetween.{HasMover-from_is_legal}
 use Rattle.study_moves.proofs.AfterMove.{IsMoveFrom-is_legal, IsValid-after, en_passant_pawn}
@@ -208,7 +208,7 @@ module _ (p : Position) (m : Move) (v : IsValid p) (legal : is_legal p m ≡ tru
   mover = (HasMover-from_is_legal p m legal).man
 
   abbrev left : List Man
-  left = filter (stays p.passed mover m.target) p.men
+  left = filter (survives p.passed mover m.target) p.men
 
   abbrev gone : List Man
   gone = filter (goes_away p.passed mover m.target) p.men
@@ -220,7 +220,7 @@ module _ (p : Position) (m : Move) (v : IsValid p) (legal : is_legal p m ≡ tru
   same_number n k e = grind (arith, nat_tests)
 
   mover_goes : goes_away p.passed mover m.target mover ≡ true
-  unfolding stays
+  unfolding survives
   mover_goes = (let same : eqb mover.at mover.at ≡ true = same_number mover.at mover.at refl in rw same refl)
 
   step_empty : is_en_passant p.passed mover m.target ≡ true → list_any (λ y. y.at == m.target) p.men ≡ false
@@ -264,19 +264,19 @@ module _ (p : Position) (m : Move) (v : IsValid p) (legal : is_legal p m ≡ tru
       omega (arith, x.0, x.1, y.0, y.1)
 
   -- a promotion makes the mover lighter, and no move heavier
-  moved_weight : (o : Option Kind) → is_choice (reaches_end mover m.target) o ≡ true → (o ≡ None)
+  moved_weight : (o : Option Kind) → is_promotion_choice (reaches_last_rank mover m.target) o ≡ true → (o ≡ None)
       × (weight_of (unwrap_or o mover.kind) ≡ weight mover) ⊎ (weight_of (unwrap_or o mover.kind) < weight mover)
   moved_weight None e = inl (refl, refl)
-  moved_weight (Some k) e = by_end (reaches_end mover m.target) refl e
+  moved_weight (Some k) e = by_end (reaches_last_rank mover m.target) refl e
     where
-      by_end : (b : Bool) → reaches_end mover m.target ≡ b → is_choice b (Some k) ≡ true → (Some k ≡ None)
+      by_end : (b : Bool) → reaches_last_rank mover m.target ≡ b → is_promotion_choice b (Some k) ≡ true → (Some k ≡ None)
           × (weight_of k ≡ weight mover) ⊎ (weight_of k < weight mover)
       by_end false f g = absurd (false≢true g)
       by_end true f g = inr (
           let pawn : mover.kind ≡ Pawn = kinds_equal mover.kind Pawn (and_parts (is_pawn mover) (rank_of m.target == last_rank mover.side) f).0 in
           subst (λ (j : Kind). weight_of k < weight_of j) (sym pawn) (officer k g))
         where
-          officer : (j : Kind) → is_officer j ≡ true → weight_of j < 2
+          officer : (j : Kind) → is_promotion_piece j ≡ true → weight_of j < 2
           officer Queen t = omega arith
           officer Rook t = omega arith
           officer Bishop t = omega arith
@@ -287,7 +287,7 @@ module _ (p : Position) (m : Move) (v : IsValid p) (legal : is_legal p m ≡ tru
   one : weight mover ≤ sum_by weight gone
   one = one_weighs gone mover (among_filter (goes_away p.passed mover m.target) p.men mover found.0 mover_goes)
 
-  choice : is_choice (reaches_end mover m.target) m.promoted ≡ true
+  choice : is_promotion_choice (reaches_last_rank mover m.target) m.promoted ≡ true
   choice = (HasMover-from_is_legal p m legal).moves.choice
 
   -- where a second man goes away, the men weigh less
@@ -314,7 +314,7 @@ module _ (p : Position) (m : Move) (v : IsValid p) (legal : is_legal p m ≡ tru
       false≢true (sym (ap not (same_number (file_of mover.at) (file_of m.target) same)) ∙ b.1)
 
   behind_goes : (y : Man) → is_en_passant p.passed mover m.target ≡ true → (y.at == behind) ≡ true → goes_away p.passed mover m.target y ≡ true
-  unfolding stays
+  unfolding survives
   behind_goes y e t = rw (e, t) (by_both (y.at == mover.at) (y.at == m.target))
     where
       by_both : (a b : Bool) → not (not a && not b && false) ≡ true
@@ -348,7 +348,7 @@ module _ (p : Position) (m : Move) (v : IsValid p) (legal : is_legal p m ≡ tru
   module _ (no_passing : is_en_passant p.passed mover m.target ≡ false) where
     -- who goes away stands where the mover does or on the target
     away_cases : (y : Man) → goes_away p.passed mover m.target y ≡ true → (y.at ≡ mover.at) ⊎ (y.at ≡ m.target)
-    unfolding stays
+    unfolding survives
     away_cases y e = by_tests (y.at == mover.at) (y.at == m.target) refl refl (rw no_passing at e)
       where
         by_tests : (a b : Bool) → (y.at == mover.at) ≡ a → (y.at == m.target) ≡ b → not (not a && not b && true) ≡ true → (y.at ≡ mover.at) ⊎ (y.at ≡ m.target)
@@ -410,7 +410,7 @@ module _ (p : Position) (m : Move) (v : IsValid p) (legal : is_legal p m ≡ tru
 
     -- a move within the class is quiet
     pub quiet_within : (c : Class) → IsOf c p → IsOf c (after p m) → IsQuiet p m
-    unfolding is_occupied stays
+    unfolding is_occupied survives
     quiet_within c h k = (empty (is_occupied p.men m.target) refl, unpromoted)
       where
         total : sum_by weight gone ≡ weight (moved mover m)

@@ -14,10 +14,10 @@ use Rattle.study_material.specs.declared.class.Class.TheVariants.{KQKB, KQKN, KQ
 use Rattle.study_material.specs.declared.class.Class.TheVariants.{KBKB, KBKN, KBKP, KNKN, KNKP, KPKP}
 use Rattle.study_material.specs.Class.{class_list}
 use Rattle.study_material.specs.Needs.{needs_of}
-use Rattle.study_retro.specs.Table.{Table, IsComplete, class_place, table_of, IsReady, IsClosed}
-use Rattle.study_retro.specs.Set.{first_missing}
+use Rattle.study_retro.specs.Table.{Table, IsComplete, class_number, table_of, IsReady, IsClosed}
+use Rattle.study_retro.specs.TableSet.{first_missing}
 
-class_at_place : (c : Class) → get_or class_list (class_place c) KK ≡ c
+class_at_place : (c : Class) → get_or class_list (class_number c) KK ≡ c
 class_at_place KK = refl
 class_at_place KQK = refl
 class_at_place KRK = refl
@@ -55,11 +55,11 @@ class_at_place KNKN = refl
 class_at_place KNKP = refl
 class_at_place KPKP = refl
 
-pub class_place-injective : (c d : Class) → class_place c ≡ class_place d → c ≡ d
-class_place-injective c d e = sym (class_at_place c) ∙ ap (λ (n : ℕ). get_or class_list n KK) e ∙ class_at_place d
+pub class_number-injective : (c d : Class) → class_number c ≡ class_number d → c ≡ d
+class_number-injective c d e = sym (class_at_place c) ∙ ap (λ (n : ℕ). get_or class_list n KK) e ∙ class_at_place d
 
-same_class : (c d : Class) → (c ≡ d) ⊎ (class_place c ≢ class_place d)
-same_class c d = elim (same_number (class_place c) (class_place d)) [ inl e ↦ inl (class_place-injective c d e) | inr f ↦ inr f ]
+same_class : (c d : Class) → (c ≡ d) ⊎ (class_number c ≢ class_number d)
+same_class c d = elim (same_number (class_number c) (class_number d)) [ inl e ↦ inl (class_number-injective c d e) | inr f ↦ inr f ]
   where
     same_number : (n m : ℕ) → (n ≡ m) ⊎ (n ≢ m)
     same_number n m = grind arith
@@ -100,9 +100,9 @@ module _ (held : List (Option Table)) where
 -- a table put at the place of its class
 module _ (held : List (Option Table)) (t : Table) (closed : IsClosed held) where
   after : List (Option Table)
-  after = set held (class_place t.class) (Some t)
+  after = set held (class_number t.class) (Some t)
 
-  small : (c : Class) → class_place c < length held
+  small : (c : Class) → class_number c < length held
   small KK = rw closed.places (omega arith)
   small KQK = rw closed.places (omega arith)
   small KRK = rw closed.places (omega arith)
@@ -142,11 +142,11 @@ module _ (held : List (Option Table)) (t : Table) (closed : IsClosed held) where
 
   held_same : table_of after t.class ≡ Some t
   unfolding after
-  held_same = get_or-set_same held (class_place t.class) (Some t) None (small t.class)
+  held_same = get_or-set_same held (class_number t.class) (Some t) None (small t.class)
 
-  held_other : (c : Class) → class_place c ≢ class_place t.class → table_of after c ≡ table_of held c
+  held_other : (c : Class) → class_number c ≢ class_number t.class → table_of after c ≡ table_of held c
   unfolding after
-  held_other c f = get_or-set_other held (class_place t.class) (class_place c) (Some t) None f
+  held_other c f = get_or-set_other held (class_number t.class) (class_number c) (Some t) None f
 
   -- what was held is held
   held_stays : (c : Class) → IsSome (table_of held c) → IsSome (table_of after c)
@@ -165,10 +165,10 @@ module _ (held : List (Option Table)) (t : Table) (closed : IsClosed held) where
     | inr f ↦ inr (sym (held_other c f) ∙ h)
   ]
 
-  pub closed_after : IsComplete t → first_missing held (needs_of t.class) ≡ None → IsClosed (set held (class_place t.class) (Some t))
+  pub closed_after : IsComplete t → first_missing held (needs_of t.class) ≡ None → IsClosed (set held (class_number t.class) (Some t))
   unfolding after
   closed_after complete none = record {
-    places = length-set held (class_place t.class) (Some t) ∙ closed.places;
+    places = length-set held (class_number t.class) (Some t) ∙ closed.places;
     class = λ c u h. elim (of_new c u h) [ inl w ↦ ap (λ (x : Table). x.class) w.1 ∙ sym w.0 | inr k ↦ closed.class c u k ];
     complete = λ c u h. elim (of_new c u h) [ inl w ↦ subst IsComplete (sym w.1) complete | inr k ↦ closed.complete c u k ];
     ready = λ c h d n. held_stays d (elim (same_class c t.class) as (λ _. IsSome (table_of held d)) [
@@ -249,6 +249,6 @@ ready_where held c (Some d) false e f = (
 )
 
 pub closed_with : (held : List (Option Table)) (t : Table) (place : ℕ) (o : Option Class) → IsClosed held
-    → IsComplete t → place ≡ class_place t.class → o ≡ first_missing held (needs_of t.class) → o ≡ None
+    → IsComplete t → place ≡ class_number t.class → o ≡ first_missing held (needs_of t.class) → o ≡ None
     → IsClosed (set held place (Some t))
 closed_with held t place o closed complete e f n = rw e (closed_after held t closed complete (sym f ∙ n))

@@ -11,7 +11,7 @@ use Rattle.study_material.specs.Class.{IsOf}
 use Rattle.study_material.specs.Needs.{LeadsOn, needs_of}
 use Rattle.study_index.specs.Number.{IsIndex, cells_of}
 use Rattle.study_index.proofs.ComputedIndex.{index_of-only}
-use Rattle.study_index.specs.Found.{index_of, position_numbered}
+use Rattle.study_index.specs.Computed.{index_of, position_numbered}
 use Rattle.study_index.specs.Laws.{AreAlikeIn}
 use Rattle.study_retro.specs.declared.value.Value.{Value}
 use Rattle.study_retro.specs.Forced.{IsGame}

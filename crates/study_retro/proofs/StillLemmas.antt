@@ -6,7 +6,7 @@ use Rattle.study_retro.specs.Forced.{IsGame, IsRightBelow}
 use Rattle.study_retro.specs.Cells.{value_of}
 use Rattle.study_retro.specs.Right.{IsRightOutside, IsRightCell, AreRight, IsRightBelowCell, AreRightBelow}
 use Rattle.study_retro.specs.Class.{IsClass}
-use Rattle.study_retro.specs.Back.{IsHeld, IsHeldCell, AreHeld}
+use Rattle.study_retro.specs.Propagation.{IsHeld, IsHeldCell, AreHeld}
 use Rattle.study_retro.proofs.ForcedLemmas.{Mates-le, IsGame-below}
 use Rattle.study_retro.proofs.ClassLemmas.{some_or_none}
 use Rattle.study_retro.proofs.LevelLemmas.{zero_or_not}

@@ -6,7 +6,7 @@ use Rattle.std.proofs.lemmas.List.Elements.{Contains-push, Contains-push_cases, 
 use Rattle.study_retro.specs.declared.value.Value.{Value}
 use Rattle.study_retro.specs.declared.value.Value.TheVariants.{Win, Loss, Draw}
 use Rattle.std.proofs.lemmas.List.{take_more}
-use Rattle.study_retro.specs.Tally.{lost_with, won_with, drawn_with, given_by}
+use Rattle.study_retro.specs.BestReplies.{lost_with, won_with, drawn_with, given_by}
 use Rattle.study_retro.specs.Forced.{LeadsBy, Gives, HasLoss, HasOnlyWins, HasDraw}
 
 -- one of the moves has the value

@@ -6,7 +6,7 @@ use Rattle.study_moves.specs.Game.{IsMate}
 use Rattle.study_material.specs.declared.class.Class.{Class}
 use Rattle.study_material.specs.Needs.{LeadsOn}
 use Rattle.study_index.specs.Number.{cells_of}
-use Rattle.study_index.specs.Found.{index_of, position_numbered}
+use Rattle.study_index.specs.Computed.{index_of, position_numbered}
 use Rattle.study_index.specs.Laws.{AreAlikeIn}
 use Rattle.study_material.specs.Class.{is_of}
 use Rattle.study_retro.specs.Game.{value_in}

@@ -6,7 +6,7 @@ use Rattle.study_material.specs.Class.{class_found}
 use Rattle.study_retro.specs.declared.value.Value.{Value}
 use Rattle.study_retro.specs.declared.value.Value.TheVariants.{Win, Loss, Draw}
 use Rattle.study_retro.specs.Cells.{value_of}
-use Rattle.study_index.specs.Found.{index_of}
+use Rattle.study_index.specs.Computed.{index_of}
 use Rattle.study_retro.specs.Table.{Table, table_of}
 
 -- the game's value: the side to move mates, or is mated, in exactly n plies, or neither side forces mate

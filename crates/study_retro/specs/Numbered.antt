@@ -2,13 +2,13 @@
 use Rattle.std.specs.Prelude.{◌≡◌, ◌≢◌, ℕ, ◌+◌, ◌<◌, Bool, false, IsTrue, List, slice_index, Option, Some}
 use Rattle.study_moves.specs.declared.moves.Move.{Move}
 use Rattle.study_retro.specs.declared.value.Value.{Value}
-use Rattle.study_retro.specs.declared.game.Place.{Place}
+use Rattle.study_retro.specs.declared.game.Location.{Location}
 use Rattle.study_retro.specs.Forced.{LeadsBy, Mated, Gives, GivesOutside}
 use Rattle.study_retro.specs.Cells.{label_of}
 use Rattle.study_retro.specs.Class.{IsClass}
 use Rattle.study_retro.specs.Places.{IsPlace}
 use Rattle.study_retro.specs.Right.{AreRight, IsRightOutside, IsGivenCell, IsOtherCell, HasFar}
-use Rattle.study_retro.specs.Back.{LeadsTo, IsLostBy, TellsWins, IsHeldCell, AreHeld, IsSetBy}
+use Rattle.study_retro.specs.Propagation.{LeadsTo, IsLostBy, TellsWins, IsHeldCell, AreHeld, IsSetBy}
 
 -- The positions of a class, by numbers, and the moves among them and out of the class.
 pub record Numbered (P : Type 0) : Type 1 where
@@ -43,7 +43,7 @@ module _ {P : Type 0} where
   OutsideIsRight g = IsRightOutside (leads_in g) g.mate g.known g.home g.outside
 
   -- where the value of a position stands
-  abbrev pub StandsAt : Numbered P → P → Place → Type 0
+  abbrev pub StandsAt : Numbered P → P → Location → Type 0
   StandsAt g p place = IsPlace g.home g.index g.outside g.size p place
 
   -- the value of a position, by its cell in the class, and by what is known outside

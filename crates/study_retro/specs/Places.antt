@@ -2,10 +2,10 @@
 use Rattle.std.specs.Prelude.{◌≡◌, ℕ, ◌<◌, Bool, true, false}
 use Rattle.study_retro.specs.Cells.{distance_of}
 use Rattle.study_retro.specs.declared.value.Value.{Value}
-use Rattle.study_retro.specs.declared.game.Place.{Place}
-use Rattle.study_retro.specs.declared.game.Place.TheVariants.{Cell, Outside}
+use Rattle.study_retro.specs.declared.game.Location.{Location}
+use Rattle.study_retro.specs.declared.game.Location.TheVariants.{Cell, Outside}
 
 -- where the value of p stands
-abbrev pub IsPlace : {P : Type 0} → (P → Bool) → (P → ℕ) → (P → Value) → ℕ → P → Place → Type 0
+abbrev pub IsPlace : {P : Type 0} → (P → Bool) → (P → ℕ) → (P → Value) → ℕ → P → Location → Type 0
 IsPlace home index outside size p (Cell n) = (home p ≡ true) × (index p ≡ n) × (n < size)
 IsPlace home index outside size p (Outside v) = (home p ≡ false) × (outside p ≡ v) × (distance_of v < 255)

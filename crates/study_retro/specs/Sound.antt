@@ -6,7 +6,7 @@ use Rattle.study_material.specs.declared.class.Class.{Class}
 use Rattle.study_material.specs.Class.{IsOf}
 use Rattle.study_material.specs.Needs.{needs_of}
 use Rattle.study_index.specs.Number.{cells_of}
-use Rattle.study_index.specs.Found.{position_numbered}
+use Rattle.study_index.specs.Computed.{position_numbered}
 use Rattle.study_retro.specs.Cells.{distance_of, value_of}
 use Rattle.study_retro.specs.declared.value.Value.{Value}
 use Rattle.study_retro.specs.Game.{IsValueOf}

@@ -20,47 +20,47 @@ pub record IsComplete (t : Table) : Type 0 where
   pub bytes : All (λ c. c < 256) t.cells
 
 -- the place of a class in the class list
-abbrev pub class_place : Class → ℕ
-class_place KK = 0
-class_place KQK = 1
-class_place KRK = 2
-class_place KBK = 3
-class_place KNK = 4
-class_place KPK = 5
-class_place KQQK = 6
-class_place KQRK = 7
-class_place KQBK = 8
-class_place KQNK = 9
-class_place KQPK = 10
-class_place KRRK = 11
-class_place KRBK = 12
-class_place KRNK = 13
-class_place KRPK = 14
-class_place KBBK = 15
-class_place KBNK = 16
-class_place KBPK = 17
-class_place KNNK = 18
-class_place KNPK = 19
-class_place KPPK = 20
-class_place KQKQ = 21
-class_place KQKR = 22
-class_place KQKB = 23
-class_place KQKN = 24
-class_place KQKP = 25
-class_place KRKR = 26
-class_place KRKB = 27
-class_place KRKN = 28
-class_place KRKP = 29
-class_place KBKB = 30
-class_place KBKN = 31
-class_place KBKP = 32
-class_place KNKN = 33
-class_place KNKP = 34
-class_place KPKP = 35
+abbrev pub class_number : Class → ℕ
+class_number KK = 0
+class_number KQK = 1
+class_number KRK = 2
+class_number KBK = 3
+class_number KNK = 4
+class_number KPK = 5
+class_number KQQK = 6
+class_number KQRK = 7
+class_number KQBK = 8
+class_number KQNK = 9
+class_number KQPK = 10
+class_number KRRK = 11
+class_number KRBK = 12
+class_number KRNK = 13
+class_number KRPK = 14
+class_number KBBK = 15
+class_number KBNK = 16
+class_number KBPK = 17
+class_number KNNK = 18
+class_number KNPK = 19
+class_number KPPK = 20
+class_number KQKQ = 21
+class_number KQKR = 22
+class_number KQKB = 23
+class_number KQKN = 24
+class_number KQKP = 25
+class_number KRKR = 26
+class_number KRKB = 27
+class_number KRKN = 28
+class_number KRKP = 29
+class_number KBKB = 30
+class_number KBKN = 31
+class_number KBKP = 32
+class_number KNKN = 33
+class_number KNKP = 34
+class_number KPKP = 35
 
 -- the table of a class, if it is held: a set has a place for each class
 abbrev pub table_of : List (Option Table) → Class → Option Table
-table_of held c = slice_index_or held (class_place c) None
+table_of held c = slice_index_or held (class_number c) None
 
 -- all classes that the class needs are held
 abbrev pub IsReady : List (Option Table) → Class → Type 0

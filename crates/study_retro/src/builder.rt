@@ -3,17 +3,17 @@ ghost use Rattle.std.specs.Prelude.{◌≡◌, ◌↔◌, ◌<◌, Some, Err, If
 ghost use Rattle.study_material.specs.declared.class.Class.{Class as AClass};
 ghost use Rattle.study_material.specs.Needs.{needs_of};
 ghost use Rattle.study_index.specs.Number.{cells_of};
-ghost use Rattle.study_retro.specs.Set.{first_missing};
+ghost use Rattle.study_retro.specs.TableSet.{first_missing};
 ghost use Rattle.study_retro.specs.Table.{IsReady};
 ghost use Rattle.study_retro.specs.Sound.{IsRight, NeedsAreRight, HasFarPosition};
 ghost use Rattle.study_retro.specs.Report.{IsGreatest, greater, win_of, loss_of};
 
-use crate::check::are_right;
 use crate::class_game::ClassGame;
+use crate::consistency::are_right;
 use crate::levels::fill;
 use crate::room::BuildRoom;
-use crate::set::TableSet;
 use crate::table::Table;
+use crate::table_set::TableSet;
 use crate::value::{Value, value_at};
 use std::alloc::Allocator;
 use study_material::Class;
@@ -89,22 +89,22 @@ pub fn verify<'a, A: Allocator>(table: &Table<'a, A>, tables: &TableSet<'a, A>) 
 
 /// The greatest distances seen so far.
 #[derive(Clone, Copy)]
-struct Deepest {
+struct DeepestMates {
     win: Option<u8>,
     loss: Option<u8>,
 }
 
-impl Deepest {
-    fn with(self, value: Value) -> Deepest
+impl DeepestMates {
+    fn with(self, value: Value) -> DeepestMates
         ensures win { result.win ≡ greater self.win (win_of value) }
         ensures loss { result.loss ≡ greater self.loss (loss_of value) }
     {
         match value {
-            Value::Win(n) => Deepest {
+            Value::Win(n) => DeepestMates {
                 win: Some(at_least(self.win, n)),
                 loss: self.loss,
             },
-            Value::Loss(n) => Deepest {
+            Value::Loss(n) => DeepestMates {
                 win: self.win,
                 loss: Some(at_least(self.loss, n)),
             },
@@ -123,11 +123,11 @@ fn at_least(known: Option<u8>, n: u8) -> u8
 }
 
 /// The greatest distances that the cells tell.
-fn greatest_distances(cells: &[u8]) -> Deepest
+fn greatest_distances(cells: &[u8]) -> DeepestMates
     ensures win { IsGreatest win_of cells.now result.win }
     ensures loss { IsGreatest loss_of cells.now result.loss }
 {
-    let mut deepest = Deepest {
+    let mut deepest = DeepestMates {
         win: None,
         loss: None,
     };

@@ -1,20 +1,20 @@
 //! Chess, as the builder sees it: the positions of a class by their numbers, and the values of those that it leads to.
 ghost use Rattle.std.specs.Prelude.{◌≡◌, true, false, IsTrue, IfSome, Some};
 ghost use Rattle.study_moves.specs.Rules.{after, is_legal};
-ghost use Rattle.study_moves.specs.Quiet.{IsQuiet};
+ghost use Rattle.study_moves.specs.Unmoves.{IsQuiet};
 ghost use Rattle.study_material.specs.Class.{lists_of};
 ghost use Rattle.study_index.specs.Number.{has_both_pawns};
-ghost use Rattle.study_index.specs.Found.{index_of, position_numbered};
+ghost use Rattle.study_index.specs.Computed.{index_of, position_numbered};
 ghost use Rattle.study_retro.specs.Table.{IsReady, IsClosed};
 
-use crate::back::{is_lost_by_moves, lower_by_moves, mark_by_moves};
-use crate::check::label;
-use crate::earlier::{has_both_pawns, numbers_before};
-use crate::first::{First, first_by_moves};
-use crate::game::{Game, Place};
-use crate::set::TableSet;
+use crate::consistency::label;
+use crate::earlier::{has_both_pawns, predecessor_numbers};
+use crate::game::{Game, Location};
+use crate::initial::{Initial, initial_by_moves};
+use crate::propagate::{is_lost_by_moves, lower_by_moves, mark_by_moves};
 use crate::stepped::{LabelledGame, SteppedGame};
-use crate::table::class_place;
+use crate::table::class_number;
+use crate::table_set::TableSet;
 use crate::value::{Value, value_at};
 use arrayvec::ArrayVec;
 use std::alloc::Allocator;
@@ -62,7 +62,7 @@ impl<'t, 'a, A: Allocator> Game for ClassGame<'t, 'a, A> {
     fn earlier(&self, number: u32) -> ArrayVec<u32, 384> {
         match decode(self.class, number) {
             None => ArrayVec::new(),
-            Some(at) => numbers_before(self.class, &at, number),
+            Some(at) => predecessor_numbers(self.class, &at, number),
         }
     }
 
@@ -70,13 +70,13 @@ impl<'t, 'a, A: Allocator> Game for ClassGame<'t, 'a, A> {
         is_mate(at)
     }
 
-    fn place(&self, at: &Position) -> Place {
+    fn place(&self, at: &Position) -> Location {
         let (class, _) = class_of(at);
-        if class_place(class) == class_place(self.class) {
-            return Place::Cell(index(at));
+        if class_number(class) == class_number(self.class) {
+            return Location::Cell(index(at));
         }
         match self.tables.table(class) {
-            Some(table) => Place::Outside(table.at(at)),
+            Some(table) => Location::Outside(table.at(at)),
             None => unreachable!(),
         }
     }
@@ -118,8 +118,8 @@ impl<'t, 'a, A: Allocator> LabelledGame for ClassGame<'t, 'a, A> {
 }
 
 impl<'t, 'a, A: Allocator> SteppedGame for ClassGame<'t, 'a, A> {
-    fn first(&self, number: u32) -> First {
-        first_by_moves(self, number)
+    fn first(&self, number: u32) -> Initial {
+        initial_by_moves(self, number)
     }
 
     fn lower_before(&self, cells: &mut [u8], number: u32, level: u8) -> u64 {

@@ -3,33 +3,39 @@ ghost use Rattle.std.specs.Prelude.{◌≡◌, ◌≢◌, ◌+◌, ◌≤◌, �
 ghost use Rattle.arrayvec.specs.ArrayVec.{array_vec_len};
 ghost use Rattle.study_board.specs.Position.{Position as Seen};
 ghost use Rattle.study_moves.specs.Rules.{after, is_legal};
-ghost use Rattle.study_moves.specs.Quiet.{LeadsQuietly, CanHaveLed};
+ghost use Rattle.study_moves.specs.Unmoves.{LeadsQuietly, CanHaveLed};
 ghost use Rattle.study_material.specs.Class.{lists_of};
 ghost use Rattle.study_index.specs.Number.{has_both_pawns};
-ghost use Rattle.study_index.specs.Found.{index_of, position_numbered};
-ghost use Rattle.study_retro.specs.Before.{IsPlainNumber, IsNumberBefore, ComesBefore};
+ghost use Rattle.study_index.specs.Computed.{index_of, position_numbered};
+ghost use Rattle.study_retro.specs.Predecessors.{IsPlainNumber, IsNumberBefore, ComesBefore};
 
 use arrayvec::ArrayVec;
 use study_board::{Position, distance};
 use study_index::{cells, decode, index, number_moved};
 use study_material::Class;
-use study_moves::{Move, last_moves, played, taken_back};
+use study_moves::{Move, played, unmoves, unplayed};
 
 /// The numbers of the positions from which a quiet move leads to the position of this number.
-pub fn numbers_before(class: Class, at: &Position, number: u32) -> ArrayVec<u32, 384>
+pub fn predecessor_numbers(class: Class, at: &Position, number: u32) -> ArrayVec<u32, 384>
     requires { position_numbered class number ≡ Some at.now }
     ensures { (n : ℕ) → Contains result.items n ↔ ComesBefore class at.now number n }
 {
-    let moves = last_moves(at);
+    let moves = unmoves(at);
     let mut list = ArrayVec::new();
     for by in moves.as_slice() {
-        add_before(class, at, number, by, &mut list);
+        add_predecessor(class, at, number, by, &mut list);
     }
     list
 }
 
 // Adds the numbers of the positions from which this move leads to the position of this number.
-fn add_before(class: Class, at: &Position, number: u32, by: &Move, list: &mut ArrayVec<u32, 384>)
+fn add_predecessor(
+    class: Class,
+    at: &Position,
+    number: u32,
+    by: &Move,
+    list: &mut ArrayVec<u32, 384>,
+)
     requires at { position_numbered class number ≡ Some at.now }
     requires by { CanHaveLed at.now by.now }
     requires room { array_vec_len list.old ≤ 382 }
@@ -72,7 +78,7 @@ fn lands(class: Class, at: &Position, number: u32, by: &Move) -> bool
     if !has_both_pawns(class) {
         return true;
     }
-    leads_to(at, &taken_back(at, *by), *by, number)
+    leads_to(at, &unplayed(at, *by), *by, number)
 }
 
 /// Whether the move leads to the position of this number: where a square is passed after it, its number is looked at.

@@ -10,7 +10,7 @@ use study_moves::Move;
 
 /// Where the value of a position stands.
 #[derive(Clone, Copy)]
-pub enum Place {
+pub enum Location {
     Cell(u32),
     Outside(Value),
 }
@@ -40,7 +40,7 @@ pub trait Game {
     fn is_mate(&self, at: &Self::Position) -> bool
         ensures { IsTrue result ↔ (numbered self.now).mate at.now };
 
-    fn place(&self, at: &Self::Position) -> Place
+    fn place(&self, at: &Self::Position) -> Location
         requires { (numbered self.now).known at.now }
         ensures { StandsAt (numbered self.now) at.now result };
 

@@ -1,18 +1,18 @@
 //! Levels: from the mates in at most so many plies to those in one more.
 ghost use Rattle.std.specs.Prelude.{◌≡◌, ◌≢◌, ◌+◌, ◌<◌, ◌≤◌, ◌%◌, ℕ, false, length, slice_index, IsTrue};
-ghost use Rattle.study_retro.specs.Back.{AreAdded, AreDropped, AreLowered};
+ghost use Rattle.study_retro.specs.Propagation.{AreAdded, AreDropped, AreLowered};
 ghost use Rattle.study_retro.specs.Numbered.{CellsAreRight, EndsRight, HasFarMate, IsNumberedClass};
 ghost use Rattle.study_retro.specs.Numbered.{LossIsKept, LossIsTrue, LossesAreKept, LossesAreTrue, LossesGoBack};
 ghost use Rattle.study_retro.specs.Numbered.{OutsideIsRight, RaisesLevel, StepLeads, WhereWinsAreTold, WinsGoBack};
 
-use crate::back::put;
 use crate::blocks::{has_later, next_of};
-use crate::check::first_other;
-use crate::first::start;
+use crate::consistency::first_inconsistent;
+use crate::initial::initialise;
+use crate::propagate::set_cell;
 use crate::stepped::SteppedGame;
 
 /// Goes back from all positions that are lost in `level` plies.
-pub fn level_of_losses<G: SteppedGame>(game: &G, cells: &mut [u8], level: u8) -> u64
+pub fn propagate_losses<G: SteppedGame>(game: &G, cells: &mut [u8], level: u8) -> u64
     requires laws { IsNumberedClass (G.numbered game.now) }
     requires level { level < 254 }
     requires cells { length cells.old ≡ (G.numbered game.now).size }
@@ -31,7 +31,7 @@ pub fn level_of_losses<G: SteppedGame>(game: &G, cells: &mut [u8], level: u8) ->
 }
 
 /// Marks all that leads to a position won in `level` plies, where it tells of no mate: it may be lost in one more.
-pub fn level_of_wins<G: SteppedGame>(game: &G, cells: &mut [u8], level: u8) -> u64
+pub fn propagate_wins<G: SteppedGame>(game: &G, cells: &mut [u8], level: u8) -> u64
     requires laws { IsNumberedClass (G.numbered game.now) }
     requires level { level < 254 }
     requires cells { length cells.old ≡ (G.numbered game.now).size }
@@ -50,7 +50,7 @@ pub fn level_of_wins<G: SteppedGame>(game: &G, cells: &mut [u8], level: u8) -> u
 }
 
 /// Looks at a number that may be lost in `level + 1` plies: its cell stays where it is, and else is 0.
-pub fn confirm<G: SteppedGame>(game: &G, cells: &mut [u8], number: u32, level: u8) -> u64
+pub fn confirm_loss<G: SteppedGame>(game: &G, cells: &mut [u8], number: u32, level: u8) -> u64
     requires laws { IsNumberedClass (G.numbered game.now) }
     requires level { level < 254 }
     requires number { number < (G.numbered game.now).size }
@@ -64,14 +64,14 @@ pub fn confirm<G: SteppedGame>(game: &G, cells: &mut [u8], number: u32, level: u
         return 0;
     }
     if !game.is_lost_at(cells, number, level) {
-        put(cells, number, 0);
+        set_cell(cells, number, 0);
     }
     1
 }
 
 /// Looks at all numbers that may be lost in `level + 1` plies: those that are marked, and those that moves out of the class
 /// make due. Each is tested once.
-pub fn confirm_all<G: SteppedGame>(game: &G, cells: &mut [u8], level: u8) -> u64
+pub fn confirm_losses<G: SteppedGame>(game: &G, cells: &mut [u8], level: u8) -> u64
     requires laws { IsNumberedClass (G.numbered game.now) }
     requires level { level < 254 }
     requires odd { level % 2 ≡ 1 }
@@ -84,7 +84,7 @@ pub fn confirm_all<G: SteppedGame>(game: &G, cells: &mut [u8], level: u8) -> u64
     let size = game.cells();
     let mut number = next_of(cells, 0, level + 2);
     while number < size {
-        examined = examined.saturating_add(confirm(game, cells, number, level));
+        examined = examined.saturating_add(confirm_loss(game, cells, number, level));
         number = next_of(cells, number + 1, level + 2);
     }
     examined
@@ -98,22 +98,22 @@ pub fn step<G: SteppedGame>(game: &G, cells: &mut [u8], level: u8) -> u64
     ensures { RaisesLevel (G.numbered game.now) level (level + 1) cells.old cells.new }
 {
     if level % 2 == 0 {
-        level_of_losses(game, cells, level)
+        propagate_losses(game, cells, level)
     } else {
-        let marked = level_of_wins(game, cells, level);
-        marked.saturating_add(confirm_all(game, cells, level))
+        let marked = propagate_wins(game, cells, level);
+        marked.saturating_add(confirm_losses(game, cells, level))
     }
 }
 
 /// What levels came to: whether they ended where no cell told of a mate to come, and how much they examined.
 #[derive(Clone, Copy)]
-pub struct Ended {
+pub struct LevelsDone {
     pub silent: bool,
     pub examined: u64,
 }
 
 /// All levels.
-pub fn all_levels<G: SteppedGame>(game: &G, cells: &mut [u8]) -> Ended
+pub fn all_levels<G: SteppedGame>(game: &G, cells: &mut [u8]) -> LevelsDone
     requires laws { IsNumberedClass (G.numbered game.now) }
     requires cells { length cells.old ≡ (G.numbered game.now).size }
     ensures held { RaisesLevel (G.numbered game.now) 0 254 cells.old cells.new }
@@ -123,14 +123,14 @@ pub fn all_levels<G: SteppedGame>(game: &G, cells: &mut [u8]) -> Ended
     let mut examined = 0u64;
     for level in 0..254u8 {
         if !has_later(cells, level) {
-            return Ended {
+            return LevelsDone {
                 silent: true,
                 examined,
             };
         }
         examined = examined.saturating_add(step(game, cells, level));
     }
-    Ended {
+    LevelsDone {
         silent: false,
         examined,
     }
@@ -150,7 +150,7 @@ pub fn fill<G: SteppedGame>(game: &G, cells: &mut [u8]) -> Filled
     ensures right { OutsideIsRight (G.numbered game.now) → IsTrue result.fits → CellsAreRight (G.numbered game.now) cells.new }
     ensures far { OutsideIsRight (G.numbered game.now) → result.fits ≡ false → HasFarMate (G.numbered game.now) }
 {
-    let far = start(game, cells);
+    let far = initialise(game, cells);
     let ended = all_levels(game, cells);
     let examined = ended.examined.saturating_add(u64::from(game.cells()));
     if ended.silent && !far {
@@ -160,7 +160,7 @@ pub fn fill<G: SteppedGame>(game: &G, cells: &mut [u8]) -> Filled
         };
     }
     let examined = examined.saturating_add(u64::from(game.cells()));
-    match first_other(game, cells) {
+    match first_inconsistent(game, cells) {
         None => Filled {
             fits: true,
             examined,

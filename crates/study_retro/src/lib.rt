@@ -6,24 +6,24 @@
 //! is proved over any game whose positions have numbers (`game`); `class_game` is chess as such a game.
 #![tactic(auto)]
 
-mod back;
+mod best_replies;
 mod blocks;
 mod builder;
-mod check;
 mod class_game;
+mod consistency;
 mod earlier;
-mod first;
 mod game;
+mod initial;
 mod levels;
+mod propagate;
 mod room;
-mod set;
 mod stepped;
 mod table;
-mod tally;
+mod table_set;
 mod value;
 
 pub use builder::{BuildFault, BuildReport, build, verify};
 pub use room::BuildRoom;
-pub use set::{AddFault, AddRefused, TableSet};
 pub use table::Table;
+pub use table_set::{AddFault, AddRefused, TableSet};
 pub use value::{Value, value_at};

@@ -1,10 +1,10 @@
 //! What the levels ask of a game, besides its rules: so a game that reads its numbers may answer faster than by lists of moves.
 ghost use Rattle.std.specs.Prelude.{◌≡◌, ◌≢◌, ◌+◌, ◌<◌, ℕ, false, length, slice_index, IsTrue, Some};
-ghost use Rattle.study_retro.specs.Back.{AreAdded, AreLowered, IsSetBy};
+ghost use Rattle.study_retro.specs.Propagation.{AreAdded, AreLowered, IsSetBy};
 ghost use Rattle.study_retro.specs.Numbered.{CellIsHeld, IsNumberedClass, LosesBy, NoLossBy, OutsideIsRight, StepLeads, label_by};
 
-use crate::first::First;
 use crate::game::Game;
+use crate::initial::Initial;
 use crate::value::Value;
 use study_moves::Move;
 
@@ -22,7 +22,7 @@ pub trait LabelledGame: Game {
 /// A game whose positions are tested and gone back from by their numbers.
 pub trait SteppedGame: Game {
     /// What a number begins with.
-    fn first(&self, number: u32) -> First
+    fn first(&self, number: u32) -> Initial
         requires laws { IsNumberedClass (Self.numbered self.now) }
         requires number { number < (Self.numbered self.now).size }
         ensures { OutsideIsRight (Self.numbered self.now) → CellIsHeld (Self.numbered self.now) result.far 0 number result.cell };

@@ -2,9 +2,9 @@
 ghost use Rattle.std.specs.Prelude.{◌≡◌, ◌<◌, length, slice_index, vec_len};
 ghost use Rattle.study_index.specs.Number.{cells_of};
 ghost use Rattle.study_material.specs.Class.{IsOf};
-ghost use Rattle.study_index.specs.Found.{index_of};
+ghost use Rattle.study_index.specs.Computed.{index_of};
 ghost use Rattle.study_retro.specs.Cells.{distance_of, value_of};
-ghost use Rattle.study_retro.specs.Table.{Table as Seen, IsComplete, class_place};
+ghost use Rattle.study_retro.specs.Table.{Table as Seen, IsComplete, class_number};
 ghost use Rattle.study_retro.specs.Game.{IsValueOf};
 ghost use Rattle.study_retro.specs.Sound.{IsRight};
 
@@ -72,8 +72,8 @@ impl<'a, A: Allocator> Table<'a, A> {
 }
 
 /// The place of a class in the class list.
-pub fn class_place(class: Class) -> usize
-    ensures value { result ≡ class_place class }
+pub fn class_number(class: Class) -> usize
+    ensures value { result ≡ class_number class }
     ensures small { result < 36 }
 {
     class as usize

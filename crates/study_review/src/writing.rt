@@ -21,7 +21,7 @@ use study_marks::{Bench, Mark, hero_moves};
 use study_notation::write_fen;
 use study_pgn::{Text, add_opening_words};
 use study_prober::Values;
-use study_tablefile::put;
+use study_tablefile::write_text;
 
 /// Where the study starts.
 #[tactic(auto, unfolding(crate::specs::Review::study_line))]
@@ -175,6 +175,6 @@ pub fn write_review<'a, 'b, A: Allocator, B: Allocator, V: Values, W: Write>(
     ensures asked { HasReviewed V.held V.gives V.may_fail V.asked_of V.failed_of V.is_honest values.old result values.new }
 {
     let text = text_of(alloc, bench, values, number)?;
-    put(out, text.as_slice())?;
+    write_text(out, text.as_slice())?;
     Ok(())
 }

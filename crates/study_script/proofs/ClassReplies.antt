@@ -3,7 +3,7 @@ use Rattle.std.proofs.Common.{◌≡◌, ◌⊎◌, ℕ, Bool, true, false, eqb,
 use Rattle.std.specs.Prelude.{◌&&◌, is_err, IfOk, IfSome, OnOk, OnErr}
 use Rattle.std.specs.Io.KnownBytes.{Appends}
 use Rattle.study_tablefile.specs.Taken.{TakesPrefix}
-use Rattle.study_prober.specs.Paged.{Paged}
+use Rattle.study_prober.specs.PagedTables.{Paged}
 use Rattle.study_script.specs.declared.tables.Tables.{Tables}
 use Rattle.study_script.specs.declared.tables.Tables.TheVariants as held
 use Rattle.study_command.specs.declared.command.TableCommand.{TableCommand}
@@ -12,14 +12,14 @@ use Rattle.study_material.specs.declared.class.Class.{Class}
 use Rattle.study_material.specs.Needs.{needs_of}
 use Rattle.study_prober.specs.Sources.{GivesOf}
 use Rattle.study_tablefile.specs.declared.fault.SourceFault.{SourceFault}
-use Rattle.study_retro.specs.Table.{Table, IsComplete, class_place, table_of}
-use Rattle.study_retro.specs.Set.{first_missing}
+use Rattle.study_retro.specs.Table.{Table, IsComplete, class_number, table_of}
+use Rattle.study_retro.specs.TableSet.{first_missing}
 use Rattle.study_retro.specs.Sound.{IsRight, HasFarPosition}
 use Rattle.study_retro.specs.Report.{IsGreatest, win_of}
 use Rattle.study_tablefile.specs.Reading.{table_read, HasHeader}
 use Rattle.study_tablefile.specs.declared.fault.FileFault.{FileFault}
 use Rattle.study_tablefile.specs.declared.fault.FileFault.TheVariants as file_fault
-use Rattle.study_prober.specs.Whole.{Whole}
+use Rattle.study_prober.specs.WholeTables.{Whole}
 use Rattle.study_script.specs.declared.store.StoreFault.{StoreFault}
 use Rattle.study_reply.specs.declared.refusal.Refusal.{Refusal}
 use Rattle.study_reply.specs.declared.refusal.Refusal.TheVariants.{PagedMode, NotAClass, AlreadyHeld}
@@ -130,13 +130,13 @@ module _ (w : Whole) (s : State) (h : HoldsWhole w s) (c : Class) where
 
     pub load_other : Seen s → (bytes : List ℕ) (t : Table) → is_some (table_of w.tables c) ≡ false
         → first_missing w.tables (needs_of c) ≡ None → IsGiven (s.shelf.files c) (Ok bytes) → table_read bytes ≡ Ok t
-        → eqb (class_place t.class) (class_place c) ≡ false
+        → eqb (class_number t.class) (class_number c) ≡ false
         → Decided (λ o. IsLoadReply s o c (is_among s.classes c) (first_lacking s.classes c)) (λ t. WholeFrom s w t × Seen t) (Err (OtherClass t.class))
     load_other seen bytes t e f given read other = (file bytes, s, rw (among false e, first None f) (given, rw (read, other) refl), (whole_kept w s h, seen))
 
     pub load_done : Seen (with_class s c) → (v : Whole) (bytes : List ℕ) (t : Table)
         → is_some (table_of w.tables c) ≡ false → first_missing w.tables (needs_of c) ≡ None
-        → IsGiven (s.shelf.files c) (Ok bytes) → table_read bytes ≡ Ok t → eqb (class_place t.class) (class_place c) ≡ true
+        → IsGiven (s.shelf.files c) (Ok bytes) → table_read bytes ≡ Ok t → eqb (class_number t.class) (class_number c) ≡ true
         → WholeFrom s v (with_class s c)
         → Decided (λ o. IsLoadReply s o c (is_among s.classes c) (first_lacking s.classes c))
         (λ t. WholeFrom s v t × Seen t) (Ok (Loaded c))

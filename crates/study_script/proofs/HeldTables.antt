@@ -13,10 +13,10 @@ use Rattle.study_material.specs.declared.class.Class.TheVariants.{KQKB, KQKN, KQ
 use Rattle.study_material.specs.declared.class.Class.TheVariants.{KBKB, KBKN, KBKP, KNKN, KNKP, KPKP}
 use Rattle.study_material.specs.Class.{name_of}
 use Rattle.study_material.specs.Needs.{needs_of}
-use Rattle.study_retro.specs.Table.{Table, IsClosed, IsReady, class_place, table_of}
-use Rattle.study_retro.specs.Set.{first_missing, add_fault}
+use Rattle.study_retro.specs.Table.{Table, IsClosed, IsReady, class_number, table_of}
+use Rattle.study_retro.specs.TableSet.{first_missing, add_fault}
 use Rattle.study_retro.specs.Sound.{IsRight, NeedsAreRight}
-use Rattle.study_prober.specs.Whole.{Whole, TablesAreRight}
+use Rattle.study_prober.specs.WholeTables.{Whole, TablesAreRight}
 use Rattle.study_prober.proofs.HeldSources.{same_class}
 use Rattle.study_tablefile.specs.declared.fault.SourceFault.{SourceFault}
 use Rattle.study_script.specs.declared.store.StoreFault.{StoreFault}
@@ -27,7 +27,7 @@ use Rattle.study_script.specs.Decided.{HoldsWhole, WholeFrom}
 
 -- ---- classes and their places
 
-pub place_below : (c : Class) → class_place c < 36
+pub place_below : (c : Class) → class_number c < 36
 place_below KK = omega arith
 place_below KQK = omega arith
 place_below KRK = omega arith
@@ -111,11 +111,11 @@ same_place n m e = grind (arith, nat_tests)
 other_place : (n m : ℕ) → n ≢ m → eqb n m ≡ false
 other_place n m e = grind (arith, nat_tests)
 
-pub same_at : (c d : Class) → c ≡ d → eqb (class_place c) (class_place d) ≡ true
-same_at c d e = same_place (class_place c) (class_place d) (ap class_place e)
+pub same_at : (c d : Class) → c ≡ d → eqb (class_number c) (class_number d) ≡ true
+same_at c d e = same_place (class_number c) (class_number d) (ap class_number e)
 
-pub other_at : (c d : Class) → (c ≡ d → ⊥) → eqb (class_place c) (class_place d) ≡ false
-other_at c d f = other_place (class_place c) (class_place d) (λ k. elim (same_class c d) [ inl e ↦ f e | inr g ↦ g k ])
+pub other_at : (c d : Class) → (c ≡ d → ⊥) → eqb (class_number c) (class_number d) ≡ false
+other_at c d f = other_place (class_number c) (class_number d) (λ k. elim (same_class c d) [ inl e ↦ f e | inr g ↦ g k ])
 
 pub among_with : (c d : Class) (cs : List Class) (b : Bool) → is_among cs d ≡ b → (c ≡ d → ⊥) → b ≡ is_among (c ∷ cs) d
 among_with c d cs b e f = rw (other_at c d f) (sym e)
@@ -146,13 +146,13 @@ pub may_add : (held : List (Option Table)) (c d : Class) → d ≡ c → is_some
 may_add held c d same e f = rw (same, e, f) refl
 
 module _ (held : List (Option Table)) (t : Table) (full : length held ≡ 36) where
-  here : (d : Class) → d ≡ t.class → table_of (set held (class_place t.class) (Some t)) d ≡ Some t
-  here d e = rw e (get_or-set_same held (class_place t.class) (Some t) None (let small = place_below t.class in omega (arith, full, small)))
+  here : (d : Class) → d ≡ t.class → table_of (set held (class_number t.class) (Some t)) d ≡ Some t
+  here d e = rw e (get_or-set_same held (class_number t.class) (Some t) None (let small = place_below t.class in omega (arith, full, small)))
 
-  there : (d : Class) → class_place d ≢ class_place t.class → table_of (set held (class_place t.class) (Some t)) d ≡ table_of held d
-  there d f = get_or-set_other held (class_place t.class) (class_place d) (Some t) None f
+  there : (d : Class) → class_number d ≢ class_number t.class → table_of (set held (class_number t.class) (Some t)) d ≡ table_of held d
+  there d f = get_or-set_other held (class_number t.class) (class_number d) (Some t) None f
 
-  right_with : TablesAreRight held → IsRight t → TablesAreRight (set held (class_place t.class) (Some t))
+  right_with : TablesAreRight held → IsRight t → TablesAreRight (set held (class_number t.class) (Some t))
   right_with all right = record {
     right = λ d u e. elim (same_class d t.class) [
       | inl k ↦ let same : Some t ≡ Some u = sym (here d k) ∙ e in let one : t ≡ u = cc in subst IsRight one right
@@ -161,20 +161,20 @@ module _ (held : List (Option Table)) (t : Table) (full : length held ≡ 36) wh
   }
 
   classes_with : (cs : List Class) → ((d : Class) → is_some (table_of held d) ≡ is_among cs d) → (d : Class)
-      → is_some (table_of (set held (class_place t.class) (Some t)) d) ≡ is_among (t.class ∷ cs) d
+      → is_some (table_of (set held (class_number t.class) (Some t)) d) ≡ is_among (t.class ∷ cs) d
   classes_with cs e d = elim (same_class d t.class) [
     | inl k ↦ ap (λ (o : Option Table). is_some o) (here d k) ∙ among_head t.class d cs (sym k)
     | inr f ↦ ap (λ (o : Option Table). is_some o) (there d f)
-        ∙ among_with t.class d cs (is_some (table_of held d)) (sym (e d)) (λ k. f (ap class_place (sym k)))
+        ∙ among_with t.class d cs (is_some (table_of held d)) (sym (e d)) (λ k. f (ap class_number (sym k)))
   ]
 
 -- the table is held then, and it is right
 pub whole_with : (w v : Whole) (s : State) (t : Table) (c : Class) → IsClosed w.tables → HoldsWhole w s → IsRight t
-    → t.class ≡ c → v ≡ record w { tables = set w.tables (class_place t.class) (Some t) }
+    → t.class ≡ c → v ≡ record w { tables = set w.tables (class_number t.class) (Some t) }
     → WholeFrom s v (with_class s c)
 whole_with w v s t c closed h right same e =
     subst (λ (x : Whole). WholeFrom s x (with_class s c)) (sym e)
-    (subst (λ (k : Class). WholeFrom s (record w { tables = set w.tables (class_place t.class) (Some t) })
+    (subst (λ (k : Class). WholeFrom s (record w { tables = set w.tables (class_number t.class) (Some t) })
     (with_class s k)) same (record {
       holds =
           record {
@@ -262,9 +262,9 @@ module _ {S : Type 0} where
   store_anew honest files headers faults old new s c stays f k l h = record {
     is_honest = stays s.paged h.is_honest;
     known = record {
-      files_known = λ d. f d ∙ alike (eqb (class_place d) (class_place c)) (files old d) (s.shelf.files d) (h.known.files_known d);
-      headers_known = λ d. k d ∙ alike (eqb (class_place d) (class_place c)) (headers old d) (s.shelf.headers d) (h.known.headers_known d);
-      faults_known = λ d g. l d g ∙ either (eqb (class_place d) (class_place c)) (faults old d g) (s.shelf.faults d g) (h.known.faults_known d g);
+      files_known = λ d. f d ∙ alike (eqb (class_number d) (class_number c)) (files old d) (s.shelf.files d) (h.known.files_known d);
+      headers_known = λ d. k d ∙ alike (eqb (class_number d) (class_number c)) (headers old d) (s.shelf.headers d) (h.known.headers_known d);
+      faults_known = λ d g. l d g ∙ either (eqb (class_number d) (class_number c)) (faults old d g) (s.shelf.faults d g) (h.known.faults_known d g);
     };
   }
     where

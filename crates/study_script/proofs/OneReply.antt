@@ -11,7 +11,7 @@ use Rattle.study_moves.specs.Game.{IsWon}
 use Rattle.study_moves.specs.Laws.{EachHasAtMostOneValue}
 use Rattle.study_material.specs.declared.class.Class.{Class}
 use Rattle.study_index.specs.Number.{cells_of}
-use Rattle.study_index.specs.Found.{position_numbered, index_of}
+use Rattle.study_index.specs.Computed.{position_numbered, index_of}
 use Rattle.study_retro.specs.declared.value.Value.{Value}
 use Rattle.study_retro.specs.Cells.{distance_of, value_of}
 use Rattle.study_retro.specs.Table.{Table, IsComplete}

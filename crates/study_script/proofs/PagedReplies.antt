@@ -4,16 +4,16 @@ use Rattle.std.proofs.Common.{Result, Ok, Err, refl, sym, ap, subst, ◌∙◌, 
 use Rattle.std.specs.Prelude.{MatchOption, IfErr}
 use Rattle.std.proofs.lemmas.List.{length-set}
 use Rattle.study_material.specs.declared.class.Class.{Class}
-use Rattle.study_retro.specs.Table.{Table, class_place}
+use Rattle.study_retro.specs.Table.{Table, class_number}
 use Rattle.study_tablefile.specs.declared.fault.SourceFault.{SourceFault}
 use Rattle.study_prober.specs.declared.fault.PagedFault.{PagedFault}
 use Rattle.study_prober.specs.declared.fault.PagedFault.TheVariants as fault_of
-use Rattle.study_prober.specs.declared.held.HeldSource.{HeldSource}
+use Rattle.study_prober.specs.declared.open_table.OpenTable.{OpenTable}
 use Rattle.study_tablefile.specs.File.{pages_of}
 use Rattle.study_tablefile.specs.Source.{of_page}
 use Rattle.study_prober.specs.Sources.{GivesOf, GivesRight}
-use Rattle.study_prober.specs.Paged.{Paged, MayFail, held_of, places_for_classes, SourcesAreRight}
-use Rattle.study_prober.specs.Told.{paged_fault}
+use Rattle.study_prober.specs.PagedTables.{Paged, MayFail, held_of, places_for_classes, SourcesAreRight}
+use Rattle.study_prober.specs.HeaderAnswers.{paged_fault}
 use Rattle.study_prober.proofs.HeldSources.{same_class, held_same, held_other, held_placed}
 use Rattle.study_script.specs.declared.store.StoreFault.{StoreFault}
 use Rattle.study_reply.specs.declared.refusal.Refusal.TheVariants.{AlreadyHeld}
@@ -116,37 +116,37 @@ module _ {P : Type 0} (honest : P → Table → ℕ → Type 0) where
   pub gives_right : (source : P) (c : Class) (r : IsRightSource honest source) → r.table.class ≡ c → GivesRight honest source r.version c
   gives_right source c r same = record { table = r.table; of_class = same; complete = r.complete; right = r.right; is_honest = r.is_honest }
 
-  pub paged_with : (gives : GivesOf P) (w v : Paged P) (s : State) (c : Class) (x : HeldSource P) → HoldsPaged honest gives w s
+  pub paged_with : (gives : GivesOf P) (w v : Paged P) (s : State) (c : Class) (x : OpenTable P) → HoldsPaged honest gives w s
       → SourcesAreRight honest v.sources → length v.sources ≡ 36
-      → v ≡ record w { sources = set (places_for_classes w.sources) (class_place c) (Some x) }
+      → v ≡ record w { sources = set (places_for_classes w.sources) (class_number c) (Some x) }
       → ((n : ℕ) (f : SourceFault) → n < pages_of c → gives x.source (of_page n) (Err f) → s.shelf.faults c f ≡ true)
       → HoldsPaged honest gives v (with_class s c)
   paged_with gives w v s c x h right long is fails = record { values = right; classes = classes; by_pages = h.by_pages; faults = faults }
     where
-      sources : v.sources ≡ set (places_for_classes w.sources) (class_place c) (Some x)
+      sources : v.sources ≡ set (places_for_classes w.sources) (class_number c) (Some x)
       sources = ap (λ (u : Paged P). u.sources) is
 
-      within : class_place c < length (places_for_classes w.sources)
+      within : class_number c < length (places_for_classes w.sources)
       within = let small = place_below c in
-          omega (arith, small, sym (length-set (places_for_classes w.sources) (class_place c) (Some x)) ∙ ap length (sym sources) ∙ long)
+          omega (arith, small, sym (length-set (places_for_classes w.sources) (class_number c) (Some x)) ∙ ap length (sym sources) ∙ long)
 
       classes : (d : Class) → is_some (held_of v.sources d) ≡ is_among (c ∷ s.classes) d
-      classes d = ap (λ (xs : List (Option (HeldSource P))). is_some (held_of xs d)) sources ∙ elim (same_class c d) [
-        | inl e ↦ ap (λ (o : Option (HeldSource P)). is_some o)
-            (subst (λ (k : Class). held_of (set (places_for_classes w.sources) (class_place c) (Some x)) k ≡ Some x) e
+      classes d = ap (λ (xs : List (Option (OpenTable P))). is_some (held_of xs d)) sources ∙ elim (same_class c d) [
+        | inl e ↦ ap (λ (o : Option (OpenTable P)). is_some o)
+            (subst (λ (k : Class). held_of (set (places_for_classes w.sources) (class_number c) (Some x)) k ≡ Some x) e
             (held_same (places_for_classes w.sources) c (Some x) within)) ∙ among_head c d s.classes e
-        | inr f ↦ ap (λ (o : Option (HeldSource P)). is_some o)
+        | inr f ↦ ap (λ (o : Option (OpenTable P)). is_some o)
             (held_other (places_for_classes w.sources) c d (Some x) f ∙ held_placed w.sources d) ∙ among_with c d s.classes
-            (is_some (held_of w.sources d)) (sym (h.classes d)) (λ e. f (ap class_place e))
+            (is_some (held_of w.sources d)) (sym (h.classes d)) (λ e. f (ap class_number e))
       ]
 
       here : (d : Class) → c ≡ d → held_of v.sources d ≡ Some x
-      here d e = ap (λ (xs : List (Option (HeldSource P))). held_of xs d) sources
-          ∙ subst (λ (k : Class). held_of (set (places_for_classes w.sources) (class_place c) (Some x)) k ≡ Some x) e
+      here d e = ap (λ (xs : List (Option (OpenTable P))). held_of xs d) sources
+          ∙ subst (λ (k : Class). held_of (set (places_for_classes w.sources) (class_number c) (Some x)) k ≡ Some x) e
           (held_same (places_for_classes w.sources) c (Some x) within)
 
-      there : (d : Class) → class_place c ≢ class_place d → held_of v.sources d ≡ held_of w.sources d
-      there d e = ap (λ (xs : List (Option (HeldSource P))). held_of xs d) sources
+      there : (d : Class) → class_number c ≢ class_number d → held_of v.sources d ≡ held_of w.sources d
+      there d e = ap (λ (xs : List (Option (OpenTable P))). held_of xs d) sources
           ∙ held_other (places_for_classes w.sources) c d (Some x) e ∙ held_placed w.sources d
 
       own : (d : Class) (f : SourceFault) → c ≡ d → MayFail gives (Some x) d f → s.shelf.faults d f ≡ true
@@ -155,6 +155,6 @@ module _ {P : Type 0} (honest : P → Table → ℕ → Type 0) where
 
       faults : (d : Class) (f : SourceFault) → MayFail gives (held_of v.sources d) d f → s.shelf.faults d f ≡ true
       faults d f m = elim (same_class c d) [
-        | inl e ↦ own d f e (subst (λ (o : Option (HeldSource P)). MayFail gives o d f) (here d e) m)
-        | inr k ↦ h.faults d f (subst (λ (o : Option (HeldSource P)). MayFail gives o d f) (there d k) m)
+        | inl e ↦ own d f e (subst (λ (o : Option (OpenTable P)). MayFail gives o d f) (here d e) m)
+        | inr k ↦ h.faults d f (subst (λ (o : Option (OpenTable P)). MayFail gives o d f) (there d k) m)
       ]

@@ -5,11 +5,11 @@ use Rattle.study_material.specs.declared.class.Class.{Class}
 use Rattle.study_tablefile.specs.declared.fault.SourceFault.{SourceFault}
 use Rattle.study_tablefile.specs.Source.{Question}
 use Rattle.study_prober.specs.Values.{ProbeAnswer}
-use Rattle.study_prober.specs.declared.held.HeldSource.{HeldSource}
+use Rattle.study_prober.specs.declared.open_table.OpenTable.{OpenTable}
 use Rattle.study_prober.specs.declared.values.ProbeFault.{ProbeFault}
 use Rattle.study_prober.specs.declared.values.ProbeFault.TheVariants as probe
-use Rattle.study_prober.specs.Whole.{Whole, IsCellAnswer}
-use Rattle.study_prober.specs.Paged.{Paged, IsPagedAnswer, MayFail, held_of}
+use Rattle.study_prober.specs.WholeTables.{Whole, IsCellAnswer}
+use Rattle.study_prober.specs.PagedTables.{Paged, IsPagedAnswer, MayFail, held_of}
 use Rattle.study_marks.specs.declared.refusal.Refusal.{Refusal as EditRefusal}
 use Rattle.study_marks.specs.declared.refusal.Refusal.TheVariants as edit
 use Rattle.study_marks.specs.Answers.{IsFirstFault, TellsFirstFault}
@@ -114,7 +114,7 @@ module _ {P : Type 0} (gives : P → Question → Result (List ℕ) SourceFault 
   none_fails (held.Whole w) c f none m = m
   none_fails (held.Paged w) c f none m = go (held_of w.sources c) none m
     where
-      go : (o : Option (HeldSource P)) → is_some o ≡ false → MayFail gives o c f → ⊥
+      go : (o : Option (OpenTable P)) → is_some o ≡ false → MayFail gives o c f → ⊥
       go None e k = k
       go (Some h) e k = let contrary : ⊥ = cc in contrary
 

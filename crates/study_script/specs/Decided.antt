@@ -2,10 +2,10 @@
 use Rattle.std.specs.Prelude.{◌≡◌, ◌⊎◌, ℕ, true, false, is_some, is_err, List, Option, Result, Ok, Err}
 use Rattle.study_material.specs.declared.class.Class.{Class}
 use Rattle.study_retro.specs.Table.{Table, table_of}
-use Rattle.study_prober.specs.Whole.{Whole, TablesAreRight}
+use Rattle.study_prober.specs.WholeTables.{Whole, TablesAreRight}
 use Rattle.study_tablefile.specs.declared.fault.SourceFault.{SourceFault}
 use Rattle.study_prober.specs.Sources.{GivesOf}
-use Rattle.study_prober.specs.Paged.{Paged, MayFail, held_of, SourcesAreRight}
+use Rattle.study_prober.specs.PagedTables.{Paged, MayFail, held_of, SourcesAreRight}
 use Rattle.study_reply.specs.declared.table_reply.TableReply.{TableReply}
 use Rattle.study_reply.specs.declared.refusal.Refusal.{Refusal}
 use Rattle.study_reply.specs.Names.{words_of}

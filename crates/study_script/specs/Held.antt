@@ -9,9 +9,9 @@ use Rattle.study_tablefile.specs.Taken.{TakesPrefix}
 use Rattle.study_material.specs.declared.class.Class.{Class}
 use Rattle.study_retro.specs.Table.{Table, table_of}
 use Rattle.study_prober.specs.Values.{ProbeAnswer}
-use Rattle.study_prober.specs.Whole.{TablesAreRight, IsCellAnswer}
+use Rattle.study_prober.specs.WholeTables.{TablesAreRight, IsCellAnswer}
 use Rattle.study_prober.specs.Sources.{GivesOf}
-use Rattle.study_prober.specs.Paged.{SourcesAreRight, IsPagedAnswer, MayFail, held_of}
+use Rattle.study_prober.specs.PagedTables.{SourcesAreRight, IsPagedAnswer, MayFail, held_of}
 use Rattle.study_marks.specs.declared.refusal.Refusal.{Refusal as EditRefusal}
 use Rattle.study_marks.specs.declared.refusal.Refusal.TheVariants as edit
 use Rattle.study_marks.specs.Study.{plain_study}

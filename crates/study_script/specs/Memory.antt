@@ -1,7 +1,7 @@
 -- What is known of a store in memory, which is all that it gives, but of a file that it was asked to write.
 use Rattle.std.specs.Prelude.{◌≡◌, ℕ, ◌+◌, ◌*◌, nat_lt, Bool, true, false, List, length, take, slice_index_or, Option, Some, None, Result, Ok, Err}
 use Rattle.study_material.specs.declared.class.Class.{Class}
-use Rattle.study_retro.specs.Table.{Table, IsComplete, class_place}
+use Rattle.study_retro.specs.Table.{Table, IsComplete, class_number}
 use Rattle.study_retro.specs.Sound.{IsRight}
 use Rattle.study_tablefile.specs.declared.fault.SourceFault.{SourceFault}
 use Rattle.study_tablefile.specs.declared.fault.SourceFault.TheVariants as source
@@ -14,7 +14,7 @@ use Rattle.study_script.specs.Stores.{IsRightFile}
 
 -- the file of a class
 abbrev pub memory_file : List MemoryFile → Class → MemoryFile
-memory_file files c = slice_index_or files (class_place c) Absent
+memory_file files c = slice_index_or files (class_number c) Absent
 
 -- what a file gives from front to back; of one that was written nothing is known
 abbrev pub file_known : MemoryFile → Option (Result (List ℕ) StoreFault)

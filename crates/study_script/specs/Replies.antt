@@ -9,7 +9,7 @@ use Rattle.study_moves.specs.Rules.{after}
 use Rattle.study_moves.specs.Game.{MatesWithin, IsWon}
 use Rattle.study_material.specs.declared.class.Class.{Class}
 use Rattle.study_material.specs.Class.{IsOf, name_of, class_list}
-use Rattle.study_retro.specs.Table.{Table, IsComplete, class_place}
+use Rattle.study_retro.specs.Table.{Table, IsComplete, class_number}
 use Rattle.study_retro.specs.Sound.{IsRight, HasFarPosition}
 use Rattle.study_retro.specs.Report.{IsGreatest, win_of}
 use Rattle.study_tablefile.specs.declared.fault.FileFault.{FileFault}
@@ -17,7 +17,7 @@ use Rattle.study_tablefile.specs.declared.fault.SourceFault.{SourceFault}
 use Rattle.study_tablefile.specs.File.{pages_of}
 use Rattle.study_tablefile.specs.Reading.{HasHeader, table_read}
 use Rattle.study_prober.specs.declared.fault.PagedFault.{PagedFault}
-use Rattle.study_prober.specs.Told.{paged_fault}
+use Rattle.study_prober.specs.HeaderAnswers.{paged_fault}
 use Rattle.study_prober.specs.declared.values.ProbeFault.TheVariants as probe
 use Rattle.study_notation.specs.declared.start.Start.{Start}
 use Rattle.study_notation.specs.declared.fault.FenFault.{FenFault}
@@ -281,7 +281,7 @@ IsBuildReply s _ c false None reply = IsBuilt s c reply
 -- what a file that is read whole comes to
 abbrev pub loaded : State → Class → Result Table FileFault → Reply
 loaded s c (Err fault) = refused s (File fault)
-loaded s c (Ok t) = if class_place t.class == class_place c then accepted (with_class s c) (loaded_text c) else refused s (OtherClass t.class)
+loaded s c (Ok t) = if class_number t.class == class_number c then accepted (with_class s c) (loaded_text c) else refused s (OtherClass t.class)
 
 abbrev pub IsLoadReply : State → Outside → Class → Bool → Option Class → Reply → Type 0
 IsLoadReply s o c true lacking reply = reply ≡ refused s (AlreadyHeld c)

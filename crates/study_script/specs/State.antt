@@ -3,7 +3,7 @@ use Rattle.std.specs.Prelude.{◌≡◌, ℕ, ◌<◌, ◌==◌, Bool, true, not
 use Rattle.std.specs.List.{list_any}
 use Rattle.study_material.specs.declared.class.Class.{Class}
 use Rattle.study_material.specs.Needs.{needs_of}
-use Rattle.study_retro.specs.Table.{class_place}
+use Rattle.study_retro.specs.Table.{class_number}
 use Rattle.study_tablefile.specs.declared.fault.SourceFault.{SourceFault}
 use Rattle.study_tablefile.specs.File.{pages_of}
 use Rattle.study_tablefile.specs.Source.{Question, of_header, of_page}
@@ -28,11 +28,11 @@ pub record Shelf : Type 0 where
 
 -- nothing is known any more of a class, whose file may have been written anew
 abbrev pub forgotten : {T : Type 0} → Class → (Class → Option T) → Class → Option T
-forgotten c known d = if class_place d == class_place c then None else known d
+forgotten c known d = if class_number d == class_number c then None else known d
 
 -- its source may fail in any way then
 abbrev pub forgotten_faults : Class → (Class → SourceFault → Bool) → Class → SourceFault → Bool
-forgotten_faults c faults d f = if class_place d == class_place c then true else faults d f
+forgotten_faults c faults d f = if class_number d == class_number c then true else faults d f
 
 abbrev pub shelf_without : Shelf → Class → Shelf
 shelf_without shelf c = record {
@@ -74,7 +74,7 @@ abbrev pub written_anew : State → Class → State
 written_anew s c = record s { shelf = shelf_without s.shelf c }
 
 abbrev pub is_among : List Class → Class → Bool
-is_among cs c = list_any (λ d. class_place d == class_place c) cs
+is_among cs c = list_any (λ d. class_number d == class_number c) cs
 
 -- the first class that the class needs and that is not among these
 abbrev pub first_lacking : List Class → Class → Option Class

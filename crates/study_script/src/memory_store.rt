@@ -1,6 +1,6 @@
 //! A store of tables in memory, which fails where a test wants it.
 ghost use Rattle.std.specs.Prelude.{◌≡◌, None, is_some, length, slice_set, IfOk, IfErr};
-ghost use Rattle.study_retro.specs.Table.{class_place};
+ghost use Rattle.study_retro.specs.Table.{class_number};
 ghost use Rattle.study_material.specs.declared.class.Class.{Class as AClass};
 ghost use Rattle.study_script.specs.Memory.{memory_file, file_known, header_known, memory_faults, IsHonestFile, IsFaultOf};
 
@@ -56,7 +56,7 @@ impl<'f, 'w, 'a, A: Allocator> MemoryStore<'f, 'w, 'a, A> {
 
     /// Lays out the file of a class, in place of what was there.
     pub fn put(&mut self, class: Class, file: MemoryFile<'f>)
-        ensures files { self.new.files ≡ slice_set self.old.files (class_place class) file.entry }
+        ensures files { self.new.files ≡ slice_set self.old.files (class_number class) file.entry }
         ensures places { length self.old.files ≡ 36 }
         ensures plan { (self.new.fails_after ≡ self.old.fails_after) × (self.new.fails_at ≡ self.old.fails_at) }
         ensures writers { (self.new.writers ≡ self.old.writers) × (self.new.opened ≡ self.old.opened) }

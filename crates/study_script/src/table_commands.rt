@@ -1,8 +1,8 @@
 //! Classes of material: `build`, `load`, `save` and `verify`.
 ghost use Rattle.std.specs.Prelude.{◌≡◌, ◌↔◌, ℕ, Bool, true, List, Option, Some, None, Ok, false, is_some, slice_set, IfOk, IfErr, IfSome, IsTrue};
 ghost use Rattle.study_retro.specs.Sound.{IsRight, NeedsAreRight};
-ghost use Rattle.study_retro.specs.Set.{add_fault};
-ghost use Rattle.study_retro.specs.Table.{table_of, class_place, IsClosed, IsComplete};
+ghost use Rattle.study_retro.specs.TableSet.{add_fault};
+ghost use Rattle.study_retro.specs.Table.{table_of, class_number, IsClosed, IsComplete};
 ghost use Rattle.study_tablefile.specs.Reading.{table_read};
 ghost use Rattle.study_script.specs.State.{State, is_among, first_lacking, IsGiven};
 ghost use Rattle.study_script.specs.StoreRefusals.{refusal_of_store, refusal_of_paged};
@@ -158,7 +158,7 @@ fn has_table<'a, A: Allocator>(tables: &WholeTables<'a, A>, class: Class) -> boo
 // Holds a table whose class is not held, and whose needs are.
 fn add_table<'a, A: Allocator>(tables: &mut WholeTables<'a, A>, table: Table<'a, A>)
     requires { add_fault tables.old.tables table.class ≡ None }
-    ensures held { tables.new ≡ record tables.old { tables = slice_set tables.old.tables (class_place table.entry.class) (Some table.entry) } }
+    ensures held { tables.new ≡ record tables.old { tables = slice_set tables.old.tables (class_number table.entry.class) (Some table.entry) } }
     ensures complete { IsComplete table.entry }
 {
     let _class = table.class();

@@ -20,4 +20,4 @@ pub use laws::{only_texts_are_read, pages_are_whole, tables_are_read_again};
 pub use reading::read_table;
 pub use source::{Header, PageSource, page_cells, read_header};
 pub use text::{file_bytes, write_table};
-pub use writing::put;
+pub use writing::write_text;

@@ -20,7 +20,7 @@ use study_material::Class;
 use study_retro::Table;
 
 /// Fills a buffer from a reader; each of its errors is `Device`.
-fn fill<R: Read>(input: &mut R, buf: &mut [u8]) -> Result<(), FileFault>
+fn read_exactly<R: Read>(input: &mut R, buf: &mut [u8]) -> Result<(), FileFault>
     ensures len { length buf.new ≡ length buf.old }
     ensures ok { OnOk result (Consumes (R.remaining input.old) (R.remaining input.new) buf.new) }
     ensures fault { IfErr result (λ e. (e ≡ Device) ⊎ ((e ≡ Cut) × IsShort (R.remaining input.old) (length buf.old))) }
@@ -49,7 +49,7 @@ fn is_known_version(version: u16, class: Class) -> bool
 }
 
 /// Whether files of the version can be of the class, and this is its name in the field of a header.
-fn is_named(version: u16, field: &[u8], class: Class) -> bool
+fn is_class_field(version: u16, field: &[u8], class: Class) -> bool
     ensures { result ≡ (is_known_version version class && bytes_eq field.now (class_field class)) }
 {
     let name = class_field(class);
@@ -62,7 +62,7 @@ fn class_of_field(version: u16, field: &[u8]) -> Option<Class>
     ensures { result ≡ class_named version field.now }
 {
     for class in Class::all() {
-        if is_named(version, field, *class) {
+        if is_class_field(version, field, *class) {
             return Some(*class);
         }
     }
@@ -115,7 +115,7 @@ pub fn read_class(header: &[u8; 64]) -> Result<Class, FileFault>
 }
 
 /// Whether a page has the digest of its cells.
-pub fn is_page(fields: &[u8; 32], number: u32, page: &[u8; 4128]) -> bool
+pub fn has_page_digest(fields: &[u8; 32], number: u32, page: &[u8; 4128]) -> bool
     ensures { result ≡ bytes_eq (take 32 (drop 4096 page.now)) (page_digest fields.now number (take 4096 page.now)) }
 {
     let digest = page_digest(fields, number, &page[..4096]);
@@ -150,8 +150,8 @@ fn read_page<'a, A: Allocator, R: Read>(
         → IfErr result (IsToldAt bytes pages (R.remaining input.new)) }
 {
     let mut page = [0u8; 4128];
-    fill(input, &mut page)?;
-    if !is_page(fields, number, &page) {
+    read_exactly(input, &mut page)?;
+    if !has_page_digest(fields, number, &page) {
         return Err(FileFault::PageDamaged(number));
     }
     let _ = cells.extend_from_slice(cells_of_page(&page));
@@ -256,7 +256,7 @@ pub fn read_table<'a, A: Allocator, R: Read>(
         → IfErr result (IsToldAt bytes (pages_after (class_read (take 64 bytes))) (R.remaining input.new)) }
 {
     let mut header = [0; 64];
-    fill(input, &mut header)?;
+    read_exactly(input, &mut header)?;
     let class = read_class(&header)?;
     let version = version_of(&header);
     let room = pages(class) as usize * 4096;

@@ -9,7 +9,7 @@ ghost use Rattle.study_board.specs.Counts.{counted};
 ghost use Rattle.study_tablefile.specs.Source.{is_whole_page, page_of, Question, of_header, of_page};
 
 use crate::fault::{FileFault, SourceFault};
-use crate::reading::{cells_of_page, is_padding, is_page, read_class, version_of};
+use crate::reading::{cells_of_page, has_page_digest, is_padding, read_class, version_of};
 use crate::text::fields;
 use study_index::cells;
 use study_material::Class;
@@ -52,7 +52,7 @@ pub fn page_cells(header: &Header, number: u32, page: &[u8; 4128]) -> bool
     let before = number as u64 * 4096;
     let left = (header.cells as u64).saturating_sub(before).min(4096) as usize;
     let (_, behind) = cells_of_page(page).split_at(left);
-    is_page(&header.fields, number, page) && is_padding(behind)
+    has_page_digest(&header.fields, number, page) && is_padding(behind)
 }
 
 /// Where the pages of a table come from.

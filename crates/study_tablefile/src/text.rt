@@ -9,7 +9,7 @@ ghost use Rattle.study_tablefile.specs.File.{page_cells_of, page_digest, page_te
 ghost use Rattle.study_tablefile.specs.declared.fault.FileFault.TheVariants.{Device};
 
 use crate::fault::{DeviceFailed, FileFault};
-use crate::writing::put;
+use crate::writing::write_text;
 use byteorder::{ByteOrder, LittleEndian};
 use sha2::{Digest, Sha256};
 use std::alloc::Allocator;
@@ -90,8 +90,8 @@ fn put_header<W: Write>(out: &mut W, class: Class) -> Result<(), DeviceFailed>
     ensures err { OnErr result (TakesPrefix (W.contents out.old) (W.contents out.new) (header_text class written_version)) }
 {
     let fields = fields(class, VERSION);
-    put(out, fields.as_slice())?;
-    put(out, digest(fields.as_slice()).as_slice())
+    write_text(out, fields.as_slice())?;
+    write_text(out, digest(fields.as_slice()).as_slice())
 }
 
 /// Writes a page: its cells and their digest.
@@ -107,8 +107,8 @@ fn put_page<W: Write>(
     ensures err { OnErr result (TakesPrefix (W.contents out.old) (W.contents out.new) (page_text fields.now number (page_cells_of cells.now))) }
 {
     let cells = padded_cells(cells);
-    put(out, cells.as_slice())?;
-    put(
+    write_text(out, cells.as_slice())?;
+    write_text(
         out,
         page_digest(fields, number, cells.as_slice()).as_slice(),
     )

@@ -11,7 +11,7 @@ use std::io::Write;
 /// Every error of the writer ends the call, also one that `write_all` would try again. No clause can say
 /// that the writer really failed.
 #[tactic(auto, using(crate::proofs::TextTaken::taken_on))]
-pub fn put<W: Write>(out: &mut W, text: &[u8]) -> Result<(), DeviceFailed>
+pub fn write_text<W: Write>(out: &mut W, text: &[u8]) -> Result<(), DeviceFailed>
     ensures ok { OnOk result (Appends (W.contents out.old) (W.contents out.new) text.now) }
     ensures err { OnErr result (TakesPrefix (W.contents out.old) (W.contents out.new) text.now) }
 {

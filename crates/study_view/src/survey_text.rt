@@ -24,7 +24,7 @@ use study_moves::Move;
 use study_pgn::Text;
 use study_prober::Values;
 use study_retro::Value;
-use study_tablefile::put;
+use study_tablefile::write_text;
 
 fn add_goal<A: Allocator>(text: &mut Text<'_, A>, goal: Goal) -> Result<(), AllocError>
     ensures { OnOk result (text.new ≡ text.old ++ goal_text goal) }
@@ -230,6 +230,6 @@ pub fn write_survey<'a, A: Allocator, V: Values, W: Write>(
     ensures asked { HasSurveyed V.held V.gives V.may_fail V.asked_of V.failed_of V.is_honest values.old result values.new }
 {
     let text = survey_text(alloc, question, values)?;
-    put(out, text.as_slice())?;
+    write_text(out, text.as_slice())?;
     Ok(())
 }

@@ -29,7 +29,7 @@ use study_pgn::{Text, add_opening_words};
 use study_prober::Values;
 use study_retro::Value;
 use study_review::{Continuation, Node};
-use study_tablefile::put;
+use study_tablefile::write_text;
 use study_tree::Path;
 
 /// The stipulation, with its verdict.
@@ -204,6 +204,6 @@ pub fn write_view<'a, 'b, A: Allocator, B: Allocator, V: Values, W: Write>(
         (asked_at (marked bench.now) path.now) values.old result values.new }
 {
     let text = view_at(alloc, bench, path, values)?;
-    put(out, text.as_slice())?;
+    write_text(out, text.as_slice())?;
     Ok(())
 }

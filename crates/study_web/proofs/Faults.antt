@@ -7,7 +7,7 @@ use Rattle.study_material.specs.declared.class.Class.{Class}
 use Rattle.study_material.specs.Needs.{IsNeeded, IsOrder}
 use Rattle.study_retro.specs.Table.{Table}
 use Rattle.study_retro.specs.Sound.{NeedsAreRight}
-use Rattle.study_prober.specs.Whole.{TablesAreRight}
+use Rattle.study_prober.specs.WholeTables.{TablesAreRight}
 use Rattle.study_web.specs.declared.spans.Span.{Span}
 use Rattle.study_web.specs.declared.make.MakeFault.{MakeFault}
 use Rattle.study_web.specs.declared.make.MakeFault.TheVariants.{MissingTable, File, OtherClass, DistanceTooLarge, OutOfMemory}

@@ -5,7 +5,7 @@ use Rattle.std.proofs.lemmas.Bool.{cases_Bool, eq-eqb, ne_eqb, le-leb}
 use Rattle.std.proofs.lemmas.List.{append-nil, length-append, length-drop, take-append-le, drop-append-le}
 use Rattle.std.proofs.Math.Seq.{take-append_seam, drop-append_seam}
 use Rattle.study_material.specs.declared.class.Class.{Class}
-use Rattle.study_retro.specs.Table.{Table, IsComplete, class_place}
+use Rattle.study_retro.specs.Table.{Table, IsComplete, class_number}
 use Rattle.study_retro.specs.Sound.{IsRight}
 use Rattle.study_tablefile.specs.File.{IsVersionOf, table_text, written_version}
 use Rattle.study_tablefile.specs.Reading.{table_read}
@@ -19,7 +19,7 @@ use Rattle.study_web.specs.Spans.{file_in, IsHonestIn}
 
 passed-over : (c : Class) (ahead more : List Span) (bytes : List ℕ) → HasNoneOf c ahead → file_in (ahead ++ more) bytes c ≡ file_in more bytes c
 passed-over c [] more bytes h = refl
-passed-over c (s ∷ ahead) more bytes h = rw (ne_eqb s.class (class_place c) h.0) (passed-over c ahead more bytes h.1)
+passed-over c (s ∷ ahead) more bytes h = rw (ne_eqb s.class (class_number c) h.0) (passed-over c ahead more bytes h.1)
 
 laid-first : (c : Class) (file before after : List ℕ) (behind : List Span)
     → file_in (span_after before c file ∷ behind) (before ++ (file ++ after)) c ≡ Some file
@@ -27,7 +27,7 @@ laid-first c file before after behind =
     let enough : length before + length file ≤ length (before ++ (file ++ after)) =
     omega (arith, length-append before (file ++ after), length-append file after) in
     rw (
-      eq-eqb (class_place c) (class_place c) refl,
+      eq-eqb (class_number c) (class_number c) refl,
       le-leb (length before + length file) (length (before ++ (file ++ after))) enough,
       drop-append_seam before (file ++ after),
       take-append_seam file after,
@@ -46,7 +46,7 @@ module _ (P : Option (List ℕ) → Type 0) (d : Class) (bytes more : List ℕ) 
       let le = w.0 in
       let short = le-leb (s.start + s.length) (length bytes) le in
       let long = le-leb (s.start + s.length) (length (bytes ++ more)) (omega (arith, length-append bytes more)) in
-      elim (cases_Bool (s.class == class_place d)) [
+      elim (cases_Bool (s.class == class_number d)) [
         | inl t ↦ rw (t, long, same-bytes s.start s.length bytes more le) (rw (t, short) at h)
         | inr f ↦ rw f (beside spans w.1 (rw f at h) k)
       ]
@@ -97,6 +97,6 @@ made-join again by_pages c file spans bytes made within right d =
         (sym (subst (λ (f : List ℕ). file_in (span_after bytes c file ∷ []) (bytes ++ f) c ≡ Some file) (append-nil file)
         (laid-first c file bytes [] []))) (honest-made again by_pages c file made)
 
-    last : (c ≡ d) ⊎ (class_place c ≢ class_place d) → IsHonestIn by_pages (file_in (span_after bytes c file ∷ []) (bytes ++ file) d)
+    last : (c ≡ d) ⊎ (class_number c ≢ class_number d) → IsHonestIn by_pages (file_in (span_after bytes c file ∷ []) (bytes ++ file) d)
     last (inl e) = subst (λ (k : Class). IsHonestIn by_pages (file_in (span_after bytes c file ∷ []) (bytes ++ file) k)) e own
-    last (inr far) = rw (ne_eqb (class_place c) (class_place d) far) (honest-none by_pages)
+    last (inr far) = rw (ne_eqb (class_number c) (class_number d) far) (honest-none by_pages)

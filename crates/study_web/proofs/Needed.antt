@@ -9,13 +9,13 @@ use borrow.Author.Tests.{ltb-true, leb-true}
 use Rattle.study_material.specs.declared.class.Class.{Class}
 use Rattle.study_material.specs.Needs.{size, needs_of, is_in, Reaches, IsNeeded, IsOrder, NeedsComeFirst}
 use Rattle.study_material.proofs.NeedsTables.{size_table, by_size_is}
-use Rattle.study_retro.specs.Table.{Table, IsClosed, class_place, table_of}
+use Rattle.study_retro.specs.Table.{Table, IsClosed, class_number, table_of}
 use Rattle.study_retro.specs.declared.builder.BuildFault.{BuildFault}
 use Rattle.study_retro.specs.declared.builder.BuildFault.TheVariants as build
-use Rattle.study_retro.specs.declared.set.AddFault.{AddFault}
-use Rattle.study_retro.specs.Set.{first_missing, add_fault}
+use Rattle.study_retro.specs.declared.table_set.AddFault.{AddFault}
+use Rattle.study_retro.specs.TableSet.{first_missing, add_fault}
 use Rattle.study_retro.specs.Sound.{NeedsAreRight, HasFarPosition}
-use Rattle.study_prober.specs.Whole.{Whole, TablesAreRight}
+use Rattle.study_prober.specs.WholeTables.{Whole, TablesAreRight}
 use Rattle.study_prober.proofs.HeldSources.{same_class}
 use Rattle.study_script.proofs.HeldTables.{place_below}
 use Rattle.study_web.specs.declared.spans.Span.{Span}
@@ -124,24 +124,24 @@ missing_at held [] d e = absurd (let no : ⊥ = cc in no)
 missing_at held (c ∷ cs) d e = missing_with held c cs d (missing_at held cs d) (is_some (table_of held c)) refl e
 
 module _ (held : List (Option Table)) (t : Table) (full : length held ≡ 36) where
-  here : (d : Class) → t.class ≡ d → is_some (table_of (set held (class_place t.class) (Some t)) d) ≡ true
-  here d e = subst (λ (k : Class). is_some (table_of (set held (class_place t.class) (Some t)) k) ≡ true) e
+  here : (d : Class) → t.class ≡ d → is_some (table_of (set held (class_number t.class) (Some t)) d) ≡ true
+  here d e = subst (λ (k : Class). is_some (table_of (set held (class_number t.class) (Some t)) k) ≡ true) e
       (ap (λ (o : Option Table). is_some o)
-      (get_or-set_same held (class_place t.class) (Some t) None (let small = place_below t.class in omega (arith, full, small))))
+      (get_or-set_same held (class_number t.class) (Some t) None (let small = place_below t.class in omega (arith, full, small))))
 
-  stays : (d : Class) → is_some (table_of held d) ≡ true → is_some (table_of (set held (class_place t.class) (Some t)) d) ≡ true
+  stays : (d : Class) → is_some (table_of held d) ≡ true → is_some (table_of (set held (class_number t.class) (Some t)) d) ≡ true
   stays d h = elim (same_class t.class d) [
     | inl e ↦ here d e
     | inr f ↦ ap (λ (o : Option Table). is_some o)
-        (get_or-set_other held (class_place t.class) (class_place d) (Some t) None (λ k. f (sym k))) ∙ h
+        (get_or-set_other held (class_number t.class) (class_number d) (Some t) None (λ k. f (sym k))) ∙ h
   ]
 
 module _ {E : Type 0} (w v : Whole) (t : Table) (r : Result (Unit {0}) E) (closed : IsClosed w.tables)
-    (added : OnOk r (v ≡ record w { tables = set w.tables (class_place t.class) (Some t) })) (same : OnErr r (v ≡ w)) where
+    (added : OnOk r (v ≡ record w { tables = set w.tables (class_number t.class) (Some t) })) (same : OnErr r (v ≡ w)) where
   pub keeps : (d : Class) → is_some (table_of w.tables d) ≡ true → is_some (table_of v.tables d) ≡ true
   keeps d h = go r added same
     where
-      go : (x : Result (Unit {0}) E) → OnOk x (v ≡ record w { tables = set w.tables (class_place t.class) (Some t) }) → OnErr x (v ≡ w)
+      go : (x : Result (Unit {0}) E) → OnOk x (v ≡ record w { tables = set w.tables (class_number t.class) (Some t) }) → OnErr x (v ≡ w)
           → is_some (table_of v.tables d) ≡ true
       go (Ok u) is k = rw is (stays w.tables t closed.places d h)
       go (Err e) is k = rw k h
@@ -152,7 +152,7 @@ module _ {E : Type 0} (w v : Whole) (t : Table) (r : Result (Unit {0}) E) (close
       → IsTaken spans bytes c w.tables v.tables
   taken spans bytes c is own = by_held (is_some (table_of w.tables c)) refl
     where
-      when_added : (x : Result (Unit {0}) E) → IsOk x → OnOk x (v ≡ record w { tables = set w.tables (class_place t.class) (Some t) })
+      when_added : (x : Result (Unit {0}) E) → IsOk x → OnOk x (v ≡ record w { tables = set w.tables (class_number t.class) (Some t) })
           → is_some (table_of v.tables c) ≡ true
       when_added (Ok u) k is = rw is (here w.tables t closed.places c own)
       when_added (Err e) k is = absurd (let no : ⊥ = cc in no)
@@ -251,5 +251,5 @@ module _ (first : NeedsComeFirst) (spans : List Span) (bytes : List ℕ) (c need
     | inl e ↦ subst (λ (k : Class). IsSettled spans bytes c new k) e need_settled
     | inr far ↦ settled_still spans bytes c d old new (keeps d) (before d n
         (λ among. elim (head_or_tail need rest d (subst (λ (xs : List Class). Contains xs d) is among))
-        [ inl e ↦ far (ap class_place e) | inr k ↦ out k ]))
+        [ inl e ↦ far (ap class_number e) | inr k ↦ out k ]))
   ]

@@ -3,7 +3,7 @@ use Rattle.std.proofs.Common.{◌≡◌, ◌⊎◌, ℕ, Bool, true, false, List
 use Rattle.std.specs.Prelude.{OnOk}
 use Rattle.std.proofs.lemmas.Bool.{false≢true, cases_Bool}
 use Rattle.study_material.specs.declared.class.Class.{Class}
-use Rattle.study_retro.specs.Table.{class_place}
+use Rattle.study_retro.specs.Table.{class_number}
 use Rattle.study_tablefile.specs.declared.fault.SourceFault.{SourceFault}
 use Rattle.study_prober.proofs.HeldSources.{same_class}
 use Rattle.study_script.specs.declared.store.StoreFault.{StoreFault}
@@ -45,7 +45,7 @@ module _ {E : Type 0} (held held' held'' : Class → Bool) (now next : Known) (r
               | inr none ↦ none
             ]))
         | inr far ↦ subst (λ (k : Option (Result (List ℕ) StoreFault)). IsGiven k (Err NoFile)) (same d)
-            (f (rw (other_at c d (λ k. far (ap class_place k))) at among) lacks)
+            (f (rw (other_at c d (λ k. far (ap class_number k))) at among) lacks)
       ]
       go (Err e) up f = tt
 

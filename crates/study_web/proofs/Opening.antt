@@ -10,16 +10,16 @@ use Rattle.study_material.specs.declared.class.Class.TheVariants.{KBNK, KBPK, KN
 use Rattle.study_material.specs.declared.class.Class.TheVariants.{KQKB, KQKN, KQKP, KRKR, KRKB, KRKN, KRKP}
 use Rattle.study_material.specs.declared.class.Class.TheVariants.{KBKB, KBKN, KBKP, KNKN, KNKP, KPKP}
 use Rattle.study_material.specs.Class.{class_list}
-use Rattle.study_retro.specs.Table.{class_place}
+use Rattle.study_retro.specs.Table.{class_number}
 use Rattle.study_tablefile.specs.declared.fault.SourceFault.{SourceFault}
 use Rattle.study_tablefile.specs.File.{pages_of}
 use Rattle.study_tablefile.specs.Source.{Question, of_header, of_page}
 use Rattle.study_prober.specs.declared.fault.PagedFault.{PagedFault}
 use Rattle.study_prober.specs.declared.fault.PagedFault.TheVariants as paged
-use Rattle.study_prober.specs.declared.held.HeldSource.{HeldSource}
-use Rattle.study_prober.specs.Paged.{Paged, MayFail, held_of, places_for_classes}
+use Rattle.study_prober.specs.declared.open_table.OpenTable.{OpenTable}
+use Rattle.study_prober.specs.PagedTables.{Paged, MayFail, held_of, places_for_classes}
 use Rattle.study_prober.specs.Sources.{GivesOf, HonestOf, GiveAlike}
-use Rattle.study_prober.specs.Told.{MayAnswer, IsRefusedBy, paged_fault}
+use Rattle.study_prober.specs.HeaderAnswers.{MayAnswer, IsRefusedBy, paged_fault}
 use Rattle.study_prober.proofs.HeldSources.{same_class, held_same, held_other, held_placed}
 use Rattle.study_script.specs.declared.store.StoreFault.{StoreFault}
 use Rattle.study_script.specs.declared.store.StoreFault.TheVariants.{NoFile}
@@ -28,29 +28,29 @@ use Rattle.study_script.specs.State.{is_among, IsGiven, IsGivenAs, IsOpened, IsQ
 use Rattle.study_script.proofs.HeldTables.{place_below, same_at, other_at}
 use Rattle.study_web.specs.Opened.{denial_of, IsHeldAs, IsBadFile, IsOfTables}
 
-module _ {P : Type 0} (w v : Paged P) (c : Class) (x : HeldSource P) (long : length v.sources ≡ 36)
-    (is : v ≡ record w { sources = set (places_for_classes w.sources) (class_place c) (Some x) }) where
-  sources : v.sources ≡ set (places_for_classes w.sources) (class_place c) (Some x)
+module _ {P : Type 0} (w v : Paged P) (c : Class) (x : OpenTable P) (long : length v.sources ≡ 36)
+    (is : v ≡ record w { sources = set (places_for_classes w.sources) (class_number c) (Some x) }) where
+  sources : v.sources ≡ set (places_for_classes w.sources) (class_number c) (Some x)
   sources = ap (λ (u : Paged P). u.sources) is
 
-  within : class_place c < length (places_for_classes w.sources)
+  within : class_number c < length (places_for_classes w.sources)
   within = let small = place_below c in
-      omega (arith, small, sym (length-set (places_for_classes w.sources) (class_place c) (Some x)) ∙ ap length (sym sources) ∙ long)
+      omega (arith, small, sym (length-set (places_for_classes w.sources) (class_number c) (Some x)) ∙ ap length (sym sources) ∙ long)
 
   pub here : (d : Class) → c ≡ d → held_of v.sources d ≡ Some x
-  here d e = ap (λ (xs : List (Option (HeldSource P))). held_of xs d) sources
-      ∙ subst (λ (k : Class). held_of (set (places_for_classes w.sources) (class_place c) (Some x)) k ≡ Some x) e
+  here d e = ap (λ (xs : List (Option (OpenTable P))). held_of xs d) sources
+      ∙ subst (λ (k : Class). held_of (set (places_for_classes w.sources) (class_number c) (Some x)) k ≡ Some x) e
       (held_same (places_for_classes w.sources) c (Some x) within)
 
-  there : (d : Class) → class_place c ≢ class_place d → held_of v.sources d ≡ held_of w.sources d
-  there d e = ap (λ (xs : List (Option (HeldSource P))). held_of xs d) sources
+  there : (d : Class) → class_number c ≢ class_number d → held_of v.sources d ≡ held_of w.sources d
+  there d e = ap (λ (xs : List (Option (OpenTable P))). held_of xs d) sources
       ∙ held_other (places_for_classes w.sources) c d (Some x) e ∙ held_placed w.sources d
 
   -- what was held is held
   pub grows_with : (d : Class) → is_some (held_of w.sources d) ≡ true → is_some (held_of v.sources d) ≡ true
   grows_with d h = elim (same_class c d) [
-    | inl e ↦ ap (λ (o : Option (HeldSource P)). is_some o) (here d e)
-    | inr f ↦ ap (λ (o : Option (HeldSource P)). is_some o) (there d f) ∙ h
+    | inl e ↦ ap (λ (o : Option (OpenTable P)). is_some o) (here d e)
+    | inr f ↦ ap (λ (o : Option (OpenTable P)). is_some o) (there d f) ∙ h
   ]
 
   -- what is held was held, or was opened
@@ -58,24 +58,24 @@ module _ {P : Type 0} (w v : Paged P) (c : Class) (x : HeldSource P) (long : len
       → (is_some (held_of w.sources d) ≡ true) ⊎ Opened d
   opened_with Opened k d h = elim (same_class c d) [
     | inl e ↦ inr (subst Opened e k)
-    | inr f ↦ inl (ap (λ (o : Option (HeldSource P)). is_some o) (sym (there d f)) ∙ h)
+    | inr f ↦ inl (ap (λ (o : Option (OpenTable P)). is_some o) (sym (there d f)) ∙ h)
   ]
 
   pub held_with : is_some (held_of v.sources c) ≡ false → ⊥
-  held_with h = false≢true (sym h ∙ ap (λ (o : Option (HeldSource P)). is_some o) (here c refl))
+  held_with h = false≢true (sym h ∙ ap (λ (o : Option (OpenTable P)). is_some o) (here c refl))
 
 -- what may fail might, or the source that was put in may
-pub fails_with : {P : Type 0} (w v : Paged P) (c : Class) (x : HeldSource P) (long : length v.sources ≡ 36)
-    → v ≡ record w { sources = set (places_for_classes w.sources) (class_place c) (Some x) } → (gives : GivesOf P) (source : P)
+pub fails_with : {P : Type 0} (w v : Paged P) (c : Class) (x : OpenTable P) (long : length v.sources ≡ 36)
+    → v ≡ record w { sources = set (places_for_classes w.sources) (class_number c) (Some x) } → (gives : GivesOf P) (source : P)
     → GiveAlike gives source x.source → (m : Class → SourceFault → Bool)
     → ((q : Question) (f : SourceFault) → IsQuestionOf c q → gives source q (Err f) → m c f ≡ true)
     → (d : Class) (f : SourceFault) → MayFail gives (held_of v.sources d) d f → MayFail gives (held_of w.sources d) d f ⊎ (m d f ≡ true)
 fails_with w v c x long is gives source alike m fails d f h = elim (same_class c d) [
   | inl e ↦
-      let k = subst (λ (o : Option (HeldSource _)). MayFail gives o d f) (here w v c x long is d e) h in
+      let k = subst (λ (o : Option (OpenTable _)). MayFail gives o d f) (here w v c x long is d e) h in
       inr (subst (λ (k : Class). m k f ≡ true) e
       (fails (of_page k.0) f (subst (λ (b : Class). k.0 < pages_of b) (sym e) k.1) (alike.back (of_page k.0) (Err f) k.2)))
-  | inr far ↦ inl (subst (λ (o : Option (HeldSource _)). MayFail gives o d f) (there w v c x long is d far) h)
+  | inr far ↦ inl (subst (λ (o : Option (OpenTable _)). MayFail gives o d f) (there w v c x long is d far) h)
 ]
 
 -- why a source of a class that is not held is refused: by what it told of its header
@@ -173,10 +173,10 @@ module _ (p : Class → Bool) (c : Class) (cs : List Class) (rest : is_among (fi
   with_own true e = rw (e, same_at c c refl) refl
   with_own false e = rw (e, same_at c c refl) (rest ∙ rw e (and_false (is_among cs c)))
 
-  with_other : (d : Class) → class_place d ≢ class_place c → (b : Bool) → p d ≡ b
+  with_other : (d : Class) → class_number d ≢ class_number c → (b : Bool) → p d ≡ b
       → is_among (filter p (d ∷ cs)) c ≡ (is_among (d ∷ cs) c && p c)
-  with_other d f true e = rw (e, other_at d c (λ k. f (ap class_place k))) rest
-  with_other d f false e = rw (e, other_at d c (λ k. f (ap class_place k))) rest
+  with_other d f true e = rw (e, other_at d c (λ k. f (ap class_number k))) rest
+  with_other d f false e = rw (e, other_at d c (λ k. f (ap class_number k))) rest
 
 among_filter : (p : Class → Bool) (cs : List Class) (c : Class) → is_among (filter p cs) c ≡ (is_among cs c && p c)
 among_filter p [] c = refl

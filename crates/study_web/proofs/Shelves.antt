@@ -3,7 +3,7 @@ use Rattle.std.proofs.Common.{◌≡◌, ℕ, Bool, false, List, replicate, Opti
 use Rattle.std.specs.Prelude.{IfOk, IfErr}
 use Rattle.std.proofs.lemmas.List.{get_or-replicate}
 use Rattle.study_material.specs.declared.class.Class.{Class}
-use Rattle.study_retro.specs.Table.{class_place}
+use Rattle.study_retro.specs.Table.{class_number}
 use Rattle.study_tablefile.specs.declared.fault.SourceFault.{SourceFault}
 use Rattle.study_script.specs.declared.store.StoreFault.{StoreFault}
 use Rattle.study_script.specs.declared.store.StoreFault.TheVariants as store
@@ -29,7 +29,7 @@ shelf_in spans bytes written = record {
 }
 
 none_written : (c : Class) → is_written (replicate 36 false) c ≡ false
-none_written c = get_or-replicate 36 (class_place c) false false (place_below c)
+none_written c = get_or-replicate 36 (class_number c) false false (place_below c)
 
 module _ (spans : List Span) (bytes : List ℕ) where
   known_at_first : {T : Type 0} (told : Option (List ℕ) → T) (c : Class)

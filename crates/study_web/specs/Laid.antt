@@ -2,7 +2,7 @@
 use Rattle.std.specs.Prelude.{◌≡◌, ◌≢◌, ℕ, ◌+◌, ◌≤◌, Bool, List, [], ◌∷◌, ◌++◌, length, Option, Some, None, Ok}
 use Rattle.std.specs.List.{AllByRecursion}
 use Rattle.study_material.specs.declared.class.Class.{Class}
-use Rattle.study_retro.specs.Table.{Table, class_place}
+use Rattle.study_retro.specs.Table.{Table, class_number}
 use Rattle.study_retro.specs.Sound.{IsRight}
 use Rattle.study_tablefile.specs.Reading.{table_read}
 use Rattle.study_web.specs.declared.spans.Span.{Span}
@@ -11,11 +11,11 @@ use Rattle.study_web.specs.Spans.{file_in, IsHonestIn}
 
 -- the span of the file of a class that follows these bytes
 abbrev pub span_after : List ℕ → Class → List ℕ → Span
-span_after before c file = record { class = class_place c; start = length before; length = length file }
+span_after before c file = record { class = class_number c; start = length before; length = length file }
 
 -- no span is one for the class
 abbrev pub HasNoneOf : Class → List Span → Type 0
-HasNoneOf c spans = AllByRecursion (λ s. s.class ≢ class_place c) spans
+HasNoneOf c spans = AllByRecursion (λ s. s.class ≢ class_number c) spans
 
 -- each span lies within the bytes
 abbrev pub AreWithin : List Span → List ℕ → Type 0

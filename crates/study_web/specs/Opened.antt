@@ -6,7 +6,7 @@ use Rattle.study_prober.specs.declared.fault.PagedFault.{PagedFault}
 use Rattle.study_prober.specs.declared.values.ProbeFault.{ProbeFault}
 use Rattle.study_prober.specs.declared.values.ProbeFault.TheVariants as probe
 use Rattle.study_prober.specs.declared.fault.PagedFault.TheVariants as paged
-use Rattle.study_prober.specs.Told.{paged_fault}
+use Rattle.study_prober.specs.HeaderAnswers.{paged_fault}
 use Rattle.study_script.specs.declared.store.StoreFault.{StoreFault}
 use Rattle.study_script.specs.declared.store.StoreFault.TheVariants as store
 use Rattle.study_script.specs.StoreRefusals.{refusal_of_paged}

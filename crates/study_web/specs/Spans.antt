@@ -2,7 +2,7 @@
 use Rattle.std.specs.Prelude.{◌==◌, nat_le, ℕ, ◌+◌, Bool, true, false, ◌&&◌, List, [], ◌∷◌, length, take, drop, if◌then◌else◌}
 use Rattle.std.specs.Prelude.{Option, Some, None, Result, Ok, Err}
 use Rattle.study_material.specs.declared.class.Class.{Class}
-use Rattle.study_retro.specs.Table.{class_place}
+use Rattle.study_retro.specs.Table.{class_number}
 use Rattle.study_tablefile.specs.declared.fault.SourceFault.{SourceFault}
 use Rattle.study_script.specs.declared.store.StoreFault.{StoreFault}
 use Rattle.study_script.specs.declared.store.StoreFault.TheVariants.{NoFile}
@@ -12,7 +12,7 @@ use Rattle.study_web.specs.declared.spans.Span.{Span}
 
 -- a span for this class that lies within the bytes
 abbrev pub is_file_of : Class → List ℕ → Span → Bool
-is_file_of c bytes s = (s.class == class_place c) && nat_le (s.start + s.length) (length bytes)
+is_file_of c bytes s = (s.class == class_number c) && nat_le (s.start + s.length) (length bytes)
 
 -- the file of a class: what the first such span has
 abbrev pub file_in : List Span → List ℕ → Class → Option (List ℕ)

@@ -1,7 +1,7 @@
 -- What is known of a store of spans, which is all that it gives, but of files that were written.
 use Rattle.std.specs.Prelude.{◌≡◌, ◌⊎◌, ℕ, Bool, true, false, List, slice_index_or, if◌then◌else◌, Option, Some, None}
 use Rattle.study_material.specs.declared.class.Class.{Class}
-use Rattle.study_retro.specs.Table.{class_place}
+use Rattle.study_retro.specs.Table.{class_number}
 use Rattle.study_tablefile.specs.declared.fault.SourceFault.{SourceFault}
 use Rattle.study_script.specs.declared.store.StoreFault.{StoreFault}
 use Rattle.study_script.specs.declared.store.StoreFault.TheVariants.{NoFile}
@@ -11,7 +11,7 @@ use Rattle.study_web.specs.Spans.{file_in, bytes_given, header_given, file_fault
 
 -- whether the class's file was opened to be written
 abbrev pub is_written : List Bool → Class → Bool
-is_written written c = slice_index_or written (class_place c) false
+is_written written c = slice_index_or written (class_number c) false
 
 abbrev pub known : {T : Type 0} → (Option (List ℕ) → T) → List Span → List ℕ → List Bool → Class → Option T
 known told spans bytes written c = if is_written written c then None else Some (told (file_in spans bytes c))

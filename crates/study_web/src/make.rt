@@ -5,7 +5,7 @@ ghost use Rattle.study_material.specs.declared.class.Class.{Class as AClass};
 ghost use Rattle.study_material.specs.Needs.{needs_of, IsNeeded};
 ghost use Rattle.study_retro.specs.Table.{table_of};
 ghost use Rattle.study_retro.specs.Sound.{IsRight};
-ghost use Rattle.study_prober.specs.Whole.{TablesAreRight};
+ghost use Rattle.study_prober.specs.WholeTables.{TablesAreRight};
 ghost use Rattle.study_tablefile.specs.Reading.{table_read};
 ghost use Rattle.study_web.specs.Spans.{file_in, IsHonestIn};
 ghost use Rattle.study_web.specs.Making.{IsRightFileOf, IsFaultIn, IsMakeFault, HasRightNeeds, IsSettled, IsTaken, is_ascending};

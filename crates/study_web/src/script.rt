@@ -5,7 +5,7 @@ ghost use Rattle.study_tree.specs.Tree.{has_spot};
 ghost use Rattle.study_marks.specs.BenchState.{marked, IsKeptRight};
 ghost use Rattle.study_marks.specs.Study.{plain_study};
 ghost use Rattle.study_command.specs.Paths.{steps_of, is_path_word};
-ghost use Rattle.study_prober.specs.Paged.{held_of, SourcesAreRight};
+ghost use Rattle.study_prober.specs.PagedTables.{held_of, SourcesAreRight};
 ghost use Rattle.study_review.specs.Review.{IsReviewOf};
 ghost use Rattle.study_report.specs.Outcome.{Outcome, over_tables};
 ghost use Rattle.study_script.specs.Held.{document_seen, tables_honest, IsMarked};
@@ -34,7 +34,7 @@ use study_script::run::{RunFault, Summary};
 use study_script::session::Session;
 use study_script::store::TableStore;
 use study_script::tables::Tables;
-use study_tablefile::{PageSource, put};
+use study_tablefile::{PageSource, write_text};
 use study_view::{ViewFault, write_view};
 
 /// What is told of a script, and how the run over it ended.
@@ -227,7 +227,7 @@ fn left_view<'a, P: PageSource, A: Allocator>(
         refused,
     } = left;
     let mut text = document_view(alloc, &document, path, &mut tables)?;
-    match put(&mut text, refused.as_slice()) {
+    match write_text(&mut text, refused.as_slice()) {
         Ok(()) => Ok(text),
         Err(_) => Err(NoText::Denied(Denial::Refused(Refusal::OutOfMemory))),
     }

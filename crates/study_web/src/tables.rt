@@ -2,7 +2,7 @@
 ghost use Rattle.std.specs.Prelude.{◌≡◌, ◌≤◌, ◌⊎◌, true, false, is_some, IfSome, OnOk, IfOk, IfErr, Err};
 ghost use Rattle.study_material.specs.declared.class.Class.{Class as AClass};
 ghost use Rattle.study_tablefile.specs.declared.fault.SourceFault.{SourceFault as ASourceFault};
-ghost use Rattle.study_prober.specs.Paged.{held_of, SourcesAreRight, MayFail};
+ghost use Rattle.study_prober.specs.PagedTables.{held_of, SourcesAreRight, MayFail};
 ghost use Rattle.study_script.specs.declared.store.StoreFault.TheVariants.{NoFile};
 ghost use Rattle.study_script.specs.State.{is_among, IsGiven, IsOpened};
 ghost use Rattle.study_web.specs.Opened.{denial_of, IsHeldAs, IsOfTables};

@@ -12,21 +12,21 @@ use std::io::Write;
 use study_material::Class;
 use study_reply::refusal::{Argument, Refusal};
 use study_script::run::{RunFault, Summary};
-use study_tablefile::{DeviceFailed, put};
+use study_tablefile::{DeviceFailed, write_text};
 
 fn put_number<W: Write>(out: &mut W, number: u32) -> Result<(), DeviceFailed>
     ensures { OnOk result (Appends (W.contents out.old) (W.contents out.new) (decimal number)) }
 {
     let mut buffer = Buffer::new();
-    put(out, buffer.format(number).as_bytes())
+    write_text(out, buffer.format(number).as_bytes())
 }
 
 fn put_argument<W: Write>(out: &mut W, argument: Argument) -> Result<(), DeviceFailed>
     ensures { OnOk result (Appends (W.contents out.old) (W.contents out.new) (argument_text argument)) }
 {
     match argument {
-        Argument::None => put(out, b""),
-        Argument::Class(class) => put(out, class.name().as_bytes()),
+        Argument::None => write_text(out, b""),
+        Argument::Class(class) => write_text(out, class.name().as_bytes()),
         Argument::Number(number) => put_number(out, number),
     }
 }
@@ -36,7 +36,7 @@ fn put_argument<W: Write>(out: &mut W, argument: Argument) -> Result<(), DeviceF
 fn put_words<W: Write>(out: &mut W, refusal: Refusal) -> Result<(), DeviceFailed>
     ensures { OnOk result (Appends (W.contents out.old) (W.contents out.new) (words_of refusal)) }
 {
-    put(out, refusal.name())?;
+    write_text(out, refusal.name())?;
     put_argument(out, refusal.argument())
 }
 
@@ -45,14 +45,14 @@ fn put_refusal<W: Write>(out: &mut W, refusal: Refusal) -> Result<(), DeviceFail
     ensures { OnOk result (Appends (W.contents out.old) (W.contents out.new) (line_of (words_of refusal))) }
 {
     put_words(out, refusal)?;
-    put(out, b"\n")
+    write_text(out, b"\n")
 }
 
 fn put_file_fault<W: Write>(out: &mut W, class: Class, refusal: Refusal) -> Result<(), DeviceFailed>
     ensures { OnOk result (Appends (W.contents out.old) (W.contents out.new) (name_of class ++ (codes " " ++ line_of (words_of refusal)))) }
 {
-    put(out, class.name().as_bytes())?;
-    put(out, b" ")?;
+    write_text(out, class.name().as_bytes())?;
+    write_text(out, b" ")?;
     put_refusal(out, refusal)
 }
 
@@ -63,22 +63,22 @@ pub fn put_denial<W: Write>(out: &mut W, denial: Denial) -> Result<(), DeviceFai
     match denial {
         Denial::Refused(refusal) => put_refusal(out, refusal),
         Denial::OfFile(class, refusal) => put_file_fault(out, class, refusal),
-        Denial::NoMan => put(out, b"NoMan\n"),
+        Denial::NoMan => write_text(out, b"NoMan\n"),
     }
 }
 
 fn put_counted<W: Write>(out: &mut W, word: &[u8], number: u32) -> Result<(), DeviceFailed>
     ensures { OnOk result (Appends (W.contents out.old) (W.contents out.new) (word.now ++ line_of (decimal number))) }
 {
-    put(out, word)?;
+    write_text(out, word)?;
     put_number(out, number)?;
-    put(out, b"\n")
+    write_text(out, b"\n")
 }
 
 fn put_ran<W: Write>(out: &mut W, summary: Summary) -> Result<(), DeviceFailed>
     ensures { OnOk result (Appends (W.contents out.old) (W.contents out.new) (ending_text (Ending.Ran summary))) }
 {
-    put(out, b"ran ")?;
+    write_text(out, b"ran ")?;
     put_number(out, summary.lines)?;
     put_counted(out, b" ", summary.refused)
 }
@@ -87,11 +87,11 @@ fn put_stopped<W: Write>(out: &mut W, fault: RunFault) -> Result<(), DeviceFaile
     ensures { OnOk result (Appends (W.contents out.old) (W.contents out.new) (stop_text fault)) }
 {
     match fault {
-        RunFault::ReadDevice => put(out, b"stopped ReadDevice\n"),
-        RunFault::WriteDevice => put(out, b"stopped WriteDevice\n"),
+        RunFault::ReadDevice => write_text(out, b"stopped ReadDevice\n"),
+        RunFault::WriteDevice => write_text(out, b"stopped WriteDevice\n"),
         RunFault::LineTooLong(line) => put_counted(out, b"stopped LineTooLong ", line),
-        RunFault::TooManyLines => put(out, b"stopped TooManyLines\n"),
-        RunFault::OutOfMemory => put(out, b"stopped OutOfMemory\n"),
+        RunFault::TooManyLines => write_text(out, b"stopped TooManyLines\n"),
+        RunFault::OutOfMemory => write_text(out, b"stopped OutOfMemory\n"),
     }
 }
 
@@ -100,8 +100,8 @@ pub fn put_ending<W: Write>(out: &mut W, ended: Ending) -> Result<(), DeviceFail
     ensures { OnOk result (Appends (W.contents out.old) (W.contents out.new) (ending_text ended)) }
 {
     match ended {
-        Ending::Answered => put(out, b"answered\n"),
-        Ending::Refused(_) => put(out, b"refused\n"),
+        Ending::Answered => write_text(out, b"answered\n"),
+        Ending::Refused(_) => write_text(out, b"refused\n"),
         Ending::Ran(summary) => put_ran(out, summary),
         Ending::Stopped(fault) => put_stopped(out, fault),
     }

@@ -4,7 +4,7 @@ use crate::rows::field;
 use std::process::Abort;
 use study_board::Position;
 use study_moves::{
-    Move, earlier, in_check, is_legal, is_mate, is_stalemate, last_moves, solve, taken_back,
+    Move, earlier, in_check, is_legal, is_mate, is_stalemate, solve, unmoves, unplayed,
 };
 
 #[test]
@@ -42,10 +42,10 @@ fn is_before(p: &Position, m: Move, list: &[Position]) -> bool {
 fn expect_unmoves(rt: &impl Abort, row: &str) {
     let q = sound(rt, row);
     let before = earlier(&q);
-    let list = last_moves(&q);
+    let list = unmoves(&q);
     let mut words = field(row, 3).split_ascii_whitespace();
     for m in list.as_slice() {
-        let p = taken_back(&q, *m);
+        let p = unplayed(&q, *m);
         assert!(rt; is_between(m, words.next()), "{row}");
         assert!(rt; is_before(&p, *m, before.as_slice()), "{row}");
     }

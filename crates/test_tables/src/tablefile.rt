@@ -11,8 +11,8 @@ use study_material::Class;
 use study_retro::Table;
 use study_tablefile::memory::{MemoryReader, MemorySource, MemoryWriter, WhenFull};
 use study_tablefile::{
-    DeviceFailed, FileFault, PageSource, SourceFault, file_bytes, page_cells, put, read_header,
-    read_table, write_table,
+    DeviceFailed, FileFault, PageSource, SourceFault, file_bytes, page_cells, read_header,
+    read_table, write_table, write_text,
 };
 
 /// The fields of KK, which has 1,280 cells, in version 1.
@@ -53,7 +53,7 @@ fn header_of_kpkp_is_as_the_format_tells(rt: HostRuntime) {
 fn header_of<'a, A: Allocator>(rt: &impl Abort, alloc: &'a A, fields: &[u8]) -> Vec<u8, &'a A> {
     let mut writer = MemoryWriter::new(alloc);
     for part in [fields, digest(fields).as_slice()] {
-        assert!(rt; put(&mut writer, part).is_ok());
+        assert!(rt; write_text(&mut writer, part).is_ok());
     }
     writer.taken
 }

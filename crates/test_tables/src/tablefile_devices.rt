@@ -8,7 +8,8 @@ use std::test::Fail;
 use study_material::Class;
 use study_tablefile::memory::{MemoryReader, MemorySource, MemoryWriter, WhenFull};
 use study_tablefile::{
-    DeviceFailed, FileFault, PageSource, SourceFault, page_cells, put, read_header, read_table,
+    DeviceFailed, FileFault, PageSource, SourceFault, page_cells, read_header, read_table,
+    write_text,
 };
 
 /// Writes three letters, and compares the answer, what was taken, and that the writer was asked no more after it was full.
@@ -18,7 +19,7 @@ fn put_letters<A: Allocator>(
     want: Result<(), DeviceFailed>,
     taken: &str,
 ) {
-    assert!(rt; put(writer, b"abc") == want, "{taken}");
+    assert!(rt; write_text(writer, b"abc") == want, "{taken}");
     assert!(rt; writer.taken.as_slice() == taken.as_bytes(), "{taken}");
     assert!(rt; writer.errors == want.is_err() as u64, "{taken}");
 }
@@ -31,7 +32,7 @@ fn fails_each_time<A: Allocator>(
     taken: &str,
 ) {
     put_letters(rt, &mut full, want, taken);
-    assert!(rt; put(&mut full, b"d").is_err(), "{taken}");
+    assert!(rt; write_text(&mut full, b"d").is_err(), "{taken}");
     assert!(rt; full.errors == want.is_err() as u64 + 1, "{taken}");
 }
 
@@ -45,7 +46,7 @@ fn fails_once<A: Allocator>(
     recovers.kind = ErrorKind::Interrupted;
     put_letters(rt, &mut recovers, want, taken);
     assert!(rt;
-        put(&mut recovers, b"d").is_ok() == want.is_err(),
+        write_text(&mut recovers, b"d").is_ok() == want.is_err(),
         "{taken}"
     );
     assert!(rt; recovers.errors == 1, "{taken}");
@@ -68,7 +69,7 @@ fn writers_in_memory_fail_where_they_are_told(rt: HostRuntime) {
         }
     }
     let mut full = MemoryWriter::with_room(&alloc, 0, WhenFull::Fail);
-    assert!(rt; put(&mut full, b"").is_ok());
+    assert!(rt; write_text(&mut full, b"").is_ok());
     assert!(rt; full.flush().is_ok() && full.errors == 0);
 }
 
@@ -142,7 +143,7 @@ fn a_writer_without_memory_fails_once(rt: HostRuntime) -> Result<(), Fail> {
     let heap = LocalHeap::new(rt.alloc(), 256)?;
     let text = [7u8; 1024];
     let mut writer = MemoryWriter::new(&heap);
-    assert_eq!(rt; put(&mut writer, text.as_slice()), Err(DeviceFailed));
+    assert_eq!(rt; write_text(&mut writer, text.as_slice()), Err(DeviceFailed));
     assert_eq!(rt; writer.errors, 1);
     assert!(rt; 0 < writer.taken.len() && writer.taken.len() < 256);
     Ok(())

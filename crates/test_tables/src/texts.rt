@@ -6,7 +6,7 @@ use study_index::cells;
 use study_material::Class;
 use study_retro::Table;
 use study_tablefile::memory::{MemoryReader, MemoryWriter};
-use study_tablefile::{FileFault, put, read_table, write_table};
+use study_tablefile::{FileFault, read_table, write_table, write_text};
 
 /// The fields of KK in version 2, which is written.
 pub const KK: &[u8] =
@@ -90,7 +90,7 @@ pub fn one_page<'a, A: Allocator>(
         page,
         first_digest(others, page).as_slice(),
     ] {
-        assert!(rt; put(&mut writer, part).is_ok());
+        assert!(rt; write_text(&mut writer, part).is_ok());
     }
     writer.taken
 }
@@ -116,7 +116,7 @@ pub fn exchanged<'a, A: Allocator>(rt: &impl Abort, alloc: &'a A, text: &[u8]) -
     let (fourth, rest) = others.split_at(4128);
     let mut writer = MemoryWriter::new(alloc);
     for part in [head, fourth, third, rest] {
-        assert!(rt; put(&mut writer, part).is_ok());
+        assert!(rt; write_text(&mut writer, part).is_ok());
     }
     writer.taken
 }

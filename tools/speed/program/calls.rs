@@ -5,7 +5,7 @@ use crate::timed::show;
 use std::io;
 use study_board::{Kind, Position, Side, Square};
 use study_index::index;
-use study_moves::{in_check, is_legal, last_moves, legal_moves, played, taken_back};
+use study_moves::{in_check, is_legal, unmoves, legal_moves, played, unplayed};
 
 fn count_moves(positions: &[Position]) -> u64 {
     let mut sum = 0u64;
@@ -18,7 +18,7 @@ fn count_moves(positions: &[Position]) -> u64 {
 fn count_last_moves(positions: &[Position]) -> u64 {
     let mut sum = 0u64;
     for position in positions {
-        sum = sum.saturating_add(last_moves(position).len() as u64);
+        sum = sum.saturating_add(unmoves(position).len() as u64);
     }
     sum
 }
@@ -33,10 +33,10 @@ fn add_squares(position: &Position) -> u64 {
 }
 
 fn add_squares_before(position: &Position) -> u64 {
-    let moves = last_moves(position);
+    let moves = unmoves(position);
     let mut sum = 0u64;
     for by in moves.as_slice() {
-        sum = sum.saturating_add(add_squares(&taken_back(position, *by)));
+        sum = sum.saturating_add(add_squares(&unplayed(position, *by)));
     }
     sum
 }

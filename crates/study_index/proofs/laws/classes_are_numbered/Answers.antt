@@ -1,7 +1,7 @@
 use Rattle.std.proofs.Common.{◌≡◌, unwrap_or, sym, ap, ◌∙◌, subst}
 use Rattle.study_board.specs.Position.{Position}
 use Rattle.study_board.specs.Images.{IsImage}
-use Rattle.study_moves.specs.Bare.{bare}
+use Rattle.study_moves.specs.EnPassant.{bare}
 use Rattle.study_moves.proofs.AlikePositions.{AreAlike-mated}
 use Rattle.study_material.proofs.MovesOn.{moves_lead_on}
 use Rattle.study_index.proofs.ClassLaws.{below, entry, same_class, same_index, alike_back, alike_move, numbered}

@@ -7,14 +7,14 @@ use Rattle.study_index.proofs.least.least_number.Goals as goal
 pub unreachable-requires : goal.unreachable-requires
 unreachable-requires c =
     no_none {P = IsLeastNumber c.args.p.now} (least_found c.args.p.now _ _ _ _ _ _ c.men-men.ensures.value c.men-men.ensures.valid c.is_swapped-colours.ensures
-    c.has_pawn.ensures c.to_move.ensures c.coloured.ensures c.in-None.ensures)
+    c.has_pawn.ensures c.to_move.ensures c.side_after.ensures c.in-None.ensures)
 
 pub returns-clause-least : goal.returns-clause-least
 returns-clause-least c =
     the_some {P = IsLeastNumber c.args.p.now} c.in-Some.n
     (least_found c.args.p.now _ _ _ _ _ _ c.men-men.ensures.value c.men-men.ensures.valid
     c.is_swapped-colours.ensures
-    c.has_pawn.ensures c.to_move.ensures c.coloured.ensures c.in-Some.ensures)
+    c.has_pawn.ensures c.to_move.ensures c.side_after.ensures c.in-Some.ensures)
 
 pub returns-clause-value : goal.returns-clause-value
 returns-clause-value c =
@@ -22,7 +22,7 @@ returns-clause-value c =
     (the_some {P = IsLeastNumber c.args.p.now} c.in-Some.n
     (least_found c.args.p.now _ _ _ _ _ _ c.men-men.ensures.value c.men-men.ensures.valid
     c.is_swapped-colours.ensures
-    c.has_pawn.ensures c.to_move.ensures c.coloured.ensures c.in-Some.ensures))
+    c.has_pawn.ensures c.to_move.ensures c.side_after.ensures c.in-Some.ensures))
 
 pub returns-clause-small : goal.returns-clause-small
 returns-clause-small c =
@@ -30,4 +30,4 @@ returns-clause-small c =
     (the_some {P = IsLeastNumber c.args.p.now} c.in-Some.n
     (least_found c.args.p.now _ _ _ _ _ _ c.men-men.ensures.value c.men-men.ensures.valid
     c.is_swapped-colours.ensures
-    c.has_pawn.ensures c.to_move.ensures c.coloured.ensures c.in-Some.ensures)).number
+    c.has_pawn.ensures c.to_move.ensures c.side_after.ensures c.in-Some.ensures)).number

@@ -3,6 +3,6 @@ use Rattle.study_index.proofs.BySquares.{least_of_squares}
 use Rattle.study_index.proofs.least.least_of_kings.Goals as goal
 
 pub returns : goal.returns
-returns c = rw (c.least_at.ensures, c.standing.ensures.value, c.standing-2.ensures.value)
+returns c = rw (c.least_at.ensures, c.square_of_man.ensures.value, c.square_of_man-2.ensures.value)
     (least_of_squares c.args.pawns c.args.to_move c.args.colours (c.args.a ∷ c.args.b ∷ [])
-    (c.standing.ensures.on_board, (c.standing-2.ensures.on_board, tt)))
+    (c.square_of_man.ensures.on_board, (c.square_of_man-2.ensures.on_board, tt)))

@@ -6,14 +6,14 @@ pub returns : goal.returns
 returns c =
     rw (
       c.least_at.ensures,
-      c.standing.ensures.value,
-      c.standing-2.ensures.value,
-      c.standing-3.ensures.value,
-      c.standing-4.ensures.value,
+      c.square_of_man.ensures.value,
+      c.square_of_man-2.ensures.value,
+      c.square_of_man-3.ensures.value,
+      c.square_of_man-4.ensures.value,
       c.man_slot_number.ensures,
       c.man_slot_number-2.ensures,
     )
     (least_of_squares c.args.pawns c.args.to_move c.args.colours (c.args.a ∷ c.args.b ∷ c.args.c ∷ c.args.d ∷ []) (
-      c.standing.ensures.on_board,
-      (c.standing-2.ensures.on_board, (c.standing-3.ensures.on_board, (c.standing-4.ensures.on_board, tt))),
+      c.square_of_man.ensures.on_board,
+      (c.square_of_man-2.ensures.on_board, (c.square_of_man-3.ensures.on_board, (c.square_of_man-4.ensures.on_board, tt))),
     ))

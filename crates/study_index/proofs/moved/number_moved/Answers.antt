@@ -1,9 +1,9 @@
 use Rattle.std.proofs.Common.{◌≡◌, ◌<◌, List, false, length, slice_index_or, map, sym, ◌∙◌, ap, subst}
 use Rattle.study_board.specs.declared.men.Man.{Man}
 use Rattle.study_board.specs.Men.{other_side}
-use Rattle.study_index.specs.declared.reading.Slot.{Slot}
+use Rattle.study_index.specs.declared.decoding.Slot.{Slot}
 use Rattle.study_index.specs.Number.{without_bit}
-use Rattle.study_index.specs.Chosen.{least_of}
+use Rattle.study_index.specs.Canonical.{least_of}
 use Rattle.study_index.specs.Decoded.{slots_have_pawn, told_men, told_side}
 use Rattle.study_index.specs.Moved.{from_to}
 use Rattle.study_index.specs.Stepped.{stepped}

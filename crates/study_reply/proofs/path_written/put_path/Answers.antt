@@ -26,16 +26,16 @@ text_some ks k rest e = ap path_text e ∙ text_cons k rest
 pub returns-in_default-clause-ok : goal.returns-in_default-clause-ok
 returns-in_default-clause-ok g c =
     subst
-    (λ (t : List ℕ). OnOk c.put.result
-    (Appends (g.W.Write.contents c.args.out.now) (g.W.Write.contents c.put.new.out) t))
-    (sym (text_none c.args.steps.now c.in_default.ensures.cases)) c.put.ensures.ok
+    (λ (t : List ℕ). OnOk c.write_text.result
+    (Appends (g.W.Write.contents c.args.out.now) (g.W.Write.contents c.write_text.new.out) t))
+    (sym (text_none c.args.steps.now c.in_default.ensures.cases)) c.write_text.ensures.ok
 
 pub returns-in_default-clause-err : goal.returns-in_default-clause-err
 returns-in_default-clause-err g c =
     subst
-    (λ (t : List ℕ). OnErr c.put.result
-    (TakesPrefix (g.W.Write.contents c.args.out.now) (g.W.Write.contents c.put.new.out) t))
-    (sym (text_none c.args.steps.now c.in_default.ensures.cases)) c.put.ensures.err
+    (λ (t : List ℕ). OnErr c.write_text.result
+    (TakesPrefix (g.W.Write.contents c.args.out.now) (g.W.Write.contents c.write_text.new.out) t))
+    (sym (text_none c.args.steps.now c.in_default.ensures.cases)) c.write_text.ensures.err
 
 pub returns-in_err-put_place-clause-err : goal.returns-in_err-put_place-clause-err
 returns-in_err-put_place-clause-err g c =

@@ -6,25 +6,25 @@ use Rattle.study_command.specs.Paths.{path_text}
 use Rattle.study_reply.specs.Words.{raised}
 use Rattle.study_reply.proofs.path_written.put_promoted.Goals as goal
 
-pub returns-in_err-put-clause-err : goal.returns-in_err-put-clause-err
-returns-in_err-put-clause-err g c =
-    OnErr-known _ _ (TakesPrefix-first (g.W.Write.contents c.args.out.now) (g.W.Write.contents c.put.new.out)
-    (codes "promote ") ((path_text (raised c.args.steps.now)) ++ (10 ∷ [])) c.in_err-put.ensures.err)
+pub returns-in_err-write_text-clause-err : goal.returns-in_err-write_text-clause-err
+returns-in_err-write_text-clause-err g c =
+    OnErr-known _ _ (TakesPrefix-first (g.W.Write.contents c.args.out.now) (g.W.Write.contents c.write_text.new.out)
+    (codes "promote ") ((path_text (raised c.args.steps.now)) ++ (10 ∷ [])) c.in_err-write_text.ensures.err)
 
 pub returns-in_err-put_raised-clause-err : goal.returns-in_err-put_raised-clause-err
 returns-in_err-put_raised-clause-err g c =
-    OnErr-known _ _ (TakesPrefix-second (g.W.Write.contents c.args.out.now) (g.W.Write.contents c.put.new.out)
+    OnErr-known _ _ (TakesPrefix-second (g.W.Write.contents c.args.out.now) (g.W.Write.contents c.write_text.new.out)
     (g.W.Write.contents c.put_raised.new.out) (codes "promote ")
-    ((path_text (raised c.args.steps.now)) ++ (10 ∷ [])) c.in_ok-put.ensures.ok
-    (TakesPrefix-first (g.W.Write.contents c.put.new.out) (g.W.Write.contents c.put_raised.new.out)
+    ((path_text (raised c.args.steps.now)) ++ (10 ∷ [])) c.in_ok-write_text.ensures.ok
+    (TakesPrefix-first (g.W.Write.contents c.write_text.new.out) (g.W.Write.contents c.put_raised.new.out)
     (path_text (raised c.args.steps.now)) (10 ∷ []) c.in_err-put_raised.ensures.err))
 
 pub returns-clause-err : goal.returns-clause-err
 returns-clause-err g c =
     on_err_weaker _
-    (λ h. (TakesPrefix-second (g.W.Write.contents c.args.out.now) (g.W.Write.contents c.put.new.out)
-    (g.W.Write.contents c.put-2.new.out) (codes "promote ")
-    ((path_text (raised c.args.steps.now)) ++ (10 ∷ [])) c.in_ok-put.ensures.ok
-    (TakesPrefix-second (g.W.Write.contents c.put.new.out) (g.W.Write.contents c.put_raised.new.out)
-    (g.W.Write.contents c.put-2.new.out) (path_text (raised c.args.steps.now)) (10 ∷ [])
-    c.in_ok-put_raised.ensures.ok h))) c.put-2.ensures.err
+    (λ h. (TakesPrefix-second (g.W.Write.contents c.args.out.now) (g.W.Write.contents c.write_text.new.out)
+    (g.W.Write.contents c.write_text-2.new.out) (codes "promote ")
+    ((path_text (raised c.args.steps.now)) ++ (10 ∷ [])) c.in_ok-write_text.ensures.ok
+    (TakesPrefix-second (g.W.Write.contents c.write_text.new.out) (g.W.Write.contents c.put_raised.new.out)
+    (g.W.Write.contents c.write_text-2.new.out) (path_text (raised c.args.steps.now)) (10 ∷ [])
+    c.in_ok-put_raised.ensures.ok h))) c.write_text-2.ensures.err

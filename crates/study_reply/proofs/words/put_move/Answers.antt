@@ -5,16 +5,16 @@ use Rattle.study_tablefile.specs.Taken.{TakesPrefix}
 use Rattle.study_tablefile.proofs.TextTaken.{TakesPrefix-first, TakesPrefix-second, OnErr-known}
 use Rattle.study_reply.proofs.words.put_move.Goals as goal
 
-pub returns-in_err-put-clause-err : goal.returns-in_err-put-clause-err
-returns-in_err-put-clause-err g c =
-    OnErr-known _ _ (TakesPrefix-first (g.W.Write.contents c.args.out.now) (g.W.Write.contents c.put.new.out)
-    (32 ∷ []) (move_text c.args.p.now c.args.m) c.in_err-put.ensures.err)
+pub returns-in_err-write_text-clause-err : goal.returns-in_err-write_text-clause-err
+returns-in_err-write_text-clause-err g c =
+    OnErr-known _ _ (TakesPrefix-first (g.W.Write.contents c.args.out.now) (g.W.Write.contents c.write_text.new.out)
+    (32 ∷ []) (move_text c.args.p.now c.args.m) c.in_err-write_text.ensures.err)
 
 pub returns-clause-err : goal.returns-clause-err
 returns-clause-err g c =
-    let mid = g.W.Write.contents c.put.new.out in
-    let new = g.W.Write.contents c.put-2.new.out in
+    let mid = g.W.Write.contents c.write_text.new.out in
+    let new = g.W.Write.contents c.write_text-2.new.out in
     let same : c.as_bytes.result.now ≡ move_text c.args.p.now c.args.m = c.as_bytes.ensures.value ∙ c.as_str.ensures.value ∙ c.write_san-text.ensures in
     on_err_weaker _ (λ h. TakesPrefix-second (g.W.Write.contents c.args.out.now) mid new (32 ∷ [])
-    (move_text c.args.p.now c.args.m) c.in_ok-put.ensures.ok
-    (subst (λ (t : List ℕ). TakesPrefix mid new t) same h)) c.put-2.ensures.err
+    (move_text c.args.p.now c.args.m) c.in_ok-write_text.ensures.ok
+    (subst (λ (t : List ℕ). TakesPrefix mid new t) same h)) c.write_text-2.ensures.err

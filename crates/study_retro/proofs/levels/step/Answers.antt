@@ -8,17 +8,17 @@ use Rattle.study_retro.proofs.levels.step.Goals as goal
 pub returns-then-level-eq0 : goal.returns-then-level-eq0
 returns-then-level-eq0 g c = λ outer far held.
     level-even c.requires.laws outer far c.args.level (λ e. c.requires.level) c.args.cells.now held
-    c.level_of_losses.new.cells c.if-level-eq0.true c.level_of_losses.ensures.rise c.level_of_losses.ensures.done
+    c.propagate_losses.new.cells c.if-level-eq0.true c.propagate_losses.ensures.rise c.propagate_losses.ensures.done
 
 pub returns-else-level-eq0 : goal.returns-else-level-eq0
 returns-else-level-eq0 g c = λ outer far held.
-    let marks = c.level_of_wins-marked.ensures in
-    let marked = c.level_of_wins-marked.new.cells in
+    let marks = c.propagate_wins-marked.ensures in
+    let marked = c.propagate_wins-marked.new.cells in
     let then = added-tells c.args.level (leads_in (g.G.Game.numbered c.args.game.now))
     (g.G.Game.numbered c.args.game.now).mate (g.G.Game.numbered c.args.game.now).position
     (λ (i : ℕ). (j : ℕ) × StepLeads (g.G.Game.numbered c.args.game.now) i j) c.args.cells.now marked marks.rise
     (held-tells c.requires.laws far c.args.level c.args.cells.now held) in
-    let all = c.confirm_all.ensures in
+    let all = c.confirm_losses.ensures in
     level-odd c.requires.laws outer far c.args.level (λ e. c.requires.level) c.args.cells.now held
-    marked c.confirm_all.new.cells (let n = c.if-level-eq0.false in omega arith)
+    marked c.confirm_losses.new.cells (let n = c.if-level-eq0.false in omega arith)
     marks.rise marks.done all.fall (all.lost outer then) (all.kept outer then)

@@ -3,7 +3,7 @@ use Rattle.study_material.specs.declared.class.Class.{Class}
 use Rattle.study_tablefile.specs.File.{IsVersionOf}
 use Rattle.study_tablefile.specs.declared.fault.SourceFault.{SourceFault}
 use Rattle.study_tablefile.specs.Source.{Question, of_header, of_page}
-use Rattle.study_prober.specs.Told.{paged_fault}
+use Rattle.study_prober.specs.HeaderAnswers.{paged_fault}
 use Rattle.study_script.specs.declared.store.StoreFault.{StoreFault}
 use Rattle.study_script.specs.State.{IsGiven, IsGivenAs, IsQuestionOf}
 use Rattle.study_script.specs.Stores.{HonestOn, StoreSeen}

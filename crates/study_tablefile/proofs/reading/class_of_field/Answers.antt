@@ -6,16 +6,16 @@ use Rattle.study_tablefile.specs.File.{is_known_version, class_field}
 use Rattle.study_tablefile.proofs.BytesGiven.{find_here, find_later}
 use Rattle.study_tablefile.proofs.reading.class_of_field.Goals as goal
 
-pub returns-then-is_named : goal.returns-then-is_named
-returns-then-is_named c =
+pub returns-then-is_class_field : goal.returns-then-is_class_field
+returns-then-is_class_field c =
     let test : Class → Bool = λ d. is_known_version c.args.version d && bytes_eq c.args.field.now (class_field d) in
     sym (c.loop-class.invariant ∙ find_here test _ c.loop-class.class-index KK
     (subst (λ (l : List Class). c.loop-class.class-index < length l) (sym c.all-class-items.ensures)
-    c.loop-class-test.true) (sym c.is_named.ensures ∙ c.if-is_named.true))
+    c.loop-class-test.true) (sym c.is_class_field.ensures ∙ c.if-is_class_field.true))
 
 pub loop-class-preserved : goal.loop-class-preserved
 loop-class-preserved c =
     let test : Class → Bool = λ d. is_known_version c.args.version d && bytes_eq c.args.field.now (class_field d) in
     c.loop-class.invariant ∙ find_later test _ c.loop-class.class-index KK
     (subst (λ (l : List Class). c.loop-class.class-index < length l) (sym c.all-class-items.ensures)
-    c.loop-class-test.true) (sym c.is_named.ensures ∙ c.if-is_named.false)
+    c.loop-class-test.true) (sym c.is_class_field.ensures ∙ c.if-is_class_field.false)

@@ -1,7 +1,7 @@
 use Rattle.std.proofs.Common.{Bool, true, ℕ, List, Some, is_some, filter, subst, sym}
 use Rattle.study_material.specs.declared.class.Class.{Class}
 use Rattle.study_material.specs.Class.{class_list}
-use Rattle.study_prober.specs.Paged.{held_of}
+use Rattle.study_prober.specs.PagedTables.{held_of}
 use Rattle.study_print.specs.Pages.{IsFile}
 use Rattle.study_report.specs.Outcome.{over_tables}
 use Rattle.study_web.proofs.Opening.{among_chosen}

@@ -1,7 +1,7 @@
 use Rattle.std.proofs.Common.{Bool, Some, is_some, filter, sym}
 use Rattle.study_material.specs.declared.class.Class.{Class}
 use Rattle.study_material.specs.Class.{class_list}
-use Rattle.study_prober.specs.Paged.{held_of}
+use Rattle.study_prober.specs.PagedTables.{held_of}
 use Rattle.study_web.proofs.Opening.{among_chosen}
 use Rattle.study_web.proofs.script.review_of.Goals as goal
 

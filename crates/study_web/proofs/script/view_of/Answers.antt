@@ -1,7 +1,7 @@
 use Rattle.std.proofs.Common.{Bool, is_some, filter, sym}
 use Rattle.study_material.specs.declared.class.Class.{Class}
 use Rattle.study_material.specs.Class.{class_list}
-use Rattle.study_prober.specs.Paged.{held_of}
+use Rattle.study_prober.specs.PagedTables.{held_of}
 use Rattle.study_command.specs.Paths.{steps_of}
 use Rattle.study_script.specs.Held.{document_seen}
 use Rattle.study_web.specs.Answers.{IsNever, IsUnread}

@@ -1,6 +1,6 @@
 use Rattle.std.proofs.Common.{true, is_some, Err, sym, ap, subst, ◌∙◌}
 use Rattle.study_material.specs.declared.class.Class.{Class}
-use Rattle.study_prober.specs.Paged.{held_of, IsPagedAnswer, MayFail, SourcesAreRight}
+use Rattle.study_prober.specs.PagedTables.{held_of, IsPagedAnswer, MayFail, SourcesAreRight}
 use Rattle.study_reply.specs.declared.refusal.Refusal.{Refusal}
 use Rattle.study_web.specs.declared.denial.Denial.TheVariants as denial
 use Rattle.study_web.specs.Opened.{IsOfValues}

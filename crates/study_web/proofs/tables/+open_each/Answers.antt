@@ -1,6 +1,6 @@
 use Rattle.std.proofs.Common.{◌≡◌, ◌∷◌, is_some, rules}
 use Rattle.study_material.specs.declared.class.Class.{Class}
-use Rattle.study_prober.specs.Paged.{held_of, MayFail}
+use Rattle.study_prober.specs.PagedTables.{held_of, MayFail}
 use Rattle.study_web.proofs.OpenEach.{opened_on, given_on, fails_on}
 use Rattle.study_web.proofs.Shelves.{still_named}
 use Rattle.study_web.proofs.tables.+open_each.Goals as goal

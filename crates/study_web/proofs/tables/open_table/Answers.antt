@@ -1,5 +1,5 @@
 use Rattle.std.proofs.Common.{true, is_some, refl, sym, subst, ◌∙◌}
-use Rattle.study_prober.specs.Paged.{held_of}
+use Rattle.study_prober.specs.PagedTables.{held_of}
 use Rattle.study_material.specs.declared.class.Class.{Class}
 use Rattle.study_script.specs.State.{IsOpened}
 use Rattle.study_web.specs.Opened.{IsOfTables}

@@ -1,6 +1,6 @@
 use Rattle.std.proofs.Common.{is_some, inl, inr}
 use Rattle.std.proofs.lemmas.Bool.{false≢true}
-use Rattle.study_prober.specs.Paged.{held_of}
+use Rattle.study_prober.specs.PagedTables.{held_of}
 use Rattle.study_web.proofs.Opening.{held_as, among_all}
 use Rattle.study_web.proofs.tables.open_tables.Goals as goal
 

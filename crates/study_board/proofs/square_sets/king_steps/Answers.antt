@@ -1,0 +1,5 @@
+use Rattle.study_board.proofs.TableBits.{king_has}
+use Rattle.study_board.proofs.square_sets.king_steps.Goals as goal
+
+pub returns : goal.returns
+returns c = king_has c.args.a c.number.result c.number.ensures.value c.number.ensures.small

@@ -1,0 +1,5 @@
+use Rattle.study_board.proofs.TableBits.{knight_has}
+use Rattle.study_board.proofs.square_sets.knight_jumps.Goals as goal
+
+pub returns : goal.returns
+returns c = knight_has c.args.a c.number.result c.number.ensures.value c.number.ensures.small

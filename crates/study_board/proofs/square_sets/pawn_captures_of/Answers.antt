@@ -1,0 +1,8 @@
+use Rattle.study_board.proofs.TableBits.{white_has, black_has}
+use Rattle.study_board.proofs.square_sets.pawn_captures_of.Goals as goal
+
+pub returns-in-White : goal.returns-in-White
+returns-in-White c = rw c.in-White.is (white_has c.args.a c.number.result c.number.ensures.value c.number.ensures.small)
+
+pub returns-in-Black : goal.returns-in-Black
+returns-in-Black c = rw c.in-Black.is (black_has c.args.a c.number-in-Black.result c.number-in-Black.ensures.value c.number-in-Black.ensures.small)

@@ -1,0 +1,5 @@
+use Rattle.study_board.proofs.TableBits.{rook_has}
+use Rattle.study_board.proofs.square_sets.rook_lines.Goals as goal
+
+pub returns : goal.returns
+returns c = rook_has c.args.a c.number.result c.number.ensures.value c.number.ensures.small

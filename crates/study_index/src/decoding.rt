@@ -1,0 +1,373 @@
+//! The positions of numbers.
+ghost use Rattle.std.specs.Prelude.{◌≡◌, ◌&&◌, true, ◌+◌, ◌*◌, ◌/◌, ◌%◌, ◌≤◌, ◌<◌, ◌↔◌, ◌⊎◌, IsTrue, length, IfSome, IfNone, None};
+ghost use Rattle.study_board.specs.Position.{Position as Seen, has_one_king, in_order};
+ghost use Rattle.study_board.specs.declared.men.Side.TheVariants.{White, Black};
+ghost use Rattle.study_material.specs.Class.{lists_of};
+ghost use Rattle.study_index.specs.Number.{listed_count, cells_of};
+ghost use Rattle.study_index.specs.Computed.{position_numbered};
+ghost use Rattle.study_index.specs.Decoded.{IsDecoded, AreSlots, slots_of, listed_square, slots_have_pawn};
+ghost use Rattle.study_index.specs.Decoded.{man, head, side_numbered, told_men, told_side, square_behind_pawn};
+ghost use Rattle.study_index.specs.Decoded.{passed_behind, IsPlaced, IsFaulty, HasLeast};
+ghost use Rattle.study_board.specs.Men.{other_side};
+
+use crate::en_passant::{has_legal_en_passant, square_behind_pawn};
+use crate::least::least_of;
+use crate::number::listed_count;
+use study_board::{Kind, Man, Position, Side, Square, has_fault, in_order};
+use study_material::Class;
+
+/// What man fills a place in the order of a class.
+#[derive(Clone, Copy)]
+pub struct Slot {
+    pub side: Side,
+    pub kind: Kind,
+}
+
+#[inline]
+pub fn has_pawn(slots: &[Slot]) -> bool
+    ensures { result ≡ slots_have_pawn slots.now }
+{
+    slots.iter().any(|s| s.kind.is(Kind::Pawn))
+}
+
+#[inline]
+#[tactic(auto, unfolding(crate::specs::Decoded::listed_square))]
+fn listed_square(pawns: bool, place: u32) -> Square
+    requires { place < listed_count pawns }
+    ensures value { result ≡ listed_square pawns place }
+{
+    let number = if pawns {
+        8 * (place / 4) + place % 4
+    } else if place < 4 {
+        place
+    } else if place < 7 {
+        place + 5
+    } else if place < 9 {
+        place + 11
+    } else {
+        27
+    };
+    Square::at(number as u8)
+}
+
+#[inline]
+pub fn man(slot: &Slot, square: u32) -> Man
+    requires { square < 64 }
+    ensures { result ≡ man slot.now square }
+{
+    Man {
+        side: slot.side,
+        kind: slot.kind,
+        at: Square::at(square as u8),
+    }
+}
+
+#[inline]
+pub fn king(pawns: bool, slot: &Slot, head: u32) -> Man
+    ensures { result ≡ man slot.now (listed_square pawns (head % listed_count pawns)) }
+{
+    Man {
+        side: slot.side,
+        kind: slot.kind,
+        at: listed_square(pawns, head % listed_count(pawns)),
+    }
+}
+
+/// The number without the squares of the slots after the first.
+#[inline]
+pub fn head(slots: &[Slot], n: u32) -> u32
+    ensures { result ≡ head slots.now n }
+{
+    match slots {
+        [_, _] => n / 64,
+        [_, _, _] => n / 64 / 64,
+        [_, _, _, _] => n / 64 / 64 / 64,
+        _ => n,
+    }
+}
+
+#[inline]
+pub fn side_numbered(n: u32) -> Side
+    ensures { result ≡ side_numbered n }
+{
+    if n == 0 { Side::White } else { Side::Black }
+}
+
+/// The position of these men, if they are one.
+#[inline(always)]
+fn valid_position(men: &[Man], to_move: Side, passed: Option<Square>) -> Option<Position>
+    requires few { length men.now ≤ 4 }
+    requires kings { (has_one_king men.now White && has_one_king men.now Black) ≡ true }
+    ensures some { IfSome result (λ q. IsPlaced men.now to_move passed q) }
+    ensures none { IfNone result (IsFaulty men.now to_move passed) }
+{
+    let square = passed;
+    if has_fault(men, to_move, square) {
+        return None;
+    }
+    let list = in_order(men);
+    let position = Position::of(list, to_move, passed);
+    Some(position)
+}
+
+/// The position of these men, if they are one, the square behind the pawn of the side that is not to move being passed.
+fn position_with_passed(men: &[Man], to_move: Side) -> Option<Position>
+    requires few { length men.now ≤ 4 }
+    requires kings { (has_one_king men.now White && has_one_king men.now Black) ≡ true }
+    ensures some { IfSome result (λ q. IsPlaced men.now to_move (square_behind_pawn (other_side to_move) men.now) q) }
+    ensures none { IfNone result (IsFaulty men.now to_move (square_behind_pawn (other_side to_move) men.now)) }
+{
+    match square_behind_pawn(to_move.other(), men) {
+        None => valid_position(men, to_move, None),
+        Some(number) => match Square::new(number) {
+            None => None,
+            Some(x) => valid_position(men, to_move, Some(x)),
+        },
+    }
+}
+
+// Whether `n` is the least number of these men, who stand in the order of their slots.
+#[inline(always)]
+fn is_least(pawns: bool, to_move: Side, n: u32, men: &[Man]) -> bool
+    requires { length men.now ≤ 4 }
+    ensures { IsTrue result ↔ HasLeast pawns to_move n men.now }
+{
+    match least_of(pawns, to_move, false, men) {
+        Some(least) => least == n,
+        None => false,
+    }
+}
+
+/// The position of these men, if they are one and `n` is their least number.
+#[inline(always)]
+fn numbered(pawns: bool, to_move: Side, n: u32, passed: bool, men: &[Man]) -> Option<Position>
+    requires few { length men.now ≤ 4 }
+    requires kings { (has_one_king men.now White && has_one_king men.now Black) ≡ true }
+    ensures some { IfSome result (λ q. IsPlaced men.now to_move (passed_behind passed to_move men.now) q × HasLeast pawns to_move n men.now) }
+    ensures none { IfNone result (IsFaulty men.now to_move (passed_behind passed to_move men.now) ⊎ (HasLeast pawns to_move n men.now → ⊥)) }
+{
+    if !is_least(pawns, to_move, n, men) {
+        None
+    } else if passed {
+        position_with_passed(men, to_move)
+    } else {
+        valid_position(men, to_move, None)
+    }
+}
+
+/// The position of the men and the side that the number tells, if they are one and the number is their least, with a
+/// passed square or without.
+#[inline(always)]
+fn decode_slots(slots: &[Slot], n: u32, passed: bool) -> Option<Position>
+    requires { AreSlots slots.now }
+    ensures some { IfSome result
+        (λ q. IsPlaced (told_men slots.now n) (told_side slots.now n)
+        (passed_behind passed (told_side slots.now n) (told_men slots.now n)) q
+        × HasLeast (slots_have_pawn slots.now) (told_side slots.now n) n (told_men slots.now n)) }
+    ensures none { IfNone result
+        (IsFaulty (told_men slots.now n) (told_side slots.now n)
+        (passed_behind passed (told_side slots.now n) (told_men slots.now n))
+        ⊎ (HasLeast (slots_have_pawn slots.now) (told_side slots.now n) n (told_men slots.now n) → ⊥)) }
+{
+    let pawns = has_pawn(slots);
+    let side = side_numbered(head(slots, n) / listed_count(pawns));
+    match slots {
+        [k, b] => {
+            let men = [king(pawns, k, n / 64), man(b, n % 64)];
+            numbered(pawns, side, n, passed, &men)
+        }
+        [k, b, x] => {
+            let black = man(b, n / 64 % 64);
+            let men = [king(pawns, k, n / 64 / 64), black, man(x, n % 64)];
+            numbered(pawns, side, n, passed, &men)
+        }
+        [k, b, x, y] => {
+            let black = man(b, n / 64 / 64 % 64);
+            let further = man(x, n / 64 % 64);
+            let men = [
+                king(pawns, k, n / 64 / 64 / 64),
+                black,
+                further,
+                man(y, n % 64),
+            ];
+            numbered(pawns, side, n, passed, &men)
+        }
+        _ => unreachable!(),
+    }
+}
+
+/// How many cells there are for positions of the class.
+pub fn cells(class: Class) -> u32
+    ensures { result ≡ cells_of class }
+{
+    use Class::*;
+    match class {
+        KK => 1_280,
+        KQK | KRK | KBK | KNK => 81_920,
+        KPK => 262_144,
+        KQPK | KRPK | KBPK | KNPK | KPPK | KQKP | KRKP | KBKP | KNKP => 16_777_216,
+        KPKP => 33_554_432,
+        _ => 5_242_880,
+    }
+}
+
+/// The position of a number without the bit.
+#[inline(always)]
+fn decode_plain(class: Class, n: u32) -> Option<Position>
+    requires cell { n < cells_of class }
+    requires plain { n < 16777216 }
+    ensures some { IfSome result (IsDecoded class n) }
+    ensures none { IfNone result ((q : Seen) → IsDecoded class n q → ⊥) }
+{
+    decode_slots(slots(class), n, false)
+}
+
+/// The position of a number with the bit: one in which a capture in passing is legal.
+fn decode_en_passant(class: Class, n: u32) -> Option<Position>
+    requires cell { n < cells_of class }
+    requires passing { 16777216 ≤ n }
+    ensures some { IfSome result (IsDecoded class n) }
+    ensures none { IfNone result ((q : Seen) → IsDecoded class n q → ⊥) }
+{
+    match decode_slots(slots(class), n - 16_777_216, true) {
+        None => None,
+        Some(q) => if has_legal_en_passant(&q) {
+            Some(q)
+        } else {
+            None
+        },
+    }
+}
+
+/// The position of the class that has this number, in list order, if there is one. It has a passed square where the
+/// number has the bit.
+pub fn decode(class: Class, n: u32) -> Option<Position>
+    ensures some { IfSome result (IsDecoded class n) }
+    ensures none { IfNone result ((q : Seen) → IsDecoded class n q → ⊥) }
+    ensures value { result ≡ position_numbered class n }
+{
+    if n >= cells(class) {
+        None
+    } else if n < 16_777_216 {
+        decode_plain(class, n)
+    } else {
+        decode_en_passant(class, n)
+    }
+}
+
+const WHITE_KING: Slot = Slot {
+    side: Side::White,
+    kind: Kind::King,
+};
+
+const BLACK_KING: Slot = Slot {
+    side: Side::Black,
+    kind: Kind::King,
+};
+
+const WHITE_QUEEN: Slot = Slot {
+    side: Side::White,
+    kind: Kind::Queen,
+};
+
+const BLACK_QUEEN: Slot = Slot {
+    side: Side::Black,
+    kind: Kind::Queen,
+};
+
+const WHITE_ROOK: Slot = Slot {
+    side: Side::White,
+    kind: Kind::Rook,
+};
+
+const BLACK_ROOK: Slot = Slot {
+    side: Side::Black,
+    kind: Kind::Rook,
+};
+
+const WHITE_BISHOP: Slot = Slot {
+    side: Side::White,
+    kind: Kind::Bishop,
+};
+
+const BLACK_BISHOP: Slot = Slot {
+    side: Side::Black,
+    kind: Kind::Bishop,
+};
+
+const WHITE_KNIGHT: Slot = Slot {
+    side: Side::White,
+    kind: Kind::Knight,
+};
+
+const BLACK_KNIGHT: Slot = Slot {
+    side: Side::Black,
+    kind: Kind::Knight,
+};
+
+const WHITE_PAWN: Slot = Slot {
+    side: Side::White,
+    kind: Kind::Pawn,
+};
+
+const BLACK_PAWN: Slot = Slot {
+    side: Side::Black,
+    kind: Kind::Pawn,
+};
+
+// The slots of the class: the kings, White's men in list order, Black's men in list order.
+pub fn slots(class: Class) -> &'static [Slot]
+    ensures { result.now ≡ slots_of class }
+{
+    use Class::*;
+    match class {
+        KK => &[WHITE_KING, BLACK_KING],
+        KQK => &[WHITE_KING, BLACK_KING, WHITE_QUEEN],
+        KRK => &[WHITE_KING, BLACK_KING, WHITE_ROOK],
+        KBK => &[WHITE_KING, BLACK_KING, WHITE_BISHOP],
+        KNK => &[WHITE_KING, BLACK_KING, WHITE_KNIGHT],
+        KPK => &[WHITE_KING, BLACK_KING, WHITE_PAWN],
+        KQQK => &[WHITE_KING, BLACK_KING, WHITE_QUEEN, WHITE_QUEEN],
+        KQRK => &[WHITE_KING, BLACK_KING, WHITE_QUEEN, WHITE_ROOK],
+        KQBK => &[WHITE_KING, BLACK_KING, WHITE_QUEEN, WHITE_BISHOP],
+        KQNK => &[WHITE_KING, BLACK_KING, WHITE_QUEEN, WHITE_KNIGHT],
+        KQPK => &[WHITE_KING, BLACK_KING, WHITE_QUEEN, WHITE_PAWN],
+        KRRK => &[WHITE_KING, BLACK_KING, WHITE_ROOK, WHITE_ROOK],
+        KRBK => &[WHITE_KING, BLACK_KING, WHITE_ROOK, WHITE_BISHOP],
+        KRNK => &[WHITE_KING, BLACK_KING, WHITE_ROOK, WHITE_KNIGHT],
+        KRPK => &[WHITE_KING, BLACK_KING, WHITE_ROOK, WHITE_PAWN],
+        KBBK => &[WHITE_KING, BLACK_KING, WHITE_BISHOP, WHITE_BISHOP],
+        KBNK => &[WHITE_KING, BLACK_KING, WHITE_BISHOP, WHITE_KNIGHT],
+        KBPK => &[WHITE_KING, BLACK_KING, WHITE_BISHOP, WHITE_PAWN],
+        KNNK => &[WHITE_KING, BLACK_KING, WHITE_KNIGHT, WHITE_KNIGHT],
+        KNPK => &[WHITE_KING, BLACK_KING, WHITE_KNIGHT, WHITE_PAWN],
+        KPPK => &[WHITE_KING, BLACK_KING, WHITE_PAWN, WHITE_PAWN],
+        _ => slots_of_both(class),
+    }
+}
+
+// The same where each side has a man beside its king.
+fn slots_of_both(class: Class) -> &'static [Slot]
+    requires { length (lists_of class).black ≡ 1 }
+    ensures { result.now ≡ slots_of class }
+{
+    use Class::*;
+    match class {
+        KQKQ => &[WHITE_KING, BLACK_KING, WHITE_QUEEN, BLACK_QUEEN],
+        KQKR => &[WHITE_KING, BLACK_KING, WHITE_QUEEN, BLACK_ROOK],
+        KQKB => &[WHITE_KING, BLACK_KING, WHITE_QUEEN, BLACK_BISHOP],
+        KQKN => &[WHITE_KING, BLACK_KING, WHITE_QUEEN, BLACK_KNIGHT],
+        KQKP => &[WHITE_KING, BLACK_KING, WHITE_QUEEN, BLACK_PAWN],
+        KRKR => &[WHITE_KING, BLACK_KING, WHITE_ROOK, BLACK_ROOK],
+        KRKB => &[WHITE_KING, BLACK_KING, WHITE_ROOK, BLACK_BISHOP],
+        KRKN => &[WHITE_KING, BLACK_KING, WHITE_ROOK, BLACK_KNIGHT],
+        KRKP => &[WHITE_KING, BLACK_KING, WHITE_ROOK, BLACK_PAWN],
+        KBKB => &[WHITE_KING, BLACK_KING, WHITE_BISHOP, BLACK_BISHOP],
+        KBKN => &[WHITE_KING, BLACK_KING, WHITE_BISHOP, BLACK_KNIGHT],
+        KBKP => &[WHITE_KING, BLACK_KING, WHITE_BISHOP, BLACK_PAWN],
+        KNKN => &[WHITE_KING, BLACK_KING, WHITE_KNIGHT, BLACK_KNIGHT],
+        KNKP => &[WHITE_KING, BLACK_KING, WHITE_KNIGHT, BLACK_PAWN],
+        KPKP => &[WHITE_KING, BLACK_KING, WHITE_PAWN, BLACK_PAWN],
+        _ => unreachable!(),
+    }
+}

@@ -1,0 +1,24 @@
+use Rattle.std.proofs.Common.{◌∙◌, arith, ap, List}
+use Rattle.std.specs.List.{list_any}
+use Rattle.std.proofs.lemmas.List.{take_all}
+use Rattle.study_board.specs.declared.men.Man.{Man}
+use Rattle.study_board.proofs.SetBits.{any_none, any_more}
+use Rattle.study_moves.specs.KingSafety.{threatens}
+use Rattle.study_moves.proofs.KingSafety.{threatened_past_is}
+use Rattle.study_moves.proofs.king_safety.threatened_past.Goals as goal
+
+pub loop-m-init : goal.loop-m-init
+loop-m-init c x lx = any_none (threatens c.args.men.now c.args.by c.args.lifted c.args.k x) x
+
+pub loop-m-preserved : goal.loop-m-preserved
+loop-m-preserved c x lx =
+    any_more (threatens c.args.men.now c.args.by c.args.lifted c.args.k x) c.args.men.now c.loop-m.m-index _
+    c.m-item.result x _ _ _ c.loop-m-test.true c.m-item.is (c.loop-m.invariant x lx) (c.threats_of.ensures x lx)
+    (c.union-set.ensures x)
+
+pub returns : goal.returns
+returns c x lx =
+    let whole = take_all c.loop-m.m-index c.args.men.now (omega arith) in
+    c.loop-m.invariant x lx
+    ∙ ap (λ (l : List Man). list_any (threatens c.args.men.now c.args.by c.args.lifted c.args.k x) l) whole
+    ∙ threatened_past_is c.args.men.now c.args.by c.args.lifted c.args.k x

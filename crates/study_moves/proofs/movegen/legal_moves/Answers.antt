@@ -1,0 +1,70 @@
+use Rattle.std.proofs.Common.{◌≡◌, ◌∙◌, ◌*◌, sym, arith, subst, ap, List, inl, inr, length, drop}
+use Rattle.study_board.specs.declared.men.Man.{Man}
+use Rattle.study_board.specs.declared.men.Side.{Side}
+use Rattle.study_board.specs.Men.{same_side}
+use Rattle.study_moves.specs.declared.moves.Move.{Move}
+use Rattle.study_moves.specs.Order.{AreMovesBelow}
+use Rattle.study_moves.proofs.PawnWindows.{first_at}
+use Rattle.study_moves.proofs.ManByMan.{men_begin, men_more, men_end, man_here, man_begins}
+use Rattle.study_moves.proofs.LegalLists.{legal_list_is}
+use Rattle.study_moves.proofs.movegen.legal_moves.Goals as goal
+use Rattle.study_moves.proofs.movegen.legal_moves.Goals.{then-is, else-is}
+
+pub loop-man-init : goal.loop-man-init
+loop-man-init c =
+    let e = c.men-men.ensures.value in
+    let P : List Man → Type 0 = λ l. AreMovesBelow c.args.p.now c.new-list.result.items (512 * first_at l) in
+    let Q : List Move → Type 0 = λ l. AreMovesBelow c.args.p.now l (512 * first_at c.args.p.now.men) in
+    record {
+      listed = subst P (sym e) (subst Q (sym c.new-list.ensures) (men_begin c.args.p.now c.men-men.ensures.valid));
+      few = omega (arith, ap (λ (l : List Move). length l) c.new-list.ensures);
+    }
+
+pub add_moves_of-requires-clause-here : goal.add_moves_of-requires-clause-here
+add_moves_of-requires-clause-here c =
+    man_here c.args.p.now c.men-men.result.now c.loop-man.man-index _ c.man-item.result c.men-men.ensures.value
+    c.men-men.ensures.valid c.loop-man-test.true c.man-item.is
+
+pub add_moves_of-requires-clause-before : goal.add_moves_of-requires-clause-before
+add_moves_of-requires-clause-before c =
+    man_begins c.args.p.now c.men-men.result.now c.loop-man.man-index _ c.man-item.result c.loop-man.list.items
+    c.loop-man-test.true c.man-item.is c.loop-man.invariant.listed
+
+pub add_moves_of-requires-clause-mine : goal.add_moves_of-requires-clause-mine
+add_moves_of-requires-clause-mine c =
+    sym (c.is.ensures ∙ ap (λ (s : Side). same_side c.man-item.result.side s) c.to_move-side.ensures) ∙ c.if-is.true
+
+pub loop-man-preserved : goal.loop-man-preserved
+loop-man-preserved c =
+    let more = men_more c.args.p.now c.men-men.result.now c.loop-man.man-index _ c.man-item.result
+    c.loop-man.list.items c.if-is.list.items c.men-men.ensures.value c.men-men.ensures.valid c.loop-man-test.true
+    c.man-item.is in
+    let side : same_side c.man-item.result.side c.args.p.now.to_move ≡ c.is.result =
+    sym (c.is.ensures ∙ ap (λ (s : Side). same_side c.man-item.result.side s) c.to_move-side.ensures) in
+    elim c.if-is.branch [
+      | then-is w ↦ record {
+        listed = more (inl (side ∙ w.if-is.true, rw w.list-is w.add_moves_of.ensures.after))
+            c.loop-man.invariant.listed;
+        few = rw w.list-is (omega (arith, w.add_moves_of.ensures.few, c.loop-man.invariant.few));
+      }
+      | else-is w ↦ record {
+        listed = more (inr (side ∙ w.if-is.false, rw w.list-is)) c.loop-man.invariant.listed;
+        few = rw w.list-is (omega (arith, c.loop-man.invariant.few));
+      }
+    ]
+
+pub returns-clause-legal : goal.returns-clause-legal
+returns-clause-legal c =
+    let e = c.men-men.ensures.value in
+    let P : List Man → Type 0 = λ l. AreMovesBelow c.args.p.now c.loop-man.list.items (512 * first_at (drop c.loop-man.man-index l)) in
+    men_end c.args.p.now c.men-men.ensures.valid c.loop-man.man-index c.loop-man.list.items
+    (omega (arith, c.loop-man-test.false, ap (λ (l : List Man). length l) e)) (subst P e c.loop-man.invariant.listed)
+
+pub returns-clause-listed : goal.returns-clause-listed
+returns-clause-listed c =
+    let e = c.men-men.ensures.value in
+    let P : List Man → Type 0 = λ l. AreMovesBelow c.args.p.now c.loop-man.list.items (512 * first_at (drop c.loop-man.man-index l)) in
+    let legal = men_end c.args.p.now c.men-men.ensures.valid c.loop-man.man-index c.loop-man.list.items
+    (omega (arith, c.loop-man-test.false, ap (λ (l : List Man). length l) e))
+    (subst P e c.loop-man.invariant.listed) in
+    legal_list_is c.args.p.now c.loop-man.list.items c.men-men.ensures.valid legal c.loop-man.invariant.listed.ordered

@@ -1,0 +1,29 @@
+use Rattle.std.proofs.Common.{arith, refl}
+use Rattle.study_moves.proofs.LastMoves.{gathering_begins, gathered_more, gathering_ends, few_end, next_below}
+use Rattle.study_moves.proofs.unmove.add_unmoves_of.Goals as goal
+
+pub loop-rest-init : goal.loop-rest-init
+loop-rest-init c = gathering_begins c.args.man.now c.origins-rest.result _ c.args.list.now.items c.requires.once c.requires.apart
+
+pub loop-rest-preserved : goal.loop-rest-preserved
+loop-rest-preserved c =
+    let f = c.first-origin.ensures in
+    gathered_more c.args.man.now c.origins-rest.result
+    _ _ _ _ _ _ _ _ _ _ _ c.loop-rest.invariant f.inside f.there f.least c.set_of.ensures c.without-rest.ensures
+    refl c.push.ensures.items c.number-next.ensures.value
+
+pub loop-rest-smaller : goal.loop-rest-smaller
+loop-rest-smaller c =
+    let f = c.first-origin.ensures in
+    let low = next_below c.args.man.now c.origins-rest.result _ _ _ _ _ _ _ c.loop-rest.invariant f.inside f.there in
+    omega (arith, c.number-next.ensures.value, f.inside)
+
+pub returns-clause-more : goal.returns-clause-more
+returns-clause-more c = gathering_ends c.args.man.now c.origins-rest.result c.args.q.now c.origins-rest.ensures _ _
+    _ _ _ _ c.loop-rest.invariant c.loop-rest-test.false
+
+pub returns-clause-few : goal.returns-clause-few
+returns-clause-few c = few_end c.args.man.now c.origins-rest.result _ _ _ _ _ _ c.loop-rest.invariant
+
+pub returns-clause-once : goal.returns-clause-once
+returns-clause-once c = c.loop-rest.invariant.once

@@ -1,0 +1,136 @@
+//! The targets on which a move leaves the mover's king attacked, as a set.
+ghost use Rattle.std.specs.Prelude.{◌≡◌, ℕ, ◌<◌, ◌&&◌, not};
+ghost use Rattle.study_board.specs.Men.{same_kind, other_side, is_man};
+ghost use Rattle.study_board.specs.declared.men.Kind.TheVariants.{King as AKing};
+ghost use Rattle.study_board.specs.Sets.{has, bears_past, is_slider};
+ghost use Rattle.study_board.specs.Geometry.{strictly_between};
+ghost use Rattle.std.specs.Prelude.{◌==◌};
+ghost use Rattle.study_moves.specs.KingSafety.{is_other_man, attacked_past, is_no_shield, threatens, threatened_past, king_threatened, others_threatened, is_unsafe};
+
+use study_board::{Kind, Man, Side, Square, attacks_without, between, has, set_of, union};
+
+#[inline]
+fn is_other_man(by: Side, lifted: Square, m: &Man) -> bool
+    ensures { result ≡ is_other_man by lifted m.now }
+{
+    m.side.is(by) && !(m.at.number() == lifted.number())
+}
+
+// The squares on which a man of the side bears, the man on `lifted` taken away.
+#[inline]
+fn reach_of(men: &[Man], by: Side, lifted: Square, m: &Man) -> u64
+    ensures { (x : ℕ) → x < 64 → has result x ≡ (is_other_man by lifted m.now && bears_past men.now lifted m.now x) }
+{
+    if is_other_man(by, lifted, m) {
+        attacks_without(men, lifted, m)
+    } else {
+        0
+    }
+}
+
+#[inline]
+fn attacked_past(men: &[Man], by: Side, lifted: Square) -> u64
+    ensures { (x : ℕ) → x < 64 → has result x ≡ attacked_past men.now by lifted x }
+{
+    let mut set = 0u64;
+    for m in men {
+        set = union(set, reach_of(men, by, lifted, m));
+    }
+    set
+}
+
+// The squares in the line of a man to the square.
+#[inline]
+fn line_of(m: &Man, k: Square) -> u64
+    ensures { (x : ℕ) → x < 64 → has result x ≡ (is_slider m.now.kind && strictly_between m.now.at x k) }
+{
+    if m.kind.is_slider() {
+        between(m.at, k)
+    } else {
+        0
+    }
+}
+
+// The squares that neither take the man nor stand in its line to the square.
+#[inline]
+fn squares_not_blocking(m: &Man, k: Square) -> u64
+    ensures { (x : ℕ) → x < 64 → has result x ≡ is_no_shield m.now k x }
+{
+    !union(set_of(m.at), line_of(m, k))
+}
+
+// The squares to which a move is no help against the man.
+#[inline]
+fn threats_of(men: &[Man], by: Side, lifted: Square, k: Square, m: &Man) -> u64
+    ensures { (x : ℕ) → x < 64 → has result x ≡ threatens men.now by lifted k x m.now }
+{
+    let _square = k.number();
+    if has(reach_of(men, by, lifted, m), k) {
+        squares_not_blocking(m, k)
+    } else {
+        0
+    }
+}
+
+#[inline]
+pub fn threatened_past(men: &[Man], by: Side, lifted: Square, k: Square) -> u64
+    ensures { (x : ℕ) → x < 64 → has result x ≡ threatened_past men.now by lifted k x }
+{
+    let mut set = 0u64;
+    for m in men {
+        set = union(set, threats_of(men, by, lifted, k, m));
+    }
+    set
+}
+
+#[inline]
+pub fn is_king_elsewhere(side: Side, lifted: Square, k: &Man) -> bool
+    ensures { result ≡ (is_man side AKing k.now && not (k.now.at == lifted)) }
+{
+    k.is(side, Kind::King) && !(k.at.number() == lifted.number())
+}
+
+#[inline]
+fn threats_to(men: &[Man], side: Side, lifted: Square, k: &Man) -> u64
+    ensures { (x : ℕ) → x < 64 → has result x ≡ king_threatened men.now side lifted x k.now }
+{
+    if is_king_elsewhere(side, lifted, k) {
+        threatened_past(men, side.other(), lifted, k.at)
+    } else {
+        0
+    }
+}
+
+#[inline]
+fn others_threatened(men: &[Man], side: Side, lifted: Square) -> u64
+    ensures { (x : ℕ) → x < 64 → has result x ≡ others_threatened men.now side lifted x }
+{
+    let mut set = 0u64;
+    for k in men {
+        set = union(set, threats_to(men, side, lifted, k));
+    }
+    set
+}
+
+#[inline]
+fn attacked_for_king(men: &[Man], side: Side, man: &Man) -> u64
+    ensures { (x : ℕ) → x < 64 → has result x ≡ (same_kind man.now.kind AKing && attacked_past men.now (other_side side) man.now.at x) }
+{
+    if man.kind.is(Kind::King) {
+        attacked_past(men, side.other(), man.at)
+    } else {
+        0
+    }
+}
+
+/// The squares on which a move of the man leaves a king of the side attacked.
+#[inline]
+#[tactic(auto, unfolding(crate::specs::KingSafety::is_unsafe))]
+pub fn unsafe_targets(men: &[Man], side: Side, man: &Man) -> u64
+    ensures { (x : ℕ) → x < 64 → has result x ≡ is_unsafe men.now side man.now x }
+{
+    union(
+        attacked_for_king(men, side, man),
+        others_threatened(men, side, man.at),
+    )
+}

@@ -1,0 +1,145 @@
+//! The list of the legal moves.
+ghost use Rattle.std.specs.Prelude.{◌≡◌, ℕ, ◌<◌, ◌≤◌, ◌+◌, ◌*◌, ◌↔◌, Option, Some, true, if◌then◌else◌};
+ghost use Rattle.std.specs.List.{Contains, AllPairs};
+ghost use Rattle.arrayvec.specs.ArrayVec.{array_vec_len};
+ghost use Rattle.study_board.specs.Position.{man_at};
+ghost use Rattle.study_moves.specs.declared.moves.Move.{Move as AMove};
+ghost use Rattle.study_board.specs.Men.{same_side, is_pawn};
+ghost use Rattle.study_board.specs.Sets.{has};
+ghost use Rattle.std.specs.Prelude.{false};
+ghost use Rattle.study_board.specs.Position.{is_occupied};
+ghost use Rattle.study_moves.specs.Rules.{reaches_target, is_legal, is_legal_for, reaches_last_rank};
+ghost use Rattle.study_moves.specs.LegalList.{legal_list};
+ghost use Rattle.study_moves.specs.Order.{EachIsLegal, move_place, IsBefore, AreMovesBelow};
+
+use crate::Move;
+use crate::king_safety::unsafe_targets;
+use crate::legal::{is_legal_for, may_capture_en_passant, reaches_last_rank};
+use crate::targets::{target_range, targets};
+use arrayvec::ArrayVec;
+use study_board::{Kind, Man, Position, Square, first, set_of, without};
+
+/// Each legal move once, ascending by origin, then target, then promotion: queen, rook, bishop, knight.
+pub fn legal_moves(p: &Position) -> ArrayVec<Move, 256>
+    ensures legal { (m : AMove) → Contains result.items m ↔ (is_legal p.now m ≡ true) }
+    ensures ordered { AllPairs IsBefore result.items }
+    ensures listed { result.items ≡ legal_list p.now }
+{
+    let side = p.to_move();
+    let mut list = ArrayVec::new();
+    let men = p.men();
+    for man in men {
+        if man.side.is(side) {
+            add_moves_of(p, man, &mut list);
+        }
+    }
+    list
+}
+
+// Adds the legal moves of a man.
+fn add_moves_of(p: &Position, man: &Man, list: &mut ArrayVec<Move, 256>)
+    requires here { man_at p.now.men man.now.at ≡ Some man.now }
+    requires mine { same_side man.now.side p.now.to_move ≡ true }
+    requires room { array_vec_len list.old ≤ 192 }
+    requires before { AreMovesBelow p.now list.old.items (512 * man.now.at) }
+    ensures after { AreMovesBelow p.now list.new.items (512 * man.now.at + 512) }
+    ensures few { array_vec_len list.new ≤ array_vec_len list.old + 64 }
+{
+    let (start, end) = target_range(man);
+    let (all, sure) = legal_targets(p, man);
+    let mut rest = all;
+    let mut next = start;
+    while rest != 0 {
+        let target = first(rest);
+        rest = without(rest, set_of(target));
+        add_target(p, man, target, sure, list);
+        next = target.number() + 1;
+    }
+}
+
+/// The targets of a man, with each one of its legal moves, and whether each move to them is legal.
+#[inline]
+fn legal_targets(p: &Position, man: &Man) -> (u64, bool)
+    requires { same_side man.now.side p.now.to_move ≡ true }
+    ensures all { (m : AMove) → m.target < 64 → is_legal_for p.now man.now m ≡ true → has result.0 m.target ≡ true }
+    ensures going { (x : ℕ) → x < 64 → has result.0 x ≡ true → reaches_target p.now.men p.now.passed man.now x ≡ true }
+    ensures sure { result.1 ≡ true → (x : ℕ) → x < 64 → has result.0 x ≡ true → EachIsLegal p.now man.now x }
+{
+    let men = p.men();
+    let side = p.to_move();
+    let all = targets(men, side, p.passed(), man);
+    if may_capture_en_passant(p, man) {
+        (all, false)
+    } else {
+        (without(all, unsafe_targets(men, side, man)), true)
+    }
+}
+
+// Adds the legal moves of a man to a square.
+fn add_target(p: &Position, man: &Man, target: Square, sure: bool, list: &mut ArrayVec<Move, 256>)
+    requires here { man_at p.now.men man.now.at ≡ Some man.now }
+    requires sure { sure ≡ true → EachIsLegal p.now man.now target }
+    requires room { array_vec_len list.old + (if is_pawn man.now then 4 else 1) ≤ 256 }
+    requires before { AreMovesBelow p.now list.old.items (512 * man.now.at + 8 * target) }
+    ensures after { AreMovesBelow p.now list.new.items (512 * man.now.at + 8 * target + 8) }
+    ensures few { array_vec_len list.new ≤ array_vec_len list.old + (if is_pawn man.now then 4 else 1) }
+{
+    let _target = target.number();
+    if reaches_last_rank(man, target) {
+        add(p, man, moved(man.at, target, Some(Kind::Queen)), sure, list);
+        add(p, man, moved(man.at, target, Some(Kind::Rook)), sure, list);
+        add(
+            p,
+            man,
+            moved(man.at, target, Some(Kind::Bishop)),
+            sure,
+            list,
+        );
+        add(
+            p,
+            man,
+            moved(man.at, target, Some(Kind::Knight)),
+            sure,
+            list,
+        );
+    } else {
+        add(p, man, moved(man.at, target, None), sure, list);
+    }
+}
+
+#[inline]
+fn moved(origin: Square, target: Square, promoted: Option<Kind>) -> Move
+    ensures { result ≡ record { origin = origin; target = target; promoted = promoted } }
+{
+    Move {
+        origin,
+        target,
+        promoted,
+    }
+}
+
+// Adds a move if it is legal.
+fn add(p: &Position, man: &Man, m: Move, sure: bool, list: &mut ArrayVec<Move, 256>)
+    requires sure { sure ≡ true → is_legal_for p.now man.now m ≡ true }
+    requires here { man_at p.now.men man.now.at ≡ Some man.now }
+    requires origin { m.origin ≡ man.now.at }
+    requires room { array_vec_len list.old < 256 }
+    requires before { AreMovesBelow p.now list.old.items (move_place m) }
+    ensures after { AreMovesBelow p.now list.new.items (move_place m + 1) }
+    ensures few { array_vec_len list.new ≤ array_vec_len list.old + 1 }
+{
+    let _target = m.target.number();
+    if is_known_legal(p, man, &m, sure) {
+        list.push(m);
+    }
+}
+
+// Whether the move is legal, which may be known.
+#[inline]
+fn is_known_legal(p: &Position, man: &Man, m: &Move, sure: bool) -> bool
+    requires here { is_occupied p.now.men man.now.at ≡ true }
+    requires sure { sure ≡ true → is_legal_for p.now man.now m.now ≡ true }
+    ensures { result ≡ is_legal_for p.now man.now m.now }
+{
+    if sure { true } else { is_legal_for(p, man, m) }
+}

@@ -1,0 +1,237 @@
+//! The positions before a quiet move: one that takes no man and promotes none.
+ghost use Rattle.std.specs.Prelude.{◌≡◌, ◌≢◌, ℕ, ◌<◌, ◌≤◌, ◌+◌, ◌⊎◌, ◌↔◌, ◌&&◌, ◌==◌, true, Some};
+ghost use Rattle.std.specs.List.{Contains, AllPairs};
+ghost use Rattle.arrayvec.specs.ArrayVec.{array_vec_len};
+ghost use Rattle.study_moves.specs.declared.moves.Move.{Move as AMove};
+ghost use Rattle.study_board.specs.Position.{Position as Seen, is_occupied, is_empty};
+ghost use Rattle.study_board.specs.Sets.{has, bears_past};
+ghost use Rattle.study_moves.specs.Unmoves.{LeadsQuietly, IsEarlier, CanHaveLed, IsLastMove, set_back, pawn_comes};
+ghost use Rattle.study_moves.specs.Unmoves.{pawn_came, comes, king_was_attacked, was_check, came_from};
+
+use crate::Move;
+use crate::king_safety::{is_king_elsewhere, threatened_past};
+use crate::legal::men_with_moved;
+use arrayvec::ArrayVec;
+use study_board::{
+    Kind, Man, Position, Side, Square, attacks, attacks_without, first, is_occupied, set_of, union,
+    without,
+};
+
+/// Each valid position without a passed square from which one legal move, neither a capture nor a promotion, leads to
+/// this one, passed squares left out.
+pub fn earlier(q: &Position) -> ArrayVec<Position, 192>
+    ensures exact { (p : Seen) → Contains result.items p ↔ IsEarlier q.now p }
+    ensures once { AllPairs (λ p r. p ≢ r) result.items }
+{
+    let _men = q.men();
+    let moves = unmoves(q);
+    let mut list = ArrayVec::new();
+    for m in moves.as_slice() {
+        list.push(unplayed(q, *m));
+    }
+    list
+}
+
+/// Each legal move, neither a capture nor a promotion, that can have led to this position from one without a passed
+/// square, passed squares left out: a double step is listed too where this position does not tell of it.
+pub fn unmoves(q: &Position) -> ArrayVec<Move, 192>
+    ensures exact { (m : AMove) → Contains result.items m ↔ CanHaveLed q.now m }
+    ensures once { AllPairs (λ m n. m ≢ n) result.items }
+{
+    let side = q.to_move().other();
+    let mut list = ArrayVec::new();
+    let men = q.men();
+    for man in men {
+        if man.side.is(side) {
+            add_unmoves_of(q, man, &mut list);
+        }
+    }
+    list
+}
+
+// Adds the quiet moves of the man that can have led to where it stands.
+fn add_unmoves_of(q: &Position, man: &Man, list: &mut ArrayVec<Move, 192>)
+    requires room { array_vec_len list.old ≤ 128 }
+    requires once { AllPairs (λ m n. m ≢ n) list.old.items }
+    requires apart { (m : AMove) → Contains list.old.items m → m.target ≢ man.now.at }
+    ensures more { (m : AMove) → Contains list.new.items m ↔ Contains list.old.items m ⊎ IsLastMove q.now man.now m }
+    ensures once { AllPairs (λ m n. m ≢ n) list.new.items }
+    ensures few { array_vec_len list.new ≤ array_vec_len list.old + 64 }
+{
+    let target = man.at;
+    let mut rest = origins(q, man);
+    let mut next = 0u8;
+    while rest != 0 {
+        let origin = first(rest);
+        rest = without(rest, set_of(origin));
+        list.push(Move {
+            origin,
+            target,
+            promoted: None,
+        });
+        next = origin.number() + 1;
+    }
+}
+
+/// The position before a quiet move that can have led to this one.
+pub fn unplayed(q: &Position, m: Move) -> Position
+    requires { CanHaveLed q.now m }
+    ensures before { LeadsQuietly result m q.now }
+    ensures only { (p : Seen) → LeadsQuietly p m q.now → result ≡ p }
+{
+    let now = q.men();
+    match q.man_at(m.target) {
+        None => unreachable!(),
+        Some(man) => {
+            let men = men_with_moved(now, None, &man, man_on_origin(&man, m.origin));
+            Position::of(men, q.to_move().other(), None)
+        }
+    }
+}
+
+#[inline]
+fn man_on_origin(man: &Man, a: Square) -> Man
+    ensures { result ≡ set_back man.now a }
+{
+    Man {
+        side: man.side,
+        kind: man.kind,
+        at: a,
+    }
+}
+
+/// The squares from which the man can have come by a quiet move.
+#[inline]
+fn origins(q: &Position, man: &Man) -> u64
+    ensures { (a : ℕ) → a < 64 → has result a ≡ came_from q.now.men q.now.to_move man.now a }
+{
+    let men = q.men();
+    without(
+        origins_of_kind(men, man),
+        origins_in_check(men, q.to_move(), man),
+    )
+}
+
+// The squares from which the man can have come, as its kind goes.
+#[inline]
+#[tactic(auto, unfolding(crate::specs::Unmoves::comes))]
+fn origins_of_kind(men: &[Man], man: &Man) -> u64
+    ensures { (a : ℕ) → a < 64 → has result a ≡ comes men.now man.now a }
+{
+    if man.kind.is(Kind::Pawn) {
+        pawn_origins(men, man.side, man.at)
+    } else {
+        without(attacks(men, man), occupied(men))
+    }
+}
+
+#[inline]
+fn occupied(men: &[Man]) -> u64
+    ensures { (x : ℕ) → x < 64 → has result x ≡ is_occupied men.now x }
+{
+    let mut set = 0u64;
+    for m in men {
+        set = union(set, set_of(m.at));
+    }
+    set
+}
+
+// The squares from which a pawn can have come by a step or a double step.
+#[inline]
+fn pawn_origins(men: &[Man], side: Side, x: Square) -> u64
+    ensures { (a : ℕ) → a < 64 → has result a ≡ pawn_comes men.now side x a }
+{
+    let (n, rank) = (x.number(), x.rank());
+    match side {
+        Side::White => pawn_steps_back(
+            men,
+            2 <= rank,
+            rank == 3,
+            Square::at(n.saturating_sub(8)),
+            Square::at(n.saturating_sub(16)),
+        ),
+        Side::Black => pawn_steps_back(
+            men,
+            rank <= 5,
+            rank == 4,
+            Square::at((n + 8).min(63)),
+            Square::at((n + 16).min(63)),
+        ),
+    }
+}
+
+// One square back, if a pawn can have stood there, and two, if it starts there.
+#[inline]
+fn pawn_steps_back(men: &[Man], inside: bool, starts: bool, one: Square, two: Square) -> u64
+    requires { starts ≡ true → inside ≡ true }
+    ensures { (a : ℕ) → a < 64 → has result a ≡ pawn_came men.now inside starts one two a }
+{
+    if !inside {
+        0
+    } else if starts {
+        two_steps_back(men, one, two)
+    } else {
+        set_if_empty(men, one)
+    }
+}
+
+#[inline]
+fn two_steps_back(men: &[Man], one: Square, two: Square) -> u64
+    ensures { (a : ℕ) → a < 64 → has result a ≡ pawn_came men.now true true one two a }
+{
+    if is_occupied(men, one.number()) {
+        0
+    } else {
+        union(set_of(one), set_if_empty(men, two))
+    }
+}
+
+#[inline]
+fn set_if_empty(men: &[Man], x: Square) -> u64
+    ensures { (a : ℕ) → a < 64 → has result a ≡ ((x == a) && is_empty men.now x) }
+{
+    if is_occupied(men, x.number()) {
+        0
+    } else {
+        set_of(x)
+    }
+}
+
+// The squares from which the man cannot have come, since a king of the side that did not move was attacked then.
+#[inline]
+fn origins_in_check(men: &[Man], side: Side, man: &Man) -> u64
+    ensures { (a : ℕ) → a < 64 → has result a ≡ was_check men.now side man.now a }
+{
+    let mut set = 0u64;
+    for k in men {
+        set = union(set, origins_attacking(men, side, man, k));
+    }
+    set
+}
+
+#[inline]
+fn origins_attacking(men: &[Man], side: Side, man: &Man, k: &Man) -> u64
+    ensures { (a : ℕ) → a < 64 → has result a ≡ king_was_attacked men.now side man.now a k.now }
+{
+    if is_king_elsewhere(side, man.at, k) {
+        union(
+            origins_giving_check(men, man, k.at),
+            threatened_past(men, side.other(), man.at, k.at),
+        )
+    } else {
+        0
+    }
+}
+
+// The squares from which the man bears on the square, those on which a man of the other side there would bear.
+#[inline]
+fn origins_giving_check(men: &[Man], man: &Man, k: Square) -> u64
+    ensures { (a : ℕ) → a < 64 → has result a ≡ bears_past men.now man.now.at (set_back man.now a) k }
+{
+    let mirrored = Man {
+        side: man.side.other(),
+        kind: man.kind,
+        at: k,
+    };
+    attacks_without(men, man.at, &mirrored)
+}

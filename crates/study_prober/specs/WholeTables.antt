@@ -1,0 +1,29 @@
+-- Whole tables as a contract sees them.
+use Rattle.std.specs.Prelude.{◌≡◌, ℕ, List, slice_index, Option, Some, None, Ok, Err}
+use Rattle.study_board.specs.Position.{Position}
+use Rattle.study_material.specs.declared.class.Class.{Class}
+use Rattle.study_material.specs.Class.{IsOf}
+use Rattle.study_index.specs.Computed.{index_of}
+use Rattle.study_retro.specs.Cells.{value_of}
+use Rattle.study_retro.specs.Table.{Table, table_of}
+use Rattle.study_retro.specs.Sound.{IsRight}
+use Rattle.study_prober.specs.Values.{ProbeAnswer}
+use Rattle.study_prober.specs.declared.values.ProbeFault.TheVariants.{NoTable}
+
+-- the tables that are held, and how often a value was asked
+pub record Whole : Type 0 where
+  pub tables : List (Option Table)
+  pub asked : ℕ
+
+-- every held table is right
+pub record TablesAreRight (held : List (Option Table)) : Type 0 where
+  pub right : (c : Class) (t : Table) → table_of held c ≡ Some t → IsRight t
+
+-- what the table of a position's class, if there is one, answers: the value of the position's cell
+abbrev pub cell_answer : Option Table → Class → Position → ProbeAnswer
+cell_answer None c p = Err (NoTable c)
+cell_answer (Some t) c p = Ok (value_of (slice_index t.cells (index_of p)))
+
+-- the answer of these tables for a position
+abbrev pub IsCellAnswer : List (Option Table) → Position → ProbeAnswer → Type 0
+IsCellAnswer held p answer = (c : Class) → IsOf c p → answer ≡ cell_answer (table_of held c) c p

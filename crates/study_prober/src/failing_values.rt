@@ -1,0 +1,107 @@
+//! Values that fail where a test wants it.
+ghost use Rattle.std.specs.Prelude.{◌≡◌, ◌↔◌, ◌⊎◌, ◌/◌, ℕ, Some, Err, false, IfOk, IfErr, IsErrOf};
+ghost use Rattle.study_material.specs.declared.class.Class.{Class as AClass};
+ghost use Rattle.study_material.specs.Class.{IsOf};
+ghost use Rattle.study_index.specs.Computed.{index_of};
+ghost use Rattle.study_retro.specs.Game.{IsValueOf};
+ghost use Rattle.study_board.specs.Counts.{counted};
+ghost use Rattle.study_tablefile.specs.declared.fault.SourceFault.{SourceFault as ASourceFault};
+ghost use Rattle.study_tablefile.specs.declared.fault.SourceFault.TheVariants.{Device};
+ghost use Rattle.study_prober.specs.Values.{IsNotDamage, faults_after};
+
+use crate::values::{ProbeFault, Values, failures_after};
+use study_board::Position;
+use study_material::{Class, class_of};
+use study_retro::Value;
+use study_tablefile::SourceFault;
+
+/// The values of another source, but for one question, at which the device of the table fails.
+#[derive(Drop)]
+pub struct FailingValues<V: Values> {
+    pub values: V,
+    /// How often a value was asked.
+    pub asked: u64,
+    /// Which of the questions fails, counted from 0. A position whose class has no table has the answer of `values` there.
+    pub fails_at: Option<u64>,
+    /// How often a device or a page failed.
+    pub failures: u64,
+}
+
+impl<V: Values> FailingValues<V> {
+    /// Values of which one question fails, counted from 0. Nothing was asked yet.
+    pub fn new(values: V, fails_at: u64) -> Self
+        ensures { result ≡ record { values = values; asked = 0; fails_at = Some fails_at; failures = 0 } }
+    {
+        FailingValues {
+            values,
+            asked: 0,
+            fails_at: Some(fails_at),
+            failures: 0,
+        }
+    }
+}
+
+impl<V: Values> Values for FailingValues<V> {
+    ghost use Rattle.study_prober.specs.FailingValues.{FailsNext, IsFailingAnswer};
+
+    ghost is_honest = { λ w. V.is_honest w.values };
+
+    ghost held = { λ w c. V.held w.values c };
+
+    ghost gives = { λ w p answer. IsFailingAnswer V.held V.gives w p answer };
+
+    ghost may_fail = { λ w c f. (f ≡ Device) ⊎ V.may_fail w.values c f };
+
+    ghost asked_of = { λ w. w.asked };
+
+    ghost failed_of = { λ w. w.failures };
+
+    fn value(&mut self, p: &Position) -> Result<Value, ProbeFault>
+        ensures game { V.is_honest self.old.values → IfOk result (IsValueOf p.now) }
+        ensures no_damage { V.is_honest self.old.values → IfErr result IsNotDamage }
+        ensures stays_honest { V.is_honest self.old.values → V.is_honest self.new.values }
+        ensures given { IsFailingAnswer V.held V.gives self.old p.now result }
+        ensures failed_so { (c : AClass) (f : ASourceFault) → IsOf c p.now → IsErrOf result (ProbeFault.TableRead f)
+            → (f ≡ Device) ⊎ V.may_fail self.old.values c f }
+        ensures fails_as_before { (c : AClass) (f : ASourceFault) → (f ≡ Device) ⊎ V.may_fail self.new.values c f
+            → (f ≡ Device) ⊎ V.may_fail self.old.values c f }
+        ensures no_table { (c : AClass) → IsErrOf result (ProbeFault.NoTable c) ↔ (IsOf c p.now × (V.held self.old.values c ≡ false)) }
+        ensures damaged { (c : AClass) (n : ℕ) → IsErrOf result (ProbeFault.PageDamaged c n)
+            → IsOf c p.now × (n ≡ index_of p.now / 4096) }
+        ensures same_tables { (c : AClass) → V.held self.new.values c ≡ V.held self.old.values c }
+        ensures asked { self.new.asked ≡ counted self.old.asked }
+        ensures failures { self.new.failures ≡ faults_after self.old.failures result }
+        ensures fails { FailsNext V.held self.old p.now → result ≡ Err (ProbeFault.TableRead SourceFault.Device) }
+        ensures not_asked { FailsNext V.held self.old p.now → self.new.values ≡ self.old.values }
+        ensures same { self.new.fails_at ≡ self.old.fails_at }
+
+        // Any other question goes to the values, once, and what is told is what they may answer.
+        ensures passed { (FailsNext V.held self.old p.now → ⊥) → V.gives self.old.values p.now result }
+        ensures asked_on { (FailsNext V.held self.old p.now → ⊥) → V.asked_of self.new.values ≡ counted (V.asked_of self.old.values) }
+        ensures failures_on { (FailsNext V.held self.old p.now → ⊥)
+            → V.failed_of self.new.values ≡ faults_after (V.failed_of self.old.values) result }
+    {
+        let number = self.asked;
+        self.asked = self.asked.saturating_add(1);
+        let (class, _) = class_of(p);
+        let answer = if self.fails_at == Some(number) && self.values.holds(class) {
+            Err(ProbeFault::TableRead(SourceFault::Device))
+        } else {
+            self.values.value(p)
+        };
+        self.failures = failures_after(self.failures, &answer);
+        answer
+    }
+
+    fn holds(&self, class: Class) -> bool {
+        self.values.holds(class)
+    }
+
+    fn asked(&self) -> u64 {
+        self.asked
+    }
+
+    fn failures(&self) -> u64 {
+        self.failures
+    }
+}

@@ -1,0 +1,297 @@
+//! Values from pages of tables, read as they are asked and kept as far as there is room.
+ghost use Rattle.std.specs.Prelude.{◌≡◌, ◌≤◌, ◌<◌, ◌/◌, ◌↔◌, ℕ, List, Option, Result, [], Some};
+ghost use Rattle.std.specs.Prelude.{None, Ok, Err, true, false, is_some, IfOk, IfErr, OnOk, OnErr};
+ghost use Rattle.std.specs.Prelude.{IsErrOf, length, slice_index, slice_set, replicate};
+ghost use Rattle.study_material.specs.declared.class.Class.{Class as AClass};
+ghost use Rattle.study_material.specs.Class.{IsOf};
+ghost use Rattle.study_index.specs.Computed.{index_of};
+ghost use Rattle.study_retro.specs.Cells.{value_of};
+ghost use Rattle.study_retro.specs.Game.{IsValueOf};
+ghost use Rattle.study_retro.specs.Table.{Table as Seen, IsComplete, class_number};
+ghost use Rattle.study_board.specs.Counts.{counted};
+ghost use Rattle.study_tablefile.specs.Source.{of_page};
+ghost use Rattle.study_tablefile.specs.File.{IsVersionOf, pages_of};
+ghost use Rattle.study_tablefile.specs.declared.fault.FileFault.{FileFault as AFileFault};
+ghost use Rattle.study_tablefile.specs.declared.fault.SourceFault.{SourceFault as ASourceFault};
+ghost use Rattle.study_prober.specs.PageCache.{kept_cell};
+ghost use Rattle.study_prober.specs.declared.open_table.OpenTable.{OpenTable as AHeld};
+ghost use Rattle.study_prober.specs.Sources.{AreHonestAlike, GiveAlike, HasBadPage, IsReadFrom, GivesRight};
+ghost use Rattle.study_prober.specs.Sources.{IsHeaderOf, PutsNone, PutsOnly, failed_after};
+ghost use Rattle.study_prober.specs.PagedTables.{SourcesAreRight, AreGiven, IsKept, IsPageFor, IsPagedAnswer, IsSameSource, IsToldAgain, MayFail, held_of};
+ghost use Rattle.study_prober.specs.PagedTables.{places_for_classes};
+ghost use Rattle.study_prober.specs.Values.{IsNotDamage, faults_after};
+ghost use Rattle.study_prober.specs.HeaderAnswers.{IsRefusedBy, MayAnswer, paged_fault};
+
+use crate::fault::PagedFault;
+use crate::open_table::{OpenTable, header_of, value_of_number};
+use crate::page_cache::{Pages, place};
+use crate::values::{ProbeFault, Values, failures_after};
+use lru::LruCache;
+use std::alloc::{AllocError, Allocator};
+use std::marker::Model;
+use std::num::NonZeroUsize;
+use study_board::Position;
+use study_index::index;
+use study_material::{Class, class_of};
+use study_retro::Value;
+use study_tablefile::PageSource;
+
+/// Tables whose pages are read as they are asked, and the pages that were used last.
+#[derive(Drop)]
+pub struct PagedTables<'a, S: PageSource, A: Allocator> {
+    alloc: &'a A,
+    /// A place for each class, once there is a source.
+    sources: Vec<Option<OpenTable<S>>, &'a A>,
+    kept: Pages<'a, A>,
+    asked: u64,
+    failed: u64,
+}
+
+impl<'a, S: PageSource, A: Allocator> Model for PagedTables<'a, S, A> {
+    ghost use Rattle.std.specs.Prelude.{map};
+    ghost use Rattle.study_prober.specs.PagedTables.{Paged, IsKept, AreGiven};
+
+    ghost Value = { Paged S };
+
+    ghost view = { λ w. record {
+      sources = w.sources.items;
+      kept = map (λ e. (e.0, e.1.items)) w.kept.entries;
+      room = w.kept.cap;
+      asked = w.asked;
+      failed = w.failed;
+    } };
+
+    ghost invariant = { λ w. IsKept S.honest (λ v. v.items) w.sources.items w.kept.entries
+        × AreGiven S.gives (λ v. v.items) w.sources.items w.kept.entries };
+}
+
+impl<'a, S: PageSource, A: Allocator> PagedTables<'a, S, A> {
+    /// No table yet, and room for so many pages, from 1 to 4,096.
+    pub fn new(alloc: &'a A, pages: u16) -> Result<Self, AllocError>
+        requires some { 1 ≤ pages }
+        requires few { pages ≤ 4096 }
+        ensures { IfOk result (λ w. w ≡ record { sources = []; kept = []; room = pages; asked = 0; failed = 0 }) }
+    {
+        let Some(room) = NonZeroUsize::new(pages as usize) else {
+            unreachable!()
+        };
+        Ok(PagedTables {
+            alloc,
+            sources: Vec::new(alloc),
+            kept: LruCache::new(alloc, room)?,
+            asked: 0,
+            failed: 0,
+        })
+    }
+
+    /// Holds a source of the table of a class, whose needs are not asked for. A source that is refused is dropped.
+    pub fn add(&mut self, class: Class, mut source: S) -> Result<(), PagedFault>
+        ensures fault { (told : Result (List ℕ) ASourceFault)
+            × (is_some (held_of self.old.sources class) ≡ false → MayAnswer S.gives S.honest source told)
+            × IsRefusedBy (paged_fault (is_some (held_of self.old.sources class)) class told) result }
+        ensures added { OnOk result (
+            (h : AHeld S) × IsHeaderOf h.header class
+            × ((t : Seen) (v : ℕ) → IsVersionOf t.class v → S.honest source t v → h.header.version ≡ v)
+            × AreHonestAlike S.honest source h.source × GiveAlike S.gives source h.source
+            × (S.failed h.source ≡ S.failed source)
+            × (self.new ≡ record self.old { sources = slice_set (places_for_classes self.old.sources) (class_number class) (Some h) })
+            × (S.asked h.source ≡ counted (S.asked source))
+            ) }
+        ensures same { OnErr result (self.new ≡ self.old) }
+        ensures takes_no_memory { ¬ (length self.old.sources ≡ 0) → IsErrOf result PagedFault.OutOfMemory → ⊥ }
+
+        // Each class has a place from the first source on.
+        ensures places { OnOk result (length self.new.sources ≡ 36) }
+
+        // Of a source that is honest for a table the header is never refused, and a class is the table's.
+        ensures header { (t : Seen) (v : ℕ) (e : AFileFault) → IsVersionOf t.class v → S.honest source t v
+            → IsErrOf result (PagedFault.Header e) → ⊥ }
+        ensures other { (t : Seen) (v : ℕ) (d : AClass) → IsVersionOf t.class v → S.honest source t v
+            → IsErrOf result (PagedFault.OtherClass d) → d ≡ t.class }
+        ensures own { (t : Seen) (v : ℕ) → IsVersionOf t.class v → S.honest source t v → OnOk result (t.class ≡ class) }
+        ensures honest { (v : ℕ) → IsVersionOf class v → SourcesAreRight S.honest self.old.sources → GivesRight S.honest source v class
+            → OnOk result (SourcesAreRight S.honest self.new.sources) }
+    {
+        if self.holds(class) {
+            return Err(PagedFault::AlreadyHeld(class));
+        }
+        let header = header_of(&mut source)?;
+        if header.class != class {
+            return Err(PagedFault::OtherClass(header.class));
+        }
+        make_places(&mut self.sources, self.alloc)?;
+        self.sources[place(class) as usize] = Some(OpenTable { header, source });
+        Ok(())
+    }
+}
+
+/// So many places without a source as there are classes.
+fn no_sources<'a, S, A: Allocator>(
+    alloc: &'a A,
+) -> Result<Vec<Option<OpenTable<S>>, &'a A>, AllocError>
+    ensures { IfOk result (λ v. v.items ≡ replicate 36 None) }
+{
+    let mut places = Vec::with_capacity(alloc, 36)?;
+    while places.len() < 36 {
+        places.push_reserved(None);
+    }
+    Ok(places)
+}
+
+/// Makes a place for each class, where there is none.
+fn make_places<'a, S: Drop, A: Allocator>(
+    sources: &mut Vec<Option<OpenTable<S>>, &'a A>,
+    alloc: &'a A,
+) -> Result<(), AllocError>
+    ensures made { OnOk result (sources.new.items ≡ places_for_classes sources.old.items) }
+    ensures same { OnErr result (sources.new ≡ sources.old) }
+    ensures there { ¬ (length sources.old.items ≡ 0) → OnErr result ⊥ }
+{
+    if sources.is_empty() {
+        *sources = no_sources(alloc)?;
+    }
+    Ok(())
+}
+
+/// The value of a position, from a page that is kept or from a source.
+fn probe_paged<'a, S: PageSource, A: Allocator>(
+    sources: &mut Vec<Option<OpenTable<S>>, &'a A>,
+    pages: &mut Pages<'a, A>,
+    alloc: &'a A,
+    p: &Position,
+) -> Result<Value, ProbeFault>
+    requires kept { IsKept S.honest (λ v. v.items) sources.old.items pages.old.entries }
+    requires given { AreGiven S.gives (λ v. v.items) sources.old.items pages.old.entries }
+    ensures kept { IsKept S.honest (λ v. v.items) sources.new.items pages.new.entries }
+    ensures given { AreGiven S.gives (λ v. v.items) sources.new.items pages.new.entries }
+    ensures put { (c : AClass) (h : AHeld S) → IsOf c p.now → held_of sources.old.items c ≡ Some h
+        → PutsOnly (λ k v. IsPageFor S.gives c h (index_of p.now) k v.items) pages.old.entries pages.new.entries }
+    ensures refused { OnErr result (PutsNone pages.old.entries pages.new.entries) }
+    ensures alike { (c : AClass) (h k : AHeld S) → held_of sources.old.items c ≡ Some h → held_of sources.new.items c ≡ Some k
+        → GiveAlike S.gives h.source k.source }
+    ensures unread { (c : AClass) (h : AHeld S) (f : ASourceFault) → IsOf c p.now → held_of sources.old.items c ≡ Some h
+        → IsErrOf result (ProbeFault.TableRead f) → S.gives h.source (of_page (index_of p.now / 4096)) (Err f) }
+    ensures inside { (c : AClass) (f : ASourceFault) → IsOf c p.now → IsErrOf result (ProbeFault.TableRead f) → index_of p.now / 4096 < pages_of c }
+    ensures not_whole { (c : AClass) (h : AHeld S) (n : ℕ) → held_of sources.old.items c ≡ Some h
+        → IsErrOf result (ProbeFault.PageDamaged c n) → HasBadPage S.gives h n }
+    ensures room { pages.new.cap ≡ pages.old.cap }
+    ensures sources { (c : AClass) → IsSameSource S.honest (held_of sources.old.items c) (held_of sources.new.items c) }
+    ensures no_table { (c : AClass) → IsErrOf result (ProbeFault.NoTable c) ↔ (IsOf c p.now × (held_of sources.old.items c ≡ None)) }
+    ensures told { (c : AClass) (h : AHeld S) (t : Seen) → IsOf c p.now → held_of sources.old.items c ≡ Some h
+        → S.honest h.source t h.header.version → t.class ≡ c
+        → IfOk result (λ v. v ≡ value_of (slice_index t.cells (index_of p.now))) }
+    ensures whole { (c : AClass) (h : AHeld S) (t : Seen) (n : ℕ) → IsOf c p.now → held_of sources.old.items c ≡ Some h
+        → S.honest h.source t h.header.version → t.class ≡ c → IsComplete t
+        → IsErrOf result (ProbeFault.PageDamaged c n) → ⊥ }
+    ensures damaged { (c : AClass) (n : ℕ) → IsErrOf result (ProbeFault.PageDamaged c n) → IsOf c p.now × (n ≡ index_of p.now / 4096) }
+    ensures read { (c : AClass) (h : AHeld S) → IsOf c p.now → held_of sources.old.items c ≡ Some h
+        → IfOk result (IsReadFrom S.gives h (index_of p.now)) }
+    ensures failed { (c : AClass) (h k : AHeld S) → IsOf c p.now → held_of sources.old.items c ≡ Some h → held_of sources.new.items c ≡ Some k
+        → S.failed k.source ≡ failed_after (S.failed h.source) result }
+    ensures once { (c : AClass) (h k : AHeld S) → IsOf c p.now → held_of sources.old.items c ≡ Some h → held_of sources.new.items c ≡ Some k
+        → kept_cell (λ v. v.items) pages.old.entries c (index_of p.now) ≡ None → S.asked k.source ≡ counted (S.asked h.source) }
+    ensures others { (c : AClass) → (IsOf c p.now → ⊥) → held_of sources.new.items c ≡ held_of sources.old.items c }
+    ensures again { (c : AClass) → IsOf c p.now
+        → IsToldAgain (kept_cell (λ v. v.items) pages.old.entries c (index_of p.now)) result sources.old.items sources.new.items }
+    ensures game { SourcesAreRight S.honest sources.old.items → IfOk result (IsValueOf p.now) }
+{
+    let _men = p.men();
+    let (class, _) = class_of(p);
+    let at = place(class) as usize;
+    if sources.len() <= at {
+        return Err(ProbeFault::NoTable(class));
+    }
+    match &mut sources[at] {
+        None => Err(ProbeFault::NoTable(class)),
+        Some(held) => value_of_number(held, pages, alloc, index(p)),
+    }
+}
+
+impl<'a, S: PageSource, A: Allocator> Values for PagedTables<'a, S, A> {
+    ghost is_honest = { λ w. SourcesAreRight S.honest w.sources };
+
+    ghost held = { λ w c. is_some (held_of w.sources c) };
+
+    ghost gives = { λ w p answer. IsPagedAnswer S.gives w.sources p answer };
+
+    ghost may_fail = { λ w c f. MayFail S.gives (held_of w.sources c) c f };
+
+    ghost asked_of = { λ w. w.asked };
+
+    ghost failed_of = { λ w. w.failed };
+
+    fn value(&mut self, p: &Position) -> Result<Value, ProbeFault>
+        ensures game { SourcesAreRight S.honest self.old.sources → IfOk result (IsValueOf p.now) }
+        ensures no_damage { SourcesAreRight S.honest self.old.sources → IfErr result IsNotDamage }
+        ensures stays_honest { SourcesAreRight S.honest self.old.sources → SourcesAreRight S.honest self.new.sources }
+        ensures given { IsPagedAnswer S.gives self.old.sources p.now result }
+        ensures failed_so { (c : AClass) (f : ASourceFault) → IsOf c p.now → IsErrOf result (ProbeFault.TableRead f)
+            → MayFail S.gives (held_of self.old.sources c) c f }
+        ensures fails_as_before { (c : AClass) (f : ASourceFault) → MayFail S.gives (held_of self.new.sources c) c f
+            → MayFail S.gives (held_of self.old.sources c) c f }
+        ensures no_table { (c : AClass) → IsErrOf result (ProbeFault.NoTable c) ↔ (IsOf c p.now × (is_some (held_of self.old.sources c) ≡ false)) }
+        ensures same_tables { (c : AClass) → is_some (held_of self.new.sources c) ≡ is_some (held_of self.old.sources c) }
+        ensures asked { self.new.asked ≡ counted self.old.asked }
+        ensures failures { self.new.failed ≡ faults_after self.old.failed result }
+
+        // Of a source that is honest for whatever table of the class, an answer is the table's, and no page is damaged.
+        ensures told { (c : AClass) (h : AHeld S) (t : Seen) → IsOf c p.now → held_of self.old.sources c ≡ Some h
+            → S.honest h.source t h.header.version → t.class ≡ c
+            → IfOk result (λ v. v ≡ value_of (slice_index t.cells (index_of p.now))) }
+        ensures whole { (c : AClass) (h : AHeld S) (t : Seen) (n : ℕ) → IsOf c p.now → held_of self.old.sources c ≡ Some h
+            → S.honest h.source t h.header.version → t.class ≡ c → IsComplete t
+            → IsErrOf result (ProbeFault.PageDamaged c n) → ⊥ }
+        ensures damaged { (c : AClass) (n : ℕ) → IsErrOf result (ProbeFault.PageDamaged c n) → IsOf c p.now × (n ≡ index_of p.now / 4096) }
+
+        // Of any source, an answer stands in a page that it may give and that passes its check; a page is damaged where it
+        // may give one that does not; and the fault that is told is one that it may answer.
+        ensures read { (c : AClass) (h : AHeld S) → IsOf c p.now → held_of self.old.sources c ≡ Some h
+            → IfOk result (IsReadFrom S.gives h (index_of p.now)) }
+        ensures not_whole { (c : AClass) (h : AHeld S) (n : ℕ) → held_of self.old.sources c ≡ Some h
+            → IsErrOf result (ProbeFault.PageDamaged c n) → HasBadPage S.gives h n }
+        ensures unread { (c : AClass) (h : AHeld S) (f : ASourceFault) → IsOf c p.now → held_of self.old.sources c ≡ Some h
+            → IsErrOf result (ProbeFault.TableRead f) → S.gives h.source (of_page (index_of p.now / 4096)) (Err f) }
+
+        // A page that is put in is the one asked for, as the source may give it; after a refusal none is.
+        ensures put { (c : AClass) (h : AHeld S) → IsOf c p.now → held_of self.old.sources c ≡ Some h
+            → PutsOnly (IsPageFor S.gives c h (index_of p.now)) self.old.kept self.new.kept }
+        ensures refused { OnErr result (PutsNone self.old.kept self.new.kept) }
+
+        // The sources stay; that of the class fails once more where a table is not read, and only there.
+        ensures sources { (c : AClass) → IsSameSource S.honest (held_of self.old.sources c) (held_of self.new.sources c) }
+        ensures alike { (c : AClass) (h k : AHeld S) → held_of self.old.sources c ≡ Some h → held_of self.new.sources c ≡ Some k
+            → GiveAlike S.gives h.source k.source }
+        ensures failed { (c : AClass) (h k : AHeld S) → IsOf c p.now → held_of self.old.sources c ≡ Some h → held_of self.new.sources c ≡ Some k
+            → S.failed k.source ≡ failed_after (S.failed h.source) result }
+        ensures others { (c : AClass) → (IsOf c p.now → ⊥) → held_of self.new.sources c ≡ held_of self.old.sources c }
+        ensures room { self.new.room ≡ self.old.room }
+        ensures few { length self.new.kept ≤ self.new.room }
+
+        // A cell of a page that is kept is told without its source; for any other its source is asked once.
+        ensures again { (c : AClass) → IsOf c p.now
+            → IsToldAgain (kept_cell (λ cells. cells) self.old.kept c (index_of p.now)) result self.old.sources self.new.sources }
+        ensures once { (c : AClass) (h k : AHeld S) → IsOf c p.now → held_of self.old.sources c ≡ Some h → held_of self.new.sources c ≡ Some k
+            → kept_cell (λ cells. cells) self.old.kept c (index_of p.now) ≡ None → S.asked k.source ≡ counted (S.asked h.source) }
+    {
+        self.asked = self.asked.saturating_add(1);
+        let answer = probe_paged(&mut self.sources, &mut self.kept, self.alloc, p);
+        let _few = self.kept.len();
+        self.failed = failures_after(self.failed, &answer);
+        answer
+    }
+
+    fn holds(&self, class: Class) -> bool {
+        match self.sources.as_slice().get(place(class) as usize) {
+            Some(Some(_)) => true,
+            _ => false,
+        }
+    }
+
+    fn asked(&self) -> u64 {
+        self.asked
+    }
+
+    fn failures(&self) -> u64 {
+        self.failed
+    }
+}

@@ -1,0 +1,117 @@
+//! Values from tables in memory.
+ghost use Rattle.std.specs.Prelude.{◌≡◌, ◌↔◌, ◌/◌, ℕ, false, is_some, Some, Ok, IsOk, IfOk, OnOk, OnErr, IfErr};
+ghost use Rattle.std.specs.Prelude.{IsErrAnd, IsErrOf, MatchOption, slice_index, slice_set};
+ghost use Rattle.study_material.specs.declared.class.Class.{Class as AClass};
+ghost use Rattle.study_material.specs.Class.{IsOf};
+ghost use Rattle.study_index.specs.Computed.{index_of};
+ghost use Rattle.study_retro.specs.Cells.{value_of};
+ghost use Rattle.study_retro.specs.Game.{IsValueOf};
+ghost use Rattle.study_retro.specs.Table.{Table as Seen, class_number, table_of};
+ghost use Rattle.study_retro.specs.TableSet.{add_fault};
+ghost use Rattle.study_retro.specs.Sound.{IsRight};
+ghost use Rattle.study_board.specs.Counts.{counted};
+ghost use Rattle.study_tablefile.specs.declared.fault.SourceFault.{SourceFault as ASourceFault};
+ghost use Rattle.study_prober.specs.Values.{IsNotDamage, faults_after};
+ghost use Rattle.study_prober.specs.WholeTables.{TablesAreRight, IsCellAnswer, Whole};
+
+use crate::values::{ProbeFault, Values};
+use std::alloc::Allocator;
+use std::marker::Model;
+use study_board::Position;
+use study_material::{Class, class_of};
+use study_retro::{AddRefused, Table, TableSet, Value};
+
+/// Tables in memory.
+#[derive(Drop)]
+pub struct WholeTables<'a, A: Allocator> {
+    tables: TableSet<'a, A>,
+    asked: u64,
+}
+
+impl<'a, A: Allocator> Model for WholeTables<'a, A> {
+    ghost use Rattle.study_prober.specs.WholeTables.{Whole};
+
+    ghost Value = { Whole };
+
+    ghost view = { λ w. record { tables = w.tables; asked = w.asked } };
+}
+
+impl<'a, A: Allocator> WholeTables<'a, A> {
+    /// Values from these tables. Nothing was asked yet.
+    pub fn new(tables: TableSet<'a, A>) -> Self
+        ensures { result ≡ record { tables = tables.entry; asked = 0 } }
+    {
+        WholeTables { tables, asked: 0 }
+    }
+
+    /// The tables.
+    pub fn tables(&self) -> &TableSet<'a, A>
+        ensures { result.now ≡ self.now.tables }
+    {
+        &self.tables
+    }
+
+    /// Adds a table whose class is not held and whose needs are; any other is handed back.
+    pub fn add(&mut self, table: Table<'a, A>) -> Result<(), AddRefused<'a, A>>
+        ensures fault { MatchOption (add_fault self.old.tables table.entry.class) (IsOk result) (λ fault. IsErrAnd result (λ e. e.fault ≡ fault)) }
+        ensures added { OnOk result (
+            self.new ≡ record self.old { tables = slice_set self.old.tables (class_number table.entry.class) (Some table.entry) }
+            ) }
+        ensures same { OnErr result (self.new ≡ self.old) }
+        ensures handed_back { IfErr result (λ e. e.table ≡ table.entry) }
+        ensures honest { TablesAreRight self.old.tables → IsRight table.entry → TablesAreRight self.new.tables }
+    {
+        self.tables.add(table)
+    }
+}
+
+impl<'a, A: Allocator> Values for WholeTables<'a, A> {
+    ghost is_honest = { λ w. TablesAreRight w.tables };
+
+    ghost held = { λ w c. is_some (table_of w.tables c) };
+
+    ghost gives = { λ w p answer. IsCellAnswer w.tables p answer };
+
+    ghost may_fail = { λ w c f. ⊥ };
+
+    ghost asked_of = { λ w. w.asked };
+
+    ghost failed_of = { λ w. 0 };
+
+    fn value(&mut self, p: &Position) -> Result<Value, ProbeFault>
+        ensures game { TablesAreRight self.old.tables → IfOk result (IsValueOf p.now) }
+        ensures no_damage { TablesAreRight self.old.tables → IfErr result IsNotDamage }
+        ensures stays_honest { TablesAreRight self.old.tables → TablesAreRight self.new.tables }
+        ensures given { IsCellAnswer self.old.tables p.now result }
+        ensures failed_so { (c : AClass) (f : ASourceFault) → IsOf c p.now → IsErrOf result (ProbeFault.TableRead f) → ⊥ }
+        ensures fails_as_before { (c : AClass) (f : ASourceFault) → ⊥ → ⊥ }
+        ensures no_table { (c : AClass) → IsErrOf result (ProbeFault.NoTable c) ↔ (IsOf c p.now × (is_some (table_of self.old.tables c) ≡ false)) }
+        ensures damaged { (c : AClass) (n : ℕ) → IsErrOf result (ProbeFault.PageDamaged c n)
+            → IsOf c p.now × (n ≡ index_of p.now / 4096) }
+        ensures same_tables { (c : AClass) → is_some (table_of self.new.tables c) ≡ is_some (table_of self.old.tables c) }
+        ensures asked { self.new.asked ≡ counted self.old.asked }
+        ensures failures { 0 ≡ faults_after 0 result }
+        ensures told { (c : AClass) (t : Seen) → IsOf c p.now → table_of self.old.tables c ≡ Some t
+            → result ≡ Ok (value_of (slice_index t.cells (index_of p.now))) }
+        ensures same { self.new.tables ≡ self.old.tables }
+    {
+        self.asked = self.asked.saturating_add(1);
+        let (class, _) = class_of(p);
+        let Some(table) = self.tables.table(class) else {
+            return Err(ProbeFault::NoTable(class));
+        };
+        Ok(table.at(p))
+    }
+
+    fn holds(&self, class: Class) -> bool {
+        self.tables.has(class)
+    }
+
+    fn asked(&self) -> u64 {
+        self.asked
+    }
+
+    fn failures(&self) -> u64 {
+        0
+    }
+}

@@ -1,0 +1,31 @@
+use Rattle.std.proofs.Common.{◌≡◌, ℕ, length, arith, inl, inr, ◌∙◌}
+use Rattle.study_retro.specs.Propagation.{AreAdded}
+use Rattle.study_retro.specs.Numbered.{StepLeads}
+use Rattle.study_retro.proofs.BlockLemmas.{below_next}
+use Rattle.study_retro.proofs.CellsLemmas.{added-then, added-kept, added-same}
+use Rattle.study_retro.proofs.levels.propagate_wins.Goals as goal
+
+pub loop-number-preserved : goal.loop-number-preserved
+loop-number-preserved g c =
+    let inv = c.loop-number.invariant in
+    let k = c.args.level in
+    let old = c.args.cells.now in
+    let mid = c.loop-number.cells in
+    let new = c.mark_before-more.new.cells in
+    let next = c.next_of-number-in-loop-number.ensures in
+    let size : length new ≡ (g.G.Game.numbered c.args.game.now).size = c.mark_before-more.auto.cells ∙ inv.size in
+    let Why : ℕ → Type 0 = λ i. (j : ℕ) × StepLeads (g.G.Game.numbered c.args.game.now) i j in
+    let more : AreAdded Why k mid new = λ i. elim (c.mark_before-more.ensures.rise i) [
+      | inl e ↦ inl e
+      | inr x ↦ inr ((c.loop-number.number, x.0), x.1, x.2)
+    ] in
+    let all : AreAdded Why k old new = added-then k Why old mid new inv.rise more in
+    record {
+      there = (let w = next.within in omega (arith, w, size));
+      size = size;
+      rise = all;
+      done = below_next _ c.loop-number.number c.next_of-number-in-loop-number.result
+          (λ j b i s t. added-kept k Why mid new more i (inv.done j b i s t))
+          (λ i s t. c.mark_before-more.ensures.done i t)
+          (λ j a b i s t. absurd (next.none j a b (added-same k Why old new all j s)));
+    }

@@ -1,0 +1,81 @@
+-- Not part of any public contract: what a builder knows that goes back from decided positions.
+use Rattle.std.specs.Prelude.{◌≡◌, ◌≢◌, ◌⊎◌, ℕ, ◌+◌, ◌-◌, ◌%◌, ◌<◌, ◌≤◌, Bool, true, false, List, slice_index, Option, Some, None}
+use Rattle.study_retro.specs.Forced.{Mated, Mates, IsGame, IsWin}
+use Rattle.study_retro.specs.Cells.{distance_of, value_of}
+use Rattle.study_retro.specs.declared.value.Value.{Value}
+use Rattle.study_retro.specs.declared.value.Value.TheVariants.{Win, Draw}
+
+-- a move leads from the position of n to a position of the class whose number is m
+abbrev pub LeadsTo : {P : Type 0} → (P → P → Type 0) → (P → Bool) → (P → ℕ) → (ℕ → Option P) → ℕ → ℕ → Type 0
+LeadsTo {P} leads home index position n m = (p : P) × (q : P) × (position n ≡ Some p) × leads p q × (home q ≡ true) × (index q ≡ m)
+
+-- p has a move, and each leads to a position that is won within k plies by its label
+pub record IsLostBy {P : Type 0} (leads : P → P → Type 0) (labels : P → Value) (k : ℕ) (p : P) : Type 0 where
+  pub some : (q : P) × leads p q
+  pub each : (q : P) → leads p q → (m : ℕ) × (labels q ≡ Win m) × (m ≤ k)
+
+-- the cell of a win within k plies
+abbrev pub IsWonCell : ℕ → ℕ → Type 0
+IsWonCell k c = (c % 2 ≡ 0) × (c ≢ 0) × (c ≤ k + 1)
+
+-- the cells of wins within k plies are those of the positions whose side to move mates within k plies
+abbrev pub TellsWins : {P : Type 0} → (P → P → Type 0) → (P → Type 0) → ℕ → (ℕ → Option P) → List ℕ → Type 0
+TellsWins {P} leads mate k position cells =
+    (n : ℕ) (p : P) → position n ≡ Some p → (IsWonCell k (slice_index cells n) → Mates leads mate p k)
+    × (Mates leads mate p k → IsWonCell k (slice_index cells n))
+
+-- What a cell c is worth where the mates within k plies are set, and no others. A cell of at most k + 1 is right. An even one above tells of a mate
+-- that a move out of the class forces, though there may be a shorter one; an odd one above tells for how long moves out of the class put
+-- off a mate. Where `far`, some move out of the class leads to a mate that no cell can tell.
+pub record IsHeld {P : Type 0} (leads : P → P → Type 0) (mate : P → Type 0) (home : P → Bool) (far : Bool) (k : ℕ) (p : P) (c : ℕ) : Type 0 where
+  pub set : c ≢ 0 → c ≤ k + 1 → IsGame leads mate p (value_of c)
+  pub unmating : (c ≡ 0) ⊎ (k + 1 < c) → Mates leads mate p k → ⊥
+  pub unmated : (c ≡ 0) ⊎ (k + 1 < c) → Mated leads mate p k → ⊥
+  pub wins : k + 1 < c → c % 2 ≡ 0 → Mates leads mate p (c - 1)
+  pub lasts : k + 1 < c → c % 2 ≡ 1 → Mated leads mate p (c - 2) → ⊥
+  pub won :
+      (q : P) (j : ℕ) → (far ≡ true → j < 254) → leads p q → home q ≡ false → Mated leads mate q j → (c % 2 ≡ 0) × (c ≢ 0) × (c ≤ j + 2)
+  pub lost :
+      (q : P) (j m : ℕ) → (far ≡ true → j < 254) → k ≤ j → leads p q → home q ≡ false → IsWin leads mate q j → Mated leads mate p m → (c % 2 ≡ 1) × (j + 2 ≤ c)
+
+abbrev pub IsHeldCell : {P : Type 0} → (P → P → Type 0) → (P → Type 0) → (P → Bool) → Bool → ℕ → Option P → ℕ → Type 0
+IsHeldCell leads mate home far k None c = c ≡ 0
+IsHeldCell leads mate home far k (Some p) c = IsHeld leads mate home far k p c
+
+abbrev pub AreHeld : {P : Type 0} → (P → P → Type 0) → (P → Type 0) → (P → Bool) → Bool → ℕ → (ℕ → Option P) → ℕ → List ℕ → Type 0
+AreHeld leads mate home far k position size cells = (n : ℕ) → n < size → IsHeldCell leads mate home far k (position n) (slice_index cells n)
+
+-- what a value makes of a cell before the levels, if a cell can tell it
+abbrev pub IsInitial : Value → ℕ → Bool → Type 0
+IsInitial v c far =
+    (v ≡ Draw) × (c ≡ 0) × (far ≡ false)
+    ⊎ (v ≢ Draw) × (distance_of v < 255) × (c ≡ distance_of v + 1) × (far ≡ false)
+    ⊎ (v ≢ Draw) × (distance_of v ≡ 255) × (c ≡ 0) × (far ≡ true)
+
+-- ---- how cells change within a level
+
+-- cells are set to k + 2 where they were 0 or more, for a reason
+abbrev pub AreLowered : (ℕ → Type 0) → ℕ → List ℕ → List ℕ → Type 0
+AreLowered Why k old new =
+    (i : ℕ) → (slice_index new i ≡ slice_index old i) ⊎ Why i × (slice_index new i ≡ k + 2) × ((slice_index old i ≡ 0) ⊎ (k + 2 < slice_index old i))
+
+-- cells are set to k + 2 where they were 0, for a reason
+abbrev pub AreAdded : (ℕ → Type 0) → ℕ → List ℕ → List ℕ → Type 0
+AreAdded Why k old new = (i : ℕ) → (slice_index new i ≡ slice_index old i) ⊎ Why i × (slice_index new i ≡ k + 2) × (slice_index old i ≡ 0)
+
+-- cells of k + 2 are set to 0
+abbrev pub AreDropped : ℕ → List ℕ → List ℕ → Type 0
+AreDropped k old new = (i : ℕ) → (slice_index new i ≡ slice_index old i) ⊎ (slice_index old i ≡ k + 2) × (slice_index new i ≡ 0)
+
+-- the cell at i is set, to c at most
+abbrev pub IsSetBy : ℕ → List ℕ → ℕ → Type 0
+IsSetBy c cells i = (slice_index cells i ≢ 0) × (slice_index cells i ≤ c)
+
+-- the cell at n alone is set to c, where it was 0 or more
+abbrev pub IsLowered : ℕ → ℕ → List ℕ → List ℕ → Type 0
+IsLowered n c old new =
+    (i : ℕ) → (slice_index new i ≡ slice_index old i) ⊎ (i ≡ n) × (slice_index new i ≡ c) × ((slice_index old i ≡ 0) ⊎ (c < slice_index old i))
+
+-- the cell at n alone is set to c, where it was 0
+abbrev pub IsMarked : ℕ → ℕ → List ℕ → List ℕ → Type 0
+IsMarked n c old new = (i : ℕ) → (slice_index new i ≡ slice_index old i) ⊎ (i ≡ n) × (slice_index new i ≡ c) × (slice_index old i ≡ 0)

@@ -1,0 +1,112 @@
+//! What a number is worth before the levels: the mates, and what the moves out of the class alone give.
+ghost use Rattle.std.specs.Prelude.{◌≡◌, ◌<◌, ℕ, true, false, length, Some};
+ghost use Rattle.study_retro.specs.Propagation.{IsInitial};
+ghost use Rattle.study_retro.specs.Numbered.{CellIsHeld, CellsAreHeld, IsNumberedClass, OutsideGives, OutsideIsRight};
+ghost use Rattle.study_retro.specs.BestReplies.{drawn_with, lost_with, won_with};
+
+use crate::best_replies::BestReplies;
+use crate::game::{Game, Location};
+use crate::stepped::SteppedGame;
+use crate::value::Value;
+
+/// Takes the value of a position out of the class into a tally.
+pub fn with_conversion<G: Game>(game: &G, tally: BestReplies, at: &G::Position) -> BestReplies
+    requires { (G.numbered game.now).known at.now }
+    ensures in_lost { (G.numbered game.now).home at.now ≡ true → result.lost ≡ tally.lost }
+    ensures in_won { (G.numbered game.now).home at.now ≡ true → result.won ≡ tally.won }
+    ensures in_drawn { (G.numbered game.now).home at.now ≡ true → result.drawn ≡ tally.drawn }
+    ensures out_lost { (G.numbered game.now).home at.now ≡ false → result.lost ≡ lost_with tally.lost ((G.numbered game.now).outside at.now) }
+    ensures out_won { (G.numbered game.now).home at.now ≡ false → result.won ≡ won_with tally.won ((G.numbered game.now).outside at.now) }
+    ensures out_drawn { (G.numbered game.now).home at.now ≡ false → result.drawn ≡ drawn_with tally.drawn ((G.numbered game.now).outside at.now) }
+{
+    match game.place(at) {
+        Location::Cell(_) => tally,
+        Location::Outside(value) => tally.with(value),
+    }
+}
+
+/// What the moves out of the class alone give a position.
+pub fn value_by_conversion<G: Game>(game: &G, at: &G::Position) -> Value
+    requires laws { IsNumberedClass (G.numbered game.now) }
+    requires numbered { (n : ℕ) × ((G.numbered game.now).position n ≡ Some at.now) }
+    requires known { (G.numbered game.now).known at.now }
+    requires home { (G.numbered game.now).home at.now ≡ true }
+    ensures { OutsideGives (G.numbered game.now) at.now result }
+{
+    let moves = game.moves(at);
+    let mut tally = BestReplies::new();
+    for by in moves.as_slice() {
+        if game.leaves(at, *by) {
+            let to = game.played(at, *by);
+            tally = with_conversion(game, tally, &to);
+        }
+    }
+    tally.given(false)
+}
+
+/// What a number begins with: its cell, and whether it has a mate that no cell can tell.
+#[derive(Clone, Copy)]
+pub struct Initial {
+    pub cell: u8,
+    pub far: bool,
+}
+
+/// What a value makes of a cell.
+pub fn initial_by_value(value: Value) -> Initial
+    ensures { IsInitial value result.cell result.far }
+{
+    match value.distance() {
+        None => Initial {
+            cell: 0,
+            far: false,
+        },
+        Some(n) => {
+            if n < 255 {
+                Initial {
+                    cell: n + 1,
+                    far: false,
+                }
+            } else {
+                Initial { cell: 0, far: true }
+            }
+        }
+    }
+}
+
+/// What a number begins with, by its moves.
+pub fn initial_by_moves<G: Game>(game: &G, number: u32) -> Initial
+    requires laws { IsNumberedClass (G.numbered game.now) }
+    requires number { number < (G.numbered game.now).size }
+    ensures { OutsideIsRight (G.numbered game.now) → CellIsHeld (G.numbered game.now) result.far 0 number result.cell }
+{
+    let Some(at) = game.decode(number) else {
+        return Initial {
+            cell: 0,
+            far: false,
+        };
+    };
+    if game.is_mate(&at) {
+        return Initial {
+            cell: 1,
+            far: false,
+        };
+    }
+    initial_by_value(value_by_conversion(game, &at))
+}
+
+/// What all numbers begin with, and whether some mate cannot be told.
+pub fn initialise<G: SteppedGame>(game: &G, cells: &mut [u8]) -> bool
+    requires laws { IsNumberedClass (G.numbered game.now) }
+    requires cells { length cells.old ≡ (G.numbered game.now).size }
+    ensures { OutsideIsRight (G.numbered game.now) → CellsAreHeld (G.numbered game.now) result 0 cells.new }
+{
+    let mut far = false;
+    for number in 0..game.cells() {
+        let first = game.first(number);
+        cells[number as usize] = first.cell;
+        if first.far {
+            far = true;
+        }
+    }
+    far
+}
