@@ -3,7 +3,7 @@
 use crate::board::{Kind, Man, Side, Square};
 use crate::index::{least_of, places};
 use crate::material::Class;
-use crate::passing::{behind, is_live};
+use crate::passing::{behind, has_legal_en_passant};
 use crate::position::Position;
 
 /// What man fills a place in the order of a class.
@@ -180,6 +180,6 @@ pub fn decode(class: Class, number: u32) -> Option<Position> {
     } else if number < 16_777_216 {
         read_off(slots(class), number, false)
     } else {
-        read_off(slots(class), number - 16_777_216, true).filter(is_live)
+        read_off(slots(class), number - 16_777_216, true).filter(has_legal_en_passant)
     }
 }

@@ -3,7 +3,7 @@
 use crate::board::{Kind, Man, Side, Square, in_check};
 use crate::list::List;
 use crate::position::Position;
-use crate::sets::{between, has, pawn_captures_of, reach, reach_past, single};
+use crate::sets::{between, has, pawn_captures_of, reach, attacks_without, single};
 
 #[derive(Clone, Copy, Debug, Default, PartialEq, Eq)]
 pub struct Move {
@@ -68,13 +68,13 @@ fn unsafe_targets(men: &[Man], side: Side, man: &Man) -> u64 {
     let mut set = 0;
     if man.kind == Kind::King {
         for other in others() {
-            set |= reach_past(men, man.at, other);
+            set |= attacks_without(men, man.at, other);
         }
     }
     for king in men {
         if king.is(side, Kind::King) && king.at != man.at {
             for other in others() {
-                if has(reach_past(men, man.at, other), king.at) {
+                if has(attacks_without(men, man.at, other), king.at) {
                     set |= no_shields(other, king.at);
                 }
             }
@@ -254,11 +254,11 @@ fn checks_back(men: &[Man], side: Side, man: &Man) -> u64 {
                 kind: man.kind,
                 at: king.at,
             };
-            set |= reach_past(men, man.at, &mirrored);
+            set |= attacks_without(men, man.at, &mirrored);
             for other in men {
                 if other.side != side
                     && other.at != man.at
-                    && has(reach_past(men, man.at, other), king.at)
+                    && has(attacks_without(men, man.at, other), king.at)
                 {
                     set |= no_shields(other, king.at);
                 }
@@ -282,7 +282,7 @@ fn origins(position: &Position, man: &Man) -> u64 {
 }
 
 /// Each quiet move that can have led to the position.
-pub fn last_moves(position: &Position) -> List<Move, 192> {
+pub fn unmoves(position: &Position) -> List<Move, 192> {
     let mut list = List::new();
     for man in position.men() {
         if man.side != position.to_move {
@@ -301,7 +301,7 @@ pub fn last_moves(position: &Position) -> List<Move, 192> {
 }
 
 /// The position before a quiet move.
-pub fn taken_back(position: &Position, by: Move) -> Position {
+pub fn unplayed(position: &Position, by: Move) -> Position {
     let man = position
         .man_at(by.target)
         .expect("a man stands on the target");
@@ -323,8 +323,8 @@ pub fn taken_back(position: &Position, by: Move) -> Position {
 /// Each position from which a quiet move leads to the position.
 pub fn earlier(position: &Position) -> List<Position, 192> {
     let mut list = List::new();
-    for by in last_moves(position).as_slice() {
-        list.push(taken_back(position, *by));
+    for by in unmoves(position).as_slice() {
+        list.push(unplayed(position, *by));
     }
     list
 }

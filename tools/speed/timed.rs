@@ -4,7 +4,7 @@ use crate::board::{Kind, Man, Side, Square};
 use crate::decode::{cells, decode};
 use crate::index::index;
 use crate::material::Class;
-use crate::moves::{Move, earlier, is_legal, last_moves, legal_moves, played, taken_back};
+use crate::moves::{Move, earlier, is_legal, unmoves, legal_moves, played, unplayed};
 use crate::position::Position;
 use crate::retro::{ClassGame, Tables};
 use std::hint::black_box;
@@ -114,10 +114,10 @@ fn squares(position: &Position) -> u64 {
 }
 
 fn taken_back_from(position: &Position) -> u64 {
-    last_moves(position)
+    unmoves(position)
         .as_slice()
         .iter()
-        .map(|by| squares(&taken_back(position, *by)))
+        .map(|by| squares(&unplayed(position, *by)))
         .sum()
 }
 
@@ -144,13 +144,13 @@ pub fn calls() {
                 })
                 .sum()
         });
-        show("last_moves", sample.label, count, || {
+        show("unmoves", sample.label, count, || {
             positions
                 .iter()
-                .map(|position| last_moves(position).as_slice().len() as u64)
+                .map(|position| unmoves(position).as_slice().len() as u64)
                 .sum()
         });
-        show("taken_back", sample.label, count, || {
+        show("unplayed", sample.label, count, || {
             positions.iter().map(taken_back_from).sum()
         });
         show("played", sample.label, turns.len(), || men_after(turns));

@@ -114,12 +114,12 @@ fn measure_steps_back(rt: HostRuntime, label: &str, positions: &[Position]) -> i
     let count = positions.len() as u64;
     show(
         rt,
-        "last_moves",
+        "unmoves",
         label,
         count,
         || count_last_moves(positions),
     )?;
-    show(rt, "taken_back", label, count, || add_taken_back(positions))
+    show(rt, "unplayed", label, count, || add_taken_back(positions))
 }
 
 fn measure_at(rt: HostRuntime, setting: Setting) -> io::Result<()> {
