@@ -14,46 +14,7 @@ use Rattle.study_material.specs.declared.class.Class.TheVariants.{KBKB, KBKN, KB
 use Rattle.study_material.specs.Class.{name_of, class_list, IsNameOf}
 
 -- every class is in the list
-class_place : Class → ℕ
-class_place KK = 0
-class_place KQK = 1
-class_place KRK = 2
-class_place KBK = 3
-class_place KNK = 4
-class_place KPK = 5
-class_place KQQK = 6
-class_place KQRK = 7
-class_place KQBK = 8
-class_place KQNK = 9
-class_place KQPK = 10
-class_place KRRK = 11
-class_place KRBK = 12
-class_place KRNK = 13
-class_place KRPK = 14
-class_place KBBK = 15
-class_place KBNK = 16
-class_place KBPK = 17
-class_place KNNK = 18
-class_place KNPK = 19
-class_place KPPK = 20
-class_place KQKQ = 21
-class_place KQKR = 22
-class_place KQKB = 23
-class_place KQKN = 24
-class_place KQKP = 25
-class_place KRKR = 26
-class_place KRKB = 27
-class_place KRKN = 28
-class_place KRKP = 29
-class_place KBKB = 30
-class_place KBKN = 31
-class_place KBKP = 32
-class_place KNKN = 33
-class_place KNKP = 34
-class_place KPKP = 35
-
 pub Contains-class : (c : Class) → Contains class_list c
-unfolding class_place
 Contains-class KK = (0, lit< tt, refl)
 Contains-class KQK = (1, lit< tt, refl)
 Contains-class KRK = (2, lit< tt, refl)

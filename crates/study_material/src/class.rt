@@ -1,6 +1,6 @@
 //! The classes of material, their names, and what each needs.
-ghost use Rattle.std.specs.Prelude.{◌≡◌, false, IfOk, IsErrOf, ◌↔◌};
-ghost use Rattle.study_material.specs.Class.{name_of, class_list, IsNameOf};
+ghost use Rattle.std.specs.Prelude.{◌≡◌, ◌<◌, false, IfOk, IsErrOf, ◌↔◌};
+ghost use Rattle.study_material.specs.Class.{class_number, name_of, class_list, IsNameOf};
 
 use crate::ClassFault;
 
@@ -113,6 +113,15 @@ impl Class {
         ensures { result ≡ false }
     {
         false
+    }
+
+    /// The place of the class in the list of classes, counted from 0.
+    #[inline]
+    pub fn number(self) -> u8
+        ensures value { result ≡ class_number self }
+        ensures small { result < 36 }
+    {
+        self as u8
     }
 
     /// The name, as `KQKR`.

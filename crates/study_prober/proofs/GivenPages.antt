@@ -5,7 +5,8 @@ use Rattle.std.specs.Prelude.{Option, Some, is_some, Result, Ok, Err, IfOk, OnEr
 use Rattle.std.proofs.lemmas.Bool.{false≢true}
 use Rattle.study_material.specs.declared.class.Class.{Class}
 use Rattle.study_retro.specs.declared.value.Value.{Value}
-use Rattle.study_retro.specs.Table.{Table, class_number}
+use Rattle.study_material.specs.Class.{class_number}
+use Rattle.study_retro.specs.Table.{Table}
 use Rattle.study_tablefile.specs.declared.fault.SourceFault.{SourceFault}
 use Rattle.study_tablefile.specs.declared.source.Header.{Header}
 use Rattle.study_tablefile.specs.Source.{Question, of_page, is_whole_page}

@@ -9,7 +9,8 @@ use Rattle.lru.proofs.CallerLemmas.{Contains-lookup}
 use Rattle.study_material.specs.declared.class.Class.{Class}
 use Rattle.study_retro.specs.declared.value.Value.{Value}
 use Rattle.study_retro.specs.Cells.{value_of}
-use Rattle.study_retro.specs.Table.{Table, class_number}
+use Rattle.study_material.specs.Class.{class_number}
+use Rattle.study_retro.specs.Table.{Table}
 use Rattle.study_prober.specs.declared.page_cache.PageKey.{PageKey}
 use Rattle.study_prober.specs.declared.open_table.OpenTable.{OpenTable}
 use Rattle.study_prober.specs.declared.values.ProbeFault.{ProbeFault}

@@ -11,7 +11,8 @@ use Rattle.study_retro.specs.declared.value.Value.{Value}
 use Rattle.study_retro.specs.Cells.{value_of}
 use Rattle.study_retro.specs.Game.{IsValueOf}
 use Rattle.study_retro.specs.Sound.{IsRight}
-use Rattle.study_retro.specs.Table.{Table, IsComplete, class_number}
+use Rattle.study_material.specs.Class.{class_number}
+use Rattle.study_retro.specs.Table.{Table, IsComplete}
 use Rattle.study_retro.proofs.SoundLemmas.{at_value}
 use Rattle.study_tablefile.specs.declared.source.Header.{Header}
 use Rattle.study_prober.specs.declared.page_cache.PageKey.{PageKey}

@@ -9,7 +9,8 @@ use Rattle.study_material.specs.declared.class.Class.{Class}
 use Rattle.study_material.specs.Class.{IsOf}
 use Rattle.study_material.proofs.Classes.{lists_of-injective}
 use Rattle.study_retro.specs.declared.value.Value.{Value}
-use Rattle.study_retro.specs.Table.{Table, table_of, class_number, IsClosed}
+use Rattle.study_material.specs.Class.{class_number}
+use Rattle.study_retro.specs.Table.{Table, table_of, IsClosed}
 use Rattle.study_retro.specs.Sound.{IsRight}
 use Rattle.study_prober.specs.Values.{ProbeAnswer}
 use Rattle.study_prober.specs.WholeTables.{TablesAreRight, IsCellAnswer, cell_answer}

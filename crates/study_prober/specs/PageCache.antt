@@ -2,7 +2,7 @@
 use Rattle.std.specs.Prelude.{ℕ, ◌==◌, ◌/◌, ◌%◌, Bool, ◌&&◌, List, slice_get, Option, Some, None}
 use Rattle.std.specs.Map.{lookup}
 use Rattle.study_material.specs.declared.class.Class.{Class}
-use Rattle.study_retro.specs.Table.{class_number}
+use Rattle.study_material.specs.Class.{class_number}
 use Rattle.study_prober.specs.declared.page_cache.PageKey.{PageKey}
 
 -- two keys are one

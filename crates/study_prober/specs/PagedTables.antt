@@ -6,7 +6,8 @@ use Rattle.study_material.specs.declared.class.Class.{Class}
 use Rattle.study_material.specs.Class.{IsOf}
 use Rattle.study_index.specs.Computed.{index_of}
 use Rattle.study_retro.specs.Cells.{value_of}
-use Rattle.study_retro.specs.Table.{Table, class_number}
+use Rattle.study_material.specs.Class.{class_number}
+use Rattle.study_retro.specs.Table.{Table}
 use Rattle.study_tablefile.specs.declared.fault.SourceFault.{SourceFault}
 use Rattle.study_tablefile.specs.File.{pages_of}
 use Rattle.study_tablefile.specs.Source.{of_page}

@@ -2,7 +2,8 @@
 use Rattle.std.specs.Prelude.{◌≡◌, ◌⊎◌, ℕ, ◌*◌, ◌/◌, ◌%◌, List, slice_index, take, drop, Contains, Bool, true, false, Result, Ok, Err, if◌then◌else◌}
 use Rattle.study_material.specs.declared.class.Class.{Class}
 use Rattle.study_index.specs.Number.{cells_of}
-use Rattle.study_retro.specs.Table.{Table, IsComplete, class_number}
+use Rattle.study_material.specs.Class.{class_number}
+use Rattle.study_retro.specs.Table.{Table, IsComplete}
 use Rattle.study_retro.specs.Sound.{IsRight}
 use Rattle.study_retro.specs.Cells.{value_of}
 use Rattle.study_retro.specs.declared.value.Value.{Value}

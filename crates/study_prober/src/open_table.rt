@@ -3,7 +3,8 @@ ghost use Rattle.std.specs.Prelude.{◌≡◌, ◌<◌, ◌/◌, ℕ, List, Resu
 ghost use Rattle.study_material.specs.declared.class.Class.{Class as AClass};
 ghost use Rattle.study_board.specs.Counts.{counted};
 ghost use Rattle.study_retro.specs.Cells.{value_of};
-ghost use Rattle.study_retro.specs.Table.{Table as Seen, IsComplete, class_number};
+ghost use Rattle.study_material.specs.Class.{class_number};
+ghost use Rattle.study_retro.specs.Table.{Table as Seen, IsComplete};
 ghost use Rattle.study_index.specs.Number.{cells_of};
 ghost use Rattle.study_tablefile.specs.declared.fault.SourceFault.{SourceFault as ASourceFault};
 ghost use Rattle.study_tablefile.specs.File.{IsVersionOf, pages_of};

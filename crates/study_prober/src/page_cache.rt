@@ -2,7 +2,6 @@
 ghost use Rattle.std.specs.Prelude.{◌≡◌, ◌<◌, ◌⊎◌, ◌∷◌, take, Contains, IfSome, OnOk, OnErr, slice_get, slice_index};
 ghost use Rattle.std.specs.Map.{lookup};
 ghost use Rattle.lru.specs.LruCache.{promoted, put_entries};
-ghost use Rattle.study_retro.specs.Table.{class_number};
 ghost use Rattle.study_prober.specs.PageCache.{same_key, key_at, cell_at};
 
 use lru::{DefaultHasher, LruCache};
@@ -20,20 +19,12 @@ pub struct PageKey {
 /// The cells of pages.
 pub type Pages<'a, A> = LruCache<PageKey, Vec<u8, &'a A>, DefaultHasher, &'a A>;
 
-/// The place of a class in the class list.
-pub fn class_number(class: Class) -> u8
-    ensures value { result ≡ class_number class }
-    ensures small { result < 36 }
-{
-    class as u8
-}
-
 /// The page of a class in which a cell stands.
 pub fn page_key(class: Class, cell: u32) -> PageKey
     ensures { result ≡ key_at class cell }
 {
     PageKey {
-        class: class_number(class),
+        class: class.number(),
         number: cell / 4096,
     }
 }

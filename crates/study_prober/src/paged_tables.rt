@@ -7,7 +7,8 @@ ghost use Rattle.study_material.specs.Class.{IsOf};
 ghost use Rattle.study_index.specs.Computed.{index_of};
 ghost use Rattle.study_retro.specs.Cells.{value_of};
 ghost use Rattle.study_retro.specs.Game.{IsValueOf};
-ghost use Rattle.study_retro.specs.Table.{Table as Seen, IsComplete, class_number};
+ghost use Rattle.study_material.specs.Class.{class_number};
+ghost use Rattle.study_retro.specs.Table.{Table as Seen, IsComplete};
 ghost use Rattle.study_board.specs.Counts.{counted};
 ghost use Rattle.study_tablefile.specs.Source.{of_page};
 ghost use Rattle.study_tablefile.specs.File.{IsVersionOf, pages_of};
@@ -24,7 +25,7 @@ ghost use Rattle.study_prober.specs.HeaderAnswers.{IsRefusedBy, MayAnswer, paged
 
 use crate::fault::PagedFault;
 use crate::open_table::{OpenTable, header_of, value_of_number};
-use crate::page_cache::{Pages, place};
+use crate::page_cache::Pages;
 use crate::values::{ProbeFault, Values, failures_after};
 use lru::LruCache;
 use std::alloc::{AllocError, Allocator};
@@ -120,7 +121,7 @@ impl<'a, S: PageSource, A: Allocator> PagedTables<'a, S, A> {
             return Err(PagedFault::OtherClass(header.class));
         }
         make_places(&mut self.sources, self.alloc)?;
-        self.sources[place(class) as usize] = Some(OpenTable { header, source });
+        self.sources[class.number() as usize] = Some(OpenTable { header, source });
         Ok(())
     }
 }
@@ -197,7 +198,7 @@ fn probe_paged<'a, S: PageSource, A: Allocator>(
 {
     let _men = p.men();
     let (class, _) = class_of(p);
-    let at = place(class) as usize;
+    let at = class.number() as usize;
     if sources.len() <= at {
         return Err(ProbeFault::NoTable(class));
     }
@@ -281,7 +282,7 @@ impl<'a, S: PageSource, A: Allocator> Values for PagedTables<'a, S, A> {
     }
 
     fn holds(&self, class: Class) -> bool {
-        match self.sources.as_slice().get(place(class) as usize) {
+        match self.sources.as_slice().get(class.number() as usize) {
             Some(Some(_)) => true,
             _ => false,
         }

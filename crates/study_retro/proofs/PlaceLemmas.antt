@@ -13,7 +13,8 @@ use Rattle.study_index.specs.Decoded.{IsDecoded}
 use Rattle.study_index.proofs.ComputedIndex.{index_of-only, told_decoded, decoded_told}
 use Rattle.study_retro.specs.declared.value.Value.{Value}
 use Rattle.study_retro.specs.Cells.{value_of}
-use Rattle.study_retro.specs.Table.{Table, table_of, class_number, IsReady, IsClosed}
+use Rattle.study_material.specs.Class.{class_number}
+use Rattle.study_retro.specs.Table.{Table, table_of, IsReady, IsClosed}
 use Rattle.study_material.specs.Class.{is_of}
 use Rattle.study_material.proofs.Classes.{IsOf-is_of, is_of-IsOf}
 use Rattle.study_retro.specs.Game.{value_in}

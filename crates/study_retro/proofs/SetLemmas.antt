@@ -14,7 +14,8 @@ use Rattle.study_material.specs.declared.class.Class.TheVariants.{KQKB, KQKN, KQ
 use Rattle.study_material.specs.declared.class.Class.TheVariants.{KBKB, KBKN, KBKP, KNKN, KNKP, KPKP}
 use Rattle.study_material.specs.Class.{class_list}
 use Rattle.study_material.specs.Needs.{needs_of}
-use Rattle.study_retro.specs.Table.{Table, IsComplete, class_number, table_of, IsReady, IsClosed}
+use Rattle.study_material.specs.Class.{class_number}
+use Rattle.study_retro.specs.Table.{Table, IsComplete, table_of, IsReady, IsClosed}
 use Rattle.study_retro.specs.TableSet.{first_missing}
 
 class_at_place : (c : Class) → get_or class_list (class_number c) KK ≡ c

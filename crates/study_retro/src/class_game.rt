@@ -13,7 +13,6 @@ use crate::game::{Game, Location};
 use crate::initial::{Initial, initial_by_moves};
 use crate::propagate::{is_lost_by_moves, lower_by_moves, mark_by_moves};
 use crate::stepped::{LabelledGame, SteppedGame};
-use crate::table::class_number;
 use crate::table_set::TableSet;
 use crate::value::{Value, value_at};
 use arrayvec::ArrayVec;
@@ -72,7 +71,7 @@ impl<'t, 'a, A: Allocator> Game for ClassGame<'t, 'a, A> {
 
     fn place(&self, at: &Position) -> Location {
         let (class, _) = class_of(at);
-        if class_number(class) == class_number(self.class) {
+        if class.number() == self.class.number() {
             return Location::Cell(index(at));
         }
         match self.tables.table(class) {

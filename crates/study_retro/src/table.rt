@@ -4,7 +4,7 @@ ghost use Rattle.study_index.specs.Number.{cells_of};
 ghost use Rattle.study_material.specs.Class.{IsOf};
 ghost use Rattle.study_index.specs.Computed.{index_of};
 ghost use Rattle.study_retro.specs.Cells.{distance_of, value_of};
-ghost use Rattle.study_retro.specs.Table.{Table as Seen, IsComplete, class_number};
+ghost use Rattle.study_retro.specs.Table.{Table as Seen, IsComplete};
 ghost use Rattle.study_retro.specs.Game.{IsValueOf};
 ghost use Rattle.study_retro.specs.Sound.{IsRight};
 
@@ -69,12 +69,4 @@ impl<'a, A: Allocator> Table<'a, A> {
         let cell = self.cells.as_slice()[index(p) as usize];
         value_at(cell)
     }
-}
-
-/// The place of a class in the class list.
-pub fn class_number(class: Class) -> usize
-    ensures value { result ≡ class_number class }
-    ensures small { result < 36 }
-{
-    class as usize
 }

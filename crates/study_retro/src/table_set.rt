@@ -3,10 +3,11 @@ ghost use Rattle.std.specs.Prelude.{◌≡◌, ◌↔◌, Some, None, IfOk, IfEr
 ghost use Rattle.std.specs.Option.{option_copied};
 ghost use Rattle.study_material.specs.declared.class.Class.{Class as AClass};
 ghost use Rattle.study_material.specs.Needs.{needs_of};
-ghost use Rattle.study_retro.specs.Table.{Table as Seen, table_of, class_number, IsReady, IsClosed};
+ghost use Rattle.study_material.specs.Class.{class_number};
+ghost use Rattle.study_retro.specs.Table.{Table as Seen, table_of, IsReady, IsClosed};
 ghost use Rattle.study_retro.specs.TableSet.{first_missing, add_fault};
 
-use crate::table::{Table, class_number};
+use crate::table::Table;
 use std::alloc::{AllocError, Allocator};
 use std::marker::Model;
 use study_material::{Class, needs};
@@ -62,7 +63,7 @@ impl<'a, A: Allocator> TableSet<'a, A> {
         ensures value { option_copied result ≡ table_of self.now class }
         ensures closed { IsClosed self.now }
     {
-        self.tables[class_number(class)].as_ref()
+        self.tables[class.number() as usize].as_ref()
     }
 
     /// Whether the table of a class is held.
@@ -112,7 +113,7 @@ impl<'a, A: Allocator> TableSet<'a, A> {
                 table,
             });
         }
-        self.tables[class_number(class)] = Some(table);
+        self.tables[class.number() as usize] = Some(table);
         Ok(())
     }
 }

@@ -12,7 +12,8 @@ use Rattle.study_material.specs.declared.class.Class.{Class}
 use Rattle.study_material.specs.Needs.{needs_of}
 use Rattle.study_prober.specs.Sources.{GivesOf}
 use Rattle.study_tablefile.specs.declared.fault.SourceFault.{SourceFault}
-use Rattle.study_retro.specs.Table.{Table, IsComplete, class_number, table_of}
+use Rattle.study_material.specs.Class.{class_number}
+use Rattle.study_retro.specs.Table.{Table, IsComplete, table_of}
 use Rattle.study_retro.specs.TableSet.{first_missing}
 use Rattle.study_retro.specs.Sound.{IsRight, HasFarPosition}
 use Rattle.study_retro.specs.Report.{IsGreatest, win_of}

@@ -13,7 +13,8 @@ use Rattle.study_material.specs.declared.class.Class.TheVariants.{KQKB, KQKN, KQ
 use Rattle.study_material.specs.declared.class.Class.TheVariants.{KBKB, KBKN, KBKP, KNKN, KNKP, KPKP}
 use Rattle.study_material.specs.Class.{name_of}
 use Rattle.study_material.specs.Needs.{needs_of}
-use Rattle.study_retro.specs.Table.{Table, IsClosed, IsReady, class_number, table_of}
+use Rattle.study_material.specs.Class.{class_number}
+use Rattle.study_retro.specs.Table.{Table, IsClosed, IsReady, table_of}
 use Rattle.study_retro.specs.TableSet.{first_missing, add_fault}
 use Rattle.study_retro.specs.Sound.{IsRight, NeedsAreRight}
 use Rattle.study_prober.specs.WholeTables.{Whole, TablesAreRight}

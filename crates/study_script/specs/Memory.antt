@@ -1,7 +1,8 @@
 -- What is known of a store in memory, which is all that it gives, but of a file that it was asked to write.
 use Rattle.std.specs.Prelude.{◌≡◌, ℕ, ◌+◌, ◌*◌, nat_lt, Bool, true, false, List, length, take, slice_index_or, Option, Some, None, Result, Ok, Err}
 use Rattle.study_material.specs.declared.class.Class.{Class}
-use Rattle.study_retro.specs.Table.{Table, IsComplete, class_number}
+use Rattle.study_material.specs.Class.{class_number}
+use Rattle.study_retro.specs.Table.{Table, IsComplete}
 use Rattle.study_retro.specs.Sound.{IsRight}
 use Rattle.study_tablefile.specs.declared.fault.SourceFault.{SourceFault}
 use Rattle.study_tablefile.specs.declared.fault.SourceFault.TheVariants as source

@@ -9,7 +9,8 @@ use Rattle.study_moves.specs.Rules.{after}
 use Rattle.study_moves.specs.Game.{MatesWithin, IsWon}
 use Rattle.study_material.specs.declared.class.Class.{Class}
 use Rattle.study_material.specs.Class.{IsOf, name_of, class_list}
-use Rattle.study_retro.specs.Table.{Table, IsComplete, class_number}
+use Rattle.study_material.specs.Class.{class_number}
+use Rattle.study_retro.specs.Table.{Table, IsComplete}
 use Rattle.study_retro.specs.Sound.{IsRight, HasFarPosition}
 use Rattle.study_retro.specs.Report.{IsGreatest, win_of}
 use Rattle.study_tablefile.specs.declared.fault.FileFault.{FileFault}

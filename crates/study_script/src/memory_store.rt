@@ -1,6 +1,6 @@
 //! A store of tables in memory, which fails where a test wants it.
 ghost use Rattle.std.specs.Prelude.{◌≡◌, None, is_some, length, slice_set, IfOk, IfErr};
-ghost use Rattle.study_retro.specs.Table.{class_number};
+ghost use Rattle.study_material.specs.Class.{class_number};
 ghost use Rattle.study_material.specs.declared.class.Class.{Class as AClass};
 ghost use Rattle.study_script.specs.Memory.{memory_file, file_known, header_known, memory_faults, IsHonestFile, IsFaultOf};
 

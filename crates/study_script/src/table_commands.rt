@@ -2,7 +2,8 @@
 ghost use Rattle.std.specs.Prelude.{◌≡◌, ◌↔◌, ℕ, Bool, true, List, Option, Some, None, Ok, false, is_some, slice_set, IfOk, IfErr, IfSome, IsTrue};
 ghost use Rattle.study_retro.specs.Sound.{IsRight, NeedsAreRight};
 ghost use Rattle.study_retro.specs.TableSet.{add_fault};
-ghost use Rattle.study_retro.specs.Table.{table_of, class_number, IsClosed, IsComplete};
+ghost use Rattle.study_material.specs.Class.{class_number};
+ghost use Rattle.study_retro.specs.Table.{table_of, IsClosed, IsComplete};
 ghost use Rattle.study_tablefile.specs.Reading.{table_read};
 ghost use Rattle.study_script.specs.State.{State, is_among, first_lacking, IsGiven};
 ghost use Rattle.study_script.specs.StoreRefusals.{refusal_of_store, refusal_of_paged};

@@ -9,7 +9,8 @@ use borrow.Author.Tests.{ltb-true, leb-true}
 use Rattle.study_material.specs.declared.class.Class.{Class}
 use Rattle.study_material.specs.Needs.{size, needs_of, is_in, Reaches, IsNeeded, IsOrder, NeedsComeFirst}
 use Rattle.study_material.proofs.NeedsTables.{size_table, by_size_is}
-use Rattle.study_retro.specs.Table.{Table, IsClosed, class_number, table_of}
+use Rattle.study_material.specs.Class.{class_number}
+use Rattle.study_retro.specs.Table.{Table, IsClosed, table_of}
 use Rattle.study_retro.specs.declared.builder.BuildFault.{BuildFault}
 use Rattle.study_retro.specs.declared.builder.BuildFault.TheVariants as build
 use Rattle.study_retro.specs.declared.table_set.AddFault.{AddFault}

@@ -10,7 +10,7 @@ use Rattle.study_material.specs.declared.class.Class.TheVariants.{KBNK, KBPK, KN
 use Rattle.study_material.specs.declared.class.Class.TheVariants.{KQKB, KQKN, KQKP, KRKR, KRKB, KRKN, KRKP}
 use Rattle.study_material.specs.declared.class.Class.TheVariants.{KBKB, KBKN, KBKP, KNKN, KNKP, KPKP}
 use Rattle.study_material.specs.Class.{class_list}
-use Rattle.study_retro.specs.Table.{class_number}
+use Rattle.study_material.specs.Class.{class_number}
 use Rattle.study_tablefile.specs.declared.fault.SourceFault.{SourceFault}
 use Rattle.study_tablefile.specs.File.{pages_of}
 use Rattle.study_tablefile.specs.Source.{Question, of_header, of_page}

@@ -39,16 +39,16 @@ pub invariant_of-self-2 : goal.invariant_of-self-2
 invariant_of-self-2 g c =
     let same = ap (λ (w : Paged g.row.S.Denot). is_some (held_of w.sources c.args.class)) c.self.view_is in
     let of_class = differs_false the_type (search rules) c.in_ok-header.header.class c.args.class (sym c.ne.ensures ∙ c.if-ne.false) in
-    let small = subst (λ (n : ℕ). n < 36) c.place.ensures.value c.place.ensures.small in
+    let small = subst (λ (n : ℕ). n < 36) c.number.ensures.value c.number.ensures.small in
     let long = places_length c.self.inside.sources.items c.self.invariant.0.some in
     let none = same ∙ sym c.holds.ensures ∙ c.if-holds.false in (
       rw c.in_ok-make_places.ensures.made
-          (rw c.place.ensures.value (kept_with g.S.PageSource.honest (λ v. v.items) c.self.inside.sources.items
+          (rw c.number.ensures.value (kept_with g.S.PageSource.honest (λ v. v.items) c.self.inside.sources.items
           c.self.inside.kept.entries c.args.class
           (record { header = c.in_ok-header.header; source = c.header_of.new.source }) c.self.invariant.0
           none (subst (λ (x : Class). IsHeaderOf c.in_ok-header.header x) of_class c.in_ok-header.ensures.header) small)),
       rw c.in_ok-make_places.ensures.made
-          (rw c.place.ensures.value
+          (rw c.number.ensures.value
           (given_with g.S.PageSource.gives (λ v. v.items) g.S.PageSource.honest c.self.inside.sources.items
           c.self.inside.kept.entries c.args.class
           (record { header = c.in_ok-header.header; source = c.header_of.new.source }) c.self.invariant.0
@@ -72,7 +72,7 @@ returns-clause-added g c =
       c.in_ok-header.ensures.same,
       c.in_ok-header.ensures.alike,
       c.in_ok-header.ensures.count,
-      rw (← c.self.view_is) (rw c.in_ok-make_places.ensures.made (rw c.place.ensures.value refl)),
+      rw (← c.self.view_is) (rw c.in_ok-make_places.ensures.made (rw c.number.ensures.value refl)),
       c.in_ok-header.ensures.asked,
     )
 
@@ -83,12 +83,12 @@ returns-clause-honest g c = λ v known all right.
     let of_class = differs_false the_type (search rules) c.in_ok-header.header.class c.args.class (sym c.ne.ensures ∙ c.if-ne.false) in
     let before = subst (λ (w : Paged g.row.S.Denot). SourcesAreRight g.S.PageSource.honest w.sources) (sym c.self.view_is) all in
     rw c.in_ok-make_places.ensures.made
-    (rw c.place.ensures.value (right_with g.S.PageSource.honest (λ v. v.items) c.self.inside.sources.items
+    (rw c.number.ensures.value (right_with g.S.PageSource.honest (λ v. v.items) c.self.inside.sources.items
     c.self.inside.kept.entries c.args.class
     (record { header = c.in_ok-header.header; source = c.header_of.new.source }) c.self.invariant.0
     (same ∙ sym c.holds.ensures ∙ c.if-holds.false)
     (subst (λ (x : Class). IsHeaderOf c.in_ok-header.header x) of_class c.in_ok-header.ensures.header)
-    (subst (λ (n : ℕ). n < 36) c.place.ensures.value c.place.ensures.small) before
+    (subst (λ (n : ℕ). n < 36) c.number.ensures.value c.number.ensures.small) before
     (subst (λ (n : ℕ). GivesRight g.S.PageSource.honest c.header_of.new.source n c.args.class) (sym version)
     (gives_more g.S.PageSource.honest c.args.source c.header_of.new.source v c.args.class
     c.in_ok-header.ensures.same right))))
@@ -98,7 +98,7 @@ index_mut-requires g c =
     let long : length c.make_places.new.sources.items ≡ 36 =
     ap (λ (xs : List (Option (OpenTable g.row.S.Denot))). length xs) c.in_ok-make_places.ensures.made
     ∙ places_length c.self.inside.sources.items c.self.invariant.0.some in
-    omega (arith, long, c.place.ensures.small)
+    omega (arith, long, c.number.ensures.small)
 
 pub returns-clause-own : goal.returns-clause-own
 returns-clause-own g c = λ t v known honest.
