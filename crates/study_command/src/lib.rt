@@ -12,5 +12,7 @@ mod parser;
 mod path;
 mod path_text;
 
-pub use parser::read_command;
+pub use arguments::{as_text, is_printable, read_one_word};
+pub use parser::{read_command, read_side};
 pub use path::read_path;
+pub use path_text::{is_path_word, read_path_word, read_place};

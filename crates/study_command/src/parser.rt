@@ -220,7 +220,8 @@ fn read_stipulation(rest: &[u8]) -> Option<Stipulation>
     }
 }
 
-fn read_side(word: &[u8]) -> Option<Side>
+/// `white` or `black`.
+pub fn read_side(word: &[u8]) -> Option<Side>
     ensures { result ≡ side_told word.now }
 {
     if word == b"white".as_slice() {

@@ -14,7 +14,7 @@ use study_notation::same_promotion;
 use study_tree::Tree;
 
 /// Whether two moves are one.
-fn same_move(a: &Move, b: &Move) -> bool
+pub fn same_move(a: &Move, b: &Move) -> bool
     ensures { result ≡ same_move a.now b.now }
 {
     a.origin.number() == b.origin.number()

@@ -26,10 +26,11 @@ mod tree_edits;
 mod trial;
 
 pub use bench::{Bench, Shown};
+pub use child_by_move::same_move;
 pub use edit::{Edit, Stopped};
 pub use laws::{annotations_are_unique, duals_count_other_moves, edits_in_rows, faults_in_rows};
 pub use mark::{Mark, MoveMark};
-pub use mark_rules::{Aim, aim_of, hero_loses, hero_mates, hero_moves, holds};
+pub use mark_rules::{Aim, aim_of, hero_loses, hero_mates, hero_moves, holds, only_or_dual};
 pub use refusal::Refusal;
 pub use stipulation::{Goal, MateMoves, Stipulation};
 pub use tag::TagName;

@@ -126,7 +126,7 @@ fn count_holding(aim: &Aim, depth: usize, tally: &Tally) -> usize
 }
 
 /// The mark of a move that holds, as so many of the legal moves do.
-fn only_or_dual(count: usize) -> MoveMark
+pub fn only_or_dual(count: usize) -> MoveMark
     requires { count ≤ 256 }
     ensures { result ≡ only_or_dual count }
 {

@@ -4,5 +4,5 @@ use Rattle.std.specs.Borrow.{Bor}
 use Rattle.study_notation.specs.declared.san_parts.SanSquares.{SanSquares}
 use Rattle.study_notation.specs.SanParts as parts
 
-abbrev pub squares_view : SanSquares × Bor (List ℕ) → parts.Squares × List ℕ
+abbrev pub squares_view : SanSquares × Bor (List ℕ) → parts.SanSquares × List ℕ
 squares_view x = (record { file = x.0.file; rank = x.0.rank; is_capture = x.0.is_capture; target = x.0.target }, x.1.now)

@@ -8,10 +8,9 @@ ghost use Rattle.study_page.specs.Diagram.{man_words, listed, control, heard_wor
 use crate::drawing::Drawing;
 use crate::element::Element;
 use crate::html::Html;
-use crate::words::side_name;
 use std::alloc::{AllocError, Allocator};
 use study_board::{Kind, Man, Position, Side};
-use study_pgn::Text;
+use study_pgn::{Text, side_name};
 
 fn letter(kind: Kind) -> u8
     ensures { result ≡ letter kind }

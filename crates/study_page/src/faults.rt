@@ -8,12 +8,12 @@ ghost use Rattle.study_page.specs.Rows.{lets_go, mistake_item};
 use crate::element::Element;
 use crate::html::Html;
 use crate::items::{add_difference, loses_time, put_words};
-use crate::words::{add_label, add_san, add_value};
+use crate::words::add_label;
 use std::alloc::{AllocError, Allocator};
 use study_board::Position;
 use study_moves::Move;
 use study_notation::Start;
-use study_pgn::Text;
+use study_pgn::{Text, add_san, add_value};
 use study_retro::Value;
 use study_review::{Alternative, Continuation};
 

@@ -10,12 +10,11 @@ use crate::drawing::Drawing;
 use crate::element::Element;
 use crate::html::Html;
 use crate::items::{put_told, put_words};
-use crate::words::add_san;
 use std::alloc::{AllocError, Allocator};
 use study_board::Position;
 use study_moves::{Move, legal_moves, played};
 use study_notation::write_san;
-use study_pgn::Text;
+use study_pgn::{Text, add_san};
 use study_review::Defence;
 
 fn add_several<A: Allocator>(text: &mut Text<'_, A>, answers: u16) -> Result<(), AllocError>

@@ -12,12 +12,11 @@ use crate::drawing::Drawing;
 use crate::element::Element;
 use crate::html::Html;
 use crate::items::put_words;
-use crate::verdict::add_stipulation;
 use std::alloc::{AllocError, Allocator};
 use study_board::{Man, Side};
 use study_marks::{Bench, TagName};
 use study_notation::write_fen;
-use study_pgn::Text;
+use study_pgn::{Text, add_stipulation};
 
 /// The title: the tag Event.
 fn put_title<'a, 'b, A: Allocator, B: Allocator>(

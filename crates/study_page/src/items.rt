@@ -14,12 +14,12 @@ use crate::diagram::draw_mini;
 use crate::element::Element;
 use crate::html::Html;
 use crate::signs::is_stalemate;
-use crate::words::{add_label, add_san, add_short, add_value};
+use crate::words::{add_label, add_short};
 use std::alloc::{AllocError, Allocator};
 use study_board::{Position, Side};
 use study_moves::{Move, legal_moves};
 use study_notation::Start;
-use study_pgn::Text;
+use study_pgn::{Text, add_san, add_value};
 use study_retro::Value;
 use study_review::{Alternative, Continuation};
 

@@ -16,11 +16,11 @@ use crate::element::Element;
 use crate::fault::PageFault;
 use crate::html::Html;
 use crate::items::put_words;
-use crate::verdict::{add_stamp_words, add_stipulation, judge};
+use crate::verdict::{add_stamp_words, judge};
 use std::alloc::{AllocError, Allocator};
 use std::io::Write;
 use study_marks::{Bench, TagName};
-use study_pgn::Text;
+use study_pgn::{Text, add_stipulation};
 use study_tablefile::write_text;
 
 fn put_number<'a, A: Allocator>(

@@ -19,7 +19,7 @@ use crate::groups::put_defences;
 use crate::html::Html;
 use crate::items::{put_card, put_try};
 use crate::rows::{add_keep, add_moves, put_end};
-use crate::signs::{is_defended, is_open_end, is_solution_move, is_try, mark_at, value_at};
+use crate::signs::{is_defended, is_open_end, is_solution_move, is_try, mark_at};
 use crate::words::add_where;
 use std::alloc::{AllocError, Allocator};
 use study_board::Position;
@@ -30,7 +30,7 @@ use study_prober::Values;
 use study_retro::Value;
 use study_review::{
     Alternative, Continuation, Defence, Made, Node, Place, best_play, children_in, defences,
-    drawing_moves, made_in, place_in, refutations, timed_alternatives,
+    drawing_moves, made_in, place_in, refutations, timed_alternatives, value_at,
 };
 
 /// The item of a dual.

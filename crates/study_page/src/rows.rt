@@ -9,14 +9,14 @@ ghost use Rattle.study_page.specs.Rows.{is_white, number_words, play_words, keep
 use crate::element::Element;
 use crate::html::Html;
 use crate::items::{put_front_cells, put_words};
-use crate::words::{add_front, add_san};
+use crate::words::add_front;
 use std::alloc::{AllocError, Allocator};
 use study_board::{Position, Side};
 use study_moves::{legal_moves, played};
 use study_notation::Start;
-use study_pgn::Text;
+use study_pgn::{Text, add_san};
 use study_retro::Value;
-use study_review::Continuation;
+use study_review::{Continuation, add_move};
 
 fn is_white(side: Side) -> bool
     ensures { result ≡ is_white side }
@@ -66,19 +66,6 @@ pub fn add_moves<A: Allocator>(
             add_moves(text, false, start, depth + 1, &next, rest)
         }
     }
-}
-
-#[tactic(auto, unfolding(study_review::specs::Words::move_words))]
-fn add_move<A: Allocator>(
-    text: &mut Text<'_, A>,
-    p: &Position,
-    x: &Continuation,
-) -> Result<(), AllocError>
-    requires { is_legal p.now x.now.played ≡ true }
-    ensures { OnOk result (text.new ≡ text.old ++ move_words p.now x.now) }
-{
-    text.add(b" ")?;
-    add_san(text, p, x.played)
 }
 
 fn add_each_move<A: Allocator>(

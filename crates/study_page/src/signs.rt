@@ -1,18 +1,16 @@
 //! What a node shows, and which rows it has.
 ghost use Rattle.std.specs.Prelude.{◌≡◌, ◌<◌};
-ghost use Rattle.study_marks.specs.Goals.{aim_of};
 ghost use Rattle.study_marks.specs.BenchState.{marked};
 ghost use Rattle.study_marks.specs.FaultSums.{below_at};
 ghost use Rattle.study_marks.specs.Study.{position_at};
-ghost use Rattle.study_review.specs.Nodes.{is_mistake, is_idle, none_idle, hero_made, is_stalemate, mark_at, value_at};
+ghost use Rattle.study_review.specs.Nodes.{none_idle, hero_made, is_stalemate, mark_at};
 ghost use Rattle.study_review.specs.Nodes.{front_of, is_try, is_defended, is_open_end, is_solution_move, is_first_idle, has_none};
 
 use std::alloc::Allocator;
 use study_board::Position;
 use study_marks::{Aim, Bench, MoveMark, hero_moves, holds};
 use study_moves::{in_check, legal_moves};
-use study_retro::Value;
-use study_review::is_in_solution;
+use study_review::{aim_in, is_idle, is_in_solution, is_mistake, value_at};
 
 /// The mark of the move that led to the node.
 pub fn mark_at<'b, B: Allocator>(bench: &Bench<'b, B>, steps: &[u16]) -> Option<MoveMark>
@@ -21,33 +19,6 @@ pub fn mark_at<'b, B: Allocator>(bench: &Bench<'b, B>, steps: &[u16]) -> Option<
     match bench.shown(steps) {
         None => None,
         Some(node) => node.mark.on_move,
-    }
-}
-
-pub fn value_at<'b, B: Allocator>(bench: &Bench<'b, B>, steps: &[u16]) -> Value
-    ensures { result ≡ value_at (marked bench.now) steps.now }
-{
-    match bench.shown(steps) {
-        None => Value::Draw,
-        Some(node) => node.mark.value,
-    }
-}
-
-fn is_mistake(mark: Option<MoveMark>) -> bool
-    ensures { result ≡ is_mistake mark }
-{
-    match mark {
-        Some(MoveMark::Mistake) => true,
-        _ => false,
-    }
-}
-
-fn is_idle(mark: Option<MoveMark>) -> bool
-    ensures { result ≡ is_idle mark }
-{
-    match mark {
-        Some(MoveMark::Idle) => true,
-        _ => false,
     }
 }
 
@@ -75,14 +46,6 @@ pub fn is_stalemate(p: &Position) -> bool
     ensures { result ≡ is_stalemate p.now }
 {
     legal_moves(p).is_empty() && !in_check(p)
-}
-
-pub fn aim_in<'b, B: Allocator>(bench: &Bench<'b, B>) -> Aim
-    ensures { result ≡ aim_of (marked bench.now) }
-{
-    let first = bench.start();
-    let stipulation = bench.stipulation();
-    study_marks::aim_of(&stipulation, first.position.to_move())
 }
 
 /// The path of the node before, of the root its own.

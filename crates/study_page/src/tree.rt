@@ -6,13 +6,12 @@ use crate::element::Element;
 use crate::html::Html;
 use crate::items::put_words;
 use crate::rows::add_number;
-use crate::signs::{aim_in, mark_at, value_at};
-use crate::walk::count_at;
-use crate::words::{add_san, add_short};
+use crate::signs::mark_at;
+use crate::words::add_short;
 use std::alloc::{AllocError, Allocator};
 use study_marks::{Bench, MoveMark, hero_moves};
-use study_pgn::Text;
-use study_review::{Made, made_in};
+use study_pgn::{Text, add_san};
+use study_review::{Made, aim_in, count_at, made_in, value_at};
 
 fn move_element(mark: Option<MoveMark>) -> Element {
     match mark {

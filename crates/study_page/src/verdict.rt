@@ -1,28 +1,21 @@
 //! The verdict, and what it rests on.
-ghost use Rattle.std.specs.Prelude.{◌≡◌, ◌++◌, ◌≤◌, Some, OnOk};
-ghost use Rattle.study_tree.specs.Edits.{width};
-ghost use Rattle.study_marks.specs.Goals.{aim_of, is_right};
+ghost use Rattle.std.specs.Prelude.{◌≡◌, ◌++◌, OnOk};
 ghost use Rattle.study_marks.specs.BenchState.{marked};
-ghost use Rattle.study_marks.specs.FaultSums.{skipped};
 ghost use Rattle.study_marks.specs.Verdict.{verdict};
 ghost use Rattle.study_marks.specs.Study.{Study};
 ghost use Rattle.study_marks.specs.declared.mark.Mark.{Mark as AMark};
-ghost use Rattle.study_pgn.specs.Pgn.{goal_text, stipulation_text};
-ghost use Rattle.study_review.specs.Review.{is_empty, none_below};
 ghost use Rattle.study_page.specs.Verdict.{stamp_of, stamp_element, stamp_words, stamp_part, none_given, faults_words};
 ghost use Rattle.study_page.specs.Verdict.{holds_words, count_words, sentence, at_start, start_words, fault_list, verdict_part, judged};
 
 use crate::element::Element;
 use crate::html::Html;
 use crate::items::put_words;
-use crate::signs::aim_in;
-use crate::walk::count_at;
-use crate::words::{add_value, side_name};
 use std::alloc::{AllocError, Allocator};
 use study_board::Side;
-use study_marks::{Bench, Goal, Mark, Stipulation, hero_loses, hero_mates, hero_moves};
-use study_pgn::Text;
+use study_marks::{Bench, Mark, Stipulation};
+use study_pgn::{Text, add_value, is_right, root_mark};
 use study_retro::Value;
+use study_review::is_empty;
 
 /// The verdict on a study: wrong, sound, or unsound with so many faults.
 #[derive(Clone, Copy)]
@@ -30,23 +23,6 @@ pub enum Stamp {
     Wrong,
     Sound,
     Unsound(u32),
-}
-
-/// Whether the root's value is what the stipulation asks for.
-fn is_right(goal: Goal, to_move: bool, value: Value) -> bool
-    ensures { result ≡ is_right (record { goal = goal; hero_first = to_move }) value }
-{
-    match goal {
-        Goal::Win => hero_mates(to_move, value).is_some(),
-        Goal::Draw => !hero_loses(to_move, value),
-        Goal::MateIn(moves) => match hero_mates(to_move, value) {
-            None => false,
-            Some(plies) => {
-                let limit = 2 * moves.count();
-                plies == if to_move { limit - 1 } else { limit }
-            }
-        },
-    }
 }
 
 /// The verdict on a study in which this side moves first.
@@ -183,31 +159,6 @@ fn add_start<A: Allocator>(
     text.add(b".")
 }
 
-/// Whether no child of the root from a place on has a child.
-fn none_below<'b, B: Allocator>(bench: &Bench<'b, B>, place: u16, count: u16) -> bool
-    requires within { place ≤ count }
-    requires all { count ≡ width (marked bench.now).tree.below }
-    ensures { result ≡ none_below (skipped place (marked bench.now).tree.below) }
-{
-    if place >= count {
-        return true;
-    }
-    count_at(bench, &[place]) == 0 && none_below(bench, place + 1, count)
-}
-
-/// Whether the solution has no move of the hero.
-pub fn is_empty<'b, B: Allocator>(bench: &Bench<'b, B>) -> bool
-    ensures { result ≡ is_empty (aim_of (marked bench.now)).hero_first (marked bench.now).tree.below }
-{
-    let aim = aim_in(bench);
-    let count = count_at(bench, &[]);
-    if hero_moves(&aim, 0) {
-        count == 0
-    } else {
-        none_below(bench, 0, count)
-    }
-}
-
 fn put_faults<A: Allocator>(html: &mut Html<'_, A>, faults: &Html<'_, A>) -> Result<(), AllocError>
     ensures { OnOk result (html.new ≡ html.old ++ fault_list faults.now) }
 {
@@ -248,40 +199,6 @@ pub fn put_verdict<'a, A: Allocator>(
     html.put(Element::Verdict, &part)
 }
 
-fn add_goal<A: Allocator>(text: &mut Text<'_, A>, goal: Goal) -> Result<(), AllocError>
-    ensures { OnOk result (text.new ≡ text.old ++ goal_text goal) }
-{
-    match goal {
-        Goal::Win => text.add(b" to win"),
-        Goal::Draw => text.add(b" to draw"),
-        Goal::MateIn(moves) => {
-            text.add(b" to mate in ")?;
-            text.add_number(moves.count() as u32)
-        }
-    }
-}
-
-/// `White to win`.
-pub fn add_stipulation<A: Allocator>(
-    text: &mut Text<'_, A>,
-    stipulation: Stipulation,
-) -> Result<(), AllocError>
-    ensures { OnOk result (text.new ≡ text.old ++ stipulation_text stipulation) }
-{
-    text.add(side_name(stipulation.hero))?;
-    add_goal(text, stipulation.goal)
-}
-
-/// The mark of the root.
-fn root_of<'b, B: Allocator>(bench: &Bench<'b, B>) -> Option<Mark>
-    ensures { result ≡ Some (marked bench.now).tree.label }
-{
-    match bench.shown(&[]) {
-        None => None,
-        Some(node) => Some(node.mark),
-    }
-}
-
 fn stamp_in<'b, B: Allocator>(bench: &Bench<'b, B>, root: &Mark) -> Stamp
     requires { root.now ≡ (marked bench.now).tree.label }
     ensures { result ≡ stamp_of (verdict (marked bench.now)) }
@@ -306,8 +223,5 @@ fn judged_at<'b, B: Allocator>(bench: &Bench<'b, B>, root: &Mark) -> Judged
 pub fn judge<'b, B: Allocator>(bench: &Bench<'b, B>) -> Judged
     ensures { result ≡ judged (marked bench.now) }
 {
-    match root_of(bench) {
-        None => unreachable!(),
-        Some(root) => judged_at(bench, &root),
-    }
+    judged_at(bench, &root_mark(bench))
 }

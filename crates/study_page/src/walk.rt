@@ -1,6 +1,5 @@
 //! The parts of a page over all nodes, in written order.
 ghost use Rattle.std.specs.Prelude.{◌≡◌, ◌∷◌, IsTrue, OnOk};
-ghost use Rattle.study_tree.specs.Edits.{width};
 ghost use Rattle.study_tree.specs.Tree.{has_spot};
 ghost use Rattle.study_marks.specs.BenchState.{marked};
 ghost use Rattle.study_marks.specs.FaultSums.{below_at};
@@ -14,7 +13,7 @@ use crate::parts::{add_card, add_defences, add_end, add_fault, add_try};
 use std::alloc::Allocator;
 use study_marks::Bench;
 use study_prober::Values;
-use study_review::place_in;
+use study_review::{count_at, place_in};
 
 /// A part of a page that has something of some nodes.
 #[derive(Clone, Copy)]
@@ -48,15 +47,6 @@ fn add_own<'a, 'b, A: Allocator, B: Allocator, V: Values>(
             Part::Defences => add_defences(alloc, html, bench, steps, &place, values),
             Part::Ends => add_end(alloc, html, bench, steps, &place, values),
         },
-    }
-}
-
-pub fn count_at<'b, B: Allocator>(bench: &Bench<'b, B>, steps: &[u16]) -> u16
-    ensures { result ≡ width (below_at (marked bench.now).tree.below steps.now) }
-{
-    match bench.shown(steps) {
-        None => 0,
-        Some(node) => node.children,
     }
 }
 

@@ -2,53 +2,16 @@
 ghost use Rattle.std.specs.Prelude.{◌≡◌, ◌++◌, ◌<◌, true, OnOk};
 ghost use Rattle.study_moves.specs.Rules.{is_legal};
 ghost use Rattle.study_marks.specs.BenchState.{marked};
-ghost use Rattle.study_pgn.specs.Values.{side_name, mates_text, value_text};
-ghost use Rattle.study_pgn.specs.Moves.{move_dots};
-ghost use Rattle.study_notation.specs.Written.{move_text};
 ghost use Rattle.study_page.specs.Words.{plies_of, half_of, number_at, front_words, minus_where, short_words, label, where_words};
 
 use std::alloc::{AllocError, Allocator};
 use study_board::{Position, Side};
 use study_marks::Bench;
 use study_moves::Move;
-use study_notation::{Start, write_san};
-use study_pgn::Text;
+use study_notation::Start;
+use study_pgn::{Text, add_san, move_dots};
 use study_retro::Value;
 use study_review::made_in;
-
-pub fn side_name(side: Side) -> &'static [u8]
-    ensures { result.now ≡ side_name side }
-{
-    match side {
-        Side::White => b"White",
-        Side::Black => b"Black",
-    }
-}
-
-/// Who mates, and in how many moves.
-fn add_mates<A: Allocator>(text: &mut Text<'_, A>, side: Side, moves: u8) -> Result<(), AllocError>
-    ensures { OnOk result (text.new ≡ text.old ++ mates_text side moves) }
-{
-    text.add(side_name(side))?;
-    text.add(b" mates in ")?;
-    text.add_number(moves as u32)
-}
-
-/// What a value says where this side is to move.
-pub fn add_value<A: Allocator>(
-    text: &mut Text<'_, A>,
-    side: Side,
-    value: Value,
-) -> Result<(), AllocError>
-    ensures { OnOk result (text.new ≡ text.old ++ value_text side value) }
-{
-    match value {
-        Value::Draw => text.add(b"draw"),
-        Value::Win(plies) => add_mates(text, side, plies / 2 + plies % 2),
-        Value::Loss(0) => text.add(b"mate"),
-        Value::Loss(plies) => add_mates(text, side.other(), plies / 2),
-    }
-}
 
 fn add_minus<A: Allocator>(text: &mut Text<'_, A>, minus: bool) -> Result<(), AllocError>
     ensures { OnOk result (text.new ≡ text.old ++ minus_where minus) }
@@ -79,15 +42,6 @@ pub fn add_short<A: Allocator>(
             add_minus(text, hero)?;
             text.add_number((plies / 2) as u32)
         }
-    }
-}
-
-fn move_dots(side: Side) -> &'static [u8]
-    ensures { result.now ≡ move_dots side }
-{
-    match side {
-        Side::White => b".",
-        Side::Black => b"...",
     }
 }
 
@@ -130,17 +84,6 @@ pub fn add_front<A: Allocator>(
     text.add_number(number_at(start, depth))?;
     text.add(move_dots(side))?;
     text.add(b" ")
-}
-
-pub fn add_san<A: Allocator>(
-    text: &mut Text<'_, A>,
-    p: &Position,
-    m: Move,
-) -> Result<(), AllocError>
-    requires { is_legal p.now m ≡ true }
-    ensures { OnOk result (text.new ≡ text.old ++ move_text p.now m) }
-{
-    text.add(write_san(p, m).as_str().as_bytes())
 }
 
 /// A move that is made at this depth, with its number.

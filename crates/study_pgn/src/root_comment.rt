@@ -4,7 +4,7 @@ ghost use Rattle.study_marks.specs.Goals.{is_right};
 ghost use Rattle.study_marks.specs.Study.{Study};
 ghost use Rattle.study_marks.specs.declared.mark.Mark.{Mark as AMark};
 ghost use Rattle.study_marks.specs.Verdict.{verdict};
-ghost use Rattle.study_pgn.specs.Pgn.{goal_text, verdict_text, opening_words, opening_text};
+ghost use Rattle.study_pgn.specs.Pgn.{goal_text, stipulation_text, verdict_text, opening_words, opening_text};
 
 use crate::text_buffer::Text;
 use crate::value_text::{add_value, side_name};
@@ -26,8 +26,19 @@ fn add_goal<A: Allocator>(text: &mut Text<'_, A>, goal: Goal) -> Result<(), Allo
     }
 }
 
-// Whether the root's value is what the stipulation asks for.
-fn is_right(goal: Goal, to_move: bool, value: Value) -> bool
+/// `White to mate in 3`.
+pub fn add_stipulation<A: Allocator>(
+    text: &mut Text<'_, A>,
+    stipulation: Stipulation,
+) -> Result<(), AllocError>
+    ensures { OnOk result (text.new ≡ text.old ++ stipulation_text stipulation) }
+{
+    text.add(side_name(stipulation.hero))?;
+    add_goal(text, stipulation.goal)
+}
+
+/// Whether the root's value is what the stipulation asks for; `to_move` tells whether the hero is to move there.
+pub fn is_right(goal: Goal, to_move: bool, value: Value) -> bool
     ensures { result ≡ is_right (record { goal = goal; hero_first = to_move }) value }
 {
     match goal {
@@ -74,8 +85,7 @@ pub fn add_opening_words<A: Allocator>(
     ensures { (s : Study AMark) → s.stipulation ≡ stipulation → s.start.position.to_move ≡ first → s.tree.label ≡ root
         → OnOk result (text.new ≡ text.old ++ opening_words s) }
 {
-    text.add(side_name(stipulation.hero))?;
-    add_goal(text, stipulation.goal)?;
+    add_stipulation(text, stipulation)?;
     text.add(b": ")?;
     add_verdict(text, stipulation, first, root)?;
     text.add(b", ")?;

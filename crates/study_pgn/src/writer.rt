@@ -17,13 +17,13 @@ use std::io::Write;
 use study_marks::{Bench, Mark};
 use study_tablefile::write_text;
 
-// The mark of the root.
-fn root_of<'b, B: Allocator>(bench: &Bench<'b, B>) -> Option<Mark>
-    ensures { result ≡ Some (marked bench.now).tree.label }
+/// The mark of the root.
+pub fn root_mark<'b, B: Allocator>(bench: &Bench<'b, B>) -> Mark
+    ensures { result ≡ (marked bench.now).tree.label }
 {
     match bench.shown(&[]) {
-        None => None,
-        Some(node) => Some(node.mark),
+        None => unreachable!(),
+        Some(node) => node.mark,
     }
 }
 
@@ -54,14 +54,13 @@ fn pgn_text<'a, 'b, A: Allocator, B: Allocator>(
 ) -> Result<Text<'a, A>, AllocError>
     ensures { IfOk result (λ text. text ≡ pgn_text (marked bench.now)) }
 {
+    let root = root_mark(bench);
+    let moves = movetext(alloc, bench, root)?;
     let mut text = Text::new(alloc);
-    if let Some(root) = root_of(bench) {
-        let moves = movetext(alloc, bench, root)?;
-        add_tags(&mut text, bench, root)?;
-        text.add(b"\n")?;
-        add_wrapped(&mut text, moves.as_slice())?;
-        text.add(b"\n")?;
-    }
+    add_tags(&mut text, bench, root)?;
+    text.add(b"\n")?;
+    add_wrapped(&mut text, moves.as_slice())?;
+    text.add(b"\n")?;
     Ok(text)
 }
 

@@ -68,7 +68,7 @@ impl BestReplies {
     }
 
     /// The value of a position whose moves lead to what was seen.
-    pub fn value_from_moves(self, mate: bool) -> Value
+    pub fn value(self, mate: bool) -> Value
         ensures { result ≡ given_by mate self.lost self.won self.drawn }
     {
         if let Some(n) = self.lost {

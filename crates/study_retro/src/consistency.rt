@@ -29,13 +29,13 @@ pub fn value_from_moves<G: Game>(game: &G, cells: &[u8], at: &G::Position) -> Va
     ensures { CellsGive (G.numbered game.now) cells.now at.now result }
 {
     let moves = game.moves(at);
-    let mut tally = BestReplies::new();
+    let mut replies = BestReplies::new();
     for by in moves.as_slice() {
         let to = game.played(at, *by);
         let value = label(game, cells, &to);
-        tally = tally.with(value);
+        replies = replies.with(value);
     }
-    tally.given(game.is_mate(at))
+    replies.value(game.is_mate(at))
 }
 
 /// Whether a number's cell tells what the cells give it.
@@ -58,7 +58,7 @@ pub fn first_inconsistent<G: Game>(game: &G, cells: &[u8]) -> Option<u32>
     requires laws { IsNumberedClass (G.numbered game.now) }
     requires cells { length cells.now ≡ (G.numbered game.now).size }
     ensures other { IfSome result (λ n. (n < (G.numbered game.now).size) × IsOtherAt (G.numbered game.now) cells.now n) }
-    ensures value_from_moves { IfNone result ((n : ℕ) → n < (G.numbered game.now).size → IsGivenAt (G.numbered game.now) cells.now n) }
+    ensures given { IfNone result ((n : ℕ) → n < (G.numbered game.now).size → IsGivenAt (G.numbered game.now) cells.now n) }
 {
     for number in 0..game.cells() {
         if !is_consistent(game, cells, number) {

@@ -9,19 +9,19 @@ use crate::game::{Game, Location};
 use crate::stepped::SteppedGame;
 use crate::value::Value;
 
-/// Takes the value of a position out of the class into a tally.
-pub fn with_conversion<G: Game>(game: &G, tally: BestReplies, at: &G::Position) -> BestReplies
+/// Takes the value of a position out of the class into a replies.
+pub fn with_conversion<G: Game>(game: &G, replies: BestReplies, at: &G::Position) -> BestReplies
     requires { (G.numbered game.now).known at.now }
-    ensures in_lost { (G.numbered game.now).home at.now ≡ true → result.lost ≡ tally.lost }
-    ensures in_won { (G.numbered game.now).home at.now ≡ true → result.won ≡ tally.won }
-    ensures in_drawn { (G.numbered game.now).home at.now ≡ true → result.drawn ≡ tally.drawn }
-    ensures out_lost { (G.numbered game.now).home at.now ≡ false → result.lost ≡ lost_with tally.lost ((G.numbered game.now).outside at.now) }
-    ensures out_won { (G.numbered game.now).home at.now ≡ false → result.won ≡ won_with tally.won ((G.numbered game.now).outside at.now) }
-    ensures out_drawn { (G.numbered game.now).home at.now ≡ false → result.drawn ≡ drawn_with tally.drawn ((G.numbered game.now).outside at.now) }
+    ensures in_lost { (G.numbered game.now).home at.now ≡ true → result.lost ≡ replies.lost }
+    ensures in_won { (G.numbered game.now).home at.now ≡ true → result.won ≡ replies.won }
+    ensures in_drawn { (G.numbered game.now).home at.now ≡ true → result.drawn ≡ replies.drawn }
+    ensures out_lost { (G.numbered game.now).home at.now ≡ false → result.lost ≡ lost_with replies.lost ((G.numbered game.now).outside at.now) }
+    ensures out_won { (G.numbered game.now).home at.now ≡ false → result.won ≡ won_with replies.won ((G.numbered game.now).outside at.now) }
+    ensures out_drawn { (G.numbered game.now).home at.now ≡ false → result.drawn ≡ drawn_with replies.drawn ((G.numbered game.now).outside at.now) }
 {
     match game.place(at) {
-        Location::Cell(_) => tally,
-        Location::Outside(value) => tally.with(value),
+        Location::Cell(_) => replies,
+        Location::Outside(value) => replies.with(value),
     }
 }
 
@@ -34,14 +34,14 @@ pub fn value_by_conversion<G: Game>(game: &G, at: &G::Position) -> Value
     ensures { OutsideGives (G.numbered game.now) at.now result }
 {
     let moves = game.moves(at);
-    let mut tally = BestReplies::new();
+    let mut replies = BestReplies::new();
     for by in moves.as_slice() {
         if game.leaves(at, *by) {
             let to = game.played(at, *by);
-            tally = with_conversion(game, tally, &to);
+            replies = with_conversion(game, replies, &to);
         }
     }
-    tally.given(false)
+    replies.value(false)
 }
 
 /// What a number begins with: its cell, and whether it has a mate that no cell can tell.

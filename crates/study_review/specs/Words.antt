@@ -19,7 +19,7 @@ value_words (Win n) = codes "win " ++ decimal n
 value_words (Loss n) = codes "loss " ++ decimal n
 value_words Draw = codes "draw"
 
--- a kind of line and a path, with a space behind each
+-- a kind of line and a path, with a space after each
 unfoldable pub front_words : List ℕ → List ℕ → List ℕ
 front_words kind path = kind ++ (path_text path ++ codes " ")
 

@@ -1,22 +1,13 @@
 //! Legal moves beside some.
 ghost use Rattle.std.specs.Prelude.{◌≡◌, true};
 ghost use Rattle.std.specs.List.{All};
-ghost use Rattle.study_marks.specs.Study.{same_move};
 ghost use Rattle.study_moves.specs.Rules.{is_legal};
 ghost use Rattle.study_review.specs.Continuations.{is_among, others};
 
 use arrayvec::ArrayVec;
 use study_board::Position;
+use study_marks::same_move;
 use study_moves::{Move, legal_moves};
-use study_notation::same_promotion;
-
-fn same_move(a: &Move, b: &Move) -> bool
-    ensures { result ≡ same_move a.now b.now }
-{
-    a.origin.number() == b.origin.number()
-        && a.target.number() == b.target.number()
-        && same_promotion(a.promoted, b.promoted)
-}
 
 /// Whether the move is one of these.
 pub fn is_among(m: &Move, moves: &[Move]) -> bool

@@ -2,13 +2,15 @@
 ghost use Rattle.std.specs.Prelude.{◌≡◌, ◌&&◌, ◌||◌};
 ghost use Rattle.study_marks.specs.Goals.{aim_of};
 ghost use Rattle.study_marks.specs.BenchState.{marked};
-ghost use Rattle.study_review.specs.Nodes.{is_mistake, is_idle};
+ghost use Rattle.study_review.specs.Nodes.{is_mistake, is_idle, value_at};
 
 use crate::stand::Stand;
 use std::alloc::Allocator;
 use study_marks::{Aim, Bench, MoveMark};
+use study_retro::Value;
 
-fn is_mistake(mark: Option<MoveMark>) -> bool
+/// Whether the move is a mistake.
+pub fn is_mistake(mark: Option<MoveMark>) -> bool
     ensures { result ≡ is_mistake mark }
 {
     match mark {
@@ -17,6 +19,7 @@ fn is_mistake(mark: Option<MoveMark>) -> bool
     }
 }
 
+/// Whether the move is idle.
 pub fn is_idle(mark: Option<MoveMark>) -> bool
     ensures { result ≡ is_idle mark }
 {
@@ -40,10 +43,21 @@ pub fn is_solution_move(made: bool, here: &Stand) -> bool
     made && here.solution
 }
 
+/// What the hero is to reach, and whether he makes the first move.
 pub fn aim_in<'b, B: Allocator>(bench: &Bench<'b, B>) -> Aim
     ensures { result ≡ aim_of (marked bench.now) }
 {
     let first = bench.start();
     let stipulation = bench.stipulation();
     study_marks::aim_of(&stipulation, first.position.to_move())
+}
+
+/// The value of the node, a draw where there is none.
+pub fn value_at<'b, B: Allocator>(bench: &Bench<'b, B>, steps: &[u16]) -> Value
+    ensures { result ≡ value_at (marked bench.now) steps.now }
+{
+    match bench.shown(steps) {
+        None => Value::Draw,
+        Some(node) => node.mark.value,
+    }
 }

@@ -23,6 +23,7 @@ use study_board::Position;
 use study_marks::{Aim, Bench, Mark, hero_moves};
 use study_prober::Values;
 
+/// How many children the node has, none where there is no node.
 pub fn count_at<'b, B: Allocator>(bench: &Bench<'b, B>, steps: &[u16]) -> u16
     ensures { result ≡ width (below_at (marked bench.now).tree.below steps.now) }
 {

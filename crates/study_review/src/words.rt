@@ -22,8 +22,8 @@ use study_notation::write_san;
 use study_pgn::Text;
 use study_retro::Value;
 
-/// A word, and a number behind it.
-fn add_counted<A: Allocator>(
+/// A word, and a number after it.
+pub fn add_counted<A: Allocator>(
     text: &mut Text<'_, A>,
     word: &[u8],
     number: u8,
@@ -34,7 +34,8 @@ fn add_counted<A: Allocator>(
     text.add_number(number as u32)
 }
 
-fn add_value<A: Allocator>(text: &mut Text<'_, A>, value: Value) -> Result<(), AllocError>
+/// A value as the script tells it: `win 3`, in plies.
+pub fn add_value<A: Allocator>(text: &mut Text<'_, A>, value: Value) -> Result<(), AllocError>
     ensures { OnOk result (text.new ≡ text.old ++ value_words value) }
 {
     match value {
@@ -57,7 +58,8 @@ fn add_places<A: Allocator>(text: &mut Text<'_, A>, steps: &[u16]) -> Result<(),
     }
 }
 
-fn add_path<A: Allocator>(text: &mut Text<'_, A>, steps: &[u16]) -> Result<(), AllocError>
+/// A path as the script has it: `root`, or places from the root with dots between them.
+pub fn add_path<A: Allocator>(text: &mut Text<'_, A>, steps: &[u16]) -> Result<(), AllocError>
     ensures { OnOk result (text.new ≡ text.old ++ path_text steps.now) }
 {
     match steps.split_first() {
@@ -69,9 +71,9 @@ fn add_path<A: Allocator>(text: &mut Text<'_, A>, steps: &[u16]) -> Result<(), A
     }
 }
 
-/// A kind of line, and a path.
+/// A kind of line, and a path, with a space after it.
 #[tactic(auto, unfolding(crate::specs::Words::front_words))]
-fn add_front<A: Allocator>(
+pub fn add_front<A: Allocator>(
     text: &mut Text<'_, A>,
     kind: &[u8],
     steps: &[u16],
@@ -274,7 +276,8 @@ pub fn add_play<A: Allocator>(
 }
 
 #[tactic(auto, unfolding(crate::specs::Words::move_words))]
-fn add_move<A: Allocator>(
+/// A move, after a space.
+pub fn add_move<A: Allocator>(
     text: &mut Text<'_, A>,
     p: &Position,
     x: &Continuation,

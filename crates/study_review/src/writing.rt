@@ -40,9 +40,9 @@ fn add_study<'b, A: Allocator, B: Allocator>(
     text.add(b"\n")
 }
 
-/// The stipulation, with its verdict.
+/// The line of the stipulation, with its verdict.
 #[tactic(auto, unfolding(crate::specs::Review::stipulation_line))]
-fn add_stipulation<'b, A: Allocator, B: Allocator>(
+pub fn add_stipulation_line<'b, A: Allocator, B: Allocator>(
     text: &mut Text<'_, A>,
     bench: &Bench<'b, B>,
     root: Mark,
@@ -72,7 +72,8 @@ fn none_below<'b, B: Allocator>(bench: &Bench<'b, B>, place: u16, count: u16) ->
     count_at(bench, &[place]) == 0 && none_below(bench, place + 1, count)
 }
 
-fn is_empty<'b, B: Allocator>(bench: &Bench<'b, B>) -> bool
+/// Whether the solution has no move of the hero.
+pub fn is_empty<'b, B: Allocator>(bench: &Bench<'b, B>) -> bool
     ensures { result ≡ is_empty (aim_of (marked bench.now)).hero_first (marked bench.now).tree.below }
 {
     let aim = aim_in(bench);
@@ -96,16 +97,6 @@ fn add_empty<'b, A: Allocator, B: Allocator>(
     Ok(())
 }
 
-/// The mark of the root.
-fn root_of<'b, B: Allocator>(bench: &Bench<'b, B>) -> Mark
-    ensures { result ≡ (marked bench.now).tree.label }
-{
-    match bench.shown(&[]) {
-        None => unreachable!(),
-        Some(node) => node.mark,
-    }
-}
-
 /// The lines before those of the faults.
 fn add_head<'b, A: Allocator, B: Allocator>(
     text: &mut Text<'_, A>,
@@ -118,7 +109,7 @@ fn add_head<'b, A: Allocator, B: Allocator>(
         ++ (stipulation_line (marked bench.now) ++ empty_line (marked bench.now)))) }
 {
     add_study(text, bench, number)?;
-    add_stipulation(text, bench, root)?;
+    add_stipulation_line(text, bench, root)?;
     add_empty(text, bench)
 }
 
@@ -141,7 +132,7 @@ fn text_of<'a, 'b, A: Allocator, B: Allocator, V: Values>(
     ensures text { V.is_honest values.old → IfOk result (IsReview (marked bench.now) number) }
     ensures asked { HasAsked V.held V.gives V.may_fail V.asked_of V.failed_of V.is_honest values.old result values.new }
 {
-    let root = root_of(bench);
+    let root = root_mark(bench);
     let mut draft = Draft {
         faults: Text::new(alloc),
         nodes: Text::new(alloc),

@@ -13,8 +13,8 @@ use Rattle.study_retro.specs.declared.value.Value.{Value}
 use Rattle.study_tree.specs.Tree.{Spot}
 use Rattle.study_marks.specs.declared.mark.Mark.{Mark}
 use Rattle.study_marks.specs.declared.mark.MoveMark.{MoveMark}
-use Rattle.study_command.specs.Paths.{path_text}
-use Rattle.study_reply.specs.Words.{value_words, on_move_text}
+use Rattle.study_reply.specs.Words.{on_move_text}
+use Rattle.study_review.specs.Words.{value_words, front_words}
 
 -- a small letter
 abbrev pub promoted_text : Option Kind → List ℕ
@@ -41,10 +41,6 @@ mark_words v mark = value_words v ++ (codes " " ++ on_move_text mark)
 -- `study 8/8/1KP5/3r4/8/8/8/k7 w - - 0 1`
 unfoldable pub study_line : Start → List ℕ
 study_line start = codes "study " ++ (fen_text start ++ codes "\n")
-
--- a kind of line and a path, with a space after each
-unfoldable pub front_words : List ℕ → List ℕ → List ℕ
-front_words kind path = kind ++ (path_text path ++ codes " ")
 
 -- `loss 50 only faults 3 8/2P5/1K6/3r4/8/8/8/k7 b - - 0 1`, and the end of the line
 unfoldable pub shown_words : Mark → Start → List ℕ

@@ -3,12 +3,12 @@ ghost use Rattle.std.specs.Prelude.{◌≡◌, ◌+◌, ◌≤◌, ◌<◌, ◌^
 ghost use Rattle.std.specs.List.{All, flat_map};
 ghost use Rattle.study_moves.specs.Rules.{is_legal};
 ghost use Rattle.study_marks.specs.Goals.{hero_moves, holds};
-ghost use Rattle.study_marks.specs.Marks.{only_or_dual, mark_of};
+ghost use Rattle.study_marks.specs.Marks.{mark_of};
 ghost use Rattle.study_view.specs.Marking.{holding_count, told_line};
 
 use crate::words::add_move;
 use std::alloc::{AllocError, Allocator};
-use study_marks::{Aim, MoveMark, hero_moves, holds};
+use study_marks::{Aim, MoveMark, hero_moves, holds, only_or_dual};
 use study_notation::Start;
 use study_pgn::Text;
 use study_retro::Value;
@@ -36,18 +36,6 @@ fn holding_count(aim: &Aim, depth: usize, list: &[Continuation]) -> usize
             let more = if holds(aim, depth + 1, x.value) { 1 } else { 0 };
             more + holding_count(aim, depth, rest)
         }
-    }
-}
-
-/// The mark of a move that holds, as so many of the legal moves do.
-fn only_or_dual(count: usize) -> MoveMark
-    requires { count ≤ 256 }
-    ensures { result ≡ only_or_dual count }
-{
-    if count == 1 {
-        MoveMark::Only
-    } else {
-        MoveMark::Dual(count.saturating_sub(1) as u8)
     }
 }
 

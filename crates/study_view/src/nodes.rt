@@ -1,8 +1,6 @@
 //! The lines of all nodes, in written order.
 ghost use Rattle.std.specs.Prelude.{◌≡◌, ◌++◌, ◌∷◌, [], None, IsTrue, OnOk};
-ghost use Rattle.study_tree.specs.Edits.{width};
-ghost use Rattle.study_tree.specs.Tree.{has_spot, spot_at};
-ghost use Rattle.study_marks.specs.Bench.{played_by};
+ghost use Rattle.study_tree.specs.Tree.{has_spot};
 ghost use Rattle.study_marks.specs.BenchState.{marked};
 ghost use Rattle.study_marks.specs.FaultSums.{below_at};
 ghost use Rattle.study_review.specs.Made.{Grew};
@@ -14,28 +12,9 @@ ghost use Rattle.study_view.specs.Nodes.{IsNodeLine};
 use crate::words::add_node;
 use std::alloc::{AllocError, Allocator};
 use study_marks::Bench;
-use study_moves::Move;
 use study_notation::Start;
 use study_pgn::Text;
-
-/// The move that led to the node, if there is one that is not the root.
-fn move_to<'b, B: Allocator>(bench: &Bench<'b, B>, steps: &[u16]) -> Option<Move>
-    ensures { result ≡ played_by (spot_at (marked bench.now).tree steps.now) }
-{
-    match bench.shown(steps) {
-        None => None,
-        Some(node) => node.played,
-    }
-}
-
-fn count_at<'b, B: Allocator>(bench: &Bench<'b, B>, steps: &[u16]) -> u16
-    ensures { result ≡ width (below_at (marked bench.now).tree.below steps.now) }
-{
-    match bench.shown(steps) {
-        None => 0,
-        Some(node) => node.children,
-    }
-}
+use study_review::{count_at, move_to};
 
 /// The start at a node, by that of the node before it.
 fn start_from<'b, B: Allocator>(bench: &Bench<'b, B>, steps: &[u16], before: &Start) -> Start

@@ -5,58 +5,25 @@ ghost use Rattle.std.specs.Io.KnownBytes.{Appends};
 ghost use Rattle.study_board.specs.Position.{man_at};
 ghost use Rattle.study_moves.specs.Rules.{is_legal};
 ghost use Rattle.study_prober.specs.declared.values.ProbeFault.{ProbeFault as AProbeFault};
-ghost use Rattle.study_pgn.specs.Values.{side_name};
-ghost use Rattle.study_reply.specs.Words.{value_words};
+ghost use Rattle.study_review.specs.Words.{value_words};
 ghost use Rattle.study_tablefile.specs.Taken.{TakesPrefix};
-ghost use Rattle.study_pgn.specs.Pgn.{goal_text, stipulation_text};
 ghost use Rattle.study_view.specs.Asked.{HasSurveyed};
 ghost use Rattle.study_view.specs.Shown.{IsShown};
 ghost use Rattle.study_view.specs.Survey.{stood, survey_line, standing_words, standing_line, IsSurvey};
 
 use crate::fault::SurveyFault;
 use crate::squares::{Question, Standing, Stood, stand_each, with_man_at};
-use crate::words::{add_counted, add_san, add_square, add_value, letter_of};
+use crate::words::{add_square, letter_of};
 use std::alloc::{AllocError, Allocator};
 use std::io::Write;
-use study_board::{Man, Position, Side};
-use study_marks::{Goal, Stipulation};
+use study_board::{Man, Position};
+use study_marks::Stipulation;
 use study_moves::Move;
-use study_pgn::Text;
+use study_pgn::{Text, add_san, add_stipulation};
 use study_prober::Values;
 use study_retro::Value;
+use study_review::{add_counted, add_value};
 use study_tablefile::write_text;
-
-fn add_goal<A: Allocator>(text: &mut Text<'_, A>, goal: Goal) -> Result<(), AllocError>
-    ensures { OnOk result (text.new ≡ text.old ++ goal_text goal) }
-{
-    match goal {
-        Goal::Win => text.add(b" to win"),
-        Goal::Draw => text.add(b" to draw"),
-        Goal::MateIn(moves) => {
-            text.add(b" to mate in ")?;
-            text.add_number(moves.count() as u32)
-        }
-    }
-}
-
-fn add_side<A: Allocator>(text: &mut Text<'_, A>, side: Side) -> Result<(), AllocError>
-    ensures { OnOk result (text.new ≡ text.old ++ side_name side) }
-{
-    match side {
-        Side::White => text.add(b"White"),
-        Side::Black => text.add(b"Black"),
-    }
-}
-
-fn add_stipulation<A: Allocator>(
-    text: &mut Text<'_, A>,
-    stipulation: &Stipulation,
-) -> Result<(), AllocError>
-    ensures { OnOk result (text.new ≡ text.old ++ stipulation_text stipulation.now) }
-{
-    add_side(text, stipulation.hero)?;
-    add_goal(text, stipulation.goal)
-}
 
 /// The man, and what the hero is to reach.
 #[tactic(auto, unfolding(crate::specs::Survey::survey_line))]
@@ -71,7 +38,7 @@ fn add_man<A: Allocator>(
     text.add(&[letter_of(man.kind)])?;
     add_square(text, man.at)?;
     text.add(b" ")?;
-    add_stipulation(text, stipulation)?;
+    add_stipulation(text, *stipulation)?;
     text.add(b"\n")
 }
 

@@ -10,7 +10,6 @@ ghost use Rattle.study_marks.specs.BenchState.{marked, IsKeptRight};
 ghost use Rattle.study_marks.specs.Study.{plain_study};
 ghost use Rattle.study_prober.specs.declared.values.ProbeFault.{ProbeFault as AProbeFault};
 ghost use Rattle.study_review.specs.Review.{stipulation_line, written_order};
-ghost use Rattle.study_review.specs.Nodes.{value_at};
 ghost use Rattle.study_view.specs.Asked.{HasViewed};
 ghost use Rattle.study_view.specs.Marking.{holding_count, told_line};
 ghost use Rattle.study_view.specs.View.{start_to, node_line, IsView, IsViewOf, asked_at};
@@ -23,53 +22,13 @@ use crate::nodes::add_nodes;
 use crate::words::{add_at, add_study};
 use std::alloc::{AllocError, Allocator};
 use std::io::Write;
-use study_marks::{Bench, Mark, aim_of};
+use study_marks::{Bench, aim_of};
 use study_notation::Start;
-use study_pgn::{Text, add_opening_words};
+use study_pgn::{Text, root_mark};
 use study_prober::Values;
-use study_retro::Value;
-use study_review::{Continuation, Node};
+use study_review::{Continuation, Node, add_stipulation_line, value_at};
 use study_tablefile::write_text;
 use study_tree::Path;
-
-/// The stipulation, with its verdict.
-#[tactic(auto, unfolding(study_review::specs::Review::stipulation_line))]
-fn add_stipulation<'b, A: Allocator, B: Allocator>(
-    text: &mut Text<'_, A>,
-    bench: &Bench<'b, B>,
-    root: Mark,
-) -> Result<(), AllocError>
-    requires { root ≡ (marked bench.now).tree.label }
-    ensures { OnOk result (text.new ≡ text.old ++ stipulation_line (marked bench.now)) }
-{
-    text.add(b"stipulation ")?;
-    add_opening_words(
-        text,
-        bench.stipulation(),
-        bench.start().position.to_move(),
-        root,
-    )?;
-    text.add(b"\n")
-}
-
-/// The mark of the root.
-fn root_of<'b, B: Allocator>(bench: &Bench<'b, B>) -> Option<Mark>
-    ensures { result ≡ Some (marked bench.now).tree.label }
-{
-    match bench.shown(&[]) {
-        None => None,
-        Some(node) => Some(node.mark),
-    }
-}
-
-fn value_at<'b, B: Allocator>(bench: &Bench<'b, B>, steps: &[u16]) -> Value
-    ensures { result ≡ value_at (marked bench.now) steps.now }
-{
-    match bench.shown(steps) {
-        None => Value::Draw,
-        Some(node) => node.mark.value,
-    }
-}
 
 /// The start and the verdict.
 fn add_head<'b, A: Allocator, B: Allocator>(
@@ -78,13 +37,8 @@ fn add_head<'b, A: Allocator, B: Allocator>(
 ) -> Result<(), AllocError>
     ensures { OnOk result (text.new ≡ text.old ++ (study_line (marked bench.now).start ++ stipulation_line (marked bench.now))) }
 {
-    match root_of(bench) {
-        None => Ok(()),
-        Some(root) => {
-            add_study(text, bench.start())?;
-            add_stipulation(text, bench, root)
-        }
-    }
+    add_study(text, bench.start())?;
+    add_stipulation_line(text, bench, root_mark(bench))
 }
 
 /// The lines of all nodes.

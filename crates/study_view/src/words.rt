@@ -1,44 +1,21 @@
 //! The words of a view's lines, added to a text.
-ghost use Rattle.std.specs.Prelude.{◌≡◌, ◌++◌, true, OnOk, IfSome, decimal};
+ghost use Rattle.std.specs.Prelude.{◌≡◌, ◌++◌, true, OnOk, IfSome};
 ghost use Rattle.study_board.specs.Letters.{letter};
 ghost use Rattle.study_moves.specs.Rules.{is_legal};
 ghost use Rattle.study_notation.specs.FenSpelling.{fen_text, square_text};
-ghost use Rattle.study_notation.specs.Written.{move_text};
-ghost use Rattle.study_command.specs.Paths.{path_text, more_places};
-ghost use Rattle.study_reply.specs.Words.{value_words, on_move_text};
+ghost use Rattle.study_reply.specs.Words.{on_move_text};
 ghost use Rattle.study_marks.specs.Bench.{node_seen};
 ghost use Rattle.study_view.specs.Words.{promoted_text, squares_text, moved_words, led_words, mark_words, study_line};
-ghost use Rattle.study_view.specs.Words.{front_words, shown_words, node_words, count_words, at_line, reached_words, move_line};
+ghost use Rattle.study_view.specs.Words.{shown_words, node_words, count_words, at_line, reached_words, move_line};
 
 use std::alloc::{AllocError, Allocator};
 use study_board::{Kind, Position, Square};
 use study_marks::{Mark, MoveMark, Shown};
 use study_moves::{Move, in_check, legal_moves};
-use study_notation::{Start, write_fen, write_san};
-use study_pgn::Text;
+use study_notation::{Start, write_fen};
+use study_pgn::{Text, add_san};
 use study_retro::Value;
-
-/// A word, and a number after it.
-pub fn add_counted<A: Allocator>(
-    text: &mut Text<'_, A>,
-    word: &[u8],
-    number: u8,
-) -> Result<(), AllocError>
-    ensures { OnOk result (text.new ≡ text.old ++ (word.now ++ decimal number)) }
-{
-    text.add(word)?;
-    text.add_number(number as u32)
-}
-
-pub fn add_value<A: Allocator>(text: &mut Text<'_, A>, value: Value) -> Result<(), AllocError>
-    ensures { OnOk result (text.new ≡ text.old ++ value_words value) }
-{
-    match value {
-        Value::Win(n) => add_counted(text, b"win ", n),
-        Value::Loss(n) => add_counted(text, b"loss ", n),
-        Value::Draw => text.add(b"draw"),
-    }
-}
+use study_review::{add_counted, add_front, add_value};
 
 fn add_on_move<A: Allocator>(
     text: &mut Text<'_, A>,
@@ -68,45 +45,6 @@ fn add_mark<A: Allocator>(
     add_value(text, value)?;
     text.add(b" ")?;
     add_on_move(text, mark)
-}
-
-fn add_places<A: Allocator>(text: &mut Text<'_, A>, steps: &[u16]) -> Result<(), AllocError>
-    ensures { OnOk result (text.new ≡ text.old ++ more_places steps.now) }
-{
-    match steps.split_first() {
-        None => Ok(()),
-        Some((place, rest)) => {
-            text.add(b".")?;
-            text.add_number(*place as u32)?;
-            add_places(text, rest)
-        }
-    }
-}
-
-fn add_path<A: Allocator>(text: &mut Text<'_, A>, steps: &[u16]) -> Result<(), AllocError>
-    ensures { OnOk result (text.new ≡ text.old ++ path_text steps.now) }
-{
-    match steps.split_first() {
-        None => text.add(b"root"),
-        Some((first, rest)) => {
-            text.add_number(*first as u32)?;
-            add_places(text, rest)
-        }
-    }
-}
-
-/// A kind of line, and a path.
-#[tactic(auto, unfolding(crate::specs::Words::front_words))]
-fn add_front<A: Allocator>(
-    text: &mut Text<'_, A>,
-    kind: &[u8],
-    steps: &[u16],
-) -> Result<(), AllocError>
-    ensures { OnOk result (text.new ≡ text.old ++ front_words kind.now steps.now) }
-{
-    text.add(kind)?;
-    add_path(text, steps)?;
-    text.add(b" ")
 }
 
 pub fn add_square<A: Allocator>(text: &mut Text<'_, A>, at: Square) -> Result<(), AllocError>
@@ -149,17 +87,6 @@ fn add_squares<A: Allocator>(text: &mut Text<'_, A>, m: Move) -> Result<(), Allo
     add_square(text, m.origin)?;
     add_square(text, m.target)?;
     add_promoted(text, m.promoted)
-}
-
-pub fn add_san<A: Allocator>(
-    text: &mut Text<'_, A>,
-    p: &Position,
-    m: Move,
-) -> Result<(), AllocError>
-    requires { is_legal p.now m ≡ true }
-    ensures { OnOk result (text.new ≡ text.old ++ move_text p.now m) }
-{
-    text.add(write_san(p, m).as_str().as_bytes())
 }
 
 /// A move, with its squares.

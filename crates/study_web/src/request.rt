@@ -11,11 +11,10 @@ ghost use Rattle.study_web.specs.Request.{alone, make_asked, view_asked, with_st
 ghost use Rattle.study_web.specs.Request.{survey_asked, word_asked, request_of, request_seen, asks_seen};
 ghost use Rattle.study_web.specs.Request.{passed as passed_asked};
 
-use crate::words::{
-    as_text, is_printable, read_one_word, read_path_word, read_place, read_side, read_square,
-};
+use crate::words::read_square;
 use study_board::Square;
 use study_command::command::{PathWord, SyntaxFault};
+use study_command::{as_text, is_printable, read_one_word, read_path_word, read_place, read_side};
 use study_marks::{Goal, MateMoves, Stipulation};
 use study_material::Class;
 use study_notation::words::next_word;

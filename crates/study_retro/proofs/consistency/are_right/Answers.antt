@@ -4,7 +4,7 @@ use Rattle.study_retro.proofs.consistency.are_right.Goals as goal
 
 pub returns-in-None : goal.returns-in-None
 returns-in-None g c = λ outer.
-    (λ e n b. cells-settled c.requires.laws c.args.cells.now outer (λ k l. inr (c.in-None.ensures.value_from_moves k l)) n b, λ right. refl)
+    (λ e n b. cells-settled c.requires.laws c.args.cells.now outer (λ k l. inr (c.in-None.ensures.given k l)) n b, λ right. refl)
 
 pub returns-in-Some : goal.returns-in-Some
 returns-in-Some g c = λ outer. (

@@ -14,8 +14,8 @@ loop-by-preserved g c =
     IsTally-take value_after c.as_slice-by-items.result.now c.loop-by.by-index c.by-item.result c.label-value.result
     _ _ _ _ _ _
     c.loop-by-test.true (ap value_after (sym c.by-item.is) ∙ ap labels (sym c.played-to.ensures)
-    ∙ sym c.label-value.ensures.value) c.loop-by.invariant c.with-tally.ensures.lost c.with-tally.ensures.won
-    c.with-tally.ensures.drawn
+    ∙ sym c.label-value.ensures.value) c.loop-by.invariant c.with-replies.ensures.lost c.with-replies.ensures.won
+    c.with-replies.ensures.drawn
 
 pub returns : goal.returns
 returns g c =
@@ -24,13 +24,13 @@ returns g c =
     let same = c.as_slice-by-items.ensures.value in
     let t =
     subst (λ (xs : List Move). IsTally (λ m. labels ((g.G.Game.numbered c.args.game.now).after c.args.at.now m))
-    xs c.loop-by.tally.lost c.loop-by.tally.won c.loop-by.tally.drawn)
+    xs c.loop-by.replies.lost c.loop-by.replies.won c.loop-by.replies.drawn)
     (take_all c.loop-by.by-index ms c.loop-by-test.false) c.loop-by.invariant in
     let is = Gives-given_by (g.G.Game.numbered c.args.game.now).legal (g.G.Game.numbered c.args.game.now).after
     (g.G.Game.numbered c.args.game.now).mate labels c.args.at.now ms
     (λ m l. subst (λ (xs : List Move). Contains xs m) (sym same) (c.moves-moves.ensures.all m l))
     (λ m h. c.moves-moves.ensures.only m (subst (λ (xs : List Move). Contains xs m) same h))
-    c.is_mate.result c.loop-by.tally.lost c.loop-by.tally.won c.loop-by.tally.drawn c.is_mate.ensures t in
+    c.is_mate.result c.loop-by.replies.lost c.loop-by.replies.won c.loop-by.replies.drawn c.is_mate.ensures t in
     subst
     (λ (v : Value). Gives (leads_in (g.G.Game.numbered c.args.game.now)) (g.G.Game.numbered c.args.game.now).mate
-    labels c.args.at.now v) (sym c.value_from_moves.ensures) is
+    labels c.args.at.now v) (sym c.value.ensures) is

@@ -16,10 +16,10 @@ loop-by-init g c =
     let Ok : Move → Type 0 = λ m. (g.G.Game.numbered c.args.game.now).home ((g.G.Game.numbered c.args.game.now).after c.args.at.now m) ≡ false in
     let f : Move → Value = λ m. (g.G.Game.numbered c.args.game.now).outside ((g.G.Game.numbered c.args.game.now).after c.args.at.now m) in
     let P : Option ℕ × Option ℕ × Bool → Type 0 = λ x. IsTallyOf Ok f [] x.0 x.1 x.2 in
-    subst P (λ j. (sym c.new-tally.ensures.lost j, sym c.new-tally.ensures.won j, sym c.new-tally.ensures.drawn j)) (IsTallyOf-empty Ok f)
+    subst P (λ j. (sym c.new-replies.ensures.lost j, sym c.new-replies.ensures.won j, sym c.new-replies.ensures.drawn j)) (IsTallyOf-empty Ok f)
 
-pub with_conversion-tally-requires : goal.with_conversion-tally-requires
-with_conversion-tally-requires g c =
+pub with_conversion-replies-requires : goal.with_conversion-replies-requires
+with_conversion-replies-requires g c =
     let ms = c.as_slice-by-items.result.now in
     let d = c.by-item.result in
     let m : Move = slice_index_or ms c.loop-by.by-index d in
@@ -38,9 +38,9 @@ loop-by-preserved g c =
     ap ((g.G.Game.numbered c.args.game.now).after c.args.at.now) (sym c.by-item.is) in
     elim c.if-leaves.branch [
       | then-leaves w ↦ (
-          let e = w.with_conversion-tally.ensures in
+          let e = w.with_conversion-replies.ensures in
           let to = w.played-to.ensures in
-          let is = w.tally-is in
+          let is = w.replies-is in
           elim (true_or_false ((g.G.Game.numbered c.args.game.now).home w.played-to.result)) [
             | inl h ↦ IsTallyOf-out Ok f ms c.loop-by.by-index d _ _ _ _ _ _ c.loop-by-test.true
                 (λ o. let no : true ≡ false = sym h ∙ (ap (g.G.Game.numbered c.args.game.now).home (to ∙ sym item) ∙ o) in cc) c.loop-by.invariant
@@ -51,7 +51,7 @@ loop-by-preserved g c =
                 (ap (λ (t : BestReplies). t.lost) is ∙ e.out_lost h) (ap (λ (t : BestReplies). t.won) is ∙ e.out_won h) (ap (λ (t : BestReplies). t.drawn) is ∙ e.out_drawn h)
           ])
       | else-leaves w ↦ (
-          let is = w.tally-is in
+          let is = w.replies-is in
           IsTallyOf-out Ok f ms c.loop-by.by-index d _ _ _ _ _ _ c.loop-by-test.true
           (λ o. let h = c.leaves.ensures w.if-leaves.false in
           let no : true ≡ false = sym h ∙ (ap (g.G.Game.numbered c.args.game.now).home (sym item) ∙ o) in cc)
@@ -66,16 +66,16 @@ returns g c =
     let ms = c.as_slice-by-items.result.now in
     let same = c.as_slice-by-items.ensures.value in
     let t =
-    subst (λ (xs : List Move). IsTallyOf Ok f xs c.loop-by.tally.lost c.loop-by.tally.won c.loop-by.tally.drawn)
+    subst (λ (xs : List Move). IsTallyOf Ok f xs c.loop-by.replies.lost c.loop-by.replies.won c.loop-by.replies.drawn)
     (take_all c.loop-by.by-index ms c.loop-by-test.false) c.loop-by.invariant in
     let is =
     GivesOutside-given_by (g.G.Game.numbered c.args.game.now).legal (g.G.Game.numbered c.args.game.now).after
     (g.G.Game.numbered c.args.game.now).home (g.G.Game.numbered c.args.game.now).outside c.args.at.now ms
     (λ m l. subst (λ (xs : List Move). Contains xs m) (sym same) (c.moves-moves.ensures.all m l))
     (λ m h. c.moves-moves.ensures.only m (subst (λ (xs : List Move). Contains xs m) same h))
-    c.loop-by.tally.lost c.loop-by.tally.won c.loop-by.tally.drawn t in
+    c.loop-by.replies.lost c.loop-by.replies.won c.loop-by.replies.drawn t in
     let gives =
     subst (λ (v : Value). GivesOutside (leads_in (g.G.Game.numbered c.args.game.now))
     (g.G.Game.numbered c.args.game.now).home (g.G.Game.numbered c.args.game.now).outside c.args.at.now v)
-    (sym c.given.ensures) is in
+    (sym c.value.ensures) is in
     gives

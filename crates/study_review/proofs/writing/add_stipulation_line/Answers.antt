@@ -5,7 +5,7 @@ use Rattle.study_marks.specs.BenchState.{marked}
 use Rattle.study_pgn.specs.Pgn.{opening_words}
 use Rattle.study_review.specs.Review.{stipulation_line}
 use Rattle.study_review.proofs.TextGrows.{three}
-use Rattle.study_review.proofs.writing.add_stipulation.Goals as goal
+use Rattle.study_review.proofs.writing.add_stipulation_line.Goals as goal
 
 pub returns : goal.returns
 unfolding stipulation_line
