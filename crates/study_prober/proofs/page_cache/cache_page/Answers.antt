@@ -1,6 +1,6 @@
 use Rattle.std.proofs.Common.{inl, inr, sym, ◌∙◌, Contains, ap, subst}
 use Rattle.lru.proofs.CallerLemmas.{Contains-put_entries}
-use Rattle.study_prober.specs.contracts.cache.PageKeyPartialEq.TheImpl.{eq-value}
+use Rattle.study_prober.specs.contracts.page_cache.PageKeyPartialEq.TheImpl.{eq-value}
 use Rattle.study_prober.proofs.Keys.{same_key-is}
 use Rattle.study_prober.proofs.page_cache.cache_page.Goals as goal
 

@@ -2,7 +2,7 @@ use Rattle.std.proofs.Common.{◌≡◌, rules, sym, ap, ◌∙◌, Contains, su
 use Rattle.std.specs.Map.{lookup}
 use Rattle.lru.proofs.Splits.{Contains-head}
 use Rattle.lru.proofs.CallerLemmas.{Contains-promoted, Contains-lookup}
-use Rattle.study_prober.specs.contracts.cache.PageKeyPartialEq.TheImpl.{eq-value}
+use Rattle.study_prober.specs.contracts.page_cache.PageKeyPartialEq.TheImpl.{eq-value}
 use Rattle.study_prober.proofs.Keys.{same_key-is}
 use Rattle.study_prober.proofs.LatestPage.{kept-cell}
 use Rattle.study_prober.proofs.page_cache.cached_cell.Goals as goal
