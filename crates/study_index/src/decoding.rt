@@ -126,7 +126,7 @@ fn position_with_passed(men: &[Man], to_move: Side) -> Option<Position>
     }
 }
 
-// Whether `n` is the least number of these men, who stand in the order of their slots.
+/// Whether `n` is the least number of these men, who stand in the order of their slots.
 #[inline(always)]
 fn is_least(pawns: bool, to_move: Side, n: u32, men: &[Man]) -> bool
     requires { length men.now ≤ 4 }
@@ -315,7 +315,7 @@ const BLACK_PAWN: Slot = Slot {
     kind: Kind::Pawn,
 };
 
-// The slots of the class: the kings, White's men in list order, Black's men in list order.
+/// The slots of the class: the kings, White's men in list order, Black's men in list order.
 pub fn slots(class: Class) -> &'static [Slot]
     ensures { result.now ≡ slots_of class }
 {
@@ -346,7 +346,7 @@ pub fn slots(class: Class) -> &'static [Slot]
     }
 }
 
-// The same where each side has a man beside its king.
+/// The same where each side has a man beside its king.
 fn slots_of_both(class: Class) -> &'static [Slot]
     requires { length (lists_of class).black ≡ 1 }
     ensures { result.now ≡ slots_of class }

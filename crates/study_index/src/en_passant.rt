@@ -9,7 +9,7 @@ ghost use Rattle.study_index.specs.Decoded.{square_behind, square_behind_pawn};
 use study_board::{Kind, Man, Position, Side, Square};
 use study_moves::{Move, is_en_passant, is_legal};
 
-// Whether the man is a pawn that captures on the passed square by a legal move.
+/// Whether the man is a pawn that captures on the passed square by a legal move.
 #[inline]
 fn captures(p: &Position, man: &Man, x: Square) -> bool
     ensures { result ≡ (is_en_passant p.now.passed man.now x && is_legal p.now (record { origin = man.now.at; target = x; promoted = None })) }
@@ -25,7 +25,7 @@ fn captures(p: &Position, man: &Man, x: Square) -> bool
         )
 }
 
-// Whether some man captures on this passed square.
+/// Whether some man captures on this passed square.
 fn is_taken(p: &Position, x: Square) -> bool
     ensures { result ≡ is_taken p.now (Some x) }
 {

@@ -78,7 +78,7 @@ pub fn is_like(x: u16, y: u16) -> bool
     x / 64 == y / 64
 }
 
-// Whether the slot of `x` is not after that of `k`.
+/// Whether the slot of `x` is not after that of `k`.
 #[inline]
 fn comes_first(x: u16, k: u16) -> bool
     ensures { result ≡ nat_le (x / 64) (k / 64) }
@@ -86,7 +86,7 @@ fn comes_first(x: u16, k: u16) -> bool
     x / 64 <= k / 64
 }
 
-// One of two keys: no branch is taken where both are known.
+/// One of two keys: no branch is taken where both are known.
 #[inline]
 fn select(flag: bool, x: u16, y: u16) -> u16
     ensures { result ≡ (if flag then x else y) }

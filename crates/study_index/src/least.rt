@@ -67,7 +67,7 @@ fn least_by(pawns: bool, to_move: Side, t: Symmetry, like: bool, squares: &[Squa
     }
 }
 
-// Whether the last of four squares comes to a lower one than that before it.
+/// Whether the last of four squares comes to a lower one than that before it.
 #[inline]
 fn descends(t: Symmetry, squares: &[Square]) -> bool
     ensures { result ≡ descends_at (turned_square t) squares.now }

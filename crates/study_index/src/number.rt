@@ -8,7 +8,7 @@ ghost use Rattle.study_index.specs.Squares.{counted_at, number_at};
 use crate::transform::turned;
 use study_board::{Kind, Man, Side, Square, Symmetry};
 
-// What is added to a file for its square's place in the triangle a1, d1, d4.
+/// What is added to a file for its square's place in the triangle a1, d1, d4.
 #[inline]
 fn places_before(rank: u8) -> u8
     ensures value { result ≡ places_before rank }
@@ -66,7 +66,7 @@ pub fn has_pawn(men: &[Man]) -> bool
     }
 }
 
-// One more square, counted on.
+/// One more square, counted on.
 #[inline]
 fn append_square(t: Symmetry, n: u32, x: Square) -> u32
     requires { n < 2 ^ 18 }

@@ -12,7 +12,7 @@ fn bits_if(flag: bool, bits: u8) -> u8
     if flag { bits } else { 0 }
 }
 
-// File and rank exchanged, or not.
+/// File and rank exchanged, or not.
 #[inline]
 fn transposed(diagonal: bool, square: u8) -> u8
     ensures { result ≡ transposed diagonal square }

@@ -18,7 +18,7 @@ pub fn class_of(p: &Position) -> (Class, bool)
     class_of_others(others(p.men()).as_slice())
 }
 
-// The class of men beside the kings, and whether Black's come first.
+/// The class of men beside the kings, and whether Black's come first.
 #[inline]
 fn class_of_others(men: &[Man]) -> (Class, bool)
     requires few { length men.now ≤ 2 }
@@ -42,7 +42,7 @@ fn class_of_others(men: &[Man]) -> (Class, bool)
     }
 }
 
-// The men other than the kings.
+/// The men other than the kings.
 #[inline]
 fn others(men: &[Man]) -> ArrayVec<Man, 4>
     requires { length men.now ≤ 4 }
@@ -57,7 +57,7 @@ fn others(men: &[Man]) -> ArrayVec<Man, 4>
     others
 }
 
-// The class of one man beside the kings.
+/// The class of one man beside the kings.
 #[inline]
 fn alone(kind: Kind) -> Class
     requires { same_kind kind King ≡ false }
@@ -73,7 +73,7 @@ fn alone(kind: Kind) -> Class
     }
 }
 
-// The class of two men of one side beside the kings.
+/// The class of two men of one side beside the kings.
 #[inline]
 fn together(a: Kind, b: Kind) -> Class
     requires first { same_kind a King ≡ false }
@@ -100,7 +100,7 @@ fn together(a: Kind, b: Kind) -> Class
     }
 }
 
-// The class of one man of each side beside the kings, and whether Black's comes first.
+/// The class of one man of each side beside the kings, and whether Black's comes first.
 #[inline]
 fn against(white: Kind, black: Kind) -> (Class, bool)
     requires first { same_kind white King ≡ false }

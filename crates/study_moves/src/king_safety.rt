@@ -16,7 +16,7 @@ fn is_other_man(by: Side, lifted: Square, m: &Man) -> bool
     m.side.is(by) && !(m.at.number() == lifted.number())
 }
 
-// The squares on which a man of the side bears, the man on `lifted` taken away.
+/// The squares on which a man of the side bears, the man on `lifted` taken away.
 #[inline]
 fn reach_of(men: &[Man], by: Side, lifted: Square, m: &Man) -> u64
     ensures { (x : ℕ) → x < 64 → has result x ≡ (is_other_man by lifted m.now && bears_past men.now lifted m.now x) }
@@ -39,7 +39,7 @@ fn attacked_past(men: &[Man], by: Side, lifted: Square) -> u64
     set
 }
 
-// The squares in the line of a man to the square.
+/// The squares in the line of a man to the square.
 #[inline]
 fn line_of(m: &Man, k: Square) -> u64
     ensures { (x : ℕ) → x < 64 → has result x ≡ (is_slider m.now.kind && strictly_between m.now.at x k) }
@@ -51,7 +51,7 @@ fn line_of(m: &Man, k: Square) -> u64
     }
 }
 
-// The squares that neither take the man nor stand in its line to the square.
+/// The squares that neither take the man nor stand in its line to the square.
 #[inline]
 fn squares_not_blocking(m: &Man, k: Square) -> u64
     ensures { (x : ℕ) → x < 64 → has result x ≡ is_no_shield m.now k x }
@@ -59,7 +59,7 @@ fn squares_not_blocking(m: &Man, k: Square) -> u64
     !union(set_of(m.at), line_of(m, k))
 }
 
-// The squares to which a move is no help against the man.
+/// The squares to which a move is no help against the man.
 #[inline]
 fn threats_of(men: &[Man], by: Side, lifted: Square, k: Square, m: &Man) -> u64
     ensures { (x : ℕ) → x < 64 → has result x ≡ threatens men.now by lifted k x m.now }

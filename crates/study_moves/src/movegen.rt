@@ -36,7 +36,7 @@ pub fn legal_moves(p: &Position) -> ArrayVec<Move, 256>
     list
 }
 
-// Adds the legal moves of a man.
+/// Adds the legal moves of a man.
 fn add_moves_of(p: &Position, man: &Man, list: &mut ArrayVec<Move, 256>)
     requires here { man_at p.now.men man.now.at ≡ Some man.now }
     requires mine { same_side man.now.side p.now.to_move ≡ true }
@@ -75,7 +75,7 @@ fn legal_targets(p: &Position, man: &Man) -> (u64, bool)
     }
 }
 
-// Adds the legal moves of a man to a square.
+/// Adds the legal moves of a man to a square.
 fn add_target(p: &Position, man: &Man, target: Square, sure: bool, list: &mut ArrayVec<Move, 256>)
     requires here { man_at p.now.men man.now.at ≡ Some man.now }
     requires sure { sure ≡ true → EachIsLegal p.now man.now target }
@@ -118,7 +118,7 @@ fn moved(origin: Square, target: Square, promoted: Option<Kind>) -> Move
     }
 }
 
-// Adds a move if it is legal.
+/// Adds a move if it is legal.
 fn add(p: &Position, man: &Man, m: Move, sure: bool, list: &mut ArrayVec<Move, 256>)
     requires sure { sure ≡ true → is_legal_for p.now man.now m ≡ true }
     requires here { man_at p.now.men man.now.at ≡ Some man.now }
@@ -134,7 +134,7 @@ fn add(p: &Position, man: &Man, m: Move, sure: bool, list: &mut ArrayVec<Move, 2
     }
 }
 
-// Whether the move is legal, which may be known.
+/// Whether the move is legal, which may be known.
 #[inline]
 fn is_known_legal(p: &Position, man: &Man, m: &Move, sure: bool) -> bool
     requires here { is_occupied p.now.men man.now.at ≡ true }

@@ -49,7 +49,7 @@ pub fn unmoves(q: &Position) -> ArrayVec<Move, 192>
     list
 }
 
-// Adds the quiet moves of the man that can have led to where it stands.
+/// Adds the quiet moves of the man that can have led to where it stands.
 fn add_unmoves_of(q: &Position, man: &Man, list: &mut ArrayVec<Move, 192>)
     requires room { array_vec_len list.old ≤ 128 }
     requires once { AllPairs (λ m n. m ≢ n) list.old.items }
@@ -112,7 +112,7 @@ fn origins(q: &Position, man: &Man) -> u64
     )
 }
 
-// The squares from which the man can have come, as its kind goes.
+/// The squares from which the man can have come, as its kind goes.
 #[inline]
 #[tactic(auto, unfolding(crate::specs::Unmoves::comes))]
 fn origins_of_kind(men: &[Man], man: &Man) -> u64
@@ -136,7 +136,7 @@ fn occupied(men: &[Man]) -> u64
     set
 }
 
-// The squares from which a pawn can have come by a step or a double step.
+/// The squares from which a pawn can have come by a step or a double step.
 #[inline]
 fn pawn_origins(men: &[Man], side: Side, x: Square) -> u64
     ensures { (a : ℕ) → a < 64 → has result a ≡ pawn_comes men.now side x a }
@@ -160,7 +160,7 @@ fn pawn_origins(men: &[Man], side: Side, x: Square) -> u64
     }
 }
 
-// One square back, if a pawn can have stood there, and two, if it starts there.
+/// One square back, if a pawn can have stood there, and two, if it starts there.
 #[inline]
 fn pawn_steps_back(men: &[Man], inside: bool, starts: bool, one: Square, two: Square) -> u64
     requires { starts ≡ true → inside ≡ true }
@@ -197,7 +197,7 @@ fn set_if_empty(men: &[Man], x: Square) -> u64
     }
 }
 
-// The squares from which the man cannot have come, since a king of the side that did not move was attacked then.
+/// The squares from which the man cannot have come, since a king of the side that did not move was attacked then.
 #[inline]
 fn origins_in_check(men: &[Man], side: Side, man: &Man) -> u64
     ensures { (a : ℕ) → a < 64 → has result a ≡ was_check men.now side man.now a }
@@ -223,7 +223,7 @@ fn origins_attacking(men: &[Man], side: Side, man: &Man, k: &Man) -> u64
     }
 }
 
-// The squares from which the man bears on the square, those on which a man of the other side there would bear.
+/// The squares from which the man bears on the square, those on which a man of the other side there would bear.
 #[inline]
 fn origins_giving_check(men: &[Man], man: &Man, k: Square) -> u64
     ensures { (a : ℕ) → a < 64 → has result a ≡ bears_past men.now man.now.at (set_back man.now a) k }

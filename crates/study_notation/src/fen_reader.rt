@@ -55,7 +55,7 @@ pub fn read_fen(text: &str) -> Result<Start, FenFault>
     })
 }
 
-// The first fault of men that are placed, whoever is to move.
+/// The first fault of men that are placed, whoever is to move.
 #[tactic(auto, unfolding(crate::specs::Fen::placement_fault))]
 fn placement_fault(men: &[Man]) -> Option<FenFault>
     requires { IsAscending men.now }
@@ -67,7 +67,7 @@ fn placement_fault(men: &[Man]) -> Option<FenFault>
     }
 }
 
-// A position's fault, where it is one of the placement.
+/// A position's fault, where it is one of the placement.
 fn fen_fault_of_men(fault: PositionFault) -> Option<FenFault>
     ensures { result ≡ fen_fault_of_men fault }
 {
@@ -79,7 +79,7 @@ fn fen_fault_of_men(fault: PositionFault) -> Option<FenFault>
     }
 }
 
-// The position of men with no fault but, maybe, a passed square that is impossible.
+/// The position of men with no fault but, maybe, a passed square that is impossible.
 #[tactic(auto, unfolding(crate::specs::Fen::position_of))]
 fn position_of(men: &[Man], to_move: Side, passed: Option<Square>) -> Option<Position>
     requires ordered { IsAscending men.now }

@@ -10,7 +10,7 @@ use arrayvec::ArrayString;
 use itoa::Buffer;
 use study_board::{Kind, Man, Side, Square};
 
-// The letter of a man.
+/// The letter of a man.
 fn letter_of(piece: Piece) -> u8
     ensures value { result ≡ man_letter piece.side piece.kind }
     ensures ascii { result < 128 }
@@ -31,7 +31,7 @@ fn letter_of(piece: Piece) -> u8
     }
 }
 
-// What stands on a square.
+/// What stands on a square.
 fn find_piece(men: &[Man], at: u8) -> Option<Piece>
     ensures { result ≡ piece_on men.now at }
 {
@@ -46,7 +46,7 @@ fn find_piece(men: &[Man], at: u8) -> Option<Piece>
     None
 }
 
-// One digit for a run of empty squares.
+/// One digit for a run of empty squares.
 fn push_run(out: &mut ArrayString<64>, n: u8)
     requires small { n ≤ 8 }
     requires room { array_string_len out.old + length (run n) ≤ 64 }
@@ -57,7 +57,7 @@ fn push_run(out: &mut ArrayString<64>, n: u8)
     }
 }
 
-// The squares of a rank.
+/// The squares of a rank.
 fn write_rank(out: &mut ArrayString<64>, men: &[Man], rank: u8)
     requires low { rank < 8 }
     requires room { array_string_len out.old + length (rank_field men.now rank) ≤ 64 }
@@ -97,7 +97,7 @@ fn push_passed(out: &mut ArrayString<64>, passed: Option<Square>)
     }
 }
 
-// The ranks, the eighth first, with a stroke between two.
+/// The ranks, the eighth first, with a stroke between two.
 fn write_placement(out: &mut ArrayString<64>, men: &[Man])
     requires few { length men.now ≤ 4 }
     requires empty { out.old.bytes ≡ [] }

@@ -14,7 +14,7 @@ pub struct Piece {
     pub kind: Kind,
 }
 
-// The man that a letter stands for.
+/// The man that a letter stands for.
 fn piece_of(b: u8) -> Option<Piece>
     ensures { result ≡ piece_of b }
 {
@@ -36,14 +36,14 @@ fn piece_of(b: u8) -> Option<Piece>
     Some(Piece { side, kind })
 }
 
-// Whether the byte is a digit from 1 to 8.
+/// Whether the byte is a digit from 1 to 8.
 fn is_run(b: u8) -> bool
     ensures { result ≡ is_run b }
 {
     b >= b'1' && b <= b'8'
 }
 
-// Adds what a byte stands for, and gives the next file.
+/// Adds what a byte stands for, and gives the next file.
 #[tactic(auto, unfolding(crate::specs::Fen::squares_of))]
 fn read_square(men: &mut ArrayVec<Man, 64>, b: u8, first: u8, file: u8) -> Option<u8>
     requires low { first ≤ 56 }
@@ -73,7 +73,7 @@ fn read_square(men: &mut ArrayVec<Man, 64>, b: u8, first: u8, file: u8) -> Optio
     Some(file + 1)
 }
 
-// Adds the men of one part, the first of whose squares has the number `first`.
+/// Adds the men of one part, the first of whose squares has the number `first`.
 fn read_rank(men: &mut ArrayVec<Man, 64>, part: &[u8], first: u8) -> bool
     requires low { first ≤ 56 }
     requires room { array_vec_len men.old ≤ first }
@@ -91,7 +91,7 @@ fn read_rank(men: &mut ArrayVec<Man, 64>, part: &[u8], first: u8) -> bool
     file == 8
 }
 
-// What stands before the last stroke, and after it.
+/// What stands before the last stroke, and after it.
 fn cut_last(text: &[u8]) -> Option<(&[u8], &[u8])>
     ensures found { IfSome result (λ x. parts_of text.now ≡ parts_of x.0.now ++ x.1.now ∷ []) }
     ensures none { IfNone result (parts_of text.now ≡ text.now ∷ []) }

@@ -22,7 +22,7 @@ pub fn read_kind(text: &[u8]) -> (Kind, &[u8])
     }
 }
 
-// A file, where one stands here, and what follows it.
+/// A file, where one stands here, and what follows it.
 #[tactic(auto, unfolding(crate::specs::SanParts::file_at))]
 fn read_file(text: &[u8]) -> (Option<u8>, &[u8])
     ensures value { (result.0, result.1.now) ≡ file_at text.now }

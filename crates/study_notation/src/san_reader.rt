@@ -36,7 +36,7 @@ pub fn read_san(p: &Position, text: &str) -> Result<Move, SanFault>
     }
 }
 
-// The one move of the list that the parts agree with.
+/// The one move of the list that the parts agree with.
 fn find_move(p: &Position, moves: &[Move], san: &San) -> Result<Move, SanFault>
     ensures { result ≡ picked (filter (matches p.now san.now) moves.now) }
 {
@@ -52,7 +52,7 @@ fn find_move(p: &Position, moves: &[Move], san: &San) -> Result<Move, SanFault>
     found.ok_or(SanFault::NoSuchMove)
 }
 
-// Whether the parts agree with a legal move.
+/// Whether the parts agree with a legal move.
 #[tactic(auto, unfolding(crate::specs::Matching::matches))]
 fn matches(p: &Position, san: &San, m: &Move) -> bool
     ensures { result ≡ matches p.now san.now m.now }
@@ -63,7 +63,7 @@ fn matches(p: &Position, san: &San, m: &Move) -> bool
     }
 }
 
-// Whether the parts agree with a legal move of this man.
+/// Whether the parts agree with a legal move of this man.
 #[tactic(auto, unfolding(crate::specs::Matching::agrees))]
 fn agrees(p: &Position, san: &San, man: &Man, m: &Move) -> bool
     ensures { result ≡ agrees p.now san.now man.now m.now }
@@ -100,7 +100,7 @@ fn fits_given(given: Option<u8>, n: u8) -> bool
     }
 }
 
-// Whether an `x`, written or not, agrees with a move.
+/// Whether an `x`, written or not, agrees with a move.
 fn fits_takes(written: bool, capture: bool, pawn: bool) -> bool
     ensures { result ≡ fits_takes written capture pawn }
 {
@@ -120,7 +120,7 @@ fn is_castling_with(o: u8, text: &[u8]) -> bool
     }
 }
 
-// Whether the text is castling, left or right, with letters or with digits.
+/// Whether the text is castling, left or right, with letters or with digits.
 fn is_castling(text: &[u8]) -> bool
     ensures { result ≡ is_castling text.now }
 {

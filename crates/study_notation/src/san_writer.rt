@@ -62,7 +62,7 @@ fn push_kind(out: &mut ArrayString<8>, kind: Kind)
     }
 }
 
-// The origin's file or rank.
+/// The origin's file or rank.
 fn push_origin(out: &mut ArrayString<8>, file: Option<u8>, rank: Option<u8>)
     requires room { array_string_len out.old < 8 }
     requires file { IfSome file (λ f. f < 8) }
@@ -99,7 +99,7 @@ fn push_promotion(out: &mut ArrayString<8>, promoted: Option<Kind>)
     }
 }
 
-// `#` or `+` for the position after the move.
+/// `#` or `+` for the position after the move.
 #[tactic(auto, unfolding(crate::specs::Written::check_text))]
 fn push_check(out: &mut ArrayString<8>, next: &Position)
     requires { array_string_len out.old < 8 }
@@ -119,7 +119,7 @@ fn is_mate(p: &Position) -> bool
     study_moves::is_mate(p)
 }
 
-// What is written of a legal move of this man.
+/// What is written of a legal move of this man.
 #[tactic(auto, unfolding(crate::specs::Written::san_for))]
 fn describe(p: &Position, man: &Man, m: &Move) -> San
     ensures value { result ≡ san_for p.now man.now m.now }
@@ -146,7 +146,7 @@ fn describe(p: &Position, man: &Man, m: &Move) -> San
     }
 }
 
-// Whether the origin's file is written.
+/// Whether the origin's file is written.
 #[tactic(auto, unfolding(crate::specs::Written::gives_file))]
 fn gives_file(p: &Position, man: &Man, x: Square) -> bool
     ensures { result ≡ gives_file p.now man.now x }
@@ -158,7 +158,7 @@ fn gives_file(p: &Position, man: &Man, x: Square) -> bool
     }
 }
 
-// Whether the origin's rank is written.
+/// Whether the origin's rank is written.
 #[tactic(auto, unfolding(crate::specs::Written::gives_rank))]
 fn gives_rank(p: &Position, man: &Man, x: Square) -> bool
     ensures { result ≡ gives_rank p.now man.now x }
@@ -182,7 +182,7 @@ fn has_file_rival(p: &Position, man: &Man, x: Square) -> bool
         .any(|o| is_rival(p, man, x, o) && o.at.file() == man.at.file())
 }
 
-// Whether `o` is another man of the kind and side, which can legally go to the square.
+/// Whether `o` is another man of the kind and side, which can legally go to the square.
 #[tactic(auto, unfolding(crate::specs::Written::is_rival))]
 fn is_rival(p: &Position, man: &Man, x: Square, o: &Man) -> bool
     ensures { result ≡ is_rival p.now man.now x o.now }

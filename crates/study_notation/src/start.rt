@@ -68,7 +68,7 @@ fn number_after(side: Side, number: u16) -> u16
     }
 }
 
-// Whether a legal move is a capture or a pawn's move.
+/// Whether a legal move is a capture or a pawn's move.
 #[tactic(auto, unfolding(crate::specs::Played::resets_clock))]
 fn resets_clock(p: &Position, m: &Move) -> bool
     ensures { result ≡ resets_clock p.now m.now }

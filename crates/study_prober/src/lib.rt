@@ -4,7 +4,8 @@
 //! game's value, when a class has no table, and that a device's fault is counted. `WholeTables` answers from tables in
 //! memory: it is honest where its tables are right, and has no fault but `NoTable`. `PagedTables` reads pages of table
 //! files as they are asked, and keeps those that were used last: it is honest where each source gives the file of a right
-//! table, and whatever it keeps changes no answer. `memory` has values that fail where a test wants it.
+//! table, and whatever it keeps changes no answer. `failing_values` has values that fail where a
+//! test wants it.
 #![tactic(auto)]
 
 pub mod failing_values;

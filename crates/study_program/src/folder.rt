@@ -113,7 +113,7 @@ pub struct FilePages<F: Read + Seek + Drop> {
 }
 
 impl<F: Read + Seek + Drop> FilePages<F> {
-    // The bytes of the file from a place on, or a fault that is counted.
+    /// The bytes of the file from a place on, or a fault that is counted.
     fn bytes(&mut self, start: u64, into: &mut [u8]) -> Result<(), SourceFault>
         ensures len { length into.new ≡ length into.old }
         ensures asked { self.new.asked ≡ counted self.old.asked }

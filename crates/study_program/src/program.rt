@@ -37,7 +37,7 @@ pub fn words_of(rt: &HostRuntime) -> io::Result<Vec<String>> {
     Ok(env::args(rt)?.collect(rt.alloc())?)
 }
 
-// The words of the command line are not known.
+/// The words of the command line are not known.
 fn not_read(rt: &HostRuntime, error: &io::Error) -> u8 {
     if error.kind() == ErrorKind::OutOfMemory {
         return ended(&mut rt.stderr(), &Err(RunFault::OutOfMemory));
@@ -46,7 +46,7 @@ fn not_read(rt: &HostRuntime, error: &io::Error) -> u8 {
     2
 }
 
-// Help, the version, or why the words are refused.
+/// Help, the version, or why the words are refused.
 fn answered(rt: &HostRuntime, error: &Error) -> u8
     ensures { (printed : Bool) × (result ≡ status_unread (kind_of error.now) printed) }
 {
@@ -93,7 +93,7 @@ pub fn answer_script<F: Files, R: Read, W: Write, E: Write, A: Allocator>(
     ended(errors, &answer)
 }
 
-// Tells why a run stopped, if it did. Nobody can be told that standard error failed.
+/// Tells why a run stopped, if it did. Nobody can be told that standard error failed.
 fn ended<E: Write>(errors: &mut E, answer: &Result<Summary, RunFault>) -> u8
     ensures status { result ≡ status_told answer.now }
     ensures told { IsTold answer.now (E.contents errors.old) (E.contents errors.new) }

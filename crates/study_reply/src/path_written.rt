@@ -41,7 +41,7 @@ fn put_more<W: Write>(out: &mut W, steps: &[u16]) -> Result<(), DeviceFailed>
     Ok(())
 }
 
-// A place after a point.
+/// A place after a point.
 fn put_next<W: Write>(out: &mut W, place: u16) -> Result<(), DeviceFailed>
     ensures ok { OnOk result (Appends (W.contents out.old) (W.contents out.new) (46 ∷ decimal place)) }
     ensures err { OnErr result (TakesPrefix (W.contents out.old) (W.contents out.new) (46 ∷ decimal place)) }

@@ -113,7 +113,7 @@ fn put_reply<'a, W: Write, A: Allocator>(
     }
 }
 
-// A word, and a start as FEN.
+/// A word, and a start as FEN.
 fn put_start<W: Write>(out: &mut W, word: &[u8], start: &Start) -> Result<(), DeviceFailed>
     ensures ok { OnOk result (Appends (W.contents out.old) (W.contents out.new) (reply_line word.now (fen_text start.now))) }
     ensures err { OnErr result (TakesPrefix (W.contents out.old) (W.contents out.new) (reply_line word.now (fen_text start.now))) }
@@ -122,7 +122,7 @@ fn put_start<W: Write>(out: &mut W, word: &[u8], start: &Start) -> Result<(), De
     put_line(out, word, text.as_str().as_bytes())
 }
 
-// The path of the new node, and its move in SAN.
+/// The path of the new node, and its move in SAN.
 fn put_inserted<W: Write>(
     out: &mut W,
     steps: &[u16],

@@ -37,7 +37,7 @@ pub fn put_table_reply<W: Write>(out: &mut W, reply: TableReply) -> Result<(), D
     }
 }
 
-// With the deepest win in plies.
+/// With the deepest win in plies.
 fn put_built<W: Write>(out: &mut W, class: Class, win: Option<u8>) -> Result<(), DeviceFailed>
     ensures ok { OnOk result (Appends (W.contents out.old) (W.contents out.new) (built_text class win)) }
     ensures err { OnErr result (TakesPrefix (W.contents out.old) (W.contents out.new) (built_text class win)) }
@@ -76,7 +76,7 @@ fn put_counts<W: Write>(
     put_line(out, b" win ", win)
 }
 
-// A word, the name of a class, and a number after its label.
+/// A word, the name of a class, and a number after its label.
 fn put_size<W: Write>(
     out: &mut W,
     word: &[u8],

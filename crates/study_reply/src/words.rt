@@ -45,7 +45,7 @@ pub fn refuse<W: Write>(out: &mut W, refusal: Refusal) -> Result<(), DeviceFaile
     write_text(out, b"\n")
 }
 
-// A refusal in words.
+/// A refusal in words.
 #[tactic(auto, unfolding(crate::specs::Names::words_of))]
 fn put_words<W: Write>(out: &mut W, refusal: Refusal) -> Result<(), DeviceFailed>
     ensures ok { OnOk result (Appends (W.contents out.old) (W.contents out.new) (words_of refusal)) }
@@ -122,7 +122,7 @@ fn put_moves<W: Write>(out: &mut W, p: &Position, moves: &[Move]) -> Result<(), 
     Ok(())
 }
 
-// A move after a space.
+/// A move after a space.
 fn put_move<W: Write>(out: &mut W, p: &Position, m: Move) -> Result<(), DeviceFailed>
     requires { is_legal p.now m ≡ true }
     ensures ok { OnOk result (Appends (W.contents out.old) (W.contents out.new) (32 ∷ move_text p.now m)) }
@@ -265,7 +265,7 @@ fn put_on_move<W: Write>(out: &mut W, mark: Option<MoveMark>) -> Result<(), Devi
     }
 }
 
-// A word, and a number after it.
+/// A word, and a number after it.
 fn put_counted<W: Write>(out: &mut W, word: &[u8], number: usize) -> Result<(), DeviceFailed>
     ensures ok { OnOk result (Appends (W.contents out.old) (W.contents out.new) (word.now ++ decimal number)) }
     ensures err { OnErr result (TakesPrefix (W.contents out.old) (W.contents out.new) (word.now ++ decimal number)) }

@@ -38,7 +38,7 @@ pub fn studyreport(rt: &HostRuntime) -> ExitCode {
     }
 }
 
-// The words of the command line are not known.
+/// The words of the command line are not known.
 fn not_read(rt: &HostRuntime, error: &io::Error) -> u8 {
     if error.kind() == ErrorKind::OutOfMemory {
         return ended(&mut rt.stderr(), &Err(RunFault::OutOfMemory));
@@ -47,7 +47,7 @@ fn not_read(rt: &HostRuntime, error: &io::Error) -> u8 {
     2
 }
 
-// Help, the version, or why the words are refused.
+/// Help, the version, or why the words are refused.
 fn answered(rt: &HostRuntime, error: &Error) -> u8
     ensures { (printed : Bool) × (result ≡ status_unread (kind_of error.now) printed) }
 {
@@ -94,7 +94,7 @@ pub fn report_script<F: Files, A: Allocator, R: Read, W: Write, E: Write>(
     ended(errors, &answer)
 }
 
-// Tells why a run stopped, if it did. Nobody can be told that standard error failed.
+/// Tells why a run stopped, if it did. Nobody can be told that standard error failed.
 fn ended<E: Write>(errors: &mut E, answer: &Result<Summary, RunFault>) -> u8
     ensures { result ≡ status_told answer.now }
 {

@@ -1,7 +1,7 @@
 //! Cells looked at by blocks, all of a block at once.
 ghost use Rattle.std.specs.Prelude.{◌≡◌, ◌≢◌, ◌<◌, ◌≤◌, ◌^◌, ℕ, false, length, slice_index};
 
-// How many cells are looked at before what they tell is asked.
+/// How many cells are looked at before what they tell is asked.
 const BLOCK: usize = 64;
 
 /// Whether some cell is this byte. The loop has no way out, so that many cells are compared at once.

@@ -28,7 +28,7 @@ pub fn predecessor_numbers(class: Class, at: &Position, number: u32) -> ArrayVec
     list
 }
 
-// Adds the numbers of the positions from which this move leads to the position of this number.
+/// Adds the numbers of the positions from which this move leads to the position of this number.
 fn add_predecessor(
     class: Class,
     at: &Position,

@@ -82,7 +82,7 @@ pub fn run<'a, R: Read, W: Write, S: TableStore, A: Allocator>(
     run_session(&mut line, script, out, &mut session)
 }
 
-// No table yet, and room for those that will be held.
+/// No table yet, and room for those that will be held.
 fn empty_tables<'a, P: PageSource, A: Allocator>(
     alloc: &'a A,
     settings: Settings,

@@ -68,7 +68,7 @@ fn in_tables<'a, S: TableStore, A: Allocator>(
     }
 }
 
-// Over whole tables.
+/// Over whole tables.
 fn in_whole<'a, S: TableStore, A: Allocator>(
     alloc: &'a A,
     tables: &mut WholeTables<'a, A>,
@@ -90,7 +90,7 @@ fn in_whole<'a, S: TableStore, A: Allocator>(
     }
 }
 
-// Over tables that are read by pages, of which none is made or written.
+/// Over tables that are read by pages, of which none is made or written.
 fn in_pages<'a, S: TableStore, A: Allocator>(
     tables: &mut PagedTables<'a, S::Pages, A>,
     store: &mut S,
@@ -156,7 +156,7 @@ fn has_table<'a, A: Allocator>(tables: &WholeTables<'a, A>, class: Class) -> boo
     tables.tables().table(class).is_some()
 }
 
-// Holds a table whose class is not held, and whose needs are.
+/// Holds a table whose class is not held, and whose needs are.
 fn add_table<'a, A: Allocator>(tables: &mut WholeTables<'a, A>, table: Table<'a, A>)
     requires { add_fault tables.old.tables table.class ≡ None }
     ensures held { tables.new ≡ record tables.old { tables = slice_set tables.old.tables (class_number table.entry.class) (Some table.entry) } }
@@ -193,7 +193,7 @@ fn load_class<'a, S: TableStore, A: Allocator>(
     Ok(TableReply::Loaded(class))
 }
 
-// Reads the file of a class, and tells why it gives no table.
+/// Reads the file of a class, and tells why it gives no table.
 fn read_table_file<'a, S: TableStore, A: Allocator>(
     alloc: &'a A,
     store: &mut S,

@@ -3,7 +3,7 @@
 //! A table is kept as one text of bytes, `table_text`. `write_table` writes exactly it, or a prefix of it. `read_table`
 //! answers what the bytes read as, from front to back: a table, or the first fault. `tables_are_read_again` proves that
 //! the text of a table reads as that table, and `only_texts_are_read` that nothing else reads as a table. `PageSource`
-//! gives a file page by page, `put` hands a text to any writer, and `memory` has a reader, a writer and a source that
+//! gives a file page by page, `write_text` hands a text to any writer, and `memory` has a reader, a writer and a source that
 //! fail where a test wants it.
 #![tactic(auto)]
 

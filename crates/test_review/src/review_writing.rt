@@ -6,7 +6,7 @@ use std::process::Abort;
 use std::test::Fail;
 use study_marks::Bench;
 use study_material::Class;
-use study_prober::memory::FailingValues;
+use study_prober::failing_values::FailingValues;
 use study_prober::{ProbeFault, Values};
 use study_review::{ReviewFault, write_review};
 use study_tablefile::SourceFault;

@@ -8,7 +8,7 @@ use std::process::Abort;
 use study_board::Position;
 use study_index::{cells, decode};
 use study_material::Class;
-use study_prober::memory::FailingValues;
+use study_prober::failing_values::FailingValues;
 use study_prober::{PagedFault, PagedTables, ProbeFault, Values, WholeTables};
 use study_retro::{Table, TableSet};
 use study_tablefile::memory::{MemorySource, MemoryWriter};
