@@ -77,7 +77,7 @@ impl<'a, A: Allocator> Line<'a, A> {
         Ok(begins)
     }
 
-    // The room after 1,024 bytes is for a carriage return alone.
+    /// The room after 1,024 bytes is for a carriage return alone.
     fn has_room_for(&self, byte: u8) -> bool
         ensures { result ≡ (nat_lt (length self.now) 1024 || (length self.now == 1024 && byte == 13)) }
     {

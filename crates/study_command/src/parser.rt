@@ -89,7 +89,7 @@ fn read_keyword(word: &[u8]) -> Option<Keyword>
     }
 }
 
-// What follows the first word. A text is not empty, and all other arguments are words.
+/// What follows the first word. A text is not empty, and all other arguments are words.
 #[tactic(auto, unfolding(crate::specs::Parser::word_asked))]
 fn read_arguments(word: Keyword, rest: &[u8]) -> Result<Option<Command<'_>>, SyntaxFault>
     requires { list_all is_printable rest.now ≡ true }
@@ -123,14 +123,14 @@ fn read_arguments(word: Keyword, rest: &[u8]) -> Result<Option<Command<'_>>, Syn
     }
 }
 
-// One word, which is a path.
+/// One word, which is a path.
 fn read_path(rest: &[u8]) -> Option<PathWord<'_>>
     ensures { option_map path_seen result ≡ path_in (one_word (words rest.now)) }
 {
     read_path_word(read_one_word(rest)?)
 }
 
-// One word, a name.
+/// One word, a name.
 fn read_name(rest: &[u8]) -> Option<&str>
     requires { list_all is_printable rest.now ≡ true }
     ensures { option_map (λ name. name.now) result ≡ one_word (words rest.now) }
@@ -209,7 +209,7 @@ fn read_tag_name(word: &[u8]) -> Option<TagName>
     }
 }
 
-// `SIDE GOAL`.
+/// `SIDE GOAL`.
 fn read_stipulation(rest: &[u8]) -> Option<Stipulation>
     ensures { result ≡ stipulation_of (words rest.now) }
 {
@@ -233,7 +233,7 @@ pub fn read_side(word: &[u8]) -> Option<Side>
     }
 }
 
-// `win`, `draw` or `mate K`.
+/// `win`, `draw` or `mate K`.
 fn read_goal(rest: &[u8]) -> Option<Goal>
     ensures { result ≡ goal_of (words rest.now) }
 {
@@ -254,7 +254,7 @@ fn read_goal(rest: &[u8]) -> Option<Goal>
     }
 }
 
-// One to three digits, with a value from 1 to 127.
+/// One to three digits, with a value from 1 to 127.
 fn read_mate_moves(word: &[u8]) -> Option<MateMoves>
     ensures { result ≡ mate_moves_of word.now }
 {
@@ -266,7 +266,7 @@ fn read_mate_moves(word: &[u8]) -> Option<MateMoves>
     }
 }
 
-// One byte, `1`, `2` or `3`.
+/// One byte, `1`, `2` or `3`.
 fn read_count(word: &[u8]) -> Option<MoveCount>
     ensures { option_map count_seen result ≡ count_told word.now }
 {

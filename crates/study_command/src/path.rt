@@ -21,7 +21,7 @@ pub fn read_path<'a, A: Allocator>(alloc: &'a A, path: &[u8]) -> Result<Path<'a,
     }
 }
 
-// `root`, or else child places.
+/// `root`, or else child places.
 fn is_root(path: &[u8]) -> bool
     requires { is_path_word path.now ≡ true }
     ensures root { result ≡ true → steps_of path.now ≡ [] }
@@ -31,7 +31,7 @@ fn is_root(path: &[u8]) -> bool
     path == b"root".as_slice()
 }
 
-// Child places joined by `.`.
+/// Child places joined by `.`.
 fn read_places<'a, A: Allocator>(alloc: &'a A, path: &[u8]) -> Result<Path<'a, A>, AllocError>
     requires { list_all is_place (places_in path.now) ≡ true }
     ensures { IfOk result (λ p. p ≡ map (digits_value 10) (places_in path.now)) }
@@ -48,7 +48,7 @@ fn read_places<'a, A: Allocator>(alloc: &'a A, path: &[u8]) -> Result<Path<'a, A
     }
 }
 
-// The part before the first point, and what follows it.
+/// The part before the first point, and what follows it.
 fn split_first_place(word: &[u8]) -> (&[u8], Option<&[u8]>)
     ensures cut { MatchOption result.1 (places_in word.now ≡ result.0.now ∷ []) (λ more. places_in word.now ≡ result.0.now ∷ places_in more.now) }
     ensures shorter { IfSome result.1 (λ more. length more.now < length word.now) }
@@ -61,7 +61,7 @@ fn split_first_place(word: &[u8]) -> (&[u8], Option<&[u8]>)
     (word, None)
 }
 
-// Goes on to the child whose place is written so.
+/// Goes on to the child whose place is written so.
 fn push_place<'a, A: Allocator>(found: &mut Path<'a, A>, part: &[u8]) -> Result<(), AllocError>
     requires { is_place part.now ≡ true }
     ensures { OnOk result (found.new ≡ found.old ++ digits_value 10 part.now ∷ []) }

@@ -27,7 +27,7 @@ pub fn read_path_word(word: &[u8]) -> Option<PathWord<'_>>
     }
 }
 
-// Child places joined by `.`.
+/// Child places joined by `.`.
 #[tactic(auto, unfolding(crate::specs::Paths::is_path))]
 fn is_path(word: &[u8]) -> bool
     ensures { result ≡ is_path word.now }
@@ -35,7 +35,7 @@ fn is_path(word: &[u8]) -> bool
     word.split(|b| *b == b'.').all(is_place)
 }
 
-// One to three digits.
+/// One to three digits.
 fn is_place(part: &[u8]) -> bool
     ensures { result ≡ is_place part.now }
 {

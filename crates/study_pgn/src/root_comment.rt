@@ -54,7 +54,7 @@ pub fn is_right(goal: Goal, to_move: bool, value: Value) -> bool
     }
 }
 
-// The verdict on a root that is right or not.
+/// The verdict on a root that is right or not.
 fn add_verdict<A: Allocator>(
     text: &mut Text<'_, A>,
     stipulation: Stipulation,
@@ -85,7 +85,8 @@ pub fn add_opening_words<A: Allocator>(
     ensures { (s : Study AMark) → s.stipulation ≡ stipulation → s.start.position.to_move ≡ first → s.tree.label ≡ root
         → OnOk result (text.new ≡ text.old ++ opening_words s) }
 {
-    add_stipulation(text, stipulation)?;
+    text.add(side_name(stipulation.hero))?;
+    add_goal(text, stipulation.goal)?;
     text.add(b": ")?;
     add_verdict(text, stipulation, first, root)?;
     text.add(b", ")?;

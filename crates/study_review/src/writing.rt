@@ -19,7 +19,7 @@ use std::alloc::{AllocError, Allocator};
 use std::io::Write;
 use study_marks::{Bench, Mark, hero_moves};
 use study_notation::write_fen;
-use study_pgn::{Text, add_opening_words};
+use study_pgn::{Text, add_opening_words, root_mark};
 use study_prober::Values;
 use study_tablefile::write_text;
 
