@@ -3,7 +3,7 @@
 use crate::board::{Kind, Man, Side, Square};
 use crate::index::{least_of, places};
 use crate::material::Class;
-use crate::passing::{behind, has_legal_en_passant};
+use crate::passing::{has_legal_en_passant, square_behind_pawn};
 use crate::position::Position;
 
 /// What man fills a place in the order of a class.
@@ -110,7 +110,7 @@ fn man(slot: &Slot, square: u32) -> Man {
 
 /// The position of these men, the square behind the pawn of the side that is not to move being passed.
 fn placed_behind(men: &[Man], to_move: Side) -> Option<Position> {
-    match behind(to_move.other(), men) {
+    match square_behind_pawn(to_move.other(), men) {
         None => Position::told(men, to_move, None),
         Some(number) if number < 64 => Position::told(men, to_move, Some(Square(number))),
         Some(_) => None,

@@ -3,7 +3,7 @@
 use crate::board::{Kind, Man, Side, Square, in_check};
 use crate::list::List;
 use crate::position::Position;
-use crate::sets::{between, has, pawn_captures_of, reach, attacks_without, single};
+use crate::sets::{attacks, attacks_without, between, has, pawn_captures_of, set_of};
 
 #[derive(Clone, Copy, Debug, Default, PartialEq, Eq)]
 pub struct Move {
@@ -15,12 +15,12 @@ pub struct Move {
 fn squares_of(men: &[Man], side: Side) -> u64 {
     men.iter()
         .filter(|man| man.side == side)
-        .fold(0, |set, man| set | single(man.at))
+        .fold(0, |set, man| set | set_of(man.at))
 }
 
 #[inline]
 fn pawn_targets(man: &Man, passed: Option<Square>, own: u64, theirs: u64) -> u64 {
-    let at = single(man.at);
+    let at = set_of(man.at);
     let free = !(own | theirs);
     let steps = match man.side {
         Side::White => {
@@ -32,7 +32,7 @@ fn pawn_targets(man: &Man, passed: Option<Square>, own: u64, theirs: u64) -> u64
             one | (one & 0xff00_0000_0000) >> 8 & free
         }
     };
-    steps | pawn_captures_of(man.side, man.at) & (theirs | passed.map_or(0, single))
+    steps | pawn_captures_of(man.side, man.at) & (theirs | passed.map_or(0, set_of))
 }
 
 /// The squares to which the man goes, and where none of its side stands.
@@ -44,7 +44,7 @@ fn targets(position: &Position, man: &Man) -> u64 {
         let theirs = squares_of(men, position.to_move.other());
         pawn_targets(man, position.passed, own, theirs) & !own
     } else {
-        reach(men, man) & !own
+        attacks(men, man) & !own
     }
 }
 
@@ -55,7 +55,7 @@ fn no_shields(man: &Man, king: Square) -> u64 {
         Kind::Queen | Kind::Rook | Kind::Bishop => between(man.at, king),
         _ => 0,
     };
-    !(single(man.at) | line)
+    !(set_of(man.at) | line)
 }
 
 /// The squares on which a move of the man leaves a king of the side attacked.
@@ -230,7 +230,7 @@ pub fn is_mate(position: &Position) -> bool {
 
 #[inline]
 fn pawn_origins(free: u64, man: &Man) -> u64 {
-    let at = single(man.at);
+    let at = set_of(man.at);
     match man.side {
         Side::White => {
             let one = at >> 8 & free & !0xff;
@@ -272,11 +272,11 @@ fn checks_back(men: &[Man], side: Side, man: &Man) -> u64 {
 #[inline]
 fn origins(position: &Position, man: &Man) -> u64 {
     let men = position.men();
-    let free = !men.iter().fold(0, |set, man| set | single(man.at));
+    let free = !men.iter().fold(0, |set, man| set | set_of(man.at));
     let ways = if man.kind == Kind::Pawn {
         pawn_origins(free, man)
     } else {
-        reach(men, man) & free
+        attacks(men, man) & free
     };
     ways & !checks_back(men, position.to_move, man)
 }

@@ -4,7 +4,7 @@ use crate::board::{Kind, Man, Side, Square};
 use crate::decode::{cells, decode};
 use crate::index::index;
 use crate::material::Class;
-use crate::moves::{Move, earlier, is_legal, unmoves, legal_moves, played, unplayed};
+use crate::moves::{Move, earlier, is_legal, legal_moves, played, unmoves, unplayed};
 use crate::position::Position;
 use crate::retro::{ClassGame, Tables};
 use std::hint::black_box;
@@ -113,7 +113,7 @@ fn squares(position: &Position) -> u64 {
     position.men().iter().map(|man| u64::from(man.at.0)).sum()
 }
 
-fn taken_back_from(position: &Position) -> u64 {
+fn unplayed_from(position: &Position) -> u64 {
     unmoves(position)
         .as_slice()
         .iter()
@@ -151,7 +151,7 @@ pub fn calls() {
                 .sum()
         });
         show("unplayed", sample.label, count, || {
-            positions.iter().map(taken_back_from).sum()
+            positions.iter().map(unplayed_from).sum()
         });
         show("played", sample.label, turns.len(), || men_after(turns));
         show("is_legal", sample.label, turns.len(), || legal_by(turns));

@@ -5,7 +5,7 @@ use crate::timed::show;
 use std::io;
 use study_board::{Kind, Position, Side, Square};
 use study_index::index;
-use study_moves::{in_check, is_legal, unmoves, legal_moves, played, unplayed};
+use study_moves::{in_check, is_legal, legal_moves, played, unmoves, unplayed};
 
 fn count_moves(positions: &[Position]) -> u64 {
     let mut sum = 0u64;
@@ -15,7 +15,7 @@ fn count_moves(positions: &[Position]) -> u64 {
     sum
 }
 
-fn count_last_moves(positions: &[Position]) -> u64 {
+fn count_unmoves(positions: &[Position]) -> u64 {
     let mut sum = 0u64;
     for position in positions {
         sum = sum.saturating_add(unmoves(position).len() as u64);
@@ -41,7 +41,7 @@ fn add_squares_before(position: &Position) -> u64 {
     sum
 }
 
-fn add_taken_back(positions: &[Position]) -> u64 {
+fn add_unplayed(positions: &[Position]) -> u64 {
     let mut sum = 0u64;
     for position in positions {
         sum = sum.saturating_add(add_squares_before(position));
@@ -117,9 +117,9 @@ fn measure_steps_back(rt: HostRuntime, label: &str, positions: &[Position]) -> i
         "unmoves",
         label,
         count,
-        || count_last_moves(positions),
+        || count_unmoves(positions),
     )?;
-    show(rt, "unplayed", label, count, || add_taken_back(positions))
+    show(rt, "unplayed", label, count, || add_unplayed(positions))
 }
 
 fn measure_at(rt: HostRuntime, setting: Setting) -> io::Result<()> {
