@@ -1,9 +1,13 @@
 //! The printed report of a whole script.
 ghost use Rattle.std.specs.Prelude.{◌≡◌, List, IfSome};
 ghost use Rattle.study_material.specs.declared.class.Class.{Class as AClass};
-ghost use Rattle.study_script.specs.State.{is_among};
+ghost use Rattle.study_script.specs.declared.document.Document.TheVariants.{Empty};
+ghost use Rattle.study_script.specs.State.{State, is_among};
 ghost use Rattle.study_script.specs.Held.{tables_honest, tables_held, are_paged};
+ghost use Rattle.study_script.specs.Session.{SessionHolds};
+ghost use Rattle.study_script.specs.Stores.{HonestOn};
 ghost use Rattle.study_report.specs.Outcome.{over_tables};
+ghost use Rattle.study_report.specs.Written.{none_trusted};
 ghost use Rattle.study_print.specs.Pages.{IsFile, FileShape};
 
 use crate::ending::write_ending;
@@ -12,8 +16,9 @@ use crate::watch::Watch;
 use std::alloc::Allocator;
 use std::io::{Read, Write};
 use study_page::write_opening;
-use study_report::follow_script;
+use study_report::{NoFiles, follow_over};
 use study_script::run::{RunFault, Summary};
+use study_script::store::TableStore;
 use study_script::tables::Tables;
 use study_tablefile::PageSource;
 
@@ -33,10 +38,29 @@ pub fn follow_pages<'a, R: Read, W: Write, P: PageSource, A: Allocator, N: Watch
         (W.contents out.old) (W.contents out.new) result) }
     ensures shape { IfSome (R.remaining script.old) (λ bytes. FileShape bytes (R.remaining script.new) result) }
 {
+    let mut store = NoFiles::new();
+    follow_pages_over(alloc, script, out, watch, tables, &mut store)
+}
+
+/// The same over a store, of which no file is opened: what is known of its files tells for which faults these tables may not be read.
+pub fn follow_pages_over<'a, R: Read, W: Write, S: TableStore, A: Allocator, N: Watch>(
+    alloc: &'a A,
+    script: &mut R,
+    out: &mut W,
+    watch: N,
+    tables: Tables<'a, S::Pages, A>,
+    store: &mut S,
+) -> Result<Summary, RunFault>
+    ensures file { (first : State) → SessionHolds S.Pages.honest S.Pages.gives (HonestOn none_trusted S.honest) S.files S.headers S.faults
+        Empty tables.entry store.old first
+        → IfSome (R.remaining script.old)
+        (λ bytes. IsFile first bytes (R.remaining script.new) (W.contents out.old) (W.contents out.new) result) }
+    ensures shape { IfSome (R.remaining script.old) (λ bytes. FileShape bytes (R.remaining script.new) result) }
+{
     if write_opening(out).is_err() {
         return Err(RunFault::WriteDevice);
     }
     let mut pages = Pages::new(alloc, watch);
-    let ran = follow_script(alloc, script, out, &mut pages, tables);
+    let ran = follow_over(alloc, script, out, &mut pages, tables, store);
     write_ending(alloc, pages.count, &pages.rows, ran, out)
 }

@@ -10,7 +10,7 @@ mod pages;
 mod reasons;
 mod watch;
 
-pub use following::follow_pages;
+pub use following::{follow_pages, follow_pages_over};
 pub use pages::{Count, Pages};
 pub use reasons::{reason_of, refusal_in};
 pub use watch::{Unwatched, Watch};

@@ -102,8 +102,8 @@ pub fn follow_script<'a, R: Read, W: Write, P: PageSource, A: Allocator, T: Repo
     follow_over(alloc, script, out, report, tables, &mut store)
 }
 
-/// The same over a store, of which no file is opened.
-fn follow_over<'a, R: Read, W: Write, S: TableStore, A: Allocator, T: Report>(
+/// The same over a store, of which no file is opened: what is known of its files tells for which faults these tables may not be read.
+pub fn follow_over<'a, R: Read, W: Write, S: TableStore, A: Allocator, T: Report>(
     alloc: &'a A,
     script: &mut R,
     out: &mut W,

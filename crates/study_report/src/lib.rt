@@ -2,7 +2,8 @@
 //!
 //! `follow` goes through a script as studybench does and has each accepted `pgn` line told by a `Report`, and each refused line
 //! in its place. Lines of tables are skipped: the tables are those that are held before the first line. `Lines` tells facts as
-//! lines of plain text. `follow_script` takes the tables, and needs no files.
+//! lines of plain text. `follow_script` takes the tables, and needs no files;
+//! `follow_over` takes a store beside them, of which it opens none.
 #![tactic(auto)]
 
 mod adding;
@@ -14,7 +15,7 @@ mod report;
 mod section;
 mod told;
 
-pub use following::{follow, follow_script};
+pub use following::{follow, follow_over, follow_script};
 pub use kind::{Kind, kind_of};
 pub use lines::{Lines, without_error};
 pub use no_files::NoFiles;

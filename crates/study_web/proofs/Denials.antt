@@ -1,6 +1,6 @@
 -- Answers that are whole, and refusals.
 use Rattle.std.proofs.Common.{◌≡◌, ◌⊎◌, ℕ, Bool, true, List, [], ◌∷◌, Option, Result, Ok, Err, refl, sym, ap, subst, ◌∙◌, inl, inr}
-use Rattle.std.specs.Prelude.{IfOk, IfErr}
+use Rattle.std.specs.Prelude.{IfOk, IfErr, IsErrAnd}
 use Rattle.study_script.specs.declared.run.RunFault.{RunFault}
 use Rattle.study_script.specs.declared.run.RunFault.TheVariants as run_fault
 use Rattle.study_board.specs.Position.{Position}
@@ -12,8 +12,18 @@ use Rattle.study_marks.specs.Answers.{IsFirstFault}
 use Rattle.study_review.specs.Asked.{Stopped}
 use Rattle.study_view.specs.declared.fault.SurveyFault.{SurveyFault}
 use Rattle.study_view.specs.declared.fault.SurveyFault.TheVariants as survey
-use Rattle.study_view.specs.Asked.{HasSurveyed}
+use Rattle.study_view.specs.declared.fault.ViewFault.{ViewFault}
+use Rattle.study_view.specs.declared.fault.ViewFault.TheVariants as view
+use Rattle.study_view.specs.Asked.{HasSurveyed, HasViewed}
+use Rattle.study_retro.specs.Table.{Table}
+use Rattle.study_prober.specs.Sources.{GivesOf}
 use Rattle.study_script.specs.declared.store.StoreFault.{StoreFault}
+use Rattle.study_script.specs.declared.document.Document.{Document as HeldDocument}
+use Rattle.study_script.specs.declared.tables.Tables.{Tables}
+use Rattle.study_script.specs.declared.tables.Tables.TheVariants.{Whole, Paged}
+use Rattle.study_script.specs.State.{State, is_among}
+use Rattle.study_script.specs.Held.{Holds, are_paged, tables_asked, tables_failed, tables_give, tables_held, tables_honest, tables_may_fail}
+use Rattle.study_report.specs.Told.{IsUntoldIn}
 use Rattle.study_web.specs.declared.denial.Denial.{Denial}
 use Rattle.study_web.specs.declared.denial.Denial.TheVariants as denial
 use Rattle.study_web.specs.declared.reply.NoText.{NoText}
@@ -89,6 +99,35 @@ module _ {V : Type 0} (held : V → Class → Bool) (gives : V → Position → 
       let stopped = subst (λ (x : Result (Unit {0}) SurveyFault). HasSurveyed held gives may_fail asked_of failed_of is_honest old x new) e is in
       inr (fault, untold h m Right old new fault stopped known fails right, refl)
 
+  -- a view is refused for the value that cannot be read
+  pub view_stopped : (asked : List Position) (old new : V) (fault : ProbeFault) (r : Result (Unit {0}) ViewFault) → r ≡ Err (view.Values fault)
+      → HasViewed held gives may_fail asked_of failed_of is_honest asked old r new → Stopped held gives may_fail asked_of failed_of is_honest old fault new
+  view_stopped asked old new fault r e is =
+      let there = subst (λ (x : Result (Unit {0}) ViewFault). HasViewed held gives may_fail asked_of failed_of is_honest asked old x new) e is in
+      there.stopped
+
+  -- in a state that holds the same, the value cannot be read for this fault
+  pub untold_in : (s : State) (old new : V) (fault : ProbeFault) → Stopped held gives may_fail asked_of failed_of is_honest old fault new
+      → is_honest old → ((c : Class) → held old c ≡ is_among s.classes c)
+      → ((c : Class) (f : SourceFault) → may_fail old c f → (s.paged ≡ true) × (s.shelf.faults c f ≡ true)) → IsUntoldIn s fault
+  untold_in s old new (probe.NoTable c) is honest known fails = sym (known c) ∙ is.untold c refl
+  untold_in s old new (probe.TableRead f) is honest known fails =
+      let r = fails_at old new is.told.0 f is.told.1 in let k = fails r.0 f r.1 in (k.0, r.0, k.1)
+  untold_in s old new (probe.PageDamaged c n) is honest known fails = absurd (is.no_damage honest)
+
+-- tables that may fail are read by pages
+paged_where : {P A : Type 0} (gives : GivesOf P) (t : Tables P A) (c : Class) (f : SourceFault) → tables_may_fail gives t c f → are_paged t ≡ true
+paged_where gives (Whole w) c f h = absurd h
+paged_where gives (Paged w) c f h = refl
+
+-- the same of the tables of a session
+pub untold_left : {P A : Type 0} (honest : P → Table → ℕ → Type 0) (gives : GivesOf P) (b : HeldDocument A) (old new : Tables P A) (fault : ProbeFault)
+    → Stopped tables_held (tables_give gives) (tables_may_fail gives) tables_asked tables_failed (tables_honest honest) old fault new
+    → (s : State) → Holds honest gives b old s → IsUntoldIn s fault
+untold_left honest gives b old new fault is s holds =
+    untold_in tables_held (tables_give gives) (tables_may_fail gives) tables_asked tables_failed (tables_honest honest) s old new fault is holds.values
+    holds.classes (λ c f h. (sym holds.paged ∙ paged_where gives old c f h, holds.faults c f h))
+
 -- what is told of each text under a premise
 pub if_right : {V E : Type 0} (made : Result V E) (items : V → List ℕ) (Right : Type 0) (IsIt : List ℕ → Type 0)
     → (Right → IfOk made (λ v. IsIt (items v))) → IfOk made (λ v. Right → IsIt (items v))
@@ -97,41 +136,59 @@ if_right (Err e) items Right IsIt f = tt
 
 -- ---- why there is no view
 
-pub node_denial : (Lacks : Type 0) → Lacks → IsViewDenial Lacks (denial.Refused NoSuchNode)
-node_denial Lacks h = (tt, λ e. h)
+pub node_denial : (Untold : ProbeFault → Type 0) (Lacks : Type 0) → Lacks → IsViewDenial Untold Lacks (denial.Refused NoSuchNode)
+node_denial Untold Lacks h = inr (inl (refl, h))
 
-pub memory_denial : (Lacks : Type 0) → IsViewDenial Lacks (denial.Refused OutOfMemory)
-memory_denial Lacks = (tt, λ e. absurd cc)
+pub memory_denial : (Untold : ProbeFault → Type 0) (Lacks : Type 0) → IsViewDenial Untold Lacks (denial.Refused OutOfMemory)
+memory_denial Untold Lacks = inl refl
 
-pub probe_denial : (Lacks : Type 0) (fault : ProbeFault) → IsViewDenial Lacks (denial.Refused (of_probe fault))
-probe_denial Lacks (probe.NoTable c) = (tt, λ e. absurd cc)
-probe_denial Lacks (probe.TableRead fault) = (tt, λ e. absurd cc)
-probe_denial Lacks (probe.PageDamaged c n) = (tt, λ e. absurd cc)
+pub probe_denial : (Untold : ProbeFault → Type 0) (Lacks : Type 0) (fault : ProbeFault) → Untold fault
+    → IsViewDenial Untold Lacks (denial.Refused (of_probe fault))
+probe_denial Untold Lacks fault is = inr (inr (fault, is, refl))
 
-module _ (May : Denial → Type 0) (Lacks Misses : Type 0) (Stops Ends : RunFault → Type 0) (lacks : Lacks → Misses)
-    (ends : (fault : RunFault) → Stops fault → Ends fault) where
-  weaker_end : (why : NoText) → MayEnd (IsViewDenial Lacks) Stops why → MayEnd (λ d. May d ⊎ IsViewDenial Misses d) Ends why
-  weaker_end (no_text.Denied d) h = inr (h.0, λ e. lacks (h.1 e))
-  weaker_end (no_text.Stopped fault) h = ends fault h
+-- no node, and no memory, where there is no text
+pub node_end : (Untold : ProbeFault → Type 0) (Lacks : Type 0) (Stops : RunFault → Type 0) (why : NoText)
+    → why ≡ no_text.Denied (denial.Refused NoSuchNode) → Lacks → MayEnd (IsViewDenial Untold Lacks) Stops why
+node_end Untold Lacks Stops why e h = subst (MayEnd (IsViewDenial Untold Lacks) Stops) (sym e) (node_denial Untold Lacks h)
+
+pub memory_end : {V : Type 0} (made : Result V NoText) (Untold : ProbeFault → Type 0) (Lacks : Type 0)
+    → IfErr made (λ why. why ≡ no_text.Denied (denial.Refused OutOfMemory)) → IfErr made (MayEnd (IsViewDenial Untold Lacks) IsNever)
+memory_end (Ok v) Untold Lacks h = tt
+memory_end (Err why) Untold Lacks h = subst (MayEnd (IsViewDenial Untold Lacks) IsNever) (sym h) (memory_denial Untold Lacks)
+
+module _ (Untold Unread : ProbeFault → Type 0) (Lacks Misses : Type 0) (untold-so : (fault : ProbeFault) → Untold fault → Unread fault)
+    (lacks : Lacks → Misses) where
+  weaker_view : (d : Denial) → IsViewDenial Untold Lacks d → IsViewDenial Unread Misses d
+  weaker_view d (inl same) = inl same
+  weaker_view d (inr (inl (same, is))) = inr (inl (same, lacks is))
+  weaker_view d (inr (inr (fault, is, same))) = inr (inr (fault, untold-so fault is, same))
+
+  weaker_end : (Stops : RunFault → Type 0) (why : NoText) → MayEnd (IsViewDenial Untold Lacks) Stops why → MayEnd (IsViewDenial Unread Misses) Stops why
+  weaker_end Stops (no_text.Denied d) h = weaker_view d h
+  weaker_end Stops (no_text.Stopped fault) h = h
+
+  -- an error that is passed on
+  pub passed_on : {V : Type 0} (made : Result V NoText) (Stops : RunFault → Type 0) (why : NoText) → IsErrAnd made (λ x. x ≡ why)
+      → MayEnd (IsViewDenial Untold Lacks) Stops why → IfErr made (MayEnd (IsViewDenial Unread Misses) Stops)
+  passed_on (Ok v) Stops why e h = absurd e
+  passed_on (Err x) Stops why e h = subst (MayEnd (IsViewDenial Unread Misses) Stops) (sym e) (weaker_end Stops why h)
 
   -- why there is no view of what is left is why there is none of the script
-  pub weaker_denial : {V : Type 0} (made : Result V NoText) → IfErr made (MayEnd (IsViewDenial Lacks) Stops)
-      → IfErr made (MayEnd (λ d. May d ⊎ IsViewDenial Misses d) Ends)
-  weaker_denial (Ok v) h = tt
-  weaker_denial (Err why) h = weaker_end why h
+  pub weaker_denial : {V : Type 0} (May : Denial → Type 0) (Stops Ends : RunFault → Type 0) → ((fault : RunFault) → Stops fault → Ends fault)
+      → (made : Result V NoText) → IfErr made (MayEnd (IsViewDenial Untold Lacks) Stops)
+      → IfErr made (MayEnd (λ d. May d ⊎ IsViewDenial Unread Misses d) Ends)
+  weaker_denial May Stops Ends ends (Ok v) h = tt
+  weaker_denial May Stops Ends ends (Err (no_text.Denied d)) h = inr (weaker_view d h)
+  weaker_denial May Stops Ends ends (Err (no_text.Stopped fault)) h = ends fault h
 
--- the same over the files that are handed in
-module _ (May Might : Denial → Type 0) (Lacks Misses : Type 0) (Stops : RunFault → Type 0) (may : (d : Denial) → May d → Might d)
-    (lacks : Lacks → Misses) where
-  handed_end : (why : NoText) → MayEnd (λ d. May d ⊎ IsViewDenial Lacks d) Stops why → MayEnd (λ d. Might d ⊎ IsViewDenial Misses d) Stops why
-  handed_end (no_text.Denied d) (inl h) = inl (may d h)
-  handed_end (no_text.Denied d) (inr h) = inr (h.0, λ e. lacks (h.1 e))
-  handed_end (no_text.Stopped fault) h = h
-
-  pub handed_denial : {V : Type 0} (made : Result V NoText) → IfErr made (MayEnd (λ d. May d ⊎ IsViewDenial Lacks d) Stops)
-      → IfErr made (MayEnd (λ d. Might d ⊎ IsViewDenial Misses d) Stops)
-  handed_denial (Ok v) h = tt
-  handed_denial (Err why) h = handed_end why h
+  -- the same over the files that are handed in
+  pub handed_denial : {V : Type 0} (May Might : Denial → Type 0) (Stops : RunFault → Type 0) → ((d : Denial) → May d → Might d)
+      → (made : Result V NoText) → IfErr made (MayEnd (λ d. May d ⊎ IsViewDenial Untold Lacks d) Stops)
+      → IfErr made (MayEnd (λ d. Might d ⊎ IsViewDenial Unread Misses d) Stops)
+  handed_denial May Might Stops may (Ok v) h = tt
+  handed_denial May Might Stops may (Err (no_text.Denied d)) (inl h) = inl (may d h)
+  handed_denial May Might Stops may (Err (no_text.Denied d)) (inr h) = inr (weaker_view d h)
+  handed_denial May Might Stops may (Err (no_text.Stopped fault)) h = h
 
 -- the same of a survey
 module _ (May Might : Denial → Type 0) (start : Start) (square : ℕ) (may : (d : Denial) → May d → Might d) where
@@ -145,8 +202,3 @@ module _ (May Might : Denial → Type 0) (start : Start) (square : ℕ) (may : (
       → IfErr made (MayEnd (IsSurveyDenial Might start square) IsNoMemory)
   survey_denial (Ok v) h = tt
   survey_denial (Err why) h = survey_end why h
-
-pub memory_end : {V : Type 0} (made : Result V NoText) (Lacks : Type 0) → IfErr made (λ why. why ≡ no_text.Denied (denial.Refused OutOfMemory))
-    → IfErr made (MayEnd (IsViewDenial Lacks) IsNever)
-memory_end (Ok v) Lacks h = tt
-memory_end (Err why) Lacks h = subst (MayEnd (IsViewDenial Lacks) IsNever) (sym h) (memory_denial Lacks)

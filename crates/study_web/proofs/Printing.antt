@@ -1,21 +1,18 @@
 -- Printed pages over the files that are handed in.
-use Rattle.std.proofs.Common.{◌≡◌, ℕ, Bool, true, List, [], replicate, false, Option, Some, Result, Ok, Err, sym, ap, subst, ◌∙◌, inl, inr}
-use Rattle.study_material.specs.declared.class.Class.{Class}
-use Rattle.study_print.specs.Pages.{IsFile}
-use Rattle.study_report.specs.Outcome.{over_tables}
+use Rattle.std.proofs.Common.{◌≡◌, ℕ, Bool, List, replicate, false, Result, Ok, Err, sym, ap, subst, ◌∙◌, inl, inr}
 use Rattle.study_script.specs.declared.run.Summary.{Summary}
 use Rattle.study_script.specs.declared.run.RunFault.{RunFault}
-use Rattle.study_script.specs.State.{is_among}
 use Rattle.study_web.specs.declared.denial.Denial.{Denial}
 use Rattle.study_web.specs.declared.reply.Ending.{Ending}
 use Rattle.study_web.specs.declared.reply.Ending.TheVariants.{Answered, Refused, Ran, Stopped}
 use Rattle.study_web.specs.declared.spans.Span.{Span}
-use Rattle.study_web.specs.Answers.{IsPrinted, IsPrintedTo}
-use Rattle.study_web.specs.Opened.{IsHeldAs, IsOfFiles}
+use Rattle.study_web.specs.Answers.{IsPrinted, IsPrintedTo, IsFileOver}
+use Rattle.study_web.specs.Opened.{IsOfFiles}
 use Rattle.study_web.specs.Spans.{header_given}
-use Rattle.study_web.specs.Store.{known}
+use Rattle.study_web.specs.Store.{known, faults_known}
 use Rattle.study_web.specs.Told.{denial_text, ending_of, IsDenied}
-use Rattle.study_web.proofs.Shelves.{handed_in}
+use Rattle.study_web.specs.Views.{OverStore}
+use Rattle.study_web.proofs.Shelves.{over_made}
 
 module _ (spans : List Span) (bytes script : List ℕ) where
   by_summary : (text : List ℕ) (summary : Result Summary RunFault) → IsPrintedTo spans bytes script text summary
@@ -36,7 +33,6 @@ module _ (spans : List Span) (bytes script : List ℕ) where
 
 pub print_made : {spans at : List Span} {bytes bs : List ℕ} {written : List Bool} → at ≡ spans → bs ≡ bytes → written ≡ replicate 36 false
     → (script text : List ℕ) (summary : Result Summary RunFault)
-    → (classes : List Class) × ((c : Class) → IsHeldAs (known header_given at bs written c) (is_among classes c)) × (left : Option (List ℕ))
-    × IsFile (over_tables classes true) script left (Some []) (Some text) summary
+    → OverStore (known header_given at bs written) (faults_known at bs written) (IsFileOver script text summary)
     → IsPrintedTo spans bytes script text summary
-print_made e f w script text summary (classes, held, left, is) = λ right. (classes, handed_in classes e f w held, left, is)
+print_made e f w script text summary is = λ right. over_made e f w (IsFileOver script text summary) is

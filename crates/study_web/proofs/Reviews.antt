@@ -1,25 +1,23 @@
 -- Reviews over the files that are handed in.
-use Rattle.std.proofs.Common.{◌≡◌, ℕ, Bool, true, List, [], replicate, false, filter, Option, Some, None, Result, Ok, Err, is_some}
+use Rattle.std.proofs.Common.{◌≡◌, ℕ, Bool, List, [], replicate, false, filter, None, Result, Ok, Err, is_some}
 use Rattle.std.proofs.Common.{refl, sym, ap, subst, ◌∙◌, arith}
 use Rattle.study_material.specs.declared.class.Class.{Class}
 use Rattle.study_material.specs.Class.{class_list}
-use Rattle.study_review.specs.Review.{IsReviewOf}
-use Rattle.study_report.specs.Outcome.{Outcome, over_tables}
 use Rattle.study_script.specs.declared.run.Summary.{Summary}
 use Rattle.study_script.specs.declared.run.RunFault.{RunFault}
-use Rattle.study_script.specs.State.{is_among}
+use Rattle.study_script.specs.State.{Shelf}
 use Rattle.study_web.specs.declared.denial.Denial.{Denial}
 use Rattle.study_web.specs.declared.reply.Ending.{Ending}
 use Rattle.study_web.specs.declared.reply.Ending.TheVariants.{Answered, Refused, Ran, Stopped}
 use Rattle.study_web.specs.declared.spans.Span.{Span}
-use Rattle.study_web.specs.Answers.{IsReviewed, IsReviewedTo}
-use Rattle.study_web.specs.Opened.{IsHeldAs, IsOfFiles}
-use Rattle.study_web.specs.Spans.{file_in, header_given}
-use Rattle.study_web.specs.Store.{known}
-use Rattle.study_web.specs.Views.{refused_line}
+use Rattle.study_web.specs.Answers.{IsReviewed, IsReviewedTo, IsReviewOver}
+use Rattle.study_web.specs.Opened.{IsOfFiles}
+use Rattle.study_web.specs.Spans.{file_in, file_faults, header_given}
+use Rattle.study_web.specs.Store.{known, faults_known}
+use Rattle.study_web.specs.Views.{OverStore}
 use Rattle.study_web.specs.Told.{denial_text, ending_of, IsDenied}
 use Rattle.study_web.proofs.Opening.{among_chosen}
-use Rattle.study_web.proofs.Shelves.{handed_in}
+use Rattle.study_web.proofs.Shelves.{over_made}
 
 module _ (spans : List Span) (bytes script : List ℕ) where
   by_summary : (text : List ℕ) (summary : Result Summary RunFault) → IsReviewedTo spans bytes script text summary
@@ -37,12 +35,12 @@ module _ (spans : List Span) (bytes script : List ℕ) where
   reviewed_denied d text (Refused e) of (same, is) = (subst (IsOfFiles spans bytes) (sym same) of, is ∙ ap denial_text (sym same))
   reviewed_denied d text (Stopped fault) of (same, is) =
       let chosen : Class → Bool = λ c. is_some (file_in spans bytes c) in
-      rw (same, is) (λ right. (filter chosen class_list, among_chosen chosen, None, (0, omega arith, omega arith, (tt, [], tt, refl))))
+      let shelf : Shelf = record { files = λ c. None; headers = λ c. None; faults = λ c f. file_faults (file_in spans bytes c) c f } in
+      rw (same, is) (λ right. (filter chosen class_list, among_chosen chosen, shelf, λ c f. refl, (None, (0, omega arith, omega arith, (tt, [], tt, refl)))))
   reviewed_denied d text (Ran summary) of x = absurd x
 
 pub review_made : {spans at : List Span} {bytes bs : List ℕ} {written : List Bool} → at ≡ spans → bs ≡ bytes → written ≡ replicate 36 false
     → (script text : List ℕ) (summary : Result Summary RunFault)
-    → (classes : List Class) × ((c : Class) → IsHeldAs (known header_given at bs written c) (is_among classes c)) × (left : Option (List ℕ))
-    × Outcome IsReviewOf refused_line (over_tables classes true) script left (Some []) (Some text) summary
+    → OverStore (known header_given at bs written) (faults_known at bs written) (IsReviewOver script text summary)
     → IsReviewedTo spans bytes script text summary
-review_made e f w script text summary (classes, held, left, is) = λ right. (classes, handed_in classes e f w held, left, is)
+review_made e f w script text summary is = λ right. over_made e f w (IsReviewOver script text summary) is

@@ -17,7 +17,7 @@ use Rattle.study_reply.specs.declared.refusal.Refusal.{Refusal}
 use Rattle.study_web.specs.declared.denial.Denial.{Denial}
 use Rattle.study_web.specs.declared.denial.Denial.TheVariants as denial
 use Rattle.study_web.specs.Opened.{IsHeldAs, AreHandedIn, AreAllRight, IsBadFile, IsOfTables, IsValueUntold, IsOfValues, IsOfFiles, IsOfFileValues}
-use Rattle.study_web.specs.Views.{IsViewOver, IsViewAfter, LacksNodeOver, LacksNodeAfter}
+use Rattle.study_web.specs.Views.{OverStore, OverFiles}
 use Rattle.study_web.specs.Store.{is_written, known, faults_known, IsShelf, AreRightFiles}
 
 -- all that is known of a store
@@ -71,20 +71,6 @@ handed_in {spans} {at} {bytes} {bs} {written} classes e f w held = λ c.
     known_as : (c : Class) → IsHeldAs (known header_given spans bytes (replicate 36 false) c) (is_among classes c)
     known_as c = rw (sym e, sym f, sym w) (held c)
 
-pub views_made : {V E : Type 0} {spans at : List Span} {bytes bs : List ℕ} {written : List Bool} (made : Result V E) (items : V → List ℕ)
-    → at ≡ spans → bs ≡ bytes → written ≡ replicate 36 false → (script steps : List ℕ)
-    → IfOk made (λ v. (classes : List Class) × ((c : Class) → IsHeldAs (known header_given at bs written c) (is_among classes c))
-    × IsViewOver classes script steps (items v))
-    → IfOk made (λ v. IsViewAfter spans bytes script steps (items v))
-views_made (Ok v) items e f w script steps (classes, held, is) = (classes, handed_in classes e f w held, is)
-views_made (Err x) items e f w script steps h = tt
-
-pub lacks_made : {spans at : List Span} {bytes bs : List ℕ} {written : List Bool} → at ≡ spans → bs ≡ bytes → written ≡ replicate 36 false
-    → (script steps : List ℕ)
-    → (classes : List Class) × ((c : Class) → IsHeldAs (known header_given at bs written c) (is_among classes c)) × LacksNodeOver classes script steps
-    → LacksNodeAfter spans bytes script steps
-lacks_made e f w script steps (classes, held, lacks) = (classes, handed_in classes e f w held, lacks)
-
 -- ---- why tables are not opened
 
 module _ (h k : Class → Option (Result (List ℕ) StoreFault)) (m n : Class → SourceFault → Bool) (same : (c : Class) → h c ≡ k c)
@@ -132,3 +118,14 @@ module _ {spans at : List Span} {bytes bs : List ℕ} {written : List Bool} (e :
   values_made d is = values_alike (known header_given at bs written) (λ c. Some (header_given (file_in spans bytes c)))
       (faults_known at bs written) (λ c. file_faults (file_in spans bytes c) c) headers_made faults_made (AreAllRight at bs)
       (AreAllRight spans bytes) (right_made e f) d is
+
+  -- what is so over the store is so over the files
+  pub over_made : (IsSo : List Class → Shelf → Type 0) → OverStore (known header_given at bs written) (faults_known at bs written) IsSo
+      → OverFiles spans bytes IsSo
+  over_made IsSo (classes, held, shelf, knows, is) = (classes, handed_in classes e f w held, shelf, (λ c x. knows c x ∙ faults_made c x), is)
+
+  pub views_made : {V E : Type 0} (made : Result V E) (IsSo : V → List Class → Shelf → Type 0)
+      → IfOk made (λ v. OverStore (known header_given at bs written) (faults_known at bs written) (IsSo v))
+      → IfOk made (λ v. OverFiles spans bytes (IsSo v))
+  views_made (Ok v) IsSo h = over_made (IsSo v) h
+  views_made (Err x) IsSo h = tt

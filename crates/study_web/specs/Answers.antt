@@ -1,19 +1,21 @@
 -- What a page is answered.
-use Rattle.std.specs.Prelude.{◌≡◌, ◌⊎◌, ℕ, Bool, true, List, [], Option, Some, None, Result, Ok, Err}
+use Rattle.std.specs.Prelude.{◌≡◌, ◌⊎◌, ℕ, Bool, List, [], Option, Some, None, Result, Ok, Err}
 use Rattle.study_board.specs.Position.{man_at}
 use Rattle.study_material.specs.declared.class.Class.{Class}
 use Rattle.study_notation.specs.declared.start.Start.{Start}
 use Rattle.study_marks.specs.declared.stipulation.Stipulation.{Stipulation}
 use Rattle.study_command.specs.Lines.{script_lines}
 use Rattle.study_reply.specs.declared.refusal.Refusal.TheVariants.{MissingTable, OutOfMemory, File, OtherClass, DistanceTooLarge}
-use Rattle.study_reply.specs.declared.refusal.Refusal.TheVariants.{NoSuchNode, NoTable, TableRead, TableReadPage}
+use Rattle.study_reply.specs.declared.refusal.Refusal.TheVariants.{NoSuchNode}
+use Rattle.study_reply.specs.Names.{of_probe}
+use Rattle.study_prober.specs.declared.values.ProbeFault.{ProbeFault}
 use Rattle.study_script.specs.declared.run.Summary.{Summary}
 use Rattle.study_script.specs.declared.run.RunFault.{RunFault}
 use Rattle.study_script.specs.declared.run.RunFault.TheVariants as run_fault
 use Rattle.study_script.specs.Outcome.{Outcome, begun_state}
 use Rattle.study_script.specs.State.{Shelf}
 use Rattle.study_script.specs.Stores.{AreTrusted}
-use Rattle.study_report.specs.Outcome.{Outcome as ReportOutcome, Shape, over_tables}
+use Rattle.study_report.specs.Outcome.{Outcome as ReportOutcome, Shape}
 use Rattle.study_review.specs.Review.{IsReviewOf}
 use Rattle.study_print.specs.Pages.{IsFile}
 use Rattle.study_view.specs.Setup.{passed_squares}
@@ -28,12 +30,12 @@ use Rattle.study_web.specs.declared.reply.Ending.{Ending}
 use Rattle.study_web.specs.declared.reply.Ending.TheVariants.{Answered, Refused, Ran, Stopped}
 use Rattle.study_web.specs.declared.spans.Span.{Span}
 use Rattle.study_web.specs.Making.{IsRightFileOf, IsMakeFault, HasRightNeeds}
-use Rattle.study_web.specs.Opened.{AreHandedIn, AreAllRight, IsOfFiles, IsOfFileValues}
+use Rattle.study_web.specs.Opened.{AreAllRight, IsOfFiles, IsOfFileValues}
 use Rattle.study_web.specs.Request.{Asked, Asks, run, review, report, tables, make, view, survey, passed}
 use Rattle.study_web.specs.Setup.{AreTables, squares_text}
 use Rattle.study_web.specs.Store.{IsShelf, AreRightFiles}
 use Rattle.study_web.specs.Told.{denial_text, ending_of, IsDenied}
-use Rattle.study_web.specs.Views.{refused_line, IsViewAfter, LacksNodeAfter}
+use Rattle.study_web.specs.Views.{refused_line, over_files, IsViewOver, IsUntoldOver, LacksNodeOver, OverFiles}
 
 -- ---- how a request ends that is answered whole or not at all
 
@@ -88,30 +90,28 @@ IsMadeFile spans bytes c text = HasRightNeeds spans bytes c → IsRightFileOf c 
 abbrev pub IsMade : List Span → List ℕ → Class → List ℕ → Ending → Type 0
 IsMade spans bytes c = IsWhole (IsMadeFile spans bytes c) (IsMakeDenial spans bytes c) IsNoMemory
 
--- a value cannot be read, no node is at the path, or there is no memory
-abbrev pub IsOfView : Denial → Type 0
-IsOfView (denial.Refused (NoTable c)) = Unit {0}
-IsOfView (denial.Refused (TableRead fault)) = Unit {0}
-IsOfView (denial.Refused (TableReadPage n)) = Unit {0}
-IsOfView (denial.Refused NoSuchNode) = Unit {0}
-IsOfView (denial.Refused OutOfMemory) = Unit {0}
-IsOfView d = ⊥
+-- why there is no view: for want of memory, or no node is at the path, or a value cannot be read; the last two only where it is so
+abbrev pub IsViewDenial : (ProbeFault → Type 0) → Type 0 → Denial → Type 0
+IsViewDenial Untold Lacks d =
+    (d ≡ denial.Refused OutOfMemory) ⊎ ((d ≡ denial.Refused NoSuchNode) × Lacks)
+    ⊎ ((fault : ProbeFault) × Untold fault × (d ≡ denial.Refused (of_probe fault)))
 
--- why there is no view; the first reason only where it is so
-abbrev pub IsViewDenial : Type 0 → Denial → Type 0
-IsViewDenial Lacks d = IsOfView d × (d ≡ denial.Refused NoSuchNode → Lacks)
-
--- the view of what the script leaves, over files that are right
+-- The view of what the script leaves, over files that are right; over these a node is missing, or a value cannot be read, only in what the
+-- script leaves.
 abbrev pub IsViewed : List Span → List ℕ → List ℕ → List ℕ → List ℕ → Ending → Type 0
 IsViewed spans bytes script steps =
-    IsWhole (λ text. AreAllRight spans bytes → IsViewAfter spans bytes script steps text)
-    (λ d. IsOfFiles spans bytes d ⊎ IsViewDenial (AreAllRight spans bytes → LacksNodeAfter spans bytes script steps) d) (IsUnread script)
+    IsWhole (λ text. AreAllRight spans bytes → OverFiles spans bytes (IsViewOver script steps text))
+    (λ d. IsOfFiles spans bytes d ⊎ IsViewDenial (λ fault. AreAllRight spans bytes → OverFiles spans bytes (IsUntoldOver script fault))
+    (AreAllRight spans bytes → OverFiles spans bytes (LacksNodeOver script steps)) d) (IsUnread script)
 
--- the review of the script's studies, over files that are right; or the request is refused for one of the files, or there is no memory
+-- the review of the script's studies
+abbrev pub IsReviewOver : List ℕ → List ℕ → Result Summary RunFault → List Class → Shelf → Type 0
+IsReviewOver script text summary classes shelf =
+    (left : Option (List ℕ)) × ReportOutcome IsReviewOf refused_line (over_files classes shelf) script left (Some []) (Some text) summary
+
+-- the same over files that are right; or the request is refused for one of the files, or there is no memory
 abbrev pub IsReviewedTo : List Span → List ℕ → List ℕ → List ℕ → Result Summary RunFault → Type 0
-IsReviewedTo spans bytes script text summary =
-    AreAllRight spans bytes → (classes : List Class) × AreHandedIn spans bytes classes × (left : Option (List ℕ))
-    × ReportOutcome IsReviewOf refused_line (over_tables classes true) script left (Some []) (Some text) summary
+IsReviewedTo spans bytes script text summary = AreAllRight spans bytes → OverFiles spans bytes (IsReviewOver script text summary)
 
 abbrev pub IsReviewed : List Span → List ℕ → List ℕ → List ℕ → Ending → Type 0
 IsReviewed spans bytes script text Answered = ⊥
@@ -119,12 +119,13 @@ IsReviewed spans bytes script text (Refused d) = IsOfFiles spans bytes d × (tex
 IsReviewed spans bytes script text (Ran summary) = IsReviewedTo spans bytes script text (Ok summary)
 IsReviewed spans bytes script text (Stopped fault) = IsReviewedTo spans bytes script text (Err fault)
 
--- The printed pages of the script's studies, over files that are right; or the request is refused for one of the files, or there is no
--- memory for its name.
+-- the printed pages of the script's studies
+abbrev pub IsFileOver : List ℕ → List ℕ → Result Summary RunFault → List Class → Shelf → Type 0
+IsFileOver script text summary classes shelf = (left : Option (List ℕ)) × IsFile (over_files classes shelf) script left (Some []) (Some text) summary
+
+-- The same over files that are right; or the request is refused for one of the files, or there is no memory for its name.
 abbrev pub IsPrintedTo : List Span → List ℕ → List ℕ → List ℕ → Result Summary RunFault → Type 0
-IsPrintedTo spans bytes script text summary =
-    AreAllRight spans bytes → (classes : List Class) × AreHandedIn spans bytes classes × (left : Option (List ℕ))
-    × IsFile (over_tables classes true) script left (Some []) (Some text) summary
+IsPrintedTo spans bytes script text summary = AreAllRight spans bytes → OverFiles spans bytes (IsFileOver script text summary)
 
 abbrev pub IsPrinted : List Span → List ℕ → List ℕ → List ℕ → Ending → Type 0
 IsPrinted spans bytes script text Answered = ⊥

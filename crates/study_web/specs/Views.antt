@@ -1,17 +1,21 @@
 -- What a script leaves in the document, as a page is shown it.
-use Rattle.std.specs.Prelude.{◌≡◌, ◌≢◌, ℕ, true, false, List, [], ◌++◌}
+use Rattle.std.specs.Prelude.{◌≡◌, ◌≢◌, ℕ, Bool, true, false, List, [], ◌++◌, Option, Result}
 use Rattle.study_material.specs.declared.class.Class.{Class}
 use Rattle.study_tree.specs.Tree.{has_spot}
 use Rattle.study_marks.specs.Edits.{Plainly}
 use Rattle.study_command.specs.Lines.{script_lines}
-use Rattle.study_script.specs.State.{Document, empty, start, study}
+use Rattle.study_tablefile.specs.declared.fault.SourceFault.{SourceFault}
+use Rattle.study_prober.specs.declared.values.ProbeFault.{ProbeFault}
+use Rattle.study_script.specs.declared.store.StoreFault.{StoreFault}
+use Rattle.study_script.specs.State.{Document, empty, start, study, Shelf, State, is_among}
 use Rattle.study_report.specs.Lines.{refusal_line}
-use Rattle.study_report.specs.Outcome.{AreAdded, begun, over_tables, point_after, report_text}
-use Rattle.study_report.specs.Told.{Added}
+use Rattle.study_report.specs.Outcome.{AreAdded, begun, point_after, report_text}
+use Rattle.study_report.specs.Told.{Added, IsUntoldIn}
 use Rattle.study_view.specs.View.{IsViewOf}
 use Rattle.study_view.specs.Words.{study_line}
 use Rattle.study_web.specs.declared.spans.Span.{Span}
-use Rattle.study_web.specs.Opened.{AreHandedIn}
+use Rattle.study_web.specs.Opened.{AreHandedIn, IsHeldAs}
+use Rattle.study_web.specs.Spans.{file_in, file_faults}
 
 -- a refused line, without its bytes
 abbrev pub refused_line : ℕ → List ℕ → List ℕ → List ℕ
@@ -27,20 +31,21 @@ IsDocumentView empty path text = (path ≡ []) × (text ≡ [])
 IsDocumentView (start s) path text = (path ≡ []) × (text ≡ study_line s)
 IsDocumentView (study plain) path text = IsViewOf plain path text
 
--- what a script leaves in the document, over these tables, and the text of the lines that it has refused
-abbrev pub IsLeft : List Class → List ℕ → Document → List ℕ → Type 0
-IsLeft classes script document refused =
-    (added : List Added) × AreAdded tells_nothing refused_line (begun (over_tables classes true)) (script_lines script) added
-    × (document ≡ (point_after (begun (over_tables classes true)) added).state.document) × (refused ≡ report_text added)
+-- no study and no start; these classes are held by pages, and this is known of the files
+abbrev pub over_files : List Class → Shelf → State
+over_files classes shelf = record { document = empty; classes = classes; paged = true; shelf = shelf }
 
--- the view of that at a path, and then the refused lines
-abbrev pub IsViewOver : List Class → List ℕ → List ℕ → List ℕ → Type 0
-IsViewOver classes script path text =
-    (document : Document) × (view refused : List ℕ) × IsLeft classes script document refused × IsDocumentView document path view × (text ≡ view ++ refused)
+-- the state in which a script leaves what was held, and the text of the lines that it has refused
+abbrev pub IsLeft : List Class → Shelf → List ℕ → State → List ℕ → Type 0
+IsLeft classes shelf script state refused =
+    (added : List Added) × AreAdded tells_nothing refused_line (begun (over_files classes shelf)) (script_lines script) added
+    × (state ≡ (point_after (begun (over_files classes shelf)) added).state) × (refused ≡ report_text added)
 
--- the same over the files that are handed in
-abbrev pub IsViewAfter : List Span → List ℕ → List ℕ → List ℕ → List ℕ → Type 0
-IsViewAfter spans bytes script path text = (classes : List Class) × AreHandedIn spans bytes classes × IsViewOver classes script path text
+-- the view at a path of the document that is left, and then the refused lines
+abbrev pub IsViewOver : List ℕ → List ℕ → List ℕ → List Class → Shelf → Type 0
+IsViewOver script path text classes shelf =
+    (state : State) × (view refused : List ℕ) × IsLeft classes shelf script state refused × IsDocumentView state.document path view
+    × (text ≡ view ++ refused)
 
 -- ---- no view
 
@@ -50,10 +55,24 @@ LacksNode empty path = path ≢ []
 LacksNode (start s) path = path ≢ []
 LacksNode (study plain) path = has_spot plain.tree path ≡ false
 
--- nor of what a script leaves on it, over these tables
-abbrev pub LacksNodeOver : List Class → List ℕ → List ℕ → Type 0
-LacksNodeOver classes script path = (document : Document) × (refused : List ℕ) × IsLeft classes script document refused × LacksNode document path
+-- nor of the document that a script leaves
+abbrev pub LacksNodeOver : List ℕ → List ℕ → List Class → Shelf → Type 0
+LacksNodeOver script path classes shelf = (state : State) × (refused : List ℕ) × IsLeft classes shelf script state refused × LacksNode state.document path
+
+-- a value cannot be read in the state that a script leaves: no table of its class is held, or one may fail so
+abbrev pub IsUntoldOver : List ℕ → ProbeFault → List Class → Shelf → Type 0
+IsUntoldOver script fault classes shelf = (state : State) × (refused : List ℕ) × IsLeft classes shelf script state refused × IsUntoldIn state fault
+
+-- ---- over files
+
+-- with the classes whose files are opened, and the faults for which these may not be read
+abbrev pub OverStore : (Class → Option (Result (List ℕ) StoreFault)) → (Class → SourceFault → Bool) → (List Class → Shelf → Type 0) → Type 0
+OverStore headers faults IsSo =
+    (classes : List Class) × ((c : Class) → IsHeldAs (headers c) (is_among classes c))
+    × (shelf : Shelf) × ((c : Class) (f : SourceFault) → shelf.faults c f ≡ faults c f) × IsSo classes shelf
 
 -- the same over the files that are handed in
-abbrev pub LacksNodeAfter : List Span → List ℕ → List ℕ → List ℕ → Type 0
-LacksNodeAfter spans bytes script path = (classes : List Class) × AreHandedIn spans bytes classes × LacksNodeOver classes script path
+abbrev pub OverFiles : List Span → List ℕ → (List Class → Shelf → Type 0) → Type 0
+OverFiles spans bytes IsSo =
+    (classes : List Class) × AreHandedIn spans bytes classes
+    × (shelf : Shelf) × ((c : Class) (f : SourceFault) → shelf.faults c f ≡ file_faults (file_in spans bytes c) c f) × IsSo classes shelf

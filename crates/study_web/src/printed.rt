@@ -1,16 +1,15 @@
 //! The printed pages of a script's studies.
-ghost use Rattle.std.specs.Prelude.{◌≤◌, ℕ, [], true, List, Option, Some, IfSome, IfOk, IfErr};
+ghost use Rattle.std.specs.Prelude.{◌≤◌, true, IfSome, IfOk, IfErr};
 ghost use Rattle.study_material.specs.declared.class.Class.{Class as AClass};
-ghost use Rattle.study_print.specs.Pages.{IsFile};
-ghost use Rattle.study_report.specs.Outcome.{over_tables};
-ghost use Rattle.study_script.specs.State.{is_among};
-ghost use Rattle.study_web.specs.Opened.{IsHeldAs, IsOfTables};
+ghost use Rattle.study_web.specs.Answers.{IsFileOver};
+ghost use Rattle.study_web.specs.Opened.{IsOfTables};
+ghost use Rattle.study_web.specs.Views.{OverStore};
 
 use crate::denial::Denial;
 use crate::script::Told;
 use crate::tables::open_tables;
 use std::alloc::Allocator;
-use study_print::{Unwatched, follow_pages};
+use study_print::{Unwatched, follow_pages_over};
 use study_script::store::TableStore;
 use study_script::tables::Tables;
 
@@ -22,9 +21,8 @@ pub fn printed_of<'a, S: TableStore, A: Allocator>(
     pages: Option<u16>,
 ) -> Result<Told<'a, A>, Denial>
     requires { IfSome pages (λ n. (1 ≤ n) × (n ≤ 4096)) }
-    ensures file { ((c : AClass) → S.honest store.old true c) → IfOk result (λ told. (classes : List AClass)
-        × ((c : AClass) → IsHeldAs (S.headers store.old c) (is_among classes c)) × (left : Option (List ℕ))
-        × IsFile (over_tables classes true) script.now left (Some []) (Some told.text.items) told.summary) }
+    ensures file { ((c : AClass) → S.honest store.old true c) → IfOk result (λ told.
+        OverStore (S.headers store.old) (S.faults store.old) (IsFileOver script.now told.text.items told.summary)) }
     ensures denied { IfErr result (IsOfTables (S.headers store.old) (S.faults store.old)) }
 {
     match open_tables(alloc, store, pages) {
@@ -32,12 +30,13 @@ pub fn printed_of<'a, S: TableStore, A: Allocator>(
         Ok(tables) => {
             let mut reader = script;
             let mut text = Vec::new(alloc);
-            let summary = follow_pages(
+            let summary = follow_pages_over(
                 alloc,
                 &mut reader,
                 &mut text,
                 Unwatched,
                 Tables::Paged(tables),
+                store,
             );
             Ok(Told { text, summary })
         }

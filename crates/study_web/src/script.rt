@@ -1,20 +1,21 @@
 //! What is told of a script: its review, and the view of what it leaves in the document.
-ghost use Rattle.std.specs.Prelude.{◌≡◌, ◌≢◌, ◌≤◌, ◌⊎◌, ◌++◌, ℕ, [], true, false, is_some, List, Option, Some, IfSome, IfOk, IfErr, OnOk};
+ghost use Rattle.std.specs.Prelude.{◌≡◌, ◌≢◌, ◌≤◌, ◌⊎◌, ◌++◌, ℕ, [], true, false, is_some, List, Option, IfSome, IfOk, IfErr, OnOk};
 ghost use Rattle.study_material.specs.declared.class.Class.{Class as AClass};
+ghost use Rattle.study_tablefile.specs.declared.fault.SourceFault.{SourceFault as ASourceFault};
 ghost use Rattle.study_tree.specs.Tree.{has_spot};
 ghost use Rattle.study_marks.specs.BenchState.{marked, IsKeptRight};
 ghost use Rattle.study_marks.specs.Study.{plain_study};
 ghost use Rattle.study_command.specs.Paths.{steps_of, is_path_word};
-ghost use Rattle.study_prober.specs.PagedTables.{held_of, SourcesAreRight};
-ghost use Rattle.study_review.specs.Review.{IsReviewOf};
-ghost use Rattle.study_report.specs.Outcome.{Outcome, over_tables};
-ghost use Rattle.study_script.specs.Held.{document_seen, tables_honest, IsMarked};
-ghost use Rattle.study_script.specs.State.{is_among};
+ghost use Rattle.study_prober.specs.PagedTables.{held_of, SourcesAreRight, MayFail};
+ghost use Rattle.study_review.specs.Asked.{Stopped};
+ghost use Rattle.study_report.specs.Told.{IsUntoldIn};
+ghost use Rattle.study_script.specs.Held.{document_seen, tables_honest, IsMarked, Holds};
+ghost use Rattle.study_script.specs.State.{State, is_among};
 ghost use Rattle.study_view.specs.View.{IsViewOf};
 ghost use Rattle.study_view.specs.Words.{study_line};
-ghost use Rattle.study_web.specs.Answers.{MayEnd, IsNever, IsUnread, IsViewDenial};
-ghost use Rattle.study_web.specs.Opened.{IsHeldAs, IsOfTables};
-ghost use Rattle.study_web.specs.Views.{refused_line, IsDocumentView, IsLeft, IsViewOver, LacksNode, LacksNodeOver};
+ghost use Rattle.study_web.specs.Answers.{MayEnd, IsNever, IsReviewOver, IsUnread, IsViewDenial};
+ghost use Rattle.study_web.specs.Opened.{IsOfTables};
+ghost use Rattle.study_web.specs.Views.{IsDocumentView, IsLeft, IsUntoldOver, IsViewOver, LacksNode, LacksNodeOver, OverStore};
 
 use crate::denial::Denial;
 use crate::refusals::Refusals;
@@ -28,7 +29,7 @@ use study_notation::{Start, write_fen};
 use study_prober::{PagedTables, Values};
 use study_reply::refusal::Refusal;
 use study_reply::words::{of_probe, put_line};
-use study_report::{Lines, NoFiles, follow, follow_script};
+use study_report::{Lines, follow, follow_over};
 use study_script::document::Document;
 use study_script::run::{RunFault, Summary};
 use study_script::session::Session;
@@ -52,9 +53,8 @@ pub fn review_of<'a, S: TableStore, A: Allocator>(
     pages: Option<u16>,
 ) -> Result<Told<'a, A>, Denial>
     requires { IfSome pages (λ n. (1 ≤ n) × (n ≤ 4096)) }
-    ensures review { ((c : AClass) → S.honest store.old true c) → IfOk result (λ told. (classes : List AClass)
-        × ((c : AClass) → IsHeldAs (S.headers store.old c) (is_among classes c)) × (left : Option (List ℕ))
-        × Outcome IsReviewOf refused_line (over_tables classes true) script.now left (Some []) (Some told.text.items) told.summary) }
+    ensures review { ((c : AClass) → S.honest store.old true c) → IfOk result (λ told.
+        OverStore (S.headers store.old) (S.faults store.old) (IsReviewOver script.now told.text.items told.summary)) }
     ensures denied { IfErr result (IsOfTables (S.headers store.old) (S.faults store.old)) }
 {
     match open_tables(alloc, store, pages) {
@@ -62,12 +62,13 @@ pub fn review_of<'a, S: TableStore, A: Allocator>(
         Ok(tables) => {
             let mut reader = script;
             let mut text = Vec::new(alloc);
-            let summary = follow_script(
+            let summary = follow_over(
                 alloc,
                 &mut reader,
                 &mut text,
                 &mut Lines,
                 Tables::Paged(tables),
+                store,
             );
             Ok(Told { text, summary })
         }
@@ -83,7 +84,9 @@ fn bench_view<'a, A: Allocator, V: Values>(
     values: &mut V,
 ) -> Result<Vec<u8, &'a A>, NoText>
     requires { is_path_word path.now ≡ true }
-    ensures none { IfErr result (MayEnd (IsViewDenial (has_spot (plain_study (marked bench.now)).tree (steps_of path.now) ≡ false)) IsNever) }
+    ensures none { IfErr result (MayEnd (IsViewDenial
+        (λ fault. Stopped V.held V.gives V.may_fail V.asked_of V.failed_of V.is_honest values.old fault values.new)
+        (has_spot (plain_study (marked bench.now)).tree (steps_of path.now) ≡ false)) IsNever) }
     ensures text { V.is_honest values.old → IsKeptRight bench.now
         → IfOk result (λ text. IsViewOf (plain_study (marked bench.now)) (steps_of path.now) text.items) }
 {
@@ -115,10 +118,10 @@ fn start_view<'a, A: Allocator>(alloc: &'a A, start: &Start) -> Result<Vec<u8, &
 }
 
 /// What has a root alone has no other node.
-#[tactic(auto, using(crate::proofs::Denials::node_denial, crate::proofs::Nodes::places_other), unfolding(study_command::specs::Paths::steps_of))]
+#[tactic(auto, using(crate::proofs::Nodes::places_other), unfolding(study_command::specs::Paths::steps_of))]
 fn at_root(path: &[u8]) -> Result<(), NoText>
     ensures root { OnOk result (steps_of path.now ≡ []) }
-    ensures none { IfErr result (MayEnd (IsViewDenial (steps_of path.now ≢ [])) IsNever) }
+    ensures none { IfErr result (λ why. (why ≡ NoText.Denied (Denial.Refused Refusal.NoSuchNode)) × (steps_of path.now ≢ [])) }
 {
     if path == b"root".as_slice() {
         Ok(())
@@ -135,7 +138,9 @@ fn document_view<'a, A: Allocator, V: Values>(
     values: &mut V,
 ) -> Result<Vec<u8, &'a A>, NoText>
     requires { is_path_word path.now ≡ true }
-    ensures none { IfErr result (MayEnd (IsViewDenial (LacksNode (document_seen document.now) (steps_of path.now))) IsNever) }
+    ensures none { IfErr result (MayEnd (IsViewDenial
+        (λ fault. Stopped V.held V.gives V.may_fail V.asked_of V.failed_of V.is_honest values.old fault values.new)
+        (LacksNode (document_seen document.now) (steps_of path.now))) IsNever) }
     ensures text { V.is_honest values.old → IsMarked document.now
         → IfOk result (λ text. IsDocumentView (document_seen document.now) (steps_of path.now) text.items) }
 {
@@ -160,27 +165,29 @@ struct Left<'a, P: PageSource, A: Allocator> {
     refused: Vec<u8, &'a A>,
 }
 
-/// Follows a script over these tables.
-fn left_by<'a, P: PageSource, A: Allocator>(
+/// Follows a script over these tables. Of the store no file is opened: lines of tables are skipped.
+fn left_by<'a, S: TableStore, A: Allocator>(
     alloc: &'a A,
     script: &[u8],
-    tables: PagedTables<'a, P, A>,
-) -> Result<Left<'a, P, A>, RunFault>
-    ensures left { (classes : List AClass) → SourcesAreRight P.honest tables.entry.sources
+    tables: PagedTables<'a, S::Pages, A>,
+    store: &mut S,
+) -> Result<Left<'a, S::Pages, A>, RunFault>
+    ensures left { (classes : List AClass) → SourcesAreRight S.Pages.honest tables.entry.sources
         → ((c : AClass) → is_some (held_of tables.entry.sources c) ≡ is_among classes c)
-        → IfOk result (λ left. tables_honest P.honest left.tables × IsMarked left.document
-        × IsLeft classes script.now (document_seen left.document) left.refused.items) }
+        → ((c : AClass) (f : ASourceFault) → MayFail S.Pages.gives (held_of tables.entry.sources c) c f → S.faults store.old c f ≡ true)
+        → IfOk result (λ left. (state : State) × Holds S.Pages.honest S.Pages.gives left.document left.tables state
+        × IsLeft classes (record { files = S.files store.old; headers = S.headers store.old; faults = S.faults store.old })
+        script.now state left.refused.items) }
     ensures stops { IfErr result (IsUnread script.now) }
 {
     let Ok(mut line) = Line::new(alloc) else {
         return Err(RunFault::OutOfMemory);
     };
-    let mut store = NoFiles::new();
     let mut session = Session {
         alloc,
         document: Document::Empty,
         tables: Tables::Paged(tables),
-        store: &mut store,
+        store,
     };
     let mut reader = script;
     let mut refused = Vec::new(alloc);
@@ -216,7 +223,9 @@ fn left_view<'a, P: PageSource, A: Allocator>(
     path: &[u8],
 ) -> Result<Vec<u8, &'a A>, NoText>
     requires { is_path_word path.now ≡ true }
-    ensures none { IfErr result (MayEnd (IsViewDenial (LacksNode (document_seen left.entry.document) (steps_of path.now))) IsNever) }
+    ensures none { IfErr result (MayEnd (IsViewDenial
+        (λ fault. (state : State) → Holds P.honest P.gives left.entry.document left.entry.tables state → IsUntoldIn state fault)
+        (LacksNode (document_seen left.entry.document) (steps_of path.now))) IsNever) }
     ensures text { tables_honest P.honest left.entry.tables → IsMarked left.entry.document
         → IfOk result (λ text. (view : List ℕ) × IsDocumentView (document_seen left.entry.document) (steps_of path.now) view
         × (text.items ≡ view ++ left.entry.refused.items)) }
@@ -243,17 +252,16 @@ pub fn view_of<'a, S: TableStore, A: Allocator>(
 ) -> Result<Vec<u8, &'a A>, NoText>
     requires pages { IfSome pages (λ n. (1 ≤ n) × (n ≤ 4096)) }
     requires path { is_path_word path.now ≡ true }
-    ensures text { ((c : AClass) → S.honest store.old true c) → IfOk result (λ text. (classes : List AClass)
-        × ((c : AClass) → IsHeldAs (S.headers store.old c) (is_among classes c))
-        × IsViewOver classes script.now (steps_of path.now) text.items) }
-    ensures none { IfErr result (MayEnd (λ d. IsOfTables (S.headers store.old) (S.faults store.old) d
-        ⊎ IsViewDenial (((c : AClass) → S.honest store.old true c) → (classes : List AClass)
-        × ((c : AClass) → IsHeldAs (S.headers store.old c) (is_among classes c)) × LacksNodeOver classes script.now (steps_of path.now)) d)
-        (IsUnread script.now)) }
+    ensures text { ((c : AClass) → S.honest store.old true c)
+        → IfOk result (λ text. OverStore (S.headers store.old) (S.faults store.old) (IsViewOver script.now (steps_of path.now) text.items)) }
+    ensures none { IfErr result (MayEnd (λ d. IsOfTables (S.headers store.old) (S.faults store.old) d ⊎ IsViewDenial
+        (λ fault. ((c : AClass) → S.honest store.old true c) → OverStore (S.headers store.old) (S.faults store.old) (IsUntoldOver script.now fault))
+        (((c : AClass) → S.honest store.old true c) → OverStore (S.headers store.old) (S.faults store.old) (LacksNodeOver script.now (steps_of path.now)))
+        d) (IsUnread script.now)) }
 {
     match open_tables(alloc, store, pages) {
         Err(denial) => Err(NoText::Denied(denial)),
-        Ok(tables) => match left_by(alloc, script, tables) {
+        Ok(tables) => match left_by(alloc, script, tables, store) {
             Err(fault) => Err(NoText::Stopped(fault)),
             Ok(left) => left_view(alloc, left, path),
         },

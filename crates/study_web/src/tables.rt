@@ -79,6 +79,7 @@ fn open_each<'a, S: TableStore, A: Allocator>(
     ensures named { IfErr result (IsOfTables (S.headers store.old) (S.faults store.old)) }
     ensures given { (c : AClass) → OnOk result (is_among classes.now c ≡ true → is_some (held_of tables.new.sources c) ≡ false
         → IsGiven (S.headers store.old c) (Err NoFile)) }
+    ensures faults { (c : AClass) (f : ASourceFault) → S.faults store.new c f ≡ S.faults store.old c f }
 {
     match classes.split_first() {
         None => Ok(()),
@@ -100,6 +101,7 @@ pub fn open_tables<'a, S: TableStore, A: Allocator>(
     ensures named { IfErr result (IsOfTables (S.headers store.old) (S.faults store.old)) }
     ensures fails { IfOk result (λ w. (c : AClass) (f : ASourceFault) → MayFail S.Pages.gives (held_of w.sources c) c f → S.faults store.old c f ≡ true) }
     ensures held { IfOk result (λ w. (c : AClass) → IsHeldAs (S.headers store.old c) (is_some (held_of w.sources c))) }
+    ensures faults { (c : AClass) (f : ASourceFault) → S.faults store.new c f ≡ S.faults store.old c f }
 {
     let room = match pages {
         None => PAGES,

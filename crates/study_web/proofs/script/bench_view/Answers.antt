@@ -1,10 +1,30 @@
+use Rattle.std.proofs.Common.{◌≡◌, false, Err, sym, ap, subst, ◌∙◌}
+use Rattle.study_prober.specs.declared.values.ProbeFault.{ProbeFault}
+use Rattle.study_tree.specs.Tree.{has_spot}
+use Rattle.study_marks.specs.Study.{plain_study}
+use Rattle.study_review.specs.Asked.{Stopped}
+use Rattle.study_reply.specs.declared.refusal.Refusal.{Refusal}
+use Rattle.study_web.specs.declared.denial.Denial.TheVariants as denial
+use Rattle.study_web.specs.Answers.{IsViewDenial}
 use Rattle.study_command.specs.Paths.{steps_of}
 use Rattle.study_marks.specs.BenchState.{marked}
-use Rattle.study_web.proofs.Denials.{node_denial}
+use Rattle.study_web.proofs.Denials.{node_denial, probe_denial, view_stopped}
 use Rattle.study_web.proofs.Nodes.{lacks_plainly}
 use Rattle.study_web.proofs.script.bench_view.Goals as goal
 
 pub returns-in-Err-NoSuchNode-clause-none : goal.returns-in-Err-NoSuchNode-clause-none
 returns-in-Err-NoSuchNode-clause-none g c =
     let gone = c.in-Err-NoSuchNode.ensures.no_node.0 cc in
-    node_denial _ (lacks_plainly (marked c.args.bench.now) (steps_of c.args.path.now) (rw c.in-Ok.ensures.path at gone))
+    node_denial _ _ (lacks_plainly (marked c.args.bench.now) (steps_of c.args.path.now) (rw c.in-Ok.ensures.path at gone))
+
+pub returns-in-Err-Values-clause-none : goal.returns-in-Err-Values-clause-none
+returns-in-Err-Values-clause-none g c =
+    let old = c.args.values.now in
+    let new = c.write_view.new.values in
+    let Untold : ProbeFault → Type 0 =
+    λ fault. Stopped g.V.Values.held g.V.Values.gives g.V.Values.may_fail g.V.Values.asked_of g.V.Values.failed_of g.V.Values.is_honest old fault new in
+    subst (λ (r : Refusal). IsViewDenial Untold (has_spot (plain_study (marked c.args.bench.now)).tree (steps_of c.args.path.now) ≡ false) (denial.Refused r))
+    (sym c.of_probe.ensures)
+    (probe_denial Untold _ c.in-Err-Values.fault (view_stopped g.V.Values.held g.V.Values.gives g.V.Values.may_fail g.V.Values.asked_of
+    g.V.Values.failed_of g.V.Values.is_honest _ old new c.in-Err-Values.fault c.write_view.result
+    (c.in-Err-Values.is ∙ ap Err c.in-Err-Values.field-0-is) c.write_view.ensures.asked))
