@@ -50,6 +50,41 @@ export const svg = (tag, props, ...kids) => fill(document.createElementNS('http:
  */
 export const put = (id, ...kids) => $(id).replaceChildren(...some(kids));
 /**
+ * What is to stand at a place: its key tells all that it shows of its own, `make` makes it, and `kids` come into it.
+ * @typedef {{key: string, make: () => any, kids?: Wanted[]}} Wanted
+ */
+/** @type {WeakMap<Node, string>} */
+const madeFrom = new WeakMap();
+/**
+ * Makes the children of an element those that are wanted. One that is there already, by the same key, is kept; keys differ, and keep their order.
+ * @param {any} parent
+ * @param {Wanted[]} wanted
+ */
+export function mend(parent, wanted) {
+  let at = parent.firstChild, keys = /** @type {Set<string | undefined> | null} */ (null);
+  for (const { key, make, kids } of wanted) {
+    while (at && madeFrom.get(at) !== key) {
+      keys = keys || new Set(wanted.map(item => item.key));
+      if (keys.has(madeFrom.get(at))) break;
+      at = without(at);
+    }
+    const there = at && madeFrom.get(at) === key, child = there ? at : parent.insertBefore(make(), at);
+    if (!there) madeFrom.set(child, key);
+    if (kids) mend(child, kids);
+    at = child.nextSibling;
+  }
+  while (at) at = without(at);
+}
+/**
+ * The node after one that is removed.
+ * @param {any} node
+ */
+function without(node) {
+  const next = node.nextSibling;
+  node.remove();
+  return next;
+}
+/**
  * @param {Kid} text
  * @param {string} title
  * @param {(e: any) => any} onclick

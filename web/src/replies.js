@@ -56,10 +56,11 @@ export function refusalIn({ text, ended }) {
 export function readView(text) {
   const view = /** @type {View} */ (/** @type {unknown} */ ({ fen: '', verdict: '', start: '', aim: null, path: 'root', over: '', moves: [] }));
   const nodes = /** @type {Map<string, TreeNode>} */ (new Map());
-  for (const row of rowsOf(text)) {
+  for (const line of text.split('\n')) {
+    if (line.startsWith('node ')) { addNode(nodes, line); continue; }
+    const row = line.split(' ');
     if (row[0] === 'study') view.fen = row.slice(1).join(' ');
     else if (row[0] === 'stipulation') Object.assign(view, readStipulation(row.slice(1).join(' ')));
-    else if (row[0] === 'node') addNode(nodes, row);
     else if (row[0] === 'at') [view.path, view.over] = [row[1], /^\d/.test(row[2]) ? '' : /** @type {View['over']} */ (row[2])];
     else if (row[0] === 'move') view.moves.push(readMove(row));
   }
@@ -67,14 +68,17 @@ export function readView(text) {
   return root ? Object.assign(view, { root }) : null;
 }
 /**
+ * A node of its line: at most ten words, and the position as it stands.
  * @param {Map<string, TreeNode>} nodes
- * @param {string[]} row
+ * @param {string} line
  */
-function addNode(nodes, row) {
-  const [, path, san, squares] = row, [value, at] = readValue(row, 4), [mark, duals, next] = readMark(row, at);
-  const up = path.includes('.') ? path.slice(0, path.lastIndexOf('.')) : 'root', parent = path === 'root' ? null : nodes.get(up) || null;
+function addNode(nodes, line) {
+  const row = line.split(' ', 10), [, path, san, squares] = row, [value, at] = readValue(row, 4), [mark, duals, next] = readMark(row, at);
+  const dot = path.lastIndexOf('.'), parent = path === 'root' ? null : nodes.get(dot < 0 ? 'root' : path.slice(0, dot)) || null;
+  let fenAt = 0;
+  for (let i = 0; i < next + 2; i++) fenAt += row[i].length + 1;
   const node = /** @type {TreeNode} */ (
-      {path, san, ...readSquares(squares), value, mark, duals, faults: Number(row[next + 1]), fen: row.slice(next + 2).join(' '), parent, children: []});
+      {path, san, ...readSquares(squares), value, mark, duals, faults: Number(row[next + 1]), fen: line.slice(fenAt), parent, children: []});
   nodes.set(path, node);
   if (parent) parent.children.push(node);
 }
@@ -106,9 +110,14 @@ export function nodeAt(root, path) {
 /**
  * All nodes in written order.
  * @param {TreeNode} node
+ * @param {TreeNode[]} list
  * @returns {TreeNode[]}
  */
-export const written = node => [node, ...node.children.flatMap(written)];
+export function written(node, list = []) {
+  list.push(node);
+  for (const child of node.children) written(child, list);
+  return list;
+}
 /** @param {TreeNode} node */
 export const depth = node => (node.path === 'root' ? 0 : node.path.split('.').length);
 

@@ -12,11 +12,12 @@ import { PAWN, SAAVEDRA } from './samples.js';
 import { joined } from './script.js';
 import { redrawJudged, setupView } from './setup_view.js';
 import { openText, studyName, textsView } from './texts_view.js';
-import { keyView, markCurrent, treeView } from './tree_view.js';
+import { keyView, listenToTree, markCurrent, showTree } from './tree_view.js';
 
 let pressing = false;
 const late = /** @type {Set<() => void>} */ (new Set());
 export function watch() {
+  listenToTree();
   for (const kind of ['pointerdown', 'pointerup', 'pointercancel'])
     document.addEventListener(kind, () => {
       pressing = kind === 'pointerdown';
@@ -49,17 +50,23 @@ function focused() {
  */
 const drawnFrom = new Map();
 /**
+ * Whether a part stands there not yet as drawn from these things.
+ * @param {string} id
+ * @param {any[]} from
+ */
+function isNew(id, from) {
+  const before = drawnFrom.get(id);
+  if (before && before.every((thing, i) => thing === from[i])) return false;
+  drawnFrom.set(id, from);
+  return true;
+}
+/**
  * Draws a part, but where it stands there already, drawn from the same things: then what the user opened or typed in it stays too.
  * @param {string} id
  * @param {any[]} from
  * @param {() => any} make
  */
-function part(id, from, make) {
-  const before = drawnFrom.get(id);
-  if (before && before.every((thing, i) => thing === from[i])) return;
-  drawnFrom.set(id, from);
-  put(id, make());
-}
+function part(id, from, make) { if (isNew(id, from)) put(id, make()); }
 /** A refusal or a note, with what was typed there: whatever shows it is drawn again with it. */
 const saying = () => [app.say, app.say && app.say.text, app.say && app.say.field, app.say && app.say.typed];
 export function show() {
@@ -74,7 +81,7 @@ export function show() {
   put('nav', !app.setup && n && navView(n));
   put('here', !app.setup && s && n && hereView(s, n));
   part('head', [s && JSON.stringify([s.fen, s.aim, s.tags, Object.keys(s.place)]), ...saying()], () => (s ? headView(s) : welcomeView()));
-  part('tree', [s, app.view !== null], () => s && treeView(s));
+  if (isNew('tree', [s, app.view !== null])) showTree(s);
   markCurrent(n ? n.path : '');
   drawFacts();
   part('texts', [d.lines, d.studies, d.at, app.view !== null, ...saying()], () => textsView(s));

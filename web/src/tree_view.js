@@ -1,8 +1,8 @@
 // @ts-check
 // The solution, as it is printed: first children in a line, variations below the move that they replace.
-import { h } from './dom.js';
+import { $, h, mend } from './dom.js';
 import { numbered, sideOf } from './fen.js';
-import { app, go, node } from './app.js';
+import { app, go } from './app.js';
 import { written } from './replies.js';
 import { counted, markMeaning, moveName, valueSign, valueText } from './words.js';
 /** @typedef {import('./types.js').TreeNode} TreeNode @typedef {import('./types.js').Study} Study */
@@ -14,49 +14,64 @@ import { counted, markMeaning, moveName, valueSign, valueText } from './words.js
  */
 function moveView(s, n, first) {
   const before = n.parent ? n.parent.fen : n.fen, num = first || sideOf(before) === 'White' ? numbered(before).replace(' ', '\u00a0') : '';
-  const sign = n.mark === 'only' ? '!' : n.mark === 'mistake' ? '?' : '', here = n === node();
+  const sign = n.mark === 'only' ? '!' : n.mark === 'mistake' ? '?' : '';
   const title = [valueText(sideOf(n.fen), n.value), markMeaning(n, s.aim ? s.aim.hero : undefined)].filter(Boolean).join('; ');
-  return [
-    h('span', {class: 'mv'},
-      h('button', {
-        type: 'button',
-        class: `m ${n.mark}${here ? ' now' : ''}`,
-        'data-path': n.path,
-        title,
-        'aria-current': here && 'true',
-        'aria-label': `${moveName(n)}: ${title}`,
-        onclick: () => go(n.path)
-      },
-        num + n.san, sign && h('b', {}, sign)),
-      s.aim && h('sub', {}, valueSign(s.aim.hero, sideOf(n.fen), n.value)), n.mark === 'dual' && h('span', {class: 'tag'}, `dual ${n.duals}`)),
-    ' '
-  ];
+  return h('span', {class: 'mv'},
+    h('button', { type: 'button', class: `m ${n.mark}`, 'data-path': n.path, title, 'aria-label': `${moveName(n)}: ${title}` }, num + n.san,
+      sign && h('b', {}, sign)),
+    s.aim && h('sub', {}, valueSign(s.aim.hero, sideOf(n.fen), n.value)), n.mark === 'dual' && h('span', {class: 'tag'}, `dual ${n.duals}`));
+}
+/**
+ * A move, by all that its view is made from: the hero, and of the position before it the side to move and the number; and a space.
+ * @param {Study} s
+ * @param {TreeNode} n
+ * @param {boolean} first
+ * @returns {import('./dom.js').Wanted[]}
+ */
+function moveItems(s, n, first) {
+  const before = n.parent ? n.parent.fen : n.fen, number = before.slice(before.lastIndexOf(' ')), side = before[before.indexOf(' ') + 1];
+  const key = [n.path, n.san, n.mark, n.duals, n.value.kind, n.value.n, side + number, first, s.aim ? s.aim.hero : ''].join(' ');
+  return [{ key, make: () => moveView(s, n, first) }, { key: n.path, make: () => document.createTextNode(' ') }];
 }
 /**
  * @param {Study} s
  * @param {TreeNode} from
  * @param {boolean} numberedFirst
- * @returns {any[]}
+ * @returns {import('./dom.js').Wanted[]}
  */
-function lineView(s, from, numberedFirst) {
+function lineItems(s, from, numberedFirst) {
   const out = [];
   let first = numberedFirst;
   for (let n = from; n.children.length; n = n.children[0]) {
-    out.push(moveView(s, n.children[0], first));
+    out.push(...moveItems(s, n.children[0], first));
     first = n.children.length > 1;
-    if (first) out.push(h('ul', {}, n.children.slice(1).map(c => h('li', {}, moveView(s, c, true), lineView(s, c, false)))));
+    if (first) out.push({ key: 'ul ' + n.path, make: () => h('ul', {}), kids: n.children.slice(1).map(c => variationItem(s, c)) });
   }
   return out;
 }
-/** @param {Study} s */
-export function treeView(s) {
-  const view = app.view;
-  if (!view) return null;
-  const nodes = written(view.root).length - 1;
-  return [h('h2', { id: 'solution' }, 'Solution ', nodes > 0 && h('small', {}, counted(nodes, 'move'))),
-    nodes ? [h('div', { class: 'tree', role: 'group', 'aria-labelledby': 'solution' }, lineView(s, view.root, true)), keyView()]
-      : h('p', { class: 'note' }, 'Play a move on the board, choose one below it, or type it.')];
+/**
+ * @param {Study} s
+ * @param {TreeNode} n
+ */
+const variationItem = (s, n) => ({ key: 'li ' + n.path, make: () => h('li', {}), kids: [...moveItems(s, n, true), ...lineItems(s, n, false)] });
+/**
+ * Of a tree that stands there already only what has changed is drawn.
+ * @param {Study | undefined} s
+ */
+export function showTree(s) {
+  const view = app.view, nodes = s && view ? written(view.root).length - 1 : 0;
+  if (!s || !view) return mend($('tree'), []);
+  const title = () => h('h2', { id: 'solution' }, 'Solution ', nodes > 0 && h('small', {}, counted(nodes, 'move')));
+  const none = () => h('p', { class: 'note' }, 'Play a move on the board, choose one below it, or type it.');
+  const tree = () => h('div', { class: 'tree', role: 'group', 'aria-labelledby': 'solution' });
+  mend($('tree'), [{ key: `solution ${nodes}`, make: title },
+    ...(nodes ? [{ key: 'tree', make: tree, kids: lineItems(s, view.root, true) }, { key: 'key', make: keyView }] : [{ key: 'none', make: none }])]);
 }
+/** A press on a move of the tree leads to it. */
+export const listenToTree = () => $('tree').addEventListener('click', (/** @type {any} */ e) => {
+  const move = e.target.closest('[data-path]');
+  if (move) go(move.getAttribute('data-path'));
+});
 /**
  * Marks the node that is looked at, in a tree that stands there already.
  * @param {string} path

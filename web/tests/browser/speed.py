@@ -1,11 +1,13 @@
-"""How long a user waits: a move, a walk, the facts, a survey, and until the page is ready.
+"""How long a user waits: a move, a walk, the facts, a survey, a move in a large tree, and until the page is ready.
 
     speed.py TABLES
 """
+import random
 import statistics
 import sys
 import time
 
+from selenium.webdriver.common.action_chains import ActionChains
 from user import User
 
 SAAVEDRA = "KK KQK KRK KBK KNK KPK KQKR KRKR KRKB KRKN KRKP".split()
@@ -21,6 +23,55 @@ window.timed = async (act, done) => {
     return [told, performance.now() - began];
 };
 """
+START = "position 8/8/1KP5/3r4/8/8/8/k7 w - - 0 1\nstipulate white win\n"
+COUNT = "document.querySelectorAll('.tree [data-path]').length"
+PRESS = "() => document.querySelector('.moves [data-san=\"' + a[0] + '\"]').click()"
+
+
+def first(user):
+    user.js("document.getElementById('first').click()")
+    user.settle()
+
+
+def move(user, san):
+    """A move below the board is pressed: it is in the tree, and drawn."""
+    before = user.js("return " + COUNT)
+    return user.promise(f"timed({PRESS}, () => {COUNT} > a[1])", san, before)
+
+
+def drop(user, here, there, rest=0.25):
+    """A man is dragged: from its drop until the move is in the tree, and drawn."""
+    before = user.js("return " + COUNT)
+    user.js("""const told = timed.bind(null, () => {}, () => document.querySelectorAll('.tree [data-path]').length > arguments[0]);
+        window.dropped = new Promise(ok => document.addEventListener('pointerup', () => ok(told()), {once: true, capture: true}))""", before)
+    (x, y), (u, v) = user.point(here), user.point(there)
+    mouse = ActionChains(user.d, duration=20)
+    at = mouse.w3c_actions.pointer_action
+    at.move_to_location(x, y)
+    at.pointer_down()
+    for k in range(1, 6):
+        at.move_to_location(x + (u - x) * k // 5, y + (v - y) * k // 5)
+    at.pause(rest)
+    at.pointer_up()
+    mouse.perform()
+    return user.promise("dropped")
+
+
+def large(user, moves, dice):
+    """A script with so many moves, two or three at each node by chance; and at the start some moves that it leaves out."""
+    lines, level = [], ["root"]
+    loads = "".join(f"load {name}\n" for name in SAAVEDRA)
+    while len(lines) < moves:
+        asked = START + "".join(lines) + "".join(f"moves {path}\n" for path in level)
+        told = user.promise("studyboard.run(a[0], 1000)", loads + asked).split("\n")[-len(level) - 1:-1]
+        below = []
+        for path, sans in zip(level, told):
+            for k, san in enumerate(dice.sample(sans.split()[2:], min(len(sans.split()) - 2, 2 if path == "root" else dice.choice((2, 3))))):
+                if len(lines) < moves:
+                    lines.append(f"insert {path} {san}\n")
+                    below.append(str(k) if path == "root" else f"{path}.{k}")
+        level = below
+    return START + "".join(lines)
 
 
 def main():
@@ -33,34 +84,41 @@ def main():
     current = "document.querySelector('.m.now')?.getAttribute('data-path')"
     walk = f"timed(() => document.querySelector('.tree [data-path=\"' + a[0] + '\"]').click(), () => {current} === a[0])"
     rows["a walk"] = [user.promise(walk, path) for path in ("0", "0.0", "0.0.0", "0.0.0.0", "0.0.1", "1", "1.0")]
-    moves = []
+    rows["a move"] = []
     for san in ("Ka6", "Ka7", "Kc7"):
-        user.js("document.getElementById('first').click()")
-        user.settle()
-        count = "document.querySelectorAll('.tree [data-path]').length"
-        before = user.js("return " + count)
-        moves.append(user.promise(f"timed(() => document.querySelector('.moves [data-san=\"' + a[0] + '\"]').click(), () => {count} > a[1])", san, before))
-    rows["a move"] = moves
+        first(user)
+        rows["a move"].append(move(user, san))
+    rows["a move by the mouse, from its drop"] = []
+    for there in ("d4", "d3", "e5"):
+        user.go("0")
+        rows["a move by the mouse, from its drop"].append(drop(user, "d5", there))
     user.until("document.getElementById('ends')", 60)
-    user.js("document.getElementById('first').click()")
-    user.settle()
-    user.click("undo")
-    user.settle()
-    before = user.js("return " + count)
-    found = f"{count} > a[1] && !document.getElementById('review').textContent.includes('being found') && document.getElementById('ends')"
-    press = "() => document.querySelector('.moves [data-san=\"' + a[0] + '\"]').click()"
-    rows["a move with its facts"] = [user.promise(f"timed({press}, () => {found})", "Kc7", before)]
+    user.go("0")
+    before = user.js("return " + COUNT)
+    found = f"{COUNT} > a[1] && !document.getElementById('review').textContent.includes('being found') && document.getElementById('ends')"
+    rows["a move with its facts"] = [user.promise(f"timed({PRESS}, () => {found})", "Rd8", before)]
     user.click("setUp")
     user.until("document.getElementById('survey')", 60)
     rows["a survey"] = [user.promise("timed(() => document.getElementById('survey').click(), () => document.getElementById('stands'))")]
     user.click("cancel")
-    ready = []
-    for _ in range(3):
+    rows["ready after a reload"] = []
+    user.d.execute_cdp_cmd("Page.addScriptToEvaluateOnNewDocument", {"source": """new MutationObserver(() => {
+        if (!window.stamped && document.getElementById('stamp')) window.stamped = performance.now(); }).observe(document, {childList: true, subtree: true})"""})
+    for _ in range(5):
         began = time.time()
         user.d.refresh()
         user.until("document.getElementById('stamp')", 60)
-        ready.append([0, 1000 * (time.time() - began)])
-    rows["ready after a reload"] = ready
+        rows["ready after a reload"].append([user.js("return stamped"), 1000 * (time.time() - began)])
+    user.js(WATCH)
+    user.promise("studyboard.open(a[0])", large(user, 504, random.Random(504)))
+    for name, rests in (("a move in a tree of 504 moves", True), ("the same, one after the other", False)):
+        rows[name] = []
+        for _ in range(5):
+            first(user)
+            if rests:
+                user.until("document.getElementById('ends')", 60)
+            chips = "[...document.querySelectorAll('.moves [data-san]:not(.in)')].map(e => e.getAttribute('data-san'))"
+            rows[name].append(move(user, user.js(f"return {chips}")[0]))
     for name, list_ in rows.items():
         print(f"{name}: median {statistics.median(t for t, _ in list_):.0f} ms, drawn {statistics.median(d for _, d in list_):.0f} ms, of {len(list_)}")
     user.end()
