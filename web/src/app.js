@@ -1,51 +1,17 @@
 // @ts-check
-// The document, its past, what is shown, and what the program answered about it. Views read this; actions change it.
-import { advance, begin, redo as redone, replace, undo as undone } from './past.js';
-import { editsTo, fensOf, joined, readScript, repliesOf, toRun, wordsOf } from './script.js';
-import { readReview, readView, nodeAt, refusalIn } from './replies.js';
+// What is done to the document, one action after the other.
+import { arrived, decided, factsOf, linesToRun, lookAround, repliesTo, viewAhead, viewOf } from './answers.js';
+import { advance, redo as redone, replace, undo as undone } from './past.js';
+import { editsTo, fensOf, joined, readScript, repliesOf, wordsOf } from './script.js';
+import { nodeAt } from './replies.js';
 import { Stopped } from './engine.js';
+import { app, doc, parts, say } from './state.js';
 import { counted, endedReason, moveName, reason } from './words.js';
+export { viewOf } from './answers.js';
+export * from './state.js';
 /** @typedef {import('./types.js').Doc} Doc @typedef {import('./types.js').Change} Change @typedef {import('./types.js').Script} Script */
-/** @typedef {{where: string, text: string, good: boolean, field?: string, typed?: string}} Say */
+/** @typedef {import('./state.js').Say} Say */
 
-export const PAGES = 1000;
-/** @type {Doc} */
-const blank = { lines: [], studies: [], refused: [], at: 0, path: 'root', name: '' };
-
-/**
- * @type {{history: import('./past.js').History<Doc>, view: import('./types.js').View | null, noView: string,
- *   review: import('./types.js').Review | null, noReview: string, say: Say | null, chosen: number | null, flip: boolean,
- *   setup: import('./setup.js').Draft | null, progress: import('./shelf.js').Progress | null, stamp: number}}
- */
-export const app = {
-  history: begin(blank),
-  view: null,
-  noView: '',
-  review: null,
-  noReview: '',
-  say: null,
-  chosen: null,
-  flip: false,
-  setup: null,
-  progress: null,
-  stamp: 0
-};
-/**
- * The parts that main.js puts in.
- * @type {{core: import('./engine.js').Core, facts: import('./engine.js').Core, shelf: ReturnType<typeof import('./shelf.js').makeShelf>,
- *   show: () => void, showFacts: () => void, showJudged: () => void, keep: (doc: Doc) => void}}
- */
-export const parts = /** @type {any} */ ({});
-
-export const doc = () => app.history.now;
-export const study = () => doc().studies[doc().at];
-export const node = () => (app.view ? nodeAt(app.view.root, doc().path) || app.view.root : null);
-/**
- * @param {string} where
- * @param {string} text
- */
-export function say(where, text, good = false) { app.say = text ? { where, text, good } : null; }
-export const silent = () => { app.say = null; };
 /**
  * A script has taken the place of another: what was refused, and that the other is not lost.
  * @param {Doc} before
@@ -85,12 +51,10 @@ function told(fault, where) {
  * @returns {Promise<Script>}
  */
 export async function evaluate(lines) {
-  const sent = toRun(lines), names = (await parts.shelf.classesOf(fensOf(lines))).filter(parts.core.holds);
-  const loads = names.map(name => 'load ' + name), texts = [...loads, ...sent.map(s => s.text)];
-  const { text, ended } = await parts.core.answer('run', joined(texts), PAGES);
+  const { sent, texts } = await linesToRun(lines), { text, ended } = await repliesTo(joined(texts));
   if (/^(LineTooLong|TooManyLines)/.test(ended)) throw new Stopped(`Refused: ${endedReason(ended)}. Nothing was changed`);
   if (ended !== 'done') throw new Error(endedReason(ended));
-  return readScript(lines, sent, repliesOf(texts, text).slice(loads.length));
+  return readScript(lines, sent, repliesOf(texts, text).slice(texts.length - sent.length));
 }
 
 const changing = /** @type {Set<Promise<any>>} */ (new Set());
@@ -117,6 +81,7 @@ export function change(make, where = 'board') {
 async function changeOnce(make, where) {
   const first = make(doc()), before = app.history;
   if (!first) return false;
+  decided();
   let note = '';
   try { await parts.shelf.ready(fensOf(first.lines)); } catch (fault) {
     if (!first.lenient) { told(fault, where); return false; }
@@ -184,49 +149,6 @@ const step = step => work(async () => {
 export const undo = () => step(undone);
 export const redo = () => step(redone);
 
-const views = /** @type {Map<string, import('./types.js').View>} */ (new Map()), reviews = /** @type {Map<string, import('./types.js').Review>} */ (new Map());
-/**
- * @template T
- * @param {Map<string, T>} map
- * @param {string} key
- * @param {T} value
- */
-function remember(map, key, value) {
-  if (map.size >= 400) map.delete(map.keys().next().value || '');
-  map.set(key, value);
-}
-/**
- * @param {string} text
- * @param {string} path
- */
-const keyOf = (text, path) => `${path}\n${text}`;
-/**
- * While a script runs, the other worker is asked for the view to which it will lead; where that is there first, nobody waits for it.
- * @param {Doc} now
- * @param {Change} wanted
- */
-async function viewAhead(now, wanted) {
-  const s = now.studies[now.at], path = wanted.path || 'made', names = parts.shelf.named(fensOf(wanted.lines));
-  if (!s || path === 'made' || wanted.at !== undefined || !names.length || !names.every(parts.facts.holds)) return;
-  const text = joined(editsTo(wanted.lines, { ...s, end: s.end + wanted.lines.length - now.lines.length }));
-  const answer = await parts.facts.answer('view ' + path, text, PAGES), view = readView(answer.text);
-  if (view) remember(views, keyOf(text, path), view);
-}
-/**
- * The view of a script's one study at a path.
- * @param {string} text
- * @param {string} path
- * @returns {Promise<import('./types.js').View | string>}
- */
-export async function viewOf(text, path) {
-  const key = keyOf(text, path), old = views.get(key);
-  if (old) return old;
-  await parts.shelf.lay(await parts.shelf.classesOf(fensOf(text.split('\n'))));      // a core that was started again has none
-  const answer = await parts.core.answer('view ' + path, text, PAGES), view = readView(answer.text);
-  if (!view) return reason(refusalIn(answer));
-  remember(views, key, view);
-  return view;
-}
 /**
  * A new state is shown once all is there that is shown of it; its facts come after.
  * @param {import('./past.js').History<Doc>} next
@@ -248,45 +170,9 @@ async function arrive(next, note = null) {
     review: null,
     noReview: ''
   });
+  arrived();
   if (app.view && s && s.aim) factsOf(text, s.fen, stamp);
   parts.keep(doc());
   parts.show();
-  if (app.view && text.length < 10000) lookAhead(text, stamp);
-}
-/**
- * The views to which a key leads from here are asked for one after the other, as long as the user does nothing else.
- * @param {string} text
- * @param {number} stamp
- */
-async function lookAhead(text, stamp) {
-  const n = node(), row = n && n.parent ? n.parent.children : [], at = n ? row.indexOf(n) : 0;
-  const near = n ? [n.children[0], n.parent, row[at - 1], row[at + 1], ...n.children.slice(1, 4)] : [];
-  for (const next of near) {
-    if (!next) continue;
-    await new Promise(on => setTimeout(on, 20));
-    if (stamp !== app.stamp || app.setup) return;
-    await viewOf(text, next.path).catch(() => {});      // who goes there is told why there is none
-  }
-}
-/**
- * The facts, by a worker of their own: no move waits for them.
- * @param {string} text
- * @param {string} fen
- * @param {number} stamp
- */
-async function factsOf(text, fen, stamp) {
-  const old = reviews.get(text);
-  if (old) { app.review = old; return; }
-  await new Promise(on => setTimeout(on, 30));
-  if (stamp !== app.stamp) return;
-  try {
-    await parts.shelf.lay(await parts.shelf.classesOf([fen]), parts.facts);
-    if (stamp !== app.stamp) return;
-    const answer = await parts.facts.answer('review', text + 'pgn\n', PAGES), review = readReview(answer.text);
-    if (review) remember(reviews, text, review);
-    if (stamp !== app.stamp) return;
-    app.review = review;
-    if (!review) app.noReview = reason(refusalIn(answer));
-  } catch (fault) { if (stamp === app.stamp) app.noReview = /** @type {Error} */ (fault).message; }
-  if (stamp === app.stamp) parts.showFacts();
+  if (app.view) lookAround(text, stamp);
 }

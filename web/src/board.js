@@ -2,6 +2,7 @@
 // The board: its drawing, and the way from fingers and keys to squares.
 import { $, h, svg } from './dom.js';
 import { isWhite, manName, menOf, sideOf, spokenPosition, squareName, NAMES } from './fen.js';
+import { foreseeMoves } from './answers.js';
 import { app, change, doc, node, parts, say, study } from './app.js';
 import { insertMoves } from './edits.js';
 import { draftFen, moveDraft, placeAt, removeAt } from './setup.js';
@@ -122,7 +123,7 @@ function squareOf(e) {
   if (f < 0 || f > 7 || r < 0 || r > 7) return null;
   return app.flip ? 8 * (7 - r) + 7 - f : 8 * r + f;
 }
-/** @type {{from: number | null, letter: string, use?: any, at?: [number, number]} | null} */
+/** @type {{from: number | null, letter: string, use?: any, at?: [number, number], over?: number | null} | null} */
 let hold = null;                                       // the man under the finger
 /**
  * A man of the palette is taken up.
@@ -147,7 +148,10 @@ function pressed(e) {
   if (app.chosen !== null && app.chosen !== s && play(app.chosen, s)) return;
   app.chosen = letter && movesFrom(s).length && app.chosen !== s ? s : null;
   if (app.chosen === null) notMovable(letter, s);
-  if (app.chosen !== null) hold = { from: s, letter, at: [e.clientX, e.clientY] };
+  if (app.chosen !== null) {
+    hold = { from: s, letter, at: [e.clientX, e.clientY], over: s };
+    foreseeMoves(movesFrom(s), null);
+  }
   showBoard();
 }
 /**
@@ -171,6 +175,9 @@ function dragged(e) {
   if (!use) return;
   use.classList.add('drag');
   if (use.nextSibling) use.parentNode.append(use);
+  const over = squareOf(e);
+  if (hold.over !== over && hold.from !== null && !app.setup) foreseeMoves(movesFrom(hold.from), over);
+  hold.over = over;
   use.setAttribute('x', (e.clientX - b.left) * unit - 22);
   use.setAttribute('y', (e.clientY - b.top) * unit - 24);
 }

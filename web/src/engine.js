@@ -10,6 +10,7 @@ export class Stopped extends Error {}
  * @property {(name: string, bytes: Uint8Array) => Promise<any>} lay      the bytes are transferred
  * @property {(name: string) => boolean} holds
  * @property {(name: string) => void} drop
+ * @property {() => number} waiting      how many questions are not answered yet
  * @property {(why?: Error) => void} end
  * @property {{ms: number, memory: number}} last
  */
@@ -86,5 +87,6 @@ export function makeCore(spawn, compiled) {
     lay(name, bytes) { laid.add(name); return ready({ kind: 'lay', name, bytes: bytes.buffer }, [bytes.buffer]); },
     drop(name) { if (laid.delete(name)) ready({ kind: 'drop', name }).catch(() => {}); },
     holds: name => laid.has(name),
+    waiting: () => waiting.size,
   };
 }

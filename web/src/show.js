@@ -2,6 +2,7 @@
 // What is shown: each part a function of the document, its view and its facts.
 import { $, button, h, put } from './dom.js';
 import { spokenMove } from './fen.js';
+import { foresee } from './answers.js';
 import { app, doc, node, study } from './app.js';
 import { showBoard, tell } from './board.js';
 import { reviewView } from './facts_view.js';
@@ -18,11 +19,22 @@ let pressing = false;
 const late = /** @type {Set<() => void>} */ (new Set());
 export function watch() {
   listenToTree();
+  document.addEventListener('pointerover', pointedAt);
   for (const kind of ['pointerdown', 'pointerup', 'pointercancel'])
     document.addEventListener(kind, () => {
       pressing = kind === 'pointerdown';
       if (!pressing) setTimeout(afterwards);
     }, true);
+}
+/**
+ * Moves on a button that is pointed at may be put in soon.
+ * @param {PointerEvent} e
+ */
+function pointedAt(e) {
+  const button = /** @type {Element} */ (e.target).closest('[data-san], [data-sans]');
+  if (!button) return;
+  const sans = button.getAttribute('data-sans') || button.getAttribute('data-san') || '';
+  foresee(button.getAttribute('data-path') || doc().path, [sans.split(' ')]);
 }
 function afterwards() {
   const list = [...late];

@@ -1,0 +1,45 @@
+// @ts-check
+// What there is: the document with its past, what is shown of it, and the parts that the page is made of. Views read this; actions change it.
+import { begin } from './past.js';
+import { nodeAt } from './replies.js';
+/** @typedef {import('./types.js').Doc} Doc */
+/** @typedef {{where: string, text: string, good: boolean, field?: string, typed?: string}} Say */
+
+export const PAGES = 1000;
+/** @type {Doc} */
+const blank = { lines: [], studies: [], refused: [], at: 0, path: 'root', name: '' };
+
+/**
+ * @type {{history: import('./past.js').History<Doc>, view: import('./types.js').View | null, noView: string,
+ *   review: import('./types.js').Review | null, noReview: string, say: Say | null, chosen: number | null, flip: boolean,
+ *   setup: import('./setup.js').Draft | null, progress: import('./shelf.js').Progress | null, stamp: number}}
+ */
+export const app = {
+  history: begin(blank),
+  view: null,
+  noView: '',
+  review: null,
+  noReview: '',
+  say: null,
+  chosen: null,
+  flip: false,
+  setup: null,
+  progress: null,
+  stamp: 0
+};
+/**
+ * The parts that main.js puts in.
+ * @type {{core: import('./engine.js').Core, facts: import('./engine.js').Core, shelf: ReturnType<typeof import('./shelf.js').makeShelf>,
+ *   show: () => void, showFacts: () => void, showJudged: () => void, keep: (doc: Doc) => void}}
+ */
+export const parts = /** @type {any} */ ({});
+
+export const doc = () => app.history.now;
+export const study = () => doc().studies[doc().at];
+export const node = () => (app.view ? nodeAt(app.view.root, doc().path) || app.view.root : null);
+/**
+ * @param {string} where
+ * @param {string} text
+ */
+export function say(where, text, good = false) { app.say = text ? { where, text, good } : null; }
+export const silent = () => { app.say = null; };
