@@ -2,7 +2,7 @@
 // What the program answers of a script: replies, views and facts, kept by its text; and what will soon be wanted is asked ahead.
 import { insertMoves } from './edits.js';
 import { readReview, readView, refusalIn } from './replies.js';
-import { editsTo, fensOf, joined, toRun } from './script.js';
+import { editsTo, fensOf, joined, supposed, toRun } from './script.js';
 import { PAGES, app, doc, node, parts, study } from './state.js';
 import { holds, reason } from './words.js';
 /** @typedef {import('./types.js').Doc} Doc @typedef {import('./types.js').Change} Change @typedef {import('./types.js').View} View */
@@ -33,15 +33,17 @@ async function runAhead(text) {
 
 // ---- views
 const views = /** @type {Map<string, View>} */ (new Map()), reviews = /** @type {Map<string, Review>} */ (new Map());
-const coming = /** @type {Map<string, Promise<View | null>>} */ (new Map());      // asked of the second worker, and not told yet
+const coming = /** @type {Map<string, Promise<View | null>>} */ (new Map());      // asked ahead, and not told yet
+let viewing = 0;      // how many of them were asked of the second worker
 /**
+ * Of large scripts fewer are kept.
  * @template T
  * @param {Map<string, T>} map
  * @param {string} key
  * @param {T} value
  */
 function remember(map, key, value) {
-  if (map.size >= 400) map.delete(map.keys().next().value || '');
+  while (map.size >= (key.length < LARGE ? 400 : 40)) map.delete(map.keys().next().value || '');
   map.set(key, value);
 }
 /**
@@ -50,20 +52,32 @@ function remember(map, key, value) {
  */
 const keyOf = (text, path) => `${path}\n${text}`;
 /**
- * While a script runs, the second worker is asked for the view to which it will lead, unless it is busy with other things than views.
+ * The study that a change will lead to, if its lines are accepted.
+ * @param {Doc} now
+ * @param {Change} wanted
+ */
+function studyAhead(now, { lines, at }) {
+  const s = now.studies[now.at];
+  return s && at === undefined ? { ...s, end: s.end + lines.length - now.lines.length } : supposed(lines).studies[at || 0];
+}
+/**
+ * The view to which a change will lead is asked for before its script is run: of the second worker, unless it is busy with other things than views.
  * @param {Doc} now
  * @param {Change} wanted
  */
 export async function viewAhead(now, wanted) {
-  const s = now.studies[now.at], path = wanted.path || 'made', names = parts.shelf.named(fensOf(wanted.lines));
-  if (!s || path === 'made' || wanted.at !== undefined || !names.length || !names.every(parts.facts.holds)) return;
-  if (parts.facts.waiting() > coming.size) return;
-  const text = joined(editsTo(wanted.lines, { ...s, end: s.end + wanted.lines.length - now.lines.length })), key = keyOf(text, path);
+  const names = parts.shelf.named(fensOf(wanted.lines)), path = wanted.path === undefined ? now.path : wanted.path;
+  const free = parts.facts.waiting() <= viewing && names.every(parts.facts.holds), core = free ? parts.facts : parts.core;
+  const s = path !== 'made' && names.length && names.every(core.holds) ? studyAhead(now, wanted) : undefined;
+  if (!s) return;
+  const text = joined(editsTo(wanted.lines, s)), key = keyOf(text, path);
   if (views.has(key) || coming.has(key)) return void await coming.get(key);
-  const told = parts.facts.answer('view ' + path, text, PAGES).then(answer => readView(answer.text)).catch(() => null);
+  const told = core.answer('view ' + path, text, PAGES).then(answer => readView(answer.text)).catch(() => null);
   coming.set(key, told);
+  if (free) viewing++;
   const view = await told;
   coming.delete(key);
+  if (free) viewing--;
   if (view) remember(views, key, view);
 }
 /**

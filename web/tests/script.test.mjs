@@ -6,7 +6,7 @@ import * as edits from '../src/edits.js';
 import { advance, begin, redo, undo } from '../src/past.js';
 import { fromPgn } from '../src/pgn.js';
 import { readView } from '../src/replies.js';
-import { editsTo, fensOf, gameLines, gamesOf, joined, linesOf, oneGame, readScript, repliesOf, savedScript, toldBefore, toRun } from '../src/script.js';
+import { editsTo, fensOf, gameLines, gamesOf, joined, linesOf, oneGame, readScript, repliesOf, savedScript, supposed, toldBefore, toRun } from '../src/script.js';
 import { isListed, progressText } from '../src/shelf.js';
 import { DIGESTS } from '../src/digests.js';
 
@@ -53,6 +53,14 @@ test('what is run has a game behind each study', () => {
   const sent = toRun(['build KK', 'position A', '', 'stipulate white win', '# note', 'pgn', 'position B', 'insert root Kb2']).map(s => s.text);
   assert.deepEqual(sent, ['position A', 'stipulate white win', 'pgn', 'position B', 'insert root Kb2', 'pgn']);
   assert.deepEqual(fensOf([' position  8/8 w', 'shift 7/8 b', 'tag Event position 1']), ['8/8 w', '7/8 b']);
+});
+test('a script whose lines are all accepted is as it was supposed to be', () => {
+  for (const name of ['saavedra_1895', 'reti_1921']) {
+    const { lines, script } = gallery(name), before = supposed(lines);
+    assert.equal(script.refused.length, 0);
+    assert.deepEqual(before.studies.map(s => editsTo(lines, s)), script.studies.map(s => editsTo(lines, s)));
+    assert.deepEqual(before.studies.map(s => s.aim), script.studies.map(s => s.aim));
+  }
 });
 test('a study that is told more than once', () => {
   const lines = ['position A', 'stipulate white win', 'pgn', 'stipulate white mate 26', 'position B', 'stipulate white draw', 'insert root Kb2', 'pgn',
