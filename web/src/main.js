@@ -16,22 +16,26 @@ import { openText } from './texts_view.js';
 import { counted, reason } from './words.js';
 import { refusalIn } from './replies.js';
 
-// ---- the module, in the form that this browser can run
+// ---- the module, in the form that this browser can run; it stands after this script, so that tables are read while it comes
+const whole = new Promise(on => document.addEventListener('DOMContentLoaded', on));
 /**
  * @param {string} id
  * @returns {Promise<Uint8Array>}
  */
 async function unpacked(id) {
-  const text = atob($(id).textContent.trim()), packed = new Uint8Array(text.length);
-  for (let i = 0; i < packed.length; i++) packed[i] = text.charCodeAt(i);
+  const text = $(id).textContent.trim(), Bytes = /** @type {any} */ (Uint8Array);
+  const packed = Bytes.fromBase64 ? Bytes.fromBase64(text) : Uint8Array.from(atob(text), letter => letter.charCodeAt(0));
   return new Uint8Array(
       await new Response(new Blob([packed]).stream().pipeThrough(new (/** @type {any} */ (window).DecompressionStream)('gzip'))).arrayBuffer());
 }
 // A module of no code whose memory has 64-bit addresses.
 const MEMORY64 = new Uint8Array([0, 97, 115, 109, 1, 0, 0, 0, 5, 3, 1, 4, 0]);
 let module = /** @type {Promise<WebAssembly.Module> | null} */ (null);
-const compiled = () => module =
-    module || unpacked(WebAssembly.validate(MEMORY64) && $('module64') ? 'module64' : 'module32').then(bytes => WebAssembly.compile(bytes));
+async function compile() {
+  await whole;
+  return WebAssembly.compile(await unpacked(WebAssembly.validate(MEMORY64) && $('module64') ? 'module64' : 'module32'));
+}
+const compiled = () => module = module || compile();
 const source = URL.createObjectURL(new Blob([$('workerSource').textContent], { type: 'text/javascript' }));
 const spawn = () => makeCore(() => new Worker(source), compiled), readers = makeReaders(() => new Worker(source));
 

@@ -1,13 +1,13 @@
 // @ts-check
 // Files of tables, each with its digest, read by workers: a digest of 17 MB holds up the thread that asks for it, though it is a promise.
 
-/** @typedef {{bytes: Uint8Array, digest: string}} Read */
+/** @typedef {{bytes: Uint8Array, digest: string}} Read      the digest is empty where none was asked for */
 const MOST = 3, REST = 2000;
 
 /** @param {() => Worker} spawn */
 export function makeReaders(spawn) {
   const resting = /** @type {Worker[]} */ ([]);
-  const waiting = /** @type {{blob: Blob, ok: (file: Read) => void, no: (why: Error) => void}[]} */ ([]);
+  const waiting = /** @type {{blob: Blob, digested: boolean, ok: (file: Read) => void, no: (why: Error) => void}[]} */ ([]);
   let working = 0, timer = 0;
   function go() {
     clearTimeout(timer);
@@ -15,7 +15,7 @@ export function makeReaders(spawn) {
     while (working < MOST && waiting.length) begin(/** @type {typeof waiting[0]} */ (waiting.shift()));
   }
   /** @param {typeof waiting[0]} task */
-  function begin({ blob, ok, no }) {
+  function begin({ blob, digested, ok, no }) {
     const worker = resting.pop() || spawn();
     working++;
     worker.onmessage = ({ data }) => {
@@ -31,13 +31,26 @@ export function makeReaders(spawn) {
       no(new Error(e.message || 'the worker did not start'));
       go();
     };
-    worker.postMessage({ id: 0, kind: 'read', blob });
+    worker.postMessage({ id: 0, kind: 'read', blob, digested });
+  }
+  /** Workers are started before there is anything to read. */
+  function start() {
+    while (working + resting.length < MOST) {
+      const worker = spawn();
+      worker.onerror = () => {
+        worker.terminate();
+        if (resting.includes(worker)) resting.splice(resting.indexOf(worker), 1);
+      };
+      resting.push(worker);
+    }
+    go();
   }
   return {
+    start,
     /**
      * @param {Blob} blob
      * @returns {Promise<Read>}
      */
-    read: blob => new Promise((ok, no) => { waiting.push({ blob, ok, no }); go(); }),
+    read: (blob, digested = true) => new Promise((ok, no) => { waiting.push({ blob, digested, ok, no }); go(); }),
   };
 }

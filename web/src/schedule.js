@@ -1,5 +1,6 @@
 // @ts-check
 // Which table is built next: several at a time, in order. A table that needs another first says so, and waits until one more is made.
+// And which is read next.
 
 /**
  * @param {string[]} names      in the order in which they can be built one after the other
@@ -34,4 +35,15 @@ export function buildEach(names, most, make, tell) {
     }
     go();
   });
+}
+
+/**
+ * The order in which files are read: the largest first, which takes longest; then the small ones, which are there at once; then the others by size.
+ * @param {string[]} names
+ * @param {(name: string) => number} sizeOf
+ * @param {number} small
+ */
+export function readingOrder(names, sizeOf, small) {
+  const [first, ...rest] = [...names].sort((x, y) => sizeOf(y) - sizeOf(x)), isSmall = (/** @type {string} */ name) => sizeOf(name) <= small;
+  return names.length ? [first, ...rest.filter(isSmall), ...rest.filter(name => !isSmall(name))] : [];
 }

@@ -4,7 +4,7 @@
 // A table is taken only where its SHA-256 is that of the list: any page of file:// can write to the store.
 import { DIGESTS } from './digests.js';
 import { Stopped } from './engine.js';
-import { buildEach } from './schedule.js';
+import { buildEach, readingOrder } from './schedule.js';
 import { material } from './fen.js';
 import { reason } from './words.js';
 import { joined } from './script.js';
@@ -16,6 +16,7 @@ import { joined } from './script.js';
  * @param {string} digest
  */
 export const isListed = (name, digest) => DIGESTS[name] !== undefined && DIGESTS[name][1] === digest;
+const SMALL = 1000000;
 const STOPPED = 'Stopped. The tables that were built are kept';
 /** @param {string} name */
 const sizeOf = name => (DIGESTS[name] ? DIGESTS[name][0] : 5000000);
@@ -68,7 +69,10 @@ export function makeShelf({ core, spawn, readers, store, tell }) {
    * Tables that will be wanted are read, and compared with the list, while the program starts.
    * @param {string[]} names
    */
-  function fetchAhead(names) { for (const name of names) if (DIGESTS[name]) fetched.set(name, bytesOf(name)); }
+  function fetchAhead(names) {
+    for (const name of readingOrder(names.filter(name => DIGESTS[name]), sizeOf, SMALL)) fetched.set(name, bytesOf(name));
+    readers.start();
+  }
   /**
    * What was fetched ahead is given once, since its bytes go to a core.
    * @param {string} name
@@ -84,7 +88,7 @@ export function makeShelf({ core, spawn, readers, store, tell }) {
    */
   async function bytesOf(name) {
     const known = right.get(name);
-    if (known) try { return new Uint8Array(await known.arrayBuffer()); } catch { right.delete(name); }
+    if (known) try { return (await readers.read(known, false)).bytes; } catch { right.delete(name); }
     const blob = await store.get(name), file = blob ? await readers.read(blob).catch(() => null) : null;
     if (!blob || !file) return null;
     if (!isListed(name, file.digest)) { await store.remove(name); return null; }
@@ -98,7 +102,7 @@ export function makeShelf({ core, spawn, readers, store, tell }) {
    */
   async function lay(names, into = core) {
     const lacking = /** @type {string[]} */ ([]);
-    await Promise.all(names.filter(name => !into.holds(name)).map(async name => {
+    await Promise.all(readingOrder(names.filter(name => !into.holds(name)), sizeOf, SMALL).map(async name => {
       const bytes = await taken(name);
       if (!bytes) lacking.push(name);
       else if (!into.holds(name)) await into.lay(name, bytes);

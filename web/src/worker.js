@@ -4,7 +4,7 @@
 //   {id, kind: 'lay', name, bytes}                   a table's file (an ArrayBuffer, transferred)
 //   {id, kind: 'drop', name}
 //   {id, kind: 'answer', request, script, pages}     -> {bytes, ended, saved: [[name, bytes] ..]}
-//   {id, kind: 'read', blob}                         -> {bytes, digest}: a file and its SHA-256; no core is needed
+//   {id, kind: 'read', blob, digested}               -> {bytes, digest}: a file and, where asked for, its SHA-256; no core is needed
 // Each answer has {id, ms, memory}, or {id, failed} after a trap: then the page ends this worker.
 import { makeCore } from './core_host.js';
 
@@ -21,15 +21,18 @@ function act(message) {
   if (message.kind === 'drop') { core.drop(message.name); return {}; }
   return core.answer(message.request, message.script, message.pages);
 }
-/** @param {Blob} blob */
-async function read(blob) {
-  const bytes = new Uint8Array(await blob.arrayBuffer()), digest = new Uint8Array(await crypto.subtle.digest('SHA-256', bytes));
+/**
+ * @param {Blob} blob
+ * @param {boolean} digested
+ */
+async function read(blob, digested) {
+  const bytes = new Uint8Array(await blob.arrayBuffer()), digest = digested ? new Uint8Array(await crypto.subtle.digest('SHA-256', bytes)) : [];
   return { bytes, digest: [...digest].map(b => b.toString(16).padStart(2, '0')).join('') };
 }
 self.onmessage = async e => {
   const began = performance.now(), id = e.data.id;
   try {
-    const done = e.data.kind === 'read' ? await read(e.data.blob) : act(e.data);
+    const done = e.data.kind === 'read' ? await read(e.data.blob, e.data.digested) : act(e.data);
     const moved = [done.bytes, ...(done.saved || []).map((/** @type {any} */ s) => s[1])].filter(Boolean).map(b => b.buffer);
     /** @type {any} */ (self).postMessage({ id, ...done, ms: performance.now() - began, memory: core ? core.size() : 0 }, moved);
   } catch (fault) {

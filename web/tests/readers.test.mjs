@@ -44,3 +44,15 @@ test('a file that cannot be read, and a worker that ends, are told and hold noth
     ['NotReadableError: bad', 'gone', 'of a', 'of b', 'of c']);
   assert.equal(counts()[1], 1);
 });
+
+test('workers are started ahead, once, and one that does not start is not used', async () => {
+  const { spawn, asked, counts } = fakes(), made = [], readers = makeReaders(() => { made.push(spawn()); return made[made.length - 1]; });
+  readers.start();
+  readers.start();
+  assert.deepEqual(counts(), [3, 0]);
+  made[2].onerror({ message: 'gone' });
+  const answers = ['a', 'b', 'c'].map(blob => readers.read(blob));
+  assert.deepEqual(counts(), [4, 1]);
+  for (let i = 0; i < 3; i++) asked[i]();
+  assert.deepEqual((await Promise.all(answers)).map(file => file.digest), ['of a', 'of b', 'of c']);
+});

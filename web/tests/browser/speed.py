@@ -111,14 +111,13 @@ def main():
         rows["ready after a reload"].append([user.js("return stamped"), 1000 * (time.time() - began)])
     user.js(WATCH)
     user.promise("studyboard.open(a[0])", large(user, 504, random.Random(504)))
-    for name, rests in (("a move in a tree of 504 moves", True), ("the same, one after the other", False)):
+    for name, paths in (("a move in a tree of 504 moves", "root 0 1 0.0 0.1"), ("the same, one after the other", "1.0 1.1 0.0.0 0.1.0 1.0.0")):
         rows[name] = []
-        for _ in range(5):
-            first(user)
-            if rests:
+        for path in paths.split():
+            user.go(path)
+            if "after" not in name:
                 user.until("document.getElementById('ends')", 60)
-            chips = "[...document.querySelectorAll('.moves [data-san]:not(.in)')].map(e => e.getAttribute('data-san'))"
-            rows[name].append(move(user, user.js(f"return {chips}")[0]))
+            rows[name].append(move(user, user.js("return document.querySelector('.moves [data-san]:not(.in)').getAttribute('data-san')")))
     for name, list_ in rows.items():
         print(f"{name}: median {statistics.median(t for t, _ in list_):.0f} ms, drawn {statistics.median(d for _, d in list_):.0f} ms, of {len(list_)}")
     user.end()
