@@ -1,4 +1,5 @@
-"""Random actions of a user who does not know what he does: after each, the games shown are those of the script, run alone.
+"""Random actions of a user who does not know what he does: after each, the games shown are those of the script, run alone. After each fortieth
+the page is loaded again, and the tree, mended in place until then, is the one that is drawn anew.
 
     monkey.py TABLES SEED N
 """
@@ -79,6 +80,14 @@ def main():
         if games != user.promise("studyboard.pgn()"):
             bad += 1
             print(f"action {i}, {what}: NOT EQUAL\n{script}---\n{games}---\n{user.promise('studyboard.pgn()')}", flush=True)
+        if i % 40 == 39:
+            tree = "return document.getElementById('tree').innerHTML"
+            before = user.js(tree)
+            user.d.refresh()
+            user.idle()
+            if user.js(tree) != before:
+                bad += 1
+                print(f"action {i}, {what}: ANOTHER TREE\n{before}\n---\n{user.js(tree)}", flush=True)
     user.no_faults()
     user.end()
     print(f"{count} random actions, {bad} differ")

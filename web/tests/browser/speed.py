@@ -23,7 +23,6 @@ window.timed = async (act, done) => {
     return [told, performance.now() - began];
 };
 """
-START = "position 8/8/1KP5/3r4/8/8/8/k7 w - - 0 1\nstipulate white win\n"
 COUNT = "document.querySelectorAll('.tree [data-path]').length"
 PRESS = "() => document.querySelector('.moves [data-san=\"' + a[0] + '\"]').click()"
 
@@ -58,20 +57,21 @@ def drop(user, here, there, rest=0.25):
 
 
 def large(user, moves, dice):
-    """A script with so many moves, two or three at each node by chance; and at the start some moves that it leaves out."""
-    lines, level = [], ["root"]
+    """A script with so many moves: of White one at each node by chance, of which most have duals, and up to five answers of Black."""
+    start, lines, level = "position 8/8/8/4k3/8/8/8/R3K3 w - - 0 1\nstipulate white win\n", [], ["root"]
     loads = "".join(f"load {name}\n" for name in SAAVEDRA)
     while len(lines) < moves:
-        asked = START + "".join(lines) + "".join(f"moves {path}\n" for path in level)
+        asked = start + "".join(lines) + "".join(f"moves {path}\n" for path in level)
         told = user.promise("studyboard.run(a[0], 1000)", loads + asked).split("\n")[-len(level) - 1:-1]
         below = []
         for path, sans in zip(level, told):
-            for k, san in enumerate(dice.sample(sans.split()[2:], min(len(sans.split()) - 2, 2 if path == "root" else dice.choice((2, 3))))):
+            white = path == "root" or path.count(".") % 2 == 1
+            for k, san in enumerate(dice.sample(sans.split()[2:], min(len(sans.split()) - 2, 1 if white else 5))):
                 if len(lines) < moves:
                     lines.append(f"insert {path} {san}\n")
                     below.append(str(k) if path == "root" else f"{path}.{k}")
         level = below
-    return START + "".join(lines)
+    return start + "".join(lines)
 
 
 def main():
@@ -111,7 +111,9 @@ def main():
         rows["ready after a reload"].append([user.js("return stamped"), 1000 * (time.time() - began)])
     user.js(WATCH)
     user.promise("studyboard.open(a[0])", large(user, 504, random.Random(504)))
-    for name, paths in (("a move in a tree of 504 moves", "root 0 1 0.0 0.1"), ("the same, one after the other", "1.0 1.1 0.0.0 0.1.0 1.0.0")):
+    trees = {"a move in a tree of 504 moves with many faults": "root 0.0 0.1 0.2 0.3",
+             "the same, one after the other": "0.0.0.0 0.0.0.1 0.1.0.0 0.1.0.1 0.2.0.0"}
+    for name, paths in trees.items():
         rows[name] = []
         for path in paths.split():
             user.go(path)
