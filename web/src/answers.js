@@ -8,8 +8,8 @@ import { holds, reason } from './words.js';
 /** @typedef {import('./types.js').Doc} Doc @typedef {import('./types.js').Change} Change @typedef {import('./types.js').View} View */
 /** @typedef {import('./types.js').Review} Review @typedef {import('./types.js').Answer} Answer */
 
-/** Of a script with more letters, less is asked ahead. */
-const LARGE = 10000;
+/** Of a script with more letters, less is asked ahead; and of one that runs longer, nothing, since a run cannot be broken off. */
+const LARGE = 10000, LONG = 100;
 const pause = (/** @type {number} */ ms) => new Promise(on => setTimeout(on, ms));
 
 // ---- replies
@@ -22,8 +22,13 @@ export async function linesToRun(lines) {
   const sent = toRun(lines), names = (await parts.shelf.classesOf(fensOf(lines))).filter(parts.core.holds);
   return { sent, texts: [...names.map(name => 'load ' + name), ...sent.map(s => s.text)] };
 }
+let lastRun = 0;      // how long it took
 /** @param {string} text */
-export const repliesTo = text => runs.get(text) || parts.core.answer('run', text, PAGES);
+export function repliesTo(text) {
+  const ahead = runs.get(text), began = performance.now(), answer = ahead || parts.core.answer('run', text, PAGES);
+  if (!ahead) answer.then(() => { lastRun = performance.now() - began; }, () => {});
+  return answer;
+}
 /** @param {string} text */
 async function runAhead(text) {
   const answer = repliesTo(text);
@@ -124,7 +129,7 @@ export function arrived() { decided(); runs.clear(); }
  */
 export async function foresee(path, lists) {
   const mine = ++foreseeing, now = doc(), s = study(), view = app.view;
-  if (!s || !view || !lists.length) return;
+  if (!s || !view || !lists.length || lastRun > LONG) return;
   await pause(20);
   for (const sans of lists) {
     if (mine !== foreseeing || doc() !== now || app.view !== view || app.setup) return;

@@ -74,6 +74,35 @@ def large(user, moves, dice):
     return start + "".join(lines)
 
 
+def reloads(user):
+    """Until the verdict stands, as the page counts, and as the user waits."""
+    user.d.execute_cdp_cmd("Page.addScriptToEvaluateOnNewDocument", {"source": """new MutationObserver(() => {
+        if (!window.stamped && document.getElementById('stamp')) window.stamped = performance.now(); }).observe(document, {childList: true, subtree: true})"""})
+    ready = []
+    for _ in range(5):
+        began = time.time()
+        user.d.refresh()
+        user.until("document.getElementById('stamp')", 60)
+        ready.append([user.js("return stamped"), 1000 * (time.time() - began)])
+    return ready
+
+
+def in_large_tree(user):
+    user.js(WATCH)
+    user.promise("studyboard.open(a[0])", large(user, 504, random.Random(504)))
+    trees = {"a move in a tree of 504 moves with many faults": "root 0.0 0.1 0.2 0.3",
+             "the same, one after the other": "0.0.0.0 0.0.0.1 0.1.0.0 0.1.0.1 0.2.0.0"}
+    rows = {}
+    for name, paths in trees.items():
+        rows[name] = []
+        for path in paths.split():
+            user.go(path)
+            if "after" not in name:
+                user.until("document.getElementById('ends')", 60)
+            rows[name].append(move(user, user.js("return document.querySelector('.moves [data-san]:not(.in)').getAttribute('data-san')")))
+    return rows
+
+
 def main():
     user = User()
     user.open_tables(sys.argv[1], SAAVEDRA)
@@ -101,25 +130,8 @@ def main():
     user.until("document.getElementById('survey')", 60)
     rows["a survey"] = [user.promise("timed(() => document.getElementById('survey').click(), () => document.getElementById('stands'))")]
     user.click("cancel")
-    rows["ready after a reload"] = []
-    user.d.execute_cdp_cmd("Page.addScriptToEvaluateOnNewDocument", {"source": """new MutationObserver(() => {
-        if (!window.stamped && document.getElementById('stamp')) window.stamped = performance.now(); }).observe(document, {childList: true, subtree: true})"""})
-    for _ in range(5):
-        began = time.time()
-        user.d.refresh()
-        user.until("document.getElementById('stamp')", 60)
-        rows["ready after a reload"].append([user.js("return stamped"), 1000 * (time.time() - began)])
-    user.js(WATCH)
-    user.promise("studyboard.open(a[0])", large(user, 504, random.Random(504)))
-    trees = {"a move in a tree of 504 moves with many faults": "root 0.0 0.1 0.2 0.3",
-             "the same, one after the other": "0.0.0.0 0.0.0.1 0.1.0.0 0.1.0.1 0.2.0.0"}
-    for name, paths in trees.items():
-        rows[name] = []
-        for path in paths.split():
-            user.go(path)
-            if "after" not in name:
-                user.until("document.getElementById('ends')", 60)
-            rows[name].append(move(user, user.js("return document.querySelector('.moves [data-san]:not(.in)').getAttribute('data-san')")))
+    rows["ready after a reload"] = reloads(user)
+    rows.update(in_large_tree(user))
     for name, list_ in rows.items():
         print(f"{name}: median {statistics.median(t for t, _ in list_):.0f} ms, drawn {statistics.median(d for _, d in list_):.0f} ms, of {len(list_)}")
     user.end()
