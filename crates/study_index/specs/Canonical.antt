@@ -12,8 +12,10 @@ use Rattle.study_index.specs.Number.{number}
 -- the symmetry that brings a square to a listed one, if any does
 unfoldable pub canonical_symmetry : Bool → Bool → Bool → ℕ → Symmetry
 canonical_symmetry true diagonal colours s = record { files = nat_lt 3 (file_of s); ranks = false; diagonal = false; colours = colours }
-canonical_symmetry false false colours s = record { files = nat_lt 3 (file_of s); ranks = differ colours (nat_lt 3 (rank_of s)); diagonal = false; colours = colours }
-canonical_symmetry false true colours s = record { files = differ colours (nat_lt 3 (file_of s)); ranks = nat_lt 3 (rank_of s); diagonal = true; colours = colours }
+canonical_symmetry false false colours s =
+    record { files = nat_lt 3 (file_of s); ranks = differ colours (nat_lt 3 (rank_of s)); diagonal = false; colours = colours }
+canonical_symmetry false true colours s =
+    record { files = differ colours (nat_lt 3 (file_of s)); ranks = nat_lt 3 (rank_of s); diagonal = true; colours = colours }
 
 -- the last two of four men exchanged
 abbrev pub last_two_exchanged : List Man → List Man
@@ -51,4 +53,5 @@ unfoldable pub least_of : Bool → Side → Bool → List Man → Option ℕ
 least_of pawns to_move colours [] = None
 least_of pawns to_move colours (k ∷ rest) =
     if pawns then least_by pawns to_move (canonical_symmetry pawns false colours k.at) (k ∷ rest)
-    else least (least_by pawns to_move (canonical_symmetry pawns false colours k.at) (k ∷ rest)) (least_by pawns to_move (canonical_symmetry pawns true colours k.at) (k ∷ rest))
+    else least (least_by pawns to_move (canonical_symmetry pawns false colours k.at) (k ∷ rest))
+    (least_by pawns to_move (canonical_symmetry pawns true colours k.at) (k ∷ rest))

@@ -83,7 +83,8 @@ san_of text = do
   let k = kind_at text
   s ← squares_at k.1
   p ← promotion_at s.1
-  if is_ending p.1 then Some (record { kind = k.0; file = s.0.file; rank = s.0.rank; is_capture = s.0.is_capture; target = s.0.target; promoted = p.0 }) else None
+  if is_ending p.1
+      then Some (record { kind = k.0; file = s.0.file; rank = s.0.rank; is_capture = s.0.is_capture; target = s.0.target; promoted = p.0 }) else None
 
 -- `O-O` or `O-O-O`, with letters or digits, and an ending
 abbrev pub is_castling_with : ℕ → List ℕ → Bool

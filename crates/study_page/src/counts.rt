@@ -64,7 +64,9 @@ fn add_code<A: Allocator>(text: &mut Text<'_, A>, men: &[Man]) -> Result<(), All
     add_king(text, men, Side::Black)
 }
 
-/// `2 + 2, 0300.10 b6a1`.
+/// `2 + 2, 0300.10 b6a1`: how many men each side has, the code of the material, and the squares of the kings.
+///
+/// No contract: the expected pages of the gate tell it.
 pub fn add_counts<A: Allocator>(text: &mut Text<'_, A>, men: &[Man]) -> Result<(), AllocError> {
     text.add_number(count_side(men, Side::White))?;
     text.add(b" + ")?;

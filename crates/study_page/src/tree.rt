@@ -98,6 +98,8 @@ fn put_move<'a, 'b, A: Allocator, B: Allocator>(
 
 /// What follows the node at the path: the first move, variations for the others in a list, and what follows the first.
 /// At most so many plies are left.
+///
+/// No contract but that of `Html`, well nested: the expected pages of the gate tell the rest.
 pub fn put_following<'a, 'b, A: Allocator, B: Allocator>(
     alloc: &'a A,
     html: &mut Html<'_, A>,

@@ -33,6 +33,8 @@ pub fn studybench(rt: &HostRuntime) -> ExitCode {
 }
 
 /// The words of the command line, of which the first is the program's name.
+///
+/// No contract: no clause can say with which words a process was started.
 pub fn words_of(rt: &HostRuntime) -> io::Result<Vec<String>> {
     Ok(env::args(rt)?.collect(rt.alloc())?)
 }

@@ -10,6 +10,8 @@ use study_script::run::RunFault;
 use study_tablefile::{DeviceFailed, write_text};
 
 /// Tells why a run stopped, in a line of its own: `studyreport: LineTooLong 3`.
+///
+/// No contract: `tools/report_faults.py` tells it.
 pub fn put_stop<W: Write>(out: &mut W, fault: RunFault) -> Result<(), DeviceFailed> {
     match fault {
         RunFault::ReadDevice => write_text(out, b"studyreport: ReadDevice\n"),

@@ -60,6 +60,8 @@ fn tell_fault<A: Allocator, E: Write>(alloc: &A, errors: &mut E, class: Class, r
 }
 
 /// Opens each table whose file is there, in the order of the class list, and tells the fault of each file that gives no table.
+///
+/// No contract: `tools/report_faults.py` tells it.
 pub fn open_tables<'a, S: TableStore, A: Allocator, E: Write>(
     alloc: &'a A,
     tables: &mut PagedTables<'a, S::Pages, A>,

@@ -9,6 +9,8 @@ use std::io::{ErrorKind, Write};
 pub type Saved<'a, A> = RefCell<Option<Vec<u8, &'a A>>>;
 
 /// A cell for each class, in the order of the class list, of which none is saved.
+///
+/// No contract: no clause can say what a cell holds. Tests tell it.
 pub fn none_saved<'a, A: Allocator>(alloc: &'a A) -> Result<Vec<Saved<'a, A>, &'a A>, AllocError> {
     let mut cells = Vec::new(alloc);
     for _ in 0..36u8 {
@@ -25,6 +27,8 @@ pub struct SavedFile<'w, 'a, A: Allocator> {
 
 impl<'w, 'a, A: Allocator> SavedFile<'w, 'a, A> {
     /// Starts the file again, without a byte.
+    ///
+    /// No contract: no clause can say what a cell holds. Tests tell it.
     pub fn new(alloc: &'a A, cell: &'w Saved<'a, A>) -> io::Result<Self> {
         *cell.try_borrow_mut()? = Some(Vec::new(alloc));
         Ok(SavedFile { cell })
