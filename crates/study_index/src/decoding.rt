@@ -32,7 +32,7 @@ pub fn has_pawn(slots: &[Slot]) -> bool
 
 #[inline]
 #[tactic(auto, unfolding(crate::specs::Decoded::listed_square))]
-fn listed_square(pawns: bool, place: u32) -> Square
+pub fn listed_square(pawns: bool, place: u32) -> Square
     requires { place < listed_count pawns }
     ensures value { result ≡ listed_square pawns place }
 {

@@ -13,6 +13,7 @@ mod laws;
 mod least;
 mod moved;
 mod number;
+mod reading;
 mod stepped;
 mod transform;
 
@@ -23,3 +24,4 @@ pub use laws::{
 };
 pub use least::index;
 pub use moved::number_moved;
+pub use reading::{Setup, told};

@@ -1,0 +1,106 @@
+//! The men and the side to move that a number tells, whether or not it has a position.
+ghost use Rattle.std.specs.Prelude.{◌≡◌, ◌/◌, ◌%◌};
+ghost use Rattle.study_index.specs.Number.{listed_count, without_bit};
+ghost use Rattle.study_index.specs.Decoded.{AreSlots, slots_of, slots_have_pawn, man, head, listed_square, side_numbered, told_men, told_side};
+
+use crate::decoding::{Slot, listed_square, man, slots};
+use arrayvec::ArrayVec;
+use study_board::{Man, Side};
+use study_material::Class;
+
+/// What a number tells: a man for each slot of its class, in their order, and the side to move.
+#[derive(Drop)]
+pub struct Setup {
+    pub men: ArrayVec<Man, 4>,
+    pub to_move: Side,
+}
+
+/// Whether a man of the class is a pawn.
+#[inline]
+pub fn class_has_pawn(class: Class) -> bool
+    ensures { result ≡ slots_have_pawn (slots_of class) }
+{
+    use Class::*;
+    match class {
+        KPK | KQPK | KRPK | KBPK | KNPK | KPPK | KQKP | KRKP | KBKP | KNKP | KPKP => true,
+        _ => false,
+    }
+}
+
+/// The white king on the square that the number without the other squares tells.
+#[inline]
+#[tactic(auto, unfolding(crate::specs::Decoded::listed_square))]
+fn king_told(pawns: bool, slot: &Slot, head: u32) -> Man
+    ensures { result ≡ man slot.now (listed_square pawns (head % listed_count pawns)) }
+{
+    Man {
+        side: slot.side,
+        kind: slot.kind,
+        at: listed_square(pawns, if pawns { head % 32 } else { head % 10 }),
+    }
+}
+
+/// The side to move by the number without the squares of the slots after the first.
+#[inline]
+fn side_told(pawns: bool, head: u32) -> Side
+    ensures { result ≡ side_numbered (head / listed_count pawns) }
+{
+    if head < if pawns { 32 } else { 10 } {
+        Side::White
+    } else {
+        Side::Black
+    }
+}
+
+/// The men and the side to move that the number tells, by shifts alone.
+#[inline]
+pub fn told(class: Class, number: u32) -> Setup
+    ensures men { result.men.items ≡ told_men (slots_of class) (without_bit number) }
+    ensures to_move { result.to_move ≡ told_side (slots_of class) (without_bit number) }
+{
+    let slots = slots(class);
+    let pawns = class_has_pawn(class);
+    let n = number % 16_777_216;
+    told_by(slots, pawns, n)
+}
+
+/// The same by the slots of a class.
+#[inline]
+fn told_by(slots: &[Slot], pawns: bool, n: u32) -> Setup
+    requires slots { AreSlots slots.now }
+    requires pawns { pawns ≡ slots_have_pawn slots.now }
+    ensures men { result.men.items ≡ told_men slots.now n }
+    ensures to_move { result.to_move ≡ told_side slots.now n }
+{
+    let mut men = ArrayVec::new();
+    match slots {
+        [k, b] => {
+            men.push(king_told(pawns, k, n / 64));
+            men.push(man(b, n % 64));
+            Setup {
+                men,
+                to_move: side_told(pawns, n / 64),
+            }
+        }
+        [k, b, x] => {
+            men.push(king_told(pawns, k, n / 64 / 64));
+            men.push(man(b, n / 64 % 64));
+            men.push(man(x, n % 64));
+            Setup {
+                men,
+                to_move: side_told(pawns, n / 64 / 64),
+            }
+        }
+        [k, b, x, y] => {
+            men.push(king_told(pawns, k, n / 64 / 64 / 64));
+            men.push(man(b, n / 64 / 64 % 64));
+            men.push(man(x, n / 64 % 64));
+            men.push(man(y, n % 64));
+            Setup {
+                men,
+                to_move: side_told(pawns, n / 64 / 64 / 64),
+            }
+        }
+        _ => unreachable!(),
+    }
+}
