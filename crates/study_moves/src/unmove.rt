@@ -59,7 +59,7 @@ fn add_unmoves_of(q: &Position, man: &Man, list: &mut ArrayVec<Move, 192>)
     ensures few { array_vec_len list.new ≤ array_vec_len list.old + 64 }
 {
     let target = man.at;
-    let mut rest = origins(q, man);
+    let mut rest = origins(q.men(), q.to_move(), man);
     let mut next = 0u8;
     while rest != 0 {
         let origin = first(rest);
@@ -100,15 +100,15 @@ fn man_on_origin(man: &Man, a: Square) -> Man
     }
 }
 
-/// The squares from which the man can have come by a quiet move.
+/// The squares from which the man can have come by a quiet move, with these men on the board now, in any order, and this
+/// side to move.
 #[inline]
-fn origins(q: &Position, man: &Man) -> u64
-    ensures { (a : ℕ) → a < 64 → has result a ≡ came_from q.now.men q.now.to_move man.now a }
+pub fn origins(men: &[Man], to_move: Side, man: &Man) -> u64
+    ensures { (a : ℕ) → a < 64 → has result a ≡ came_from men.now to_move man.now a }
 {
-    let men = q.men();
     without(
         origins_of_kind(men, man),
-        origins_in_check(men, q.to_move(), man),
+        origins_in_check(men, to_move, man),
     )
 }
 

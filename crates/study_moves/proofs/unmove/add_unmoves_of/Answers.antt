@@ -1,4 +1,4 @@
-use Rattle.std.proofs.Common.{arith, refl}
+use Rattle.std.proofs.Common.{arith, refl, ◌∙◌}
 use Rattle.study_moves.proofs.LastMoves.{gathering_begins, gathered_more, gathering_ends, few_end, next_below}
 use Rattle.study_moves.proofs.unmove.add_unmoves_of.Goals as goal
 
@@ -19,8 +19,8 @@ loop-rest-smaller c =
     omega (arith, c.number-next.ensures.value, f.inside)
 
 pub returns-clause-more : goal.returns-clause-more
-returns-clause-more c = gathering_ends c.args.man.now c.origins-rest.result c.args.q.now c.origins-rest.ensures _ _
-    _ _ _ _ c.loop-rest.invariant c.loop-rest-test.false
+returns-clause-more c = gathering_ends c.args.man.now c.origins-rest.result c.args.q.now
+    (λ a la. c.origins-rest.ensures a la ∙ rw (c.men.ensures.value, c.to_move.ensures) refl) _ _ _ _ _ _ c.loop-rest.invariant c.loop-rest-test.false
 
 pub returns-clause-few : goal.returns-clause-few
 returns-clause-few c = few_end c.args.man.now c.origins-rest.result _ _ _ _ _ _ c.loop-rest.invariant
