@@ -22,3 +22,4 @@ pub mod ToldKings
 pub mod SteppedNumbers
 pub mod MovedNumbers
 pub mod AddedNumbers
+pub mod LeastImages

@@ -1,4 +1,7 @@
 -- The number of the men that another number tells, of whom one has moved.
+use Rattle.std.specs.List.Sorted.{IsPermutation}
+use Rattle.study_board.specs.Position.{IsValid}
+use Rattle.study_moves.specs.EnPassant.{has_legal_en_passant}
 use Rattle.std.proofs.Common.{◌≡◌, ℕ, ◌==◌, ◌≤◌, Bool, true, false, cond, List, [], ◌∷◌, map, Option, Some, refl, sym, ◌∙◌, subst, ap}
 use Rattle.study_board.specs.declared.men.Side.{Side}
 use Rattle.study_board.specs.declared.men.Man.{Man}
@@ -51,6 +54,26 @@ IsInSlots-kept x a (m ∷ ms) h = (
   IsInSlots-kept x a ms h.1,
 )
 
+-- the least number of men in the order of the slots of a class is the index of their position
+pub least_index : (c : Class) (p : Position) (men : List Man) (side : Side) (r : Option ℕ) → IsValid p → IsPermutation p.men men
+    → map slot_filled men ≡ slots_of c → IsInSlots false men → p.to_move ≡ side → has_legal_en_passant p ≡ false
+    → r ≡ least_of (slots_have_pawn (slots_of c)) side false men → r ≡ Some (index_of p)
+least_index c p men side r valid same filled in_slots to_move dead e =
+    let slots = slots_of c in
+    let pawns = slots_have_pawn slots in
+    let unswapped : is_swapped p.men ≡ false = ap (λ k. is_exchanged k) (lists-filled c p.men men same filled) ∙ class_in_order c in
+    let fills : IsFilling false p.men men = record { each_once = same; in_slots = in_slots } in
+    let with_pawn : has_pawn p.men ≡ pawns = has_pawn-slots p.men men slots same filled in
+    let found =
+    least_is p men r valid (subst (λ w. IsFilling w p.men men) (sym unswapped) fills)
+    (e ∙ as_is (is_swapped p.men) (has_pawn p.men) pawns p.to_move side men unswapped with_pawn to_move) in
+    found.1 ∙ ap (λ (k : ℕ). Some k)
+    (index_of-only p found.0 valid (record { number = found.0; least = found.2; is = ap (λ w. with_bit w found.0) (sym dead) }))
+  where
+    as_is : (w h g : Bool) (y z : Side) (men : List Man) → w ≡ false → h ≡ g → y ≡ z
+        → least_of g z false men ≡ least_of h (turned_side w y) w men
+    as_is w h g y z men e f k = rw (e, f, k) refl
+
 -- the least number of the men that a number tells, one of them on another square, is the index of their position
 pub moved_number : (c : Class) (n x a : ℕ) (p : Position) (r : Option ℕ) → IsMoved c n x a p
     → r ≡ least_of (slots_have_pawn (slots_of c)) (other_side (told_side (slots_of c) (without_bit n))) false
@@ -62,17 +85,5 @@ moved_number c n x a p r t e =
     let men = map (from_to x a) told in
     let s = AreSlots-class c in
     let pawns = slots_have_pawn slots in
-    let side : Side = other_side (told_side slots b) in
-    let filled : map slot_filled men ≡ slots = slots_kept x a told ∙ filled-men_of pawns slots b s in
-    let unswapped : is_swapped p.men ≡ false = ap (λ k. is_exchanged k) (lists-filled c p.men men t.men filled) ∙ class_in_order c in
-    let fills : IsFilling false p.men men = record { each_once = t.men; in_slots = IsInSlots-kept x a told (IsInSlots-men_of pawns slots b s) } in
-    let with_pawn : has_pawn p.men ≡ pawns = has_pawn-slots p.men men slots t.men filled in
-    let found =
-    least_is p men r t.valid (subst (λ w. IsFilling w p.men men) (sym unswapped) fills)
-    (e ∙ as_is (is_swapped p.men) (has_pawn p.men) pawns p.to_move side men unswapped with_pawn t.to_move) in
-    found.1 ∙ ap (λ (k : ℕ). Some k)
-    (index_of-only p found.0 t.valid (record { number = found.0; least = found.2; is = ap (λ w. with_bit w found.0) (sym t.dead) }))
-  where
-    as_is : (w h g : Bool) (y z : Side) (men : List Man) → w ≡ false → h ≡ g → y ≡ z
-        → least_of g z false men ≡ least_of h (turned_side w y) w men
-    as_is w h g y z men e f k = rw (e, f, k) refl
+    least_index c p men (other_side (told_side slots b)) r t.valid t.men (slots_kept x a told ∙ filled-men_of pawns slots b s)
+    (IsInSlots-kept x a told (IsInSlots-men_of pawns slots b s)) t.to_move t.dead e

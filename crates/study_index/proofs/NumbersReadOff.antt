@@ -30,7 +30,7 @@ abbrev pub is_number : ℕ → Option ℕ → Bool
 is_number q None = false
 is_number q (Some r) = r == q
 
-is_number-true : (q : ℕ) (o : Option ℕ) → is_number q o ≡ true → o ≡ Some q
+pub is_number-true : (q : ℕ) (o : Option ℕ) → is_number q o ≡ true → o ≡ Some q
 is_number-true q None e = absurd (false≢true e)
 is_number-true q (Some r) e = ap (λ x. Some x) (let d : r ≡ q = grind (arith, nat_tests) in d)
 
@@ -162,12 +162,12 @@ side_back h e =
     [ true ↦ λ d. (let z : h ≡ 0 = grind (arith, nat_tests) in sym z) | false ↦ λ d. (let z : h ≡ 1 = grind (arith, nat_tests) in sym z) ]
     in go (eqb h 0) refl
 
-head_back : (pawns : Bool) (h : ℕ) → nat_lt (h / listed_count pawns) 2 ≡ true
+pub head_back : (pawns : Bool) (h : ℕ) → nat_lt (h / listed_count pawns) 2 ≡ true
     → side_number (side_numbered (h / listed_count pawns)) * listed_count pawns + h % listed_count pawns ≡ h
 head_back true h e = (let s = side_back (h / 32) e in omega (arith, s))
 head_back false h e = (let s = side_back (h / 10) e in omega (arith, s))
 
-place-king : (pawns : Bool) (h : ℕ) → place pawns ((listed_square pawns (h % listed_count pawns))) ≡ Some (h % listed_count pawns)
+pub place-king : (pawns : Bool) (h : ℕ) → place pawns ((listed_square pawns (h % listed_count pawns))) ≡ Some (h % listed_count pawns)
 place-king true h = place-listed true (h % 32) (omega arith)
 place-king false h = place-listed false (h % 10) (omega arith)
 

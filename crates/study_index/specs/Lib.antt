@@ -9,3 +9,4 @@ pub mod Moved
 pub mod Squares
 pub mod Stepped
 pub mod Weights
+pub mod LeastImage

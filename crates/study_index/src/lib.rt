@@ -11,6 +11,7 @@ mod en_passant;
 mod filling;
 mod laws;
 mod least;
+mod least_image;
 mod moved;
 mod number;
 mod reading;
@@ -23,5 +24,5 @@ pub use laws::{
     positions_have_an_index,
 };
 pub use least::index;
-pub use moved::number_moved;
+pub use moved::{number_moved, number_stepped};
 pub use reading::{Setup, told};

@@ -4,15 +4,17 @@ ghost use Rattle.study_board.specs.declared.men.Man.{Man as AMan};
 ghost use Rattle.study_board.specs.Men.{other_side};
 ghost use Rattle.study_board.specs.Position.{Position as Seen};
 ghost use Rattle.study_index.specs.Canonical.{least_of};
-ghost use Rattle.study_index.specs.Decoded.{AreSlots, slots_of, slots_have_pawn, told_men, told_side};
+ghost use Rattle.study_index.specs.Decoded.{AreSlots, slots_of, slots_have_pawn, man, told_men, told_side};
 ghost use Rattle.study_index.specs.Computed.{index_of};
 ghost use Rattle.study_index.specs.Number.{cells_of};
-ghost use Rattle.study_index.specs.Stepped.{are_like_slots};
+ghost use Rattle.study_index.specs.Stepped.{are_like_slots, moved_to, IsStepped};
 ghost use Rattle.study_index.specs.Moved.{IsMoved, from_to};
 
 use crate::decoding::{Slot, has_pawn, head, king, man, side_numbered, slots};
 use crate::least::least_of;
+use crate::least_image::least_image;
 use crate::number::listed_count;
+use crate::reading::class_has_pawn;
 use crate::stepped::stepped;
 use study_board::{Man, Square};
 use study_material::Class;
@@ -64,16 +66,75 @@ fn least_moved(slots: &[Slot], n: u32, from: Square, to: Square) -> Option<u32>
     }
 }
 
-/// Whether one square of a number is replaced where a man other than the white king moves: a man is a pawn, and none are
-/// like.
+/// Whether the last two slots of the class are those of like men.
 #[inline]
-fn adds_up(class: Class) -> bool
-    ensures { IsTrue result → (slots_have_pawn (slots_of class) ≡ true) × (are_like_slots (slots_of class) ≡ false) }
+fn has_like_men(class: Class) -> bool
+    ensures { result ≡ are_like_slots (slots_of class) }
 {
     use Class::*;
     match class {
-        KPK | KQPK | KRPK | KBPK | KNPK | KQKP | KRKP | KBKP | KNKP | KPKP => true,
+        KQQK | KRRK | KBBK | KNNK | KPPK => true,
         _ => false,
+    }
+}
+
+/// The least number of the men that a number tells, the white king put on `to` and the other side to move.
+#[inline(always)]
+fn least_with_king_on(slots: &[Slot], pawns: bool, n: u32, to: Square) -> Option<u32>
+    requires slots { AreSlots slots.now }
+    requires pawns { pawns ≡ slots_have_pawn slots.now }
+    ensures { result ≡ least_of pawns (other_side (told_side slots.now n)) false (moved_to 0 to (told_men slots.now n)) }
+{
+    let side = side_numbered(head(slots, n) / listed_count(pawns)).other();
+    match slots {
+        [k, b] => {
+            let men = [man_on(k, to), man(b, n % 64)];
+            least_of(pawns, side, false, &men)
+        }
+        [k, b, x] => {
+            let men = [man_on(k, to), man(b, n / 64 % 64), man(x, n % 64)];
+            least_of(pawns, side, false, &men)
+        }
+        [k, b, x, y] => {
+            let black = man(b, n / 64 / 64 % 64);
+            let men = [man_on(k, to), black, man(x, n / 64 % 64), man(y, n % 64)];
+            least_of(pawns, side, false, &men)
+        }
+        _ => unreachable!(),
+    }
+}
+
+#[inline]
+fn man_on(slot: &Slot, at: Square) -> Man
+    ensures { result ≡ man slot.now at }
+{
+    Man {
+        side: slot.side,
+        kind: slot.kind,
+        at,
+    }
+}
+
+/// The number of the position with the men of another number, the man of a slot, the first at 0, put on `to` and the other
+/// side to move, where no capture in passing is legal. Forwards it is the number after a move that takes no man and
+/// promotes none; backwards, the number before it.
+#[inline]
+pub fn number_stepped(class: Class, number: u32, slot: u32, to: Square) -> u32
+    requires cell { number < cells_of class }
+    requires slot { slot < length (slots_of class) }
+    ensures { (p : Seen) → IsStepped class number slot to p → index_of p ≡ result }
+{
+    let slots = slots(class);
+    let pawns = class_has_pawn(class);
+    let n = number % 16_777_216;
+    if slot == 0 {
+        match least_with_king_on(slots, pawns, n, to) {
+            Some(least) => least,
+            None => 0,
+        }
+    } else {
+        let moved = stepped(pawns, slots.len() as u32, n, slot, to);
+        least_image(pawns, has_like_men(class), slots, moved)
     }
 }
 
@@ -115,10 +176,8 @@ pub fn number_moved(class: Class, number: u32, from: Square, to: Square) -> u32
 {
     let slots = slots(class);
     let n = number % 16_777_216;
-    if adds_up(class) {
-        if let Some(slot) = slot_on(slots, n, from) {
-            return stepped(slots.len() as u32, n, slot, to);
-        }
+    if let Some(slot) = slot_on(slots, n, from) {
+        return number_stepped(class, number, slot, to);
     }
     match least_moved(slots, n, from, to) {
         Some(least) => least,

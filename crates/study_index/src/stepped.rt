@@ -1,34 +1,38 @@
 //! One square of a number replaced by another, with the other side to move.
-ghost use Rattle.std.specs.Prelude.{◌≡◌, ◌*◌, ◌<◌, ◌≤◌};
-ghost use Rattle.study_index.specs.Stepped.{side_turned, side_weight, stepped};
+ghost use Rattle.std.specs.Prelude.{◌≡◌, ◌*◌, ◌^◌, ◌-◌, ◌<◌, ◌≤◌};
+ghost use Rattle.study_index.specs.Number.{listed_count};
+ghost use Rattle.study_index.specs.LeastImage.{turned_by, stepped_by};
 
 use study_board::Square;
 
 /// What the side to move counts in a number of two, three or four slots.
 #[inline]
-fn side_weight(count: u32) -> u32
+fn side_weight(pawns: bool, count: u32) -> u32
     requires few { 2 ≤ count }
     requires many { count ≤ 4 }
-    ensures value { result ≡ side_weight count }
+    ensures value { result ≡ listed_count pawns * 64 ^ (count - 1) }
     ensures small { result ≤ 8388608 }
 {
-    match count {
-        2 => 2_048,
-        3 => 131_072,
-        _ => 8_388_608,
+    match (pawns, count) {
+        (true, 2) => 2_048,
+        (true, 3) => 131_072,
+        (true, _) => 8_388_608,
+        (false, 2) => 640,
+        (false, 3) => 40_960,
+        (false, _) => 2_621_440,
     }
 }
 
 /// The number with the other side to move.
 #[inline]
-fn side_turned(count: u32, number: u32) -> u32
+fn side_turned(pawns: bool, count: u32, number: u32) -> u32
     requires few { 2 ≤ count }
     requires many { count ≤ 4 }
     requires number { number < 16777216 }
-    ensures value { result ≡ side_turned count number }
+    ensures value { result ≡ turned_by (listed_count pawns) count number }
     ensures small { result < 25165824 }
 {
-    let weight = side_weight(count);
+    let weight = side_weight(pawns, count);
     if number < weight {
         number + weight
     } else {
@@ -38,16 +42,17 @@ fn side_turned(count: u32, number: u32) -> u32
 
 /// The same with the man of a slot on another square.
 #[inline]
-#[tactic(auto, unfolding(crate::specs::Stepped::stepped))]
-pub fn stepped(count: u32, number: u32, slot: u32, to: Square) -> u32
+#[tactic(auto, unfolding(crate::specs::LeastImage::stepped_by))]
+pub fn stepped(pawns: bool, count: u32, number: u32, slot: u32, to: Square) -> u32
     requires few { 2 ≤ count }
     requires many { count ≤ 4 }
     requires number { number < 16777216 }
     requires after { 1 ≤ slot }
     requires slot { slot < count }
-    ensures { result ≡ stepped count number slot to }
+    ensures value { result ≡ stepped_by (listed_count pawns) count number slot to }
+    ensures small { result < 67108864 }
 {
-    let turned = side_turned(count, number);
+    let turned = side_turned(pawns, count, number);
     let to = u32::from(to.number());
     match count - 1 - slot {
         0 => (turned + to).saturating_sub(number % 64),

@@ -6,21 +6,18 @@ use Rattle.study_index.specs.Number.{without_bit}
 use Rattle.study_index.specs.Canonical.{least_of}
 use Rattle.study_index.specs.Decoded.{slots_have_pawn, told_men, told_side}
 use Rattle.study_index.specs.Moved.{from_to}
-use Rattle.study_index.specs.Stepped.{stepped}
 use Rattle.study_index.proofs.MovedNumbers.{moved_number}
-use Rattle.study_index.proofs.AddedNumbers.{added_number}
+use Rattle.study_index.proofs.AddedNumbers.{IsStepped-moved}
 use Rattle.study_index.proofs.moved.number_moved.Goals as goal
 
 pub returns-in-Some : goal.returns-in-Some
 returns-in-Some c = λ p t.
     let a = c.args in
     let is = c.slots-slots.ensures in
-    let added = c.adds_up.ensures c.if-adds_up.true in
     let there = c.in-Some.ensures in
     let few = subst (λ (ss : List Slot). c.in-Some.slot < length ss) is there.1 in
     let stands = subst (λ (ss : List Slot). (d : Man) → (slice_index_or (told_men ss (without_bit a.number)) c.in-Some.slot d).at ≡ a.from) is there.2 in
-    added_number a.class a.number c.in-Some.slot a.from a.to p added.0 added.1 c.requires there.0 few stands t
-    ∙ (ap (λ (ss : List Slot). stepped (length ss) (without_bit a.number) c.in-Some.slot a.to) (sym is) ∙ sym c.stepped.ensures)
+    c.number_stepped.ensures p (IsStepped-moved a.class a.number c.in-Some.slot a.from a.to p few stands t)
 
 pub returns-in-Some-least_moved : goal.returns-in-Some-least_moved
 returns-in-Some-least_moved c = λ p t.

@@ -1,0 +1,46 @@
+-- Not part of any public contract: the least number of the men that a number tells, by its squares in base 64.
+use Rattle.std.specs.Prelude.{ℕ, ◌+◌, ◌-◌, ◌*◌, ◌/◌, ◌%◌, ◌^◌, Bool, not, ◌&&◌, ◌||◌, ◌==◌, nat_lt, List, [], ◌∷◌, if◌then◌else◌}
+use Rattle.study_index.specs.declared.decoding.Slot.{Slot}
+use Rattle.study_index.specs.Decoded.{head}
+use Rattle.study_index.specs.Stepped.{square_weight, square_told}
+
+-- a square with its file and its rank exchanged
+abbrev pub across : ℕ → ℕ
+across x = 8 * (x % 8) + x / 8
+
+-- the number with each square after the first turned so
+unfoldable pub turned_across : List Slot → ℕ → ℕ
+turned_across (k ∷ b ∷ []) n = n / 64 * 64 + across (n % 64)
+turned_across (k ∷ b ∷ x ∷ []) n = (n / 64 / 64 * 64 + across (n / 64 % 64)) * 64 + across (n % 64)
+turned_across (k ∷ b ∷ x ∷ y ∷ []) n =
+    ((n / 64 / 64 / 64 * 64 + across (n / 64 / 64 % 64)) * 64 + across (n / 64 % 64)) * 64 + across (n % 64)
+turned_across slots n = n
+
+-- the last two squares exchanged
+unfoldable pub exchanged : ℕ → ℕ
+exchanged n = (n / 64 / 64 * 64 + n % 64) * 64 + n / 64 % 64
+
+-- the last two squares in ascending order, where they are those of like men
+unfoldable pub ascending_if : Bool → ℕ → ℕ
+ascending_if like n = if like && nat_lt (n % 64) (n / 64 % 64) then exchanged n else n
+
+abbrev pub lesser : ℕ → ℕ → ℕ
+lesser x y = if nat_lt y x then y else x
+
+-- the places of a1, b2, c3 and d4
+abbrev pub is_on_diagonal : ℕ → Bool
+is_on_diagonal q = (q == 0) || (q == 4) || (q == 7) || (q == 9)
+
+-- the least number of the men that n tells
+unfoldable pub least_image : Bool → Bool → List Slot → ℕ → ℕ
+least_image pawns like slots n =
+    if not pawns && is_on_diagonal (head slots n % 10) then lesser (ascending_if like n) (ascending_if like (turned_across slots n))
+    else ascending_if like n
+
+-- one square of a number replaced, with the other side to move, where the white king has so many places
+abbrev pub turned_by : ℕ → ℕ → ℕ → ℕ
+turned_by places count n =
+    if nat_lt n (places * 64 ^ (count - 1)) then n + places * 64 ^ (count - 1) else n - places * 64 ^ (count - 1)
+
+unfoldable pub stepped_by : ℕ → ℕ → ℕ → ℕ → ℕ → ℕ
+stepped_by places count n i a = turned_by places count n + a * square_weight count i - square_told count i n * square_weight count i
