@@ -1,5 +1,6 @@
 //! The men and the side to move that a number tells, whether or not it has a position.
-ghost use Rattle.std.specs.Prelude.{◌≡◌, ◌/◌, ◌%◌};
+ghost use Rattle.std.specs.Prelude.{◌≡◌, ◌/◌, ◌%◌, length};
+ghost use Rattle.arrayvec.specs.ArrayVec.{array_vec_len};
 ghost use Rattle.study_index.specs.Number.{listed_count, without_bit};
 ghost use Rattle.study_index.specs.Decoded.{AreSlots, slots_of, slots_have_pawn, man, head, listed_square, side_numbered, told_men, told_side};
 
@@ -56,6 +57,7 @@ fn side_told(pawns: bool, head: u32) -> Side
 #[inline]
 pub fn told(class: Class, number: u32) -> Setup
     ensures men { result.men.items ≡ told_men (slots_of class) (without_bit number) }
+    ensures many { array_vec_len result.men ≡ length (slots_of class) }
     ensures to_move { result.to_move ≡ told_side (slots_of class) (without_bit number) }
 {
     let slots = slots(class);
@@ -70,6 +72,7 @@ fn told_by(slots: &[Slot], pawns: bool, n: u32) -> Setup
     requires slots { AreSlots slots.now }
     requires pawns { pawns ≡ slots_have_pawn slots.now }
     ensures men { result.men.items ≡ told_men slots.now n }
+    ensures many { array_vec_len result.men ≡ length slots.now }
     ensures to_move { result.to_move ≡ told_side slots.now n }
 {
     let mut men = ArrayVec::new();
