@@ -29,7 +29,7 @@ abbrev pub Unread : List Slot → ℕ → Bool → Type 0
 Unread s n b = IsFaulty (told_men s n) (told_side s n) (passed_behind b (told_side s n) (told_men s n))
     ⊎ (HasLeast (slots_have_pawn s) (told_side s n) n (told_men s n) → ⊥)
 
-a_cell : (c : Class) (n : ℕ) → n < cells_of c → is_cell (slots_of c) (without_bit n) ≡ true
+pub a_cell : (c : Class) (n : ℕ) → n < cells_of c → is_cell (slots_of c) (without_bit n) ≡ true
 a_cell c n l = is_cell-below c (without_bit n) ∙ test (without_bit n) (numbers_of c) (number_below c n l)
   where
     test : (m k : ℕ) → m < k → nat_lt m k ≡ true

@@ -1,5 +1,5 @@
 -- The men that a number tells are few, and each side has one king among them.
-use Rattle.std.proofs.Common.{◌≡◌, ℕ, ◌<◌, ◌≤◌, ◌&&◌, Bool, true, false, cond, List, [], ◌∷◌, length, slice_index_or, refl, arith}
+use Rattle.std.proofs.Common.{◌≡◌, ℕ, ◌/◌, ◌%◌, ◌<◌, ◌&&◌, Bool, true, false, cond, List, [], ◌∷◌, refl, arith}
 use Rattle.std.specs.List.{count_by}
 use Rattle.study_board.specs.declared.men.Side.{Side}
 use Rattle.study_board.specs.declared.men.Side.TheVariants.{White, Black}
@@ -11,7 +11,7 @@ use Rattle.study_board.specs.Position.{has_one_king}
 use Rattle.study_board.proofs.Lists.{count_by-cons}
 use Rattle.study_index.specs.declared.decoding.Slot.{Slot}
 use Rattle.study_index.specs.Filling.{slot_number}
-use Rattle.study_index.specs.Decoded.{number_of_slot, AreSlots, man}
+use Rattle.study_index.specs.Decoded.{number_of_slot, AreSlots, man, told_men}
 
 white_king : (side : Side) (kind : Kind) → slot_number side kind ≡ 0 → (side ≡ White) × (kind ≡ King)
 white_king White King e = (refl, refl)
@@ -59,19 +59,19 @@ never : (b : Bool) (x y : ℕ) → cond (b && false) x y ≡ y
 never true x y = refl
 never false x y = refl
 
-pub NoKings : List Man → Type 0
+NoKings : List Man → Type 0
 NoKings men = (side : Side) → count_by (is_man side King) men ≡ 0
 
-pub NoKings-further : (s : Slot) (x : ℕ) (men : List Man) → 1 < number_of_slot s → NoKings men → NoKings (man s x ∷ men)
+NoKings-further : (s : Slot) (x : ℕ) (men : List Man) → 1 < number_of_slot s → NoKings men → NoKings (man s x ∷ men)
 unfolding NoKings
 NoKings-further s x men h none side =
     rw (count_by-cons (is_man side King) (man s x) men, none side, no_king s.side s.kind h) (rw (never (same_side s.side side) 1 0) refl)
 
-pub NoKings-none : NoKings []
+NoKings-none : NoKings []
 unfolding NoKings
 NoKings-none side = refl
 
-pub kings : (k b : Slot) (x y : ℕ) (men : List Man) → number_of_slot k ≡ 0 → number_of_slot b ≡ 1 → NoKings men
+kings : (k b : Slot) (x y : ℕ) (men : List Man) → number_of_slot k ≡ 0 → number_of_slot b ≡ 1 → NoKings men
     → (has_one_king (man k x ∷ man b y ∷ men) White && has_one_king (man k x ∷ man b y ∷ men) Black) ≡ true
 unfolding NoKings has_one_king
 kings k b x y men hk hb none =
@@ -88,35 +88,13 @@ kings k b x y men hk hb none =
       (black_king b.side b.kind hb).1,
     ) refl
 
--- the first two slots are those of the kings, and no other is
-pub first_slot : (slots : List Slot) (d : Slot) → AreSlots slots → number_of_slot (slice_index_or slots 0 d) ≡ 0
-first_slot [] d h = elim h [ ]
-first_slot (k ∷ []) d h = elim h [ ]
-first_slot (k ∷ b ∷ []) d h = h.0
-first_slot (k ∷ b ∷ x ∷ []) d h = h.0
-first_slot (k ∷ b ∷ x ∷ y ∷ []) d h = h.0
-first_slot (k ∷ b ∷ x ∷ y ∷ _ ∷ _) d h = elim h [ ]
-
-pub second_slot : (slots : List Slot) (d : Slot) → AreSlots slots → number_of_slot (slice_index_or slots 1 d) ≡ 1
-second_slot [] d h = elim h [ ]
-second_slot (k ∷ []) d h = elim h [ ]
-second_slot (k ∷ b ∷ []) d h = h.1
-second_slot (k ∷ b ∷ x ∷ []) d h = h.1
-second_slot (k ∷ b ∷ x ∷ y ∷ []) d h = h.1
-second_slot (k ∷ b ∷ x ∷ y ∷ _ ∷ _) d h = elim h [ ]
-
-pub third_slot : (slots : List Slot) (d : Slot) → AreSlots slots → 3 ≤ length slots → 1 < number_of_slot (slice_index_or slots 2 d)
-third_slot [] d h few = elim h [ ]
-third_slot (k ∷ []) d h few = elim h [ ]
-third_slot (k ∷ b ∷ []) d h few = absurd (omega (arith, few))
-third_slot (k ∷ b ∷ x ∷ []) d h few = h.2
-third_slot (k ∷ b ∷ x ∷ y ∷ []) d h few = h.2
-third_slot (k ∷ b ∷ x ∷ y ∷ _ ∷ _) d h few = elim h [ ]
-
-pub fourth_slot : (slots : List Slot) (d : Slot) → AreSlots slots → 4 ≤ length slots → 1 < number_of_slot (slice_index_or slots 3 d)
-fourth_slot [] d h few = elim h [ ]
-fourth_slot (k ∷ []) d h few = elim h [ ]
-fourth_slot (k ∷ b ∷ []) d h few = absurd (omega (arith, few))
-fourth_slot (k ∷ b ∷ x ∷ []) d h few = absurd (omega (arith, few))
-fourth_slot (k ∷ b ∷ x ∷ y ∷ []) d h few = omega (arith, h.2, h.3)
-fourth_slot (k ∷ b ∷ x ∷ y ∷ _ ∷ _) d h few = elim h [ ]
+-- the men that a number tells have one king of each side
+pub told_kings : (slots : List Slot) (n : ℕ) → AreSlots slots → (has_one_king (told_men slots n) White && has_one_king (told_men slots n) Black) ≡ true
+told_kings (k ∷ b ∷ []) n a = kings k b _ _ [] a.0 a.1 NoKings-none
+told_kings (k ∷ b ∷ x ∷ []) n a = kings k b _ _ (man x (n % 64) ∷ []) a.0 a.1 (NoKings-further x (n % 64) [] a.2 NoKings-none)
+told_kings (k ∷ b ∷ x ∷ y ∷ []) n a =
+    kings k b _ _ (man x (n / 64 % 64) ∷ man y (n % 64) ∷ []) a.0 a.1
+    (NoKings-further x (n / 64 % 64) (man y (n % 64) ∷ []) a.2 (NoKings-further y (n % 64) [] (omega (arith, a.2, a.3)) NoKings-none))
+told_kings [] n a = absurd a
+told_kings (k ∷ []) n a = absurd a
+told_kings (k ∷ b ∷ x ∷ y ∷ z ∷ fs) n a = absurd a

@@ -7,12 +7,14 @@ ghost use Rattle.study_index.specs.Number.{listed_count, cells_of};
 ghost use Rattle.study_index.specs.Computed.{position_numbered};
 ghost use Rattle.study_index.specs.Decoded.{IsDecoded, AreSlots, slots_of, listed_square, slots_have_pawn};
 ghost use Rattle.study_index.specs.Decoded.{man, head, side_numbered, told_men, told_side, square_behind_pawn};
-ghost use Rattle.study_index.specs.Decoded.{passed_behind, IsPlaced, IsFaulty, HasLeast};
+ghost use Rattle.study_index.specs.Decoded.{passed_behind, is_cell, IsPlaced, IsFaulty, HasLeast};
+ghost use Rattle.study_index.specs.Stepped.{are_like_slots};
 ghost use Rattle.study_board.specs.Men.{other_side};
 
 use crate::en_passant::{has_legal_en_passant, square_behind_pawn};
-use crate::least::least_of;
+use crate::least_image::least_image;
 use crate::number::listed_count;
+use crate::reading::{class_has_pawn, has_like_men, told_by};
 use study_board::{Kind, Man, Position, Side, Square, has_fault, in_order};
 use study_material::Class;
 
@@ -21,13 +23,6 @@ use study_material::Class;
 pub struct Slot {
     pub side: Side,
     pub kind: Kind,
-}
-
-#[inline]
-pub fn has_pawn(slots: &[Slot]) -> bool
-    ensures { result ≡ slots_have_pawn slots.now }
-{
-    slots.iter().any(|s| s.kind.is(Kind::Pawn))
 }
 
 #[inline]
@@ -62,17 +57,6 @@ pub fn man(slot: &Slot, square: u32) -> Man
     }
 }
 
-#[inline]
-pub fn king(pawns: bool, slot: &Slot, head: u32) -> Man
-    ensures { result ≡ man slot.now (listed_square pawns (head % listed_count pawns)) }
-{
-    Man {
-        side: slot.side,
-        kind: slot.kind,
-        at: listed_square(pawns, head % listed_count(pawns)),
-    }
-}
-
 /// The number without the squares of the slots after the first.
 #[inline]
 pub fn head(slots: &[Slot], n: u32) -> u32
@@ -84,13 +68,6 @@ pub fn head(slots: &[Slot], n: u32) -> u32
         [_, _, _, _] => n / 64 / 64 / 64,
         _ => n,
     }
-}
-
-#[inline]
-pub fn side_numbered(n: u32) -> Side
-    ensures { result ≡ side_numbered n }
-{
-    if n == 0 { Side::White } else { Side::Black }
 }
 
 /// The position of these men, if they are one.
@@ -126,40 +103,43 @@ fn position_with_passed(men: &[Man], to_move: Side) -> Option<Position>
     }
 }
 
-/// Whether `n` is the least number of these men, who stand in the order of their slots.
-#[inline(always)]
-fn is_least(pawns: bool, to_move: Side, n: u32, men: &[Man]) -> bool
-    requires { length men.now ≤ 4 }
-    ensures { IsTrue result ↔ HasLeast pawns to_move n men.now }
-{
-    match least_of(pawns, to_move, false, men) {
-        Some(least) => least == n,
-        None => false,
-    }
-}
-
-/// The position of these men, if they are one and `n` is their least number.
-#[inline(always)]
-fn numbered(pawns: bool, to_move: Side, n: u32, passed: bool, men: &[Man]) -> Option<Position>
+/// The position of these men, if they are one, with a passed square or without.
+#[inline]
+fn position_if(men: &[Man], to_move: Side, passed: bool) -> Option<Position>
     requires few { length men.now ≤ 4 }
     requires kings { (has_one_king men.now White && has_one_king men.now Black) ≡ true }
-    ensures some { IfSome result (λ q. IsPlaced men.now to_move (passed_behind passed to_move men.now) q × HasLeast pawns to_move n men.now) }
-    ensures none { IfNone result (IsFaulty men.now to_move (passed_behind passed to_move men.now) ⊎ (HasLeast pawns to_move n men.now → ⊥)) }
+    ensures some { IfSome result (λ q. IsPlaced men.now to_move (passed_behind passed to_move men.now) q) }
+    ensures none { IfNone result (IsFaulty men.now to_move (passed_behind passed to_move men.now)) }
 {
-    if !is_least(pawns, to_move, n, men) {
-        None
-    } else if passed {
+    if passed {
         position_with_passed(men, to_move)
     } else {
         valid_position(men, to_move, None)
     }
 }
 
+/// Whether the number is the least of the men that it tells.
+#[inline]
+fn is_least(slots: &[Slot], pawns: bool, like: bool, n: u32) -> bool
+    requires slots { AreSlots slots.now }
+    requires pawns { pawns ≡ slots_have_pawn slots.now }
+    requires like { like ≡ are_like_slots slots.now }
+    requires cell { is_cell slots.now n ≡ true }
+    requires small { n < 16777216 }
+    ensures { IsTrue result ↔ HasLeast (slots_have_pawn slots.now) (told_side slots.now n) n (told_men slots.now n) }
+{
+    least_image(pawns, like, slots, n) == n
+}
+
 /// The position of the men and the side that the number tells, if they are one and the number is their least, with a
 /// passed square or without.
-#[inline(always)]
-fn decode_slots(slots: &[Slot], n: u32, passed: bool) -> Option<Position>
-    requires { AreSlots slots.now }
+#[inline]
+fn decode_slots(slots: &[Slot], pawns: bool, like: bool, n: u32, passed: bool) -> Option<Position>
+    requires slots { AreSlots slots.now }
+    requires pawns { pawns ≡ slots_have_pawn slots.now }
+    requires like { like ≡ are_like_slots slots.now }
+    requires cell { is_cell slots.now n ≡ true }
+    requires small { n < 16777216 }
     ensures some { IfSome result
         (λ q. IsPlaced (told_men slots.now n) (told_side slots.now n)
         (passed_behind passed (told_side slots.now n) (told_men slots.now n)) q
@@ -169,31 +149,11 @@ fn decode_slots(slots: &[Slot], n: u32, passed: bool) -> Option<Position>
         (passed_behind passed (told_side slots.now n) (told_men slots.now n))
         ⊎ (HasLeast (slots_have_pawn slots.now) (told_side slots.now n) n (told_men slots.now n) → ⊥)) }
 {
-    let pawns = has_pawn(slots);
-    let side = side_numbered(head(slots, n) / listed_count(pawns));
-    match slots {
-        [k, b] => {
-            let men = [king(pawns, k, n / 64), man(b, n % 64)];
-            numbered(pawns, side, n, passed, &men)
-        }
-        [k, b, x] => {
-            let black = man(b, n / 64 % 64);
-            let men = [king(pawns, k, n / 64 / 64), black, man(x, n % 64)];
-            numbered(pawns, side, n, passed, &men)
-        }
-        [k, b, x, y] => {
-            let black = man(b, n / 64 / 64 % 64);
-            let further = man(x, n / 64 % 64);
-            let men = [
-                king(pawns, k, n / 64 / 64 / 64),
-                black,
-                further,
-                man(y, n % 64),
-            ];
-            numbered(pawns, side, n, passed, &men)
-        }
-        _ => unreachable!(),
+    if !is_least(slots, pawns, like, n) {
+        return None;
     }
+    let setup = told_by(slots, pawns, n);
+    position_if(setup.men.as_slice(), setup.to_move, passed)
 }
 
 /// How many cells there are for positions of the class.
@@ -219,7 +179,8 @@ fn decode_plain(class: Class, n: u32) -> Option<Position>
     ensures some { IfSome result (IsDecoded class n) }
     ensures none { IfNone result ((q : Seen) → IsDecoded class n q → ⊥) }
 {
-    decode_slots(slots(class), n, false)
+    let (slots, pawns) = (slots(class), class_has_pawn(class));
+    decode_slots(slots, pawns, has_like_men(class), n, false)
 }
 
 /// The position of a number with the bit: one in which a capture in passing is legal.
@@ -229,7 +190,8 @@ fn decode_en_passant(class: Class, n: u32) -> Option<Position>
     ensures some { IfSome result (IsDecoded class n) }
     ensures none { IfNone result ((q : Seen) → IsDecoded class n q → ⊥) }
 {
-    match decode_slots(slots(class), n - 16_777_216, true) {
+    let (slots, pawns) = (slots(class), class_has_pawn(class));
+    match decode_slots(slots, pawns, has_like_men(class), n - 16_777_216, true) {
         None => None,
         Some(q) => if has_legal_en_passant(&q) {
             Some(q)

@@ -10,11 +10,10 @@ ghost use Rattle.study_index.specs.Number.{cells_of};
 ghost use Rattle.study_index.specs.Stepped.{are_like_slots, moved_to, IsStepped};
 ghost use Rattle.study_index.specs.Moved.{IsMoved, from_to};
 
-use crate::decoding::{Slot, has_pawn, head, king, man, side_numbered, slots};
+use crate::decoding::{Slot, head, man, slots};
 use crate::least::least_of;
 use crate::least_image::least_image;
-use crate::number::listed_count;
-use crate::reading::class_has_pawn;
+use crate::reading::{class_has_pawn, has_like_men, king_told, side_told};
 use crate::stepped::stepped;
 use study_board::{Man, Square};
 use study_material::Class;
@@ -37,44 +36,32 @@ fn put(man: Man, from: Square, to: Square) -> Man
 
 /// The least number of the men that a number tells, the man on `from` put on `to` and the other side to move.
 #[inline(always)]
-fn least_moved(slots: &[Slot], n: u32, from: Square, to: Square) -> Option<u32>
-    requires { AreSlots slots.now }
-    ensures { result ≡ least_of (slots_have_pawn slots.now) (other_side (told_side slots.now n)) false (map (from_to from to) (told_men slots.now n)) }
+fn least_moved(slots: &[Slot], pawns: bool, n: u32, from: Square, to: Square) -> Option<u32>
+    requires slots { AreSlots slots.now }
+    requires pawns { pawns ≡ slots_have_pawn slots.now }
+    ensures { result ≡ least_of pawns (other_side (told_side slots.now n)) false (map (from_to from to) (told_men slots.now n)) }
 {
-    let pawns = has_pawn(slots);
-    let side = side_numbered(head(slots, n) / listed_count(pawns)).other();
+    let side = side_told(pawns, head(slots, n)).other();
     match slots {
         [k, b] => {
-            let white = put(king(pawns, k, n / 64), from, to);
+            let white = put(king_told(pawns, k, n / 64), from, to);
             let men = [white, put(man(b, n % 64), from, to)];
             least_of(pawns, side, false, &men)
         }
         [k, b, x] => {
-            let white = put(king(pawns, k, n / 64 / 64), from, to);
+            let white = put(king_told(pawns, k, n / 64 / 64), from, to);
             let black = put(man(b, n / 64 % 64), from, to);
             let men = [white, black, put(man(x, n % 64), from, to)];
             least_of(pawns, side, false, &men)
         }
         [k, b, x, y] => {
-            let white = put(king(pawns, k, n / 64 / 64 / 64), from, to);
+            let white = put(king_told(pawns, k, n / 64 / 64 / 64), from, to);
             let black = put(man(b, n / 64 / 64 % 64), from, to);
             let further = put(man(x, n / 64 % 64), from, to);
             let men = [white, black, further, put(man(y, n % 64), from, to)];
             least_of(pawns, side, false, &men)
         }
         _ => unreachable!(),
-    }
-}
-
-/// Whether the last two slots of the class are those of like men.
-#[inline]
-fn has_like_men(class: Class) -> bool
-    ensures { result ≡ are_like_slots (slots_of class) }
-{
-    use Class::*;
-    match class {
-        KQQK | KRRK | KBBK | KNNK | KPPK => true,
-        _ => false,
     }
 }
 
@@ -85,7 +72,7 @@ fn least_with_king_on(slots: &[Slot], pawns: bool, n: u32, to: Square) -> Option
     requires pawns { pawns ≡ slots_have_pawn slots.now }
     ensures { result ≡ least_of pawns (other_side (told_side slots.now n)) false (moved_to 0 to (told_men slots.now n)) }
 {
-    let side = side_numbered(head(slots, n) / listed_count(pawns)).other();
+    let side = side_told(pawns, head(slots, n)).other();
     match slots {
         [k, b] => {
             let men = [man_on(k, to), man(b, n % 64)];
@@ -179,7 +166,7 @@ pub fn number_moved(class: Class, number: u32, from: Square, to: Square) -> u32
     if let Some(slot) = slot_on(slots, n, from) {
         return number_stepped(class, number, slot, to);
     }
-    match least_moved(slots, n, from, to) {
+    match least_moved(slots, class_has_pawn(class), n, from, to) {
         Some(least) => least,
         None => 0,
     }

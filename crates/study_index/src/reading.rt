@@ -2,6 +2,7 @@
 ghost use Rattle.std.specs.Prelude.{◌≡◌, ◌/◌, ◌%◌, length};
 ghost use Rattle.arrayvec.specs.ArrayVec.{array_vec_len};
 ghost use Rattle.study_index.specs.Number.{listed_count, without_bit};
+ghost use Rattle.study_index.specs.Stepped.{are_like_slots};
 ghost use Rattle.study_index.specs.Decoded.{AreSlots, slots_of, slots_have_pawn, man, head, listed_square, side_numbered, told_men, told_side};
 
 use crate::decoding::{Slot, listed_square, man, slots};
@@ -28,10 +29,22 @@ pub fn class_has_pawn(class: Class) -> bool
     }
 }
 
+/// Whether the last two slots of the class are those of like men.
+#[inline]
+pub fn has_like_men(class: Class) -> bool
+    ensures { result ≡ are_like_slots (slots_of class) }
+{
+    use Class::*;
+    match class {
+        KQQK | KRRK | KBBK | KNNK | KPPK => true,
+        _ => false,
+    }
+}
+
 /// The white king on the square that the number without the other squares tells.
 #[inline]
 #[tactic(auto, unfolding(crate::specs::Decoded::listed_square))]
-fn king_told(pawns: bool, slot: &Slot, head: u32) -> Man
+pub fn king_told(pawns: bool, slot: &Slot, head: u32) -> Man
     ensures { result ≡ man slot.now (listed_square pawns (head % listed_count pawns)) }
 {
     Man {
@@ -43,7 +56,7 @@ fn king_told(pawns: bool, slot: &Slot, head: u32) -> Man
 
 /// The side to move by the number without the squares of the slots after the first.
 #[inline]
-fn side_told(pawns: bool, head: u32) -> Side
+pub fn side_told(pawns: bool, head: u32) -> Side
     ensures { result ≡ side_numbered (head / listed_count pawns) }
 {
     if head < if pawns { 32 } else { 10 } {
@@ -68,7 +81,7 @@ pub fn told(class: Class, number: u32) -> Setup
 
 /// The same by the slots of a class.
 #[inline]
-fn told_by(slots: &[Slot], pawns: bool, n: u32) -> Setup
+pub fn told_by(slots: &[Slot], pawns: bool, n: u32) -> Setup
     requires slots { AreSlots slots.now }
     requires pawns { pawns ≡ slots_have_pawn slots.now }
     ensures men { result.men.items ≡ told_men slots.now n }

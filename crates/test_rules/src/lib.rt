@@ -9,6 +9,8 @@ mod board;
 #[cfg(test)]
 mod index;
 #[cfg(test)]
+mod index_men;
+#[cfg(test)]
 mod index_samples;
 #[cfg(test)]
 mod material;
@@ -16,6 +18,8 @@ mod material;
 mod men;
 #[cfg(test)]
 mod moves;
+#[cfg(test)]
+mod moves_words;
 #[cfg(test)]
 mod notation;
 #[cfg(test)]
