@@ -1,11 +1,11 @@
 -- How the cells change within a level, step by step.
 use Rattle.std.proofs.Common.{◌≡◌, ◌≢◌, ℕ, zero, suc, [], ◌∷◌, ◌+◌, ◌<◌, ◌≤◌, ◌⊎◌, inl, inr, sym}
-use Rattle.std.proofs.Common.{◌∙◌, subst, arith, List, slice_index, length, get_or, take, Contains}
+use Rattle.std.proofs.Common.{◌∙◌, subst, arith, below_more, List, slice_index, slice_set, length, get_or, take, Contains}
 use Rattle.std.proofs.Common.{Option, Bool, true, false, not, IsTrue, ◌==◌, refl, ap}
 use Rattle.study_retro.specs.declared.value.Value.{Value}
 use Rattle.study_retro.specs.declared.value.Value.TheVariants.{Win}
 use Rattle.std.proofs.lemmas.Bool.{eqb-true}
-use Rattle.std.proofs.lemmas.List.{take_more}
+use Rattle.std.proofs.lemmas.List.{take_more, get_or-set_same, get_or-set_other}
 use Rattle.std.proofs.lemmas.List.Elements.{Contains-push_cases}
 use Rattle.study_retro.specs.Forced.{LeadsBy}
 use Rattle.study_retro.specs.Propagation.{IsWonCell, TellsWins, IsLostBy, AreAdded, AreDropped, AreLowered, IsSetBy}
@@ -60,6 +60,17 @@ module _ (k : ℕ) where
     | inr y ↦ elim (f i) [ inl e ↦ inr (sym e ∙ y.0, y.1) | inr x ↦ inr (x.0, y.1) ]
   ]
 
+  -- what holds of the numbers whose cells are not 0 holds of them still, where it holds of those that are set
+  module _ (Has : ℕ → Type 0) (a b : List ℕ) (has : (i : ℕ) → slice_index a i ≢ 0 → Has i) where
+    pub lowered-has : (Why : ℕ → Type 0) → ((i : ℕ) → Why i → Has i) → AreLowered Why k a b → (i : ℕ) → slice_index b i ≢ 0 → Has i
+    lowered-has Why why f i h = elim (f i) [ inl e ↦ has i (λ z. h (e ∙ z)) | inr x ↦ why i x.0 ]
+
+    pub added-has : (Why : ℕ → Type 0) → ((i : ℕ) → Why i → Has i) → AreAdded Why k a b → (i : ℕ) → slice_index b i ≢ 0 → Has i
+    added-has Why why f i h = elim (f i) [ inl e ↦ has i (λ z. h (e ∙ z)) | inr x ↦ why i x.0 ]
+
+    pub dropped-has : AreDropped k a b → (i : ℕ) → slice_index b i ≢ 0 → Has i
+    dropped-has f i h = elim (f i) [ inl e ↦ has i (λ z. h (e ∙ z)) | inr x ↦ absurd (h x.1) ]
+
   -- none of this changes what wins are told
   module _ {P : Type 0} (leads : P → P → Type 0) (mate : P → Type 0) (position : ℕ → Option P) where
     pub tells-same : (old new : List ℕ)
@@ -98,6 +109,13 @@ each-more {M} Q ms i d b before here m c =
       | inl h ↦ before m h
       | inr e ↦ subst Q e here
     ]
+
+-- what holds of the first cells, and of one that is set after them
+pub set_below : (Q : ℕ → ℕ → Type 0) (xs : List ℕ) (n c : ℕ) → n < length xs → ((j : ℕ) → j < n → Q j (slice_index xs j))
+    → Q n c → (j : ℕ) → j < n + 1 → Q j (slice_index (slice_set xs n c) j)
+set_below Q xs n c b before here = below_more (λ j. Q j (slice_index (slice_set xs n c) j)) n
+    (λ j l. subst (Q j) (sym (get_or-set_other xs n j c 0 (λ e. omega (arith, e, l)))) (before j l))
+    (subst (Q n) (sym (get_or-set_same xs n c 0 b)) here)
 
 -- an element of a list has a place
 pub at_place : (xs : List ℕ) (x : ℕ) → Contains xs x → (t : ℕ) × (t < length xs) × (slice_index xs t ≡ x)

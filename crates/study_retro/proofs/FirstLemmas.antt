@@ -1,13 +1,27 @@
 -- What the mates, and the moves out of the class, tell before the levels.
-use Rattle.std.proofs.Common.{◌≡◌, ◌≢◌, ℕ, zero, suc, ◌+◌, ◌-◌, ◌%◌, ◌<◌, ◌≤◌, ◌⊎◌, inl, inr, sym, subst, refl, arith, Option, Bool, true, false}
+use Rattle.std.proofs.Common.{◌≡◌, ◌≢◌, ℕ, zero, suc, ◌+◌, ◌-◌, ◌%◌, ◌<◌, ◌≤◌, ◌⊎◌, inl, inr, sym, subst, refl, arith, Option, Some, None, Bool, true, false}
 use Rattle.study_retro.specs.declared.value.Value.{Value}
 use Rattle.study_retro.specs.declared.value.Value.TheVariants.{Win, Loss, Draw}
 use Rattle.study_retro.specs.Forced.{Mated, Mates, IsGame, IsWin, IsLoss, GivesOutside}
 use Rattle.study_retro.specs.Right.{IsRightOutside}
 use Rattle.study_retro.specs.Class.{IsClass}
-use Rattle.study_retro.specs.Propagation.{IsInitial, IsHeld}
+use Rattle.study_retro.specs.Propagation.{IsInitial, IsHeld, IsHeldCell}
 use Rattle.study_retro.proofs.ForcedLemmas.{Mates-Mated, IsGame-unique}
 use Rattle.study_retro.proofs.ParityLemmas.{odd-win, even-loss}
+
+-- what a cell is worth where no mate is too far for one, it is worth where one may be
+pub held-more : {P : Type 0} (leads : P → P → Type 0) (mate : P → Type 0) (home : P → Bool) {far more : Bool} → (far ≡ true → more ≡ true)
+    → (o : Option P) (k c : ℕ) → IsHeldCell leads mate home far k o c → IsHeldCell leads mate home more k o c
+held-more leads mate home wider None k c h = h
+held-more leads mate home wider (Some p) k c h = record {
+  set = h.set;
+  unmating = h.unmating;
+  unmated = h.unmated;
+  wins = h.wins;
+  lasts = h.lasts;
+  won = λ q j f l. h.won q j (λ e. f (wider e)) l;
+  lost = λ q j m f b l. h.lost q j m (λ e. f (wider e)) b l;
+}
 
 module _ {P : Type 0} {leads : P → P → Type 0} {mate : P → Type 0} {known : P → Type 0} {home : P → Bool} {index : P
     → ℕ} {outside : P → Value} {position : ℕ → Option P} {size : ℕ} {image : P → P → Type 0}

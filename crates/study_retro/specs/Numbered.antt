@@ -54,6 +54,13 @@ module _ {P : Type 0} where
   abbrev pub StepLeads : Numbered P → ℕ → ℕ → Type 0
   StepLeads g n m = LeadsTo (leads_in g) g.home g.index g.position n m
 
+  -- a number stands for a position; and each whose cell is not 0 does
+  abbrev pub HasPosition : Numbered P → ℕ → Type 0
+  HasPosition g n = (p : P) × (g.position n ≡ Some p)
+
+  abbrev pub CellsHavePositions : Numbered P → List ℕ → Type 0
+  CellsHavePositions g cells = (i : ℕ) → slice_index cells i ≢ 0 → HasPosition g i
+
   -- the side to move is mated within k plies, whatever it does
   abbrev pub IsMatedWithin : Numbered P → ℕ → P → Type 0
   IsMatedWithin g k p = Mated (leads_in g) g.mate p k

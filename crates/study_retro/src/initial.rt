@@ -1,7 +1,7 @@
 //! What a number is worth before the levels: the mates, and what the moves out of the class alone give.
-ghost use Rattle.std.specs.Prelude.{◌≡◌, ◌<◌, ℕ, true, false, length, Some};
+ghost use Rattle.std.specs.Prelude.{◌≡◌, ◌<◌, ℕ, true, false, length, None, Some};
 ghost use Rattle.study_retro.specs.Propagation.{IsInitial};
-ghost use Rattle.study_retro.specs.Numbered.{CellIsHeld, CellsAreHeld, IsNumberedClass, OutsideGives, OutsideIsRight};
+ghost use Rattle.study_retro.specs.Numbered.{CellIsHeld, CellsAreHeld, CellsHavePositions, IsNumberedClass, OutsideGives, OutsideIsRight};
 ghost use Rattle.study_retro.specs.BestReplies.{drawn_with, lost_with, won_with};
 
 use crate::best_replies::BestReplies;
@@ -77,7 +77,8 @@ pub fn initial_by_value(value: Value) -> Initial
 pub fn initial_by_moves<G: Game>(game: &G, number: u32) -> Initial
     requires laws { IsNumberedClass (G.numbered game.now) }
     requires number { number < (G.numbered game.now).size }
-    ensures { OutsideIsRight (G.numbered game.now) → CellIsHeld (G.numbered game.now) result.far 0 number result.cell }
+    ensures held { OutsideIsRight (G.numbered game.now) → CellIsHeld (G.numbered game.now) result.far 0 number result.cell }
+    ensures none { (G.numbered game.now).position number ≡ None → result.cell ≡ 0 }
 {
     let Some(at) = game.decode(number) else {
         return Initial {
@@ -98,7 +99,8 @@ pub fn initial_by_moves<G: Game>(game: &G, number: u32) -> Initial
 pub fn initialise<G: SteppedGame>(game: &G, cells: &mut [u8]) -> bool
     requires laws { IsNumberedClass (G.numbered game.now) }
     requires cells { length cells.old ≡ (G.numbered game.now).size }
-    ensures { OutsideIsRight (G.numbered game.now) → CellsAreHeld (G.numbered game.now) result 0 cells.new }
+    ensures held { OutsideIsRight (G.numbered game.now) → CellsAreHeld (G.numbered game.now) result 0 cells.new }
+    ensures numbered { CellsHavePositions (G.numbered game.now) cells.new }
 {
     let mut far = false;
     for number in 0..game.cells() {

@@ -1,7 +1,7 @@
 //! Levels: from the mates in at most so many plies to those in one more.
 ghost use Rattle.std.specs.Prelude.{◌≡◌, ◌≢◌, ◌+◌, ◌<◌, ◌≤◌, ◌%◌, ℕ, false, length, slice_index, IsTrue};
 ghost use Rattle.study_retro.specs.Propagation.{AreAdded, AreDropped, AreLowered};
-ghost use Rattle.study_retro.specs.Numbered.{CellsAreRight, EndsRight, HasFarMate, IsNumberedClass};
+ghost use Rattle.study_retro.specs.Numbered.{CellsAreRight, CellsHavePositions, EndsRight, HasFarMate, IsNumberedClass};
 ghost use Rattle.study_retro.specs.Numbered.{LossIsKept, LossIsTrue, LossesAreKept, LossesAreTrue, LossesGoBack};
 ghost use Rattle.study_retro.specs.Numbered.{OutsideIsRight, RaisesLevel, StepLeads, WhereWinsAreTold, WinsGoBack};
 
@@ -16,6 +16,7 @@ pub fn propagate_losses<G: SteppedGame>(game: &G, cells: &mut [u8], level: u8) -
     requires laws { IsNumberedClass (G.numbered game.now) }
     requires level { level < 254 }
     requires cells { length cells.old ≡ (G.numbered game.now).size }
+    requires numbered { CellsHavePositions (G.numbered game.now) cells.old }
     ensures rise { AreLowered (λ i. (j : ℕ) × (slice_index cells.old j ≡ level + 1) × StepLeads (G.numbered game.now) i j) level cells.old cells.new }
     ensures done { LossesGoBack (G.numbered game.now) level cells.old cells.new }
 {
@@ -35,6 +36,7 @@ pub fn propagate_wins<G: SteppedGame>(game: &G, cells: &mut [u8], level: u8) -> 
     requires laws { IsNumberedClass (G.numbered game.now) }
     requires level { level < 254 }
     requires cells { length cells.old ≡ (G.numbered game.now).size }
+    requires numbered { CellsHavePositions (G.numbered game.now) cells.old }
     ensures rise { AreAdded (λ i. (j : ℕ) × StepLeads (G.numbered game.now) i j) level cells.old cells.new }
     ensures done { WinsGoBack (G.numbered game.now) level cells.old cells.new }
 {
@@ -55,6 +57,7 @@ pub fn confirm_loss<G: SteppedGame>(game: &G, cells: &mut [u8], number: u32, lev
     requires level { level < 254 }
     requires number { number < (G.numbered game.now).size }
     requires cells { length cells.old ≡ (G.numbered game.now).size }
+    requires numbered { CellsHavePositions (G.numbered game.now) cells.old }
     ensures fall { AreDropped level cells.old cells.new }
     ensures other { (i : ℕ) → i ≢ number → slice_index cells.new i ≡ slice_index cells.old i }
     ensures lost { WhereWinsAreTold (G.numbered game.now) level cells.old (LossIsTrue (G.numbered game.now) level number cells.new) }
@@ -76,6 +79,7 @@ pub fn confirm_losses<G: SteppedGame>(game: &G, cells: &mut [u8], level: u8) -> 
     requires level { level < 254 }
     requires odd { level % 2 ≡ 1 }
     requires cells { length cells.old ≡ (G.numbered game.now).size }
+    requires numbered { CellsHavePositions (G.numbered game.now) cells.old }
     ensures fall { AreDropped level cells.old cells.new }
     ensures lost { WhereWinsAreTold (G.numbered game.now) level cells.old (LossesAreTrue (G.numbered game.now) level cells.new) }
     ensures kept { WhereWinsAreTold (G.numbered game.now) level cells.old (LossesAreKept (G.numbered game.now) level cells.old cells.new) }
@@ -95,7 +99,9 @@ pub fn step<G: SteppedGame>(game: &G, cells: &mut [u8], level: u8) -> u64
     requires laws { IsNumberedClass (G.numbered game.now) }
     requires level { level < 254 }
     requires cells { length cells.old ≡ (G.numbered game.now).size }
-    ensures { RaisesLevel (G.numbered game.now) level (level + 1) cells.old cells.new }
+    requires numbered { CellsHavePositions (G.numbered game.now) cells.old }
+    ensures held { RaisesLevel (G.numbered game.now) level (level + 1) cells.old cells.new }
+    ensures numbered { CellsHavePositions (G.numbered game.now) cells.new }
 {
     if level % 2 == 0 {
         propagate_losses(game, cells, level)
@@ -116,9 +122,11 @@ pub struct LevelsDone {
 pub fn all_levels<G: SteppedGame>(game: &G, cells: &mut [u8]) -> LevelsDone
     requires laws { IsNumberedClass (G.numbered game.now) }
     requires cells { length cells.old ≡ (G.numbered game.now).size }
+    requires numbered { CellsHavePositions (G.numbered game.now) cells.old }
     ensures held { RaisesLevel (G.numbered game.now) 0 254 cells.old cells.new }
     ensures bytes { (i : ℕ) → slice_index cells.new i ≤ 255 }
     ensures right { EndsRight (G.numbered game.now) result.silent cells.old cells.new }
+    ensures numbered { CellsHavePositions (G.numbered game.now) cells.new }
 {
     let mut examined = 0u64;
     for level in 0..254u8 {

@@ -1,7 +1,7 @@
 //! What the levels ask of a game, besides its rules: so a game that reads its numbers may answer faster than by lists of moves.
-ghost use Rattle.std.specs.Prelude.{◌≡◌, ◌≢◌, ◌+◌, ◌<◌, ℕ, false, length, slice_index, IsTrue, Some};
+ghost use Rattle.std.specs.Prelude.{◌≡◌, ◌≢◌, ◌+◌, ◌<◌, ℕ, false, length, slice_index, IsTrue, None, Some};
 ghost use Rattle.study_retro.specs.Propagation.{AreAdded, AreLowered, IsSetBy};
-ghost use Rattle.study_retro.specs.Numbered.{CellIsHeld, IsNumberedClass, LosesBy, NoLossBy, OutsideIsRight, StepLeads, label_by};
+ghost use Rattle.study_retro.specs.Numbered.{CellIsHeld, HasPosition, IsNumberedClass, LosesBy, NoLossBy, OutsideIsRight, StepLeads, label_by};
 
 use crate::game::Game;
 use crate::initial::Initial;
@@ -25,13 +25,14 @@ pub trait SteppedGame: Game {
     fn first(&self, number: u32) -> Initial
         requires laws { IsNumberedClass (Self.numbered self.now) }
         requires number { number < (Self.numbered self.now).size }
-        ensures { OutsideIsRight (Self.numbered self.now) → CellIsHeld (Self.numbered self.now) result.far 0 number result.cell };
+        ensures held { OutsideIsRight (Self.numbered self.now) → CellIsHeld (Self.numbered self.now) result.far 0 number result.cell }
+        ensures none { (Self.numbered self.now).position number ≡ None → result.cell ≡ 0 };
 
     /// A position that is lost in `level` plies: what leads to it is won in one more.
     fn lower_before(&self, cells: &mut [u8], number: u32, level: u8) -> u64
         requires laws { IsNumberedClass (Self.numbered self.now) }
         requires level { level < 254 }
-        requires number { number < (Self.numbered self.now).size }
+        requires numbered { HasPosition (Self.numbered self.now) number }
         requires cells { length cells.old ≡ (Self.numbered self.now).size }
         ensures rise { AreLowered (λ i. StepLeads (Self.numbered self.now) i number) level cells.old cells.new }
         ensures done { (i : ℕ) → StepLeads (Self.numbered self.now) i number → IsSetBy (level + 2) cells.new i };
@@ -40,7 +41,7 @@ pub trait SteppedGame: Game {
     fn mark_before(&self, cells: &mut [u8], number: u32, level: u8) -> u64
         requires laws { IsNumberedClass (Self.numbered self.now) }
         requires level { level < 254 }
-        requires number { number < (Self.numbered self.now).size }
+        requires numbered { HasPosition (Self.numbered self.now) number }
         requires cells { length cells.old ≡ (Self.numbered self.now).size }
         ensures rise { AreAdded (λ i. StepLeads (Self.numbered self.now) i number) level cells.old cells.new }
         ensures done { (i : ℕ) → StepLeads (Self.numbered self.now) i number → slice_index cells.new i ≢ 0 };
@@ -48,7 +49,7 @@ pub trait SteppedGame: Game {
     /// Whether the position of a number has a move, and each leads to a win within `level` plies.
     fn is_lost_at(&self, cells: &[u8], number: u32, level: u8) -> bool
         requires laws { IsNumberedClass (Self.numbered self.now) }
-        requires number { number < (Self.numbered self.now).size }
+        requires numbered { HasPosition (Self.numbered self.now) number }
         requires cells { length cells.now ≡ (Self.numbered self.now).size }
         ensures yes { IsTrue result → (p : Self.Position) × ((Self.numbered self.now).position number ≡ Some p)
             × LosesBy (Self.numbered self.now) cells.now level p }

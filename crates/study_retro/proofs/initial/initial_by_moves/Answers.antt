@@ -4,15 +4,15 @@ use Rattle.study_retro.specs.Numbered.{leads_in}
 use Rattle.study_retro.proofs.FirstLemmas.{held-mate, held-first}
 use Rattle.study_retro.proofs.initial.initial_by_moves.Goals as goal
 
-pub returns-then-is_mate : goal.returns-then-is_mate
-returns-then-is_mate g c = λ outer.
+pub returns-then-is_mate-clause-held : goal.returns-then-is_mate-clause-held
+returns-then-is_mate-clause-held g c = λ outer.
     let e = sym c.decode.ensures ∙ c.in-Some.is in
     subst (λ (o : Option g.row.G-Position.Denot). IsHeldCell (leads_in (g.G.Game.numbered c.args.game.now))
     (g.G.Game.numbered c.args.game.now).mate (g.G.Game.numbered c.args.game.now).home false 0 o 1) (sym e)
     (held-mate c.requires.laws outer c.in-Some.at (c.is_mate.ensures.0 c.if-is_mate.true))
 
-pub returns : goal.returns
-returns g c = λ outer.
+pub returns-clause-held : goal.returns-clause-held
+returns-clause-held g c = λ outer.
     let e = sym c.decode.ensures ∙ c.in-Some.is in
     let d = c.requires.laws.decoded c.args.number c.in-Some.at e in
     subst (λ (o : Option g.row.G-Position.Denot). IsHeldCell (leads_in (g.G.Game.numbered c.args.game.now))

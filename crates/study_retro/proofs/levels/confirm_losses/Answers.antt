@@ -1,7 +1,7 @@
 use Rattle.std.proofs.Common.{◌≡◌, length, arith, sym, ◌∙◌}
-use Rattle.study_retro.specs.Numbered.{TellWins, leads_in}
+use Rattle.study_retro.specs.Numbered.{HasPosition, TellWins, leads_in}
 use Rattle.study_retro.proofs.BlockLemmas.{below_next}
-use Rattle.study_retro.proofs.CellsLemmas.{dropped-then, dropped-tells}
+use Rattle.study_retro.proofs.CellsLemmas.{dropped-then, dropped-tells, dropped-has}
 use Rattle.study_retro.proofs.levels.confirm_losses.Goals as goal
 
 pub loop-number-preserved : goal.loop-number-preserved
@@ -20,6 +20,7 @@ loop-number-preserved g c =
     record {
       there = (let w = next.within in omega (arith, w, size));
       size = size;
+      numbered = dropped-has c.args.level (HasPosition (g.G.Game.numbered c.args.game.now)) mid new inv.numbered c.confirm_loss.ensures.fall;
       fall = dropped-then c.args.level old mid new inv.fall c.confirm_loss.ensures.fall;
       rest = λ j b. c.confirm_loss.ensures.other j (λ e. omega (arith, e, b, above)) ∙ inv.rest j (omega (arith, b, above));
       lost = λ outer tells. below_next _ n c.next_of-number-in-loop-number.result

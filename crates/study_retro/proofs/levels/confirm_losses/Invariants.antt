@@ -1,13 +1,14 @@
 use Rattle.std.proofs.Common.{◌≡◌, ℕ, ◌+◌, ◌<◌, ◌≤◌, length, slice_index, Some, ◌-◌}
 use Rattle.study_retro.specs.Forced.{LeadsBy}
 use Rattle.study_retro.specs.Propagation.{AreDropped}
-use Rattle.study_retro.specs.Numbered.{OutsideIsRight, TellWins, IsMatedWithin}
+use Rattle.study_retro.specs.Numbered.{CellsHavePositions, OutsideIsRight, TellWins, IsMatedWithin}
 use Rattle.study_retro.proofs.levels.confirm_losses.Given as goal
 
 abbrev pub invariant-loop-number : goal.invariant-loop-number
 invariant-loop-number g l = record {
   there : l.number ≤ (g.G.Game.numbered l.game).size;
   size : length l.cells ≡ (g.G.Game.numbered l.game).size;
+  numbered : CellsHavePositions (g.G.Game.numbered l.game) l.cells;
   fall : AreDropped l.level l.initial.cells l.cells;
   rest : (j : ℕ) → l.number ≤ j → slice_index l.cells j ≡ slice_index l.initial.cells j;
   lost : OutsideIsRight (g.G.Game.numbered l.game) → TellWins (g.G.Game.numbered l.game) l.level l.initial.cells

@@ -11,6 +11,6 @@ pub returns-in-Some-clause-far : goal.returns-in-Some-clause-far
 returns-in-Some-clause-far g c = λ outer e.
     let cells = c.all_levels-ended.new.cells in
     let near : (n : ℕ) → n < (g.G.Game.numbered c.args.game.now).size → slice_index cells n ≤ 255 = λ n b. c.all_levels-ended.ensures.bytes n in
-    let held = c.all_levels-ended.ensures.held outer c.initialise-far.result (c.initialise-far.ensures outer) in
+    let held = c.all_levels-ended.ensures.held outer c.initialise-far.result (c.initialise-far.ensures.held outer) in
     other-far c.requires.laws cells outer near (held-below c.requires.laws outer c.initialise-far.result cells near held)
     c.in-Some.field-0 c.in-Some.ensures.other.0 c.in-Some.ensures.other.1

@@ -1,8 +1,8 @@
 use Rattle.std.proofs.Common.{◌≡◌, ℕ, ◌+◌, length, slice_index, arith, inl, inr, ◌∙◌}
-use Rattle.study_retro.specs.Numbered.{StepLeads}
+use Rattle.study_retro.specs.Numbered.{HasPosition, StepLeads}
 use Rattle.study_retro.specs.Propagation.{AreLowered}
 use Rattle.study_retro.proofs.BlockLemmas.{below_next}
-use Rattle.study_retro.proofs.CellsLemmas.{lowered-then, lowered-back, lowered-same, lowered-set}
+use Rattle.study_retro.proofs.CellsLemmas.{lowered-then, lowered-back, lowered-same, lowered-set, lowered-has}
 use Rattle.study_retro.proofs.levels.propagate_losses.Goals as goal
 
 pub loop-number-preserved : goal.loop-number-preserved
@@ -25,6 +25,7 @@ loop-number-preserved g c =
       there = (let w = next.within in omega (arith, w, size));
       here = λ l. next.here (omega (arith, l, size));
       size = size;
+      numbered = lowered-has k (HasPosition (g.G.Game.numbered c.args.game.now)) old new c.requires.numbered Why (λ i w. (w.2.0, w.2.2)) all;
       rise = all;
       done = below_next _ c.loop-number.number c.next_of-number-in-loop-number.result
           (λ j b i s t. lowered-set k Why mid new more i (inv.done j b i s t))

@@ -1,6 +1,6 @@
 use Rattle.std.proofs.Common.{◌≡◌, ◌≢◌, ℕ, ◌+◌, ◌<◌, ◌≤◌, length, slice_index, ◌-◌}
 use Rattle.study_retro.specs.Propagation.{AreLowered}
-use Rattle.study_retro.specs.Numbered.{StepLeads}
+use Rattle.study_retro.specs.Numbered.{CellsHavePositions, StepLeads}
 use Rattle.study_retro.proofs.levels.propagate_losses.Given as goal
 
 abbrev pub invariant-loop-number : goal.invariant-loop-number
@@ -8,6 +8,7 @@ invariant-loop-number g l = record {
   there : l.number ≤ (g.G.Game.numbered l.game).size;
   here : l.number < (g.G.Game.numbered l.game).size → slice_index l.cells l.number ≡ l.level + 1;
   size : length l.cells ≡ (g.G.Game.numbered l.game).size;
+  numbered : CellsHavePositions (g.G.Game.numbered l.game) l.cells;
   rise : AreLowered (λ i. (j : ℕ) × (slice_index l.initial.cells j ≡ l.level + 1) × StepLeads (g.G.Game.numbered l.game) i j) l.level l.initial.cells l.cells;
   done : (j : ℕ) → j < l.number → (i : ℕ) → slice_index l.initial.cells j ≡ l.level + 1
       → StepLeads (g.G.Game.numbered l.game) i j → (slice_index l.cells i ≢ 0)

@@ -1,8 +1,8 @@
 use Rattle.std.proofs.Common.{◌≡◌, ℕ, length, arith, inl, inr, ◌∙◌}
 use Rattle.study_retro.specs.Propagation.{AreAdded}
-use Rattle.study_retro.specs.Numbered.{StepLeads}
+use Rattle.study_retro.specs.Numbered.{HasPosition, StepLeads}
 use Rattle.study_retro.proofs.BlockLemmas.{below_next}
-use Rattle.study_retro.proofs.CellsLemmas.{added-then, added-kept, added-same}
+use Rattle.study_retro.proofs.CellsLemmas.{added-then, added-kept, added-same, added-has}
 use Rattle.study_retro.proofs.levels.propagate_wins.Goals as goal
 
 pub loop-number-preserved : goal.loop-number-preserved
@@ -22,7 +22,9 @@ loop-number-preserved g c =
     let all : AreAdded Why k old new = added-then k Why old mid new inv.rise more in
     record {
       there = (let w = next.within in omega (arith, w, size));
+      here = λ l. next.here (omega (arith, l, size));
       size = size;
+      numbered = added-has k (HasPosition (g.G.Game.numbered c.args.game.now)) old new c.requires.numbered Why (λ i w. (w.1.0, w.1.2)) all;
       rise = all;
       done = below_next _ c.loop-number.number c.next_of-number-in-loop-number.result
           (λ j b i s t. added-kept k Why mid new more i (inv.done j b i s t))

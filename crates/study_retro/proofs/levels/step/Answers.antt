@@ -1,17 +1,17 @@
 use Rattle.std.proofs.Common.{ℕ, arith}
-use Rattle.study_retro.specs.Numbered.{StepLeads, leads_in}
+use Rattle.study_retro.specs.Numbered.{HasPosition, StepLeads, leads_in}
 use Rattle.study_retro.proofs.HeldLemmas.{held-tells}
-use Rattle.study_retro.proofs.CellsLemmas.{added-tells}
+use Rattle.study_retro.proofs.CellsLemmas.{added-has, added-tells, dropped-has, lowered-has}
 use Rattle.study_retro.proofs.NextLemmas.{level-even, level-odd}
 use Rattle.study_retro.proofs.levels.step.Goals as goal
 
-pub returns-then-level-eq0 : goal.returns-then-level-eq0
-returns-then-level-eq0 g c = λ outer far held.
+pub returns-then-level-eq0-clause-held : goal.returns-then-level-eq0-clause-held
+returns-then-level-eq0-clause-held g c = λ outer far held.
     level-even c.requires.laws outer far c.args.level (λ e. c.requires.level) c.args.cells.now held
     c.propagate_losses.new.cells c.if-level-eq0.true c.propagate_losses.ensures.rise c.propagate_losses.ensures.done
 
-pub returns-else-level-eq0 : goal.returns-else-level-eq0
-returns-else-level-eq0 g c = λ outer far held.
+pub returns-else-level-eq0-clause-held : goal.returns-else-level-eq0-clause-held
+returns-else-level-eq0-clause-held g c = λ outer far held.
     let marks = c.propagate_wins-marked.ensures in
     let marked = c.propagate_wins-marked.new.cells in
     let then = added-tells c.args.level (leads_in (g.G.Game.numbered c.args.game.now))
@@ -22,3 +22,19 @@ returns-else-level-eq0 g c = λ outer far held.
     level-odd c.requires.laws outer far c.args.level (λ e. c.requires.level) c.args.cells.now held
     marked c.confirm_losses.new.cells (let n = c.if-level-eq0.false in omega arith)
     marks.rise marks.done all.fall (all.lost outer then) (all.kept outer then)
+
+pub returns-then-level-eq0-clause-numbered : goal.returns-then-level-eq0-clause-numbered
+returns-then-level-eq0-clause-numbered g c =
+    lowered-has c.args.level (HasPosition (g.G.Game.numbered c.args.game.now)) c.args.cells.now c.propagate_losses.new.cells
+    c.requires.numbered _ (λ i w. (w.2.0, w.2.2)) c.propagate_losses.ensures.rise
+
+pub confirm_losses-requires-clause-numbered : goal.confirm_losses-requires-clause-numbered
+confirm_losses-requires-clause-numbered g c =
+    added-has c.args.level (HasPosition (g.G.Game.numbered c.args.game.now)) c.args.cells.now c.propagate_wins-marked.new.cells
+    c.requires.numbered _ (λ i w. (w.1.0, w.1.2)) c.propagate_wins-marked.ensures.rise
+
+pub returns-else-level-eq0-clause-numbered : goal.returns-else-level-eq0-clause-numbered
+returns-else-level-eq0-clause-numbered g c =
+    dropped-has c.args.level (HasPosition (g.G.Game.numbered c.args.game.now)) c.propagate_wins-marked.new.cells c.confirm_losses.new.cells
+    (added-has c.args.level (HasPosition (g.G.Game.numbered c.args.game.now)) c.args.cells.now c.propagate_wins-marked.new.cells
+    c.requires.numbered _ (λ i w. (w.1.0, w.1.2)) c.propagate_wins-marked.ensures.rise) c.confirm_losses.ensures.fall
