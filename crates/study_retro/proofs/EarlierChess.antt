@@ -170,7 +170,7 @@ unpassed_same : (x : Position) → x.passed ≡ None → without_passed x ≡ x
 unpassed_same x e = ap (λ (o : Option ℕ). let r : Position = record { men = x.men; to_move = x.to_move; passed = o } in r) (sym e)
 
 -- the position of a number from which a move leads to the number's
-record IsLed (c : Class) (r : Position) (n : ℕ) : Type 0 where
+pub record IsLed (c : Class) (r : Position) (n : ℕ) : Type 0 where
   pub from : Position
   pub to : Position
   pub at : position_numbered c (index_of r) ≡ Some from
@@ -196,7 +196,7 @@ module _ (c : Class) where
   starts_home n q r m e b =
       lands_home n q r m e b ∙ ap (λ (l : Lists). ordered l) (quiet_lists r m b.valid b.legal (unpassing r m b.valid b.legal b.unpassed) b.quiet)
 
-  IsLed-from : (n : ℕ) (q r : Position) (m : Move) → position_numbered c n ≡ Some q → LeadsQuietly r m q → index_of (after r m) ≡ n → IsLed c r n
+  pub IsLed-from : (n : ℕ) (q r : Position) (m : Move) → position_numbered c n ≡ Some q → LeadsQuietly r m q → index_of (after r m) ≡ n → IsLed c r n
   IsLed-from n q r m e b lands =
       let x = after r m in
       let vx : IsValid x = IsValid-after r m b.valid b.legal in

@@ -15,6 +15,8 @@ pub mod NextLemmas
 pub mod StillLemmas
 pub mod FirstLemmas
 pub mod CellsLemmas
+pub mod BackLemmas
+pub mod SquaresLeft
 pub mod DueTally
 pub mod QuietClass
 pub mod EarlierChess

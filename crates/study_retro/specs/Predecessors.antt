@@ -1,10 +1,14 @@
 -- Not part of any public contract: the numbers of the positions from which a move leads to the position of a number, within a class.
-use Rattle.std.specs.Prelude.{◌≡◌, ℕ, ◌+◌, ◌⊎◌, Some}
+use Rattle.std.specs.Prelude.{◌≡◌, ℕ, ◌+◌, ◌<◌, ◌⊎◌, List, Some}
 use Rattle.study_board.specs.Position.{Position}
+use Rattle.study_board.specs.declared.men.Side.{Side}
+use Rattle.study_board.specs.declared.men.Man.{Man}
 use Rattle.study_moves.specs.declared.moves.Move.{Move}
 use Rattle.study_moves.specs.Rules.{after}
-use Rattle.study_moves.specs.Unmoves.{LeadsQuietly}
+use Rattle.study_moves.specs.Unmoves.{LeadsQuietly, move_from}
 use Rattle.study_material.specs.declared.class.Class.{Class}
+use Rattle.study_index.specs.Number.{without_bit}
+use Rattle.study_index.specs.Decoded.{slots_of, told_men, told_side}
 use Rattle.study_index.specs.Computed.{index_of, position_numbered}
 
 -- the move leads from a position without a passed square to the number's, and n is the number of that position, or of the one with the
@@ -26,3 +30,22 @@ pub record IsPlainNumber (q : Position) (number : ℕ) (m : Move) (n : ℕ) : Ty
 pub record ComesBefore (c : Class) (q : Position) (number n : ℕ) : Type 0 where
   pub by : Move
   pub is : IsNumberBefore c q number by n
+
+-- the men and the side to move are those that the number tells
+abbrev pub AreTold : Class → ℕ → List Man → Side → Type 0
+AreTold c number men side = (men ≡ told_men (slots_of c) (without_bit number)) × (side ≡ told_side (slots_of c) (without_bit number))
+
+-- n is the number of a position without a passed square from which a quiet move of the man, from a, leads to the number's
+pub record IsBeforeFrom (c : Class) (number : ℕ) (man : Man) (a n : ℕ) : Type 0 where
+  pub from : Position
+  pub to : Position
+  pub at : position_numbered c number ≡ Some to
+  pub leads : LeadsQuietly from (move_from man a) to
+  pub is : index_of from ≡ n
+
+-- the same, from some square; and of some man
+abbrev pub IsBeforeBy : Class → ℕ → Man → ℕ → Type 0
+IsBeforeBy c number man n = (a : ℕ) × (a < 64) × IsBeforeFrom c number man a n
+
+abbrev pub IsBefore : Class → ℕ → ℕ → Type 0
+IsBefore c number n = (man : Man) × IsBeforeBy c number man n

@@ -71,6 +71,16 @@ AreDropped k old new = (i : ℕ) → (slice_index new i ≡ slice_index old i) �
 abbrev pub IsSetBy : ℕ → List ℕ → ℕ → Type 0
 IsSetBy c cells i = (slice_index cells i ≢ 0) × (slice_index cells i ≤ c)
 
+-- cells are set to c for a reason, where they were 0, and if `over`, where they were more than that
+abbrev pub AreSet : (ℕ → Type 0) → ℕ → Bool → List ℕ → List ℕ → Type 0
+AreSet Why c over old new =
+    (i : ℕ) → (slice_index new i ≡ slice_index old i)
+    ⊎ Why i × (slice_index new i ≡ c) × ((slice_index old i ≡ 0) ⊎ (over ≡ true) × (c < slice_index old i))
+
+-- the cell at i is set, if `over` to c at most
+abbrev pub IsSetWhere : ℕ → Bool → List ℕ → ℕ → Type 0
+IsSetWhere c over cells i = (slice_index cells i ≢ 0) × (over ≡ true → slice_index cells i ≤ c)
+
 -- the cell at n alone is set to c, where it was 0 or more
 abbrev pub IsLowered : ℕ → ℕ → List ℕ → List ℕ → Type 0
 IsLowered n c old new =

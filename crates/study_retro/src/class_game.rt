@@ -7,6 +7,7 @@ ghost use Rattle.study_index.specs.Number.{has_both_pawns};
 ghost use Rattle.study_index.specs.Computed.{index_of, position_numbered};
 ghost use Rattle.study_retro.specs.Table.{IsReady, IsClosed};
 
+use crate::back::{Change, write_before};
 use crate::consistency::label;
 use crate::earlier::{has_both_pawns, predecessor_numbers};
 use crate::game::{Game, Location};
@@ -122,11 +123,25 @@ impl<'t, 'a, A: Allocator> SteppedGame for ClassGame<'t, 'a, A> {
     }
 
     fn lower_before(&self, cells: &mut [u8], number: u32, level: u8) -> u64 {
-        lower_by_moves(self, cells, number, level)
+        if has_both_pawns(self.class) {
+            return lower_by_moves(self, cells, number, level);
+        }
+        let change = Change {
+            cell: level + 2,
+            over: true,
+        };
+        write_before(self.class, cells, number, change)
     }
 
     fn mark_before(&self, cells: &mut [u8], number: u32, level: u8) -> u64 {
-        mark_by_moves(self, cells, number, level)
+        if has_both_pawns(self.class) {
+            return mark_by_moves(self, cells, number, level);
+        }
+        let change = Change {
+            cell: level + 2,
+            over: false,
+        };
+        write_before(self.class, cells, number, change)
     }
 
     fn is_lost_at(&self, cells: &[u8], number: u32, level: u8) -> bool {

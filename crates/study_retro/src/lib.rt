@@ -6,6 +6,7 @@
 //! is proved over any game whose positions have numbers (`game`); `class_game` is chess as such a game.
 #![tactic(auto)]
 
+mod back;
 mod best_replies;
 mod blocks;
 mod builder;

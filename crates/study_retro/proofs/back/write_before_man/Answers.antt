@@ -1,0 +1,91 @@
+use Rattle.std.proofs.Common.{◌≡◌, ℕ, ◌+◌, ◌<◌, ◌⊎◌, inl, inr, arith, true, false, length, refl, sym, ◌∙◌, ap, subst}
+use Rattle.std.proofs.lemmas.Bool.{false≢true, cases_lt}
+use Rattle.study_board.specs.declared.men.Side.{Side}
+use Rattle.study_board.specs.Men.{same_side}
+use Rattle.study_board.specs.Sets.{has}
+use Rattle.study_index.proofs.ClassLaws.{below}
+use Rattle.study_index.proofs.ComputedIndex.{told_decoded}
+use Rattle.study_retro.specs.Predecessors.{IsBeforeBy, IsBeforeFrom}
+use Rattle.study_retro.specs.Propagation.{AreSet, IsSetWhere}
+use Rattle.study_retro.proofs.SquaresLeft.{AreLeft, left-all, first-above, first-in, first-only, left-more, left-none}
+use Rattle.study_retro.proofs.BackLemmas.{set-then, set-kept, set-why, led_came, before_is, before_in, in_before, before_below}
+use Rattle.study_retro.proofs.back.write_before_man.Goals as goal
+
+-- no other side's man has moved
+pub returns-then-not-is-clause-done : goal.returns-then-not-is-clause-done
+returns-then-not-is-clause-done c = λ n b.
+    let came = led_came c.args.class c.args.number c.requires.numbered.0 c.requires.numbered.1 c.args.setup.now.men.items c.args.setup.now.to_move
+    c.requires.told c.args.man.now c.requires.man b.0 n b.1 b.2 in
+    absurd (false≢true (sym c.if-not-is.true ∙ c.is.ensures ∙ ap (λ (s : Side). same_side c.args.man.now.side s) c.other.ensures ∙ came.0))
+
+pub loop-rest-init : goal.loop-rest-init
+loop-rest-init c = record {
+  left = left-all c.origins-all.result;
+  size = c.requires.cells;
+  rise = λ i. inl refl;
+  done = λ a n l. absurd (omega (arith, l));
+}
+
+pub number_moved-before-requires : goal.number_moved-before-requires
+number_moved-before-requires c =
+    below c.args.class c.args.number c.requires.numbered.0 (told_decoded c.args.class c.args.number c.requires.numbered.0 c.requires.numbered.1)
+
+pub write_cell-requires-clause-number : goal.write_cell-requires-clause-number
+write_cell-requires-clause-number c =
+    let f = c.first-origin.ensures in
+    let a = c.first-origin.result in
+    let his = sym (ap (λ (s : Side). same_side c.args.man.now.side s) c.other.ensures) ∙ sym c.is.ensures ∙ c.if-not-is.false in
+    let before = before_in c.args.class c.args.number c.requires.numbered.0 c.requires.numbered.1 c.args.setup.now.men.items c.args.setup.now.to_move
+    c.requires.told c.args.man.now c.requires.man c.origins-all.result _ c.as_slice.ensures.value c.origins-all.ensures a c.number_moved-before.result f.inside
+    c.number_moved-before.ensures his (first-in _ _ _ c.loop-rest.invariant.left a f.inside f.there) in
+    subst (λ (k : ℕ). c.number_moved-before.result < k) (sym c.loop-rest.invariant.size)
+    (before_below c.args.class c.args.number c.requires.single c.args.man.now a c.number_moved-before.result before)
+
+pub loop-rest-preserved : goal.loop-rest-preserved
+loop-rest-preserved c =
+    let f = c.first-origin.ensures in
+    let a = c.first-origin.result in
+    let k = c.number_moved-before.result in
+    let inv = c.loop-rest.invariant in
+    let q = c.requires.numbered.0 in
+    let at = c.requires.numbered.1 in
+    let man = c.args.man.now in
+    let men = c.args.setup.now.men.items in
+    let side = c.args.setup.now.to_move in
+    let his = sym (ap (λ (s : Side). same_side man.side s) c.other.ensures) ∙ sym c.is.ensures ∙ c.if-not-is.false in
+    let before = before_in c.args.class c.args.number q at men side c.requires.told man c.requires.man c.origins-all.result _ c.as_slice.ensures.value c.origins-all.ensures
+    a k f.inside c.number_moved-before.ensures his (first-in _ _ _ inv.left a f.inside f.there) in
+    let Why : ℕ → Type 0 = IsBeforeBy c.args.class c.args.number man in
+    let mid = c.loop-rest.cells in
+    let new = c.write_cell.new.cells in
+    let more : AreSet Why c.args.change.cell c.args.change.over mid new =
+    set-why c.args.change.cell c.args.change.over (λ i. i ≡ k) Why mid new
+    (λ i e. (a, f.inside, subst (λ (n : ℕ). IsBeforeFrom c.args.class c.args.number man a n) (sym e) before)) c.write_cell.ensures.rise in
+    let next : c.number-next.result ≡ a = c.number-next.ensures.value in
+    let left = left-more _ _ _ inv.left a f.inside f.there f.least c.set_of.result c.without-rest.result c.set_of.ensures c.without-rest.ensures in
+    record {
+      left = subst (λ (n : ℕ). AreLeft c.origins-all.result c.without-rest.result (n + 1)) (sym next) left;
+      size = c.write_cell.auto.cells ∙ inv.size;
+      rise = set-then c.args.change.cell c.args.change.over Why c.args.cells.now mid new inv.rise more;
+      done = λ b n l e h. elim (cases_lt b c.loop-rest.next) [
+        | inl low ↦ set-kept c.args.change.cell c.args.change.over Why mid new more c.requires.cell n (inv.done b n low e h)
+        | inr high ↦ elim (cases_lt b a) [
+          | inl low ↦ absurd (false≢true (sym (first-only _ _ _ inv.left a f.inside f.there f.least b high low (let s = f.inside in omega (arith, low, s))) ∙ e))
+          | inr top ↦
+              let same : b ≡ a = omega (arith, l, top, next) in
+              let is : n ≡ k = before_is c.args.class c.args.number q at men side c.requires.told man c.requires.man a k n c.number_moved-before.ensures
+              (subst (λ (x : ℕ). IsBeforeFrom c.args.class c.args.number man x n) same h) in
+              subst (λ (x : ℕ). IsSetWhere c.args.change.cell c.args.change.over new x) (sym is) c.write_cell.ensures.done
+        ]
+      ];
+    }
+
+pub returns-clause-done : goal.returns-clause-done
+returns-clause-done c = λ n b.
+    let inv = c.loop-rest.invariant in
+    let e = in_before c.args.class c.args.number c.requires.numbered.0 c.requires.numbered.1 c.args.setup.now.men.items c.args.setup.now.to_move
+    c.requires.told c.args.man.now c.requires.man c.origins-all.result _ c.as_slice.ensures.value c.origins-all.ensures b.0 n b.1 b.2 in
+    elim (cases_lt b.0 c.loop-rest.next) [
+      | inl l ↦ inv.done b.0 n l e b.2
+      | inr g ↦ absurd (false≢true (sym (left-none _ _ _ inv.left c.loop-rest-test.false b.0 g b.1) ∙ e))
+    ]

@@ -1,0 +1,18 @@
+use Rattle.std.proofs.Common.{◌≡◌, ℕ, ◌<◌, ◌-◌, true, length}
+use Rattle.study_board.specs.Sets.{has}
+use Rattle.study_index.specs.Number.{cells_of}
+use Rattle.study_retro.specs.Predecessors.{IsBeforeBy, IsBeforeFrom}
+use Rattle.study_retro.specs.Propagation.{AreSet, IsSetWhere}
+use Rattle.study_retro.proofs.SquaresLeft.{AreLeft}
+use Rattle.study_retro.proofs.back.write_before_man.Given as goal
+
+abbrev pub invariant-loop-rest : goal.invariant-loop-rest
+invariant-loop-rest l = record {
+  left : AreLeft l.all l.rest l.next;
+  size : length l.cells ≡ cells_of l.class;
+  rise : AreSet (IsBeforeBy l.class l.number l.man) l.change.cell l.change.over l.initial.cells l.cells;
+  done : (a n : ℕ) → a < l.next → has l.all a ≡ true → IsBeforeFrom l.class l.number l.man a n → IsSetWhere l.change.cell l.change.over l.cells n;
+}
+
+abbrev pub decreases-loop-rest : goal.decreases-loop-rest
+decreases-loop-rest l = 64 - l.next
