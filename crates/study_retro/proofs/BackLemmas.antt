@@ -1,18 +1,19 @@
 -- The positions before quiet moves, by the men that a number tells.
-use Rattle.std.proofs.Common.{◌≡◌, ◌≢◌, ℕ, ◌+◌, ◌<◌, ◌≤◌, ◌⊎◌, inl, inr, arith, Bool, true, false, ◌&&◌, List, slice_index, Contains, Some, refl, sym, ◌∙◌, ap, subst}
+use Rattle.std.proofs.Common.{◌≡◌, ◌≢◌, ℕ, ◌+◌, ◌<◌, ◌≤◌, ◌⊎◌, inl, inr, arith, Bool, true, false, ◌&&◌, List, slice_index, Contains, Option, Some, None, refl, sym, ◌∙◌, ap, subst}
 use Rattle.std.proofs.lemmas.Bool.{and_parts, false≢true}
 use Rattle.std.specs.List.Sorted.{IsPermutation}
 use Rattle.study_board.specs.declared.men.Side.{Side}
 use Rattle.study_board.specs.declared.men.Man.{Man}
 use Rattle.study_board.specs.Men.{same_side, other_side}
-use Rattle.study_board.specs.Position.{Position}
+use Rattle.study_board.specs.Position.{Position, is_occupied}
+use Rattle.study_board.proofs.Faults.{is_occupied_same}
 use Rattle.study_board.specs.Sets.{has}
 use Rattle.study_moves.specs.declared.moves.Move.{Move}
-use Rattle.study_moves.specs.Rules.{after}
+use Rattle.study_moves.specs.Rules.{after, is_legal, reaches_last_rank}
 use Rattle.study_moves.specs.Alike.{Leads}
 use Rattle.study_moves.specs.EnPassant.{has_legal_en_passant}
-use Rattle.study_moves.specs.Unmoves.{LeadsQuietly, CanHaveLed, move_from, came_from}
-use Rattle.study_moves.specs.AnyOrder.{HasOrigins}
+use Rattle.study_moves.specs.Unmoves.{IsQuiet, LeadsQuietly, CanHaveLed, move_from, came_from}
+use Rattle.study_moves.specs.AnyOrder.{HasOrigins, HasSafeTargets, is_safe_target}
 use Rattle.study_moves.proofs.AnyOrder.{men-tell-moves}
 use Rattle.study_material.specs.declared.class.Class.{Class}
 use Rattle.study_material.specs.Class.{is_of, lists_of}
@@ -25,9 +26,14 @@ use Rattle.study_index.proofs.ComputedIndex.{told_decoded}
 use Rattle.study_index.proofs.DecodedNumbers.{told_of}
 use Rattle.study_index.proofs.WithBit.{HasParts-from}
 use Rattle.study_retro.specs.Propagation.{AreAdded, AreLowered, AreSet, IsSetBy, IsSetWhere, LeadsTo}
+use Rattle.study_retro.specs.Table.{Table}
+use Rattle.study_retro.specs.Cells.{value_of}
+use Rattle.study_retro.specs.declared.value.Value.TheVariants.{Win}
+use Rattle.study_retro.specs.ClassGame.{class_game}
+use Rattle.study_retro.specs.Numbered.{IsNumberedClass, LosesBy, NoLossBy}
 use Rattle.study_retro.specs.Predecessors.{AreTold, IsBefore, IsBeforeBy, IsBeforeFrom}
 use Rattle.study_retro.proofs.EarlierChess.{IsLed-from, before_leads, leads_before, leads_numbered}
-use Rattle.study_retro.proofs.MovedSteps.{lands_there, moved_before}
+use Rattle.study_retro.proofs.MovedSteps.{lands_there, moved_before, moved_after, quiet_below, quiet_label}
 use Rattle.study_retro.proofs.QuietSteps.{dead_of}
 
 -- ---- cells
@@ -145,6 +151,58 @@ module _ (c : Class) (number : ℕ) (q : Position) (at : position_numbered c num
     before_told n h =
         let b = h.1.2 in
         before_among (move_from h.0 h.1.0) b.from n (subst (λ (p : Position). LeadsQuietly b.from (move_from h.0 h.1.0) p) (one_position b.to b.at) b.leads) b.is
+
+-- ---- positions after quiet moves
+
+-- the move of the man to x
+abbrev pub move_to : Man → ℕ → Move
+move_to man x = record { origin = man.at; target = x; promoted = None }
+
+module _ (c : Class) (number : ℕ) (q : Position) (at : position_numbered c number ≡ Some q) (single : has_both_pawns (lists_of c) ≡ false) (men : List
+    Man) (side : Side) (told : AreTold c number men side) where
+  told_targets : HasSafeTargets q men
+  told_targets =
+      let d = told_decoded c number q at in
+      let t = told_of c number q d in
+      (men-tell-moves q men d.valid (subst (λ (zs : List Man). IsPermutation zs q.men) (sym told.0) t.same_men)).0
+      (dead_of c q d.valid (entry c number q d).of_class single)
+
+  occupied_same : (x : ℕ) → is_occupied men x ≡ is_occupied q.men x
+  occupied_same x =
+      is_occupied_same men q.men (subst (λ (zs : List Man). IsPermutation zs q.men) (sym told.0) (told_of c number q (told_decoded c number q at)).same_men) x
+
+  -- a quiet move of a man to a safe target is legal, and its number fits
+  module _ (man : Man) (among : Contains men man) (his : same_side man.side side ≡ true) (x : ℕ) (on : x < 64) where
+    module _ (safe : is_safe_target men side man x ≡ true) (free : is_occupied men x ≡ false) (plain : reaches_last_rank man x ≡ false) where
+      safe_legal : is_legal q (move_to man x) ≡ true
+      safe_legal =
+          told_targets.legal man (move_to man x) among refl on
+          ∙ rw (
+            ap (λ (t : Side). same_side man.side t) (sym (side_is c number q at men side told)) ∙ his,
+            ap (λ (t : Side). is_safe_target men t man x) (sym (side_is c number q at men side told)) ∙ safe,
+            plain,
+          ) refl
+
+      safe_quiet : IsQuiet q (move_to man x)
+      safe_quiet = (sym (occupied_same x) ∙ free, refl)
+
+      module _ (held : List (Option Table)) (laws : IsNumberedClass (class_game c held)) (cells : List ℕ) (k : ℕ) (fits : (p : Position)
+          → IsMoved c number man.at x p → index_of p ≡ k) where
+        safe_index : index_of (after q (move_to man x)) ≡ k
+        safe_index = fits (after q (move_to man x)) (moved_after c number q at single (move_to man x) safe_legal safe_quiet)
+
+        pub safe_below : k < cells_of c
+        safe_below = quiet_below c number q at single (move_to man x) safe_legal safe_quiet held laws cells k safe_index
+
+        -- where it is not won the position does not lose
+        pub safe_escape : (level : ℕ) → (((m : ℕ) × (value_of (slice_index cells k) ≡ Win m) × (m ≤ level)) → ⊥) → NoLossBy (class_game c held) cells level number
+        safe_escape level unwon p e h =
+            let same = one_position c number q at p e in
+            let w = subst (λ (r : Position). LosesBy (class_game c held) cells level r) same h in
+            let t = w.each (after q (move_to man x)) (move_to man x, safe_legal, refl) in
+            unwon (t.0, quiet_label c number q at single (move_to man x) safe_legal safe_quiet held laws cells k safe_index ∙ t.1, t.2)
+
+-- ---- positions before them, in a game of numbers
 
 -- what leads to the number is before it
 pub leads_is_before : (c : Class) (number : ℕ) → has_both_pawns (lists_of c) ≡ false → (i : ℕ)

@@ -10,6 +10,7 @@ ghost use Rattle.study_retro.specs.Table.{IsReady, IsClosed};
 use crate::back::{Change, write_before};
 use crate::consistency::label;
 use crate::earlier::{has_both_pawns, predecessor_numbers};
+use crate::escapes::escapes;
 use crate::game::{Game, Location};
 use crate::initial::{Initial, initial_by_moves};
 use crate::propagate::{is_lost_by_moves, lower_by_moves, mark_by_moves};
@@ -145,6 +146,9 @@ impl<'t, 'a, A: Allocator> SteppedGame for ClassGame<'t, 'a, A> {
     }
 
     fn is_lost_at(&self, cells: &[u8], number: u32, level: u8) -> bool {
+        if !has_both_pawns(self.class) && escapes(self, cells, number, level) {
+            return false;
+        }
         is_lost_by_moves(self, cells, number, level)
     }
 }

@@ -13,6 +13,7 @@ mod builder;
 mod class_game;
 mod consistency;
 mod earlier;
+mod escapes;
 mod game;
 mod initial;
 mod levels;

@@ -96,7 +96,8 @@ pub fn is_lost<G: LabelledGame>(
 }
 
 /// Whether a value is a win within `level` plies.
-fn is_won(value: Value, level: u8) -> bool
+#[inline]
+pub fn is_won(value: Value, level: u8) -> bool
     ensures { IsTrue result ↔ ((m : ℕ) × (value ≡ Value.Win m) × (m ≤ level)) }
 {
     match value {
