@@ -1,5 +1,6 @@
 pub mod FaultSums
 pub mod PathRenewed
+pub mod PathMoved
 pub mod SameShape
 pub mod ChildrenChanged
 pub mod MovesToNode
@@ -12,7 +13,7 @@ pub mod ValuesAsked
 pub mod ChildFound
 pub mod InsertedMoves
 pub mod LabelsWritten
-pub mod ToldToBe
+pub mod LabelsRefreshed
 pub mod BenchRewritten
 pub mod FirstIllegalMove
 pub mod PositionsListed

@@ -1,5 +1,5 @@
 -- A move tried at a node: why it is refused, and the mark that it would have.
-use Rattle.std.proofs.Common.{◌≡◌, ℕ, ◌+◌, List, [], ◌∷◌, length, Bool, true, false, Option, Some, None, zero, suc, Result, Ok, Err, IsOk, IsErrAnd, IfErr}
+use Rattle.std.proofs.Common.{◌≡◌, ℕ, ◌+◌, List, [], ◌∷◌, length, Bool, true, false, Option, Some, None, zero, suc, Result, Ok, Err, IsOk, IsErrAnd}
 use Rattle.std.proofs.Common.{is_ok, refl, sym, ap, ◌∙◌, arith, subst, IsTrue}
 use Rattle.std.specs.Prelude.{if◌then◌else◌, not, nat_le, MatchOption}
 use Rattle.std.proofs.lemmas.Bool.{false≢true}

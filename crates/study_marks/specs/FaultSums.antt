@@ -1,5 +1,5 @@
 -- Not part of any public contract: faults that are renewed along a path.
-use Rattle.std.specs.Prelude.{◌≡◌, ℕ, ◌+◌, Bool, List, [], ◌∷◌, Option, Some, None, zero, suc, if◌then◌else◌}
+use Rattle.std.specs.Prelude.{◌≡◌, ℕ, ◌+◌, ◌-◌, ◌^◌, min, nat_le, not, ◌&&◌, Bool, true, List, [], ◌∷◌, Option, Some, None, zero, suc, if◌then◌else◌}
 use Rattle.study_tree.specs.Forest.{Forest, none, more}
 use Rattle.study_tree.specs.Tree.{Plain, Spot}
 use Rattle.study_marks.specs.declared.label.Label.{Label}
@@ -19,6 +19,25 @@ told_at q (more m l b r) (suc k ∷ ks) = told_at q r (k ∷ ks)
 abbrev pub counted_faults : Bool → ℕ → ℕ → ℕ
 counted_faults hero zero n = n
 counted_faults hero (suc k) n = if hero then 0 else n
+
+-- a child at this place counts all its faults for its parent
+abbrev pub counts_all : Bool → ℕ → Bool
+counts_all hero zero = true
+counts_all hero (suc k) = not hero
+
+-- the least depth from which on a change of the faults of the path's node is counted at each node of the path; the path begins at depth d
+abbrev pub counted_from : Aim → ℕ → List ℕ → ℕ
+counted_from a d [] = d
+counted_from a d (k ∷ ks) =
+    if nat_le (counted_from a (d + 1) ks) (d + 1) && counts_all (hero_moves a d) k then d else counted_from a (d + 1) ks
+
+-- n faults of which `minus` are gone and `plus` are new
+abbrev pub faults_moved : ℕ → ℕ → ℕ → ℕ
+faults_moved minus plus n = min (n + plus - minus) (2 ^ 32 - 1)
+
+-- what becomes of the label of a path's node at depth d, where the change is counted from depth `from` on
+abbrev pub label_moved : ℕ → ℕ → ℕ → ℕ → Label → Label
+label_moved from minus plus d l = if nat_le from d then record { told = l.told; faults = faults_moved minus plus l.faults } else l
 
 -- the faults of a node are right, but those of the path's node: there `minus` is still counted and `plus` is not yet
 abbrev pub AddsUp : ℕ → ℕ → List ℕ → ℕ → ℕ → Type 0

@@ -1,29 +1,22 @@
 -- Not part of any public contract: what is told of all nodes anew, and the faults that are counted anew from it. Nodes are numbered in written order.
-use Rattle.std.specs.Prelude.{ℕ, ◌+◌, ◌-◌, List, [], ◌∷◌, ◌++◌, zero, suc, length, take, slice_index_or}
+use Rattle.std.specs.Prelude.{ℕ, ◌+◌, ◌-◌, ◌^◌, min, List, [], ◌∷◌, ◌++◌, zero, suc, slice_index_or}
 use Rattle.study_board.specs.Position.{Position}
 use Rattle.study_moves.specs.Rules.{after}
 use Rattle.study_tree.specs.Forest.{Forest, none, more, nodes_in}
 use Rattle.study_tree.specs.Tree.{Plain}
+use Rattle.study_tree.specs.Changes.{Pass}
 use Rattle.study_marks.specs.declared.label.Label.{Label}
 use Rattle.study_marks.specs.declared.label.Told.{Told}
 use Rattle.study_marks.specs.declared.mark_rules.Aim.{Aim}
 use Rattle.study_marks.specs.Goals.{hero_moves}
 use Rattle.study_marks.specs.BenchState.{own, faults_below}
-use Rattle.study_marks.specs.FaultSums.{told_at}
+use Rattle.study_marks.specs.FaultSums.{counted_faults}
 use Rattle.study_marks.specs.Queries.{asked_at}
 use Rattle.study_marks.specs.Told.{IsToldOf}
 
 -- what the list tells of node n; where the list is shorter, what is told of the node already
 abbrev pub told_in : List Told → ℕ → Told → Told
 told_in all n t = slice_index_or all n t
-
--- what is to be told of the path's node, which is node n
-abbrev pub told_to_be : List Told → ℕ → Plain Label → List ℕ → Told
-told_to_be all n t ks = told_in all n (told_at t.label.told t.below ks)
-
--- the path to the parent
-abbrev pub parent_path : List ℕ → List ℕ
-parent_path ks = take (length ks - 1) ks
 
 -- the same nodes, side by side, with what the list tells of them; the first of them is node n
 abbrev pub retold : List Told → ℕ → Forest Told → Forest Told
@@ -46,18 +39,13 @@ refreshed all a d n q (more m l b r) =
     })
     (refreshed all a (d + 1) (n + 1) (told_in all n l.told) b) (refreshed all a d (n + 1 + nodes_in b) q r)
 
--- the same of the first k nodes, and the others as they are
-abbrev pub refreshed_to : List Told → Aim → ℕ → ℕ → Told → ℕ → Forest Label → Forest Label
-refreshed_to all a d n q zero f = f
-refreshed_to all a d n q (suc k) none = none
-refreshed_to all a d n q (suc k) (more m l b r) =
-    more m
-    (record {
-      told = told_in all n l.told;
-      faults = own a d q (told_in all n l.told).value + faults_below
-          (hero_moves a (d + 1)) (refreshed all a (d + 1) (n + 1) (told_in all n l.told) b);
-    })
-    (refreshed all a (d + 1) (n + 1) (told_in all n l.told) b) (refreshed_to all a d (n + 1 + nodes_in b) q k r)
+-- the same as labels are written one after the other: a node begins with its own faults, and each child adds what it counts
+abbrev pub refreshing : List Told → Aim → Pass Label
+refreshing all a = record {
+  begun = λ l. record { told = told_in all 0 l.told; faults = 0 };
+  entered = λ d n q l. record { told = told_in all n l.told; faults = own a d q.told (told_in all n l.told).value };
+  joined = λ d k q l. record { told = q.told; faults = min (q.faults + counted_faults (hero_moves a d) k l.faults) (2 ^ 32 - 1) };
+}
 
 -- the first k of nodes side by side
 abbrev pub firsts : {L : Type 0} → ℕ → Forest L → Forest L

@@ -1,17 +1,16 @@
 //! Faults renewed along a path to the root.
-ghost use Rattle.std.specs.Prelude.{◌≡◌, ◌+◌, ◌≤◌, IsTrue, length, Some, ℕ};
-ghost use Rattle.study_board.specs.Counts.{counted};
-ghost use Rattle.study_tree.specs.Tree.{Spot, plain_tree, has_spot, spot_at, with_label};
-ghost use Rattle.study_marks.specs.declared.label.Label.{Label as ALabel};
+ghost use Rattle.std.specs.Prelude.{◌≡◌, ◌+◌, ◌<◌, ◌^◌, IsTrue, length};
+ghost use Rattle.study_tree.specs.Tree.{plain_tree, has_spot};
 ghost use Rattle.study_marks.specs.Queries.{counted_times};
 ghost use Rattle.study_marks.specs.Goals.{hero_moves};
 ghost use Rattle.study_marks.specs.BenchState.{AllAddUp, told_tree};
 ghost use Rattle.study_marks.specs.FaultSums.{counted_faults, faults_newly_first, faults_of_first, IsOff};
+ghost use Rattle.study_marks.specs.FaultSums.{counts_all, counted_from, faults_moved};
 
 use crate::label::Label;
 use crate::mark_rules::{Aim, hero_moves};
 use std::alloc::Allocator;
-use study_tree::Tree;
+use study_tree::{LabelChange, Tree};
 
 /// What a child with these faults counts for its parent at this depth, where it stands at this place.
 pub fn counted_faults(aim: &Aim, depth: usize, place: u16, faults: u32) -> u32
@@ -46,6 +45,60 @@ pub fn faults_of_first(aim: &Aim, depth: usize, place: u16, faults: u32) -> u32
     }
 }
 
+/// Whether a child at this place counts all its faults for its parent at this depth.
+fn counts_all(aim: &Aim, depth: usize, place: u16) -> bool
+    ensures { result ≡ counts_all (hero_moves aim.now depth) place }
+{
+    place == 0 || !hero_moves(aim, depth)
+}
+
+/// The least depth from which on a change of the faults of the path's node is counted at each node of the path, which
+/// begins at this depth.
+fn counted_from(aim: &Aim, depth: usize, steps: &[u16]) -> usize
+    requires short { depth + length steps.now < 2 ^ 64 }
+    ensures { result ≡ counted_from aim.now depth steps.now }
+{
+    match steps.split_first() {
+        None => depth,
+        Some((place, rest)) => {
+            let from = counted_from(aim, depth + 1, rest);
+            if from <= depth + 1 && counts_all(aim, depth, *place) {
+                depth
+            } else {
+                from
+            }
+        }
+    }
+}
+
+/// So many faults less and so many more, at each node of a path from this depth on.
+#[derive(Clone, Copy)]
+struct FaultChange {
+    from: usize,
+    minus: u32,
+    plus: u32,
+}
+
+impl LabelChange<Label> for FaultChange {
+    ghost use Rattle.study_marks.specs.FaultSums.{label_moved};
+
+    ghost changed = { λ s d l. label_moved s.from s.minus s.plus d l };
+
+    fn change(&self, depth: usize, label: &mut Label) {
+        if self.from <= depth {
+            label.faults = faults_moved(label.faults, self.minus, self.plus);
+        }
+    }
+}
+
+/// These faults, of which `minus` are gone and `plus` are new.
+fn faults_moved(faults: u32, minus: u32, plus: u32) -> u32
+    ensures { result ≡ faults_moved minus plus faults }
+{
+    let now = (faults as u64 + plus as u64).saturating_sub(minus as u64);
+    now.min(u32::MAX as u64) as u32
+}
+
 /// Writes the faults of the path's node, of which `minus` are gone and `plus` are new; then those of its parent, as
 /// far as the node counts for it; and so on up to the root.
 pub fn update_faults<'a, A: Allocator>(
@@ -62,36 +115,7 @@ pub fn update_faults<'a, A: Allocator>(
     ensures count { tree.new.relabelled ≡ counted_times (length steps.now + 1) tree.old.relabelled }
 {
     let _few = tree.size();
-    let (was, now) = write_faults(tree, steps, minus, plus);
-    if let Some((place, front)) = steps.split_last() {
-        let depth = front.len();
-        let minus = counted_faults(aim, depth, *place, was);
-        let plus = counted_faults(aim, depth, *place, now);
-        update_faults(aim, tree, front, minus, plus);
-    }
-}
-
-/// Writes the faults of the node, of which `minus` are gone and `plus` are new; says which they were and are.
-fn write_faults<'a, A: Allocator>(
-    tree: &mut Tree<'a, Label, A>,
-    steps: &[u16],
-    minus: u32,
-    plus: u32,
-) -> (u32, u32)
-    requires found { IsTrue (has_spot (plain_tree tree.old) steps.now) }
-    requires known { (s : Spot ALabel) → spot_at (plain_tree tree.old) steps.now ≡ Some s → (right : ℕ)
-        × (s.label.faults + plus ≡ right + minus) × (right ≤ 4096) }
-    ensures written { (s : Spot ALabel) → spot_at (plain_tree tree.old) steps.now ≡ Some s → (result.0 ≡ s.label.faults)
-        × (result.1 + minus ≡ s.label.faults + plus)
-        × (plain_tree tree.new ≡ with_label (plain_tree tree.old) steps.now
-        (record { told = s.label.told; faults = result.1 })) }
-    ensures count { tree.new.relabelled ≡ counted tree.old.relabelled }
-{
-    let (told, was) = match tree.node(steps) {
-        None => unreachable!(),
-        Some(node) => (node.label.told.copied(), node.label.faults),
-    };
-    let now = (was as u64 + plus as u64 - minus as u64) as u32;
-    let _written = tree.relabel(steps, Label { told, faults: now });
-    (was, now)
+    let from = counted_from(aim, 0, steps);
+    let change = FaultChange { from, minus, plus };
+    let _changed = tree.change_along(steps, &change);
 }

@@ -3,6 +3,7 @@ pub mod PathSteps
 pub mod ShownTrees
 pub mod PathEnds
 pub mod TreeDepth
+pub mod LabelChanges
 pub mod RowBlocks
 pub mod RowEdits
 pub mod RowReads

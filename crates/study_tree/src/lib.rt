@@ -4,12 +4,14 @@
 //! second) by `edits_in_rows`, `nodes_in_rows` and `rows_are_written`: a plain tree is its list of rows.
 #![tactic(auto)]
 
+mod changes;
 mod fault;
 mod laws;
 mod node;
 mod path;
 mod tree;
 
+pub use changes::{LabelChange, Rewriting};
 pub use fault::TreeFault;
 pub use laws::{edits_in_rows, nodes_in_rows, places_are_shown, rows_are_written};
 pub use path::Path;

@@ -5,8 +5,11 @@ ghost use Rattle.study_tree.specs.Edits.{IsWithin, children_at, plain};
 ghost use Rattle.study_board.specs.Counts.{counted};
 ghost use Rattle.study_tree.specs.Tree.{plain_tree, spare_of, size_of, has_spot, spot_at};
 ghost use Rattle.study_tree.specs.Tree.{with_child, with_label, without, moved_up, child_refusal};
+ghost use Rattle.study_tree.specs.Changes.{counted_by, with_changes, rewritten_tree};
+ghost use Rattle.std.specs.Prelude.{◌+◌, length};
 ghost use Rattle.study_tree.specs.Tree.{removal_refusal, move_up_refusal, label_refusal};
 
+use crate::changes::{LabelChange, Rewriting, change_below, rewrite_below};
 use crate::fault::TreeFault;
 use crate::node::{
     Node, add_below, count_in, move_up_below, node_in, relabel_below, remove_below, reserve_below,
@@ -193,6 +196,38 @@ impl<'a, L: Drop, A: Allocator> Tree<'a, L, A> {
         }
         self.relabelled = self.relabelled.saturating_add(1);
         Ok(())
+    }
+
+    /// Changes the labels along the path, from the root's to that of the path's node.
+    pub fn change_along<C: LabelChange<L>>(
+        &mut self,
+        steps: &[u16],
+        change: &C,
+    ) -> Result<(), TreeFault>
+        ensures refusal { MatchOption (label_refusal (plain_tree self.old) steps.now) (IsOk result) (λ fault. result ≡ Err fault) }
+        ensures changed { OnOk result (plain_tree self.new ≡ with_changes (C.changed change.now) (plain_tree self.old) steps.now) }
+        ensures count { OnOk result (self.new.relabelled ≡ counted_by (length steps.now + 1) self.old.relabelled) }
+        ensures same { OnErr result (self.new ≡ self.old) }
+    {
+        if !self.has(steps) {
+            return Err(TreeFault::NoSuchNode);
+        }
+        change.change(0, &mut self.label);
+        if let Some((first, rest)) = steps.split_first() {
+            change_below(&mut self.children, 1, *first, rest, change);
+        }
+        self.relabelled = self.relabelled.saturating_add(steps.len() as u64 + 1);
+        Ok(())
+    }
+
+    /// Writes all labels, in written order.
+    pub fn rewrite<W: Rewriting<L>>(&mut self, by: &W)
+        ensures written { plain_tree self.new ≡ rewritten_tree (W.pass by.now) (plain_tree self.old) }
+        ensures count { self.new.relabelled ≡ counted_by (size_of (plain_tree self.old)) self.old.relabelled }
+    {
+        by.begin(&mut self.label);
+        rewrite_below(by, 0, 1, &mut self.label, &mut self.children);
+        self.relabelled = self.relabelled.saturating_add(self.size as u64);
     }
 
     /// Takes the node out, with all below it.

@@ -1,5 +1,5 @@
 use Rattle.std.proofs.Common.{◌≡◌, sym, ap, ◌∙◌, Some, None}
-use Rattle.study_tree.specs.Tree.{plain_tree, spot_at}
+use Rattle.study_tree.specs.Tree.{spot_at}
 use Rattle.study_marks.specs.BenchState.{BenchState}
 use Rattle.study_marks.proofs.PathRenewed.{spot-there}
 use Rattle.study_marks.proofs.bench.Bench.mark_after_move.Goals as goal

@@ -1,4 +1,4 @@
-use Rattle.std.proofs.Common.{rules, ◌≡◌, ℕ, [], ◌∷◌, List, ap, sym, ◌∙◌, subst, refl, inl, Err, IfErr}
+use Rattle.std.proofs.Common.{rules, ◌≡◌, ℕ, [], ◌∷◌, List, ap, ◌∙◌, subst, refl, inl, Err, IfErr}
 use Rattle.study_board.specs.Position.{Position}
 use Rattle.study_moves.specs.Rules.{after}
 use Rattle.study_retro.specs.Game.{IsValueOf}

@@ -14,9 +14,6 @@ use Rattle.study_marks.proofs.Readers.{size-marked}
 use Rattle.study_marks.proofs.BenchRewritten.{told-kept, restipulated, stipulated-study, stipulated-plain, stipulated-right}
 use Rattle.study_marks.proofs.bench.Bench.set_stipulation.Goals as goal
 
-pub relabel_all-requires : goal.relabel_all-requires
-relabel_all-requires g c = record { shallow = c.self.invariant.0.shallow }
-
 pub invariant_of-self : goal.invariant_of-self
 invariant_of-self g c =
     let b = kept_of c.self.inside.start c.self.inside.stipulation c.self.inside.tags c.self.inside.tree in
