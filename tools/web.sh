@@ -21,7 +21,7 @@ rm -rf src specs proofs
 (cd "$top/web/$name" && find . -name '*.txt') | while read -r file; do install -D -m 644 "$top/web/$name/$file" "${file%.txt}"; done
 words=(-L "dependency=$kit/rlibs")
 for it in std; do words+=(--extern "$it=$kit/rlibs/$it.rlib"); done
-for it in study_tablefile study_web; do words+=(--extern "$it=$top/crates/$it/out/rlib/$it.rlib"); done
+for it in study_text study_web; do words+=(--extern "$it=$top/crates/$it/out/rlib/$it.rlib"); done
 for it in "$top"/crates/*/out/rlib; do words+=(-L "dependency=$it"); done
 "$kit/bin/rattle" build --crate-name $name src/lib.rt "${words[@]}" --antt-project "$kit/rattle/logic/antt-project.json" --logic-built "$kit/logic_built" \
     --jobs 2 --links $name=c --crate-type staticlib --target $target --toolchain "$kit/toolchain" --backend llvm --incremental out/incremental \

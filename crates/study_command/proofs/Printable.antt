@@ -4,7 +4,7 @@ use Rattle.std.specs.Prelude.{not, ◌&&◌, ◌==◌, nat_le, filter}
 use Rattle.std.specs.List.{list_all, prefix_len, slice_split, onto_first}
 use Rattle.std.specs.Str.{IsAscii}
 use Rattle.std.proofs.lemmas.Bool.{leb-true, cases_Bool}
-use Rattle.study_notation.specs.Words.{is_space, words, begun_word, behind_word}
+use Rattle.study_text.specs.Words.{is_space, words, begun_word, behind_word}
 use Rattle.study_marks.specs.Edits.{is_printable}
 use Rattle.study_command.specs.Parser.{ended, trimmed}
 

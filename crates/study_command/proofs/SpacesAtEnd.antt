@@ -5,7 +5,7 @@ use Rattle.std.specs.List.{list_all}
 use Rattle.std.proofs.lemmas.Bool.{ne_eqb}
 use Rattle.std.proofs.lemmas.List.Folds.{list_all-append}
 use Rattle.std.proofs.lemmas.List.{take_more}
-use Rattle.study_notation.specs.Words.{is_space}
+use Rattle.study_text.specs.Words.{is_space}
 use Rattle.study_command.specs.Parser.{ended}
 
 and_yes : (b : Bool) → (b && true) ≡ b

@@ -3,7 +3,7 @@ use Rattle.std.specs.Prelude.{ℕ, ◌-◌, Bool, not, ◌&&◌, ◌==◌, nat_l
 use Rattle.std.specs.Prelude.{Option, Some, None, Result, Ok, Err, if◌then◌else◌, codes}
 use Rattle.std.specs.List.{list_all}
 use Rattle.std.specs.Str.{bytes_eq}
-use Rattle.study_notation.specs.Words.{words, is_space, begun_word, behind_word}
+use Rattle.study_text.specs.Words.{words, is_space, begun_word, behind_word}
 use Rattle.study_board.specs.declared.men.Side.{Side}
 use Rattle.study_board.specs.declared.men.Side.TheVariants.{White, Black}
 use Rattle.study_marks.specs.Edits.{is_printable}

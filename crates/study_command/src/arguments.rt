@@ -2,12 +2,12 @@
 ghost use Rattle.std.specs.Prelude.{◌≡◌, ◌≤◌, true, take, length, IfSome};
 ghost use Rattle.std.specs.Option.{option_map};
 ghost use Rattle.std.specs.List.{list_all};
-ghost use Rattle.study_notation.specs.Words.{words};
+ghost use Rattle.study_text.specs.Words.{words};
 ghost use Rattle.study_marks.specs.Edits.{is_printable};
 ghost use Rattle.study_command.specs.Parser.{ended, trimmed, text_told, one_word, two_words};
 
 use std::str;
-use study_notation::words::{next_word, space_len};
+use study_text::{next_word, space_len};
 
 /// Printable ASCII as a text.
 pub fn as_text(bytes: &[u8]) -> &str

@@ -7,7 +7,7 @@ ghost use Rattle.study_command.specs.Lines.{TakesLine, BeginsLong, GaveFeeds};
 use std::alloc::{AllocError, Allocator};
 use std::io::Read;
 use std::marker::Model;
-use study_tablefile::DeviceFailed;
+use study_text::DeviceFailed;
 
 /// Why no line is read.
 #[derive(Clone, Copy, Debug, PartialEq, Eq)]

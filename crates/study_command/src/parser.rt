@@ -2,7 +2,7 @@
 ghost use Rattle.std.specs.Prelude.{◌≡◌, true};
 ghost use Rattle.std.specs.Option.{option_map};
 ghost use Rattle.std.specs.List.{list_all};
-ghost use Rattle.study_notation.specs.Words.{words};
+ghost use Rattle.study_text.specs.Words.{words};
 ghost use Rattle.study_marks.specs.Edits.{is_printable};
 ghost use Rattle.study_command.specs.Parser.{count_told, mate_moves_of, side_told, goal_of};
 ghost use Rattle.study_command.specs.Parser.{stipulation_of, tag_told, insert_asked, solve_asked, pgn_asked};
@@ -17,7 +17,7 @@ use crate::command::{
 use crate::path_text::{read_path_word, read_place};
 use study_board::Side;
 use study_marks::{Goal, MateMoves, Stipulation, TagName};
-use study_notation::words::next_word;
+use study_text::next_word;
 
 /// What the line asks for: nothing in a comment or between words, else a command, or the first fault of form.
 #[tactic(auto, using(crate::proofs::Printable::printable_behind), unfolding(crate::specs::Parser::command_of))]

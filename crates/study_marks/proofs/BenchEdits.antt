@@ -9,7 +9,7 @@ use Rattle.study_tree.specs.declared.fault.TreeFault.TheVariants as tree
 use Rattle.study_tree.specs.Forest.{Forest, none, more}
 use Rattle.study_tree.specs.Edits.{IsWithin, last_place, place_edited, dropped_at, raised_at}
 use Rattle.study_tree.proofs.TreeDepth.{IsWithin-place, IsWithin-dropped_at, IsWithin-raised_at}
-use Rattle.study_board.specs.Counts.{counted}
+use Rattle.study_text.specs.Counts.{counted}
 use Rattle.study_tree.specs.Tree.{Plain, has_spot, without, moved_up, removal_refusal, move_up_refusal}
 use Rattle.study_marks.specs.declared.mark.Mark.{Mark}
 use Rattle.study_marks.specs.declared.label.Label.{Label}

@@ -6,7 +6,7 @@ use Rattle.study_tree.specs.Forest.{Forest, none, more, Twig}
 use Rattle.study_tree.specs.Edits.{has_node, node_in, width, with_last, below_edited, place_edited, dropped_at, raised_at, second, children_at, last_place}
 use Rattle.study_tree.specs.declared.fault.TreeFault.{TreeFault}
 use Rattle.study_tree.specs.declared.fault.TreeFault.TheVariants.{NoSuchNode, AlreadyFirst, TooDeep, TreeFull}
-use Rattle.study_board.specs.Counts.{counted}
+use Rattle.study_text.specs.Counts.{counted}
 use Rattle.study_tree.specs.Tree.{Plain, Spot, spot_at, twig_spot, has_spot, with_child, without, moved_up}
 use Rattle.study_tree.specs.Tree.{removal_refusal, move_up_refusal, child_refusal, size_of}
 use Rattle.study_marks.specs.Queries.{counted_times}

@@ -10,7 +10,7 @@ use Rattle.study_moves.specs.Rules.{is_legal, after}
 use Rattle.study_tree.specs.Forest.{Forest, none, more}
 use Rattle.study_tree.specs.Edits.{IsWithin, has_node, children_at}
 use Rattle.study_tree.proofs.TreeDepth.{IsWithin-add_last}
-use Rattle.study_board.specs.Counts.{counted}
+use Rattle.study_text.specs.Counts.{counted}
 use Rattle.study_tree.specs.Tree.{Plain, Spot, has_spot, spot_at, size_of, with_child}
 use Rattle.study_material.specs.declared.class.Class.{Class}
 use Rattle.study_prober.specs.declared.values.ProbeFault.{ProbeFault}

@@ -10,7 +10,7 @@ use Rattle.study_tree.specs.declared.fault.TreeFault.{TreeFault}
 use Rattle.study_tree.specs.declared.fault.TreeFault.TheVariants.{NoSuchNode}
 use Rattle.study_tree.specs.Tree.{Plain, has_spot, size_of, label_refusal}
 use Rattle.study_tree.specs.Changes.{changed_along, with_changes, counted_by}
-use Rattle.study_board.specs.Counts.{counted}
+use Rattle.study_text.specs.Counts.{counted}
 use Rattle.study_marks.specs.declared.label.Label.{Label}
 use Rattle.study_marks.specs.declared.label.Told.{Told}
 use Rattle.study_marks.specs.declared.mark_rules.Aim.{Aim}

@@ -1,7 +1,7 @@
 -- What values answered, one question after the other.
 use Rattle.std.specs.Prelude.{◌≡◌, ℕ, ◌⊎◌, List, [], ◌∷◌, Ok, Err, IsErrOf}
 use Rattle.study_board.specs.Position.{Position, IsValid}
-use Rattle.study_board.specs.Counts.{counted}
+use Rattle.study_text.specs.Counts.{counted}
 use Rattle.study_material.specs.declared.class.Class.{Class}
 use Rattle.study_material.specs.Class.{IsOf}
 use Rattle.study_retro.specs.declared.value.Value.{Value}

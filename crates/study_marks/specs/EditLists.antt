@@ -4,7 +4,7 @@ use Rattle.std.specs.Prelude.{Option, None, Result, Ok, Err, IfErr, OnOk, OnErr,
 use Rattle.study_board.specs.Position.{Position}
 use Rattle.study_moves.specs.Rules.{after}
 use Rattle.study_material.specs.declared.class.Class.{Class}
-use Rattle.study_board.specs.Counts.{counted}
+use Rattle.study_text.specs.Counts.{counted}
 use Rattle.study_tree.specs.Tree.{Plain, size_of, with_child, without, moved_up}
 use Rattle.study_marks.specs.declared.label.Told.{Told}
 use Rattle.study_marks.specs.declared.refusal.Refusal.{Refusal}

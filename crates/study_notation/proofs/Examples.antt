@@ -11,7 +11,7 @@ use Rattle.study_board.specs.Men.{is_blocked, reaches, is_attacked, pawn_capture
 use Rattle.study_board.specs.Position.{Position, is_occupied, has_man, has_one_king, has_end_pawn, is_end_pawn, in_check, could_be_passed}
 use Rattle.study_notation.specs.declared.fault.FenFault.TheVariants.{KingCount, OpponentInCheck}
 use Rattle.study_notation.specs.declared.start.Start.{Start}
-use Rattle.study_notation.specs.Words.{words}
+use Rattle.study_text.specs.Words.{words}
 use Rattle.study_notation.specs.Fen.{fields_of, squares_of, is_rank, placement, placement_fault, position_of, count_of, start_of}
 use Rattle.study_notation.specs.FenSpelling.{rank_field, ranks_text, placement_text}
 use Rattle.study_moves.specs.declared.moves.Move.{Move}

@@ -27,8 +27,8 @@ use Rattle.std.proofs.lemmas.List.Elements.{All-head, All-tail}
 use Rattle.study_board.specs.Position.{IsValid, AllAbove, IsAscending, could_be_passed, passed_possible}
 use Rattle.study_board.proofs.Valid.{IsFaultless, IsFaultless-from_first}
 use Rattle.study_notation.specs.declared.start.Start.{Start}
-use Rattle.study_notation.specs.Words.{is_space, words}
-use Rattle.study_notation.proofs.FirstWord.{is_word, words_cons}
+use Rattle.study_text.specs.Words.{is_space, words}
+use Rattle.study_text.proofs.FirstWord.{is_word, words_cons}
 use Rattle.study_notation.proofs.PlacementParts.{is_stroke}
 
 -- ---- cutting a text at a byte

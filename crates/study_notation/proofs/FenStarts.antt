@@ -22,7 +22,7 @@ use Rattle.study_notation.specs.declared.placement.Piece.{Piece}
 use Rattle.study_notation.specs.Fen.{◌>>=◌, refuse, refuse_any, field_needed, fields_of, is_rank, squares}
 use Rattle.study_notation.specs.Fen.{men_from, placement, placement_fault, side_of, is_dash}
 use Rattle.study_notation.specs.Fen.{passed_of, position_of, is_digit, count_of, start_of}
-use Rattle.study_notation.specs.Words.{words}
+use Rattle.study_text.specs.Words.{words}
 use Rattle.study_notation.specs.FenSpelling.{fen_text}
 use Rattle.study_notation.proofs.PlacementParts.{rank_len}
 use Rattle.study_notation.proofs.DigitCounts.{digit_is}

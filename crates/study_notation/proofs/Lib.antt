@@ -1,4 +1,3 @@
-pub mod FirstWord
 pub mod PlacementParts
 pub mod DigitCounts
 pub mod PlacementFaults

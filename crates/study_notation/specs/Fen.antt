@@ -1,5 +1,5 @@
 -- What a FEN text says: the start, or the first fault.
-use Rattle.study_notation.specs.Words.{words}
+use Rattle.study_text.specs.Words.{words}
 use Rattle.study_notation.specs.FenSpelling.{man_letter}
 use Rattle.std.specs.Prelude.{ℕ, ◌+◌, ◌-◌, ◌*◌, Bool, true, false, not, ◌&&◌, ◌||◌, List, []}
 use Rattle.std.specs.Prelude.{◌∷◌, length, reverse, replicate, Option, Some, None, Result, Ok}

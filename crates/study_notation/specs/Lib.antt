@@ -1,4 +1,3 @@
-pub mod Words
 pub mod Fen
 pub mod FieldsView
 pub mod FenSpelling

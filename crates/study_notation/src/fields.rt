@@ -3,10 +3,10 @@ ghost use Rattle.std.specs.Prelude.{◌≡◌, ◌<◌, ◌+◌};
 ghost use Rattle.std.specs.Option.{option_map};
 ghost use Rattle.study_notation.specs.Fen.{fields_of, side_of, passed_of, count_of, is_dash};
 ghost use Rattle.study_notation.specs.FieldsView.{fields_view};
-ghost use Rattle.study_notation.specs.Words.{words};
+ghost use Rattle.study_text.specs.Words.{words};
 
-use crate::words::next_word;
 use study_board::{Side, Square};
+use study_text::next_word;
 
 /// The six fields of a FEN text.
 #[derive(Clone, Copy)]

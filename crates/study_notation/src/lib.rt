@@ -20,7 +20,6 @@ mod san_parts;
 mod san_reader;
 mod san_writer;
 mod start;
-pub mod words;
 
 pub use fault::{FenFault, SanFault};
 pub use fen_reader::read_fen;

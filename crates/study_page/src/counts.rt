@@ -2,7 +2,7 @@
 
 use std::alloc::{AllocError, Allocator};
 use study_board::{Kind, Man, Side};
-use study_pgn::Text;
+use study_text::Text;
 
 fn count_of(men: &[Man], side: Side, kind: Kind) -> u32 {
     let mut count = 0u32;

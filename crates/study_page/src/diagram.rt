@@ -10,7 +10,8 @@ use crate::element::Element;
 use crate::html::Html;
 use std::alloc::{AllocError, Allocator};
 use study_board::{Kind, Man, Position, Side};
-use study_pgn::{Text, side_name};
+use study_pgn::side_name;
+use study_text::Text;
 
 fn letter(kind: Kind) -> u8
     ensures { result ≡ letter kind }

@@ -5,7 +5,7 @@ ghost use Rattle.study_page.specs.Drawings.{side_class, colour, shape, size, cel
 
 use std::alloc::{AllocError, Allocator};
 use study_board::{Kind, Man, Side, Square};
-use study_pgn::Text;
+use study_text::Text;
 
 /// What markup has without anything inside.
 #[derive(Clone, Copy)]

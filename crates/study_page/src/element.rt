@@ -3,7 +3,7 @@ ghost use Rattle.std.specs.Prelude.{◌≡◌, ◌++◌, OnOk};
 ghost use Rattle.study_page.specs.Elements.{name, fixed, attributes, opening, closing, inside};
 
 use std::alloc::{AllocError, Allocator};
-use study_pgn::Text;
+use study_text::Text;
 
 /// An element of a page, by what it is for.
 #[derive(Clone, Copy)]

@@ -3,7 +3,7 @@ ghost use Rattle.std.specs.Prelude.{◌≡◌, ◌<◌, ◌++◌, OnOk};
 ghost use Rattle.study_page.specs.Escape.{entity, hex_digit, shown, said};
 
 use std::alloc::{AllocError, Allocator};
-use study_pgn::Text;
+use study_text::Text;
 
 /// The digit, of sixteen.
 fn hex_digit(digit: u8) -> u8

@@ -3,7 +3,7 @@
 use std::alloc::{AllocError, AllocFailed};
 use study_prober::ProbeFault;
 use study_review::ReviewFault;
-use study_tablefile::DeviceFailed;
+use study_text::DeviceFailed;
 use thiserror::Error;
 
 /// Why a part of the pages is not written, or not whole.

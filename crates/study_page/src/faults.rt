@@ -13,9 +13,10 @@ use std::alloc::{AllocError, Allocator};
 use study_board::Position;
 use study_moves::Move;
 use study_notation::Start;
-use study_pgn::{Text, add_san, add_value};
+use study_pgn::{add_san, add_value};
 use study_retro::Value;
 use study_review::{Alternative, Continuation};
+use study_text::Text;
 
 fn add_lost<A: Allocator>(text: &mut Text<'_, A>, time: Option<u8>) -> Result<(), AllocError>
     ensures { OnOk result (text.new ≡ text.old ++ lost_words time) }

@@ -1,11 +1,11 @@
 //! What comes before the first page and after the last.
 ghost use Rattle.std.specs.Prelude.{◌≡◌, OnOk, OnErr};
 ghost use Rattle.std.specs.Io.KnownBytes.{Appends};
-ghost use Rattle.study_tablefile.specs.Taken.{TakesPrefix};
+ghost use Rattle.study_text.specs.Taken.{TakesPrefix};
 ghost use Rattle.study_page.specs.Frame.{opening, closing};
 
 use std::io::Write;
-use study_tablefile::{DeviceFailed, write_text};
+use study_text::{DeviceFailed, write_text};
 
 /// The style sheet, the shapes of the men, and the board.
 fn opening() -> &'static [u8]

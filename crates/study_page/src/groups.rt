@@ -14,8 +14,9 @@ use std::alloc::{AllocError, Allocator};
 use study_board::Position;
 use study_moves::{Move, legal_moves, played};
 use study_notation::write_san;
-use study_pgn::{Text, add_san};
+use study_pgn::add_san;
 use study_review::Defence;
+use study_text::Text;
 
 fn add_several<A: Allocator>(text: &mut Text<'_, A>, answers: u16) -> Result<(), AllocError>
     ensures { OnOk result (text.new ≡ text.old ++ several_words answers) }

@@ -16,7 +16,8 @@ use std::alloc::{AllocError, Allocator};
 use study_board::{Man, Side};
 use study_marks::{Bench, TagName};
 use study_notation::write_fen;
-use study_pgn::{Text, add_stipulation};
+use study_pgn::add_stipulation;
+use study_text::Text;
 
 /// The title: the tag Event.
 fn put_title<'a, 'b, A: Allocator, B: Allocator>(

@@ -10,7 +10,7 @@ use crate::element::{Element, add_inside};
 use crate::escape::add_said;
 use std::alloc::{AllocError, Allocator};
 use std::marker::Model;
-use study_pgn::Text;
+use study_text::Text;
 
 /// Markup in memory, to which more is added at the end: words, whole elements and drawings, and nothing else. Where there is no
 /// memory for more, nothing is left of it.

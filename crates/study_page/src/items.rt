@@ -19,9 +19,10 @@ use std::alloc::{AllocError, Allocator};
 use study_board::{Position, Side};
 use study_moves::{Move, legal_moves};
 use study_notation::Start;
-use study_pgn::{Text, add_san, add_value};
+use study_pgn::{add_san, add_value};
 use study_retro::Value;
 use study_review::{Alternative, Continuation};
+use study_text::Text;
 
 /// An element with words in it.
 pub fn put_words<'a, A: Allocator>(

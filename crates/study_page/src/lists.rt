@@ -1,7 +1,7 @@
 //! Refused lines, and the list of all entries.
 ghost use Rattle.std.specs.Prelude.{◌≡◌, ◌++◌, OnOk, IfOk, Err, decimal};
 ghost use Rattle.std.specs.Io.KnownBytes.{Appends};
-ghost use Rattle.study_tablefile.specs.Taken.{TakesPrefix};
+ghost use Rattle.study_text.specs.Taken.{TakesPrefix};
 ghost use Rattle.study_marks.specs.BenchState.{marked};
 ghost use Rattle.study_marks.specs.Study.{tag_of};
 ghost use Rattle.study_marks.specs.declared.tag.TagName.TheVariants as tag;
@@ -20,8 +20,8 @@ use crate::verdict::{add_stamp_words, judge};
 use std::alloc::{AllocError, Allocator};
 use std::io::Write;
 use study_marks::{Bench, TagName};
-use study_pgn::{Text, add_stipulation};
-use study_tablefile::write_text;
+use study_pgn::add_stipulation;
+use study_text::{Text, write_text};
 
 fn put_number<'a, A: Allocator>(
     alloc: &'a A,

@@ -1,7 +1,7 @@
 //! The page of a study, and its way to a writer.
 ghost use Rattle.std.specs.Prelude.{◌≡◌, ◌++◌, ℕ, List, OnOk, IfOk, Err};
 ghost use Rattle.std.specs.Io.KnownBytes.{Appends};
-ghost use Rattle.study_tablefile.specs.Taken.{TakesPrefix};
+ghost use Rattle.study_text.specs.Taken.{TakesPrefix};
 ghost use Rattle.study_marks.specs.BenchState.{marked, IsKeptRight};
 ghost use Rattle.study_marks.specs.Study.{plain_study};
 ghost use Rattle.study_prober.specs.declared.values.ProbeFault.{ProbeFault as AProbeFault};
@@ -24,10 +24,9 @@ use crate::walk::{Part, add_each};
 use std::alloc::{AllocError, Allocator};
 use std::io::Write;
 use study_marks::Bench;
-use study_pgn::Text;
 use study_prober::Values;
 use study_review::ReviewFault;
-use study_tablefile::write_text;
+use study_text::{Text, write_text};
 
 /// What is made of the nodes, part by part.
 #[derive(Drop)]

@@ -25,13 +25,13 @@ use std::alloc::{AllocError, Allocator};
 use study_board::Position;
 use study_marks::{Bench, MoveMark};
 use study_notation::Start;
-use study_pgn::Text;
 use study_prober::Values;
 use study_retro::Value;
 use study_review::{
     Alternative, Continuation, Defence, Made, Node, Place, best_play, children_in, defences,
     drawing_moves, made_in, place_in, refutations, timed_alternatives, value_at,
 };
+use study_text::Text;
 
 /// The item of a dual.
 fn add_dual<'a, A: Allocator, V: Values>(

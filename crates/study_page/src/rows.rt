@@ -14,9 +14,10 @@ use std::alloc::{AllocError, Allocator};
 use study_board::{Position, Side};
 use study_moves::{legal_moves, played};
 use study_notation::Start;
-use study_pgn::{Text, add_san};
+use study_pgn::add_san;
 use study_retro::Value;
 use study_review::{Continuation, add_move};
+use study_text::Text;
 
 fn is_white(side: Side) -> bool
     ensures { result ≡ is_white side }

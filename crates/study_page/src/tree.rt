@@ -10,8 +10,9 @@ use crate::signs::mark_at;
 use crate::words::add_short;
 use std::alloc::{AllocError, Allocator};
 use study_marks::{Bench, MoveMark, hero_moves};
-use study_pgn::{Text, add_san};
+use study_pgn::add_san;
 use study_review::{Made, aim_in, count_at, made_in, value_at};
+use study_text::Text;
 
 fn move_element(mark: Option<MoveMark>) -> Element {
     match mark {

@@ -13,9 +13,10 @@ use crate::items::put_words;
 use std::alloc::{AllocError, Allocator};
 use study_board::Side;
 use study_marks::{Bench, Mark, Stipulation};
-use study_pgn::{Text, add_value, is_right, root_mark};
+use study_pgn::{add_value, is_right, root_mark};
 use study_retro::Value;
 use study_review::is_empty;
+use study_text::Text;
 
 /// The verdict on a study: wrong, sound, or unsound with so many faults.
 #[derive(Clone, Copy)]

@@ -6,12 +6,12 @@ ghost use Rattle.study_marks.specs.declared.mark.Mark.{Mark as AMark};
 ghost use Rattle.study_marks.specs.Verdict.{verdict};
 ghost use Rattle.study_pgn.specs.Pgn.{goal_text, stipulation_text, verdict_text, opening_words, opening_text};
 
-use crate::text_buffer::Text;
 use crate::value_text::{add_value, side_name};
 use std::alloc::{AllocError, Allocator};
 use study_board::Side;
 use study_marks::{Goal, Mark, Stipulation, hero_loses, hero_mates};
 use study_retro::Value;
+use study_text::Text;
 
 fn add_goal<A: Allocator>(text: &mut Text<'_, A>, goal: Goal) -> Result<(), AllocError>
     ensures { OnOk result (text.new ≡ text.old ++ goal_text goal) }

@@ -1,21 +1,20 @@
 //! The text of a study, and its way to a writer.
 ghost use Rattle.std.specs.Prelude.{◌≡◌, OnOk, IfOk, Err, Some};
 ghost use Rattle.std.specs.Io.KnownBytes.{Appends};
-ghost use Rattle.study_tablefile.specs.Taken.{TakesPrefix};
+ghost use Rattle.study_text.specs.Taken.{TakesPrefix};
 ghost use Rattle.study_marks.specs.BenchState.{marked};
 ghost use Rattle.study_pgn.specs.Pgn.{movetext, pgn_text};
 
 use crate::PgnFault;
 use crate::root_comment::add_root_comment;
 use crate::tags::add_tags;
-use crate::text_buffer::Text;
 use crate::value_text::result_text;
 use crate::variations::add_moves_below;
 use crate::wrap::add_wrapped;
 use std::alloc::{AllocError, Allocator};
 use std::io::Write;
 use study_marks::{Bench, Mark};
-use study_tablefile::write_text;
+use study_text::{Text, write_text};
 
 /// The mark of the root.
 pub fn root_mark<'b, B: Allocator>(bench: &Bench<'b, B>) -> Mark

@@ -2,7 +2,7 @@
 use Rattle.std.proofs.Common.{◌≡◌, ℕ, List, ◌++◌, Option, Some, None, Result, Ok, Err, refl, inl, inr, true, false, Bool, is_err}
 use Rattle.std.specs.Prelude.{IfSome, OnOk}
 use Rattle.std.specs.Io.KnownBytes.{Appends}
-use Rattle.study_tablefile.specs.Taken.{TakesPrefix}
+use Rattle.study_text.specs.Taken.{TakesPrefix}
 use Rattle.study_marks.specs.Edits.{Plainly}
 use Rattle.study_script.specs.declared.run.Summary.{Summary}
 use Rattle.study_script.specs.declared.run.RunFault.{RunFault}

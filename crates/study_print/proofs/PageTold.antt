@@ -1,6 +1,6 @@
 -- The page of an annotated study, which is that of the plain one.
 use Rattle.std.proofs.Common.{ℕ, List, Option, refl}
-use Rattle.study_tablefile.specs.Taken.{TakesPrefix}
+use Rattle.study_text.specs.Taken.{TakesPrefix}
 use Rattle.study_marks.specs.BenchState.{BenchState, marked, IsKeptRight}
 use Rattle.study_marks.specs.Study.{plain_study}
 use Rattle.study_page.specs.Page.{IsPage, IsPageOf}

@@ -1,7 +1,7 @@
 //! What comes after the last page.
 ghost use Rattle.std.specs.Prelude.{◌≡◌, Err, OnOk};
 ghost use Rattle.std.specs.Io.KnownBytes.{Appends};
-ghost use Rattle.study_tablefile.specs.Taken.{TakesPrefix};
+ghost use Rattle.study_text.specs.Taken.{TakesPrefix};
 ghost use Rattle.study_print.specs.Pages.{summary_text, end_text, is_broken, IsEnded};
 
 use crate::pages::Count;

@@ -6,7 +6,7 @@ use Rattle.study_retro.specs.Table.{Table}
 use Rattle.study_tablefile.specs.declared.fault.SourceFault.{SourceFault}
 use Rattle.study_tablefile.specs.declared.fault.FileFault.{FileFault}
 use Rattle.study_tablefile.specs.declared.source.Header.{Header}
-use Rattle.study_board.specs.Counts.{counted}
+use Rattle.study_text.specs.Counts.{counted}
 use Rattle.study_tablefile.specs.Source.{of_header}
 use Rattle.study_tablefile.specs.File.{header_text}
 use Rattle.study_tablefile.specs.Reading.{version_of, class_read}

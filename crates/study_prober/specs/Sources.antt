@@ -10,7 +10,7 @@ use Rattle.study_retro.specs.declared.value.Value.{Value}
 use Rattle.study_tablefile.specs.declared.source.Header.{Header}
 use Rattle.study_tablefile.specs.File.{IsVersionOf, fields_text, page_cells_of}
 use Rattle.study_tablefile.specs.declared.fault.SourceFault.{SourceFault}
-use Rattle.study_board.specs.Counts.{counted}
+use Rattle.study_text.specs.Counts.{counted}
 use Rattle.study_tablefile.specs.Source.{is_whole_page, Question, of_page}
 use Rattle.study_prober.specs.declared.open_table.OpenTable.{OpenTable}
 use Rattle.study_prober.specs.declared.page_cache.PageKey.{PageKey}

@@ -1,7 +1,7 @@
 -- Answers to the question for a position's value.
 use Rattle.std.specs.Prelude.{ℕ, Bool, true, false, Result, Ok, Err, if◌then◌else◌}
 use Rattle.study_retro.specs.declared.value.Value.{Value}
-use Rattle.study_board.specs.Counts.{counted}
+use Rattle.study_text.specs.Counts.{counted}
 use Rattle.study_prober.specs.declared.values.ProbeFault.{ProbeFault}
 use Rattle.study_prober.specs.declared.values.ProbeFault.TheVariants.{NoTable, TableRead, PageDamaged}
 

@@ -1,7 +1,7 @@
 //! Sources of pages, each with what its header says, and the cells of their tables.
 ghost use Rattle.std.specs.Prelude.{◌≡◌, ◌<◌, ◌/◌, ℕ, List, Result, Err, None, IfOk, OnOk, OnErr, IsErrOf, Contains, slice_index, take};
 ghost use Rattle.study_material.specs.declared.class.Class.{Class as AClass};
-ghost use Rattle.study_board.specs.Counts.{counted};
+ghost use Rattle.study_text.specs.Counts.{counted};
 ghost use Rattle.study_retro.specs.Cells.{value_of};
 ghost use Rattle.study_material.specs.Class.{class_number};
 ghost use Rattle.study_retro.specs.Table.{Table as Seen, IsComplete};

@@ -5,7 +5,7 @@ ghost use Rattle.study_material.specs.declared.class.Class.{Class as AClass};
 ghost use Rattle.study_material.specs.Class.{IsOf};
 ghost use Rattle.study_index.specs.Computed.{index_of};
 ghost use Rattle.study_retro.specs.Game.{IsValueOf};
-ghost use Rattle.study_board.specs.Counts.{counted};
+ghost use Rattle.study_text.specs.Counts.{counted};
 ghost use Rattle.study_tablefile.specs.declared.fault.SourceFault.{SourceFault as ASourceFault};
 ghost use Rattle.study_prober.specs.Values.{ProbeAnswer, IsNotDamage, faults_after};
 

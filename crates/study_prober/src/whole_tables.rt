@@ -10,7 +10,7 @@ ghost use Rattle.study_material.specs.Class.{class_number};
 ghost use Rattle.study_retro.specs.Table.{Table as Seen, table_of};
 ghost use Rattle.study_retro.specs.TableSet.{add_fault};
 ghost use Rattle.study_retro.specs.Sound.{IsRight};
-ghost use Rattle.study_board.specs.Counts.{counted};
+ghost use Rattle.study_text.specs.Counts.{counted};
 ghost use Rattle.study_tablefile.specs.declared.fault.SourceFault.{SourceFault as ASourceFault};
 ghost use Rattle.study_prober.specs.Values.{IsNotDamage, faults_after};
 ghost use Rattle.study_prober.specs.WholeTables.{TablesAreRight, IsCellAnswer, Whole};

@@ -3,7 +3,7 @@ ghost use Rattle.std.specs.Prelude.{⊤, ◌≡◌, true, None, OnOk, OnErr, vec
 ghost use Rattle.std.specs.Io.KnownBytes.{Consumes};
 ghost use Rattle.study_tablefile.specs.Reading.{IsShort};
 ghost use Rattle.study_tablefile.specs.declared.fault.SourceFault.TheVariants.{Device, Short};
-ghost use Rattle.study_board.specs.Counts.{counted};
+ghost use Rattle.study_text.specs.Counts.{counted};
 
 use std::alloc::{AllocError, Allocator};
 use std::io::{ErrorKind, Read, Seek, SeekFrom};

@@ -2,7 +2,7 @@
 ghost use Rattle.std.specs.Prelude.{◌≡◌, ◌++◌, ◌∷◌, [], codes, decimal, OnOk, OnErr};
 ghost use Rattle.std.specs.Io.KnownBytes.{Appends};
 ghost use Rattle.clap.specs.Values.{kind_of};
-ghost use Rattle.study_tablefile.specs.Taken.{TakesPrefix};
+ghost use Rattle.study_text.specs.Taken.{TakesPrefix};
 ghost use Rattle.study_program.specs.Status.{status_told, status_unread, stop_text};
 
 use clap::Error;
@@ -10,7 +10,7 @@ use clap::error::ErrorKind;
 use itoa::Buffer;
 use std::io::Write;
 use study_script::run::{RunFault, Summary};
-use study_tablefile::{DeviceFailed, write_text};
+use study_text::{DeviceFailed, write_text};
 
 /// The exit status after a run.
 pub fn status_of(answer: &Result<Summary, RunFault>) -> u8

@@ -1,14 +1,14 @@
 //! Paths, written into a reply.
 ghost use Rattle.std.specs.Prelude.{◌∷◌, ◌++◌, [], OnOk, OnErr, codes, decimal};
 ghost use Rattle.std.specs.Io.KnownBytes.{Appends};
-ghost use Rattle.study_tablefile.specs.Taken.{TakesPrefix};
+ghost use Rattle.study_text.specs.Taken.{TakesPrefix};
 ghost use Rattle.study_command.specs.Paths.{path_text, more_places};
 ghost use Rattle.study_reply.specs.Words.{raised};
 ghost use Rattle.study_reply.specs.Words.{reply_line};
 
 use itoa::Buffer;
 use std::io::Write;
-use study_tablefile::{DeviceFailed, write_text};
+use study_text::{DeviceFailed, write_text};
 
 /// Writes a path, without leading zeros.
 pub fn put_path<W: Write>(out: &mut W, steps: &[u16]) -> Result<(), DeviceFailed>

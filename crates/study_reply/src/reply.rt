@@ -2,7 +2,7 @@
 ghost use Rattle.std.specs.Prelude.{◌≡◌, ◌++◌, ◌∷◌, [], codes, is_err, IfOk, OnOk, OnErr};
 ghost use Rattle.std.specs.Io.KnownBytes.{Appends};
 ghost use Rattle.study_notation.specs.FenSpelling.{fen_text};
-ghost use Rattle.study_tablefile.specs.Taken.{TakesPrefix};
+ghost use Rattle.study_text.specs.Taken.{TakesPrefix};
 ghost use Rattle.study_reply.specs.Words.{reply_line, insert_text};
 ghost use Rattle.study_reply.specs.Replied.{reply_text, refused_words, answer_text};
 
@@ -18,7 +18,7 @@ use std::io::Write;
 use study_marks::{Mark, Refusal as EditRefusal, Stipulation, TagName};
 use study_notation::{Start, write_fen};
 use study_pgn::tag_name;
-use study_tablefile::{DeviceFailed, write_text};
+use study_text::{DeviceFailed, write_text};
 use study_tree::Path;
 
 /// What a line did, with what its reply needs.

@@ -2,7 +2,7 @@
 ghost use Rattle.std.specs.Prelude.{◌≡◌, ◌++◌, codes, decimal, OnOk, OnErr};
 ghost use Rattle.std.specs.Io.KnownBytes.{Appends};
 ghost use Rattle.study_material.specs.Class.{name_of};
-ghost use Rattle.study_tablefile.specs.Taken.{TakesPrefix};
+ghost use Rattle.study_text.specs.Taken.{TakesPrefix};
 ghost use Rattle.study_reply.specs.Words.{reply_line, built_text};
 ghost use Rattle.study_reply.specs.TableReply.{table_text};
 
@@ -11,7 +11,8 @@ use itoa::Buffer;
 use std::io::Write;
 use study_index::cells;
 use study_material::Class;
-use study_tablefile::{DeviceFailed, file_bytes, write_text};
+use study_tablefile::file_bytes;
+use study_text::{DeviceFailed, write_text};
 
 /// What a command of a class did.
 #[derive(Clone, Copy, Debug, PartialEq, Eq)]

@@ -4,7 +4,7 @@ ghost use Rattle.std.specs.Io.KnownBytes.{Appends};
 ghost use Rattle.std.specs.List.{All};
 ghost use Rattle.study_moves.specs.Rules.{is_legal};
 ghost use Rattle.study_notation.specs.Written.{move_text};
-ghost use Rattle.study_tablefile.specs.Taken.{TakesPrefix};
+ghost use Rattle.study_text.specs.Taken.{TakesPrefix};
 ghost use Rattle.study_command.specs.Paths.{path_text};
 ghost use Rattle.study_reply.specs.Names.{argument_text, words_of, edit_words, of_probe};
 ghost use Rattle.study_reply.specs.Words.{reply_line, moves_listed, list_text, moves_text};
@@ -23,7 +23,7 @@ use study_moves::{Move, in_check, legal_moves};
 use study_notation::write_san;
 use study_prober::ProbeFault;
 use study_retro::Value;
-use study_tablefile::{DeviceFailed, write_text};
+use study_text::{DeviceFailed, write_text};
 
 /// Writes words and a line feed.
 pub fn put_line<W: Write>(out: &mut W, front: &[u8], back: &[u8]) -> Result<(), DeviceFailed>

@@ -15,7 +15,7 @@ use Rattle.study_command.proofs.LineTaken.{HasMore}
 use Rattle.study_script.specs.State.{State, Document}
 use Rattle.study_script.specs.Outcome.{AreShort}
 use Rattle.study_script.proofs.FirstLines.{Gone, gone_write}
-use Rattle.study_tablefile.specs.Taken.{TakesPrefix}
+use Rattle.study_text.specs.Taken.{TakesPrefix}
 use Rattle.study_report.specs.declared.told.Told.{Told}
 use Rattle.study_report.specs.declared.told.Told.TheVariants.{Nothing, Study as AStudy, Refusal as ARefusal}
 use Rattle.study_reply.specs.declared.refusal.Refusal.TheVariants.{NotAClass}

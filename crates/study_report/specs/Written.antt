@@ -1,7 +1,7 @@
 -- What a line leaves behind.
 use Rattle.std.specs.Prelude.{◌≡◌, ℕ, Bool, false, List, Option, Ok, Err}
 use Rattle.std.specs.Io.KnownBytes.{Appends}
-use Rattle.study_tablefile.specs.Taken.{TakesPrefix}
+use Rattle.study_text.specs.Taken.{TakesPrefix}
 use Rattle.study_material.specs.declared.class.Class.{Class}
 use Rattle.study_marks.specs.Edits.{Plainly}
 use Rattle.study_script.specs.declared.run.RunFault.{RunFault}

@@ -28,7 +28,7 @@ use study_script::session::{Interpreter, Session};
 use study_script::store::TableStore;
 use study_script::tables::Tables;
 use study_tablefile::PageSource;
-use study_tablefile::memory::MemoryWriter;
+use study_text::MemoryWriter;
 
 /// The reply to a line, in memory.
 #[derive(Drop)]

@@ -1,7 +1,7 @@
 //! A report in lines of plain text, a fact a line.
 ghost use Rattle.std.specs.Prelude.{◌≡◌, drop, OnOk, OnErr};
 ghost use Rattle.std.specs.Io.KnownBytes.{Appends};
-ghost use Rattle.study_tablefile.specs.Taken.{TakesPrefix};
+ghost use Rattle.study_text.specs.Taken.{TakesPrefix};
 ghost use Rattle.study_report.specs.Lines.{refusal_line};
 
 use crate::report::{NotTold, Report};
@@ -11,7 +11,7 @@ use std::io::Write;
 use study_marks::Bench;
 use study_prober::Values;
 use study_review::{ReviewFault, write_review};
-use study_tablefile::{DeviceFailed, write_text};
+use study_text::{DeviceFailed, write_text};
 
 /// Studies as their reviews, and refused lines as `refused 7 NoTable KRK`.
 #[derive(Clone, Copy, Debug, PartialEq, Eq)]

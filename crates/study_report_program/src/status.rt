@@ -1,13 +1,13 @@
 //! What the program tells on standard error.
 ghost use Rattle.std.specs.Prelude.{◌≡◌, ◌++◌, codes, decimal, OnOk, OnErr};
 ghost use Rattle.std.specs.Io.KnownBytes.{Appends};
-ghost use Rattle.study_tablefile.specs.Taken.{TakesPrefix};
+ghost use Rattle.study_text.specs.Taken.{TakesPrefix};
 
 use itoa::Buffer;
 use std::io::Write;
 use study_material::Class;
 use study_script::run::RunFault;
-use study_tablefile::{DeviceFailed, write_text};
+use study_text::{DeviceFailed, write_text};
 
 /// Tells why a run stopped, in a line of its own: `studyreport: LineTooLong 3`.
 ///

@@ -11,7 +11,7 @@ use study_reply::refusal::Refusal;
 use study_reply::words::refuse;
 use study_report::without_error;
 use study_script::store::{StoreFault, TableStore};
-use study_tablefile::memory::MemoryWriter;
+use study_text::MemoryWriter;
 
 /// Why the file of a class gives no table.
 #[derive(Clone, Copy, Debug, PartialEq, Eq)]

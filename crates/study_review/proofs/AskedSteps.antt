@@ -1,7 +1,7 @@
 -- Questions, one after the other.
 use Rattle.std.proofs.Common.{◌≡◌, ℕ, List, [], ◌∷◌, ◌++◌, Result, Ok, Err, IsErrOf, inl, inr, refl, subst}
 use Rattle.study_board.specs.Position.{Position, IsValid}
-use Rattle.study_board.specs.Counts.{counted}
+use Rattle.study_text.specs.Counts.{counted}
 use Rattle.study_material.specs.declared.class.Class.{Class}
 use Rattle.study_material.specs.Class.{IsOf}
 use Rattle.study_tablefile.specs.declared.fault.SourceFault.{SourceFault}

@@ -18,8 +18,8 @@ use crate::words::add_missing_line;
 use std::alloc::Allocator;
 use study_marks::holds;
 use study_moves::{Move, legal_moves, played};
-use study_pgn::Text;
 use study_prober::Values;
+use study_text::Text;
 
 /// How many moves hold, and the move where it is one.
 #[derive(Clone, Copy)]

@@ -3,7 +3,7 @@
 use crate::continuation::Continuation;
 use std::alloc::Allocator;
 use study_board::Position;
-use study_pgn::Text;
+use study_text::Text;
 
 /// The lines of the faults with those before them, the lines of the nodes, and the moves that were asked last.
 #[derive(Drop)]

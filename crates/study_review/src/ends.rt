@@ -17,9 +17,9 @@ use arrayvec::ArrayVec;
 use std::alloc::Allocator;
 use study_board::Position;
 use study_moves::played;
-use study_pgn::Text;
 use study_prober::Values;
 use study_retro::Value;
+use study_text::Text;
 
 /// The first of these moves with the best value.
 fn best_of(p: &Position, told: &[Continuation]) -> Option<Continuation>

@@ -2,7 +2,7 @@
 
 use std::alloc::{AllocError, AllocFailed};
 use study_prober::ProbeFault;
-use study_tablefile::DeviceFailed;
+use study_text::DeviceFailed;
 use thiserror::Error;
 
 /// Why the review of a study is not written, or not whole.

@@ -1,7 +1,7 @@
 //! The review of a study, and its way to a writer.
 ghost use Rattle.std.specs.Prelude.{◌≡◌, ◌++◌, ◌≤◌, List, ℕ, OnOk, IfOk, IfErr, Ok, Err, Some};
 ghost use Rattle.std.specs.Io.KnownBytes.{Appends};
-ghost use Rattle.study_tablefile.specs.Taken.{TakesPrefix};
+ghost use Rattle.study_text.specs.Taken.{TakesPrefix};
 ghost use Rattle.study_tree.specs.Edits.{width};
 ghost use Rattle.study_marks.specs.Goals.{aim_of};
 ghost use Rattle.study_marks.specs.BenchState.{marked, IsKeptRight};
@@ -19,9 +19,9 @@ use std::alloc::{AllocError, Allocator};
 use std::io::Write;
 use study_marks::{Bench, Mark, hero_moves};
 use study_notation::write_fen;
-use study_pgn::{Text, add_opening_words, root_mark};
+use study_pgn::{add_opening_words, root_mark};
 use study_prober::Values;
-use study_tablefile::write_text;
+use study_text::{Text, write_text};
 
 /// Where the study starts.
 #[tactic(auto, unfolding(crate::specs::Review::study_line))]

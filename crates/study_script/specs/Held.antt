@@ -5,7 +5,7 @@ use Rattle.std.specs.Io.KnownBytes.{Appends}
 use Rattle.study_board.specs.Position.{Position}
 use Rattle.study_tablefile.specs.declared.fault.SourceFault.{SourceFault}
 use Rattle.study_tablefile.specs.Source.{Question}
-use Rattle.study_tablefile.specs.Taken.{TakesPrefix}
+use Rattle.study_text.specs.Taken.{TakesPrefix}
 use Rattle.study_material.specs.declared.class.Class.{Class}
 use Rattle.study_retro.specs.Table.{Table, table_of}
 use Rattle.study_prober.specs.Values.{ProbeAnswer}

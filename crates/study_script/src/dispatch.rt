@@ -23,7 +23,7 @@ use study_command::read_command;
 use study_reply::refusal::Refusal;
 use study_reply::reply::{Answer, write_reply};
 use study_reply::words::refuse;
-use study_tablefile::DeviceFailed;
+use study_text::DeviceFailed;
 
 /// Writes the reply to a line, keeps what is held after it, and tells whether the line was refused.
 pub fn answer<'a, W: Write, S: TableStore, A: Allocator>(

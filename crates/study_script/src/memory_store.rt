@@ -10,7 +10,8 @@ use std::cell::RefCell;
 use std::io;
 use std::io::{ErrorKind, Write};
 use study_material::Class;
-use study_tablefile::memory::{MemoryReader, MemorySource, MemoryWriter};
+use study_tablefile::MemorySource;
+use study_text::{MemoryReader, MemoryWriter};
 
 /// The file of a class.
 #[derive(Clone, Copy)]

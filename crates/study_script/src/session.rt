@@ -12,7 +12,7 @@ use crate::store::TableStore;
 use crate::tables::Tables;
 use std::alloc::Allocator;
 use std::io::Write;
-use study_tablefile::DeviceFailed;
+use study_text::DeviceFailed;
 
 /// Answers lines one by one, and holds what a script holds.
 pub trait Interpreter {

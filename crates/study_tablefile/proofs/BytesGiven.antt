@@ -72,11 +72,6 @@ pub long_enough : (front rest : List ℕ) (n : ℕ) → length front ≡ n → n
 long_enough front rest n e = le-ltb (length (front ++ rest)) n (omega (arith, length-append front rest, e))
 
 -- one byte is given: the first of what is left
-pub byte_given : (text buf : List ℕ) (i d : ℕ) → i < length text → 0 < length buf
-    → drop i text ≡ take 1 (slice_set buf 0 (slice_index_or text i d)) ++ drop (i + 1) text
-byte_given text [] i d within some = absurd (omega arith)
-byte_given text (x ∷ xs) i d within some = drop_more text i d within
-
 -- ---- pages
 
 pub page_told : (fields page rest : List ℕ) (n : ℕ) → length page ≡ 4128

@@ -1,4 +1,3 @@
-pub mod TextTaken
 pub mod ClassBounds
 pub mod Lists
 pub mod PagesWritten

@@ -1,11 +1,7 @@
-//! What can go wrong with a device.
+//! What can go wrong with the file of a table.
 
+use study_text::DeviceFailed;
 use thiserror::Error;
-
-/// A reader or a writer failed, or a writer took nothing.
-#[derive(Clone, Copy, Debug, PartialEq, Eq, Error)]
-#[error("a device failed")]
-pub struct DeviceFailed;
 
 /// Why a source of pages gave no page.
 #[derive(Clone, Copy, Debug, PartialEq, Eq, Error)]

@@ -5,7 +5,7 @@ ghost use Rattle.study_retro.specs.Table.{Table as Seen};
 ghost use Rattle.study_tablefile.specs.File.{IsVersionOf, fields_text, header_text, pages_of};
 ghost use Rattle.study_tablefile.specs.Reading.{version_of, class_read};
 ghost use Rattle.study_tablefile.specs.declared.fault.SourceFault.{SourceFault as ASourceFault};
-ghost use Rattle.study_board.specs.Counts.{counted};
+ghost use Rattle.study_text.specs.Counts.{counted};
 ghost use Rattle.study_tablefile.specs.Source.{is_whole_page, page_of, Question, of_header, of_page};
 
 use crate::fault::{FileFault, SourceFault};

@@ -3,13 +3,12 @@ ghost use Rattle.std.specs.Prelude.{◌≡◌, ◌<◌, ◌≤◌, ℕ, OnOk, On
 ghost use Rattle.sha2.specs.Sha256.{sha256};
 ghost use Rattle.std.specs.Io.KnownBytes.{Appends};
 ghost use Rattle.study_retro.specs.Table.{Table as Seen};
-ghost use Rattle.study_tablefile.specs.Taken.{TakesPrefix};
+ghost use Rattle.study_text.specs.Taken.{TakesPrefix};
 ghost use Rattle.study_tablefile.specs.File.{written_version, class_field, fields_text, header_text};
 ghost use Rattle.study_tablefile.specs.File.{page_cells_of, page_digest, page_text, pages_of, table_text};
 ghost use Rattle.study_tablefile.specs.declared.fault.FileFault.TheVariants.{Device};
 
-use crate::fault::{DeviceFailed, FileFault};
-use crate::writing::write_text;
+use crate::fault::FileFault;
 use byteorder::{ByteOrder, LittleEndian};
 use sha2::{Digest, Sha256};
 use std::alloc::Allocator;
@@ -17,6 +16,7 @@ use std::io::Write;
 use study_index::cells;
 use study_material::Class;
 use study_retro::Table;
+use study_text::{DeviceFailed, write_text};
 
 /// Cells of a page.
 pub const PAGE_CELLS: usize = 4096;

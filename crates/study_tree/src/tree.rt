@@ -2,7 +2,7 @@
 ghost use Rattle.std.specs.Prelude.{◌≡◌, ◌<◌, ◌≤◌, IsOk, IfOk, IfErr, OnErr, OnOk, MatchOption, IsOkUnless, Some, None, ◌≢◌};
 ghost use Rattle.study_tree.specs.Forest.{none};
 ghost use Rattle.study_tree.specs.Edits.{IsWithin, children_at, plain};
-ghost use Rattle.study_board.specs.Counts.{counted};
+ghost use Rattle.study_text.specs.Counts.{counted};
 ghost use Rattle.study_tree.specs.Tree.{plain_tree, spare_of, size_of, has_spot, spot_at};
 ghost use Rattle.study_tree.specs.Tree.{with_child, with_label, without, moved_up, child_refusal};
 ghost use Rattle.study_tree.specs.Changes.{counted_by, with_changes, rewritten_tree};

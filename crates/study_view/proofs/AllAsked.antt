@@ -13,7 +13,7 @@ use Rattle.study_prober.specs.declared.values.ProbeFault.TheVariants as probe
 use Rattle.study_marks.specs.Answers.{WereTold, IsFirstFault}
 use Rattle.study_marks.specs.Told.{IsUntold, failures_told}
 use Rattle.study_review.specs.Continuations.{others}
-use Rattle.study_board.specs.Counts.{counted}
+use Rattle.study_text.specs.Counts.{counted}
 use Rattle.study_material.specs.Class.{IsOf}
 use Rattle.study_review.proofs.Asking.{of-told, of-fault, all-then, stops-then, none-asked}
 use Rattle.study_review.proofs.AskedSteps.{asked-one}

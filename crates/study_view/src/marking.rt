@@ -10,9 +10,9 @@ use crate::words::add_move;
 use std::alloc::{AllocError, Allocator};
 use study_marks::{Aim, MoveMark, hero_moves, holds, only_or_dual};
 use study_notation::Start;
-use study_pgn::Text;
 use study_retro::Value;
 use study_review::Continuation;
+use study_text::Text;
 
 /// A node: what the study wants, its depth, its position with the counts, and its value.
 #[derive(Clone, Copy)]

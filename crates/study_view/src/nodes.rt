@@ -13,8 +13,8 @@ use crate::words::add_node;
 use std::alloc::{AllocError, Allocator};
 use study_marks::Bench;
 use study_notation::Start;
-use study_pgn::Text;
 use study_review::{count_at, move_to};
+use study_text::Text;
 
 /// The start at a node, by that of the node before it.
 fn start_from<'b, B: Allocator>(bench: &Bench<'b, B>, steps: &[u16], before: &Start) -> Start

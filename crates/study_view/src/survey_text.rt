@@ -6,7 +6,7 @@ ghost use Rattle.study_board.specs.Position.{man_at};
 ghost use Rattle.study_moves.specs.Rules.{is_legal};
 ghost use Rattle.study_prober.specs.declared.values.ProbeFault.{ProbeFault as AProbeFault};
 ghost use Rattle.study_review.specs.Words.{value_words};
-ghost use Rattle.study_tablefile.specs.Taken.{TakesPrefix};
+ghost use Rattle.study_text.specs.Taken.{TakesPrefix};
 ghost use Rattle.study_view.specs.Asked.{HasSurveyed};
 ghost use Rattle.study_view.specs.Shown.{IsShown};
 ghost use Rattle.study_view.specs.Survey.{stood, survey_line, standing_words, standing_line, IsSurvey};
@@ -19,11 +19,11 @@ use std::io::Write;
 use study_board::{Man, Position};
 use study_marks::Stipulation;
 use study_moves::Move;
-use study_pgn::{Text, add_san, add_stipulation};
+use study_pgn::{add_san, add_stipulation};
 use study_prober::Values;
 use study_retro::Value;
 use study_review::{add_counted, add_value};
-use study_tablefile::write_text;
+use study_text::{Text, write_text};
 
 /// The man, and what the hero is to reach.
 #[tactic(auto, unfolding(crate::specs::Survey::survey_line))]

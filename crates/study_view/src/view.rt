@@ -3,7 +3,7 @@ ghost use Rattle.std.specs.Prelude.{◌≡◌, ◌++◌, ◌≤◌, ◌↔◌, L
 ghost use Rattle.std.specs.List.{All, flat_map};
 ghost use Rattle.std.specs.Io.KnownBytes.{Appends};
 ghost use Rattle.study_moves.specs.Rules.{is_legal};
-ghost use Rattle.study_tablefile.specs.Taken.{TakesPrefix};
+ghost use Rattle.study_text.specs.Taken.{TakesPrefix};
 ghost use Rattle.study_tree.specs.Tree.{has_spot, spot_at};
 ghost use Rattle.study_marks.specs.Goals.{aim_of};
 ghost use Rattle.study_marks.specs.BenchState.{marked, IsKeptRight};
@@ -24,10 +24,10 @@ use std::alloc::{AllocError, Allocator};
 use std::io::Write;
 use study_marks::{Bench, aim_of};
 use study_notation::Start;
-use study_pgn::{Text, root_mark};
+use study_pgn::root_mark;
 use study_prober::Values;
 use study_review::{Continuation, Node, add_stipulation_line, value_at};
-use study_tablefile::write_text;
+use study_text::{Text, write_text};
 use study_tree::Path;
 
 /// The start and the verdict.

@@ -7,7 +7,7 @@ use Rattle.study_material.specs.declared.class.Class.{Class}
 use Rattle.study_notation.specs.declared.fault.FenFault.{FenFault}
 use Rattle.study_notation.specs.declared.start.Start.{Start}
 use Rattle.study_notation.specs.Fen.{start_of}
-use Rattle.study_notation.specs.Words.{words, behind_word}
+use Rattle.study_text.specs.Words.{words, behind_word}
 use Rattle.study_marks.specs.Edits.{is_printable}
 use Rattle.study_marks.specs.declared.stipulation.Goal.{Goal}
 use Rattle.study_marks.specs.declared.stipulation.Goal.TheVariants.{Win, Draw}

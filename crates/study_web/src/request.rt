@@ -3,7 +3,7 @@ ghost use Rattle.std.specs.Prelude.{◌≡◌, true, Some, IfSome};
 ghost use Rattle.std.specs.Option.{option_map};
 ghost use Rattle.std.specs.List.{list_all};
 ghost use Rattle.study_notation.specs.Fen.{start_of};
-ghost use Rattle.study_notation.specs.Words.{words};
+ghost use Rattle.study_text.specs.Words.{words};
 ghost use Rattle.study_marks.specs.Edits.{is_printable};
 ghost use Rattle.study_command.specs.Parser.{one_word, mate_in, mate_moves_of};
 ghost use Rattle.study_script.specs.Replies.{class_told};
@@ -17,9 +17,9 @@ use study_command::command::{PathWord, SyntaxFault};
 use study_command::{as_text, is_printable, read_one_word, read_path_word, read_place, read_side};
 use study_marks::{Goal, MateMoves, Stipulation};
 use study_material::Class;
-use study_notation::words::next_word;
 use study_notation::{FenFault, Start, read_fen};
 use study_reply::refusal::Refusal;
+use study_text::next_word;
 
 /// A man of a position, and what a survey of it is to reach.
 #[derive(Drop)]

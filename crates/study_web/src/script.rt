@@ -35,7 +35,8 @@ use study_script::run::{RunFault, Summary};
 use study_script::session::Session;
 use study_script::store::TableStore;
 use study_script::tables::Tables;
-use study_tablefile::{PageSource, write_text};
+use study_tablefile::PageSource;
+use study_text::write_text;
 use study_view::{ViewFault, write_view};
 
 /// What is told of a script, and how the run over it ended.

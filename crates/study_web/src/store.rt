@@ -8,7 +8,8 @@ use crate::spans::{Span, file_in};
 use std::alloc::Allocator;
 use study_material::Class;
 use study_script::store::{StoreFault, TableStore};
-use study_tablefile::memory::{MemoryReader, MemorySource};
+use study_tablefile::MemorySource;
+use study_text::MemoryReader;
 
 /// The files that are handed in, and cells for those that a script saves: one for each class, in the order of the class list. A class
 /// without a cell is not saved.

@@ -12,7 +12,7 @@ use std::io::Write;
 use study_material::Class;
 use study_reply::refusal::{Argument, Refusal};
 use study_script::run::{RunFault, Summary};
-use study_tablefile::{DeviceFailed, write_text};
+use study_text::{DeviceFailed, write_text};
 
 fn put_number<W: Write>(out: &mut W, number: u32) -> Result<(), DeviceFailed>
     ensures { OnOk result (Appends (W.contents out.old) (W.contents out.new) (decimal number)) }

@@ -10,7 +10,7 @@ use study_prober::failing_values::FailingValues;
 use study_prober::{ProbeFault, Values};
 use study_review::{ReviewFault, write_review};
 use study_tablefile::SourceFault;
-use study_tablefile::memory::{MemoryWriter, WhenFull};
+use study_text::{MemoryWriter, WhenFull};
 
 /// By hand: Rh8 is the one mate, and nothing was inserted.
 const EMPTY: &[u8] = b"study 7 k7/8/1K6/8/8/8/8/7R w - - 0 1

@@ -4,7 +4,7 @@ use linked_list_allocator::LocalHeap;
 use std::alloc::{Allocator, Global};
 use std::test::Fail;
 use study_program::{Options, answer_script, read_words};
-use study_tablefile::memory::{MemoryReader, MemoryWriter, WhenFull};
+use study_text::{MemoryReader, MemoryWriter, WhenFull};
 
 /// Compares what the words of a command line come to: the options, or the exit code and how its text begins.
 fn check_words(

@@ -9,8 +9,8 @@ use study_retro::{BuildRoom, TableSet, build};
 use study_script::memory_store::MemoryStore;
 use study_script::run::{RunFault, Settings, Summary, run};
 use study_script::store::TableStore;
-use study_tablefile::memory::{MemoryReader, MemoryWriter};
 use study_tablefile::write_table;
+use study_text::{MemoryReader, MemoryWriter};
 
 /// Lines of a script, each with ` -> ` and its reply after it, or ` ->` where it has none. A row without an arrow is one more
 /// line of the reply above it.

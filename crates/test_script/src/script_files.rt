@@ -7,8 +7,8 @@ use study_index::cells;
 use study_material::Class;
 use study_retro::Table;
 use study_script::memory_store::{MemoryFile, MemoryStore};
-use study_tablefile::memory::{MemoryReader, MemoryWriter, WhenFull};
 use study_tablefile::{read_table, write_table};
+use study_text::{MemoryReader, MemoryWriter, WhenFull};
 
 const SAVED: Rows<'static> = "load KRK -> error MissingTable KK
 build KK -> built KK cells 1280 win -

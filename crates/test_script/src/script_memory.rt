@@ -6,7 +6,7 @@ use std::alloc::{AllocError, Global};
 use std::process::Abort;
 use std::test::Fail;
 use study_script::run::{RunFault, Settings, Summary, run};
-use study_tablefile::memory::{MemoryReader, MemoryWriter};
+use study_text::{MemoryReader, MemoryWriter};
 
 /// There is no room for either table. A room is asked for before the tables that are needed.
 const NO_ROOM: Rows<'static> = "build KK -> error OutOfMemory

@@ -6,7 +6,7 @@ use study_moves::Move;
 use study_notation::Start;
 use study_pgn::{PgnFault, write_pgn};
 use study_prober::Values;
-use study_tablefile::memory::MemoryWriter;
+use study_text::MemoryWriter;
 use study_tree::Path;
 
 pub(crate) fn new_bench<'a, A: Allocator, V: Values>(

@@ -8,8 +8,7 @@ use std::process::Abort;
 use study_marks::Edit;
 use study_material::Class;
 use study_prober::{PagedTables, Values};
-use study_tablefile::memory::MemorySource;
-use study_tablefile::write_table;
+use study_tablefile::{MemorySource, write_table};
 
 /// The file of king and rook against king.
 fn file_of<'a>(rt: &impl Abort, alloc: &'a Global) -> Vec<u8, &'a Global> {

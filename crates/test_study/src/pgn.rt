@@ -9,7 +9,7 @@ use study_board::Side;
 use study_marks::{Bench, Goal};
 use study_material::Class;
 use study_pgn::PgnFault;
-use study_tablefile::memory::{MemoryWriter, WhenFull};
+use study_text::{MemoryWriter, WhenFull};
 
 const QUEEN_TEXT: &str = r#"[Event "?"]
 [Site "?"]

@@ -11,8 +11,8 @@ use study_material::Class;
 use study_prober::failing_values::FailingValues;
 use study_prober::{PagedFault, PagedTables, ProbeFault, Values, WholeTables};
 use study_retro::{Table, TableSet};
-use study_tablefile::memory::{MemorySource, MemoryWriter};
-use study_tablefile::{FileFault, PageSource, SourceFault, write_table};
+use study_tablefile::{FileFault, MemorySource, PageSource, SourceFault, write_table};
+use study_text::MemoryWriter;
 
 /// A table whose cells differ at the same place of two pages, and for two seeds.
 fn patterned<'a, A: Allocator>(

@@ -9,11 +9,11 @@ use std::process::Abort;
 use std::test::Fail;
 use study_material::Class;
 use study_retro::Table;
-use study_tablefile::memory::{MemoryReader, MemorySource, MemoryWriter, WhenFull};
 use study_tablefile::{
-    DeviceFailed, FileFault, PageSource, SourceFault, file_bytes, page_cells, read_header,
-    read_table, write_table, write_text,
+    FileFault, MemorySource, PageSource, SourceFault, file_bytes, page_cells, read_header,
+    read_table, write_table,
 };
+use study_text::{DeviceFailed, MemoryReader, MemoryWriter, WhenFull, write_text};
 
 /// The fields of KK, which has 1,280 cells, in version 1.
 const KK_BEFORE: &[u8] =

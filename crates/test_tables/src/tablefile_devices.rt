@@ -6,11 +6,10 @@ use std::io::{ErrorKind, Read, Write};
 use std::process::Abort;
 use std::test::Fail;
 use study_material::Class;
-use study_tablefile::memory::{MemoryReader, MemorySource, MemoryWriter, WhenFull};
 use study_tablefile::{
-    DeviceFailed, FileFault, PageSource, SourceFault, page_cells, read_header, read_table,
-    write_text,
+    FileFault, MemorySource, PageSource, SourceFault, page_cells, read_header, read_table,
 };
+use study_text::{DeviceFailed, MemoryReader, MemoryWriter, WhenFull, write_text};
 
 /// Writes three letters, and compares the answer, what was taken, and that the writer was asked no more after it was full.
 fn put_letters<A: Allocator>(

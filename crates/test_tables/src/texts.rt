@@ -5,8 +5,8 @@ use std::process::Abort;
 use study_index::cells;
 use study_material::Class;
 use study_retro::Table;
-use study_tablefile::memory::{MemoryReader, MemoryWriter};
-use study_tablefile::{FileFault, read_table, write_table, write_text};
+use study_tablefile::{FileFault, read_table, write_table};
+use study_text::{MemoryReader, MemoryWriter, write_text};
 
 /// The fields of KK in version 2, which is written.
 pub const KK: &[u8] =

@@ -10,7 +10,7 @@ use study_index::{cells, decode};
 use study_material::{Class, order};
 use study_prober::{PagedTables, Values, WholeTables};
 use study_retro::{BuildRoom, TableSet, build};
-use study_tablefile::memory::MemorySource;
+use study_tablefile::MemorySource;
 use study_tablefile::{PageSource, file_bytes, write_table};
 
 /// The plies to mate of all positions.

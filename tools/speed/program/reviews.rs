@@ -15,7 +15,7 @@ use study_script::document::Document;
 use study_script::session::{Interpreter, Session};
 use study_script::store::TableStore;
 use study_script::tables::Tables;
-use study_tablefile::memory::MemoryWriter;
+use study_text::MemoryWriter;
 
 /// What is measured of a study.
 #[derive(Clone, Copy, Debug, PartialEq, Eq)]

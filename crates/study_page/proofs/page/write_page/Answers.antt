@@ -1,5 +1,5 @@
 use Rattle.std.proofs.Common.{List, ℕ, subst}
-use Rattle.study_tablefile.specs.Taken.{TakesPrefix}
+use Rattle.study_text.specs.Taken.{TakesPrefix}
 use Rattle.study_page.proofs.page.write_page.Goals as goal
 
 pub returns-in_err-write_text-clause-device : goal.returns-in_err-write_text-clause-device

@@ -14,7 +14,7 @@ use Rattle.study_prober.proofs.KeptCells.{again_none, again_at}
 use Rattle.study_prober.proofs.Tables.{one_class}
 use Rattle.study_prober.specs.Sources.{IsGivenPage, failed_after}
 use Rattle.study_prober.proofs.GivenPages.{given_after, alike_after, one_held, read_at, unread_at, bad_at}
-use Rattle.study_board.specs.Counts.{counted}
+use Rattle.study_text.specs.Counts.{counted}
 use Rattle.study_prober.specs.PageCache.{kept_cell}
 use Rattle.study_prober.proofs.ProbedSources.{number_in, told_at, whole_at, count_at, game_at}
 use Rattle.study_index.specs.Number.{cells_of}

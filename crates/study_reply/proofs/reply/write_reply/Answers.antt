@@ -1,4 +1,4 @@
-use Rattle.study_tablefile.proofs.TextTaken.{OnErr-known}
+use Rattle.study_text.proofs.TextTaken.{OnErr-known}
 use Rattle.study_reply.proofs.reply.write_reply.Goals as goal
 
 pub returns-in_err-put_reply-in-Ok-clause-err : goal.returns-in_err-put_reply-in-Ok-clause-err

@@ -1,7 +1,7 @@
 use Rattle.std.proofs.Common.{ℕ, ◌++◌, subst}
 use Rattle.std.specs.Prelude.{codes, decimal, OnErr}
 use Rattle.study_material.specs.Class.{name_of}
-use Rattle.study_tablefile.specs.Taken.{TakesPrefix}
+use Rattle.study_text.specs.Taken.{TakesPrefix}
 use Rattle.study_reply.specs.Words.{reply_line}
 use Rattle.study_reply.proofs.table_reply.put_table_reply.Goals as goal
 

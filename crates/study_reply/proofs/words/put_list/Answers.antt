@@ -4,7 +4,7 @@ use Rattle.std.proofs.lemmas.Bool.{eqb-false}
 use Rattle.std.proofs.lemmas.Result.{on_err_weaker}
 use Rattle.study_board.specs.Position.{Position}
 use Rattle.study_moves.specs.declared.moves.Move.{Move}
-use Rattle.study_tablefile.proofs.TextTaken.{TakesPrefix-first, TakesPrefix-second, TakesPrefix-same, OnErr-known}
+use Rattle.study_text.proofs.TextTaken.{TakesPrefix-first, TakesPrefix-second, TakesPrefix-same, OnErr-known}
 use Rattle.study_reply.specs.Words.{moves_listed, list_text, reply_line}
 use Rattle.study_reply.proofs.words.put_list.Goals as goal
 

@@ -2,7 +2,7 @@ use Rattle.std.proofs.Common.{◌≡◌, ℕ, suc, ◌+◌, ◌<◌, List, ◌�
 use Rattle.study_board.specs.Position.{Position}
 use Rattle.study_moves.specs.declared.moves.Move.{Move}
 use Rattle.study_notation.specs.Written.{move_text}
-use Rattle.study_tablefile.proofs.TextTaken.{Wrote-cut, Wrote-stops_at, OnErr-known}
+use Rattle.study_text.proofs.TextTaken.{Wrote-cut, Wrote-stops_at, OnErr-known}
 use Rattle.study_reply.specs.Words.{moves_listed}
 use Rattle.study_reply.proofs.words.put_moves.Goals as goal
 

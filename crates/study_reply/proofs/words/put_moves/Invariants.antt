@@ -1,5 +1,5 @@
 use Rattle.std.proofs.Common.{drop}
-use Rattle.study_tablefile.proofs.TextTaken.{Wrote}
+use Rattle.study_text.proofs.TextTaken.{Wrote}
 use Rattle.study_reply.specs.Words.{moves_listed}
 use Rattle.study_reply.proofs.words.put_moves.Given as goal
 

@@ -1,4 +1,4 @@
-use Rattle.study_tablefile.proofs.TextTaken.{TakesPrefix-first, TakesPrefix-second, OnErr-known}
+use Rattle.study_text.proofs.TextTaken.{TakesPrefix-first, TakesPrefix-second, OnErr-known}
 use Rattle.std.proofs.lemmas.Result.{on_err_weaker}
 use Rattle.study_reply.specs.Names.{words_of, name_text, argument_of, argument_text}
 use Rattle.study_reply.proofs.words.put_words.Goals as goal

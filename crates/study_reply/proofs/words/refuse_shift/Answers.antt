@@ -2,7 +2,7 @@ use Rattle.std.proofs.Common.{[], ◌∷◌, ◌++◌}
 use Rattle.std.specs.Prelude.{codes}
 use Rattle.std.proofs.lemmas.Result.{on_ok_weaker, on_err_weaker}
 use Rattle.std.proofs.KnownBytes.{Appends-trans}
-use Rattle.study_tablefile.proofs.TextTaken.{TakesPrefix-first, TakesPrefix-second, OnErr-known}
+use Rattle.study_text.proofs.TextTaken.{TakesPrefix-first, TakesPrefix-second, OnErr-known}
 use Rattle.study_command.specs.Paths.{path_text}
 use Rattle.study_reply.proofs.words.refuse_shift.Goals as goal
 

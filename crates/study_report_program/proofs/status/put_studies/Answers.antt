@@ -1,6 +1,6 @@
 use Rattle.std.proofs.Common.{List, ℕ, ◌++◌, ◌∙◌, subst, codes, OnOk, OnErr}
 use Rattle.std.specs.Io.KnownBytes.{Appends}
-use Rattle.study_tablefile.specs.Taken.{TakesPrefix}
+use Rattle.study_text.specs.Taken.{TakesPrefix}
 use Rattle.study_report_program.proofs.status.put_studies.Goals as goal
 
 pub returns-clause-ok : goal.returns-clause-ok

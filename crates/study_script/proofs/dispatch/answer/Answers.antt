@@ -1,7 +1,7 @@
 use Rattle.std.proofs.Common.{◌≡◌, [], Ok, Some, refl, sym, ap, subst, ◌∙◌}
 use Rattle.std.specs.Prelude.{IfOk, OnErr}
 use Rattle.std.proofs.KnownBytes.{Appends-nil}
-use Rattle.study_tablefile.proofs.TextTaken.{OnErr-known}
+use Rattle.study_text.proofs.TextTaken.{OnErr-known}
 use Rattle.study_reply.specs.declared.refusal.Refusal.TheVariants.{Form}
 use Rattle.study_command.specs.Parser.{Asks, line_seen, command_of, command_seen}
 use Rattle.study_script.specs.State.{quiet}

@@ -2,7 +2,7 @@ use Rattle.std.proofs.Common.{refl, ap, ◌∙◌}
 use Rattle.std.proofs.lemmas.Result.{on_err_weaker}
 use Rattle.sha2.specs.Sha256.{sha256}
 use Rattle.study_tablefile.specs.File.{written_version, fields_text, header_text}
-use Rattle.study_tablefile.proofs.TextTaken.{OnErr-known, stops_first, stops_second}
+use Rattle.study_text.proofs.TextTaken.{OnErr-known, stops_first, stops_second}
 use Rattle.study_tablefile.proofs.text.put_header.Goals as goal
 
 pub returns-in_err-write_text-clause-err : goal.returns-in_err-write_text-clause-err

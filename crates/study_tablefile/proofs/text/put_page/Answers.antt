@@ -1,7 +1,7 @@
 use Rattle.std.proofs.Common.{refl, ap, ◌∙◌}
 use Rattle.std.proofs.lemmas.Result.{on_err_weaker}
 use Rattle.study_tablefile.specs.File.{page_cells_of, page_digest, page_text}
-use Rattle.study_tablefile.proofs.TextTaken.{OnErr-known, stops_first, stops_second}
+use Rattle.study_text.proofs.TextTaken.{OnErr-known, stops_first, stops_second}
 use Rattle.study_tablefile.proofs.text.put_page.Goals as goal
 
 pub returns-in_err-write_text-clause-err : goal.returns-in_err-write_text-clause-err

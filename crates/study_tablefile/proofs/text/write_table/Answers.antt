@@ -1,6 +1,6 @@
 use Rattle.std.proofs.Common.{◌<◌, length, sym, ◌∙◌, arith, rules}
 use Rattle.std.proofs.lemmas.Bool.{eqb-false}
-use Rattle.study_tablefile.proofs.TextTaken.{OnErr-known}
+use Rattle.study_text.proofs.TextTaken.{OnErr-known}
 use Rattle.study_tablefile.proofs.PagesWritten.{header_stops, header_wrote, page_stops, page_wrote, number_fits}
 use Rattle.study_tablefile.proofs.text.write_table.Goals as goal
 

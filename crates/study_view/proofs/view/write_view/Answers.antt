@@ -1,5 +1,5 @@
 use Rattle.std.proofs.Common.{List, ℕ, subst, ap, Err}
-use Rattle.study_tablefile.specs.Taken.{TakesPrefix}
+use Rattle.study_text.specs.Taken.{TakesPrefix}
 use Rattle.study_view.specs.declared.fault.ViewFault.TheVariants.{Device}
 use Rattle.study_view.proofs.AllAsked.{refused-so}
 use Rattle.study_view.proofs.view.write_view.Goals as goal

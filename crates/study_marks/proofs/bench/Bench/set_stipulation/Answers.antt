@@ -1,6 +1,6 @@
 use Rattle.std.proofs.Common.{◌≡◌, ap, sym, ◌∙◌, subst}
 use Rattle.study_board.specs.Men.{same_side}
-use Rattle.study_board.specs.Counts.{counted}
+use Rattle.study_text.specs.Counts.{counted}
 use Rattle.study_tree.specs.Tree.{plain_tree, size_of}
 use Rattle.study_marks.specs.declared.mark_rules.Aim.{Aim}
 use Rattle.study_marks.specs.Study.{plain_study}

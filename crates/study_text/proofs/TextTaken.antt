@@ -6,7 +6,7 @@ use Rattle.std.proofs.lemmas.List.{append-nil, take-append-drop}
 use Rattle.std.proofs.lemmas.Bool.{eqb-false}
 use Rattle.std.specs.Io.KnownBytes.{Appends, Keeps}
 use Rattle.std.proofs.KnownBytes.{Appends-nil, Appends-trans, Appends-kept}
-use Rattle.study_tablefile.specs.Taken.{TakesPrefix}
+use Rattle.study_text.specs.Taken.{TakesPrefix}
 
 -- of the text all but the rest is taken
 pub record Wrote (old new : Option (List ℕ)) (text rest : List ℕ) : Type 0 where

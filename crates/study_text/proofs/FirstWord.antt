@@ -5,7 +5,7 @@ use Rattle.std.specs.List.{slice_split, onto_first, prefix_len}
 use Rattle.std.proofs.lemmas.Bool.{cases_Bool, ne_eqb}
 use Rattle.std.proofs.lemmas.List.Folds.{length-prefix_len}
 use Rattle.std.proofs.lemmas.List.{nil_from_length}
-use Rattle.study_notation.specs.Words.{is_space, words, begun_word, behind_word}
+use Rattle.study_text.specs.Words.{is_space, words, begun_word, behind_word}
 
 abbrev pub is_letter : ℕ → Bool
 is_letter b = not (is_space b)

@@ -1,7 +1,7 @@
 //! The words of a text.
 ghost use Rattle.std.specs.Prelude.{◌≡◌, ◌≤◌, ◌∷◌, [], length, not, IfSome, IfNone};
 ghost use Rattle.std.specs.List.{prefix_len};
-ghost use Rattle.study_notation.specs.Words.{is_space, words, behind_word};
+ghost use Rattle.study_text.specs.Words.{is_space, words, behind_word};
 
 /// The first word of a text, and what follows it. Words stand between spaces.
 pub fn next_word(line: &[u8]) -> Option<(&[u8], &[u8])>

@@ -1,0 +1,4 @@
+pub mod Counts
+pub mod Words
+pub mod Taken
+pub mod Devices

@@ -1,0 +1,18 @@
+//! Texts in memory, their words, and readers and writers of bytes.
+//!
+//! `Text` grows at its end. `next_word` cuts a text at its spaces. `write_text` hands a text to any writer: all of it, or the
+//! answer is a fault and the writer has a prefix. `MemoryReader` and `MemoryWriter` are devices in memory that fail where a
+//! test wants it.
+#![tactic(auto)]
+
+mod fault;
+mod memory;
+mod text;
+mod words;
+mod writing;
+
+pub use fault::DeviceFailed;
+pub use memory::{MemoryReader, MemoryWriter, WhenFull};
+pub use text::Text;
+pub use words::{next_word, space_len};
+pub use writing::write_text;
