@@ -20,7 +20,9 @@ use crate::page_cache::{PageKey, Pages, cache_page, cached_cell, page_key};
 use crate::values::ProbeFault;
 use std::alloc::Allocator;
 use study_retro::{Value, value_at};
-use study_tablefile::{Header, PageSource, page_cells, read_header};
+use study_tablefile::{
+    HEADER_BYTES, Header, PAGE_BYTES, PAGE_CELLS, PageSource, page_cells, read_header,
+};
 
 /// A source of pages, and what its header says.
 #[derive(Drop)]
@@ -39,14 +41,14 @@ pub fn header_of<S: PageSource>(source: &mut S) -> Result<Header, PagedFault>
     ensures header { IfOk result (λ h. IsHeaderOf h h.class) }
     ensures reads { (t : Seen) (v : ℕ) → IsVersionOf t.class v → S.honest source.old t v → IsHonestHeader result t.class v }
 {
-    let mut bytes = [0; 64];
+    let mut bytes = [0; HEADER_BYTES];
     source.header(&mut bytes)?;
     Ok(read_header(&bytes)?)
 }
 
 impl<S: PageSource> OpenTable<S> {
     /// Reads a page and looks whether it is whole.
-    fn page(&mut self, number: u32, into: &mut [u8; 4128]) -> Result<(), ProbeFault>
+    fn page(&mut self, number: u32, into: &mut [u8; PAGE_BYTES]) -> Result<(), ProbeFault>
         requires header { IsHeaderOf self.old.header self.old.header.class }
         requires number { number < pages_of self.old.header.class }
         ensures header { self.new.header ≡ self.old.header }
@@ -104,7 +106,7 @@ fn read_value_from_page<'a, S: PageSource, A: Allocator>(
     ensures not_whole { (c : AClass) (n : ℕ) → IsErrOf result (ProbeFault.PageDamaged c n) → HasBadPage S.gives held.old key.number }
     ensures read { IfOk result (λ v. (cells : List ℕ) × IsGivenPage S.gives held.old key.number cells × (v ≡ value_of (slice_index cells at))) }
 {
-    let mut page = [0; 4128];
+    let mut page = [0; PAGE_BYTES];
     held.page(key.number, &mut page)?;
     let _ = cache_page(pages, alloc, key, &page);
     Ok(value_at(page[at]))
@@ -145,7 +147,7 @@ pub fn value_of_number<'a, S: PageSource, A: Allocator>(
         → IfOk result (IsReadFrom S.gives held.old number) }
 {
     let key = page_key(held.header.class, number);
-    let at = (number % 4096) as usize;
+    let at = number as usize % PAGE_CELLS;
     match cached_cell(pages, key, at) {
         Some(cell) => Ok(value_at(cell)),
         None => read_value_from_page(held, pages, alloc, key, at),

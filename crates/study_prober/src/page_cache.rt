@@ -7,6 +7,7 @@ ghost use Rattle.study_prober.specs.PageCache.{same_key, key_at, cell_at};
 use lru::{DefaultHasher, LruCache};
 use std::alloc::{AllocError, Allocator};
 use study_material::Class;
+use study_tablefile::{PAGE_BYTES, PAGE_CELLS};
 
 /// Which page of which class.
 #[derive(Clone, Copy, Debug, PartialEq, Eq, Hash)]
@@ -25,7 +26,7 @@ pub fn page_key(class: Class, cell: u32) -> PageKey
 {
     PageKey {
         class: class.number(),
-        number: cell / 4096,
+        number: cell / PAGE_CELLS as u32,
     }
 }
 
@@ -69,14 +70,14 @@ pub fn cache_page<'a, A: Allocator>(
     pages: &mut Pages<'a, A>,
     alloc: &'a A,
     key: PageKey,
-    page: &[u8; 4128],
+    page: &[u8; PAGE_BYTES],
 ) -> Result<(), AllocError>
     ensures more { (e : _) → Contains pages.new.entries e → Contains pages.old.entries e ⊎ ((e.0 ≡ key) × (e.1.items ≡ take 4096 page.now)) }
     ensures room { pages.new.cap ≡ pages.old.cap }
     ensures kept { OnOk result ((v : _) × (v.items ≡ take 4096 page.now) × (pages.new.entries ≡ put_entries same_key pages.old key v)) }
     ensures same { OnErr result (pages.new.entries ≡ pages.old.entries) }
 {
-    let copy = Vec::from_slice(alloc, &page[..4096])?;
+    let copy = Vec::from_slice(alloc, &page[..PAGE_CELLS])?;
     pages.put(key, copy)?;
     Ok(())
 }

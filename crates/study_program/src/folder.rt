@@ -11,7 +11,7 @@ use std::rt::Files;
 use std::{fs, io};
 use study_material::Class;
 use study_script::store::{StoreFault, TableStore};
-use study_tablefile::{PageSource, SourceFault};
+use study_tablefile::{HEADER_BYTES, PAGE_BYTES, PageSource, SourceFault};
 
 /// The files of tables in a folder. The room for their names is taken once.
 #[derive(Drop)]
@@ -164,12 +164,12 @@ impl<F: Read + Seek + Drop> PageSource for FilePages<F> {
 
     ghost asked = { λ s. s.asked };
 
-    fn header(&mut self, into: &mut [u8; 64]) -> Result<(), SourceFault> {
+    fn header(&mut self, into: &mut [u8; HEADER_BYTES]) -> Result<(), SourceFault> {
         self.bytes(0, into)
     }
 
-    fn page(&mut self, n: u32, into: &mut [u8; 4128]) -> Result<(), SourceFault> {
-        self.bytes(64 + 4128 * n as u64, into)
+    fn page(&mut self, n: u32, into: &mut [u8; PAGE_BYTES]) -> Result<(), SourceFault> {
+        self.bytes(HEADER_BYTES as u64 + PAGE_BYTES as u64 * n as u64, into)
     }
 
     fn failures(&self) -> u64 {

@@ -18,4 +18,4 @@ pub use laws::{only_texts_are_read, pages_are_whole, tables_are_read_again};
 pub use memory_source::MemorySource;
 pub use reading::read_table;
 pub use source::{Header, PageSource, page_cells, read_header};
-pub use text::{file_bytes, write_table};
+pub use text::{HEADER_BYTES, PAGE_BYTES, PAGE_CELLS, file_bytes, write_table};

@@ -9,6 +9,7 @@ ghost use Rattle.study_retro.specs.Table.{Table as Seen};
 
 use crate::fault::SourceFault;
 use crate::source::PageSource;
+use crate::text::{HEADER_BYTES, PAGE_BYTES};
 
 /// The pages of a text in memory, which fail where a test wants it.
 #[derive(Drop)]
@@ -56,7 +57,7 @@ impl<'a> MemorySource<'a> {
 fn page_start(n: u32) -> usize
     ensures { result ≡ 64 + 4128 * n }
 {
-    64 + 4128 * n as usize
+    HEADER_BYTES + PAGE_BYTES * n as usize
 }
 
 impl<'a> PageSource for MemorySource<'a> {
@@ -69,7 +70,7 @@ impl<'a> PageSource for MemorySource<'a> {
     ghost asked = { λ s. s.asked };
 
     #[tactic(auto, using(crate::proofs::ReadAgain::header_given))]
-    fn header(&mut self, into: &mut [u8; 64]) -> Result<(), SourceFault>
+    fn header(&mut self, into: &mut [u8; HEADER_BYTES]) -> Result<(), SourceFault>
         ensures ok { (t : Seen) (v : ℕ) → self.old.text.now ≡ table_text t v → OnOk result (into.new ≡ header_text t.class v) }
         ensures given { OnOk result (IsAnswerOf self.old.text.now self.old.fails_at of_header (Ok into.new)) }
         ensures refused { IfErr result (λ fault. IsAnswerOf self.old.text.now self.old.fails_at of_header (Err fault)) }
@@ -84,7 +85,7 @@ impl<'a> PageSource for MemorySource<'a> {
         self.bytes(0, into)
     }
 
-    fn page(&mut self, n: u32, into: &mut [u8; 4128]) -> Result<(), SourceFault>
+    fn page(&mut self, n: u32, into: &mut [u8; PAGE_BYTES]) -> Result<(), SourceFault>
         ensures ok { (t : Seen) (v : ℕ) → self.old.text.now ≡ table_text t v → n < pages_of t.class → OnOk result (into.new ≡ page_of t v n) }
         ensures given { OnOk result (IsAnswerOf self.old.text.now self.old.fails_at (of_page n) (Ok into.new)) }
         ensures refused { IfErr result (λ fault. IsAnswerOf self.old.text.now self.old.fails_at (of_page n) (Err fault)) }

@@ -11,7 +11,10 @@ ghost use Rattle.study_tablefile.specs.Reading.{pages_after, IsReadBefore, IsTol
 ghost use Rattle.study_tablefile.specs.declared.fault.FileFault.TheVariants.{Cut, Device, OutOfMemory, TrailingBytes};
 
 use crate::fault::FileFault;
-use crate::text::{class_field, digest, fields, page_digest, pages};
+use crate::text::{
+    FIELDS_BYTES, HEADER_BYTES, PAGE_BYTES, PAGE_CELLS, class_field, digest, fields, page_digest,
+    pages,
+};
 use byteorder::{ByteOrder, LittleEndian};
 use std::alloc::Allocator;
 use std::io::Read;
@@ -70,19 +73,19 @@ fn class_of_field(version: u16, field: &[u8]) -> Option<Class>
 }
 
 /// Whether the bytes are the fields of a class in a version, and their digest.
-fn is_header(bytes: &[u8; 64], class: Class, version: u16) -> bool
+fn is_header(bytes: &[u8; HEADER_BYTES], class: Class, version: u16) -> bool
     ensures { result ≡ (bytes_eq (take 32 bytes.now) (fields_text class version) && bytes_eq (take 32 (drop 32 bytes.now))
         (sha256 (fields_text class version))) }
 {
     let fields = fields(class, version);
     let digest = digest(fields.as_slice());
-    let front = &bytes[..32];
-    let back = &bytes[32..];
+    let front = &bytes[..FIELDS_BYTES];
+    let back = &bytes[FIELDS_BYTES..];
     front == fields.as_slice() && back == digest.as_slice()
 }
 
 /// The version of a header.
-pub fn version_of(header: &[u8; 64]) -> u16
+pub fn version_of(header: &[u8; HEADER_BYTES]) -> u16
     ensures { result ≡ version_of header.now }
 {
     LittleEndian::read_u16(&header[8..])
@@ -90,7 +93,7 @@ pub fn version_of(header: &[u8; 64]) -> u16
 
 /// The class of a header.
 #[tactic(auto, unfolding(crate::specs::Reading::class_read))]
-pub fn read_class(header: &[u8; 64]) -> Result<Class, FileFault>
+pub fn read_class(header: &[u8; HEADER_BYTES]) -> Result<Class, FileFault>
     ensures read { result ≡ class_read header.now }
     ensures whole { (bytes : List ℕ) (pages : ℕ) → IfErr result (λ e. IsReadBefore bytes pages e 64) }
 {
@@ -115,27 +118,27 @@ pub fn read_class(header: &[u8; 64]) -> Result<Class, FileFault>
 }
 
 /// Whether a page has the digest of its cells.
-pub fn has_page_digest(fields: &[u8; 32], number: u32, page: &[u8; 4128]) -> bool
+pub fn has_page_digest(fields: &[u8; FIELDS_BYTES], number: u32, page: &[u8; PAGE_BYTES]) -> bool
     ensures { result ≡ bytes_eq (take 32 (drop 4096 page.now)) (page_digest fields.now number (take 4096 page.now)) }
 {
-    let digest = page_digest(fields, number, &page[..4096]);
-    let tail = &page[4096..];
+    let digest = page_digest(fields, number, &page[..PAGE_CELLS]);
+    let tail = &page[PAGE_CELLS..];
     tail == digest.as_slice()
 }
 
 /// The cells of a page.
-pub fn cells_of_page(page: &[u8; 4128]) -> &[u8]
+pub fn cells_of_page(page: &[u8; PAGE_BYTES]) -> &[u8]
     ensures value { result.now ≡ take 4096 page.now }
     ensures len { length result.now ≡ 4096 }
 {
-    &page[..4096]
+    &page[..PAGE_CELLS]
 }
 
 /// Reads a page and appends its cells.
 #[tactic(auto, unfolding(crate::specs::Reading::page_fault))]
 fn read_page<'a, A: Allocator, R: Read>(
     input: &mut R,
-    fields: &[u8; 32],
+    fields: &[u8; FIELDS_BYTES],
     number: u32,
     cells: &mut Vec<u8, &'a A>,
 ) -> Result<(), FileFault>
@@ -149,7 +152,7 @@ fn read_page<'a, A: Allocator, R: Read>(
     ensures stops { (bytes : List ℕ) (pages : ℕ) → R.remaining input.old ≡ Some (drop (64 + 4128 * number) bytes) → number < pages
         → IfErr result (IsToldAt bytes pages (R.remaining input.new)) }
 {
-    let mut page = [0u8; 4128];
+    let mut page = [0u8; PAGE_BYTES];
     read_exactly(input, &mut page)?;
     if !has_page_digest(fields, number, &page) {
         return Err(FileFault::PageDamaged(number));
@@ -193,7 +196,7 @@ pub fn is_padding(bytes: &[u8]) -> bool
     requires { length bytes.now ≤ 4096 }
     ensures { result ≡ bytes_eq bytes.now (replicate (length bytes.now) 0) }
 {
-    let zeros = [0u8; 4096];
+    let zeros = [0u8; PAGE_CELLS];
     let front = &zeros[..bytes.len()];
     bytes == front
 }
@@ -255,11 +258,11 @@ pub fn read_table<'a, A: Allocator, R: Read>(
     ensures stops { (bytes : List ℕ) → R.remaining input.old ≡ Some bytes
         → IfErr result (IsToldAt bytes (pages_after (class_read (take 64 bytes))) (R.remaining input.new)) }
 {
-    let mut header = [0; 64];
+    let mut header = [0; HEADER_BYTES];
     read_exactly(input, &mut header)?;
     let class = read_class(&header)?;
     let version = version_of(&header);
-    let room = pages(class) as usize * 4096;
+    let room = pages(class) as usize * PAGE_CELLS;
     let mut all = match Vec::with_capacity(alloc, room) {
         Ok(all) => all,
         Err(_) => return Err(FileFault::OutOfMemory),

@@ -10,7 +10,7 @@ ghost use Rattle.study_tablefile.specs.Source.{is_whole_page, page_of, Question,
 
 use crate::fault::{FileFault, SourceFault};
 use crate::reading::{cells_of_page, has_page_digest, is_padding, read_class, version_of};
-use crate::text::fields;
+use crate::text::{FIELDS_BYTES, HEADER_BYTES, PAGE_BYTES, PAGE_CELLS, fields};
 use study_index::cells;
 use study_material::Class;
 
@@ -23,11 +23,11 @@ pub struct Header {
     /// How many cells the class has.
     pub cells: u32,
     /// The first 32 bytes of the file, which each page's digest covers.
-    pub fields: [u8; 32],
+    pub fields: [u8; FIELDS_BYTES],
 }
 
 /// The header that the bytes are, or its first fault.
-pub fn read_header(bytes: &[u8; 64]) -> Result<Header, FileFault>
+pub fn read_header(bytes: &[u8; HEADER_BYTES]) -> Result<Header, FileFault>
     ensures class { IfOk result (λ h. class_read bytes.now ≡ Ok h.class) }
     ensures version { IfOk result (λ h. h.version ≡ version_of bytes.now) }
     ensures known { IfOk result (λ h. IsVersionOf h.class h.version) }
@@ -46,11 +46,13 @@ pub fn read_header(bytes: &[u8; 64]) -> Result<Header, FileFault>
 }
 
 /// Whether a page has the digest of its cells, and zero bytes after the last cell.
-pub fn page_cells(header: &Header, number: u32, page: &[u8; 4128]) -> bool
+pub fn page_cells(header: &Header, number: u32, page: &[u8; PAGE_BYTES]) -> bool
     ensures { result ≡ is_whole_page header.now.fields header.now.cells number page.now }
 {
-    let before = number as u64 * 4096;
-    let left = (header.cells as u64).saturating_sub(before).min(4096) as usize;
+    let before = number as u64 * PAGE_CELLS as u64;
+    let left = (header.cells as u64)
+        .saturating_sub(before)
+        .min(PAGE_CELLS as u64) as usize;
     let (_, behind) = cells_of_page(page).split_at(left);
     has_page_digest(&header.fields, number, page) && is_padding(behind)
 }
@@ -70,7 +72,7 @@ pub trait PageSource: Drop {
     ghost asked: { Self → ℕ };
 
     /// The header of the file.
-    fn header(&mut self, into: &mut [u8; 64]) -> Result<(), SourceFault>
+    fn header(&mut self, into: &mut [u8; HEADER_BYTES]) -> Result<(), SourceFault>
         ensures ok { (t : Seen) (v : ℕ) → honest self.old t v → OnOk result (into.new ≡ header_text t.class v) }
         ensures given { OnOk result (gives self.old of_header (Ok into.new)) }
         ensures refused { IfErr result (λ fault. gives self.old of_header (Err fault)) }
@@ -83,7 +85,7 @@ pub trait PageSource: Drop {
         ensures failure { OnErr result (failed self.new ≡ counted (failed self.old)) };
 
     /// A page of the file, counted from 0.
-    fn page(&mut self, n: u32, into: &mut [u8; 4128]) -> Result<(), SourceFault>
+    fn page(&mut self, n: u32, into: &mut [u8; PAGE_BYTES]) -> Result<(), SourceFault>
         ensures ok { (t : Seen) (v : ℕ) → honest self.old t v → n < pages_of t.class → OnOk result (into.new ≡ page_of t v n) }
         ensures given { OnOk result (gives self.old (of_page n) (Ok into.new)) }
         ensures refused { IfErr result (λ fault. gives self.old (of_page n) (Err fault)) }

@@ -21,6 +21,18 @@ use study_text::{DeviceFailed, write_text};
 /// Cells of a page.
 pub const PAGE_CELLS: usize = 4096;
 
+/// Bytes of a page: its cells and their SHA-256.
+pub const PAGE_BYTES: usize = 4128;
+
+/// Bytes of a header: its fields and their SHA-256.
+pub const HEADER_BYTES: usize = 64;
+
+/// Bytes of the fields of a header.
+pub const FIELDS_BYTES: usize = 32;
+
+/// Bytes of a SHA-256.
+pub const DIGEST_BYTES: usize = 32;
+
 /// The name of a class in 8 bytes, with zero bytes after it.
 #[tactic(auto, using(crate::proofs::ClassBounds::short_name, crate::proofs::Lists::field_filled), unfolding(crate::specs::File::class_field))]
 pub fn class_field(class: Class) -> [u8; 8]
@@ -37,20 +49,20 @@ pub const VERSION: u16 = 2;
 
 /// The first 32 bytes of the file of a class in a version.
 #[tactic(auto, unfolding(crate::specs::File::fields_text))]
-pub fn fields(class: Class, version: u16) -> [u8; 32]
+pub fn fields(class: Class, version: u16) -> [u8; FIELDS_BYTES]
     ensures { result ≡ fields_text class version }
 {
-    let mut out = [0; 32];
+    let mut out = [0; FIELDS_BYTES];
     out[..8].copy_from_slice(b"STUDYDTM");
     LittleEndian::write_u16(&mut out[8..], version);
-    LittleEndian::write_u16(&mut out[10..], 4096);
+    LittleEndian::write_u16(&mut out[10..], PAGE_CELLS as u16);
     LittleEndian::write_u32(&mut out[12..], cells(class));
     out[16..24].copy_from_slice(class_field(class).as_slice());
     out
 }
 
 /// The SHA-256 of some bytes.
-pub fn digest(bytes: &[u8]) -> [u8; 32]
+pub fn digest(bytes: &[u8]) -> [u8; DIGEST_BYTES]
     ensures { result ≡ sha256 bytes.now }
 {
     let mut hasher = Sha256::new();
@@ -60,7 +72,7 @@ pub fn digest(bytes: &[u8]) -> [u8; 32]
 
 /// The digest of a page: over the fields of the header, the page's number and its cells.
 #[tactic(auto, unfolding(crate::specs::File::page_digest))]
-pub fn page_digest(fields: &[u8; 32], number: u32, cells: &[u8]) -> [u8; 32]
+pub fn page_digest(fields: &[u8; FIELDS_BYTES], number: u32, cells: &[u8]) -> [u8; DIGEST_BYTES]
     ensures { result ≡ page_digest fields.now number cells.now }
 {
     let mut bytes = [0; 4];
@@ -74,11 +86,11 @@ pub fn page_digest(fields: &[u8; 32], number: u32, cells: &[u8]) -> [u8; 32]
 
 /// The cells of a page, with zero bytes after the last one.
 #[tactic(auto, using(crate::proofs::Lists::padded_front), unfolding(crate::specs::File::page_cells_of))]
-fn padded_cells(cells: &[u8]) -> [u8; 4096]
+fn padded_cells(cells: &[u8]) -> [u8; PAGE_CELLS]
     requires { length cells.now ≤ 4096 }
     ensures { result ≡ page_cells_of cells.now }
 {
-    let mut out = [0; 4096];
+    let mut out = [0; PAGE_CELLS];
     out[..cells.len()].copy_from_slice(cells);
     out
 }
@@ -98,7 +110,7 @@ fn put_header<W: Write>(out: &mut W, class: Class) -> Result<(), DeviceFailed>
 #[tactic(auto, unfolding(crate::specs::File::page_text))]
 fn put_page<W: Write>(
     out: &mut W,
-    fields: &[u8; 32],
+    fields: &[u8; FIELDS_BYTES],
     number: u32,
     cells: &[u8],
 ) -> Result<(), DeviceFailed>
