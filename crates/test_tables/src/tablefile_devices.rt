@@ -1,107 +1,15 @@
-//! Devices that fail once, and heaps that are too small.
+//! Devices that fail, and heaps that are too small.
 use crate::texts::{text_of, text_of_kk};
 use linked_list_allocator::LocalHeap;
 use std::alloc::Allocator;
-use std::io::{ErrorKind, Read, Write};
+use std::io::ErrorKind;
 use std::process::Abort;
 use std::test::Fail;
 use study_material::Class;
 use study_tablefile::{
     FileFault, MemorySource, PageSource, SourceFault, page_cells, read_header, read_table,
 };
-use study_text::{DeviceFailed, MemoryReader, MemoryWriter, WhenFull, write_text};
-
-/// Writes three letters, and compares the answer, what was taken, and that the writer was asked no more after it was full.
-fn put_letters<A: Allocator>(
-    rt: &impl Abort,
-    writer: &mut MemoryWriter<'_, A>,
-    want: Result<(), DeviceFailed>,
-    taken: &str,
-) {
-    assert!(rt; write_text(writer, b"abc") == want, "{taken}");
-    assert!(rt; writer.taken.as_slice() == taken.as_bytes(), "{taken}");
-    assert!(rt; writer.errors == want.is_err() as u64, "{taken}");
-}
-
-/// A writer that is full fails each time.
-fn fails_each_time<A: Allocator>(
-    rt: &impl Abort,
-    mut full: MemoryWriter<'_, A>,
-    want: Result<(), DeviceFailed>,
-    taken: &str,
-) {
-    put_letters(rt, &mut full, want, taken);
-    assert!(rt; write_text(&mut full, b"d").is_err(), "{taken}");
-    assert!(rt; full.errors == want.is_err() as u64 + 1, "{taken}");
-}
-
-/// A writer that is full once goes on after it failed, whether in the first three letters or in the next.
-fn fails_once<A: Allocator>(
-    rt: &impl Abort,
-    mut recovers: MemoryWriter<'_, A>,
-    want: Result<(), DeviceFailed>,
-    taken: &str,
-) {
-    recovers.kind = ErrorKind::Interrupted;
-    put_letters(rt, &mut recovers, want, taken);
-    assert!(rt;
-        write_text(&mut recovers, b"d").is_ok() == want.is_err(),
-        "{taken}"
-    );
-    assert!(rt; recovers.errors == 1, "{taken}");
-}
-
-/// Writers fail, or take nothing, where they are told, each time or once.
-#[test]
-fn writers_in_memory_fail_where_they_are_told(rt: HostRuntime) {
-    let alloc = rt.alloc();
-    for when_full in [WhenFull::Fail, WhenFull::TakeNothing] {
-        for (room, want, taken) in [
-            (0usize, Err(DeviceFailed), ""),
-            (2, Err(DeviceFailed), "ab"),
-            (3, Ok(()), "abc"),
-        ] {
-            let full = MemoryWriter::with_room(&alloc, room, when_full);
-            fails_each_time(&rt, full, want, taken);
-            let recovers = MemoryWriter::full_once(&alloc, room, when_full);
-            fails_once(&rt, recovers, want, taken);
-        }
-    }
-    let mut full = MemoryWriter::with_room(&alloc, 0, WhenFull::Fail);
-    assert!(rt; write_text(&mut full, b"").is_ok());
-    assert!(rt; full.flush().is_ok() && full.errors == 0);
-}
-
-/// Reads to the end: how many bytes, if the reader does not fail.
-fn read_on(reader: &mut MemoryReader<'_>, text: &mut Vec<u8>) -> Option<usize> {
-    reader.read_to_end(text).ok()
-}
-
-fn is_text(bytes: &[u8], text: &str) -> bool {
-    bytes == text.as_bytes()
-}
-
-/// Readers fail where they are told, each time or once.
-#[test]
-fn readers_in_memory_fail_where_they_are_told(rt: HostRuntime) {
-    let mut text = Vec::new(rt.alloc());
-    assert!(rt; read_on(&mut MemoryReader::new(b"abc"), &mut text) == Some(3));
-    assert!(rt; is_text(text.as_slice(), "abc"));
-    let mut failing = MemoryReader::failing_after(b"abc", 2);
-    assert!(rt; read_on(&mut failing, &mut text).is_none());
-    assert!(rt; read_on(&mut failing, &mut text).is_none());
-    assert!(rt; is_text(text.as_slice(), "abcab"));
-    assert!(rt; failing.errors == 2);
-    let mut recovers = MemoryReader::failing_once(b"abc", 2);
-    assert!(rt; read_on(&mut recovers, &mut text).is_none());
-    assert!(rt; read_on(&mut recovers, &mut text) == Some(1));
-    assert!(rt; is_text(text.as_slice(), "abcababc"));
-    assert!(rt; recovers.errors == 1);
-    let mut interrupted = MemoryReader::failing_once(b"abc", 2);
-    interrupted.kind = ErrorKind::Interrupted;
-    assert!(rt; read_on(&mut interrupted, &mut text) == Some(3));
-    assert!(rt; interrupted.errors == 1);
-}
+use study_text::MemoryReader;
 
 /// The device's failure is told after so many bytes, and the reader is not asked again.
 fn fails_after<A: Allocator>(
@@ -134,18 +42,6 @@ fn a_failing_reader_is_told_after_each_byte(rt: HostRuntime) {
     let mut reader = MemoryReader::failing_after(bytes, 4193);
     assert!(rt; read_table(&alloc, &mut reader).is_ok());
     assert_eq!(rt; reader.errors, 0);
-}
-
-/// A writer that finds no memory for a byte has failed once.
-#[test]
-fn a_writer_without_memory_fails_once(rt: HostRuntime) -> Result<(), Fail> {
-    let heap = LocalHeap::new(rt.alloc(), 256)?;
-    let text = [7u8; 1024];
-    let mut writer = MemoryWriter::new(&heap);
-    assert_eq!(rt; write_text(&mut writer, text.as_slice()), Err(DeviceFailed));
-    assert_eq!(rt; writer.errors, 1);
-    assert!(rt; 0 < writer.taken.len() && writer.taken.len() < 256);
-    Ok(())
 }
 
 /// Question 0 asks for the header, and the others ask for the pages in turn.
