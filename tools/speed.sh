@@ -9,6 +9,8 @@
 #   tools/speed.sh views DIR       what a board shows of them, views and surveys, likewise
 #   tools/speed.sh all [CLASS]     builds all 36 tables (or one, and what it needs) and prints for each: seconds, numbers
 #                                  examined, deepest win and loss in plies, SHA-256 of the cells; then the sum of seconds
+#   tools/speed.sh fast [CLASS]    the same beside the fastest plain Rust that we know (tools/speed/fast.rs: the same algorithm with men by
+#                                  slots, sets of squares and numbers to which moves are added); a line is marked where the cells differ
 #
 # Both programs print 'NAME LABEL PICOSECONDS SUM' for the same positions and numbers; a line is marked where the sums
 # differ. Each takes the fastest of five goes, and is run three times, in turns with the other; tables are built once in
@@ -33,7 +35,22 @@ if [ "$1" = all ]; then
     exit
 fi
 
-rustc --edition 2024 -C opt-level=3 -C target-cpu=x86-64-v2 -C panic=abort "$top/tools/speed/plain.rs" -o "$plain"
+rust="rustc --edition 2024 -C opt-level=3 -C target-cpu=x86-64-v2 -C panic=abort"
+if [ "$1" = fast ]; then
+    $rust "$top/tools/speed/fast.rs" -o "$work/fast"
+    mkdir "$work/cells"
+    "$work/fast" "$work/cells" ${2:-all} > "$work/theirs"
+    (cd "$work/cells" && sha256sum -- *.cells) | sed 's/\.cells$//' > "$work/digests"
+    "$ours" all $2 | awk 'FILENAME == ARGV[1] { seconds[$1] = $2; next }
+         FILENAME == ARGV[2] { digest[$2] = $1; next }
+         { differs = $1 != "sum" && digest[$1] != $6
+           printf "%-5s %8.2f s   fast plain Rust %8.2f s   ratio %6.1f%s\n", $1, $2, seconds[$1], $2 / (seconds[$1] + 0.001),
+               differs ? "   CELLS DIFFER" : ""
+           fflush() }' "$work/theirs" "$work/digests" -
+    exit
+fi
+
+$rust "$top/tools/speed/plain.rs" -o "$plain"
 
 if [ "$1" = instructions ]; then
     # Instructions of one program on one class, within `build` alone or in all.
