@@ -19,8 +19,6 @@ use Rattle.study_index.specs.Moved.{from_to, IsMoved}
 use Rattle.study_index.proofs.Fillings.{AreApart-ascending}
 use Rattle.study_index.proofs.ClassSlots.{AreSlots-class}
 use Rattle.study_index.proofs.NumbersReadOff.{filled-men_of, IsInSlots-men_of}
-use Rattle.study_index.proofs.SteppedNumbers.{filled_moved, IsInSlots-moved}
-use Rattle.study_index.proofs.MovedNumbers.{least_index}
 
 pub moves_there : (x a : ℕ) (m : Man) → eqb m.at x ≡ true → from_to x a m ≡ record { side = m.side; kind = m.kind; at = a }
 moves_there x a m e = rw e refl
@@ -140,16 +138,3 @@ IsStepped-moved c n i x a p few stands t =
       to_move = t.to_move;
       dead = t.dead;
     }
-
--- the number of what another number tells, the white king on another square
-pub king_index : (c : Class) (n a : ℕ) (p : Position) (r : Option ℕ) → IsStepped c n 0 a p
-    → r ≡ least_of (slots_have_pawn (slots_of c)) (other_side (told_side (slots_of c) (without_bit n))) false
-    (moved_to 0 a (told_men (slots_of c) (without_bit n))) → r ≡ Some (index_of p)
-king_index c n a p r t e =
-    let slots = slots_of c in
-    let b = without_bit n in
-    let told = told_men slots b in
-    let s = AreSlots-class c in
-    let pawns = slots_have_pawn slots in
-    least_index c p (moved_to 0 a told) (other_side (told_side slots b)) r t.valid t.men (filled_moved 0 a told ∙ filled-men_of pawns slots b s)
-    (IsInSlots-moved 0 a told (IsInSlots-men_of pawns slots b s)) t.to_move t.dead e

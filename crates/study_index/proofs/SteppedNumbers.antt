@@ -157,6 +157,26 @@ IsInSlots-moved i a (m ∷ ms) h = by_test (i == 0) (NoneBefore-moved (man_slot_
 
 -- ---- the index
 
+-- the least number of men in the order of their slots, of whom this is a number
+pub read_least : (c : Class) (men : List Man) (side : Side) (m : ℕ) → map slot_filled men ≡ slots_of c → All (λ x. x.at < 64) men
+    → number (slots_have_pawn (slots_of c)) side men ≡ Some m
+    → Some (least_image (slots_have_pawn (slots_of c)) (are_like_slots (slots_of c)) (slots_of c) m)
+    ≡ least_of (slots_have_pawn (slots_of c)) side false men
+read_least c men side m filled on is =
+    let slots = slots_of c in
+    let pawns = slots_have_pawn slots in
+    let s = AreSlots-class c in
+    let read = IsRead-number pawns side men m (subst (λ (ss : List Slot). AreSlots ss) (sym filled) s) on is in
+    let there : nat_lt (head slots m / listed_count pawns) 2 ≡ true =
+    subst (λ (ss : List Slot). nat_lt (head ss m / listed_count pawns) 2 ≡ true) filled read.cell in
+    let same : men ≡ men_of pawns slots m = subst (λ (ss : List Slot). men ≡ men_of pawns ss m) filled read.men in
+    let turned : side ≡ side_numbered (head slots m / listed_count pawns) =
+    subst (λ (ss : List Slot). side ≡ side_numbered (head ss m / listed_count pawns)) filled read.side_is in
+    sym (least_told pawns slots m s there) ∙ sym (as_read pawns side _ men _ turned same)
+  where
+    as_read : (w : Bool) (x y : Side) (xs ys : List Man) → x ≡ y → xs ≡ ys → least_of w x false xs ≡ least_of w y false ys
+    as_read w x y xs ys e f = rw (e, f) refl
+
 -- the index of what a number reads as, one man moved and the other side to move
 pub stepped_index : (c : Class) (n i a : ℕ) (p : Position) → n < cells_of c → 1 ≤ i → i < length (slots_of c) → IsStepped c n i a p
     → index_of p ≡ least_image (slots_have_pawn (slots_of c)) (are_like_slots (slots_of c)) (slots_of c)
@@ -174,21 +194,12 @@ stepped_index c n i a p below one few t =
     let cell : nat_lt (head slots b / listed_count pawns) 2 ≡ true = is_cell-below c b ∙ below_test b (numbers_of c) (number_below c n below) in
     let is : number pawns side men ≡ Some m = stepped_number pawns slots b i a s cell one few in
     let on : All (λ x. x.at < 64) men = All-permutation (λ x. x.at < 64) p.men men t.men t.valid.on_board in
-    let read = IsRead-number pawns side men m (subst (λ (ss : List Slot). AreSlots ss) (sym filled) s) on is in
-    let there : nat_lt (head slots m / listed_count pawns) 2 ≡ true =
-    subst (λ (ss : List Slot). nat_lt (head ss m / listed_count pawns) 2 ≡ true) filled read.cell in
-    let same : men ≡ men_of pawns slots m = subst (λ (ss : List Slot). men ≡ men_of pawns ss m) filled read.men in
-    let turned : side ≡ side_numbered (head slots m / listed_count pawns) =
-    subst (λ (ss : List Slot). side ≡ side_numbered (head ss m / listed_count pawns)) filled read.side_is in
-    let least = sym (least_told pawns slots m s there) ∙ sym (as_read pawns side _ men _ turned same) in
     sym (the_same _ _
-    (least_index c p men side _ t.valid t.men filled (IsInSlots-moved i a told (IsInSlots-men_of pawns slots b s)) t.to_move t.dead least))
+    (least_index c p men side _ t.valid t.men filled (IsInSlots-moved i a told (IsInSlots-men_of pawns slots b s)) t.to_move t.dead
+    (read_least c men side m filled on is)))
   where
     below_test : (m k : ℕ) → m < k → nat_lt m k ≡ true
     below_test m k l = grind (arith, nat_tests)
-
-    as_read : (w : Bool) (x y : Side) (xs ys : List Man) → x ≡ y → xs ≡ ys → least_of w x false xs ≡ least_of w y false ys
-    as_read w x y xs ys e f = rw (e, f) refl
 
     the_same : (m n : ℕ) → Some m ≡ Some n → m ≡ n
     the_same m n e = cc

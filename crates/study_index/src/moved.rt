@@ -9,13 +9,17 @@ ghost use Rattle.study_index.specs.Computed.{index_of};
 ghost use Rattle.study_index.specs.Number.{cells_of};
 ghost use Rattle.study_index.specs.Stepped.{are_like_slots, moved_to, IsStepped};
 ghost use Rattle.study_index.specs.Moved.{IsMoved, from_to};
+ghost use Rattle.study_index.specs.LeastImage.{king_symmetry, squares};
+ghost use Rattle.study_index.specs.Squares.{number_at};
+ghost use Rattle.study_board.specs.Symmetry.{turned_square};
 
 use crate::decoding::{Slot, head, man, slots};
 use crate::least::least_of;
 use crate::least_image::least_image;
+use crate::number::number;
 use crate::reading::{class_has_pawn, has_like_men, king_told, side_told};
 use crate::stepped::stepped;
-use study_board::{Man, Square};
+use study_board::{Man, Square, Symmetry};
 use study_material::Class;
 
 /// The man, put on `to` if it stands on `from`.
@@ -65,40 +69,50 @@ fn least_moved(slots: &[Slot], pawns: bool, n: u32, from: Square, to: Square) ->
     }
 }
 
-/// The least number of the men that a number tells, the white king put on `to` and the other side to move.
-#[inline(always)]
-fn least_with_king_on(slots: &[Slot], pawns: bool, n: u32, to: Square) -> Option<u32>
-    requires slots { AreSlots slots.now }
-    requires pawns { pawns ≡ slots_have_pawn slots.now }
-    ensures { result ≡ least_of pawns (other_side (told_side slots.now n)) false (moved_to 0 to (told_men slots.now n)) }
+/// The symmetry that brings the white king's square to a listed one, the colours as they are.
+#[inline]
+#[tactic(auto, unfolding(crate::specs::LeastImage::king_symmetry))]
+fn king_symmetry(pawns: bool, s: Square) -> Symmetry
+    ensures { result ≡ king_symmetry pawns s }
 {
-    let side = side_told(pawns, head(slots, n)).other();
-    match slots {
-        [k, b] => {
-            let men = [man_on(k, to), man(b, n % 64)];
-            least_of(pawns, side, false, &men)
-        }
-        [k, b, x] => {
-            let men = [man_on(k, to), man(b, n / 64 % 64), man(x, n % 64)];
-            least_of(pawns, side, false, &men)
-        }
-        [k, b, x, y] => {
-            let black = man(b, n / 64 / 64 % 64);
-            let men = [man_on(k, to), black, man(x, n / 64 % 64), man(y, n % 64)];
-            least_of(pawns, side, false, &men)
-        }
-        _ => unreachable!(),
+    let (right, top) = (s.file() > 3, s.rank() > 3);
+    let file = if right { 7 - s.file() } else { s.file() };
+    let rank = if top { 7 - s.rank() } else { s.rank() };
+    Symmetry {
+        files: right,
+        ranks: !pawns && top,
+        diagonal: !pawns && file < rank,
+        colours: false,
     }
 }
 
 #[inline]
-fn man_on(slot: &Slot, at: Square) -> Man
-    ensures { result ≡ man slot.now at }
+fn square(number: u32) -> Square
+    requires { number < 64 }
+    ensures { result ≡ number }
 {
-    Man {
-        side: slot.side,
-        kind: slot.kind,
-        at,
+    Square::at(number as u8)
+}
+
+/// The number of the men that a number tells, the white king put on `to` and the other side to move, turned so that the
+/// king comes to a listed square.
+#[inline]
+fn number_with_king_on(slots: &[Slot], pawns: bool, n: u32, to: Square) -> Option<u32>
+    requires slots { AreSlots slots.now }
+    requires pawns { pawns ≡ slots_have_pawn slots.now }
+    ensures value { result ≡ number_at pawns (other_side (told_side slots.now n)) (turned_square (king_symmetry pawns to)) (squares (moved_to 0 to (told_men slots.now n))) }
+    ensures small { IfSome result (λ m. m < 16777216) }
+{
+    let side = side_told(pawns, head(slots, n)).other();
+    let t = king_symmetry(pawns, to);
+    match slots {
+        [_, _] => number(pawns, side, t, &[to, square(n % 64)]),
+        [_, _, _] => number(pawns, side, t, &[to, square(n / 64 % 64), square(n % 64)]),
+        [_, _, _, _] => {
+            let (black, third) = (square(n / 64 / 64 % 64), square(n / 64 % 64));
+            number(pawns, side, t, &[to, black, third, square(n % 64)])
+        }
+        _ => unreachable!(),
     }
 }
 
@@ -114,14 +128,15 @@ pub fn number_stepped(class: Class, number: u32, slot: u32, to: Square) -> u32
     let slots = slots(class);
     let pawns = class_has_pawn(class);
     let n = number % 16_777_216;
+    let like = has_like_men(class);
     if slot == 0 {
-        match least_with_king_on(slots, pawns, n, to) {
-            Some(least) => least,
+        match number_with_king_on(slots, pawns, n, to) {
+            Some(turned) => least_image(pawns, like, slots, turned),
             None => 0,
         }
     } else {
         let moved = stepped(pawns, slots.len() as u32, n, slot, to);
-        least_image(pawns, has_like_men(class), slots, moved)
+        least_image(pawns, like, slots, moved)
     }
 }
 
