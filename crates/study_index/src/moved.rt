@@ -1,5 +1,5 @@
 //! The number of the position that a move makes which takes no man and promotes none, or from which it was made.
-ghost use Rattle.std.specs.Prelude.{◌≡◌, ◌≤◌, ◌<◌, true, false, map, length, slice_index_or, Some, IsTrue, IfSome, if◌then◌else◌};
+ghost use Rattle.std.specs.Prelude.{◌≡◌, ◌≤◌, ◌<◌, ◌↔◌, true, false, map, length, slice_index_or, Some, IsTrue, IfSome, if◌then◌else◌};
 ghost use Rattle.study_board.specs.declared.men.Man.{Man as AMan};
 ghost use Rattle.study_board.specs.Men.{other_side};
 ghost use Rattle.study_board.specs.Position.{Position as Seen};
@@ -39,7 +39,6 @@ fn put(man: Man, from: Square, to: Square) -> Man
 }
 
 /// The least number of the men that a number tells, the man on `from` put on `to` and the other side to move.
-#[inline(always)]
 fn least_moved(slots: &[Slot], pawns: bool, n: u32, from: Square, to: Square) -> Option<u32>
     requires slots { AreSlots slots.now }
     requires pawns { pawns ≡ slots_have_pawn slots.now }
@@ -140,26 +139,39 @@ pub fn number_stepped(class: Class, number: u32, slot: u32, to: Square) -> u32
     }
 }
 
-/// The slot after the first whose man stands on the square, by the number.
+/// The slot whose man stands on the square, by the number.
 #[inline]
-fn slot_on(slots: &[Slot], n: u32, from: Square) -> Option<u32>
-    requires { AreSlots slots.now }
-    ensures { IfSome result (λ i. (1 ≤ i) × (i < length slots.now) × ((d : AMan) → (slice_index_or (told_men slots.now n) i d).at ≡ from)) }
+pub fn slot_on(slots: &[Slot], pawns: bool, n: u32, from: Square) -> Option<u32>
+    requires slots { AreSlots slots.now }
+    requires pawns { pawns ≡ slots_have_pawn slots.now }
+    ensures { IfSome result (λ i. (i < length slots.now) × ((d : AMan) → (slice_index_or (told_men slots.now n) i d).at ≡ from)) }
 {
-    let from = u32::from(from.number());
+    let at = u32::from(from.number());
     match slots {
-        [_, _] => slot_if(n % 64 == from, 1, None),
-        [_, _, _] => {
-            let black = slot_if(n / 64 % 64 == from, 1, None);
-            slot_if(n % 64 == from, 2, black)
+        [k, _] => {
+            let king = slot_if(stands(king_told(pawns, k, n / 64), from), 0, None);
+            slot_if(n % 64 == at, 1, king)
         }
-        [_, _, _, _] => {
-            let black = slot_if(n / 64 / 64 % 64 == from, 1, None);
-            let third = slot_if(n / 64 % 64 == from, 2, black);
-            slot_if(n % 64 == from, 3, third)
+        [k, _, _] => {
+            let king = slot_if(stands(king_told(pawns, k, n / 64 / 64), from), 0, None);
+            let black = slot_if(n / 64 % 64 == at, 1, king);
+            slot_if(n % 64 == at, 2, black)
+        }
+        [k, _, _, _] => {
+            let king = slot_if(stands(king_told(pawns, k, n / 64 / 64 / 64), from), 0, None);
+            let black = slot_if(n / 64 / 64 % 64 == at, 1, king);
+            let third = slot_if(n / 64 % 64 == at, 2, black);
+            slot_if(n % 64 == at, 3, third)
         }
         _ => None,
     }
+}
+
+#[inline]
+fn stands(man: Man, at: Square) -> bool
+    ensures { IsTrue result ↔ (man.at ≡ at) }
+{
+    man.at.number() == at.number()
 }
 
 #[inline]
@@ -178,10 +190,11 @@ pub fn number_moved(class: Class, number: u32, from: Square, to: Square) -> u32
 {
     let slots = slots(class);
     let n = number % 16_777_216;
-    if let Some(slot) = slot_on(slots, n, from) {
+    let pawns = class_has_pawn(class);
+    if let Some(slot) = slot_on(slots, pawns, n, from) {
         return number_stepped(class, number, slot, to);
     }
-    match least_moved(slots, class_has_pawn(class), n, from, to) {
+    match least_moved(slots, pawns, n, from, to) {
         Some(least) => least,
         None => 0,
     }
