@@ -3,7 +3,7 @@ use crate::men::{man, side, square};
 use crate::rows::{field, number};
 use std::process::Abort;
 use study_board::Man;
-use study_index::{number_moved, number_stepped, told};
+use study_index::{cells, number_moved, number_stepped, told};
 use study_material::Class;
 
 /// The class that a row begins with, and the number that follows.
@@ -87,6 +87,7 @@ fn leads_on(rt: &impl Abort, row: &str) -> bool {
     let slot = number(field(row, 2)).expect(rt, row);
     let to = square(field(row, 3)).expect(rt, row);
     let want = number(field(row, 4));
+    assert!(rt; from < cells(class), "{row}");
     let setup = told(class, from);
     assert!(rt; (slot as usize) < setup.men.len(), "{row}");
     match setup.men.as_slice().get(slot as usize) {
