@@ -1,5 +1,5 @@
 -- The positions before quiet moves, by the men that a number tells.
-use Rattle.std.proofs.Common.{◌≡◌, ◌≢◌, ℕ, ◌+◌, ◌<◌, ◌≤◌, ◌⊎◌, inl, inr, arith, Bool, true, false, ◌&&◌, List, slice_index, Contains, Option, Some, None, refl, sym, ◌∙◌, ap, subst}
+use Rattle.std.proofs.Common.{◌≡◌, ℕ, ◌+◌, ◌<◌, ◌≤◌, ◌⊎◌, inl, inr, arith, Bool, true, false, List, slice_index, Contains, Option, Some, None, refl, sym, ◌∙◌, ap, subst}
 use Rattle.std.proofs.lemmas.Bool.{and_parts, false≢true}
 use Rattle.std.specs.List.Sorted.{IsPermutation}
 use Rattle.study_board.specs.declared.men.Side.{Side}
@@ -11,7 +11,6 @@ use Rattle.study_board.specs.Sets.{has}
 use Rattle.study_moves.specs.declared.moves.Move.{Move}
 use Rattle.study_moves.specs.Rules.{after, is_legal, reaches_last_rank}
 use Rattle.study_moves.specs.Alike.{Leads}
-use Rattle.study_moves.specs.EnPassant.{has_legal_en_passant}
 use Rattle.study_moves.specs.Unmoves.{IsQuiet, LeadsQuietly, CanHaveLed, move_from, came_from}
 use Rattle.study_moves.specs.AnyOrder.{HasOrigins, HasSafeTargets, is_safe_target}
 use Rattle.study_moves.proofs.AnyOrder.{men-tell-moves}
@@ -25,7 +24,7 @@ use Rattle.study_index.proofs.ClassLaws.{below, entry}
 use Rattle.study_index.proofs.ComputedIndex.{told_decoded}
 use Rattle.study_index.proofs.DecodedNumbers.{told_of}
 use Rattle.study_index.proofs.WithBit.{HasParts-from}
-use Rattle.study_retro.specs.Propagation.{AreAdded, AreLowered, AreSet, IsSetBy, IsSetWhere, LeadsTo}
+use Rattle.study_retro.specs.Propagation.{AreAdded, AreLowered, AreSet, IsSetWhere, LeadsTo}
 use Rattle.study_retro.specs.Table.{Table}
 use Rattle.study_retro.specs.Cells.{value_of}
 use Rattle.study_retro.specs.declared.value.Value.TheVariants.{Win}
@@ -77,13 +76,13 @@ module _ (c : Class) (number : ℕ) (q : Position) (at : position_numbered c num
   one_position p e = let s : Some p ≡ Some q = sym e ∙ at in cc
 
   module _ (men : List Man) (side : Side) (told : AreTold c number men side) where
-    told_origins : HasOrigins q men
+    pub told_origins : HasOrigins q men
     told_origins =
         let d = told_decoded c number q at in
         let t = told_of c number q d in
         (men-tell-moves q men d.valid (subst (λ (zs : List Man). IsPermutation zs q.men) (sym told.0) t.same_men)).1
 
-    side_is : side ≡ q.to_move
+    pub side_is : side ≡ q.to_move
     side_is = told.1 ∙ sym (told_of c number q (told_decoded c number q at)).same_side
 
     module _ (man : Man) (among : Contains men man) where
@@ -160,14 +159,14 @@ move_to man x = record { origin = man.at; target = x; promoted = None }
 
 module _ (c : Class) (number : ℕ) (q : Position) (at : position_numbered c number ≡ Some q) (single : has_both_pawns (lists_of c) ≡ false) (men : List
     Man) (side : Side) (told : AreTold c number men side) where
-  told_targets : HasSafeTargets q men
+  pub told_targets : HasSafeTargets q men
   told_targets =
       let d = told_decoded c number q at in
       let t = told_of c number q d in
       (men-tell-moves q men d.valid (subst (λ (zs : List Man). IsPermutation zs q.men) (sym told.0) t.same_men)).0
       (dead_of c q d.valid (entry c number q d).of_class single)
 
-  occupied_same : (x : ℕ) → is_occupied men x ≡ is_occupied q.men x
+  pub occupied_same : (x : ℕ) → is_occupied men x ≡ is_occupied q.men x
   occupied_same x =
       is_occupied_same men q.men (subst (λ (zs : List Man). IsPermutation zs q.men) (sym told.0) (told_of c number q (told_decoded c number q at)).same_men) x
 

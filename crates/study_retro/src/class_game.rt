@@ -15,6 +15,7 @@ use crate::game::{Game, Location};
 use crate::initial::{Initial, initial_by_moves};
 use crate::propagate::{is_lost_by_moves, lower_by_moves, mark_by_moves};
 use crate::stepped::{LabelledGame, SteppedGame};
+use crate::still::is_still;
 use crate::table_set::TableSet;
 use crate::value::{Value, value_at};
 use arrayvec::ArrayVec;
@@ -120,6 +121,12 @@ impl<'t, 'a, A: Allocator> LabelledGame for ClassGame<'t, 'a, A> {
 
 impl<'t, 'a, A: Allocator> SteppedGame for ClassGame<'t, 'a, A> {
     fn first(&self, number: u32) -> Initial {
+        if !has_both_pawns(self.class) && is_still(self.class, number) {
+            return Initial {
+                cell: 0,
+                far: false,
+            };
+        }
         initial_by_moves(self, number)
     }
 
