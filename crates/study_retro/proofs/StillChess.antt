@@ -34,7 +34,7 @@ use Rattle.study_retro.specs.Numbered.{CellIsHeld, IsNumberedClass, OutsideIsRig
 use Rattle.study_retro.specs.Propagation.{IsHeldCell}
 use Rattle.study_retro.specs.Predecessors.{AreTold}
 use Rattle.study_retro.proofs.FirstLemmas.{held-draw}
-use Rattle.study_retro.specs.Still.{IsStill, rank_before_last}
+use Rattle.study_retro.specs.Still.{HasOnlyQuiet, IsStill, rank_before_last}
 use Rattle.study_retro.proofs.BackLemmas.{occupied_same, side_is, told_targets}
 use Rattle.study_retro.proofs.MovedSteps.{quiet_stays}
 
@@ -126,22 +126,16 @@ pub not_true : (b : Bool) → not b ≡ true → b ≡ false
 not_true false e = refl
 not_true true e = absurd (false≢true e)
 
--- such a position is still
-pub position_still : (c : Class) (number : ℕ) (q : Position) → position_numbered c number ≡ Some q → has_both_pawns (lists_of c) ≡ false
-    → (men : List Man) (side : Side) → AreTold c number men side → in_check men side ≡ false
+-- so each move is quiet
+pub stays_quiet : (c : Class) (number : ℕ) (q : Position) → position_numbered c number ≡ Some q → has_both_pawns (lists_of c) ≡ false
+    → (men : List Man) (side : Side) → AreTold c number men side
     → list_any (λ m. same_side m.side (other_side side) && is_attacked men side m.at) men ≡ false
-    → list_any (λ m. is_man side Pawn m && (rank_of m.at == rank_before_last side)) men ≡ false → IsStill c q
+    → list_any (λ m. is_man side Pawn m && (rank_of m.at == rank_before_last side)) men ≡ false → HasOnlyQuiet q
 unfolding is_safe_target
-position_still c number q at single men side told calm takes promotes = (
-  ap (λ (t : Side). in_check q.men t) (sym turn) ∙ sym (in_check_same men q.men same side) ∙ calm,
-  λ m legal. is_of-IsOf c (after q m) (quiet_stays c number q at single m legal (quiet m legal)),
-)
+stays_quiet c number q at single men side told takes promotes = quiet
   where
     turn : side ≡ q.to_move
     turn = side_is c number q at men side told
-
-    same : IsPermutation men q.men
-    same = subst (λ (zs : List Man). IsPermutation zs q.men) (sym told.0) (told_of c number q (told_decoded c number q at)).same_men
 
     quiet : (m : Move) → is_legal q m ≡ true → IsQuiet q m
     quiet m legal =
@@ -162,10 +156,18 @@ position_still c number q at single men side told calm takes promotes = (
             let plain = target_plain men side promotes man (among-of men man among) his m.target goes.0 in
             (sym (occupied_same c number q at single men side told m.target) ∙ free, none_to_promote (reaches_last_rank man m.target) m.promoted plain choice)
 
+-- the side to move of the position is in check if the men told are
+pub check_told : (c : Class) (number : ℕ) (q : Position) → position_numbered c number ≡ Some q → (men : List Man) (side : Side)
+    → AreTold c number men side → in_check q.men q.to_move ≡ in_check men side
+check_told c number q at men side told =
+    ap (λ (t : Side). in_check q.men t) (sym (side_is c number q at men side told))
+    ∙ sym (in_check_same men q.men
+    (subst (λ (zs : List Man). IsPermutation zs q.men) (sym told.0) (told_of c number q (told_decoded c number q at)).same_men) side)
+
 -- before the levels the cell of its number is 0, as is that of a number without a position
 pub still_held : (c : Class) (held : List (Option Table)) (number : ℕ) → IsNumberedClass (class_game c held) → OutsideIsRight (class_game c held)
-    → ((q : Position) → position_numbered c number ≡ Some q → IsStill c q) → CellIsHeld (class_game c held) false 0 number 0
-still_held c held number laws outer still = by_position (position_numbered c number) refl
+    → ((q : Position) → position_numbered c number ≡ Some q → IsStill q) → has_both_pawns (lists_of c) ≡ false → CellIsHeld (class_game c held) false 0 number 0
+still_held c held number laws outer still single = by_position (position_numbered c number) refl
   where
     Held : Option Position → Type 0
     Held o = IsHeldCell (leads_in (class_game c held)) IsMate (is_of c) false 0 o 0
@@ -177,9 +179,11 @@ still_held c held number laws outer still = by_position (position_numbered c num
         let s = still q e in
         subst Held (sym e)
         (held-draw laws outer q d.0 d.1 (λ mate. false≢true (sym s.0 ∙ mate.0)) false (record {
-          no_loss = λ r m l. absurd (leaves q s r l);
-          holds = inr ((λ x. x), (λ r l. leaves q s r l));
+          no_loss = λ r m l. absurd (leaves q e s r l);
+          holds = inr ((λ x. x), (λ r l. leaves q e s r l));
         }))
       where
-        leaves : (q : Position) → IsStill c q → (r : Position) → leads_in (class_game c held) q r × (is_of c r ≡ false) → ⊥
-        leaves q s r l = false≢true (sym l.1 ∙ ap (λ (p : Position). is_of c p) (sym l.0.2) ∙ s.1 l.0.0 l.0.1)
+        leaves : (q : Position) → position_numbered c number ≡ Some q → IsStill q → (r : Position) → leads_in (class_game c held) q r × (is_of c r ≡ false) → ⊥
+        leaves q e s r l =
+            let home = is_of-IsOf c (after q l.0.0) (quiet_stays c number q e single l.0.0 l.0.1 (s.1 l.0.0 l.0.1)) in
+            false≢true (sym l.1 ∙ ap (λ (p : Position). is_of c p) (sym l.0.2) ∙ home)

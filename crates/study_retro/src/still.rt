@@ -9,10 +9,11 @@ ghost use Rattle.study_board.specs.Position.{Position as Seen};
 ghost use Rattle.study_material.specs.Class.{lists_of};
 ghost use Rattle.study_index.specs.Number.{has_both_pawns};
 ghost use Rattle.study_index.specs.Computed.{position_numbered};
-ghost use Rattle.study_retro.specs.Still.{IsStill, rank_before_last};
+ghost use Rattle.study_retro.specs.Predecessors.{AreTold};
+ghost use Rattle.study_retro.specs.Still.{HasOnlyQuiet, IsStill, rank_before_last};
 
 use study_board::{Kind, Man, Side, in_check, is_attacked};
-use study_index::told;
+use study_index::{Setup, told};
 use study_material::Class;
 
 /// The rank from which a pawn of the side promotes.
@@ -42,18 +43,28 @@ fn may_promote(men: &[Man], side: Side) -> bool
     men.iter().any(|m| m.is(side, Kind::Pawn) && m.at.rank() == rank_before_last(side))
 }
 
-/// Whether the side to move is not in check, and each of its moves stays in the class, if the number has a position.
-pub fn is_still(class: Class, number: u32) -> bool
-    requires { has_both_pawns (lists_of class) ≡ false }
-    ensures { IsTrue result → (q : Seen) → position_numbered class number ≡ Some q → IsStill class q }
+/// Whether each move of the side to move is quiet, if the number has a position.
+pub fn stays(class: Class, number: u32, setup: &Setup) -> bool
+    requires single { has_both_pawns (lists_of class) ≡ false }
+    requires told { AreTold class number setup.now.men.items setup.now.to_move }
+    ensures { IsTrue result → (q : Seen) → position_numbered class number ≡ Some q → HasOnlyQuiet q }
 {
-    let setup = told(class, number);
+    let _read = (class, number);
     let men = setup.men.as_slice();
-    if in_check(men, setup.to_move) {
-        return false;
-    }
     if may_take(men, setup.to_move) {
         return false;
     }
     !may_promote(men, setup.to_move)
+}
+
+/// Whether the side to move is not in check, and each of its moves is quiet, if the number has a position.
+pub fn is_still(class: Class, number: u32) -> bool
+    requires { has_both_pawns (lists_of class) ≡ false }
+    ensures { IsTrue result → (q : Seen) → position_numbered class number ≡ Some q → IsStill q }
+{
+    let setup = told(class, number);
+    if in_check(setup.men.as_slice(), setup.to_move) {
+        return false;
+    }
+    stays(class, number, &setup)
 }

@@ -1,22 +1,14 @@
-use Rattle.std.proofs.Common.{◌&&◌, ◌==◌, List, sym, ◌∙◌, ap}
-use Rattle.std.specs.List.{list_any}
-use Rattle.study_board.specs.declared.men.Kind.TheVariants.{Pawn}
+use Rattle.std.proofs.Common.{List, sym, ◌∙◌, ap}
 use Rattle.study_board.specs.declared.men.Man.{Man}
-use Rattle.study_board.specs.Geometry.{rank_of}
-use Rattle.study_board.specs.Men.{is_attacked, is_man, other_side, same_side}
 use Rattle.study_board.specs.Position.{in_check}
-use Rattle.study_retro.specs.Still.{rank_before_last}
-use Rattle.study_retro.proofs.StillChess.{position_still, not_true}
+use Rattle.study_retro.proofs.StillChess.{check_told}
 use Rattle.study_retro.proofs.still.is_still.Goals as goal
 
 pub returns : goal.returns
-returns c = λ t q at.
-    let side = c.told-setup.result.to_move in
-    let men = c.told-setup.result.men.items in
-    let same = sym c.as_slice-men.ensures.value in
-    position_still c.args.class c.args.number q at c.requires men side (c.told-setup.ensures.men, c.told-setup.ensures.to_move)
-    (ap (λ (zs : List Man). in_check zs side) same ∙ sym c.in_check.ensures ∙ c.if-in_check.false)
-    (ap (λ (zs : List Man). list_any (λ m. same_side m.side (other_side side) && is_attacked zs side m.at) zs) same
-    ∙ sym c.may_take.ensures ∙ c.if-may_take.false)
-    (ap (λ (zs : List Man). list_any (λ m. is_man side Pawn m && (rank_of m.at == rank_before_last side)) zs) same
-    ∙ sym c.may_promote.ensures ∙ not_true c.may_promote.result t)
+returns c = λ t q at. (
+  check_told c.args.class c.args.number q at c.told-setup.result.men.items c.told-setup.result.to_move
+      (c.told-setup.ensures.men, c.told-setup.ensures.to_move)
+      ∙ ap (λ (zs : List Man). in_check zs c.told-setup.result.to_move) (sym c.as_slice.ensures.value)
+      ∙ sym c.in_check.ensures ∙ c.if-in_check.false,
+  c.stays.ensures t q at,
+)
