@@ -23,4 +23,3 @@ pub mod SteppedNumbers
 pub mod MovedNumbers
 pub mod AddedNumbers
 pub mod LeastImages
-pub mod KingNumbers

@@ -10,4 +10,3 @@ pub mod Squares
 pub mod Stepped
 pub mod Weights
 pub mod LeastImage
-pub mod Departure

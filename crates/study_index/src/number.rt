@@ -81,8 +81,7 @@ fn append_square(t: Symmetry, n: u32, x: Square) -> u32
 fn append_squares(t: Symmetry, n: u32, squares: &[Square]) -> u32
     requires small { n < 64 }
     requires few { length squares.now ≤ 3 }
-    ensures value { result ≡ counted_at (turned_square t) n squares.now }
-    ensures small { result < 16777216 }
+    ensures { result ≡ counted_at (turned_square t) n squares.now }
 {
     match squares {
         [] => n,
@@ -119,8 +118,7 @@ pub fn listed_count(pawns: bool) -> u32
 #[tactic(auto, unfolding(crate::specs::Squares::number_at))]
 pub fn number(pawns: bool, to_move: Side, t: Symmetry, squares: &[Square]) -> Option<u32>
     requires { length squares.now ≤ 4 }
-    ensures value { result ≡ number_at pawns to_move (turned_square t) squares.now }
-    ensures small { IfSome result (λ n. n < 16777216) }
+    ensures { result ≡ number_at pawns to_move (turned_square t) squares.now }
 {
     match squares {
         [] => None,

@@ -16,7 +16,6 @@ pub mod StillLemmas
 pub mod FirstLemmas
 pub mod CellsLemmas
 pub mod BackLemmas
-pub mod StillChess
 pub mod SquaresLeft
 pub mod DueTally
 pub mod QuietClass

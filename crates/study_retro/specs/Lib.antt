@@ -13,4 +13,3 @@ pub mod Propagation
 pub mod Predecessors
 pub mod Numbered
 pub mod ClassGame
-pub mod Still

@@ -9,8 +9,6 @@ mod board;
 #[cfg(test)]
 mod index;
 #[cfg(test)]
-mod index_departure;
-#[cfg(test)]
 mod index_men;
 #[cfg(test)]
 mod index_samples;
