@@ -1,6 +1,6 @@
 -- A man that moves from a square, by the slot of the man that stands there.
 use Rattle.std.proofs.Common.{◌≡◌, ℕ, zero, suc, ◌+◌, ◌-◌, ◌<◌, ◌≤◌, ◌==◌, eqb, Bool, true, false, cond, List, [], ◌∷◌, map, length, slice_index_or}
-use Rattle.std.proofs.Common.{Option, Some, refl, sym, ◌∙◌, ap, subst, arith}
+use Rattle.std.proofs.Common.{refl, sym, ◌∙◌, ap, subst, arith}
 use Rattle.std.specs.Prelude.{count_by}
 use Rattle.std.specs.List.Sorted.{IsPermutation}
 use Rattle.std.proofs.lemmas.Bool.Decides.{nat_tests}
@@ -9,18 +9,13 @@ use Rattle.study_board.specs.declared.men.Man.{Man}
 use Rattle.study_board.specs.Position.{Position}
 use Rattle.study_board.proofs.Lists.{count_by-cons}
 use Rattle.study_material.specs.declared.class.Class.{Class}
-use Rattle.study_board.specs.Men.{other_side}
-use Rattle.study_index.specs.Canonical.{least_of}
 use Rattle.study_index.specs.Number.{without_bit}
-use Rattle.study_index.specs.Decoded.{slots_of, slots_have_pawn, slot_filled, told_men, told_side}
-use Rattle.study_index.specs.Computed.{index_of}
+use Rattle.study_index.specs.Decoded.{slots_of, slots_have_pawn, slot_filled, told_men}
 use Rattle.study_index.specs.Stepped.{moved_to, IsStepped}
 use Rattle.study_index.specs.Moved.{from_to, IsMoved}
 use Rattle.study_index.proofs.Fillings.{AreApart-ascending}
 use Rattle.study_index.proofs.ClassSlots.{AreSlots-class}
-use Rattle.study_index.proofs.NumbersReadOff.{filled-men_of, IsInSlots-men_of}
-use Rattle.study_index.proofs.SteppedNumbers.{filled_moved, IsInSlots-moved}
-use Rattle.study_index.proofs.MovedNumbers.{least_index}
+use Rattle.study_index.proofs.NumbersReadOff.{filled-men_of}
 
 pub moves_there : (x a : ℕ) (m : Man) → eqb m.at x ≡ true → from_to x a m ≡ record { side = m.side; kind = m.kind; at = a }
 moves_there x a m e = rw e refl
@@ -140,16 +135,3 @@ IsStepped-moved c n i x a p few stands t =
       to_move = t.to_move;
       dead = t.dead;
     }
-
--- the number of what another number tells, the white king on another square
-pub king_index : (c : Class) (n a : ℕ) (p : Position) (r : Option ℕ) → IsStepped c n 0 a p
-    → r ≡ least_of (slots_have_pawn (slots_of c)) (other_side (told_side (slots_of c) (without_bit n))) false
-    (moved_to 0 a (told_men (slots_of c) (without_bit n))) → r ≡ Some (index_of p)
-king_index c n a p r t e =
-    let slots = slots_of c in
-    let b = without_bit n in
-    let told = told_men slots b in
-    let s = AreSlots-class c in
-    let pawns = slots_have_pawn slots in
-    least_index c p (moved_to 0 a told) (other_side (told_side slots b)) r t.valid t.men (filled_moved 0 a told ∙ filled-men_of pawns slots b s)
-    (IsInSlots-moved 0 a told (IsInSlots-men_of pawns slots b s)) t.to_move t.dead e

@@ -18,11 +18,11 @@ abbrev pub AreOnBoard : List Man → Type 0
 AreOnBoard [] = Unit {0}
 AreOnBoard (m ∷ ms) = (m.at < 64) × AreOnBoard ms
 
-abbrev square : Man → ℕ
+abbrev pub square : Man → ℕ
 square m = m.at
 
 -- two symmetries that take squares to the same
-abbrev TakeSame : Symmetry → Symmetry → Type 0
+abbrev pub TakeSame : Symmetry → Symmetry → Type 0
 TakeSame t u = (x : ℕ) → x < 64 → turned_square t x ≡ turned_square u x
 
 twice : (n : ℕ) → n < 8 → 7 - (7 - n) ≡ n
@@ -66,7 +66,7 @@ module _ (pawns : Bool) (to_move : Side) (t u : Symmetry) (same : TakeSame t u) 
   counted_men n (m ∷ ms) h =
       ap (λ x. counted_at (turned_square t) (n * 64 + x) (map square ms)) (same m.at h.0) ∙ counted_men (n * 64 + turned_square u m.at) ms h.1
 
-  number_men : (ms : List Man) → AreOnBoard ms → number_at pawns to_move (turned_square t) (map square ms) ≡ turned_number pawns to_move u ms
+  pub number_men : (ms : List Man) → AreOnBoard ms → number_at pawns to_move (turned_square t) (map square ms) ≡ turned_number pawns to_move u ms
   unfolding number_at turned_number number
   number_men [] h = refl
   number_men (k ∷ ms) h =

@@ -16,7 +16,7 @@ use Rattle.study_index.specs.Canonical.{are_like, least, least_of}
 use Rattle.study_index.specs.Squares.{square_symmetry, number_at, exchanged_at, least_turned, least_at}
 use Rattle.study_index.specs.Decoded.{slot_filled, AreSlots, listed_square, men_of, head, side_numbered}
 use Rattle.study_index.specs.Stepped.{are_like_slots}
-use Rattle.study_index.specs.LeastImage.{turned_across, exchanged, ascending_if, lesser, is_on_diagonal, least_image}
+use Rattle.study_index.specs.LeastImage.{turned_across, exchanged, ascending_if, lesser, is_on_diagonal, least_image, squares}
 use Rattle.study_index.proofs.Symmetries.{all_below, at_below}
 use Rattle.study_index.proofs.NumbersReadOff.{place-king, head_back, filled-men_of}
 use Rattle.study_index.proofs.BySquares.{AreOnBoard, least_of_squares}
@@ -90,9 +90,6 @@ placed_across q l =
     by_place (Some r) false e h = let t = both (is_on_diagonal q) (r == q) h in absurd (false≢true (sym e ∙ t.0))
 
 -- ---- the numbers of the squares that a number tells
-
-abbrev squares : List Man → List ℕ
-squares ms = map (λ m. m.at) ms
 
 few_places : (pawns : Bool) (h : ℕ) → h % listed_count pawns < listed_count pawns
 few_places true h = omega arith

@@ -23,3 +23,4 @@ pub mod SteppedNumbers
 pub mod MovedNumbers
 pub mod AddedNumbers
 pub mod LeastImages
+pub mod KingNumbers

@@ -11,7 +11,7 @@ use Rattle.study_board.specs.Symmetry.{turned_side}
 use Rattle.study_material.specs.declared.class.Class.{Class}
 use Rattle.study_material.specs.Lists.{is_exchanged, is_swapped}
 use Rattle.study_index.specs.Filling.{man_slot_number, NoneBefore, IsInSlots, IsFilling}
-use Rattle.study_index.specs.Number.{has_pawn, with_bit, without_bit}
+use Rattle.study_index.specs.Number.{has_pawn, with_bit, without_bit, IsLeastNumber}
 use Rattle.study_index.specs.Decoded.{slot_filled, slots_of, slots_have_pawn, told_men, told_side}
 use Rattle.study_index.specs.Canonical.{least_of}
 use Rattle.study_index.specs.Computed.{index_of}
@@ -54,25 +54,31 @@ IsInSlots-kept x a (m ∷ ms) h = (
   IsInSlots-kept x a ms h.1,
 )
 
--- the least number of men in the order of the slots of a class is the index of their position
-pub least_index : (c : Class) (p : Position) (men : List Man) (side : Side) (r : Option ℕ) → IsValid p → IsPermutation p.men men
-    → map slot_filled men ≡ slots_of c → IsInSlots false men → p.to_move ≡ side → has_legal_en_passant p ≡ false
-    → r ≡ least_of (slots_have_pawn (slots_of c)) side false men → r ≡ Some (index_of p)
-least_index c p men side r valid same filled in_slots to_move dead e =
+-- the least number of men in the order of the slots of a class is that of their position
+pub least_number_is : (c : Class) (p : Position) (men : List Man) (side : Side) (r : Option ℕ) → IsValid p → IsPermutation p.men men
+    → map slot_filled men ≡ slots_of c → IsInSlots false men → p.to_move ≡ side
+    → r ≡ least_of (slots_have_pawn (slots_of c)) side false men → (n : ℕ) × (r ≡ Some n) × IsLeastNumber p n
+least_number_is c p men side r valid same filled in_slots to_move e =
     let slots = slots_of c in
     let pawns = slots_have_pawn slots in
     let unswapped : is_swapped p.men ≡ false = ap (λ k. is_exchanged k) (lists-filled c p.men men same filled) ∙ class_in_order c in
     let fills : IsFilling false p.men men = record { each_once = same; in_slots = in_slots } in
     let with_pawn : has_pawn p.men ≡ pawns = has_pawn-slots p.men men slots same filled in
-    let found =
     least_is p men r valid (subst (λ w. IsFilling w p.men men) (sym unswapped) fills)
-    (e ∙ as_is (is_swapped p.men) (has_pawn p.men) pawns p.to_move side men unswapped with_pawn to_move) in
-    found.1 ∙ ap (λ (k : ℕ). Some k)
-    (index_of-only p found.0 valid (record { number = found.0; least = found.2; is = ap (λ w. with_bit w found.0) (sym dead) }))
+    (e ∙ as_is (is_swapped p.men) (has_pawn p.men) pawns p.to_move side men unswapped with_pawn to_move)
   where
     as_is : (w h g : Bool) (y z : Side) (men : List Man) → w ≡ false → h ≡ g → y ≡ z
         → least_of g z false men ≡ least_of h (turned_side w y) w men
     as_is w h g y z men e f k = rw (e, f, k) refl
+
+-- and its index, where no capture in passing is legal
+pub least_index : (c : Class) (p : Position) (men : List Man) (side : Side) (r : Option ℕ) → IsValid p → IsPermutation p.men men
+    → map slot_filled men ≡ slots_of c → IsInSlots false men → p.to_move ≡ side → has_legal_en_passant p ≡ false
+    → r ≡ least_of (slots_have_pawn (slots_of c)) side false men → r ≡ Some (index_of p)
+least_index c p men side r valid same filled in_slots to_move dead e =
+    let found = least_number_is c p men side r valid same filled in_slots to_move e in
+    found.1 ∙ ap (λ (k : ℕ). Some k)
+    (index_of-only p found.0 valid (record { number = found.0; least = found.2; is = ap (λ w. with_bit w found.0) (sym dead) }))
 
 -- the least number of the men that a number tells, one of them on another square, is the index of their position
 pub moved_number : (c : Class) (n x a : ℕ) (p : Position) (r : Option ℕ) → IsMoved c n x a p

@@ -1,8 +1,8 @@
 -- The number of the men that another number tells, of whom one has moved: one square is replaced, and the least image taken.
-use Rattle.std.proofs.Common.{◌≡◌, ℕ, ◌+◌, ◌-◌, ◌*◌, ◌/◌, ◌%◌, ◌<◌, ◌≤◌, ◌==◌, Bool, true, false, cond, nat_lt, List, [], ◌∷◌, map, length}
+use Rattle.std.proofs.Common.{◌≡◌, ℕ, ◌+◌, ◌-◌, ◌*◌, ◌/◌, ◌%◌, ◌<◌, ◌≤◌, ◌==◌, Bool, true, false, cond, not, ◌&&◌, ◌||◌, nat_lt, List, [], ◌∷◌, map, length}
 use Rattle.std.proofs.Common.{Some, refl, sym, ◌∙◌, subst, ap, arith, ◌⊎◌, inl, inr}
 use Rattle.std.specs.List.{All}
-use Rattle.std.proofs.lemmas.Bool.{lt-ltb, le-ltb}
+use Rattle.std.proofs.lemmas.Bool.{false≢true, lt-ltb, le-ltb}
 use Rattle.std.proofs.lemmas.Bool.Decides.{nat_tests}
 use Rattle.std.proofs.lemmas.List.Sorted.{All-permutation}
 use borrow.Author.Tests.{ltb-true}
@@ -17,8 +17,9 @@ use Rattle.study_index.specs.Number.{number, side_number, listed_count, without_
 use Rattle.study_index.specs.Decoded.{slot_filled, slots_of, slots_have_pawn, AreSlots, men_of, head, side_numbered, told_men, told_side}
 use Rattle.study_index.specs.Canonical.{least_of}
 use Rattle.study_index.specs.Computed.{index_of}
-use Rattle.study_index.specs.Stepped.{moved_to, stepped, are_like_slots, IsStepped, NumbersStep}
-use Rattle.study_index.specs.LeastImage.{turned_by, stepped_by, least_image, ascending_if}
+use Rattle.study_index.specs.Stepped.{moved_to, stepped, are_like_slots, IsStepped, NumbersStep, square_weight, square_told}
+use Rattle.study_index.specs.Departure.{keeps_image}
+use Rattle.study_index.specs.LeastImage.{turned_by, stepped_by, least_image, ascending_if, is_on_diagonal}
 use Rattle.study_index.proofs.NumbersReadOff.{place-king, IsRead-number, filled-men_of, IsInSlots-men_of}
 use Rattle.study_index.proofs.ClassSlots.{AreSlots-class, is_cell-below, number_below}
 use Rattle.study_index.proofs.LeastImages.{least_told}
@@ -157,6 +158,26 @@ IsInSlots-moved i a (m ∷ ms) h = by_test (i == 0) (NoneBefore-moved (man_slot_
 
 -- ---- the index
 
+-- the least number of men in the order of their slots, of whom this is a number
+pub read_least : (c : Class) (men : List Man) (side : Side) (m : ℕ) → map slot_filled men ≡ slots_of c → All (λ x. x.at < 64) men
+    → number (slots_have_pawn (slots_of c)) side men ≡ Some m
+    → Some (least_image (slots_have_pawn (slots_of c)) (are_like_slots (slots_of c)) (slots_of c) m)
+    ≡ least_of (slots_have_pawn (slots_of c)) side false men
+read_least c men side m filled on is =
+    let slots = slots_of c in
+    let pawns = slots_have_pawn slots in
+    let s = AreSlots-class c in
+    let read = IsRead-number pawns side men m (subst (λ (ss : List Slot). AreSlots ss) (sym filled) s) on is in
+    let there : nat_lt (head slots m / listed_count pawns) 2 ≡ true =
+    subst (λ (ss : List Slot). nat_lt (head ss m / listed_count pawns) 2 ≡ true) filled read.cell in
+    let same : men ≡ men_of pawns slots m = subst (λ (ss : List Slot). men ≡ men_of pawns ss m) filled read.men in
+    let turned : side ≡ side_numbered (head slots m / listed_count pawns) =
+    subst (λ (ss : List Slot). side ≡ side_numbered (head ss m / listed_count pawns)) filled read.side_is in
+    sym (least_told pawns slots m s there) ∙ sym (as_read pawns side _ men _ turned same)
+  where
+    as_read : (w : Bool) (x y : Side) (xs ys : List Man) → x ≡ y → xs ≡ ys → least_of w x false xs ≡ least_of w y false ys
+    as_read w x y xs ys e f = rw (e, f) refl
+
 -- the index of what a number reads as, one man moved and the other side to move
 pub stepped_index : (c : Class) (n i a : ℕ) (p : Position) → n < cells_of c → 1 ≤ i → i < length (slots_of c) → IsStepped c n i a p
     → index_of p ≡ least_image (slots_have_pawn (slots_of c)) (are_like_slots (slots_of c)) (slots_of c)
@@ -174,24 +195,106 @@ stepped_index c n i a p below one few t =
     let cell : nat_lt (head slots b / listed_count pawns) 2 ≡ true = is_cell-below c b ∙ below_test b (numbers_of c) (number_below c n below) in
     let is : number pawns side men ≡ Some m = stepped_number pawns slots b i a s cell one few in
     let on : All (λ x. x.at < 64) men = All-permutation (λ x. x.at < 64) p.men men t.men t.valid.on_board in
-    let read = IsRead-number pawns side men m (subst (λ (ss : List Slot). AreSlots ss) (sym filled) s) on is in
-    let there : nat_lt (head slots m / listed_count pawns) 2 ≡ true =
-    subst (λ (ss : List Slot). nat_lt (head ss m / listed_count pawns) 2 ≡ true) filled read.cell in
-    let same : men ≡ men_of pawns slots m = subst (λ (ss : List Slot). men ≡ men_of pawns ss m) filled read.men in
-    let turned : side ≡ side_numbered (head slots m / listed_count pawns) =
-    subst (λ (ss : List Slot). side ≡ side_numbered (head ss m / listed_count pawns)) filled read.side_is in
-    let least = sym (least_told pawns slots m s there) ∙ sym (as_read pawns side _ men _ turned same) in
     sym (the_same _ _
-    (least_index c p men side _ t.valid t.men filled (IsInSlots-moved i a told (IsInSlots-men_of pawns slots b s)) t.to_move t.dead least))
+    (least_index c p men side _ t.valid t.men filled (IsInSlots-moved i a told (IsInSlots-men_of pawns slots b s)) t.to_move t.dead
+    (read_least c men side m filled on is)))
   where
     below_test : (m k : ℕ) → m < k → nat_lt m k ≡ true
     below_test m k l = grind (arith, nat_tests)
 
-    as_read : (w : Bool) (x y : Side) (xs ys : List Man) → x ≡ y → xs ≡ ys → least_of w x false xs ≡ least_of w y false ys
-    as_read w x y xs ys e f = rw (e, f) refl
-
     the_same : (m n : ℕ) → Some m ≡ Some n → m ≡ n
     the_same m n e = cc
+
+-- ---- where the number is the least of its images
+
+same_place : (h x : ℕ) → IsTurned 10 h x → x % 10 ≡ h % 10
+same_place h x (inl t) = let e = t.1 in omega (arith, e)
+same_place h x (inr t) = let e = t.1 in omega (arith, e)
+
+two_left : (x a : ℕ) → a < 64 → (x * 64 + a) / 64 ≡ x
+two_left x a l = omega (arith, l)
+
+three_left : (x a b : ℕ) → a < 64 → b < 64 → ((x * 64 + a) * 64 + b) / 64 / 64 ≡ x
+three_left x a b l m = omega (arith, l, m)
+
+four_left : (x a b d : ℕ) → a < 64 → b < 64 → d < 64 → (((x * 64 + a) * 64 + b) * 64 + d) / 64 / 64 / 64 ≡ x
+four_left x a b d l m o = omega (arith, l, m, o)
+
+below_64 : (n : ℕ) → n % 64 < 64
+below_64 n = omega arith
+
+-- the white king's place stays
+place_kept : (slots : List Slot) (n i a : ℕ) → AreSlots slots → nat_lt (head slots n / 10) 2 ≡ true → a < 64 → 1 ≤ i → i < length slots
+    → head slots (stepped_by 10 (length slots) n i a) % 10 ≡ head slots n % 10
+place_kept (k ∷ b ∷ []) n i a s c on l m =
+    let e : 1 ≡ i = omega arith in
+    let h = head_turned false (n / 64) c in
+    subst (λ (j : ℕ). stepped_by 10 2 n j a / 64 % 10 ≡ n / 64 % 10) e
+    (subst (λ (z : ℕ). z / 64 % 10 ≡ n / 64 % 10) (replaced_two 10 n _ a h)
+    (ap (λ (z : ℕ). z % 10) (two_left _ a on) ∙ same_place (n / 64) _ h))
+place_kept (k ∷ b ∷ x ∷ []) n i a s c on l m =
+    let h = head_turned false (n / 64 / 64) c in
+    let t = replaced_in_three 10 n _ a h in
+    let P : ℕ → Type 0 = λ j. stepped_by 10 3 n j a / 64 / 64 % 10 ≡ n / 64 / 64 % 10 in
+    let Q : ℕ → Type 0 = λ z. z / 64 / 64 % 10 ≡ n / 64 / 64 % 10 in
+    let p = same_place (n / 64 / 64) _ h in
+    elim (one_or i 1 l) [
+      | inl e ↦ subst P e (subst Q t.0 (ap (λ (z : ℕ). z % 10) (three_left _ a (n % 64) on (below_64 n)) ∙ p))
+      | inr g ↦ (let e : 2 ≡ i = omega arith in
+          subst P e (subst Q t.1 (ap (λ (z : ℕ). z % 10) (three_left _ (n / 64 % 64) a (below_64 (n / 64)) on) ∙ p)))
+    ]
+place_kept (k ∷ b ∷ x ∷ y ∷ []) n i a s c on l m =
+    let h = head_turned false (n / 64 / 64 / 64) c in
+    let t = replaced_in_four 10 n _ a h in
+    let P : ℕ → Type 0 = λ j. stepped_by 10 4 n j a / 64 / 64 / 64 % 10 ≡ n / 64 / 64 / 64 % 10 in
+    let Q : ℕ → Type 0 = λ z. z / 64 / 64 / 64 % 10 ≡ n / 64 / 64 / 64 % 10 in
+    let p = same_place (n / 64 / 64 / 64) _ h in
+    let b' = below_64 (n / 64 / 64) in let x' = below_64 (n / 64) in let y' = below_64 n in
+    elim (one_or i 1 l) [
+      | inl e ↦ subst P e (subst Q t.0 (ap (λ (z : ℕ). z % 10) (four_left _ a (n / 64 % 64) (n % 64) on x' y') ∙ p))
+      | inr g ↦ elim (one_or i 2 g) [
+        | inl e ↦ subst P e (subst Q t.1 (ap (λ (z : ℕ). z % 10) (four_left _ (n / 64 / 64 % 64) a (n % 64) b' on y') ∙ p))
+        | inr o ↦ (let e : 3 ≡ i = omega arith in
+            subst P e (subst Q t.2 (ap (λ (z : ℕ). z % 10) (four_left _ (n / 64 / 64 % 64) (n / 64 % 64) a b' x' on) ∙ p)))
+      ]
+    ]
+place_kept [] n i a s c on l m = absurd s
+place_kept (k ∷ []) n i a s c on l m = absurd s
+place_kept (k ∷ b ∷ x ∷ y ∷ z ∷ fs) n i a s c on l m = absurd s
+
+image_kept : (w l d : Bool) (slots : List Slot) (m : ℕ) → (not l && (w || not d)) ≡ true → is_on_diagonal (head slots m % 10) ≡ d
+    → least_image w l slots m ≡ m
+unfolding least_image ascending_if
+image_kept true false d slots m e f = refl
+image_kept false false false slots m e f = rw f refl
+image_kept false false true slots m e f = absurd (false≢true e)
+image_kept w true d slots m e f = absurd (false≢true e)
+
+-- the number after the man of a slot has moved is the sum
+added_index : (c : Class) (n i a : ℕ) (p : Position) → n < cells_of c → 1 ≤ i → i < length (slots_of c) → a < 64
+    → keeps_image (slots_of c) (without_bit n) ≡ true → IsStepped c n i a p
+    → index_of p ≡ stepped_by (listed_count (slots_have_pawn (slots_of c))) (length (slots_of c)) (without_bit n) i a
+added_index c n i a p below one few on keeps t =
+    stepped_index c n i a p below one few t ∙ by_pawn (slots_have_pawn (slots_of c)) keeps (is_cell-below c (without_bit n) ∙ below_test (without_bit n) (numbers_of c) (number_below c n below))
+  where
+    below_test : (m k : ℕ) → m < k → nat_lt m k ≡ true
+    below_test m k l = grind (arith, nat_tests)
+
+    by_pawn : (w : Bool) → (not (are_like_slots (slots_of c)) && (w || not (is_on_diagonal (head (slots_of c) (without_bit n) % 10)))) ≡ true
+        → nat_lt (head (slots_of c) (without_bit n) / listed_count w) 2 ≡ true
+        → least_image w (are_like_slots (slots_of c)) (slots_of c) (stepped_by (listed_count w) (length (slots_of c)) (without_bit n) i a)
+        ≡ stepped_by (listed_count w) (length (slots_of c)) (without_bit n) i a
+    by_pawn true k cell = image_kept true (are_like_slots (slots_of c)) _ (slots_of c) _ k refl
+    by_pawn false k cell =
+        image_kept false (are_like_slots (slots_of c)) (is_on_diagonal (head (slots_of c) (without_bit n) % 10)) (slots_of c) _ k
+        (ap (λ (q : ℕ). is_on_diagonal q) (place_kept (slots_of c) (without_bit n) i a (AreSlots-class c) cell on one few))
+
+pub added_sum : (c : Class) (n i a : ℕ) (p : Position) → n < cells_of c → 1 ≤ i → i < length (slots_of c) → a < 64
+    → keeps_image (slots_of c) (without_bit n) ≡ true → IsStepped c n i a p
+    → index_of p ≡ turned_by (listed_count (slots_have_pawn (slots_of c))) (length (slots_of c)) (without_bit n)
+    + a * square_weight (length (slots_of c)) i - square_told (length (slots_of c)) i (without_bit n) * square_weight (length (slots_of c)) i
+unfolding stepped_by
+added_sum c n i a p below one few on keeps t = added_index c n i a p below one few on keeps t
 
 pub numbers-step : NumbersStep
 unfolding least_image ascending_if stepped stepped_by

@@ -1,5 +1,9 @@
 -- Not part of any public contract: the least number of the men that a number tells, by its squares in base 64.
-use Rattle.std.specs.Prelude.{ℕ, ◌+◌, ◌-◌, ◌*◌, ◌/◌, ◌%◌, ◌^◌, Bool, not, ◌&&◌, ◌||◌, ◌==◌, nat_lt, List, [], ◌∷◌, if◌then◌else◌}
+use Rattle.std.specs.Prelude.{ℕ, ◌+◌, ◌-◌, ◌*◌, ◌/◌, ◌%◌, ◌^◌, Bool, false, not, ◌&&◌, ◌||◌, ◌==◌, nat_lt, List, [], ◌∷◌, map, if◌then◌else◌}
+use Rattle.study_board.specs.declared.men.Man.{Man}
+use Rattle.study_board.specs.declared.symmetry.Symmetry.{Symmetry}
+use Rattle.study_board.specs.Geometry.{file_of, rank_of}
+use Rattle.study_board.specs.Symmetry.{mirrored}
 use Rattle.study_index.specs.declared.decoding.Slot.{Slot}
 use Rattle.study_index.specs.Decoded.{head}
 use Rattle.study_index.specs.Stepped.{square_weight, square_told}
@@ -37,6 +41,16 @@ least_image pawns like slots n =
     if not pawns && is_on_diagonal (head slots n % 10) then lesser (ascending_if like n) (ascending_if like (turned_across slots n))
     else ascending_if like n
 
+-- the symmetry that brings the white king's square to a listed one, the colours as they are
+unfoldable pub king_symmetry : Bool → ℕ → Symmetry
+king_symmetry pawns s =
+    record {
+      files = nat_lt 3 (file_of s);
+      ranks = not pawns && nat_lt 3 (rank_of s);
+      diagonal = not pawns && nat_lt (mirrored (nat_lt 3 (file_of s)) (file_of s)) (mirrored (nat_lt 3 (rank_of s)) (rank_of s));
+      colours = false;
+    }
+
 -- one square of a number replaced, with the other side to move, where the white king has so many places
 abbrev pub turned_by : ℕ → ℕ → ℕ → ℕ
 turned_by places count n =
@@ -44,3 +58,7 @@ turned_by places count n =
 
 unfoldable pub stepped_by : ℕ → ℕ → ℕ → ℕ → ℕ → ℕ
 stepped_by places count n i a = turned_by places count n + a * square_weight count i - square_told count i n * square_weight count i
+
+-- the squares of men
+abbrev pub squares : List Man → List ℕ
+squares ms = map (λ m. m.at) ms

@@ -10,3 +10,4 @@ pub mod Squares
 pub mod Stepped
 pub mod Weights
 pub mod LeastImage
+pub mod Departure

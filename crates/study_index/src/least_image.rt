@@ -58,7 +58,7 @@ fn ascending_if(like: bool, n: u32) -> u32
 
 /// Whether the place is that of a1, b2, c3 or d4.
 #[inline]
-fn is_on_diagonal(place: u32) -> bool
+pub fn is_on_diagonal(place: u32) -> bool
     ensures { result ≡ is_on_diagonal place }
 {
     place == 0 || place == 4 || place == 7 || place == 9

@@ -7,6 +7,7 @@
 
 mod colour_swap;
 mod decoding;
+mod departure;
 mod en_passant;
 mod filling;
 mod laws;
@@ -19,6 +20,7 @@ mod stepped;
 mod transform;
 
 pub use decoding::{cells, decode};
+pub use departure::Departure;
 pub use laws::{
     alike_mates_agree, classes_are_numbered, numbers_are_read, numbers_step, numbers_tell,
     positions_have_an_index,

@@ -1,5 +1,5 @@
 //! The number of the position that a move makes which takes no man and promotes none, or from which it was made.
-ghost use Rattle.std.specs.Prelude.{◌≡◌, ◌≤◌, ◌<◌, true, false, map, length, slice_index_or, Some, IsTrue, IfSome, if◌then◌else◌};
+ghost use Rattle.std.specs.Prelude.{◌≡◌, ◌≤◌, ◌<◌, ◌↔◌, true, false, map, length, slice_index_or, Some, IsTrue, IfSome, if◌then◌else◌};
 ghost use Rattle.study_board.specs.declared.men.Man.{Man as AMan};
 ghost use Rattle.study_board.specs.Men.{other_side};
 ghost use Rattle.study_board.specs.Position.{Position as Seen};
@@ -9,13 +9,17 @@ ghost use Rattle.study_index.specs.Computed.{index_of};
 ghost use Rattle.study_index.specs.Number.{cells_of};
 ghost use Rattle.study_index.specs.Stepped.{are_like_slots, moved_to, IsStepped};
 ghost use Rattle.study_index.specs.Moved.{IsMoved, from_to};
+ghost use Rattle.study_index.specs.LeastImage.{king_symmetry, squares};
+ghost use Rattle.study_index.specs.Squares.{number_at};
+ghost use Rattle.study_board.specs.Symmetry.{turned_square};
 
 use crate::decoding::{Slot, head, man, slots};
 use crate::least::least_of;
 use crate::least_image::least_image;
+use crate::number::number;
 use crate::reading::{class_has_pawn, has_like_men, king_told, side_told};
 use crate::stepped::stepped;
-use study_board::{Man, Square};
+use study_board::{Man, Square, Symmetry};
 use study_material::Class;
 
 /// The man, put on `to` if it stands on `from`.
@@ -35,7 +39,6 @@ fn put(man: Man, from: Square, to: Square) -> Man
 }
 
 /// The least number of the men that a number tells, the man on `from` put on `to` and the other side to move.
-#[inline(always)]
 fn least_moved(slots: &[Slot], pawns: bool, n: u32, from: Square, to: Square) -> Option<u32>
     requires slots { AreSlots slots.now }
     requires pawns { pawns ≡ slots_have_pawn slots.now }
@@ -65,40 +68,50 @@ fn least_moved(slots: &[Slot], pawns: bool, n: u32, from: Square, to: Square) ->
     }
 }
 
-/// The least number of the men that a number tells, the white king put on `to` and the other side to move.
-#[inline(always)]
-fn least_with_king_on(slots: &[Slot], pawns: bool, n: u32, to: Square) -> Option<u32>
-    requires slots { AreSlots slots.now }
-    requires pawns { pawns ≡ slots_have_pawn slots.now }
-    ensures { result ≡ least_of pawns (other_side (told_side slots.now n)) false (moved_to 0 to (told_men slots.now n)) }
+/// The symmetry that brings the white king's square to a listed one, the colours as they are.
+#[inline]
+#[tactic(auto, unfolding(crate::specs::LeastImage::king_symmetry))]
+fn king_symmetry(pawns: bool, s: Square) -> Symmetry
+    ensures { result ≡ king_symmetry pawns s }
 {
-    let side = side_told(pawns, head(slots, n)).other();
-    match slots {
-        [k, b] => {
-            let men = [man_on(k, to), man(b, n % 64)];
-            least_of(pawns, side, false, &men)
-        }
-        [k, b, x] => {
-            let men = [man_on(k, to), man(b, n / 64 % 64), man(x, n % 64)];
-            least_of(pawns, side, false, &men)
-        }
-        [k, b, x, y] => {
-            let black = man(b, n / 64 / 64 % 64);
-            let men = [man_on(k, to), black, man(x, n / 64 % 64), man(y, n % 64)];
-            least_of(pawns, side, false, &men)
-        }
-        _ => unreachable!(),
+    let (right, top) = (s.file() > 3, s.rank() > 3);
+    let file = if right { 7 - s.file() } else { s.file() };
+    let rank = if top { 7 - s.rank() } else { s.rank() };
+    Symmetry {
+        files: right,
+        ranks: !pawns && top,
+        diagonal: !pawns && file < rank,
+        colours: false,
     }
 }
 
 #[inline]
-fn man_on(slot: &Slot, at: Square) -> Man
-    ensures { result ≡ man slot.now at }
+fn square(number: u32) -> Square
+    requires { number < 64 }
+    ensures { result ≡ number }
 {
-    Man {
-        side: slot.side,
-        kind: slot.kind,
-        at,
+    Square::at(number as u8)
+}
+
+/// The number of the men that a number tells, the white king put on `to` and the other side to move, turned so that the
+/// king comes to a listed square.
+#[inline]
+fn number_with_king_on(slots: &[Slot], pawns: bool, n: u32, to: Square) -> Option<u32>
+    requires slots { AreSlots slots.now }
+    requires pawns { pawns ≡ slots_have_pawn slots.now }
+    ensures value { result ≡ number_at pawns (other_side (told_side slots.now n)) (turned_square (king_symmetry pawns to)) (squares (moved_to 0 to (told_men slots.now n))) }
+    ensures small { IfSome result (λ m. m < 16777216) }
+{
+    let side = side_told(pawns, head(slots, n)).other();
+    let t = king_symmetry(pawns, to);
+    match slots {
+        [_, _] => number(pawns, side, t, &[to, square(n % 64)]),
+        [_, _, _] => number(pawns, side, t, &[to, square(n / 64 % 64), square(n % 64)]),
+        [_, _, _, _] => {
+            let (black, third) = (square(n / 64 / 64 % 64), square(n / 64 % 64));
+            number(pawns, side, t, &[to, black, third, square(n % 64)])
+        }
+        _ => unreachable!(),
     }
 }
 
@@ -114,37 +127,51 @@ pub fn number_stepped(class: Class, number: u32, slot: u32, to: Square) -> u32
     let slots = slots(class);
     let pawns = class_has_pawn(class);
     let n = number % 16_777_216;
+    let like = has_like_men(class);
     if slot == 0 {
-        match least_with_king_on(slots, pawns, n, to) {
-            Some(least) => least,
+        match number_with_king_on(slots, pawns, n, to) {
+            Some(turned) => least_image(pawns, like, slots, turned),
             None => 0,
         }
     } else {
         let moved = stepped(pawns, slots.len() as u32, n, slot, to);
-        least_image(pawns, has_like_men(class), slots, moved)
+        least_image(pawns, like, slots, moved)
     }
 }
 
-/// The slot after the first whose man stands on the square, by the number.
+/// The slot whose man stands on the square, by the number.
 #[inline]
-fn slot_on(slots: &[Slot], n: u32, from: Square) -> Option<u32>
-    requires { AreSlots slots.now }
-    ensures { IfSome result (λ i. (1 ≤ i) × (i < length slots.now) × ((d : AMan) → (slice_index_or (told_men slots.now n) i d).at ≡ from)) }
+pub fn slot_on(slots: &[Slot], pawns: bool, n: u32, from: Square) -> Option<u32>
+    requires slots { AreSlots slots.now }
+    requires pawns { pawns ≡ slots_have_pawn slots.now }
+    ensures { IfSome result (λ i. (i < length slots.now) × ((d : AMan) → (slice_index_or (told_men slots.now n) i d).at ≡ from)) }
 {
-    let from = u32::from(from.number());
+    let at = u32::from(from.number());
     match slots {
-        [_, _] => slot_if(n % 64 == from, 1, None),
-        [_, _, _] => {
-            let black = slot_if(n / 64 % 64 == from, 1, None);
-            slot_if(n % 64 == from, 2, black)
+        [k, _] => {
+            let king = slot_if(stands(king_told(pawns, k, n / 64), from), 0, None);
+            slot_if(n % 64 == at, 1, king)
         }
-        [_, _, _, _] => {
-            let black = slot_if(n / 64 / 64 % 64 == from, 1, None);
-            let third = slot_if(n / 64 % 64 == from, 2, black);
-            slot_if(n % 64 == from, 3, third)
+        [k, _, _] => {
+            let king = slot_if(stands(king_told(pawns, k, n / 64 / 64), from), 0, None);
+            let black = slot_if(n / 64 % 64 == at, 1, king);
+            slot_if(n % 64 == at, 2, black)
+        }
+        [k, _, _, _] => {
+            let king = slot_if(stands(king_told(pawns, k, n / 64 / 64 / 64), from), 0, None);
+            let black = slot_if(n / 64 / 64 % 64 == at, 1, king);
+            let third = slot_if(n / 64 % 64 == at, 2, black);
+            slot_if(n % 64 == at, 3, third)
         }
         _ => None,
     }
+}
+
+#[inline]
+fn stands(man: Man, at: Square) -> bool
+    ensures { IsTrue result ↔ (man.at ≡ at) }
+{
+    man.at.number() == at.number()
 }
 
 #[inline]
@@ -163,10 +190,11 @@ pub fn number_moved(class: Class, number: u32, from: Square, to: Square) -> u32
 {
     let slots = slots(class);
     let n = number % 16_777_216;
-    if let Some(slot) = slot_on(slots, n, from) {
+    let pawns = class_has_pawn(class);
+    if let Some(slot) = slot_on(slots, pawns, n, from) {
         return number_stepped(class, number, slot, to);
     }
-    match least_moved(slots, class_has_pawn(class), n, from, to) {
+    match least_moved(slots, pawns, n, from, to) {
         Some(least) => least,
         None => 0,
     }

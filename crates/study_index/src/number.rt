@@ -81,7 +81,8 @@ fn append_square(t: Symmetry, n: u32, x: Square) -> u32
 fn append_squares(t: Symmetry, n: u32, squares: &[Square]) -> u32
     requires small { n < 64 }
     requires few { length squares.now ≤ 3 }
-    ensures { result ≡ counted_at (turned_square t) n squares.now }
+    ensures value { result ≡ counted_at (turned_square t) n squares.now }
+    ensures small { result < 16777216 }
 {
     match squares {
         [] => n,
@@ -118,7 +119,8 @@ pub fn listed_count(pawns: bool) -> u32
 #[tactic(auto, unfolding(crate::specs::Squares::number_at))]
 pub fn number(pawns: bool, to_move: Side, t: Symmetry, squares: &[Square]) -> Option<u32>
     requires { length squares.now ≤ 4 }
-    ensures { result ≡ number_at pawns to_move (turned_square t) squares.now }
+    ensures value { result ≡ number_at pawns to_move (turned_square t) squares.now }
+    ensures small { IfSome result (λ n. n < 16777216) }
 {
     match squares {
         [] => None,

@@ -1,6 +1,7 @@
 //! One square of a number replaced by another, with the other side to move.
 ghost use Rattle.std.specs.Prelude.{◌≡◌, ◌*◌, ◌^◌, ◌-◌, ◌<◌, ◌≤◌};
 ghost use Rattle.study_index.specs.Number.{listed_count};
+ghost use Rattle.study_index.specs.Stepped.{square_weight, square_told};
 ghost use Rattle.study_index.specs.LeastImage.{turned_by, stepped_by};
 
 use study_board::Square;
@@ -25,7 +26,7 @@ fn side_weight(pawns: bool, count: u32) -> u32
 
 /// The number with the other side to move.
 #[inline]
-fn side_turned(pawns: bool, count: u32, number: u32) -> u32
+pub fn side_turned(pawns: bool, count: u32, number: u32) -> u32
     requires few { 2 ≤ count }
     requires many { count ≤ 4 }
     requires number { number < 16777216 }
@@ -37,6 +38,38 @@ fn side_turned(pawns: bool, count: u32, number: u32) -> u32
         number + weight
     } else {
         number - weight
+    }
+}
+
+/// What a square of a slot counts in a number: 64 times as much for each slot after it.
+#[inline]
+pub fn square_weight(count: u32, slot: u32) -> u32
+    requires many { count ≤ 4 }
+    requires after { 1 ≤ slot }
+    requires slot { slot < count }
+    ensures value { result ≡ square_weight count slot }
+    ensures small { result ≤ 4096 }
+{
+    match count - 1 - slot {
+        0 => 1,
+        1 => 64,
+        _ => 4_096,
+    }
+}
+
+/// The square that a number tells of a slot after the first.
+#[inline]
+pub fn square_told(count: u32, slot: u32, number: u32) -> u32
+    requires many { count ≤ 4 }
+    requires after { 1 ≤ slot }
+    requires slot { slot < count }
+    ensures value { result ≡ square_told count slot number }
+    ensures small { result < 64 }
+{
+    match count - 1 - slot {
+        0 => number % 64,
+        1 => number / 64 % 64,
+        _ => number / 4_096 % 64,
     }
 }
 

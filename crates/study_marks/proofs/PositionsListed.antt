@@ -5,25 +5,21 @@ use Rattle.std.proofs.Common.{arith, zero, suc, subst, inl, inr, append_assoc, l
 use Rattle.std.specs.Prelude.{IfErr, IsErrAnd}
 use Rattle.study_board.specs.Position.{Position}
 use Rattle.study_material.specs.declared.class.Class.{Class}
-use Rattle.study_moves.specs.declared.moves.Move.{Move}
 use Rattle.study_moves.specs.Rules.{is_legal, after}
 use Rattle.study_prober.specs.declared.values.ProbeFault.{ProbeFault}
 use Rattle.study_prober.specs.declared.values.ProbeFault.TheVariants as probe
 use Rattle.study_tree.specs.Forest.{Forest, none, more, Twig, nodes_in}
 use Rattle.study_tree.specs.Edits.{node_in, width}
-use Rattle.study_tree.specs.Tree.{Plain, spot_at}
+use Rattle.study_tree.specs.Tree.{Plain}
 use Rattle.study_marks.specs.declared.label.Label.{Label}
 use Rattle.study_marks.specs.declared.label.Told.{Told}
 use Rattle.study_marks.specs.Study.{mapped, IsPlayable}
-use Rattle.study_marks.specs.Bench.{played_by}
 use Rattle.study_marks.specs.Queries.{asked_at, asked_below, AreTablesHeld, IsFirstMissing, IsFirstUnread, counted_times}
 use Rattle.study_marks.specs.Told.{IsToldOf, AreTold, AllAreTold, IsUntold, WasAsked}
 use Rattle.study_marks.specs.BenchState.{told_tree}
-use Rattle.study_marks.specs.FaultSums.{below_at}
 use Rattle.study_marks.specs.Relabelled.{told_in, retold, retold_tree, firsts, positions_in, asked_each, AreToldOf}
 use Rattle.study_marks.proofs.ValuesAsked.{missing-same, unread-same}
-use Rattle.study_marks.proofs.FirstIllegalMove.{here}
-use Rattle.study_marks.proofs.LabelsWritten.{nth, below-further, below-nth, firsts-all, counted_times-sum}
+use Rattle.study_marks.proofs.LabelsWritten.{firsts-all, counted_times-sum}
 
 pub append-none : {X : Type 0} (xs : List X) → xs ++ [] ≡ xs
 append-none [] = refl
@@ -52,49 +48,25 @@ positions-next p (more m l b r) (suc k) u e =
     (after p u.played ∷ positions_in (after p u.played) u.below)))
 
 -- in the terms of the loop
-module _ (p : Position) (t : Plain Label) (ks : List ℕ) (k : ℕ) where
-  pub legal-child : (m : Move) → k < width (below_at t.below ks) → played_by (spot_at t (ks ++ k ∷ [])) ≡ Some m → IsPlayable p (below_at t.below ks)
-      → (is_legal p m ≡ true) × IsPlayable (after p m) (below_at t.below (ks ++ k ∷ []))
-  legal-child m left e h =
-      let w = nth (below_at t.below ks) k left in
-      let x = IsPlayable-nth p (below_at t.below ks) k w.0 w.1 h in
-      let same = here p t ks k m left e in
-      let under = below-further t.below ks k ∙ below-nth (below_at t.below ks) k w.0 w.1 in (
-        ap (is_legal p) (sym same) ∙ x.0,
-        subst (λ n. IsPlayable (after p n) (below_at t.below (ks ++ k ∷ []))) same
-            (subst (λ f. IsPlayable (after p w.0.played) f) (sym under) x.1),
-      )
+module _ (p : Position) (f : Forest Label) (k : ℕ) where
+  pub legal-child : (u : Twig Label) → node_in f k [] ≡ Some u → IsPlayable p f
+      → (is_legal p u.played ≡ true) × IsPlayable (after p u.played) u.below
+  legal-child u e h = IsPlayable-nth p f k u e h
 
-  pub listed-next : (m : Move) (next : Position) (push : List ℕ) (old all one new : List Position)
-      → k < width (below_at t.below ks) → played_by (spot_at t (ks ++ k ∷ [])) ≡ Some m → next ≡ after p m
-      → push ≡ ks ++ k ∷ []
-      → all ≡ old ++ positions_in p (firsts k (below_at t.below ks)) → one ≡ all ++ next ∷ [] → new ≡ one ++ positions_in next (below_at t.below push)
-      → new ≡ old ++ positions_in p (firsts (k + 1) (below_at t.below ks))
-  listed-next m next push old all one new left e en ep h one_is new_is =
-      let w = nth (below_at t.below ks) k left in
-      let same = here p t ks k m left e in
-      let under = below-further t.below ks k ∙ below-nth (below_at t.below ks) k w.0 w.1 in
-      let first : List Position = positions_in p (firsts k (below_at t.below ks)) in
-      let child : next ∷ positions_in next (below_at t.below push) ≡ after p w.0.played ∷ positions_in (after p w.0.played) w.0.below =
-      ap (λ x. x ∷ positions_in x (below_at t.below push)) (en ∙ ap (after p) (sym same))
-      ∙ ap (λ (f : Forest Label). after p w.0.played ∷ positions_in (after p w.0.played) f) (ap (below_at t.below) ep ∙ under) in
-      new_is ∙ ap (λ x. x ++ positions_in next (below_at t.below push)) one_is ∙ append_assoc all (next ∷ []) (positions_in next (below_at t.below push))
-      ∙ ap (λ x. all ++ x) child ∙ ap (λ x. x ++ (after p w.0.played ∷ positions_in (after p w.0.played) w.0.below)) h
-      ∙ append_assoc old first (after p w.0.played ∷ positions_in (after p w.0.played) w.0.below)
-      ∙ ap (λ x. old ++ x) (sym (positions-next p (below_at t.below ks) k w.0 w.1))
-      ∙ ap (λ i. old ++ positions_in p (firsts i (below_at t.below ks))) (let z : suc k ≡ k + 1 = omega arith in z)
+  pub listed-next : (u : Twig Label) (next : Position) (old all one new : List Position) → node_in f k [] ≡ Some u
+      → next ≡ after p u.played → all ≡ old ++ positions_in p (firsts k f) → one ≡ all ++ next ∷ []
+      → new ≡ one ++ positions_in next u.below → new ≡ old ++ positions_in p (firsts (k + 1) f)
+  listed-next u next old all one new e en h one_is new_is =
+      let child : next ∷ positions_in next u.below ≡ after p u.played ∷ positions_in (after p u.played) u.below =
+      ap (λ x. x ∷ positions_in x u.below) en in
+      new_is ∙ ap (λ x. x ++ positions_in next u.below) one_is ∙ append_assoc all (next ∷ []) (positions_in next u.below)
+      ∙ ap (λ x. all ++ x) child ∙ ap (λ x. x ++ (after p u.played ∷ positions_in (after p u.played) u.below)) h
+      ∙ append_assoc old (positions_in p (firsts k f)) (after p u.played ∷ positions_in (after p u.played) u.below)
+      ∙ ap (λ x. old ++ x) (sym (positions-next p f k u e))
+      ∙ ap (λ i. old ++ positions_in p (firsts i f)) (let z : suc k ≡ k + 1 = omega arith in z)
 
-  pub listed-all : (old all : List Position) → width (below_at t.below ks) ≤ k
-      → all ≡ old ++ positions_in p (firsts k (below_at t.below ks))
-      → all ≡ old ++ positions_in p (below_at t.below ks)
-  listed-all old all full h = h ∙ ap (λ (f : Forest Label). old ++ positions_in p f) (firsts-all k (below_at t.below ks) full)
-
-pub listed-none : (p : Position) (f : Forest Label) (old : List Position) → old ≡ old ++ positions_in p (firsts 0 f)
-listed-none p f old = sym (append-none old)
-
-pub playable-at : (p q : Position) (t : Plain Label) (push path : List ℕ) → p ≡ q → push ≡ path
-    → IsPlayable q (below_at t.below path) → IsPlayable p (below_at t.below push)
-playable-at p q t push path e way h = subst (λ x. IsPlayable x (below_at t.below push)) (sym e) (subst (λ x. IsPlayable q (below_at t.below x)) (sym way) h)
+  pub listed-all : (old all : List Position) → width f ≤ k → all ≡ old ++ positions_in p (firsts k f) → all ≡ old ++ positions_in p f
+  listed-all old all full h = h ∙ ap (λ (x : Forest Label). old ++ positions_in p x) (firsts-all k f full)
 
 -- what is asked of a list of positions
 pub asked_each-append : (ps qs : List Position) → asked_each (ps ++ qs) ≡ asked_each ps ++ asked_each qs
@@ -165,17 +137,6 @@ pub record IsAsked (held now : Class → Bool) (asked asked_now failed failed_no
   pub failures : failed_now ≡ failed
   pub stays : honest → honest_now
   pub told : honest → (ts : List Told) × AreToldOf ps ts × (all ≡ was ++ ts)
-
-pub asked-none : (held : Class → Bool) (asked failed : ℕ) (honest : Type 0) (was : List Told)
-    → IsAsked held held asked asked failed failed honest honest [] was was
-asked-none held asked failed honest was = record {
-  tables = λ c. refl;
-  found = tt;
-  counts = refl;
-  failures = refl;
-  stays = λ h. h;
-  told = λ h. ([], tt, sym (append-none was));
-}
 
 pub asked-next : (held mid now : Class → Bool) (asked asked_mid asked_now failed failed_mid failed_now : ℕ)
     (honest honest_mid honest_now : Type 0) (ps : List Position) (p : Position) (was all new : List Told)

@@ -1,11 +1,12 @@
 -- A bench with another start: why it is refused.
 use Rattle.std.proofs.Common.{◌≡◌, ℕ, ◌++◌, ◌⊎◌, inl, inr, List, [], ◌∷◌, Bool, Some, None, suc, refl, sym, ap, ◌∙◌, subst}
-use Rattle.std.specs.Prelude.{if◌then◌else◌, Result, Ok, Err, IfErr, OnOk}
+use Rattle.std.specs.Prelude.{if◌then◌else◌, ◌-◌, length, Result, Ok, Err, IfErr, OnOk}
 use Rattle.study_board.specs.Position.{Position}
 use Rattle.study_material.specs.declared.class.Class.{Class}
 use Rattle.study_moves.specs.Rules.{is_legal, after}
 use Rattle.study_notation.specs.declared.start.Start.{Start}
 use Rattle.study_tree.specs.Forest.{Forest, none, more}
+use Rattle.study_tree.specs.Edits.{IsWithin}
 use Rattle.study_tree.specs.Tree.{Plain}
 use Rattle.study_marks.specs.declared.refusal.Refusal.{Refusal}
 use Rattle.study_marks.specs.declared.refusal.Refusal.TheVariants as refusal
@@ -15,7 +16,6 @@ use Rattle.study_marks.specs.Study.{mapped, plain_study, IsPlayable}
 use Rattle.study_marks.specs.Queries.{IsOutside}
 use Rattle.study_marks.specs.Edits.{first_path, broken_from, broken, shift_refusal}
 use Rattle.study_marks.specs.BenchState.{BenchState, marked}
-use Rattle.study_marks.specs.FaultSums.{below_at}
 use Rattle.study_marks.specs.EditLists.{IsShiftRefusal}
 use Rattle.study_marks.proofs.BenchEdits.{bare-marked}
 use Rattle.study_marks.proofs.FirstIllegalMove.{whole-playable}
@@ -27,38 +27,46 @@ broken-mapped g k p (more m l b r) =
     ∙ ap (λ x. if is_legal p m then first_path k (broken_from 0 (after p m) b) x else Some (k ∷ [])) (broken-mapped g (suc k) p r)
 
 -- the first broken move is that of the study which is shown
-pub broken-shown : (b k : BenchState) (p : Position) (steps : List ℕ) → b ≡ k → steps ≡ []
-    → broken_from 0 p (below_at b.study.tree.below steps) ≡ broken_from 0 p (plain_study (marked k)).tree.below
-broken-shown b k p steps same e =
-    ap (λ x. broken_from 0 p (below_at b.study.tree.below x)) e ∙ sym (broken-mapped (λ (l : Label). tt {0}) 0 p b.study.tree.below)
+pub broken-shown : (b k : BenchState) (p : Position) → b ≡ k
+    → broken_from 0 p b.study.tree.below ≡ broken_from 0 p (plain_study (marked k)).tree.below
+broken-shown b k p same =
+    sym (broken-mapped (λ (l : Label). tt {0}) 0 p b.study.tree.below)
     ∙ ap (λ (t : Plain (Unit {0})). broken_from 0 p t.below) (sym (bare-marked b)) ∙ ap (λ (x : BenchState). broken_from 0 p (plain_study (marked x)).tree.below) same
 
 pub broken-marked : (k : BenchState) (p : Position) → broken_from 0 p (plain_study (marked k)).tree.below ≡ broken_from 0 p (marked k).tree.below
 broken-marked k p = broken-mapped (λ (x : Mark). tt {0}) 0 p (marked k).tree.below
 
-pub legal-shifted : (b k : BenchState) (p : Position) (steps : List ℕ) → b ≡ k → steps ≡ []
-    → broken_from 0 p (below_at b.study.tree.below steps) ≡ None → IsPlayable p k.study.tree.below
-legal-shifted b k p steps same e h =
-    subst (λ (x : BenchState). IsPlayable p x.study.tree.below) same
-    (whole-playable 0 p b.study.tree.below (sym (ap (λ x. broken_from 0 p (below_at b.study.tree.below x)) e) ∙ h))
+pub legal-shifted : (b k : BenchState) (p : Position) → b ≡ k
+    → broken_from 0 p b.study.tree.below ≡ None → IsPlayable p k.study.tree.below
+legal-shifted b k p same h =
+    subst (λ (x : BenchState). IsPlayable p x.study.tree.below) same (whole-playable 0 p b.study.tree.below h)
+
+-- the root that is lent shows the tree
+pub at-root : {root tree : Plain Label} (p : Position) → root ≡ tree → broken_from 0 p tree.below ≡ broken_from 0 p root.below
+at-root p e = ap (λ (t : Plain Label). broken_from 0 p t.below) (sym e)
+
+pub within-root : {tree : Plain Label} (root : Plain Label) (steps : List ℕ) → steps ≡ [] → root ≡ tree → IsWithin 256 tree.below
+    → IsWithin (256 - length steps) root.below
+within-root root steps none_yet e h =
+    subst (λ (xs : List ℕ). IsWithin (256 - length xs) root.below) (sym none_yet) (subst (λ (t : Plain Label). IsWithin 256 t.below) (sym e) h)
 
 -- refused for a broken move, and for anything else
-module _ {A : Type 0} (held : Class → Bool) (asked : List Position) (b k : BenchState) (start : Start) (steps : List ℕ) (same : b ≡ k) (e : steps ≡ []) where
-  pub shift-broken : (path found now : List ℕ) (r : Refusal A)
-      → broken_from 0 start.position (below_at b.study.tree.below steps) ≡ Some path → found ≡ steps ++ path
+module _ {A : Type 0} (held : Class → Bool) (asked : List Position) (b k : BenchState) (start : Start) (same : b ≡ k) where
+  pub shift-broken : (steps path found now : List ℕ) (r : Refusal A) → steps ≡ []
+      → broken_from 0 start.position b.study.tree.below ≡ Some path → found ≡ steps ++ path
       → now ≡ found
       → (r ≡ refusal.ShiftBroken now) ⊎ (r ≡ refusal.OutOfMemory) → IsShiftRefusal held asked (shift_refusal (plain_study (marked k)) start) r
-  shift-broken path found now r h way is answer =
+  shift-broken steps path found now r e h way is answer =
       let at : now ≡ path = is ∙ way ∙ ap (λ x. x ++ path) e in
       let first : shift_refusal {A = A} (plain_study (marked k)) start ≡ Some (refusal.ShiftBroken path) =
-      ap (broken {A = A}) (sym (broken-shown b k start.position steps same e) ∙ h) in
+      ap (broken {A = A}) (sym (broken-shown b k start.position same) ∙ h) in
       subst (λ o. IsShiftRefusal {A = A} held asked o r) (sym first) (elim answer [ inl x ↦ inl (x ∙ ap refusal.ShiftBroken at) | inr x ↦ inr x ])
 
   pub shift-outside : {T : Type 0} (r : Result T (Refusal A))
-      → broken_from 0 start.position (below_at b.study.tree.below steps) ≡ None → IfErr r (IsOutside held asked)
+      → broken_from 0 start.position b.study.tree.below ≡ None → IfErr r (IsOutside held asked)
       → IfErr r (IsShiftRefusal held asked (shift_refusal (plain_study (marked k)) start))
   shift-outside r h o =
-      let first : shift_refusal {A = A} (plain_study (marked k)) start ≡ None = ap (broken {A = A}) (sym (broken-shown b k start.position steps same e) ∙ h) in
+      let first : shift_refusal {A = A} (plain_study (marked k)) start ≡ None = ap (broken {A = A}) (sym (broken-shown b k start.position same) ∙ h) in
       subst (λ x. IfErr r (IsShiftRefusal {A = A} held asked x)) (sym first) o
 
 pub on-ok : {T E : Type 0} (r : Result T E) (P : Type 0) → P → OnOk r P

@@ -130,7 +130,7 @@ impl<'a, A: Allocator> Bench<'a, A> {
         ensures same { OnErr result (self.new ≡ self.old) }
     {
         let mut steps = ArrayVec::new();
-        if find_illegal_move(&self.tree, &start.position, &mut steps) {
+        if find_illegal_move(&self.tree.root(), &start.position, &mut steps) {
             return Err(shift_broken_at(self.alloc, steps.as_slice()));
         }
         self.annotate(start, values)

@@ -1,29 +1,25 @@
 //! What is told of all nodes, asked in written order.
-ghost use Rattle.std.specs.Prelude.{◌≡◌, ◌+◌, ◌<◌, ◌≤◌, ◌++◌, ◌∷◌, [], List, IsTrue, OnOk, IfOk, IfErr, length, is_ok, vec_len, vec_capacity};
+ghost use Rattle.std.specs.Prelude.{◌≡◌, ◌+◌, ◌<◌, ◌≤◌, ◌++◌, ◌∷◌, [], List, OnOk, IfOk, IfErr, length, is_ok, vec_len, vec_capacity};
 ghost use Rattle.study_material.specs.declared.class.Class.{Class as AClass};
 ghost use Rattle.study_tablefile.specs.declared.fault.SourceFault.{SourceFault as ASourceFault};
-ghost use Rattle.study_tree.specs.Tree.{plain_tree, has_spot};
+ghost use Rattle.study_tree.specs.Tree.{plain_tree};
 ghost use Rattle.study_marks.specs.declared.label.Told.{Told as ATold};
-ghost use Rattle.study_tree.specs.Edits.{IsWithin};
 ghost use Rattle.study_marks.specs.Study.{IsPlayable};
 ghost use Rattle.study_marks.specs.Queries.{asked_at, asked_below, AreTablesHeld, IsOutside, HasAsked, failures_after};
 ghost use Rattle.study_prober.specs.Values.{IsNotDamage};
 ghost use Rattle.study_marks.specs.Answers.{IsUndamaged, WereTold, IsFirstFault, TellsFirstFault};
 ghost use Rattle.study_marks.specs.Told.{IsToldOf, AllAreTold, IsUntold, WasAsked, failures_told};
 ghost use Rattle.study_marks.specs.BenchState.{told_tree};
-ghost use Rattle.study_marks.specs.FaultSums.{below_at};
 ghost use Rattle.study_marks.specs.Relabelled.{positions_in, asked_each, AreToldOf, retold_tree};
 
 use crate::evaluate::evaluate;
 use crate::label::{Label, Told};
 use crate::refusal::Refusal;
-use crate::relabel::{Steps, children_of, move_of};
-use arrayvec::ArrayVec;
 use std::alloc::{AllocError, Allocator};
 use study_board::Position;
 use study_moves::played;
 use study_prober::{ProbeFault, Values};
-use study_tree::Tree;
+use study_tree::{Branch, Tree};
 
 /// Puts one more position last.
 fn push_position<'a, A: Allocator>(
@@ -39,27 +35,23 @@ fn push_position<'a, A: Allocator>(
 }
 
 /// Lists the positions of all below the node, which has this position, in written order.
-fn list_positions_below<'a, A: Allocator>(
-    tree: &Tree<'a, Label, A>,
+fn list_positions_below<'t, 'a, A: Allocator>(
+    node: &Branch<'t, 'a, Label, A>,
     position: &Position,
-    steps: &mut Steps,
     all: &mut Vec<Position, &'a A>,
 ) -> Result<(), AllocError>
-    requires found { IsTrue (has_spot (plain_tree tree.now) steps.old.items) }
-    requires shallow { IsWithin 256 (plain_tree tree.now).below }
-    requires playable { IsPlayable position.now (below_at (plain_tree tree.now).below steps.old.items) }
-    ensures listed { OnOk result (all.new.items ≡ all.old.items ++ positions_in position.now (below_at (plain_tree tree.now).below steps.old.items)) }
-    ensures steps { OnOk result (steps.new.items ≡ steps.old.items) }
+    requires playable { IsPlayable position.now node.now.below }
+    ensures listed { OnOk result (all.new.items ≡ all.old.items ++ positions_in position.now node.now.below) }
 {
-    let count = children_of(tree, steps.as_slice());
+    let count = node.width();
     let mut place = 0u16;
     while place < count {
-        steps.push(place);
-        let m = move_of(tree, steps.as_slice());
-        let next = played(position, m);
+        let Some(child) = node.child(place) else {
+            unreachable!()
+        };
+        let next = played(position, child.played);
         push_position(all, &next)?;
-        list_positions_below(tree, &next, steps, all)?;
-        let _place = steps.pop();
+        list_positions_below(&child.node, &next, all)?;
         place += 1;
     }
     Ok(())
@@ -71,14 +63,12 @@ fn list_positions<'a, A: Allocator>(
     tree: &Tree<'a, Label, A>,
     position: &Position,
 ) -> Result<Vec<Position, &'a A>, AllocError>
-    requires shallow { IsWithin 256 (plain_tree tree.now).below }
     requires playable { IsPlayable position.now (plain_tree tree.now).below }
     ensures { IfOk result (λ all. all.items ≡ position.now ∷ positions_in position.now (plain_tree tree.now).below) }
 {
     let mut all = Vec::with_capacity(alloc, tree.size())?;
     push_position(&mut all, position)?;
-    let mut steps = ArrayVec::new();
-    list_positions_below(tree, position, &mut steps, &mut all)?;
+    list_positions_below(&tree.root(), position, &mut all)?;
     Ok(all)
 }
 
@@ -140,7 +130,6 @@ pub fn evaluate_all<'a, A: Allocator, V: Values>(
     position: &Position,
     values: &mut V,
 ) -> Result<Vec<Told, &'a A>, Refusal<'a, A>>
-    requires shallow { IsWithin 256 (plain_tree tree.now).below }
     requires playable { IsPlayable position.now (plain_tree tree.now).below }
     ensures game { V.is_honest values.old → IfOk result (λ all. AllAreTold position.now (retold_tree all.items (told_tree (plain_tree tree.now)))) }
     ensures refusal { IfErr result (IsOutside (V.held values.old) (asked_at position.now ++ asked_below position.now (plain_tree tree.now).below)) }

@@ -1,75 +1,48 @@
 //! The whole tree: its first move that is not legal, and the labels of all nodes, written anew.
-ghost use Rattle.std.specs.Prelude.{◌≡◌, ◌++◌, ℕ, List, IsTrue, IsSome, Some, None, false};
-ghost use Rattle.study_tree.specs.Edits.{IsWithin, width};
-ghost use Rattle.study_tree.specs.Tree.{plain_tree, has_spot, spot_at, size_of};
+ghost use Rattle.std.specs.Prelude.{◌≡◌, ◌-◌, ◌≤◌, ◌++◌, ℕ, List, IsTrue, length, Some, None, false};
+ghost use Rattle.study_tree.specs.Edits.{IsWithin};
+ghost use Rattle.study_tree.specs.Tree.{plain_tree, size_of};
 ghost use Rattle.study_marks.specs.Edits.{broken_from};
-ghost use Rattle.study_marks.specs.Bench.{played_by};
 ghost use Rattle.study_marks.specs.Queries.{counted_times};
 ghost use Rattle.study_marks.specs.BenchState.{AllAddUp, told_tree};
-ghost use Rattle.study_marks.specs.FaultSums.{below_at};
 ghost use Rattle.study_marks.specs.Relabelled.{told_in, retold_tree};
 
 use crate::fault_sums::counted_faults;
 use crate::label::{Label, Told};
 use crate::mark_rules::{Aim, own_faults};
-use crate::replay::move_to;
 use arrayvec::ArrayVec;
 use std::alloc::Allocator;
 use study_board::Position;
-use study_moves::{Move, is_legal, played};
-use study_tree::{Rewriting, Tree};
+use study_moves::{is_legal, played};
+use study_tree::{Branch, Rewriting, Tree};
 
 /// A way down from the root that takes no memory.
 pub type Steps = ArrayVec<u16, 256>;
 
-/// How many children the node has.
-pub fn children_of<'a, A: Allocator>(tree: &Tree<'a, Label, A>, steps: &[u16]) -> u16
-    requires { IsTrue (has_spot (plain_tree tree.now) steps.now) }
-    ensures { result ≡ width (below_at (plain_tree tree.now).below steps.now) }
-{
-    match tree.node(steps) {
-        None => 0,
-        Some(node) => node.children,
-    }
-}
-
-/// The move that led to a node that is there and not the root.
-pub fn move_of<'a, A: Allocator>(tree: &Tree<'a, Label, A>, steps: &[u16]) -> Move
-    requires found { IsSome (played_by (spot_at (plain_tree tree.now) steps.now)) }
-    ensures { played_by (spot_at (plain_tree tree.now) steps.now) ≡ Some result }
-{
-    match move_to(tree, steps) {
-        None => unreachable!(),
-        Some(m) => m,
-    }
-}
-
 /// Goes to the first node in written order, below this one, whose move is not legal; stays where there is none.
-pub fn find_illegal_move<'a, A: Allocator>(
-    tree: &Tree<'a, Label, A>,
+pub fn find_illegal_move<'t, 'a, A: Allocator>(
+    node: &Branch<'t, 'a, Label, A>,
     position: &Position,
     steps: &mut Steps,
 ) -> bool
-    requires found { IsTrue (has_spot (plain_tree tree.now) steps.old.items) }
-    requires shallow { IsWithin 256 (plain_tree tree.now).below }
+    requires short { length steps.old.items ≤ 256 }
+    requires shallow { IsWithin (256 - length steps.old.items) node.now.below }
     ensures broken { IsTrue result
-        → (path : List ℕ) × (broken_from 0 position.now (below_at (plain_tree tree.now).below steps.old.items) ≡ Some path)
-        × (steps.new.items ≡ steps.old.items ++ path) }
-    ensures whole { result ≡ false
-        → (broken_from 0 position.now (below_at (plain_tree tree.now).below steps.old.items) ≡ None)
-        × (steps.new.items ≡ steps.old.items) }
+        → (path : List ℕ) × (broken_from 0 position.now node.now.below ≡ Some path) × (steps.new.items ≡ steps.old.items ++ path) }
+    ensures whole { result ≡ false → (broken_from 0 position.now node.now.below ≡ None) × (steps.new.items ≡ steps.old.items) }
 {
-    let count = children_of(tree, steps.as_slice());
+    let count = node.width();
     let mut place = 0u16;
     while place < count {
+        let Some(child) = node.child(place) else {
+            unreachable!()
+        };
         steps.push(place);
-        let m = move_of(tree, steps.as_slice());
-        if !is_legal(position, m) {
+        if !is_legal(position, child.played) {
             return true;
         }
-        let legal = move_of(tree, steps.as_slice());
-        let next = played(position, legal);
-        if find_illegal_move(tree, &next, steps) {
+        let next = played(position, child.played);
+        if find_illegal_move(&child.node, &next, steps) {
             return true;
         }
         let _place = steps.pop();

@@ -1,17 +1,18 @@
 -- The positions before quiet moves, by the men that a number tells.
-use Rattle.std.proofs.Common.{◌≡◌, ◌≢◌, ℕ, ◌+◌, ◌<◌, ◌≤◌, ◌⊎◌, inl, inr, arith, Bool, true, false, ◌&&◌, List, slice_index, Contains, Option, Some, None, refl, sym, ◌∙◌, ap, subst}
+use Rattle.std.proofs.Common.{◌≡◌, ℕ, ◌+◌, ◌<◌, ◌≤◌, ◌⊎◌, inl, inr, arith, Bool, true, false, List, slice_index, Contains, Option, Some, None, refl, sym, ◌∙◌, ap, subst}
 use Rattle.std.proofs.lemmas.Bool.{and_parts, false≢true}
 use Rattle.std.specs.List.Sorted.{IsPermutation}
 use Rattle.study_board.specs.declared.men.Side.{Side}
+use Rattle.study_board.specs.declared.men.Kind.{Kind}
+use Rattle.study_board.specs.declared.men.Kind.TheVariants.{Queen}
 use Rattle.study_board.specs.declared.men.Man.{Man}
 use Rattle.study_board.specs.Men.{same_side, other_side}
 use Rattle.study_board.specs.Position.{Position, is_occupied}
 use Rattle.study_board.proofs.Faults.{is_occupied_same}
 use Rattle.study_board.specs.Sets.{has}
 use Rattle.study_moves.specs.declared.moves.Move.{Move}
-use Rattle.study_moves.specs.Rules.{after, is_legal, reaches_last_rank}
+use Rattle.study_moves.specs.Rules.{after, is_legal, is_promotion_choice, reaches_last_rank}
 use Rattle.study_moves.specs.Alike.{Leads}
-use Rattle.study_moves.specs.EnPassant.{has_legal_en_passant}
 use Rattle.study_moves.specs.Unmoves.{IsQuiet, LeadsQuietly, CanHaveLed, move_from, came_from}
 use Rattle.study_moves.specs.AnyOrder.{HasOrigins, HasSafeTargets, is_safe_target}
 use Rattle.study_moves.proofs.AnyOrder.{men-tell-moves}
@@ -25,12 +26,13 @@ use Rattle.study_index.proofs.ClassLaws.{below, entry}
 use Rattle.study_index.proofs.ComputedIndex.{told_decoded}
 use Rattle.study_index.proofs.DecodedNumbers.{told_of}
 use Rattle.study_index.proofs.WithBit.{HasParts-from}
-use Rattle.study_retro.specs.Propagation.{AreAdded, AreLowered, AreSet, IsSetBy, IsSetWhere, LeadsTo}
+use Rattle.study_retro.specs.Propagation.{AreAdded, AreLowered, AreSet, IsSetWhere, LeadsTo}
 use Rattle.study_retro.specs.Table.{Table}
 use Rattle.study_retro.specs.Cells.{value_of}
 use Rattle.study_retro.specs.declared.value.Value.TheVariants.{Win}
 use Rattle.study_retro.specs.ClassGame.{class_game}
-use Rattle.study_retro.specs.Numbered.{IsNumberedClass, LosesBy, NoLossBy}
+use Rattle.study_retro.specs.Numbered.{Numbered, IsNumberedClass, LosesBy, NoLossBy}
+use Rattle.study_retro.specs.Still.{IsWonAfter, QuietMovesLose, QuietMovesLoseBy, move_to}
 use Rattle.study_retro.specs.Predecessors.{AreTold, IsBefore, IsBeforeBy, IsBeforeFrom}
 use Rattle.study_retro.proofs.EarlierChess.{IsLed-from, before_leads, leads_before, leads_numbered}
 use Rattle.study_retro.proofs.MovedSteps.{lands_there, moved_before, moved_after, quiet_below, quiet_label}
@@ -77,13 +79,13 @@ module _ (c : Class) (number : ℕ) (q : Position) (at : position_numbered c num
   one_position p e = let s : Some p ≡ Some q = sym e ∙ at in cc
 
   module _ (men : List Man) (side : Side) (told : AreTold c number men side) where
-    told_origins : HasOrigins q men
+    pub told_origins : HasOrigins q men
     told_origins =
         let d = told_decoded c number q at in
         let t = told_of c number q d in
         (men-tell-moves q men d.valid (subst (λ (zs : List Man). IsPermutation zs q.men) (sym told.0) t.same_men)).1
 
-    side_is : side ≡ q.to_move
+    pub side_is : side ≡ q.to_move
     side_is = told.1 ∙ sym (told_of c number q (told_decoded c number q at)).same_side
 
     module _ (man : Man) (among : Contains men man) where
@@ -154,20 +156,16 @@ module _ (c : Class) (number : ℕ) (q : Position) (at : position_numbered c num
 
 -- ---- positions after quiet moves
 
--- the move of the man to x
-abbrev pub move_to : Man → ℕ → Move
-move_to man x = record { origin = man.at; target = x; promoted = None }
-
 module _ (c : Class) (number : ℕ) (q : Position) (at : position_numbered c number ≡ Some q) (single : has_both_pawns (lists_of c) ≡ false) (men : List
     Man) (side : Side) (told : AreTold c number men side) where
-  told_targets : HasSafeTargets q men
+  pub told_targets : HasSafeTargets q men
   told_targets =
       let d = told_decoded c number q at in
       let t = told_of c number q d in
       (men-tell-moves q men d.valid (subst (λ (zs : List Man). IsPermutation zs q.men) (sym told.0) t.same_men)).0
       (dead_of c q d.valid (entry c number q d).of_class single)
 
-  occupied_same : (x : ℕ) → is_occupied men x ≡ is_occupied q.men x
+  pub occupied_same : (x : ℕ) → is_occupied men x ≡ is_occupied q.men x
   occupied_same x =
       is_occupied_same men q.men (subst (λ (zs : List Man). IsPermutation zs q.men) (sym told.0) (told_of c number q (told_decoded c number q at)).same_men) x
 
@@ -201,6 +199,73 @@ module _ (c : Class) (number : ℕ) (q : Position) (at : position_numbered c num
             let w = subst (λ (r : Position). LosesBy (class_game c held) cells level r) same h in
             let t = w.each (after q (move_to man x)) (move_to man x, safe_legal, refl) in
             unwon (t.0, quiet_label c number q at single (move_to man x) safe_legal safe_quiet held laws cells k safe_index ∙ t.1, t.2)
+
+        -- where it is won the move leads to a win
+        pub safe_won : (level : ℕ) → ((m : ℕ) × (value_of (slice_index cells k) ≡ Win m) × (m ≤ level))
+            → (p : Position) → position_numbered c number ≡ Some p → IsWonAfter (class_game c held) cells level p (move_to man x)
+        safe_won level w p e =
+            subst (λ (r : Position). IsWonAfter (class_game c held) cells level r (move_to man x)) (sym (one_position c number q at p e))
+            (w.0, sym (quiet_label c number q at single (move_to man x) safe_legal safe_quiet held laws cells k safe_index) ∙ w.1, w.2)
+
+  -- what a legal move of a man tells
+  pub safe_by : (m : Move) → is_legal q m ≡ true → (man : Man) → Contains men man → m.origin ≡ man.at
+      → (m.target < 64) × (same_side man.side side ≡ true) × (is_safe_target men side man m.target ≡ true)
+  safe_by m legal man among origin =
+      let on = (told_targets.mover m legal).3 in
+      let is = and_parts _ _ (sym (told_targets.legal man m among origin on) ∙ legal) in
+      let own = and_parts _ _ is.0 in (
+        on,
+        ap (λ (t : Side). same_side man.side t) (side_is c number q at men side told) ∙ own.0,
+        ap (λ (t : Side). is_safe_target men t man m.target) (side_is c number q at men side told) ∙ own.1,
+      )
+
+  -- a legal move without a promotion does not reach the last rank
+  pub safe_plain : (m : Move) → is_legal q m ≡ true → (man : Man) → Contains men man → m.origin ≡ man.at → m.promoted ≡ None
+      → reaches_last_rank man m.target ≡ false
+  safe_plain m legal man among origin none =
+      let on = (told_targets.mover m legal).3 in
+      let is = and_parts _ _ (sym (told_targets.legal man m among origin on) ∙ legal) in
+      plain (reaches_last_rank man m.target) (sym (ap (λ (o : Option Kind). is_promotion_choice (reaches_last_rank man m.target) o) none) ∙ is.1)
+    where
+      plain : (b : Bool) → is_promotion_choice b None ≡ true → b ≡ false
+      plain false e = refl
+      plain true e = absurd (false≢true e)
+
+  -- where the quiet moves of each man lose all do
+  pub lose_each : (g : Numbered Position) (cells : List ℕ) (k : ℕ) → ((man : Man) → Contains men man → QuietMovesLoseBy g cells k q man)
+      → QuietMovesLose g cells k q
+  lose_each g cells k each m legal quiet =
+      let t = told_targets.mover m legal in
+      let same : m ≡ move_to t.0 m.target = by_fields m t.0 t.2 quiet.1 in
+      subst (λ (x : Move). IsWonAfter g cells k q x) (sym same)
+      (each t.0 t.1 m.target (subst (λ (x : Move). is_legal q x ≡ true) same legal) (quiet.0, refl))
+    where
+      by_fields : (m : Move) (man : Man) → m.origin ≡ man.at → m.promoted ≡ None → m ≡ move_to man m.target
+      by_fields m man o p =
+          ap (λ (a : ℕ). let r : Move = record { origin = a; target = m.target; promoted = m.promoted } in r) o
+          ∙ ap (λ (k : Option Kind). let r : Move = record { origin = man.at; target = m.target; promoted = k } in r) p
+
+  -- where a man has a safe target it has a legal move
+  pub some_legal : (man : Man) → Contains men man → same_side man.side side ≡ true → (x : ℕ) → x < 64 → is_safe_target men side man x ≡ true
+      → (m : Move) × (is_legal q m ≡ true)
+  some_legal man among his x on safe =
+      let choice : Option Kind = chosen (reaches_last_rank man x) in
+      let m : Move = record { origin = man.at; target = x; promoted = choice } in (
+        m,
+        told_targets.legal man m among refl on
+            ∙ rw (
+              ap (λ (t : Side). same_side man.side t) (sym (side_is c number q at men side told)) ∙ his,
+              ap (λ (t : Side). is_safe_target men t man x) (sym (side_is c number q at men side told)) ∙ safe,
+            ) (is_chosen (reaches_last_rank man x)),
+      )
+    where
+      chosen : Bool → Option Kind
+      chosen true = Some Queen
+      chosen false = None
+
+      is_chosen : (b : Bool) → is_promotion_choice b (chosen b) ≡ true
+      is_chosen true = refl
+      is_chosen false = refl
 
 -- ---- positions before them, in a game of numbers
 

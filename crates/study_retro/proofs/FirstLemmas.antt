@@ -120,7 +120,7 @@ module _ {P : Type 0} {leads : P → P → Type 0} {mate : P → Type 0} {known 
             by_cases (inl y) = unmated y
             by_cases (inr y) = let b : n ≤ m = is.least m (y.1 g.to g.move.0) in omega (arith, e)
 
-    held-draw : (far : Bool) → GivesOutside leads home outside p Draw → IsHeld leads mate home far 0 p 0
+    pub held-draw : (far : Bool) → GivesOutside leads home outside p Draw → IsHeld leads mate home far 0 p 0
     held-draw far g = record {
       set = λ z l. absurd (z refl);
       unmating = λ free x. x;

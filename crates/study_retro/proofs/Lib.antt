@@ -16,6 +16,7 @@ pub mod StillLemmas
 pub mod FirstLemmas
 pub mod CellsLemmas
 pub mod BackLemmas
+pub mod StillChess
 pub mod SquaresLeft
 pub mod DueTally
 pub mod QuietClass

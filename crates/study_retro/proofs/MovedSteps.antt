@@ -104,7 +104,7 @@ module _ (c : Class) (n : ℕ) (q : Position) (at : position_numbered c n ≡ So
         ∙ numbered_index c n q at
 
     module _ (m : Move) (legal : is_legal q m ≡ true) (quiet : IsQuiet q m) where
-      quiet_stays : IsOf c (after q m)
+      pub quiet_stays : IsOf c (after q m)
       quiet_stays =
           let d = told_decoded c n q at in
           let read = entry c n q d in

@@ -13,3 +13,4 @@ pub mod Propagation
 pub mod Predecessors
 pub mod Numbered
 pub mod ClassGame
+pub mod Still

@@ -10,17 +10,18 @@ ghost use Rattle.study_retro.specs.Table.{IsReady, IsClosed};
 use crate::back::{Change, write_before};
 use crate::consistency::label;
 use crate::earlier::{has_both_pawns, predecessor_numbers};
-use crate::escapes::escapes;
+use crate::escapes::{escapes, has_move};
 use crate::game::{Game, Location};
 use crate::initial::{Initial, initial_by_moves};
 use crate::propagate::{is_lost_by_moves, lower_by_moves, mark_by_moves};
 use crate::stepped::{LabelledGame, SteppedGame};
+use crate::still::{is_still, stays};
 use crate::table_set::TableSet;
 use crate::value::{Value, value_at};
 use arrayvec::ArrayVec;
 use std::alloc::Allocator;
 use study_board::{Position, is_occupied};
-use study_index::{cells, decode, index, number_moved};
+use study_index::{cells, decode, index, number_moved, told};
 use study_material::{Class, class_of};
 use study_moves::{Move, is_mate, legal_moves, played};
 
@@ -120,6 +121,15 @@ impl<'t, 'a, A: Allocator> LabelledGame for ClassGame<'t, 'a, A> {
 
 impl<'t, 'a, A: Allocator> SteppedGame for ClassGame<'t, 'a, A> {
     fn first(&self, number: u32) -> Initial {
+        if has_both_pawns(self.class) {
+            return initial_by_moves(self, number);
+        }
+        if is_still(self.class, number) {
+            return Initial {
+                cell: 0,
+                far: false,
+            };
+        }
         initial_by_moves(self, number)
     }
 
@@ -146,8 +156,15 @@ impl<'t, 'a, A: Allocator> SteppedGame for ClassGame<'t, 'a, A> {
     }
 
     fn is_lost_at(&self, cells: &[u8], number: u32, level: u8) -> bool {
-        if !has_both_pawns(self.class) && escapes(self, cells, number, level) {
+        if has_both_pawns(self.class) {
+            return is_lost_by_moves(self, cells, number, level);
+        }
+        let setup = told(self.class, number);
+        if escapes(self, cells, number, &setup, level) {
             return false;
+        }
+        if stays(self.class, number, &setup) {
+            return has_move(self.class, number, &setup);
         }
         is_lost_by_moves(self, cells, number, level)
     }

@@ -1,20 +1,25 @@
-//! Quiet moves that do not lose, by the squares that a number tells, where one side alone has pawns.
-ghost use Rattle.std.specs.Prelude.{◌≡◌, ◌<◌, ℕ, false, length, IsTrue, Some, Contains};
+//! Whether quiet moves lose, by the squares that a number tells, where one side alone has pawns.
+ghost use Rattle.std.specs.Prelude.{◌≡◌, ◌<◌, ◌↔◌, ℕ, true, false, length, IsTrue, Some, Contains};
+ghost use Rattle.study_board.specs.Men.{same_side};
 ghost use Rattle.study_board.specs.Position.{Position as Seen, is_occupied};
-ghost use Rattle.study_moves.specs.Rules.{reaches_last_rank};
+ghost use Rattle.study_moves.specs.declared.moves.Move.{Move as AMove};
+ghost use Rattle.study_moves.specs.Rules.{is_legal, reaches_last_rank};
+ghost use Rattle.study_moves.specs.AnyOrder.{is_safe_target};
 ghost use Rattle.study_material.specs.Class.{lists_of};
 ghost use Rattle.study_index.specs.Number.{cells_of, has_both_pawns};
 ghost use Rattle.study_index.specs.Computed.{position_numbered};
 ghost use Rattle.study_retro.specs.ClassGame.{class_game};
 ghost use Rattle.study_retro.specs.Numbered.{IsNumberedClass, NoLossBy};
 ghost use Rattle.study_retro.specs.Predecessors.{AreTold};
+ghost use Rattle.study_retro.specs.Still.{QuietMovesLose, QuietMovesLoseBy, IsWonAfter, move_to};
 
 use crate::class_game::ClassGame;
 use crate::propagate::is_won;
 use crate::value::value_at;
 use std::alloc::Allocator;
 use study_board::{Kind, Man, Side, Square, first, is_occupied, set_of, without};
-use study_index::{Setup, number_moved, told};
+use study_index::{Setup, number_moved};
+use study_material::Class;
 use study_moves::safe_targets;
 
 /// Whether the man is a pawn that reaches its last rank on the square.
@@ -32,9 +37,41 @@ fn reaches_last_rank(man: &Man, target: Square) -> bool
 /// Whether the move of the man to the square, if legal, takes no man and promotes none.
 #[inline]
 fn is_quiet_target(men: &[Man], man: &Man, target: Square) -> bool
-    ensures { IsTrue result → (is_occupied men.now target ≡ false) × (reaches_last_rank man.now target ≡ false) }
+    ensures { IsTrue result ↔ (is_occupied men.now target ≡ false) × (reaches_last_rank man.now target ≡ false) }
 {
     !is_occupied(men, target.number()) && !reaches_last_rank(man, target)
+}
+
+/// Whether the legal move of the man to the square is not quiet, or lets the other side win within `level` plies.
+#[inline]
+fn loses_to<A: Allocator>(
+    game: &ClassGame<A>,
+    cells: &[u8],
+    number: u32,
+    setup: &Setup,
+    man: &Man,
+    target: Square,
+    level: u8,
+) -> bool
+    requires laws { IsNumberedClass (class_game game.now.class game.now.tables.now) }
+    requires numbered { (q : Seen) × (position_numbered game.now.class number ≡ Some q) }
+    requires single { has_both_pawns (lists_of game.now.class) ≡ false }
+    requires told { AreTold game.now.class number setup.now.men.items setup.now.to_move }
+    requires man { Contains setup.now.men.items man.now }
+    requires side { same_side man.now.side setup.now.to_move ≡ true }
+    requires on { target < 64 }
+    requires safe { is_safe_target setup.now.men.items setup.now.to_move man.now target ≡ true }
+    requires cells { length cells.now ≡ cells_of game.now.class }
+    ensures yes { IsTrue result → (is_occupied setup.now.men.items target ≡ false) → (reaches_last_rank man.now target ≡ false) → (q : Seen)
+        → position_numbered game.now.class number ≡ Some q
+        → IsWonAfter (class_game game.now.class game.now.tables.now) cells.now level q (move_to man.now target) }
+    ensures no { result ≡ false → NoLossBy (class_game game.now.class game.now.tables.now) cells.now level number }
+{
+    if !is_quiet_target(setup.men.as_slice(), man, target) {
+        return true;
+    }
+    let after = number_moved(game.class, number, man.at, target);
+    is_won(value_at(cells[after as usize]), level)
 }
 
 /// Whether the man has a quiet move after which the other side does not win within `level` plies.
@@ -53,7 +90,9 @@ fn escapes_by_man<A: Allocator>(
     requires told { AreTold game.now.class number setup.now.men.items setup.now.to_move }
     requires man { Contains setup.now.men.items man.now }
     requires cells { length cells.now ≡ cells_of game.now.class }
-    ensures { IsTrue result → NoLossBy (class_game game.now.class game.now.tables.now) cells.now level number }
+    ensures yes { IsTrue result → NoLossBy (class_game game.now.class game.now.tables.now) cells.now level number }
+    ensures no { result ≡ false → (q : Seen) → position_numbered game.now.class number ≡ Some q
+        → QuietMovesLoseBy (class_game game.now.class game.now.tables.now) cells.now level q man.now }
 {
     if !man.side.is(setup.to_move) {
         return false;
@@ -64,11 +103,8 @@ fn escapes_by_man<A: Allocator>(
     while rest != 0 {
         let target = first(rest);
         rest = without(rest, set_of(target));
-        if is_quiet_target(setup.men.as_slice(), man, target) {
-            let after = number_moved(game.class, number, man.at, target);
-            if !is_won(value_at(cells[after as usize]), level) {
-                return true;
-            }
+        if !loses_to(game, cells, number, setup, man, target, level) {
+            return true;
         }
         next = target.number() + 1;
     }
@@ -76,16 +112,59 @@ fn escapes_by_man<A: Allocator>(
 }
 
 /// Whether the side to move has a quiet move after which the other side does not win within `level` plies.
-pub fn escapes<A: Allocator>(game: &ClassGame<A>, cells: &[u8], number: u32, level: u8) -> bool
+pub fn escapes<A: Allocator>(
+    game: &ClassGame<A>,
+    cells: &[u8],
+    number: u32,
+    setup: &Setup,
+    level: u8,
+) -> bool
     requires laws { IsNumberedClass (class_game game.now.class game.now.tables.now) }
     requires numbered { (q : Seen) × (position_numbered game.now.class number ≡ Some q) }
     requires single { has_both_pawns (lists_of game.now.class) ≡ false }
+    requires told { AreTold game.now.class number setup.now.men.items setup.now.to_move }
     requires cells { length cells.now ≡ cells_of game.now.class }
-    ensures { IsTrue result → NoLossBy (class_game game.now.class game.now.tables.now) cells.now level number }
+    ensures yes { IsTrue result → NoLossBy (class_game game.now.class game.now.tables.now) cells.now level number }
+    ensures no { result ≡ false → (q : Seen) → position_numbered game.now.class number ≡ Some q
+        → QuietMovesLose (class_game game.now.class game.now.tables.now) cells.now level q }
 {
-    let setup = told(game.class, number);
     for man in setup.men.as_slice() {
-        if escapes_by_man(game, cells, number, &setup, man, level) {
+        if escapes_by_man(game, cells, number, setup, man, level) {
+            return true;
+        }
+    }
+    false
+}
+
+/// Whether the man is one of the side to move, and has a legal move.
+#[inline]
+fn can_move(setup: &Setup, man: &Man) -> bool
+    ensures yes { IsTrue result → (same_side man.now.side setup.now.to_move ≡ true) × ((x : ℕ) × (x < 64)
+        × (is_safe_target setup.now.men.items setup.now.to_move man.now x ≡ true)) }
+    ensures no { result ≡ false → same_side man.now.side setup.now.to_move ≡ true → (x : ℕ) → x < 64
+        → is_safe_target setup.now.men.items setup.now.to_move man.now x ≡ false }
+{
+    if !man.side.is(setup.to_move) {
+        return false;
+    }
+    let targets = safe_targets(setup.men.as_slice(), setup.to_move, man);
+    if targets == 0 {
+        return false;
+    }
+    let _target = first(targets);
+    true
+}
+
+/// Whether the side to move has a legal move, if the number has a position.
+pub fn has_move(class: Class, number: u32, setup: &Setup) -> bool
+    requires single { has_both_pawns (lists_of class) ≡ false }
+    requires told { AreTold class number setup.now.men.items setup.now.to_move }
+    ensures yes { IsTrue result → (q : Seen) → position_numbered class number ≡ Some q → (m : AMove) × (is_legal q m ≡ true) }
+    ensures no { result ≡ false → (q : Seen) → position_numbered class number ≡ Some q → (m : AMove) → is_legal q m ≡ true → ⊥ }
+{
+    let _read = (class, number);
+    for man in setup.men.as_slice() {
+        if can_move(setup, man) {
             return true;
         }
     }

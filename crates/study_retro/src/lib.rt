@@ -20,6 +20,7 @@ mod levels;
 mod propagate;
 mod room;
 mod stepped;
+mod still;
 mod table;
 mod table_set;
 mod value;

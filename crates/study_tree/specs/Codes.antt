@@ -6,7 +6,7 @@ use denote.Param.Weighed.{most}
 use Rattle.study_moves.specs.declared.moves.Move.{Move}
 use Rattle.study_moves.specs.MoveCode.{move_code}
 use Rattle.study_tree.specs.Forest.{Forest, none, more, Twig, forest_of, nodes_in, nodes_from}
-use Rattle.study_tree.specs.Tree.{Held}
+use Rattle.study_tree.specs.Tree.{Held, Plain}
 
 module _ {L : Type 0} where
   -- each node has fewer below it than stand side by side
@@ -56,3 +56,7 @@ abbrev pub held_code : {L : Type 0} → Coded L → Coded (Held L)
 held_code {L} code =
     code_by (L × (ℕ × (Forest (L × ℕ) × ℕ))) (coded× code (coded× coded_ℕ (coded× (forest_code (coded× code coded_ℕ)) coded_ℕ)))
     (λ h. (h.label, (h.spare, (h.below, h.relabelled)))) (λ p. record { label = p.0; spare = p.1.0; below = p.1.1.0; relabelled = p.1.1.1 }) (λ _. refl)
+
+abbrev pub plain_code : {L : Type 0} → Coded L → Coded (Plain L)
+plain_code {L} code =
+    code_by (L × Forest L) (coded× code (forest_code code)) (λ t. (t.label, t.below)) (λ p. record { label = p.0; below = p.1 }) (λ _. refl)

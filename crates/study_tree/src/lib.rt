@@ -4,6 +4,7 @@
 //! second) by `edits_in_rows`, `nodes_in_rows` and `rows_are_written`: a plain tree is its list of rows.
 #![tactic(auto)]
 
+mod branch;
 mod changes;
 mod fault;
 mod laws;
@@ -11,6 +12,7 @@ mod node;
 mod path;
 mod tree;
 
+pub use branch::{Branch, Child};
 pub use changes::{LabelChange, Rewriting};
 pub use fault::TreeFault;
 pub use laws::{edits_in_rows, nodes_in_rows, places_are_shown, rows_are_written};

@@ -1,14 +1,14 @@
 //! The tree.
-ghost use Rattle.std.specs.Prelude.{◌≡◌, ◌<◌, ◌≤◌, IsOk, IfOk, IfErr, OnErr, OnOk, MatchOption, IsOkUnless, Some, None, ◌≢◌};
+ghost use Rattle.std.specs.Prelude.{◌≡◌, ◌+◌, ◌<◌, ◌≤◌, length, IsOk, IfOk, IfErr, OnErr, OnOk, MatchOption, IsOkUnless, Some, None, ◌≢◌};
 ghost use Rattle.study_tree.specs.Forest.{none};
 ghost use Rattle.study_tree.specs.Edits.{IsWithin, children_at, plain};
 ghost use Rattle.study_text.specs.Counts.{counted};
 ghost use Rattle.study_tree.specs.Tree.{plain_tree, spare_of, size_of, has_spot, spot_at};
 ghost use Rattle.study_tree.specs.Tree.{with_child, with_label, without, moved_up, child_refusal};
 ghost use Rattle.study_tree.specs.Changes.{counted_by, with_changes, rewritten_tree};
-ghost use Rattle.std.specs.Prelude.{◌+◌, length};
 ghost use Rattle.study_tree.specs.Tree.{removal_refusal, move_up_refusal, label_refusal};
 
+use crate::branch::Branch;
 use crate::changes::{LabelChange, Rewriting, change_below, rewrite_below};
 use crate::fault::TreeFault;
 use crate::node::{
@@ -124,6 +124,16 @@ impl<'a, L, A: Allocator> Tree<'a, L, A> {
                     children: node.children.len() as u16,
                 }),
             },
+        }
+    }
+
+    /// The root, from which all nodes are reached child by child.
+    pub fn root(&self) -> Branch<'_, 'a, L, A>
+        ensures { result ≡ plain_tree self.now }
+    {
+        Branch {
+            label: &self.label,
+            children: &self.children,
         }
     }
 

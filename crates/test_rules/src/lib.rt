@@ -9,6 +9,8 @@ mod board;
 #[cfg(test)]
 mod index;
 #[cfg(test)]
+mod index_departure;
+#[cfg(test)]
 mod index_men;
 #[cfg(test)]
 mod index_samples;

@@ -15,8 +15,8 @@ returns-in-Some c = λ p t.
     let a = c.args in
     let is = c.slots-slots.ensures in
     let there = c.in-Some.ensures in
-    let few = subst (λ (ss : List Slot). c.in-Some.slot < length ss) is there.1 in
-    let stands = subst (λ (ss : List Slot). (d : Man) → (slice_index_or (told_men ss (without_bit a.number)) c.in-Some.slot d).at ≡ a.from) is there.2 in
+    let few = subst (λ (ss : List Slot). c.in-Some.slot < length ss) is there.0 in
+    let stands = subst (λ (ss : List Slot). (d : Man) → (slice_index_or (told_men ss (without_bit a.number)) c.in-Some.slot d).at ≡ a.from) is there.1 in
     c.number_stepped.ensures p (IsStepped-moved a.class a.number c.in-Some.slot a.from a.to p few stands t)
 
 pub returns-in-Some-least_moved : goal.returns-in-Some-least_moved
@@ -26,7 +26,7 @@ returns-in-Some-least_moved c = λ p t.
     c.least_moved.ensures
     ∙ ap (λ (w : Bool). least_of w (other_side (told_side c.slots-slots.result.now n)) false
     (map (from_to c.args.from c.args.to) (told_men c.slots-slots.result.now n)))
-    c.class_has_pawn.ensures
+    c.class_has_pawn-pawns.ensures
     ∙ ap (λ (ss : List Slot). least_of (slots_have_pawn (slots_of c.args.class)) (other_side (told_side ss n)) false (map (from_to c.args.from c.args.to) (told_men ss n)))
     c.slots-slots.ensures in
     let is = sym c.in-Some-least_moved.is ∙ moved_number c.args.class c.args.number c.args.from c.args.to p c.least_moved.result t e in
@@ -39,7 +39,7 @@ returns-in-None c = λ p t.
     c.least_moved.ensures
     ∙ ap (λ (w : Bool). least_of w (other_side (told_side c.slots-slots.result.now n)) false
     (map (from_to c.args.from c.args.to) (told_men c.slots-slots.result.now n)))
-    c.class_has_pawn.ensures
+    c.class_has_pawn-pawns.ensures
     ∙ ap (λ (ss : List Slot). least_of (slots_have_pawn (slots_of c.args.class)) (other_side (told_side ss n)) false (map (from_to c.args.from c.args.to) (told_men ss n)))
     c.slots-slots.ensures in
     absurd (let is = sym c.in-None.is ∙ moved_number c.args.class c.args.number c.args.from c.args.to p c.least_moved.result t e in cc)

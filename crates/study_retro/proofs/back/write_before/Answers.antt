@@ -1,4 +1,4 @@
-use Rattle.std.proofs.Common.{◌≡◌, ℕ, ◌<◌, inl, inr, arith, List, length, slice_index_or, Contains, refl, sym, ◌∙◌, subst}
+use Rattle.std.proofs.Common.{ℕ, inl, arith, List, Contains, refl, sym, ◌∙◌, subst}
 use Rattle.std.proofs.lemmas.List.{take_all}
 use Rattle.std.proofs.lemmas.List.Elements.{Contains-get_or}
 use Rattle.study_board.specs.declared.men.Man.{Man}

@@ -1,13 +1,12 @@
-use Rattle.std.proofs.Common.{◌≡◌, ℕ, ◌+◌, ◌<◌, ◌⊎◌, inl, inr, arith, true, false, length, refl, sym, ◌∙◌, ap, subst}
+use Rattle.std.proofs.Common.{◌≡◌, ℕ, ◌+◌, ◌<◌, inl, inr, arith, refl, sym, ◌∙◌, ap, subst}
 use Rattle.std.proofs.lemmas.Bool.{false≢true, cases_lt}
 use Rattle.study_board.specs.declared.men.Side.{Side}
 use Rattle.study_board.specs.Men.{same_side}
-use Rattle.study_board.specs.Sets.{has}
 use Rattle.study_index.proofs.ClassLaws.{below}
 use Rattle.study_index.proofs.ComputedIndex.{told_decoded}
 use Rattle.study_retro.specs.Predecessors.{IsBeforeBy, IsBeforeFrom}
 use Rattle.study_retro.specs.Propagation.{AreSet, IsSetWhere}
-use Rattle.study_retro.proofs.SquaresLeft.{AreLeft, left-all, first-above, first-in, first-only, left-more, left-none}
+use Rattle.study_retro.proofs.SquaresLeft.{AreLeft, left-all, first-in, first-only, left-more, left-none}
 use Rattle.study_retro.proofs.BackLemmas.{set-then, set-kept, set-why, led_came, before_is, before_in, in_before, before_below}
 use Rattle.study_retro.proofs.back.write_before_man.Goals as goal
 

@@ -1,49 +1,70 @@
-use Rattle.std.proofs.Common.{◌≡◌, ℕ, ◌+◌, ◌<◌, ◌≤◌, ◌&&◌, true, false, not, List, arith, sym, ◌∙◌, ap, subst}
-use Rattle.std.proofs.lemmas.Bool.{false≢true}
+use Rattle.std.proofs.Common.{◌≡◌, ℕ, ◌+◌, List, inl, inr, arith, refl, sym, ◌∙◌, ap, subst}
+use Rattle.std.proofs.lemmas.Bool.{false≢true, cases_lt}
 use Rattle.study_board.specs.declared.men.Man.{Man}
 use Rattle.study_board.specs.Position.{is_occupied}
+use Rattle.study_moves.specs.Rules.{reaches_last_rank}
 use Rattle.study_moves.specs.AnyOrder.{is_safe_target}
-use Rattle.study_retro.proofs.SquaresLeft.{left-all, first-in}
-use Rattle.study_retro.proofs.BackLemmas.{safe_below, safe_escape}
+use Rattle.study_retro.specs.ClassGame.{class_game}
+use Rattle.study_retro.specs.Still.{IsWonAfter, move_to}
+use Rattle.study_retro.proofs.SquaresLeft.{AreLeft, left-all, first-in, first-only, left-more, left-none}
+use Rattle.study_retro.proofs.BackLemmas.{occupied_same, safe_by, safe_plain}
 use Rattle.study_retro.proofs.escapes.escapes_by_man.Goals as goal
 
+-- no man of the other side moves
+pub returns-then-not-is-clause-no : goal.returns-then-not-is-clause-no
+returns-then-not-is-clause-no g c = λ f q at x legal quiet.
+    let man = c.args.man.now in
+    let s = safe_by c.args.game.now.class c.args.number q at c.requires.single c.args.setup.now.men.items c.args.setup.now.to_move c.requires.told
+    (move_to man x) legal man c.requires.man refl in
+    absurd (false≢true (sym c.if-not-is.true ∙ c.is.ensures ∙ s.1))
+
 pub loop-rest-init : goal.loop-rest-init
-loop-rest-init g c = left-all c.safe_targets-all.result
+loop-rest-init g c = record { left = left-all c.safe_targets-all.result; lose = λ x l. absurd (omega (arith, l)) }
 
-pub bounds-cells-after : goal.bounds-cells-after
-bounds-cells-after g c =
+pub loses_to-requires-clause-safe : goal.loses_to-requires-clause-safe
+loses_to-requires-clause-safe g c =
     let f = c.first-target.ensures in
     let x = c.first-target.result in
-    let men = c.args.setup.now.men.items in
-    let side = c.args.setup.now.to_move in
-    let man = c.args.man.now in
-    let q = c.requires.numbered in
-    let quiet = c.is_quiet_target.ensures c.if-is_quiet_target.true in
-    let safe : is_safe_target men side man x ≡ true =
-    ap (λ (zs : List Man). is_safe_target zs side man x) (sym c.as_slice.ensures.value)
+    ap (λ (zs : List Man). is_safe_target zs c.args.setup.now.to_move c.args.man.now x) (sym c.as_slice.ensures.value)
     ∙ sym (c.safe_targets-all.ensures x f.inside)
-    ∙ first-in _ _ _ c.loop-rest.invariant x f.inside f.there in
-    let free : is_occupied men x ≡ false = ap (λ (zs : List Man). is_occupied zs x) (sym c.as_slice-in-loop-rest.ensures.value) ∙ quiet.0 in
-    subst (λ (k : ℕ). c.number_moved-after.result < k) (sym c.requires.cells)
-    (safe_below c.args.game.now.class c.args.number q.0 q.1 c.requires.single men side c.requires.told man c.requires.man
-    (sym c.is.ensures ∙ c.if-not-is.false) x f.inside safe free quiet.1 c.args.game.now.tables.now c.requires.laws
-    c.args.cells.now c.number_moved-after.result c.number_moved-after.ensures)
+    ∙ first-in _ _ _ c.loop-rest.invariant.left x f.inside f.there
 
-pub returns-then-not-is_won : goal.returns-then-not-is_won
-returns-then-not-is_won g c = λ t.
+pub loop-rest-preserved : goal.loop-rest-preserved
+loop-rest-preserved g c =
     let f = c.first-target.ensures in
-    let x = c.first-target.result in
+    let a = c.first-target.result in
+    let inv = c.loop-rest.invariant in
+    let man = c.args.man.now in
+    let next : c.number-next.result ≡ a = c.number-next.ensures.value in
+    let left = left-more _ _ _ inv.left a f.inside f.there f.least c.set_of.result c.without-rest.result c.set_of.ensures c.without-rest.ensures in
+    record {
+      left = subst (λ (n : ℕ). AreLeft c.safe_targets-all.result c.without-rest.result (n + 1)) (sym next) left;
+      lose = λ x l e free plain q at. elim (cases_lt x c.loop-rest.next) [
+        | inl low ↦ inv.lose x low e free plain q at
+        | inr high ↦ elim (cases_lt x a) [
+          | inl low ↦ absurd (false≢true (sym (first-only _ _ _ inv.left a f.inside f.there f.least x high low (let s = f.inside in omega (arith, low, s))) ∙ e))
+          | inr top ↦
+              let same : a ≡ x = omega (arith, l, top, next) in
+              subst (λ (y : ℕ). IsWonAfter (class_game c.args.game.now.class c.args.game.now.tables.now) c.args.cells.now c.args.level q (move_to man y)) same
+              (c.loses_to.ensures.yes c.if-not-loses_to.false
+              (ap (λ (y : ℕ). is_occupied c.args.setup.now.men.items y) same ∙ free) (ap (λ (y : ℕ). reaches_last_rank man y) same ∙ plain) q at)
+        ]
+      ];
+    }
+
+pub returns-clause-no : goal.returns-clause-no
+returns-clause-no g c = λ f q at x legal quiet.
+    let inv = c.loop-rest.invariant in
+    let man = c.args.man.now in
     let men = c.args.setup.now.men.items in
     let side = c.args.setup.now.to_move in
-    let man = c.args.man.now in
-    let q = c.requires.numbered in
-    let quiet = c.is_quiet_target.ensures c.if-is_quiet_target.true in
-    let safe : is_safe_target men side man x ≡ true =
-    ap (λ (zs : List Man). is_safe_target zs side man x) (sym c.as_slice.ensures.value)
-    ∙ sym (c.safe_targets-all.ensures x f.inside)
-    ∙ first-in _ _ _ c.loop-rest.invariant x f.inside f.there in
-    let free : is_occupied men x ≡ false = ap (λ (zs : List Man). is_occupied zs x) (sym c.as_slice-in-loop-rest.ensures.value) ∙ quiet.0 in
-    safe_escape c.args.game.now.class c.args.number q.0 q.1 c.requires.single men side c.requires.told man c.requires.man
-    (sym c.is.ensures ∙ c.if-not-is.false) x f.inside safe free quiet.1 c.args.game.now.tables.now c.requires.laws
-    c.args.cells.now c.number_moved-after.result c.number_moved-after.ensures c.args.level
-    (λ w. false≢true (sym c.if-not-is_won.true ∙ c.is_won.ensures.1 (w.0, c.value_at.ensures ∙ w.1, w.2)))
+    let class = c.args.game.now.class in
+    let s = safe_by class c.args.number q at c.requires.single men side c.requires.told (move_to man x) legal man c.requires.man refl in
+    let plain = safe_plain class c.args.number q at c.requires.single men side c.requires.told (move_to man x) legal man c.requires.man refl refl in
+    let free = occupied_same class c.args.number q at c.requires.single men side c.requires.told x ∙ quiet.0 in
+    let there = c.safe_targets-all.ensures x s.0
+    ∙ ap (λ (zs : List Man). is_safe_target zs side man x) c.as_slice.ensures.value ∙ s.2 in
+    elim (cases_lt x c.loop-rest.next) [
+      | inl l ↦ inv.lose x l there free plain q at
+      | inr l ↦ absurd (false≢true (sym (left-none _ _ _ inv.left c.loop-rest-test.false x l s.0) ∙ there))
+    ]

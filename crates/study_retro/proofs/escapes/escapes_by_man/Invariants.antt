@@ -1,9 +1,20 @@
-use Rattle.std.proofs.Common.{◌-◌}
+use Rattle.std.proofs.Common.{◌≡◌, ℕ, ◌<◌, ◌-◌, true, false, Some}
+use Rattle.study_board.specs.Position.{Position, is_occupied}
+use Rattle.study_board.specs.Sets.{has}
+use Rattle.study_moves.specs.Rules.{reaches_last_rank}
+use Rattle.study_index.specs.Computed.{position_numbered}
+use Rattle.study_retro.specs.ClassGame.{class_game}
+use Rattle.study_retro.specs.Still.{IsWonAfter, move_to}
 use Rattle.study_retro.proofs.SquaresLeft.{AreLeft}
 use Rattle.study_retro.proofs.escapes.escapes_by_man.Given as goal
 
 abbrev pub invariant-loop-rest : goal.invariant-loop-rest
-invariant-loop-rest g l = AreLeft l.all l.rest l.next
+invariant-loop-rest g l = record {
+  left : AreLeft l.all l.rest l.next;
+  lose : (x : ℕ) → x < l.next → has l.all x ≡ true → is_occupied l.setup.men.items x ≡ false → reaches_last_rank l.man x ≡ false
+      → (q : Position) → position_numbered l.game.class l.number ≡ Some q
+      → IsWonAfter (class_game l.game.class l.game.tables.now) l.cells l.level q (move_to l.man x);
+}
 
 abbrev pub decreases-loop-rest : goal.decreases-loop-rest
 decreases-loop-rest g l = 64 - l.next

@@ -1,6 +1,6 @@
-use Rattle.std.proofs.Common.{rules, ◌≡◌, ◌≢◌, ◌<◌, ℕ, Bool, true, false, length, None, Some, ◌∙◌, sym, subst, arith, inl, inr}
+use Rattle.std.proofs.Common.{rules, ◌≡◌, ◌≢◌, ◌<◌, true, length, ◌∙◌, sym, inl, inr}
 use Rattle.std.proofs.lemmas.Bool.{false≢true}
-use Rattle.study_retro.specs.Numbered.{CellIsHeld, HasPosition, OutsideIsRight}
+use Rattle.study_retro.specs.Numbered.{CellIsHeld, HasPosition}
 use Rattle.study_retro.proofs.CellsLemmas.{set_below}
 use Rattle.study_retro.proofs.ClassLemmas.{some_or_none}
 use Rattle.study_retro.proofs.FirstLemmas.{held-more}

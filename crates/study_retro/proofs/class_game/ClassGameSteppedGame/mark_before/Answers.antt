@@ -1,4 +1,4 @@
-use Rattle.std.proofs.Common.{ℕ, ◌+◌, ◌≡◌, true, false, refl, sym, ◌∙◌}
+use Rattle.std.proofs.Common.{ℕ, ◌+◌, ◌≡◌, false, refl, sym, ◌∙◌}
 use Rattle.study_material.specs.Class.{lists_of}
 use Rattle.study_index.specs.Number.{has_both_pawns}
 use Rattle.study_retro.specs.ClassGame.{class_game}

@@ -1,0 +1,189 @@
+-- Where nothing is attacked and no pawn is about to promote, each move is quiet.
+use Rattle.std.proofs.Common.{◌≡◌, ℕ, zero, suc, ◌<◌, ◌==◌, ◌⊎◌, inl, inr, arith, Bool, true, false, not, ◌&&◌, List, [], ◌∷◌, length, get_or, Contains}
+use Rattle.std.proofs.Common.{Option, Some, None, refl, sym, ◌∙◌, ap, subst}
+use Rattle.std.specs.List.{list_any}
+use Rattle.std.specs.List.Sorted.{IsPermutation}
+use Rattle.std.proofs.lemmas.Bool.{and_parts, cases_Bool, eqb-true, eq-eqb, false≢true}
+use Rattle.study_board.specs.declared.men.Side.{Side}
+use Rattle.study_board.specs.declared.men.Side.TheVariants.{White, Black}
+use Rattle.study_board.specs.declared.men.Kind.{Kind}
+use Rattle.study_board.specs.declared.men.Kind.TheVariants.{Pawn}
+use Rattle.study_board.specs.declared.men.Man.{Man}
+use Rattle.study_board.specs.Geometry.{rank_of}
+use Rattle.study_board.specs.Men.{bears_on, is_attacked, is_man, is_pawn, other_side, same_side}
+use Rattle.study_board.specs.Position.{Position, in_check, is_occupied}
+use Rattle.study_board.specs.EqualLaws.{sides_equal}
+use Rattle.study_board.proofs.Faults.{in_check_same}
+use Rattle.study_moves.specs.declared.moves.Move.{Move}
+use Rattle.study_moves.specs.Rules.{after, has_side, is_legal, is_promotion_choice, last_rank, starting_rank, reaches_last_rank, reaches_target}
+use Rattle.study_moves.specs.AnyOrder.{is_safe_target}
+use Rattle.study_moves.specs.Unmoves.{IsQuiet}
+use Rattle.study_moves.proofs.HowMenGo.{IsAheadBy, IsStep, IsDoubleStep, IsCapture, bears_or_empty, pawn_ways}
+use Rattle.study_moves.proofs.MenOfList.{IsAmong, list_any-none, none_among}
+use Rattle.study_material.specs.declared.class.Class.{Class}
+use Rattle.study_material.specs.Class.{is_of, lists_of}
+use Rattle.study_material.proofs.Classes.{is_of-IsOf}
+use Rattle.study_index.specs.Number.{has_both_pawns}
+use Rattle.study_index.specs.Computed.{position_numbered}
+use Rattle.study_index.proofs.ComputedIndex.{told_decoded}
+use Rattle.study_index.proofs.DecodedNumbers.{told_of}
+use Rattle.study_moves.specs.Game.{IsMate}
+use Rattle.study_retro.specs.Table.{Table}
+use Rattle.study_retro.specs.ClassGame.{class_game}
+use Rattle.study_retro.specs.Numbered.{CellIsHeld, IsNumberedClass, OutsideIsRight, leads_in}
+use Rattle.study_retro.specs.Propagation.{IsHeldCell}
+use Rattle.study_retro.specs.Predecessors.{AreTold}
+use Rattle.study_retro.proofs.FirstLemmas.{held-draw}
+use Rattle.study_retro.specs.Still.{HasOnlyQuiet, IsStill, rank_before_last}
+use Rattle.study_retro.proofs.BackLemmas.{occupied_same, side_is, told_targets}
+use Rattle.study_retro.proofs.MovedSteps.{quiet_stays}
+
+among-of : (xs : List Man) (m : Man) → Contains xs m → IsAmong m xs
+among-of [] m c = absurd (omega (arith, c.1))
+among-of (x ∷ xs) m c = by_index (among-of xs m) c.0 c.1 c.2
+  where
+    by_index : (Contains xs m → IsAmong m xs) → (i : ℕ) → i < length (x ∷ xs) → get_or (x ∷ xs) i m ≡ m → IsAmong m (x ∷ xs)
+    by_index f zero l e = inl e
+    by_index f (suc i) l e = inr (f (i, omega arith, e))
+
+other_than : (s t : Side) → same_side s t ≡ false → same_side s (other_side t) ≡ true
+other_than White White e = absurd (let no : true ≡ false = e in cc)
+other_than White Black e = refl
+other_than Black White e = refl
+other_than Black Black e = absurd (let no : true ≡ false = e in cc)
+
+first_false : (a b : Bool) → (a && b) ≡ false → b ≡ true → a ≡ false
+first_false false b e f = refl
+first_false true b e f = absurd (false≢true (sym e ∙ f))
+
+last_false : (a b : Bool) → (a && b) ≡ false → a ≡ true → b ≡ false
+last_false true b e f = e
+last_false false b e f = absurd (false≢true f)
+
+before : (s : Side) (a x : ℕ) → rank_of x ≡ last_rank s → IsAheadBy s 1 a x → rank_of a ≡ rank_before_last s
+before White a x e h = omega (arith, e, h)
+before Black a x e h = omega (arith, e, h)
+
+not_double : (s : Side) (a x : ℕ) → rank_of x ≡ last_rank s → rank_of a ≡ starting_rank s → IsAheadBy s 2 a x → ⊥
+not_double White a x e f h = omega (arith, e, f, h)
+not_double Black a x e f h = omega (arith, e, f, h)
+
+-- the men of the side to move, none of which attacks another, go to empty squares
+module _ (men : List Man) (side : Side) where
+  module _ (takes : list_any (λ m. same_side m.side (other_side side) && is_attacked men side m.at) men ≡ false) (man : Man) (among : IsAmong
+      man men) (his : same_side man.side side ≡ true) (x : ℕ) where
+    target_empty : reaches_target men None man x ≡ true → has_side men side x ≡ false → is_occupied men x ≡ false
+    unfolding is_occupied has_side is_attacked
+    target_empty goes own = elim (bears_or_empty men None man x goes) [
+      | inr e ↦ empty (is_occupied men x) e
+      | inl bears ↦ list_any-none (λ m. m.at == x) men (λ m i. by_test m i bears (m.at == x) refl)
+    ]
+      where
+        empty : (b : Bool) → not b ≡ true → b ≡ false
+        empty false e = refl
+        empty true e = absurd (false≢true e)
+
+        by_test : (m : Man) → IsAmong m men → bears_on men man x ≡ true → (b : Bool) → (m.at == x) ≡ b → b ≡ false
+        by_test m i bears false e = refl
+        by_test m i bears true e =
+            let mine = first_false _ _ (none_among (λ k. same_side k.side side && (k.at == x)) men m own i) e in
+            let free = last_false _ _ (none_among (λ k. same_side k.side (other_side side) && list_any (λ n. same_side n.side side && bears_on men n k.at) men) men m takes i) (other_than m.side side mine) in
+            let at : m.at ≡ x = eqb-true m.at x e in
+            absurd (false≢true (sym (none_among (λ n. same_side n.side side && bears_on men n m.at) men man free among)
+            ∙ rw (his, at, bears) refl))
+
+  -- nor does a pawn of theirs reach its last rank
+  module _ (promotes : list_any (λ m. is_man side Pawn m && (rank_of m.at == rank_before_last side)) men ≡ false) (man : Man) (among : IsAmong
+      man men) (his : same_side man.side side ≡ true) (x : ℕ) where
+    target_plain : reaches_target men None man x ≡ true → reaches_last_rank man x ≡ false
+    target_plain goes = elim (cases_Bool (is_pawn man)) [
+      | inr e ↦ rw e refl
+      | inl pawn ↦ elim (cases_Bool (rank_of x == last_rank man.side)) [
+        | inr e ↦ rw (pawn, e) refl
+        | inl last ↦ absurd (stands pawn (from_last man.at x (eqb-true _ _ last) (pawn_ways men None man x pawn goes)))
+      ]
+    ]
+      where
+        same : man.side ≡ side
+        same = sides_equal man.side side his
+
+        from_last : (a y : ℕ) → rank_of y ≡ last_rank man.side
+            → IsStep men man.side a y ⊎ (IsDoubleStep men man.side a y ⊎ IsCapture man.side a y) → (rank_of a ≡ rank_before_last man.side)
+        from_last a y e (inl h) = before man.side a y e h.ahead
+        from_last a y e (inr (inl h)) = absurd (not_double man.side a y e h.start h.ahead)
+        from_last a y e (inr (inr h)) = before man.side a y e h.ahead
+
+        stands : is_pawn man ≡ true → rank_of man.at ≡ rank_before_last man.side → ⊥
+        stands pawn r = false≢true (sym (none_among (λ m. is_man side Pawn m && (rank_of m.at == rank_before_last side)) men man promotes among)
+            ∙ rw (his, pawn, eq-eqb _ _ (r ∙ ap (λ (s : Side). rank_before_last s) same)) refl)
+
+none_to_promote : (b : Bool) (o : Option Kind) → b ≡ false → is_promotion_choice b o ≡ true → o ≡ None
+none_to_promote false None e f = refl
+none_to_promote false (Some k) e f = absurd (false≢true f)
+none_to_promote true o e f = absurd (false≢true (sym e))
+
+pub not_true : (b : Bool) → not b ≡ true → b ≡ false
+not_true false e = refl
+not_true true e = absurd (false≢true e)
+
+-- so each move is quiet
+pub stays_quiet : (c : Class) (number : ℕ) (q : Position) → position_numbered c number ≡ Some q → has_both_pawns (lists_of c) ≡ false
+    → (men : List Man) (side : Side) → AreTold c number men side
+    → list_any (λ m. same_side m.side (other_side side) && is_attacked men side m.at) men ≡ false
+    → list_any (λ m. is_man side Pawn m && (rank_of m.at == rank_before_last side)) men ≡ false → HasOnlyQuiet q
+unfolding is_safe_target
+stays_quiet c number q at single men side told takes promotes = quiet
+  where
+    turn : side ≡ q.to_move
+    turn = side_is c number q at men side told
+
+    quiet : (m : Move) → is_legal q m ≡ true → IsQuiet q m
+    quiet m legal =
+        let targets = told_targets c number q at single men side told in
+        let t = targets.mover m legal in
+        let man = t.0 in
+        let is = and_parts _ _ (sym (targets.legal man m t.1 t.2 t.3) ∙ legal) in
+        let own = and_parts _ _ is.0 in
+        by_parts m man t.1 own.0 own.1 is.1
+      where
+        by_parts : (m : Move) (man : Man) → Contains men man → same_side man.side q.to_move ≡ true → is_safe_target men q.to_move man m.target ≡ true
+            → is_promotion_choice (reaches_last_rank man m.target) m.promoted ≡ true → IsQuiet q m
+        by_parts m man among own safe choice =
+            let his : same_side man.side side ≡ true = ap (λ (t : Side). same_side man.side t) turn ∙ own in
+            let goes = and_parts _ _ (and_parts _ _ safe).0 in
+            let free = target_empty men side takes man (among-of men man among) his m.target goes.0
+            (ap (λ (t : Side). has_side men t m.target) turn ∙ not_true (has_side men q.to_move m.target) goes.1) in
+            let plain = target_plain men side promotes man (among-of men man among) his m.target goes.0 in
+            (sym (occupied_same c number q at single men side told m.target) ∙ free, none_to_promote (reaches_last_rank man m.target) m.promoted plain choice)
+
+-- the side to move of the position is in check if the men told are
+pub check_told : (c : Class) (number : ℕ) (q : Position) → position_numbered c number ≡ Some q → (men : List Man) (side : Side)
+    → AreTold c number men side → in_check q.men q.to_move ≡ in_check men side
+check_told c number q at men side told =
+    ap (λ (t : Side). in_check q.men t) (sym (side_is c number q at men side told))
+    ∙ sym (in_check_same men q.men
+    (subst (λ (zs : List Man). IsPermutation zs q.men) (sym told.0) (told_of c number q (told_decoded c number q at)).same_men) side)
+
+-- before the levels the cell of its number is 0, as is that of a number without a position
+pub still_held : (c : Class) (held : List (Option Table)) (number : ℕ) → IsNumberedClass (class_game c held) → OutsideIsRight (class_game c held)
+    → ((q : Position) → position_numbered c number ≡ Some q → IsStill q) → has_both_pawns (lists_of c) ≡ false → CellIsHeld (class_game c held) false 0 number 0
+still_held c held number laws outer still single = by_position (position_numbered c number) refl
+  where
+    Held : Option Position → Type 0
+    Held o = IsHeldCell (leads_in (class_game c held)) IsMate (is_of c) false 0 o 0
+
+    by_position : (o : Option Position) → position_numbered c number ≡ o → Held (position_numbered c number)
+    by_position None e = subst Held (sym e) refl
+    by_position (Some q) e =
+        let d = laws.decoded number q e in
+        let s = still q e in
+        subst Held (sym e)
+        (held-draw laws outer q d.0 d.1 (λ mate. false≢true (sym s.0 ∙ mate.0)) false (record {
+          no_loss = λ r m l. absurd (leaves q e s r l);
+          holds = inr ((λ x. x), (λ r l. leaves q e s r l));
+        }))
+      where
+        leaves : (q : Position) → position_numbered c number ≡ Some q → IsStill q → (r : Position) → leads_in (class_game c held) q r × (is_of c r ≡ false) → ⊥
+        leaves q e s r l =
+            let home = is_of-IsOf c (after q l.0.0) (quiet_stays c number q e single l.0.0 l.0.1 (s.1 l.0.0 l.0.1)) in
+            false≢true (sym l.1 ∙ ap (λ (p : Position). is_of c p) (sym l.0.2) ∙ home)

@@ -1,0 +1,19 @@
+use Rattle.std.proofs.Common.{◌&&◌, ◌==◌, List, sym, ◌∙◌, ap}
+use Rattle.std.specs.List.{list_any}
+use Rattle.study_board.specs.declared.men.Kind.TheVariants.{Pawn}
+use Rattle.study_board.specs.declared.men.Man.{Man}
+use Rattle.study_board.specs.Geometry.{rank_of}
+use Rattle.study_board.specs.Men.{is_attacked, is_man, other_side, same_side}
+use Rattle.study_retro.specs.Still.{rank_before_last}
+use Rattle.study_retro.proofs.StillChess.{stays_quiet, not_true}
+use Rattle.study_retro.proofs.still.stays.Goals as goal
+
+pub returns : goal.returns
+returns c = λ t q at.
+    let side = c.args.setup.now.to_move in
+    let same = sym c.as_slice-men.ensures.value in
+    stays_quiet c.args.class c.args.number q at c.requires.single c.args.setup.now.men.items side c.requires.told
+    (ap (λ (zs : List Man). list_any (λ m. same_side m.side (other_side side) && is_attacked zs side m.at) zs) same
+    ∙ sym c.may_take.ensures ∙ c.if-may_take.false)
+    (ap (λ (zs : List Man). list_any (λ m. is_man side Pawn m && (rank_of m.at == rank_before_last side)) zs) same
+    ∙ sym c.may_promote.ensures ∙ not_true c.may_promote.result t)

@@ -1,0 +1,45 @@
+//! The numbers after one man moves from its square to any other.
+use crate::men::square;
+use crate::rows::{field, number};
+use std::process::Abort;
+use study_index::{Departure, cells};
+use study_material::Class;
+
+/// Classes, numbers, the square from which a man goes, those to which it goes, and the numbers after that, by another
+/// program. The white king goes or stands on the diagonal; like men pass one another; or a square is replaced.
+const DEPARTURES: &str = "\
+KRK,20543,63,55 61,61495 61501
+KRK,20543,10,17 18 9,61503 69695 57407
+KRKN,3795468,30,29 23,1169932 1145356
+KRKN,1174028,40,33 47,3795020 3795916
+KRKN,1174028,9,0 1,2746892 3009036
+KQQK,377064,40,0,2998275
+KNNK,1995368,40,24 3,4616792 4616393
+KPK,85536,40,41 42,220704 224800
+KPPK,778964,11,19 27,9168084 9168155
+KQKP,9422001,49,41 33,1033385 1033377
+KPKP,258678,9,17,8647798
+KK,658,18,26 27,19 27";
+
+/// That the man leads to each number of the row.
+fn expect_numbers(rt: &impl Abort, row: &str) {
+    let class = Class::parse(field(row, 0)).ok().expect(rt, row);
+    let start = number(field(row, 1)).expect(rt, row);
+    let from = square(field(row, 2)).expect(rt, row);
+    assert!(rt; start < cells(class), "{row}");
+    let departure = Departure::new(class, start, from);
+    let mut wants = field(row, 4).split(' ');
+    for word in field(row, 3).split(' ') {
+        let to = square(word).expect(rt, row);
+        let want = number(wants.next().unwrap_or(""));
+        assert!(rt; want == Some(departure.number_to(to)), "{row}: {word}");
+    }
+    assert!(rt; wants.next().is_none(), "{row}");
+}
+
+#[test]
+fn a_man_leads_to_a_number_for_each_square(rt: HostRuntime) {
+    for row in DEPARTURES.lines() {
+        expect_numbers(&rt, row);
+    }
+}
