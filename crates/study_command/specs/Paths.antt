@@ -1,5 +1,5 @@
--- Paths as they are written in a script.
-use Rattle.std.specs.Prelude.{ℕ, Bool, ◌&&◌, ◌||◌, ◌==◌, nat_le, List, [], ◌∷◌, ◌++◌, length, map, codes, decimal, Option, Some, None, if◌then◌else◌}
+-- Paths as they are read in a script.
+use Rattle.std.specs.Prelude.{ℕ, Bool, ◌&&◌, ◌||◌, ◌==◌, nat_le, List, [], length, map, codes, Option, Some, None, if◌then◌else◌}
 use Rattle.std.specs.List.{list_all, slice_split}
 use Rattle.std.specs.Str.{bytes_eq}
 use Rattle.std.specs.Str.Parse.{digits_value}
@@ -28,13 +28,3 @@ is_path_word word = bytes_eq word (codes "root") || is_path word
 -- the places of the path, from the root on
 unfoldable pub steps_of : List ℕ → List ℕ
 steps_of word = if bytes_eq word (codes "root") then [] else map (digits_value 10) (places_in word)
-
--- the places after the first one, each after a point
-abbrev pub more_places : List ℕ → List ℕ
-more_places [] = []
-more_places (k ∷ ks) = 46 ∷ (decimal k ++ more_places ks)
-
--- how a path is printed: without leading zeros
-unfoldable pub path_text : List ℕ → List ℕ
-path_text [] = codes "root"
-path_text (k ∷ ks) = decimal k ++ more_places ks

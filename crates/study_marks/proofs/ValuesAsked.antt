@@ -17,7 +17,7 @@ use Rattle.study_prober.specs.declared.values.ProbeFault.TheVariants as probe
 use Rattle.study_text.specs.Counts.{counted}
 use Rattle.study_marks.specs.Annotated.{AreValuesAfter}
 use Rattle.study_marks.specs.Tally.{Tally, tally_of, with_value, with_last_value, tallies_joined}
-use Rattle.study_index.specs.Computed.{index_of}
+use Rattle.study_prober.specs.Values.{page_number}
 use Rattle.study_marks.specs.Queries.{IsTableHeld, IsFirstMissing, IsFirstUnread, counted_times}
 use Rattle.study_marks.specs.Told.{IsUntold, WasAsked}
 
@@ -83,7 +83,7 @@ unread-held held p r f e other h c o = go (held c) refl
 -- the first of some values is not told
 pub untold-here : {V : Type 0} (held : Class → Bool) (p : Position) (ps : List Position) (r : Result V ProbeFault)
     (f : ProbeFault) → r ≡ Err f → ((c : Class) → IsErrOf r (probe.NoTable c) ↔ (IsOf c p × (held c ≡ false)))
-    → ((c : Class) (n : ℕ) → IsErrOf r (probe.PageDamaged c n) → IsOf c p × (n ≡ index_of p / 4096))
+    → ((c : Class) (n : ℕ) → IsErrOf r (probe.PageDamaged c n) → IsOf c p × (n ≡ page_number p))
     → IsUntold held (p ∷ ps) f
 untold-here held p ps r (probe.NoTable c) e h d = inl ((h c).0 e)
 untold-here held p ps r (probe.TableRead x) e h d =

@@ -1,11 +1,11 @@
 -- Which values an edit asks, and what a refusal tells of them.
-use Rattle.std.specs.Prelude.{◌≡◌, ℕ, ◌<◌, ◌/◌, Bool, true, false, ◌⊎◌, List, [], ◌∷◌, ◌++◌, map, zero, suc, Result, Ok, Err, if◌then◌else◌}
+use Rattle.std.specs.Prelude.{◌≡◌, ℕ, ◌<◌, Bool, true, false, ◌⊎◌, List, [], ◌∷◌, ◌++◌, map, zero, suc, Result, Ok, Err, if◌then◌else◌}
 use Rattle.study_board.specs.Position.{Position}
 use Rattle.study_moves.specs.Rules.{after}
 use Rattle.study_material.specs.declared.class.Class.{Class}
 use Rattle.study_material.specs.Class.{IsOf}
 use Rattle.study_moves.specs.LegalList.{legal_list}
-use Rattle.study_index.specs.Computed.{index_of}
+use Rattle.study_prober.specs.Values.{page_number}
 use Rattle.study_prober.specs.declared.values.ProbeFault.{ProbeFault}
 use Rattle.study_prober.specs.declared.values.ProbeFault.TheVariants as probe
 use Rattle.study_tree.specs.Forest.{Forest, none, more}
@@ -50,7 +50,7 @@ IsFirstMissing held (p ∷ ps) c = (IsOf c p × (held c ≡ false)) ⊎ (IsTable
 abbrev pub IsFaultAt : Position → ProbeFault → Type 0
 IsFaultAt p (probe.NoTable c) = ⊥
 IsFaultAt p (probe.TableRead f) = Unit {0}
-IsFaultAt p (probe.PageDamaged c n) = IsOf c p × (n ≡ index_of p / 4096)
+IsFaultAt p (probe.PageDamaged c n) = IsOf c p × (n ≡ page_number p)
 
 -- the fault of the first position whose value is not told; its table, and those of all before it, are held
 abbrev pub IsFirstUnread : (Class → Bool) → List Position → ProbeFault → Type 0

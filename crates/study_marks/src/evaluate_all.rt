@@ -1,12 +1,11 @@
 //! What is told of all nodes, asked in written order.
 ghost use Rattle.std.specs.Prelude.{◌≡◌, ◌+◌, ◌<◌, ◌≤◌, ◌++◌, ◌∷◌, [], List, OnOk, IfOk, IfErr, length, is_ok, vec_len, vec_capacity};
 ghost use Rattle.study_material.specs.declared.class.Class.{Class as AClass};
-ghost use Rattle.study_tablefile.specs.declared.fault.SourceFault.{SourceFault as ASourceFault};
 ghost use Rattle.study_tree.specs.Tree.{plain_tree};
 ghost use Rattle.study_marks.specs.declared.label.Told.{Told as ATold};
 ghost use Rattle.study_marks.specs.Study.{IsPlayable};
 ghost use Rattle.study_marks.specs.Queries.{asked_at, asked_below, AreTablesHeld, IsOutside, HasAsked, failures_after};
-ghost use Rattle.study_prober.specs.Values.{IsNotDamage};
+ghost use Rattle.study_prober.specs.Values.{IsNotDamage, SourceFault as ASourceFault};
 ghost use Rattle.study_marks.specs.Answers.{IsUndamaged, WereTold, IsFirstFault, TellsFirstFault};
 ghost use Rattle.study_marks.specs.Told.{IsToldOf, AllAreTold, IsUntold, WasAsked, failures_told};
 ghost use Rattle.study_marks.specs.BenchState.{told_tree};

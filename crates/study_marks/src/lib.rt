@@ -33,4 +33,4 @@ pub use mark::{Mark, MoveMark};
 pub use mark_rules::{Aim, aim_of, hero_loses, hero_mates, hero_moves, holds, only_or_dual};
 pub use refusal::Refusal;
 pub use stipulation::{Goal, MateMoves, Stipulation};
-pub use tag::TagName;
+pub use tag::{TagName, tag_name};

@@ -1,7 +1,7 @@
 //! The mark of a move that the tree need not have.
 ghost use Rattle.std.specs.Prelude.{◌≡◌, ◌+◌, ◌≤◌, ◌<◌, ◌^◌, ◌∷◌, [], length, Some, Err, true, IsTrue, IsOk, IsErrOf, OnOk, IfOk, IfErr, MatchOption};
 ghost use Rattle.study_material.specs.declared.class.Class.{Class as AClass};
-ghost use Rattle.study_tablefile.specs.declared.fault.SourceFault.{SourceFault as ASourceFault};
+ghost use Rattle.study_prober.specs.Values.{SourceFault as ASourceFault};
 ghost use Rattle.study_moves.specs.Rules.{is_legal, after};
 ghost use Rattle.study_tree.specs.Tree.{Spot, has_spot, spot_at};
 ghost use Rattle.study_marks.specs.declared.label.Label.{Label as ALabel};

@@ -10,8 +10,7 @@ use std::io::Write;
 use study_marks::Bench;
 use study_page::{Html, PageFault, add_entry, write_page, write_refusal};
 use study_prober::Values;
-use study_report::{NotTold, Report};
-use study_review::ReviewFault;
+use study_report::{NotTold, Report, ReviewFault};
 
 /// How many studies were told.
 #[derive(Clone, Copy, Debug, PartialEq, Eq)]

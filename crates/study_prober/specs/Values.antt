@@ -1,9 +1,16 @@
 -- Answers to the question for a position's value.
-use Rattle.std.specs.Prelude.{ℕ, Bool, true, false, Result, Ok, Err, if◌then◌else◌}
+use Rattle.std.specs.Prelude.{ℕ, ◌/◌, Bool, true, false, Result, Ok, Err, if◌then◌else◌}
+use Rattle.study_board.specs.Position.{Position}
+use Rattle.study_index.specs.Computed.{index_of}
+pub use Rattle.study_tablefile.specs.declared.fault.SourceFault.{SourceFault}
 use Rattle.study_retro.specs.declared.value.Value.{Value}
 use Rattle.study_text.specs.Counts.{counted}
 use Rattle.study_prober.specs.declared.values.ProbeFault.{ProbeFault}
 use Rattle.study_prober.specs.declared.values.ProbeFault.TheVariants.{NoTable, TableRead, PageDamaged}
+
+-- the page of its table in which the cell of a position stands
+abbrev pub page_number : Position → ℕ
+page_number p = index_of p / 4096
 
 abbrev pub ProbeAnswer : Type 0
 ProbeAnswer = Result Value ProbeFault

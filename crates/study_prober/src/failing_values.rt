@@ -1,13 +1,12 @@
 //! Values that fail where a test wants it.
-ghost use Rattle.std.specs.Prelude.{◌≡◌, ◌↔◌, ◌⊎◌, ◌/◌, ℕ, Some, Err, false, IfOk, IfErr, IsErrOf};
+ghost use Rattle.std.specs.Prelude.{◌≡◌, ◌↔◌, ◌⊎◌, ℕ, Some, Err, false, IfOk, IfErr, IsErrOf};
 ghost use Rattle.study_material.specs.declared.class.Class.{Class as AClass};
 ghost use Rattle.study_material.specs.Class.{IsOf};
-ghost use Rattle.study_index.specs.Computed.{index_of};
 ghost use Rattle.study_retro.specs.Game.{IsValueOf};
 ghost use Rattle.study_text.specs.Counts.{counted};
 ghost use Rattle.study_tablefile.specs.declared.fault.SourceFault.{SourceFault as ASourceFault};
 ghost use Rattle.study_tablefile.specs.declared.fault.SourceFault.TheVariants.{Device};
-ghost use Rattle.study_prober.specs.Values.{IsNotDamage, faults_after};
+ghost use Rattle.study_prober.specs.Values.{IsNotDamage, faults_after, page_number};
 
 use crate::values::{ProbeFault, Values, failures_after};
 use study_board::Position;
@@ -67,7 +66,7 @@ impl<V: Values> Values for FailingValues<V> {
             → (f ≡ Device) ⊎ V.may_fail self.old.values c f }
         ensures no_table { (c : AClass) → IsErrOf result (ProbeFault.NoTable c) ↔ (IsOf c p.now × (V.held self.old.values c ≡ false)) }
         ensures damaged { (c : AClass) (n : ℕ) → IsErrOf result (ProbeFault.PageDamaged c n)
-            → IsOf c p.now × (n ≡ index_of p.now / 4096) }
+            → IsOf c p.now × (n ≡ page_number p.now) }
         ensures same_tables { (c : AClass) → V.held self.new.values c ≡ V.held self.old.values c }
         ensures asked { self.new.asked ≡ counted self.old.asked }
         ensures failures { self.new.failures ≡ faults_after self.old.failures result }

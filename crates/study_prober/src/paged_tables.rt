@@ -1,5 +1,5 @@
 //! Values from pages of tables, read as they are asked and kept as far as there is room.
-ghost use Rattle.std.specs.Prelude.{◌≡◌, ◌≤◌, ◌<◌, ◌/◌, ◌↔◌, ℕ, List, Option, Result, [], Some};
+ghost use Rattle.std.specs.Prelude.{◌≡◌, ◌≤◌, ◌<◌, ◌↔◌, ℕ, List, Option, Result, [], Some};
 ghost use Rattle.std.specs.Prelude.{None, Ok, Err, true, false, is_some, IfOk, IfErr, OnOk, OnErr};
 ghost use Rattle.std.specs.Prelude.{IsErrOf, length, slice_index, slice_set, replicate};
 ghost use Rattle.study_material.specs.declared.class.Class.{Class as AClass};
@@ -20,7 +20,7 @@ ghost use Rattle.study_prober.specs.Sources.{AreHonestAlike, GiveAlike, HasBadPa
 ghost use Rattle.study_prober.specs.Sources.{IsHeaderOf, PutsNone, PutsOnly, failed_after};
 ghost use Rattle.study_prober.specs.PagedTables.{SourcesAreRight, AreGiven, IsKept, IsPageFor, IsPagedAnswer, IsSameSource, IsToldAgain, MayFail, held_of};
 ghost use Rattle.study_prober.specs.PagedTables.{places_for_classes};
-ghost use Rattle.study_prober.specs.Values.{IsNotDamage, faults_after};
+ghost use Rattle.study_prober.specs.Values.{IsNotDamage, faults_after, page_number};
 ghost use Rattle.study_prober.specs.HeaderAnswers.{IsRefusedBy, MayAnswer, paged_fault};
 
 use crate::fault::PagedFault;
@@ -171,8 +171,8 @@ fn probe_paged<'a, S: PageSource, A: Allocator>(
     ensures alike { (c : AClass) (h k : AHeld S) → held_of sources.old.items c ≡ Some h → held_of sources.new.items c ≡ Some k
         → GiveAlike S.gives h.source k.source }
     ensures unread { (c : AClass) (h : AHeld S) (f : ASourceFault) → IsOf c p.now → held_of sources.old.items c ≡ Some h
-        → IsErrOf result (ProbeFault.TableRead f) → S.gives h.source (of_page (index_of p.now / 4096)) (Err f) }
-    ensures inside { (c : AClass) (f : ASourceFault) → IsOf c p.now → IsErrOf result (ProbeFault.TableRead f) → index_of p.now / 4096 < pages_of c }
+        → IsErrOf result (ProbeFault.TableRead f) → S.gives h.source (of_page (page_number p.now)) (Err f) }
+    ensures inside { (c : AClass) (f : ASourceFault) → IsOf c p.now → IsErrOf result (ProbeFault.TableRead f) → page_number p.now < pages_of c }
     ensures not_whole { (c : AClass) (h : AHeld S) (n : ℕ) → held_of sources.old.items c ≡ Some h
         → IsErrOf result (ProbeFault.PageDamaged c n) → HasBadPage S.gives h n }
     ensures room { pages.new.cap ≡ pages.old.cap }
@@ -184,7 +184,7 @@ fn probe_paged<'a, S: PageSource, A: Allocator>(
     ensures whole { (c : AClass) (h : AHeld S) (t : Seen) (n : ℕ) → IsOf c p.now → held_of sources.old.items c ≡ Some h
         → S.honest h.source t h.header.version → t.class ≡ c → IsComplete t
         → IsErrOf result (ProbeFault.PageDamaged c n) → ⊥ }
-    ensures damaged { (c : AClass) (n : ℕ) → IsErrOf result (ProbeFault.PageDamaged c n) → IsOf c p.now × (n ≡ index_of p.now / 4096) }
+    ensures damaged { (c : AClass) (n : ℕ) → IsErrOf result (ProbeFault.PageDamaged c n) → IsOf c p.now × (n ≡ page_number p.now) }
     ensures read { (c : AClass) (h : AHeld S) → IsOf c p.now → held_of sources.old.items c ≡ Some h
         → IfOk result (IsReadFrom S.gives h (index_of p.now)) }
     ensures failed { (c : AClass) (h k : AHeld S) → IsOf c p.now → held_of sources.old.items c ≡ Some h → held_of sources.new.items c ≡ Some k
@@ -242,7 +242,7 @@ impl<'a, S: PageSource, A: Allocator> Values for PagedTables<'a, S, A> {
         ensures whole { (c : AClass) (h : AHeld S) (t : Seen) (n : ℕ) → IsOf c p.now → held_of self.old.sources c ≡ Some h
             → S.honest h.source t h.header.version → t.class ≡ c → IsComplete t
             → IsErrOf result (ProbeFault.PageDamaged c n) → ⊥ }
-        ensures damaged { (c : AClass) (n : ℕ) → IsErrOf result (ProbeFault.PageDamaged c n) → IsOf c p.now × (n ≡ index_of p.now / 4096) }
+        ensures damaged { (c : AClass) (n : ℕ) → IsErrOf result (ProbeFault.PageDamaged c n) → IsOf c p.now × (n ≡ page_number p.now) }
 
         // Of any source, an answer stands in a page that it may give and that passes its check; a page is damaged where it
         // may give one that does not; and the fault that is told is one that it may answer.
@@ -251,7 +251,7 @@ impl<'a, S: PageSource, A: Allocator> Values for PagedTables<'a, S, A> {
         ensures not_whole { (c : AClass) (h : AHeld S) (n : ℕ) → held_of self.old.sources c ≡ Some h
             → IsErrOf result (ProbeFault.PageDamaged c n) → HasBadPage S.gives h n }
         ensures unread { (c : AClass) (h : AHeld S) (f : ASourceFault) → IsOf c p.now → held_of self.old.sources c ≡ Some h
-            → IsErrOf result (ProbeFault.TableRead f) → S.gives h.source (of_page (index_of p.now / 4096)) (Err f) }
+            → IsErrOf result (ProbeFault.TableRead f) → S.gives h.source (of_page (page_number p.now)) (Err f) }
 
         // A page that is put in is the one asked for, as the source may give it; after a refusal none is.
         ensures put { (c : AClass) (h : AHeld S) → IsOf c p.now → held_of self.old.sources c ≡ Some h

@@ -1,13 +1,12 @@
 //! What answers the values of positions.
-ghost use Rattle.std.specs.Prelude.{◌≡◌, ◌↔◌, ◌/◌, ℕ, Bool, false, IfOk, IfErr, IsErrOf};
+ghost use Rattle.std.specs.Prelude.{◌≡◌, ◌↔◌, ℕ, Bool, false, IfOk, IfErr, IsErrOf};
 ghost use Rattle.study_board.specs.Position.{Position as APosition};
 ghost use Rattle.study_material.specs.declared.class.Class.{Class as AClass};
 ghost use Rattle.study_material.specs.Class.{IsOf};
-ghost use Rattle.study_index.specs.Computed.{index_of};
 ghost use Rattle.study_retro.specs.Game.{IsValueOf};
 ghost use Rattle.study_text.specs.Counts.{counted};
 ghost use Rattle.study_tablefile.specs.declared.fault.SourceFault.{SourceFault as ASourceFault};
-ghost use Rattle.study_prober.specs.Values.{ProbeAnswer, IsNotDamage, faults_after};
+ghost use Rattle.study_prober.specs.Values.{ProbeAnswer, IsNotDamage, faults_after, page_number};
 
 use study_board::Position;
 use study_material::Class;
@@ -76,7 +75,7 @@ pub trait Values: Drop {
         ensures fails_as_before { (c : AClass) (f : ASourceFault) → may_fail self.new c f → may_fail self.old c f }
         ensures no_table { (c : AClass) → IsErrOf result (ProbeFault.NoTable c) ↔ (IsOf c p.now × (held self.old c ≡ false)) }
         ensures damaged { (c : AClass) (n : ℕ) → IsErrOf result (ProbeFault.PageDamaged c n)
-            → IsOf c p.now × (n ≡ index_of p.now / 4096) }
+            → IsOf c p.now × (n ≡ page_number p.now) }
         ensures same_tables { (c : AClass) → held self.new c ≡ held self.old c }
         ensures asked { asked_of self.new ≡ counted (asked_of self.old) }
         ensures failures { failed_of self.new ≡ faults_after (failed_of self.old) result };

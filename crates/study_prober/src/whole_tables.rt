@@ -1,5 +1,5 @@
 //! Values from tables in memory.
-ghost use Rattle.std.specs.Prelude.{◌≡◌, ◌↔◌, ◌/◌, ℕ, false, is_some, Some, Ok, IsOk, IfOk, OnOk, OnErr, IfErr};
+ghost use Rattle.std.specs.Prelude.{◌≡◌, ◌↔◌, ℕ, false, is_some, Some, Ok, IsOk, IfOk, OnOk, OnErr, IfErr};
 ghost use Rattle.std.specs.Prelude.{IsErrAnd, IsErrOf, MatchOption, slice_index, slice_set};
 ghost use Rattle.study_material.specs.declared.class.Class.{Class as AClass};
 ghost use Rattle.study_material.specs.Class.{IsOf};
@@ -12,7 +12,7 @@ ghost use Rattle.study_retro.specs.TableSet.{add_fault};
 ghost use Rattle.study_retro.specs.Sound.{IsRight};
 ghost use Rattle.study_text.specs.Counts.{counted};
 ghost use Rattle.study_tablefile.specs.declared.fault.SourceFault.{SourceFault as ASourceFault};
-ghost use Rattle.study_prober.specs.Values.{IsNotDamage, faults_after};
+ghost use Rattle.study_prober.specs.Values.{IsNotDamage, faults_after, page_number};
 ghost use Rattle.study_prober.specs.WholeTables.{TablesAreRight, IsCellAnswer, Whole};
 
 use crate::values::{ProbeFault, Values};
@@ -88,7 +88,7 @@ impl<'a, A: Allocator> Values for WholeTables<'a, A> {
         ensures fails_as_before { (c : AClass) (f : ASourceFault) → ⊥ → ⊥ }
         ensures no_table { (c : AClass) → IsErrOf result (ProbeFault.NoTable c) ↔ (IsOf c p.now × (is_some (table_of self.old.tables c) ≡ false)) }
         ensures damaged { (c : AClass) (n : ℕ) → IsErrOf result (ProbeFault.PageDamaged c n)
-            → IsOf c p.now × (n ≡ index_of p.now / 4096) }
+            → IsOf c p.now × (n ≡ page_number p.now) }
         ensures same_tables { (c : AClass) → is_some (table_of self.new.tables c) ≡ is_some (table_of self.old.tables c) }
         ensures asked { self.new.asked ≡ counted self.old.asked }
         ensures failures { 0 ≡ faults_after 0 result }

@@ -11,7 +11,7 @@ use Rattle.study_tablefile.specs.declared.fault.FileFault.TheVariants.{Version}
 use Rattle.study_marks.specs.declared.mark.MoveMark.TheVariants.{Dual}
 use Rattle.study_marks.specs.declared.stipulation.Goal.TheVariants.{MateIn}
 use Rattle.study_reply.specs.declared.refusal.Refusal.TheVariants.{NoTable, AlreadyThere, File, TableReadPage}
-use Rattle.study_command.specs.Paths.{path_text}
+use Rattle.study_tree.specs.Paths.{path_text}
 use Rattle.study_command.specs.Parser.{stipulate, insert, solve}
 use Rattle.study_reply.specs.Names.{words_of}
 use Rattle.study_reply.specs.Words.{stipulation_words, mark_text, solve_text, insert_text, built_text, loaded_text, saved_text, verified_text}

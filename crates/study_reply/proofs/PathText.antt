@@ -2,7 +2,7 @@
 use Rattle.std.proofs.Common.{◌≡◌, ℕ, ◌-◌, List, [], ◌∷◌, ◌++◌, length, refl, sym, ap, ◌∙◌, append_assoc}
 use Rattle.std.specs.Prelude.{decimal}
 use Rattle.std.proofs.lemmas.List.{append-nil, nil_from_length}
-use Rattle.study_command.specs.Paths.{path_text, more_places}
+use Rattle.study_tree.specs.Paths.{path_text, more_places}
 use Rattle.study_reply.specs.Words.{raised}
 
 -- one place more

@@ -1,8 +1,8 @@
 -- The text of a reply, by what a command came to.
 use Rattle.std.specs.Prelude.{ℕ, List, [], ◌∷◌, ◌++◌, Result, Ok, Err, codes}
 use Rattle.study_notation.specs.FenSpelling.{fen_text}
-use Rattle.study_pgn.specs.Tags.{tag_name}
-use Rattle.study_command.specs.Paths.{path_text}
+use Rattle.study_marks.specs.Study.{tag_name}
+use Rattle.study_tree.specs.Paths.{path_text}
 use Rattle.study_reply.specs.declared.reply.Reply.{Reply}
 use Rattle.study_reply.specs.declared.reply.Reply.TheVariants as done
 use Rattle.study_reply.specs.declared.reply.Refused.{Refused}

@@ -13,12 +13,11 @@ use Rattle.study_notation.specs.Written.{move_text}
 use Rattle.study_marks.specs.declared.stipulation.Goal.{Goal}
 use Rattle.study_marks.specs.declared.stipulation.Goal.TheVariants.{Win, Draw, MateIn}
 use Rattle.study_marks.specs.declared.stipulation.Stipulation.{Stipulation}
-use Rattle.study_marks.specs.declared.mark.MoveMark.{MoveMark}
-use Rattle.study_marks.specs.declared.mark.MoveMark.TheVariants.{Only, Dual, Mistake, Idle, Reply}
 use Rattle.study_marks.specs.declared.mark.Mark.{Mark}
 use Rattle.study_board.specs.declared.men.Side.{Side}
 use Rattle.study_board.specs.declared.men.Side.TheVariants.{White, Black}
-use Rattle.study_command.specs.Paths.{path_text}
+use Rattle.study_marks.specs.Marks.{on_move_text}
+use Rattle.study_tree.specs.Paths.{path_text}
 
 -- words and a line feed
 abbrev pub reply_line : List ℕ → List ℕ → List ℕ
@@ -42,15 +41,6 @@ abbrev pub value_words : Value → List ℕ
 value_words (value.Win n) = codes "win " ++ decimal n
 value_words (value.Loss n) = codes "loss " ++ decimal n
 value_words value.Draw = codes "draw"
-
--- `dual 21`
-abbrev pub on_move_text : Option MoveMark → List ℕ
-on_move_text None = codes "-"
-on_move_text (Some Only) = codes "only"
-on_move_text (Some (Dual k)) = codes "dual " ++ decimal k
-on_move_text (Some Mistake) = codes "mistake"
-on_move_text (Some Idle) = codes "idle"
-on_move_text (Some Reply) = codes "reply"
 
 -- `mark 0 loss 0 dual 21 faults 1`
 abbrev pub mark_text : List ℕ → Mark → List ℕ

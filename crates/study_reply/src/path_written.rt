@@ -2,7 +2,7 @@
 ghost use Rattle.std.specs.Prelude.{◌∷◌, ◌++◌, [], OnOk, OnErr, codes, decimal};
 ghost use Rattle.std.specs.Io.KnownBytes.{Appends};
 ghost use Rattle.study_text.specs.Taken.{TakesPrefix};
-ghost use Rattle.study_command.specs.Paths.{path_text, more_places};
+ghost use Rattle.study_tree.specs.Paths.{path_text, more_places};
 ghost use Rattle.study_reply.specs.Words.{raised};
 ghost use Rattle.study_reply.specs.Words.{reply_line};
 

@@ -15,9 +15,8 @@ use crate::words::{
 use arrayvec::ArrayString;
 use std::alloc::Allocator;
 use std::io::Write;
-use study_marks::{Mark, Refusal as EditRefusal, Stipulation, TagName};
+use study_marks::{Mark, Refusal as EditRefusal, Stipulation, TagName, tag_name};
 use study_notation::{Start, write_fen};
-use study_pgn::tag_name;
 use study_text::{DeviceFailed, write_text};
 use study_tree::Path;
 

@@ -5,12 +5,13 @@ ghost use Rattle.std.specs.List.{All};
 ghost use Rattle.study_moves.specs.Rules.{is_legal};
 ghost use Rattle.study_notation.specs.Written.{move_text};
 ghost use Rattle.study_text.specs.Taken.{TakesPrefix};
-ghost use Rattle.study_command.specs.Paths.{path_text};
+ghost use Rattle.study_tree.specs.Paths.{path_text};
 ghost use Rattle.study_reply.specs.Names.{argument_text, words_of, edit_words, of_probe};
 ghost use Rattle.study_reply.specs.Words.{reply_line, moves_listed, list_text, moves_text};
 ghost use Rattle.study_reply.specs.Words.{side_word};
 ghost use Rattle.study_reply.specs.Words.{solve_text, stipulation_words, goal_words};
-ghost use Rattle.study_reply.specs.Words.{value_words, on_move_text, mark_text};
+ghost use Rattle.study_marks.specs.Marks.{on_move_text};
+ghost use Rattle.study_reply.specs.Words.{value_words, mark_text};
 
 use crate::path_written::put_path;
 use crate::refusal::{Argument, Refusal};

@@ -6,12 +6,11 @@ use Rattle.study_command.specs.declared.command.TableCommand.TheVariants.{Build,
 use Rattle.study_command.specs.Parser.{Asks, fen_command, node_query, node_command, table_command, stipulate, insert, tag, solve, pgn, command_of}
 use Rattle.study_script.specs.Stores.{IsTrusted, IsTrustedAsk}
 use Rattle.study_marks.specs.Edits.{Plainly}
-use Rattle.study_pgn.specs.Pgn.{pgn_text}
 use Rattle.study_reply.specs.declared.refusal.Refusal.{Refusal}
 use Rattle.study_reply.specs.declared.refusal.Refusal.TheVariants.{NoStudy, OutOfMemory}
 use Rattle.study_script.specs.State.{State, Document, empty, start, study, Outside, quiet, no_path, no_room, no_room_for, unread, unopened}
 use Rattle.study_script.specs.State.{cut_off, file, header}
-use Rattle.study_script.specs.Replies.{Reply, accepted, refused, class_told, IsPgnReply, IsReplyWhere, Annotated}
+use Rattle.study_script.specs.Replies.{Reply, accepted, refused, class_told, IsPgnReply, IsReplyWhere}
 use Rattle.study_report.specs.declared.kind.Kind.TheVariants.{PassedOver, Study, Checked}
 use Rattle.study_report.specs.Told.{kind_in, class_kind}
 use Rattle.study_report.specs.Written.{none_trusted}
@@ -72,8 +71,7 @@ refused-no : (s : State) (why : Refusal) (reply : Reply) → reply ≡ refused s
 refused-no s why reply e f = let yes : reply.refused ≡ true = ap (λ (r : Reply). r.refused) e in
     let bad : true ≡ false = sym yes ∙ f in absurd cc
 
-found-study : (s : State) (old : Plainly) (reply : Reply) → Annotated old (λ annotated. reply ≡ accepted s (pgn_text annotated))
-    → Finds s (study old) reply
+found-study : (s : State) (old : Plainly) (reply : Reply) → IsPgnReply s quiet (study old) reply → Finds s (study old) reply
 found-study s old reply (annotated, right, plain, e) = ((old, refl), ap (λ (r : Reply). r.state) e)
 
 pub pgn-finds : (s : State) (o : Outside) (b : Document) (reply : Reply) → IsPgnReply s o b reply → reply.refused ≡ false → Finds s b reply

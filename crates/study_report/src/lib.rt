@@ -20,3 +20,4 @@ pub use kind::{Kind, kind_of};
 pub use lines::{Lines, without_error};
 pub use no_files::NoFiles;
 pub use report::{NotTold, Report};
+pub use study_review::ReviewFault;

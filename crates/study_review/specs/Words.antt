@@ -8,7 +8,7 @@ use Rattle.study_moves.specs.LegalList.{legal_list}
 use Rattle.study_notation.specs.Written.{move_text}
 use Rattle.study_retro.specs.declared.value.Value.{Value}
 use Rattle.study_retro.specs.declared.value.Value.TheVariants.{Win, Loss, Draw}
-use Rattle.study_command.specs.Paths.{path_text}
+use Rattle.study_tree.specs.Paths.{path_text}
 use Rattle.study_review.specs.declared.continuation.Continuation.{Continuation}
 use Rattle.study_review.specs.declared.time.Alternative.{Alternative}
 use Rattle.study_review.specs.declared.missing.Defence.{Defence}

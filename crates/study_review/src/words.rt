@@ -2,7 +2,7 @@
 ghost use Rattle.std.specs.Prelude.{◌≡◌, ◌++◌, ◌+◌, ◌<◌, ◌≤◌, ◌^◌, true, OnOk, IfSome, length, decimal};
 ghost use Rattle.std.specs.List.{All, flat_map};
 ghost use Rattle.study_moves.specs.Rules.{is_legal};
-ghost use Rattle.study_command.specs.Paths.{path_text, more_places};
+ghost use Rattle.study_tree.specs.Paths.{path_text, more_places};
 ghost use Rattle.study_review.specs.Play.{IsPlayed, ArePlayed};
 ghost use Rattle.study_notation.specs.Written.{move_text};
 ghost use Rattle.study_review.specs.Words.{value_words, front_words, told_move, time_words, also_line, refuted_line, stalemate_line};

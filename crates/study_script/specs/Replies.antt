@@ -34,7 +34,7 @@ use Rattle.study_marks.specs.declared.stipulation.Stipulation.{Stipulation}
 use Rattle.study_marks.specs.declared.mark.Mark.{Mark}
 use Rattle.study_marks.specs.declared.tag.TagName.{TagName}
 use Rattle.study_marks.specs.declared.refusal.Refusal.{Refusal as EditRefusal}
-use Rattle.study_marks.specs.Study.{Study, plain_study, position_at}
+use Rattle.study_marks.specs.Study.{Study, plain_study, position_at, tag_name}
 use Rattle.study_marks.specs.Annotated.{IsAnnotated}
 use Rattle.study_marks.specs.Edits.{Plainly, positioned, shifted, stipulated, inserted, deleted, promoted, tagged}
 use Rattle.study_marks.specs.Edits.{insert_refusal, delete_refusal, promote_refusal, shift_refusal, tag_refusal}
@@ -49,7 +49,7 @@ use Rattle.study_command.specs.declared.command.NodeCommand.{NodeCommand}
 use Rattle.study_command.specs.declared.command.NodeCommand.TheVariants.{Delete, Promote, Mark as MarkWord}
 use Rattle.study_command.specs.declared.command.TableCommand.{TableCommand}
 use Rattle.study_command.specs.declared.command.TableCommand.TheVariants.{Build, Load, Save, Verify}
-use Rattle.study_command.specs.Paths.{path_text}
+use Rattle.study_tree.specs.Paths.{path_text}
 use Rattle.study_command.specs.Parser.{Asked, fen_command, node_query, node_command, table_command, stipulate, insert, tag, solve, pgn, Asks, command_of}
 use Rattle.study_reply.specs.declared.refusal.Refusal.{Refusal}
 use Rattle.study_reply.specs.declared.refusal.Refusal.TheVariants.{Form, NoPosition, NoStudy, OutOfMemory}
@@ -61,7 +61,6 @@ use Rattle.study_script.specs.StoreRefusals.{refusal_of_paged, refusal_of_store}
 use Rattle.study_script.specs.State.{Document, empty, start, study, State, is_among, first_lacking}
 use Rattle.study_script.specs.State.{IsGiven, IsOpened, IsGivenAs, written_anew, Outside, no_path, no_room}
 use Rattle.study_script.specs.State.{no_room_for, unread, unopened, cut_off, file, header}
-use Rattle.study_pgn.specs.Tags.{tag_name}
 use Rattle.study_reply.specs.Words.{reply_line, stipulation_words, mark_text, moves_text, solve_text}
 use Rattle.study_reply.specs.Words.{raised, insert_text, built_text, loaded_text, saved_text, verified_text}
 

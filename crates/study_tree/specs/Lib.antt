@@ -5,3 +5,4 @@ pub mod Rows
 pub mod Changes
 pub mod Laws
 pub mod Codes
+pub mod Paths

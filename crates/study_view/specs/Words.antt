@@ -13,7 +13,7 @@ use Rattle.study_retro.specs.declared.value.Value.{Value}
 use Rattle.study_tree.specs.Tree.{Spot}
 use Rattle.study_marks.specs.declared.mark.Mark.{Mark}
 use Rattle.study_marks.specs.declared.mark.MoveMark.{MoveMark}
-use Rattle.study_reply.specs.Words.{on_move_text}
+use Rattle.study_marks.specs.Marks.{on_move_text}
 use Rattle.study_review.specs.Words.{value_words, front_words}
 
 -- a small letter

@@ -3,7 +3,7 @@ ghost use Rattle.std.specs.Prelude.{◌≡◌, ◌++◌, true, OnOk, IfSome};
 ghost use Rattle.study_board.specs.Letters.{letter};
 ghost use Rattle.study_moves.specs.Rules.{is_legal};
 ghost use Rattle.study_notation.specs.FenSpelling.{fen_text, square_text};
-ghost use Rattle.study_reply.specs.Words.{on_move_text};
+ghost use Rattle.study_marks.specs.Marks.{on_move_text};
 ghost use Rattle.study_marks.specs.Bench.{node_seen};
 ghost use Rattle.study_view.specs.Words.{promoted_text, squares_text, moved_words, led_words, mark_words, study_line};
 ghost use Rattle.study_view.specs.Words.{shown_words, node_words, count_words, at_line, reached_words, move_line};

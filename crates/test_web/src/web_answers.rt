@@ -5,8 +5,7 @@ use linked_list_allocator::LocalHeap;
 use std::alloc::{Allocator, Global};
 use std::test::Fail;
 use study_material::Class;
-use study_script::run::{RunFault, Summary};
-use study_web::{Ending, Reply, Span, answer, make_file, put_ending};
+use study_web::{Ending, Reply, RunFault, Span, Summary, answer, make_file, put_ending};
 
 const SCRIPT: &str = r#"position k7/1R6/8/K7/8/8/8/8 w - - 0 1
 stipulate white mate 3

@@ -5,8 +5,7 @@ use linked_list_allocator::LocalHeap;
 use std::alloc::{Allocator, Global};
 use std::test::Fail;
 use study_material::Class;
-use study_script::run::RunFault;
-use study_web::{Ended, Span, make_file, none_saved, replies_over};
+use study_web::{Ended, RunFault, Span, make_file, none_saved, replies_over};
 
 const LOADS: &[u8] = b"load KK
 load KRK

@@ -6,7 +6,7 @@ use Rattle.std.specs.Io.KnownBytes.{Appends}
 use Rattle.std.proofs.KnownBytes.{Appends-trans}
 use Rattle.study_text.specs.Taken.{TakesPrefix}
 use Rattle.study_text.proofs.TextTaken.{TakesPrefix-first, TakesPrefix-second, TakesPrefix-same, OnErr-known}
-use Rattle.study_command.specs.Paths.{path_text, more_places}
+use Rattle.study_tree.specs.Paths.{path_text, more_places}
 use Rattle.study_reply.proofs.PathText.{child_none, child_some}
 use Rattle.study_reply.proofs.path_written.put_child.Goals as goal
 

@@ -1,7 +1,7 @@
 use Rattle.std.proofs.Common.{◌≡◌, ℕ, suc, ◌+◌, ◌<◌, List, ◌∷◌, ◌++◌, drop, length, ap, ◌∙◌, get_or, arith, drop-cons}
 use Rattle.std.specs.Prelude.{decimal}
 use Rattle.study_text.proofs.TextTaken.{Wrote-cut, Wrote-stops_at, OnErr-known}
-use Rattle.study_command.specs.Paths.{more_places}
+use Rattle.study_tree.specs.Paths.{more_places}
 use Rattle.study_reply.proofs.path_written.put_more.Goals as goal
 
 -- the next place, and then those after it

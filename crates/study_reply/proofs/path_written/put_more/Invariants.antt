@@ -1,6 +1,6 @@
 use Rattle.std.proofs.Common.{drop}
 use Rattle.study_text.proofs.TextTaken.{Wrote}
-use Rattle.study_command.specs.Paths.{more_places}
+use Rattle.study_tree.specs.Paths.{more_places}
 use Rattle.study_reply.proofs.path_written.put_more.Given as goal
 
 abbrev pub invariant-loop-place : goal.invariant-loop-place

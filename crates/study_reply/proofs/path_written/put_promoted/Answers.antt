@@ -2,7 +2,7 @@ use Rattle.std.proofs.Common.{[], ◌∷◌, ◌++◌}
 use Rattle.std.specs.Prelude.{codes}
 use Rattle.std.proofs.lemmas.Result.{on_err_weaker}
 use Rattle.study_text.proofs.TextTaken.{TakesPrefix-first, TakesPrefix-second, OnErr-known}
-use Rattle.study_command.specs.Paths.{path_text}
+use Rattle.study_tree.specs.Paths.{path_text}
 use Rattle.study_reply.specs.Words.{raised}
 use Rattle.study_reply.proofs.path_written.put_promoted.Goals as goal
 

@@ -3,8 +3,9 @@ use Rattle.std.specs.Prelude.{codes, decimal}
 use Rattle.std.proofs.lemmas.Result.{on_ok_weaker, on_err_weaker}
 use Rattle.std.proofs.KnownBytes.{Appends-trans}
 use Rattle.study_text.proofs.TextTaken.{TakesPrefix-first, TakesPrefix-second, OnErr-known}
-use Rattle.study_command.specs.Paths.{path_text}
-use Rattle.study_reply.specs.Words.{value_words, on_move_text}
+use Rattle.study_tree.specs.Paths.{path_text}
+use Rattle.study_marks.specs.Marks.{on_move_text}
+use Rattle.study_reply.specs.Words.{value_words}
 use Rattle.study_reply.proofs.words.put_mark.Goals as goal
 
 pub returns-in_err-write_text-clause-err : goal.returns-in_err-write_text-clause-err

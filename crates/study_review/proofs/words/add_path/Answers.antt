@@ -2,7 +2,7 @@ use Rattle.std.proofs.Common.{◌≡◌, ℕ, List, [], ◌∷◌, ◌++◌, len
 use Rattle.std.specs.Prelude.{codes, decimal}
 use Rattle.std.proofs.lemmas.List.{nil_from_length}
 use Rattle.std.proofs.lemmas.Result.{on_ok_weaker}
-use Rattle.study_command.specs.Paths.{path_text, more_places}
+use Rattle.study_tree.specs.Paths.{path_text, more_places}
 use Rattle.study_review.proofs.words.add_path.Goals as goal
 
 text_root : path_text [] ≡ codes "root"

@@ -1,8 +1,7 @@
 use Rattle.std.specs.Prelude.{codes}
-use Rattle.study_marks.specs.Study.{plain_study}
+use Rattle.study_marks.specs.Study.{plain_study, tag_name}
 use Rattle.study_marks.specs.BenchState.{marked}
 use Rattle.study_marks.specs.Edits.{tagged, tag_refusal}
-use Rattle.study_pgn.specs.Tags.{tag_name}
 use Rattle.study_reply.specs.Words.{reply_line}
 use Rattle.study_script.specs.State.{quiet}
 use Rattle.study_script.specs.Replies.{holding}
