@@ -7,16 +7,13 @@ use std::alloc::{Allocator, Global};
 use std::io::{BufReader, ErrorKind, LineWriter, Read, Write};
 use std::process::ExitCode;
 use std::{env, fs, io};
-use study_command::line::Line;
+use study_command::Line;
 use study_prober::WholeTables;
 use study_report::{Lines, follow};
 use study_retro::TableSet;
-use study_script::document::Document;
-use study_script::memory_store::MemoryStore;
-use study_script::run::{RunFault, Summary, run_session};
-use study_script::session::Session;
-use study_script::store::TableStore;
-use study_script::tables::Tables;
+use study_script::{
+    Document, MemoryStore, RunFault, Session, Summary, TableStore, Tables, run_session,
+};
 
 /// The exit status is 0 where each script was run to its end, and 1 where one was not.
 fn main(rt: HostRuntime) -> ExitCode {

@@ -5,14 +5,20 @@
 #![tactic(auto)]
 
 mod arguments;
-pub mod command;
-pub mod laws;
-pub mod line;
+mod command;
+mod laws;
+mod line;
 mod parser;
 mod path;
 mod path_text;
 
 pub use arguments::{as_text, is_printable, read_one_word};
+pub use command::{
+    Command, FenCommand, Keyword, MoveCount, NodeCommand, NodeQuery, PathWord, SyntaxFault,
+    TableCommand,
+};
+pub use laws::lines_are_read_again;
+pub use line::{Line, LineFault, read_byte};
 pub use parser::{read_command, read_side};
 pub use path::read_path;
 pub use path_text::{is_path_word, read_path_word, read_place};

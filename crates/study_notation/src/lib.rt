@@ -11,7 +11,7 @@ mod fault;
 mod fen_reader;
 mod fen_writer;
 mod fields;
-pub mod laws;
+mod laws;
 mod placement;
 mod pushing;
 mod san;
@@ -24,6 +24,10 @@ mod start;
 pub use fault::{FenFault, SanFault};
 pub use fen_reader::read_fen;
 pub use fen_writer::write_fen;
+pub use laws::{
+    fen_is_read_again, fen_is_settled, san_is_read_again, san_is_read_exactly,
+    san_parts_are_spelled,
+};
 pub use san_reader::{read_san, same_promotion};
 pub use san_writer::write_san;
 pub use start::Start;

@@ -8,7 +8,7 @@ use crate::pages::Count;
 use std::alloc::Allocator;
 use std::io::Write;
 use study_page::{Html, PageFault, write_closing, write_summary};
-use study_script::run::{RunFault, Summary};
+use study_script::{RunFault, Summary};
 
 /// Writes the list of all entries, where there are two or more.
 fn write_entries<'s, S: Allocator, W: Write>(

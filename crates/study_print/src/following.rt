@@ -17,9 +17,7 @@ use std::alloc::Allocator;
 use std::io::{Read, Write};
 use study_page::write_opening;
 use study_report::{NoFiles, follow_over};
-use study_script::run::{RunFault, Summary};
-use study_script::store::TableStore;
-use study_script::tables::Tables;
+use study_script::{RunFault, Summary, TableStore, Tables};
 use study_tablefile::PageSource;
 
 /// Follows a script over these tables, from an empty document, and writes a whole file of pages.

@@ -8,7 +8,7 @@
 //! test wants it.
 #![tactic(auto)]
 
-pub mod failing_values;
+mod failing_values;
 mod fault;
 mod open_table;
 mod page_cache;
@@ -16,6 +16,7 @@ mod paged_tables;
 mod values;
 mod whole_tables;
 
+pub use failing_values::FailingValues;
 pub use fault::PagedFault;
 pub use paged_tables::PagedTables;
 pub use values::{ProbeFault, Values};

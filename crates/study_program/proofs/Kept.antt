@@ -2,9 +2,9 @@
 use Rattle.std.proofs.Common.{ℕ, Bool, false, List, Option, None, Some, Result, Ok, Err, IfSome, IsSomeAnd}
 use Rattle.std.specs.Io.KnownBytes.{Keeps}
 use Rattle.std.proofs.KnownBytes.{Appends-kept, Keeps-trans}
-use Rattle.study_script.specs.declared.run.Summary.{Summary}
-use Rattle.study_script.specs.declared.run.RunFault.{RunFault}
-use Rattle.study_script.specs.declared.run.RunFault.TheVariants.{ReadDevice, WriteDevice, LineTooLong, TooManyLines, OutOfMemory}
+use Rattle.study_script.specs.declared.running.Summary.{Summary}
+use Rattle.study_script.specs.declared.running.RunFault.{RunFault}
+use Rattle.study_script.specs.declared.running.RunFault.TheVariants.{ReadDevice, WriteDevice, LineTooLong, TooManyLines, OutOfMemory}
 use Rattle.study_script.specs.State.{State}
 use Rattle.study_script.specs.Stores.{AreTrusted}
 use Rattle.study_script.specs.Replies.{replies_text}

@@ -1,8 +1,8 @@
 -- What the program leaves behind.
 use Rattle.std.specs.Prelude.{◌≡◌, ℕ, ◌⊎◌, Bool, true, false, List, Option, None, Result, Err, IfSome}
-use Rattle.study_script.specs.declared.run.Summary.{Summary}
-use Rattle.study_script.specs.declared.run.RunFault.{RunFault}
-use Rattle.study_script.specs.declared.run.RunFault.TheVariants.{WriteDevice}
+use Rattle.study_script.specs.declared.running.Summary.{Summary}
+use Rattle.study_script.specs.declared.running.RunFault.{RunFault}
+use Rattle.study_script.specs.declared.running.RunFault.TheVariants.{WriteDevice}
 use Rattle.study_script.specs.State.{Shelf}
 use Rattle.study_script.specs.Stores.{AreTrusted}
 use Rattle.study_script.specs.Outcome.{Outcome, Shape, begun_state}

@@ -5,9 +5,9 @@ use Rattle.std.specs.Io.KnownBytes.{Appends, Keeps}
 use Rattle.clap.specs.declared.error.kind.ErrorKind.{ErrorKind}
 use Rattle.clap.specs.declared.error.kind.ErrorKind.TheVariants as word
 use Rattle.study_text.specs.Taken.{TakesPrefix}
-use Rattle.study_script.specs.declared.run.Summary.{Summary}
-use Rattle.study_script.specs.declared.run.RunFault.{RunFault}
-use Rattle.study_script.specs.declared.run.RunFault.TheVariants.{ReadDevice, WriteDevice, LineTooLong, TooManyLines, OutOfMemory}
+use Rattle.study_script.specs.declared.running.Summary.{Summary}
+use Rattle.study_script.specs.declared.running.RunFault.{RunFault}
+use Rattle.study_script.specs.declared.running.RunFault.TheVariants.{ReadDevice, WriteDevice, LineTooLong, TooManyLines, OutOfMemory}
 
 -- 0 where no line was refused, 1 where some line was, 3 where the run stopped at a fault
 abbrev pub status_told : Result Summary RunFault → ℕ

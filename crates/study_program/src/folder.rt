@@ -10,7 +10,7 @@ use std::io::{ErrorKind, Read, Seek, SeekFrom};
 use std::rt::Files;
 use std::{fs, io};
 use study_material::Class;
-use study_script::store::{StoreFault, TableStore};
+use study_script::{StoreFault, TableStore};
 use study_tablefile::{HEADER_BYTES, PAGE_BYTES, PageSource, SourceFault};
 
 /// The files of tables in a folder. The room for their names is taken once.

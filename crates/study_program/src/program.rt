@@ -13,7 +13,7 @@ use std::io::{BufReader, ErrorKind, LineWriter, Read, Write};
 use std::process::ExitCode;
 use std::rt::Files;
 use std::{env, io};
-use study_script::run::{RunFault, Settings, Summary, run};
+use study_script::{RunFault, Settings, Summary, run};
 
 /// Reads the script from standard input and writes each reply to standard output as soon as its line is answered.
 ///

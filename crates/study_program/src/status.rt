@@ -9,7 +9,7 @@ use clap::Error;
 use clap::error::ErrorKind;
 use itoa::Buffer;
 use std::io::Write;
-use study_script::run::{RunFault, Summary};
+use study_script::{RunFault, Summary};
 use study_text::{DeviceFailed, write_text};
 
 /// The exit status after a run.

@@ -2,7 +2,7 @@
 ghost use Rattle.std.specs.Prelude.{◌≡◌};
 ghost use Rattle.study_reply.specs.Names.{fen_name, san_name, form_name, file_name, name_text, argument_of};
 
-use study_command::command::SyntaxFault;
+use study_command::SyntaxFault;
 use study_material::Class;
 use study_notation::{FenFault, SanFault};
 use study_tablefile::{FileFault, SourceFault};

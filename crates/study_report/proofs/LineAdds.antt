@@ -8,8 +8,8 @@ use Rattle.std.proofs.lemmas.Result.{IfOk-weaker, IfErr-weaker}
 use Rattle.study_text.specs.Taken.{TakesPrefix}
 use Rattle.study_marks.specs.Edits.{Plainly}
 use Rattle.study_reply.specs.declared.refusal.Refusal.{Refusal}
-use Rattle.study_script.specs.declared.run.RunFault.{RunFault}
-use Rattle.study_script.specs.declared.run.RunFault.TheVariants.{ReadDevice, WriteDevice, LineTooLong, TooManyLines, OutOfMemory}
+use Rattle.study_script.specs.declared.running.RunFault.{RunFault}
+use Rattle.study_script.specs.declared.running.RunFault.TheVariants.{ReadDevice, WriteDevice, LineTooLong, TooManyLines, OutOfMemory}
 use Rattle.study_script.specs.State.{State, Document, study, Outside}
 use Rattle.study_script.specs.Replies.{Reply, refused, IsReply}
 use Rattle.study_script.specs.Held.{Answered}

@@ -4,8 +4,8 @@ use Rattle.std.specs.Io.KnownBytes.{Appends}
 use Rattle.study_text.specs.Taken.{TakesPrefix}
 use Rattle.study_material.specs.declared.class.Class.{Class}
 use Rattle.study_marks.specs.Edits.{Plainly}
-use Rattle.study_script.specs.declared.run.RunFault.{RunFault}
-use Rattle.study_script.specs.declared.run.RunFault.TheVariants.{WriteDevice, OutOfMemory}
+use Rattle.study_script.specs.declared.running.RunFault.{RunFault}
+use Rattle.study_script.specs.declared.running.RunFault.TheVariants.{WriteDevice, OutOfMemory}
 use Rattle.study_script.specs.State.{State, Document, empty, start, study, Outside}
 use Rattle.study_script.specs.Replies.{Reply, IsReply}
 use Rattle.study_report.specs.declared.told.Told.{Told}

@@ -15,12 +15,8 @@ use crate::report::Report;
 use crate::told::Place;
 use std::alloc::Allocator;
 use std::io::{Read, Write};
-use study_command::line::{Line, LineFault, read_byte};
-use study_script::document::Document;
-use study_script::run::{RunFault, Summary};
-use study_script::session::Session;
-use study_script::store::TableStore;
-use study_script::tables::Tables;
+use study_command::{Line, LineFault, read_byte};
+use study_script::{Document, RunFault, Session, Summary, TableStore, Tables};
 use study_tablefile::PageSource;
 
 /// Follows a script from what a session holds, and has its studies and its refused lines told. The session holds what the script leaves.

@@ -4,8 +4,7 @@ ghost use Rattle.study_command.specs.Parser.{command_of};
 ghost use Rattle.study_script.specs.Replies.{class_told};
 ghost use Rattle.study_report.specs.Told.{kind_in, class_kind};
 
-use study_command::command::Command;
-use study_command::read_command;
+use study_command::{Command, read_command};
 use study_material::Class;
 
 /// What a report does with a line, by its form alone.

@@ -3,7 +3,7 @@ ghost use Rattle.std.specs.Prelude.{None, true};
 
 use std::io::{Empty, Sink};
 use study_material::Class;
-use study_script::store::{StoreFault, TableStore};
+use study_script::{StoreFault, TableStore};
 use study_tablefile::PageSource;
 
 /// No file of any class, for tables that are read from such sources.

@@ -19,8 +19,7 @@ use std::io::Write;
 use study_marks::Bench;
 use study_prober::Values;
 use study_review::ReviewFault;
-use study_script::document::Document;
-use study_script::tables::Tables;
+use study_script::{Document, Tables};
 use study_tablefile::PageSource;
 
 /// Tells of the study on the bench, by whole tables or by pages.

@@ -1,6 +1,6 @@
 -- How a report ends, form by form.
 use Rattle.std.proofs.Common.{◌≤◌, ℕ, List, Option, Some, None, Err, refl, inl, inr, arith}
-use Rattle.study_script.specs.declared.run.RunFault.TheVariants.{OutOfMemory}
+use Rattle.study_script.specs.declared.running.RunFault.TheVariants.{OutOfMemory}
 use Rattle.study_report.specs.Outcome.{Shape}
 use Rattle.study_report_program.specs.declared.options.Form.{Form}
 use Rattle.study_report_program.specs.declared.options.Form.TheVariants.{Lines, Pages}

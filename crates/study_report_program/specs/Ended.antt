@@ -1,8 +1,8 @@
 -- What the program leaves behind.
 use Rattle.std.specs.Prelude.{◌≡◌, ℕ, ◌⊎◌, List, Option, Result, Err, IfSome}
-use Rattle.study_script.specs.declared.run.Summary.{Summary}
-use Rattle.study_script.specs.declared.run.RunFault.{RunFault}
-use Rattle.study_script.specs.declared.run.RunFault.TheVariants.{WriteDevice}
+use Rattle.study_script.specs.declared.running.Summary.{Summary}
+use Rattle.study_script.specs.declared.running.RunFault.{RunFault}
+use Rattle.study_script.specs.declared.running.RunFault.TheVariants.{WriteDevice}
 use Rattle.study_program.specs.Status.{status_told}
 use Rattle.study_report.specs.Outcome.{Shape}
 use Rattle.study_print.specs.Pages.{FileShape}

@@ -18,8 +18,7 @@ use study_print::follow_pages;
 use study_prober::PagedTables;
 use study_program::{FolderStore, status_of, status_without_options, words_of};
 use study_report::{Lines, follow_script};
-use study_script::run::{RunFault, Summary};
-use study_script::tables::Tables;
+use study_script::{RunFault, Summary, Tables};
 
 /// Reads the script from standard input and writes what is told of each study to standard output as soon as its line is answered.
 ///

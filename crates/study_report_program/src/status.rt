@@ -6,7 +6,7 @@ ghost use Rattle.study_text.specs.Taken.{TakesPrefix};
 use itoa::Buffer;
 use std::io::Write;
 use study_material::Class;
-use study_script::run::RunFault;
+use study_script::RunFault;
 use study_text::{DeviceFailed, write_text};
 
 /// Tells why a run stopped, in a line of its own: `studyreport: LineTooLong 3`.

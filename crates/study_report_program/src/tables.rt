@@ -7,10 +7,9 @@ use std::alloc::Allocator;
 use std::io::Write;
 use study_material::Class;
 use study_prober::{PagedFault, PagedTables};
-use study_reply::refusal::Refusal;
-use study_reply::words::refuse;
+use study_reply::{Refusal, refuse};
 use study_report::without_error;
-use study_script::store::{StoreFault, TableStore};
+use study_script::{StoreFault, TableStore};
 use study_text::MemoryWriter;
 
 /// Why the file of a class gives no table.

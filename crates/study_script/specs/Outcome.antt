@@ -4,9 +4,9 @@ use Rattle.std.specs.Prelude.{slice_get, Option, Some, None, Result, Ok, Err, co
 use Rattle.std.specs.List.{AllByRecursion}
 use Rattle.std.specs.Io.KnownBytes.{Appends, Keeps}
 use Rattle.study_text.specs.Taken.{TakesPrefix}
-use Rattle.study_script.specs.declared.run.Summary.{Summary}
-use Rattle.study_script.specs.declared.run.RunFault.{RunFault}
-use Rattle.study_script.specs.declared.run.RunFault.TheVariants.{ReadDevice, WriteDevice, LineTooLong, TooManyLines, OutOfMemory}
+use Rattle.study_script.specs.declared.running.Summary.{Summary}
+use Rattle.study_script.specs.declared.running.RunFault.{RunFault}
+use Rattle.study_script.specs.declared.running.RunFault.TheVariants.{ReadDevice, WriteDevice, LineTooLong, TooManyLines, OutOfMemory}
 use Rattle.study_command.specs.Lines.{script_lines, GaveFeeds}
 use Rattle.study_script.specs.State.{State, empty, Shelf, Outside}
 use Rattle.study_script.specs.Replies.{Reply, Answer, IsReply, AreReplies, replies_text}

@@ -17,13 +17,11 @@ use crate::queries::mark_at;
 use crate::table_edits;
 use crate::tables::Tables;
 use std::alloc::Allocator;
-use study_command::command::NodeCommand;
-use study_command::read_path;
+use study_command::{NodeCommand, read_path};
 use study_marks::{Bench, TagName};
 use study_moves::Move;
 use study_notation::{Start, read_san, write_san};
-use study_reply::refusal::Refusal;
-use study_reply::reply::{Answer, Refused, Reply};
+use study_reply::{Answer, Refusal, Refused, Reply};
 use study_tablefile::PageSource;
 use study_tree::Path;
 

@@ -18,11 +18,8 @@ use crate::table_commands::table_command;
 use crate::tables::Tables;
 use std::alloc::Allocator;
 use std::io::Write;
-use study_command::command::Command;
-use study_command::read_command;
-use study_reply::refusal::Refusal;
-use study_reply::reply::{Answer, write_reply};
-use study_reply::words::refuse;
+use study_command::{Command, read_command};
+use study_reply::{Answer, Refusal, refuse, write_reply};
 use study_text::DeviceFailed;
 
 /// Writes the reply to a line, keeps what is held after it, and tells whether the line was refused.

@@ -6,14 +6,22 @@
 
 mod changes;
 mod dispatch;
-pub mod document;
-pub mod laws;
-pub mod memory_store;
+mod document;
+mod laws;
+mod memory_store;
 mod position_commands;
 mod queries;
-pub mod run;
-pub mod session;
-pub mod store;
+mod running;
+mod session;
+mod store;
 mod table_commands;
 mod table_edits;
-pub mod tables;
+mod tables;
+
+pub use document::Document;
+pub use laws::replies_are_unique;
+pub use memory_store::{MemoryFile, MemoryStore, SharedWriter};
+pub use running::{RunFault, Settings, Summary, run, run_session};
+pub use session::{Interpreter, Session};
+pub use store::{StoreFault, TableStore};
+pub use tables::Tables;

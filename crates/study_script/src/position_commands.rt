@@ -15,11 +15,10 @@ use crate::document::Document;
 use crate::table_edits;
 use crate::tables::Tables;
 use std::alloc::Allocator;
-use study_command::command::FenCommand;
+use study_command::FenCommand;
 use study_marks::{Bench, Stipulation};
 use study_notation::{Start, read_fen};
-use study_reply::refusal::Refusal;
-use study_reply::reply::{Answer, Refused, Reply};
+use study_reply::{Answer, Refusal, Refused, Reply};
 use study_tablefile::PageSource;
 
 /// `position` and `shift`.

@@ -11,14 +11,12 @@ ghost use Rattle.study_script.specs.Executed.{Executed};
 
 use crate::document::Document;
 use std::alloc::Allocator;
-use study_command::command::{MoveCount, NodeQuery};
-use study_command::read_path;
+use study_command::{MoveCount, NodeQuery, read_path};
 use study_marks::Bench;
 use study_moves::solve;
 use study_notation::Start;
 use study_pgn::write_pgn;
-use study_reply::refusal::Refusal;
-use study_reply::reply::{Answer, Refused, Reply};
+use study_reply::{Answer, Refusal, Refused, Reply};
 use study_tree::Path;
 
 /// Commands that take a node and nothing else, and need no study.

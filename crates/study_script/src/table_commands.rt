@@ -19,13 +19,11 @@ use crate::store::{StoreFault, TableStore};
 use crate::tables::Tables;
 use std::alloc::Allocator;
 use std::io::Write;
-use study_command::command::TableCommand;
+use study_command::TableCommand;
 use study_index::cells;
 use study_material::Class;
 use study_prober::{PagedFault, PagedTables, Values, WholeTables};
-use study_reply::refusal::Refusal;
-use study_reply::reply::{Answer, Refused, Reply};
-use study_reply::table_reply::TableReply;
+use study_reply::{Answer, Refusal, Refused, Reply, TableReply};
 use study_retro::{BuildFault, BuildRoom, Table, build, verify};
 use study_tablefile::{FileFault, read_table, write_table};
 

@@ -1,7 +1,7 @@
 -- Printed pages over the files that are handed in.
 use Rattle.std.proofs.Common.{◌≡◌, ℕ, Bool, List, replicate, false, Result, Ok, Err, sym, ap, subst, ◌∙◌, inl, inr}
-use Rattle.study_script.specs.declared.run.Summary.{Summary}
-use Rattle.study_script.specs.declared.run.RunFault.{RunFault}
+use Rattle.study_script.specs.declared.running.Summary.{Summary}
+use Rattle.study_script.specs.declared.running.RunFault.{RunFault}
 use Rattle.study_web.specs.declared.denial.Denial.{Denial}
 use Rattle.study_web.specs.declared.reply.Ending.{Ending}
 use Rattle.study_web.specs.declared.reply.Ending.TheVariants.{Answered, Refused, Ran, Stopped}

@@ -9,9 +9,9 @@ use Rattle.study_reply.specs.declared.refusal.Refusal.TheVariants.{MissingTable,
 use Rattle.study_reply.specs.declared.refusal.Refusal.TheVariants.{NoSuchNode}
 use Rattle.study_reply.specs.Names.{of_probe}
 use Rattle.study_prober.specs.declared.values.ProbeFault.{ProbeFault}
-use Rattle.study_script.specs.declared.run.Summary.{Summary}
-use Rattle.study_script.specs.declared.run.RunFault.{RunFault}
-use Rattle.study_script.specs.declared.run.RunFault.TheVariants as run_fault
+use Rattle.study_script.specs.declared.running.Summary.{Summary}
+use Rattle.study_script.specs.declared.running.RunFault.{RunFault}
+use Rattle.study_script.specs.declared.running.RunFault.TheVariants as run_fault
 use Rattle.study_script.specs.Outcome.{Outcome, begun_state}
 use Rattle.study_script.specs.State.{Shelf}
 use Rattle.study_script.specs.Stores.{AreTrusted}

@@ -20,7 +20,7 @@ use crate::surveyed::survey_of;
 use std::alloc::Allocator;
 use study_material::Class;
 use study_notation::Start;
-use study_reply::refusal::Refusal;
+use study_reply::Refusal;
 
 /// Answers a request for a script, over the files that are handed in.
 ///

@@ -1,7 +1,7 @@
 //! Why a request is not answered.
 
 use study_material::Class;
-use study_reply::refusal::Refusal;
+use study_reply::Refusal;
 
 /// Why a request is not answered.
 #[derive(Clone, Copy, Debug, PartialEq, Eq)]

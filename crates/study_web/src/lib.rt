@@ -34,5 +34,5 @@ pub use reply::{Ending, Reply};
 pub use saved::{Saved, SavedFile, none_saved};
 pub use spans::{Span, file_in};
 pub use store::SpanStore;
-pub use study_script::run::{RunFault, Summary};
+pub use study_script::{RunFault, Summary};
 pub use told::put_ending;

@@ -10,8 +10,7 @@ use crate::script::Told;
 use crate::tables::open_tables;
 use std::alloc::Allocator;
 use study_print::{Unwatched, follow_pages_over};
-use study_script::store::TableStore;
-use study_script::tables::Tables;
+use study_script::{TableStore, Tables};
 
 /// The printed pages of a script's studies, its refused lines and the list of its entries, over all files of a store.
 pub fn printed_of<'a, S: TableStore, A: Allocator>(

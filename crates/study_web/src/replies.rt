@@ -10,7 +10,7 @@ use crate::saved::Saved;
 use crate::spans::Span;
 use crate::store::SpanStore;
 use std::alloc::Allocator;
-use study_script::run::{RunFault, Settings, Summary, run};
+use study_script::{RunFault, Settings, Summary, run};
 
 /// What a run wrote, and how it ended.
 #[derive(Drop)]

@@ -5,7 +5,7 @@ ghost use Rattle.study_web.specs.Told.{IsDenied, IsUntold, ending_of};
 use crate::denial::Denial;
 use crate::told::put_denial;
 use std::alloc::Allocator;
-use study_script::run::{RunFault, Summary};
+use study_script::{RunFault, Summary};
 
 /// How an answer ended.
 #[derive(Clone, Copy, Debug, PartialEq, Eq)]

@@ -13,12 +13,14 @@ ghost use Rattle.study_web.specs.Request.{passed as passed_asked};
 
 use crate::words::read_square;
 use study_board::Square;
-use study_command::command::{PathWord, SyntaxFault};
-use study_command::{as_text, is_printable, read_one_word, read_path_word, read_place, read_side};
+use study_command::{
+    PathWord, SyntaxFault, as_text, is_printable, read_one_word, read_path_word, read_place,
+    read_side,
+};
 use study_marks::{Goal, MateMoves, Stipulation};
 use study_material::Class;
 use study_notation::{FenFault, Start, read_fen};
-use study_reply::refusal::Refusal;
+use study_reply::Refusal;
 use study_text::next_word;
 
 /// A man of a position, and what a survey of it is to reach.

@@ -13,13 +13,11 @@ use crate::denial::Denial;
 use crate::reply::NoText;
 use std::alloc::{AllocError, Allocator};
 use study_board::{Position, Square};
-use study_command::command::Command;
-use study_command::line::{Line, LineFault, read_byte};
-use study_command::read_command;
+use study_command::{Command, Line, LineFault, read_byte, read_command};
 use study_material::Class;
 use study_notation::{Start, read_fen};
-use study_reply::refusal::Refusal;
-use study_script::run::RunFault;
+use study_reply::Refusal;
+use study_script::RunFault;
 use study_view::{classes_needed, passed_squares};
 
 /// Adds the position of a line `position` or `shift` whose FEN is one.

@@ -7,7 +7,7 @@ use crate::saved::{Saved, SavedFile};
 use crate::spans::{Span, file_in};
 use std::alloc::Allocator;
 use study_material::Class;
-use study_script::store::{StoreFault, TableStore};
+use study_script::{StoreFault, TableStore};
 use study_tablefile::MemorySource;
 use study_text::MemoryReader;
 

@@ -10,9 +10,8 @@ use crate::reply::NoText;
 use crate::request::Surveyed;
 use crate::tables::open_tables;
 use std::alloc::Allocator;
-use study_reply::refusal::Refusal;
-use study_reply::words::of_probe;
-use study_script::store::TableStore;
+use study_reply::{Refusal, of_probe};
+use study_script::TableStore;
 use study_view::{Question, SurveyFault, write_survey};
 
 /// The survey that is asked for, over all files of a store.

@@ -11,8 +11,8 @@ use crate::denial::Denial;
 use std::alloc::Allocator;
 use study_material::Class;
 use study_prober::{PagedFault, PagedTables, Values};
-use study_reply::refusal::Refusal;
-use study_script::store::{StoreFault, TableStore};
+use study_reply::Refusal;
+use study_script::{StoreFault, TableStore};
 
 /// How many pages are kept where nothing is said.
 const PAGES: u16 = 1024;

@@ -10,8 +10,8 @@ use crate::reply::Ending;
 use itoa::Buffer;
 use std::io::Write;
 use study_material::Class;
-use study_reply::refusal::{Argument, Refusal};
-use study_script::run::{RunFault, Summary};
+use study_reply::{Argument, Refusal};
+use study_script::{RunFault, Summary};
 use study_text::{DeviceFailed, write_text};
 
 fn put_number<W: Write>(out: &mut W, number: u32) -> Result<(), DeviceFailed>

@@ -5,8 +5,7 @@ use std::process::Abort;
 use study_marks::{Aim, Goal};
 use study_material::Class;
 use study_notation::read_san;
-use study_prober::failing_values::FailingValues;
-use study_prober::{ProbeFault, Values};
+use study_prober::{FailingValues, ProbeFault, Values};
 use study_review::{Node, Place, best_play, defences, timed_alternatives};
 use study_tablefile::SourceFault;
 

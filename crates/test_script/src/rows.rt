@@ -6,9 +6,7 @@ use std::process::Abort;
 use study_index::cells;
 use study_material::Class;
 use study_retro::{BuildRoom, TableSet, build};
-use study_script::memory_store::MemoryStore;
-use study_script::run::{RunFault, Settings, Summary, run};
-use study_script::store::TableStore;
+use study_script::{MemoryStore, RunFault, Settings, Summary, TableStore, run};
 use study_tablefile::write_table;
 use study_text::{MemoryReader, MemoryWriter};
 

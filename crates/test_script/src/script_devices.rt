@@ -1,6 +1,6 @@
 //! Runs whose reader or writer fails.
 use crate::rows::{no_files, replies_of};
-use study_script::run::{RunFault, Settings, Summary, run};
+use study_script::{RunFault, Settings, Summary, run};
 use study_text::{MemoryReader, MemoryWriter, WhenFull};
 
 const SCRIPT: &[u8] = b"position k7/8/1K6/8/8/8/8/7R w - - 0 1\nmoves root\nsolve 1 root\n";

@@ -6,7 +6,7 @@ use std::process::Abort;
 use study_index::cells;
 use study_material::Class;
 use study_retro::Table;
-use study_script::memory_store::{MemoryFile, MemoryStore};
+use study_script::{MemoryFile, MemoryStore};
 use study_tablefile::{read_table, write_table};
 use study_text::{MemoryReader, MemoryWriter, WhenFull};
 

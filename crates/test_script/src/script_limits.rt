@@ -3,7 +3,7 @@ use crate::rows::{Case, Rows, no_files, replies_of};
 use std::alloc::Allocator;
 use std::process::Abort;
 use std::test::Fail;
-use study_script::run::{RunFault, Summary};
+use study_script::{RunFault, Summary};
 
 /// A line of 1,024 bytes is read, and a script of 100,000 lines; where one byte more comes, the run stops.
 #[test]

@@ -5,7 +5,7 @@ use linked_list_allocator::LocalHeap;
 use std::alloc::{AllocError, Global};
 use std::process::Abort;
 use std::test::Fail;
-use study_script::run::{RunFault, Settings, Summary, run};
+use study_script::{RunFault, Settings, Summary, run};
 use study_text::{MemoryReader, MemoryWriter};
 
 /// There is no room for either table. A room is asked for before the tables that are needed.

@@ -9,8 +9,7 @@ use std::test::Fail;
 use study_board::Side;
 use study_marks::{Bench, Edit, Goal, Refusal, Stopped};
 use study_material::Class;
-use study_prober::failing_values::FailingValues;
-use study_prober::{ProbeFault, Values, WholeTables};
+use study_prober::{FailingValues, ProbeFault, Values, WholeTables};
 
 /// A study on which the calls are made.
 #[derive(Clone, Copy)]

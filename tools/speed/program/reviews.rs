@@ -5,16 +5,13 @@ use std::alloc::Allocator;
 use std::io;
 use std::io::{BufReader, ErrorKind, Read, Write};
 use std::time::Instant;
-use study_command::line::Line;
+use study_command::Line;
 use study_marks::Bench;
 use study_prober::{Values, WholeTables};
 use study_program::FolderStore;
 use study_retro::TableSet;
 use study_review::write_review;
-use study_script::document::Document;
-use study_script::session::{Interpreter, Session};
-use study_script::store::TableStore;
-use study_script::tables::Tables;
+use study_script::{Document, Interpreter, Session, TableStore, Tables};
 use study_text::MemoryWriter;
 
 /// What is measured of a study.

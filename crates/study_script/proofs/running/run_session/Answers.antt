@@ -7,8 +7,8 @@ use Rattle.study_script.specs.Held.{Answered, BrokenOff}
 use Rattle.study_command.proofs.LineTaken.{has_more, has_none, gave-more, gave-same}
 use Rattle.study_script.proofs.FirstLines.{with_trust, next_trusted, Ran, RanOn-more, ran_ends, ran_long, ran_many, ran_read, ran_write}
 use Rattle.study_script.proofs.FirstLines.{Gone, gone_ends, gone_long, gone_many, gone_more, gone_read, gone_write}
-use Rattle.study_script.proofs.run.run_session.Goals as goal
-use Rattle.study_script.proofs.run.run_session.Goals.{then-was_refused, else-was_refused}
+use Rattle.study_script.proofs.running.run_session.Goals as goal
+use Rattle.study_script.proofs.running.run_session.Goals.{then-was_refused, else-was_refused}
 
 pub returns-in-Err-TooLong-clause-outcome : goal.returns-in-Err-TooLong-clause-outcome
 returns-in-Err-TooLong-clause-outcome g c = λ trusted first h. with_trust (g.R.Read.remaining c.args.script.now) _ _ (λ bytes is may.

@@ -4,7 +4,7 @@ use Rattle.study_command.specs.Lines.{GaveFeeds}
 use Rattle.study_script.specs.State.{State}
 use Rattle.study_script.specs.Stores.{AreTrusted}
 use Rattle.study_script.proofs.FirstLines.{RanOn, Gone}
-use Rattle.study_script.proofs.run.run_session.Given as goal
+use Rattle.study_script.proofs.running.run_session.Given as goal
 
 abbrev pub invariant-loop-n : goal.invariant-loop-n
 invariant-loop-n g l =

@@ -2,7 +2,7 @@ use Rattle.std.proofs.Common.{is_some, refl}
 use Rattle.study_script.specs.Outcome.{begun_state}
 use Rattle.study_script.specs.Stores.{shelf_of}
 use Rattle.study_script.proofs.TablesFaults.{none_fails}
-use Rattle.study_script.proofs.run.run.Goals as goal
+use Rattle.study_script.proofs.running.run.Goals as goal
 
 pub returns-clause-outcome : goal.returns-clause-outcome
 returns-clause-outcome g c =

@@ -12,7 +12,7 @@ use crate::store::TableStore;
 use crate::tables::Tables;
 use std::alloc::{AllocError, Allocator};
 use std::io::{Read, Write};
-use study_command::line::{Line, LineFault, read_byte};
+use study_command::{Line, LineFault, read_byte};
 use study_prober::{PagedTables, WholeTables};
 use study_retro::TableSet;
 use study_tablefile::PageSource;
