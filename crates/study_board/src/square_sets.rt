@@ -8,90 +8,157 @@ ghost use Rattle.study_board.specs.Sets.{has, is_slider, is_blocked_past, bears_
 use crate::attack_tables::{BISHOP, BLACK_PAWN, DIRECTION, KING, KNIGHT, ROOK, WHITE_PAWN};
 use crate::ray_tables::RAY;
 use crate::{Kind, Man, Side, Square};
+use std::marker::Model;
 
-/// The set of one square.
-#[inline]
-pub fn set_of(a: Square) -> u64
-    ensures { (x : ℕ) → x < 64 → has result x ≡ (a == x) }
-{
-    1u64 << a.number()
+/// A set of squares: bit x is set where the square of number x is in it.
+#[derive(Clone, Copy)]
+pub struct SquareSet {
+    bits: u64,
 }
 
-/// Whether the square is in the set.
-#[inline]
-pub fn has(set: u64, x: Square) -> bool
-    ensures { result ≡ has set x }
-{
-    set >> x.number() & 1 == 1
+impl Model for SquareSet {
+    ghost use Rattle.std.specs.Prelude.{ℕ, ◌<◌, ◌^◌};
+
+    ghost Value = { ℕ };
+
+    ghost view = { λ s. s.bits };
+
+    ghost invariant = { λ s. s.bits < 2 ^ 64 };
+
+    ghost inverse = { λ n. record { bits = n } };
 }
 
-/// The squares of the first set and not of the second.
-#[inline]
-pub fn without(set: u64, other: u64) -> u64
-    ensures { (x : ℕ) → x < 64 → has result x ≡ (has set x && not (has other x)) }
-{
-    set & !other
-}
+impl SquareSet {
+    /// No square.
+    #[inline]
+    pub fn empty() -> Self
+        ensures { result ≡ 0 }
+    {
+        SquareSet { bits: 0 }
+    }
 
-/// The squares of either set.
-#[inline]
-pub fn union(set: u64, other: u64) -> u64
-    ensures { (x : ℕ) → has result x ≡ (has set x || has other x) }
-{
-    set | other
-}
+    /// The set with these bits.
+    #[inline]
+    fn of_bits(bits: u64) -> Self
+        ensures { result ≡ bits }
+    {
+        SquareSet { bits }
+    }
 
-/// The first square of a set.
-#[inline]
-pub fn first(set: u64) -> Square
-    requires { set ≢ 0 }
-    ensures inside { result < 64 }
-    ensures there { has set result ≡ true }
-    ensures least { (x : ℕ) → x < result → has set x ≡ false }
-{
-    Square::at(set.trailing_zeros() as u8)
+    /// One square.
+    #[inline]
+    pub fn of(a: Square) -> Self
+        ensures { (x : ℕ) → x < 64 → has result x ≡ (a == x) }
+    {
+        SquareSet {
+            bits: 1u64 << a.number(),
+        }
+    }
+
+    /// Whether no square is in the set.
+    #[inline]
+    pub fn is_empty(self) -> bool
+        ensures { result ≡ (self == 0) }
+    {
+        self.bits == 0
+    }
+
+    /// Whether the square is in the set.
+    #[inline]
+    pub fn contains(self, x: Square) -> bool
+        ensures { result ≡ has self x }
+    {
+        self.bits >> x.number() & 1 == 1
+    }
+
+    /// The squares of this set and not of the other.
+    #[inline]
+    pub fn without(self, other: SquareSet) -> Self
+        ensures { (x : ℕ) → x < 64 → has result x ≡ (has self x && not (has other x)) }
+    {
+        SquareSet {
+            bits: self.bits & !other.bits,
+        }
+    }
+
+    /// The squares of either set.
+    #[inline]
+    pub fn union(self, other: SquareSet) -> Self
+        ensures { (x : ℕ) → has result x ≡ (has self x || has other x) }
+    {
+        SquareSet::of_bits(self.bits | other.bits)
+    }
+
+    /// The squares of both sets.
+    #[inline]
+    pub fn intersection(self, other: SquareSet) -> Self
+        ensures { (x : ℕ) → has result x ≡ (has self x && has other x) }
+    {
+        SquareSet {
+            bits: self.bits & other.bits,
+        }
+    }
+
+    /// The squares that are not in the set.
+    #[inline]
+    pub fn complement(self) -> Self
+        ensures { (x : ℕ) → x < 64 → has result x ≡ not (has self x) }
+    {
+        SquareSet { bits: !self.bits }
+    }
+
+    /// The first square of the set, in the order a1, b1, .., h8.
+    #[inline]
+    pub fn first(self) -> Square
+        requires { self ≢ 0 }
+        ensures inside { result < 64 }
+        ensures there { has self result ≡ true }
+        ensures least { (x : ℕ) → x < result → has self x ≡ false }
+    {
+        Square::at(self.bits.trailing_zeros() as u8)
+    }
 }
 
 /// The squares a king step away.
 #[inline]
-pub fn king_steps(a: Square) -> u64
+pub fn king_steps(a: Square) -> SquareSet
     ensures { (x : ℕ) → x < 64 → has result x ≡ (not (a == x) && king_step a x) }
 {
-    KING[a.number() as usize]
+    SquareSet::of_bits(KING[a.number() as usize])
 }
 
 /// The squares a knight's jump away.
 #[inline]
-pub fn knight_jumps(a: Square) -> u64
+pub fn knight_jumps(a: Square) -> SquareSet
     ensures { (x : ℕ) → x < 64 → has result x ≡ (not (a == x) && knight_jump a x) }
 {
-    KNIGHT[a.number() as usize]
+    SquareSet::of_bits(KNIGHT[a.number() as usize])
 }
 
 /// The other squares on its file or its rank.
 #[inline]
-pub fn rook_lines(a: Square) -> u64
+pub fn rook_lines(a: Square) -> SquareSet
     ensures { (x : ℕ) → x < 64 → has result x ≡ (not (a == x) && on_rook_line a x) }
 {
-    ROOK[a.number() as usize]
+    SquareSet::of_bits(ROOK[a.number() as usize])
 }
 
 /// The other squares on its diagonals.
 #[inline]
-pub fn bishop_lines(a: Square) -> u64
+pub fn bishop_lines(a: Square) -> SquareSet
     ensures { (x : ℕ) → x < 64 → has result x ≡ (not (a == x) && on_bishop_line a x) }
 {
-    BISHOP[a.number() as usize]
+    SquareSet::of_bits(BISHOP[a.number() as usize])
 }
 
 /// The squares on which a pawn of the side captures.
 #[inline]
-pub fn pawn_captures_of(side: Side, a: Square) -> u64
+pub fn pawn_captures_of(side: Side, a: Square) -> SquareSet
     ensures { (x : ℕ) → x < 64 → has result x ≡ (not (a == x) && pawn_captures side a x) }
 {
     match side {
-        Side::White => WHITE_PAWN[a.number() as usize],
-        Side::Black => BLACK_PAWN[a.number() as usize],
+        Side::White => SquareSet::of_bits(WHITE_PAWN[a.number() as usize]),
+        Side::Black => SquareSet::of_bits(BLACK_PAWN[a.number() as usize]),
     }
 }
 
@@ -106,16 +173,16 @@ fn direction(a: Square, y: Square) -> usize
 
 /// The squares in a direction from `a`.
 #[inline]
-fn ray(direction: usize, a: Square) -> u64
+fn ray(direction: usize, a: Square) -> SquareSet
     requires { direction < 9 }
     ensures { result ≡ ray_of direction a }
 {
-    RAY[direction][a.number() as usize]
+    SquareSet::of_bits(RAY[direction][a.number() as usize])
 }
 
 /// The squares behind `y` as seen from `a`.
 #[inline]
-pub fn shadow(a: Square, y: Square) -> u64
+pub fn shadow(a: Square, y: Square) -> SquareSet
     ensures { (x : ℕ) → x < 64 → has result x ≡ strictly_between a y x }
 {
     let (_from, _over) = (a.number(), y.number());
@@ -124,47 +191,41 @@ pub fn shadow(a: Square, y: Square) -> u64
 
 /// The squares behind some man as seen from `a`.
 #[inline]
-pub fn shadows(men: &[Man], a: Square) -> u64
+pub fn shadows(men: &[Man], a: Square) -> SquareSet
     ensures { (x : ℕ) → x < 64 → has result x ≡ is_blocked men.now a x }
 {
-    let mut set = 0u64;
+    let mut set = SquareSet::empty();
     for m in men {
-        set = union(set, shadow(a, m.at));
+        set = set.union(shadow(a, m.at));
     }
     set
 }
 
 /// The squares on which the man bears, with these men on the board.
 #[inline]
-pub fn attacks(men: &[Man], m: &Man) -> u64
+pub fn attacks(men: &[Man], m: &Man) -> SquareSet
     ensures { (x : ℕ) → x < 64 → has result x ≡ bears_on men.now m.now x }
 {
     let a = m.at;
     match m.kind {
         Kind::King => king_steps(a),
-        Kind::Queen => without(union(rook_lines(a), bishop_lines(a)), shadows(men, a)),
-        Kind::Rook => without(rook_lines(a), shadows(men, a)),
-        Kind::Bishop => without(bishop_lines(a), shadows(men, a)),
+        Kind::Queen => rook_lines(a)
+            .union(bishop_lines(a))
+            .without(shadows(men, a)),
+        Kind::Rook => rook_lines(a).without(shadows(men, a)),
+        Kind::Bishop => bishop_lines(a).without(shadows(men, a)),
         Kind::Knight => knight_jumps(a),
         Kind::Pawn => pawn_captures_of(m.side, a),
     }
 }
 
-/// The squares of both sets.
-#[inline]
-pub fn intersection(set: u64, other: u64) -> u64
-    ensures { (x : ℕ) → has result x ≡ (has set x && has other x) }
-{
-    set & other
-}
-
 /// The squares strictly between two squares.
 #[inline]
-pub fn between(a: Square, x: Square) -> u64
+pub fn between(a: Square, x: Square) -> SquareSet
     ensures { (y : ℕ) → y < 64 → has result y ≡ strictly_between a y x }
 {
     let (_from, _to) = (a.number(), x.number());
-    intersection(ray(direction(a, x), a), ray(direction(x, a), x))
+    ray(direction(a, x), a).intersection(ray(direction(x, a), x))
 }
 
 impl Kind {
@@ -182,11 +243,11 @@ impl Kind {
 
 /// The squares behind `y` as seen from `a`, unless `y` is the lifted square.
 #[inline]
-fn shadow_without(a: Square, y: Square, lifted: Square) -> u64
+fn shadow_without(a: Square, y: Square, lifted: Square) -> SquareSet
     ensures { (x : ℕ) → x < 64 → has result x ≡ (not (y == lifted) && strictly_between a y x) }
 {
     if y.number() == lifted.number() {
-        0
+        SquareSet::empty()
     } else {
         shadow(a, y)
     }
@@ -194,30 +255,29 @@ fn shadow_without(a: Square, y: Square, lifted: Square) -> u64
 
 /// The squares behind some man as seen from `a`, the man on `lifted` taken away.
 #[inline]
-pub fn shadows_without(men: &[Man], lifted: Square, a: Square) -> u64
+pub fn shadows_without(men: &[Man], lifted: Square, a: Square) -> SquareSet
     ensures { (x : ℕ) → x < 64 → has result x ≡ is_blocked_past men.now lifted a x }
 {
-    let mut set = 0u64;
+    let mut set = SquareSet::empty();
     for m in men {
-        set = union(set, shadow_without(a, m.at, lifted));
+        set = set.union(shadow_without(a, m.at, lifted));
     }
     set
 }
 
 /// The squares on which the man bears, the man on `lifted` taken away.
 #[inline]
-pub fn attacks_without(men: &[Man], lifted: Square, m: &Man) -> u64
+pub fn attacks_without(men: &[Man], lifted: Square, m: &Man) -> SquareSet
     ensures { (x : ℕ) → x < 64 → has result x ≡ bears_past men.now lifted m.now x }
 {
     let a = m.at;
     match m.kind {
         Kind::King => king_steps(a),
-        Kind::Queen => without(
-            union(rook_lines(a), bishop_lines(a)),
-            shadows_without(men, lifted, a),
-        ),
-        Kind::Rook => without(rook_lines(a), shadows_without(men, lifted, a)),
-        Kind::Bishop => without(bishop_lines(a), shadows_without(men, lifted, a)),
+        Kind::Queen => rook_lines(a)
+            .union(bishop_lines(a))
+            .without(shadows_without(men, lifted, a)),
+        Kind::Rook => rook_lines(a).without(shadows_without(men, lifted, a)),
+        Kind::Bishop => bishop_lines(a).without(shadows_without(men, lifted, a)),
         Kind::Knight => knight_jumps(a),
         Kind::Pawn => pawn_captures_of(m.side, a),
     }

@@ -7,7 +7,7 @@ ghost use Rattle.study_board.specs.Geometry.{strictly_between};
 ghost use Rattle.std.specs.Prelude.{◌==◌};
 ghost use Rattle.study_moves.specs.KingSafety.{is_other_man, attacked_past, is_no_shield, threatens, threatened_past, king_threatened, others_threatened, is_unsafe};
 
-use study_board::{Kind, Man, Side, Square, attacks_without, between, has, set_of, union};
+use study_board::{Kind, Man, Side, Square, SquareSet, attacks_without, between};
 
 #[inline]
 fn is_other_man(by: Side, lifted: Square, m: &Man) -> bool
@@ -18,67 +18,67 @@ fn is_other_man(by: Side, lifted: Square, m: &Man) -> bool
 
 /// The squares on which a man of the side bears, the man on `lifted` taken away.
 #[inline]
-fn reach_of(men: &[Man], by: Side, lifted: Square, m: &Man) -> u64
+fn reach_of(men: &[Man], by: Side, lifted: Square, m: &Man) -> SquareSet
     ensures { (x : ℕ) → x < 64 → has result x ≡ (is_other_man by lifted m.now && bears_past men.now lifted m.now x) }
 {
     if is_other_man(by, lifted, m) {
         attacks_without(men, lifted, m)
     } else {
-        0
+        SquareSet::empty()
     }
 }
 
 #[inline]
-fn attacked_past(men: &[Man], by: Side, lifted: Square) -> u64
+fn attacked_past(men: &[Man], by: Side, lifted: Square) -> SquareSet
     ensures { (x : ℕ) → x < 64 → has result x ≡ attacked_past men.now by lifted x }
 {
-    let mut set = 0u64;
+    let mut set = SquareSet::empty();
     for m in men {
-        set = union(set, reach_of(men, by, lifted, m));
+        set = set.union(reach_of(men, by, lifted, m));
     }
     set
 }
 
 /// The squares in the line of a man to the square.
 #[inline]
-fn line_of(m: &Man, k: Square) -> u64
+fn line_of(m: &Man, k: Square) -> SquareSet
     ensures { (x : ℕ) → x < 64 → has result x ≡ (is_slider m.now.kind && strictly_between m.now.at x k) }
 {
     if m.kind.is_slider() {
         between(m.at, k)
     } else {
-        0
+        SquareSet::empty()
     }
 }
 
 /// The squares that neither take the man nor stand in its line to the square.
 #[inline]
-fn squares_not_blocking(m: &Man, k: Square) -> u64
+fn squares_not_blocking(m: &Man, k: Square) -> SquareSet
     ensures { (x : ℕ) → x < 64 → has result x ≡ is_no_shield m.now k x }
 {
-    !union(set_of(m.at), line_of(m, k))
+    SquareSet::of(m.at).union(line_of(m, k)).complement()
 }
 
 /// The squares to which a move is no help against the man.
 #[inline]
-fn threats_of(men: &[Man], by: Side, lifted: Square, k: Square, m: &Man) -> u64
+fn threats_of(men: &[Man], by: Side, lifted: Square, k: Square, m: &Man) -> SquareSet
     ensures { (x : ℕ) → x < 64 → has result x ≡ threatens men.now by lifted k x m.now }
 {
     let _square = k.number();
-    if has(reach_of(men, by, lifted, m), k) {
+    if reach_of(men, by, lifted, m).contains(k) {
         squares_not_blocking(m, k)
     } else {
-        0
+        SquareSet::empty()
     }
 }
 
 #[inline]
-pub fn threatened_past(men: &[Man], by: Side, lifted: Square, k: Square) -> u64
+pub fn threatened_past(men: &[Man], by: Side, lifted: Square, k: Square) -> SquareSet
     ensures { (x : ℕ) → x < 64 → has result x ≡ threatened_past men.now by lifted k x }
 {
-    let mut set = 0u64;
+    let mut set = SquareSet::empty();
     for m in men {
-        set = union(set, threats_of(men, by, lifted, k, m));
+        set = set.union(threats_of(men, by, lifted, k, m));
     }
     set
 }
@@ -91,46 +91,43 @@ pub fn is_king_elsewhere(side: Side, lifted: Square, k: &Man) -> bool
 }
 
 #[inline]
-fn threats_to(men: &[Man], side: Side, lifted: Square, k: &Man) -> u64
+fn threats_to(men: &[Man], side: Side, lifted: Square, k: &Man) -> SquareSet
     ensures { (x : ℕ) → x < 64 → has result x ≡ king_threatened men.now side lifted x k.now }
 {
     if is_king_elsewhere(side, lifted, k) {
         threatened_past(men, side.other(), lifted, k.at)
     } else {
-        0
+        SquareSet::empty()
     }
 }
 
 #[inline]
-fn others_threatened(men: &[Man], side: Side, lifted: Square) -> u64
+fn others_threatened(men: &[Man], side: Side, lifted: Square) -> SquareSet
     ensures { (x : ℕ) → x < 64 → has result x ≡ others_threatened men.now side lifted x }
 {
-    let mut set = 0u64;
+    let mut set = SquareSet::empty();
     for k in men {
-        set = union(set, threats_to(men, side, lifted, k));
+        set = set.union(threats_to(men, side, lifted, k));
     }
     set
 }
 
 #[inline]
-fn attacked_for_king(men: &[Man], side: Side, man: &Man) -> u64
+fn attacked_for_king(men: &[Man], side: Side, man: &Man) -> SquareSet
     ensures { (x : ℕ) → x < 64 → has result x ≡ (same_kind man.now.kind AKing && attacked_past men.now (other_side side) man.now.at x) }
 {
     if man.kind.is(Kind::King) {
         attacked_past(men, side.other(), man.at)
     } else {
-        0
+        SquareSet::empty()
     }
 }
 
 /// The squares on which a move of the man leaves a king of the side attacked.
 #[inline]
 #[tactic(auto, unfolding(crate::specs::KingSafety::is_unsafe))]
-pub fn unsafe_targets(men: &[Man], side: Side, man: &Man) -> u64
+pub fn unsafe_targets(men: &[Man], side: Side, man: &Man) -> SquareSet
     ensures { (x : ℕ) → x < 64 → has result x ≡ is_unsafe men.now side man.now x }
 {
-    union(
-        attacked_for_king(men, side, man),
-        others_threatened(men, side, man.at),
-    )
+    attacked_for_king(men, side, man).union(others_threatened(men, side, man.at))
 }

@@ -17,7 +17,7 @@ use crate::king_safety::unsafe_targets;
 use crate::legal::{is_legal_for, may_capture_en_passant, reaches_last_rank};
 use crate::targets::{target_range, targets};
 use arrayvec::ArrayVec;
-use study_board::{Kind, Man, Position, Square, first, set_of, without};
+use study_board::{Kind, Man, Position, Square, SquareSet};
 
 /// Each legal move once, ascending by origin, then target, then promotion: queen, rook, bishop, knight.
 pub fn legal_moves(p: &Position) -> ArrayVec<Move, 256>
@@ -49,9 +49,9 @@ fn add_moves_of(p: &Position, man: &Man, list: &mut ArrayVec<Move, 256>)
     let (all, sure) = legal_targets(p, man);
     let mut rest = all;
     let mut next = start;
-    while rest != 0 {
-        let target = first(rest);
-        rest = without(rest, set_of(target));
+    while !rest.is_empty() {
+        let target = rest.first();
+        rest = rest.without(SquareSet::of(target));
         add_target(p, man, target, sure, list);
         next = target.number() + 1;
     }
@@ -59,7 +59,7 @@ fn add_moves_of(p: &Position, man: &Man, list: &mut ArrayVec<Move, 256>)
 
 /// The targets of a man, with each one of its legal moves, and whether each move to them is legal.
 #[inline]
-fn legal_targets(p: &Position, man: &Man) -> (u64, bool)
+fn legal_targets(p: &Position, man: &Man) -> (SquareSet, bool)
     requires { same_side man.now.side p.now.to_move ≡ true }
     ensures all { (m : AMove) → m.target < 64 → is_legal_for p.now man.now m ≡ true → has result.0 m.target ≡ true }
     ensures going { (x : ℕ) → x < 64 → has result.0 x ≡ true → reaches_target p.now.men p.now.passed man.now x ≡ true }
@@ -71,7 +71,7 @@ fn legal_targets(p: &Position, man: &Man) -> (u64, bool)
     if may_capture_en_passant(p, man) {
         (all, false)
     } else {
-        (without(all, unsafe_targets(men, side, man)), true)
+        (all.without(unsafe_targets(men, side, man)), true)
     }
 }
 

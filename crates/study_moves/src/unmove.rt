@@ -13,8 +13,7 @@ use crate::king_safety::{is_king_elsewhere, threatened_past};
 use crate::legal::men_with_moved;
 use arrayvec::ArrayVec;
 use study_board::{
-    Kind, Man, Position, Side, Square, attacks, attacks_without, first, is_occupied, set_of, union,
-    without,
+    Kind, Man, Position, Side, Square, SquareSet, attacks, attacks_without, is_occupied,
 };
 
 /// Each valid position without a passed square from which one legal move, neither a capture nor a promotion, leads to
@@ -61,9 +60,9 @@ fn add_unmoves_of(q: &Position, man: &Man, list: &mut ArrayVec<Move, 192>)
     let target = man.at;
     let mut rest = origins(q.men(), q.to_move(), man);
     let mut next = 0u8;
-    while rest != 0 {
-        let origin = first(rest);
-        rest = without(rest, set_of(origin));
+    while !rest.is_empty() {
+        let origin = rest.first();
+        rest = rest.without(SquareSet::of(origin));
         list.push(Move {
             origin,
             target,
@@ -103,42 +102,39 @@ fn man_on_origin(man: &Man, a: Square) -> Man
 /// The squares from which the man can have come by a quiet move, with these men on the board now, in any order, and this
 /// side to move.
 #[inline]
-pub fn origins(men: &[Man], to_move: Side, man: &Man) -> u64
+pub fn origins(men: &[Man], to_move: Side, man: &Man) -> SquareSet
     ensures { (a : ℕ) → a < 64 → has result a ≡ came_from men.now to_move man.now a }
 {
-    without(
-        origins_of_kind(men, man),
-        origins_in_check(men, to_move, man),
-    )
+    origins_of_kind(men, man).without(origins_in_check(men, to_move, man))
 }
 
 /// The squares from which the man can have come, as its kind goes.
 #[inline]
 #[tactic(auto, unfolding(crate::specs::Unmoves::comes))]
-fn origins_of_kind(men: &[Man], man: &Man) -> u64
+fn origins_of_kind(men: &[Man], man: &Man) -> SquareSet
     ensures { (a : ℕ) → a < 64 → has result a ≡ comes men.now man.now a }
 {
     if man.kind.is(Kind::Pawn) {
         pawn_origins(men, man.side, man.at)
     } else {
-        without(attacks(men, man), occupied(men))
+        attacks(men, man).without(occupied(men))
     }
 }
 
 #[inline]
-fn occupied(men: &[Man]) -> u64
+fn occupied(men: &[Man]) -> SquareSet
     ensures { (x : ℕ) → x < 64 → has result x ≡ is_occupied men.now x }
 {
-    let mut set = 0u64;
+    let mut set = SquareSet::empty();
     for m in men {
-        set = union(set, set_of(m.at));
+        set = set.union(SquareSet::of(m.at));
     }
     set
 }
 
 /// The squares from which a pawn can have come by a step or a double step.
 #[inline]
-fn pawn_origins(men: &[Man], side: Side, x: Square) -> u64
+fn pawn_origins(men: &[Man], side: Side, x: Square) -> SquareSet
     ensures { (a : ℕ) → a < 64 → has result a ≡ pawn_comes men.now side x a }
 {
     let (n, rank) = (x.number(), x.rank());
@@ -162,12 +158,12 @@ fn pawn_origins(men: &[Man], side: Side, x: Square) -> u64
 
 /// One square back, if a pawn can have stood there, and two, if it starts there.
 #[inline]
-fn pawn_steps_back(men: &[Man], inside: bool, starts: bool, one: Square, two: Square) -> u64
+fn pawn_steps_back(men: &[Man], inside: bool, starts: bool, one: Square, two: Square) -> SquareSet
     requires { starts ≡ true → inside ≡ true }
     ensures { (a : ℕ) → a < 64 → has result a ≡ pawn_came men.now inside starts one two a }
 {
     if !inside {
-        0
+        SquareSet::empty()
     } else if starts {
         two_steps_back(men, one, two)
     } else {
@@ -176,56 +172,53 @@ fn pawn_steps_back(men: &[Man], inside: bool, starts: bool, one: Square, two: Sq
 }
 
 #[inline]
-fn two_steps_back(men: &[Man], one: Square, two: Square) -> u64
+fn two_steps_back(men: &[Man], one: Square, two: Square) -> SquareSet
     ensures { (a : ℕ) → a < 64 → has result a ≡ pawn_came men.now true true one two a }
 {
     if is_occupied(men, one.number()) {
-        0
+        SquareSet::empty()
     } else {
-        union(set_of(one), set_if_empty(men, two))
+        SquareSet::of(one).union(set_if_empty(men, two))
     }
 }
 
 #[inline]
-fn set_if_empty(men: &[Man], x: Square) -> u64
+fn set_if_empty(men: &[Man], x: Square) -> SquareSet
     ensures { (a : ℕ) → a < 64 → has result a ≡ ((x == a) && is_empty men.now x) }
 {
     if is_occupied(men, x.number()) {
-        0
+        SquareSet::empty()
     } else {
-        set_of(x)
+        SquareSet::of(x)
     }
 }
 
 /// The squares from which the man cannot have come, since a king of the side that did not move was attacked then.
 #[inline]
-fn origins_in_check(men: &[Man], side: Side, man: &Man) -> u64
+fn origins_in_check(men: &[Man], side: Side, man: &Man) -> SquareSet
     ensures { (a : ℕ) → a < 64 → has result a ≡ was_check men.now side man.now a }
 {
-    let mut set = 0u64;
+    let mut set = SquareSet::empty();
     for k in men {
-        set = union(set, origins_attacking(men, side, man, k));
+        set = set.union(origins_attacking(men, side, man, k));
     }
     set
 }
 
 #[inline]
-fn origins_attacking(men: &[Man], side: Side, man: &Man, k: &Man) -> u64
+fn origins_attacking(men: &[Man], side: Side, man: &Man, k: &Man) -> SquareSet
     ensures { (a : ℕ) → a < 64 → has result a ≡ king_was_attacked men.now side man.now a k.now }
 {
     if is_king_elsewhere(side, man.at, k) {
-        union(
-            origins_giving_check(men, man, k.at),
-            threatened_past(men, side.other(), man.at, k.at),
-        )
+        origins_giving_check(men, man, k.at).union(threatened_past(men, side.other(), man.at, k.at))
     } else {
-        0
+        SquareSet::empty()
     }
 }
 
 /// The squares from which the man bears on the square, those on which a man of the other side there would bear.
 #[inline]
-fn origins_giving_check(men: &[Man], man: &Man, k: Square) -> u64
+fn origins_giving_check(men: &[Man], man: &Man, k: Square) -> SquareSet
     ensures { (a : ℕ) → a < 64 → has result a ≡ bears_past men.now man.now.at (set_back man.now a) k }
 {
     let mirrored = Man {

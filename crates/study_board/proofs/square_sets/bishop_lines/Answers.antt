@@ -2,4 +2,4 @@ use Rattle.study_board.proofs.TableBits.{bishop_has}
 use Rattle.study_board.proofs.square_sets.bishop_lines.Goals as goal
 
 pub returns : goal.returns
-returns c = bishop_has c.args.a c.number.result c.number.ensures.value c.number.ensures.small
+returns c x lx = rw c.of_bits.ensures (bishop_has c.args.a c.number.result c.number.ensures.value c.number.ensures.small x lx)

@@ -4,4 +4,4 @@ use Rattle.study_board.proofs.SetBits.{none_unless, same_is_not}
 use Rattle.study_board.proofs.square_sets.shadow_without.Goals as goal
 
 pub returns-then-number : goal.returns-then-number
-returns-then-number c x lx = none_unless _ (strictly_between c.args.a c.args.y x) x (same_is_not c.args.y c.args.lifted (omega arith))
+returns-then-number c x lx = rw c.empty.ensures (none_unless _ (strictly_between c.args.a c.args.y x) x (same_is_not c.args.y c.args.lifted (omega arith)))

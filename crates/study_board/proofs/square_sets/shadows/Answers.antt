@@ -6,7 +6,7 @@ use Rattle.study_board.proofs.SetBits.{is_blocked_none, is_blocked_more}
 use Rattle.study_board.proofs.square_sets.shadows.Goals as goal
 
 pub loop-m-init : goal.loop-m-init
-loop-m-init c x lx = is_blocked_none c.args.a x
+loop-m-init c x lx = rw c.empty-set.ensures (is_blocked_none c.args.a x)
 
 pub loop-m-preserved : goal.loop-m-preserved
 loop-m-preserved c x lx =

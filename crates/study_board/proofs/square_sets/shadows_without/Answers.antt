@@ -6,7 +6,7 @@ use Rattle.study_board.proofs.SetBits.{blocked_past_none, blocked_past_more}
 use Rattle.study_board.proofs.square_sets.shadows_without.Goals as goal
 
 pub loop-m-init : goal.loop-m-init
-loop-m-init c x lx = blocked_past_none c.args.lifted c.args.a x
+loop-m-init c x lx = rw c.empty-set.ensures (blocked_past_none c.args.lifted c.args.a x)
 
 pub loop-m-preserved : goal.loop-m-preserved
 loop-m-preserved c x lx =

@@ -6,6 +6,6 @@ use Rattle.study_moves.proofs.king_safety.squares_not_blocking.Goals as goal
 
 pub returns : goal.returns
 returns c x lx =
-    has-neither _ _ _ x (c.args.m.now.at == x)
-    (is_slider c.args.m.now.kind && strictly_between c.args.m.now.at x c.args.k) c.union.type_inv lx
-    (c.set_of.ensures x lx) (c.line_of.ensures x lx) (c.union.ensures x)
+    has-neither _ _ _ _ x (c.args.m.now.at == x)
+    (is_slider c.args.m.now.kind && strictly_between c.args.m.now.at x c.args.k)
+    (c.of.ensures x lx) (c.line_of.ensures x lx) (c.union.ensures x) (c.complement.ensures x lx)

@@ -70,9 +70,9 @@ loop-rest-preserved c =
       to = omega (arith, c.number-next.ensures.value);
       rest = subst Q (sym n)
           (rest_more c.args.p.now c.args.man.now c.loop-rest.rest c.loop-rest.next c.first-target.result
-          c.set_of.result c.without-rest.result i.rest f.inside f.least
-          c.set_of.ensures c.without-rest.ensures low);
-      inside = λ x lx e. i.inside x lx (and_parts (has c.loop-rest.rest x) (not (has c.set_of.result x)) (sym (c.without-rest.ensures x lx) ∙ e)).0;
+          c.of.result c.without-rest.result i.rest f.inside f.least
+          c.of.ensures c.without-rest.ensures low);
+      inside = λ x lx e. i.inside x lx (and_parts (has c.loop-rest.rest x) (not (has c.of.result x)) (sym (c.without-rest.ensures x lx) ∙ e)).0;
     }
 
 pub loop-rest-smaller : goal.loop-rest-smaller

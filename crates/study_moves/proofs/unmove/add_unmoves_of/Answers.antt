@@ -9,7 +9,7 @@ pub loop-rest-preserved : goal.loop-rest-preserved
 loop-rest-preserved c =
     let f = c.first-origin.ensures in
     gathered_more c.args.man.now c.origins-rest.result
-    _ _ _ _ _ _ _ _ _ _ _ c.loop-rest.invariant f.inside f.there f.least c.set_of.ensures c.without-rest.ensures
+    _ _ _ _ _ _ _ _ _ _ _ c.loop-rest.invariant f.inside f.there f.least c.of.ensures c.without-rest.ensures
     refl c.push.ensures.items c.number-next.ensures.value
 
 pub loop-rest-smaller : goal.loop-rest-smaller

@@ -12,7 +12,7 @@ loop-m-init c x lx = any_none (λ m. m.at == x) x
 pub loop-m-preserved : goal.loop-m-preserved
 loop-m-preserved c x lx =
     any_more (λ m. m.at == x) c.args.men.now c.loop-m.m-index _ c.m-item.result x _ _ _ c.loop-m-test.true
-    c.m-item.is (c.loop-m.invariant x lx) (c.set_of.ensures x lx) (c.union-set.ensures x)
+    c.m-item.is (c.loop-m.invariant x lx) (c.of.ensures x lx) (c.union-set.ensures x)
 
 pub returns : goal.returns
 returns c x lx =
