@@ -1,5 +1,5 @@
 //! Sets of squares as bits, the bit x for the square x.
-ghost use Rattle.std.specs.Prelude.{◌≡◌, ◌≢◌, ℕ, ◌<◌, ◌&&◌, ◌||◌, ◌==◌, not, true, false};
+ghost use Rattle.std.specs.Prelude.{◌≡◌, ◌≢◌, ◌↔◌, ℕ, ◌<◌, IsTrue, ◌&&◌, ◌||◌, ◌==◌, not, true, false};
 ghost use Rattle.study_board.specs.Geometry.{king_step, knight_jump, on_rook_line, on_bishop_line, strictly_between};
 ghost use Rattle.study_board.specs.Men.{pawn_captures, is_blocked, bears_on};
 ghost use Rattle.study_board.specs.Rays.{direction_of, ray_of};
@@ -58,7 +58,7 @@ impl SquareSet {
     /// Whether no square is in the set.
     #[inline]
     pub fn is_empty(self) -> bool
-        ensures { result ≡ (self == 0) }
+        ensures { IsTrue result ↔ (self ≡ 0) }
     {
         self.bits == 0
     }

@@ -5,4 +5,4 @@ use Rattle.study_moves.specs.KingSafety.{attacked_past}
 use Rattle.study_moves.proofs.king_safety.attacked_for_king.Goals as goal
 
 pub returns-else-is : goal.returns-else-is
-returns-else-is c x lx = none_unless _ (attacked_past c.args.men.now (other_side c.args.side) c.args.man.now.at x) x (sym c.is.ensures ∙ c.if-is.false)
+returns-else-is c x lx = rw c.empty.ensures (none_unless _ (attacked_past c.args.men.now (other_side c.args.side) c.args.man.now.at x) x (sym c.is.ensures ∙ c.if-is.false))

@@ -9,7 +9,7 @@ use Rattle.study_moves.proofs.KingSafety.{attacked_past_is}
 use Rattle.study_moves.proofs.king_safety.attacked_past.Goals as goal
 
 pub loop-m-init : goal.loop-m-init
-loop-m-init c x lx = any_none (λ m. is_other_man c.args.by c.args.lifted m && bears_past c.args.men.now c.args.lifted m x) x
+loop-m-init c x lx = rw c.empty-set.ensures (any_none (λ m. is_other_man c.args.by c.args.lifted m && bears_past c.args.men.now c.args.lifted m x) x)
 
 pub loop-m-preserved : goal.loop-m-preserved
 loop-m-preserved c x lx =

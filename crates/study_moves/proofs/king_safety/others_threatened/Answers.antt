@@ -8,7 +8,7 @@ use Rattle.study_moves.proofs.KingSafety.{others_threatened_is}
 use Rattle.study_moves.proofs.king_safety.others_threatened.Goals as goal
 
 pub loop-k-init : goal.loop-k-init
-loop-k-init c x lx = any_none (king_threatened c.args.men.now c.args.side c.args.lifted x) x
+loop-k-init c x lx = rw c.empty-set.ensures (any_none (king_threatened c.args.men.now c.args.side c.args.lifted x) x)
 
 pub loop-k-preserved : goal.loop-k-preserved
 loop-k-preserved c x lx =

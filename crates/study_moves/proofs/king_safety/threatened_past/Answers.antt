@@ -8,7 +8,7 @@ use Rattle.study_moves.proofs.KingSafety.{threatened_past_is}
 use Rattle.study_moves.proofs.king_safety.threatened_past.Goals as goal
 
 pub loop-m-init : goal.loop-m-init
-loop-m-init c x lx = any_none (threatens c.args.men.now c.args.by c.args.lifted c.args.k x) x
+loop-m-init c x lx = rw c.empty-set.ensures (any_none (threatens c.args.men.now c.args.by c.args.lifted c.args.k x) x)
 
 pub loop-m-preserved : goal.loop-m-preserved
 loop-m-preserved c x lx =

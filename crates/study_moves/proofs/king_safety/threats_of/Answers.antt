@@ -10,5 +10,6 @@ returns-then-contains c x lx =
 
 pub returns-else-contains : goal.returns-else-contains
 returns-else-contains c x lx =
-    none_unless _ (is_no_shield c.args.m.now c.args.k x) x
-    (sym (c.reach_of.ensures c.args.k c.number-square.ensures.small) ∙ sym c.contains.ensures ∙ c.if-contains.false)
+    rw c.empty.ensures
+    (none_unless _ (is_no_shield c.args.m.now c.args.k x) x
+    (sym (c.reach_of.ensures c.args.k c.number-square.ensures.small) ∙ sym c.contains.ensures ∙ c.if-contains.false))

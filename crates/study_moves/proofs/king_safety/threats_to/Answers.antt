@@ -6,5 +6,6 @@ use Rattle.study_moves.proofs.king_safety.threats_to.Goals as goal
 
 pub returns-else-is_king_elsewhere : goal.returns-else-is_king_elsewhere
 returns-else-is_king_elsewhere c x lx =
-    none_unless _ (threatened_past c.args.men.now (other_side c.args.side) c.args.lifted c.args.k.now.at x) x
-    (sym c.is_king_elsewhere.ensures ∙ c.if-is_king_elsewhere.false)
+    rw c.empty.ensures
+    (none_unless _ (threatened_past c.args.men.now (other_side c.args.side) c.args.lifted c.args.k.now.at x) x
+    (sym c.is_king_elsewhere.ensures ∙ c.if-is_king_elsewhere.false))

@@ -9,8 +9,8 @@ use Rattle.study_moves.proofs.PawnWindows.{has_room}
 use Rattle.study_moves.proofs.TargetsLeft.{IsRest, rest_begins, rest_more, next_below, up_to_first, none_left, few_more, few_end}
 use Rattle.study_moves.proofs.movegen.add_moves_of.Goals as goal
 
-pub loop-rest-init : goal.loop-rest-init
-loop-rest-init c =
+pub loop-next-init : goal.loop-next-init
+loop-next-init c =
     let a = c.args.man.now.at in
     let P : ℕ → Type 0 = λ n. AreMovesBelow c.args.p.now c.args.list.now.items n in
     let e : 512 * a ≡ 512 * a + 8 * 0 = omega arith in
@@ -31,32 +31,32 @@ loop-rest-init c =
 pub add_target-requires-clause-before : goal.add_target-requires-clause-before
 add_target-requires-clause-before c =
     let f = c.first-target.ensures in
-    let i = c.loop-rest.invariant in
-    up_to_first c.args.p.now c.args.man.now c.loop-rest.rest c.loop-rest.next c.first-target.result
-    c.loop-rest.list.items c.requires.here i.rest f.inside f.least
-    (next_below c.args.p.now c.args.man.now c.loop-rest.rest c.loop-rest.next c.first-target.result i.rest f.inside f.there) i.listed
+    let i = c.loop-next.invariant in
+    up_to_first c.args.p.now c.args.man.now c.loop-next.rest c.loop-next.next c.first-target.result
+    c.loop-next.list.items c.requires.here i.rest f.inside f.least
+    (next_below c.args.p.now c.args.man.now c.loop-next.rest c.loop-next.next c.first-target.result i.rest f.inside f.there) i.listed
 
 pub add_target-requires-clause-room : goal.add_target-requires-clause-room
 add_target-requires-clause-room c =
     let f = c.first-target.ensures in
-    let i = c.loop-rest.invariant in
+    let i = c.loop-next.invariant in
     let w = c.target_range-start.ensures in
-    let low = next_below c.args.p.now c.args.man.now c.loop-rest.rest c.loop-rest.next c.first-target.result i.rest f.inside f.there in
+    let low = next_below c.args.p.now c.args.man.now c.loop-next.rest c.loop-next.next c.first-target.result i.rest f.inside f.there in
     let high = (w.all _ _ c.first-target.result f.inside (i.rest.going c.first-target.result f.inside f.there)).1 in
-    has_room (is_pawn c.args.man.now) _ _ (c.loop-rest.next - c.target_range-start.result.0) i.few c.requires.room
+    has_room (is_pawn c.args.man.now) _ _ (c.loop-next.next - c.target_range-start.result.0) i.few c.requires.room
     (λ e. omega (arith, w.short e, i.from)) (omega (arith, i.from))
 
 pub add_target-requires-clause-sure : goal.add_target-requires-clause-sure
 add_target-requires-clause-sure c s =
     let f = c.first-target.ensures in
-    c.legal_targets-all.ensures.sure s c.first-target.result f.inside (c.loop-rest.invariant.inside c.first-target.result f.inside f.there)
+    c.legal_targets-all.ensures.sure s c.first-target.result f.inside (c.loop-next.invariant.inside c.first-target.result f.inside f.there)
 
-pub loop-rest-preserved : goal.loop-rest-preserved
-loop-rest-preserved c =
+pub loop-next-preserved : goal.loop-next-preserved
+loop-next-preserved c =
     let f = c.first-target.ensures in
-    let i = c.loop-rest.invariant in
+    let i = c.loop-next.invariant in
     let w = c.target_range-start.ensures in
-    let low = next_below c.args.p.now c.args.man.now c.loop-rest.rest c.loop-rest.next c.first-target.result i.rest f.inside f.there in
+    let low = next_below c.args.p.now c.args.man.now c.loop-next.rest c.loop-next.next c.first-target.result i.rest f.inside f.there in
     let high = (w.all _ _ c.first-target.result f.inside (i.rest.going c.first-target.result f.inside f.there)).1 in
     let n : c.number-next.result ≡ c.first-target.result = c.number-next.ensures.value in
     let P : ℕ → Type 0 = λ k. AreMovesBelow c.args.p.now c.add_target.new.list.items k in
@@ -64,32 +64,32 @@ loop-rest-preserved c =
     let Q : ℕ → Type 0 = λ k. IsRest c.args.p.now c.args.man.now c.without-rest.result (k + 1) in
     record {
       listed = subst P e c.add_target.ensures.after;
-      few = few_more (is_pawn c.args.man.now) _ _ _ (c.loop-rest.next - c.target_range-start.result.0) _ i.few
+      few = few_more (is_pawn c.args.man.now) _ _ _ (c.loop-next.next - c.target_range-start.result.0) _ i.few
           c.add_target.ensures.few (omega (arith, i.from, c.number-next.ensures.value));
       from = omega (arith, i.from, c.number-next.ensures.value);
       to = omega (arith, c.number-next.ensures.value);
       rest = subst Q (sym n)
-          (rest_more c.args.p.now c.args.man.now c.loop-rest.rest c.loop-rest.next c.first-target.result
+          (rest_more c.args.p.now c.args.man.now c.loop-next.rest c.loop-next.next c.first-target.result
           c.of.result c.without-rest.result i.rest f.inside f.least
           c.of.ensures c.without-rest.ensures low);
-      inside = λ x lx e. i.inside x lx (and_parts (has c.loop-rest.rest x) (not (has c.of.result x)) (sym (c.without-rest.ensures x lx) ∙ e)).0;
+      inside = λ x lx e. i.inside x lx (and_parts (has c.loop-next.rest x) (not (has c.of.result x)) (sym (c.without-rest.ensures x lx) ∙ e)).0;
     }
 
-pub loop-rest-smaller : goal.loop-rest-smaller
-loop-rest-smaller c =
+pub loop-next-smaller : goal.loop-next-smaller
+loop-next-smaller c =
     let f = c.first-target.ensures in
-    let i = c.loop-rest.invariant in
-    let low = next_below c.args.p.now c.args.man.now c.loop-rest.rest c.loop-rest.next c.first-target.result i.rest f.inside f.there in
+    let i = c.loop-next.invariant in
+    let low = next_below c.args.p.now c.args.man.now c.loop-next.rest c.loop-next.next c.first-target.result i.rest f.inside f.there in
     omega (arith, c.number-next.ensures.value, f.inside)
 
 pub returns-clause-after : goal.returns-clause-after
 returns-clause-after c =
-    let i = c.loop-rest.invariant in
-    none_left c.args.p.now c.args.man.now c.loop-rest.rest c.loop-rest.next _ c.loop-rest.list.items c.requires.here i.rest c.loop-rest-test.false
+    let i = c.loop-next.invariant in
+    none_left c.args.p.now c.args.man.now c.loop-next.rest c.loop-next.next _ c.loop-next.list.items c.requires.here i.rest (c.is_empty.ensures.0 c.loop-next-test.false)
     (omega (arith, i.to, c.target_range-start.ensures.range)) (omega arith) i.listed
 
 pub returns-clause-few : goal.returns-clause-few
 returns-clause-few c =
-    let i = c.loop-rest.invariant in
-    few_end (is_pawn c.args.man.now) _ _ (c.loop-rest.next - c.target_range-start.result.0) i.few
+    let i = c.loop-next.invariant in
+    few_end (is_pawn c.args.man.now) _ _ (c.loop-next.next - c.target_range-start.result.0) i.few
     (λ e. omega (arith, c.target_range-start.ensures.short e, i.to)) (omega (arith, i.to, c.target_range-start.ensures.range))

@@ -7,7 +7,7 @@ use Rattle.study_moves.proofs.QuietChecks.{is_occupied_is}
 use Rattle.study_moves.proofs.unmove.occupied.Goals as goal
 
 pub loop-m-init : goal.loop-m-init
-loop-m-init c x lx = any_none (λ m. m.at == x) x
+loop-m-init c x lx = rw c.empty-set.ensures (any_none (λ m. m.at == x) x)
 
 pub loop-m-preserved : goal.loop-m-preserved
 loop-m-preserved c x lx =

@@ -8,8 +8,9 @@ use Rattle.study_moves.proofs.unmove.origins_attacking.Goals as goal
 
 pub returns-else-is_king_elsewhere : goal.returns-else-is_king_elsewhere
 returns-else-is_king_elsewhere c a la =
-    let men = c.args.men.now in
+    rw c.empty.ensures
+    (let men = c.args.men.now in
     let man = c.args.man.now in
     let k = c.args.k.now in
     none_unless _ (bears_past men man.at (set_back man a) k.at || threatened_past men (other_side c.args.side)
-    man.at k.at a) a (sym c.is_king_elsewhere.ensures ∙ c.if-is_king_elsewhere.false)
+    man.at k.at a) a (sym c.is_king_elsewhere.ensures ∙ c.if-is_king_elsewhere.false))

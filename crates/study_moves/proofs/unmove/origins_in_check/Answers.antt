@@ -8,7 +8,7 @@ use Rattle.study_moves.proofs.QuietChecks.{was_check_is}
 use Rattle.study_moves.proofs.unmove.origins_in_check.Goals as goal
 
 pub loop-k-init : goal.loop-k-init
-loop-k-init c a la = any_none (king_was_attacked c.args.men.now c.args.side c.args.man.now a) a
+loop-k-init c a la = rw c.empty-set.ensures (any_none (king_was_attacked c.args.men.now c.args.side c.args.man.now a) a)
 
 pub loop-k-preserved : goal.loop-k-preserved
 loop-k-preserved c a la =

@@ -5,5 +5,6 @@ use Rattle.study_moves.proofs.unmove.two_steps_back.Goals as goal
 
 pub returns-then-is_occupied : goal.returns-then-is_occupied
 returns-then-is_occupied c a la =
-    let o : is_occupied c.args.men.now c.args.one ≡ true = rw (← c.number.ensures.value) (sym c.is_occupied.ensures ∙ c.if-is_occupied.true) in
-    stopped c.args.men.now c.args.one c.args.two a o
+    rw c.empty.ensures
+    (let o : is_occupied c.args.men.now c.args.one ≡ true = rw (← c.number.ensures.value) (sym c.is_occupied.ensures ∙ c.if-is_occupied.true) in
+    stopped c.args.men.now c.args.one c.args.two a o)
