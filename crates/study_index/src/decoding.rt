@@ -13,7 +13,7 @@ ghost use Rattle.study_board.specs.Men.{other_side};
 
 use crate::en_passant::{has_legal_en_passant, square_behind_pawn};
 use crate::least_image::least_image;
-use crate::number::listed_count;
+use crate::number::{EN_PASSANT_BIT, listed_count};
 use crate::reading::{class_has_pawn, has_like_men, told_by};
 use study_board::{Kind, Man, Position, Side, Square, has_fault, in_order};
 use study_material::Class;
@@ -191,7 +191,7 @@ fn decode_en_passant(class: Class, n: u32) -> Option<Position>
     ensures none { IfNone result ((q : Seen) → IsDecoded class n q → ⊥) }
 {
     let (slots, pawns) = (slots(class), class_has_pawn(class));
-    match decode_slots(slots, pawns, has_like_men(class), n - 16_777_216, true) {
+    match decode_slots(slots, pawns, has_like_men(class), n - EN_PASSANT_BIT, true) {
         None => None,
         Some(q) => if has_legal_en_passant(&q) {
             Some(q)
@@ -210,7 +210,7 @@ pub fn decode(class: Class, n: u32) -> Option<Position>
 {
     if n >= cells(class) {
         None
-    } else if n < 16_777_216 {
+    } else if n < EN_PASSANT_BIT {
         decode_plain(class, n)
     } else {
         decode_en_passant(class, n)

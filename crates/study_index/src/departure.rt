@@ -11,6 +11,7 @@ ghost use Rattle.study_index.specs.Departure.{IsAdded, keeps_image};
 use crate::decoding::{Slot, head, slots};
 use crate::least_image::is_on_diagonal;
 use crate::moved::{number_moved, slot_on};
+use crate::number::EN_PASSANT_BIT;
 use crate::reading::{class_has_pawn, has_like_men};
 use crate::stepped::{side_turned, square_told, square_weight};
 use study_board::Square;
@@ -52,7 +53,7 @@ impl Departure {
         ensures from { result.from ≡ from }
     {
         let (slots, pawns) = (slots(class), class_has_pawn(class));
-        let n = number % 16_777_216;
+        let n = number % EN_PASSANT_BIT;
         if let Some(slot) = slot_on(slots, pawns, n, from) {
             if slot > 0 && keeps_image(class, slots, pawns, n) {
                 return Departure::adding(class, number, from, slot);
@@ -82,7 +83,7 @@ impl Departure {
         ensures from { result.from ≡ from }
     {
         let (slots, pawns) = (slots(class), class_has_pawn(class));
-        let n = number % 16_777_216;
+        let n = number % EN_PASSANT_BIT;
         let count = slots.len() as u32;
         let weight = square_weight(count, slot);
         let turned = side_turned(pawns, count, n);

@@ -12,7 +12,7 @@ use crate::filling::{
     is_like, key, man_slot_number, side_after, square_of, square_of_man, with_one, with_three,
     with_two,
 };
-use crate::number::{has_pawn, number};
+use crate::number::{EN_PASSANT_BIT, has_pawn, number};
 use crate::transform::turned;
 use study_board::{Man, Position, Side, Square, Symmetry};
 
@@ -268,7 +268,7 @@ pub fn index(p: &Position) -> u32
 {
     let least = least_number(p);
     if has_legal_en_passant(p) {
-        16_777_216 + least
+        EN_PASSANT_BIT + least
     } else {
         least
     }

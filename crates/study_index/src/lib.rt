@@ -27,4 +27,5 @@ pub use laws::{
 };
 pub use least::index;
 pub use moved::{number_moved, number_stepped};
+pub use number::EN_PASSANT_BIT;
 pub use reading::{Setup, told};

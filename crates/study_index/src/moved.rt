@@ -16,7 +16,7 @@ ghost use Rattle.study_board.specs.Symmetry.{turned_square};
 use crate::decoding::{Slot, head, man, slots};
 use crate::least::least_of;
 use crate::least_image::least_image;
-use crate::number::number;
+use crate::number::{EN_PASSANT_BIT, number};
 use crate::reading::{class_has_pawn, has_like_men, king_told, side_told};
 use crate::stepped::stepped;
 use study_board::{Man, Square, Symmetry};
@@ -126,7 +126,7 @@ pub fn number_stepped(class: Class, number: u32, slot: u32, to: Square) -> u32
 {
     let slots = slots(class);
     let pawns = class_has_pawn(class);
-    let n = number % 16_777_216;
+    let n = number % EN_PASSANT_BIT;
     let like = has_like_men(class);
     if slot == 0 {
         match number_with_king_on(slots, pawns, n, to) {
@@ -189,7 +189,7 @@ pub fn number_moved(class: Class, number: u32, from: Square, to: Square) -> u32
     ensures { (p : Seen) → IsMoved class number from to p → index_of p ≡ result }
 {
     let slots = slots(class);
-    let n = number % 16_777_216;
+    let n = number % EN_PASSANT_BIT;
     let pawns = class_has_pawn(class);
     if let Some(slot) = slot_on(slots, pawns, n, from) {
         return number_stepped(class, number, slot, to);

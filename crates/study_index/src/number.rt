@@ -8,6 +8,9 @@ ghost use Rattle.study_index.specs.Squares.{counted_at, number_at};
 use crate::transform::turned;
 use study_board::{Kind, Man, Side, Square, Symmetry};
 
+/// What the number of a position has more where a capture in passing is legal.
+pub const EN_PASSANT_BIT: u32 = 16_777_216;
+
 /// What is added to a file for its square's place in the triangle a1, d1, d4.
 #[inline]
 fn places_before(rank: u8) -> u8

@@ -6,6 +6,7 @@ ghost use Rattle.study_index.specs.Stepped.{are_like_slots};
 ghost use Rattle.study_index.specs.Decoded.{AreSlots, slots_of, slots_have_pawn, man, head, listed_square, side_numbered, told_men, told_side};
 
 use crate::decoding::{Slot, listed_square, man, slots};
+use crate::number::EN_PASSANT_BIT;
 use arrayvec::ArrayVec;
 use study_board::{Man, Side};
 use study_material::Class;
@@ -75,7 +76,7 @@ pub fn told(class: Class, number: u32) -> Setup
 {
     let slots = slots(class);
     let pawns = class_has_pawn(class);
-    let n = number % 16_777_216;
+    let n = number % EN_PASSANT_BIT;
     told_by(slots, pawns, n)
 }
 

@@ -46,8 +46,11 @@ pub enum Class {
     KPKP,
 }
 
+/// How many classes there are.
+pub const CLASS_COUNT: usize = 36;
+
 /// All classes, in the order of the class list.
-static ALL: [Class; 36] = [
+static ALL: [Class; CLASS_COUNT] = [
     Class::KK,
     Class::KQK,
     Class::KRK,
@@ -88,7 +91,7 @@ static ALL: [Class; 36] = [
 
 impl Class {
     /// All classes: those where Black has a king alone, then those where each side has a man beside its king.
-    pub fn all() -> &'static [Class; 36]
+    pub fn all() -> &'static [Class; CLASS_COUNT]
         ensures { result.now ≡ class_list }
     {
         &ALL

@@ -10,7 +10,7 @@ mod laws;
 mod material;
 mod reached;
 
-pub use class::Class;
+pub use class::{CLASS_COUNT, Class};
 pub use fault::ClassFault;
 pub use laws::{moves_lead_into_needs, needs_come_first, positions_have_one_class};
 pub use material::class_of;

@@ -3,24 +3,24 @@ ghost use Rattle.std.specs.Prelude.{◌≡◌, ◌≤◌, length};
 ghost use Rattle.study_material.specs.Class.{lists_of};
 ghost use Rattle.study_material.specs.Needs.{needs_of, IsOrder};
 
-use crate::Class;
+use crate::{CLASS_COUNT, Class};
 use arrayvec::ArrayVec;
 
 /// The classes that one capture, one promotion, or one promotion that captures a man other than a pawn leads to.
-pub fn needs(class: Class) -> ArrayVec<Class, 36>
+pub fn needs(class: Class) -> ArrayVec<Class, CLASS_COUNT>
     ensures { result.items ≡ needs_of class }
 {
     listed(needed(class))
 }
 
 /// The class and all classes that it needs, directly or through others, each after those that it needs.
-pub fn order(class: Class) -> ArrayVec<Class, 36>
+pub fn order(class: Class) -> ArrayVec<Class, CLASS_COUNT>
     ensures { IsOrder class result.items }
 {
     listed(ordered(class))
 }
 
-fn listed(classes: &[Class]) -> ArrayVec<Class, 36>
+fn listed(classes: &[Class]) -> ArrayVec<Class, CLASS_COUNT>
     requires { length classes.now ≤ 36 }
     ensures { result.items ≡ classes.now }
 {

@@ -33,7 +33,7 @@ use std::marker::Model;
 use std::num::NonZeroUsize;
 use study_board::Position;
 use study_index::index;
-use study_material::{Class, class_of};
+use study_material::{CLASS_COUNT, Class, class_of};
 use study_retro::Value;
 use study_tablefile::PageSource;
 
@@ -132,8 +132,8 @@ fn no_sources<'a, S, A: Allocator>(
 ) -> Result<Vec<Option<OpenTable<S>>, &'a A>, AllocError>
     ensures { IfOk result (λ v. v.items ≡ replicate 36 None) }
 {
-    let mut places = Vec::with_capacity(alloc, 36)?;
-    while places.len() < 36 {
+    let mut places = Vec::with_capacity(alloc, CLASS_COUNT)?;
+    while places.len() < CLASS_COUNT {
         places.push_reserved(None);
     }
     Ok(places)

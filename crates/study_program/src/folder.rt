@@ -9,7 +9,7 @@ use std::alloc::{AllocError, Allocator};
 use std::io::{ErrorKind, Read, Seek, SeekFrom};
 use std::rt::Files;
 use std::{fs, io};
-use study_material::Class;
+use study_material::{CLASS_COUNT, Class};
 use study_script::{StoreFault, TableStore};
 use study_tablefile::{HEADER_BYTES, PAGE_BYTES, PageSource, SourceFault};
 
@@ -26,7 +26,7 @@ impl<'r, 'a, R: Files, A: Allocator> FolderStore<'r, 'a, R, A> {
     /// The files of a folder, which need not be there.
     /// No contract: the type proves one path for each class, and nothing is known of what the files give.
     pub fn new(files: &'r R, alloc: &'a A, folder: &str) -> Result<Self, AllocError> {
-        let mut paths = Vec::with_capacity(alloc, 36)?;
+        let mut paths = Vec::with_capacity(alloc, CLASS_COUNT)?;
         for class in Class::all() {
             paths.push(path_in(alloc, folder, *class)?)?;
         }

@@ -11,7 +11,7 @@ ghost use Rattle.study_retro.specs.Predecessors.{IsPlainNumber, IsNumberBefore, 
 
 use arrayvec::ArrayVec;
 use study_board::{Position, distance};
-use study_index::{cells, decode, index, number_moved};
+use study_index::{EN_PASSANT_BIT, cells, decode, index, number_moved};
 use study_material::Class;
 use study_moves::{Move, played, unmoves, unplayed};
 
@@ -44,7 +44,7 @@ fn add_predecessor(
 {
     if let Some(plain) = plain_number(class, at, number, by) {
         list.push(plain);
-        let live = plain + 16_777_216;
+        let live = plain + EN_PASSANT_BIT;
         if is_numbered(class, live) {
             list.push(live);
         }

@@ -10,7 +10,7 @@ ghost use Rattle.study_retro.specs.TableSet.{first_missing, add_fault};
 use crate::table::Table;
 use std::alloc::{AllocError, Allocator};
 use std::marker::Model;
-use study_material::{Class, needs};
+use study_material::{CLASS_COUNT, Class, needs};
 use thiserror::Error;
 
 /// Why a table is not added.
@@ -51,8 +51,8 @@ impl<'a, A: Allocator> TableSet<'a, A> {
     pub fn new(alloc: &'a A) -> Result<Self, AllocError>
         ensures { IfOk result (λ s. (c : AClass) → table_of s c ≡ None) }
     {
-        let mut tables = Vec::with_capacity(alloc, 36)?;
-        while tables.len() < 36 {
+        let mut tables = Vec::with_capacity(alloc, CLASS_COUNT)?;
+        while tables.len() < CLASS_COUNT {
             tables.push_reserved(None);
         }
         Ok(TableSet { tables })

@@ -9,7 +9,7 @@ use std::alloc::Allocator;
 use std::cell::RefCell;
 use std::io;
 use std::io::{ErrorKind, Write};
-use study_material::Class;
+use study_material::{CLASS_COUNT, Class};
 use study_tablefile::MemorySource;
 use study_text::{MemoryReader, MemoryWriter};
 
@@ -27,7 +27,7 @@ pub enum MemoryFile<'f> {
 /// Files in memory, one for each class, and writers for those that are saved.
 #[derive(Drop)]
 pub struct MemoryStore<'f, 'w, 'a, A: Allocator> {
-    files: [MemoryFile<'f>; 36],
+    files: [MemoryFile<'f>; CLASS_COUNT],
     /// The writers of files to come, in the order in which they are opened. With none left no file is opened to be written.
     writers: &'w [RefCell<MemoryWriter<'a, A>>],
     /// How many files were opened to be written.
@@ -47,7 +47,7 @@ impl<'f, 'w, 'a, A: Allocator> MemoryStore<'f, 'w, 'a, A> {
         ensures writers { (result.writers ≡ writers.entry) × (result.opened ≡ 0) }
     {
         MemoryStore {
-            files: [MemoryFile::Absent; 36],
+            files: [MemoryFile::Absent; CLASS_COUNT],
             writers,
             opened: 0,
             fails_after: None,

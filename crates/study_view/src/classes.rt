@@ -8,10 +8,10 @@ ghost use Rattle.study_view.specs.Setup.{NeedsClass, IsNeededBy, AreThose, AreCl
 
 use arrayvec::ArrayVec;
 use study_board::Position;
-use study_material::{Class, class_of, order, positions_have_one_class};
+use study_material::{CLASS_COUNT, Class, class_of, order, positions_have_one_class};
 
 /// By number of men, number of pawns, and place in the list of classes.
-const BY_SIZE: [Class; 36] = [
+const BY_SIZE: [Class; CLASS_COUNT] = [
     Class::KK,
     Class::KQK,
     Class::KRK,
@@ -94,7 +94,7 @@ fn is_needed(positions: &[Position], class: Class) -> bool
 }
 
 /// Puts one more class last.
-fn push_class(class: Class, list: &mut ArrayVec<Class, 36>)
+fn push_class(class: Class, list: &mut ArrayVec<Class, CLASS_COUNT>)
     requires { array_vec_len list.old < 36 }
     ensures items { list.new.items ≡ list.old.items ++ class ∷ [] }
     ensures len { array_vec_len list.new ≡ array_vec_len list.old + 1 }
@@ -103,7 +103,7 @@ fn push_class(class: Class, list: &mut ArrayVec<Class, 36>)
 }
 
 /// Adds those of these classes that the positions need.
-fn add_needed(positions: &[Position], classes: &[Class], list: &mut ArrayVec<Class, 36>)
+fn add_needed(positions: &[Position], classes: &[Class], list: &mut ArrayVec<Class, CLASS_COUNT>)
     requires { array_vec_len list.old + length classes.now ≤ 36 }
     ensures { (more : List AClass) × AreThose (IsNeededBy positions.now) classes.now more × (list.new.items ≡ list.old.items ++ more) }
 {
@@ -121,7 +121,7 @@ fn add_needed(positions: &[Position], classes: &[Class], list: &mut ArrayVec<Cla
 
 /// The classes whose tables tell the values of these positions and of all to which they can lead, in the order in which to build
 /// the tables.
-pub fn classes_needed(positions: &[Position]) -> ArrayVec<Class, 36>
+pub fn classes_needed(positions: &[Position]) -> ArrayVec<Class, CLASS_COUNT>
     ensures { AreClassesNeeded positions.now result.items }
 {
     let mut list = ArrayVec::new();

@@ -6,7 +6,7 @@ ghost use Rattle.study_web.specs.Store.{known, faults_known, IsFileGiven, IsWith
 use crate::saved::{Saved, SavedFile};
 use crate::spans::{Span, file_in};
 use std::alloc::Allocator;
-use study_material::Class;
+use study_material::{CLASS_COUNT, Class};
 use study_script::{StoreFault, TableStore};
 use study_tablefile::MemorySource;
 use study_text::MemoryReader;
@@ -20,7 +20,7 @@ pub struct SpanStore<'f, 'w, 'a, A: Allocator> {
     bytes: &'f [u8],
     saved: &'w [Saved<'a, A>],
     /// Which classes' files were opened to be written.
-    written: [bool; 36],
+    written: [bool; CLASS_COUNT],
     ghost full: { length written ≡ 36 },
 }
 
@@ -35,7 +35,7 @@ impl<'f, 'w, 'a, A: Allocator> SpanStore<'f, 'w, 'a, A> {
             spans,
             bytes,
             saved,
-            written: [false; 36],
+            written: [false; CLASS_COUNT],
         }
     }
 

@@ -25,8 +25,8 @@ returns-then-n-cells-clause-none c = none_above c.args.class c.args.n _ c.cells.
 pub returns-then-n-cells-clause-value : goal.returns-then-n-cells-clause-value
 returns-then-n-cells-clause-value c = as_function c.args.class c.args.n None tt (none_above c.args.class c.args.n _ c.cells.ensures c.if-n-cells.true)
 
-pub returns-then-n-lt16777216-clause-value : goal.returns-then-n-lt16777216-clause-value
-returns-then-n-lt16777216-clause-value c = as_function c.args.class c.args.n _ c.decode_plain.ensures.some c.decode_plain.ensures.none
+pub returns-then-n-lt-EN_PASSANT_BIT-clause-value : goal.returns-then-n-lt-EN_PASSANT_BIT-clause-value
+returns-then-n-lt-EN_PASSANT_BIT-clause-value c = as_function c.args.class c.args.n _ c.decode_plain.ensures.some c.decode_plain.ensures.none
 
-pub returns-else-n-lt16777216-clause-value : goal.returns-else-n-lt16777216-clause-value
-returns-else-n-lt16777216-clause-value c = as_function c.args.class c.args.n _ c.decode_en_passant.ensures.some c.decode_en_passant.ensures.none
+pub returns-else-n-lt-EN_PASSANT_BIT-clause-value : goal.returns-else-n-lt-EN_PASSANT_BIT-clause-value
+returns-else-n-lt-EN_PASSANT_BIT-clause-value c = as_function c.args.class c.args.n _ c.decode_en_passant.ensures.some c.decode_en_passant.ensures.none
