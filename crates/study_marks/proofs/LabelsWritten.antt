@@ -2,10 +2,9 @@
 use Rattle.std.proofs.Common.{◌≡◌, ℕ, ◌+◌, ◌≤◌, List, [], ◌∷◌, ◌++◌, length, Bool}
 use Rattle.std.proofs.Common.{refl, sym, ap, ◌∙◌, arith, zero, suc}
 use Rattle.std.specs.Prelude.{take, ◌-◌}
-use Rattle.study_tree.specs.Forest.{Forest, none, more, Twig, nodes_in}
-use Rattle.study_tree.specs.Edits.{IsWithin, has_node, node_in, width}
+use Rattle.study_tree.specs.Forest.{Forest, none, more, nodes_in}
+use Rattle.study_tree.specs.Edits.{width}
 use Rattle.study_text.specs.Counts.{counted}
-use Rattle.study_tree.specs.Tree.{Plain, Spot, spot_at, twig_spot, has_spot}
 use Rattle.study_marks.specs.declared.label.Label.{Label}
 use Rattle.study_marks.specs.declared.label.Told.{Told}
 use Rattle.study_marks.specs.declared.mark_rules.Aim.{Aim}

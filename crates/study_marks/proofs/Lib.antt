@@ -9,6 +9,7 @@ pub mod StudyEdits
 pub mod BenchEdits
 pub mod OneAnnotation
 pub mod Readers
+pub mod NodesLent
 pub mod ValuesAsked
 pub mod ChildFound
 pub mod InsertedMoves

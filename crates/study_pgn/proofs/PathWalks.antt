@@ -130,9 +130,6 @@ others_are s (more m l b r) zero =
     (sym (skip_zero r))
 others_are s (more m l b r) (suc k) = others_are s r k
 
-pub others_missing : (s : Start) (f : Forest Mark) (k : ℕ) → node_in f k [] ≡ None → variations s (skip k f) ≡ variations s (skip (suc k) f)
-others_missing s f k e = others_are s f k ∙ ap (other_text s (variations s (skip (suc k) f))) e
-
 pub others_first : (s : Start) (f : Forest Mark) (k : ℕ) (t : Twig Mark) → node_in f k [] ≡ Some t →
     variations s (skip k f) ≡ codes " ("
     ++ (words_of_move s t.played t.label

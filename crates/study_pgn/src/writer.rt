@@ -20,10 +20,7 @@ use study_text::{Text, write_text};
 pub fn root_mark<'b, B: Allocator>(bench: &Bench<'b, B>) -> Mark
     ensures { result ≡ (marked bench.now).tree.label }
 {
-    match bench.shown(&[]) {
-        None => unreachable!(),
-        Some(node) => node.mark,
-    }
+    bench.root().mark()
 }
 
 #[tactic(auto, unfolding(crate::specs::Pgn::movetext))]
@@ -36,11 +33,10 @@ fn movetext<'a, 'b, A: Allocator, B: Allocator>(
     ensures { IfOk result (λ text. text ≡ movetext (marked bench.now)) }
 {
     let start = bench.start();
-    let mut steps = Vec::new(alloc);
     let mut text = Text::new(alloc);
     let first = start.position.to_move();
     add_root_comment(&mut text, bench.stipulation(), first, root)?;
-    add_moves_below(&mut text, bench, &mut steps, start)?;
+    add_moves_below(&mut text, &bench.root(), start)?;
     text.add(b" ")?;
     text.add(result_text(first, root.value))?;
     Ok(text)
@@ -66,8 +62,8 @@ fn pgn_text<'a, 'b, A: Allocator, B: Allocator>(
 /// Writes the PGN of a study.
 ///
 /// The text is made whole first, so want of memory is told before the first byte. A writer that fails or takes nothing
-/// ends the call; it took a prefix of the text then. The time grows with the number of nodes, and with the depth of
-/// each, since a node is looked up along its path.
+/// ends the call; it took a prefix of the text then. The time grows with the number of nodes: each is reached from its
+/// parent, and none is looked up along its path.
 pub fn write_pgn<'a, 'b, A: Allocator, B: Allocator, W: Write>(
     alloc: &'a A,
     bench: &Bench<'b, B>,

@@ -1,7 +1,9 @@
 //! Calls of a study, each in a function without a contract: a test that goes through them is proved without the clauses of
 //! the calls, which it has no use for, since it asserts what it expects.
 use std::alloc::{Allocator, Global};
-use study_marks::{Bench, Edit, Mark, Refusal, Shown, Stipulation, Stopped};
+use study_marks::{
+    Bench, Edit, Mark, MarkedChild, MarkedNode, Refusal, Shown, Stipulation, Stopped,
+};
 use study_moves::Move;
 use study_notation::Start;
 use study_pgn::{PgnFault, write_pgn};
@@ -86,6 +88,17 @@ pub(crate) fn relabelled<A: Allocator>(bench: &Bench<'_, A>) -> u64 {
 
 pub(crate) fn shown<A: Allocator>(bench: &Bench<'_, A>, steps: &[u16]) -> Option<Shown> {
     bench.shown(steps)
+}
+
+pub(crate) fn root<'t, 'a, A: Allocator>(bench: &'t Bench<'a, A>) -> MarkedNode<'t, 'a, A> {
+    bench.root()
+}
+
+pub(crate) fn child<'t, 'a, A: Allocator>(
+    node: &MarkedNode<'t, 'a, A>,
+    place: u16,
+) -> Option<MarkedChild<'t, 'a, A>> {
+    node.child(place)
 }
 
 pub(crate) fn mark<'a, A: Allocator>(bench: &Bench<'a, A>, at: &Path<'a, A>) -> Option<Mark> {

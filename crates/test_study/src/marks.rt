@@ -2,7 +2,7 @@
 ghost use Rattle.std.specs.Prelude.{◌≡◌, Ok, true};
 
 use crate::calls;
-use crate::studies::{QUEEN, move_of, path_of, start_of, tables_of};
+use crate::studies::{Case, QUEEN, move_of, path_of, start_of, tables_of};
 use arrayvec::ArrayString;
 use std::alloc::{Allocator, Global};
 use std::process::Abort;
@@ -164,6 +164,60 @@ fn moved(origin: u8, target: u8) -> Move {
         target: Square::at(target % 64),
         promoted: None,
     }
+}
+
+/// A check, the one reply to it, and a mate.
+const LINE: Case = Case {
+    moves: &[(&[], "Qg2"), (&[0], "Kb8"), (&[0, 0], "Qb7")],
+    ..QUEEN
+};
+
+const LINE_ROOT: Mark = Mark { faults: 2, ..ROOT };
+
+/// The moves of the line with their marks: after the reply all but two of 28 moves win.
+const LINE_MOVES: [(u8, u8, Mark); 3] = [
+    (
+        6,
+        14,
+        Mark {
+            value: Value::Loss(2),
+            faults: 2,
+            ..DUAL
+        },
+    ),
+    (
+        56,
+        57,
+        Mark {
+            on_move: Some(MoveMark::Reply),
+            ..ROOT
+        },
+    ),
+    (
+        14,
+        49,
+        Mark {
+            on_move: Some(MoveMark::Dual(25)),
+            ..DUAL
+        },
+    ),
+];
+
+/// Child by child, each node of the line that is lent shows its move and its mark.
+#[test]
+fn lent_nodes_show_moves_and_marks(rt: HostRuntime) {
+    let alloc = rt.alloc();
+    let mut values = tables_of(&rt, &alloc, &[Class::KK, Class::KQK]);
+    let bench = LINE.study(&rt, &alloc, &mut values);
+    let mut node = calls::root(&bench);
+    assert_eq!(rt; node.mark(), LINE_ROOT);
+    for (origin, target, mark) in LINE_MOVES {
+        let child = calls::child(&node, 0).expect(&rt, "a child");
+        assert!(rt; child.played == moved(origin, target));
+        assert_eq!(rt; child.node.mark(), mark);
+        node = child.node;
+    }
+    assert!(rt; node.width() == 0 && calls::child(&node, 0).is_none());
 }
 
 /// The insertions of the queen's moves to these squares.
