@@ -211,14 +211,6 @@ module _ (c : Class) (number : ℕ) (q : Position) (at : position_numbered c num
   pub no_shared_square : has_square_twice men ≡ true → ⊥
   no_shared_square e = false≢true (sym faultless.once ∙ sym (has_square_twice_same men q.men told_men_are) ∙ e)
 
--- the side to move of the position is in check if the men told are
-pub check_told : (c : Class) (number : ℕ) (q : Position) → position_numbered c number ≡ Some q → (men : List Man) (side : Side)
-    → AreTold c number men side → in_check q.men q.to_move ≡ in_check men side
-check_told c number q at men side told =
-    ap (λ (t : Side). in_check q.men t) (sym (side_is c number q at men side told))
-    ∙ sym (in_check_same men q.men
-    (subst (λ (zs : List Man). IsPermutation zs q.men) (sym told.0) (told_of c number q (told_decoded c number q at)).same_men) side)
-
 -- before the levels the cell of its number is 0, as is that of a number without a position
 pub still_held : (c : Class) (held : List (Option Table)) (number : ℕ) → IsNumberedClass (class_game c held) → OutsideIsRight (class_game c held)
     → ((q : Position) → position_numbered c number ≡ Some q → IsStill q) → has_both_pawns (lists_of c) ≡ false → CellIsHeld (class_game c held) false 0 number 0
@@ -233,7 +225,7 @@ still_held c held number laws outer still single = by_position (position_numbere
         let d = laws.decoded number q e in
         let s = still q e in
         subst Held (sym e)
-        (held-draw laws outer q d.0 d.1 (λ mate. false≢true (sym s.0 ∙ mate.0)) false (record {
+        (held-draw laws outer q d.0 d.1 s.0 false (record {
           no_loss = λ r m l. absurd (leaves q e s r l);
           holds = inr ((λ x. x), (λ r l. leaves q e s r l));
         }))

@@ -1,5 +1,5 @@
 //! Numbers at which nothing can be worth anything before the levels: those without a position, and those where the side to
-//! move is not in check, and can neither take nor promote.
+//! move is not mated, and can neither take nor promote.
 ghost use Rattle.std.specs.Prelude.{◌≡◌, ◌<◌, ◌&&◌, ◌==◌, ℕ, false, IsTrue, Some};
 ghost use Rattle.std.specs.List.{list_any};
 ghost use Rattle.study_board.specs.declared.men.Kind.TheVariants.{King, Pawn};
@@ -7,12 +7,14 @@ ghost use Rattle.study_board.specs.Geometry.{rank_of};
 ghost use Rattle.study_board.specs.Men.{bears_on, is_attacked, is_man, same_side};
 ghost use Rattle.study_board.specs.Position.{Position as Seen, has_square_twice, in_check};
 ghost use Rattle.study_board.specs.Sets.{has};
+ghost use Rattle.study_moves.specs.Game.{IsMate};
 ghost use Rattle.study_material.specs.Class.{lists_of};
 ghost use Rattle.study_index.specs.Number.{has_both_pawns};
 ghost use Rattle.study_index.specs.Computed.{position_numbered};
 ghost use Rattle.study_retro.specs.Predecessors.{AreTold};
 ghost use Rattle.study_retro.specs.Still.{HasOnlyQuiet, IsStill, rank_before_last};
 
+use crate::escapes::has_move;
 use study_board::{Kind, Man, Side, attacks, has, union};
 use study_index::{Setup, told};
 use study_material::Class;
@@ -147,16 +149,29 @@ fn is_impossible(class: Class, number: u32, setup: &Setup, attacked: u64) -> boo
     has_king_in(men, setup.to_move.other(), attacked) || has_square_twice(men)
 }
 
-/// Whether nothing is known of the number before the levels: it has no position, or one in which the side to move is not in
-/// check and has quiet moves alone. Some numbers without a position are not told.
+/// Whether the side to move is not mated, if the number has a position.
+#[inline]
+fn is_no_mate(class: Class, number: u32, setup: &Setup) -> bool
+    requires single { has_both_pawns (lists_of class) ≡ false }
+    requires told { AreTold class number setup.now.men.items setup.now.to_move }
+    ensures { IsTrue result → (q : Seen) → position_numbered class number ≡ Some q → IsMate q → ⊥ }
+{
+    if !is_checked(class, number, setup) {
+        return true;
+    }
+    has_move(class, number, setup)
+}
+
+/// Whether nothing is known of the number before the levels: it has no position, or one in which the side to move is not
+/// mated and has quiet moves alone. Some numbers without a position are not told.
 pub fn begins_unknown(class: Class, number: u32) -> bool
     requires { has_both_pawns (lists_of class) ≡ false }
     ensures { IsTrue result → (q : Seen) → position_numbered class number ≡ Some q → IsStill q }
 {
     let setup = told(class, number);
     let attacked = attacked_squares(setup.men.as_slice(), setup.to_move);
-    if stays_by(class, number, &setup, attacked) && !is_checked(class, number, &setup) {
-        return true;
+    if stays_by(class, number, &setup, attacked) {
+        return is_no_mate(class, number, &setup);
     }
     is_impossible(class, number, &setup, attacked)
 }
