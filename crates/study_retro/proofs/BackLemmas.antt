@@ -72,6 +72,14 @@ set-added Why k c a b s f i = elim (f i) [
   | inr x ↦ inr (x.0, x.1 ∙ s, elim x.2 [ inl z ↦ z | inr l ↦ absurd (false≢true l.0) ])
 ]
 
+-- what a departure tells of a number
+pub departed : (c d : Class) (number n x y a k : ℕ) → d ≡ c → n ≡ number → y ≡ x → ((p : Position) → IsMoved d n y a p → index_of p ≡ k)
+    → (p : Position) → IsMoved c number x a p → index_of p ≡ k
+departed c d number n x y a k e f g fits p moved =
+    fits p
+    (subst (λ (b : Class). IsMoved b n y a p) (sym e)
+    (subst (λ (m : ℕ). IsMoved c m y a p) (sym f) (subst (λ (z : ℕ). IsMoved c number z a p) (sym g) moved)))
+
 -- ---- positions before quiet moves
 
 module _ (c : Class) (number : ℕ) (q : Position) (at : position_numbered c number ≡ Some q) where

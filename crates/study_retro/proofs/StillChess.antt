@@ -3,23 +3,26 @@ use Rattle.std.proofs.Common.{◌≡◌, ℕ, zero, suc, ◌<◌, ◌==◌, ◌�
 use Rattle.std.proofs.Common.{Option, Some, None, refl, sym, ◌∙◌, ap, subst}
 use Rattle.std.specs.List.{list_any}
 use Rattle.std.specs.List.Sorted.{IsPermutation}
+use Rattle.std.proofs.lemmas.List.Sorted.{All-permutation, IsPermutation-sym}
 use Rattle.std.proofs.lemmas.Bool.{and_parts, cases_Bool, eqb-true, eq-eqb, false≢true}
 use Rattle.study_board.specs.declared.men.Side.{Side}
 use Rattle.study_board.specs.declared.men.Side.TheVariants.{White, Black}
 use Rattle.study_board.specs.declared.men.Kind.{Kind}
-use Rattle.study_board.specs.declared.men.Kind.TheVariants.{Pawn}
+use Rattle.study_board.specs.declared.men.Kind.TheVariants.{King, Pawn}
 use Rattle.study_board.specs.declared.men.Man.{Man}
 use Rattle.study_board.specs.Geometry.{rank_of}
 use Rattle.study_board.specs.Men.{bears_on, is_attacked, is_man, is_pawn, other_side, same_side}
-use Rattle.study_board.specs.Position.{Position, in_check, is_occupied}
+use Rattle.study_board.specs.Position.{Position, has_square_twice, in_check, is_occupied}
 use Rattle.study_board.specs.EqualLaws.{sides_equal}
-use Rattle.study_board.proofs.Faults.{in_check_same}
+use Rattle.study_board.specs.Sets.{has}
+use Rattle.study_board.proofs.Faults.{has_square_twice_same, in_check_same}
+use Rattle.study_board.proofs.Valid.{IsFaultless, IsFaultless-from_first}
 use Rattle.study_moves.specs.declared.moves.Move.{Move}
 use Rattle.study_moves.specs.Rules.{after, has_side, is_legal, is_promotion_choice, last_rank, starting_rank, reaches_last_rank, reaches_target}
 use Rattle.study_moves.specs.AnyOrder.{is_safe_target}
 use Rattle.study_moves.specs.Unmoves.{IsQuiet}
 use Rattle.study_moves.proofs.HowMenGo.{IsAheadBy, IsStep, IsDoubleStep, IsCapture, bears_or_empty, pawn_ways}
-use Rattle.study_moves.proofs.MenOfList.{IsAmong, list_any-none, none_among}
+use Rattle.study_moves.proofs.MenOfList.{All-among, IsAmong, list_any-none, none_among}
 use Rattle.study_material.specs.declared.class.Class.{Class}
 use Rattle.study_material.specs.Class.{is_of, lists_of}
 use Rattle.study_material.proofs.Classes.{is_of-IsOf}
@@ -156,13 +159,57 @@ stays_quiet c number q at single men side told takes promotes = quiet
             let plain = target_plain men side promotes man (among-of men man among) his m.target goes.0 in
             (sym (occupied_same c number q at single men side told m.target) ∙ free, none_to_promote (reaches_last_rank man m.target) m.promoted plain choice)
 
--- the side to move of the position is in check if the men told are
-pub check_told : (c : Class) (number : ℕ) (q : Position) → position_numbered c number ≡ Some q → (men : List Man) (side : Side)
-    → AreTold c number men side → in_check q.men q.to_move ≡ in_check men side
-check_told c number q at men side told =
-    ap (λ (t : Side). in_check q.men t) (sym (side_is c number q at men side told))
-    ∙ sym (in_check_same men q.men
-    (subst (λ (zs : List Man). IsPermutation zs q.men) (sym told.0) (told_of c number q (told_decoded c number q at)).same_men) side)
+-- ---- words of squares
+
+pub attacked_is : (men : List Man) (side : Side) (x : ℕ) → list_any (λ m. same_side m.side side && bears_on men m x) men ≡ is_attacked men side x
+unfolding is_attacked
+attacked_is men side x = refl
+
+pub other_other : (s : Side) → s ≡ other_side (other_side s)
+other_other White = refl
+other_other Black = refl
+
+-- tests that agree at each man of a list agree on it
+any_alike : (p r : Man → Bool) (xs : List Man) → ((m : Man) → IsAmong m xs → p m ≡ r m) → list_any p xs ≡ list_any r xs
+any_alike p r [] h = refl
+any_alike p r (x ∷ xs) h = rw (h x (inl refl), any_alike p r xs (λ m i. h m (inr i)))
+
+-- what the men told tell of the position
+module _ (c : Class) (number : ℕ) (q : Position) (at : position_numbered c number ≡ Some q) (men : List Man) (side : Side)
+    (told : AreTold c number men side) where
+  told_men_are : IsPermutation men q.men
+  told_men_are = subst (λ (zs : List Man). IsPermutation zs q.men) (sym told.0) (told_of c number q (told_decoded c number q at)).same_men
+
+  on_board : (m : Man) → IsAmong m men → m.at < 64
+  on_board m i =
+      All-among (λ (k : Man). k.at < 64) men m
+      (All-permutation (λ (k : Man). k.at < 64) q.men men (IsPermutation-sym men q.men told_men_are) (told_decoded c number q at).valid.on_board) i
+
+  faultless : IsFaultless q.men q.to_move q.passed
+  faultless = IsFaultless-from_first q.men q.to_move q.passed (told_decoded c number q at).valid.faultless
+
+  -- a word of the squares on which the men of a side bear
+  module _ (by : Side) (set : ℕ) (word : (x : ℕ) → x < 64 → has set x ≡ is_attacked men by x) where
+    pub by_word : (p : Man → Bool) → list_any (λ m. p m && has set m.at) men ≡ list_any (λ m. p m && is_attacked men by m.at) men
+    by_word p = any_alike (λ m. p m && has set m.at) (λ m. p m && is_attacked men by m.at) men
+        (λ m i. ap (λ (b : Bool). p m && b) (word m.at (on_board m i)))
+
+    -- whether a king of the other side is on it tells whether that side is in check
+    pub check_by_word : (s : Side) → by ≡ other_side s → list_any (λ m. is_man s King m && has set m.at) men ≡ in_check q.men s
+    unfolding in_check
+    check_by_word s o =
+        by_word (λ m. is_man s King m)
+        ∙ ap (λ (t : Side). list_any (λ m. is_man s King m && is_attacked men t m.at) men) o
+        ∙ in_check_same men q.men told_men_are s
+
+  -- where the side to move bears on the other king there is no position
+  pub no_capture_of_king : in_check q.men (other_side side) ≡ true → ⊥
+  no_capture_of_king e =
+      false≢true (sym faultless.safe ∙ ap (λ (t : Side). in_check q.men (other_side t)) (sym (side_is c number q at men side told)) ∙ e)
+
+  -- nor where two men share a square
+  pub no_shared_square : has_square_twice men ≡ true → ⊥
+  no_shared_square e = false≢true (sym faultless.once ∙ sym (has_square_twice_same men q.men told_men_are) ∙ e)
 
 -- before the levels the cell of its number is 0, as is that of a number without a position
 pub still_held : (c : Class) (held : List (Option Table)) (number : ℕ) → IsNumberedClass (class_game c held) → OutsideIsRight (class_game c held)
@@ -178,7 +225,7 @@ still_held c held number laws outer still single = by_position (position_numbere
         let d = laws.decoded number q e in
         let s = still q e in
         subst Held (sym e)
-        (held-draw laws outer q d.0 d.1 (λ mate. false≢true (sym s.0 ∙ mate.0)) false (record {
+        (held-draw laws outer q d.0 d.1 s.0 false (record {
           no_loss = λ r m l. absurd (leaves q e s r l);
           holds = inr ((λ x. x), (λ r l. leaves q e s r l));
         }))

@@ -1,10 +1,11 @@
 -- Not part of any public contract: the quiet moves of a position, and what they lead to.
-use Rattle.std.specs.Prelude.{◌≡◌, ℕ, ◌≤◌, true, false, List, None}
+use Rattle.std.specs.Prelude.{◌≡◌, ℕ, ◌≤◌, true, List, None}
 use Rattle.study_board.specs.declared.men.Side.{Side}
 use Rattle.study_board.specs.declared.men.Side.TheVariants.{White, Black}
 use Rattle.study_board.specs.declared.men.Man.{Man}
-use Rattle.study_board.specs.Position.{Position, in_check}
+use Rattle.study_board.specs.Position.{Position}
 use Rattle.study_moves.specs.declared.moves.Move.{Move}
+use Rattle.study_moves.specs.Game.{IsMate}
 use Rattle.study_moves.specs.Rules.{is_legal, after}
 use Rattle.study_moves.specs.Unmoves.{IsQuiet}
 use Rattle.study_retro.specs.declared.value.Value.TheVariants.{Win}
@@ -19,9 +20,9 @@ rank_before_last Black = 1
 abbrev pub HasOnlyQuiet : Position → Type 0
 HasOnlyQuiet q = (m : Move) → is_legal q m ≡ true → IsQuiet q m
 
--- the side to move is not in check, and each of its moves is quiet
+-- the side to move is not mated, and each of its moves is quiet
 abbrev pub IsStill : Position → Type 0
-IsStill q = (in_check q.men q.to_move ≡ false) × HasOnlyQuiet q
+IsStill q = (IsMate q → ⊥) × HasOnlyQuiet q
 
 -- the move of the man to x, without a promotion
 abbrev pub move_to : Man → ℕ → Move

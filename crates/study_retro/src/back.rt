@@ -9,7 +9,7 @@ ghost use Rattle.study_retro.specs.Propagation.{AreSet, IsSetWhere};
 
 use crate::propagate::{lower_cell, mark_cell};
 use study_board::{Man, first, set_of, without};
-use study_index::{Setup, number_moved, told};
+use study_index::{Departure, Setup, told};
 use study_material::Class;
 use study_moves::origins;
 
@@ -59,12 +59,13 @@ fn write_before_man(
         return 0;
     }
     let all = origins(setup.men.as_slice(), setup.to_move, man);
+    let departure = Departure::new(class, number, man.at);
     let mut rest = all;
     let mut next = 0u8;
     while rest != 0 {
         let origin = first(rest);
         rest = without(rest, set_of(origin));
-        let before = number_moved(class, number, man.at, origin);
+        let before = departure.number_to(origin);
         write_cell(cells, before, change);
         next = origin.number() + 1;
     }

@@ -15,7 +15,7 @@ use crate::game::{Game, Location};
 use crate::initial::{Initial, initial_by_moves};
 use crate::propagate::{is_lost_by_moves, lower_by_moves, mark_by_moves};
 use crate::stepped::{LabelledGame, SteppedGame};
-use crate::still::{is_still, stays};
+use crate::still::{begins_unknown, stays};
 use crate::table_set::TableSet;
 use crate::value::{Value, value_at};
 use arrayvec::ArrayVec;
@@ -124,7 +124,7 @@ impl<'t, 'a, A: Allocator> SteppedGame for ClassGame<'t, 'a, A> {
         if has_both_pawns(self.class) {
             return initial_by_moves(self, number);
         }
-        if is_still(self.class, number) {
+        if begins_unknown(self.class, number) {
             return Initial {
                 cell: 0,
                 far: false,

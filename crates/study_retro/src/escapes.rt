@@ -18,7 +18,7 @@ use crate::propagate::is_won;
 use crate::value::value_at;
 use std::alloc::Allocator;
 use study_board::{Kind, Man, Side, Square, first, is_occupied, set_of, without};
-use study_index::{Setup, number_moved};
+use study_index::{Departure, Setup};
 use study_material::Class;
 use study_moves::safe_targets;
 
@@ -47,30 +47,32 @@ fn is_quiet_target(men: &[Man], man: &Man, target: Square) -> bool
 fn loses_to<A: Allocator>(
     game: &ClassGame<A>,
     cells: &[u8],
-    number: u32,
+    departure: &Departure,
     setup: &Setup,
     man: &Man,
     target: Square,
     level: u8,
 ) -> bool
     requires laws { IsNumberedClass (class_game game.now.class game.now.tables.now) }
-    requires numbered { (q : Seen) × (position_numbered game.now.class number ≡ Some q) }
+    requires class { departure.now.class ≡ game.now.class }
+    requires from { departure.now.from ≡ man.now.at }
+    requires numbered { (q : Seen) × (position_numbered game.now.class departure.now.number ≡ Some q) }
     requires single { has_both_pawns (lists_of game.now.class) ≡ false }
-    requires told { AreTold game.now.class number setup.now.men.items setup.now.to_move }
+    requires told { AreTold game.now.class departure.now.number setup.now.men.items setup.now.to_move }
     requires man { Contains setup.now.men.items man.now }
     requires side { same_side man.now.side setup.now.to_move ≡ true }
     requires on { target < 64 }
     requires safe { is_safe_target setup.now.men.items setup.now.to_move man.now target ≡ true }
     requires cells { length cells.now ≡ cells_of game.now.class }
     ensures yes { IsTrue result → (is_occupied setup.now.men.items target ≡ false) → (reaches_last_rank man.now target ≡ false) → (q : Seen)
-        → position_numbered game.now.class number ≡ Some q
+        → position_numbered game.now.class departure.now.number ≡ Some q
         → IsWonAfter (class_game game.now.class game.now.tables.now) cells.now level q (move_to man.now target) }
-    ensures no { result ≡ false → NoLossBy (class_game game.now.class game.now.tables.now) cells.now level number }
+    ensures no { result ≡ false → NoLossBy (class_game game.now.class game.now.tables.now) cells.now level departure.now.number }
 {
     if !is_quiet_target(setup.men.as_slice(), man, target) {
         return true;
     }
-    let after = number_moved(game.class, number, man.at, target);
+    let after = departure.number_to(target);
     is_won(value_at(cells[after as usize]), level)
 }
 
@@ -98,12 +100,13 @@ fn escapes_by_man<A: Allocator>(
         return false;
     }
     let all = safe_targets(setup.men.as_slice(), setup.to_move, man);
+    let departure = Departure::new(game.class, number, man.at);
     let mut rest = all;
     let mut next = 0u8;
     while rest != 0 {
         let target = first(rest);
         rest = without(rest, set_of(target));
-        if !loses_to(game, cells, number, setup, man, target, level) {
+        if !loses_to(game, cells, &departure, setup, man, target, level) {
             return true;
         }
         next = target.number() + 1;

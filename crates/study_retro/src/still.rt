@@ -1,18 +1,21 @@
-//! Numbers at which nothing can be worth anything before the levels: where the side to move is not in check, and can neither
-//! take nor promote.
-ghost use Rattle.std.specs.Prelude.{◌≡◌, ◌&&◌, ◌==◌, false, IsTrue, Some};
+//! Numbers at which nothing can be worth anything before the levels: those without a position, and those where the side to
+//! move is not mated, and can neither take nor promote.
+ghost use Rattle.std.specs.Prelude.{◌≡◌, ◌<◌, ◌&&◌, ◌==◌, ℕ, false, IsTrue, Some};
 ghost use Rattle.std.specs.List.{list_any};
-ghost use Rattle.study_board.specs.declared.men.Kind.TheVariants.{Pawn};
+ghost use Rattle.study_board.specs.declared.men.Kind.TheVariants.{King, Pawn};
 ghost use Rattle.study_board.specs.Geometry.{rank_of};
-ghost use Rattle.study_board.specs.Men.{is_attacked, is_man, other_side, same_side};
-ghost use Rattle.study_board.specs.Position.{Position as Seen};
+ghost use Rattle.study_board.specs.Men.{bears_on, is_attacked, is_man, same_side};
+ghost use Rattle.study_board.specs.Position.{Position as Seen, has_square_twice, in_check};
+ghost use Rattle.study_board.specs.Sets.{has};
+ghost use Rattle.study_moves.specs.Game.{IsMate};
 ghost use Rattle.study_material.specs.Class.{lists_of};
 ghost use Rattle.study_index.specs.Number.{has_both_pawns};
 ghost use Rattle.study_index.specs.Computed.{position_numbered};
 ghost use Rattle.study_retro.specs.Predecessors.{AreTold};
 ghost use Rattle.study_retro.specs.Still.{HasOnlyQuiet, IsStill, rank_before_last};
 
-use study_board::{Kind, Man, Side, in_check, is_attacked};
+use crate::escapes::has_move;
+use study_board::{Kind, Man, Side, attacks, has, union};
 use study_index::{Setup, told};
 use study_material::Class;
 
@@ -27,12 +30,65 @@ fn rank_before_last(side: Side) -> u8
     }
 }
 
-/// Whether a man of the side bears on one of the other side.
+/// The squares on which the man bears, if it is one of the side.
 #[inline]
-fn may_take(men: &[Man], side: Side) -> bool
-    ensures { result ≡ list_any (λ m. same_side m.side (other_side side) && is_attacked men.now side m.at) men.now }
+fn attacks_if_side(men: &[Man], m: &Man, side: Side) -> u64
+    ensures { (x : ℕ) → x < 64 → has result x ≡ (same_side m.now.side side && bears_on men.now m.now x) }
 {
-    men.iter().any(|m| m.side.is(side.other()) && is_attacked(men, side, m.at))
+    if m.side.is(side) { attacks(men, m) } else { 0 }
+}
+
+/// The squares on which some man of the side bears.
+#[inline]
+fn attacked_squares(men: &[Man], side: Side) -> u64
+    ensures { (x : ℕ) → x < 64 → has result x ≡ is_attacked men.now side x }
+{
+    let mut set = 0u64;
+    for m in men {
+        set = union(set, attacks_if_side(men, m, side));
+    }
+    set
+}
+
+/// Whether a man of the side stands on a square of the set. The loop has no way out, so that it is no guess for the processor.
+#[inline]
+fn has_man_in(men: &[Man], side: Side, set: u64) -> bool
+    ensures { result ≡ list_any (λ m. same_side m.side side && has set m.at) men.now }
+{
+    let mut found = false;
+    for m in men {
+        if m.side.is(side) && has(set, m.at) {
+            found = true;
+        }
+    }
+    found
+}
+
+/// Whether a king of the side stands on a square of the set.
+#[inline]
+fn has_king_in(men: &[Man], side: Side, set: u64) -> bool
+    ensures { result ≡ list_any (λ m. is_man side King m && has set m.at) men.now }
+{
+    let mut found = false;
+    for m in men {
+        if m.is(side, Kind::King) && has(set, m.at) {
+            found = true;
+        }
+    }
+    found
+}
+
+/// Whether two men share a square.
+#[inline]
+#[tactic(auto, unfolding(study_board::specs::Position::has_square_twice))]
+fn has_square_twice(men: &[Man]) -> bool
+    ensures { result ≡ has_square_twice men.now }
+{
+    men.iter().any(|x| men
+        .iter()
+        .filter(|y| y.at.number() == x.at.number())
+        .count()
+        > 1)
 }
 
 /// Whether a pawn of the side is one step from its last rank.
@@ -43,28 +99,79 @@ fn may_promote(men: &[Man], side: Side) -> bool
     men.iter().any(|m| m.is(side, Kind::Pawn) && m.at.rank() == rank_before_last(side))
 }
 
+/// Whether each move of the side to move is quiet, if the number has a position, by the squares on which its men bear.
+#[inline]
+fn stays_by(class: Class, number: u32, setup: &Setup, attacked: u64) -> bool
+    requires single { has_both_pawns (lists_of class) ≡ false }
+    requires told { AreTold class number setup.now.men.items setup.now.to_move }
+    requires attacked { (x : ℕ) → x < 64 → has attacked x ≡ is_attacked setup.now.men.items setup.now.to_move x }
+    ensures { IsTrue result → (q : Seen) → position_numbered class number ≡ Some q → HasOnlyQuiet q }
+{
+    let _read = (class, number);
+    let men = setup.men.as_slice();
+    if has_man_in(men, setup.to_move.other(), attacked) {
+        return false;
+    }
+    !may_promote(men, setup.to_move)
+}
+
 /// Whether each move of the side to move is quiet, if the number has a position.
 pub fn stays(class: Class, number: u32, setup: &Setup) -> bool
     requires single { has_both_pawns (lists_of class) ≡ false }
     requires told { AreTold class number setup.now.men.items setup.now.to_move }
     ensures { IsTrue result → (q : Seen) → position_numbered class number ≡ Some q → HasOnlyQuiet q }
 {
-    let _read = (class, number);
-    let men = setup.men.as_slice();
-    if may_take(men, setup.to_move) {
-        return false;
-    }
-    !may_promote(men, setup.to_move)
+    let attacked = attacked_squares(setup.men.as_slice(), setup.to_move);
+    stays_by(class, number, setup, attacked)
 }
 
-/// Whether the side to move is not in check, and each of its moves is quiet, if the number has a position.
-pub fn is_still(class: Class, number: u32) -> bool
+/// Whether the side to move is in check, if the number has a position.
+#[inline]
+fn is_checked(class: Class, number: u32, setup: &Setup) -> bool
+    requires { AreTold class number setup.now.men.items setup.now.to_move }
+    ensures { (q : Seen) → position_numbered class number ≡ Some q → in_check q.men q.to_move ≡ result }
+{
+    let _read = (class, number);
+    let men = setup.men.as_slice();
+    let attacked = attacked_squares(men, setup.to_move.other());
+    has_king_in(men, setup.to_move, attacked)
+}
+
+/// Whether the number has no position since the side to move could take the other king, or two men share a square.
+#[inline]
+fn is_impossible(class: Class, number: u32, setup: &Setup, attacked: u64) -> bool
+    requires told { AreTold class number setup.now.men.items setup.now.to_move }
+    requires attacked { (x : ℕ) → x < 64 → has attacked x ≡ is_attacked setup.now.men.items setup.now.to_move x }
+    ensures { IsTrue result → (q : Seen) → position_numbered class number ≡ Some q → ⊥ }
+{
+    let _read = (class, number);
+    let men = setup.men.as_slice();
+    has_king_in(men, setup.to_move.other(), attacked) || has_square_twice(men)
+}
+
+/// Whether the side to move is not mated, if the number has a position.
+#[inline]
+fn is_no_mate(class: Class, number: u32, setup: &Setup) -> bool
+    requires single { has_both_pawns (lists_of class) ≡ false }
+    requires told { AreTold class number setup.now.men.items setup.now.to_move }
+    ensures { IsTrue result → (q : Seen) → position_numbered class number ≡ Some q → IsMate q → ⊥ }
+{
+    if !is_checked(class, number, setup) {
+        return true;
+    }
+    has_move(class, number, setup)
+}
+
+/// Whether nothing is known of the number before the levels: it has no position, or one in which the side to move is not
+/// mated and has quiet moves alone. Some numbers without a position are not told.
+pub fn begins_unknown(class: Class, number: u32) -> bool
     requires { has_both_pawns (lists_of class) ≡ false }
     ensures { IsTrue result → (q : Seen) → position_numbered class number ≡ Some q → IsStill q }
 {
     let setup = told(class, number);
-    if in_check(setup.men.as_slice(), setup.to_move) {
-        return false;
+    let attacked = attacked_squares(setup.men.as_slice(), setup.to_move);
+    if stays_by(class, number, &setup, attacked) {
+        return is_no_mate(class, number, &setup);
     }
-    stays(class, number, &setup)
+    is_impossible(class, number, &setup, attacked)
 }

@@ -7,7 +7,7 @@ use Rattle.study_index.proofs.ComputedIndex.{told_decoded}
 use Rattle.study_retro.specs.Predecessors.{IsBeforeBy, IsBeforeFrom}
 use Rattle.study_retro.specs.Propagation.{AreSet, IsSetWhere}
 use Rattle.study_retro.proofs.SquaresLeft.{AreLeft, left-all, first-in, first-only, left-more, left-none}
-use Rattle.study_retro.proofs.BackLemmas.{set-then, set-kept, set-why, led_came, before_is, before_in, in_before, before_below}
+use Rattle.study_retro.proofs.BackLemmas.{set-then, set-kept, set-why, led_came, before_is, before_in, in_before, before_below, departed}
 use Rattle.study_retro.proofs.back.write_before_man.Goals as goal
 
 -- no other side's man has moved
@@ -25,26 +25,32 @@ loop-rest-init c = record {
   done = λ a n l. absurd (omega (arith, l));
 }
 
-pub number_moved-before-requires : goal.number_moved-before-requires
-number_moved-before-requires c =
+pub new-departure-requires : goal.new-departure-requires
+new-departure-requires c =
     below c.args.class c.args.number c.requires.numbered.0 (told_decoded c.args.class c.args.number c.requires.numbered.0 c.requires.numbered.1)
 
 pub write_cell-requires-clause-number : goal.write_cell-requires-clause-number
 write_cell-requires-clause-number c =
     let f = c.first-origin.ensures in
     let a = c.first-origin.result in
+    let fits =
+    departed c.args.class c.new-departure.result.class c.args.number c.new-departure.result.number c.args.man.now.at c.new-departure.result.from a
+    c.number_to-before.result c.new-departure.ensures.class c.new-departure.ensures.number c.new-departure.ensures.from c.number_to-before.ensures in
     let his = sym (ap (λ (s : Side). same_side c.args.man.now.side s) c.other.ensures) ∙ sym c.is.ensures ∙ c.if-not-is.false in
     let before = before_in c.args.class c.args.number c.requires.numbered.0 c.requires.numbered.1 c.args.setup.now.men.items c.args.setup.now.to_move
-    c.requires.told c.args.man.now c.requires.man c.origins-all.result _ c.as_slice.ensures.value c.origins-all.ensures a c.number_moved-before.result f.inside
-    c.number_moved-before.ensures his (first-in _ _ _ c.loop-rest.invariant.left a f.inside f.there) in
-    subst (λ (k : ℕ). c.number_moved-before.result < k) (sym c.loop-rest.invariant.size)
-    (before_below c.args.class c.args.number c.requires.single c.args.man.now a c.number_moved-before.result before)
+    c.requires.told c.args.man.now c.requires.man c.origins-all.result _ c.as_slice.ensures.value c.origins-all.ensures a c.number_to-before.result f.inside
+    fits his (first-in _ _ _ c.loop-rest.invariant.left a f.inside f.there) in
+    subst (λ (k : ℕ). c.number_to-before.result < k) (sym c.loop-rest.invariant.size)
+    (before_below c.args.class c.args.number c.requires.single c.args.man.now a c.number_to-before.result before)
 
 pub loop-rest-preserved : goal.loop-rest-preserved
 loop-rest-preserved c =
     let f = c.first-origin.ensures in
     let a = c.first-origin.result in
-    let k = c.number_moved-before.result in
+    let k = c.number_to-before.result in
+    let fits =
+    departed c.args.class c.new-departure.result.class c.args.number c.new-departure.result.number c.args.man.now.at c.new-departure.result.from a
+    c.number_to-before.result c.new-departure.ensures.class c.new-departure.ensures.number c.new-departure.ensures.from c.number_to-before.ensures in
     let inv = c.loop-rest.invariant in
     let q = c.requires.numbered.0 in
     let at = c.requires.numbered.1 in
@@ -53,7 +59,7 @@ loop-rest-preserved c =
     let side = c.args.setup.now.to_move in
     let his = sym (ap (λ (s : Side). same_side man.side s) c.other.ensures) ∙ sym c.is.ensures ∙ c.if-not-is.false in
     let before = before_in c.args.class c.args.number q at men side c.requires.told man c.requires.man c.origins-all.result _ c.as_slice.ensures.value c.origins-all.ensures
-    a k f.inside c.number_moved-before.ensures his (first-in _ _ _ inv.left a f.inside f.there) in
+    a k f.inside fits his (first-in _ _ _ inv.left a f.inside f.there) in
     let Why : ℕ → Type 0 = IsBeforeBy c.args.class c.args.number man in
     let mid = c.loop-rest.cells in
     let new = c.write_cell.new.cells in
@@ -72,7 +78,7 @@ loop-rest-preserved c =
           | inl low ↦ absurd (false≢true (sym (first-only _ _ _ inv.left a f.inside f.there f.least b high low (let s = f.inside in omega (arith, low, s))) ∙ e))
           | inr top ↦
               let same : b ≡ a = omega (arith, l, top, next) in
-              let is : n ≡ k = before_is c.args.class c.args.number q at men side c.requires.told man c.requires.man a k n c.number_moved-before.ensures
+              let is : n ≡ k = before_is c.args.class c.args.number q at men side c.requires.told man c.requires.man a k n fits
               (subst (λ (x : ℕ). IsBeforeFrom c.args.class c.args.number man x n) same h) in
               subst (λ (x : ℕ). IsSetWhere c.args.change.cell c.args.change.over new x) (sym is) c.write_cell.ensures.done
         ]

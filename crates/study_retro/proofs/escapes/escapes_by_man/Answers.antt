@@ -4,6 +4,7 @@ use Rattle.study_board.specs.declared.men.Man.{Man}
 use Rattle.study_board.specs.Position.{is_occupied}
 use Rattle.study_moves.specs.Rules.{reaches_last_rank}
 use Rattle.study_moves.specs.AnyOrder.{is_safe_target}
+use Rattle.study_index.specs.Computed.{position_numbered}
 use Rattle.study_retro.specs.ClassGame.{class_game}
 use Rattle.study_retro.specs.Still.{IsWonAfter, move_to}
 use Rattle.study_retro.proofs.SquaresLeft.{AreLeft, left-all, first-in, first-only, left-more, left-none}
@@ -47,7 +48,8 @@ loop-rest-preserved g c =
               let same : a ≡ x = omega (arith, l, top, next) in
               subst (λ (y : ℕ). IsWonAfter (class_game c.args.game.now.class c.args.game.now.tables.now) c.args.cells.now c.args.level q (move_to man y)) same
               (c.loses_to.ensures.yes c.if-not-loses_to.false
-              (ap (λ (y : ℕ). is_occupied c.args.setup.now.men.items y) same ∙ free) (ap (λ (y : ℕ). reaches_last_rank man y) same ∙ plain) q at)
+              (ap (λ (y : ℕ). is_occupied c.args.setup.now.men.items y) same ∙ free) (ap (λ (y : ℕ). reaches_last_rank man y) same ∙ plain) q
+              (ap (λ (n : ℕ). position_numbered c.args.game.now.class n) c.new-departure.ensures.number ∙ at))
         ]
       ];
     }
