@@ -1,5 +1,5 @@
 //! Sets of squares as bits, the bit x for the square x.
-ghost use Rattle.std.specs.Prelude.{◌≡◌, ◌≢◌, ◌↔◌, ℕ, ◌<◌, IsTrue, ◌&&◌, ◌||◌, ◌==◌, not, true, false};
+ghost use Rattle.std.specs.Prelude.{◌≡◌, ◌≢◌, ◌↔◌, ℕ, ◌<◌, IsTrue, count_ones, ◌&&◌, ◌||◌, ◌==◌, not, true, false};
 ghost use Rattle.study_board.specs.Geometry.{king_step, knight_jump, on_rook_line, on_bishop_line, strictly_between};
 ghost use Rattle.study_board.specs.Men.{pawn_captures, is_blocked, bears_on};
 ghost use Rattle.study_board.specs.Rays.{direction_of, ray_of};
@@ -69,6 +69,14 @@ impl SquareSet {
         ensures { result ≡ has self x }
     {
         self.bits >> x.number() & 1 == 1
+    }
+
+    /// How many squares are in the set.
+    #[inline]
+    pub fn len(self) -> u32
+        ensures { result ≡ count_ones self }
+    {
+        self.bits.count_ones()
     }
 
     /// The squares of this set and not of the other.

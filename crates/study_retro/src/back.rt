@@ -8,7 +8,7 @@ ghost use Rattle.study_retro.specs.Predecessors.{AreTold, IsBeforeBy, IsBefore};
 ghost use Rattle.study_retro.specs.Propagation.{AreSet, IsSetWhere};
 
 use crate::propagate::{lower_cell, mark_cell};
-use study_board::{Man, first, set_of, without};
+use study_board::{Man, SquareSet};
 use study_index::{Departure, Setup, told};
 use study_material::Class;
 use study_moves::origins;
@@ -62,14 +62,14 @@ fn write_before_man(
     let departure = Departure::new(class, number, man.at);
     let mut rest = all;
     let mut next = 0u8;
-    while rest != 0 {
-        let origin = first(rest);
-        rest = without(rest, set_of(origin));
+    while !rest.is_empty() {
+        let origin = rest.first();
+        rest = rest.without(SquareSet::of(origin));
         let before = departure.number_to(origin);
         write_cell(cells, before, change);
         next = origin.number() + 1;
     }
-    u64::from(all.count_ones())
+    u64::from(all.len())
 }
 
 /// Sets the cells of the positions from which a quiet move leads to the position of this number, and tells how many they

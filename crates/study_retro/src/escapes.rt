@@ -17,7 +17,7 @@ use crate::class_game::ClassGame;
 use crate::propagate::is_won;
 use crate::value::value_at;
 use std::alloc::Allocator;
-use study_board::{Kind, Man, Side, Square, first, is_occupied, set_of, without};
+use study_board::{Kind, Man, Side, Square, SquareSet, is_occupied};
 use study_index::{Departure, Setup};
 use study_material::Class;
 use study_moves::safe_targets;
@@ -99,13 +99,12 @@ fn escapes_by_man<A: Allocator>(
     if !man.side.is(setup.to_move) {
         return false;
     }
-    let all = safe_targets(setup.men.as_slice(), setup.to_move, man);
+    let mut rest = safe_targets(setup.men.as_slice(), setup.to_move, man);
     let departure = Departure::new(game.class, number, man.at);
-    let mut rest = all;
     let mut next = 0u8;
-    while rest != 0 {
-        let target = first(rest);
-        rest = without(rest, set_of(target));
+    while !rest.is_empty() {
+        let target = rest.first();
+        rest = rest.without(SquareSet::of(target));
         if !loses_to(game, cells, &departure, setup, man, target, level) {
             return true;
         }
@@ -151,10 +150,10 @@ fn can_move(setup: &Setup, man: &Man) -> bool
         return false;
     }
     let targets = safe_targets(setup.men.as_slice(), setup.to_move, man);
-    if targets == 0 {
+    if targets.is_empty() {
         return false;
     }
-    let _target = first(targets);
+    let _target = targets.first();
     true
 }
 

@@ -15,7 +15,7 @@ ghost use Rattle.study_retro.specs.Predecessors.{AreTold};
 ghost use Rattle.study_retro.specs.Still.{HasOnlyQuiet, IsStill, rank_before_last};
 
 use crate::escapes::has_move;
-use study_board::{Kind, Man, Side, attacks, has, union};
+use study_board::{Kind, Man, Side, SquareSet, attacks};
 use study_index::{Setup, told};
 use study_material::Class;
 
@@ -32,32 +32,36 @@ fn rank_before_last(side: Side) -> u8
 
 /// The squares on which the man bears, if it is one of the side.
 #[inline]
-fn attacks_if_side(men: &[Man], m: &Man, side: Side) -> u64
+fn attacks_if_side(men: &[Man], m: &Man, side: Side) -> SquareSet
     ensures { (x : ℕ) → x < 64 → has result x ≡ (same_side m.now.side side && bears_on men.now m.now x) }
 {
-    if m.side.is(side) { attacks(men, m) } else { 0 }
+    if m.side.is(side) {
+        attacks(men, m)
+    } else {
+        SquareSet::empty()
+    }
 }
 
 /// The squares on which some man of the side bears.
 #[inline]
-fn attacked_squares(men: &[Man], side: Side) -> u64
+fn attacked_squares(men: &[Man], side: Side) -> SquareSet
     ensures { (x : ℕ) → x < 64 → has result x ≡ is_attacked men.now side x }
 {
-    let mut set = 0u64;
+    let mut set = SquareSet::empty();
     for m in men {
-        set = union(set, attacks_if_side(men, m, side));
+        set = set.union(attacks_if_side(men, m, side));
     }
     set
 }
 
 /// Whether a man of the side stands on a square of the set. The loop has no way out, so that it is no guess for the processor.
 #[inline]
-fn has_man_in(men: &[Man], side: Side, set: u64) -> bool
+fn has_man_in(men: &[Man], side: Side, set: SquareSet) -> bool
     ensures { result ≡ list_any (λ m. same_side m.side side && has set m.at) men.now }
 {
     let mut found = false;
     for m in men {
-        if m.side.is(side) && has(set, m.at) {
+        if m.side.is(side) && set.contains(m.at) {
             found = true;
         }
     }
@@ -66,12 +70,12 @@ fn has_man_in(men: &[Man], side: Side, set: u64) -> bool
 
 /// Whether a king of the side stands on a square of the set.
 #[inline]
-fn has_king_in(men: &[Man], side: Side, set: u64) -> bool
+fn has_king_in(men: &[Man], side: Side, set: SquareSet) -> bool
     ensures { result ≡ list_any (λ m. is_man side King m && has set m.at) men.now }
 {
     let mut found = false;
     for m in men {
-        if m.is(side, Kind::King) && has(set, m.at) {
+        if m.is(side, Kind::King) && set.contains(m.at) {
             found = true;
         }
     }
@@ -101,7 +105,7 @@ fn may_promote(men: &[Man], side: Side) -> bool
 
 /// Whether each move of the side to move is quiet, if the number has a position, by the squares on which its men bear.
 #[inline]
-fn stays_by(class: Class, number: u32, setup: &Setup, attacked: u64) -> bool
+fn stays_by(class: Class, number: u32, setup: &Setup, attacked: SquareSet) -> bool
     requires single { has_both_pawns (lists_of class) ≡ false }
     requires told { AreTold class number setup.now.men.items setup.now.to_move }
     requires attacked { (x : ℕ) → x < 64 → has attacked x ≡ is_attacked setup.now.men.items setup.now.to_move x }
@@ -139,7 +143,7 @@ fn is_checked(class: Class, number: u32, setup: &Setup) -> bool
 
 /// Whether the number has no position since the side to move could take the other king, or two men share a square.
 #[inline]
-fn is_impossible(class: Class, number: u32, setup: &Setup, attacked: u64) -> bool
+fn is_impossible(class: Class, number: u32, setup: &Setup, attacked: SquareSet) -> bool
     requires told { AreTold class number setup.now.men.items setup.now.to_move }
     requires attacked { (x : ℕ) → x < 64 → has attacked x ≡ is_attacked setup.now.men.items setup.now.to_move x }
     ensures { IsTrue result → (q : Seen) → position_numbered class number ≡ Some q → ⊥ }

@@ -3,7 +3,7 @@ use crate::men::{man, side, square};
 use crate::rows::{field, number};
 use arrayvec::ArrayVec;
 use std::process::Abort;
-use study_board::{Man, Side, has};
+use study_board::{Man, Side};
 use study_moves::{origins, safe_targets};
 
 /// The men of the row's first field, in the order in which they stand there.
@@ -21,7 +21,7 @@ fn count_moves(men: &[Man], to_move: Side) -> u32 {
     let mut count = 0u32;
     for m in men {
         if m.side == to_move {
-            count = count.saturating_add(safe_targets(men, to_move, m).count_ones());
+            count = count.saturating_add(safe_targets(men, to_move, m).len());
         }
     }
     count
@@ -74,7 +74,7 @@ fn came(men: &[Man], to_move: Side, word: &str) -> bool {
     ) {
         (Some(from), Some(to)) => men
             .iter()
-            .any(|m| m.at == to && has(origins(men, to_move, m), from)),
+            .any(|m| m.at == to && origins(men, to_move, m).contains(from)),
         _ => false,
     }
 }
@@ -94,7 +94,7 @@ fn origins_are_where_the_men_came_from(rt: HostRuntime) {
         let mut count = 0u32;
         for m in men.as_slice() {
             if m.side != to_move {
-                count = count.saturating_add(origins(men.as_slice(), to_move, m).count_ones());
+                count = count.saturating_add(origins(men.as_slice(), to_move, m).len());
             }
         }
         for word in field(row, 2).split_ascii_whitespace() {

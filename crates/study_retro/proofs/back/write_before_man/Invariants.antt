@@ -6,13 +6,13 @@ use Rattle.study_retro.specs.Propagation.{AreSet, IsSetWhere}
 use Rattle.study_retro.proofs.SquaresLeft.{AreLeft}
 use Rattle.study_retro.proofs.back.write_before_man.Given as goal
 
-abbrev pub invariant-loop-rest : goal.invariant-loop-rest
-invariant-loop-rest l = record {
+abbrev pub invariant-loop-next : goal.invariant-loop-next
+invariant-loop-next l = record {
   left : AreLeft l.all l.rest l.next;
   size : length l.cells ≡ cells_of l.fn.class;
   rise : AreSet (IsBeforeBy l.fn.class l.number l.man) l.change.cell l.change.over l.initial.cells l.cells;
   done : (a n : ℕ) → a < l.next → has l.all a ≡ true → IsBeforeFrom l.fn.class l.number l.man a n → IsSetWhere l.change.cell l.change.over l.cells n;
 }
 
-abbrev pub decreases-loop-rest : goal.decreases-loop-rest
-decreases-loop-rest l = 64 - l.next
+abbrev pub decreases-loop-next : goal.decreases-loop-next
+decreases-loop-next l = 64 - l.next

@@ -5,10 +5,10 @@ use Rattle.study_board.proofs.SetBits.{has-zero}
 use Rattle.study_moves.specs.AnyOrder.{is_safe_target}
 use Rattle.study_retro.proofs.escapes.can_move.Goals as goal
 
-pub returns-then-targets-eq0-clause-no : goal.returns-then-targets-eq0-clause-no
-returns-then-targets-eq0-clause-no c = λ f his x on.
+pub returns-then-is_empty-clause-no : goal.returns-then-is_empty-clause-no
+returns-then-is_empty-clause-no c = λ f his x on.
     ap (λ (zs : List Man). is_safe_target zs c.args.setup.now.to_move c.args.man.now x) (sym c.as_slice.ensures.value)
-    ∙ sym (c.safe_targets-targets.ensures x on) ∙ ap (λ (s : ℕ). has s x) c.if-targets-eq0.true ∙ has-zero x
+    ∙ sym (c.safe_targets-targets.ensures x on) ∙ ap (λ (s : ℕ). has s x) (c.is_empty.ensures.0 c.if-is_empty.true) ∙ has-zero x
 
 pub returns-clause-yes : goal.returns-clause-yes
 returns-clause-yes c = λ t. (

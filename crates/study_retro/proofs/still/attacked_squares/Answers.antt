@@ -8,7 +8,7 @@ use Rattle.study_retro.proofs.StillChess.{attacked_is}
 use Rattle.study_retro.proofs.still.attacked_squares.Goals as goal
 
 pub loop-m-init : goal.loop-m-init
-loop-m-init c x lx = any_none (λ m. same_side m.side c.args.side && bears_on c.args.men.now m x) x
+loop-m-init c x lx = rw c.empty-set.ensures (any_none (λ m. same_side m.side c.args.side && bears_on c.args.men.now m x) x)
 
 pub loop-m-preserved : goal.loop-m-preserved
 loop-m-preserved c x lx =

@@ -4,4 +4,4 @@ use Rattle.study_board.proofs.SetBits.{none_unless}
 use Rattle.study_retro.proofs.still.attacks_if_side.Goals as goal
 
 pub returns-else-is : goal.returns-else-is
-returns-else-is c x lx = none_unless _ (bears_on c.args.men.now c.args.m.now x) x (sym c.is.ensures ∙ c.if-is.false)
+returns-else-is c x lx = rw c.empty.ensures (none_unless _ (bears_on c.args.men.now c.args.m.now x) x (sym c.is.ensures ∙ c.if-is.false))
