@@ -19,8 +19,8 @@ returns-then-not-is-clause-no g c = λ f q at x legal quiet.
     (move_to man x) legal man c.requires.man refl in
     absurd (false≢true (sym c.if-not-is.true ∙ c.is.ensures ∙ s.1))
 
-pub loop-next-init : goal.loop-next-init
-loop-next-init g c = record { left = left-all c.safe_targets-rest.result; lose = λ x l. absurd (omega (arith, l)) }
+pub loop-rest-init : goal.loop-rest-init
+loop-rest-init g c = record { left = left-all c.safe_targets-rest.result; lose = λ x l. absurd (omega (arith, l)) }
 
 pub loses_to-requires-clause-safe : goal.loses_to-requires-clause-safe
 loses_to-requires-clause-safe g c =
@@ -28,19 +28,19 @@ loses_to-requires-clause-safe g c =
     let x = c.first-target.result in
     ap (λ (zs : List Man). is_safe_target zs c.args.setup.now.to_move c.args.man.now x) (sym c.as_slice.ensures.value)
     ∙ sym (c.safe_targets-rest.ensures x f.inside)
-    ∙ first-in _ _ _ c.loop-next.invariant.left x f.inside f.there
+    ∙ first-in _ _ _ c.loop-rest.invariant.left x f.inside f.there
 
-pub loop-next-preserved : goal.loop-next-preserved
-loop-next-preserved g c =
+pub loop-rest-preserved : goal.loop-rest-preserved
+loop-rest-preserved g c =
     let f = c.first-target.ensures in
     let a = c.first-target.result in
-    let inv = c.loop-next.invariant in
+    let inv = c.loop-rest.invariant in
     let man = c.args.man.now in
     let next : c.number-next.result ≡ a = c.number-next.ensures.value in
     let left = left-more _ _ _ inv.left a f.inside f.there f.least c.of.result c.without-rest.result c.of.ensures c.without-rest.ensures in
     record {
       left = subst (λ (n : ℕ). AreLeft c.safe_targets-rest.result c.without-rest.result (n + 1)) (sym next) left;
-      lose = λ x l e free plain q at. elim (cases_lt x c.loop-next.next) [
+      lose = λ x l e free plain q at. elim (cases_lt x c.loop-rest.next) [
         | inl low ↦ inv.lose x low e free plain q at
         | inr high ↦ elim (cases_lt x a) [
           | inl low ↦ absurd (false≢true (sym (first-only _ _ _ inv.left a f.inside f.there f.least x high low (let s = f.inside in omega (arith, low, s))) ∙ e))
@@ -56,7 +56,7 @@ loop-next-preserved g c =
 
 pub returns-clause-no : goal.returns-clause-no
 returns-clause-no g c = λ f q at x legal quiet.
-    let inv = c.loop-next.invariant in
+    let inv = c.loop-rest.invariant in
     let man = c.args.man.now in
     let men = c.args.setup.now.men.items in
     let side = c.args.setup.now.to_move in
@@ -66,7 +66,7 @@ returns-clause-no g c = λ f q at x legal quiet.
     let free = occupied_same class c.args.number q at c.requires.single men side c.requires.told x ∙ quiet.0 in
     let there = c.safe_targets-rest.ensures x s.0
     ∙ ap (λ (zs : List Man). is_safe_target zs side man x) c.as_slice.ensures.value ∙ s.2 in
-    elim (cases_lt x c.loop-next.next) [
+    elim (cases_lt x c.loop-rest.next) [
       | inl l ↦ inv.lose x l there free plain q at
-      | inr l ↦ absurd (false≢true (sym (left-none _ _ _ inv.left (c.is_empty.ensures.0 c.loop-next-test.false) x l s.0) ∙ there))
+      | inr l ↦ absurd (false≢true (sym (left-none _ _ _ inv.left (c.is_empty.ensures.0 c.loop-rest-test.false) x l s.0) ∙ there))
     ]

@@ -8,13 +8,13 @@ use Rattle.study_retro.specs.Still.{IsWonAfter, move_to}
 use Rattle.study_retro.proofs.SquaresLeft.{AreLeft}
 use Rattle.study_retro.proofs.escapes.escapes_by_man.Given as goal
 
-abbrev pub invariant-loop-next : goal.invariant-loop-next
-invariant-loop-next g l = record {
+abbrev pub invariant-loop-rest : goal.invariant-loop-rest
+invariant-loop-rest g l = record {
   left : AreLeft l.initial.rest l.rest l.next;
   lose : (x : ℕ) → x < l.next → has l.initial.rest x ≡ true → is_occupied l.setup.men.items x ≡ false → reaches_last_rank l.man x ≡ false
       → (q : Position) → position_numbered l.game.class l.number ≡ Some q
       → IsWonAfter (class_game l.game.class l.game.tables.now) l.cells l.level q (move_to l.man x);
 }
 
-abbrev pub decreases-loop-next : goal.decreases-loop-next
-decreases-loop-next g l = 64 - l.next
+abbrev pub decreases-loop-rest : goal.decreases-loop-rest
+decreases-loop-rest g l = 64 - l.next
