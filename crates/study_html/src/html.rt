@@ -117,3 +117,17 @@ impl<'a, A: Allocator> Html<'a, A> {
         }
     }
 }
+
+/// Adds an element with words in it.
+pub fn put_words<'a, A: Allocator>(
+    alloc: &'a A,
+    html: &mut Html<'_, A>,
+    element: Element,
+    words: &[u8],
+) -> Result<(), AllocError>
+    ensures { OnOk result (html.new ≡ html.old ++ inside element (said words.now)) }
+{
+    let mut within = Html::new(alloc);
+    within.say(words)?;
+    html.put(element, &within)
+}

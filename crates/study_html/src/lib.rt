@@ -15,5 +15,5 @@ mod laws;
 pub use drawing::Drawing;
 pub use element::Element;
 pub use frame::{write_closing, write_opening};
-pub use html::Html;
+pub use html::{Html, put_words};
 pub use laws::words_are_clean;

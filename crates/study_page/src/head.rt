@@ -8,10 +8,9 @@ ghost use Rattle.study_html.specs.Escape.{said};
 ghost use Rattle.study_page.specs.Head.{title_words, behind, byline_item, round_item, byline, head, moves_first, men_words, caption, figure};
 
 use crate::diagram::{add_control, draw_board};
-use crate::items::put_words;
 use std::alloc::{AllocError, Allocator};
 use study_board::{Man, Side};
-use study_html::{Drawing, Element, Html};
+use study_html::{Drawing, Element, Html, put_words};
 use study_marks::{Bench, TagName};
 use study_notation::write_fen;
 use study_pgn::add_stipulation;

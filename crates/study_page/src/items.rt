@@ -15,27 +15,13 @@ use crate::signs::is_stalemate;
 use crate::words::{add_label, add_short};
 use std::alloc::{AllocError, Allocator};
 use study_board::{Position, Side};
-use study_html::{Element, Html};
+use study_html::{Element, Html, put_words};
 use study_moves::{Move, legal_moves};
 use study_notation::Start;
 use study_pgn::{add_san, add_value};
 use study_retro::Value;
 use study_review::{Alternative, Continuation};
 use study_text::Text;
-
-/// An element with words in it.
-pub fn put_words<'a, A: Allocator>(
-    alloc: &'a A,
-    html: &mut Html<'_, A>,
-    element: Element,
-    words: &[u8],
-) -> Result<(), AllocError>
-    ensures { OnOk result (html.new ≡ html.old ++ inside element (said words.now)) }
-{
-    let mut within = Html::new(alloc);
-    within.say(words)?;
-    html.put(element, &within)
-}
 
 #[tactic(auto, unfolding(crate::specs::Rows::loses_time))]
 pub fn loses_time() -> &'static [u8]

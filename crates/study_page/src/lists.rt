@@ -13,11 +13,10 @@ ghost use Rattle.study_page.specs.Verdict.{stamp_words, judged};
 ghost use Rattle.study_page.specs.Lists.{refusal_part, known_words, summary_row, two_heads, three_heads, summary_heads, summary_part};
 
 use crate::fault::PageFault;
-use crate::items::put_words;
 use crate::verdict::{add_stamp_words, judge};
 use std::alloc::{AllocError, Allocator};
 use std::io::Write;
-use study_html::{Element, Html};
+use study_html::{Element, Html, put_words};
 use study_marks::{Bench, TagName};
 use study_pgn::add_stipulation;
 use study_text::{Text, write_text};

@@ -15,13 +15,12 @@ ghost use Rattle.study_page.specs.Page.{solution_part, duals_title, duals_note, 
 use crate::counts::add_counts;
 use crate::fault::NotMade;
 use crate::head::{put_figure, put_head};
-use crate::items::put_words;
 use crate::tree::put_following;
 use crate::verdict::{judge, put_verdict};
 use crate::walk::{Part, add_each};
 use std::alloc::{AllocError, Allocator};
 use std::io::Write;
-use study_html::{Element, Html};
+use study_html::{Element, Html, put_words};
 use study_marks::Bench;
 use study_prober::Values;
 use study_review::ReviewFault;
