@@ -624,7 +624,7 @@ def file_of(texts, more=()):
 
 def opening():
     """The frame, which has no facts."""
-    text = read(TOP, "crates/study_page/specs/Frame.antt")
+    text = read(TOP, "crates/study_html/specs/Frame.antt")
     parts = re.findall(r'codes "((?:[^"\\]|\\.)*)"', text[text.index("opening ="):text.index("unfoldable pub closing")])
     return "".join(parts).replace("\\n", "\n").replace('\\"', '"')
 

@@ -1,5 +1,3 @@
-pub mod CleanWords
-pub mod MarkupGrows
 pub mod Asking
 pub mod MadeRows
 pub mod WholePage

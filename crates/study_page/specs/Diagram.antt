@@ -11,11 +11,11 @@ use Rattle.study_board.specs.Letters.{letter}
 use Rattle.study_board.specs.Men.{is_man}
 use Rattle.study_board.specs.Position.{Position}
 use Rattle.study_pgn.specs.Values.{side_name}
-use Rattle.study_page.specs.declared.element.Element.TheVariants as element
-use Rattle.study_page.specs.declared.drawing.Drawing.TheVariants.{Squares, Coordinates}
-use Rattle.study_page.specs.Escape.{said}
-use Rattle.study_page.specs.Elements.{inside}
-use Rattle.study_page.specs.Drawings.{standing, drawn}
+use Rattle.study_html.specs.declared.element.Element.TheVariants as element
+use Rattle.study_html.specs.declared.drawing.Drawing.TheVariants.{Squares, Coordinates}
+use Rattle.study_html.specs.Escape.{said}
+use Rattle.study_html.specs.Elements.{inside}
+use Rattle.study_html.specs.Drawings.{standing, drawn}
 
 -- ` Kb6`
 abbrev pub man_words : Man → List ℕ

@@ -9,11 +9,11 @@ use Rattle.study_marks.specs.declared.stipulation.Stipulation.{Stipulation}
 use Rattle.study_marks.specs.declared.tag.TagName.TheVariants.{Event, Site, Date, Round, White}
 use Rattle.study_marks.specs.Study.{tag_of}
 use Rattle.study_pgn.specs.Pgn.{stipulation_text}
-use Rattle.study_page.specs.declared.element.Element.TheVariants.{Header, Title, Byline, Figure, Caption, Strong, Count, Code}
-use Rattle.study_page.specs.declared.drawing.Drawing.TheVariants.{Break, Dot}
-use Rattle.study_page.specs.Escape.{said}
-use Rattle.study_page.specs.Elements.{inside}
-use Rattle.study_page.specs.Drawings.{drawn}
+use Rattle.study_html.specs.declared.element.Element.TheVariants.{Header, Title, Byline, Figure, Caption, Strong, Count, Code}
+use Rattle.study_html.specs.declared.drawing.Drawing.TheVariants.{Break, Dot}
+use Rattle.study_html.specs.Escape.{said}
+use Rattle.study_html.specs.Elements.{inside}
+use Rattle.study_html.specs.Drawings.{drawn}
 use Rattle.study_page.specs.Diagram.{board, control}
 
 -- the title is the tag Event

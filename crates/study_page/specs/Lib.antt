@@ -1,7 +1,3 @@
-pub mod Escape
-pub mod Elements
-pub mod Drawings
-pub mod Markup
 pub mod Words
 pub mod Diagram
 pub mod Head
@@ -10,4 +6,3 @@ pub mod Rows
 pub mod Made
 pub mod Page
 pub mod Lists
-pub mod Frame

@@ -4,9 +4,9 @@ use Rattle.study_marks.specs.declared.mark.Mark.{Mark}
 use Rattle.study_marks.specs.declared.tag.TagName.TheVariants.{Event, White}
 use Rattle.study_marks.specs.Study.{Study, tag_of}
 use Rattle.study_pgn.specs.Pgn.{stipulation_text}
-use Rattle.study_page.specs.declared.element.Element.TheVariants.{Cell, Code, Head, Heads, Header, Link, Row, Rows, Strong, Summary, Table, Title, Warning}
-use Rattle.study_page.specs.Escape.{said}
-use Rattle.study_page.specs.Elements.{inside}
+use Rattle.study_html.specs.declared.element.Element.TheVariants.{Cell, Code, Head, Heads, Header, Link, Row, Rows, Strong, Summary, Table, Title, Warning}
+use Rattle.study_html.specs.Escape.{said}
+use Rattle.study_html.specs.Elements.{inside}
 use Rattle.study_page.specs.Head.{title_words}
 use Rattle.study_page.specs.Verdict.{stamp_words, judged}
 

@@ -4,11 +4,11 @@ use Rattle.study_marks.specs.declared.mark.Mark.{Mark}
 use Rattle.study_marks.specs.Study.{Study, plain_study}
 use Rattle.study_marks.specs.Annotated.{IsAnnotated}
 use Rattle.study_review.specs.Review.{LinesOfEach, written_order}
-use Rattle.study_page.specs.declared.element.Element.TheVariants as element
+use Rattle.study_html.specs.declared.element.Element.TheVariants as element
+use Rattle.study_html.specs.Escape.{said}
+use Rattle.study_html.specs.Elements.{inside}
 use Rattle.study_page.specs.declared.walk.Part.{Part}
 use Rattle.study_page.specs.declared.walk.Part.TheVariants as part
-use Rattle.study_page.specs.Escape.{said}
-use Rattle.study_page.specs.Elements.{inside}
 use Rattle.study_page.specs.Head.{head, figure}
 use Rattle.study_page.specs.Verdict.{verdict_part, judged}
 use Rattle.study_page.specs.Made.{RowsOf}

@@ -34,12 +34,12 @@ use Rattle.study_review.specs.Best.{IsBestPlay}
 use Rattle.study_review.specs.Line.{line_to, moves_of}
 use Rattle.study_review.specs.Words.{move_words}
 use Rattle.study_review.specs.Nodes.{front_of, OnlyWhere, mark_at, value_at, is_stalemate, is_try, is_defended, is_open_end, is_solution_move}
-use Rattle.study_page.specs.declared.element.Element.TheVariants.{Strong, Small, Below, Item, Card, Beside, CardTitle, Label, Also}
-use Rattle.study_page.specs.declared.element.Element.TheVariants.{Paragraph, Row, Cell, Whole, Group, Answer}
-use Rattle.study_page.specs.declared.drawing.Drawing.TheVariants.{Break}
-use Rattle.study_page.specs.Escape.{said}
-use Rattle.study_page.specs.Elements.{inside}
-use Rattle.study_page.specs.Drawings.{drawn}
+use Rattle.study_html.specs.declared.element.Element.TheVariants.{Strong, Small, Below, Item, Card, Beside, CardTitle, Label, Also}
+use Rattle.study_html.specs.declared.element.Element.TheVariants.{Paragraph, Row, Cell, Whole, Group, Answer}
+use Rattle.study_html.specs.declared.drawing.Drawing.TheVariants.{Break}
+use Rattle.study_html.specs.Escape.{said}
+use Rattle.study_html.specs.Elements.{inside}
+use Rattle.study_html.specs.Drawings.{drawn}
 use Rattle.study_page.specs.Diagram.{mini}
 use Rattle.study_page.specs.Words.{front_words, short_words, label, where_words}
 

@@ -8,13 +8,13 @@ use Rattle.study_marks.specs.Goals.{aim_of}
 use Rattle.study_marks.specs.Verdict.{Verdict, wrong, sound, unsound, verdict}
 use Rattle.study_pgn.specs.Values.{value_text}
 use Rattle.study_review.specs.Review.{is_empty}
-use Rattle.study_page.specs.declared.element.Element.{Element}
-use Rattle.study_page.specs.declared.element.Element.TheVariants as element
+use Rattle.study_html.specs.declared.element.Element.{Element}
+use Rattle.study_html.specs.declared.element.Element.TheVariants as element
+use Rattle.study_html.specs.Escape.{said}
+use Rattle.study_html.specs.Elements.{inside}
 use Rattle.study_page.specs.declared.verdict.Stamp.{Stamp}
 use Rattle.study_page.specs.declared.verdict.Stamp.TheVariants.{Wrong, Sound, Unsound}
 use Rattle.study_page.specs.declared.verdict.Judged.{Judged}
-use Rattle.study_page.specs.Escape.{said}
-use Rattle.study_page.specs.Elements.{inside}
 
 abbrev pub stamp_of : Verdict → Stamp
 stamp_of wrong = Wrong

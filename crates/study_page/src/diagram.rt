@@ -2,14 +2,12 @@
 ghost use Rattle.std.specs.Prelude.{◌≡◌, ◌+◌, ◌++◌, OnOk};
 ghost use Rattle.std.specs.List.{flat_map};
 ghost use Rattle.study_board.specs.Letters.{letter};
-ghost use Rattle.study_page.specs.Drawings.{standing};
+ghost use Rattle.study_html.specs.Drawings.{standing};
 ghost use Rattle.study_page.specs.Diagram.{man_words, listed, control, heard_words, board, mini};
 
-use crate::drawing::Drawing;
-use crate::element::Element;
-use crate::html::Html;
 use std::alloc::{AllocError, Allocator};
 use study_board::{Kind, Man, Position, Side};
+use study_html::{Drawing, Element, Html};
 use study_pgn::side_name;
 use study_text::Text;
 

@@ -5,12 +5,11 @@ ghost use Rattle.study_moves.specs.Rules.{is_legal};
 ghost use Rattle.study_page.specs.Rows.{lost_words, bracket_words, named_words, next_words, list_words, more_words, others_words, dual_item};
 ghost use Rattle.study_page.specs.Rows.{lets_go, mistake_item};
 
-use crate::element::Element;
-use crate::html::Html;
-use crate::items::{add_difference, loses_time, put_words};
+use crate::items::{add_difference, loses_time};
 use crate::words::add_label;
 use std::alloc::{AllocError, Allocator};
 use study_board::Position;
+use study_html::{Element, Html, put_words};
 use study_moves::Move;
 use study_notation::Start;
 use study_pgn::{add_san, add_value};

@@ -6,12 +6,10 @@ ghost use Rattle.study_review.specs.Play.{IsPlayed};
 ghost use Rattle.study_page.specs.Rows.{several_words, several_item, each_several, is_answer, has_answer, defence_item, with_answer};
 ghost use Rattle.study_page.specs.Rows.{group, any_has, group_of, group_at, groups_from, answered_words, answered_cell, defence_row};
 
-use crate::drawing::Drawing;
-use crate::element::Element;
-use crate::html::Html;
-use crate::items::{put_told, put_words};
+use crate::items::put_told;
 use std::alloc::{AllocError, Allocator};
 use study_board::Position;
+use study_html::{Drawing, Element, Html, put_words};
 use study_moves::{Move, legal_moves, played};
 use study_notation::write_san;
 use study_pgn::add_san;

@@ -5,38 +5,23 @@ ghost use Rattle.study_moves.specs.Rules.{is_legal};
 ghost use Rattle.study_review.specs.Nodes.{is_stalemate};
 ghost use Rattle.study_notation.specs.Written.{move_text};
 ghost use Rattle.study_pgn.specs.Values.{value_text};
-ghost use Rattle.study_page.specs.Escape.{said};
-ghost use Rattle.study_page.specs.Elements.{inside};
+ghost use Rattle.study_html.specs.Escape.{said};
+ghost use Rattle.study_html.specs.Elements.{inside};
 ghost use Rattle.study_page.specs.Rows.{loses_time, forced_words, time_words, move_word, by_words, later_words, difference, also_words, also_item};
 ghost use Rattle.study_page.specs.Rows.{card_title, card_words, card, front_cells, told_move, refuted_item, refuted_items, of_all, refuted_count, try_row};
 
 use crate::diagram::draw_mini;
-use crate::element::Element;
-use crate::html::Html;
 use crate::signs::is_stalemate;
 use crate::words::{add_label, add_short};
 use std::alloc::{AllocError, Allocator};
 use study_board::{Position, Side};
+use study_html::{Element, Html, put_words};
 use study_moves::{Move, legal_moves};
 use study_notation::Start;
 use study_pgn::{add_san, add_value};
 use study_retro::Value;
 use study_review::{Alternative, Continuation};
 use study_text::Text;
-
-/// An element with words in it.
-pub fn put_words<'a, A: Allocator>(
-    alloc: &'a A,
-    html: &mut Html<'_, A>,
-    element: Element,
-    words: &[u8],
-) -> Result<(), AllocError>
-    ensures { OnOk result (html.new ≡ html.old ++ inside element (said words.now)) }
-{
-    let mut within = Html::new(alloc);
-    within.say(words)?;
-    html.put(element, &within)
-}
 
 #[tactic(auto, unfolding(crate::specs::Rows::loses_time))]
 pub fn loses_time() -> &'static [u8]

@@ -6,12 +6,11 @@ ghost use Rattle.study_review.specs.Play.{ArePlayed};
 ghost use Rattle.study_review.specs.Words.{move_words};
 ghost use Rattle.study_page.specs.Rows.{is_white, number_words, play_words, keep_it, keep_words, end_row};
 
-use crate::element::Element;
-use crate::html::Html;
-use crate::items::{put_front_cells, put_words};
+use crate::items::put_front_cells;
 use crate::words::add_front;
 use std::alloc::{AllocError, Allocator};
 use study_board::{Position, Side};
+use study_html::{Element, Html, put_words};
 use study_moves::{legal_moves, played};
 use study_notation::Start;
 use study_pgn::add_san;

@@ -2,13 +2,11 @@
 ghost use Rattle.std.specs.Prelude.{◌≡◌, true};
 ghost use Rattle.study_moves.specs.Rules.{is_legal};
 
-use crate::element::Element;
-use crate::html::Html;
-use crate::items::put_words;
 use crate::rows::add_number;
 use crate::signs::mark_at;
 use crate::words::add_short;
 use std::alloc::{AllocError, Allocator};
+use study_html::{Element, Html, put_words};
 use study_marks::{Bench, MoveMark, hero_moves};
 use study_pgn::add_san;
 use study_review::{Made, aim_in, count_at, made_in, value_at};

@@ -7,11 +7,9 @@ ghost use Rattle.study_marks.specs.declared.mark.Mark.{Mark as AMark};
 ghost use Rattle.study_page.specs.Verdict.{stamp_of, stamp_element, stamp_words, stamp_part, none_given, faults_words};
 ghost use Rattle.study_page.specs.Verdict.{holds_words, count_words, sentence, at_start, start_words, fault_list, verdict_part, judged};
 
-use crate::element::Element;
-use crate::html::Html;
-use crate::items::put_words;
 use std::alloc::{AllocError, Allocator};
 use study_board::Side;
+use study_html::{Element, Html, put_words};
 use study_marks::{Bench, Mark, Stipulation};
 use study_pgn::{add_value, is_right, root_mark};
 use study_retro::Value;

@@ -8,9 +8,9 @@ ghost use Rattle.study_review.specs.Review.{paths_from, LinesOfEach};
 ghost use Rattle.study_page.specs.Made.{HasAsked, RowsOf};
 
 use crate::fault::NotMade;
-use crate::html::Html;
 use crate::parts::{add_card, add_defences, add_end, add_fault, add_try};
 use std::alloc::Allocator;
+use study_html::Html;
 use study_marks::Bench;
 use study_prober::Values;
 use study_review::{count_at, place_in};

@@ -6,13 +6,12 @@ use std::alloc::{Allocator, Global};
 use std::io::{LineWriter, Write};
 use std::process::ExitCode;
 use study_board::Side;
+use study_html::{Html, write_closing, write_opening};
 use study_index::cells;
 use study_marks::{Bench, Goal, MateMoves, Stipulation, TagName};
 use study_material::Class;
 use study_notation::{read_fen, read_san};
-use study_page::{
-    Html, add_entry, write_closing, write_opening, write_page, write_refusal, write_summary,
-};
+use study_page::{add_entry, write_page, write_refusal, write_summary};
 use study_prober::WholeTables;
 use study_retro::{BuildRoom, TableSet, build};
 use study_tree::Path;

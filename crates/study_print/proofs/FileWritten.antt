@@ -9,8 +9,8 @@ use Rattle.study_script.specs.declared.running.RunFault.{RunFault}
 use Rattle.study_script.specs.declared.running.RunFault.TheVariants.{ReadDevice, WriteDevice, LineTooLong, TooManyLines, OutOfMemory}
 use Rattle.study_script.specs.State.{State}
 use Rattle.study_report.specs.Outcome.{Outcome, AreListed, Shape}
+use Rattle.study_html.specs.Frame.{opening}
 use Rattle.study_page.specs.Page.{IsPageOf}
-use Rattle.study_page.specs.Frame.{opening}
 use Rattle.study_print.specs.declared.pages.Count.{Count}
 use Rattle.study_print.specs.Entries.{AreEntries}
 use Rattle.study_print.specs.Pages.{refusal_text, end_text, is_broken, IsClosed, IsEndedIf, IsEnded, AreItsEntries, IsFile, FileShape, IsAnswerTo}

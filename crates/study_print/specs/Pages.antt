@@ -7,9 +7,9 @@ use Rattle.study_script.specs.declared.running.RunFault.{RunFault}
 use Rattle.study_script.specs.declared.running.RunFault.TheVariants.{WriteDevice, OutOfMemory}
 use Rattle.study_script.specs.State.{State}
 use Rattle.study_report.specs.Outcome.{Outcome, AreListed, Shape}
+use Rattle.study_html.specs.Frame.{opening, closing}
 use Rattle.study_page.specs.Page.{IsPageOf}
 use Rattle.study_page.specs.Lists.{refusal_part, summary_part}
-use Rattle.study_page.specs.Frame.{opening, closing}
 use Rattle.study_print.specs.declared.pages.Count.{Count}
 use Rattle.study_print.specs.declared.pages.Count.TheVariants.{Nothing, One, Several}
 use Rattle.study_print.specs.Entries.{AreEntries}

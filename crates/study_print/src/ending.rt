@@ -7,7 +7,8 @@ ghost use Rattle.study_print.specs.Pages.{summary_text, end_text, is_broken, IsE
 use crate::pages::Count;
 use std::alloc::Allocator;
 use std::io::Write;
-use study_page::{Html, PageFault, write_closing, write_summary};
+use study_html::{Html, write_closing};
+use study_page::{PageFault, write_summary};
 use study_script::{RunFault, Summary};
 
 /// Writes the list of all entries, where there are two or more.

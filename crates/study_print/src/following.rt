@@ -15,7 +15,7 @@ use crate::pages::Pages;
 use crate::watch::Watch;
 use std::alloc::Allocator;
 use std::io::{Read, Write};
-use study_page::write_opening;
+use study_html::write_opening;
 use study_report::{NoFiles, follow_over};
 use study_script::{RunFault, Summary, TableStore, Tables};
 use study_tablefile::PageSource;

@@ -7,8 +7,9 @@ use crate::reasons::{reason_of, refusal_in};
 use crate::watch::Watch;
 use std::alloc::{AllocError, Allocator};
 use std::io::Write;
+use study_html::Html;
 use study_marks::Bench;
-use study_page::{Html, PageFault, add_entry, write_page, write_refusal};
+use study_page::{PageFault, add_entry, write_page, write_refusal};
 use study_prober::Values;
 use study_report::{NotTold, Report, ReviewFault};
 

@@ -1,6 +1,6 @@
 use Rattle.std.proofs.Common.{rules}
 use Rattle.study_text.proofs.TextTaken.{TakesPrefix-first, TakesPrefix-second}
-use Rattle.study_page.specs.Frame.{closing}
+use Rattle.study_html.specs.Frame.{closing}
 use Rattle.study_print.specs.Pages.{summary_text}
 use Rattle.study_print.proofs.ending.write_end.Goals as goal
 

@@ -1,0 +1,242 @@
+//! The elements of a page.
+ghost use Rattle.std.specs.Prelude.{◌≡◌, ◌++◌, OnOk};
+ghost use Rattle.study_html.specs.Elements.{name, fixed, attributes, opening, closing, inside};
+
+use std::alloc::{AllocError, Allocator};
+use study_text::Text;
+
+/// An element of a page, by what it is for.
+#[derive(Clone, Copy)]
+pub enum Element {
+    /// The head of a page.
+    Header,
+    /// The title of a page.
+    Title,
+    /// Author, place and date.
+    Byline,
+    /// Diagram and verdict, side by side.
+    Top,
+    /// A diagram with its caption.
+    Figure,
+    /// What is below a diagram.
+    Caption,
+    /// Bold words.
+    Strong,
+    /// The count of men.
+    Count,
+    /// A text as it is typed.
+    Code,
+    /// The part with the verdict.
+    Verdict,
+    /// The heading of a part.
+    Heading,
+    /// The stamp of a sound study.
+    Sound,
+    /// The stamp of an unsound study.
+    Unsound,
+    /// The stamp of a wrong study.
+    Wrong,
+    /// A paragraph.
+    Paragraph,
+    /// A warning.
+    Warning,
+    /// A note on how to read a part.
+    Note,
+    /// A part of the page.
+    Part,
+    /// The solution.
+    Tree,
+    /// The only move that holds.
+    Only,
+    /// A move beside which others hold.
+    Dual,
+    /// A move that throws it away.
+    Mistake,
+    /// A move where nothing is to be held.
+    Idle,
+    /// A move of the opponent.
+    Reply,
+    /// The sign after a move.
+    Sign,
+    /// Small words.
+    Small,
+    /// A small number below the line.
+    Below,
+    /// A list.
+    List,
+    /// A part of a list.
+    Item,
+    /// The faults of a solution.
+    Faults,
+    /// Cards, two in a row.
+    Cards,
+    /// A card.
+    Card,
+    /// What is beside a diagram.
+    Beside,
+    /// The title of a card.
+    CardTitle,
+    /// A label after a move.
+    Label,
+    /// Other moves that hold.
+    Also,
+    /// A table.
+    Table,
+    /// The heads of a table.
+    Heads,
+    /// The rows of a table.
+    Rows,
+    /// A row of a table.
+    Row,
+    /// A head of a column.
+    Head,
+    /// A cell of a table.
+    Cell,
+    /// Words that are not broken between lines.
+    Whole,
+    /// Defences with one answer.
+    Group,
+    /// The answer to them.
+    Answer,
+    /// The foot of a page.
+    Foot,
+    /// What a drawing shows, for those who hear it.
+    Said,
+    /// The page with all entries.
+    Summary,
+    /// A diagram with coordinates.
+    Board,
+    /// A small diagram.
+    Mini,
+    /// The page of the entry of this number.
+    Entry(u32),
+    /// A link to the page of the entry of this number.
+    Link(u32),
+}
+
+/// The name of the element in HTML.
+fn name(element: Element) -> &'static [u8]
+    ensures { result.now ≡ name element }
+{
+    match element {
+        Element::Header => b"header",
+        Element::Title => b"h1",
+        Element::Byline | Element::Paragraph | Element::Warning | Element::Note => b"p",
+        Element::Top
+        | Element::Tree
+        | Element::Cards
+        | Element::Card
+        | Element::Beside
+        | Element::Group => b"div",
+        Element::Figure => b"figure",
+        Element::Caption => b"figcaption",
+        Element::Strong | Element::Sign => b"b",
+        Element::Code => b"code",
+        Element::Verdict | Element::Part => b"section",
+        Element::Heading => b"h2",
+        Element::Small => b"small",
+        Element::Below => b"sub",
+        Element::List | Element::Faults | Element::Also => b"ul",
+        Element::Item => b"li",
+        Element::CardTitle => b"h3",
+        Element::Table => b"table",
+        Element::Heads => b"thead",
+        Element::Rows => b"tbody",
+        Element::Row => b"tr",
+        Element::Head => b"th",
+        Element::Cell => b"td",
+        Element::Answer => b"i",
+        Element::Foot => b"footer",
+        Element::Said => b"title",
+        Element::Summary | Element::Entry(_) => b"article",
+        Element::Board | Element::Mini => b"svg",
+        Element::Link(_) => b"a",
+        _ => b"span",
+    }
+}
+
+/// The attributes of an element that has no number, each after a space.
+fn fixed(element: Element) -> &'static [u8]
+    ensures { result.now ≡ fixed element }
+{
+    match element {
+        Element::Byline => b" class=\"by\"",
+        Element::Top => b" class=\"top\"",
+        Element::Count => b" class=\"cnt\"",
+        Element::Verdict => b" class=\"verdict\"",
+        Element::Sound => b" class=\"stamp sound\"",
+        Element::Unsound => b" class=\"stamp unsound\"",
+        Element::Wrong => b" class=\"stamp wrong\"",
+        Element::Warning => b" class=\"warn\"",
+        Element::Note => b" class=\"note\"",
+        Element::Tree => b" class=\"tree\"",
+        Element::Only => b" class=\"m only\"",
+        Element::Dual => b" class=\"m dual\"",
+        Element::Mistake => b" class=\"m mistake\"",
+        Element::Idle => b" class=\"m idle\"",
+        Element::Reply => b" class=\"m reply\"",
+        Element::Sign => b" class=\"s\"",
+        Element::Faults => b" class=\"faults\"",
+        Element::Cards => b" class=\"cards\"",
+        Element::Card => b" class=\"card\"",
+        Element::Label => b" class=\"tag\"",
+        Element::Also => b" class=\"also\"",
+        Element::Whole => b" class=\"nb\"",
+        Element::Summary => b" class=\"sum\"",
+        Element::Board => b" class=\"board\" role=\"img\" viewBox=\"-14 -3 377 380\"",
+        Element::Mini => b" class=\"mini\" role=\"img\" viewBox=\"-3 -3 366 366\"",
+        _ => b"",
+    }
+}
+
+/// Adds the attributes of the element.
+fn add_attributes<A: Allocator>(text: &mut Text<'_, A>, element: Element) -> Result<(), AllocError>
+    ensures { OnOk result (text.new ≡ text.old ++ attributes element) }
+{
+    match element {
+        Element::Entry(number) => {
+            text.add(b" id=\"e")?;
+            text.add_number(number)?;
+            text.add(b"\"")
+        }
+        Element::Link(number) => {
+            text.add(b" href=\"#e")?;
+            text.add_number(number)?;
+            text.add(b"\"")
+        }
+        _ => text.add(fixed(element)),
+    }
+}
+
+#[tactic(auto, unfolding(crate::specs::Elements::opening))]
+fn add_opening<A: Allocator>(text: &mut Text<'_, A>, element: Element) -> Result<(), AllocError>
+    ensures { OnOk result (text.new ≡ text.old ++ opening element) }
+{
+    text.add(b"<")?;
+    text.add(name(element))?;
+    add_attributes(text, element)?;
+    text.add(b">")
+}
+
+#[tactic(auto, unfolding(crate::specs::Elements::closing))]
+fn add_closing<A: Allocator>(text: &mut Text<'_, A>, element: Element) -> Result<(), AllocError>
+    ensures { OnOk result (text.new ≡ text.old ++ closing element) }
+{
+    text.add(b"</")?;
+    text.add(name(element))?;
+    text.add(b">")
+}
+
+/// Adds the element with what is inside.
+#[tactic(auto, unfolding(crate::specs::Elements::inside))]
+pub fn add_inside<A: Allocator>(
+    text: &mut Text<'_, A>,
+    element: Element,
+    inner: &[u8],
+) -> Result<(), AllocError>
+    ensures { OnOk result (text.new ≡ text.old ++ inside element inner.now) }
+{
+    add_opening(text, element)?;
+    text.add(inner)?;
+    add_closing(text, element)
+}

@@ -1,0 +1,55 @@
+//! Words in HTML.
+ghost use Rattle.std.specs.Prelude.{◌≡◌, ◌<◌, ◌++◌, OnOk};
+ghost use Rattle.study_html.specs.Escape.{entity, hex_digit, shown, said};
+
+use std::alloc::{AllocError, Allocator};
+use study_text::Text;
+
+/// The digit, of sixteen.
+fn hex_digit(digit: u8) -> u8
+    requires { digit < 16 }
+    ensures { result ≡ hex_digit digit }
+{
+    if digit < 10 { 48 + digit } else { 55 + digit }
+}
+
+/// A byte that is printed, as it is, and any other by its number.
+fn add_shown<A: Allocator>(text: &mut Text<'_, A>, byte: u8) -> Result<(), AllocError>
+    ensures { OnOk result (text.new ≡ text.old ++ shown byte) }
+{
+    if byte < 32 || 126 < byte {
+        text.add(&[92, 120, hex_digit(byte / 16 % 16), hex_digit(byte % 16)])
+    } else {
+        text.add(&[byte])
+    }
+}
+
+/// What stands for a byte.
+fn add_entity<A: Allocator>(text: &mut Text<'_, A>, byte: u8) -> Result<(), AllocError>
+    ensures { OnOk result (text.new ≡ text.old ++ entity byte) }
+{
+    if byte == b'&' {
+        text.add(b"&amp;")
+    } else if byte == b'<' {
+        text.add(b"&lt;")
+    } else if byte == b'>' {
+        text.add(b"&gt;")
+    } else if byte == b'"' {
+        text.add(b"&quot;")
+    } else if byte == 39 {
+        text.add(b"&#39;")
+    } else {
+        add_shown(text, byte)
+    }
+}
+
+/// Adds words as HTML has them: `&`, `<`, `>` and the quotation marks as entities, and what is not printed by its number.
+#[tactic(auto, unfolding(crate::specs::Escape::said))]
+pub fn add_said<A: Allocator>(text: &mut Text<'_, A>, bytes: &[u8]) -> Result<(), AllocError>
+    ensures { OnOk result (text.new ≡ text.old ++ said bytes.now) }
+{
+    for byte in bytes {
+        add_entity(text, *byte)?;
+    }
+    Ok(())
+}

@@ -1,0 +1,19 @@
+//! HTML that is always well nested: elements, words from outside, and drawings of boards and men.
+//!
+//! `Html` is markup that grows by words, by whole elements and by drawings, so that it is always well nested and words from
+//! outside are never read as markup. `write_opening` and `write_closing` write what stands around the pages of a file: the
+//! style sheet of the elements, and the shapes that the drawings name.
+#![tactic(auto)]
+
+mod drawing;
+mod element;
+mod escape;
+mod frame;
+mod html;
+mod laws;
+
+pub use drawing::Drawing;
+pub use element::Element;
+pub use frame::{write_closing, write_opening};
+pub use html::{Html, put_words};
+pub use laws::words_are_clean;

@@ -1,5 +1,0 @@
-use Rattle.study_page.proofs.MarkupGrows.{said_nested}
-use Rattle.study_page.proofs.html.Html.say.Goals as goal
-
-pub invariant_of-self : goal.invariant_of-self
-invariant_of-self g c = rw c.in-Ok.ensures (said_nested _ _ c.self.invariant)
