@@ -79,7 +79,7 @@ Gives-leads l l' mate f p to from Draw g = record {
 
 -- the values after the moves out of the class give what those moves alone give
 pub GivesOutside-given_by : {P M : Type 0} (legal : P → M → Type 0) (after : P → M → P) (home : P → Bool)
-    (f : P → Value) (p : P) (ms : List M) → ((m : M) → legal p m → Contains ms m)
+    (f : P → Value) (p : P) (ms : List M) → ((m : M) → legal p m → home (after p m) ≡ false → Contains ms m)
     → ((m : M) → Contains ms m → legal p m)
     → (lost won : Option ℕ) (drawn : Bool) → IsTallyOf (λ m. home (after p m) ≡ false) (λ m. f (after p m)) ms lost
     won drawn → GivesOutside (LeadsBy legal after) home f p (given_by false lost won drawn)
@@ -88,7 +88,7 @@ GivesOutside-given_by {P} {M} legal after home f p ms all only lost won drawn t 
     (λ q l. ((l.0, l.1.0, l.2), subst (λ (b : P). home b ≡ false) l.2 l.1.1))
     (λ q l. (l.0.0, (l.0.1, subst (λ (b : P). home b ≡ false) (sym l.0.2) l.1), l.0.2))
     (given_by false lost won drawn)
-    (Gives-given_by out after (λ a. ⊥) f p t.0 (λ m l. t.2.kept m (all m l.0) l.1)
+    (Gives-given_by out after (λ a. ⊥) f p t.0 (λ m l. t.2.kept m (all m l.0 l.1) l.1)
     (λ m c. (only m (t.2.there m c), t.2.passes m c)) false lost won drawn (λ e. cc, λ h. absurd h) t.1)
   where
     out : P → M → Type 0

@@ -14,6 +14,7 @@ pub mod HeldLemmas
 pub mod NextLemmas
 pub mod StillLemmas
 pub mod FirstLemmas
+pub mod CaptureLemmas
 pub mod CellsLemmas
 pub mod BackLemmas
 pub mod StillChess

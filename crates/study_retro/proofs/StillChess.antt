@@ -3,7 +3,7 @@ use Rattle.std.proofs.Common.{◌≡◌, ℕ, zero, suc, ◌<◌, ◌==◌, ◌�
 use Rattle.std.proofs.Common.{Option, Some, None, refl, sym, ◌∙◌, ap, subst}
 use Rattle.std.specs.List.{list_any}
 use Rattle.std.specs.List.Sorted.{IsPermutation}
-use Rattle.std.proofs.lemmas.List.Sorted.{All-permutation, IsPermutation-sym}
+use Rattle.std.proofs.lemmas.List.Sorted.{All-permutation, IsPermutation-refl, IsPermutation-sym}
 use Rattle.std.proofs.lemmas.Bool.{and_parts, cases_Bool, eqb-true, eq-eqb, false≢true}
 use Rattle.study_board.specs.declared.men.Side.{Side}
 use Rattle.study_board.specs.declared.men.Side.TheVariants.{White, Black}
@@ -19,10 +19,11 @@ use Rattle.study_board.proofs.Faults.{has_square_twice_same, in_check_same}
 use Rattle.study_board.proofs.Valid.{IsFaultless, IsFaultless-from_first}
 use Rattle.study_moves.specs.declared.moves.Move.{Move}
 use Rattle.study_moves.specs.Rules.{after, has_side, is_legal, is_promotion_choice, last_rank, starting_rank, reaches_last_rank, reaches_target}
-use Rattle.study_moves.specs.AnyOrder.{is_safe_target}
+use Rattle.study_moves.specs.AnyOrder.{HasSafeTargets, is_safe_target}
+use Rattle.study_moves.proofs.AnyOrder.{men-tell-moves}
 use Rattle.study_moves.specs.Unmoves.{IsQuiet}
 use Rattle.study_moves.proofs.HowMenGo.{IsAheadBy, IsStep, IsDoubleStep, IsCapture, bears_or_empty, pawn_ways}
-use Rattle.study_moves.proofs.MenOfList.{All-among, IsAmong, list_any-none, none_among}
+use Rattle.study_moves.proofs.MenOfList.{All-among, IsAmong, list_any-none, none_among, some_among}
 use Rattle.study_material.specs.declared.class.Class.{Class}
 use Rattle.study_material.specs.Class.{is_of, lists_of}
 use Rattle.study_material.proofs.Classes.{is_of-IsOf}
@@ -37,9 +38,11 @@ use Rattle.study_retro.specs.Numbered.{CellIsHeld, IsNumberedClass, OutsideIsRig
 use Rattle.study_retro.specs.Propagation.{IsHeldCell}
 use Rattle.study_retro.specs.Predecessors.{AreTold}
 use Rattle.study_retro.proofs.FirstLemmas.{held-draw}
-use Rattle.study_retro.specs.Still.{HasOnlyQuiet, IsStill, rank_before_last}
+use Rattle.study_retro.specs.Still.{GoesPlainly, HasOnlyQuiet, IsStill, move_to, rank_before_last}
 use Rattle.study_retro.proofs.BackLemmas.{occupied_same, side_is, told_targets}
 use Rattle.study_retro.proofs.MovedSteps.{quiet_stays}
+use Rattle.study_retro.proofs.QuietSteps.{dead_of}
+use Rattle.study_index.proofs.ClassLaws.{entry}
 
 among-of : (xs : List Man) (m : Man) → Contains xs m → IsAmong m xs
 among-of [] m c = absurd (omega (arith, c.1))
@@ -234,3 +237,59 @@ still_held c held number laws outer still single = by_position (position_numbere
         leaves q e s r l =
             let home = is_of-IsOf c (after q l.0.0) (quiet_stays c number q e single l.0.0 l.0.1 (s.1 l.0.0 l.0.1)) in
             false≢true (sym l.1 ∙ ap (λ (p : Position). is_of c p) (sym l.0.2) ∙ home)
+
+-- ---- moves out of the class
+
+in-of : (xs : List Man) (m : Man) → IsAmong m xs → Contains xs m
+in-of [] m i = absurd i
+in-of (x ∷ xs) m (inl e) = (zero, omega arith, e)
+in-of (x ∷ xs) m (inr i) = let r = in-of xs m i in let l = r.1 in (suc r.0, omega (arith, l), r.2)
+
+standing : (men : List Man) (x : ℕ) → is_occupied men x ≡ true → (o : Man) × Contains men o × (o.at ≡ x)
+unfolding is_occupied
+standing men x e = let s = some_among (λ m. m.at == x) men e in (s.0, in-of men s.0 s.1, eqb-true s.0.at x s.2)
+
+going : (men : List Man) (side : Side) (man : Man) (x : ℕ) → is_safe_target men side man x ≡ true → reaches_target men None man x ≡ true
+unfolding is_safe_target
+going men side man x e = (and_parts _ _ (and_parts _ _ e).0).0
+
+move_parts : (m : Move) (man : Man) (x : ℕ) → m.origin ≡ man.at → m.target ≡ x → m.promoted ≡ None → move_to man x ≡ m
+move_parts m man x o t p =
+    sym
+    (ap (λ (a : ℕ). let r : Move = record { origin = a; target = m.target; promoted = m.promoted } in r) o
+    ∙ ap (λ (y : ℕ). let r : Move = record { origin = man.at; target = y; promoted = m.promoted } in r) t
+    ∙ ap (λ (k : Option Kind). let r : Move = record { origin = man.at; target = x; promoted = k } in r) p)
+
+module _ (c : Class) (number : ℕ) (q : Position) (at : position_numbered c number ≡ Some q) (single : has_both_pawns (lists_of c) ≡ false) where
+  -- the men of the position tell its legal moves
+  pub own_targets : HasSafeTargets q q.men
+  own_targets =
+      let d = told_decoded c number q at in
+      (men-tell-moves q q.men d.valid (IsPermutation-refl q.men)).0 (dead_of c q d.valid (entry c number q d).of_class single)
+
+  -- where none promotes a move out of the class takes a man
+  module _ (promotes : list_any (λ m. is_man q.to_move Pawn m && (rank_of m.at == rank_before_last q.to_move)) q.men ≡ false) (items : List Move) (all : (man : Man)
+      → Contains q.men man → same_side man.side q.to_move ≡ true → (o : Man) → Contains q.men o → GoesPlainly q man o.at → Contains items (move_to man o.at)) where
+    pub leaving_listed : (m : Move) → is_legal q m ≡ true → is_of c (after q m) ≡ false → Contains items m
+    leaving_listed m legal out =
+        let t = own_targets.mover m legal in
+        let is = and_parts _ _ (sym (own_targets.legal t.0 m t.1 t.2 t.3) ∙ legal) in
+        let own = and_parts _ _ is.0 in
+        by_man t.0 t.1 t.2 own.0 own.1 is.1 (is_occupied q.men m.target) refl
+      where
+        by_man : (man : Man) → Contains q.men man → m.origin ≡ man.at → same_side man.side q.to_move ≡ true → is_safe_target q.men q.to_move man m.target ≡ true
+            → is_promotion_choice (reaches_last_rank man m.target) m.promoted ≡ true → (b : Bool) → is_occupied q.men m.target ≡ b → Contains items m
+        by_man man among origin his safe choice b e =
+            let plain = target_plain q.men q.to_move promotes man (among-of q.men man among) his m.target (going q.men q.to_move man m.target safe) in
+            let none = none_to_promote (reaches_last_rank man m.target) m.promoted plain choice in
+            by_square man among origin his safe plain none b e
+          where
+            by_square : (man : Man) → Contains q.men man → m.origin ≡ man.at → same_side man.side q.to_move ≡ true
+                → is_safe_target q.men q.to_move man m.target ≡ true → reaches_last_rank man m.target ≡ false → m.promoted ≡ None
+                → (b : Bool) → is_occupied q.men m.target ≡ b → Contains items m
+            by_square man among origin his safe plain none false e =
+                absurd (false≢true (sym out ∙ is_of-IsOf c (after q m) (quiet_stays c number q at single m legal (e, none))))
+            by_square man among origin his safe plain none true e =
+                let o = standing q.men m.target e in
+                subst (λ (x : Move). Contains items x) (move_parts m man o.0.at origin (sym o.2) none)
+                (all man among his o.0 o.1 (ap (λ (x : ℕ). is_safe_target q.men q.to_move man x) o.2 ∙ safe, ap (λ (x : ℕ). reaches_last_rank man x) o.2 ∙ plain))

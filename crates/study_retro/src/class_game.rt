@@ -8,6 +8,7 @@ ghost use Rattle.study_index.specs.Computed.{index_of, position_numbered};
 ghost use Rattle.study_retro.specs.Table.{IsReady, IsClosed};
 
 use crate::back::{Change, write_before};
+use crate::captures::captures;
 use crate::consistency::label;
 use crate::earlier::{has_both_pawns, predecessor_numbers};
 use crate::escapes::{escapes, has_move};
@@ -15,7 +16,7 @@ use crate::game::{Game, Location};
 use crate::initial::{Initial, initial_by_moves};
 use crate::propagate::{is_lost_by_moves, lower_by_moves, mark_by_moves};
 use crate::stepped::{LabelledGame, SteppedGame};
-use crate::still::{begins_unknown, stays};
+use crate::still::{begins_unknown, may_promote, stays};
 use crate::table_set::TableSet;
 use crate::value::{Value, value_at};
 use arrayvec::ArrayVec;
@@ -55,6 +56,13 @@ impl<'t, 'a, A: Allocator> Game for ClassGame<'t, 'a, A> {
 
     fn played(&self, at: &Position, by: Move) -> Position {
         played(at, by)
+    }
+
+    fn leaving(&self, at: &Position) -> ArrayVec<Move, 256> {
+        if has_both_pawns(self.class) || may_promote(at.men(), at.to_move()) {
+            return legal_moves(at);
+        }
+        captures(at)
     }
 
     fn leaves(&self, at: &Position, by: Move) -> bool {

@@ -24,7 +24,7 @@ use study_moves::safe_targets;
 
 /// Whether the man is a pawn that reaches its last rank on the square.
 #[inline]
-fn reaches_last_rank(man: &Man, target: Square) -> bool
+pub fn reaches_last_rank(man: &Man, target: Square) -> bool
     ensures { result ≡ reaches_last_rank man.now target }
 {
     let last = match man.side {

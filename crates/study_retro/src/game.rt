@@ -44,6 +44,13 @@ pub trait Game {
         requires { (numbered self.now).known at.now }
         ensures { StandsAt (numbered self.now) at.now result };
 
+    /// Legal moves, with each one that leads out of the class.
+    fn leaving(&self, at: &Self::Position) -> ArrayVec<Move, 256>
+        requires numbered { (n : ℕ) × ((numbered self.now).position n ≡ Some at.now) }
+        ensures all { (m : Move) → (numbered self.now).legal at.now m → (numbered self.now).home ((numbered self.now).after at.now m) ≡ false
+            → Contains result.items m }
+        ensures only { (m : Move) → Contains result.items m → (numbered self.now).legal at.now m };
+
     /// Whether the move may lead out of the class.
     fn leaves(&self, at: &Self::Position, by: Move) -> bool
         requires numbered { (n : ℕ) × ((numbered self.now).position n ≡ Some at.now) }

@@ -33,7 +33,7 @@ pub fn value_by_conversion<G: Game>(game: &G, at: &G::Position) -> Value
     requires home { (G.numbered game.now).home at.now ≡ true }
     ensures { OutsideGives (G.numbered game.now) at.now result }
 {
-    let moves = game.moves(at);
+    let moves = game.leaving(at);
     let mut replies = BestReplies::new();
     for by in moves.as_slice() {
         if game.leaves(at, *by) {

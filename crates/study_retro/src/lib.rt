@@ -10,6 +10,7 @@ mod back;
 mod best_replies;
 mod blocks;
 mod builder;
+mod captures;
 mod class_game;
 mod consistency;
 mod earlier;

@@ -97,7 +97,7 @@ fn has_square_twice(men: &[Man]) -> bool
 
 /// Whether a pawn of the side is one step from its last rank.
 #[inline]
-fn may_promote(men: &[Man], side: Side) -> bool
+pub fn may_promote(men: &[Man], side: Side) -> bool
     ensures { result ≡ list_any (λ m. is_man side Pawn m && (rank_of m.at == rank_before_last side)) men.now }
 {
     men.iter().any(|m| m.is(side, Kind::Pawn) && m.at.rank() == rank_before_last(side))

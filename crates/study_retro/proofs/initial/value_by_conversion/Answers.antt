@@ -24,8 +24,8 @@ with_conversion-replies-requires g c =
     let d = c.by-item.result in
     let m : Move = slice_index_or ms c.loop-by.by-index d in
     let there = subst (λ (xs : List Move). Contains xs m) c.as_slice-by-items.ensures.value (Contains-get_or ms c.loop-by.by-index d c.loop-by-test.true) in
-    let here = subst (λ (x : Move). Contains c.moves-moves.result.items x) (sym c.by-item.is) there in
-    c.requires.laws.closed c.args.at.now c.played-to.result c.requires.known c.requires.home (d, c.moves-moves.ensures.only d here, sym c.played-to.ensures)
+    let here = subst (λ (x : Move). Contains c.leaving-moves.result.items x) (sym c.by-item.is) there in
+    c.requires.laws.closed c.args.at.now c.played-to.result c.requires.known c.requires.home (d, c.leaving-moves.ensures.only d here, sym c.played-to.ensures)
 
 pub loop-by-preserved : goal.loop-by-preserved
 loop-by-preserved g c =
@@ -71,8 +71,8 @@ returns g c =
     let is =
     GivesOutside-given_by (g.G.Game.numbered c.args.game.now).legal (g.G.Game.numbered c.args.game.now).after
     (g.G.Game.numbered c.args.game.now).home (g.G.Game.numbered c.args.game.now).outside c.args.at.now ms
-    (λ m l. subst (λ (xs : List Move). Contains xs m) (sym same) (c.moves-moves.ensures.all m l))
-    (λ m h. c.moves-moves.ensures.only m (subst (λ (xs : List Move). Contains xs m) same h))
+    (λ m l o. subst (λ (xs : List Move). Contains xs m) (sym same) (c.leaving-moves.ensures.all m l o))
+    (λ m h. c.leaving-moves.ensures.only m (subst (λ (xs : List Move). Contains xs m) same h))
     c.loop-by.replies.lost c.loop-by.replies.won c.loop-by.replies.drawn t in
     let gives =
     subst (λ (v : Value). GivesOutside (leads_in (g.G.Game.numbered c.args.game.now))

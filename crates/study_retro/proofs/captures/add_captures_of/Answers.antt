@@ -1,0 +1,55 @@
+use Rattle.std.proofs.Common.{◌≡◌, ℕ, ◌<◌, ◌∙◌, sym, ap, subst, arith, true, length, List, ◌++◌, ◌∷◌, [], Contains}
+use Rattle.std.proofs.lemmas.List.{take_all}
+use Rattle.study_board.specs.declared.men.Man.{Man}
+use Rattle.study_board.specs.declared.men.Side.{Side}
+use Rattle.study_board.specs.Sets.{has}
+use Rattle.study_moves.specs.declared.moves.Move.{Move}
+use Rattle.study_moves.specs.Rules.{is_legal}
+use Rattle.study_moves.specs.AnyOrder.{is_safe_target}
+use Rattle.study_retro.specs.Still.{GoesPlainly, move_to}
+use Rattle.study_retro.proofs.CaptureLemmas.{more_kept, more_only, more_here, each_man, goes_legally, goes_not}
+use Rattle.study_retro.proofs.captures.add_captures_of.Goals as goal
+use Rattle.study_retro.proofs.captures.add_captures_of.Goals.{then-goes_plainly, else-goes_plainly}
+
+pub loop-other-preserved : goal.loop-other-preserved
+loop-other-preserved c =
+    let q = c.args.at.now in
+    let man = c.args.man.now in
+    let men = c.men-men.result.now in
+    let o = c.other-item.result in
+    let inv = c.loop-other.invariant in
+    let xs = c.loop-other.list.items in
+    let word : (x : ℕ) → x < 64 → has c.safe_targets-safe.result x ≡ is_safe_target men q.to_move man x =
+    λ x l. c.safe_targets-safe.ensures x l ∙ ap (λ (s : Side). is_safe_target men s man x) c.to_move.ensures in
+    elim c.if-goes_plainly.branch [
+      | then-goes_plainly w ↦ rw w.list-is (
+          let more : w.push.new.self.items ≡ xs ++ move_to man o.at ∷ [] =
+          w.push.ensures.items ∙ ap (λ (m : Move). xs ++ m ∷ []) w.move_to.ensures in
+          let legal = goes_legally q c.men-men.ensures.valid men c.men-men.ensures.value c.loop-other.other-index _ o c.loop-other-test.true c.other-item.is
+          c.requires.tells man c.requires.man c.requires.side c.safe_targets-safe.result word c.goes_plainly.result c.goes_plainly.ensures w.if-goes_plainly.true in
+          record {
+            few = (let f = inv.few in omega (arith, f, ap length more));
+            only = more_only xs w.push.new.self.items (move_to man o.at) more (λ m. is_legal q m ≡ true) inv.only legal;
+            kept = λ m k. more_kept xs w.push.new.self.items (move_to man o.at) more m (inv.kept m k);
+            all = each_man q c.men-men.ensures.valid men c.men-men.ensures.value c.loop-other.other-index _ o c.loop-other-test.true c.other-item.is
+                (λ (k : Man). GoesPlainly q man k.at → Contains w.push.new.self.items (move_to man k.at))
+                (λ k i g. more_kept xs w.push.new.self.items (move_to man o.at) more (move_to man k.at) (inv.all k i g))
+                (λ g. more_here xs w.push.new.self.items (move_to man o.at) more);
+          })
+      | else-goes_plainly w ↦ rw w.list-is (
+          let none = goes_not q c.men-men.ensures.valid men c.men-men.ensures.value c.loop-other.other-index _ o c.loop-other-test.true c.other-item.is
+          c.requires.tells man c.requires.man c.requires.side c.safe_targets-safe.result word c.goes_plainly.result c.goes_plainly.ensures w.if-goes_plainly.false in
+          record {
+            few = (let f = inv.few in omega (arith, f));
+            only = inv.only;
+            kept = inv.kept;
+            all = each_man q c.men-men.ensures.valid men c.men-men.ensures.value c.loop-other.other-index _ o c.loop-other-test.true c.other-item.is
+                (λ (k : Man). GoesPlainly q man k.at → Contains xs (move_to man k.at)) inv.all (λ g. absurd (none g));
+          })
+    ]
+
+pub returns-clause-all : goal.returns-clause-all
+returns-clause-all c = λ o i g.
+    let men = c.men-men.result.now in
+    let whole = take_all c.loop-other.other-index men (let h = c.loop-other-test.false in omega (arith, h)) in
+    c.loop-other.invariant.all o (subst (λ (zs : List Man). Contains zs o) (sym (whole ∙ c.men-men.ensures.value)) i) g
