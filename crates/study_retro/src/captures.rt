@@ -11,15 +11,15 @@ ghost use Rattle.study_retro.specs.Still.{GoesPlainly, move_to};
 
 use crate::escapes::reaches_last_rank;
 use arrayvec::ArrayVec;
-use study_board::{Man, Position, Square, has};
+use study_board::{Man, Position, Square, SquareSet};
 use study_moves::{Move, safe_targets};
 
 /// Whether the square is in the set, and the man no pawn that reaches its last rank there.
 #[inline]
-fn goes_plainly(safe: u64, man: &Man, target: Square) -> bool
+fn goes_plainly(safe: SquareSet, man: &Man, target: Square) -> bool
     ensures { result ≡ (has safe target && not (reaches_last_rank man.now target)) }
 {
-    has(safe, target) && !reaches_last_rank(man, target)
+    safe.contains(target) && !reaches_last_rank(man, target)
 }
 
 /// The move of the man to the square, without a promotion.
