@@ -19,5 +19,6 @@ mod whole_tables;
 pub use failing_values::FailingValues;
 pub use fault::PagedFault;
 pub use paged_tables::PagedTables;
+pub use study_tablefile::SourceFault;
 pub use values::{ProbeFault, Values};
 pub use whole_tables::WholeTables;
