@@ -9,17 +9,17 @@ ghost use Rattle.study_index.specs.Computed.{index_of};
 ghost use Rattle.study_index.specs.Number.{cells_of};
 ghost use Rattle.study_index.specs.Stepped.{are_like_slots, moved_to, IsStepped};
 ghost use Rattle.study_index.specs.Moved.{IsMoved, from_to};
-ghost use Rattle.study_index.specs.LeastImage.{king_symmetry, squares};
+ghost use Rattle.study_index.specs.LeastImage.{king_symmetry, squares, with_head};
 ghost use Rattle.study_index.specs.Squares.{number_at};
 ghost use Rattle.study_board.specs.Symmetry.{turned_square};
 
 use crate::decoding::{Slot, head, man, slots};
 use crate::least::least_of;
 use crate::least_image::least_image;
-use crate::number::{EN_PASSANT_BIT, number};
+use crate::number::{EN_PASSANT_BIT, listed_count, number, place, side_number};
 use crate::reading::{class_has_pawn, has_like_men, king_told, side_told};
 use crate::stepped::stepped;
-use study_board::{Man, Square, Symmetry};
+use study_board::{Man, Side, Square, Symmetry};
 use study_material::Class;
 
 /// The man, put on `to` if it stands on `from`.
@@ -93,6 +93,23 @@ fn square(number: u32) -> Square
     Square::at(number as u8)
 }
 
+/// A number with the side to move and the white king's place replaced.
+#[inline]
+#[tactic(auto, unfolding(crate::specs::LeastImage::with_head))]
+fn with_head(slots: &[Slot], head: u32, n: u32) -> u32
+    requires slots { AreSlots slots.now }
+    requires head { head < 64 }
+    ensures value { result ≡ with_head slots.now head n }
+    ensures small { result < 16777216 }
+{
+    match slots {
+        [_, _] => head * 64 + n % 64,
+        [_, _, _] => head * 4_096 + n % 4_096,
+        [_, _, _, _] => head * 262_144 + n % 262_144,
+        _ => unreachable!(),
+    }
+}
+
 /// The number of the men that a number tells, the white king put on `to` and the other side to move, turned so that the
 /// king comes to a listed square.
 #[inline]
@@ -103,6 +120,29 @@ fn number_with_king_on(slots: &[Slot], pawns: bool, n: u32, to: Square) -> Optio
     ensures small { IfSome result (λ m. m < 16777216) }
 {
     let side = side_told(pawns, head(slots, n)).other();
+    let _square = to.number();
+    match place(pawns, to) {
+        Some(q) => {
+            let head = side_number(side) * listed_count(pawns) + u32::from(q);
+            Some(with_head(slots, head, n))
+        }
+        None => number_with_king_turned(slots, pawns, n, side, to),
+    }
+}
+
+/// The same, by the symmetry that brings the square to a listed one.
+fn number_with_king_turned(
+    slots: &[Slot],
+    pawns: bool,
+    n: u32,
+    side: Side,
+    to: Square,
+) -> Option<u32>
+    requires slots { AreSlots slots.now }
+    requires pawns { pawns ≡ slots_have_pawn slots.now }
+    ensures value { result ≡ number_at pawns side (turned_square (king_symmetry pawns to)) (squares (moved_to 0 to (told_men slots.now n))) }
+    ensures small { IfSome result (λ m. m < 16777216) }
+{
     let t = king_symmetry(pawns, to);
     match slots {
         [_, _] => number(pawns, side, t, &[to, square(n % 64)]),

@@ -97,7 +97,7 @@ fn append_squares(t: Symmetry, n: u32, squares: &[Square]) -> u32
 }
 
 #[inline]
-fn side_number(side: Side) -> u32
+pub fn side_number(side: Side) -> u32
     ensures value { result ≡ side_number side }
     ensures small { result < 2 }
 {
