@@ -16,7 +16,7 @@ ghost use Rattle.study_board.specs.Symmetry.{turned_square};
 use crate::decoding::{Slot, head, man, slots};
 use crate::least::least_of;
 use crate::least_image::least_image;
-use crate::number::{EN_PASSANT_BIT, listed_count, number, place, side_number};
+use crate::number::{EN_PASSANT_BIT, Frame, listed_count, number, place, side_number};
 use crate::reading::{class_has_pawn, has_like_men, king_told, side_told};
 use crate::stepped::stepped;
 use study_board::{Man, Side, Square, Symmetry};
@@ -38,31 +38,43 @@ fn put(man: Man, from: Square, to: Square) -> Man
     }
 }
 
+/// The frame of a number as a class has it, the colours as they are.
+#[inline]
+fn straight_frame(has_pawns: bool, to_move: Side) -> Frame
+    ensures { result ≡ record { has_pawns = has_pawns; to_move = to_move; swap_colours = false } }
+{
+    Frame {
+        has_pawns,
+        to_move,
+        swap_colours: false,
+    }
+}
+
 /// The least number of the men that a number tells, the man on `from` put on `to` and the other side to move.
 fn least_moved(slots: &[Slot], pawns: bool, n: u32, from: Square, to: Square) -> Option<u32>
     requires slots { AreSlots slots.now }
     requires pawns { pawns ≡ slots_have_pawn slots.now }
     ensures { result ≡ least_of pawns (other_side (told_side slots.now n)) false (map (from_to from to) (told_men slots.now n)) }
 {
-    let side = side_told(pawns, head(slots, n)).other();
+    let frame = straight_frame(pawns, side_told(pawns, head(slots, n)).other());
     match slots {
         [k, b] => {
             let white = put(king_told(pawns, k, n / 64), from, to);
             let men = [white, put(man(b, n % 64), from, to)];
-            least_of(pawns, side, false, &men)
+            least_of(frame, &men)
         }
         [k, b, x] => {
             let white = put(king_told(pawns, k, n / 64 / 64), from, to);
             let black = put(man(b, n / 64 % 64), from, to);
             let men = [white, black, put(man(x, n % 64), from, to)];
-            least_of(pawns, side, false, &men)
+            least_of(frame, &men)
         }
         [k, b, x, y] => {
             let white = put(king_told(pawns, k, n / 64 / 64 / 64), from, to);
             let black = put(man(b, n / 64 / 64 % 64), from, to);
             let further = put(man(x, n / 64 % 64), from, to);
             let men = [white, black, further, put(man(y, n % 64), from, to)];
-            least_of(pawns, side, false, &men)
+            least_of(frame, &men)
         }
         _ => unreachable!(),
     }
@@ -143,13 +155,14 @@ fn number_with_king_turned(
     ensures value { result ≡ number_at pawns side (turned_square (king_symmetry pawns to)) (squares (moved_to 0 to (told_men slots.now n))) }
     ensures small { IfSome result (λ m. m < 16777216) }
 {
+    let frame = straight_frame(pawns, side);
     let t = king_symmetry(pawns, to);
     match slots {
-        [_, _] => number(pawns, side, t, &[to, square(n % 64)]),
-        [_, _, _] => number(pawns, side, t, &[to, square(n / 64 % 64), square(n % 64)]),
+        [_, _] => number(frame, t, &[to, square(n % 64)]),
+        [_, _, _] => number(frame, t, &[to, square(n / 64 % 64), square(n % 64)]),
         [_, _, _, _] => {
             let (black, third) = (square(n / 64 / 64 % 64), square(n / 64 % 64));
-            number(pawns, side, t, &[to, black, third, square(n % 64)])
+            number(frame, t, &[to, black, third, square(n % 64)])
         }
         _ => unreachable!(),
     }
