@@ -28,6 +28,6 @@ pub use laws::{
     fen_is_read_again, fen_is_settled, san_is_read_again, san_is_read_exactly,
     san_parts_are_spelled,
 };
-pub use san_reader::{read_san, same_promotion};
+pub use san_reader::read_san;
 pub use san_writer::write_san;
 pub use start::Start;
