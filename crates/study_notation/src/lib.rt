@@ -7,6 +7,7 @@
 #![tactic(auto)]
 
 mod captures;
+mod digits;
 mod fault;
 mod fen_reader;
 mod fen_writer;
@@ -21,6 +22,7 @@ mod san_reader;
 mod san_writer;
 mod start;
 
+pub use digits::read_digits;
 pub use fault::{FenFault, SanFault};
 pub use fen_reader::read_fen;
 pub use fen_writer::write_fen;
