@@ -27,7 +27,7 @@ use study_material::Class;
 fn put(man: Man, from: Square, to: Square) -> Man
     ensures { result ≡ from_to from to man }
 {
-    if man.at.number() == from.number() {
+    if man.at == from {
         Man {
             side: man.side,
             kind: man.kind,
@@ -224,7 +224,7 @@ pub fn slot_on(slots: &[Slot], pawns: bool, n: u32, from: Square) -> Option<u32>
 fn stands(man: Man, at: Square) -> bool
     ensures { IsTrue result ↔ (man.at ≡ at) }
 {
-    man.at.number() == at.number()
+    man.at == at
 }
 
 #[inline]

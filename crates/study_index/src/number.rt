@@ -50,7 +50,7 @@ pub fn place(pawns: bool, s: Square) -> Option<u8>
 fn is_pawn(m: &Man) -> bool
     ensures { result ≡ is_pawn m.now }
 {
-    m.kind.is(Kind::Pawn)
+    m.kind == Kind::Pawn
 }
 
 /// Whether some man is a pawn.

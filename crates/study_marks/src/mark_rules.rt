@@ -26,7 +26,7 @@ pub fn aim_of(stipulation: &Stipulation, first: Side) -> Aim
 {
     Aim {
         goal: stipulation.goal,
-        hero_first: stipulation.hero.is(first),
+        hero_first: stipulation.hero == first,
     }
 }
 

@@ -13,7 +13,7 @@ use study_board::{Kind, Man, Side, Square, SquareSet, attacks_without, between};
 fn is_other_man(by: Side, lifted: Square, m: &Man) -> bool
     ensures { result ≡ is_other_man by lifted m.now }
 {
-    m.side.is(by) && !(m.at.number() == lifted.number())
+    m.side == by && m.at != lifted
 }
 
 /// The squares on which a man of the side bears, the man on `lifted` taken away.
@@ -87,7 +87,7 @@ pub fn threatened_past(men: &[Man], by: Side, lifted: Square, k: Square) -> Squa
 pub fn is_king_elsewhere(side: Side, lifted: Square, k: &Man) -> bool
     ensures { result ≡ (is_man side AKing k.now && not (k.now.at == lifted)) }
 {
-    k.is(side, Kind::King) && !(k.at.number() == lifted.number())
+    k.is(side, Kind::King) && k.at != lifted
 }
 
 #[inline]
@@ -116,7 +116,7 @@ fn others_threatened(men: &[Man], side: Side, lifted: Square) -> SquareSet
 fn attacked_for_king(men: &[Man], side: Side, man: &Man) -> SquareSet
     ensures { (x : ℕ) → x < 64 → has result x ≡ (same_kind man.now.kind AKing && attacked_past men.now (other_side side) man.now.at x) }
 {
-    if man.kind.is(Kind::King) {
+    if man.kind == Kind::King {
         attacked_past(men, side.other(), man.at)
     } else {
         SquareSet::empty()

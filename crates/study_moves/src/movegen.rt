@@ -29,7 +29,7 @@ pub fn legal_moves(p: &Position) -> ArrayVec<Move, 256>
     let mut list = ArrayVec::new();
     let men = p.men();
     for man in men {
-        if man.side.is(side) {
+        if man.side == side {
             add_moves_of(p, man, &mut list);
         }
     }

@@ -67,7 +67,7 @@ pub fn captures(at: &Position) -> ArrayVec<Move, 256>
     let mut list = ArrayVec::new();
     let men = at.men();
     for man in men {
-        if man.side.is(side) {
+        if man.side == side {
             add_captures_of(at, man, &mut list);
         }
     }

@@ -4,11 +4,12 @@ use Rattle.study_board.specs.declared.men.Side.{Side}
 use Rattle.study_board.specs.Men.{same_side}
 use Rattle.study_moves.specs.declared.moves.Move.{Move}
 use Rattle.study_moves.specs.Order.{AreMovesBelow}
+use Rattle.study_board.proofs.EqualMen.{side_same}
 use Rattle.study_moves.proofs.PawnWindows.{first_at}
 use Rattle.study_moves.proofs.ManByMan.{men_begin, men_more, men_end, man_here, man_begins}
 use Rattle.study_moves.proofs.LegalLists.{legal_list_is}
 use Rattle.study_moves.proofs.movegen.legal_moves.Goals as goal
-use Rattle.study_moves.proofs.movegen.legal_moves.Goals.{then-is, else-is}
+use Rattle.study_moves.proofs.movegen.legal_moves.Goals.{then-eq, else-eq}
 
 pub loop-man-init : goal.loop-man-init
 loop-man-init c =
@@ -32,23 +33,23 @@ add_moves_of-requires-clause-before c =
 
 pub add_moves_of-requires-clause-mine : goal.add_moves_of-requires-clause-mine
 add_moves_of-requires-clause-mine c =
-    sym (c.is.ensures ∙ ap (λ (s : Side). same_side c.man-item.result.side s) c.to_move-side.ensures) ∙ c.if-is.true
+    sym (c.eq.ensures ∙ side_same _ _ ∙ ap (λ (s : Side). same_side c.man-item.result.side s) c.to_move-side.ensures) ∙ c.if-eq.true
 
 pub loop-man-preserved : goal.loop-man-preserved
 loop-man-preserved c =
     let more = men_more c.args.p.now c.men-men.result.now c.loop-man.man-index _ c.man-item.result
-    c.loop-man.list.items c.if-is.list.items c.men-men.ensures.value c.men-men.ensures.valid c.loop-man-test.true
+    c.loop-man.list.items c.if-eq.list.items c.men-men.ensures.value c.men-men.ensures.valid c.loop-man-test.true
     c.man-item.is in
-    let side : same_side c.man-item.result.side c.args.p.now.to_move ≡ c.is.result =
-    sym (c.is.ensures ∙ ap (λ (s : Side). same_side c.man-item.result.side s) c.to_move-side.ensures) in
-    elim c.if-is.branch [
-      | then-is w ↦ record {
-        listed = more (inl (side ∙ w.if-is.true, rw w.list-is w.add_moves_of.ensures.after))
+    let side : same_side c.man-item.result.side c.args.p.now.to_move ≡ c.eq.result =
+    sym (c.eq.ensures ∙ side_same _ _ ∙ ap (λ (s : Side). same_side c.man-item.result.side s) c.to_move-side.ensures) in
+    elim c.if-eq.branch [
+      | then-eq w ↦ record {
+        listed = more (inl (side ∙ w.if-eq.true, rw w.list-is w.add_moves_of.ensures.after))
             c.loop-man.invariant.listed;
         few = rw w.list-is (omega (arith, w.add_moves_of.ensures.few, c.loop-man.invariant.few));
       }
-      | else-is w ↦ record {
-        listed = more (inr (side ∙ w.if-is.false, rw w.list-is)) c.loop-man.invariant.listed;
+      | else-eq w ↦ record {
+        listed = more (inr (side ∙ w.if-eq.false, rw w.list-is)) c.loop-man.invariant.listed;
         few = rw w.list-is (omega (arith, c.loop-man.invariant.few));
       }
     ]
