@@ -33,10 +33,11 @@ use Rattle.study_retro.specs.declared.value.Value.TheVariants.{Win}
 use Rattle.study_retro.specs.ClassGame.{class_game}
 use Rattle.study_retro.specs.Numbered.{Numbered, IsNumberedClass, LosesBy, NoLossBy}
 use Rattle.study_retro.specs.Still.{IsWonAfter, QuietMovesLose, QuietMovesLoseBy, move_to}
-use Rattle.study_retro.specs.Predecessors.{AreTold, IsBefore, IsBeforeBy, IsBeforeFrom}
+use Rattle.study_retro.specs.Predecessors.{AreTold, IsBefore, IsBeforeBy, IsBeforeFrom, PassesNone}
 use Rattle.study_retro.proofs.EarlierChess.{IsLed-from, before_leads, leads_before, leads_numbered}
-use Rattle.study_retro.proofs.MovedSteps.{lands_there, moved_before, moved_after, quiet_below, quiet_label}
-use Rattle.study_retro.proofs.QuietSteps.{dead_of}
+use Rattle.study_retro.proofs.MovedSteps.{lands_single, moved_before, moved_after, quiet_below, quiet_label}
+use Rattle.study_moves.specs.EnPassant.{has_legal_en_passant}
+use Rattle.study_retro.proofs.QuietSteps.{dead_of, dead_plain}
 
 -- ---- cells
 
@@ -83,7 +84,7 @@ departed c d number n x y a k e f g fits p moved =
 -- ---- positions before quiet moves
 
 module _ (c : Class) (number : ℕ) (q : Position) (at : position_numbered c number ≡ Some q) where
-  one_position : (p : Position) → position_numbered c number ≡ Some p → p ≡ q
+  pub one_position : (p : Position) → position_numbered c number ≡ Some p → p ≡ q
   one_position p e = let s : Some p ≡ Some q = sym e ∙ at in cc
 
   module _ (men : List Man) (side : Side) (told : AreTold c number men side) where
@@ -164,14 +165,17 @@ module _ (c : Class) (number : ℕ) (q : Position) (at : position_numbered c num
 
 -- ---- positions after quiet moves
 
-module _ (c : Class) (number : ℕ) (q : Position) (at : position_numbered c number ≡ Some q) (single : has_both_pawns (lists_of c) ≡ false) (men : List
-    Man) (side : Side) (told : AreTold c number men side) where
+module _ (c : Class) (number : ℕ) (q : Position) (at : position_numbered c number ≡ Some q) (plain : number < 16777216) (men : List Man)
+    (side : Side) (told : AreTold c number men side) where
+  dead : has_legal_en_passant q ≡ false
+  dead = dead_plain c number q at plain
+
   pub told_targets : HasSafeTargets q men
   told_targets =
       let d = told_decoded c number q at in
       let t = told_of c number q d in
       (men-tell-moves q men d.valid (subst (λ (zs : List Man). IsPermutation zs q.men) (sym told.0) t.same_men)).0
-      (dead_of c q d.valid (entry c number q d).of_class single)
+      dead
 
   pub occupied_same : (x : ℕ) → is_occupied men x ≡ is_occupied q.men x
   occupied_same x =
@@ -179,26 +183,26 @@ module _ (c : Class) (number : ℕ) (q : Position) (at : position_numbered c num
 
   -- a quiet move of a man to a safe target is legal, and its number fits
   module _ (man : Man) (among : Contains men man) (his : same_side man.side side ≡ true) (x : ℕ) (on : x < 64) where
-    module _ (safe : is_safe_target men side man x ≡ true) (free : is_occupied men x ≡ false) (plain : reaches_last_rank man x ≡ false) where
-      safe_legal : is_legal q (move_to man x) ≡ true
+    module _ (safe : is_safe_target men side man x ≡ true) (free : is_occupied men x ≡ false) (stays : reaches_last_rank man x ≡ false) where
+      pub safe_legal : is_legal q (move_to man x) ≡ true
       safe_legal =
           told_targets.legal man (move_to man x) among refl on
           ∙ rw (
             ap (λ (t : Side). same_side man.side t) (sym (side_is c number q at men side told)) ∙ his,
             ap (λ (t : Side). is_safe_target men t man x) (sym (side_is c number q at men side told)) ∙ safe,
-            plain,
+            stays,
           ) refl
 
       safe_quiet : IsQuiet q (move_to man x)
       safe_quiet = (sym (occupied_same x) ∙ free, refl)
 
-      module _ (held : List (Option Table)) (laws : IsNumberedClass (class_game c held)) (cells : List ℕ) (k : ℕ) (fits : (p : Position)
-          → IsMoved c number man.at x p → index_of p ≡ k) where
+      module _ (passes : PassesNone c man.at x) (held : List (Option Table)) (laws : IsNumberedClass (class_game c held)) (cells : List ℕ) (k : ℕ)
+          (fits : (p : Position) → IsMoved c number man.at x p → index_of p ≡ k) where
         safe_index : index_of (after q (move_to man x)) ≡ k
-        safe_index = fits (after q (move_to man x)) (moved_after c number q at single (move_to man x) safe_legal safe_quiet)
+        safe_index = fits (after q (move_to man x)) (moved_after c number q at dead (move_to man x) safe_legal safe_quiet passes)
 
         pub safe_below : k < cells_of c
-        safe_below = quiet_below c number q at single (move_to man x) safe_legal safe_quiet held laws cells k safe_index
+        safe_below = quiet_below c number q at dead (move_to man x) safe_legal safe_quiet held laws cells k safe_index
 
         -- where it is not won the position does not lose
         pub safe_escape : (level : ℕ) → (((m : ℕ) × (value_of (slice_index cells k) ≡ Win m) × (m ≤ level)) → ⊥) → NoLossBy (class_game c held) cells level number
@@ -206,14 +210,14 @@ module _ (c : Class) (number : ℕ) (q : Position) (at : position_numbered c num
             let same = one_position c number q at p e in
             let w = subst (λ (r : Position). LosesBy (class_game c held) cells level r) same h in
             let t = w.each (after q (move_to man x)) (move_to man x, safe_legal, refl) in
-            unwon (t.0, quiet_label c number q at single (move_to man x) safe_legal safe_quiet held laws cells k safe_index ∙ t.1, t.2)
+            unwon (t.0, quiet_label c number q at dead (move_to man x) safe_legal safe_quiet held laws cells k safe_index ∙ t.1, t.2)
 
         -- where it is won the move leads to a win
         pub safe_won : (level : ℕ) → ((m : ℕ) × (value_of (slice_index cells k) ≡ Win m) × (m ≤ level))
             → (p : Position) → position_numbered c number ≡ Some p → IsWonAfter (class_game c held) cells level p (move_to man x)
         safe_won level w p e =
             subst (λ (r : Position). IsWonAfter (class_game c held) cells level r (move_to man x)) (sym (one_position c number q at p e))
-            (w.0, sym (quiet_label c number q at single (move_to man x) safe_legal safe_quiet held laws cells k safe_index) ∙ w.1, w.2)
+            (w.0, sym (quiet_label c number q at dead (move_to man x) safe_legal safe_quiet held laws cells k safe_index) ∙ w.1, w.2)
 
   -- what a legal move of a man tells
   pub safe_by : (m : Move) → is_legal q m ≡ true → (man : Man) → Contains men man → m.origin ≡ man.at
@@ -233,11 +237,11 @@ module _ (c : Class) (number : ℕ) (q : Position) (at : position_numbered c num
   safe_plain m legal man among origin none =
       let on = (told_targets.mover m legal).3 in
       let is = and_parts _ _ (sym (told_targets.legal man m among origin on) ∙ legal) in
-      plain (reaches_last_rank man m.target) (sym (ap (λ (o : Option Kind). is_promotion_choice (reaches_last_rank man m.target) o) none) ∙ is.1)
+      unreached (reaches_last_rank man m.target) (sym (ap (λ (o : Option Kind). is_promotion_choice (reaches_last_rank man m.target) o) none) ∙ is.1)
     where
-      plain : (b : Bool) → is_promotion_choice b None ≡ true → b ≡ false
-      plain false e = refl
-      plain true e = absurd (false≢true e)
+      unreached : (b : Bool) → is_promotion_choice b None ≡ true → b ≡ false
+      unreached false e = refl
+      unreached true e = absurd (false≢true e)
 
   -- where the quiet moves of each man lose all do
   pub lose_each : (g : Numbered Position) (cells : List ℕ) (k : ℕ) → ((man : Man) → Contains men man → QuietMovesLoseBy g cells k q man)
@@ -305,12 +309,12 @@ before_is_leads c number single i h =
     before_leads c number i b.to m b.at (record {
       from = b.from;
       leads = b.leads;
-      lands = lands_there c number b.to b.at single b.from m b.leads;
+      lands = lands_single c number b.to b.at single b.from m b.leads;
       is = inl (sym b.is);
     })
 
 -- and is below the cells of the class
 pub before_below : (c : Class) (number : ℕ) → has_both_pawns (lists_of c) ≡ false → (man : Man) (a i : ℕ) → IsBeforeFrom c number man a i → i < cells_of c
 before_below c number single man a i b =
-    let t = IsLed-from c number b.to b.from (move_from man a) b.at b.leads (lands_there c number b.to b.at single b.from (move_from man a) b.leads) in
+    let t = IsLed-from c number b.to b.from (move_from man a) b.at b.leads (lands_single c number b.to b.at single b.from (move_from man a) b.leads) in
     subst (λ (k : ℕ). k < cells_of c) b.is (below c (index_of b.from) t.from (told_decoded c (index_of b.from) t.from t.at))

@@ -1,5 +1,6 @@
 -- Not part of any public contract: the numbers of the positions from which a move leads to the position of a number, within a class.
-use Rattle.std.specs.Prelude.{◌≡◌, ℕ, ◌+◌, ◌<◌, ◌⊎◌, List, Some}
+use Rattle.std.specs.Prelude.{◌≡◌, ℕ, ◌+◌, ◌<◌, ◌⊎◌, ◌==◌, false, List, Some}
+use Rattle.study_board.specs.Geometry.{ranks_apart}
 use Rattle.study_board.specs.Position.{Position}
 use Rattle.study_board.specs.declared.men.Side.{Side}
 use Rattle.study_board.specs.declared.men.Man.{Man}
@@ -7,7 +8,8 @@ use Rattle.study_moves.specs.declared.moves.Move.{Move}
 use Rattle.study_moves.specs.Rules.{after}
 use Rattle.study_moves.specs.Unmoves.{LeadsQuietly, move_from}
 use Rattle.study_material.specs.declared.class.Class.{Class}
-use Rattle.study_index.specs.Number.{without_bit}
+use Rattle.study_material.specs.Class.{lists_of}
+use Rattle.study_index.specs.Number.{has_both_pawns, without_bit}
 use Rattle.study_index.specs.Decoded.{slots_of, told_men, told_side}
 use Rattle.study_index.specs.Computed.{index_of, position_numbered}
 
@@ -30,6 +32,10 @@ pub record IsPlainNumber (q : Position) (number : ℕ) (m : Move) (n : ℕ) : Ty
 pub record ComesBefore (c : Class) (q : Position) (number n : ℕ) : Type 0 where
   pub by : Move
   pub is : IsNumberBefore c q number by n
+
+-- one side alone of the class has pawns, or the move goes over other than two ranks: so it leaves no capture in passing
+abbrev pub PassesNone : Class → ℕ → ℕ → Type 0
+PassesNone c a x = (has_both_pawns (lists_of c) ≡ false) ⊎ ((ranks_apart a x == 2) ≡ false)
 
 -- the men and the side to move are those that the number tells
 abbrev pub AreTold : Class → ℕ → List Man → Side → Type 0

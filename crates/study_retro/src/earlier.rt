@@ -7,10 +7,10 @@ ghost use Rattle.study_moves.specs.Unmoves.{LeadsQuietly, CanHaveLed};
 ghost use Rattle.study_material.specs.Class.{lists_of};
 ghost use Rattle.study_index.specs.Number.{has_both_pawns};
 ghost use Rattle.study_index.specs.Computed.{index_of, position_numbered};
-ghost use Rattle.study_retro.specs.Predecessors.{IsPlainNumber, IsNumberBefore, ComesBefore};
+ghost use Rattle.study_retro.specs.Predecessors.{IsPlainNumber, IsNumberBefore, ComesBefore, PassesNone};
 
 use arrayvec::ArrayVec;
-use study_board::{Position, distance};
+use study_board::{Position, Square, distance};
 use study_index::{EN_PASSANT_BIT, cells, decode, index, number_moved};
 use study_material::Class;
 use study_moves::{Move, played, unmoves, unplayed};
@@ -115,6 +115,14 @@ pub fn has_both_pawns(class: Class) -> bool
         Class::KPKP => true,
         _ => false,
     }
+}
+
+/// Whether a quiet move from the one square to the other may leave the other side a capture in passing.
+#[inline]
+pub fn may_pass(class: Class, origin: Square, target: Square) -> bool
+    ensures { result ≡ false → PassesNone class origin target }
+{
+    has_both_pawns(class) && distance(origin.rank(), target.rank()) == 2
 }
 
 #[inline]
