@@ -1,5 +1,5 @@
 -- The numbers after a quiet move and before it.
-use Rattle.std.proofs.Common.{◌≡◌, ℕ, ◌<◌, ◌==◌, eqb, Bool, true, false, cond, ◌||◌, List, [], ◌∷◌, map, slice_index, Option, Some}
+use Rattle.std.proofs.Common.{inl, inr, ◌≡◌, ℕ, ◌<◌, ◌==◌, eqb, Bool, true, false, cond, ◌||◌, List, [], ◌∷◌, map, slice_index, Option, Some}
 use Rattle.std.proofs.Common.{refl, sym, ◌∙◌, ap, subst, arith}
 use Rattle.std.specs.List.{list_any}
 use Rattle.std.specs.List.Sorted.{IsPermutation}
@@ -10,7 +10,7 @@ use Rattle.study_board.specs.declared.men.Side.{Side}
 use Rattle.study_board.specs.declared.men.Side.TheVariants.{White, Black}
 use Rattle.study_board.specs.declared.men.Man.{Man}
 use Rattle.study_board.specs.Men.{other_side}
-use Rattle.study_board.specs.Position.{Position, is_occupied}
+use Rattle.study_board.specs.Position.{Position, IsValid, is_occupied}
 use Rattle.study_moves.specs.declared.moves.Move.{Move}
 use Rattle.study_moves.specs.Rules.{is_legal, after, is_en_passant}
 use Rattle.study_moves.specs.EnPassant.{is_taken, has_legal_en_passant, without_passed}
@@ -32,12 +32,13 @@ use Rattle.study_retro.specs.Table.{Table}
 use Rattle.study_retro.specs.Cells.{value_of}
 use Rattle.study_retro.specs.ClassGame.{class_game}
 use Rattle.study_retro.specs.Numbered.{IsNumberedClass, label_by}
-use Rattle.study_retro.specs.Predecessors.{PassesNone}
+use Rattle.study_retro.specs.Predecessors.{LeavesNone}
 use Rattle.study_moves.proofs.NoMoveBetween.{HasMover-from_is_legal}
 use Rattle.study_retro.proofs.ClassLemmas.{label-home}
 use Rattle.study_retro.proofs.QuietClass.{quiet_men, quiet_lists, unpassing}
 use Rattle.study_retro.proofs.QuietSteps.{other_turn, dead_of, dead_after}
-use Rattle.study_retro.proofs.EarlierChess.{lands_home, numbered_index}
+use Rattle.study_retro.proofs.EarlierChess.{lands_home, numbered_index, valid_without}
+use Rattle.study_retro.proofs.Twins.{dead_twinless}
 
 -- a man that moves to an empty square and back
 man_back : (x a : ℕ) (m : Man) → (m.at == a) ≡ false → from_to a x (from_to x a m) ≡ m
@@ -72,6 +73,13 @@ unfolding index_of least_number
 plain_index x y d e s =
     ap (λ (b : Bool). with_bit b (least_number x)) d ∙ ap (λ (z : Position). least_number z) s ∙ sym (ap (λ (b : Bool). with_bit b (least_number y)) e)
 
+-- a move that leaves no capture in passing
+dead_left : (c : Class) (x r : Position) (m : Move) → after r m ≡ x → IsValid x → IsOf c x → is_legal r m ≡ true → (k : ℕ)
+    → index_of (without_passed x) ≡ k → LeavesNone c m.origin m.target k → has_legal_en_passant x ≡ false
+dead_left c x r m e v o legal k is (inl passes) =
+    subst (λ (y : Position). has_legal_en_passant y ≡ false) e (dead_after c r m (subst IsValid (sym e) v) (subst (λ (y : Position). IsOf c y) (sym e) o) legal passes)
+dead_left c x r m e v o legal k is (inr none) = dead_twinless c x v o k is none
+
 module _ (c : Class) (n : ℕ) (q : Position) (at : position_numbered c n ≡ Some q) where
   -- the position before a quiet move
   pub moved_before : (r : Position) (m : Move) → LeadsQuietly r m q → IsMoved c n m.target m.origin r
@@ -100,6 +108,14 @@ module _ (c : Class) (n : ℕ) (q : Position) (at : position_numbered c n ≡ So
       → index_of (after r m) ≡ n
   lands_there dead r m b gone = plain_index (after r m) q gone dead b.leads ∙ numbered_index c n q at
 
+  -- so where the move leaves none
+  pub lands_left : has_legal_en_passant q ≡ false → (r : Position) (m : Move) → LeadsQuietly r m q → LeavesNone c m.origin m.target n → index_of (after r m) ≡ n
+  lands_left dead r m b leaves =
+      let w = IsValid-after r m b.valid b.legal in
+      let bare : index_of (without_passed (after r m)) ≡ n =
+      plain_index (without_passed (after r m)) q refl dead b.leads ∙ numbered_index c n q at in
+      lands_there dead r m b (dead_left c (after r m) r m refl w (lands_home c n q r m at b) b.legal n bare leaves)
+
   -- and so where one side alone has pawns
   pub lands_single : has_both_pawns (lists_of c) ≡ false → (r : Position) (m : Move) → LeadsQuietly r m q → index_of (after r m) ≡ n
   lands_single single r m b =
@@ -118,22 +134,29 @@ module _ (c : Class) (n : ℕ) (q : Position) (at : position_numbered c n ≡ So
         let d = told_decoded c n q at in
         (entry c n q d).of_class ∙ ap (λ l. ordered l) (sym (quiet_lists q m d.valid legal no_passing quiet))
 
-    -- the position after a quiet move that leaves no capture in passing
-    pub moved_after : PassesNone c m.origin m.target → IsMoved c n m.origin m.target (after q m)
-    moved_after passes =
+    -- the position after a quiet move, without its passed square
+    moved_bare : IsMoved c n m.origin m.target (without_passed (after q m))
+    moved_bare =
         let d = told_decoded c n q at in
         let t = told_of c n q d in
-        let w = IsValid-after q m d.valid legal in
         let told = told_men (slots_of c) (without_bit n) in
         let f = from_to m.origin m.target in
         let moved = quiet_men q m d.valid legal no_passing quiet in
         record {
-          valid = w;
+          valid = valid_without (after q m) (IsValid-after q m d.valid legal);
           men = IsPermutation-trans (after q m).men (map f q.men) (map f told) (IsPermutation-sym (map f q.men) (after q m).men moved)
               (IsPermutation-map f q.men told (IsPermutation-sym told q.men t.same_men));
           to_move = other_turn q m legal ∙ ap (λ s. other_side s) t.same_side;
-          dead = dead_after c q m w quiet_stays legal passes;
+          dead = refl;
         }
+
+    -- a number that fits is its number, where it leaves no capture in passing
+    pub index_after : (k : ℕ) → ((p : Position) → IsMoved c n m.origin m.target p → index_of p ≡ k) → LeavesNone c m.origin m.target k
+        → index_of (after q m) ≡ k
+    index_after k fits leaves =
+        let w = IsValid-after q m (told_decoded c n q at).valid legal in
+        let bare : index_of (without_passed (after q m)) ≡ k = fits (without_passed (after q m)) moved_bare in
+        plain_index (after q m) (without_passed (after q m)) (dead_left c (after q m) q m refl w quiet_stays legal k bare leaves) refl refl ∙ bare
 
     module _ (held : List (Option Table)) (laws : IsNumberedClass (class_game c held)) (cells : List ℕ) (k : ℕ) (is : index_of (after q m) ≡ k) where
       -- its number is below the cells of the class

@@ -9,7 +9,7 @@ ghost use Rattle.study_retro.specs.Table.{IsReady, IsClosed};
 use crate::back::{Change, write_before};
 use crate::captures::captures;
 use crate::consistency::label;
-use crate::earlier::{has_both_pawns, may_pass, predecessor_numbers};
+use crate::earlier::{may_pass, predecessor_numbers};
 use crate::escapes::{escapes, has_move};
 use crate::game::{Game, Location};
 use crate::initial::{Initial, initial_by_moves};
@@ -150,7 +150,7 @@ impl<'t, 'a, A: Allocator> SteppedGame for ClassGame<'t, 'a, A> {
     }
 
     fn lower_before(&self, cells: &mut [u8], number: u32, level: u8) -> u64 {
-        if has_both_pawns(self.class) {
+        if number >= EN_PASSANT_BIT {
             return lower_by_moves(self, cells, number, level);
         }
         let change = Change {
@@ -161,7 +161,7 @@ impl<'t, 'a, A: Allocator> SteppedGame for ClassGame<'t, 'a, A> {
     }
 
     fn mark_before(&self, cells: &mut [u8], number: u32, level: u8) -> u64 {
-        if has_both_pawns(self.class) {
+        if number >= EN_PASSANT_BIT {
             return mark_by_moves(self, cells, number, level);
         }
         let change = Change {

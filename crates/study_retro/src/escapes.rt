@@ -15,7 +15,7 @@ ghost use Rattle.study_retro.specs.Still.{QuietMovesLose, QuietMovesLoseBy, IsWo
 use crate::captures::move_to;
 use crate::class_game::ClassGame;
 use crate::consistency::label;
-use crate::earlier::may_pass;
+use crate::earlier::may_leave_capture;
 use crate::propagate::is_won;
 use crate::value::value_at;
 use std::alloc::Allocator;
@@ -101,10 +101,10 @@ fn loses_to<A: Allocator>(
     if !is_quiet_target(setup.men.as_slice(), man, target) {
         return true;
     }
-    if may_pass(game.class, man.at, target) {
+    let after = departure.number_to(target);
+    if may_leave_capture(game.class, man.at, target, after) {
         return wins_after(game, cells, departure.number, man, target, level);
     }
-    let after = departure.number_to(target);
     is_won(value_at(cells[after as usize]), level)
 }
 

@@ -1,9 +1,8 @@
-use Rattle.std.proofs.Common.{◌≡◌, ℕ, false, Option, ap}
+use Rattle.std.proofs.Common.{inl, ◌≡◌, ℕ, false, Option, ap}
 use Rattle.study_moves.specs.EnPassant.{has_legal_en_passant, is_taken}
-use Rattle.study_moves.specs.Rules.{after}
 use Rattle.study_index.proofs.ClassLaws.{below}
 use Rattle.study_index.proofs.ComputedIndex.{told_decoded}
-use Rattle.study_retro.proofs.MovedSteps.{moved_after}
+use Rattle.study_retro.proofs.MovedSteps.{index_after}
 use Rattle.study_retro.proofs.class_game.number_after.Goals as goal
 
 pub number_moved-requires : goal.number_moved-requires
@@ -17,7 +16,6 @@ returns-then-is_quiet c =
     let quiet = c.is_quiet.ensures c.if-is_quiet.true in (
       dead,
       quiet,
-      c.number_moved.ensures (after c.args.at.now c.args.by.now)
-          (moved_after c.args.class c.args.number c.args.at.now c.requires.at dead c.args.by.now c.requires.by quiet
-          (c.may_pass.ensures c.if-may_pass.false)),
+      index_after c.args.class c.args.number c.args.at.now c.requires.at dead c.args.by.now c.requires.by quiet c.number_moved.result
+          c.number_moved.ensures (inl (c.may_pass.ensures c.if-may_pass.false)),
     )

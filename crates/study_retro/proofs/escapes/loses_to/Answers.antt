@@ -30,7 +30,7 @@ bounds-cells-after g c =
     (safe_below c.args.game.now.class c.args.departure.now.number q.0 q.1 c.requires.plain c.args.setup.now.men.items c.args.setup.now.to_move
     c.requires.told c.args.man.now c.requires.man c.requires.side c.args.target c.requires.on c.requires.safe
     (ap (λ (zs : List Man). is_occupied zs c.args.target) (sym c.as_slice.ensures.value) ∙ quiet.0) quiet.1
-    (c.may_pass.ensures c.if-may_pass.false) c.args.game.now.tables.now c.requires.laws c.args.cells.now c.number_to-after.result fits)
+    c.args.game.now.tables.now c.requires.laws c.args.cells.now c.number_to-after.result fits (c.may_leave_capture.ensures c.if-may_leave_capture.false))
 
 pub returns-clause-yes : goal.returns-clause-yes
 returns-clause-yes g c = λ t free plain p e.
@@ -41,7 +41,7 @@ returns-clause-yes g c = λ t free plain p e.
     let w = c.is_won.ensures.0 t in
     safe_won c.args.game.now.class c.args.departure.now.number q.0 q.1 c.requires.plain c.args.setup.now.men.items c.args.setup.now.to_move
     c.requires.told c.args.man.now c.requires.man c.requires.side c.args.target c.requires.on c.requires.safe free plain
-    (c.may_pass.ensures c.if-may_pass.false) c.args.game.now.tables.now c.requires.laws c.args.cells.now c.number_to-after.result fits c.args.level
+    c.args.game.now.tables.now c.requires.laws c.args.cells.now c.number_to-after.result fits (c.may_leave_capture.ensures c.if-may_leave_capture.false) c.args.level
     (w.0, sym c.value_at.ensures ∙ w.1, w.2) p e
 
 pub returns-clause-no : goal.returns-clause-no
@@ -54,5 +54,5 @@ returns-clause-no g c = λ f.
     safe_escape c.args.game.now.class c.args.departure.now.number q.0 q.1 c.requires.plain c.args.setup.now.men.items c.args.setup.now.to_move
     c.requires.told c.args.man.now c.requires.man c.requires.side c.args.target c.requires.on c.requires.safe
     (ap (λ (zs : List Man). is_occupied zs c.args.target) (sym c.as_slice.ensures.value) ∙ quiet.0) quiet.1
-    (c.may_pass.ensures c.if-may_pass.false) c.args.game.now.tables.now c.requires.laws c.args.cells.now c.number_to-after.result fits c.args.level
+    c.args.game.now.tables.now c.requires.laws c.args.cells.now c.number_to-after.result fits (c.may_leave_capture.ensures c.if-may_leave_capture.false) c.args.level
     (λ w. false≢true (sym f ∙ c.is_won.ensures.1 (w.0, c.value_at.ensures ∙ w.1, w.2)))
