@@ -215,8 +215,8 @@ module _ (c : Class) (number : ℕ) (q : Position) (at : position_numbered c num
 
 -- before the levels the cell of its number is 0, as is that of a number without a position
 pub still_held : (c : Class) (held : List (Option Table)) (number : ℕ) → IsNumberedClass (class_game c held) → OutsideIsRight (class_game c held)
-    → ((q : Position) → position_numbered c number ≡ Some q → IsStill q) → number < 16777216 → CellIsHeld (class_game c held) false 0 number 0
-still_held c held number laws outer still low = by_position (position_numbered c number) refl
+    → ((q : Position) → position_numbered c number ≡ Some q → (number < 16777216) × IsStill q) → CellIsHeld (class_game c held) false 0 number 0
+still_held c held number laws outer still = by_position (position_numbered c number) refl
   where
     Held : Option Position → Type 0
     Held o = IsHeldCell (leads_in (class_game c held)) IsMate (is_of c) false 0 o 0
@@ -225,15 +225,16 @@ still_held c held number laws outer still low = by_position (position_numbered c
     by_position None e = subst Held (sym e) refl
     by_position (Some q) e =
         let d = laws.decoded number q e in
-        let s = still q e in
+        let low = (still q e).0 in
+        let s = (still q e).1 in
         subst Held (sym e)
         (held-draw laws outer q d.0 d.1 s.0 false (record {
-          no_loss = λ r m l. absurd (leaves q e s r l);
-          holds = inr ((λ x. x), (λ r l. leaves q e s r l));
+          no_loss = λ r m l. absurd (leaves q e low s r l);
+          holds = inr ((λ x. x), (λ r l. leaves q e low s r l));
         }))
       where
-        leaves : (q : Position) → position_numbered c number ≡ Some q → IsStill q → (r : Position) → leads_in (class_game c held) q r × (is_of c r ≡ false) → ⊥
-        leaves q e s r l =
+        leaves : (q : Position) → position_numbered c number ≡ Some q → number < 16777216 → IsStill q → (r : Position) → leads_in (class_game c held) q r × (is_of c r ≡ false) → ⊥
+        leaves q e low s r l =
             let home = is_of-IsOf c (after q l.0.0) (quiet_stays c number q e (dead_plain c number q e low) l.0.0 l.0.1 (s.1 l.0.0 l.0.1)) in
             false≢true (sym l.1 ∙ ap (λ (p : Position). is_of c p) (sym l.0.2) ∙ home)
 

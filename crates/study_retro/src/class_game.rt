@@ -140,7 +140,7 @@ impl<'t, 'a, A: Allocator> LabelledGame for ClassGame<'t, 'a, A> {
 
 impl<'t, 'a, A: Allocator> SteppedGame for ClassGame<'t, 'a, A> {
     fn first(&self, number: u32) -> Initial {
-        if number < EN_PASSANT_BIT && begins_unknown(self.class, number) {
+        if begins_unknown(self.class, number) {
             return Initial {
                 cell: 0,
                 far: false,

@@ -167,7 +167,7 @@ fn are_abreast(a: u32, b: u32) -> bool
 
 /// Whether a capture in passing may be legal with the men and the side to move of the number, by the squares of its pawns.
 #[inline]
-fn may_have_twin(class: Class, number: u32) -> bool
+pub fn may_have_twin(class: Class, number: u32) -> bool
     ensures { result ≡ false → IsTwinless class number }
 {
     has_both_pawns(class) && are_abreast(number / 64 % 64, number % 64)

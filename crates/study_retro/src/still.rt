@@ -12,9 +12,10 @@ ghost use Rattle.study_index.specs.Computed.{position_numbered};
 ghost use Rattle.study_retro.specs.Predecessors.{AreTold};
 ghost use Rattle.study_retro.specs.Still.{HasOnlyQuiet, IsStill, rank_before_last};
 
+use crate::earlier::may_have_twin;
 use crate::escapes::has_move;
 use study_board::{Kind, Man, Side, SquareSet, attacks};
-use study_index::{Setup, told};
+use study_index::{EN_PASSANT_BIT, Setup, told};
 use study_material::Class;
 
 /// The rank from which a pawn of the side promotes.
@@ -164,9 +165,10 @@ fn is_no_mate(class: Class, number: u32, setup: &Setup) -> bool
     has_move(class, number, setup)
 }
 
-/// Whether nothing is known of the number before the levels: it has no position, or one in which the side to move is not
-/// mated and has quiet moves alone. Some numbers without a position are not told.
-pub fn begins_unknown(class: Class, number: u32) -> bool
+/// Whether nothing is known of a number without the bit before the levels: it has no position, or one in which the side to
+/// move is not mated and has quiet moves alone. Some numbers without a position are not told.
+#[inline]
+fn begins_still(class: Class, number: u32) -> bool
     requires { number < 16777216 }
     ensures { IsTrue result → (q : Seen) → position_numbered class number ≡ Some q → IsStill q }
 {
@@ -176,4 +178,15 @@ pub fn begins_unknown(class: Class, number: u32) -> bool
         return is_no_mate(class, number, &setup);
     }
     is_impossible(class, number, &setup, attacked)
+}
+
+/// Whether nothing is known of the number before the levels. Of numbers with the bit only such are told as have no position
+/// by the squares of their pawns.
+pub fn begins_unknown(class: Class, number: u32) -> bool
+    ensures { IsTrue result → (q : Seen) → position_numbered class number ≡ Some q → (number < 16777216) × IsStill q }
+{
+    if number < EN_PASSANT_BIT {
+        return begins_still(class, number);
+    }
+    !may_have_twin(class, number - EN_PASSANT_BIT)
 }
