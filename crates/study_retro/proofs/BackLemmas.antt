@@ -17,15 +17,14 @@ use Rattle.study_moves.specs.Unmoves.{IsQuiet, LeadsQuietly, CanHaveLed, move_fr
 use Rattle.study_moves.specs.AnyOrder.{HasOrigins, HasSafeTargets, is_safe_target}
 use Rattle.study_moves.proofs.AnyOrder.{men-tell-moves}
 use Rattle.study_material.specs.declared.class.Class.{Class}
-use Rattle.study_material.specs.Class.{is_of, lists_of}
-use Rattle.study_index.specs.Number.{cells_of, has_both_pawns, with_bit, without_bit}
+use Rattle.study_material.specs.Class.{is_of}
+use Rattle.study_index.specs.Number.{cells_of, without_bit}
 use Rattle.study_index.specs.Decoded.{slots_of, told_men, told_side}
 use Rattle.study_index.specs.Computed.{index_of, position_numbered}
 use Rattle.study_index.specs.Moved.{IsMoved}
-use Rattle.study_index.proofs.ClassLaws.{below, entry}
+use Rattle.study_index.proofs.ClassLaws.{below}
 use Rattle.study_index.proofs.ComputedIndex.{told_decoded}
 use Rattle.study_index.proofs.DecodedNumbers.{told_of}
-use Rattle.study_index.proofs.WithBit.{HasParts-from}
 use Rattle.study_retro.specs.Propagation.{AreAdded, AreLowered, AreSet, IsSetWhere, LeadsTo}
 use Rattle.study_retro.specs.Table.{Table}
 use Rattle.study_retro.specs.Cells.{value_of}
@@ -33,10 +32,11 @@ use Rattle.study_retro.specs.declared.value.Value.TheVariants.{Win}
 use Rattle.study_retro.specs.ClassGame.{class_game}
 use Rattle.study_retro.specs.Numbered.{Numbered, IsNumberedClass, LosesBy, NoLossBy}
 use Rattle.study_retro.specs.Still.{IsWonAfter, QuietMovesLose, QuietMovesLoseBy, move_to}
-use Rattle.study_retro.specs.Predecessors.{AreTold, IsBefore, IsBeforeBy, IsBeforeFrom}
-use Rattle.study_retro.proofs.EarlierChess.{IsLed-from, before_leads, leads_before, leads_numbered}
-use Rattle.study_retro.proofs.MovedSteps.{lands_there, moved_before, moved_after, quiet_below, quiet_label}
-use Rattle.study_retro.proofs.QuietSteps.{dead_of}
+use Rattle.study_retro.specs.Predecessors.{AreTold, IsBefore, IsBeforeBy, IsBeforeFrom, IsNumberBefore, LeavesNone}
+use Rattle.study_retro.proofs.EarlierChess.{before_leads, leads_before, leads_numbered, small_index}
+use Rattle.study_retro.proofs.MovedSteps.{moved_before, index_after, quiet_below, quiet_label}
+use Rattle.study_moves.specs.EnPassant.{has_legal_en_passant}
+use Rattle.study_retro.proofs.QuietSteps.{dead_plain}
 
 -- ---- cells
 
@@ -83,7 +83,7 @@ departed c d number n x y a k e f g fits p moved =
 -- ---- positions before quiet moves
 
 module _ (c : Class) (number : ℕ) (q : Position) (at : position_numbered c number ≡ Some q) where
-  one_position : (p : Position) → position_numbered c number ≡ Some p → p ≡ q
+  pub one_position : (p : Position) → position_numbered c number ≡ Some p → p ≡ q
   one_position p e = let s : Some p ≡ Some q = sym e ∙ at in cc
 
   module _ (men : List Man) (side : Side) (told : AreTold c number men side) where
@@ -107,71 +107,80 @@ module _ (c : Class) (number : ℕ) (q : Position) (at : position_numbered c num
       pub led_came : (a n : ℕ) → a < 64 → IsBeforeFrom c number man a n
           → (same_side man.side (other_side side) ≡ true) × (came_from men side man a ≡ true)
       led_came a n on b =
-          let led : CanHaveLed q (move_from man a) = record { from = b.from; leads = subst (λ (p : Position). LeadsQuietly b.from (move_from man a) p) (one_position b.to b.at) b.leads } in
+          let led : CanHaveLed q (move_from man a) = record {
+            from = b.before.from;
+            leads = subst (λ (p : Position). LeadsQuietly b.before.from (move_from man a) p) (one_position b.to b.at) b.before.leads;
+          } in
           let parts = and_parts (same_side man.side (other_side q.to_move)) (came_from men q.to_move man a) ((told_origins.led man a among on).0 led) in
           (ap (λ (t : Side). same_side man.side (other_side t)) side_is ∙ parts.0, ap (λ (t : Side). came_from men t man a) side_is ∙ parts.1)
-
-      -- a number that fits each position before by the man from there
-      pub before_is : (a k n : ℕ) → ((p : Position) → IsMoved c number man.at a p → index_of p ≡ k) → IsBeforeFrom c number man a n → n ≡ k
-      before_is a k n fits b =
-          sym b.is ∙ fits b.from (moved_before c number b.to b.at b.from (move_from man a) b.leads)
-
-      pub is_before : (a k : ℕ) → ((p : Position) → IsMoved c number man.at a p → index_of p ≡ k) → CanHaveLed q (move_from man a)
-          → IsBeforeFrom c number man a k
-      is_before a k fits h = record {
-        from = h.from;
-        to = q;
-        at = at;
-        leads = h.leads;
-        is = fits h.from (moved_before c number q at h.from (move_from man a) h.leads);
-      }
 
       -- the word of those squares, and a number that fits what is before from one of them
       module _ (all : ℕ) (shown : List Man) (same : shown ≡ men) (came : (a : ℕ) → a < 64 → has all a ≡ came_from shown side man a) where
         came_men : (a : ℕ) → a < 64 → has all a ≡ came_from men side man a
         came_men a on = came a on ∙ ap (λ (zs : List Man). came_from zs side man a) same
 
-        pub before_in : (a k : ℕ) → a < 64 → ((p : Position) → IsMoved c number man.at a p → index_of p ≡ k)
-            → same_side man.side (other_side side) ≡ true → has all a ≡ true → IsBeforeFrom c number man a k
-        before_in a k on fits his e = is_before a k fits (came_led his a on (sym (came_men a on) ∙ e))
+        pub before_in : (a : ℕ) → a < 64 → same_side man.side (other_side side) ≡ true → has all a ≡ true → CanHaveLed q (move_from man a)
+        before_in a on his e = came_led his a on (sym (came_men a on) ∙ e)
 
         pub in_before : (a n : ℕ) → a < 64 → IsBeforeFrom c number man a n → has all a ≡ true
         in_before a n on b = came_men a on ∙ (led_came a n on b).1
 
     -- what is before the number is so by one of the men
-    pub before_among : (m : Move) (r : Position) (n : ℕ) → LeadsQuietly r m q → index_of r ≡ n → (man : Man) × Contains men man × IsBeforeBy c number man n
-    before_among m r n l is =
-        let t = told_origins.mover m (record { from = r; leads = l }) in (
+    pub before_among : (m : Move) (n : ℕ) → IsNumberBefore c q number m n → (man : Man) × Contains men man × IsBeforeBy c number man n
+    before_among m n b =
+        let t = told_origins.mover m (record { from = b.from; leads = b.leads }) in (
           t.0,
           t.1,
           (
             m.origin,
             t.2,
-            record {
-              from = r;
-              to = q;
-              at = at;
-              leads = subst (λ (x : Move). LeadsQuietly r x q) t.3 l;
-              is = is;
-            },
+            record { to = q; at = at; before = subst (λ (x : Move). IsNumberBefore c q number x n) t.3 b },
           ),
         )
 
     pub before_told : (n : ℕ) → IsBefore c number n → (man : Man) × Contains men man × IsBeforeBy c number man n
     before_told n h =
         let b = h.1.2 in
-        before_among (move_from h.0 h.1.0) b.from n (subst (λ (p : Position). LeadsQuietly b.from (move_from h.0 h.1.0) p) (one_position b.to b.at) b.leads) b.is
+        before_among (move_from h.0 h.1.0) n (subst (λ (p : Position). IsNumberBefore c p number (move_from h.0 h.1.0) n) (one_position b.to b.at) b.before)
+
+  -- the numbers before a number by a man from a square, where a number fits each position without a passed square before it
+  module _ (man : Man) (a k : ℕ) (fits : (p : Position) → IsMoved c number man.at a p → index_of p ≡ k) where
+    pub before_is : (n : ℕ) → IsBeforeFrom c number man a n → (n ≡ k) ⊎ (n ≡ k + 16777216) × ((p : Position) × (position_numbered c n ≡ Some p))
+    before_is n b =
+        subst (λ (j : ℕ). (n ≡ j) ⊎ (n ≡ j + 16777216) × ((p : Position) × (position_numbered c n ≡ Some p)))
+        (fits b.before.from (moved_before c number b.to b.at b.before.from (move_from man a) b.before.leads)) b.before.is
+
+    module _ (h : CanHaveLed q (move_from man a)) where
+      fits_before : index_of h.from ≡ k
+      fits_before = fits h.from (moved_before c number q at h.from (move_from man a) h.leads)
+
+      pub small_before : k < 16777216
+      small_before = subst (λ (n : ℕ). n < 16777216) fits_before (small_index h.from h.leads.valid h.leads.unpassed)
+
+      module _ (lands : index_of (after h.from (move_from man a)) ≡ number) where
+        pub is_before : IsBeforeFrom c number man a k
+        is_before = record { to = q; at = at; before = record { from = h.from; leads = h.leads; lands = lands; is = inl (sym fits_before) } }
+
+        pub twin_before : (p : Position) → position_numbered c (k + 16777216) ≡ Some p → IsBeforeFrom c number man a (k + 16777216)
+        twin_before p there = record {
+          to = q;
+          at = at;
+          before = record { from = h.from; leads = h.leads; lands = lands; is = inr (ap (λ (n : ℕ). n + 16777216) (sym fits_before), (p, there)) };
+        }
 
 -- ---- positions after quiet moves
 
-module _ (c : Class) (number : ℕ) (q : Position) (at : position_numbered c number ≡ Some q) (single : has_both_pawns (lists_of c) ≡ false) (men : List
-    Man) (side : Side) (told : AreTold c number men side) where
+module _ (c : Class) (number : ℕ) (q : Position) (at : position_numbered c number ≡ Some q) (plain : number < 16777216) (men : List Man)
+    (side : Side) (told : AreTold c number men side) where
+  dead : has_legal_en_passant q ≡ false
+  dead = dead_plain c number q at plain
+
   pub told_targets : HasSafeTargets q men
   told_targets =
       let d = told_decoded c number q at in
       let t = told_of c number q d in
       (men-tell-moves q men d.valid (subst (λ (zs : List Man). IsPermutation zs q.men) (sym told.0) t.same_men)).0
-      (dead_of c q d.valid (entry c number q d).of_class single)
+      dead
 
   pub occupied_same : (x : ℕ) → is_occupied men x ≡ is_occupied q.men x
   occupied_same x =
@@ -179,26 +188,26 @@ module _ (c : Class) (number : ℕ) (q : Position) (at : position_numbered c num
 
   -- a quiet move of a man to a safe target is legal, and its number fits
   module _ (man : Man) (among : Contains men man) (his : same_side man.side side ≡ true) (x : ℕ) (on : x < 64) where
-    module _ (safe : is_safe_target men side man x ≡ true) (free : is_occupied men x ≡ false) (plain : reaches_last_rank man x ≡ false) where
-      safe_legal : is_legal q (move_to man x) ≡ true
+    module _ (safe : is_safe_target men side man x ≡ true) (free : is_occupied men x ≡ false) (stays : reaches_last_rank man x ≡ false) where
+      pub safe_legal : is_legal q (move_to man x) ≡ true
       safe_legal =
           told_targets.legal man (move_to man x) among refl on
           ∙ rw (
             ap (λ (t : Side). same_side man.side t) (sym (side_is c number q at men side told)) ∙ his,
             ap (λ (t : Side). is_safe_target men t man x) (sym (side_is c number q at men side told)) ∙ safe,
-            plain,
+            stays,
           ) refl
 
       safe_quiet : IsQuiet q (move_to man x)
       safe_quiet = (sym (occupied_same x) ∙ free, refl)
 
       module _ (held : List (Option Table)) (laws : IsNumberedClass (class_game c held)) (cells : List ℕ) (k : ℕ) (fits : (p : Position)
-          → IsMoved c number man.at x p → index_of p ≡ k) where
+          → IsMoved c number man.at x p → index_of p ≡ k) (leaves : LeavesNone c man.at x k) where
         safe_index : index_of (after q (move_to man x)) ≡ k
-        safe_index = fits (after q (move_to man x)) (moved_after c number q at single (move_to man x) safe_legal safe_quiet)
+        safe_index = index_after c number q at dead (move_to man x) safe_legal safe_quiet k fits leaves
 
         pub safe_below : k < cells_of c
-        safe_below = quiet_below c number q at single (move_to man x) safe_legal safe_quiet held laws cells k safe_index
+        safe_below = quiet_below c number q at dead (move_to man x) safe_legal safe_quiet held laws cells k safe_index
 
         -- where it is not won the position does not lose
         pub safe_escape : (level : ℕ) → (((m : ℕ) × (value_of (slice_index cells k) ≡ Win m) × (m ≤ level)) → ⊥) → NoLossBy (class_game c held) cells level number
@@ -206,14 +215,14 @@ module _ (c : Class) (number : ℕ) (q : Position) (at : position_numbered c num
             let same = one_position c number q at p e in
             let w = subst (λ (r : Position). LosesBy (class_game c held) cells level r) same h in
             let t = w.each (after q (move_to man x)) (move_to man x, safe_legal, refl) in
-            unwon (t.0, quiet_label c number q at single (move_to man x) safe_legal safe_quiet held laws cells k safe_index ∙ t.1, t.2)
+            unwon (t.0, quiet_label c number q at dead (move_to man x) safe_legal safe_quiet held laws cells k safe_index ∙ t.1, t.2)
 
         -- where it is won the move leads to a win
         pub safe_won : (level : ℕ) → ((m : ℕ) × (value_of (slice_index cells k) ≡ Win m) × (m ≤ level))
             → (p : Position) → position_numbered c number ≡ Some p → IsWonAfter (class_game c held) cells level p (move_to man x)
         safe_won level w p e =
             subst (λ (r : Position). IsWonAfter (class_game c held) cells level r (move_to man x)) (sym (one_position c number q at p e))
-            (w.0, sym (quiet_label c number q at single (move_to man x) safe_legal safe_quiet held laws cells k safe_index) ∙ w.1, w.2)
+            (w.0, sym (quiet_label c number q at dead (move_to man x) safe_legal safe_quiet held laws cells k safe_index) ∙ w.1, w.2)
 
   -- what a legal move of a man tells
   pub safe_by : (m : Move) → is_legal q m ≡ true → (man : Man) → Contains men man → m.origin ≡ man.at
@@ -233,11 +242,11 @@ module _ (c : Class) (number : ℕ) (q : Position) (at : position_numbered c num
   safe_plain m legal man among origin none =
       let on = (told_targets.mover m legal).3 in
       let is = and_parts _ _ (sym (told_targets.legal man m among origin on) ∙ legal) in
-      plain (reaches_last_rank man m.target) (sym (ap (λ (o : Option Kind). is_promotion_choice (reaches_last_rank man m.target) o) none) ∙ is.1)
+      unreached (reaches_last_rank man m.target) (sym (ap (λ (o : Option Kind). is_promotion_choice (reaches_last_rank man m.target) o) none) ∙ is.1)
     where
-      plain : (b : Bool) → is_promotion_choice b None ≡ true → b ≡ false
-      plain false e = refl
-      plain true e = absurd (false≢true e)
+      unreached : (b : Bool) → is_promotion_choice b None ≡ true → b ≡ false
+      unreached false e = refl
+      unreached true e = absurd (false≢true e)
 
   -- where the quiet moves of each man lose all do
   pub lose_each : (g : Numbered Position) (cells : List ℕ) (k : ℕ) → ((man : Man) → Contains men man → QuietMovesLoseBy g cells k q man)
@@ -278,39 +287,20 @@ module _ (c : Class) (number : ℕ) (q : Position) (at : position_numbered c num
 -- ---- positions before them, in a game of numbers
 
 -- what leads to the number is before it
-pub leads_is_before : (c : Class) (number : ℕ) → has_both_pawns (lists_of c) ≡ false → (i : ℕ)
-    → LeadsTo Leads (is_of c) index_of (position_numbered c) i number → IsBefore c number i
-leads_is_before c number single i t =
+pub leads_is_before : (c : Class) (number i : ℕ) → LeadsTo Leads (is_of c) index_of (position_numbered c) i number → IsBefore c number i
+leads_is_before c number i t =
     let q = leads_numbered c number i t in
     let b = leads_before c number i q.0 q.1 t in
-    let h = before_among c number q.0 q.1 (told_men (slots_of c) (without_bit number)) (told_side (slots_of c) (without_bit number)) (refl, refl)
-    b.by b.is.from i b.is.leads (elim b.is.is [ inl e ↦ sym e | inr e ↦ absurd (plain (index_of b.is.from) e.0) ]) in
+    let h =
+    before_among c number q.0 q.1 (told_men (slots_of c) (without_bit number)) (told_side (slots_of c) (without_bit number)) (refl, refl) b.by i b.is in
     (h.0, h.2)
-  where
-    plain : (k : ℕ) → i ≡ k + 16777216 → ⊥
-    plain k e =
-        let d = told_decoded c i t.0 t.2 in
-        let h = HasParts-from t.0 i d.valid d.index in
-        let dead = dead_of c t.0 d.valid (entry c i t.0 d).of_class single in
-        let is : i ≡ without_bit i = h.is ∙ ap (λ (b : Bool). with_bit b (without_bit i)) dead in
-        let s = h.small in
-        omega (arith, is, s, e)
 
 -- what is before the number leads to it
-pub before_is_leads : (c : Class) (number : ℕ) → has_both_pawns (lists_of c) ≡ false → (i : ℕ) → IsBefore c number i
-    → LeadsTo Leads (is_of c) index_of (position_numbered c) i number
-before_is_leads c number single i h =
-    let b = h.1.2 in
-    let m = move_from h.0 h.1.0 in
-    before_leads c number i b.to m b.at (record {
-      from = b.from;
-      leads = b.leads;
-      lands = lands_there c number b.to b.at single b.from m b.leads;
-      is = inl (sym b.is);
-    })
+pub before_is_leads : (c : Class) (number i : ℕ) → IsBefore c number i → LeadsTo Leads (is_of c) index_of (position_numbered c) i number
+before_is_leads c number i h = let b = h.1.2 in before_leads c number i b.to (move_from h.0 h.1.0) b.at b.before
 
 -- and is below the cells of the class
-pub before_below : (c : Class) (number : ℕ) → has_both_pawns (lists_of c) ≡ false → (man : Man) (a i : ℕ) → IsBeforeFrom c number man a i → i < cells_of c
-before_below c number single man a i b =
-    let t = IsLed-from c number b.to b.from (move_from man a) b.at b.leads (lands_there c number b.to b.at single b.from (move_from man a) b.leads) in
-    subst (λ (k : ℕ). k < cells_of c) b.is (below c (index_of b.from) t.from (told_decoded c (index_of b.from) t.from t.at))
+pub before_below : (c : Class) (number : ℕ) (man : Man) (a i : ℕ) → IsBeforeFrom c number man a i → i < cells_of c
+before_below c number man a i b =
+    let t = before_leads c number i b.to (move_from man a) b.at b.before in
+    below c i t.0 (told_decoded c i t.0 t.2)

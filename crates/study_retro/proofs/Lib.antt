@@ -25,4 +25,5 @@ pub mod EarlierChess
 pub mod Jumps
 pub mod BlockLemmas
 pub mod QuietSteps
+pub mod Twins
 pub mod MovedSteps

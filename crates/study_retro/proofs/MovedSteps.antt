@@ -1,5 +1,5 @@
 -- The numbers after a quiet move and before it.
-use Rattle.std.proofs.Common.{◌≡◌, ℕ, ◌<◌, ◌==◌, eqb, Bool, true, false, cond, ◌||◌, List, [], ◌∷◌, map, slice_index, Option, Some}
+use Rattle.std.proofs.Common.{inl, inr, ◌≡◌, ℕ, ◌<◌, ◌==◌, eqb, Bool, true, false, cond, ◌||◌, List, [], ◌∷◌, map, slice_index, Option, Some}
 use Rattle.std.proofs.Common.{refl, sym, ◌∙◌, ap, subst, arith}
 use Rattle.std.specs.List.{list_any}
 use Rattle.std.specs.List.Sorted.{IsPermutation}
@@ -10,9 +10,9 @@ use Rattle.study_board.specs.declared.men.Side.{Side}
 use Rattle.study_board.specs.declared.men.Side.TheVariants.{White, Black}
 use Rattle.study_board.specs.declared.men.Man.{Man}
 use Rattle.study_board.specs.Men.{other_side}
-use Rattle.study_board.specs.Position.{Position, is_occupied}
+use Rattle.study_board.specs.Position.{Position, IsValid, is_occupied}
 use Rattle.study_moves.specs.declared.moves.Move.{Move}
-use Rattle.study_moves.specs.Rules.{is_legal, after}
+use Rattle.study_moves.specs.Rules.{is_legal, after, is_en_passant}
 use Rattle.study_moves.specs.EnPassant.{is_taken, has_legal_en_passant, without_passed}
 use Rattle.study_moves.specs.Unmoves.{IsQuiet, LeadsQuietly}
 use Rattle.study_moves.proofs.AfterMove.{IsValid-after}
@@ -32,10 +32,13 @@ use Rattle.study_retro.specs.Table.{Table}
 use Rattle.study_retro.specs.Cells.{value_of}
 use Rattle.study_retro.specs.ClassGame.{class_game}
 use Rattle.study_retro.specs.Numbered.{IsNumberedClass, label_by}
+use Rattle.study_retro.specs.Predecessors.{LeavesNone}
+use Rattle.study_moves.proofs.NoMoveBetween.{HasMover-from_is_legal}
 use Rattle.study_retro.proofs.ClassLemmas.{label-home}
 use Rattle.study_retro.proofs.QuietClass.{quiet_men, quiet_lists, unpassing}
-use Rattle.study_retro.proofs.QuietSteps.{other_turn, dead_of}
-use Rattle.study_retro.proofs.EarlierChess.{lands_home, numbered_index}
+use Rattle.study_retro.proofs.QuietSteps.{other_turn, dead_of, dead_after}
+use Rattle.study_retro.proofs.EarlierChess.{lands_home, numbered_index, valid_without}
+use Rattle.study_retro.proofs.Twins.{dead_twinless}
 
 -- a man that moves to an empty square and back
 man_back : (x a : ℕ) (m : Man) → (m.at == a) ≡ false → from_to a x (from_to x a m) ≡ m
@@ -70,6 +73,13 @@ unfolding index_of least_number
 plain_index x y d e s =
     ap (λ (b : Bool). with_bit b (least_number x)) d ∙ ap (λ (z : Position). least_number z) s ∙ sym (ap (λ (b : Bool). with_bit b (least_number y)) e)
 
+-- a move that leaves no capture in passing
+dead_left : (c : Class) (x r : Position) (m : Move) → after r m ≡ x → IsValid x → IsOf c x → is_legal r m ≡ true → (k : ℕ)
+    → index_of (without_passed x) ≡ k → LeavesNone c m.origin m.target k → has_legal_en_passant x ≡ false
+dead_left c x r m e v o legal k is (inl passes) =
+    subst (λ (y : Position). has_legal_en_passant y ≡ false) e (dead_after c r m (subst IsValid (sym e) v) (subst (λ (y : Position). IsOf c y) (sym e) o) legal passes)
+dead_left c x r m e v o legal k is (inr none) = dead_twinless c x v o k is none
+
 module _ (c : Class) (n : ℕ) (q : Position) (at : position_numbered c n ≡ Some q) where
   -- the position before a quiet move
   pub moved_before : (r : Position) (m : Move) → LeadsQuietly r m q → IsMoved c n m.target m.origin r
@@ -93,54 +103,72 @@ module _ (c : Class) (n : ℕ) (q : Position) (at : position_numbered c n ≡ So
         dead = ap (λ (o : Option ℕ). is_taken r o) b.unpassed;
       }
 
-  module _ (single : has_both_pawns (lists_of c) ≡ false) where
-    -- it leads to the number, where one side alone has pawns
-    pub lands_there : (r : Position) (m : Move) → LeadsQuietly r m q → index_of (after r m) ≡ n
-    lands_there r m b =
+  -- it leads to the number, where no capture in passing is legal in either
+  pub lands_there : has_legal_en_passant q ≡ false → (r : Position) (m : Move) → LeadsQuietly r m q → has_legal_en_passant (after r m) ≡ false
+      → index_of (after r m) ≡ n
+  lands_there dead r m b gone = plain_index (after r m) q gone dead b.leads ∙ numbered_index c n q at
+
+  -- so where the move leaves none
+  pub lands_left : has_legal_en_passant q ≡ false → (r : Position) (m : Move) → LeadsQuietly r m q → LeavesNone c m.origin m.target n → index_of (after r m) ≡ n
+  lands_left dead r m b leaves =
+      let w = IsValid-after r m b.valid b.legal in
+      let bare : index_of (without_passed (after r m)) ≡ n =
+      plain_index (without_passed (after r m)) q refl dead b.leads ∙ numbered_index c n q at in
+      lands_there dead r m b (dead_left c (after r m) r m refl w (lands_home c n q r m at b) b.legal n bare leaves)
+
+  -- and so where one side alone has pawns
+  pub lands_single : has_both_pawns (lists_of c) ≡ false → (r : Position) (m : Move) → LeadsQuietly r m q → index_of (after r m) ≡ n
+  lands_single single r m b =
+      let d = told_decoded c n q at in
+      lands_there (dead_of c q d.valid (entry c n q d).of_class single) r m b
+      (dead_of c (after r m) (IsValid-after r m b.valid b.legal) (lands_home c n q r m at b) single)
+
+  module _ (dead : has_legal_en_passant q ≡ false) (m : Move) (legal : is_legal q m ≡ true) (quiet : IsQuiet q m) where
+    no_passing : is_en_passant q.passed (HasMover-from_is_legal q m legal).man m.target ≡ false
+    no_passing =
         let d = told_decoded c n q at in
-        plain_index (after r m) q
-        (dead_of c (after r m) (IsValid-after r m b.valid b.legal) (lands_home c n q r m at b) single)
-        (dead_of c q d.valid (entry c n q d).of_class single) b.leads
-        ∙ numbered_index c n q at
+        unpassing q m d.valid legal (not_live_passed q (entry c n q d).is_bare dead)
 
-    module _ (m : Move) (legal : is_legal q m ≡ true) (quiet : IsQuiet q m) where
-      pub quiet_stays : IsOf c (after q m)
-      quiet_stays =
-          let d = told_decoded c n q at in
-          let read = entry c n q d in
-          let no_passing = unpassing q m d.valid legal (not_live_passed q read.is_bare (dead_of c q d.valid read.of_class single)) in
-          read.of_class ∙ ap (λ l. ordered l) (sym (quiet_lists q m d.valid legal no_passing quiet))
+    pub quiet_stays : IsOf c (after q m)
+    quiet_stays =
+        let d = told_decoded c n q at in
+        (entry c n q d).of_class ∙ ap (λ l. ordered l) (sym (quiet_lists q m d.valid legal no_passing quiet))
 
-      -- the position after a quiet move
-      pub moved_after : IsMoved c n m.origin m.target (after q m)
-      moved_after =
-          let d = told_decoded c n q at in
-          let t = told_of c n q d in
-          let read = entry c n q d in
-          let no_passing = unpassing q m d.valid legal (not_live_passed q read.is_bare (dead_of c q d.valid read.of_class single)) in
-          let w = IsValid-after q m d.valid legal in
-          let told = told_men (slots_of c) (without_bit n) in
-          let f = from_to m.origin m.target in
-          let moved = quiet_men q m d.valid legal no_passing quiet in
-          record {
-            valid = w;
-            men = IsPermutation-trans (after q m).men (map f q.men) (map f told) (IsPermutation-sym (map f q.men) (after q m).men moved)
-                (IsPermutation-map f q.men told (IsPermutation-sym told q.men t.same_men));
-            to_move = other_turn q m legal ∙ ap (λ s. other_side s) t.same_side;
-            dead = dead_of c (after q m) w quiet_stays single;
-          }
+    -- the position after a quiet move, without its passed square
+    moved_bare : IsMoved c n m.origin m.target (without_passed (after q m))
+    moved_bare =
+        let d = told_decoded c n q at in
+        let t = told_of c n q d in
+        let told = told_men (slots_of c) (without_bit n) in
+        let f = from_to m.origin m.target in
+        let moved = quiet_men q m d.valid legal no_passing quiet in
+        record {
+          valid = valid_without (after q m) (IsValid-after q m d.valid legal);
+          men = IsPermutation-trans (after q m).men (map f q.men) (map f told) (IsPermutation-sym (map f q.men) (after q m).men moved)
+              (IsPermutation-map f q.men told (IsPermutation-sym told q.men t.same_men));
+          to_move = other_turn q m legal ∙ ap (λ s. other_side s) t.same_side;
+          dead = refl;
+        }
 
-      module _ (held : List (Option Table)) (laws : IsNumberedClass (class_game c held)) (cells : List ℕ) (k : ℕ) (is : index_of (after q m) ≡ k) where
-        -- its number is below the cells of the class
-        pub quiet_below : k < cells_of c
-        quiet_below =
-            let d = laws.decoded n q at in
-            let known = laws.closed q (after q m) d.0 d.1 (m, legal, refl) in
-            let s = laws.numbered (after q m) known (is_of-IsOf c (after q m) quiet_stays) in
-            subst (λ (j : ℕ). j < cells_of c) is (laws.below (index_of (after q m)) s.0 s.1)
+    -- a number that fits is its number, where it leaves no capture in passing
+    pub index_after : (k : ℕ) → ((p : Position) → IsMoved c n m.origin m.target p → index_of p ≡ k) → LeavesNone c m.origin m.target k
+        → index_of (after q m) ≡ k
+    index_after k fits leaves =
+        let w = IsValid-after q m (told_decoded c n q at).valid legal in
+        let bare : index_of (without_passed (after q m)) ≡ k = fits (without_passed (after q m)) moved_bare in
+        plain_index (after q m) (without_passed (after q m)) (dead_left c (after q m) q m refl w quiet_stays legal k bare leaves) refl refl ∙ bare
 
-        -- and its cell tells its value
-        pub quiet_label : value_of (slice_index cells k) ≡ label_by (class_game c held) cells (after q m)
-        quiet_label =
-            sym (label-home laws cells (after q m) (is_of-IsOf c (after q m) quiet_stays)
-            ∙ ap (λ (j : ℕ). value_of (slice_index cells j)) is)
+    module _ (held : List (Option Table)) (laws : IsNumberedClass (class_game c held)) (cells : List ℕ) (k : ℕ) (is : index_of (after q m) ≡ k) where
+      -- its number is below the cells of the class
+      pub quiet_below : k < cells_of c
+      quiet_below =
+          let d = laws.decoded n q at in
+          let known = laws.closed q (after q m) d.0 d.1 (m, legal, refl) in
+          let s = laws.numbered (after q m) known (is_of-IsOf c (after q m) quiet_stays) in
+          subst (λ (j : ℕ). j < cells_of c) is (laws.below (index_of (after q m)) s.0 s.1)
+
+      -- and its cell tells its value
+      pub quiet_label : value_of (slice_index cells k) ≡ label_by (class_game c held) cells (after q m)
+      quiet_label =
+          sym (label-home laws cells (after q m) (is_of-IsOf c (after q m) quiet_stays)
+          ∙ ap (λ (j : ℕ). value_of (slice_index cells j)) is)

@@ -25,9 +25,8 @@ use Rattle.study_moves.specs.Unmoves.{IsQuiet}
 use Rattle.study_moves.proofs.HowMenGo.{IsAheadBy, IsStep, IsDoubleStep, IsCapture, bears_or_empty, pawn_ways}
 use Rattle.study_moves.proofs.MenOfList.{All-among, IsAmong, list_any-none, none_among, some_among}
 use Rattle.study_material.specs.declared.class.Class.{Class}
-use Rattle.study_material.specs.Class.{is_of, lists_of}
+use Rattle.study_material.specs.Class.{is_of}
 use Rattle.study_material.proofs.Classes.{is_of-IsOf}
-use Rattle.study_index.specs.Number.{has_both_pawns}
 use Rattle.study_index.specs.Computed.{position_numbered}
 use Rattle.study_index.proofs.ComputedIndex.{told_decoded}
 use Rattle.study_index.proofs.DecodedNumbers.{told_of}
@@ -41,8 +40,8 @@ use Rattle.study_retro.proofs.FirstLemmas.{held-draw}
 use Rattle.study_retro.specs.Still.{GoesPlainly, HasOnlyQuiet, IsStill, move_to, rank_before_last}
 use Rattle.study_retro.proofs.BackLemmas.{occupied_same, side_is, told_targets}
 use Rattle.study_retro.proofs.MovedSteps.{quiet_stays}
-use Rattle.study_retro.proofs.QuietSteps.{dead_of}
-use Rattle.study_index.proofs.ClassLaws.{entry}
+use Rattle.study_retro.proofs.QuietSteps.{dead_plain}
+use Rattle.study_moves.specs.EnPassant.{has_legal_en_passant}
 
 among-of : (xs : List Man) (m : Man) → Contains xs m → IsAmong m xs
 among-of [] m c = absurd (omega (arith, c.1))
@@ -133,19 +132,19 @@ not_true false e = refl
 not_true true e = absurd (false≢true e)
 
 -- so each move is quiet
-pub stays_quiet : (c : Class) (number : ℕ) (q : Position) → position_numbered c number ≡ Some q → has_both_pawns (lists_of c) ≡ false
+pub stays_quiet : (c : Class) (number : ℕ) (q : Position) → position_numbered c number ≡ Some q → number < 16777216
     → (men : List Man) (side : Side) → AreTold c number men side
     → list_any (λ m. same_side m.side (other_side side) && is_attacked men side m.at) men ≡ false
     → list_any (λ m. is_man side Pawn m && (rank_of m.at == rank_before_last side)) men ≡ false → HasOnlyQuiet q
 unfolding is_safe_target
-stays_quiet c number q at single men side told takes promotes = quiet
+stays_quiet c number q at low men side told takes promotes = quiet
   where
     turn : side ≡ q.to_move
     turn = side_is c number q at men side told
 
     quiet : (m : Move) → is_legal q m ≡ true → IsQuiet q m
     quiet m legal =
-        let targets = told_targets c number q at single men side told in
+        let targets = told_targets c number q at low men side told in
         let t = targets.mover m legal in
         let man = t.0 in
         let is = and_parts _ _ (sym (targets.legal man m t.1 t.2 t.3) ∙ legal) in
@@ -160,7 +159,7 @@ stays_quiet c number q at single men side told takes promotes = quiet
             let free = target_empty men side takes man (among-of men man among) his m.target goes.0
             (ap (λ (t : Side). has_side men t m.target) turn ∙ not_true (has_side men q.to_move m.target) goes.1) in
             let plain = target_plain men side promotes man (among-of men man among) his m.target goes.0 in
-            (sym (occupied_same c number q at single men side told m.target) ∙ free, none_to_promote (reaches_last_rank man m.target) m.promoted plain choice)
+            (sym (occupied_same c number q at low men side told m.target) ∙ free, none_to_promote (reaches_last_rank man m.target) m.promoted plain choice)
 
 -- ---- words of squares
 
@@ -216,8 +215,8 @@ module _ (c : Class) (number : ℕ) (q : Position) (at : position_numbered c num
 
 -- before the levels the cell of its number is 0, as is that of a number without a position
 pub still_held : (c : Class) (held : List (Option Table)) (number : ℕ) → IsNumberedClass (class_game c held) → OutsideIsRight (class_game c held)
-    → ((q : Position) → position_numbered c number ≡ Some q → IsStill q) → has_both_pawns (lists_of c) ≡ false → CellIsHeld (class_game c held) false 0 number 0
-still_held c held number laws outer still single = by_position (position_numbered c number) refl
+    → ((q : Position) → position_numbered c number ≡ Some q → (number < 16777216) × IsStill q) → CellIsHeld (class_game c held) false 0 number 0
+still_held c held number laws outer still = by_position (position_numbered c number) refl
   where
     Held : Option Position → Type 0
     Held o = IsHeldCell (leads_in (class_game c held)) IsMate (is_of c) false 0 o 0
@@ -226,16 +225,17 @@ still_held c held number laws outer still single = by_position (position_numbere
     by_position None e = subst Held (sym e) refl
     by_position (Some q) e =
         let d = laws.decoded number q e in
-        let s = still q e in
+        let low = (still q e).0 in
+        let s = (still q e).1 in
         subst Held (sym e)
         (held-draw laws outer q d.0 d.1 s.0 false (record {
-          no_loss = λ r m l. absurd (leaves q e s r l);
-          holds = inr ((λ x. x), (λ r l. leaves q e s r l));
+          no_loss = λ r m l. absurd (leaves q e low s r l);
+          holds = inr ((λ x. x), (λ r l. leaves q e low s r l));
         }))
       where
-        leaves : (q : Position) → position_numbered c number ≡ Some q → IsStill q → (r : Position) → leads_in (class_game c held) q r × (is_of c r ≡ false) → ⊥
-        leaves q e s r l =
-            let home = is_of-IsOf c (after q l.0.0) (quiet_stays c number q e single l.0.0 l.0.1 (s.1 l.0.0 l.0.1)) in
+        leaves : (q : Position) → position_numbered c number ≡ Some q → number < 16777216 → IsStill q → (r : Position) → leads_in (class_game c held) q r × (is_of c r ≡ false) → ⊥
+        leaves q e low s r l =
+            let home = is_of-IsOf c (after q l.0.0) (quiet_stays c number q e (dead_plain c number q e low) l.0.0 l.0.1 (s.1 l.0.0 l.0.1)) in
             false≢true (sym l.1 ∙ ap (λ (p : Position). is_of c p) (sym l.0.2) ∙ home)
 
 -- ---- moves out of the class
@@ -260,12 +260,12 @@ move_parts m man x o t p =
     ∙ ap (λ (y : ℕ). let r : Move = record { origin = man.at; target = y; promoted = m.promoted } in r) t
     ∙ ap (λ (k : Option Kind). let r : Move = record { origin = man.at; target = x; promoted = k } in r) p)
 
-module _ (c : Class) (number : ℕ) (q : Position) (at : position_numbered c number ≡ Some q) (single : has_both_pawns (lists_of c) ≡ false) where
+module _ (c : Class) (number : ℕ) (q : Position) (at : position_numbered c number ≡ Some q) (dead : has_legal_en_passant q ≡ false) where
   -- the men of the position tell its legal moves
   pub own_targets : HasSafeTargets q q.men
   own_targets =
       let d = told_decoded c number q at in
-      (men-tell-moves q q.men d.valid (IsPermutation-refl q.men)).0 (dead_of c q d.valid (entry c number q d).of_class single)
+      (men-tell-moves q q.men d.valid (IsPermutation-refl q.men)).0 dead
 
   -- where none promotes a move out of the class takes a man
   module _ (promotes : list_any (λ m. is_man q.to_move Pawn m && (rank_of m.at == rank_before_last q.to_move)) q.men ≡ false) (items : List Move) (all : (man : Man)
@@ -288,7 +288,7 @@ module _ (c : Class) (number : ℕ) (q : Position) (at : position_numbered c num
                 → is_safe_target q.men q.to_move man m.target ≡ true → reaches_last_rank man m.target ≡ false → m.promoted ≡ None
                 → (b : Bool) → is_occupied q.men m.target ≡ b → Contains items m
             by_square man among origin his safe plain none false e =
-                absurd (false≢true (sym out ∙ is_of-IsOf c (after q m) (quiet_stays c number q at single m legal (e, none))))
+                absurd (false≢true (sym out ∙ is_of-IsOf c (after q m) (quiet_stays c number q at dead m legal (e, none))))
             by_square man among origin his safe plain none true e =
                 let o = standing q.men m.target e in
                 subst (λ (x : Move). Contains items x) (move_parts m man o.0.at origin (sym o.2) none)

@@ -1,5 +1,6 @@
 -- Not part of any public contract: the numbers of the positions from which a move leads to the position of a number, within a class.
-use Rattle.std.specs.Prelude.{◌≡◌, ℕ, ◌+◌, ◌<◌, ◌⊎◌, List, Some}
+use Rattle.std.specs.Prelude.{◌≡◌, ℕ, ◌+◌, ◌<◌, ◌⊎◌, ◌==◌, false, List, Some}
+use Rattle.study_board.specs.Geometry.{ranks_apart}
 use Rattle.study_board.specs.Position.{Position}
 use Rattle.study_board.specs.declared.men.Side.{Side}
 use Rattle.study_board.specs.declared.men.Man.{Man}
@@ -7,7 +8,8 @@ use Rattle.study_moves.specs.declared.moves.Move.{Move}
 use Rattle.study_moves.specs.Rules.{after}
 use Rattle.study_moves.specs.Unmoves.{LeadsQuietly, move_from}
 use Rattle.study_material.specs.declared.class.Class.{Class}
-use Rattle.study_index.specs.Number.{without_bit}
+use Rattle.study_material.specs.Class.{lists_of}
+use Rattle.study_index.specs.Number.{has_both_pawns, without_bit}
 use Rattle.study_index.specs.Decoded.{slots_of, told_men, told_side}
 use Rattle.study_index.specs.Computed.{index_of, position_numbered}
 
@@ -31,17 +33,27 @@ pub record ComesBefore (c : Class) (q : Position) (number n : ℕ) : Type 0 wher
   pub by : Move
   pub is : IsNumberBefore c q number by n
 
+-- one side alone of the class has pawns, or the move goes over other than two ranks: so it leaves no capture in passing
+abbrev pub PassesNone : Class → ℕ → ℕ → Type 0
+PassesNone c a x = (has_both_pawns (lists_of c) ≡ false) ⊎ ((ranks_apart a x == 2) ≡ false)
+
+-- no position with the men and the side to move of the number has a legal capture in passing
+abbrev pub IsTwinless : Class → ℕ → Type 0
+IsTwinless c n = (p : Position) → position_numbered c (n + 16777216) ≡ Some p → ⊥
+
+-- so that a quiet move after which the number is n leaves none
+abbrev pub LeavesNone : Class → ℕ → ℕ → ℕ → Type 0
+LeavesNone c a x n = PassesNone c a x ⊎ IsTwinless c n
+
 -- the men and the side to move are those that the number tells
 abbrev pub AreTold : Class → ℕ → List Man → Side → Type 0
 AreTold c number men side = (men ≡ told_men (slots_of c) (without_bit number)) × (side ≡ told_side (slots_of c) (without_bit number))
 
--- n is the number of a position without a passed square from which a quiet move of the man, from a, leads to the number's
+-- n is the number of a position from which a quiet move of the man, from a, leads to the number's
 pub record IsBeforeFrom (c : Class) (number : ℕ) (man : Man) (a n : ℕ) : Type 0 where
-  pub from : Position
   pub to : Position
   pub at : position_numbered c number ≡ Some to
-  pub leads : LeadsQuietly from (move_from man a) to
-  pub is : index_of from ≡ n
+  pub before : IsNumberBefore c to number (move_from man a) n
 
 -- the same, from some square; and of some man
 abbrev pub IsBeforeBy : Class → ℕ → Man → ℕ → Type 0

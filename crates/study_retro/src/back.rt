@@ -1,15 +1,16 @@
-//! Steps back from a decided position by the squares that its number tells, where one side alone has pawns.
+//! Steps back from a decided position by the squares that its number tells, where no capture in passing is legal.
 ghost use Rattle.std.specs.Prelude.{◌≡◌, ◌<◌, ℕ, false, length, Some, Contains};
 ghost use Rattle.study_board.specs.Position.{Position as Seen};
-ghost use Rattle.study_material.specs.Class.{lists_of};
-ghost use Rattle.study_index.specs.Number.{cells_of, has_both_pawns};
+ghost use Rattle.study_moves.specs.Unmoves.{CanHaveLed, move_from};
+ghost use Rattle.study_index.specs.Number.{cells_of};
 ghost use Rattle.study_index.specs.Computed.{position_numbered};
-ghost use Rattle.study_retro.specs.Predecessors.{AreTold, IsBeforeBy, IsBefore};
+ghost use Rattle.study_retro.specs.Predecessors.{AreTold, IsBeforeFrom, IsBeforeBy, IsBefore};
 ghost use Rattle.study_retro.specs.Propagation.{AreSet, IsSetWhere};
 
+use crate::earlier::{has_twin, lands_from};
 use crate::propagate::{lower_cell, mark_cell};
-use study_board::{Man, SquareSet};
-use study_index::{Departure, Setup, told};
+use study_board::{Man, Square, SquareSet};
+use study_index::{Departure, EN_PASSANT_BIT, Setup, told};
 use study_material::Class;
 use study_moves::origins;
 
@@ -35,6 +36,37 @@ fn write_cell(cells: &mut [u8], number: u32, change: Change)
     }
 }
 
+/// Sets the cells of the positions from which a quiet move of the man from the square leads to the position of the
+/// number that it departs from, going back.
+#[inline]
+fn write_from(
+    class: Class,
+    cells: &mut [u8],
+    man: &Man,
+    departure: &Departure,
+    origin: Square,
+    change: Change,
+)
+    requires class { departure.now.class ≡ class }
+    requires from { departure.now.from ≡ man.now.at }
+    requires numbered { (q : Seen) × (position_numbered class departure.now.number ≡ Some q) }
+    requires plain { departure.now.number < 16777216 }
+    requires led { (q : Seen) → position_numbered class departure.now.number ≡ Some q → CanHaveLed q (move_from man.now origin) }
+    requires cell { 0 < change.cell }
+    requires cells { length cells.old ≡ cells_of class }
+    ensures rise { AreSet (IsBeforeFrom class departure.now.number man.now origin) change.cell change.over cells.old cells.new }
+    ensures done { (n : ℕ) → IsBeforeFrom class departure.now.number man.now origin n → IsSetWhere change.cell change.over cells.new n }
+{
+    if !lands_from(class, departure.number, man, origin) {
+        return;
+    }
+    let before = departure.number_to(origin);
+    write_cell(cells, before, change);
+    if has_twin(class, before) {
+        write_cell(cells, before + EN_PASSANT_BIT, change);
+    }
+}
+
 /// Sets the cells of the positions from which a quiet move of the man leads to the position of this number, and tells how
 /// many they are.
 #[inline]
@@ -47,7 +79,7 @@ fn write_before_man(
     change: Change,
 ) -> u64
     requires numbered { (q : Seen) × (position_numbered class number ≡ Some q) }
-    requires single { has_both_pawns (lists_of class) ≡ false }
+    requires plain { number < 16777216 }
     requires told { AreTold class number setup.now.men.items setup.now.to_move }
     requires man { Contains setup.now.men.items man.now }
     requires cell { 0 < change.cell }
@@ -65,8 +97,7 @@ fn write_before_man(
     while !rest.is_empty() {
         let origin = rest.first();
         rest = rest.without(SquareSet::of(origin));
-        let before = departure.number_to(origin);
-        write_cell(cells, before, change);
+        write_from(class, cells, man, &departure, origin, change);
         next = origin.number() + 1;
     }
     u64::from(all.len())
@@ -76,7 +107,7 @@ fn write_before_man(
 /// are.
 pub fn write_before(class: Class, cells: &mut [u8], number: u32, change: Change) -> u64
     requires numbered { (q : Seen) × (position_numbered class number ≡ Some q) }
-    requires single { has_both_pawns (lists_of class) ≡ false }
+    requires plain { number < 16777216 }
     requires cell { 0 < change.cell }
     requires cells { length cells.old ≡ cells_of class }
     ensures rise { AreSet (IsBefore class number) change.cell change.over cells.old cells.new }

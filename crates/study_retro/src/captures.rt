@@ -24,7 +24,7 @@ fn goes_plainly(safe: SquareSet, man: &Man, target: Square) -> bool
 
 /// The move of the man to the square, without a promotion.
 #[inline]
-fn move_to(man: &Man, target: Square) -> Move
+pub fn move_to(man: &Man, target: Square) -> Move
     ensures { result ≡ move_to man.now target }
 {
     Move {

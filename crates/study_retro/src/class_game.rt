@@ -2,15 +2,14 @@
 ghost use Rattle.std.specs.Prelude.{◌≡◌, true, false, IsTrue, IfSome, Some};
 ghost use Rattle.study_moves.specs.Rules.{after, is_legal};
 ghost use Rattle.study_moves.specs.Unmoves.{IsQuiet};
-ghost use Rattle.study_material.specs.Class.{lists_of};
-ghost use Rattle.study_index.specs.Number.{has_both_pawns};
+ghost use Rattle.study_moves.specs.EnPassant.{has_legal_en_passant};
 ghost use Rattle.study_index.specs.Computed.{index_of, position_numbered};
 ghost use Rattle.study_retro.specs.Table.{IsReady, IsClosed};
 
 use crate::back::{Change, write_before};
 use crate::captures::captures;
 use crate::consistency::label;
-use crate::earlier::{has_both_pawns, predecessor_numbers};
+use crate::earlier::{may_pass, predecessor_numbers};
 use crate::escapes::{escapes, has_move};
 use crate::game::{Game, Location};
 use crate::initial::{Initial, initial_by_moves};
@@ -22,7 +21,7 @@ use crate::value::{Value, value_at};
 use arrayvec::ArrayVec;
 use std::alloc::Allocator;
 use study_board::{Position, is_occupied};
-use study_index::{cells, decode, index, number_moved, told};
+use study_index::{EN_PASSANT_BIT, cells, decode, index, number_moved, told};
 use study_material::{Class, class_of};
 use study_moves::{Move, MoveList, is_mate, legal_moves, played};
 
@@ -59,7 +58,7 @@ impl<'t, 'a, A: Allocator> Game for ClassGame<'t, 'a, A> {
     }
 
     fn leaving(&self, at: &Position) -> MoveList {
-        if has_both_pawns(self.class) || may_promote(at.men(), at.to_move()) {
+        if has_passed(at) || may_promote(at.men(), at.to_move()) {
             return legal_moves(at);
         }
         captures(at)
@@ -101,14 +100,26 @@ fn is_quiet(at: &Position, by: &Move) -> bool
     by.promoted.is_none() && !is_occupied(at.men(), by.target.number())
 }
 
-/// The number of the position after a move that takes no man and promotes none, where one side alone has pawns.
+/// Whether a square is passed.
+#[inline]
+fn has_passed(at: &Position) -> bool
+    ensures { result ≡ false → at.now.passed ≡ None }
+{
+    at.passed().is_some()
+}
+
+/// The number of the position after a move that takes no man and promotes none, where no capture in passing is legal before
+/// it or after it.
 #[inline]
 fn number_after(class: Class, number: u32, at: &Position, by: &Move) -> Option<u32>
     requires at { position_numbered class number ≡ Some at.now }
     requires by { is_legal at.now by.now ≡ true }
-    ensures { IfSome result (λ n. (has_both_pawns (lists_of class) ≡ false) × IsQuiet at.now by.now × (index_of (after at.now by.now) ≡ n)) }
+    ensures { IfSome result (λ n. (has_legal_en_passant at.now ≡ false) × IsQuiet at.now by.now × (index_of (after at.now by.now) ≡ n)) }
 {
-    if !has_both_pawns(class) && is_quiet(at, by) {
+    if may_pass(class, by.origin, by.target) || has_passed(at) {
+        return None;
+    }
+    if is_quiet(at, by) {
         Some(number_moved(class, number, by.origin, by.target))
     } else {
         None
@@ -129,9 +140,6 @@ impl<'t, 'a, A: Allocator> LabelledGame for ClassGame<'t, 'a, A> {
 
 impl<'t, 'a, A: Allocator> SteppedGame for ClassGame<'t, 'a, A> {
     fn first(&self, number: u32) -> Initial {
-        if has_both_pawns(self.class) {
-            return initial_by_moves(self, number);
-        }
         if begins_unknown(self.class, number) {
             return Initial {
                 cell: 0,
@@ -142,7 +150,7 @@ impl<'t, 'a, A: Allocator> SteppedGame for ClassGame<'t, 'a, A> {
     }
 
     fn lower_before(&self, cells: &mut [u8], number: u32, level: u8) -> u64 {
-        if has_both_pawns(self.class) {
+        if number >= EN_PASSANT_BIT {
             return lower_by_moves(self, cells, number, level);
         }
         let change = Change {
@@ -153,7 +161,7 @@ impl<'t, 'a, A: Allocator> SteppedGame for ClassGame<'t, 'a, A> {
     }
 
     fn mark_before(&self, cells: &mut [u8], number: u32, level: u8) -> u64 {
-        if has_both_pawns(self.class) {
+        if number >= EN_PASSANT_BIT {
             return mark_by_moves(self, cells, number, level);
         }
         let change = Change {
@@ -164,7 +172,7 @@ impl<'t, 'a, A: Allocator> SteppedGame for ClassGame<'t, 'a, A> {
     }
 
     fn is_lost_at(&self, cells: &[u8], number: u32, level: u8) -> bool {
-        if has_both_pawns(self.class) {
+        if number >= EN_PASSANT_BIT {
             return is_lost_by_moves(self, cells, number, level);
         }
         let setup = told(self.class, number);

@@ -2,15 +2,16 @@
 ghost use Rattle.std.specs.Prelude.{◌≡◌, ◌≢◌, ◌+◌, ◌≤◌, ◌<◌, ◌⊎◌, ◌↔◌, ℕ, true, false, Some, None, IfSome, IfNone, IsTrue, Contains};
 ghost use Rattle.arrayvec.specs.ArrayVec.{array_vec_len};
 ghost use Rattle.study_board.specs.Position.{Position as Seen};
+ghost use Rattle.study_board.specs.Geometry.{files_apart, rank_of};
 ghost use Rattle.study_moves.specs.Rules.{after, is_legal};
-ghost use Rattle.study_moves.specs.Unmoves.{LeadsQuietly, CanHaveLed};
+ghost use Rattle.study_moves.specs.Unmoves.{LeadsQuietly, CanHaveLed, move_from};
 ghost use Rattle.study_material.specs.Class.{lists_of};
 ghost use Rattle.study_index.specs.Number.{has_both_pawns};
 ghost use Rattle.study_index.specs.Computed.{index_of, position_numbered};
-ghost use Rattle.study_retro.specs.Predecessors.{IsPlainNumber, IsNumberBefore, ComesBefore};
+ghost use Rattle.study_retro.specs.Predecessors.{IsPlainNumber, IsNumberBefore, ComesBefore, PassesNone, IsTwinless, LeavesNone};
 
 use arrayvec::ArrayVec;
-use study_board::{Position, distance};
+use study_board::{Man, Position, Square, distance};
 use study_index::{EN_PASSANT_BIT, cells, decode, index, number_moved};
 use study_material::Class;
 use study_moves::{Move, played, unmoves, unplayed};
@@ -44,9 +45,8 @@ fn add_predecessor(
 {
     if let Some(plain) = plain_number(class, at, number, by) {
         list.push(plain);
-        let live = plain + EN_PASSANT_BIT;
-        if is_numbered(class, live) {
-            list.push(live);
+        if has_twin(class, plain) {
+            list.push(plain + EN_PASSANT_BIT);
         }
     }
 }
@@ -79,6 +79,37 @@ fn lands(class: Class, at: &Position, number: u32, by: &Move) -> bool
         return true;
     }
     leads_to(at, &unplayed(at, *by), *by, number)
+}
+
+/// Whether the quiet move of the man from the square leads to the position of the number, where no capture in passing is
+/// legal in that.
+#[inline]
+pub fn lands_from(class: Class, number: u32, man: &Man, origin: Square) -> bool
+    requires numbered { (q : Seen) × (position_numbered class number ≡ Some q) }
+    requires plain { number < 16777216 }
+    requires led { (q : Seen) → position_numbered class number ≡ Some q → CanHaveLed q (move_from man.now origin) }
+    ensures { (q p : Seen) → position_numbered class number ≡ Some q → LeadsQuietly p (move_from man.now origin) q
+        → (IsTrue result ↔ (index_of (after p (move_from man.now origin)) ≡ number)) }
+{
+    if !may_leave_capture(class, origin, man.at, number) {
+        return true;
+    }
+    match decode(class, number) {
+        None => unreachable!(),
+        Some(at) => lands(class, &at, number, &move_from(man, origin)),
+    }
+}
+
+/// The quiet move of the man from the square to where it stands.
+#[inline]
+fn move_from(man: &Man, origin: Square) -> Move
+    ensures { result ≡ move_from man.now origin }
+{
+    Move {
+        origin,
+        target: man.at,
+        promoted: None,
+    }
 }
 
 /// Whether the move leads to the position of this number: where a square is passed after it, its number is looked at.
@@ -115,6 +146,49 @@ pub fn has_both_pawns(class: Class) -> bool
         Class::KPKP => true,
         _ => false,
     }
+}
+
+/// Whether a quiet move from the one square to the other may leave the other side a capture in passing.
+#[inline]
+pub fn may_pass(class: Class, origin: Square, target: Square) -> bool
+    ensures { result ≡ false → PassesNone class origin target }
+{
+    has_both_pawns(class) && distance(origin.rank(), target.rank()) == 2
+}
+
+/// Whether two squares are beside each other on a rank from which a pawn can capture in passing.
+#[inline]
+fn are_abreast(a: u32, b: u32) -> bool
+    ensures { result ≡ false → rank_of a ≡ rank_of b → files_apart a b ≡ 1 → (3 ≤ rank_of a) → (rank_of a ≤ 4) → ⊥ }
+{
+    let rank = a / 8;
+    (rank == 3 || rank == 4) && rank == b / 8 && (a + 1 == b || b + 1 == a)
+}
+
+/// Whether a capture in passing may be legal with the men and the side to move of the number, by the squares of its pawns.
+#[inline]
+pub fn may_have_twin(class: Class, number: u32) -> bool
+    ensures { result ≡ false → IsTwinless class number }
+{
+    has_both_pawns(class) && are_abreast(number / 64 % 64, number % 64)
+}
+
+/// Whether a quiet move from the one square to the other, after which the men are those of the number, may leave the
+/// other side a legal capture in passing.
+#[inline]
+pub fn may_leave_capture(class: Class, origin: Square, target: Square, number: u32) -> bool
+    ensures { result ≡ false → LeavesNone class origin target number }
+{
+    may_pass(class, origin, target) && may_have_twin(class, number)
+}
+
+/// Whether a position with the men and the side to move of the number has a legal capture in passing.
+#[inline]
+pub fn has_twin(class: Class, number: u32) -> bool
+    requires { number < 16777216 }
+    ensures { IsTrue result ↔ ((p : Seen) × (position_numbered class (number + 16777216) ≡ Some p)) }
+{
+    may_have_twin(class, number) && is_numbered(class, number + EN_PASSANT_BIT)
 }
 
 #[inline]

@@ -1,26 +1,28 @@
-//! Whether quiet moves lose, by the squares that a number tells, where one side alone has pawns.
+//! Whether quiet moves lose, by the squares that a number tells, where no capture in passing is legal.
 ghost use Rattle.std.specs.Prelude.{◌≡◌, ◌<◌, ◌↔◌, ℕ, true, false, length, IsTrue, Some, Contains};
 ghost use Rattle.study_board.specs.Men.{same_side};
 ghost use Rattle.study_board.specs.Position.{Position as Seen, is_occupied};
 ghost use Rattle.study_moves.specs.declared.moves.Move.{Move as AMove};
 ghost use Rattle.study_moves.specs.Rules.{is_legal, reaches_last_rank};
 ghost use Rattle.study_moves.specs.AnyOrder.{is_safe_target};
-ghost use Rattle.study_material.specs.Class.{lists_of};
-ghost use Rattle.study_index.specs.Number.{cells_of, has_both_pawns};
+ghost use Rattle.study_index.specs.Number.{cells_of};
 ghost use Rattle.study_index.specs.Computed.{position_numbered};
 ghost use Rattle.study_retro.specs.ClassGame.{class_game};
 ghost use Rattle.study_retro.specs.Numbered.{IsNumberedClass, NoLossBy};
 ghost use Rattle.study_retro.specs.Predecessors.{AreTold};
 ghost use Rattle.study_retro.specs.Still.{QuietMovesLose, QuietMovesLoseBy, IsWonAfter, move_to};
 
+use crate::captures::move_to;
 use crate::class_game::ClassGame;
+use crate::consistency::label;
+use crate::earlier::may_leave_capture;
 use crate::propagate::is_won;
 use crate::value::value_at;
 use std::alloc::Allocator;
 use study_board::{Kind, Man, Side, Square, SquareSet, is_occupied};
-use study_index::{Departure, Setup};
+use study_index::{Departure, Setup, decode};
 use study_material::Class;
-use study_moves::safe_targets;
+use study_moves::{played, safe_targets};
 
 /// Whether the man is a pawn that reaches its last rank on the square.
 #[inline]
@@ -42,6 +44,33 @@ fn is_quiet_target(men: &[Man], man: &Man, target: Square) -> bool
     !is_occupied(men, target.number()) && !reaches_last_rank(man, target)
 }
 
+/// Whether the other side wins within `level` plies after the legal move of the man to the square, by the position of the
+/// number.
+fn wins_after<A: Allocator>(
+    game: &ClassGame<A>,
+    cells: &[u8],
+    number: u32,
+    man: &Man,
+    target: Square,
+    level: u8,
+) -> bool
+    requires laws { IsNumberedClass (class_game game.now.class game.now.tables.now) }
+    requires legal { (q : Seen) → position_numbered game.now.class number ≡ Some q → is_legal q (move_to man.now target) ≡ true }
+    requires numbered { (q : Seen) × (position_numbered game.now.class number ≡ Some q) }
+    requires cells { length cells.now ≡ cells_of game.now.class }
+    ensures yes { IsTrue result → (q : Seen) → position_numbered game.now.class number ≡ Some q
+        → IsWonAfter (class_game game.now.class game.now.tables.now) cells.now level q (move_to man.now target) }
+    ensures no { result ≡ false → NoLossBy (class_game game.now.class game.now.tables.now) cells.now level number }
+{
+    match decode(game.class, number) {
+        None => unreachable!(),
+        Some(at) => {
+            let to = played(&at, move_to(man, target));
+            is_won(label(game, cells, &to), level)
+        }
+    }
+}
+
 /// Whether the legal move of the man to the square is not quiet, or lets the other side win within `level` plies.
 #[inline]
 fn loses_to<A: Allocator>(
@@ -57,7 +86,7 @@ fn loses_to<A: Allocator>(
     requires class { departure.now.class ≡ game.now.class }
     requires from { departure.now.from ≡ man.now.at }
     requires numbered { (q : Seen) × (position_numbered game.now.class departure.now.number ≡ Some q) }
-    requires single { has_both_pawns (lists_of game.now.class) ≡ false }
+    requires plain { departure.now.number < 16777216 }
     requires told { AreTold game.now.class departure.now.number setup.now.men.items setup.now.to_move }
     requires man { Contains setup.now.men.items man.now }
     requires side { same_side man.now.side setup.now.to_move ≡ true }
@@ -73,6 +102,9 @@ fn loses_to<A: Allocator>(
         return true;
     }
     let after = departure.number_to(target);
+    if may_leave_capture(game.class, man.at, target, after) {
+        return wins_after(game, cells, departure.number, man, target, level);
+    }
     is_won(value_at(cells[after as usize]), level)
 }
 
@@ -88,7 +120,7 @@ fn escapes_by_man<A: Allocator>(
 ) -> bool
     requires laws { IsNumberedClass (class_game game.now.class game.now.tables.now) }
     requires numbered { (q : Seen) × (position_numbered game.now.class number ≡ Some q) }
-    requires single { has_both_pawns (lists_of game.now.class) ≡ false }
+    requires plain { number < 16777216 }
     requires told { AreTold game.now.class number setup.now.men.items setup.now.to_move }
     requires man { Contains setup.now.men.items man.now }
     requires cells { length cells.now ≡ cells_of game.now.class }
@@ -123,7 +155,7 @@ pub fn escapes<A: Allocator>(
 ) -> bool
     requires laws { IsNumberedClass (class_game game.now.class game.now.tables.now) }
     requires numbered { (q : Seen) × (position_numbered game.now.class number ≡ Some q) }
-    requires single { has_both_pawns (lists_of game.now.class) ≡ false }
+    requires plain { number < 16777216 }
     requires told { AreTold game.now.class number setup.now.men.items setup.now.to_move }
     requires cells { length cells.now ≡ cells_of game.now.class }
     ensures yes { IsTrue result → NoLossBy (class_game game.now.class game.now.tables.now) cells.now level number }
@@ -159,7 +191,7 @@ fn can_move(setup: &Setup, man: &Man) -> bool
 
 /// Whether the side to move has a legal move, if the number has a position.
 pub fn has_move(class: Class, number: u32, setup: &Setup) -> bool
-    requires single { has_both_pawns (lists_of class) ≡ false }
+    requires plain { number < 16777216 }
     requires told { AreTold class number setup.now.men.items setup.now.to_move }
     ensures yes { IsTrue result → (q : Seen) → position_numbered class number ≡ Some q → (m : AMove) × (is_legal q m ≡ true) }
     ensures no { result ≡ false → (q : Seen) → position_numbered class number ≡ Some q → (m : AMove) → is_legal q m ≡ true → ⊥ }

@@ -8,15 +8,14 @@ ghost use Rattle.study_board.specs.Men.{bears_on, is_attacked, is_man, same_side
 ghost use Rattle.study_board.specs.Position.{Position as Seen, has_square_twice, in_check};
 ghost use Rattle.study_board.specs.Sets.{has};
 ghost use Rattle.study_moves.specs.Game.{IsMate};
-ghost use Rattle.study_material.specs.Class.{lists_of};
-ghost use Rattle.study_index.specs.Number.{has_both_pawns};
 ghost use Rattle.study_index.specs.Computed.{position_numbered};
 ghost use Rattle.study_retro.specs.Predecessors.{AreTold};
 ghost use Rattle.study_retro.specs.Still.{HasOnlyQuiet, IsStill, rank_before_last};
 
+use crate::earlier::may_have_twin;
 use crate::escapes::has_move;
 use study_board::{Kind, Man, Side, SquareSet, attacks};
-use study_index::{Setup, told};
+use study_index::{EN_PASSANT_BIT, Setup, told};
 use study_material::Class;
 
 /// The rank from which a pawn of the side promotes.
@@ -106,7 +105,7 @@ pub fn may_promote(men: &[Man], side: Side) -> bool
 /// Whether each move of the side to move is quiet, if the number has a position, by the squares on which its men bear.
 #[inline]
 fn stays_by(class: Class, number: u32, setup: &Setup, attacked: SquareSet) -> bool
-    requires single { has_both_pawns (lists_of class) ≡ false }
+    requires plain { number < 16777216 }
     requires told { AreTold class number setup.now.men.items setup.now.to_move }
     requires attacked { (x : ℕ) → x < 64 → has attacked x ≡ is_attacked setup.now.men.items setup.now.to_move x }
     ensures { IsTrue result → (q : Seen) → position_numbered class number ≡ Some q → HasOnlyQuiet q }
@@ -121,7 +120,7 @@ fn stays_by(class: Class, number: u32, setup: &Setup, attacked: SquareSet) -> bo
 
 /// Whether each move of the side to move is quiet, if the number has a position.
 pub fn stays(class: Class, number: u32, setup: &Setup) -> bool
-    requires single { has_both_pawns (lists_of class) ≡ false }
+    requires plain { number < 16777216 }
     requires told { AreTold class number setup.now.men.items setup.now.to_move }
     ensures { IsTrue result → (q : Seen) → position_numbered class number ≡ Some q → HasOnlyQuiet q }
 {
@@ -156,7 +155,7 @@ fn is_impossible(class: Class, number: u32, setup: &Setup, attacked: SquareSet) 
 /// Whether the side to move is not mated, if the number has a position.
 #[inline]
 fn is_no_mate(class: Class, number: u32, setup: &Setup) -> bool
-    requires single { has_both_pawns (lists_of class) ≡ false }
+    requires plain { number < 16777216 }
     requires told { AreTold class number setup.now.men.items setup.now.to_move }
     ensures { IsTrue result → (q : Seen) → position_numbered class number ≡ Some q → IsMate q → ⊥ }
 {
@@ -166,10 +165,11 @@ fn is_no_mate(class: Class, number: u32, setup: &Setup) -> bool
     has_move(class, number, setup)
 }
 
-/// Whether nothing is known of the number before the levels: it has no position, or one in which the side to move is not
-/// mated and has quiet moves alone. Some numbers without a position are not told.
-pub fn begins_unknown(class: Class, number: u32) -> bool
-    requires { has_both_pawns (lists_of class) ≡ false }
+/// Whether nothing is known of a number without the bit before the levels: it has no position, or one in which the side to
+/// move is not mated and has quiet moves alone. Some numbers without a position are not told.
+#[inline]
+fn begins_still(class: Class, number: u32) -> bool
+    requires { number < 16777216 }
     ensures { IsTrue result → (q : Seen) → position_numbered class number ≡ Some q → IsStill q }
 {
     let setup = told(class, number);
@@ -178,4 +178,15 @@ pub fn begins_unknown(class: Class, number: u32) -> bool
         return is_no_mate(class, number, &setup);
     }
     is_impossible(class, number, &setup, attacked)
+}
+
+/// Whether nothing is known of the number before the levels. Of numbers with the bit only such are told as have no position
+/// by the squares of their pawns.
+pub fn begins_unknown(class: Class, number: u32) -> bool
+    ensures { IsTrue result → (q : Seen) → position_numbered class number ≡ Some q → (number < 16777216) × IsStill q }
+{
+    if number < EN_PASSANT_BIT {
+        return begins_still(class, number);
+    }
+    !may_have_twin(class, number - EN_PASSANT_BIT)
 }

@@ -1,8 +1,8 @@
-use Rattle.std.proofs.Common.{sym, ◌∙◌}
-use Rattle.study_moves.specs.Rules.{after}
+use Rattle.std.proofs.Common.{inl, ◌≡◌, ℕ, false, Option, ap}
+use Rattle.study_moves.specs.EnPassant.{has_legal_en_passant, is_taken}
 use Rattle.study_index.proofs.ClassLaws.{below}
 use Rattle.study_index.proofs.ComputedIndex.{told_decoded}
-use Rattle.study_retro.proofs.MovedSteps.{moved_after}
+use Rattle.study_retro.proofs.MovedSteps.{index_after}
 use Rattle.study_retro.proofs.class_game.number_after.Goals as goal
 
 pub number_moved-requires : goal.number_moved-requires
@@ -11,10 +11,11 @@ number_moved-requires c =
 
 pub returns-then-is_quiet : goal.returns-then-is_quiet
 returns-then-is_quiet c =
-    let single = sym c.has_both_pawns.ensures ∙ c.if-not-has_both_pawns.true in
+    let dead : has_legal_en_passant c.args.at.now ≡ false =
+    ap (λ (x : Option ℕ). is_taken c.args.at.now x) (c.has_passed.ensures c.if-has_passed.false) in
     let quiet = c.is_quiet.ensures c.if-is_quiet.true in (
-      single,
+      dead,
       quiet,
-      c.number_moved.ensures (after c.args.at.now c.args.by.now)
-          (moved_after c.args.class c.args.number c.args.at.now c.requires.at single c.args.by.now c.requires.by quiet),
+      index_after c.args.class c.args.number c.args.at.now c.requires.at dead c.args.by.now c.requires.by quiet c.number_moved.result
+          c.number_moved.ensures (inl (c.may_pass.ensures c.if-may_pass.false)),
     )

@@ -3,15 +3,15 @@ use Rattle.std.proofs.lemmas.Bool.{false≢true}
 use Rattle.study_retro.proofs.EarlierChess.{one_added, two_added}
 use Rattle.study_retro.proofs.earlier.add_predecessor.Goals as goal
 
-pub returns-then-is_numbered-clause-more : goal.returns-then-is_numbered-clause-more
-returns-then-is_numbered-clause-more c =
+pub returns-then-has_twin-clause-more : goal.returns-then-has_twin-clause-more
+returns-then-has_twin-clause-more c =
     two_added c.args.class c.args.at.now c.args.number c.args.by.now c.in-Some.plain c.in-Some.ensures.some c.args.list.now.items
-    c.push-then-is_numbered.new.self.items
-    (c.push-then-is_numbered.ensures.items ∙ ap (λ (xs : List ℕ). xs ++ (c.in-Some.plain + 16777216) ∷ [])
+    c.push-then-has_twin.new.self.items
+    (c.push-then-has_twin.ensures.items ∙ ap (λ (xs : List ℕ). xs ++ (c.in-Some.plain + 16777216) ∷ [])
     c.push.ensures.items)
-    (c.is_numbered.ensures.0 c.if-is_numbered.true)
+    (c.has_twin.ensures.0 c.if-has_twin.true)
 
-pub returns-else-is_numbered-clause-more : goal.returns-else-is_numbered-clause-more
-returns-else-is_numbered-clause-more c =
+pub returns-else-has_twin-clause-more : goal.returns-else-has_twin-clause-more
+returns-else-has_twin-clause-more c =
     one_added c.args.class c.args.at.now c.args.number c.args.by.now c.in-Some.plain c.in-Some.ensures.some c.args.list.now.items
-    c.push.new.self.items c.push.ensures.items (λ h. false≢true (sym c.if-is_numbered.false ∙ c.is_numbered.ensures.1 h))
+    c.push.new.self.items c.push.ensures.items (λ h. false≢true (sym c.if-has_twin.false ∙ c.has_twin.ensures.1 h))

@@ -31,7 +31,7 @@ loop-man-preserved g c =
 pub returns-clause-no : goal.returns-clause-no
 returns-clause-no g c = λ f q at.
     let men = c.as_slice-man-items.result.now in
-    lose_each c.args.game.now.class c.args.number q at c.requires.single c.args.setup.now.men.items c.args.setup.now.to_move c.requires.told
+    lose_each c.args.game.now.class c.args.number q at c.requires.plain c.args.setup.now.men.items c.args.setup.now.to_move c.requires.told
     (class_game c.args.game.now.class c.args.game.now.tables.now) c.args.cells.now c.args.level
     (λ m i. let C : List Man → Type 0 = λ xs. Contains xs m in
     c.loop-man.invariant m

@@ -16,7 +16,7 @@ use Rattle.study_retro.proofs.escapes.escapes_by_man.Goals as goal
 pub returns-then-ne-clause-no : goal.returns-then-ne-clause-no
 returns-then-ne-clause-no g c = λ f q at x legal quiet.
     let man = c.args.man.now in
-    let s = safe_by c.args.game.now.class c.args.number q at c.requires.single c.args.setup.now.men.items c.args.setup.now.to_move c.requires.told
+    let s = safe_by c.args.game.now.class c.args.number q at c.requires.plain c.args.setup.now.men.items c.args.setup.now.to_move c.requires.told
     (move_to man x) legal man c.requires.man refl in
     absurd (false≢true (sym (sym (side_same _ _) ∙ not-true _ (sym c.ne.ensures ∙ c.if-ne.true)) ∙ s.1))
 
@@ -62,9 +62,9 @@ returns-clause-no g c = λ f q at x legal quiet.
     let men = c.args.setup.now.men.items in
     let side = c.args.setup.now.to_move in
     let class = c.args.game.now.class in
-    let s = safe_by class c.args.number q at c.requires.single men side c.requires.told (move_to man x) legal man c.requires.man refl in
-    let plain = safe_plain class c.args.number q at c.requires.single men side c.requires.told (move_to man x) legal man c.requires.man refl refl in
-    let free = occupied_same class c.args.number q at c.requires.single men side c.requires.told x ∙ quiet.0 in
+    let s = safe_by class c.args.number q at c.requires.plain men side c.requires.told (move_to man x) legal man c.requires.man refl in
+    let plain = safe_plain class c.args.number q at c.requires.plain men side c.requires.told (move_to man x) legal man c.requires.man refl refl in
+    let free = occupied_same class c.args.number q at c.requires.plain men side c.requires.told x ∙ quiet.0 in
     let there = c.safe_targets-rest.ensures x s.0
     ∙ ap (λ (zs : List Man). is_safe_target zs side man x) c.as_slice.ensures.value ∙ s.2 in
     elim (cases_lt x c.loop-rest.next) [

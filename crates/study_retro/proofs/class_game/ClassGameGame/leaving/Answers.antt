@@ -1,4 +1,5 @@
-use Rattle.std.proofs.Common.{◌&&◌, ◌==◌, List, sym, ◌∙◌, ap}
+use Rattle.std.proofs.Common.{ℕ, ◌&&◌, ◌==◌, List, Option, sym, ◌∙◌, ap}
+use Rattle.study_moves.specs.EnPassant.{is_taken}
 use Rattle.std.specs.List.{list_any}
 use Rattle.study_board.specs.declared.men.Kind.TheVariants.{Pawn}
 use Rattle.study_board.specs.declared.men.Man.{Man}
@@ -12,13 +13,14 @@ use Rattle.study_retro.proofs.class_game.ClassGameGame.leaving.Goals as goal
 pub captures-requires : goal.captures-requires
 captures-requires g c =
     let n = c.requires.numbered in
-    own_targets c.args.self.now.class n.0 c.args.at.now n.1 (sym c.has_both_pawns.ensures ∙ c.if-has_both_pawns.false)
+    let q = c.args.at.now in
+    own_targets c.args.self.now.class n.0 c.args.at.now n.1 (ap (λ (x : Option ℕ). is_taken q x) (c.has_passed.ensures c.if-has_passed.false))
 
 pub returns-clause-all : goal.returns-clause-all
 returns-clause-all g c =
     let n = c.requires.numbered in
     let q = c.args.at.now in
-    leaving_listed c.args.self.now.class n.0 q n.1 (sym c.has_both_pawns.ensures ∙ c.if-has_both_pawns.false)
+    leaving_listed c.args.self.now.class n.0 q n.1 (ap (λ (x : Option ℕ). is_taken q x) (c.has_passed.ensures c.if-has_passed.false))
     (ap (λ (s : Side). list_any (λ m. is_man s Pawn m && (rank_of m.at == rank_before_last s)) q.men) (sym c.to_move.ensures)
     ∙ ap (λ (zs : List Man). list_any (λ m. is_man c.to_move.result Pawn m && (rank_of m.at == rank_before_last c.to_move.result)) zs) (sym c.men.ensures.value)
     ∙ sym c.may_promote.ensures ∙ c.if-may_promote.false)

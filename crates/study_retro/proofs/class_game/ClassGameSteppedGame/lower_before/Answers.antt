@@ -1,6 +1,4 @@
-use Rattle.std.proofs.Common.{ℕ, ◌+◌, ◌≡◌, true, false, refl, sym, ◌∙◌}
-use Rattle.study_material.specs.Class.{lists_of}
-use Rattle.study_index.specs.Number.{has_both_pawns}
+use Rattle.std.proofs.Common.{ℕ, ◌+◌, true, refl}
 use Rattle.study_retro.specs.ClassGame.{class_game}
 use Rattle.study_retro.specs.Numbered.{StepLeads}
 use Rattle.study_retro.specs.Predecessors.{IsBefore}
@@ -11,16 +9,14 @@ pub returns-clause-rise : goal.returns-clause-rise
 returns-clause-rise g c =
     let number = c.args.number in
     let class = c.args.self.now.class in
-    let single : has_both_pawns (lists_of class) ≡ false = sym c.has_both_pawns.ensures ∙ c.if-has_both_pawns.false in
     let Leads : ℕ → Type 0 = λ i. StepLeads (class_game class c.args.self.now.tables.now) i number in
     set-lowered Leads c.args.level (c.args.level + 2) c.args.cells.now c.write_before.new.cells refl
     (set-why (c.args.level + 2) true (IsBefore class number) Leads c.args.cells.now c.write_before.new.cells
-    (λ i b. before_is_leads class number single i b) c.write_before.ensures.rise)
+    (λ i b. before_is_leads class number i b) c.write_before.ensures.rise)
 
 pub returns-clause-done : goal.returns-clause-done
 returns-clause-done g c = λ i t.
     let number = c.args.number in
     let class = c.args.self.now.class in
-    let single : has_both_pawns (lists_of class) ≡ false = sym c.has_both_pawns.ensures ∙ c.if-has_both_pawns.false in
-    let h = c.write_before.ensures.done i (leads_is_before class number single i t) in
+    let h = c.write_before.ensures.done i (leads_is_before class number i t) in
     (h.0, h.1 refl)
