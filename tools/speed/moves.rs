@@ -98,8 +98,11 @@ fn may_pass(position: &Position, man: &Man) -> bool {
     position.passed.is_some() && man.kind == Kind::Pawn
 }
 
+/// Moves of a position at most.
+pub const MAX_MOVES: usize = 62;
+
 /// Each legal move once, ascending by origin, target and promotion.
-pub fn legal_moves(position: &Position) -> List<Move, 256> {
+pub fn legal_moves(position: &Position) -> List<Move, MAX_MOVES> {
     let mut list = List::new();
     for man in position.men() {
         if man.side == position.to_move {
@@ -109,7 +112,7 @@ pub fn legal_moves(position: &Position) -> List<Move, 256> {
     list
 }
 
-fn add_moves_of(position: &Position, man: &Man, list: &mut List<Move, 256>) {
+fn add_moves_of(position: &Position, man: &Man, list: &mut List<Move, MAX_MOVES>) {
     let mut rest = targets(position, man);
     let sure = !may_pass(position, man);
     if sure {
@@ -125,7 +128,7 @@ fn add_moves_of(position: &Position, man: &Man, list: &mut List<Move, 256>) {
 }
 
 #[inline]
-fn add_target(man: &Man, target: Square, list: &mut List<Move, 256>) {
+fn add_target(man: &Man, target: Square, list: &mut List<Move, MAX_MOVES>) {
     let mut add = |promoted| {
         list.push(Move {
             origin: man.at,

@@ -254,7 +254,7 @@ impl Kind {
 fn shadow_without(a: Square, y: Square, lifted: Square) -> SquareSet
     ensures { (x : ℕ) → x < 64 → has result x ≡ (not (y == lifted) && strictly_between a y x) }
 {
-    if y.number() == lifted.number() {
+    if y == lifted {
         SquareSet::empty()
     } else {
         shadow(a, y)

@@ -31,11 +31,8 @@ pub fn has_man(men: &[Man], side: Side, kind: Kind, number: u8) -> bool
 fn has_square_twice(men: &[Man]) -> bool
     ensures { result ≡ has_square_twice men.now }
 {
-    men.iter().any(|x| men
-        .iter()
-        .filter(|y| y.at.number() == x.at.number())
-        .count()
-        > 1)
+    men.iter()
+        .any(|x| men.iter().filter(|y| y.at == x.at).count() > 1)
 }
 
 #[inline]

@@ -1,5 +1,5 @@
--- The least number of men is that of their squares, and keys sort men by their slots.
-use Rattle.std.proofs.Common.{◌≡◌, ℕ, ◌+◌, ◌-◌, ◌*◌, ◌/◌, ◌%◌, ◌<◌, ◌==◌, Bool, true, false, cond, nat_lt}
+-- The least number of men is that of their squares, the men sorted by their slots.
+use Rattle.std.proofs.Common.{◌≡◌, ℕ, ◌+◌, ◌-◌, ◌*◌, ◌<◌, ◌==◌, Bool, true, false, cond, nat_lt}
 use Rattle.std.proofs.Common.{nat_le, List, [], ◌∷◌, map, Option, Some, None, refl, sym, ◌∙◌, ap, arith}
 use Rattle.std.specs.Option.{option_map}
 use Rattle.study_board.specs.declared.men.Side.{Side}
@@ -8,11 +8,12 @@ use Rattle.study_board.specs.declared.symmetry.Symmetry.{Symmetry}
 use Rattle.study_board.specs.Geometry.{file_of, rank_of}
 use Rattle.study_board.specs.Images.{differ}
 use Rattle.study_board.specs.Symmetry.{turned_square, turned_man, mirrored}
+use Rattle.study_index.specs.declared.filling.PlacedMan.{PlacedMan}
 use Rattle.study_index.specs.Filling.{man_slot_number}
 use Rattle.study_index.specs.Computed.{put, sorted}
 use Rattle.study_index.specs.Number.{place, listed_count, side_number, append_squares, number}
 use Rattle.study_index.specs.Canonical.{canonical_symmetry, last_two_exchanged, are_like, descends, turned_number, least, least_by, least_of}
-use Rattle.study_index.specs.Squares.{key, put_key, squares_of_keys, square_symmetry, counted_at, number_at, exchanged_at, descends_at, least_turned, least_at}
+use Rattle.study_index.specs.Squares.{placed, put_placed, squares_placed, square_symmetry, counted_at, number_at, exchanged_at, descends_at, least_turned, least_at}
 
 abbrev pub AreOnBoard : List Man → Type 0
 AreOnBoard [] = Unit {0}
@@ -138,14 +139,6 @@ least_of_squares false to_move c (k ∷ ms) h =
     two_least _ _ _ _ (least_by_squares false to_move (square_symmetry false false c k.at) (canonical_symmetry false false c k.at) (brought_so false false c k.at) (k ∷ ms) h)
     (least_by_squares false to_move (square_symmetry false true c k.at) (canonical_symmetry false true c k.at) (brought_so false true c k.at) (k ∷ ms) h)
 
-key-slot : (c : Bool) (m : Man) → m.at < 64 → key c m / 64 ≡ man_slot_number c m
-unfolding key
-key-slot c m l = omega arith
-
-key-square : (c : Bool) (m : Man) → m.at < 64 → key c m % 64 ≡ m.at
-unfolding key
-key-square c m l = omega arith
-
 AreOnBoard-put : (c : Bool) (m : Man) (xs : List Man) → m.at < 64 → AreOnBoard xs → AreOnBoard (put c m xs)
 unfolding put
 AreOnBoard-put c m [] l h = (l, tt)
@@ -157,50 +150,49 @@ AreOnBoard-sorted : (c : Bool) (ms : List Man) → AreOnBoard ms → AreOnBoard 
 AreOnBoard-sorted c [] h = tt
 AreOnBoard-sorted c (m ∷ ms) h = AreOnBoard-put c m (sorted c ms) h.0 (AreOnBoard-sorted c ms h.1)
 
-keys-put : (c : Bool) (m : Man) (xs : List Man) → m.at < 64 → AreOnBoard xs → put_key (key c m) (map (key c) xs) ≡ map (key c) (put c m xs)
-unfolding put put_key
-keys-put c m [] l h = refl
-keys-put c m (x ∷ xs) l h =
-    rw (key-slot c x h.0, key-slot c m l)
+placed-put : (c : Bool) (m : Man) (xs : List Man) → put_placed (placed c m) (map (placed c) xs) ≡ map (placed c) (put c m xs)
+unfolding put put_placed
+placed-put c m [] = refl
+placed-put c m (x ∷ xs) =
     elim (nat_le (man_slot_number c x) (man_slot_number c m))
-    as (λ b. cond b (key c x ∷ put_key (key c m) (map (key c) xs)) (key c m ∷ key c x ∷ map (key c) xs) ≡ map (key c) (cond b (x ∷ put c m xs) (m ∷ x ∷ xs))) [
-      | true ↦ ap (λ ks. key c x ∷ ks) (keys-put c m xs l h.1)
+    as (λ b. cond b (placed c x ∷ put_placed (placed c m) (map (placed c) xs)) (placed c m ∷ placed c x ∷ map (placed c) xs) ≡ map (placed c) (cond b (x ∷ put c m xs) (m ∷ x ∷ xs))) [
+      | true ↦ ap (λ ks. placed c x ∷ ks) (placed-put c m xs)
       | false ↦ refl
     ]
 
-pub one_key : (c : Bool) (m : Man) (k : ℕ) → k ≡ key c m → k ∷ [] ≡ map (key c) (sorted c (m ∷ []))
+pub one_placed : (c : Bool) (m : Man) (k : PlacedMan) → k ≡ placed c m → k ∷ [] ≡ map (placed c) (sorted c (m ∷ []))
 unfolding put
-one_key c m k e = ap (λ n. n ∷ []) e
+one_placed c m k e = ap (λ n. n ∷ []) e
 
--- one key more is put among the others
-pub more_keys : (c : Bool) (m : Man) (ms : List Man) (k : ℕ) (ks xs : List ℕ) → k ≡ key c m → m.at < 64
-    → AreOnBoard ms → ks ≡ put_key k xs → xs ≡ map (key c) (sorted c ms) → ks ≡ map (key c) (sorted c (m ∷ ms))
-more_keys c m ms k ks xs d l h e f = e ∙ ap (λ n. put_key n xs) d ∙ ap (λ z. put_key (key c m) z) f ∙ keys-put c m (sorted c ms) l (AreOnBoard-sorted c ms h)
+-- one man more is put among the others
+pub more_placed : (c : Bool) (m : Man) (ms : List Man) (k : PlacedMan) (ks xs : List PlacedMan) → k ≡ placed c m
+    → ks ≡ put_placed k xs → xs ≡ map (placed c) (sorted c ms) → ks ≡ map (placed c) (sorted c (m ∷ ms))
+more_placed c m ms k ks xs d e f = e ∙ ap (λ n. put_placed n xs) d ∙ ap (λ z. put_placed (placed c m) z) f ∙ placed-put c m (sorted c ms)
 
-squares-keys : (c : Bool) (ms : List Man) → AreOnBoard ms → squares_of_keys (map (key c) ms) ≡ map square ms
-squares-keys c [] h = refl
-squares-keys c (m ∷ ms) h = rw (key-square c m h.0) (ap (λ xs. m.at ∷ xs) (squares-keys c ms h.1))
+squares-placed : (c : Bool) (ms : List Man) → squares_placed (map (placed c) ms) ≡ map square ms
+squares-placed c [] = refl
+squares-placed c (m ∷ ms) = ap (λ xs. m.at ∷ xs) (squares-placed c ms)
 
--- the last two of four keys are of one slot
-abbrev pub like_keys : List ℕ → Bool
-like_keys (a ∷ b ∷ x ∷ y ∷ []) = x / 64 == y / 64
-like_keys ks = false
+-- the last two of four are of one slot
+abbrev pub like_placed : List PlacedMan → Bool
+like_placed (a ∷ b ∷ x ∷ y ∷ []) = x.slot == y.slot
+like_placed ks = false
 
-like-keys : (c : Bool) (ms : List Man) → AreOnBoard ms → like_keys (map (key c) ms) ≡ are_like c ms
-like-keys c [] h = refl
-like-keys c (a ∷ []) h = refl
-like-keys c (a ∷ b ∷ []) h = refl
-like-keys c (a ∷ b ∷ x ∷ []) h = refl
-like-keys c (a ∷ b ∷ x ∷ y ∷ []) h = rw (key-slot c x h.1.1.0, key-slot c y h.1.1.1.0) refl
-like-keys c (a ∷ b ∷ x ∷ y ∷ z ∷ ms) h = refl
+like-placed : (c : Bool) (ms : List Man) → like_placed (map (placed c) ms) ≡ are_like c ms
+like-placed c [] = refl
+like-placed c (a ∷ []) = refl
+like-placed c (a ∷ b ∷ []) = refl
+like-placed c (a ∷ b ∷ x ∷ []) = refl
+like-placed c (a ∷ b ∷ x ∷ y ∷ []) = refl
+like-placed c (a ∷ b ∷ x ∷ y ∷ z ∷ ms) = refl
 
--- the least number of men by their keys, sorted
-pub least_of_keys : (pawns : Bool) (to_move : Side) (c : Bool) (ms : List Man) (ks : List ℕ) → AreOnBoard ms → ks ≡ map (key c) (sorted c ms)
-    → least_at pawns to_move c (like_keys ks) (squares_of_keys ks) ≡ least_of pawns to_move c (sorted c ms)
-least_of_keys pawns to_move c ms ks h e =
+-- the least number of men by their slots and squares, sorted
+pub least_of_placed : (pawns : Bool) (to_move : Side) (c : Bool) (ms : List Man) (ks : List PlacedMan) → AreOnBoard ms → ks ≡ map (placed c) (sorted c ms)
+    → least_at pawns to_move c (like_placed ks) (squares_placed ks) ≡ least_of pawns to_move c (sorted c ms)
+least_of_placed pawns to_move c ms ks h e =
     let on = AreOnBoard-sorted c ms h in
-    ap (λ xs. least_at pawns to_move c (like_keys xs) (squares_of_keys xs)) e
-    ∙ both _ _ _ _ (like-keys c (sorted c ms) on) (squares-keys c (sorted c ms) on)
+    ap (λ xs. least_at pawns to_move c (like_placed xs) (squares_placed xs)) e
+    ∙ both _ _ _ _ (like-placed c (sorted c ms)) (squares-placed c (sorted c ms))
     ∙ least_of_squares pawns to_move c (sorted c ms) on
   where
     both : (b d : Bool) (xs ys : List ℕ) → b ≡ d → xs ≡ ys → least_at pawns to_move c b xs ≡ least_at pawns to_move c d ys

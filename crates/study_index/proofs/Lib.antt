@@ -24,3 +24,5 @@ pub mod MovedNumbers
 pub mod AddedNumbers
 pub mod LeastImages
 pub mod KingNumbers
+mod Departures
+pub mod ListedKings

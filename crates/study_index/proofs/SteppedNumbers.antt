@@ -296,6 +296,13 @@ pub added_sum : (c : Class) (n i a : ℕ) (p : Position) → n < cells_of c → 
 unfolding stepped_by
 added_sum c n i a p below one few on keeps t = added_index c n i a p below one few on keeps t
 
+pub added_image : (c : Class) (n i a : ℕ) (p : Position) → n < cells_of c → 1 ≤ i → i < length (slots_of c) → IsStepped c n i a p
+    → index_of p ≡ least_image (slots_have_pawn (slots_of c)) (are_like_slots (slots_of c)) (slots_of c)
+    (turned_by (listed_count (slots_have_pawn (slots_of c))) (length (slots_of c)) (without_bit n)
+    + a * square_weight (length (slots_of c)) i - square_told (length (slots_of c)) i (without_bit n) * square_weight (length (slots_of c)) i)
+unfolding stepped_by
+added_image c n i a p below one few t = stepped_index c n i a p below one few t
+
 pub numbers-step : NumbersStep
 unfolding least_image ascending_if stepped stepped_by
 numbers-step c n i a p pawn unlike below one few t =

@@ -51,6 +51,13 @@ king_symmetry pawns s =
       colours = false;
     }
 
+-- a number with the side to move and the white king's place replaced
+unfoldable pub with_head : List Slot → ℕ → ℕ → ℕ
+with_head (k ∷ b ∷ []) h n = h * 64 + n % 64
+with_head (k ∷ b ∷ x ∷ []) h n = h * 4096 + n % 4096
+with_head (k ∷ b ∷ x ∷ y ∷ []) h n = h * 262144 + n % 262144
+with_head slots h n = n
+
 -- one square of a number replaced, with the other side to move, where the white king has so many places
 abbrev pub turned_by : ℕ → ℕ → ℕ → ℕ
 turned_by places count n =

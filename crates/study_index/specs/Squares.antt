@@ -1,27 +1,28 @@
--- Not part of any public contract: the index as it is computed, the men in the order of their slots as numbers, then as squares alone.
-use Rattle.std.specs.Prelude.{ℕ, ◌+◌, ◌*◌, ◌/◌, ◌%◌, Bool, true, false, nat_lt, nat_le, List, [], ◌∷◌, map, Option, None, if◌then◌else◌}
+-- Not part of any public contract: the index as it is computed, the men in the order of their slots, then as squares alone.
+use Rattle.std.specs.Prelude.{ℕ, ◌+◌, ◌*◌, Bool, true, false, nat_lt, nat_le, List, [], ◌∷◌, map, Option, None, if◌then◌else◌}
 use Rattle.std.specs.Option.{option_map}
 use Rattle.study_board.specs.declared.men.Side.{Side}
 use Rattle.study_board.specs.declared.men.Man.{Man}
 use Rattle.study_board.specs.declared.symmetry.Symmetry.{Symmetry}
 use Rattle.study_board.specs.Geometry.{file_of, rank_of}
 use Rattle.study_board.specs.Symmetry.{turned_square}
+use Rattle.study_index.specs.declared.filling.PlacedMan.{PlacedMan}
 use Rattle.study_index.specs.Filling.{man_slot_number}
 use Rattle.study_index.specs.Number.{place, listed_count, side_number}
 use Rattle.study_index.specs.Canonical.{least}
 
--- the slot and the square of a man in one number
-unfoldable pub key : Bool → Man → ℕ
-key c m = man_slot_number c m * 64 + m.at
+-- a man as its slot and its square
+abbrev pub placed : Bool → Man → PlacedMan
+placed c m = record { slot = man_slot_number c m; square = m.at }
 
--- a key put after those of no later slot
-unfoldable pub put_key : ℕ → List ℕ → List ℕ
-put_key k [] = k ∷ []
-put_key k (x ∷ xs) = if nat_le (x / 64) (k / 64) then x ∷ put_key k xs else k ∷ x ∷ xs
+-- one put after those of no later slot
+unfoldable pub put_placed : PlacedMan → List PlacedMan → List PlacedMan
+put_placed k [] = k ∷ []
+put_placed k (x ∷ xs) = if nat_le x.slot k.slot then x ∷ put_placed k xs else k ∷ x ∷ xs
 
--- the squares of keys
-abbrev pub squares_of_keys : List ℕ → List ℕ
-squares_of_keys ks = map (λ k. k % 64) ks
+-- the squares of placed men
+abbrev pub squares_placed : List PlacedMan → List ℕ
+squares_placed ks = map (λ k. k.square) ks
 
 -- the symmetry that leaves the colours alone and takes squares where the chosen one takes them
 unfoldable pub square_symmetry : Bool → Bool → Bool → ℕ → Symmetry

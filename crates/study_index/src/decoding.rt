@@ -165,8 +165,8 @@ pub fn cells(class: Class) -> u32
         KK => 1_280,
         KQK | KRK | KBK | KNK => 81_920,
         KPK => 262_144,
-        KQPK | KRPK | KBPK | KNPK | KPPK | KQKP | KRKP | KBKP | KNKP => 16_777_216,
-        KPKP => 33_554_432,
+        KQPK | KRPK | KBPK | KNPK | KPPK | KQKP | KRKP | KBKP | KNKP => EN_PASSANT_BIT,
+        KPKP => 2 * EN_PASSANT_BIT,
         _ => 5_242_880,
     }
 }

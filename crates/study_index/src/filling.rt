@@ -1,7 +1,7 @@
 //! The men of a position in the order of their slots.
-ghost use Rattle.std.specs.Prelude.{◌≡◌, ◌<◌, ◌/◌, ◌%◌, ◌==◌, nat_le, [], ◌∷◌, if◌then◌else◌};
+ghost use Rattle.std.specs.Prelude.{◌≡◌, ◌<◌, nat_le, [], ◌∷◌, if◌then◌else◌};
 ghost use Rattle.study_index.specs.Filling.{man_slot_number, slot_number};
-ghost use Rattle.study_index.specs.Squares.{key, put_key};
+ghost use Rattle.study_index.specs.Squares.{placed, put_placed};
 ghost use Rattle.study_board.specs.Symmetry.{turned_side};
 
 use study_board::{Kind, Man, Side, Square};
@@ -52,86 +52,85 @@ pub fn square_of_man(m: Man) -> Square
     m.at
 }
 
-/// The slot and the square of a man in one number.
+/// A man as what its number needs: its slot and its square.
+#[derive(Clone, Copy)]
+pub struct PlacedMan {
+    pub slot: u8,
+    pub square: Square,
+}
+
+/// The slot and the square of a man.
 #[inline]
-#[tactic(auto, unfolding(crate::specs::Squares::key))]
-pub fn key(colours: bool, m: &Man) -> u16
-    ensures value { result ≡ key colours m.now }
+pub fn placed(colours: bool, m: &Man) -> PlacedMan
+    ensures value { result ≡ placed colours m.now }
     ensures on_board { m.now.at < 64 }
 {
-    u16::from(man_slot_number(colours, m)) * 64 + u16::from(m.at.number())
-}
-
-/// The square of a key.
-#[inline]
-pub fn square_of(key: u16) -> Square
-    ensures { result ≡ key % 64 }
-{
-    Square::at((key % 64) as u8)
-}
-
-/// Whether two keys are of one slot.
-#[inline]
-pub fn is_like(x: u16, y: u16) -> bool
-    ensures { result ≡ (x / 64 == y / 64) }
-{
-    x / 64 == y / 64
+    let _number = m.at.number();
+    PlacedMan {
+        slot: man_slot_number(colours, m),
+        square: m.at,
+    }
 }
 
 /// Whether the slot of `x` is not after that of `k`.
 #[inline]
-fn comes_first(x: u16, k: u16) -> bool
-    ensures { result ≡ nat_le (x / 64) (k / 64) }
+fn comes_first(x: &PlacedMan, k: &PlacedMan) -> bool
+    ensures { result ≡ nat_le x.now.slot k.now.slot }
 {
-    x / 64 <= k / 64
+    x.slot <= k.slot
 }
 
-/// One of two keys: no branch is taken where both are known.
+/// One of two men: no branch is taken where both are known.
 #[inline]
-fn select(flag: bool, x: u16, y: u16) -> u16
-    ensures { result ≡ (if flag then x else y) }
+fn select(flag: bool, x: &PlacedMan, y: &PlacedMan) -> PlacedMan
+    ensures { result ≡ (if flag then x.now else y.now) }
 {
-    if flag { x } else { y }
+    if flag { *x } else { *y }
 }
 
-/// A key put after another of no later slot, or before it.
+/// A man put after another of no later slot, or before it.
 #[inline]
-#[tactic(auto, unfolding(crate::specs::Squares::put_key))]
-pub fn with_one(k: u16, x: u16) -> (u16, u16)
-    ensures { result.0 ∷ result.1 ∷ [] ≡ put_key k (x ∷ []) }
+#[tactic(auto, unfolding(crate::specs::Squares::put_placed))]
+pub fn with_one(k: &PlacedMan, x: &PlacedMan) -> (PlacedMan, PlacedMan)
+    ensures { result.0 ∷ result.1 ∷ [] ≡ put_placed k.now (x.now ∷ []) }
 {
     let first = comes_first(x, k);
     (select(first, x, k), select(first, k, x))
 }
 
-/// A key put at its place in the order of slots.
+/// A man put at its place in the order of slots.
 #[inline]
-#[tactic(auto, unfolding(crate::specs::Squares::put_key))]
-pub fn with_two(k: u16, x: u16, y: u16) -> (u16, u16, u16)
-    ensures { result.0 ∷ result.1 ∷ result.2 ∷ [] ≡ put_key k (x ∷ y ∷ []) }
+#[tactic(auto, unfolding(crate::specs::Squares::put_placed))]
+pub fn with_two(k: &PlacedMan, x: &PlacedMan, y: &PlacedMan) -> (PlacedMan, PlacedMan, PlacedMan)
+    ensures { result.0 ∷ result.1 ∷ result.2 ∷ [] ≡ put_placed k.now (x.now ∷ y.now ∷ []) }
 {
     let first = comes_first(x, k);
     let second = first & comes_first(y, k);
     (
         select(first, x, k),
-        select(second, y, select(first, k, x)),
+        select(second, y, &select(first, k, x)),
         select(second, k, y),
     )
 }
 
-/// A key put at its place in the order of slots.
+/// A man put at its place in the order of slots.
 #[inline]
-#[tactic(auto, unfolding(crate::specs::Squares::put_key))]
-pub fn with_three(k: u16, x: u16, y: u16, z: u16) -> (u16, u16, u16, u16)
-    ensures { result.0 ∷ result.1 ∷ result.2 ∷ result.3 ∷ [] ≡ put_key k (x ∷ y ∷ z ∷ []) }
+#[tactic(auto, unfolding(crate::specs::Squares::put_placed))]
+pub fn with_three(
+    k: &PlacedMan,
+    x: &PlacedMan,
+    y: &PlacedMan,
+    z: &PlacedMan,
+) -> (PlacedMan, PlacedMan, PlacedMan, PlacedMan)
+    ensures { result.0 ∷ result.1 ∷ result.2 ∷ result.3 ∷ [] ≡ put_placed k.now (x.now ∷ y.now ∷ z.now ∷ []) }
 {
     let first = comes_first(x, k);
     let second = first & comes_first(y, k);
     let third = second & comes_first(z, k);
     (
         select(first, x, k),
-        select(second, y, select(first, k, x)),
-        select(third, z, select(second, k, y)),
+        select(second, y, &select(first, k, x)),
+        select(third, z, &select(second, k, y)),
         select(third, k, z),
     )
 }

@@ -9,25 +9,24 @@ ghost use Rattle.study_index.specs.Squares.{square_symmetry, exchanged_at, desce
 use crate::colour_swap::is_swapped;
 use crate::en_passant::has_legal_en_passant;
 use crate::filling::{
-    is_like, key, man_slot_number, side_after, square_of, square_of_man, with_one, with_three,
-    with_two,
+    man_slot_number, placed, side_after, square_of_man, with_one, with_three, with_two,
 };
-use crate::number::{EN_PASSANT_BIT, has_pawn, number};
+use crate::number::{EN_PASSANT_BIT, Frame, has_pawn, number};
 use crate::transform::turned;
-use study_board::{Man, Position, Side, Square, Symmetry};
+use study_board::{Man, Position, Square, Symmetry};
 
 /// The symmetry that brings the square to a listed one, if any does, written without a swap of colours: the ranks that
 /// a swap mirrors are mirrored back where there is no pawn.
 #[inline]
 #[tactic(auto, unfolding(crate::specs::Squares::square_symmetry))]
-fn square_symmetry(pawns: bool, diagonal: bool, colours: bool, s: Square) -> Symmetry
-    ensures { result ≡ square_symmetry pawns diagonal colours s }
+fn square_symmetry(frame: Frame, diagonal: bool, s: Square) -> Symmetry
+    ensures { result ≡ square_symmetry frame.has_pawns diagonal frame.swap_colours s }
 {
     let (right, top) = (s.file() > 3, s.rank() > 3);
-    if pawns {
+    if frame.has_pawns {
         Symmetry {
             files: right,
-            ranks: colours,
+            ranks: frame.swap_colours,
             diagonal: false,
             colours: false,
         }
@@ -56,14 +55,14 @@ fn least(a: Option<u32>, b: Option<u32>) -> Option<u32>
 /// The least number by one symmetry, where the last two of four squares can be exchanged.
 #[inline(always)]
 #[tactic(auto, unfolding(crate::specs::Squares::least_turned))]
-fn least_by(pawns: bool, to_move: Side, t: Symmetry, like: bool, squares: &[Square]) -> Option<u32>
+fn least_by(frame: Frame, t: Symmetry, like: bool, squares: &[Square]) -> Option<u32>
     requires { length squares.now ≤ 4 }
-    ensures { result ≡ least_turned pawns to_move (turned_square t) like squares.now }
+    ensures { result ≡ least_turned frame.has_pawns frame.to_move (turned_square t) like squares.now }
 {
     if like && descends(t, squares) {
-        exchanged_number(pawns, to_move, t, squares)
+        exchanged_number(frame, t, squares)
     } else {
-        number(pawns, to_move, t, squares)
+        number(frame, t, squares)
     }
 }
 
@@ -80,39 +79,33 @@ fn descends(t: Symmetry, squares: &[Square]) -> bool
 
 /// The number with the last two of four squares exchanged.
 #[inline]
-fn exchanged_number(pawns: bool, to_move: Side, t: Symmetry, squares: &[Square]) -> Option<u32>
+fn exchanged_number(frame: Frame, t: Symmetry, squares: &[Square]) -> Option<u32>
     requires { length squares.now ≤ 4 }
-    ensures { result ≡ number_at pawns to_move (turned_square t) (exchanged_at squares.now) }
+    ensures { result ≡ number_at frame.has_pawns frame.to_move (turned_square t) (exchanged_at squares.now) }
 {
     match squares {
-        [a, b, x, y] => number(pawns, to_move, t, &[*a, *b, *y, *x]),
-        _ => number(pawns, to_move, t, squares),
+        [a, b, x, y] => number(frame, t, &[*a, *b, *y, *x]),
+        _ => number(frame, t, squares),
     }
 }
 
 /// The least number by the symmetries that bring the first square, the white king's, to a listed one.
 #[inline(always)]
 #[tactic(auto, unfolding(crate::specs::Squares::least_at))]
-fn least_at(
-    pawns: bool,
-    to_move: Side,
-    colours: bool,
-    like: bool,
-    squares: &[Square],
-) -> Option<u32>
+fn least_at(frame: Frame, like: bool, squares: &[Square]) -> Option<u32>
     requires { length squares.now ≤ 4 }
-    ensures { result ≡ least_at pawns to_move colours like squares.now }
+    ensures { result ≡ least_at frame.has_pawns frame.to_move frame.swap_colours like squares.now }
 {
     match squares {
         [] => None,
         [king, ..] => {
-            let t = square_symmetry(pawns, false, colours, *king);
-            let straight = least_by(pawns, to_move, t, like, squares);
-            if pawns {
+            let t = square_symmetry(frame, false, *king);
+            let straight = least_by(frame, t, like, squares);
+            if frame.has_pawns {
                 straight
             } else {
-                let t = square_symmetry(pawns, true, colours, *king);
-                least(straight, least_by(pawns, to_move, t, like, squares))
+                let t = square_symmetry(frame, true, *king);
+                least(straight, least_by(frame, t, like, squares))
             }
         }
     }
@@ -121,123 +114,104 @@ fn least_at(
 /// The least number of men who stand in the order of their slots.
 #[inline(always)]
 #[tactic(auto, unfolding(crate::specs::Squares::least_at, crate::specs::Canonical::least_of))]
-pub fn least_of(pawns: bool, to_move: Side, colours: bool, men: &[Man]) -> Option<u32>
+pub fn least_of(frame: Frame, men: &[Man]) -> Option<u32>
     requires { length men.now ≤ 4 }
-    ensures { result ≡ least_of pawns to_move colours men.now }
+    ensures { result ≡ least_of frame.has_pawns frame.to_move frame.swap_colours men.now }
 {
     match men {
         [] => None,
-        [a] => least_of_king(pawns, to_move, colours, *a),
-        [a, b] => least_of_kings(pawns, to_move, colours, *a, *b),
-        [a, b, c] => least_with_one(pawns, to_move, colours, *a, *b, *c),
-        [a, b, c, d] => least_with_two(pawns, to_move, colours, *a, *b, *c, *d),
+        [a] => least_of_king(frame, *a),
+        [a, b] => least_of_kings(frame, *a, *b),
+        [a, b, c] => least_with_one(frame, *a, *b, *c),
+        [a, b, c, d] => least_with_two(frame, *a, *b, *c, *d),
         _ => unreachable!(),
     }
 }
 
 #[inline]
-fn least_of_king(pawns: bool, to_move: Side, colours: bool, a: Man) -> Option<u32>
-    ensures { result ≡ least_of pawns to_move colours (a ∷ []) }
+fn least_of_king(frame: Frame, a: Man) -> Option<u32>
+    ensures { result ≡ least_of frame.has_pawns frame.to_move frame.swap_colours (a ∷ []) }
 {
-    least_at(pawns, to_move, colours, false, &[square_of_man(a)])
+    least_at(frame, false, &[square_of_man(a)])
 }
 
 #[inline]
-fn least_of_kings(pawns: bool, to_move: Side, colours: bool, a: Man, b: Man) -> Option<u32>
-    ensures { result ≡ least_of pawns to_move colours (a ∷ b ∷ []) }
+fn least_of_kings(frame: Frame, a: Man, b: Man) -> Option<u32>
+    ensures { result ≡ least_of frame.has_pawns frame.to_move frame.swap_colours (a ∷ b ∷ []) }
 {
     let squares = [square_of_man(a), square_of_man(b)];
-    least_at(pawns, to_move, colours, false, &squares)
+    least_at(frame, false, &squares)
 }
 
 #[inline(always)]
-fn least_with_one(pawns: bool, to_move: Side, colours: bool, a: Man, b: Man, c: Man) -> Option<u32>
-    ensures { result ≡ least_of pawns to_move colours (a ∷ b ∷ c ∷ []) }
+fn least_with_one(frame: Frame, a: Man, b: Man, c: Man) -> Option<u32>
+    ensures { result ≡ least_of frame.has_pawns frame.to_move frame.swap_colours (a ∷ b ∷ c ∷ []) }
 {
     let squares = [square_of_man(a), square_of_man(b), square_of_man(c)];
-    least_at(pawns, to_move, colours, false, &squares)
+    least_at(frame, false, &squares)
 }
 
 #[inline(always)]
-fn least_with_two(
-    pawns: bool,
-    to_move: Side,
-    colours: bool,
-    a: Man,
-    b: Man,
-    c: Man,
-    d: Man,
-) -> Option<u32>
-    ensures { result ≡ least_of pawns to_move colours (a ∷ b ∷ c ∷ d ∷ []) }
+fn least_with_two(frame: Frame, a: Man, b: Man, c: Man, d: Man) -> Option<u32>
+    ensures { result ≡ least_of frame.has_pawns frame.to_move frame.swap_colours (a ∷ b ∷ c ∷ d ∷ []) }
 {
-    let like = man_slot_number(colours, &c) == man_slot_number(colours, &d);
+    let like = man_slot_number(frame.swap_colours, &c) == man_slot_number(frame.swap_colours, &d);
     let squares = [
         square_of_man(a),
         square_of_man(b),
         square_of_man(c),
         square_of_man(d),
     ];
-    least_at(pawns, to_move, colours, like, &squares)
+    least_at(frame, like, &squares)
 }
 
 /// The least number of the men, put in the order of their slots.
 #[inline]
 #[tactic(auto, unfolding(crate::specs::Canonical::least_of))]
-fn least_in_slots(pawns: bool, to_move: Side, colours: bool, men: &[Man]) -> Option<u32>
+fn least_in_slots(frame: Frame, men: &[Man]) -> Option<u32>
     requires { length men.now ≤ 4 }
-    ensures { result ≡ least_of pawns to_move colours (sorted colours men.now) }
+    ensures { result ≡ least_of frame.has_pawns frame.to_move frame.swap_colours (sorted frame.swap_colours men.now) }
 {
     match men {
         [] => None,
-        [a] => least_of(pawns, to_move, colours, &[*a]),
-        [a, b] => least_of_two(pawns, to_move, colours, *a, *b),
-        [a, b, c] => least_of_three(pawns, to_move, colours, *a, *b, *c),
-        [a, b, c, d] => least_of_four(pawns, to_move, colours, *a, *b, *c, *d),
+        [a] => least_of(frame, &[*a]),
+        [a, b] => least_of_two(frame, *a, *b),
+        [a, b, c] => least_of_three(frame, *a, *b, *c),
+        [a, b, c, d] => least_of_four(frame, *a, *b, *c, *d),
         _ => unreachable!(),
     }
 }
 
 #[inline]
-fn least_of_two(pawns: bool, to_move: Side, colours: bool, a: Man, b: Man) -> Option<u32>
-    ensures { result ≡ least_of pawns to_move colours (sorted colours (a ∷ b ∷ [])) }
+fn least_of_two(frame: Frame, a: Man, b: Man) -> Option<u32>
+    ensures { result ≡ least_of frame.has_pawns frame.to_move frame.swap_colours (sorted frame.swap_colours (a ∷ b ∷ [])) }
 {
-    let (a, b) = with_one(key(colours, &a), key(colours, &b));
-    least_at(
-        pawns,
-        to_move,
-        colours,
-        false,
-        &[square_of(a), square_of(b)],
-    )
+    let swap = frame.swap_colours;
+    let (a, b) = with_one(&placed(swap, &a), &placed(swap, &b));
+    least_at(frame, false, &[a.square, b.square])
 }
 
 #[inline]
-fn least_of_three(pawns: bool, to_move: Side, colours: bool, a: Man, b: Man, c: Man) -> Option<u32>
-    ensures { result ≡ least_of pawns to_move colours (sorted colours (a ∷ b ∷ c ∷ [])) }
+fn least_of_three(frame: Frame, a: Man, b: Man, c: Man) -> Option<u32>
+    ensures { result ≡ least_of frame.has_pawns frame.to_move frame.swap_colours (sorted frame.swap_colours (a ∷ b ∷ c ∷ [])) }
 {
-    let (b, c) = with_one(key(colours, &b), key(colours, &c));
-    let (a, b, c) = with_two(key(colours, &a), b, c);
-    let squares = [square_of(a), square_of(b), square_of(c)];
-    least_at(pawns, to_move, colours, false, &squares)
+    let swap = frame.swap_colours;
+    let (b, c) = with_one(&placed(swap, &b), &placed(swap, &c));
+    let (a, b, c) = with_two(&placed(swap, &a), &b, &c);
+    let squares = [a.square, b.square, c.square];
+    least_at(frame, false, &squares)
 }
 
 #[inline]
-fn least_of_four(
-    pawns: bool,
-    to_move: Side,
-    colours: bool,
-    a: Man,
-    b: Man,
-    c: Man,
-    d: Man,
-) -> Option<u32>
-    ensures { result ≡ least_of pawns to_move colours (sorted colours (a ∷ b ∷ c ∷ d ∷ [])) }
+fn least_of_four(frame: Frame, a: Man, b: Man, c: Man, d: Man) -> Option<u32>
+    ensures { result ≡ least_of frame.has_pawns frame.to_move frame.swap_colours (sorted frame.swap_colours (a ∷ b ∷ c ∷ d ∷ [])) }
 {
-    let (c, d) = with_one(key(colours, &c), key(colours, &d));
-    let (b, c, d) = with_two(key(colours, &b), c, d);
-    let (a, b, c, d) = with_three(key(colours, &a), b, c, d);
-    let squares = [square_of(a), square_of(b), square_of(c), square_of(d)];
-    least_at(pawns, to_move, colours, is_like(c, d), &squares)
+    let swap = frame.swap_colours;
+    let (c, d) = with_one(&placed(swap, &c), &placed(swap, &d));
+    let (b, c, d) = with_two(&placed(swap, &b), &c, &d);
+    let (a, b, c, d) = with_three(&placed(swap, &a), &b, &c, &d);
+    let squares = [a.square, b.square, c.square, d.square];
+    least_at(frame, c.slot == d.slot, &squares)
 }
 
 /// The least number of the images of a position that its class admits. The passed square is not looked at.
@@ -248,12 +222,12 @@ fn least_number(p: &Position) -> u32
 {
     let men = p.men();
     let colours = is_swapped(p);
-    match least_in_slots(
-        has_pawn(men),
-        side_after(colours, p.to_move()),
-        colours,
-        men,
-    ) {
+    let frame = Frame {
+        has_pawns: has_pawn(men),
+        to_move: side_after(colours, p.to_move()),
+        swap_colours: colours,
+    };
+    match least_in_slots(frame, men) {
         Some(n) => n,
         None => unreachable!(),
     }

@@ -18,6 +18,7 @@ mod number;
 mod reading;
 mod stepped;
 mod transform;
+mod way;
 
 pub use decoding::{cells, decode};
 pub use departure::Departure;

@@ -9,17 +9,17 @@ ghost use Rattle.study_index.specs.Computed.{index_of};
 ghost use Rattle.study_index.specs.Number.{cells_of};
 ghost use Rattle.study_index.specs.Stepped.{are_like_slots, moved_to, IsStepped};
 ghost use Rattle.study_index.specs.Moved.{IsMoved, from_to};
-ghost use Rattle.study_index.specs.LeastImage.{king_symmetry, squares};
+ghost use Rattle.study_index.specs.LeastImage.{king_symmetry, squares, with_head};
 ghost use Rattle.study_index.specs.Squares.{number_at};
 ghost use Rattle.study_board.specs.Symmetry.{turned_square};
 
 use crate::decoding::{Slot, head, man, slots};
 use crate::least::least_of;
 use crate::least_image::least_image;
-use crate::number::{EN_PASSANT_BIT, number};
+use crate::number::{EN_PASSANT_BIT, Frame, listed_count, number, place, side_number};
 use crate::reading::{class_has_pawn, has_like_men, king_told, side_told};
 use crate::stepped::stepped;
-use study_board::{Man, Square, Symmetry};
+use study_board::{Man, Side, Square, Symmetry};
 use study_material::Class;
 
 /// The man, put on `to` if it stands on `from`.
@@ -27,7 +27,7 @@ use study_material::Class;
 fn put(man: Man, from: Square, to: Square) -> Man
     ensures { result ≡ from_to from to man }
 {
-    if man.at.number() == from.number() {
+    if man.at == from {
         Man {
             side: man.side,
             kind: man.kind,
@@ -38,31 +38,43 @@ fn put(man: Man, from: Square, to: Square) -> Man
     }
 }
 
+/// The frame of a number as a class has it, the colours as they are.
+#[inline]
+fn straight_frame(has_pawns: bool, to_move: Side) -> Frame
+    ensures { result ≡ record { has_pawns = has_pawns; to_move = to_move; swap_colours = false } }
+{
+    Frame {
+        has_pawns,
+        to_move,
+        swap_colours: false,
+    }
+}
+
 /// The least number of the men that a number tells, the man on `from` put on `to` and the other side to move.
 fn least_moved(slots: &[Slot], pawns: bool, n: u32, from: Square, to: Square) -> Option<u32>
     requires slots { AreSlots slots.now }
     requires pawns { pawns ≡ slots_have_pawn slots.now }
     ensures { result ≡ least_of pawns (other_side (told_side slots.now n)) false (map (from_to from to) (told_men slots.now n)) }
 {
-    let side = side_told(pawns, head(slots, n)).other();
+    let frame = straight_frame(pawns, side_told(pawns, head(slots, n)).other());
     match slots {
         [k, b] => {
             let white = put(king_told(pawns, k, n / 64), from, to);
             let men = [white, put(man(b, n % 64), from, to)];
-            least_of(pawns, side, false, &men)
+            least_of(frame, &men)
         }
         [k, b, x] => {
             let white = put(king_told(pawns, k, n / 64 / 64), from, to);
             let black = put(man(b, n / 64 % 64), from, to);
             let men = [white, black, put(man(x, n % 64), from, to)];
-            least_of(pawns, side, false, &men)
+            least_of(frame, &men)
         }
         [k, b, x, y] => {
             let white = put(king_told(pawns, k, n / 64 / 64 / 64), from, to);
             let black = put(man(b, n / 64 / 64 % 64), from, to);
             let further = put(man(x, n / 64 % 64), from, to);
             let men = [white, black, further, put(man(y, n % 64), from, to)];
-            least_of(pawns, side, false, &men)
+            least_of(frame, &men)
         }
         _ => unreachable!(),
     }
@@ -93,6 +105,23 @@ fn square(number: u32) -> Square
     Square::at(number as u8)
 }
 
+/// A number with the side to move and the white king's place replaced.
+#[inline]
+#[tactic(auto, unfolding(crate::specs::LeastImage::with_head))]
+fn with_head(slots: &[Slot], head: u32, n: u32) -> u32
+    requires slots { AreSlots slots.now }
+    requires head { head < 64 }
+    ensures value { result ≡ with_head slots.now head n }
+    ensures small { result < 16777216 }
+{
+    match slots {
+        [_, _] => head * 64 + n % 64,
+        [_, _, _] => head * 4_096 + n % 4_096,
+        [_, _, _, _] => head * 262_144 + n % 262_144,
+        _ => unreachable!(),
+    }
+}
+
 /// The number of the men that a number tells, the white king put on `to` and the other side to move, turned so that the
 /// king comes to a listed square.
 #[inline]
@@ -103,13 +132,37 @@ fn number_with_king_on(slots: &[Slot], pawns: bool, n: u32, to: Square) -> Optio
     ensures small { IfSome result (λ m. m < 16777216) }
 {
     let side = side_told(pawns, head(slots, n)).other();
+    let _square = to.number();
+    match place(pawns, to) {
+        Some(q) => {
+            let head = side_number(side) * listed_count(pawns) + u32::from(q);
+            Some(with_head(slots, head, n))
+        }
+        None => number_with_king_turned(slots, pawns, n, side, to),
+    }
+}
+
+/// The same, by the symmetry that brings the square to a listed one.
+fn number_with_king_turned(
+    slots: &[Slot],
+    pawns: bool,
+    n: u32,
+    side: Side,
+    to: Square,
+) -> Option<u32>
+    requires slots { AreSlots slots.now }
+    requires pawns { pawns ≡ slots_have_pawn slots.now }
+    ensures value { result ≡ number_at pawns side (turned_square (king_symmetry pawns to)) (squares (moved_to 0 to (told_men slots.now n))) }
+    ensures small { IfSome result (λ m. m < 16777216) }
+{
+    let frame = straight_frame(pawns, side);
     let t = king_symmetry(pawns, to);
     match slots {
-        [_, _] => number(pawns, side, t, &[to, square(n % 64)]),
-        [_, _, _] => number(pawns, side, t, &[to, square(n / 64 % 64), square(n % 64)]),
+        [_, _] => number(frame, t, &[to, square(n % 64)]),
+        [_, _, _] => number(frame, t, &[to, square(n / 64 % 64), square(n % 64)]),
         [_, _, _, _] => {
             let (black, third) = (square(n / 64 / 64 % 64), square(n / 64 % 64));
-            number(pawns, side, t, &[to, black, third, square(n % 64)])
+            number(frame, t, &[to, black, third, square(n % 64)])
         }
         _ => unreachable!(),
     }
@@ -171,7 +224,7 @@ pub fn slot_on(slots: &[Slot], pawns: bool, n: u32, from: Square) -> Option<u32>
 fn stands(man: Man, at: Square) -> bool
     ensures { IsTrue result ↔ (man.at ≡ at) }
 {
-    man.at.number() == at.number()
+    man.at == at
 }
 
 #[inline]

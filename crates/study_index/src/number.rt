@@ -50,7 +50,7 @@ pub fn place(pawns: bool, s: Square) -> Option<u8>
 fn is_pawn(m: &Man) -> bool
     ensures { result ≡ is_pawn m.now }
 {
-    m.kind.is(Kind::Pawn)
+    m.kind == Kind::Pawn
 }
 
 /// Whether some man is a pawn.
@@ -97,7 +97,7 @@ fn append_squares(t: Symmetry, n: u32, squares: &[Square]) -> u32
 }
 
 #[inline]
-fn side_number(side: Side) -> u32
+pub fn side_number(side: Side) -> u32
     ensures value { result ≡ side_number side }
     ensures small { result < 2 }
 {
@@ -117,21 +117,30 @@ pub fn listed_count(pawns: bool) -> u32
     if pawns { 32 } else { 10 }
 }
 
+/// What a number is read by beside the squares: whether some man is a pawn, the side to move, and whether the colours are
+/// swapped so that the side with more men, or earlier ones, is White.
+#[derive(Clone, Copy)]
+pub struct Frame {
+    pub has_pawns: bool,
+    pub to_move: Side,
+    pub swap_colours: bool,
+}
+
 /// The number of squares in the order of their slots, turned, if the white king comes to a listed square.
 #[inline(always)]
 #[tactic(auto, unfolding(crate::specs::Squares::number_at))]
-pub fn number(pawns: bool, to_move: Side, t: Symmetry, squares: &[Square]) -> Option<u32>
+pub fn number(frame: Frame, t: Symmetry, squares: &[Square]) -> Option<u32>
     requires { length squares.now ≤ 4 }
-    ensures value { result ≡ number_at pawns to_move (turned_square t) squares.now }
+    ensures value { result ≡ number_at frame.has_pawns frame.to_move (turned_square t) squares.now }
     ensures small { IfSome result (λ n. n < 16777216) }
 {
     match squares {
         [] => None,
-        [king, rest @ ..] => match place(pawns, turned(t, *king)) {
+        [king, rest @ ..] => match place(frame.has_pawns, turned(t, *king)) {
             None => None,
             Some(q) => Some(append_squares(
                 t,
-                side_number(to_move) * listed_count(pawns) + u32::from(q),
+                side_number(frame.to_move) * listed_count(frame.has_pawns) + u32::from(q),
                 rest,
             )),
         },

@@ -11,6 +11,7 @@ pub mod OneAnnotation
 pub mod Readers
 pub mod NodesLent
 pub mod ValuesAsked
+pub mod EqualMoves
 pub mod ChildFound
 pub mod InsertedMoves
 pub mod LabelsWritten

@@ -114,8 +114,8 @@ asked-more n false old mid new e h = (suc h.0, (let z : suc h.0 < suc n = omega 
 pub legal-rest : (p : Position) (m : Move) (ms rest : List Move) → ms ≡ m ∷ rest → All (λ n. is_legal p n ≡ true) ms → All (λ n. is_legal p n ≡ true) rest
 legal-rest p m ms rest e h = λ k d i. subst (λ l. All (λ n. is_legal p n ≡ true) l) e h (suc k) d (let z : suc k < length (m ∷ rest) = omega (arith, i) in z)
 
-pub room-with : (t : Tally) (v : Value) (n : ℕ) → length t.mates + t.draws + suc n ≤ 256
-    → length (with_last_value t v).mates + (with_last_value t v).draws + n ≤ 256
+pub room-with : (t : Tally) (v : Value) (n : ℕ) → length t.mates + t.draws + suc n ≤ 62
+    → length (with_last_value t v).mates + (with_last_value t v).draws + n ≤ 62
 room-with t (Win k) n h = omega (arith, h)
 room-with t (Loss k) n h = let long : length (t.mates ++ k ∷ []) ≡ length t.mates + 1 = length-append t.mates (k ∷ []) in omega (arith, h, long)
 room-with t Draw n h = omega (arith, h)

@@ -382,11 +382,11 @@ fn shift_broken_at<'a, A: Allocator>(alloc: &'a A, steps: &[u16]) -> Refusal<'a,
 fn is_tag_text(text: &[u8]) -> bool
     ensures { result ≡ is_tag_text text.now }
 {
-    1 <= text.len() && text.len() <= 60 && are_printed(text)
+    1 <= text.len() && text.len() <= 60 && is_printable(text)
 }
 
-/// Whether all these bytes print.
-fn are_printed(text: &[u8]) -> bool
+/// Whether each byte is printable ASCII.
+pub fn is_printable(text: &[u8]) -> bool
     ensures { result ≡ list_all is_printable text.now }
 {
     text.iter().all(|b| 32 <= *b && *b <= 126)

@@ -2,7 +2,7 @@
 ghost use Rattle.std.specs.Prelude.{◌≡◌, ◌≤◌, ◌++◌, ◌∷◌, [], IsTrue, length};
 ghost use Rattle.study_tree.specs.Edits.{children_at};
 ghost use Rattle.study_tree.specs.Tree.{plain_tree, has_spot, spot_at};
-ghost use Rattle.study_marks.specs.Study.{same_move, place_from, place_at};
+ghost use Rattle.study_marks.specs.Study.{place_from, place_at};
 ghost use Rattle.study_marks.specs.Bench.{played_by};
 ghost use Rattle.study_marks.specs.FaultSums.{below_at, skipped};
 
@@ -10,17 +10,7 @@ use crate::label::Label;
 use arrayvec::ArrayVec;
 use std::alloc::Allocator;
 use study_moves::Move;
-use study_notation::same_promotion;
 use study_tree::Tree;
-
-/// Whether two moves are one.
-pub fn same_move(a: &Move, b: &Move) -> bool
-    ensures { result ≡ same_move a.now b.now }
-{
-    a.origin.number() == b.origin.number()
-        && a.target.number() == b.target.number()
-        && same_promotion(a.promoted, b.promoted)
-}
 
 /// The move of the node's child at this place, if there is one.
 fn child_move<'a, A: Allocator>(
@@ -62,7 +52,7 @@ fn find_from<'a, A: Allocator>(
     match child_move(tree, steps, place) {
         None => None,
         Some(other) => {
-            if same_move(m, &other) {
+            if *m == other {
                 Some(place)
             } else {
                 find_from(tree, steps, m, place + 1, count)

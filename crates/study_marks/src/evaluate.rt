@@ -14,7 +14,7 @@ ghost use Rattle.study_marks.specs.Answers.{IsFirstFault, WereTold};
 use crate::label::Told;
 use crate::tally::Tally;
 use study_board::Position;
-use study_moves::{Move, legal_moves, played};
+use study_moves::{MAX_MOVES, Move, legal_moves, played};
 use study_prober::{ProbeFault, Values};
 
 /// Asks the values after these moves, and adds them to the tally.
@@ -25,7 +25,7 @@ fn tally_moves<V: Values>(
     tally: &mut Tally,
 ) -> Result<(), ProbeFault>
     requires legal { All (λ m. is_legal p.now m ≡ true) moves.now }
-    requires room { length tally.old.mates + tally.old.draws + length moves.now ≤ 256 }
+    requires room { length tally.old.mates + tally.old.draws + length moves.now ≤ MAX_MOVES }
     ensures game { V.is_honest values.old → OnOk result ((all : List AValue) × AreValuesAfter p.now moves.now all
         × (tally.new ≡ tallies_joined tally.old (tally_of all))) }
     ensures untold { IfErr result (IsUntold (V.held values.old) (map (after p.now) moves.now)) }

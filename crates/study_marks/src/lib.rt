@@ -27,7 +27,7 @@ mod tree_edits;
 mod trial;
 
 pub use bench::{Bench, Shown};
-pub use child_by_move::same_move;
+pub use bench_edits::is_printable;
 pub use edit::{Edit, Stopped};
 pub use laws::{annotations_are_unique, duals_count_other_moves, edits_in_rows, faults_in_rows};
 pub use mark::{Mark, MoveMark};

@@ -11,6 +11,7 @@ use crate::mark::MoveMark;
 use crate::stipulation::{Goal, MateMoves, Stipulation};
 use crate::tally::Tally;
 use study_board::Side;
+use study_moves::MAX_MOVES;
 use study_retro::Value;
 
 /// The goal, and whether the hero makes the first move.
@@ -26,7 +27,7 @@ pub fn aim_of(stipulation: &Stipulation, first: Side) -> Aim
 {
     Aim {
         goal: stipulation.goal,
-        hero_first: stipulation.hero.is(first),
+        hero_first: stipulation.hero == first,
     }
 }
 
@@ -97,7 +98,7 @@ pub fn holds(aim: &Aim, depth: usize, value: Value) -> bool
 
 /// How many of the distances, counted from this depth, are within the limit.
 fn count_within(mates: &[u8], depth: usize, limit: usize) -> usize
-    requires { length mates.now ≤ 256 }
+    requires { length mates.now ≤ MAX_MOVES }
     ensures { result ≡ count_by (λ n. nat_le (depth + n) limit) mates.now }
 {
     let mut count = 0;
@@ -112,7 +113,7 @@ fn count_within(mates: &[u8], depth: usize, limit: usize) -> usize
 /// How many of the tallied moves of the hero lead to a position at this depth that holds.
 fn count_holding(aim: &Aim, depth: usize, tally: &Tally) -> usize
     ensures value { result ≡ count_holding aim.now.goal aim.now.hero_first depth tally.now }
-    ensures few { result ≤ 256 }
+    ensures few { result ≤ MAX_MOVES }
 {
     let goal = aim.goal;
     match goal {

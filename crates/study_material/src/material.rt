@@ -28,11 +28,11 @@ fn class_of_others(men: &[Man]) -> (Class, bool)
 {
     match men {
         [] => (Class::KK, false),
-        [a] => (alone(a.kind), a.side.is(Side::Black)),
+        [a] => (alone(a.kind), a.side == Side::Black),
         [a, b] => {
-            if a.side.is(b.side) {
-                (together(a.kind, b.kind), a.side.is(Side::Black))
-            } else if a.side.is(Side::White) {
+            if a.side == b.side {
+                (together(a.kind, b.kind), a.side == Side::Black)
+            } else if a.side == Side::White {
                 against(a.kind, b.kind)
             } else {
                 against(b.kind, a.kind)
@@ -50,7 +50,7 @@ fn others(men: &[Man]) -> ArrayVec<Man, 4>
 {
     let mut others = ArrayVec::new();
     for m in men {
-        if !m.kind.is(Kind::King) {
+        if m.kind != Kind::King {
             others.push(*m);
         }
     }

@@ -1,6 +1,6 @@
 -- Where a pawn's targets lie, and where no man stands.
-use Rattle.std.proofs.Common.{◌≡◌, ℕ, ◌+◌, ◌*◌, ◌-◌, ◌/◌, ◌%◌, ◌<◌, ◌≤◌, ◌==◌, suc, zero}
-use Rattle.std.proofs.Common.{Bool, true, false, cond, ◌||◌, ◌⊎◌, inl, inr, List, [], ◌∷◌}
+use Rattle.std.proofs.Common.{◌≡◌, ℕ, ◌+◌, ◌-◌, ◌/◌, ◌%◌, ◌<◌, ◌≤◌, ◌==◌, suc, zero}
+use Rattle.std.proofs.Common.{Bool, true, false, ◌||◌, ◌⊎◌, inl, inr, List, [], ◌∷◌}
 use Rattle.std.proofs.Common.{length, get_or, drop, Option, Some, refl, arith, subst}
 use Rattle.std.specs.List.{list_any}
 use Rattle.std.proofs.lemmas.Bool.{and_parts}
@@ -131,8 +131,3 @@ man_at-self zero d (x ∷ xs) h lt = rw (equal_self x.at)
 man_at-self (suc i) d (x ∷ xs) h lt =
     let l : i < length xs = omega arith in
     rw (unequal x.at (get_or xs i d).at (above_at x.at i d xs h.0 l)) (man_at-self i d xs h.1 l)
-
--- a list has room for one more target
-pub has_room : (b : Bool) (len old k : ℕ) → len ≤ old + cond b 4 1 * k → old ≤ 192 → (b ≡ true → k ≤ 9) → k ≤ 63 → len + cond b 4 1 ≤ 256
-has_room true len old k e o h l = omega (arith, h refl)
-has_room false len old k e o h l = omega arith

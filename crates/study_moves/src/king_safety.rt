@@ -7,13 +7,13 @@ ghost use Rattle.study_board.specs.Geometry.{strictly_between};
 ghost use Rattle.std.specs.Prelude.{◌==◌};
 ghost use Rattle.study_moves.specs.KingSafety.{is_other_man, attacked_past, is_no_shield, threatens, threatened_past, king_threatened, others_threatened, is_unsafe};
 
-use study_board::{Kind, Man, Side, Square, SquareSet, attacks_without, between};
+use study_board::{Kind, Man, Side, Square, SquareSet, attacks, attacks_without, between};
 
 #[inline]
 fn is_other_man(by: Side, lifted: Square, m: &Man) -> bool
     ensures { result ≡ is_other_man by lifted m.now }
 {
-    m.side.is(by) && !(m.at.number() == lifted.number())
+    m.side == by && m.at != lifted
 }
 
 /// The squares on which a man of the side bears, the man on `lifted` taken away.
@@ -59,13 +59,25 @@ fn squares_not_blocking(m: &Man, k: Square) -> SquareSet
     SquareSet::of(m.at).union(line_of(m, k)).complement()
 }
 
+/// Whether a man of the side bears on the square, the man on `lifted` taken away. Most men would not do so on an empty
+/// board.
+#[inline]
+fn attacks_past(men: &[Man], by: Side, lifted: Square, m: &Man, k: Square) -> bool
+    ensures { result ≡ (is_other_man by lifted m.now && bears_past men.now lifted m.now k) }
+{
+    let _square = k.number();
+    if !attacks(&[], m).contains(k) {
+        return false;
+    }
+    reach_of(men, by, lifted, m).contains(k)
+}
+
 /// The squares to which a move is no help against the man.
 #[inline]
 fn threats_of(men: &[Man], by: Side, lifted: Square, k: Square, m: &Man) -> SquareSet
     ensures { (x : ℕ) → x < 64 → has result x ≡ threatens men.now by lifted k x m.now }
 {
-    let _square = k.number();
-    if reach_of(men, by, lifted, m).contains(k) {
+    if attacks_past(men, by, lifted, m, k) {
         squares_not_blocking(m, k)
     } else {
         SquareSet::empty()
@@ -87,7 +99,7 @@ pub fn threatened_past(men: &[Man], by: Side, lifted: Square, k: Square) -> Squa
 pub fn is_king_elsewhere(side: Side, lifted: Square, k: &Man) -> bool
     ensures { result ≡ (is_man side AKing k.now && not (k.now.at == lifted)) }
 {
-    k.is(side, Kind::King) && !(k.at.number() == lifted.number())
+    k.is(side, Kind::King) && k.at != lifted
 }
 
 #[inline]
@@ -116,7 +128,7 @@ fn others_threatened(men: &[Man], side: Side, lifted: Square) -> SquareSet
 fn attacked_for_king(men: &[Man], side: Side, man: &Man) -> SquareSet
     ensures { (x : ℕ) → x < 64 → has result x ≡ (same_kind man.now.kind AKing && attacked_past men.now (other_side side) man.now.at x) }
 {
-    if man.kind.is(Kind::King) {
+    if man.kind == Kind::King {
         attacked_past(men, side.other(), man.at)
     } else {
         SquareSet::empty()

@@ -4,13 +4,14 @@ ghost use Rattle.std.specs.List.{Contains, AllPairs};
 ghost use Rattle.arrayvec.specs.ArrayVec.{array_vec_len};
 ghost use Rattle.study_board.specs.Position.{man_at};
 ghost use Rattle.study_moves.specs.declared.moves.Move.{Move as AMove};
-ghost use Rattle.study_board.specs.Men.{same_side, is_pawn};
+ghost use Rattle.study_board.specs.Men.{same_side};
 ghost use Rattle.study_board.specs.Sets.{has};
 ghost use Rattle.std.specs.Prelude.{false};
 ghost use Rattle.study_board.specs.Position.{is_occupied};
 ghost use Rattle.study_moves.specs.Rules.{reaches_target, is_legal, is_legal_for, reaches_last_rank};
 ghost use Rattle.study_moves.specs.LegalList.{legal_list};
 ghost use Rattle.study_moves.specs.Order.{EachIsLegal, move_place, IsBefore, AreMovesBelow};
+ghost use Rattle.study_moves.specs.MoveCount.{most_moves};
 
 use crate::Move;
 use crate::king_safety::unsafe_targets;
@@ -19,8 +20,14 @@ use crate::targets::{target_range, targets};
 use arrayvec::ArrayVec;
 use study_board::{Kind, Man, Position, Square, SquareSet};
 
+/// Moves of a position at most: its side to move has at most a king, which has 8, and two queens, with 27 each.
+pub const MAX_MOVES: usize = 62;
+
+/// A list with room for the moves of any position.
+pub type MoveList = ArrayVec<Move, MAX_MOVES>;
+
 /// Each legal move once, ascending by origin, then target, then promotion: queen, rook, bishop, knight.
-pub fn legal_moves(p: &Position) -> ArrayVec<Move, 256>
+pub fn legal_moves(p: &Position) -> MoveList
     ensures legal { (m : AMove) → Contains result.items m ↔ (is_legal p.now m ≡ true) }
     ensures ordered { AllPairs IsBefore result.items }
     ensures listed { result.items ≡ legal_list p.now }
@@ -29,7 +36,7 @@ pub fn legal_moves(p: &Position) -> ArrayVec<Move, 256>
     let mut list = ArrayVec::new();
     let men = p.men();
     for man in men {
-        if man.side.is(side) {
+        if man.side == side {
             add_moves_of(p, man, &mut list);
         }
     }
@@ -37,14 +44,15 @@ pub fn legal_moves(p: &Position) -> ArrayVec<Move, 256>
 }
 
 /// Adds the legal moves of a man.
-fn add_moves_of(p: &Position, man: &Man, list: &mut ArrayVec<Move, 256>)
+fn add_moves_of(p: &Position, man: &Man, list: &mut MoveList)
     requires here { man_at p.now.men man.now.at ≡ Some man.now }
     requires mine { same_side man.now.side p.now.to_move ≡ true }
-    requires room { array_vec_len list.old ≤ 192 }
+    requires room { array_vec_len list.old + most_moves man.now.kind ≤ MAX_MOVES }
     requires before { AreMovesBelow p.now list.old.items (512 * man.now.at) }
     ensures after { AreMovesBelow p.now list.new.items (512 * man.now.at + 512) }
-    ensures few { array_vec_len list.new ≤ array_vec_len list.old + 64 }
+    ensures few { array_vec_len list.new ≤ array_vec_len list.old + most_moves man.now.kind }
 {
+    let _origin = man.at.number();
     let (start, end) = target_range(man);
     let (all, sure) = legal_targets(p, man);
     let mut rest = all;
@@ -76,13 +84,13 @@ fn legal_targets(p: &Position, man: &Man) -> (SquareSet, bool)
 }
 
 /// Adds the legal moves of a man to a square.
-fn add_target(p: &Position, man: &Man, target: Square, sure: bool, list: &mut ArrayVec<Move, 256>)
+fn add_target(p: &Position, man: &Man, target: Square, sure: bool, list: &mut MoveList)
     requires here { man_at p.now.men man.now.at ≡ Some man.now }
     requires sure { sure ≡ true → EachIsLegal p.now man.now target }
-    requires room { array_vec_len list.old + (if is_pawn man.now then 4 else 1) ≤ 256 }
+    requires room { array_vec_len list.old + (if reaches_last_rank man.now target then 4 else 1) ≤ MAX_MOVES }
     requires before { AreMovesBelow p.now list.old.items (512 * man.now.at + 8 * target) }
     ensures after { AreMovesBelow p.now list.new.items (512 * man.now.at + 8 * target + 8) }
-    ensures few { array_vec_len list.new ≤ array_vec_len list.old + (if is_pawn man.now then 4 else 1) }
+    ensures few { array_vec_len list.new ≤ array_vec_len list.old + (if reaches_last_rank man.now target then 4 else 1) }
 {
     let _target = target.number();
     if reaches_last_rank(man, target) {
@@ -119,11 +127,11 @@ fn moved(origin: Square, target: Square, promoted: Option<Kind>) -> Move
 }
 
 /// Adds a move if it is legal.
-fn add(p: &Position, man: &Man, m: Move, sure: bool, list: &mut ArrayVec<Move, 256>)
+fn add(p: &Position, man: &Man, m: Move, sure: bool, list: &mut MoveList)
     requires sure { sure ≡ true → is_legal_for p.now man.now m ≡ true }
     requires here { man_at p.now.men man.now.at ≡ Some man.now }
     requires origin { m.origin ≡ man.now.at }
-    requires room { array_vec_len list.old < 256 }
+    requires room { array_vec_len list.old < MAX_MOVES }
     requires before { AreMovesBelow p.now list.old.items (move_place m) }
     ensures after { AreMovesBelow p.now list.new.items (move_place m + 1) }
     ensures few { array_vec_len list.new ≤ array_vec_len list.old + 1 }

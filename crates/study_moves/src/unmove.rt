@@ -41,7 +41,7 @@ pub fn unmoves(q: &Position) -> ArrayVec<Move, 192>
     let mut list = ArrayVec::new();
     let men = q.men();
     for man in men {
-        if man.side.is(side) {
+        if man.side == side {
             add_unmoves_of(q, man, &mut list);
         }
     }
@@ -114,7 +114,7 @@ pub fn origins(men: &[Man], to_move: Side, man: &Man) -> SquareSet
 fn origins_of_kind(men: &[Man], man: &Man) -> SquareSet
     ensures { (a : ℕ) → a < 64 → has result a ≡ comes men.now man.now a }
 {
-    if man.kind.is(Kind::Pawn) {
+    if man.kind == Kind::Pawn {
         pawn_origins(men, man.side, man.at)
     } else {
         attacks(men, man).without(occupied(men))

@@ -15,3 +15,4 @@ pub mod MoveAgain
 pub mod ReadExactly
 pub mod FenStarts
 pub mod Examples
+pub mod EqualPromotions

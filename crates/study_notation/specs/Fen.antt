@@ -132,6 +132,10 @@ position_of men side passed =
 abbrev pub is_digit : ℕ → Bool
 is_digit d = nat_le 48 d && nat_le d 57
 
+-- digits, one at least and so many at most, as the number that they spell
+abbrev pub digits_told : ℕ → List ℕ → Option ℕ
+digits_told most ds = if (nat_le 1 (length ds) && nat_le (length ds) most) && list_all is_digit ds then Some (digits_value 10 ds) else None
+
 -- one to four digits
 unfoldable pub count_of : List ℕ → Option ℕ
 count_of ds = if (nat_le 1 (length ds) && nat_le (length ds) 4) && list_all is_digit ds then Some (digits_value 10 ds) else None

@@ -5,6 +5,7 @@ ghost use Rattle.study_notation.specs.Fen.{fields_of, side_of, passed_of, count_
 ghost use Rattle.study_notation.specs.FieldsView.{fields_view};
 ghost use Rattle.study_text.specs.Words.{words};
 
+use crate::digits::read_digits;
 use study_board::{Side, Square};
 use study_text::next_word;
 
@@ -88,16 +89,5 @@ pub fn read_passed(text: &[u8]) -> Option<Option<Square>>
 pub fn read_count(text: &[u8]) -> Option<u16>
     ensures { result ≡ count_of text.now }
 {
-    if text.is_empty() || text.len() > 4 {
-        return None;
-    }
-    let mut n = 0u16;
-    for d in text {
-        let d = *d;
-        if d < b'0' || d > b'9' {
-            return None;
-        }
-        n = 10 * n + (d - b'0') as u16;
-    }
-    Some(n)
+    read_digits(text, 4)
 }

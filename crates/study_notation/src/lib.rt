@@ -7,6 +7,7 @@
 #![tactic(auto)]
 
 mod captures;
+mod digits;
 mod fault;
 mod fen_reader;
 mod fen_writer;
@@ -21,6 +22,7 @@ mod san_reader;
 mod san_writer;
 mod start;
 
+pub use digits::read_digits;
 pub use fault::{FenFault, SanFault};
 pub use fen_reader::read_fen;
 pub use fen_writer::write_fen;
@@ -28,6 +30,6 @@ pub use laws::{
     fen_is_read_again, fen_is_settled, san_is_read_again, san_is_read_exactly,
     san_parts_are_spelled,
 };
-pub use san_reader::{read_san, same_promotion};
+pub use san_reader::read_san;
 pub use san_writer::write_san;
 pub use start::Start;

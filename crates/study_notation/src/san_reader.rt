@@ -2,7 +2,7 @@
 ghost use Rattle.std.specs.Prelude.{◌≡◌, true, filter, IfOk};
 ghost use Rattle.study_moves.specs.Rules.{is_legal};
 ghost use Rattle.study_notation.specs.SanParts.{is_castling, is_castling_with};
-ghost use Rattle.study_notation.specs.Matching.{same_promotion, fits_given, fits_takes, agrees, matches, picked, move_of};
+ghost use Rattle.study_notation.specs.Matching.{fits_given, fits_takes, agrees, matches, picked, move_of};
 
 use crate::SanFault;
 use crate::captures::is_capture;
@@ -68,27 +68,16 @@ fn matches(p: &Position, san: &San, m: &Move) -> bool
 fn agrees(p: &Position, san: &San, man: &Man, m: &Move) -> bool
     ensures { result ≡ agrees p.now san.now man.now m.now }
 {
-    man.kind.is(san.kind)
-        && m.target.number() == san.target.number()
+    man.kind == san.kind
+        && m.target == san.target
         && fits_given(san.file, m.origin.file())
         && fits_given(san.rank, m.origin.rank())
-        && same_promotion(san.promoted, m.promoted)
+        && san.promoted == m.promoted
         && fits_takes(
             san.is_capture,
             is_capture(p, man, m.target),
-            man.kind.is(Kind::Pawn),
+            man.kind == Kind::Pawn,
         )
-}
-
-/// Whether two promotions are one.
-pub fn same_promotion(a: Option<Kind>, b: Option<Kind>) -> bool
-    ensures { result ≡ same_promotion a b }
-{
-    match (a, b) {
-        (None, None) => true,
-        (Some(a), Some(b)) => a.is(b),
-        _ => false,
-    }
 }
 
 fn fits_given(given: Option<u8>, n: u8) -> bool

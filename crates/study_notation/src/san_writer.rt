@@ -151,7 +151,7 @@ fn describe(p: &Position, man: &Man, m: &Move) -> San
 fn gives_file(p: &Position, man: &Man, x: Square) -> bool
     ensures { result ≡ gives_file p.now man.now x }
 {
-    if man.kind.is(Kind::Pawn) {
+    if man.kind == Kind::Pawn {
         is_capture(p, man, x)
     } else {
         has_rival(p, man, x) && !has_file_rival(p, man, x)
@@ -163,7 +163,7 @@ fn gives_file(p: &Position, man: &Man, x: Square) -> bool
 fn gives_rank(p: &Position, man: &Man, x: Square) -> bool
     ensures { result ≡ gives_rank p.now man.now x }
 {
-    !man.kind.is(Kind::Pawn) && has_file_rival(p, man, x)
+    man.kind != Kind::Pawn && has_file_rival(p, man, x)
 }
 
 #[tactic(auto, unfolding(crate::specs::Written::has_rival))]
@@ -192,5 +192,5 @@ fn is_rival(p: &Position, man: &Man, x: Square, o: &Man) -> bool
         target: x,
         promoted: None,
     };
-    !(o.at.number() == man.at.number()) && o.is(man.side, man.kind) && is_legal(p, step)
+    o.at != man.at && o.is(man.side, man.kind) && is_legal(p, step)
 }

@@ -75,6 +75,6 @@ fn resets_clock(p: &Position, m: &Move) -> bool
 {
     match p.man_at(m.origin) {
         None => false,
-        Some(man) => man.kind.is(Kind::Pawn) || is_capture(p, &man, m.target),
+        Some(man) => man.kind == Kind::Pawn || is_capture(p, &man, m.target),
     }
 }

@@ -64,7 +64,7 @@ fn add_verdict<A: Allocator>(
     ensures { (s : Study AMark) → s.stipulation ≡ stipulation → s.start.position.to_move ≡ first → s.tree.label ≡ root
         → OnOk result (text.new ≡ text.old ++ verdict_text (verdict s)) }
 {
-    if !is_right(stipulation.goal, stipulation.hero.is(first), root.value) {
+    if !is_right(stipulation.goal, stipulation.hero == first, root.value) {
         text.add(b"wrong")
     } else if root.faults == 0 {
         text.add(b"sound")

@@ -87,7 +87,7 @@ fn write_before_man(
     ensures rise { AreSet (IsBeforeBy class number man.now) change.cell change.over cells.old cells.new }
     ensures done { (n : ℕ) → IsBeforeBy class number man.now n → IsSetWhere change.cell change.over cells.new n }
 {
-    if !man.side.is(setup.to_move.other()) {
+    if man.side != setup.to_move.other() {
         return 0;
     }
     let all = origins(setup.men.as_slice(), setup.to_move, man);

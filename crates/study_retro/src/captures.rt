@@ -12,7 +12,7 @@ ghost use Rattle.study_retro.specs.Still.{GoesPlainly, move_to};
 use crate::escapes::reaches_last_rank;
 use arrayvec::ArrayVec;
 use study_board::{Man, Position, Square, SquareSet};
-use study_moves::{Move, safe_targets};
+use study_moves::{MAX_MOVES, Move, MoveList, safe_targets};
 
 /// Whether the square is in the set, and the man no pawn that reaches its last rank there.
 #[inline]
@@ -35,8 +35,8 @@ pub fn move_to(man: &Man, target: Square) -> Move
 }
 
 /// Adds the captures of a man of the side to move that do not promote.
-fn add_captures_of(at: &Position, man: &Man, list: &mut ArrayVec<Move, 256>)
-    requires room { array_vec_len list.old ≤ 64 }
+fn add_captures_of(at: &Position, man: &Man, list: &mut MoveList)
+    requires room { array_vec_len list.old + 4 ≤ MAX_MOVES }
     requires tells { HasSafeTargets at.now at.now.men }
     requires man { Contains at.now.men man.now }
     requires side { same_side man.now.side at.now.to_move ≡ true }
@@ -57,7 +57,7 @@ fn add_captures_of(at: &Position, man: &Man, list: &mut ArrayVec<Move, 256>)
 }
 
 /// The captures of the side to move that do not promote, where no capture in passing is legal.
-pub fn captures(at: &Position) -> ArrayVec<Move, 256>
+pub fn captures(at: &Position) -> MoveList
     requires { HasSafeTargets at.now at.now.men }
     ensures only { (m : AMove) → Contains result.items m → is_legal at.now m ≡ true }
     ensures all { (man : AMan) → Contains at.now.men man → same_side man.side at.now.to_move ≡ true → (other : AMan)
@@ -67,7 +67,7 @@ pub fn captures(at: &Position) -> ArrayVec<Move, 256>
     let mut list = ArrayVec::new();
     let men = at.men();
     for man in men {
-        if man.side.is(side) {
+        if man.side == side {
             add_captures_of(at, man, &mut list);
         }
     }

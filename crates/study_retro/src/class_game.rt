@@ -23,7 +23,7 @@ use std::alloc::Allocator;
 use study_board::{Position, is_occupied};
 use study_index::{EN_PASSANT_BIT, cells, decode, index, number_moved, told};
 use study_material::{Class, class_of};
-use study_moves::{Move, is_mate, legal_moves, played};
+use study_moves::{Move, MoveList, is_mate, legal_moves, played};
 
 /// A class whose needs are held.
 #[derive(Drop)]
@@ -49,7 +49,7 @@ impl<'t, 'a, A: Allocator> Game for ClassGame<'t, 'a, A> {
         decode(self.class, number)
     }
 
-    fn moves(&self, at: &Position) -> ArrayVec<Move, 256> {
+    fn moves(&self, at: &Position) -> MoveList {
         legal_moves(at)
     }
 
@@ -57,7 +57,7 @@ impl<'t, 'a, A: Allocator> Game for ClassGame<'t, 'a, A> {
         played(at, by)
     }
 
-    fn leaving(&self, at: &Position) -> ArrayVec<Move, 256> {
+    fn leaving(&self, at: &Position) -> MoveList {
         if has_passed(at) || may_promote(at.men(), at.to_move()) {
             return legal_moves(at);
         }

@@ -33,7 +33,7 @@ pub fn reaches_last_rank(man: &Man, target: Square) -> bool
         Side::White => 7,
         Side::Black => 0,
     };
-    man.kind.is(Kind::Pawn) && target.rank() == last
+    man.kind == Kind::Pawn && target.rank() == last
 }
 
 /// Whether the move of the man to the square, if legal, takes no man and promotes none.
@@ -128,7 +128,7 @@ fn escapes_by_man<A: Allocator>(
     ensures no { result ≡ false → (q : Seen) → position_numbered game.now.class number ≡ Some q
         → QuietMovesLoseBy (class_game game.now.class game.now.tables.now) cells.now level q man.now }
 {
-    if !man.side.is(setup.to_move) {
+    if man.side != setup.to_move {
         return false;
     }
     let mut rest = safe_targets(setup.men.as_slice(), setup.to_move, man);
@@ -178,7 +178,7 @@ fn can_move(setup: &Setup, man: &Man) -> bool
     ensures no { result ≡ false → same_side man.now.side setup.now.to_move ≡ true → (x : ℕ) → x < 64
         → is_safe_target setup.now.men.items setup.now.to_move man.now x ≡ false }
 {
-    if !man.side.is(setup.to_move) {
+    if man.side != setup.to_move {
         return false;
     }
     let targets = safe_targets(setup.men.as_slice(), setup.to_move, man);

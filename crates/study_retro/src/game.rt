@@ -6,7 +6,7 @@ ghost use Rattle.study_moves.specs.declared.moves.Move.{Move};
 
 use crate::value::Value;
 use arrayvec::ArrayVec;
-use study_moves::Move;
+use study_moves::{Move, MoveList};
 
 /// Where the value of a position stands.
 #[derive(Clone, Copy)]
@@ -29,7 +29,7 @@ pub trait Game {
         requires { number < (numbered self.now).size }
         ensures { result ≡ (numbered self.now).position number };
 
-    fn moves(&self, at: &Self::Position) -> ArrayVec<Move, 256>
+    fn moves(&self, at: &Self::Position) -> MoveList
         ensures all { (m : Move) → (numbered self.now).legal at.now m → Contains result.items m }
         ensures only { (m : Move) → Contains result.items m → (numbered self.now).legal at.now m };
 
@@ -45,7 +45,7 @@ pub trait Game {
         ensures { StandsAt (numbered self.now) at.now result };
 
     /// Legal moves, with each one that leads out of the class.
-    fn leaving(&self, at: &Self::Position) -> ArrayVec<Move, 256>
+    fn leaving(&self, at: &Self::Position) -> MoveList
         requires numbered { (n : ℕ) × ((numbered self.now).position n ≡ Some at.now) }
         ensures all { (m : Move) → (numbered self.now).legal at.now m → (numbered self.now).home ((numbered self.now).after at.now m) ≡ false
             → Contains result.items m }

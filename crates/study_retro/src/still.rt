@@ -34,7 +34,7 @@ fn rank_before_last(side: Side) -> u8
 fn attacks_if_side(men: &[Man], m: &Man, side: Side) -> SquareSet
     ensures { (x : ℕ) → x < 64 → has result x ≡ (same_side m.now.side side && bears_on men.now m.now x) }
 {
-    if m.side.is(side) {
+    if m.side == side {
         attacks(men, m)
     } else {
         SquareSet::empty()
@@ -60,7 +60,7 @@ fn has_man_in(men: &[Man], side: Side, set: SquareSet) -> bool
 {
     let mut found = false;
     for m in men {
-        if m.side.is(side) && set.contains(m.at) {
+        if m.side == side && set.contains(m.at) {
             found = true;
         }
     }

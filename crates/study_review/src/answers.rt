@@ -17,7 +17,7 @@ use crate::told::ask;
 use crate::words::add_missing_line;
 use std::alloc::Allocator;
 use study_marks::holds;
-use study_moves::{Move, legal_moves, played};
+use study_moves::{MAX_MOVES, Move, legal_moves, played};
 use study_prober::Values;
 use study_text::Text;
 
@@ -49,7 +49,7 @@ fn answers_among<V: Values>(
 ) -> Result<Answers, NotMade>
     requires depth { node.now.depth + 1 < 2 ^ 64 }
     requires legal { All (λ m. is_legal node.now.position.now m ≡ true) moves.now }
-    requires few { length moves.now ≤ 256 }
+    requires few { length moves.now ≤ MAX_MOVES }
     ensures game { V.is_honest values.old → IfOk result (λ y. AreAnswers node.now.aim.now node.now.depth node.now.position.now moves.now y) }
     ensures few { IfOk result (λ y. y.count ≤ length moves.now) }
     ensures legal { IfOk result (λ y. IfSome y.only (λ m. is_legal node.now.position.now m ≡ true)) }

@@ -11,7 +11,7 @@ ghost use Rattle.study_review.specs.Leads.{SomeLeads, AreBack, GoesBack};
 
 use study_board::Position;
 use study_marks::hero_loses;
-use study_moves::{Move, legal_moves, played, values_are_unique};
+use study_moves::{MAX_MOVES, Move, legal_moves, played, values_are_unique};
 use study_prober::{ProbeFault, Values};
 
 /// Whether the position is one of the line.
@@ -79,7 +79,7 @@ fn are_back<V: Values>(
     values: &mut V,
 ) -> Result<bool, ProbeFault>
     requires legal { All (λ m. is_legal r.now m ≡ true) moves.now }
-    requires few { length moves.now ≤ 256 }
+    requires few { length moves.now ≤ MAX_MOVES }
     ensures game { V.is_honest values.old → IfOk result (λ b. (b ≡ true) ↔ AreBack line.now m r.now won moves.now) }
     ensures untold { (c : AClass) → IsErrOf result (ProbeFault.NoTable c) → V.held values.old c ≡ false }
     ensures told { HasTold V.gives V.may_fail V.asked_of values.old result values.new }
@@ -135,7 +135,7 @@ fn forces_back<V: Values>(
     values: &mut V,
 ) -> Result<bool, ProbeFault>
     requires legal { All (λ m. is_legal q.now m ≡ true) moves.now }
-    requires few { length moves.now ≤ 256 }
+    requires few { length moves.now ≤ MAX_MOVES }
     ensures game { V.is_honest values.old → IfOk result (λ b. (b ≡ true)
         ↔ SomeLeads (GoesBack line.now m) q.now moves.now) }
     ensures untold { (c : AClass) → IsErrOf result (ProbeFault.NoTable c) → V.held values.old c ≡ false }

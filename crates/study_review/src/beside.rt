@@ -7,7 +7,7 @@ ghost use Rattle.study_review.specs.Continuations.{is_among, others};
 use arrayvec::ArrayVec;
 use study_board::Position;
 use study_marks::same_move;
-use study_moves::{Move, legal_moves};
+use study_moves::{Move, MoveList, legal_moves};
 
 /// Whether the move is one of these.
 pub fn is_among(m: &Move, moves: &[Move]) -> bool
@@ -20,7 +20,7 @@ pub fn is_among(m: &Move, moves: &[Move]) -> bool
 }
 
 /// The legal moves but for these.
-pub fn others(p: &Position, without: &[Move]) -> ArrayVec<Move, 256>
+pub fn others(p: &Position, without: &[Move]) -> MoveList
     ensures value { result.items ≡ others without.now p.now }
     ensures legal { All (λ m. is_legal p.now m ≡ true) result.items }
 {

@@ -16,7 +16,7 @@ ghost use Rattle.study_review.specs.Continuations.{AreChosen, AreAlternatives, A
 use crate::beside::others;
 use crate::continuation::{Continuation, Node, Wanted, is_wanted};
 use arrayvec::ArrayVec;
-use study_moves::{Move, legal_moves, played};
+use study_moves::{MAX_MOVES, Move, legal_moves, played};
 use study_prober::{ProbeFault, Values};
 use study_retro::Value;
 
@@ -26,10 +26,10 @@ fn keep(
     wanted: Wanted,
     m: Move,
     value: Value,
-    list: &mut ArrayVec<Continuation, 256>,
+    list: &mut ArrayVec<Continuation, MAX_MOVES>,
 )
     requires depth { node.now.depth + 1 < 2 ^ 64 }
-    requires room { array_vec_len list.old < 256 }
+    requires room { array_vec_len list.old < MAX_MOVES }
     ensures items { list.new.items ≡ list.old.items ++ kept (is_wanted wanted node.now.aim.now node.now.depth) m value }
     ensures len { array_vec_len list.new ≤ array_vec_len list.old + 1 }
     ensures legal { is_legal node.now.position.now m ≡ true → All (λ x. is_legal node.now.position.now x.played ≡ true) list.old.items
@@ -46,11 +46,11 @@ fn choose<V: Values>(
     wanted: Wanted,
     moves: &[Move],
     values: &mut V,
-    list: &mut ArrayVec<Continuation, 256>,
+    list: &mut ArrayVec<Continuation, MAX_MOVES>,
 ) -> Result<(), ProbeFault>
     requires depth { node.now.depth + 1 < 2 ^ 64 }
     requires legal { All (λ m. is_legal node.now.position.now m ≡ true) moves.now }
-    requires room { array_vec_len list.old + length moves.now ≤ 256 }
+    requires room { array_vec_len list.old + length moves.now ≤ MAX_MOVES }
     requires listed { All (λ x. is_legal node.now.position.now x.played ≡ true) list.old.items }
     ensures listed { All (λ x. is_legal node.now.position.now x.played ≡ true) list.new.items }
     ensures game { V.is_honest values.old → OnOk result ((all : List AValue) × AreValuesAfter node.now.position.now moves.now all
@@ -85,10 +85,10 @@ fn chosen<V: Values>(
     wanted: Wanted,
     moves: &[Move],
     values: &mut V,
-) -> Result<ArrayVec<Continuation, 256>, ProbeFault>
+) -> Result<ArrayVec<Continuation, MAX_MOVES>, ProbeFault>
     requires depth { node.now.depth + 1 < 2 ^ 64 }
     requires legal { All (λ m. is_legal node.now.position.now m ≡ true) moves.now }
-    requires room { length moves.now ≤ 256 }
+    requires room { length moves.now ≤ MAX_MOVES }
     ensures game { V.is_honest values.old → IfOk result (λ list. AreChosen
         (is_wanted wanted node.now.aim.now node.now.depth) node.now.position.now moves.now list.items) }
     ensures untold { IfErr result (IsUntold (V.held values.old) (each_after node.now.position.now moves.now)) }
@@ -112,7 +112,7 @@ fn chosen<V: Values>(
 pub fn holding_moves<V: Values>(
     node: &Node<'_>,
     values: &mut V,
-) -> Result<ArrayVec<Continuation, 256>, ProbeFault>
+) -> Result<ArrayVec<Continuation, MAX_MOVES>, ProbeFault>
     requires depth { node.now.depth + 1 < 2 ^ 64 }
     ensures game { V.is_honest values.old → IfOk result (λ list. AreHoldingMoves node.now.aim.now node.now.depth node.now.position.now list.items) }
     ensures untold { IfErr result (IsUntold (V.held values.old) (each_after node.now.position.now (legal_list node.now.position.now))) }
@@ -135,7 +135,7 @@ pub fn holding_moves<V: Values>(
 pub fn refutations<V: Values>(
     node: &Node<'_>,
     values: &mut V,
-) -> Result<ArrayVec<Continuation, 256>, ProbeFault>
+) -> Result<ArrayVec<Continuation, MAX_MOVES>, ProbeFault>
     requires depth { node.now.depth + 1 < 2 ^ 64 }
     ensures game { V.is_honest values.old → IfOk result (λ list. AreRefutations node.now.aim.now node.now.depth node.now.position.now list.items) }
     ensures untold { IfErr result (IsUntold (V.held values.old) (each_after node.now.position.now (legal_list node.now.position.now))) }
@@ -158,7 +158,7 @@ pub fn refutations<V: Values>(
 pub fn drawing_moves<V: Values>(
     node: &Node<'_>,
     values: &mut V,
-) -> Result<ArrayVec<Continuation, 256>, ProbeFault>
+) -> Result<ArrayVec<Continuation, MAX_MOVES>, ProbeFault>
     requires depth { node.now.depth + 1 < 2 ^ 64 }
     ensures game { V.is_honest values.old → IfOk result (λ list. AreDrawingMoves node.now.position.now list.items) }
     ensures untold { IfErr result (IsUntold (V.held values.old) (each_after node.now.position.now (legal_list node.now.position.now))) }
@@ -182,7 +182,7 @@ pub fn alternatives<V: Values>(
     node: &Node<'_>,
     m: Move,
     values: &mut V,
-) -> Result<ArrayVec<Continuation, 256>, ProbeFault>
+) -> Result<ArrayVec<Continuation, MAX_MOVES>, ProbeFault>
     requires depth { node.now.depth + 1 < 2 ^ 64 }
     ensures game { V.is_honest values.old → IfOk result (λ list. AreAlternatives node.now.aim.now node.now.depth node.now.position.now m list.items) }
     ensures untold { IfErr result (IsUntold (V.held values.old) (each_after node.now.position.now (others (m ∷ []) node.now.position.now))) }
@@ -206,7 +206,7 @@ pub fn missing_moves<V: Values>(
     node: &Node<'_>,
     there: &[Move],
     values: &mut V,
-) -> Result<ArrayVec<Continuation, 256>, ProbeFault>
+) -> Result<ArrayVec<Continuation, MAX_MOVES>, ProbeFault>
     requires depth { node.now.depth + 1 < 2 ^ 64 }
     ensures game { V.is_honest values.old → IfOk result (λ list. AreMissing node.now.position.now there.now list.items) }
     ensures untold { IfErr result (IsUntold (V.held values.old) (each_after node.now.position.now (others there.now node.now.position.now))) }

@@ -15,7 +15,7 @@ use crate::continuation::{Continuation, Node};
 use crate::lists::{holding_moves, missing_moves};
 use arrayvec::ArrayVec;
 use study_board::Position;
-use study_moves::{Move, played};
+use study_moves::{MAX_MOVES, Move, played};
 use study_prober::{ProbeFault, Values};
 use study_retro::Value;
 
@@ -65,10 +65,10 @@ fn push_defence(
     p: &Position,
     x: &Continuation,
     answers: &[Continuation],
-    list: &mut ArrayVec<Defence, 256>,
+    list: &mut ArrayVec<Defence, MAX_MOVES>,
 )
-    requires few { length answers.now ≤ 256 }
-    requires room { array_vec_len list.old < 256 }
+    requires few { length answers.now ≤ MAX_MOVES }
+    requires room { array_vec_len list.old < MAX_MOVES }
     ensures items { list.new.items ≡ list.old.items
         ++ (record { played = x.now.played; value = x.now.value; answers = length answers.now; only = the_only answers.now }) ∷ [] }
     ensures len { array_vec_len list.new ≡ array_vec_len list.old + 1 }
@@ -88,11 +88,11 @@ fn answer_each<V: Values>(
     node: &Node<'_>,
     moves: &[Continuation],
     values: &mut V,
-    list: &mut ArrayVec<Defence, 256>,
+    list: &mut ArrayVec<Defence, MAX_MOVES>,
 ) -> Result<(), ProbeFault>
     requires depth { node.now.depth + 2 < 2 ^ 64 }
     requires legal { All (λ x. is_legal node.now.position.now x.played ≡ true) moves.now }
-    requires room { array_vec_len list.old + length moves.now ≤ 256 }
+    requires room { array_vec_len list.old + length moves.now ≤ MAX_MOVES }
     requires listed { All (IsPlayed node.now.position.now) list.old.items }
     ensures listed { All (IsPlayed node.now.position.now) list.new.items }
     ensures game { V.is_honest values.old → OnOk result ((answered : List ADefence)
@@ -129,7 +129,7 @@ pub fn defences<V: Values>(
     node: &Node<'_>,
     there: &[Move],
     values: &mut V,
-) -> Result<ArrayVec<Defence, 256>, ProbeFault>
+) -> Result<ArrayVec<Defence, MAX_MOVES>, ProbeFault>
     requires depth { node.now.depth + 2 < 2 ^ 64 }
     ensures game { V.is_honest values.old → IfOk result (λ list. AreDefences
         node.now.aim.now node.now.depth node.now.position.now there.now list.items) }

@@ -17,7 +17,7 @@ use crate::lists::alternatives;
 use arrayvec::ArrayVec;
 use study_board::Position;
 use study_marks::Goal;
-use study_moves::{Move, played};
+use study_moves::{MAX_MOVES, Move, played};
 use study_prober::{ProbeFault, Values};
 use study_retro::Value;
 
@@ -71,9 +71,9 @@ fn push_timed(
     place: &Place,
     x: &Continuation,
     time: Option<u8>,
-    list: &mut ArrayVec<Alternative, 256>,
+    list: &mut ArrayVec<Alternative, MAX_MOVES>,
 )
-    requires { array_vec_len list.old < 256 }
+    requires { array_vec_len list.old < MAX_MOVES }
     ensures items { list.new.items ≡ list.old.items ++ (record { played = x.now.played; value = x.now.value; time = time }) ∷ [] }
     ensures len { array_vec_len list.new ≡ array_vec_len list.old + 1 }
     ensures legal { is_legal place.now.position x.now.played ≡ true → All (λ y. is_legal place.now.position y.played ≡ true) list.old.items
@@ -91,10 +91,10 @@ fn time_each<V: Values>(
     place: &Place,
     moves: &[Continuation],
     values: &mut V,
-    list: &mut ArrayVec<Alternative, 256>,
+    list: &mut ArrayVec<Alternative, MAX_MOVES>,
 ) -> Result<(), ProbeFault>
     requires legal { All (λ x. is_legal place.now.position x.played ≡ true) moves.now }
-    requires room { array_vec_len list.old + length moves.now ≤ 256 }
+    requires room { array_vec_len list.old + length moves.now ≤ MAX_MOVES }
     requires listed { All (λ y. is_legal place.now.position y.played ≡ true) list.old.items }
     ensures listed { All (λ y. is_legal place.now.position y.played ≡ true) list.new.items }
     ensures game { V.is_honest values.old → OnOk result ((timed : List AnAlternative)
@@ -126,7 +126,7 @@ pub fn timed_alternatives<V: Values>(
     place: &Place,
     m: Move,
     values: &mut V,
-) -> Result<ArrayVec<Alternative, 256>, ProbeFault>
+) -> Result<ArrayVec<Alternative, MAX_MOVES>, ProbeFault>
     requires depth { place.now.depth + 1 < 2 ^ 64 }
     ensures game { V.is_honest values.old → IfOk result (λ list. AreTimedAlternatives
         place.now.aim place.now.depth place.now.line.items place.now.position m list.items) }

@@ -13,7 +13,7 @@ use crate::continuation::Continuation;
 use crate::fault::NotMade;
 use std::alloc::Allocator;
 use study_board::Position;
-use study_moves::{Move, legal_moves, played};
+use study_moves::{MAX_MOVES, Move, legal_moves, played};
 use study_prober::Values;
 use study_retro::Value;
 
@@ -82,7 +82,7 @@ pub fn ask_moves<'a, A: Allocator, V: Values>(
     ensures game { V.is_honest values.old → OnOk result (AreChosen (λ v. true) p.now (legal_list p.now) told.new.items) }
     ensures legal { OnOk result (All (λ x. is_legal p.now x.played ≡ true) told.new.items) }
     ensures all { OnOk result (length told.new.items ≡ length (legal_list p.now)) }
-    ensures few { OnOk result (length told.new.items ≤ 256) }
+    ensures few { OnOk result (length told.new.items ≤ MAX_MOVES) }
     ensures asked { HasAsked V.held V.gives V.may_fail V.asked_of V.failed_of V.is_honest values.old result values.new }
 {
     told.clear();

@@ -131,7 +131,7 @@ fn put_page<W: Write>(
 pub fn pages(class: Class) -> u32
     ensures { result ≡ pages_of class }
 {
-    (cells(class) + 4095) / 4096
+    cells(class).div_ceil(PAGE_CELLS as u32)
 }
 
 /// How many bytes the file of a class has.
@@ -140,7 +140,7 @@ pub fn file_bytes(class: Class) -> u32
     ensures value { result ≡ 64 + 4128 * pages_of class }
     ensures text { (t : Seen) (v : ℕ) → t.class ≡ class → length (table_text t v) ≡ result }
 {
-    64 + 4128 * pages(class)
+    HEADER_BYTES as u32 + PAGE_BYTES as u32 * pages(class)
 }
 
 /// Writes a table, or stops where the writer fails or takes nothing; it took a prefix of the text then.

@@ -13,7 +13,7 @@ returns c =
       c.man_slot_number.ensures,
       c.man_slot_number-2.ensures,
     )
-    (least_of_squares c.args.pawns c.args.to_move c.args.colours (c.args.a ∷ c.args.b ∷ c.args.c ∷ c.args.d ∷ []) (
+    (least_of_squares c.args.frame.has_pawns c.args.frame.to_move c.args.frame.swap_colours (c.args.a ∷ c.args.b ∷ c.args.c ∷ c.args.d ∷ []) (
       c.square_of_man.ensures.on_board,
       (c.square_of_man-2.ensures.on_board, (c.square_of_man-3.ensures.on_board, (c.square_of_man-4.ensures.on_board, tt))),
     ))

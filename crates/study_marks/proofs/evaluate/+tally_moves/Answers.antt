@@ -16,9 +16,9 @@ tally_moves-requires g t c κs within =
         within,
         (
           legal-rest c.args.p.now _ c.args.moves.now c.in-Some.rest.now c.in-Some.ensures.cases.0 c.requires.legal,
-          subst (λ (u : Tally). length u.mates + u.draws + length c.in-Some.rest.now ≤ 256) (sym c.add.ensures)
+          subst (λ (u : Tally). length u.mates + u.draws + length c.in-Some.rest.now ≤ 62) (sym c.add.ensures)
               (room-with c.args.tally.now c.in-Ok.value (length c.in-Some.rest.now)
-              (subst (λ n. length c.args.tally.now.mates + c.args.tally.now.draws + n ≤ 256) long
+              (subst (λ n. length c.args.tally.now.mates + c.args.tally.now.draws + n ≤ 62) long
               c.requires.room)),
         ),
       ),

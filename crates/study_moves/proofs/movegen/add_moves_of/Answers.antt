@@ -1,12 +1,11 @@
-use Rattle.study_board.specs.Men.{is_pawn}
-use Rattle.std.proofs.Common.{◌≡◌, ◌∙◌, ◌+◌, ◌*◌, ◌-◌, ℕ, sym, arith, subst}
+use Rattle.std.proofs.Common.{◌≡◌, ◌∙◌, ◌+◌, ◌*◌, ℕ, sym, arith, subst}
 use Rattle.std.proofs.Common.{not}
 use Rattle.std.proofs.lemmas.Bool.{and_parts}
 use Rattle.study_board.specs.Sets.{has}
 use Rattle.study_moves.specs.Order.{AreMovesBelow}
 use Rattle.study_moves.proofs.NoMoveBetween.{targets_without}
-use Rattle.study_moves.proofs.PawnWindows.{has_room}
-use Rattle.study_moves.proofs.TargetsLeft.{IsRest, rest_begins, rest_more, next_below, up_to_first, none_left, few_more, few_end}
+use Rattle.study_moves.proofs.TargetsLeft.{IsRest, rest_begins, rest_more, next_below, up_to_first, none_left}
+use Rattle.study_moves.proofs.FewMoves.{moves_below, moves_below-next, moves_below-more, moves_below-most}
 use Rattle.study_moves.proofs.movegen.add_moves_of.Goals as goal
 
 pub loop-next-init : goal.loop-next-init
@@ -40,11 +39,13 @@ pub add_target-requires-clause-room : goal.add_target-requires-clause-room
 add_target-requires-clause-room c =
     let f = c.first-target.ensures in
     let i = c.loop-next.invariant in
-    let w = c.target_range-start.ensures in
-    let low = next_below c.args.p.now c.args.man.now c.loop-next.rest c.loop-next.next c.first-target.result i.rest f.inside f.there in
-    let high = (w.all _ _ c.first-target.result f.inside (i.rest.going c.first-target.result f.inside f.there)).1 in
-    has_room (is_pawn c.args.man.now) _ _ (c.loop-next.next - c.target_range-start.result.0) i.few c.requires.room
-    (λ e. omega (arith, w.short e, i.from)) (omega (arith, i.from))
+    let m = c.args.man.now in
+    let t = c.first-target.result in
+    let low = next_below c.args.p.now m c.loop-next.rest c.loop-next.next t i.rest f.inside f.there in
+    let one = moves_below-next c.args.p.now.men c.args.p.now.passed m c.loop-next.next t low (i.rest.going t f.inside f.there) in
+    let up = moves_below-more m.side m.kind m.at (t + 1) 64 (omega (arith, f.inside)) in
+    let most = moves_below-most m.side m.kind m.at c.number-origin.ensures.small in
+    omega (arith, i.few, c.requires.room, one, up, most)
 
 pub add_target-requires-clause-sure : goal.add_target-requires-clause-sure
 add_target-requires-clause-sure c s =
@@ -64,8 +65,12 @@ loop-next-preserved c =
     let Q : ℕ → Type 0 = λ k. IsRest c.args.p.now c.args.man.now c.without-rest.result (k + 1) in
     record {
       listed = subst P e c.add_target.ensures.after;
-      few = few_more (is_pawn c.args.man.now) _ _ _ (c.loop-next.next - c.target_range-start.result.0) _ i.few
-          c.add_target.ensures.few (omega (arith, i.from, c.number-next.ensures.value));
+      few =
+          let m = c.args.man.now in
+          let one = moves_below-next c.args.p.now.men c.args.p.now.passed m c.loop-next.next c.first-target.result low
+          (i.rest.going c.first-target.result f.inside f.there) in
+          let same : moves_below m.side m.kind m.at (c.number-next.result + 1) ≡ moves_below m.side m.kind m.at (c.first-target.result + 1) = rw n in
+          omega (arith, i.few, c.add_target.ensures.few, one, same);
       from = omega (arith, i.from, c.number-next.ensures.value);
       to = omega (arith, c.number-next.ensures.value);
       rest = subst Q (sym n)
@@ -91,5 +96,7 @@ returns-clause-after c =
 pub returns-clause-few : goal.returns-clause-few
 returns-clause-few c =
     let i = c.loop-next.invariant in
-    few_end (is_pawn c.args.man.now) _ _ (c.loop-next.next - c.target_range-start.result.0) i.few
-    (λ e. omega (arith, c.target_range-start.ensures.short e, i.to)) (omega (arith, i.to, c.target_range-start.ensures.range))
+    let m = c.args.man.now in
+    let up = moves_below-more m.side m.kind m.at c.loop-next.next 64 (omega (arith, i.to, c.target_range-start.ensures.range)) in
+    let most = moves_below-most m.side m.kind m.at c.number-origin.ensures.small in
+    omega (arith, i.few, up, most)

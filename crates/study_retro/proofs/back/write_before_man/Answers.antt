@@ -1,23 +1,23 @@
 use Rattle.std.proofs.Common.{◌≡◌, ℕ, ◌+◌, inl, inr, arith, Some, refl, sym, ◌∙◌, ap, subst}
-use Rattle.std.proofs.lemmas.Bool.{false≢true, cases_lt}
+use Rattle.std.proofs.lemmas.Bool.{false≢true, cases_lt, not-true, not-false}
 use Rattle.study_board.specs.declared.men.Side.{Side}
 use Rattle.study_board.specs.Men.{same_side}
+use Rattle.study_board.proofs.EqualMen.{side_same}
 use Rattle.study_index.proofs.ClassLaws.{below}
 use Rattle.study_index.proofs.ComputedIndex.{told_decoded}
 use Rattle.study_index.specs.Computed.{position_numbered}
 use Rattle.study_retro.specs.Predecessors.{IsBeforeBy, IsBeforeFrom}
-use Rattle.study_retro.specs.Propagation.{AreSet}
 use Rattle.study_retro.specs.Propagation.{AreSet}
 use Rattle.study_retro.proofs.SquaresLeft.{AreLeft, left-all, first-in, first-only, left-more, left-none}
 use Rattle.study_retro.proofs.BackLemmas.{set-then, set-kept, set-why, led_came, before_in, in_before}
 use Rattle.study_retro.proofs.back.write_before_man.Goals as goal
 
 -- no other side's man has moved
-pub returns-then-not-is-clause-done : goal.returns-then-not-is-clause-done
-returns-then-not-is-clause-done c = λ n b.
+pub returns-then-ne-clause-done : goal.returns-then-ne-clause-done
+returns-then-ne-clause-done c = λ n b.
     let came = led_came c.args.class c.args.number c.requires.numbered.0 c.requires.numbered.1 c.args.setup.now.men.items c.args.setup.now.to_move
     c.requires.told c.args.man.now c.requires.man b.0 n b.1 b.2 in
-    absurd (false≢true (sym c.if-not-is.true ∙ c.is.ensures ∙ ap (λ (s : Side). same_side c.args.man.now.side s) c.other.ensures ∙ came.0))
+    absurd (false≢true (sym (sym (side_same _ _) ∙ not-true _ (sym c.ne.ensures ∙ c.if-ne.true)) ∙ ap (λ (s : Side). same_side c.args.man.now.side s) c.other.ensures ∙ came.0))
 
 pub loop-next-init : goal.loop-next-init
 loop-next-init c = record {
@@ -37,7 +37,7 @@ write_from-requires-clause-led c = λ q at.
     let a = c.first-origin.result in
     let here : position_numbered c.args.class c.args.number ≡ Some q =
     subst (λ (n : ℕ). position_numbered c.args.class n ≡ Some q) c.new-departure.ensures.number at in
-    let his = sym (ap (λ (s : Side). same_side c.args.man.now.side s) c.other.ensures) ∙ sym c.is.ensures ∙ c.if-not-is.false in
+    let his = sym (ap (λ (s : Side). same_side c.args.man.now.side s) c.other.ensures) ∙ sym (side_same _ _) ∙ not-false _ (sym c.ne.ensures ∙ c.if-ne.false) in
     before_in c.args.class c.args.number q here c.args.setup.now.men.items c.args.setup.now.to_move c.requires.told c.args.man.now c.requires.man
     c.origins-all.result _ c.as_slice.ensures.value c.origins-all.ensures a f.inside his (first-in _ _ _ c.loop-next.invariant.left a f.inside f.there)
 

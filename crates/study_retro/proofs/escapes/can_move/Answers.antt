@@ -1,6 +1,8 @@
 use Rattle.std.proofs.Common.{ℕ, List, sym, ◌∙◌, ap}
+use Rattle.std.proofs.lemmas.Bool.{not-false}
 use Rattle.study_board.specs.declared.men.Man.{Man}
 use Rattle.study_board.specs.Sets.{has}
+use Rattle.study_board.proofs.EqualMen.{side_same}
 use Rattle.study_board.proofs.SetBits.{has-zero}
 use Rattle.study_moves.specs.AnyOrder.{is_safe_target}
 use Rattle.study_retro.proofs.escapes.can_move.Goals as goal
@@ -12,7 +14,7 @@ returns-then-is_empty-clause-no c = λ f his x on.
 
 pub returns-clause-yes : goal.returns-clause-yes
 returns-clause-yes c = λ t. (
-  sym c.is.ensures ∙ c.if-not-is.false,
+  sym (side_same _ _) ∙ not-false _ (sym c.ne.ensures ∙ c.if-ne.false),
   (
     c.first-target.result,
     c.first-target.ensures.inside,

@@ -1,7 +1,8 @@
 use Rattle.std.proofs.Common.{◌≡◌, ℕ, ◌+◌, List, inl, inr, arith, refl, sym, ◌∙◌, ap, subst}
-use Rattle.std.proofs.lemmas.Bool.{false≢true, cases_lt}
+use Rattle.std.proofs.lemmas.Bool.{false≢true, cases_lt, not-true}
 use Rattle.study_board.specs.declared.men.Man.{Man}
 use Rattle.study_board.specs.Position.{is_occupied}
+use Rattle.study_board.proofs.EqualMen.{side_same}
 use Rattle.study_moves.specs.Rules.{reaches_last_rank}
 use Rattle.study_moves.specs.AnyOrder.{is_safe_target}
 use Rattle.study_index.specs.Computed.{position_numbered}
@@ -12,12 +13,12 @@ use Rattle.study_retro.proofs.BackLemmas.{occupied_same, safe_by, safe_plain}
 use Rattle.study_retro.proofs.escapes.escapes_by_man.Goals as goal
 
 -- no man of the other side moves
-pub returns-then-not-is-clause-no : goal.returns-then-not-is-clause-no
-returns-then-not-is-clause-no g c = λ f q at x legal quiet.
+pub returns-then-ne-clause-no : goal.returns-then-ne-clause-no
+returns-then-ne-clause-no g c = λ f q at x legal quiet.
     let man = c.args.man.now in
     let s = safe_by c.args.game.now.class c.args.number q at c.requires.plain c.args.setup.now.men.items c.args.setup.now.to_move c.requires.told
     (move_to man x) legal man c.requires.man refl in
-    absurd (false≢true (sym c.if-not-is.true ∙ c.is.ensures ∙ s.1))
+    absurd (false≢true (sym (sym (side_same _ _) ∙ not-true _ (sym c.ne.ensures ∙ c.if-ne.true)) ∙ s.1))
 
 pub loop-rest-init : goal.loop-rest-init
 loop-rest-init g c = record { left = left-all c.safe_targets-rest.result; lose = λ x l. absurd (omega (arith, l)) }

@@ -53,7 +53,7 @@ pub choose-requires : goal.choose-requires
 choose-requires g t c κs within =
     let p = c.args.node.now.position.now in
     let long : length c.args.moves.now ≡ suc (length c.in-Some.rest.now) = ap length c.in-Some.ensures.cases.0 in
-    let room : array_vec_len c.args.list.now + length c.args.moves.now ≤ 256 = c.requires.room in
+    let room : array_vec_len c.args.list.now + length c.args.moves.now ≤ 62 = c.requires.room in
     let few : array_vec_len c.keep.new.list ≤ array_vec_len c.args.list.now + 1 = c.keep.ensures.len in (
       omega (arith, long, c.decreases),
       (
@@ -63,7 +63,7 @@ choose-requires g t c κs within =
           (
             legal-rest p _ c.args.moves.now c.in-Some.rest.now c.in-Some.ensures.cases.0 c.requires.legal,
             (
-              (let z : array_vec_len c.keep.new.list + length c.in-Some.rest.now ≤ 256 = omega (arith, long, room, few) in z),
+              (let z : array_vec_len c.keep.new.list + length c.in-Some.rest.now ≤ 62 = omega (arith, long, room, few) in z),
               c.keep.ensures.legal
                   (legal-first p c.in-Some.m.now c.args.moves.now c.in-Some.rest.now c.in-Some.ensures.cases.0 c.requires.legal)
                   c.requires.listed,

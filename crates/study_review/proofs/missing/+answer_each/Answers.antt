@@ -24,7 +24,7 @@ pub answer_each-requires : goal.answer_each-requires
 answer_each-requires g t c κs within =
     let p = c.args.node.now.position.now in
     let long : length c.args.moves.now ≡ suc (length c.in-Some.rest.now) = ap length c.in-Some.ensures.cases.0 in
-    let room : array_vec_len c.args.list.now + length c.args.moves.now ≤ 256 = c.requires.room in
+    let room : array_vec_len c.args.list.now + length c.args.moves.now ≤ 62 = c.requires.room in
     let one : array_vec_len c.push_defence.new.list ≡ array_vec_len c.args.list.now + 1 = c.push_defence.ensures.len in
     let answers : All (λ y. is_legal c.played-next.result y.played ≡ true) c.as_slice.result.now =
     subst (λ (l : List Continuation). All (λ y. is_legal c.played-next.result y.played ≡ true) l) (sym c.as_slice.ensures.value) c.in-Ok.ensures.legal in (
@@ -36,7 +36,7 @@ answer_each-requires g t c κs within =
           (
             all-rest (λ x. is_legal p x.played ≡ true) c.in-Some.x.now c.args.moves.now c.in-Some.rest.now c.in-Some.ensures.cases.0 c.requires.legal,
             (
-              (let z : array_vec_len c.push_defence.new.list + length c.in-Some.rest.now ≤ 256 = omega (arith, long, room, one) in z),
+              (let z : array_vec_len c.push_defence.new.list + length c.in-Some.rest.now ≤ 62 = omega (arith, long, room, one) in z),
               c.push_defence.ensures.legal
                   (all-first (λ x. is_legal p x.played ≡ true) c.in-Some.x.now c.args.moves.now c.in-Some.rest.now
                   c.in-Some.ensures.cases.0 c.requires.legal)

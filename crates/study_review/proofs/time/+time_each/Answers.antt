@@ -14,7 +14,7 @@ pub time_each-requires : goal.time_each-requires
 time_each-requires g t c κs within =
     let p = c.args.place.now.position in
     let long : length c.args.moves.now ≡ suc (length c.in-Some.rest.now) = ap length c.in-Some.ensures.cases.0 in
-    let room : array_vec_len c.args.list.now + length c.args.moves.now ≤ 256 = c.requires.room in
+    let room : array_vec_len c.args.list.now + length c.args.moves.now ≤ 62 = c.requires.room in
     let one : array_vec_len c.push_timed.new.list ≡ array_vec_len c.args.list.now + 1 = c.push_timed.ensures.len in (
       omega (arith, long, c.decreases),
       (
@@ -22,7 +22,7 @@ time_each-requires g t c κs within =
         (
           all-rest (λ x. is_legal p x.played ≡ true) c.in-Some.x.now c.args.moves.now c.in-Some.rest.now c.in-Some.ensures.cases.0 c.requires.legal,
           (
-            (let z : array_vec_len c.push_timed.new.list + length c.in-Some.rest.now ≤ 256 = omega (arith, long, room, one) in z),
+            (let z : array_vec_len c.push_timed.new.list + length c.in-Some.rest.now ≤ 62 = omega (arith, long, room, one) in z),
             c.push_timed.ensures.legal
                 (all-first (λ x. is_legal p x.played ≡ true) c.in-Some.x.now c.args.moves.now c.in-Some.rest.now
                 c.in-Some.ensures.cases.0 c.requires.legal)

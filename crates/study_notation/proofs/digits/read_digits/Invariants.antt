@@ -1,5 +1,5 @@
 use Rattle.study_notation.proofs.DigitCounts.{CountsTo}
-use Rattle.study_command.proofs.path_text.read_place.Given as goal
+use Rattle.study_notation.proofs.digits.read_digits.Given as goal
 
 abbrev pub invariant-loop-d : goal.invariant-loop-d
 invariant-loop-d l = CountsTo l.text l.d-index l.n

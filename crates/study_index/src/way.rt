@@ -1,0 +1,34 @@
+//! How the number after a move of one man is found.
+ghost use Rattle.std.specs.Prelude.{◌≡◌, ◌+◌, ◌-◌, ◌*◌, ◌<◌, ◌≤◌};
+
+use study_board::Square;
+
+/// How the number after the man has moved is found: as a sum, where no other image can have a lesser number; as the least
+/// image of one; from the men with the white king elsewhere; or by a search for the man.
+#[derive(Clone, Copy)]
+pub enum Way {
+    Sum(Terms),
+    LeastImage(Terms),
+    King,
+    Search,
+}
+
+/// The number with the other side to move, what the square of the man counts in it, and what a square counts.
+#[derive(Clone, Copy)]
+pub struct Terms {
+    pub turned: u32,
+    pub left: u32,
+    pub weight: u32,
+    ghost few: { (turned < 25165824) × (weight ≤ 4096) },
+}
+
+impl Terms {
+    /// The sum with the man on a square.
+    #[inline]
+    pub fn with(self, to: Square) -> u32
+        ensures value { result ≡ self.turned + to * self.weight - self.left }
+        ensures small { result < 67108864 }
+    {
+        (self.turned + u32::from(to.number()) * self.weight).saturating_sub(self.left)
+    }
+}

@@ -1,5 +1,0 @@
-use Rattle.study_notation.proofs.DigitCounts.{CountsTo}
-use Rattle.study_notation.proofs.fields.read_count.Given as goal
-
-abbrev pub invariant-loop-d : goal.invariant-loop-d
-invariant-loop-d l = CountsTo l.text l.d-index l.n

@@ -1,0 +1,21 @@
+//! Numbers in digits.
+ghost use Rattle.std.specs.Prelude.{◌≡◌, ◌≤◌};
+ghost use Rattle.study_notation.specs.Fen.{digits_told};
+
+/// The number that digits spell: one digit at least, and `most` at most.
+pub fn read_digits(text: &[u8], most: usize) -> Option<u16>
+    requires { most ≤ 4 }
+    ensures { result ≡ digits_told most text.now }
+{
+    if text.is_empty() || text.len() > most {
+        return None;
+    }
+    let mut n = 0u16;
+    for d in text {
+        if !d.is_ascii_digit() {
+            return None;
+        }
+        n = 10 * n + (*d - b'0') as u16;
+    }
+    Some(n)
+}
