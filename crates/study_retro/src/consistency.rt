@@ -1,10 +1,11 @@
 //! What the cells of a table give a number, and whether they tell it.
-ghost use Rattle.std.specs.Prelude.{◌≡◌, ◌<◌, ◌↔◌, true, false, length, IsTrue, IfSome, IfNone, ℕ};
+ghost use Rattle.std.specs.Prelude.{◌≡◌, ◌<◌, ◌↔◌, false, length, Some, IsTrue, IfSome, IfNone, ℕ};
 ghost use Rattle.study_retro.specs.Cells.{distance_of};
 ghost use Rattle.study_retro.specs.Numbered.{CellsAreRight, CellsGive, IsGivenAt, IsNumberedClass, IsOtherAt, OutsideIsRight, label_by};
 
 use crate::best_replies::BestReplies;
 use crate::game::{Game, Location};
+use crate::stepped::LabelledGame;
 use crate::value::{Value, value_at};
 
 /// The label of a position.
@@ -21,25 +22,28 @@ pub fn label<G: Game>(game: &G, cells: &[u8], at: &G::Position) -> Value
 }
 
 /// What the labels after a position's moves give it.
-pub fn value_from_moves<G: Game>(game: &G, cells: &[u8], at: &G::Position) -> Value
+pub fn value_from_moves<G: LabelledGame>(
+    game: &G,
+    cells: &[u8],
+    number: u32,
+    at: &G::Position,
+) -> Value
     requires laws { IsNumberedClass (G.numbered game.now) }
-    requires known { (G.numbered game.now).known at.now }
-    requires home { (G.numbered game.now).home at.now ≡ true }
+    requires at { (G.numbered game.now).position number ≡ Some at.now }
     requires cells { length cells.now ≡ (G.numbered game.now).size }
     ensures { CellsGive (G.numbered game.now) cells.now at.now result }
 {
     let moves = game.moves(at);
     let mut replies = BestReplies::new();
     for by in moves.as_slice() {
-        let to = game.played(at, *by);
-        let value = label(game, cells, &to);
+        let value = game.label_after(cells, number, at, by);
         replies = replies.with(value);
     }
     replies.value(game.is_mate(at))
 }
 
 /// Whether a number's cell tells what the cells give it.
-pub fn is_consistent<G: Game>(game: &G, cells: &[u8], number: u32) -> bool
+pub fn is_consistent<G: LabelledGame>(game: &G, cells: &[u8], number: u32) -> bool
     requires laws { IsNumberedClass (G.numbered game.now) }
     requires number { number < (G.numbered game.now).size }
     requires cells { length cells.now ≡ (G.numbered game.now).size }
@@ -49,12 +53,12 @@ pub fn is_consistent<G: Game>(game: &G, cells: &[u8], number: u32) -> bool
     let cell = cells[number as usize];
     match game.decode(number) {
         None => cell == 0,
-        Some(at) => value_from_moves(game, cells, &at) == value_at(cell),
+        Some(at) => value_from_moves(game, cells, number, &at) == value_at(cell),
     }
 }
 
 /// The first number whose cell tells something else than the cells give it.
-pub fn first_inconsistent<G: Game>(game: &G, cells: &[u8]) -> Option<u32>
+pub fn first_inconsistent<G: LabelledGame>(game: &G, cells: &[u8]) -> Option<u32>
     requires laws { IsNumberedClass (G.numbered game.now) }
     requires cells { length cells.now ≡ (G.numbered game.now).size }
     ensures other { IfSome result (λ n. (n < (G.numbered game.now).size) × IsOtherAt (G.numbered game.now) cells.now n) }
@@ -69,7 +73,7 @@ pub fn first_inconsistent<G: Game>(game: &G, cells: &[u8]) -> Option<u32>
 }
 
 /// Whether cells are right, whatever they hold.
-pub fn are_right<G: Game>(game: &G, cells: &[u8]) -> bool
+pub fn are_right<G: LabelledGame>(game: &G, cells: &[u8]) -> bool
     requires laws { IsNumberedClass (G.numbered game.now) }
     requires cells { length cells.now ≡ (G.numbered game.now).size }
     ensures { OutsideIsRight (G.numbered game.now) → IsTrue result ↔ CellsAreRight (G.numbered game.now) cells.now }

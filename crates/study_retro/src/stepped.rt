@@ -1,5 +1,6 @@
 //! What the levels ask of a game, besides its rules: so a game that reads its numbers may answer faster than by lists of moves.
 ghost use Rattle.std.specs.Prelude.{◌≡◌, ◌≢◌, ◌+◌, ◌<◌, ℕ, false, length, slice_index, IsTrue, None, Some};
+ghost use Rattle.study_retro.specs.Cells.{distance_of};
 ghost use Rattle.study_retro.specs.Propagation.{AreAdded, AreLowered, IsSetBy};
 ghost use Rattle.study_retro.specs.Numbered.{CellIsHeld, HasPosition, IsNumberedClass, LosesBy, NoLossBy, OutsideIsRight, StepLeads, label_by};
 
@@ -16,11 +17,12 @@ pub trait LabelledGame: Game {
         requires at { (Self.numbered self.now).position number ≡ Some at.now }
         requires by { (Self.numbered self.now).legal at.now by.now }
         requires cells { length cells.now ≡ (Self.numbered self.now).size }
-        ensures { result ≡ label_by (Self.numbered self.now) cells.now ((Self.numbered self.now).after at.now by.now) };
+        ensures value { result ≡ label_by (Self.numbered self.now) cells.now ((Self.numbered self.now).after at.now by.now) }
+        ensures near { distance_of result < 255 };
 }
 
 /// A game whose positions are tested and gone back from by their numbers.
-pub trait SteppedGame: Game {
+pub trait SteppedGame: LabelledGame {
     /// What a number begins with.
     fn first(&self, number: u32) -> Initial
         requires laws { IsNumberedClass (Self.numbered self.now) }

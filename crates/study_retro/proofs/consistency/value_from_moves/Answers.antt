@@ -11,10 +11,9 @@ pub loop-by-preserved : goal.loop-by-preserved
 loop-by-preserved g c =
     let labels = label_by (g.G.Game.numbered c.args.game.now) c.args.cells.now in
     let value_after : Move → Value = λ m. labels ((g.G.Game.numbered c.args.game.now).after c.args.at.now m) in
-    IsTally-take value_after c.as_slice-by-items.result.now c.loop-by.by-index c.by-item.result c.label-value.result
+    IsTally-take value_after c.as_slice-by-items.result.now c.loop-by.by-index c.by-item.result c.label_after-value.result
     _ _ _ _ _ _
-    c.loop-by-test.true (ap value_after (sym c.by-item.is) ∙ ap labels (sym c.played-to.ensures)
-    ∙ sym c.label-value.ensures.value) c.loop-by.invariant c.with-replies.ensures.lost c.with-replies.ensures.won
+    c.loop-by-test.true (ap value_after (sym c.by-item.is) ∙ sym c.label_after-value.ensures.value) c.loop-by.invariant c.with-replies.ensures.lost c.with-replies.ensures.won
     c.with-replies.ensures.drawn
 
 pub returns : goal.returns

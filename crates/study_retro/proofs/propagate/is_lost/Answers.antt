@@ -16,7 +16,7 @@ returns-then-not-is_won g c =
     let here = subst (λ (x : Move). Contains c.moves-moves.result.items x) (sym c.by-item.is) there in (
       λ e. absurd (let no : false ≡ true = e in cc),
       λ h. let w = h.each ((g.G.Game.numbered c.args.game.now).after c.args.at.now d) (d, c.moves-moves.ensures.only d here, refl) in
-          absurd (let y = c.is_won.ensures.1 (w.0, c.label_after.ensures ∙ w.1, w.2) in
+          absurd (let y = c.is_won.ensures.1 (w.0, c.label_after.ensures.value ∙ w.1, w.2) in
           let n = c.if-not-is_won.true in let no : true ≡ false = sym y ∙ n in cc),
     )
 
@@ -31,7 +31,7 @@ loop-by-preserved g c =
     × (n ≤ c.args.level)) ms c.loop-by.by-index d c.loop-by-test.true c.loop-by.invariant (
       w.0,
       ap (λ (x : Move). labels ((g.G.Game.numbered c.args.game.now).after c.args.at.now x)) (sym c.by-item.is)
-          ∙ (sym c.label_after.ensures ∙ w.1),
+          ∙ (sym c.label_after.ensures.value ∙ w.1),
       w.2,
     )
 

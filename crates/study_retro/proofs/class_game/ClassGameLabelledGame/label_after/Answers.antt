@@ -17,8 +17,8 @@ label-requires-clause-known g c =
     subst (LeadsOn c.args.self.now.class) (sym c.played-to.ensures.value)
     (c.requires.laws.closed c.args.at.now (after c.args.at.now c.args.by.now) here.0 here.1 (c.args.by.now, c.requires.by, refl))
 
-pub returns-in-Some : goal.returns-in-Some
-returns-in-Some g c =
+pub returns-in-Some-clause-value : goal.returns-in-Some-clause-value
+returns-in-Some-clause-value g c =
     let is = c.in-Some.ensures in
     c.value_at.ensures
     ∙ quiet_label c.args.self.now.class c.args.number c.args.at.now c.requires.at is.0 c.args.by.now c.requires.by is.1
