@@ -10,6 +10,7 @@ ghost use Rattle.study_view.specs.Asked.{HasToldEach, HasToldSome};
 use arrayvec::ArrayVec;
 use study_board::Position;
 use study_marks::Aim;
+use study_moves::MAX_MOVES;
 use study_prober::{ProbeFault, Values};
 use study_retro::Value;
 use study_review::{Continuation, Node, holding_moves, missing_moves};
@@ -18,7 +19,7 @@ use study_review::{Continuation, Node, holding_moves, missing_moves};
 pub fn ask_moves<V: Values>(
     node: &Node<'_>,
     values: &mut V,
-) -> Result<ArrayVec<Continuation, 256>, ProbeFault>
+) -> Result<ArrayVec<Continuation, MAX_MOVES>, ProbeFault>
     requires depth { node.now.depth + 1 < 2 ^ 64 }
     ensures game { V.is_honest values.old → IfOk result (λ list.
         AreChosen (λ v. true) node.now.position.now (legal_list node.now.position.now) list.items) }
@@ -44,7 +45,7 @@ pub fn ask_first_moves<V: Values>(
     aim: &Aim,
     q: &Position,
     values: &mut V,
-) -> Result<ArrayVec<Continuation, 256>, ProbeFault>
+) -> Result<ArrayVec<Continuation, MAX_MOVES>, ProbeFault>
     ensures game { V.is_honest values.old → IfOk result (λ list. AreHoldingMoves aim.now 0 q.now list.items) }
     ensures legal { IfOk result (λ list. All (λ x. is_legal q.now x.played ≡ true) list.items) }
     ensures asked { HasToldSome V.held V.gives V.may_fail V.asked_of V.failed_of V.is_honest values.old result values.new }

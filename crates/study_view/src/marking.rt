@@ -9,6 +9,7 @@ ghost use Rattle.study_view.specs.Marking.{holding_count, told_line};
 use crate::words::add_move;
 use std::alloc::{AllocError, Allocator};
 use study_marks::{Aim, MoveMark, hero_moves, holds, only_or_dual};
+use study_moves::MAX_MOVES;
 use study_notation::Start;
 use study_retro::Value;
 use study_review::Continuation;
@@ -26,7 +27,7 @@ pub struct Here<'n> {
 /// How many of these moves from this depth hold.
 fn holding_count(aim: &Aim, depth: usize, list: &[Continuation]) -> usize
     requires depth { depth + 1 < 2 ^ 64 }
-    requires few { length list.now ≤ 256 }
+    requires few { length list.now ≤ MAX_MOVES }
     ensures value { result ≡ holding_count aim.now depth list.now }
     ensures few { result ≤ length list.now }
 {
@@ -42,7 +43,7 @@ fn holding_count(aim: &Aim, depth: usize, list: &[Continuation]) -> usize
 /// The mark of a move to a position with this value, where so many of the legal moves hold.
 fn mark_of(here: &Here<'_>, count: usize, after: Value) -> MoveMark
     requires depth { here.now.depth + 1 < 2 ^ 64 }
-    requires few { count ≤ 256 }
+    requires few { count ≤ MAX_MOVES }
     ensures { result ≡ mark_of (hero_moves here.now.aim.now here.now.depth)
         (holds here.now.aim.now here.now.depth here.now.value) (holds here.now.aim.now (here.now.depth + 1) after) count }
 {
@@ -71,7 +72,7 @@ fn add_told<A: Allocator>(
     x: &Continuation,
 ) -> Result<(), AllocError>
     requires depth { here.now.depth + 1 < 2 ^ 64 }
-    requires few { count ≤ 256 }
+    requires few { count ≤ MAX_MOVES }
     requires legal { is_legal here.now.start.now.position x.now.played ≡ true }
     ensures { OnOk result (text.new ≡ text.old
         ++ told_line here.now.aim.now here.now.depth here.now.start.now here.now.value count x.now) }
@@ -88,7 +89,7 @@ fn add_each<A: Allocator>(
     list: &[Continuation],
 ) -> Result<(), AllocError>
     requires depth { here.now.depth + 1 < 2 ^ 64 }
-    requires few { count ≤ 256 }
+    requires few { count ≤ MAX_MOVES }
     requires legal { All (λ x. is_legal here.now.start.now.position x.played ≡ true) list.now }
     ensures { OnOk result (text.new ≡ text.old
         ++ flat_map (told_line here.now.aim.now here.now.depth here.now.start.now here.now.value count) list.now) }
@@ -106,7 +107,7 @@ pub fn add_moves<A: Allocator>(
     list: &[Continuation],
 ) -> Result<(), AllocError>
     requires depth { here.now.depth + 1 < 2 ^ 64 }
-    requires few { length list.now ≤ 256 }
+    requires few { length list.now ≤ MAX_MOVES }
     requires legal { All (λ x. is_legal here.now.start.now.position x.played ≡ true) list.now }
     ensures { OnOk result (text.new ≡ text.old
         ++ flat_map (told_line here.now.aim.now here.now.depth here.now.start.now here.now.value

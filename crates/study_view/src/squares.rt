@@ -16,7 +16,7 @@ use crate::fault::SurveyFault;
 use arrayvec::ArrayVec;
 use study_board::{Man, Position, Square};
 use study_marks::{Aim, Stipulation, aim_of, holds};
-use study_moves::Move;
+use study_moves::{MAX_MOVES, Move};
 use study_prober::{ProbeFault, Values};
 use study_retro::Value;
 use study_review::Continuation;
@@ -100,7 +100,7 @@ pub fn with_man_at(p: &Position, from: Square, to: Square) -> Option<Position>
 
 /// What is told by the first moves that hold.
 fn by_moves(value: Value, list: &[Continuation]) -> Standing
-    requires { length list.now ≤ 256 }
+    requires { length list.now ≤ MAX_MOVES }
     ensures { result ≡ by_moves value list.now }
 {
     match list.split_first() {

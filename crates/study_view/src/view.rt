@@ -23,6 +23,7 @@ use crate::words::{add_at, add_study};
 use std::alloc::{AllocError, Allocator};
 use std::io::Write;
 use study_marks::{Bench, aim_of};
+use study_moves::MAX_MOVES;
 use study_notation::Start;
 use study_pgn::root_mark;
 use study_prober::Values;
@@ -63,7 +64,7 @@ fn text_of<'a, 'b, A: Allocator, B: Allocator>(
 ) -> Result<Text<'a, A>, AllocError>
     requires short { length steps.now ≤ 256 }
     requires depth { here.now.depth ≡ length steps.now }
-    requires few { length list.now ≤ 256 }
+    requires few { length list.now ≤ MAX_MOVES }
     requires legal { All (λ x. is_legal here.now.start.now.position x.played ≡ true) list.now }
     ensures { IfOk result (λ text. text ≡ study_line (marked bench.now).start ++ (stipulation_line (marked bench.now)
         ++ (flat_map (node_line (marked bench.now)) (written_order (marked bench.now)) ++ (at_line steps.now here.now.start.now.position

@@ -6,7 +6,7 @@ use std::process::Abort;
 use study_board::Position;
 use study_marks::Bench;
 use study_material::Class;
-use study_moves::{is_legal, played};
+use study_moves::{MAX_MOVES, is_legal, played};
 use study_prober::Values;
 use study_retro::Value;
 use study_review::{
@@ -59,7 +59,7 @@ fn list_of<'a, V: Values>(
     steps: &[u16],
     list: List,
     values: &mut V,
-) -> (Position, ArrayVec<Continuation, 256>) {
+) -> (Position, ArrayVec<Continuation, MAX_MOVES>) {
     if list == List::Alternatives {
         let made = made_in(bench, steps).expect(rt, "a move");
         assert!(rt; made.before.depth <= 256);
