@@ -20,13 +20,6 @@ pub fn as_text(bytes: &[u8]) -> &str
     }
 }
 
-/// Whether each byte is printable ASCII.
-pub fn is_printable(line: &[u8]) -> bool
-    ensures { result ≡ list_all is_printable line.now }
-{
-    line.iter().all(|b| *b >= 0x20 && *b <= 0x7e)
-}
-
 /// How much of a text stands before the spaces at its end.
 fn len_without_end_spaces(text: &[u8]) -> usize
     ensures value { take result text.now ≡ ended text.now }

@@ -12,7 +12,7 @@ mod parser;
 mod path;
 mod path_text;
 
-pub use arguments::{as_text, is_printable, read_one_word};
+pub use arguments::{as_text, read_one_word};
 pub use command::{
     Command, FenCommand, Keyword, MoveCount, NodeCommand, NodeQuery, PathWord, SyntaxFault,
     TableCommand,

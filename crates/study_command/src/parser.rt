@@ -9,14 +9,14 @@ ghost use Rattle.study_command.specs.Parser.{stipulation_of, tag_told, insert_as
 ghost use Rattle.study_command.specs.Parser.{tag_asked, path_in, one_word, two_words, arguments_needed, word_asked, word_of};
 ghost use Rattle.study_command.specs.Parser.{begins_comment, command_of, line_seen, count_seen, path_seen};
 
-use crate::arguments::{as_text, is_printable, read_one_word, read_text, read_two_words};
+use crate::arguments::{as_text, read_one_word, read_text, read_two_words};
 use crate::command::{
     Command, FenCommand, Keyword, MoveCount, NodeCommand, NodeQuery, PathWord, SyntaxFault,
     TableCommand,
 };
 use crate::path_text::{read_path_word, read_place};
 use study_board::Side;
-use study_marks::{Goal, MateMoves, Stipulation, TagName};
+use study_marks::{Goal, MateMoves, Stipulation, TagName, is_printable};
 use study_text::next_word;
 
 /// What the line asks for: nothing in a comment or between words, else a command, or the first fault of form.

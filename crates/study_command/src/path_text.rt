@@ -7,6 +7,7 @@ ghost use Rattle.study_command.specs.Paths.{is_place, place_told, is_path, is_pa
 ghost use Rattle.study_command.specs.Parser.{path_of, path_seen};
 
 use crate::command::PathWord;
+use study_notation::read_digits;
 
 /// `root`, or child places joined by `.`.
 #[tactic(auto, unfolding(crate::specs::Paths::is_path_word))]
@@ -53,16 +54,5 @@ fn are_digits(part: &[u8]) -> bool
 pub fn read_place(text: &[u8]) -> Option<u16>
     ensures value { result ≡ place_told text.now }
 {
-    if text.is_empty() || text.len() > 3 {
-        return None;
-    }
-    let mut n = 0u16;
-    for d in text {
-        let d = *d;
-        if d < b'0' || d > b'9' {
-            return None;
-        }
-        n = 10 * n + (d - b'0') as u16;
-    }
-    Some(n)
+    read_digits(text, 3)
 }

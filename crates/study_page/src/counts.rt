@@ -17,7 +17,7 @@ fn count_of(men: &[Man], side: Side, kind: Kind) -> u32 {
 fn count_side(men: &[Man], side: Side) -> u32 {
     let mut count = 0u32;
     for man in men {
-        if man.side.is(side) {
+        if man.side == side {
             count = count.saturating_add(1);
         }
     }

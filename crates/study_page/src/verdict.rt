@@ -29,7 +29,7 @@ pub fn stamp_of(stipulation: &Stipulation, first: Side, root: &Mark) -> Stamp
     ensures { (s : Study AMark) → s.stipulation ≡ stipulation.now → s.start.position.to_move ≡ first → s.tree.label ≡ root.now
         → result ≡ stamp_of (verdict s) }
 {
-    if !is_right(stipulation.goal, stipulation.hero.is(first), root.value) {
+    if !is_right(stipulation.goal, stipulation.hero == first, root.value) {
         Stamp::Wrong
     } else if root.faults == 0 {
         Stamp::Sound

@@ -6,7 +6,6 @@ ghost use Rattle.study_review.specs.Continuations.{is_among, others};
 
 use arrayvec::ArrayVec;
 use study_board::Position;
-use study_marks::same_move;
 use study_moves::{Move, MoveList, legal_moves};
 
 /// Whether the move is one of these.
@@ -15,7 +14,7 @@ pub fn is_among(m: &Move, moves: &[Move]) -> bool
 {
     match moves.split_first() {
         None => false,
-        Some((n, rest)) => same_move(m, n) || is_among(m, rest),
+        Some((n, rest)) => m == n || is_among(m, rest),
     }
 }
 

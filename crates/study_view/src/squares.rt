@@ -64,7 +64,7 @@ pub struct Question<'q> {
 fn moved_man(from: Square, to: Square, man: Man) -> Man
     ensures { result ≡ moved_man from to man }
 {
-    if man.at.number() == from.number() {
+    if man.at == from {
         Man {
             side: man.side,
             kind: man.kind,

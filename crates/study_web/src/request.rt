@@ -14,10 +14,9 @@ ghost use Rattle.study_web.specs.Request.{passed as passed_asked};
 use crate::words::read_square;
 use study_board::Square;
 use study_command::{
-    PathWord, SyntaxFault, as_text, is_printable, read_one_word, read_path_word, read_place,
-    read_side,
+    PathWord, SyntaxFault, as_text, read_one_word, read_path_word, read_place, read_side,
 };
-use study_marks::{Goal, MateMoves, Stipulation};
+use study_marks::{Goal, MateMoves, Stipulation, is_printable};
 use study_material::Class;
 use study_notation::{FenFault, Start, read_fen};
 use study_reply::Refusal;
