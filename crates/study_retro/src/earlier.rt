@@ -11,7 +11,7 @@ ghost use Rattle.study_index.specs.Computed.{index_of, position_numbered};
 ghost use Rattle.study_retro.specs.Predecessors.{IsPlainNumber, IsNumberBefore, ComesBefore, PassesNone, IsTwinless, LeavesNone};
 
 use arrayvec::ArrayVec;
-use study_board::{Man, Position, Square, distance};
+use study_board::{Man, Position, Square};
 use study_index::{EN_PASSANT_BIT, cells, decode, index, number_moved};
 use study_material::Class;
 use study_moves::{Move, played, unmoves, unplayed};
@@ -131,7 +131,7 @@ fn passes(from: &Position, by: &Move) -> bool
     requires { is_legal from.now by.now ≡ true }
     ensures { result ≡ false → (after from.now by.now).passed ≡ None }
 {
-    if distance(by.origin.rank(), by.target.rank()) != 2 {
+    if by.origin.rank().abs_diff(by.target.rank()) != 2 {
         return false;
     }
     played(from, *by).passed().is_some()
@@ -153,7 +153,7 @@ pub fn has_both_pawns(class: Class) -> bool
 pub fn may_pass(class: Class, origin: Square, target: Square) -> bool
     ensures { result ≡ false → PassesNone class origin target }
 {
-    has_both_pawns(class) && distance(origin.rank(), target.rank()) == 2
+    has_both_pawns(class) && origin.rank().abs_diff(target.rank()) == 2
 }
 
 /// Whether two squares are beside each other on a rank from which a pawn can capture in passing.
