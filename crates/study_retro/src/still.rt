@@ -87,11 +87,8 @@ fn has_king_in(men: &[Man], side: Side, set: SquareSet) -> bool
 fn has_square_twice(men: &[Man]) -> bool
     ensures { result ≡ has_square_twice men.now }
 {
-    men.iter().any(|x| men
-        .iter()
-        .filter(|y| y.at.number() == x.at.number())
-        .count()
-        > 1)
+    men.iter()
+        .any(|x| men.iter().filter(|y| y.at == x.at).count() > 1)
 }
 
 /// Whether a pawn of the side is one step from its last rank.
