@@ -18,6 +18,7 @@ pub mod CaptureLemmas
 pub mod CellsLemmas
 pub mod BackLemmas
 pub mod StillChess
+pub mod RowLemmas
 pub mod SquaresLeft
 pub mod DueTally
 pub mod QuietClass

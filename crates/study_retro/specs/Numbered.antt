@@ -1,5 +1,6 @@
 -- Not part of any public contract: a game whose positions have numbers, and what a table of its cells says of it.
-use Rattle.std.specs.Prelude.{◌≡◌, ◌≢◌, ℕ, ◌+◌, ◌<◌, Bool, false, IsTrue, List, slice_index, Option, Some}
+use Rattle.std.specs.Prelude.{◌≡◌, ◌≢◌, ℕ, ◌+◌, ◌*◌, ◌<◌, Bool, true, false, IsTrue, List, slice_index, Option, Some}
+use Rattle.study_board.specs.Sets.{has}
 use Rattle.study_moves.specs.declared.moves.Move.{Move}
 use Rattle.study_retro.specs.declared.value.Value.{Value}
 use Rattle.study_retro.specs.declared.game.Location.{Location}
@@ -91,6 +92,10 @@ module _ {P : Type 0} where
   -- what cells are worth where the mates within k plies are set, and no others
   abbrev pub CellIsHeld : Numbered P → Bool → ℕ → ℕ → ℕ → Type 0
   CellIsHeld g far k n c = IsHeldCell (leads_in g) g.mate g.home far k (g.position n) c
+
+  -- so at the numbers of a row whose squares are in the set nothing is known: 64 numbers, one for each square
+  abbrev pub IsUnknownIn : Numbered P → ℕ → ℕ → Type 0
+  IsUnknownIn g row set = OutsideIsRight g → (y : ℕ) → y < 64 → has set y ≡ true → CellIsHeld g false 0 (64 * row + y) 0
 
   abbrev pub CellsAreHeld : Numbered P → Bool → ℕ → List ℕ → Type 0
   CellsAreHeld g far k cells = AreHeld (leads_in g) g.mate g.home far k g.position g.size cells

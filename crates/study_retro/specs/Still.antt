@@ -1,9 +1,14 @@
 -- Not part of any public contract: the quiet moves of a position, and what they lead to.
-use Rattle.std.specs.Prelude.{◌≡◌, ℕ, ◌≤◌, true, false, List, None}
+use Rattle.std.specs.Prelude.{◌≡◌, ℕ, ◌≤◌, Bool, true, false, not, ◌&&◌, ◌||◌, ◌==◌, if◌then◌else◌, List, None}
+use Rattle.std.specs.List.{list_any}
 use Rattle.study_board.specs.declared.men.Side.{Side}
 use Rattle.study_board.specs.declared.men.Side.TheVariants.{White, Black}
+use Rattle.study_board.specs.declared.men.Kind.TheVariants.{King, Pawn}
 use Rattle.study_board.specs.declared.men.Man.{Man}
-use Rattle.study_board.specs.Position.{Position}
+use Rattle.study_board.specs.Geometry.{rank_of}
+use Rattle.study_board.specs.Men.{is_attacked, is_man, is_pawn, other_side, same_kind, same_side}
+use Rattle.study_board.specs.Position.{Position, in_check}
+use Rattle.study_board.specs.Sets.{has}
 use Rattle.study_moves.specs.declared.moves.Move.{Move}
 use Rattle.study_moves.specs.Game.{IsMate}
 use Rattle.study_moves.specs.Rules.{is_legal, after, reaches_last_rank}
@@ -44,3 +49,31 @@ QuietMovesLose g cells k q = (m : Move) → is_legal q m ≡ true → IsQuiet q 
 abbrev pub QuietMovesLoseBy : Numbered Position → List ℕ → ℕ → Position → Man → Type 0
 QuietMovesLoseBy g cells k q man =
     (x : ℕ) → is_legal q (move_to man x) ≡ true → IsQuiet q (move_to man x) → IsWonAfter g cells k q (move_to man x)
+
+-- none of the men of the side bears on one of the other side, none of its pawns is a step from its last rank, and it is not in check
+pub record AreStill (men : List Man) (side : Side) : Type 0 where
+  pub spares : list_any (λ m. same_side m.side (other_side side) && is_attacked men side m.at) men ≡ false
+  pub keeps : list_any (λ m. is_man side Pawn m && (rank_of m.at == rank_before_last side)) men ≡ false
+  pub safe : in_check men side ≡ false
+
+-- the man on another square; and one of the other side there, which bears on a square from where the man would bear on it
+abbrev pub on_square : Man → ℕ → Man
+on_square man x = record { side = man.side; kind = man.kind; at = x }
+
+abbrev pub facing : Man → ℕ → Man
+facing man x = record { side = other_side man.side; kind = man.kind; at = x }
+
+-- where the man bears on the other one, not all is still: that is one of the other side, and the king if it is not the man's turn
+abbrev pub matters : Man → Side → Man → Bool
+matters man side m = not (same_side m.side man.side) && (same_side man.side side || same_kind m.kind King)
+
+-- on x the man promotes with its next step, if it is the man's turn; or it stands on a square of the set, on which it can be taken
+abbrev pub is_exposed : Man → Side → ℕ → ℕ → Bool
+is_exposed man side attacked x = if same_side man.side side then is_pawn man && (rank_of x == rank_before_last side) else has attacked x
+
+-- a king is the last man, or a man of the side bears on another of the others, or promotes with its next step, or the side is in check
+abbrev pub is_restless : List Man → Man → Side → ℕ → ℕ → Bool
+is_restless others last side ours theirs = same_kind last.kind King
+    || list_any (λ m. same_side m.side (other_side side) && has ours m.at) others
+    || list_any (λ m. is_man side Pawn m && (rank_of m.at == rank_before_last side)) others
+    || list_any (λ m. is_man side King m && has theirs m.at) others

@@ -14,13 +14,14 @@ use crate::escapes::{escapes, has_move};
 use crate::game::{Game, Location};
 use crate::initial::{Initial, initial_by_moves};
 use crate::propagate::{is_lost_by_moves, lower_by_moves, mark_by_moves};
+use crate::rows::still_in_row;
 use crate::stepped::{LabelledGame, SteppedGame};
 use crate::still::{begins_unknown, may_promote, stays};
 use crate::table_set::TableSet;
 use crate::value::{Value, value_at};
 use arrayvec::ArrayVec;
 use std::alloc::Allocator;
-use study_board::{Position, is_occupied};
+use study_board::{Position, SquareSet, is_occupied};
 use study_index::{EN_PASSANT_BIT, cells, decode, index, number_moved, told};
 use study_material::{Class, class_of};
 use study_moves::{Move, MoveList, is_mate, legal_moves, played};
@@ -147,6 +148,13 @@ impl<'t, 'a, A: Allocator> SteppedGame for ClassGame<'t, 'a, A> {
             };
         }
         initial_by_moves(self, number)
+    }
+
+    fn unknown_in_row(&self, row: u32) -> SquareSet {
+        if row >= EN_PASSANT_BIT / 64 {
+            return SquareSet::empty();
+        }
+        still_in_row(self.class, row)
     }
 
     fn lower_before(&self, cells: &mut [u8], number: u32, level: u8) -> u64 {

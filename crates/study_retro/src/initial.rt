@@ -1,13 +1,14 @@
 //! What a number is worth before the levels: the mates, and what the moves out of the class alone give.
-ghost use Rattle.std.specs.Prelude.{◌≡◌, ◌<◌, ℕ, true, false, length, None, Some};
+ghost use Rattle.std.specs.Prelude.{◌≡◌, ◌≢◌, ◌<◌, ◌/◌, ◌%◌, ℕ, true, false, length, None, Some};
 ghost use Rattle.study_retro.specs.Propagation.{IsInitial};
-ghost use Rattle.study_retro.specs.Numbered.{CellIsHeld, CellsAreHeld, CellsHavePositions, IsNumberedClass, OutsideGives, OutsideIsRight};
+ghost use Rattle.study_retro.specs.Numbered.{CellIsHeld, CellsAreHeld, CellsHavePositions, IsNumberedClass, IsUnknownIn, OutsideGives, OutsideIsRight};
 ghost use Rattle.study_retro.specs.BestReplies.{drawn_with, lost_with, won_with};
 
 use crate::best_replies::BestReplies;
 use crate::game::{Game, Location};
 use crate::stepped::SteppedGame;
 use crate::value::Value;
+use study_board::{Square, SquareSet};
 
 /// Takes the value of a position out of the class into a replies.
 pub fn with_conversion<G: Game>(game: &G, replies: BestReplies, at: &G::Position) -> BestReplies
@@ -95,6 +96,38 @@ pub fn initial_by_moves<G: Game>(game: &G, number: u32) -> Initial
     initial_by_value(value_by_conversion(game, &at))
 }
 
+/// At which numbers of its row nothing is known, told anew where the row begins.
+#[inline]
+fn unknown_at<G: SteppedGame>(game: &G, number: u32, unknown: SquareSet) -> SquareSet
+    requires laws { IsNumberedClass (G.numbered game.now) }
+    requires before { number % 64 ≢ 0 → IsUnknownIn (G.numbered game.now) (number / 64) unknown }
+    ensures { IsUnknownIn (G.numbered game.now) (number / 64) result }
+{
+    if number % 64 == 0 {
+        game.unknown_in_row(number / 64)
+    } else {
+        unknown
+    }
+}
+
+/// What a number begins with, by the numbers of its row at which nothing is known.
+#[inline]
+fn first_in_row<G: SteppedGame>(game: &G, number: u32, unknown: SquareSet) -> Initial
+    requires laws { IsNumberedClass (G.numbered game.now) }
+    requires number { number < (G.numbered game.now).size }
+    requires unknown { IsUnknownIn (G.numbered game.now) (number / 64) unknown }
+    ensures held { OutsideIsRight (G.numbered game.now) → CellIsHeld (G.numbered game.now) result.far 0 number result.cell }
+    ensures none { (G.numbered game.now).position number ≡ None → result.cell ≡ 0 }
+{
+    if unknown.contains(Square::at((number % 64) as u8)) {
+        return Initial {
+            cell: 0,
+            far: false,
+        };
+    }
+    game.first(number)
+}
+
 /// What all numbers begin with, and whether some mate cannot be told.
 pub fn initialise<G: SteppedGame>(game: &G, cells: &mut [u8]) -> bool
     requires laws { IsNumberedClass (G.numbered game.now) }
@@ -103,8 +136,10 @@ pub fn initialise<G: SteppedGame>(game: &G, cells: &mut [u8]) -> bool
     ensures numbered { CellsHavePositions (G.numbered game.now) cells.new }
 {
     let mut far = false;
+    let mut unknown = SquareSet::empty();
     for number in 0..game.cells() {
-        let first = game.first(number);
+        unknown = unknown_at(game, number, unknown);
+        let first = first_in_row(game, number, unknown);
         cells[number as usize] = first.cell;
         if first.far {
             far = true;

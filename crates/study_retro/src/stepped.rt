@@ -2,11 +2,12 @@
 ghost use Rattle.std.specs.Prelude.{◌≡◌, ◌≢◌, ◌+◌, ◌<◌, ℕ, false, length, slice_index, IsTrue, None, Some};
 ghost use Rattle.study_retro.specs.Cells.{distance_of};
 ghost use Rattle.study_retro.specs.Propagation.{AreAdded, AreLowered, IsSetBy};
-ghost use Rattle.study_retro.specs.Numbered.{CellIsHeld, HasPosition, IsNumberedClass, LosesBy, NoLossBy, OutsideIsRight, StepLeads, label_by};
+ghost use Rattle.study_retro.specs.Numbered.{CellIsHeld, HasPosition, IsNumberedClass, IsUnknownIn, LosesBy, NoLossBy, OutsideIsRight, StepLeads, label_by};
 
 use crate::game::Game;
 use crate::initial::Initial;
 use crate::value::Value;
+use study_board::SquareSet;
 use study_moves::Move;
 
 /// A game that tells where a move leads by the number of the position before it.
@@ -29,6 +30,11 @@ pub trait SteppedGame: LabelledGame {
         requires number { number < (Self.numbered self.now).size }
         ensures held { OutsideIsRight (Self.numbered self.now) → CellIsHeld (Self.numbered self.now) result.far 0 number result.cell }
         ensures none { (Self.numbered self.now).position number ≡ None → result.cell ≡ 0 };
+
+    /// Of the 64 numbers of a row, some of which nothing is known before the levels: a square for each, in their order.
+    fn unknown_in_row(&self, row: u32) -> SquareSet
+        requires laws { IsNumberedClass (Self.numbered self.now) }
+        ensures { IsUnknownIn (Self.numbered self.now) row result };
 
     /// A position that is lost in `level` plies: what leads to it is won in one more.
     fn lower_before(&self, cells: &mut [u8], number: u32, level: u8) -> u64

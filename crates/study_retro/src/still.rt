@@ -20,7 +20,7 @@ use study_material::Class;
 
 /// The rank from which a pawn of the side promotes.
 #[inline]
-fn rank_before_last(side: Side) -> u8
+pub fn rank_before_last(side: Side) -> u8
     ensures { result ≡ rank_before_last side }
 {
     match side {
@@ -43,7 +43,7 @@ fn attacks_if_side(men: &[Man], m: &Man, side: Side) -> SquareSet
 
 /// The squares on which some man of the side bears.
 #[inline]
-fn attacked_squares(men: &[Man], side: Side) -> SquareSet
+pub fn attacked_squares(men: &[Man], side: Side) -> SquareSet
     ensures { (x : ℕ) → x < 64 → has result x ≡ is_attacked men.now side x }
 {
     let mut set = SquareSet::empty();
@@ -55,7 +55,7 @@ fn attacked_squares(men: &[Man], side: Side) -> SquareSet
 
 /// Whether a man of the side stands on a square of the set. The loop has no way out, so that it is no guess for the processor.
 #[inline]
-fn has_man_in(men: &[Man], side: Side, set: SquareSet) -> bool
+pub fn has_man_in(men: &[Man], side: Side, set: SquareSet) -> bool
     ensures { result ≡ list_any (λ m. same_side m.side side && has set m.at) men.now }
 {
     let mut found = false;
@@ -69,7 +69,7 @@ fn has_man_in(men: &[Man], side: Side, set: SquareSet) -> bool
 
 /// Whether a king of the side stands on a square of the set.
 #[inline]
-fn has_king_in(men: &[Man], side: Side, set: SquareSet) -> bool
+pub fn has_king_in(men: &[Man], side: Side, set: SquareSet) -> bool
     ensures { result ≡ list_any (λ m. is_man side King m && has set m.at) men.now }
 {
     let mut found = false;

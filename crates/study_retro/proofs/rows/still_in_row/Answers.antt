@@ -1,0 +1,24 @@
+use Rattle.std.proofs.Common.{◌≡◌, ◌+◌, ◌-◌, ◌*◌, ◌<◌, List, [], ◌∷◌, ◌++◌, length, take, arith, ◌∙◌, sym, ap}
+use Rattle.std.proofs.lemmas.List.{take_all, take_more}
+use Rattle.study_board.specs.declared.men.Man.{Man}
+use Rattle.study_retro.proofs.RowLemmas.{row_told, others_on_board, still_position}
+use Rattle.study_retro.specs.Predecessors.{AreTold}
+use Rattle.study_retro.specs.Still.{on_square}
+use Rattle.study_retro.proofs.rows.still_in_row.Goals as goal
+
+pub returns-in-len1-up : goal.returns-in-len1-up
+returns-in-len1-up c = λ y ly e q at.
+    let men = c.as_slice.result.now in
+    let n = length men in
+    let some = c.in-len1-up.len_at_least in
+    let last = c.last-item.result in
+    let others = take (n - 1) men in
+    let whole : others ++ last ∷ [] ≡ men =
+    ap (λ (m : Man). others ++ m ∷ []) c.last-item.is ∙ sym (take_more men (n - 1) last (omega (arith, some))) ∙ take_all (n - 1 + 1) men (omega (arith, some)) in
+    let side = c.told-setup.result.to_move in
+    let first : AreTold c.args.class (64 * c.args.row) (others ++ last ∷ []) side = (whole ∙ c.as_slice.ensures.value ∙ c.told-setup.ensures.men, c.told-setup.ensures.to_move) in
+    let told = row_told c.args.class c.args.row y ly c.requires others last side first in
+    let low : 64 * c.args.row + y < 16777216 = (let r = c.requires in omega (arith, r, ly)) in
+    let l = on_square last y in
+    still_position c.args.class (64 * c.args.row + y) q at low others l side told
+    (c.still_squares.ensures y ly e (others_on_board c.args.class (64 * c.args.row + y) q at low others l side told))

@@ -1,0 +1,115 @@
+//! Numbers in a row, 64 that differ in the square of the man of the last slot alone: on which of its squares nothing is known
+//! before the levels is found for all of them at once.
+ghost use Rattle.std.specs.Prelude.{◌≡◌, ◌<◌, ◌+◌, ◌*◌, ◌&&◌, ◌==◌, ℕ, true, [], ◌∷◌, ◌++◌, Some};
+ghost use Rattle.std.specs.List.{list_any, All};
+ghost use Rattle.study_board.specs.Geometry.{rank_of};
+ghost use Rattle.study_board.specs.Men.{bears_on};
+ghost use Rattle.study_board.specs.Position.{Position as Seen};
+ghost use Rattle.study_board.specs.Sets.{has};
+ghost use Rattle.study_index.specs.Computed.{position_numbered};
+ghost use Rattle.study_retro.specs.Still.{AreStill, IsStill, facing, is_exposed, is_restless, matters, on_square, rank_before_last};
+
+use crate::still::{attacked_squares, has_king_in, has_man_in, may_promote, rank_before_last};
+use study_board::{Kind, Man, Side, Square, SquareSet, attacks, between};
+use study_index::{Setup, told};
+use study_material::Class;
+
+/// Whether all is not still where the man of the last slot bears on the other one.
+#[inline]
+fn matters(last: &Man, to_move: Side, m: &Man) -> bool
+    ensures { result ≡ matters last.now to_move m.now }
+{
+    m.side != last.side && (last.side == to_move || m.kind == Kind::King)
+}
+
+/// The squares from which the man of the last slot would bear on the other one on an empty board, where that matters.
+#[inline]
+fn squares_against(last: &Man, to_move: Side, m: &Man) -> SquareSet
+    ensures { (y : ℕ) → y < 64 → has result y ≡ (matters last.now to_move m.now && bears_on [] (facing last.now m.now.at) y) }
+{
+    if !matters(last, to_move, m) {
+        return SquareSet::empty();
+    }
+    let facing = Man {
+        side: last.side.other(),
+        kind: last.kind,
+        at: m.at,
+    };
+    attacks(&[], &facing)
+}
+
+/// The squares from which the man of the last slot would bear on a man where that matters.
+#[inline]
+fn squares_bearing(others: &[Man], last: &Man, to_move: Side) -> SquareSet
+    ensures { (y : ℕ) → y < 64 → has result y ≡ list_any (λ m. matters last.now to_move m && bears_on [] (facing last.now m.at) y) others.now }
+{
+    let mut set = SquareSet::empty();
+    for m in others {
+        set = set.union(squares_against(last, to_move, m));
+    }
+    set
+}
+
+/// The squares of the rank from which a pawn of the side promotes.
+#[inline]
+fn promoting_squares(side: Side) -> SquareSet
+    ensures { (y : ℕ) → y < 64 → has result y ≡ (rank_of y == rank_before_last side) }
+{
+    let start = 8 * rank_before_last(side);
+    let (first, last) = (Square::at(start), Square::at(start + 7));
+    SquareSet::of(first).union(between(first, last)).union(SquareSet::of(last))
+}
+
+/// The squares on which the man of the last slot is not to stand: those from which it promotes, or on which it can be taken.
+#[inline]
+fn squares_exposed(last: &Man, to_move: Side, attacked: SquareSet) -> SquareSet
+    ensures { (y : ℕ) → y < 64 → has result y ≡ is_exposed last.now to_move attacked y }
+{
+    if last.side != to_move {
+        attacked
+    } else if last.kind == Kind::Pawn {
+        promoting_squares(to_move)
+    } else {
+        SquareSet::empty()
+    }
+}
+
+/// Whether the men may not be still wherever the man of the last slot stands, by the squares on which the side to move and
+/// the other side bear without it.
+#[inline]
+fn are_restless(others: &[Man], last: &Man, to_move: Side, ours: SquareSet, theirs: SquareSet) -> bool
+    ensures { result ≡ is_restless others.now last.now to_move ours theirs }
+{
+    last.kind == Kind::King
+        || has_man_in(others, to_move.other(), ours)
+        || may_promote(others, to_move)
+        || has_king_in(others, to_move, theirs)
+}
+
+/// Squares of the man of the last slot with which the men are still.
+#[inline]
+fn still_squares(others: &[Man], last: &Man, to_move: Side) -> SquareSet
+    ensures { (y : ℕ) → y < 64 → has result y ≡ true → All (λ m. m.at < 64) others.now
+        → AreStill (others.now ++ on_square last.now y ∷ []) to_move }
+{
+    let ours = attacked_squares(others, to_move);
+    let theirs = attacked_squares(others, to_move.other());
+    if are_restless(others, last, to_move, ours, theirs) {
+        return SquareSet::empty();
+    }
+    squares_bearing(others, last, to_move)
+        .union(squares_exposed(last, to_move, ours))
+        .complement()
+}
+
+/// Squares of the man of the last slot in a row of numbers with which no position is worth anything before the levels.
+pub fn still_in_row(class: Class, row: u32) -> SquareSet
+    requires { row < 262144 }
+    ensures { (y : ℕ) → y < 64 → has result y ≡ true → (q : Seen) → position_numbered class (64 * row + y) ≡ Some q → IsStill q }
+{
+    let setup = told(class, 64 * row);
+    match setup.men.as_slice() {
+        [others @ .., last] => still_squares(others, last, setup.to_move),
+        [] => SquareSet::empty(),
+    }
+}
