@@ -31,10 +31,8 @@ one_class : (c d : Class) (p : Position) → IsOf c p → IsOf d p → c ≡ d
 one_class c d p h k = lists_of-injective c d (h ∙ sym k)
 
 module _ (held : List (Option Table)) (c d : Class) (p : Position) (closed : IsClosed held) (is : IsOf d p) where
-  pub place_home : (i j n : ℕ) → IsValid p → i ≡ class_number d → j ≡ class_number c → i ≡ j → IsIndex p n
-      → (is_of c p ≡ true) × (index_of p ≡ n) × (n < cells_of c)
-  place_home i j n valid e f g x =
-      let same : d ≡ c = class_number-injective d c (sym e ∙ g ∙ f) in
+  pub place_home : (n : ℕ) → IsValid p → d ≡ c → IsIndex p n → (is_of c p ≡ true) × (index_of p ≡ n) × (n < cells_of c)
+  place_home n valid same x =
       let home : IsOf c p = subst (λ (k : Class). IsOf k p) same is in
       let laws = chess_class c held closed in
       let q = laws.numbered p (record { valid = valid; of_class = inl home }) (is_of-IsOf c p home) in
@@ -42,11 +40,8 @@ module _ (held : List (Option Table)) (c d : Class) (p : Position) (closed : IsC
       let number : index_of p ≡ n = sym (index_of-only p n valid x) in
       (is_of-IsOf c p home, number, subst (λ (m : ℕ). m < cells_of c) number small)
 
-  other_class : (i j : ℕ) → i ≡ class_number d → j ≡ class_number c → (i ≡ j → ⊥) → IsOf c p → ⊥
-  other_class i j e f g h = g (e ∙ ap class_number (one_class d c p is h) ∙ sym f)
-
-  pub place_away : (i j : ℕ) → i ≡ class_number d → j ≡ class_number c → (i ≡ j → ⊥) → is_of c p ≡ false
-  place_away i j e f g = false_from_ne_true (is_of c p) (λ h. other_class i j e f g (IsOf-is_of c p h))
+  pub place_away : (d ≡ c → ⊥) → is_of c p ≡ false
+  place_away other = false_from_ne_true (is_of c p) (λ h. other (one_class d c p is (IsOf-is_of c p h)))
 
   pub table_class : (t : Table) → Some t ≡ table_of held d → IsOf t.class p
   table_class t e = subst (λ (k : Class). IsOf k p) (sym (closed.class d t (sym e))) is
@@ -54,9 +49,9 @@ module _ (held : List (Option Table)) (c d : Class) (p : Position) (closed : IsC
   pub table_value : (t : Table) (v : Value) → Some t ≡ table_of held d → v ≡ value_of (slice_index t.cells (index_of p)) → value_in held p ≡ v
   table_value t v e f = value_in-held held d t p is (sym e) ∙ sym f
 
-  pub table_held : (i j : ℕ) → i ≡ class_number d → j ≡ class_number c → (i ≡ j → ⊥) → IsReady held c → LeadsOn c p → None ≡ table_of held d → ⊥
-  table_held i j e f g ready known none = elim known.of_class [
-    | inl h ↦ other_class i j e f g h
+  pub table_held : (d ≡ c → ⊥) → IsReady held c → LeadsOn c p → None ≡ table_of held d → ⊥
+  table_held other ready known none = elim known.of_class [
+    | inl h ↦ other (one_class d c p is h)
     | inr h ↦
         let same : h.0 ≡ d = one_class h.0 d p h.2 is in
         let there : is_some (table_of held d) ≡ true = subst (λ (k : Class). IsSome (table_of held k)) same (ready h.0 h.1) in

@@ -82,7 +82,7 @@ impl<'t, 'a, A: Allocator> Game for ClassGame<'t, 'a, A> {
 
     fn place(&self, at: &Position) -> Location {
         let (class, _) = class_of(at);
-        if class.number() == self.class.number() {
+        if class == self.class {
             return Location::Cell(index(at));
         }
         match self.tables.table(class) {

@@ -7,7 +7,7 @@ ghost use Rattle.study_retro.specs.BestReplies.{drawn_with, lost_with, won_with}
 use crate::best_replies::BestReplies;
 use crate::game::{Game, Location};
 use crate::stepped::SteppedGame;
-use crate::value::Value;
+use crate::value::{MAX_DISTANCE, Value};
 use study_board::{Square, SquareSet};
 
 /// Takes the value of a position out of the class into a replies.
@@ -62,7 +62,7 @@ pub fn initial_by_value(value: Value) -> Initial
             far: false,
         },
         Some(n) => {
-            if n < 255 {
+            if n <= MAX_DISTANCE {
                 Initial {
                     cell: n + 1,
                     far: false,

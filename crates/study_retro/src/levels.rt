@@ -10,6 +10,7 @@ use crate::consistency::first_inconsistent;
 use crate::initial::initialise;
 use crate::propagate::set_cell;
 use crate::stepped::SteppedGame;
+use crate::value::MAX_DISTANCE;
 
 /// Goes back from all positions that are lost in `level` plies.
 pub fn propagate_losses<G: SteppedGame>(game: &G, cells: &mut [u8], level: u8) -> u64
@@ -129,7 +130,7 @@ pub fn all_levels<G: SteppedGame>(game: &G, cells: &mut [u8]) -> LevelsDone
     ensures numbered { CellsHavePositions (G.numbered game.now) cells.new }
 {
     let mut examined = 0u64;
-    for level in 0..254u8 {
+    for level in 0..MAX_DISTANCE {
         if !has_later(cells, level) {
             return LevelsDone {
                 silent: true,

@@ -2,6 +2,9 @@
 ghost use Rattle.std.specs.Prelude.{◌≡◌, ◌≢◌, ◌<◌, MatchOption};
 ghost use Rattle.study_retro.specs.Cells.{distance_of, value_of};
 
+/// The greatest distance that a cell tells, in plies: a cell is a byte, one more than the distance, and 0 is a draw.
+pub const MAX_DISTANCE: u8 = 254;
+
 /// A value, seen from the side to move.
 #[derive(Clone, Copy, PartialEq, Eq, Debug)]
 pub enum Value {
