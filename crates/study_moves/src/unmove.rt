@@ -101,7 +101,7 @@ fn man_on_origin(man: &Man, a: Square) -> Man
 
 /// The squares from which the man can have come by a quiet move, with these men on the board now, in any order, and this
 /// side to move.
-#[inline]
+#[inline(always)]
 pub fn origins(men: &[Man], to_move: Side, man: &Man) -> SquareSet
     ensures { (a : ℕ) → a < 64 → has result a ≡ came_from men.now to_move man.now a }
 {
@@ -109,7 +109,7 @@ pub fn origins(men: &[Man], to_move: Side, man: &Man) -> SquareSet
 }
 
 /// The squares from which the man can have come, as its kind goes.
-#[inline]
+#[inline(always)]
 #[tactic(auto, unfolding(crate::specs::Unmoves::comes))]
 fn origins_of_kind(men: &[Man], man: &Man) -> SquareSet
     ensures { (a : ℕ) → a < 64 → has result a ≡ comes men.now man.now a }
@@ -194,7 +194,7 @@ fn set_if_empty(men: &[Man], x: Square) -> SquareSet
 }
 
 /// The squares from which the man cannot have come, since a king of the side that did not move was attacked then.
-#[inline]
+#[inline(always)]
 fn origins_in_check(men: &[Man], side: Side, man: &Man) -> SquareSet
     ensures { (a : ℕ) → a < 64 → has result a ≡ was_check men.now side man.now a }
 {
@@ -205,7 +205,7 @@ fn origins_in_check(men: &[Man], side: Side, man: &Man) -> SquareSet
     set
 }
 
-#[inline]
+#[inline(always)]
 fn origins_attacking(men: &[Man], side: Side, man: &Man, k: &Man) -> SquareSet
     ensures { (a : ℕ) → a < 64 → has result a ≡ king_was_attacked men.now side man.now a k.now }
 {
@@ -217,7 +217,7 @@ fn origins_attacking(men: &[Man], side: Side, man: &Man, k: &Man) -> SquareSet
 }
 
 /// The squares from which the man bears on the square, those on which a man of the other side there would bear.
-#[inline]
+#[inline(always)]
 fn origins_giving_check(men: &[Man], man: &Man, k: Square) -> SquareSet
     ensures { (a : ℕ) → a < 64 → has result a ≡ bears_past men.now man.now.at (set_back man.now a) k }
 {
