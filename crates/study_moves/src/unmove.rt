@@ -139,14 +139,14 @@ fn pawn_origins(men: &[Man], side: Side, x: Square) -> SquareSet
 {
     let (n, rank) = (x.number(), x.rank());
     match side {
-        Side::White => pawn_steps_back(
+        Side::White => empty_steps(
             men,
             2 <= rank,
             rank == 3,
             Square::at(n.saturating_sub(8)),
             Square::at(n.saturating_sub(16)),
         ),
-        Side::Black => pawn_steps_back(
+        Side::Black => empty_steps(
             men,
             rank <= 5,
             rank == 4,
@@ -156,23 +156,24 @@ fn pawn_origins(men: &[Man], side: Side, x: Square) -> SquareSet
     }
 }
 
-/// One square back, if a pawn can have stood there, and two, if it starts there.
+/// The first square, if it is inside the pawn's ranks and empty, and the second, if the pawn starts by a double step and
+/// both are empty.
 #[inline]
-fn pawn_steps_back(men: &[Man], inside: bool, starts: bool, one: Square, two: Square) -> SquareSet
+pub fn empty_steps(men: &[Man], inside: bool, starts: bool, one: Square, two: Square) -> SquareSet
     requires { starts ≡ true → inside ≡ true }
     ensures { (a : ℕ) → a < 64 → has result a ≡ pawn_came men.now inside starts one two a }
 {
     if !inside {
         SquareSet::empty()
     } else if starts {
-        two_steps_back(men, one, two)
+        two_empty_steps(men, one, two)
     } else {
         set_if_empty(men, one)
     }
 }
 
 #[inline]
-fn two_steps_back(men: &[Man], one: Square, two: Square) -> SquareSet
+fn two_empty_steps(men: &[Man], one: Square, two: Square) -> SquareSet
     ensures { (a : ℕ) → a < 64 → has result a ≡ pawn_came men.now true true one two a }
 {
     if is_occupied(men, one.number()) {
