@@ -198,7 +198,7 @@ pub fn shadow(a: Square, y: Square) -> SquareSet
 }
 
 /// The squares behind some man as seen from `a`.
-#[inline]
+#[inline(always)]
 pub fn shadows(men: &[Man], a: Square) -> SquareSet
     ensures { (x : ℕ) → x < 64 → has result x ≡ is_blocked men.now a x }
 {
@@ -210,7 +210,7 @@ pub fn shadows(men: &[Man], a: Square) -> SquareSet
 }
 
 /// The squares on which the man bears, with these men on the board.
-#[inline]
+#[inline(always)]
 pub fn attacks(men: &[Man], m: &Man) -> SquareSet
     ensures { (x : ℕ) → x < 64 → has result x ≡ bears_on men.now m.now x }
 {
@@ -238,7 +238,7 @@ pub fn between(a: Square, x: Square) -> SquareSet
 
 impl Kind {
     /// Whether the kind goes along lines.
-    #[inline]
+    #[inline(always)]
     pub fn is_slider(self) -> bool
         ensures { result ≡ is_slider self }
     {
@@ -262,7 +262,7 @@ fn shadow_without(a: Square, y: Square, lifted: Square) -> SquareSet
 }
 
 /// The squares behind some man as seen from `a`, the man on `lifted` taken away.
-#[inline]
+#[inline(always)]
 pub fn shadows_without(men: &[Man], lifted: Square, a: Square) -> SquareSet
     ensures { (x : ℕ) → x < 64 → has result x ≡ is_blocked_past men.now lifted a x }
 {
@@ -274,7 +274,7 @@ pub fn shadows_without(men: &[Man], lifted: Square, a: Square) -> SquareSet
 }
 
 /// The squares on which the man bears, the man on `lifted` taken away.
-#[inline]
+#[inline(always)]
 pub fn attacks_without(men: &[Man], lifted: Square, m: &Man) -> SquareSet
     ensures { (x : ℕ) → x < 64 → has result x ≡ bears_past men.now lifted m.now x }
 {

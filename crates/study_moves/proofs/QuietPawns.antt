@@ -176,7 +176,7 @@ black_two x a two o = same_test _ _ to from
         and_from _ _ (eq-eqb _ _ n) (and_from _ _ (eq-eqb _ _ f) (eq-eqb _ _ r))
 
 -- the two ways together, the square jumped over being the square one back
-joined : (men : List Man) (one h : ℕ) (s s' t t' e : Bool) → s' ≡ s → t' ≡ t → (t ≡ true → h ≡ one)
+pub joined : (men : List Man) (one h : ℕ) (s s' t t' e : Bool) → s' ≡ s → t' ≡ t → (t ≡ true → h ≡ one)
     → ((s' || (t' && is_empty men h)) && e) ≡ ((s || (t && is_empty men one)) && e)
 joined men one h s s' true t' e i j k = let o = k refl in rw (i, j, o) refl
 joined men one h s s' false t' e i j k = rw (i, j) refl

@@ -36,3 +36,9 @@ others_threatened men side lifted x = list_any (king_threatened men side lifted 
 
 unfoldable pub is_unsafe : List Man → Side → Man → ℕ → Bool
 is_unsafe men side man x = (same_kind man.kind King && attacked_past men (other_side side) man.at x) || others_threatened men side man.at x
+
+-- the man m closes x to the man: by its own square, by the threats to it as a king of the side, or by its reach if the man is a king
+unfoldable pub closes : List Man → Side → Man → ℕ → Man → Bool
+closes men side man x m =
+    ((same_side m.side side && (m.at == x)) || king_threatened men side man.at x m)
+    || (same_kind man.kind King && (is_other_man (other_side side) man.at m && bears_past men man.at m x))

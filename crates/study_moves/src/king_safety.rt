@@ -9,7 +9,7 @@ ghost use Rattle.study_moves.specs.KingSafety.{is_other_man, attacked_past, is_n
 
 use study_board::{Kind, Man, Side, Square, SquareSet, attacks, attacks_without, between};
 
-#[inline]
+#[inline(always)]
 fn is_other_man(by: Side, lifted: Square, m: &Man) -> bool
     ensures { result ≡ is_other_man by lifted m.now }
 {
@@ -17,8 +17,8 @@ fn is_other_man(by: Side, lifted: Square, m: &Man) -> bool
 }
 
 /// The squares on which a man of the side bears, the man on `lifted` taken away.
-#[inline]
-fn reach_of(men: &[Man], by: Side, lifted: Square, m: &Man) -> SquareSet
+#[inline(always)]
+pub fn reach_of(men: &[Man], by: Side, lifted: Square, m: &Man) -> SquareSet
     ensures { (x : ℕ) → x < 64 → has result x ≡ (is_other_man by lifted m.now && bears_past men.now lifted m.now x) }
 {
     if is_other_man(by, lifted, m) {
@@ -61,7 +61,7 @@ fn squares_not_blocking(m: &Man, k: Square) -> SquareSet
 
 /// Whether a man of the side bears on the square, the man on `lifted` taken away. Most men would not do so on an empty
 /// board.
-#[inline]
+#[inline(always)]
 fn attacks_past(men: &[Man], by: Side, lifted: Square, m: &Man, k: Square) -> bool
     ensures { result ≡ (is_other_man by lifted m.now && bears_past men.now lifted m.now k) }
 {
@@ -73,7 +73,7 @@ fn attacks_past(men: &[Man], by: Side, lifted: Square, m: &Man, k: Square) -> bo
 }
 
 /// The squares to which a move is no help against the man.
-#[inline]
+#[inline(always)]
 fn threats_of(men: &[Man], by: Side, lifted: Square, k: Square, m: &Man) -> SquareSet
     ensures { (x : ℕ) → x < 64 → has result x ≡ threatens men.now by lifted k x m.now }
 {
@@ -84,7 +84,7 @@ fn threats_of(men: &[Man], by: Side, lifted: Square, k: Square, m: &Man) -> Squa
     }
 }
 
-#[inline]
+#[inline(always)]
 pub fn threatened_past(men: &[Man], by: Side, lifted: Square, k: Square) -> SquareSet
     ensures { (x : ℕ) → x < 64 → has result x ≡ threatened_past men.now by lifted k x }
 {
@@ -102,8 +102,8 @@ pub fn is_king_elsewhere(side: Side, lifted: Square, k: &Man) -> bool
     k.is(side, Kind::King) && k.at != lifted
 }
 
-#[inline]
-fn threats_to(men: &[Man], side: Side, lifted: Square, k: &Man) -> SquareSet
+#[inline(always)]
+pub fn threats_to(men: &[Man], side: Side, lifted: Square, k: &Man) -> SquareSet
     ensures { (x : ℕ) → x < 64 → has result x ≡ king_threatened men.now side lifted x k.now }
 {
     if is_king_elsewhere(side, lifted, k) {

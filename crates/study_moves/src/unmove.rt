@@ -101,7 +101,7 @@ fn man_on_origin(man: &Man, a: Square) -> Man
 
 /// The squares from which the man can have come by a quiet move, with these men on the board now, in any order, and this
 /// side to move.
-#[inline]
+#[inline(always)]
 pub fn origins(men: &[Man], to_move: Side, man: &Man) -> SquareSet
     ensures { (a : ℕ) → a < 64 → has result a ≡ came_from men.now to_move man.now a }
 {
@@ -109,7 +109,7 @@ pub fn origins(men: &[Man], to_move: Side, man: &Man) -> SquareSet
 }
 
 /// The squares from which the man can have come, as its kind goes.
-#[inline]
+#[inline(always)]
 #[tactic(auto, unfolding(crate::specs::Unmoves::comes))]
 fn origins_of_kind(men: &[Man], man: &Man) -> SquareSet
     ensures { (a : ℕ) → a < 64 → has result a ≡ comes men.now man.now a }
@@ -139,14 +139,14 @@ fn pawn_origins(men: &[Man], side: Side, x: Square) -> SquareSet
 {
     let (n, rank) = (x.number(), x.rank());
     match side {
-        Side::White => pawn_steps_back(
+        Side::White => empty_steps(
             men,
             2 <= rank,
             rank == 3,
             Square::at(n.saturating_sub(8)),
             Square::at(n.saturating_sub(16)),
         ),
-        Side::Black => pawn_steps_back(
+        Side::Black => empty_steps(
             men,
             rank <= 5,
             rank == 4,
@@ -156,23 +156,24 @@ fn pawn_origins(men: &[Man], side: Side, x: Square) -> SquareSet
     }
 }
 
-/// One square back, if a pawn can have stood there, and two, if it starts there.
+/// The first square, if it is inside the pawn's ranks and empty, and the second, if the pawn starts by a double step and
+/// both are empty.
 #[inline]
-fn pawn_steps_back(men: &[Man], inside: bool, starts: bool, one: Square, two: Square) -> SquareSet
+pub fn empty_steps(men: &[Man], inside: bool, starts: bool, one: Square, two: Square) -> SquareSet
     requires { starts ≡ true → inside ≡ true }
     ensures { (a : ℕ) → a < 64 → has result a ≡ pawn_came men.now inside starts one two a }
 {
     if !inside {
         SquareSet::empty()
     } else if starts {
-        two_steps_back(men, one, two)
+        two_empty_steps(men, one, two)
     } else {
         set_if_empty(men, one)
     }
 }
 
 #[inline]
-fn two_steps_back(men: &[Man], one: Square, two: Square) -> SquareSet
+fn two_empty_steps(men: &[Man], one: Square, two: Square) -> SquareSet
     ensures { (a : ℕ) → a < 64 → has result a ≡ pawn_came men.now true true one two a }
 {
     if is_occupied(men, one.number()) {
@@ -194,7 +195,7 @@ fn set_if_empty(men: &[Man], x: Square) -> SquareSet
 }
 
 /// The squares from which the man cannot have come, since a king of the side that did not move was attacked then.
-#[inline]
+#[inline(always)]
 fn origins_in_check(men: &[Man], side: Side, man: &Man) -> SquareSet
     ensures { (a : ℕ) → a < 64 → has result a ≡ was_check men.now side man.now a }
 {
@@ -205,7 +206,7 @@ fn origins_in_check(men: &[Man], side: Side, man: &Man) -> SquareSet
     set
 }
 
-#[inline]
+#[inline(always)]
 fn origins_attacking(men: &[Man], side: Side, man: &Man, k: &Man) -> SquareSet
     ensures { (a : ℕ) → a < 64 → has result a ≡ king_was_attacked men.now side man.now a k.now }
 {
@@ -217,7 +218,7 @@ fn origins_attacking(men: &[Man], side: Side, man: &Man, k: &Man) -> SquareSet
 }
 
 /// The squares from which the man bears on the square, those on which a man of the other side there would bear.
-#[inline]
+#[inline(always)]
 fn origins_giving_check(men: &[Man], man: &Man, k: Square) -> SquareSet
     ensures { (a : ℕ) → a < 64 → has result a ≡ bears_past men.now man.now.at (set_back man.now a) k }
 {

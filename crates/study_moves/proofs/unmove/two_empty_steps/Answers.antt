@@ -1,7 +1,7 @@
 use Rattle.std.proofs.Common.{◌≡◌, ◌∙◌, sym, true}
 use Rattle.study_board.specs.Position.{is_occupied}
 use Rattle.study_moves.proofs.QuietPawns.{stopped}
-use Rattle.study_moves.proofs.unmove.two_steps_back.Goals as goal
+use Rattle.study_moves.proofs.unmove.two_empty_steps.Goals as goal
 
 pub returns-then-is_occupied : goal.returns-then-is_occupied
 returns-then-is_occupied c a la =
