@@ -40,7 +40,7 @@ fn keeps_image(class: Class, slots: &[Slot], pawns: bool, n: u32) -> bool
 }
 
 /// How the number is found after the man of a slot after the first has moved, which stands on the square.
-#[inline]
+#[inline(always)]
 fn way_of(class: Class, number: u32, from: Square, slot: u32) -> Way
     requires cell { number < cells_of class }
     requires after { 1 ≤ slot }
@@ -65,7 +65,7 @@ fn way_of(class: Class, number: u32, from: Square, slot: u32) -> Way
 }
 
 /// How the number is found after the man on the square has moved.
-#[inline]
+#[inline(always)]
 fn way_from(class: Class, number: u32, from: Square) -> Way
     requires { number < cells_of class }
     ensures { IsFoundBy class number from result }
@@ -80,7 +80,7 @@ fn way_from(class: Class, number: u32, from: Square) -> Way
 
 impl Departure {
     /// The departure of the man that stands on the square by the number.
-    #[inline]
+    #[inline(always)]
     pub fn new(class: Class, number: u32, from: Square) -> Self
         requires { number < cells_of class }
         ensures class { result.class ≡ class }
@@ -98,7 +98,7 @@ impl Departure {
 
     /// The number of the position with the man on another square and the other side to move, where no capture in passing
     /// is legal: what `number_moved` tells.
-    #[inline]
+    #[inline(always)]
     pub fn number_to(&self, to: Square) -> u32
         ensures { (p : Seen) → IsMoved self.now.class self.now.number self.now.from to p → index_of p ≡ result }
     {

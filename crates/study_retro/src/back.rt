@@ -1,5 +1,5 @@
 //! Steps back from a decided position by the squares that its number tells, where no capture in passing is legal.
-ghost use Rattle.std.specs.Prelude.{◌≡◌, ◌<◌, ℕ, false, length, Some, Contains};
+ghost use Rattle.std.specs.Prelude.{◌≡◌, ◌<◌, ℕ, length, Some, Contains};
 ghost use Rattle.study_board.specs.Position.{Position as Seen};
 ghost use Rattle.study_moves.specs.Unmoves.{CanHaveLed, move_from};
 ghost use Rattle.study_index.specs.Number.{cells_of};
