@@ -6,7 +6,7 @@ ghost use Rattle.study_material.specs.Class.{lists_of};
 ghost use Rattle.study_index.specs.Number.{listed_count, cells_of};
 ghost use Rattle.study_index.specs.Computed.{position_numbered};
 ghost use Rattle.study_index.specs.Decoded.{IsDecoded, AreSlots, slots_of, listed_square, slots_have_pawn};
-ghost use Rattle.study_index.specs.Decoded.{man, head, side_numbered, told_men, told_side, square_behind_pawn};
+ghost use Rattle.study_index.specs.Decoded.{man, head, told_men, told_side, square_behind_pawn};
 ghost use Rattle.study_index.specs.Decoded.{passed_behind, is_cell, IsPlaced, IsFaulty, HasLeast};
 ghost use Rattle.study_index.specs.Stepped.{are_like_slots};
 ghost use Rattle.study_board.specs.Men.{other_side};

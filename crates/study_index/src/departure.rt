@@ -1,10 +1,10 @@
 //! The numbers after one man moves from its square to any other: what they have in common is found once.
-ghost use Rattle.std.specs.Prelude.{◌≡◌, ◌<◌, ◌≤◌, length, slice_index_or};
+ghost use Rattle.std.specs.Prelude.{◌≡◌, ◌<◌, ◌≤◌, length, slice_index_or, IsTrue};
 ghost use Rattle.study_board.specs.declared.men.Man.{Man as AMan};
 ghost use Rattle.study_board.specs.Position.{Position as Seen};
 ghost use Rattle.study_index.specs.Computed.{index_of};
 ghost use Rattle.study_index.specs.Number.{cells_of, without_bit};
-ghost use Rattle.study_index.specs.Decoded.{slots_of, slots_have_pawn, told_men};
+ghost use Rattle.study_index.specs.Decoded.{AreSlots, slots_of, slots_have_pawn, told_men};
 ghost use Rattle.study_index.specs.Moved.{IsMoved};
 ghost use Rattle.study_index.specs.Departure.{IsFoundBy, keeps_image};
 
@@ -12,7 +12,7 @@ use crate::decoding::{Slot, head, slots};
 use crate::least_image::{is_on_diagonal, least_image};
 use crate::moved::{number_moved, number_stepped, slot_on};
 use crate::number::EN_PASSANT_BIT;
-use crate::reading::{class_has_pawn, has_like_men};
+use crate::reading::{class_has_pawn, has_like_men, king_told};
 use crate::stepped::{side_turned, square_told, square_weight};
 use crate::way::{Terms, Way};
 use study_board::Square;
@@ -40,7 +40,7 @@ fn keeps_image(class: Class, slots: &[Slot], pawns: bool, n: u32) -> bool
 }
 
 /// How the number is found after the man of a slot after the first has moved, which stands on the square.
-#[inline]
+#[inline(always)]
 fn way_of(class: Class, number: u32, from: Square, slot: u32) -> Way
     requires cell { number < cells_of class }
     requires after { 1 ≤ slot }
@@ -65,7 +65,7 @@ fn way_of(class: Class, number: u32, from: Square, slot: u32) -> Way
 }
 
 /// How the number is found after the man on the square has moved.
-#[inline]
+#[inline(always)]
 fn way_from(class: Class, number: u32, from: Square) -> Way
     requires { number < cells_of class }
     ensures { IsFoundBy class number from result }
@@ -78,9 +78,41 @@ fn way_from(class: Class, number: u32, from: Square) -> Way
     }
 }
 
+/// Whether the man of a slot, the first at 0, stands on the square, by the number.
+#[inline(always)]
+fn stands_in(slots: &[Slot], pawns: bool, n: u32, slot: u32, from: Square) -> bool
+    requires slots { AreSlots slots.now }
+    requires pawns { pawns ≡ slots_have_pawn slots.now }
+    ensures { IsTrue result → (slot < length slots.now) × ((d : AMan) → (slice_index_or (told_men slots.now n) slot d).at ≡ from) }
+{
+    if slot == 0 {
+        king_told(pawns, &slots[0], head(slots, n)).at == from
+    } else {
+        let count = slots.len() as u32;
+        slot < count && square_told(count, slot, n) == u32::from(from.number())
+    }
+}
+
+/// How the number is found after the man on the square has moved, where it may be the man of the slot.
+#[inline(always)]
+fn way_by(class: Class, number: u32, from: Square, slot: u32) -> Way
+    requires { number < cells_of class }
+    ensures { IsFoundBy class number from result }
+{
+    let (slots, pawns) = (slots(class), class_has_pawn(class));
+    if !stands_in(slots, pawns, number % EN_PASSANT_BIT, slot, from) {
+        return Way::Search;
+    }
+    if slot == 0 {
+        Way::King
+    } else {
+        way_of(class, number, from, slot)
+    }
+}
+
 impl Departure {
     /// The departure of the man that stands on the square by the number.
-    #[inline]
+    #[inline(always)]
     pub fn new(class: Class, number: u32, from: Square) -> Self
         requires { number < cells_of class }
         ensures class { result.class ≡ class }
@@ -96,9 +128,26 @@ impl Departure {
         }
     }
 
+    /// The same, where the man is known to be that of a slot, the first at 0, so that it is not searched for.
+    #[inline(always)]
+    pub fn of_slot(class: Class, number: u32, from: Square, slot: u32) -> Self
+        requires { number < cells_of class }
+        ensures class { result.class ≡ class }
+        ensures number { result.number ≡ number }
+        ensures from { result.from ≡ from }
+    {
+        let way = way_by(class, number, from, slot);
+        Departure {
+            class,
+            number,
+            from,
+            way,
+        }
+    }
+
     /// The number of the position with the man on another square and the other side to move, where no capture in passing
     /// is legal: what `number_moved` tells.
-    #[inline]
+    #[inline(always)]
     pub fn number_to(&self, to: Square) -> u32
         ensures { (p : Seen) → IsMoved self.now.class self.now.number self.now.from to p → index_of p ≡ result }
     {

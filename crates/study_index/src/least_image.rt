@@ -1,6 +1,6 @@
 //! The least number of the men that a number tells, by its squares in base 64.
 ghost use Rattle.std.specs.Prelude.{◌≡◌, ◌<◌, ◌≤◌, ◌+◌, ◌*◌};
-ghost use Rattle.study_index.specs.Decoded.{AreSlots, head};
+ghost use Rattle.study_index.specs.Decoded.{head};
 ghost use Rattle.study_index.specs.LeastImage.{across, turned_across, exchanged, ascending_if, is_on_diagonal, least_image};
 
 use crate::decoding::{Slot, head};
@@ -65,7 +65,7 @@ pub fn is_on_diagonal(place: u32) -> bool
 }
 
 /// The least number of the men that the number tells.
-#[inline]
+#[inline(always)]
 #[tactic(auto, unfolding(crate::specs::LeastImage::least_image))]
 pub fn least_image(pawns: bool, like: bool, slots: &[Slot], n: u32) -> u32
     requires { n < 67108864 }

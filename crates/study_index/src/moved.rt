@@ -1,5 +1,5 @@
 //! The number of the position that a move makes which takes no man and promotes none, or from which it was made.
-ghost use Rattle.std.specs.Prelude.{◌≡◌, ◌≤◌, ◌<◌, ◌↔◌, true, false, map, length, slice_index_or, Some, IsTrue, IfSome, if◌then◌else◌};
+ghost use Rattle.std.specs.Prelude.{◌≡◌, ◌<◌, ◌↔◌, false, map, length, slice_index_or, Some, IsTrue, IfSome, if◌then◌else◌};
 ghost use Rattle.study_board.specs.declared.men.Man.{Man as AMan};
 ghost use Rattle.study_board.specs.Men.{other_side};
 ghost use Rattle.study_board.specs.Position.{Position as Seen};
@@ -7,7 +7,7 @@ ghost use Rattle.study_index.specs.Canonical.{least_of};
 ghost use Rattle.study_index.specs.Decoded.{AreSlots, slots_of, slots_have_pawn, man, told_men, told_side};
 ghost use Rattle.study_index.specs.Computed.{index_of};
 ghost use Rattle.study_index.specs.Number.{cells_of};
-ghost use Rattle.study_index.specs.Stepped.{are_like_slots, moved_to, IsStepped};
+ghost use Rattle.study_index.specs.Stepped.{moved_to, IsStepped};
 ghost use Rattle.study_index.specs.Moved.{IsMoved, from_to};
 ghost use Rattle.study_index.specs.LeastImage.{king_symmetry, squares, with_head};
 ghost use Rattle.study_index.specs.Squares.{number_at};
@@ -124,11 +124,12 @@ fn with_head(slots: &[Slot], head: u32, n: u32) -> u32
 
 /// The number of the men that a number tells, the white king put on `to` and the other side to move, turned so that the
 /// king comes to a listed square.
-#[inline]
+#[inline(always)]
 fn number_with_king_on(slots: &[Slot], pawns: bool, n: u32, to: Square) -> Option<u32>
     requires slots { AreSlots slots.now }
     requires pawns { pawns ≡ slots_have_pawn slots.now }
-    ensures value { result ≡ number_at pawns (other_side (told_side slots.now n)) (turned_square (king_symmetry pawns to)) (squares (moved_to 0 to (told_men slots.now n))) }
+    ensures value { result ≡ number_at pawns (other_side (told_side slots.now n)) (turned_square (king_symmetry pawns to))
+        (squares (moved_to 0 to (told_men slots.now n))) }
     ensures small { IfSome result (λ m. m < 16777216) }
 {
     let side = side_told(pawns, head(slots, n)).other();
@@ -171,7 +172,7 @@ fn number_with_king_turned(
 /// The number of the position with the men of another number, the man of a slot, the first at 0, put on `to` and the other
 /// side to move, where no capture in passing is legal. Forwards it is the number after a move that takes no man and
 /// promotes none; backwards, the number before it.
-#[inline]
+#[inline(always)]
 pub fn number_stepped(class: Class, number: u32, slot: u32, to: Square) -> u32
     requires cell { number < cells_of class }
     requires slot { slot < length (slots_of class) }
@@ -193,7 +194,7 @@ pub fn number_stepped(class: Class, number: u32, slot: u32, to: Square) -> u32
 }
 
 /// The slot whose man stands on the square, by the number.
-#[inline]
+#[inline(always)]
 pub fn slot_on(slots: &[Slot], pawns: bool, n: u32, from: Square) -> Option<u32>
     requires slots { AreSlots slots.now }
     requires pawns { pawns ≡ slots_have_pawn slots.now }

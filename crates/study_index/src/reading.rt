@@ -68,7 +68,7 @@ pub fn side_told(pawns: bool, head: u32) -> Side
 }
 
 /// The men and the side to move that the number tells, by shifts alone.
-#[inline]
+#[inline(always)]
 pub fn told(class: Class, number: u32) -> Setup
     ensures men { result.men.items ≡ told_men (slots_of class) (without_bit number) }
     ensures many { array_vec_len result.men ≡ length (slots_of class) }
@@ -81,7 +81,7 @@ pub fn told(class: Class, number: u32) -> Setup
 }
 
 /// The same by the slots of a class.
-#[inline]
+#[inline(always)]
 pub fn told_by(slots: &[Slot], pawns: bool, n: u32) -> Setup
     requires slots { AreSlots slots.now }
     requires pawns { pawns ≡ slots_have_pawn slots.now }

@@ -1,5 +1,5 @@
 //! Steps back from a decided position by the squares that its number tells, where no capture in passing is legal.
-ghost use Rattle.std.specs.Prelude.{◌≡◌, ◌<◌, ℕ, false, length, Some, Contains};
+ghost use Rattle.std.specs.Prelude.{◌≡◌, ◌<◌, ℕ, length, Some, Contains};
 ghost use Rattle.study_board.specs.Position.{Position as Seen};
 ghost use Rattle.study_moves.specs.Unmoves.{CanHaveLed, move_from};
 ghost use Rattle.study_index.specs.Number.{cells_of};
@@ -76,6 +76,7 @@ fn write_before_man(
     number: u32,
     setup: &Setup,
     man: &Man,
+    slot: u32,
     change: Change,
 ) -> u64
     requires numbered { (q : Seen) × (position_numbered class number ≡ Some q) }
@@ -91,7 +92,7 @@ fn write_before_man(
         return 0;
     }
     let all = origins(setup.men.as_slice(), setup.to_move, man);
-    let departure = Departure::new(class, number, man.at);
+    let departure = Departure::of_slot(class, number, man.at, slot);
     let mut rest = all;
     let mut next = 0u8;
     while !rest.is_empty() {
@@ -115,8 +116,8 @@ pub fn write_before(class: Class, cells: &mut [u8], number: u32, change: Change)
 {
     let setup = told(class, number);
     let mut count = 0u64;
-    for man in setup.men.as_slice() {
-        let more = write_before_man(class, cells, number, &setup, man, change);
+    for (slot, man) in setup.men.as_slice().iter().enumerate() {
+        let more = write_before_man(class, cells, number, &setup, man, slot as u32, change);
         count = count.saturating_add(more);
     }
     count

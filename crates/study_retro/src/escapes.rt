@@ -116,6 +116,7 @@ fn escapes_by_man<A: Allocator>(
     number: u32,
     setup: &Setup,
     man: &Man,
+    slot: u32,
     level: u8,
 ) -> bool
     requires laws { IsNumberedClass (class_game game.now.class game.now.tables.now) }
@@ -132,7 +133,7 @@ fn escapes_by_man<A: Allocator>(
         return false;
     }
     let mut rest = safe_targets(setup.men.as_slice(), setup.to_move, man);
-    let departure = Departure::new(game.class, number, man.at);
+    let departure = Departure::of_slot(game.class, number, man.at, slot);
     let mut next = 0u8;
     while !rest.is_empty() {
         let target = rest.first();
@@ -162,8 +163,8 @@ pub fn escapes<A: Allocator>(
     ensures no { result ≡ false → (q : Seen) → position_numbered game.now.class number ≡ Some q
         → QuietMovesLose (class_game game.now.class game.now.tables.now) cells.now level q }
 {
-    for man in setup.men.as_slice() {
-        if escapes_by_man(game, cells, number, setup, man, level) {
+    for (slot, man) in setup.men.as_slice().iter().enumerate() {
+        if escapes_by_man(game, cells, number, setup, man, slot as u32, level) {
             return true;
         }
     }

@@ -5,10 +5,10 @@ use Rattle.study_retro.specs.Predecessors.{IsBefore, IsBeforeBy}
 use Rattle.study_retro.specs.Propagation.{AreSet, IsSetWhere}
 use Rattle.study_retro.proofs.back.write_before.Given as goal
 
-abbrev pub invariant-loop-man : goal.invariant-loop-man
-invariant-loop-man l = record {
+abbrev pub invariant-loop-slot : goal.invariant-loop-slot
+invariant-loop-slot l = record {
   size : length l.cells ≡ cells_of l.class;
   rise : AreSet (IsBefore l.class l.number) l.change.cell l.change.over l.initial.cells l.cells;
-  done : (m : Man) → Contains (take l.man-index l.man-items) m → (n : ℕ) → IsBeforeBy l.class l.number m n
+  done : (m : Man) → Contains (take l.slot l.man-items) m → (n : ℕ) → IsBeforeBy l.class l.number m n
       → IsSetWhere l.change.cell l.change.over l.cells n;
 }

@@ -11,6 +11,6 @@ loop-at-preserved c =
       within = fits;
       none = λ i a b. elim (below_or i c.loop-at.at) [
         | inl l ↦ inv.none i a l
-        | inr g ↦ in_part c.args.cells.now (λ x. x ≢ c.args.byte) c.loop-at.at (c.loop-at.at + 64) i g b fits (c.has_byte.ensures c.if-has_byte.false)
+        | inr g ↦ in_part c.args.cells.now (λ x. x ≢ c.args.byte) c.loop-at.at (c.loop-at.at + c.args.width) i g b fits (c.has_byte.ensures c.if-has_byte.false)
       ];
     }

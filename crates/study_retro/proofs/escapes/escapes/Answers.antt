@@ -10,22 +10,22 @@ use Rattle.study_retro.proofs.CellsLemmas.{each-more}
 use Rattle.study_retro.proofs.BackLemmas.{lose_each}
 use Rattle.study_retro.proofs.escapes.escapes.Goals as goal
 
-pub loop-man-init : goal.loop-man-init
-loop-man-init g c = λ m i. absurd (let l = i.1 in omega (arith, l))
+pub loop-slot-init : goal.loop-slot-init
+loop-slot-init g c = λ m i. absurd (let l = i.1 in omega (arith, l))
 
 pub escapes_by_man-requires-clause-man : goal.escapes_by_man-requires-clause-man
 escapes_by_man-requires-clause-man g c =
     let men = c.as_slice-man-items.result.now in
-    let there : Contains men c.man-item.result = subst (λ (x : Man). Contains men x) (sym c.man-item.is) (Contains-get_or men c.loop-man.man-index _ c.loop-man-test.true) in
+    let there : Contains men c.man-item.result = subst (λ (x : Man). Contains men x) (sym c.man-item.is) (Contains-get_or men c.loop-slot.slot _ c.loop-slot-test.true) in
     subst (λ (xs : List Man). Contains xs c.man-item.result) c.as_slice-man-items.ensures.value there
 
-pub loop-man-preserved : goal.loop-man-preserved
-loop-man-preserved g c =
+pub loop-slot-preserved : goal.loop-slot-preserved
+loop-slot-preserved g c =
     let men = c.as_slice-man-items.result.now in
     let m = c.man-item.result in
     let Q : Man → Type 0 = λ x. (q : Position) → position_numbered c.args.game.now.class c.args.number ≡ Some q
     → QuietMovesLoseBy (class_game c.args.game.now.class c.args.game.now.tables.now) c.args.cells.now c.args.level q x in
-    each-more Q men c.loop-man.man-index m c.loop-man-test.true c.loop-man.invariant
+    each-more Q men c.loop-slot.slot m c.loop-slot-test.true c.loop-slot.invariant
     (subst Q c.man-item.is (λ q at. c.escapes_by_man.ensures.no c.if-escapes_by_man.false q at))
 
 pub returns-clause-no : goal.returns-clause-no
@@ -34,5 +34,5 @@ returns-clause-no g c = λ f q at.
     lose_each c.args.game.now.class c.args.number q at c.requires.plain c.args.setup.now.men.items c.args.setup.now.to_move c.requires.told
     (class_game c.args.game.now.class c.args.game.now.tables.now) c.args.cells.now c.args.level
     (λ m i. let C : List Man → Type 0 = λ xs. Contains xs m in
-    c.loop-man.invariant m
-    (subst C (sym (take_all c.loop-man.man-index men (let h = c.loop-man-test.false in omega (arith, h)))) (subst C (sym c.as_slice-man-items.ensures.value) i)) q at)
+    c.loop-slot.invariant m
+    (subst C (sym (take_all c.loop-slot.slot men (let h = c.loop-slot-test.false in omega (arith, h)))) (subst C (sym c.as_slice-man-items.ensures.value) i)) q at)

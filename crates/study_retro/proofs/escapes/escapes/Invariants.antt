@@ -6,6 +6,6 @@ use Rattle.study_retro.specs.ClassGame.{class_game}
 use Rattle.study_retro.specs.Still.{QuietMovesLoseBy}
 use Rattle.study_retro.proofs.escapes.escapes.Given as goal
 
-abbrev pub invariant-loop-man : goal.invariant-loop-man
-invariant-loop-man g l = (m : Man) → Contains (take l.man-index l.man-items) m → (q : Position) → position_numbered l.game.class l.number ≡ Some q
+abbrev pub invariant-loop-slot : goal.invariant-loop-slot
+invariant-loop-slot g l = (m : Man) → Contains (take l.slot l.man-items) m → (q : Position) → position_numbered l.game.class l.number ≡ Some q
     → QuietMovesLoseBy (class_game l.game.class l.game.tables.now) l.cells l.level q m
