@@ -3,7 +3,7 @@ use Rattle.std.proofs.Common.{◌≡◌, ℕ, ◌+◌, ◌*◌, ◌/◌, ◌%◌
 use Rattle.std.proofs.Common.{Some, refl, sym, ◌∙◌, ap, subst, arith}
 use Rattle.std.specs.List.{All, list_any}
 use Rattle.std.specs.List.Sorted.{IsPermutation}
-use Rattle.std.proofs.lemmas.Bool.{and_parts, cases_Bool, eqb-true, eq-eqb, false≢true, or_from, or_parts}
+use Rattle.std.proofs.lemmas.Bool.{and_from, and_parts, cases_Bool, eqb-true, eq-eqb, false≢true, or_from, or_parts}
 use Rattle.std.proofs.lemmas.List.Elements.{All-pop}
 use Rattle.std.proofs.lemmas.List.Folds.{list_any-append}
 use Rattle.std.proofs.lemmas.List.Sorted.{All-permutation, IsPermutation-sym}
@@ -18,7 +18,7 @@ use Rattle.study_board.specs.Position.{Position, in_check}
 use Rattle.study_board.specs.Sets.{has, reaches_if}
 use Rattle.study_board.proofs.Faults.{in_check_same}
 use Rattle.study_moves.proofs.BearsBothWays.{reaches-both, same_test}
-use Rattle.study_moves.proofs.MenOfList.{All-among, IsAmong, list_any-none, none_among}
+use Rattle.study_moves.proofs.MenOfList.{All-among, IsAmong, list_any-from, list_any-none, none_among, some_among}
 use Rattle.study_material.specs.declared.class.Class.{Class}
 use Rattle.study_index.specs.declared.decoding.Slot.{Slot}
 use Rattle.study_index.specs.Computed.{position_numbered}
@@ -29,9 +29,9 @@ use Rattle.study_index.proofs.ComputedIndex.{told_decoded}
 use Rattle.study_index.proofs.DecodedNumbers.{told_of}
 use Rattle.study_index.proofs.Symmetries.{all_below, at_below}
 use Rattle.study_retro.specs.Predecessors.{AreTold}
-use Rattle.study_retro.specs.Still.{AreStill, IsStill, facing, is_exposed, is_restless, matters, on_square, rank_before_last}
+use Rattle.study_retro.specs.Still.{AreStill, AreStillOrNone, IsStill, facing, is_exposed, is_restless, keeps_check, matters, on_square, rank_before_last}
 use Rattle.study_retro.proofs.BackLemmas.{side_is}
-use Rattle.study_retro.proofs.StillChess.{stays_quiet}
+use Rattle.study_retro.proofs.StillChess.{no_capture_of_king, stays_quiet}
 
 -- ---- on what a man bears where further men stand
 
@@ -81,6 +81,61 @@ same_squares a b = same_test (a == b) (b == a) (λ e. eq-eqb b a (sym (eqb-true 
 faces : (man : Man) (x y : ℕ) → bears_on [] (facing man x) y ≡ bears_on [] (on_square man y) x
 faces man x y =
     rw (same_squares x y, open_reach (other_side man.side) man.kind x y, open_reach man.side man.kind y x, reaches-both false man.side man.kind y x) refl
+
+-- a man that does not come between leaves a man bearing on the square
+blocked_same : (others : List Man) (l : Man) (a x : ℕ) → strictly_between a l.at x ≡ false → is_blocked (others ++ l ∷ []) a x ≡ is_blocked others a x
+unfolding is_blocked
+blocked_same others l a x e = list_any-append (λ m. strictly_between a m.at x) others (l ∷ []) ∙ rw e (or_none _)
+  where
+    or_none : (b : Bool) → (b || (false || false)) ≡ b
+    or_none true = refl
+    or_none false = refl
+
+reaches_same : (men more : List Man) (side : Side) (kind : Kind) (a x : ℕ) → is_blocked more a x ≡ is_blocked men a x → reaches more side kind a x ≡ reaches men side kind a x
+unfolding reaches
+reaches_same men more side King a x e = refl
+reaches_same men more side Queen a x e = rw e refl
+reaches_same men more side Rook a x e = rw e refl
+reaches_same men more side Bishop a x e = rw e refl
+reaches_same men more side Knight a x e = refl
+reaches_same men more side Pawn a x e = refl
+
+bears_still : (others : List Man) (l m : Man) (x : ℕ) → strictly_between m.at l.at x ≡ false → bears_on others m x ≡ true → bears_on (others ++ l ∷ []) m x ≡ true
+bears_still others l m x e b = ap (λ (r : Bool). not (m.at == x) && r) (reaches_same others (others ++ l ∷ []) m.side m.kind m.at x (blocked_same others l m.at x e)) ∙ b
+
+IsAmong-more : (xs : List Man) (l m : Man) → IsAmong m xs → IsAmong m (xs ++ l ∷ [])
+IsAmong-more [] l m i = absurd i
+IsAmong-more (x ∷ xs) l m (inl e) = inl e
+IsAmong-more (x ∷ xs) l m (inr i) = inr (IsAmong-more xs l m i)
+
+not_true : (b : Bool) → not b ≡ true → b ≡ false
+not_true false e = refl
+not_true true e = absurd (false≢true e)
+
+same_twice : (s t : Side) → same_side s (other_side (other_side t)) ≡ same_side s t
+same_twice White White = refl
+same_twice White Black = refl
+same_twice Black White = refl
+same_twice Black Black = refl
+
+-- where the other king could be taken whatever the last man does it can be taken
+pub could_take : (others : List Man) (last : Man) (side : Side) (y : ℕ) → list_any (λ k. list_any (λ m. keeps_check others side y k m) others) others ≡ true
+    → in_check (others ++ on_square last y ∷ []) (other_side side) ≡ true
+unfolding in_check is_attacked
+could_take others last side y e =
+    let men = others ++ on_square last y ∷ [] in
+    let ks = some_among (λ k. list_any (λ m. keeps_check others side y k m) others) others e in
+    let k = ks.0 in
+    let ms = some_among (λ m. keeps_check others side y k m) others ks.2 in
+    let m = ms.0 in
+    let a = and_parts _ _ ms.2 in
+    let b = and_parts _ _ a.0 in
+    let c = and_parts _ _ b.0 in
+    let bears = bears_still others (on_square last y) m k.at (not_true _ a.1) b.1 in
+    let attacked = list_any-from (λ n. same_side n.side (other_side (other_side side)) && bears_on men n k.at) men m (IsAmong-more others (on_square last y) m ms.1)
+    (and_from _ _ (same_twice m.side side ∙ c.0) bears) in
+    list_any-from (λ n. is_man (other_side side) King n && is_attacked men (other_side (other_side side)) n.at) men k (IsAmong-more others (on_square last y) k ks.1)
+    (and_from _ _ c.1 attacked)
 
 -- ---- sides
 
@@ -268,16 +323,18 @@ module _ (c : Class) (number : ℕ) (q : Position) (at : position_numbered c num
       same : IsPermutation (others ++ l ∷ []) q.men
       same = subst (λ (zs : List Man). IsPermutation zs q.men) (sym told.0) (told_of c number q (told_decoded c number q at)).same_men
 
-  pub still_position : AreStill (others ++ l ∷ []) side → IsStill q
-  still_position still =
+  same : IsPermutation (others ++ l ∷ []) q.men
+  same = subst (λ (zs : List Man). IsPermutation zs q.men) (sym told.0) (told_of c number q (told_decoded c number q at)).same_men
+
+  pub still_position : AreStillOrNone (others ++ l ∷ []) side → IsStill q
+  still_position (inl still) =
       (
         λ mate. false≢true (sym still.safe ∙ in_check_same (others ++ l ∷ []) q.men same side
         ∙ ap (λ (s : Side). in_check q.men s) (side_is c number q at (others ++ l ∷ []) side told) ∙ mate.0),
         stays_quiet c number q at low (others ++ l ∷ []) side told still.spares still.keeps,
       )
-    where
-      same : IsPermutation (others ++ l ∷ []) q.men
-      same = subst (λ (zs : List Man). IsPermutation zs q.men) (sym told.0) (told_of c number q (told_decoded c number q at)).same_men
+  still_position (inr check) = absurd (no_capture_of_king c number q at (others ++ l ∷ []) side told
+      (sym (in_check_same (others ++ l ∷ []) q.men same (other_side side)) ∙ check))
 
 -- ---- the rank from which a pawn promotes
 

@@ -7,7 +7,7 @@ ghost use Rattle.study_board.specs.Men.{bears_on};
 ghost use Rattle.study_board.specs.Position.{Position as Seen};
 ghost use Rattle.study_board.specs.Sets.{has};
 ghost use Rattle.study_index.specs.Computed.{position_numbered};
-ghost use Rattle.study_retro.specs.Still.{AreStill, IsStill, facing, is_exposed, is_restless, matters, on_square, rank_before_last};
+ghost use Rattle.study_retro.specs.Still.{AreStill, AreStillOrNone, IsStill, bears_on_king, facing, is_exposed, is_restless, keeps_check, matters, on_square, rank_before_last};
 
 use crate::still::{attacked_squares, has_king_in, has_man_in, may_promote, rank_before_last};
 use study_board::{Kind, Man, Side, Square, SquareSet, attacks, between};
@@ -86,9 +86,53 @@ fn are_restless(others: &[Man], last: &Man, to_move: Side, ours: SquareSet, thei
         || has_king_in(others, to_move, theirs)
 }
 
-/// Squares of the man of the last slot with which the men are still.
+/// Whether the man, of the side to move, bears on the other king.
 #[inline]
-fn still_squares(others: &[Man], last: &Man, to_move: Side) -> SquareSet
+fn bears_on_king(men: &[Man], to_move: Side, k: &Man, m: &Man) -> bool
+    ensures { result ≡ bears_on_king men.now to_move k.now m.now }
+{
+    let _square = k.at.number();
+    m.side == to_move && k.is(to_move.other(), Kind::King) && attacks(men, m).contains(k.at)
+}
+
+/// The squares of the man of the last slot from which it does not come between a man and the other king that it bears on.
+#[inline]
+fn squares_keeping_check(others: &[Man], to_move: Side, k: &Man, m: &Man) -> SquareSet
+    ensures { (y : ℕ) → y < 64 → has result y ≡ keeps_check others.now to_move y k.now m.now }
+{
+    if !bears_on_king(others, to_move, k, m) {
+        return SquareSet::empty();
+    }
+    between(m.at, k.at).complement()
+}
+
+/// The same of all men.
+#[inline]
+fn squares_keeping_checks(others: &[Man], to_move: Side, k: &Man) -> SquareSet
+    ensures { (y : ℕ) → y < 64 → has result y ≡ list_any (λ m. keeps_check others.now to_move y k.now m) others.now }
+{
+    let mut set = SquareSet::empty();
+    for m in others {
+        set = set.union(squares_keeping_check(others, to_move, k, m));
+    }
+    set
+}
+
+/// The squares of the man of the last slot with which the other king could be taken.
+#[inline]
+fn squares_without_position(others: &[Man], to_move: Side) -> SquareSet
+    ensures { (y : ℕ) → y < 64 → has result y ≡ list_any (λ k. list_any (λ m. keeps_check others.now to_move y k m) others.now) others.now }
+{
+    let mut set = SquareSet::empty();
+    for k in others {
+        set = set.union(squares_keeping_checks(others, to_move, k));
+    }
+    set
+}
+
+/// Squares of the man of the last slot with which the men are still, by the squares on which each side bears without it.
+#[inline]
+fn squares_still(others: &[Man], last: &Man, to_move: Side) -> SquareSet
     ensures { (y : ℕ) → y < 64 → has result y ≡ true → All (λ m. m.at < 64) others.now
         → AreStill (others.now ++ on_square last.now y ∷ []) to_move }
 {
@@ -100,6 +144,15 @@ fn still_squares(others: &[Man], last: &Man, to_move: Side) -> SquareSet
     squares_bearing(others, last, to_move)
         .union(squares_exposed(last, to_move, ours))
         .complement()
+}
+
+/// Squares of the man of the last slot with which the men are still, or have no position.
+#[inline]
+fn still_squares(others: &[Man], last: &Man, to_move: Side) -> SquareSet
+    ensures { (y : ℕ) → y < 64 → has result y ≡ true → All (λ m. m.at < 64) others.now
+        → AreStillOrNone (others.now ++ on_square last.now y ∷ []) to_move }
+{
+    squares_still(others, last, to_move).union(squares_without_position(others, to_move))
 }
 
 /// Squares of the man of the last slot in a row of numbers with which no position is worth anything before the levels.

@@ -1,0 +1,21 @@
+use Rattle.std.proofs.Common.{◌∙◌, arith, ap, List}
+use Rattle.std.specs.List.{list_any}
+use Rattle.std.proofs.lemmas.List.{take_all}
+use Rattle.study_board.specs.declared.men.Man.{Man}
+use Rattle.study_board.proofs.SetBits.{any_none, any_more}
+use Rattle.study_retro.specs.Still.{keeps_check}
+use Rattle.study_retro.proofs.rows.squares_keeping_checks.Goals as goal
+
+pub loop-m-init : goal.loop-m-init
+loop-m-init c y ly = rw c.empty-set.ensures (any_none (λ m. keeps_check c.args.others.now c.args.to_move y c.args.k.now m) y)
+
+pub loop-m-preserved : goal.loop-m-preserved
+loop-m-preserved c y ly =
+    any_more (λ m. keeps_check c.args.others.now c.args.to_move y c.args.k.now m) c.args.others.now
+    c.loop-m.m-index _ c.m-item.result y _ _ _ c.loop-m-test.true c.m-item.is (c.loop-m.invariant y ly)
+    (c.squares_keeping_check.ensures y ly) (c.union-set.ensures y)
+
+pub returns : goal.returns
+returns c y ly =
+    c.loop-m.invariant y ly
+    ∙ ap (λ (l : List Man). list_any (λ m. keeps_check c.args.others.now c.args.to_move y c.args.k.now m) l) (take_all c.loop-m.m-index c.args.others.now (omega arith))
