@@ -72,6 +72,46 @@ one_or i j l = by_test (nat_lt j i) refl
     by_test true t = inr (let g = ltb-true j i t in omega (arith, g))
     by_test false t = inl (let g : i ≤ j = grind (arith, nat_tests) in omega (arith, g, l))
 
+-- what a square counts is part of the number with the other side to move
+within_two : (places n x : ℕ) → IsTurned places (n / 64) x → square_told 2 1 n * square_weight 2 1 ≤ turned_by places 2 n
+within_two places n x h = let t = turned_two places n x h in omega (arith, t)
+
+within_three : (places n x : ℕ) → IsTurned places (n / 64 / 64) x
+    → (square_told 3 1 n * square_weight 3 1 ≤ turned_by places 3 n) × (square_told 3 2 n * square_weight 3 2 ≤ turned_by places 3 n)
+within_three places n x h = let t = turned_three places n x h in (omega (arith, t), omega (arith, t))
+
+within_four : (places n x : ℕ) → IsTurned places (n / 64 / 64 / 64) x
+    → (square_told 4 1 n * square_weight 4 1 ≤ turned_by places 4 n) × (square_told 4 2 n * square_weight 4 2 ≤ turned_by places 4 n)
+    × (square_told 4 3 n * square_weight 4 3 ≤ turned_by places 4 n)
+within_four places n x h = let t = turned_four places n x h in (omega (arith, t), omega (arith, t), omega (arith, t))
+
+told_within : (pawns : Bool) (slots : List Slot) (n i : ℕ) → AreSlots slots → nat_lt (head slots n / listed_count pawns) 2 ≡ true → 1 ≤ i → i < length slots
+    → square_told (length slots) i n * square_weight (length slots) i ≤ turned_by (listed_count pawns) (length slots) n
+told_within pawns (k ∷ b ∷ []) n i s c l m =
+    let e : 1 ≡ i = omega arith in
+    subst (λ (j : ℕ). square_told 2 j n * square_weight 2 j ≤ turned_by (listed_count pawns) 2 n) e
+    (within_two (listed_count pawns) n _ (head_turned pawns (n / 64) c))
+told_within pawns (k ∷ b ∷ x ∷ []) n i s c l m =
+    let t = within_three (listed_count pawns) n _ (head_turned pawns (n / 64 / 64) c) in
+    let P : ℕ → Type 0 = λ j. square_told 3 j n * square_weight 3 j ≤ turned_by (listed_count pawns) 3 n in
+    elim (one_or i 1 l) [
+      | inl e ↦ subst P e t.0
+      | inr g ↦ (let e : 2 ≡ i = omega arith in subst P e t.1)
+    ]
+told_within pawns (k ∷ b ∷ x ∷ y ∷ []) n i s c l m =
+    let t = within_four (listed_count pawns) n _ (head_turned pawns (n / 64 / 64 / 64) c) in
+    let P : ℕ → Type 0 = λ j. square_told 4 j n * square_weight 4 j ≤ turned_by (listed_count pawns) 4 n in
+    elim (one_or i 1 l) [
+      | inl e ↦ subst P e t.0
+      | inr g ↦ elim (one_or i 2 g) [
+        | inl e ↦ subst P e t.1
+        | inr h ↦ (let e : 3 ≡ i = omega arith in subst P e t.2)
+      ]
+    ]
+told_within pawns [] n i s c l m = absurd s
+told_within pawns (k ∷ []) n i s c l m = absurd s
+told_within pawns (k ∷ b ∷ x ∷ y ∷ z ∷ fs) n i s c l m = absurd s
+
 -- one square replaced in a number whose head is x
 replaced_two : (places n x a : ℕ) → IsTurned places (n / 64) x → x * 64 + a ≡ stepped_by places 2 n 1 a
 unfolding stepped_by
@@ -289,19 +329,35 @@ added_index c n i a p below one few on keeps t =
         image_kept false (are_like_slots (slots_of c)) (is_on_diagonal (head (slots_of c) (without_bit n) % 10)) (slots_of c) _ k
         (ap (λ (q : ℕ). is_on_diagonal q) (place_kept (slots_of c) (without_bit n) i a (AreSlots-class c) cell on one few))
 
+-- what the square counted is taken away before what the other counts is added
+taken_first : (c : Class) (n i a : ℕ) → n < cells_of c → 1 ≤ i → i < length (slots_of c)
+    → stepped_by (listed_count (slots_have_pawn (slots_of c))) (length (slots_of c)) (without_bit n) i a
+    ≡ turned_by (listed_count (slots_have_pawn (slots_of c))) (length (slots_of c)) (without_bit n)
+    - square_told (length (slots_of c)) i (without_bit n) * square_weight (length (slots_of c)) i + a * square_weight (length (slots_of c)) i
+unfolding stepped_by
+taken_first c n i a below one few =
+    as_sum _ _ _ (told_within (slots_have_pawn (slots_of c)) (slots_of c) (without_bit n) i (AreSlots-class c)
+    (is_cell-below c (without_bit n) ∙ below_test (without_bit n) (numbers_of c) (number_below c n below)) one few)
+  where
+    below_test : (m k : ℕ) → m < k → nat_lt m k ≡ true
+    below_test m k l = grind (arith, nat_tests)
+
+    as_sum : (t m s : ℕ) → s ≤ t → t + m - s ≡ t - s + m
+    as_sum t m s l = omega arith
+
 pub added_sum : (c : Class) (n i a : ℕ) (p : Position) → n < cells_of c → 1 ≤ i → i < length (slots_of c) → a < 64
     → keeps_image (slots_of c) (without_bit n) ≡ true → IsStepped c n i a p
     → index_of p ≡ turned_by (listed_count (slots_have_pawn (slots_of c))) (length (slots_of c)) (without_bit n)
-    + a * square_weight (length (slots_of c)) i - square_told (length (slots_of c)) i (without_bit n) * square_weight (length (slots_of c)) i
-unfolding stepped_by
-added_sum c n i a p below one few on keeps t = added_index c n i a p below one few on keeps t
+    - square_told (length (slots_of c)) i (without_bit n) * square_weight (length (slots_of c)) i + a * square_weight (length (slots_of c)) i
+added_sum c n i a p below one few on keeps t = added_index c n i a p below one few on keeps t ∙ taken_first c n i a below one few
 
 pub added_image : (c : Class) (n i a : ℕ) (p : Position) → n < cells_of c → 1 ≤ i → i < length (slots_of c) → IsStepped c n i a p
     → index_of p ≡ least_image (slots_have_pawn (slots_of c)) (are_like_slots (slots_of c)) (slots_of c)
     (turned_by (listed_count (slots_have_pawn (slots_of c))) (length (slots_of c)) (without_bit n)
-    + a * square_weight (length (slots_of c)) i - square_told (length (slots_of c)) i (without_bit n) * square_weight (length (slots_of c)) i)
-unfolding stepped_by
-added_image c n i a p below one few t = stepped_index c n i a p below one few t
+    - square_told (length (slots_of c)) i (without_bit n) * square_weight (length (slots_of c)) i + a * square_weight (length (slots_of c)) i)
+added_image c n i a p below one few t =
+    stepped_index c n i a p below one few t
+    ∙ ap (λ (m : ℕ). least_image (slots_have_pawn (slots_of c)) (are_like_slots (slots_of c)) (slots_of c) m) (taken_first c n i a below one few)
 
 pub numbers-step : NumbersStep
 unfolding least_image ascending_if stepped stepped_by

@@ -1,5 +1,5 @@
 -- The numbers after one man moves, as sums.
-use Rattle.std.specs.Prelude.{◌≡◌, ℕ, ◌+◌, ◌-◌, ◌*◌, ◌%◌, ◌<◌, Bool, not, ◌&&◌, ◌||◌, List, slice_index_or}
+use Rattle.std.specs.Prelude.{◌≡◌, ℕ, ◌+◌, ◌*◌, ◌%◌, ◌<◌, Bool, not, ◌&&◌, ◌||◌, List, slice_index_or}
 use Rattle.study_board.specs.declared.men.Man.{Man}
 use Rattle.study_board.specs.Position.{Position}
 use Rattle.study_material.specs.declared.class.Class.{Class}
@@ -16,7 +16,7 @@ use Rattle.study_index.specs.LeastImage.{is_on_diagonal, least_image}
 
 -- the sum with the man on a
 abbrev pub sum_with : Terms → ℕ → ℕ
-sum_with t a = t.turned + a * t.weight - t.left
+sum_with t a = t.rest + a * t.weight
 
 -- the number after the man on x has moved to any square a is the sum; or the least image of the sum
 abbrev pub IsAdded : Class → ℕ → ℕ → Terms → Type 0

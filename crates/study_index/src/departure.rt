@@ -52,9 +52,9 @@ fn way_of(class: Class, number: u32, from: Square, slot: u32) -> Way
     let n = number % EN_PASSANT_BIT;
     let count = slots.len() as u32;
     let weight = square_weight(count, slot);
+    let left = square_told(count, slot, n) * weight;
     let terms = Terms {
-        turned: side_turned(pawns, count, n),
-        left: square_told(count, slot, n) * weight,
+        rest: side_turned(pawns, count, n).saturating_sub(left),
         weight,
     };
     if keeps_image(class, slots, pawns, n) {

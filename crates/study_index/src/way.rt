@@ -1,5 +1,5 @@
 //! How the number after a move of one man is found.
-ghost use Rattle.std.specs.Prelude.{◌≡◌, ◌+◌, ◌-◌, ◌*◌, ◌<◌, ◌≤◌};
+ghost use Rattle.std.specs.Prelude.{◌≡◌, ◌+◌, ◌*◌, ◌<◌, ◌≤◌};
 
 use study_board::Square;
 
@@ -13,22 +13,21 @@ pub enum Way {
     Search,
 }
 
-/// The number with the other side to move, what the square of the man counts in it, and what a square counts.
+/// The number with the other side to move and without the man, and what a square of the man counts in it.
 #[derive(Clone, Copy)]
 pub struct Terms {
-    pub turned: u32,
-    pub left: u32,
+    pub rest: u32,
     pub weight: u32,
-    ghost few: { (turned < 25165824) × (weight ≤ 4096) },
+    ghost few: { (rest < 25165824) × (weight ≤ 4096) },
 }
 
 impl Terms {
     /// The sum with the man on a square.
     #[inline]
     pub fn with(self, to: Square) -> u32
-        ensures value { result ≡ self.turned + to * self.weight - self.left }
+        ensures value { result ≡ self.rest + to * self.weight }
         ensures small { result < 67108864 }
     {
-        (self.turned + u32::from(to.number()) * self.weight).saturating_sub(self.left)
+        self.rest + u32::from(to.number()) * self.weight
     }
 }

@@ -49,3 +49,16 @@ module _ (all rest next : ℕ) (h : AreLeft all rest next) where
   -- where none is left there is none from `next` on
   pub left-none : rest ≡ 0 → (x : ℕ) → next ≤ x → x < 64 → has all x ≡ false
   left-none e x g on = sym (h.left x g on) ∙ (ap (λ (s : ℕ). has s x) e ∙ has-zero x)
+
+-- what is in one set and not in another
+pub in-one : (a b : Bool) → (a && not b) ≡ true → a ≡ true
+in-one true b e = refl
+in-one false b e = absurd (false≢true e)
+
+pub not-other : (a b : Bool) → (a && not b) ≡ true → b ≡ false
+not-other true false e = refl
+not-other true true e = absurd (false≢true e)
+not-other false b e = absurd (false≢true e)
+
+pub in-one-alone : (a b : Bool) → a ≡ true → b ≡ false → (a && not b) ≡ true
+in-one-alone a b e f = rw (e, f) refl

@@ -1,6 +1,7 @@
 //! Whether quiet moves lose, by the squares that a number tells, where no capture in passing is legal.
 ghost use Rattle.std.specs.Prelude.{◌≡◌, ◌<◌, ◌↔◌, ℕ, true, false, length, IsTrue, Some, Contains};
 ghost use Rattle.study_board.specs.Men.{same_side};
+ghost use Rattle.study_board.specs.Sets.{has};
 ghost use Rattle.study_board.specs.Position.{Position as Seen, is_occupied};
 ghost use Rattle.study_moves.specs.declared.moves.Move.{Move as AMove};
 ghost use Rattle.study_moves.specs.Rules.{is_legal, reaches_last_rank};
@@ -19,7 +20,7 @@ use crate::earlier::may_leave_capture;
 use crate::propagate::is_won;
 use crate::value::value_at;
 use std::alloc::Allocator;
-use study_board::{Kind, Man, Side, Square, SquareSet, is_occupied};
+use study_board::{Kind, Man, Side, Square, SquareSet};
 use study_index::{Departure, Setup, decode};
 use study_material::Class;
 use study_moves::{played, safe_targets};
@@ -36,12 +37,16 @@ pub fn reaches_last_rank(man: &Man, target: Square) -> bool
     man.kind == Kind::Pawn && target.rank() == last
 }
 
-/// Whether the move of the man to the square, if legal, takes no man and promotes none.
+/// The squares with a man.
 #[inline]
-fn is_quiet_target(men: &[Man], man: &Man, target: Square) -> bool
-    ensures { IsTrue result ↔ (is_occupied men.now target ≡ false) × (reaches_last_rank man.now target ≡ false) }
+fn occupied(men: &[Man]) -> SquareSet
+    ensures { (x : ℕ) → x < 64 → has result x ≡ is_occupied men.now x }
 {
-    !is_occupied(men, target.number()) && !reaches_last_rank(man, target)
+    let mut set = SquareSet::empty();
+    for m in men {
+        set = set.union(SquareSet::of(m.at));
+    }
+    set
 }
 
 /// Whether the other side wins within `level` plies after the legal move of the man to the square, by the position of the
@@ -71,7 +76,8 @@ fn wins_after<A: Allocator>(
     }
 }
 
-/// Whether the legal move of the man to the square is not quiet, or lets the other side win within `level` plies.
+/// Whether the legal move of the man to the square, on which no man stands, is not quiet, or lets the other side win within
+/// `level` plies.
 #[inline]
 fn loses_to<A: Allocator>(
     game: &ClassGame<A>,
@@ -92,13 +98,14 @@ fn loses_to<A: Allocator>(
     requires side { same_side man.now.side setup.now.to_move ≡ true }
     requires on { target < 64 }
     requires safe { is_safe_target setup.now.men.items setup.now.to_move man.now target ≡ true }
+    requires free { is_occupied setup.now.men.items target ≡ false }
     requires cells { length cells.now ≡ cells_of game.now.class }
-    ensures yes { IsTrue result → (is_occupied setup.now.men.items target ≡ false) → (reaches_last_rank man.now target ≡ false) → (q : Seen)
+    ensures yes { IsTrue result → (reaches_last_rank man.now target ≡ false) → (q : Seen)
         → position_numbered game.now.class departure.now.number ≡ Some q
         → IsWonAfter (class_game game.now.class game.now.tables.now) cells.now level q (move_to man.now target) }
     ensures no { result ≡ false → NoLossBy (class_game game.now.class game.now.tables.now) cells.now level departure.now.number }
 {
-    if !is_quiet_target(setup.men.as_slice(), man, target) {
+    if reaches_last_rank(man, target) {
         return true;
     }
     let after = departure.number_to(target);
@@ -132,7 +139,9 @@ fn escapes_by_man<A: Allocator>(
     if man.side != setup.to_move {
         return false;
     }
-    let mut rest = safe_targets(setup.men.as_slice(), setup.to_move, man);
+    let men = setup.men.as_slice();
+    let free = safe_targets(men, setup.to_move, man).without(occupied(men));
+    let mut rest = free;
     let departure = Departure::of_slot(game.class, number, man.at, slot);
     let mut next = 0u8;
     while !rest.is_empty() {

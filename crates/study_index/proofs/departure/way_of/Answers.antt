@@ -9,6 +9,7 @@ returns-then-keeps_image c =
     found_sum c.args.class c.args.number c.args.from _
     (λ a p on t.
     rw (
+      c.saturating_sub.ensures,
       c.side_turned.ensures.value,
       c.square_told.ensures.value,
       c.square_weight-weight.ensures.value,
@@ -23,6 +24,7 @@ returns-else-keeps_image c =
     found_image c.args.class c.args.number c.args.from _
     (λ a p on t.
     rw (
+      c.saturating_sub.ensures,
       c.side_turned.ensures.value,
       c.square_told.ensures.value,
       c.square_weight-weight.ensures.value,

@@ -8,7 +8,7 @@ use Rattle.study_moves.specs.AnyOrder.{is_safe_target}
 use Rattle.study_index.specs.Computed.{position_numbered}
 use Rattle.study_retro.specs.ClassGame.{class_game}
 use Rattle.study_retro.specs.Still.{IsWonAfter, move_to}
-use Rattle.study_retro.proofs.SquaresLeft.{AreLeft, left-all, first-in, first-only, left-more, left-none}
+use Rattle.study_retro.proofs.SquaresLeft.{AreLeft, left-all, first-in, first-only, left-more, left-none, in-one, not-other, in-one-alone}
 use Rattle.study_retro.proofs.BackLemmas.{occupied_same, safe_by, safe_plain}
 use Rattle.study_retro.proofs.escapes.escapes_by_man.Goals as goal
 
@@ -21,15 +21,23 @@ returns-then-ne-clause-no g c = λ f q at x legal quiet.
     absurd (false≢true (sym (sym (side_same _ _) ∙ not-true _ (sym c.ne.ensures ∙ c.if-ne.true)) ∙ s.1))
 
 pub loop-rest-init : goal.loop-rest-init
-loop-rest-init g c = record { left = left-all c.safe_targets-rest.result; lose = λ x l. absurd (omega (arith, l)) }
+loop-rest-init g c = record { left = left-all c.without-free.result; lose = λ x l. absurd (omega (arith, l)) }
 
 pub loses_to-requires-clause-safe : goal.loses_to-requires-clause-safe
 loses_to-requires-clause-safe g c =
     let f = c.first-target.ensures in
     let x = c.first-target.result in
-    ap (λ (zs : List Man). is_safe_target zs c.args.setup.now.to_move c.args.man.now x) (sym c.as_slice.ensures.value)
-    ∙ sym (c.safe_targets-rest.ensures x f.inside)
-    ∙ first-in _ _ _ c.loop-rest.invariant.left x f.inside f.there
+    ap (λ (zs : List Man). is_safe_target zs c.args.setup.now.to_move c.args.man.now x) (sym c.as_slice-men.ensures.value)
+    ∙ sym (c.safe_targets.ensures x f.inside)
+    ∙ in-one _ _ (sym (c.without-free.ensures x f.inside) ∙ first-in _ _ _ c.loop-rest.invariant.left x f.inside f.there)
+
+pub loses_to-requires-clause-free : goal.loses_to-requires-clause-free
+loses_to-requires-clause-free g c =
+    let f = c.first-target.ensures in
+    let x = c.first-target.result in
+    ap (λ (zs : List Man). is_occupied zs x) (sym c.as_slice-men.ensures.value)
+    ∙ sym (c.occupied.ensures x f.inside)
+    ∙ not-other _ _ (sym (c.without-free.ensures x f.inside) ∙ first-in _ _ _ c.loop-rest.invariant.left x f.inside f.there)
 
 pub loop-rest-preserved : goal.loop-rest-preserved
 loop-rest-preserved g c =
@@ -40,16 +48,15 @@ loop-rest-preserved g c =
     let next : c.number-next.result ≡ a = c.number-next.ensures.value in
     let left = left-more _ _ _ inv.left a f.inside f.there f.least c.of.result c.without-rest.result c.of.ensures c.without-rest.ensures in
     record {
-      left = subst (λ (n : ℕ). AreLeft c.safe_targets-rest.result c.without-rest.result (n + 1)) (sym next) left;
-      lose = λ x l e free plain q at. elim (cases_lt x c.loop-rest.next) [
-        | inl low ↦ inv.lose x low e free plain q at
+      left = subst (λ (n : ℕ). AreLeft c.without-free.result c.without-rest.result (n + 1)) (sym next) left;
+      lose = λ x l e plain q at. elim (cases_lt x c.loop-rest.next) [
+        | inl low ↦ inv.lose x low e plain q at
         | inr high ↦ elim (cases_lt x a) [
           | inl low ↦ absurd (false≢true (sym (first-only _ _ _ inv.left a f.inside f.there f.least x high low (let s = f.inside in omega (arith, low, s))) ∙ e))
           | inr top ↦
               let same : a ≡ x = omega (arith, l, top, next) in
               subst (λ (y : ℕ). IsWonAfter (class_game c.args.game.now.class c.args.game.now.tables.now) c.args.cells.now c.args.level q (move_to man y)) same
-              (c.loses_to.ensures.yes c.if-not-loses_to.false
-              (ap (λ (y : ℕ). is_occupied c.args.setup.now.men.items y) same ∙ free) (ap (λ (y : ℕ). reaches_last_rank man y) same ∙ plain) q
+              (c.loses_to.ensures.yes c.if-not-loses_to.false (ap (λ (y : ℕ). reaches_last_rank man y) same ∙ plain) q
               (ap (λ (n : ℕ). position_numbered c.args.game.now.class n) c.of_slot-departure.ensures.number ∙ at))
         ]
       ];
@@ -65,9 +72,10 @@ returns-clause-no g c = λ f q at x legal quiet.
     let s = safe_by class c.args.number q at c.requires.plain men side c.requires.told (move_to man x) legal man c.requires.man refl in
     let plain = safe_plain class c.args.number q at c.requires.plain men side c.requires.told (move_to man x) legal man c.requires.man refl refl in
     let free = occupied_same class c.args.number q at c.requires.plain men side c.requires.told x ∙ quiet.0 in
-    let there = c.safe_targets-rest.ensures x s.0
-    ∙ ap (λ (zs : List Man). is_safe_target zs side man x) c.as_slice.ensures.value ∙ s.2 in
+    let there = c.without-free.ensures x s.0
+    ∙ in-one-alone _ _ (c.safe_targets.ensures x s.0 ∙ ap (λ (zs : List Man). is_safe_target zs side man x) c.as_slice-men.ensures.value ∙ s.2)
+    (c.occupied.ensures x s.0 ∙ ap (λ (zs : List Man). is_occupied zs x) c.as_slice-men.ensures.value ∙ free) in
     elim (cases_lt x c.loop-rest.next) [
-      | inl l ↦ inv.lose x l there free plain q at
+      | inl l ↦ inv.lose x l there plain q at
       | inr l ↦ absurd (false≢true (sym (left-none _ _ _ inv.left (c.is_empty.ensures.0 c.loop-rest-test.false) x l s.0) ∙ there))
     ]

@@ -1,5 +1,5 @@
 use Rattle.std.proofs.Common.{◌≡◌, ℕ, ◌<◌, ◌-◌, true, false, Some}
-use Rattle.study_board.specs.Position.{Position, is_occupied}
+use Rattle.study_board.specs.Position.{Position}
 use Rattle.study_board.specs.Sets.{has}
 use Rattle.study_moves.specs.Rules.{reaches_last_rank}
 use Rattle.study_index.specs.Computed.{position_numbered}
@@ -11,7 +11,7 @@ use Rattle.study_retro.proofs.escapes.escapes_by_man.Given as goal
 abbrev pub invariant-loop-rest : goal.invariant-loop-rest
 invariant-loop-rest g l = record {
   left : AreLeft l.initial.rest l.rest l.next;
-  lose : (x : ℕ) → x < l.next → has l.initial.rest x ≡ true → is_occupied l.setup.men.items x ≡ false → reaches_last_rank l.man x ≡ false
+  lose : (x : ℕ) → x < l.next → has l.initial.rest x ≡ true → reaches_last_rank l.man x ≡ false
       → (q : Position) → position_numbered l.game.class l.number ≡ Some q
       → IsWonAfter (class_game l.game.class l.game.tables.now) l.cells l.level q (move_to l.man x);
 }

@@ -1,23 +1,20 @@
-use Rattle.std.proofs.Common.{ℕ, ◌<◌, List, refl, sym, ◌∙◌, ap, subst}
+use Rattle.std.proofs.Common.{ℕ, ◌<◌, refl, sym, ◌∙◌, subst}
 use Rattle.std.proofs.lemmas.Bool.{false≢true}
-use Rattle.study_board.specs.declared.men.Man.{Man}
-use Rattle.study_board.specs.Position.{is_occupied}
 use Rattle.study_retro.proofs.BackLemmas.{departed, safe_below, safe_escape, safe_legal, safe_won}
 use Rattle.study_retro.proofs.escapes.loses_to.Goals as goal
 
 -- a move that is not quiet is left to others
-pub returns-then-not-is_quiet_target-clause-yes : goal.returns-then-not-is_quiet_target-clause-yes
-returns-then-not-is_quiet_target-clause-yes g c = λ t free plain q at.
-    absurd (false≢true (sym c.if-not-is_quiet_target.true ∙ c.is_quiet_target.ensures.1
-    (ap (λ (zs : List Man). is_occupied zs c.args.target) c.as_slice.ensures.value ∙ free, plain)))
+pub returns-then-reaches_last_rank-clause-yes : goal.returns-then-reaches_last_rank-clause-yes
+returns-then-reaches_last_rank-clause-yes g c = λ t plain q at.
+    absurd (false≢true (sym plain ∙ sym c.reaches_last_rank.ensures ∙ c.if-reaches_last_rank.true))
 
 -- after a double step the position is looked at
 pub wins_after-requires-clause-legal : goal.wins_after-requires-clause-legal
 wins_after-requires-clause-legal g c = λ q at.
-    let quiet = c.is_quiet_target.ensures.0 c.if-not-is_quiet_target.false in
+    let stays = sym c.reaches_last_rank.ensures ∙ c.if-reaches_last_rank.false in
     safe_legal c.args.game.now.class c.args.departure.now.number q at c.requires.plain c.args.setup.now.men.items c.args.setup.now.to_move
     c.requires.told c.args.man.now c.requires.man c.requires.side c.args.target c.requires.on c.requires.safe
-    (ap (λ (zs : List Man). is_occupied zs c.args.target) (sym c.as_slice.ensures.value) ∙ quiet.0) quiet.1
+    c.requires.free stays
 
 pub bounds-cells-after : goal.bounds-cells-after
 bounds-cells-after g c =
@@ -25,22 +22,22 @@ bounds-cells-after g c =
     let fits =
     departed c.args.game.now.class c.args.departure.now.class c.args.departure.now.number c.args.departure.now.number c.args.man.now.at
     c.args.departure.now.from c.args.target c.number_to-after.result c.requires.class refl c.requires.from c.number_to-after.ensures in
-    let quiet = c.is_quiet_target.ensures.0 c.if-not-is_quiet_target.false in
+    let stays = sym c.reaches_last_rank.ensures ∙ c.if-reaches_last_rank.false in
     subst (λ (k : ℕ). c.number_to-after.result < k) (sym c.requires.cells)
     (safe_below c.args.game.now.class c.args.departure.now.number q.0 q.1 c.requires.plain c.args.setup.now.men.items c.args.setup.now.to_move
     c.requires.told c.args.man.now c.requires.man c.requires.side c.args.target c.requires.on c.requires.safe
-    (ap (λ (zs : List Man). is_occupied zs c.args.target) (sym c.as_slice.ensures.value) ∙ quiet.0) quiet.1
+    c.requires.free stays
     c.args.game.now.tables.now c.requires.laws c.args.cells.now c.number_to-after.result fits (c.may_leave_capture.ensures c.if-may_leave_capture.false))
 
 pub returns-clause-yes : goal.returns-clause-yes
-returns-clause-yes g c = λ t free plain p e.
+returns-clause-yes g c = λ t plain p e.
     let q = c.requires.numbered in
     let fits =
     departed c.args.game.now.class c.args.departure.now.class c.args.departure.now.number c.args.departure.now.number c.args.man.now.at
     c.args.departure.now.from c.args.target c.number_to-after.result c.requires.class refl c.requires.from c.number_to-after.ensures in
     let w = c.is_won.ensures.0 t in
     safe_won c.args.game.now.class c.args.departure.now.number q.0 q.1 c.requires.plain c.args.setup.now.men.items c.args.setup.now.to_move
-    c.requires.told c.args.man.now c.requires.man c.requires.side c.args.target c.requires.on c.requires.safe free plain
+    c.requires.told c.args.man.now c.requires.man c.requires.side c.args.target c.requires.on c.requires.safe c.requires.free plain
     c.args.game.now.tables.now c.requires.laws c.args.cells.now c.number_to-after.result fits (c.may_leave_capture.ensures c.if-may_leave_capture.false) c.args.level
     (w.0, sym c.value_at.ensures ∙ w.1, w.2) p e
 
@@ -50,9 +47,9 @@ returns-clause-no g c = λ f.
     let fits =
     departed c.args.game.now.class c.args.departure.now.class c.args.departure.now.number c.args.departure.now.number c.args.man.now.at
     c.args.departure.now.from c.args.target c.number_to-after.result c.requires.class refl c.requires.from c.number_to-after.ensures in
-    let quiet = c.is_quiet_target.ensures.0 c.if-not-is_quiet_target.false in
+    let stays = sym c.reaches_last_rank.ensures ∙ c.if-reaches_last_rank.false in
     safe_escape c.args.game.now.class c.args.departure.now.number q.0 q.1 c.requires.plain c.args.setup.now.men.items c.args.setup.now.to_move
     c.requires.told c.args.man.now c.requires.man c.requires.side c.args.target c.requires.on c.requires.safe
-    (ap (λ (zs : List Man). is_occupied zs c.args.target) (sym c.as_slice.ensures.value) ∙ quiet.0) quiet.1
+    c.requires.free stays
     c.args.game.now.tables.now c.requires.laws c.args.cells.now c.number_to-after.result fits (c.may_leave_capture.ensures c.if-may_leave_capture.false) c.args.level
     (λ w. false≢true (sym f ∙ c.is_won.ensures.1 (w.0, c.value_at.ensures ∙ w.1, w.2)))
