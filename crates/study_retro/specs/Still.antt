@@ -88,3 +88,7 @@ keeps_check men side x k m = bears_on_king men side k m && not (strictly_between
 -- the men are still, or the other king could be taken, so that they have no position
 abbrev pub AreStillOrNone : List Man → Side → Type 0
 AreStillOrNone men side = AreStill men side ⊎ (in_check men (other_side side) ≡ true)
+
+-- the side to move has a legal move
+abbrev pub HasMove : Position → Type 0
+HasMove q = (m : Move) × (is_legal q m ≡ true)

@@ -10,7 +10,7 @@ use crate::back::{Change, write_before};
 use crate::captures::captures;
 use crate::consistency::label;
 use crate::earlier::{may_pass, predecessor_numbers};
-use crate::escapes::{escapes, has_move};
+use crate::escapes::{has_move, quiet_moves};
 use crate::game::{Game, Location};
 use crate::initial::{Initial, initial_by_moves};
 use crate::propagate::{is_lost_by_moves, lower_by_moves, mark_by_moves};
@@ -184,11 +184,12 @@ impl<'t, 'a, A: Allocator> SteppedGame for ClassGame<'t, 'a, A> {
             return is_lost_by_moves(self, cells, number, level);
         }
         let setup = told(self.class, number);
-        if escapes(self, cells, number, &setup, level) {
+        let moves = quiet_moves(self, cells, number, &setup, level);
+        if moves.escape {
             return false;
         }
         if stays(self.class, number, &setup) {
-            return has_move(self.class, number, &setup);
+            return moves.some || has_move(self.class, number, &setup);
         }
         is_lost_by_moves(self, cells, number, level)
     }

@@ -11,7 +11,7 @@ ghost use Rattle.study_index.specs.Computed.{position_numbered};
 ghost use Rattle.study_retro.specs.ClassGame.{class_game};
 ghost use Rattle.study_retro.specs.Numbered.{IsNumberedClass, NoLossBy};
 ghost use Rattle.study_retro.specs.Predecessors.{AreTold};
-ghost use Rattle.study_retro.specs.Still.{QuietMovesLose, QuietMovesLoseBy, IsWonAfter, move_to};
+ghost use Rattle.study_retro.specs.Still.{HasMove, QuietMovesLose, QuietMovesLoseBy, IsWonAfter, move_to};
 
 use crate::captures::move_to;
 use crate::class_game::ClassGame;
@@ -115,9 +115,16 @@ fn loses_to<A: Allocator>(
     is_won(value_at(cells[after as usize]), level)
 }
 
-/// Whether the man has a quiet move after which the other side does not win within `level` plies.
+/// What quiet moves come to: whether the other side does not win within so many plies after one, and if not, whether one is legal.
+#[derive(Clone, Copy)]
+pub struct QuietMoves {
+    pub escape: bool,
+    pub some: bool,
+}
+
+/// What the quiet moves of the man come to.
 #[inline]
-fn escapes_by_man<A: Allocator>(
+fn quiet_moves_of<A: Allocator>(
     game: &ClassGame<A>,
     cells: &[u8],
     number: u32,
@@ -125,19 +132,24 @@ fn escapes_by_man<A: Allocator>(
     man: &Man,
     slot: u32,
     level: u8,
-) -> bool
+) -> QuietMoves
     requires laws { IsNumberedClass (class_game game.now.class game.now.tables.now) }
     requires numbered { (q : Seen) × (position_numbered game.now.class number ≡ Some q) }
     requires plain { number < 16777216 }
     requires told { AreTold game.now.class number setup.now.men.items setup.now.to_move }
     requires man { Contains setup.now.men.items man.now }
     requires cells { length cells.now ≡ cells_of game.now.class }
-    ensures yes { IsTrue result → NoLossBy (class_game game.now.class game.now.tables.now) cells.now level number }
-    ensures no { result ≡ false → (q : Seen) → position_numbered game.now.class number ≡ Some q
+    ensures yes { IsTrue result.escape → NoLossBy (class_game game.now.class game.now.tables.now) cells.now level number }
+    ensures no { result.escape ≡ false → (q : Seen) → position_numbered game.now.class number ≡ Some q
         → QuietMovesLoseBy (class_game game.now.class game.now.tables.now) cells.now level q man.now }
+    ensures some { IsTrue result.some → (q : Seen) → position_numbered game.now.class number ≡ Some q → HasMove q }
 {
+    let mut some = false;
     if man.side != setup.to_move {
-        return false;
+        return QuietMoves {
+            escape: false,
+            some,
+        };
     }
     let men = setup.men.as_slice();
     let free = safe_targets(men, setup.to_move, man).without(occupied(men));
@@ -148,36 +160,47 @@ fn escapes_by_man<A: Allocator>(
         let target = rest.first();
         rest = rest.without(SquareSet::of(target));
         if !loses_to(game, cells, &departure, setup, man, target, level) {
-            return true;
+            return QuietMoves { escape: true, some };
         }
+        some = true;
         next = target.number() + 1;
     }
-    false
+    QuietMoves {
+        escape: false,
+        some,
+    }
 }
 
-/// Whether the side to move has a quiet move after which the other side does not win within `level` plies.
-pub fn escapes<A: Allocator>(
+/// What the quiet moves of the side to move come to.
+pub fn quiet_moves<A: Allocator>(
     game: &ClassGame<A>,
     cells: &[u8],
     number: u32,
     setup: &Setup,
     level: u8,
-) -> bool
+) -> QuietMoves
     requires laws { IsNumberedClass (class_game game.now.class game.now.tables.now) }
     requires numbered { (q : Seen) × (position_numbered game.now.class number ≡ Some q) }
     requires plain { number < 16777216 }
     requires told { AreTold game.now.class number setup.now.men.items setup.now.to_move }
     requires cells { length cells.now ≡ cells_of game.now.class }
-    ensures yes { IsTrue result → NoLossBy (class_game game.now.class game.now.tables.now) cells.now level number }
-    ensures no { result ≡ false → (q : Seen) → position_numbered game.now.class number ≡ Some q
+    ensures yes { IsTrue result.escape → NoLossBy (class_game game.now.class game.now.tables.now) cells.now level number }
+    ensures no { result.escape ≡ false → (q : Seen) → position_numbered game.now.class number ≡ Some q
         → QuietMovesLose (class_game game.now.class game.now.tables.now) cells.now level q }
+    ensures some { IsTrue result.some → (q : Seen) → position_numbered game.now.class number ≡ Some q → HasMove q }
 {
+    let mut some = false;
     for (slot, man) in setup.men.as_slice().iter().enumerate() {
-        if escapes_by_man(game, cells, number, setup, man, slot as u32, level) {
-            return true;
+        let moves = quiet_moves_of(game, cells, number, setup, man, slot as u32, level);
+        if moves.escape {
+            return moves;
         }
+        some = some || moves.some;
     }
-    false
+    QuietMoves {
+        escape: false,
+        some,
+    }
 }
 
 /// Whether the man is one of the side to move, and has a legal move.

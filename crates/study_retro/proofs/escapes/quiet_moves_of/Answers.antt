@@ -1,6 +1,7 @@
-use Rattle.std.proofs.Common.{◌≡◌, ℕ, ◌+◌, List, inl, inr, arith, refl, sym, ◌∙◌, ap, subst}
-use Rattle.std.proofs.lemmas.Bool.{false≢true, cases_lt, not-true}
+use Rattle.std.proofs.Common.{◌≡◌, ℕ, ◌+◌, true, List, inl, inr, arith, refl, sym, ◌∙◌, ap, subst}
+use Rattle.std.proofs.lemmas.Bool.{false≢true, cases_lt, not-false, not-true}
 use Rattle.study_board.specs.declared.men.Man.{Man}
+use Rattle.study_board.specs.Men.{same_side}
 use Rattle.study_board.specs.Position.{is_occupied}
 use Rattle.study_board.proofs.EqualMen.{side_same}
 use Rattle.study_moves.specs.Rules.{reaches_last_rank}
@@ -9,8 +10,8 @@ use Rattle.study_index.specs.Computed.{position_numbered}
 use Rattle.study_retro.specs.ClassGame.{class_game}
 use Rattle.study_retro.specs.Still.{IsWonAfter, move_to}
 use Rattle.study_retro.proofs.SquaresLeft.{AreLeft, left-all, first-in, first-only, left-more, left-none, in-one, not-other, in-one-alone}
-use Rattle.study_retro.proofs.BackLemmas.{occupied_same, safe_by, safe_plain}
-use Rattle.study_retro.proofs.escapes.escapes_by_man.Goals as goal
+use Rattle.study_retro.proofs.BackLemmas.{occupied_same, safe_by, safe_plain, some_legal}
+use Rattle.study_retro.proofs.escapes.quiet_moves_of.Goals as goal
 
 -- no man of the other side moves
 pub returns-then-ne-clause-no : goal.returns-then-ne-clause-no
@@ -21,7 +22,7 @@ returns-then-ne-clause-no g c = λ f q at x legal quiet.
     absurd (false≢true (sym (sym (side_same _ _) ∙ not-true _ (sym c.ne.ensures ∙ c.if-ne.true)) ∙ s.1))
 
 pub loop-rest-init : goal.loop-rest-init
-loop-rest-init g c = record { left = left-all c.without-free.result; lose = λ x l. absurd (omega (arith, l)) }
+loop-rest-init g c = record { left = left-all c.without-free.result; lose = λ x l. absurd (omega (arith, l)); some = λ t. absurd (false≢true t) }
 
 pub loses_to-requires-clause-safe : goal.loses_to-requires-clause-safe
 loses_to-requires-clause-safe g c =
@@ -46,8 +47,15 @@ loop-rest-preserved g c =
     let inv = c.loop-rest.invariant in
     let man = c.args.man.now in
     let next : c.number-next.result ≡ a = c.number-next.ensures.value in
+    let own : same_side man.side c.args.setup.now.to_move ≡ true = sym (side_same _ _) ∙ not-false _ (sym c.ne.ensures ∙ c.if-ne.false) in
+    let safe : is_safe_target c.args.setup.now.men.items c.args.setup.now.to_move man a ≡ true =
+    ap (λ (zs : List Man). is_safe_target zs c.args.setup.now.to_move man a) (sym c.as_slice-men.ensures.value)
+    ∙ sym (c.safe_targets.ensures a f.inside)
+    ∙ in-one _ _ (sym (c.without-free.ensures a f.inside) ∙ first-in _ _ _ c.loop-rest.invariant.left a f.inside f.there) in
     let left = left-more _ _ _ inv.left a f.inside f.there f.least c.of.result c.without-rest.result c.of.ensures c.without-rest.ensures in
     record {
+      some = λ t q at. some_legal c.args.game.now.class c.args.number q at c.requires.plain c.args.setup.now.men.items c.args.setup.now.to_move c.requires.told
+          man c.requires.man own a f.inside safe;
       left = subst (λ (n : ℕ). AreLeft c.without-free.result c.without-rest.result (n + 1)) (sym next) left;
       lose = λ x l e plain q at. elim (cases_lt x c.loop-rest.next) [
         | inl low ↦ inv.lose x low e plain q at

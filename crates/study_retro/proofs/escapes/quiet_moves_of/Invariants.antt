@@ -4,9 +4,9 @@ use Rattle.study_board.specs.Sets.{has}
 use Rattle.study_moves.specs.Rules.{reaches_last_rank}
 use Rattle.study_index.specs.Computed.{position_numbered}
 use Rattle.study_retro.specs.ClassGame.{class_game}
-use Rattle.study_retro.specs.Still.{IsWonAfter, move_to}
+use Rattle.study_retro.specs.Still.{HasMove, IsWonAfter, move_to}
 use Rattle.study_retro.proofs.SquaresLeft.{AreLeft}
-use Rattle.study_retro.proofs.escapes.escapes_by_man.Given as goal
+use Rattle.study_retro.proofs.escapes.quiet_moves_of.Given as goal
 
 abbrev pub invariant-loop-rest : goal.invariant-loop-rest
 invariant-loop-rest g l = record {
@@ -14,6 +14,7 @@ invariant-loop-rest g l = record {
   lose : (x : ℕ) → x < l.next → has l.initial.rest x ≡ true → reaches_last_rank l.man x ≡ false
       → (q : Position) → position_numbered l.game.class l.number ≡ Some q
       → IsWonAfter (class_game l.game.class l.game.tables.now) l.cells l.level q (move_to l.man x);
+  some : l.some ≡ true → (q : Position) → position_numbered l.game.class l.number ≡ Some q → HasMove q;
 }
 
 abbrev pub decreases-loop-rest : goal.decreases-loop-rest
