@@ -1,5 +1,5 @@
 use Rattle.study_moves.proofs.PawnSquares.{takes_there}
-use Rattle.study_moves.proofs.targets.pawn_takes.Goals as goal
+use Rattle.study_moves.proofs.targets.pawn_take_targets.Goals as goal
 
 pub returns : goal.returns
 returns c x lx =

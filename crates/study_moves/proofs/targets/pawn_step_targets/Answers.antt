@@ -1,6 +1,6 @@
 use Rattle.std.proofs.Common.{◌∙◌, arith}
 use Rattle.study_moves.proofs.PawnSquares.{white_steps, black_steps}
-use Rattle.study_moves.proofs.targets.pawn_steps.Goals as goal
+use Rattle.study_moves.proofs.targets.pawn_step_targets.Goals as goal
 
 pub returns-in-White : goal.returns-in-White
 returns-in-White c x lx =
