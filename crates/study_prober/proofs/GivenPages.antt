@@ -65,22 +65,22 @@ module _ {S : Type 0} (gives : S → Question → Result (List ℕ) SourceFault 
         (h k : OpenTable S) → AreGiven gives cells xs kept → class_number c < length xs → held_of xs c ≡ Some h
         → h.header.class ≡ c
         → k.header ≡ h.header → GiveAlike gives h.source k.source
-        → ((e : PageKey × V) → Contains kept' e → Contains kept e ⊎ ((e.0.class ≡ class_number c) × IsGivenPage gives h e.0.number (cells e.1)))
+        → ((e : PageKey × V) → Contains kept' e → Contains kept e ⊎ ((e.0.class ≡ c) × IsGivenPage gives h e.0.number (cells e.1)))
         → AreGiven gives cells (set xs (class_number c) (Some k)) kept'
     given_after xs kept kept' c h k was small is of_class header alike more = record { given = after }
       where
-        after : (e : PageKey × V) (d : Class) (j : OpenTable S) → Contains kept' e → e.0.class ≡ class_number d
-            → held_of (set xs (class_number c) (Some k)) d ≡ Some j → IsGivenPage gives j e.0.number (cells e.1)
-        after e d j i at now = elim (held_either xs c d k j small now) [
+        after : (e : PageKey × V) (j : OpenTable S) → Contains kept' e
+            → held_of (set xs (class_number c) (Some k)) e.0.class ≡ Some j → IsGivenPage gives j e.0.number (cells e.1)
+        after e j i now = elim (held_either xs c e.0.class k j small now) [
           | inl same ↦
               let here : IsGivenPage gives h e.0.number (cells e.1) = elim (more e i) [
-                | inl old ↦ was.given e c h old (at ∙ ap class_number (sym same.0)) is
+                | inl old ↦ was.given e h old (ap (λ (x : Class). held_of xs x) (sym same.0) ∙ is)
                 | inr new ↦ new.1
               ] in
               subst (λ (x : OpenTable S). IsGivenPage gives x e.0.number (cells e.1)) same.1 (page_on h k e.0.number (cells e.1) header alike here)
           | inr far ↦ elim (more e i) [
-            | inl old ↦ was.given e d j old at far.1
-            | inr new ↦ absurd (far.0 (sym new.0 ∙ at))
+            | inl old ↦ was.given e j old far.1
+            | inr new ↦ absurd (far.0 (ap class_number (sym new.0)))
           ]
         ]
 
@@ -91,9 +91,9 @@ module _ {S : Type 0} (gives : S → Question → Result (List ℕ) SourceFault 
         → is_some (held_of xs c) ≡ false → class_number c < length (places_for_classes xs)
         → AreGiven gives cells (set (places_for_classes xs) (class_number c) (Some k)) kept
     given_with honest xs kept c k kept_was was none room = record {
-      given = λ e d j i at now. elim (held_either (places_for_classes xs) c d k j room now) [
-        | inl same ↦ absurd (false≢true (sym none ∙ kept_was.held e c i (at ∙ ap class_number (sym same.0))))
-        | inr far ↦ was.given e d j i at (sym (held_placed xs d) ∙ far.1)
+      given = λ e j i now. elim (held_either (places_for_classes xs) c e.0.class k j room now) [
+        | inl same ↦ absurd (false≢true (sym none ∙ ap (λ (x : Class). is_some (held_of xs x)) same.0 ∙ kept_was.held e i))
+        | inr far ↦ was.given e j i (sym (held_placed xs e.0.class) ∙ far.1)
       ];
     }
 

@@ -163,7 +163,7 @@ module _ {S : Type 0} where
       -- a page after a call: one that was kept before, or one of the source that was asked
       abbrev pub IsPageOf : List (PageKey × V) → OpenTable S → PageKey × V → Type 0
       IsPageOf kept h e = Contains kept e
-          ⊎ ((e.0.class ≡ class_number h.header.class)
+          ⊎ ((e.0.class ≡ h.header.class)
           × ((t : Table) → honest h.source t h.header.version → t.class ≡ h.header.class
           → cells e.1 ≡ cells_on_page t e.0.number))
 
@@ -207,24 +207,22 @@ module _ {S : Type 0} where
           | inr far ↦ was.header d j far.1
         ]
 
-        held_after : (e : PageKey × V) (d : Class) → Contains kept' e → e.0.class ≡ class_number d → is_some (held_of ys d) ≡ true
+        held_after : (e : PageKey × V) → Contains kept' e → is_some (held_of ys e.0.class) ≡ true
         unfolding ys
-        held_after e d i at = is_held_after xs c d k small (elim (more e i) [
-          | inl old ↦ was.held e d old at
-          | inr new ↦ is_some-is (held_of xs d) h
-              (subst (λ (x : Class). held_of xs x ≡ Some h)
-              (class_number-injective c d (ap class_number (sym of_class) ∙ sym new.0 ∙ at)) is)
+        held_after e i = is_held_after xs c e.0.class k small (elim (more e i) [
+          | inl old ↦ was.held e old
+          | inr new ↦ is_some-is (held_of xs e.0.class) h (subst (λ (x : Class). held_of xs x ≡ Some h) (sym of_class ∙ sym new.0) is)
         ])
 
         right_after : (d : Class) (j : OpenTable S) (t : Table) → held_of ys d ≡ Some j
             → honest j.source t j.header.version → t.class ≡ d → (e : PageKey × V) → Contains kept' e
-            → e.0.class ≡ class_number t.class → cells e.1 ≡ cells_on_page t e.0.number
+            → e.0.class ≡ t.class → cells e.1 ≡ cells_on_page t e.0.number
         right_after d j t e gives of page i at =
             let old = from_old d j t e gives in
             elim (more page i) [
               | inl before ↦ (was.right d old.0 t old.1 old.2 of).is page before at
               | inr new ↦
-                  let same : t.class ≡ h.header.class = class_number-injective t.class h.header.class (sym at ∙ new.0) in
+                  let same : t.class ≡ h.header.class = sym at ∙ new.0 in
                   let here : c ≡ d = sym of_class ∙ sym same ∙ of in
                   let one : h ≡ old.0 = some_same h old.0 (sym is ∙ ap (λ (x : Class). held_of xs x) here ∙ old.1) in
                   new.1 t (subst (λ (x : OpenTable S). honest x.source t x.header.version) (sym one) old.2) same
@@ -267,11 +265,12 @@ module _ {S : Type 0} where
             | inl same ↦ subst (λ (x : OpenTable S). IsHeaderOf x.header d) same.1 (subst (λ (x : Class). IsHeaderOf k.header x) same.0 header)
             | inr far ↦ was.header d j far.1
           ];
-          held = λ e d i at. is_held_after (places_for_classes xs) c d k room
-              (ap (λ (o : Option (OpenTable S)). is_some o) (held_placed xs d) ∙ was.held e d i at);
+          held = λ e i. is_held_after (places_for_classes xs) c e.0.class k room
+              (ap (λ (o : Option (OpenTable S)). is_some o) (held_placed xs e.0.class) ∙ was.held e i);
           right = λ d j t e gives of. record {
             is = λ page i at. elim (either d j e) [
-              | inl same ↦ absurd (false≢true (sym none ∙ was.held page c i (at ∙ ap class_number (of ∙ sym same.0))))
+              | inl same ↦ absurd (false≢true (sym none
+                  ∙ ap (λ (x : Class). is_some (held_of xs x)) (same.0 ∙ sym of ∙ sym at) ∙ was.held page i))
               | inr far ↦ (was.right d j t far.1 gives of).is page i at
             ];
           };

@@ -16,7 +16,7 @@ use Rattle.study_prober.specs.declared.open_table.OpenTable.{OpenTable}
 use Rattle.study_prober.specs.declared.values.ProbeFault.{ProbeFault}
 use Rattle.study_prober.specs.PageCache.{same_key, key_at, cell_at, kept_cell}
 use Rattle.study_prober.specs.PagedTables.{held_of, IsKept}
-use Rattle.study_prober.proofs.Keys.{same_key-is}
+use Rattle.study_prober.proofs.Keys.{same_key-is, keys_compared}
 
 then_some : {X : Type 0} (P Q : X → Type 0) (o : Option X) → ((x : X) → P x → Q x) → IfSome o P → IfSome o Q
 then_some P Q None f h = tt
@@ -32,9 +32,9 @@ module _ {S V : Type 0} (honest : S → Table → ℕ → Type 0) (cells : V →
   no_page was none n None e = refl
   no_page was none n (Some v) e =
       let found = Contains-lookup (same_key (key_at c n)) kept v e in
-      let key : key_at c n ≡ found.0 = same_key-is (key_at c n) found.0 found.2 in
-      let held = was.held (found.0, v) c found.1 (ap (λ (k : PageKey). k.class) (sym key)) in
-      absurd (false≢true (sym (ap (λ (o : Option (OpenTable S)). is_some o) none) ∙ held))
+      let key : key_at c n ≡ found.0 = same_key-is (key_at c n) found.0 (ap (λ test. test (key_at c n) found.0) keys_compared ∙ found.2) in
+      let same = ap (λ (k : PageKey). is_some (held_of xs k.class)) key in
+      absurd (false≢true (sym (ap (λ (o : Option (OpenTable S)). is_some o) none) ∙ same ∙ was.held (found.0, v) found.1))
 
   none_kept : IsKept honest cells xs kept → held_of xs c ≡ None → (n : ℕ) → lookup (same_key (key_at c n)) kept ≡ None
   none_kept was none n = no_page was none n (lookup (same_key (key_at c n)) kept) refl

@@ -5,13 +5,17 @@ use Rattle.study_material.specs.declared.class.Class.{Class}
 use Rattle.study_material.specs.Class.{class_number}
 use Rattle.study_prober.specs.declared.page_cache.PageKey.{PageKey}
 
+-- two classes are one
+abbrev pub same_class : Class → Class → Bool
+same_class c d = class_number c == class_number d
+
 -- two keys are one
 abbrev pub same_key : PageKey → PageKey → Bool
-same_key a b = (a.class == b.class) && (a.number == b.number)
+same_key a b = same_class a.class b.class && (a.number == b.number)
 
 -- the page of a class in which the cell of a number stands
 abbrev pub key_at : Class → ℕ → PageKey
-key_at c n = record { class = class_number c; number = n / 4096 }
+key_at c n = record { class = c; number = n / 4096 }
 
 -- the cell of a page, if there is one
 abbrev pub cell_at : {V : Type 0} → (V → List ℕ) → ℕ → Option V → Option ℕ

@@ -40,13 +40,12 @@ places_for_classes (o ∷ os) = o ∷ os
 pub record IsKept {S V : Type 0} (honest : HonestOf S) (cells : V → List ℕ) (sources : List (Option (OpenTable S))) (kept : List (PageKey × V)) : Type 0 where
   pub some : length sources ≢ 0 → length sources ≡ 36
   pub header : (c : Class) (h : OpenTable S) → held_of sources c ≡ Some h → IsHeaderOf h.header c
-  pub held : (e : PageKey × V) (c : Class) → Contains kept e → e.0.class ≡ class_number c → is_some (held_of sources c) ≡ true
+  pub held : (e : PageKey × V) → Contains kept e → is_some (held_of sources e.0.class) ≡ true
   pub right : (c : Class) (h : OpenTable S) (t : Table) → held_of sources c ≡ Some h → honest h.source t h.header.version → t.class ≡ c → AreOf cells kept t
 
 -- each page that is kept is one that its source may give, and has passed its check
 pub record AreGiven {S V : Type 0} (gives : GivesOf S) (cells : V → List ℕ) (sources : List (Option (OpenTable S))) (kept : List (PageKey × V)) : Type 0 where
-  pub given : (e : PageKey × V) (c : Class) (h : OpenTable S) → Contains kept e → e.0.class ≡ class_number c
-      → held_of sources c ≡ Some h → IsGivenPage gives h e.0.number (cells e.1)
+  pub given : (e : PageKey × V) (h : OpenTable S) → Contains kept e → held_of sources e.0.class ≡ Some h → IsGivenPage gives h e.0.number (cells e.1)
 
 -- each source gives the file of a right table of its class
 pub record SourcesAreRight {S : Type 0} (honest : HonestOf S) (sources : List (Option (OpenTable S))) : Type 0 where

@@ -2,7 +2,6 @@
 use Rattle.std.specs.Prelude.{◌≡◌, ◌⊎◌, ℕ, ◌*◌, ◌/◌, ◌%◌, List, slice_index, take, drop, Contains, Bool, true, false, Result, Ok, Err, if◌then◌else◌}
 use Rattle.study_material.specs.declared.class.Class.{Class}
 use Rattle.study_index.specs.Number.{cells_of}
-use Rattle.study_material.specs.Class.{class_number}
 use Rattle.study_retro.specs.Table.{Table, IsComplete}
 use Rattle.study_retro.specs.Sound.{IsRight}
 use Rattle.study_retro.specs.Cells.{value_of}
@@ -68,7 +67,7 @@ pub record GiveAlike {S : Type 0} (gives : GivesOf S) (old new : S) : Type 0 whe
 
 -- the pages of a table's class that are kept are the table's
 pub record AreOf {V : Type 0} (cells : V → List ℕ) (kept : List (PageKey × V)) (t : Table) : Type 0 where
-  pub is : (e : PageKey × V) → Contains kept e → e.0.class ≡ class_number t.class → cells e.1 ≡ cells_on_page t e.0.number
+  pub is : (e : PageKey × V) → Contains kept e → e.0.class ≡ t.class → cells e.1 ≡ cells_on_page t e.0.number
 
 -- the source gives the file of a right table of the class, in this version
 pub record GivesRight {S : Type 0} (honest : HonestOf S) (source : S) (version : ℕ) (c : Class) : Type 0 where

@@ -3,7 +3,6 @@ ghost use Rattle.std.specs.Prelude.{◌≡◌, ◌<◌, ◌/◌, ℕ, List, Resu
 ghost use Rattle.study_material.specs.declared.class.Class.{Class as AClass};
 ghost use Rattle.study_text.specs.Counts.{counted};
 ghost use Rattle.study_retro.specs.Cells.{value_of};
-ghost use Rattle.study_material.specs.Class.{class_number};
 ghost use Rattle.study_retro.specs.Table.{Table as Seen, IsComplete};
 ghost use Rattle.study_index.specs.Number.{cells_of};
 ghost use Rattle.study_tablefile.specs.declared.fault.SourceFault.{SourceFault as ASourceFault};
@@ -133,7 +132,7 @@ pub fn value_of_number<'a, S: PageSource, A: Allocator>(
     ensures failed { S.failed held.new.source ≡ failed_after (S.failed held.old.source) result }
     ensures once { kept_cell (λ v. v.items) pages.old.entries held.old.header.class number ≡ None
         → S.asked held.new.source ≡ counted (S.asked held.old.source) }
-    ensures more { PutsOnly (λ k v. (k.class ≡ class_number held.old.header.class)
+    ensures more { PutsOnly (λ k v. (k.class ≡ held.old.header.class)
         × ((t : Seen) → S.honest held.old.source t held.old.header.version → t.class ≡ held.old.header.class
         → v.items ≡ cells_on_page t k.number)) pages.old.entries pages.new.entries }
     ensures given { PutsOnly (λ k v. IsPageFor S.gives held.old.header.class held.old number k v.items) pages.old.entries pages.new.entries }
@@ -142,7 +141,7 @@ pub fn value_of_number<'a, S: PageSource, A: Allocator>(
     ensures unread { (f : ASourceFault) → IsErrOf result (ProbeFault.TableRead f) → S.gives held.old.source (of_page (number / 4096)) (Err f) }
     ensures not_whole { (c : AClass) (n : ℕ) → IsErrOf result (ProbeFault.PageDamaged c n) → HasBadPage S.gives held.old (number / 4096) }
     ensures again { IsToldAgain (kept_cell (λ v. v.items) pages.old.entries held.old.header.class number) result held.old held.new }
-    ensures read { ((e : _) → Contains pages.old.entries e → e.0.class ≡ class_number held.old.header.class
+    ensures read { ((e : _) → Contains pages.old.entries e → e.0.class ≡ held.old.header.class
         → IsGivenPage S.gives held.old e.0.number e.1.items)
         → IfOk result (IsReadFrom S.gives held.old number) }
 {

@@ -6,15 +6,33 @@ ghost use Rattle.study_prober.specs.PageCache.{same_key, key_at, cell_at};
 
 use lru::{DefaultHasher, LruCache};
 use std::alloc::{AllocError, Allocator};
+use std::hash::{Hash, Hasher};
 use study_material::Class;
 use study_tablefile::{PAGE_BYTES, PAGE_CELLS};
 
 /// Which page of which class.
-#[derive(Clone, Copy, Debug, PartialEq, Eq, Hash)]
+#[derive(Clone, Copy, Debug, PartialEq, Eq)]
 pub struct PageKey {
-    /// The place of the class in the class list.
-    pub class: u8,
+    pub class: Class,
     pub number: u32,
+}
+
+/// A class has no hash of its own: its number stands for it.
+impl Hash for PageKey {
+    ghost use Rattle.std.specs.Hash as fed;
+    ghost use Rattle.std.specs.Cmp.Rules.{hashing};
+    ghost use Rattle.std.specs.Prelude.{◌++◌};
+    ghost use Rattle.std.proofs.Common.{rules};
+    ghost use Rattle.study_material.specs.Class.{class_number};
+
+    ghost hash_input = { λ k. fed.u8 (class_number k.class) ++ fed.u32 k.number };
+
+    ghost respects_eq = { Prim.search (hashing, rules) };
+
+    fn hash<H: Hasher>(&self, state: &mut H) {
+        self.class.number().hash(state);
+        self.number.hash(state);
+    }
 }
 
 /// The cells of pages.
@@ -25,7 +43,7 @@ pub fn page_key(class: Class, cell: u32) -> PageKey
     ensures { result ≡ key_at class cell }
 {
     PageKey {
-        class: class.number(),
+        class,
         number: cell / PAGE_CELLS as u32,
     }
 }

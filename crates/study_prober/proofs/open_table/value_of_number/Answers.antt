@@ -1,6 +1,5 @@
 use Rattle.std.proofs.Common.{ℕ, List, get_or, inl, inr, sym, ◌∙◌, ap, subst, ◌%◌}
 use Rattle.study_retro.specs.Cells.{value_of}
-use Rattle.study_material.specs.Class.{class_number}
 use Rattle.study_prober.specs.Sources.{IsGivenPage, cells_on_page}
 use Rattle.study_prober.specs.declared.page_cache.PageKey.{PageKey}
 use Rattle.study_prober.proofs.Cells.{page_of_cell, cell_of_page, told_cell}
@@ -13,7 +12,7 @@ pub returns-in-Some-clause-ok : goal.returns-in-Some-clause-ok
 returns-in-Some-clause-ok g c = λ t honest same kept.
     let found = c.in-Some.ensures.found in
     let own =
-    kept.is (_, found.0) found.1 (ap (λ (k : PageKey). k.class) c.page_key-key.ensures ∙ ap class_number (sym same))
+    kept.is (_, found.0) found.1 (ap (λ (k : PageKey). k.class) c.page_key-key.ensures ∙ sym same)
     ∙ ap (λ (k : PageKey). cells_on_page t k.number) c.page_key-key.ensures in
     c.value_at.ensures ∙ ap value_of (found.2 ∙ ap (λ (cells : List ℕ). get_or cells (c.args.number % 4096) 0) own ∙ cell_of_page t c.args.number)
 

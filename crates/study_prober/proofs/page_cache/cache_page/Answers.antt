@@ -1,7 +1,8 @@
 use Rattle.std.proofs.Common.{inl, inr, sym, ◌∙◌, Contains, ap, subst}
+use Rattle.lru.specs.LruCache.{put_entries}
 use Rattle.lru.proofs.CallerLemmas.{Contains-put_entries}
 use Rattle.study_prober.specs.contracts.page_cache.PageKeyPartialEq.TheImpl.{eq-value}
-use Rattle.study_prober.proofs.Keys.{same_key-is}
+use Rattle.study_prober.proofs.Keys.{same_key-is, keys_compared}
 use Rattle.study_prober.proofs.page_cache.cache_page.Goals as goal
 
 pub returns-clause-more : goal.returns-clause-more
@@ -12,4 +13,8 @@ returns-clause-more g c = λ e h.
     ]
 
 pub returns-clause-kept : goal.returns-clause-kept
-returns-clause-kept g c = (c.in_ok-copy.copy, c.in_ok-copy.ensures.items, ap (λ q. q.entries) c.in_ok-put.ensures.entries)
+returns-clause-kept g c = (
+  c.in_ok-copy.copy,
+  c.in_ok-copy.ensures.items,
+  ap (λ q. q.entries) c.in_ok-put.ensures.entries ∙ ap (λ test. put_entries test c.args.pages.now c.args.key c.in_ok-copy.copy) keys_compared,
+)

@@ -1,9 +1,11 @@
-use Rattle.std.proofs.Common.{◌≡◌, rules, sym, ap, ◌∙◌, Contains, subst, Some, slice_get}
+use Rattle.std.proofs.Common.{◌≡◌, rules, sym, ap, ◌∙◌, Contains, subst, Some, None, slice_get}
 use Rattle.std.specs.Map.{lookup}
+use Rattle.lru.specs.LruCache.{promoted}
 use Rattle.lru.proofs.Splits.{Contains-head}
 use Rattle.lru.proofs.CallerLemmas.{Contains-promoted, Contains-lookup}
 use Rattle.study_prober.specs.contracts.page_cache.PageKeyPartialEq.TheImpl.{eq-value}
-use Rattle.study_prober.proofs.Keys.{same_key-is}
+use Rattle.study_prober.specs.PageCache.{cell_at}
+use Rattle.study_prober.proofs.Keys.{same_key-is, keys_compared}
 use Rattle.study_prober.proofs.LatestPage.{kept-cell}
 use Rattle.study_prober.proofs.page_cache.cached_cell.Goals as goal
 
@@ -29,3 +31,23 @@ returns-clause-found g c =
     let kept = subst (λ k. Contains c.args.pages.now.entries (k, c.in_ok-page.page.now)) (sym (same_key-is _ _ l.2)) l.1 in
     kept-cell (λ v. v.items) c.args.pages.now.entries c.args.key c.in_ok-page.page.now c.args.at kept c.cell_of-2.result
     (c.cell_of-2.ensures ∙ ap (λ xs. slice_get xs c.args.at) c.as_slice.ensures.value)
+
+pub returns-in_err-page-clause-used : goal.returns-in_err-page-clause-used
+returns-in_err-page-clause-used g c =
+    ap (λ q. q.entries) c.get.follows.holds-at-none ∙ ap (λ test. promoted (test c.args.key) c.args.pages.now.entries) keys_compared
+
+pub returns-clause-used : goal.returns-clause-used
+returns-clause-used g c =
+    ap (λ q. q.entries) c.get.follows.holds-at-none ∙ ap (λ test. promoted (test c.args.key) c.args.pages.now.entries) keys_compared
+
+pub returns-in_err-page-clause-value : goal.returns-in_err-page-clause-value
+returns-in_err-page-clause-value g c =
+    let none : lookup (eq-value.it c.args.key) c.args.pages.now.entries ≡ None = search rules in
+    let told : c.from_residual.result ≡ None = search rules in
+    told ∙ ap (λ o. cell_at (λ v. v.items) c.args.at o) (sym none ∙ ap (λ test. lookup (test c.args.key) c.args.pages.now.entries) keys_compared)
+
+pub returns-clause-value : goal.returns-clause-value
+returns-clause-value g c =
+    let v : lookup (eq-value.it c.args.key) c.args.pages.now.entries ≡ Some c.in_ok-page.page.now = search rules in
+    c.cell_of-2.ensures ∙ ap (λ xs. slice_get xs c.args.at) c.as_slice.ensures.value
+    ∙ ap (λ o. cell_at (λ v. v.items) c.args.at o) (sym v ∙ ap (λ test. lookup (test c.args.key) c.args.pages.now.entries) keys_compared)

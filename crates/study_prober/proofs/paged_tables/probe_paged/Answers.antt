@@ -1,6 +1,5 @@
 use Rattle.std.proofs.Common.{inl, inr, ◌≡◌, ◌≤◌, ◌<◌, ◌/◌, ℕ, length, rules, sym, ◌∙◌, ap, subst}
 use Rattle.std.specs.Prelude.{None}
-use Rattle.study_material.specs.Class.{class_number}
 use Rattle.study_prober.specs.declared.page_cache.PageKey.{PageKey}
 use Rattle.study_prober.specs.declared.open_table.OpenTable.{OpenTable}
 use Rattle.study_prober.specs.PageCache.{key_at}
@@ -140,8 +139,8 @@ returns-in-Some-clause-read g c = λ d h of was.
     let own = (c.requires.kept.header c.class_of-class.result.0 c.in-Some.held is.1).class in
     read_at g.S.PageSource.gives c.in-Some.held h c.index.result (index_of c.args.p.now) c.value_of_number.result one
     c.index.ensures.value
-    (c.value_of_number.ensures.read (λ e i at. c.requires.given.given e c.class_of-class.result.0 c.in-Some.held i
-    (at ∙ ap class_number own) is.1))
+    (c.value_of_number.ensures.read (λ e i at. c.requires.given.given e c.in-Some.held i
+    (ap (λ (x : Class). held_of c.args.sources.now.items x) (at ∙ own) ∙ is.1)))
 
 pub returns-in-Some-clause-given : goal.returns-in-Some-clause-given
 returns-in-Some-clause-given g c =
@@ -154,7 +153,7 @@ returns-in-Some-clause-given g c =
     (λ e i. elim (c.value_of_number.ensures.given e i) [
       | inl old ↦ inl old
       | inr new ↦ inr (
-        ap (λ (k : PageKey). k.class) new.0 ∙ ap class_number own,
+        ap (λ (k : PageKey). k.class) new.0 ∙ own,
         subst (λ (k : PageKey). IsGivenPage g.S.PageSource.gives c.in-Some.held k.number e.1.items) (sym new.0)
             new.1,
       )
