@@ -1,5 +1,5 @@
 //! What makes men a position.
-ghost use Rattle.std.specs.Prelude.{◌≡◌, ◌≤◌, ◌<◌, ◌&&◌, true, length, is_some};
+ghost use Rattle.std.specs.Prelude.{◌≡◌, ◌≤◌, ◌&&◌, true, length, is_some};
 ghost use Rattle.study_board.specs.declared.men.Side.TheVariants.{White, Black};
 ghost use Rattle.study_board.specs.Position.{is_occupied, has_man, has_square_twice, has_one_king, is_end_pawn};
 ghost use Rattle.study_board.specs.Position.{has_end_pawn, in_check, could_be_passed, passed_possible, first_fault};

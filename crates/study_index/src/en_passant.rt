@@ -1,5 +1,5 @@
 //! Captures in passing: whether one is legal, and the square that is passed.
-ghost use Rattle.std.specs.Prelude.{◌≡◌, ◌&&◌, ◌+◌, ◌-◌, find, Some, None};
+ghost use Rattle.std.specs.Prelude.{◌≡◌, ◌&&◌, ◌+◌, find, Some, None};
 ghost use Rattle.study_moves.specs.Rules.{is_en_passant, is_legal};
 ghost use Rattle.study_moves.specs.EnPassant.{has_legal_en_passant, is_taken};
 ghost use Rattle.study_board.specs.Men.{is_man};

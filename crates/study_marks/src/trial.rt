@@ -1,5 +1,5 @@
 //! The mark of a move that the tree need not have.
-ghost use Rattle.std.specs.Prelude.{◌≡◌, ◌+◌, ◌≤◌, ◌<◌, ◌^◌, ◌∷◌, [], length, Some, Err, true, IsTrue, IsOk, IsErrOf, OnOk, IfOk, IfErr, MatchOption};
+ghost use Rattle.std.specs.Prelude.{◌≡◌, ◌≤◌, ◌∷◌, [], length, Some, Err, true, IsTrue, IsOk, IsErrOf, OnOk, IfOk, IfErr, MatchOption};
 ghost use Rattle.study_material.specs.declared.class.Class.{Class as AClass};
 ghost use Rattle.study_prober.specs.Values.{SourceFault as ASourceFault};
 ghost use Rattle.study_moves.specs.Rules.{is_legal, after};

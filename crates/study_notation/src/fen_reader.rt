@@ -1,5 +1,5 @@
 //! Reading a FEN text.
-ghost use Rattle.std.specs.Prelude.{◌≡◌, ◌<◌, None, false};
+ghost use Rattle.std.specs.Prelude.{◌≡◌, None, false};
 ghost use Rattle.study_board.specs.Men.{other_side};
 ghost use Rattle.study_board.specs.Position.{IsAscending, in_check};
 ghost use Rattle.study_notation.specs.Fen.{placement_fault, fen_fault_of_men, position_of, start_of};

@@ -1,5 +1,5 @@
 //! The fields of a FEN text.
-ghost use Rattle.std.specs.Prelude.{◌≡◌, ◌<◌, ◌+◌};
+ghost use Rattle.std.specs.Prelude.{◌≡◌, ◌+◌};
 ghost use Rattle.std.specs.Option.{option_map};
 ghost use Rattle.study_notation.specs.Fen.{fields_of, side_of, passed_of, count_of, is_dash};
 ghost use Rattle.study_notation.specs.FieldsView.{fields_view};

@@ -1,5 +1,5 @@
 //! The text of a study, and its way to a writer.
-ghost use Rattle.std.specs.Prelude.{◌≡◌, OnOk, IfOk, Err, Some};
+ghost use Rattle.std.specs.Prelude.{◌≡◌, OnOk, IfOk, Err};
 ghost use Rattle.std.specs.Io.KnownBytes.{Appends};
 ghost use Rattle.study_text.specs.Taken.{TakesPrefix};
 ghost use Rattle.study_marks.specs.BenchState.{marked};

@@ -1,5 +1,5 @@
 //! Pages that are kept, the last used first.
-ghost use Rattle.std.specs.Prelude.{◌≡◌, ◌<◌, ◌⊎◌, ◌∷◌, take, Contains, IfSome, OnOk, OnErr, slice_get, slice_index};
+ghost use Rattle.std.specs.Prelude.{◌≡◌, ◌⊎◌, ◌∷◌, take, Contains, IfSome, OnOk, OnErr, slice_get, slice_index};
 ghost use Rattle.std.specs.Map.{lookup};
 ghost use Rattle.lru.specs.LruCache.{promoted, put_entries};
 ghost use Rattle.study_prober.specs.PageCache.{same_key, key_at, cell_at};

@@ -13,14 +13,12 @@ use Rattle.study_index.specs.Decoded.{IsDecoded}
 use Rattle.study_index.proofs.ComputedIndex.{index_of-only, told_decoded, decoded_told}
 use Rattle.study_retro.specs.declared.value.Value.{Value}
 use Rattle.study_retro.specs.Cells.{value_of}
-use Rattle.study_material.specs.Class.{class_number}
 use Rattle.study_retro.specs.Table.{Table, table_of, IsReady, IsClosed}
 use Rattle.study_material.specs.Class.{is_of}
 use Rattle.study_material.proofs.Classes.{IsOf-is_of, is_of-IsOf}
 use Rattle.study_retro.specs.Game.{value_in}
 use Rattle.study_retro.proofs.ClassLemmas.{some_or_none}
 use Rattle.study_retro.proofs.ChessClass.{chess_class, value_in-held}
-use Rattle.study_retro.proofs.SetLemmas.{class_number-injective}
 
 pub decode_at : (c : Class) (n : ℕ) (o : Option Position) → IfSome o (λ q. IsDecoded c n q)
     → IfNone o ((q : Position) → IsDecoded c n q → ⊥) → o ≡ position_numbered c n

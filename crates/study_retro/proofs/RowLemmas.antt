@@ -22,7 +22,7 @@ use Rattle.study_moves.proofs.MenOfList.{All-among, IsAmong, list_any-from, list
 use Rattle.study_material.specs.declared.class.Class.{Class}
 use Rattle.study_index.specs.declared.decoding.Slot.{Slot}
 use Rattle.study_index.specs.Computed.{position_numbered}
-use Rattle.study_index.specs.Decoded.{AreSlots, man, men_of, slots_of, told_men, told_side, head, listed_square, slots_have_pawn, side_numbered}
+use Rattle.study_index.specs.Decoded.{AreSlots, man, men_of, slots_of, told_men, told_side, head, slots_have_pawn, side_numbered}
 use Rattle.study_index.specs.Number.{listed_count, without_bit}
 use Rattle.study_index.proofs.ClassSlots.{AreSlots-class}
 use Rattle.study_index.proofs.ComputedIndex.{told_decoded}
@@ -300,15 +300,14 @@ pub row_told : (c : Class) (row y : ℕ) → y < 64 → row < 262144 → (others
     → AreTold c (64 * row) (others ++ last ∷ []) side → AreTold c (64 * row + y) (others ++ on_square last y ∷ []) side
 row_told c row y ly lr others last side told =
     let low : without_bit (64 * row) ≡ 64 * row = omega arith in
-    let high : without_bit (64 * row + y) ≡ 64 * row + y = omega arith in
-    (
+    let high : without_bit (64 * row + y) ≡ 64 * row + y = omega arith in (
       sym (move_last-append others last y)
-      ∙ ap (λ (zs : List Man). move_last zs y) (told.0 ∙ ap (λ (n : ℕ). told_men (slots_of c) n) low)
-      ∙ sym (row_men (slots_have_pawn (slots_of c)) (slots_of c) row y ly (AreSlots-class c))
-      ∙ ap (λ (n : ℕ). told_men (slots_of c) n) (sym high),
+          ∙ ap (λ (zs : List Man). move_last zs y) (told.0 ∙ ap (λ (n : ℕ). told_men (slots_of c) n) low)
+          ∙ sym (row_men (slots_have_pawn (slots_of c)) (slots_of c) row y ly (AreSlots-class c))
+          ∙ ap (λ (n : ℕ). told_men (slots_of c) n) (sym high),
       told.1 ∙ ap (λ (n : ℕ). told_side (slots_of c) n) low
-      ∙ ap (λ (h : ℕ). side_numbered (h / listed_count (slots_have_pawn (slots_of c)))) (sym (row_head (slots_of c) row y ly (AreSlots-class c)))
-      ∙ ap (λ (n : ℕ). told_side (slots_of c) n) (sym high),
+          ∙ ap (λ (h : ℕ). side_numbered (h / listed_count (slots_have_pawn (slots_of c)))) (sym (row_head (slots_of c) row y ly (AreSlots-class c)))
+          ∙ ap (λ (n : ℕ). told_side (slots_of c) n) (sym high),
     )
 
 -- positions whose men are still are
@@ -327,12 +326,11 @@ module _ (c : Class) (number : ℕ) (q : Position) (at : position_numbered c num
   same = subst (λ (zs : List Man). IsPermutation zs q.men) (sym told.0) (told_of c number q (told_decoded c number q at)).same_men
 
   pub still_position : AreStillOrNone (others ++ l ∷ []) side → IsStill q
-  still_position (inl still) =
-      (
-        λ mate. false≢true (sym still.safe ∙ in_check_same (others ++ l ∷ []) q.men same side
+  still_position (inl still) = (
+    λ mate. false≢true (sym still.safe ∙ in_check_same (others ++ l ∷ []) q.men same side
         ∙ ap (λ (s : Side). in_check q.men s) (side_is c number q at (others ++ l ∷ []) side told) ∙ mate.0),
-        stays_quiet c number q at low (others ++ l ∷ []) side told still.spares still.keeps,
-      )
+    stays_quiet c number q at low (others ++ l ∷ []) side told still.spares still.keeps,
+  )
   still_position (inr check) = absurd (no_capture_of_king c number q at (others ++ l ∷ []) side told
       (sym (in_check_same (others ++ l ∷ []) q.men same (other_side side)) ∙ check))
 

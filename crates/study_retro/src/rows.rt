@@ -57,7 +57,9 @@ fn promoting_squares(side: Side) -> SquareSet
 {
     let start = 8 * rank_before_last(side);
     let (first, last) = (Square::at(start), Square::at(start + 7));
-    SquareSet::of(first).union(between(first, last)).union(SquareSet::of(last))
+    SquareSet::of(first)
+        .union(between(first, last))
+        .union(SquareSet::of(last))
 }
 
 /// The squares on which the man of the last slot is not to stand: those from which it promotes, or on which it can be taken.
@@ -77,7 +79,13 @@ fn squares_exposed(last: &Man, to_move: Side, attacked: SquareSet) -> SquareSet
 /// Whether the men may not be still wherever the man of the last slot stands, by the squares on which the side to move and
 /// the other side bear without it.
 #[inline]
-fn are_restless(others: &[Man], last: &Man, to_move: Side, ours: SquareSet, theirs: SquareSet) -> bool
+fn are_restless(
+    others: &[Man],
+    last: &Man,
+    to_move: Side,
+    ours: SquareSet,
+    theirs: SquareSet,
+) -> bool
     ensures { result ≡ is_restless others.now last.now to_move ours theirs }
 {
     last.kind == Kind::King

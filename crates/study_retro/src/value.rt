@@ -1,5 +1,5 @@
 //! Values: won or lost in so many plies, or drawn.
-ghost use Rattle.std.specs.Prelude.{◌≡◌, ◌≢◌, ◌<◌, MatchOption};
+ghost use Rattle.std.specs.Prelude.{◌≡◌, ◌≢◌, MatchOption};
 ghost use Rattle.study_retro.specs.Cells.{distance_of, value_of};
 
 /// The greatest distance that a cell tells, in plies: a cell is a byte, one more than the distance, and 0 is a draw.

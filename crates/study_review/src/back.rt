@@ -1,5 +1,5 @@
 //! Whether a move only loses time.
-ghost use Rattle.std.specs.Prelude.{◌≡◌, ◌<◌, ◌≤◌, ◌↔◌, true, false, length, IfOk, IfErr, IsErrOf};
+ghost use Rattle.std.specs.Prelude.{◌≡◌, ◌≤◌, ◌↔◌, true, false, length, IfOk, IfErr, IsErrOf};
 ghost use Rattle.std.specs.List.{All};
 ghost use Rattle.study_prober.specs.Values.{IsNotDamage};
 ghost use Rattle.study_review.specs.Asked.{HasTold};

@@ -1,7 +1,7 @@
 //! The pages of a file in memory.
-ghost use Rattle.std.specs.Prelude.{◌≡◌, ℕ, ◌<◌, ◌↔◌, [], Some, None, Ok, Err, true, false, length, take};
-ghost use Rattle.std.specs.Prelude.{drop, vec_len, ◌≤◌, ◌⊎◌, IsOk, IsErr, IsErrOf, IfOk, IfErr};
-ghost use Rattle.std.specs.Prelude.{OnOk, OnErr, MatchResult, ◌≢◌, ◌+◌, ◌-◌, ◌*◌, ◌^◌};
+ghost use Rattle.std.specs.Prelude.{◌≡◌, ℕ, ◌<◌, ◌↔◌, Some, Ok, Err, length, take};
+ghost use Rattle.std.specs.Prelude.{drop, ◌≤◌, IsErrOf, IfErr};
+ghost use Rattle.std.specs.Prelude.{OnOk, OnErr, ◌≢◌, ◌+◌, ◌-◌, ◌*◌};
 ghost use Rattle.study_text.specs.Counts.{counted};
 ghost use Rattle.study_tablefile.specs.Source.{page_of, IsAnswerOf, of_header, of_page};
 ghost use Rattle.study_tablefile.specs.File.{header_text, pages_of, table_text};

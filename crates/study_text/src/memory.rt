@@ -1,7 +1,7 @@
 //! A reader and a writer in memory that go byte by byte and fail where a test wants it.
-ghost use Rattle.std.specs.Prelude.{◌≡◌, ℕ, ◌<◌, ◌↔◌, [], Some, None, Ok, Err, true, false, length, take};
-ghost use Rattle.std.specs.Prelude.{drop, vec_len, ◌≤◌, ◌⊎◌, IsOk, IsErr, IsErrOf, IfOk, IfErr};
-ghost use Rattle.std.specs.Prelude.{OnOk, OnErr, MatchResult, ◌≢◌, ◌+◌, ◌-◌, ◌*◌, ◌^◌};
+ghost use Rattle.std.specs.Prelude.{◌≡◌, ◌<◌, ◌↔◌, [], Some, None, Ok, Err, true, false, length};
+ghost use Rattle.std.specs.Prelude.{drop, vec_len, ◌≤◌, ◌⊎◌, IsOk, IsErr, IfOk, IfErr};
+ghost use Rattle.std.specs.Prelude.{OnOk, OnErr, MatchResult, ◌+◌, ◌-◌, ◌^◌};
 ghost use Rattle.study_text.specs.Counts.{counted};
 ghost use Rattle.study_text.specs.Devices.{fails_still};
 ghost use Rattle.std.specs.Io.{ReadsAtMost, WritesAtMost};

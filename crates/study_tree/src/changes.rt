@@ -1,5 +1,5 @@
 //! Labels changed in place: along a path, or all in written order.
-ghost use Rattle.std.specs.Prelude.{◌≡◌, ◌+◌, ◌<◌, ◌≤◌, ◌^◌, IsTrue, ◌∷◌, ℕ, length};
+ghost use Rattle.std.specs.Prelude.{◌≡◌, ◌+◌, ◌<◌, ◌^◌, IsTrue, ◌∷◌, ℕ, length};
 ghost use Rattle.study_tree.specs.Forest.{forest_of, nodes_in};
 ghost use Rattle.study_tree.specs.Edits.{has_node, plain};
 ghost use Rattle.study_tree.specs.Changes.{Pass, changed_along, rewritten};

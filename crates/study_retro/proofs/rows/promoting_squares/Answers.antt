@@ -1,4 +1,3 @@
-use Rattle.std.proofs.Common.{◌∙◌, arith, ap}
 use Rattle.study_retro.proofs.RowLemmas.{on_rank}
 use Rattle.study_retro.proofs.rows.promoting_squares.Goals as goal
 

@@ -1,4 +1,4 @@
-use Rattle.std.proofs.Common.{◌≡◌, ◌+◌, ◌-◌, ◌*◌, ◌<◌, List, [], ◌∷◌, ◌++◌, length, take, arith, ◌∙◌, sym, ap}
+use Rattle.std.proofs.Common.{◌≡◌, ◌+◌, ◌-◌, ◌*◌, ◌<◌, [], ◌∷◌, ◌++◌, length, take, arith, ◌∙◌, sym, ap}
 use Rattle.std.proofs.lemmas.List.{take_all, take_more}
 use Rattle.study_board.specs.declared.men.Man.{Man}
 use Rattle.study_retro.proofs.RowLemmas.{row_told, others_on_board, still_position}
