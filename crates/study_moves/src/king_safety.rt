@@ -5,7 +5,8 @@ ghost use Rattle.study_board.specs.declared.men.Kind.TheVariants.{King as AKing}
 ghost use Rattle.study_board.specs.Sets.{has, bears_past, is_slider};
 ghost use Rattle.study_board.specs.Geometry.{strictly_between};
 ghost use Rattle.std.specs.Prelude.{◌==◌};
-ghost use Rattle.study_moves.specs.KingSafety.{is_other_man, attacked_past, is_no_shield, threatens, threatened_past, king_threatened, others_threatened, is_unsafe};
+ghost use Rattle.study_moves.specs.KingSafety.{is_other_man, attacked_past, is_no_shield, threatens};
+ghost use Rattle.study_moves.specs.KingSafety.{threatened_past, king_threatened, others_threatened, is_unsafe};
 
 use study_board::{Kind, Man, Side, Square, SquareSet, attacks, attacks_without, between};
 

@@ -165,8 +165,12 @@ unchecked Black Black ms k b c e t g f = refl
 
 -- ---- the men of a row
 
-module _ (others : List Man) (last : Man) (side : Side) (ours theirs y : ℕ) (attacked : (x : ℕ) → x < 64 → has ours x ≡ is_attacked others side x) (checked : (x : ℕ)
-    → x < 64 → has theirs x ≡ is_attacked others (other_side side) x) (restless : is_restless others last side ours theirs ≡ false) (bearing : list_any (λ m. matters last side m && bears_on [] (facing last m.at) y) others ≡ false) (exposed : is_exposed last side ours y ≡ false) (board : All (λ m. m.at < 64) others) (on : y < 64) where
+module _ (others : List Man) (last : Man) (side : Side) (ours theirs y : ℕ)
+    (attacked : (x : ℕ) → x < 64 → has ours x ≡ is_attacked others side x)
+    (checked : (x : ℕ) → x < 64 → has theirs x ≡ is_attacked others (other_side side) x)
+    (restless : is_restless others last side ours theirs ≡ false)
+    (bearing : list_any (λ m. matters last side m && bears_on [] (facing last m.at) y) others ≡ false)
+    (exposed : is_exposed last side ours y ≡ false) (board : All (λ m. m.at < 64) others) (on : y < 64) where
   abbrev pub l : Man
   l = on_square last y
 

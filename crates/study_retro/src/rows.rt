@@ -7,7 +7,8 @@ ghost use Rattle.study_board.specs.Men.{bears_on};
 ghost use Rattle.study_board.specs.Position.{Position as Seen};
 ghost use Rattle.study_board.specs.Sets.{has};
 ghost use Rattle.study_index.specs.Computed.{position_numbered};
-ghost use Rattle.study_retro.specs.Still.{AreStill, AreStillOrNone, IsStill, bears_on_king, facing, is_exposed, is_restless, keeps_check, matters, on_square, rank_before_last};
+ghost use Rattle.study_retro.specs.Still.{AreStill, AreStillOrNone, IsStill, bears_on_king, facing, is_exposed, is_restless};
+ghost use Rattle.study_retro.specs.Still.{keeps_check, matters, on_square, rank_before_last};
 
 use crate::still::{attacked_squares, has_king_in, has_man_in, may_promote, rank_before_last};
 use study_board::{Kind, Man, Side, Square, SquareSet, attacks, between};
@@ -140,7 +141,7 @@ fn squares_without_position(others: &[Man], to_move: Side) -> SquareSet
 
 /// Squares of the man of the last slot with which the men are still, by the squares on which each side bears without it.
 #[inline]
-fn squares_still(others: &[Man], last: &Man, to_move: Side) -> SquareSet
+fn still_squares(others: &[Man], last: &Man, to_move: Side) -> SquareSet
     ensures { (y : ℕ) → y < 64 → has result y ≡ true → All (λ m. m.at < 64) others.now
         → AreStill (others.now ++ on_square last.now y ∷ []) to_move }
 {
@@ -156,11 +157,11 @@ fn squares_still(others: &[Man], last: &Man, to_move: Side) -> SquareSet
 
 /// Squares of the man of the last slot with which the men are still, or have no position.
 #[inline]
-fn still_squares(others: &[Man], last: &Man, to_move: Side) -> SquareSet
+fn unknown_squares(others: &[Man], last: &Man, to_move: Side) -> SquareSet
     ensures { (y : ℕ) → y < 64 → has result y ≡ true → All (λ m. m.at < 64) others.now
         → AreStillOrNone (others.now ++ on_square last.now y ∷ []) to_move }
 {
-    squares_still(others, last, to_move).union(squares_without_position(others, to_move))
+    still_squares(others, last, to_move).union(squares_without_position(others, to_move))
 }
 
 /// Squares of the man of the last slot in a row of numbers with which no position is worth anything before the levels.
@@ -170,7 +171,7 @@ pub fn still_in_row(class: Class, row: u32) -> SquareSet
 {
     let setup = told(class, 64 * row);
     match setup.men.as_slice() {
-        [others @ .., last] => still_squares(others, last, setup.to_move),
+        [others @ .., last] => unknown_squares(others, last, setup.to_move),
         [] => SquareSet::empty(),
     }
 }

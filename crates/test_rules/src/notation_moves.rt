@@ -4,7 +4,9 @@
 pub(crate) const MOVES: &str = "\
 k7/8/1K6/8/8/8/8/7R w - - 0 1\tRa1+ Rb1 Rc1 Rd1 Re1 Rf1 Rg1 Rh2 Rh3 Rh4 Rh5 Rh6 Rh7 Rh8# Ka5 Kb5 Kc5 Ka6 Kc6 Kc7\n\
 k7/8/K7/P7/8/8/8/8 w - - 0 1\tKb5 Kb6\n\
-8/8/8/8/4Q3/2Q5/k4K2/8 w - - 0 1\tKe1 Kf1 Kg1 Ke2 Kg2 Ke3 Kf3 Kg3 Qa1+ Qc1 Qce1 Qb2+ Qcc2+ Qd2+ Qa3+ Qb3+ Qcd3 Qce3 Qcf3 Qg3 Qh3 Qcb4 Qcc4+ Qcd4 Qa5+ Qc5 Qce5 Qcc6 Qf6 Qc7 Qg7 Qc8 Qh8 Qb1+ Qee1 Qh1 Qec2# Qe2+ Qg2 Qed3 Qee3 Qef3 Qa4+ Qeb4 Qec4+ Qed4 Qf4 Qg4 Qh4 Qd5+ Qee5 Qf5 Qec6 Qe6+ Qg6 Qb7 Qe7 Qh7 Qa8+ Qe8\n\
+8/8/8/8/4Q3/2Q5/k4K2/8 w - - 0 1\tKe1 Kf1 Kg1 Ke2 Kg2 Ke3 Kf3 Kg3 Qa1+ Qc1 Qce1 \
+Qb2+ Qcc2+ Qd2+ Qa3+ Qb3+ Qcd3 Qce3 Qcf3 Qg3 Qh3 Qcb4 Qcc4+ Qcd4 Qa5+ Qc5 Qce5 Qcc6 Qf6 Qc7 Qg7 Qc8 Qh8 \
+Qb1+ Qee1 Qh1 Qec2# Qe2+ Qg2 Qed3 Qee3 Qef3 Qa4+ Qeb4 Qec4+ Qed4 Qf4 Qg4 Qh4 Qd5+ Qee5 Qf5 Qec6 Qe6+ Qg6 Qb7 Qe7 Qh7 Qa8+ Qe8\n\
 k7/2P5/1K6/8/8/8/8/8 w - - 0 1\tKa5 Kb5 Kc5 Ka6 Kc6 c8=Q# c8=R# c8=B c8=N\n\
 8/8/8/8/4P3/k7/8/4K3 b - e3 0 1\tKa2 Kb2 Kb3 Ka4 Kb4\n\
 8/8/8/8/4P3/k7/8/4K3 b - - 0 1\tKa2 Kb2 Kb3 Ka4 Kb4\n\

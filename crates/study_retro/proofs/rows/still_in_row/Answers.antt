@@ -21,4 +21,4 @@ returns-in-len1-up c = λ y ly e q at.
     let low : 64 * c.args.row + y < 16777216 = (let r = c.requires in omega (arith, r, ly)) in
     let l = on_square last y in
     still_position c.args.class (64 * c.args.row + y) q at low others l side told
-    (c.still_squares.ensures y ly e (others_on_board c.args.class (64 * c.args.row + y) q at low others l side told))
+    (c.unknown_squares.ensures y ly e (others_on_board c.args.class (64 * c.args.row + y) q at low others l side told))

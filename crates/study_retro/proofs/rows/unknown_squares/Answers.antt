@@ -1,0 +1,10 @@
+use Rattle.std.proofs.Common.{inl, inr, sym, ◌∙◌}
+use Rattle.std.proofs.lemmas.Bool.{or_cases}
+use Rattle.study_retro.proofs.RowLemmas.{could_take}
+use Rattle.study_retro.proofs.rows.unknown_squares.Goals as goal
+
+pub returns : goal.returns
+returns c = λ y ly e board. elim (or_cases _ _ (sym (c.union.ensures y) ∙ e)) [
+  | inl still ↦ inl (c.still_squares.ensures y ly still board)
+  | inr check ↦ inr (could_take c.args.others.now c.args.last.now c.args.to_move y (sym (c.squares_without_position.ensures y ly) ∙ check))
+]
