@@ -10,7 +10,7 @@ ghost use Rattle.study_index.specs.Departure.{IsFoundBy, keeps_image};
 
 use crate::decoding::{Slot, head, slots};
 use crate::least_image::{is_on_diagonal, least_image};
-use crate::moved::{number_moved, number_stepped, slot_on};
+use crate::moved::{number_moved, number_stepped};
 use crate::number::EN_PASSANT_BIT;
 use crate::reading::{class_has_pawn, has_like_men, king_told};
 use crate::stepped::{side_turned, square_told, square_weight};
@@ -64,20 +64,6 @@ fn way_of(class: Class, number: u32, from: Square, slot: u32) -> Way
     }
 }
 
-/// How the number is found after the man on the square has moved.
-#[inline(always)]
-fn way_from(class: Class, number: u32, from: Square) -> Way
-    requires { number < cells_of class }
-    ensures { IsFoundBy class number from result }
-{
-    let n = number % EN_PASSANT_BIT;
-    match slot_on(slots(class), class_has_pawn(class), n, from) {
-        None => Way::Search,
-        Some(0) => Way::King,
-        Some(slot) => way_of(class, number, from, slot),
-    }
-}
-
 /// Whether the man of a slot, the first at 0, stands on the square, by the number.
 #[inline(always)]
 fn stands_in(slots: &[Slot], pawns: bool, n: u32, slot: u32, from: Square) -> bool
@@ -95,7 +81,7 @@ fn stands_in(slots: &[Slot], pawns: bool, n: u32, slot: u32, from: Square) -> bo
 
 /// How the number is found after the man on the square has moved, where it may be the man of the slot.
 #[inline(always)]
-fn way_by(class: Class, number: u32, from: Square, slot: u32) -> Way
+fn way_from(class: Class, number: u32, from: Square, slot: u32) -> Way
     requires { number < cells_of class }
     ensures { IsFoundBy class number from result }
 {
@@ -111,32 +97,16 @@ fn way_by(class: Class, number: u32, from: Square, slot: u32) -> Way
 }
 
 impl Departure {
-    /// The departure of the man that stands on the square by the number.
+    /// The departure of the man that stands on the square by the number. Where the slot, the first at 0, is not that of the man,
+    /// `number_to` searches for it each time.
     #[inline(always)]
-    pub fn new(class: Class, number: u32, from: Square) -> Self
+    pub fn new(class: Class, number: u32, from: Square, slot: u32) -> Self
         requires { number < cells_of class }
         ensures class { result.class ≡ class }
         ensures number { result.number ≡ number }
         ensures from { result.from ≡ from }
     {
-        let way = way_from(class, number, from);
-        Departure {
-            class,
-            number,
-            from,
-            way,
-        }
-    }
-
-    /// The same, where the man is known to be that of a slot, the first at 0, so that it is not searched for.
-    #[inline(always)]
-    pub fn of_slot(class: Class, number: u32, from: Square, slot: u32) -> Self
-        requires { number < cells_of class }
-        ensures class { result.class ≡ class }
-        ensures number { result.number ≡ number }
-        ensures from { result.from ≡ from }
-    {
-        let way = way_by(class, number, from, slot);
+        let way = way_from(class, number, from, slot);
         Departure {
             class,
             number,

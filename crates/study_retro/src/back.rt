@@ -92,7 +92,7 @@ fn write_before_man(
         return 0;
     }
     let all = origins(setup.men.as_slice(), setup.to_move, man);
-    let departure = Departure::of_slot(class, number, man.at, slot);
+    let departure = Departure::new(class, number, man.at, slot);
     let mut rest = all;
     let mut next = 0u8;
     while !rest.is_empty() {

@@ -154,7 +154,7 @@ fn quiet_moves_of<A: Allocator>(
     let men = setup.men.as_slice();
     let free = safe_targets(men, setup.to_move, man).without(occupied(men));
     let mut rest = free;
-    let departure = Departure::of_slot(game.class, number, man.at, slot);
+    let departure = Departure::new(game.class, number, man.at, slot);
     let mut next = 0u8;
     while !rest.is_empty() {
         let target = rest.first();

@@ -21,13 +21,19 @@ KQKP,9422001,49,41 33,1033385 1033377
 KPKP,258678,9,17,8647798
 KK,658,18,26 27,19 27";
 
-/// That the man leads to each number of the row.
+/// That the man leads to each number of the row, whatever slot it is said to fill.
 fn expect_numbers(rt: &impl Abort, row: &str) {
     let class = Class::parse(field(row, 0)).ok().expect(rt, row);
     let start = number(field(row, 1)).expect(rt, row);
     let from = square(field(row, 2)).expect(rt, row);
     assert!(rt; start < cells(class), "{row}");
-    let departure = Departure::new(class, start, from);
+    for slot in 0..5 {
+        expect_numbers_by(rt, row, &Departure::new(class, start, from, slot));
+    }
+}
+
+/// That the departure leads to each number of the row.
+fn expect_numbers_by(rt: &impl Abort, row: &str, departure: &Departure) {
     let mut wants = field(row, 4).split(' ');
     for word in field(row, 3).split(' ') {
         let to = square(word).expect(rt, row);

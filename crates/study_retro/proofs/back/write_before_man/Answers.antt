@@ -27,8 +27,8 @@ loop-next-init c = record {
   done = λ a n l. absurd (omega (arith, l));
 }
 
-pub of_slot-departure-requires : goal.of_slot-departure-requires
-of_slot-departure-requires c =
+pub new-departure-requires : goal.new-departure-requires
+new-departure-requires c =
     below c.args.class c.args.number c.requires.numbered.0 (told_decoded c.args.class c.args.number c.requires.numbered.0 c.requires.numbered.1)
 
 pub write_from-requires-clause-led : goal.write_from-requires-clause-led
@@ -36,7 +36,7 @@ write_from-requires-clause-led c = λ q at.
     let f = c.first-origin.ensures in
     let a = c.first-origin.result in
     let here : position_numbered c.args.class c.args.number ≡ Some q =
-    subst (λ (n : ℕ). position_numbered c.args.class n ≡ Some q) c.of_slot-departure.ensures.number at in
+    subst (λ (n : ℕ). position_numbered c.args.class n ≡ Some q) c.new-departure.ensures.number at in
     let his = sym (ap (λ (s : Side). same_side c.args.man.now.side s) c.other.ensures) ∙ sym (side_same _ _) ∙ not-false _ (sym c.ne.ensures ∙ c.if-ne.false) in
     before_in c.args.class c.args.number q here c.args.setup.now.men.items c.args.setup.now.to_move c.requires.told c.args.man.now c.requires.man
     c.origins-all.result _ c.as_slice.ensures.value c.origins-all.ensures a f.inside his (first-in _ _ _ c.loop-next.invariant.left a f.inside f.there)
@@ -48,12 +48,12 @@ loop-next-preserved c =
     let inv = c.loop-next.invariant in
     let man = c.args.man.now in
     let class = c.args.class in
-    let number : c.of_slot-departure.result.number ≡ c.args.number = c.of_slot-departure.ensures.number in
+    let number : c.new-departure.result.number ≡ c.args.number = c.new-departure.ensures.number in
     let Why : ℕ → Type 0 = IsBeforeBy class c.args.number man in
     let mid = c.loop-next.cells in
     let new = c.write_from.new.cells in
     let more : AreSet Why c.args.change.cell c.args.change.over mid new =
-    set-why c.args.change.cell c.args.change.over (IsBeforeFrom class c.of_slot-departure.result.number man a) Why mid new
+    set-why c.args.change.cell c.args.change.over (IsBeforeFrom class c.new-departure.result.number man a) Why mid new
     (λ i b. (a, f.inside, subst (λ (m : ℕ). IsBeforeFrom class m man a i) number b)) c.write_from.ensures.rise in
     let next : c.number-next.result ≡ a = c.number-next.ensures.value in
     let left = left-more _ _ _ inv.left a f.inside f.there f.least c.of.result c.without-rest.result c.of.ensures c.without-rest.ensures in

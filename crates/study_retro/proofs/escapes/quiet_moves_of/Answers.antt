@@ -65,7 +65,7 @@ loop-rest-preserved g c =
               let same : a ≡ x = omega (arith, l, top, next) in
               subst (λ (y : ℕ). IsWonAfter (class_game c.args.game.now.class c.args.game.now.tables.now) c.args.cells.now c.args.level q (move_to man y)) same
               (c.loses_to.ensures.yes c.if-not-loses_to.false (ap (λ (y : ℕ). reaches_last_rank man y) same ∙ plain) q
-              (ap (λ (n : ℕ). position_numbered c.args.game.now.class n) c.of_slot-departure.ensures.number ∙ at))
+              (ap (λ (n : ℕ). position_numbered c.args.game.now.class n) c.new-departure.ensures.number ∙ at))
         ]
       ];
     }
