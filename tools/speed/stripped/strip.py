@@ -1,0 +1,78 @@
+#!/usr/bin/env python3
+"""Writes the crates that build tables as modules of one crate of plain Rust, without their contracts.
+
+    strip.py TOP OUT    the crates of the checkout TOP; the modules go to the folder OUT
+
+The sources are Rust but for clauses, ghost items and a few forms of the kit's standard library, for which shim.rs and arrayvec.rs stand.
+"""
+import pathlib
+import re
+import sys
+
+CRATES = ["study_board", "study_moves", "study_material", "study_index", "study_retro"]
+GHOST = re.compile(r"^\s*(requires|ensures|ghost)\b")
+
+
+def end_of_ghost(lines, at):
+    """The line after a clause or a ghost item, and whether a semicolon ended it."""
+    is_use = re.match(r"^\s*ghost use", lines[at])
+    depth, seen = 0, False
+    while True:
+        line = lines[at]
+        depth += line.count("{") - line.count("}")
+        seen = seen or "{" in line
+        at += 1
+        if line.endswith(";") if is_use else depth == 0 and seen:
+            return at, line.endswith(";")
+
+
+def without_ghosts(text):
+    lines, kept, at = text.split("\n"), [], 0
+    while at < len(lines):
+        line = lines[at]
+        if re.match(r"^\s*#!?\[(tactic|cycle|error)", line):
+            at += 1
+        elif re.match(r"^impl.*\bModel for\b", line):
+            while not lines[at].startswith("}"):
+                at += 1
+            at += 1
+        elif GHOST.match(line):
+            at, ended = end_of_ghost(lines, at)
+            if ended and "ghost" not in line:  # the last clause of a method without a body
+                kept[-1] += ";"
+        else:
+            kept.append(line)
+            at += 1
+    return "\n".join(kept)
+
+
+def as_plain(text, crate, is_root):
+    text = without_ghosts(text)
+    for gone in ["use std::marker::Model;\n", "use thiserror::Error;\n", "#[derive(Drop)]\n"]:
+        text = text.replace(gone, "")
+    text = text.replace(", Error)]", ")]").replace("type Position: Drop", "type Position")
+    text = text.replace("crate::", f"crate::{crate}::")
+    for other in CRATES:
+        text = re.sub(rf"(?<![:\w]){other}::", f"crate::{other}::", text)
+    text = text.replace("use arrayvec::", "use crate::arrayvec::").replace("unreachable!()", "crate::shim::never()")
+    text = text.replace("use std::alloc::{AllocError, Allocator};", "use crate::shim::{AllocError, Allocator, Cells};")
+    text = text.replace("use std::alloc::Allocator;", "use crate::shim::{Allocator, Cells};")
+    text = re.sub(r"Vec<(.*?), &'a A>", r"Cells<\1, &'a A>", text)
+    text = text.replace("vec![in alloc; 0; count as usize]", "Ok(Cells::zeros(count as usize))")
+    text = text.replace("Vec::with_capacity(alloc, ", "Cells::with_capacity(")
+    if is_root:
+        text = re.sub(r"pub use (\w+)::", r"pub use self::\1::", text)
+    return text
+
+
+def main(top, out):
+    for crate in CRATES:
+        folder = pathlib.Path(out) / crate
+        folder.mkdir(parents=True, exist_ok=True)
+        for source in (pathlib.Path(top) / "crates" / crate / "src").glob("*.rt"):
+            is_root = source.name == "lib.rt"
+            name = "mod.rs" if is_root else f"{source.stem}.rs"
+            (folder / name).write_text(as_plain(source.read_text(), crate, is_root))
+
+
+main(*sys.argv[1:])
