@@ -19,6 +19,7 @@ pub mod CellsLemmas
 pub mod BackLemmas
 pub mod StillChess
 pub mod RowLemmas
+pub mod RowChecks
 pub mod SquaresLeft
 pub mod DueTally
 pub mod QuietClass

@@ -14,3 +14,4 @@ pub mod Predecessors
 pub mod Numbered
 pub mod ClassGame
 pub mod Still
+pub mod RowMoves

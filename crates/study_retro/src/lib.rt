@@ -20,6 +20,7 @@ mod initial;
 mod levels;
 mod propagate;
 mod room;
+mod row_checks;
 mod rows;
 mod stepped;
 mod still;
