@@ -21,6 +21,7 @@ mod levels;
 mod propagate;
 mod room;
 mod row_checks;
+mod row_levels;
 mod rows;
 mod stepped;
 mod still;
