@@ -22,6 +22,7 @@ mod propagate;
 mod room;
 mod row;
 mod row_checks;
+mod row_levels;
 mod rows;
 mod stepped;
 mod still;
