@@ -17,12 +17,14 @@ use Rattle.study_index.specs.Number.{place, listed_count, side_number, without_b
 use Rattle.study_index.specs.Decoded.{slots_of, slots_have_pawn, AreSlots, head, side_numbered, told_men, told_side}
 use Rattle.study_index.specs.Computed.{index_of}
 use Rattle.study_index.specs.Moved.{IsMoved}
-use Rattle.study_index.specs.Stepped.{are_like_slots, square_weight, square_told}
+use Rattle.study_index.specs.Stepped.{are_like_slots, square_weight, square_told, IsStepped}
 use Rattle.study_index.specs.Departure.{keeps_image, StandsOn}
 use Rattle.study_index.specs.LeastImage.{turned_by, least_image, is_on_diagonal, with_head}
 use Rattle.study_index.specs.RowDeparture.{row_with, IsRowTo, IsRowSum, IsRowOfKing, IsRowSumOfKing, IsRowFoundBy}
 use Rattle.study_index.proofs.ClassSlots.{AreSlots-class, is_cell-below, number_below}
 use Rattle.study_index.proofs.AddedNumbers.{IsStepped-moved}
+use Rattle.study_index.proofs.KingNumbers.{king_index}
+use Rattle.study_index.proofs.ListedKings.{listed_number}
 use Rattle.study_index.proofs.SteppedNumbers.{added_sum, told_within, image_kept}
 
 -- ---- what the numbers of a row tell alike
@@ -207,11 +209,6 @@ row_below KNKP r y l m = omega (arith, l, m)
 row_below KPKP r y l m = omega (arith, l, m)
 
 module _ (c : Class) (r : ℕ) where
-  abbrev pub row_terms_rest : ℕ → ℕ
-  row_terms_rest i =
-      (turned_by (listed_count (slots_have_pawn (slots_of c))) (length (slots_of c)) (without_bit (64 * r))
-      - square_told (length (slots_of c)) i (without_bit (64 * r)) * square_weight (length (slots_of c)) i) / 64
-
   stands_in_row : (i x y : ℕ) → y < 64 → i + 1 < length (slots_of c)
       → ((d : Man) → (slice_index_or (told_men (slots_of c) (without_bit (64 * r))) i d).at ≡ x) → StandsOn c (64 * r + y) i x
   stands_in_row i x y l few h d =
@@ -227,3 +224,69 @@ module _ (c : Class) (r : ℕ) where
       let slots = slots_of c in
       ap (λ (n : ℕ). head slots n) (bit_in_row r y l) ∙ head_in_row slots (without_bit (64 * r) / 64) y (AreSlots-class c) l
       ∙ ap (λ (n : ℕ). head slots n) (sym (first_in_row r))
+
+  pub IsRowSum-terms : (i x : ℕ) (t : RowTerms) → 64 * r < cells_of c → 1 ≤ i → i + 1 < length (slots_of c)
+      → keeps_image (slots_of c) (without_bit (64 * r)) ≡ true
+      → ((d : Man) → (slice_index_or (told_men (slots_of c) (without_bit (64 * r))) i d).at ≡ x)
+      → t.rest ≡ (turned_by (listed_count (slots_have_pawn (slots_of c))) (length (slots_of c)) (without_bit (64 * r))
+      - square_told (length (slots_of c)) i (without_bit (64 * r)) * square_weight (length (slots_of c)) i) / 64
+      → t.weight ≡ square_weight (length (slots_of c)) i / 64 → IsRowSum c r x t
+  IsRowSum-terms i x t below one few keeps stands e f a on y p l moved =
+      let slots = slots_of c in
+      let pawns = slots_have_pawn slots in
+      let n = 64 * r + y in
+      let m = without_bit (64 * r) / 64 in
+      let short : i < length slots = omega (arith, few) in
+      let inside = row_below c r y below l in
+      let kept : keeps_image slots (without_bit n) ≡ true = ap (λ (h : ℕ). not (are_like_slots slots) && (pawns || not (is_on_diagonal (h % 10)))) (heads_in_row y l) ∙ keeps in
+      let cell : nat_lt (head slots (64 * m) / listed_count pawns) 2 ≡ true =
+      ap (λ (k : ℕ). nat_lt (head slots k / listed_count pawns) 2) (sym (first_in_row r))
+      ∙ is_cell-below c (without_bit (64 * r)) ∙ below_test (without_bit (64 * r)) (numbers_of c) (number_below c (64 * r) below) in
+      let sums : ℕ → ℕ = λ k. turned_by (listed_count pawns) (length slots) k - square_told (length slots) i k * square_weight (length slots) i in
+      added_sum c n i a p inside one short on kept (IsStepped-moved c n i x a p short (stands_in_row i x y l few stands) moved)
+      ∙ ap (λ (k : ℕ). sums k + a * square_weight (length slots) i) (bit_in_row r y l)
+      ∙ sum_in_row pawns slots m i y a (AreSlots-class c) cell one few l
+      ∙ ap (λ (k : ℕ). 64 * (sums k / 64 + a * (square_weight (length slots) i / 64)) + y) (sym (first_in_row r))
+      ∙ sym (as_terms _ _ _ _ e f)
+    where
+      below_test : (m k : ℕ) → m < k → nat_lt m k ≡ true
+      below_test m k l = grind (arith, nat_tests)
+
+      as_terms : (u v w z : ℕ) → u ≡ w → v ≡ z → 64 * (u + a * v) + y ≡ 64 * (w + a * z) + y
+      as_terms u v w z e f = rw (e, f) refl
+
+  pub IsRowSumOfKing-terms : (x : ℕ) (t : RowTerms) → 1 < length (slots_of c) → are_like_slots (slots_of c) ≡ false
+      → ((d : Man) → (slice_index_or (told_men (slots_of c) (without_bit (64 * r))) 0 d).at ≡ x)
+      → t.rest ≡ side_number (other_side (told_side (slots_of c) (without_bit (64 * r)))) * listed_count (slots_have_pawn (slots_of c)) * 64 ^ (length (slots_of c) - 2)
+      + without_bit (64 * r) / 64 % 64 ^ (length (slots_of c) - 2)
+      → t.weight ≡ 64 ^ (length (slots_of c) - 2) → IsRowSumOfKing c r x t
+  IsRowSumOfKing-terms x t few unlike stands e f a k on at y p l moved =
+      let slots = slots_of c in
+      let pawns = slots_have_pawn slots in
+      let n = 64 * r + y in
+      let m = without_bit (64 * r) / 64 in
+      let q = at.0 in
+      let z : ℕ → ℕ = λ h. side_number (other_side (side_numbered (h / listed_count pawns))) * listed_count pawns in
+      let step : IsStepped c n 0 a p = IsStepped-moved c n 0 x a p (omega (arith, few)) (stands_in_row 0 x y l few stands) moved in
+      king_index c n a p (with_head slots (z (head slots (without_bit n)) + q) (without_bit n)) step
+      (sym (listed_number pawns slots (other_side (told_side slots (without_bit n))) (without_bit n) a q (AreSlots-class c) on at.1))
+      ∙ king_kept pawns (are_like_slots slots) slots (side_number (other_side (told_side slots (without_bit n)))) q (without_bit n) (AreSlots-class c) unlike at.2 at.3
+      ∙ ap (λ (h : ℕ). with_head slots (z h + q) (without_bit n)) (heads_in_row y l)
+      ∙ ap (λ (b : ℕ). with_head slots (z (head slots (without_bit (64 * r))) + q) b) (bit_in_row r y l)
+      ∙ king_in_row slots m (z (head slots (without_bit (64 * r)))) q y (AreSlots-class c) l
+      ∙ sym (ap (λ (b : ℕ). 64 * b + y) at.4 ∙ as_terms _ _ _ _ e f)
+    where
+      as_terms : (u v w z : ℕ) → u ≡ w → v ≡ z → 64 * (u + at.0 * v) + y ≡ 64 * (w + at.0 * z) + y
+      as_terms u v w z e f = rw (e, f) refl
+
+  pub found_row_sum : (x : ℕ) (t : RowTerms) → IsRowSum c r x t → IsRowFoundBy c r x (Sum t)
+  found_row_sum x t h = record {
+    sum = λ u e. subst (λ (v : RowTerms). IsRowSum c r x v) (let g : t ≡ u = cc in g) h;
+    king = λ u e. absurd cc;
+  }
+
+  pub found_row_king : (x : ℕ) (t : RowTerms) → IsRowSumOfKing c r x t → IsRowFoundBy c r x (King t)
+  found_row_king x t h = record {
+    sum = λ u e. absurd cc;
+    king = λ u e. subst (λ (v : RowTerms). IsRowSumOfKing c r x v) (let g : t ≡ u = cc in g) h;
+  }
