@@ -8,7 +8,7 @@ use Rattle.study_index.specs.declared.row_way.RowWay.TheVariants.{Sum, King}
 use Rattle.study_index.specs.Computed.{index_of}
 use Rattle.study_index.specs.Decoded.{slots_of, slots_have_pawn}
 use Rattle.study_index.specs.Moved.{IsMoved}
-use Rattle.study_index.specs.Number.{place}
+use Rattle.study_index.specs.Number.{place, listed_count}
 use Rattle.study_index.specs.LeastImage.{is_on_diagonal}
 
 -- the sum with the man on a
@@ -25,7 +25,8 @@ IsRowSum c r x t = (a : ℕ) → a < 64 → IsRowTo c r x a (row_with t a)
 
 -- k is the sum with the place of a, which is listed, and not on the diagonal where no man is a pawn
 abbrev pub IsRowOfKing : Bool → RowTerms → ℕ → ℕ → Type 0
-IsRowOfKing pawns t a k = (q : ℕ) × (place pawns a ≡ Some q) × ((pawns || not (is_on_diagonal q)) ≡ true) × (k ≡ row_with t q)
+IsRowOfKing pawns t a k =
+    (q : ℕ) × (Some q ≡ place pawns a) × (q < listed_count pawns) × ((pawns || not (is_on_diagonal q)) ≡ true) × (k ≡ row_with t q)
 
 -- the same where the man is the white king, of whose squares the place counts
 abbrev pub IsRowSumOfKing : Class → ℕ → ℕ → RowTerms → Type 0

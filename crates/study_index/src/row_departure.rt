@@ -98,6 +98,7 @@ fn way_from(class: Class, row: u32, from: Square, slot: u32) -> RowWay
 #[inline(always)]
 fn row_of_king(pawns: bool, terms: RowTerms, to: Square) -> Option<u32>
     ensures value { IfSome result (λ r. IsRowOfKing pawns terms to r) }
+    ensures on_board { to < 64 }
     ensures small { IfSome result (λ r. r < 1048576) }
 {
     let _square = to.number();
