@@ -20,6 +20,7 @@ pub mod BackLemmas
 pub mod StillChess
 pub mod RowLemmas
 pub mod RowChecks
+pub mod RowSets
 pub mod SquaresLeft
 pub mod DueTally
 pub mod QuietClass

@@ -2,6 +2,7 @@
 ghost use Rattle.std.specs.Prelude.{◌≡◌, ◌<◌, ◌+◌, ◌*◌, ℕ, false, [], ◌∷◌, ◌++◌, IfSome};
 ghost use Rattle.study_board.specs.declared.men.Kind.TheVariants.{King};
 ghost use Rattle.study_board.specs.Men.{same_kind};
+ghost use Rattle.study_index.specs.Number.{cells_of};
 ghost use Rattle.study_retro.specs.Predecessors.{AreTold};
 ghost use Rattle.study_retro.specs.Still.{on_square};
 
@@ -19,6 +20,7 @@ pub struct Row {
     pub last: Man,
     pub to_move: Side,
     ghost plain: { number < 262144 },
+    ghost cell: { 64 * number < cells_of class },
     ghost piece: { same_kind last.kind King ≡ false },
     ghost told: { (y : ℕ) → y < 64 → AreTold class (64 * number + y) (others.items ++ on_square last y ∷ []) to_move },
 }
@@ -26,7 +28,8 @@ pub struct Row {
 impl Row {
     /// The row of that number, the first at 0; none where the last man is a king.
     pub fn new(class: Class, number: u32) -> Option<Self>
-        requires { number < 262144 }
+        requires plain { number < 262144 }
+        requires cell { 64 * number < cells_of class }
         ensures class { IfSome result (λ r. r.class ≡ class) }
         ensures number { IfSome result (λ r. r.number ≡ number) }
     {

@@ -8,5 +8,5 @@ invariant_of-result-clause-piece c = sym (kind_same _ _) ∙ sym c.eq.ensures �
 
 pub invariant_of-result-clause-told : goal.invariant_of-result-clause-told
 invariant_of-result-clause-told c = λ y ly.
-    row_told c.args.class c.args.number y ly c.requires c.pop.new.self.items c.in_ok-last.last c.told-setup.result.to_move
+    row_told c.args.class c.args.number y ly c.requires.plain c.pop.new.self.items c.in_ok-last.last c.told-setup.result.to_move
     (sym c.in_ok-last.ensures.items ∙ c.told-setup.ensures.men, c.told-setup.ensures.to_move)
