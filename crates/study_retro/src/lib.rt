@@ -21,6 +21,7 @@ mod levels;
 mod propagate;
 mod room;
 mod row_checks;
+mod row_moves;
 mod rows;
 mod stepped;
 mod still;
