@@ -20,6 +20,8 @@ pub mod BackLemmas
 pub mod StillChess
 pub mod RowLemmas
 pub mod RowChecks
+pub mod RowGeometry
+pub mod RowMoveLemmas
 pub mod SquaresLeft
 pub mod DueTally
 pub mod QuietClass
