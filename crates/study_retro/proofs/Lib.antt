@@ -21,6 +21,8 @@ pub mod StillChess
 pub mod RowLemmas
 pub mod RowChecks
 pub mod RowSets
+pub mod RowGeometry
+pub mod RowMoveLemmas
 pub mod SquaresLeft
 pub mod DueTally
 pub mod QuietClass

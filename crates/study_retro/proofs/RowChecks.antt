@@ -60,7 +60,7 @@ module _ (others : List Man) (last : Man) (y : ℕ) where
   reaches_with p side Knight a x = and_one _
   reaches_with p side Pawn a x = and_one _
 
-  bears_men : (m : Man) (x : ℕ) → bears_on men m x ≡ bears_with others y m x
+  pub bears_men : (m : Man) (x : ℕ) → bears_on men m x ≡ bears_with others y m x
   bears_men m x = reaches_with (not (m.at == x)) m.side m.kind m.at x
 
   between_self : (x : ℕ) → strictly_between y y x ≡ false
