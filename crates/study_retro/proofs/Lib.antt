@@ -21,6 +21,7 @@ pub mod StillChess
 pub mod RowLemmas
 pub mod RowChecks
 pub mod RowSets
+pub mod RowBackLemmas
 pub mod RowGeometry
 pub mod RowMoveLemmas
 pub mod SquaresLeft
