@@ -21,6 +21,7 @@ pub mod StillChess
 pub mod RowLemmas
 pub mod RowChecks
 pub mod RowGeometry
+pub mod RowPawns
 pub mod RowMoveLemmas
 pub mod SquaresLeft
 pub mod DueTally
