@@ -23,6 +23,7 @@ pub mod RowChecks
 pub mod RowSets
 pub mod RowBackLemmas
 pub mod RowGeometry
+pub mod RowPawns
 pub mod RowMoveLemmas
 pub mod SquaresLeft
 pub mod DueTally

@@ -32,7 +32,7 @@ use Rattle.study_moves.proofs.SafeTargets.{none_passed}
 use Rattle.study_index.specs.Moved.{from_to}
 use Rattle.study_index.proofs.AddedNumbers.{moves_there, none_moves}
 use Rattle.study_index.proofs.Fillings.{AreApart-ascending}
-use Rattle.study_retro.specs.RowMoves.{AreApart, goes_quietly, hinders, lets_pass}
+use Rattle.study_retro.specs.RowMoves.{AreApart, goes_quietly, hinders, lets_pass, pawn_goes}
 use Rattle.study_retro.specs.Still.{on_square}
 use Rattle.study_retro.proofs.RowChecks.{bears_men}
 use Rattle.study_retro.proofs.RowGeometry.{none_on_king_step, none_on_jump, none_on_step, one_on_double_step}
@@ -93,11 +93,6 @@ going_pawn false false pc hs true f = rw (f refl) (and_false' pc)
     and_false' true = refl
     and_false' false = refl
 
-both_ends : (one t ea : Bool) → ((one && ea) || (t && ea)) ≡ ((one || t) && ea)
-both_ends true t true = refl
-both_ends true t false = and_false t
-both_ends false t ea = refl
-
 letting : (h c m w : Bool) → m ≡ not h → (m ≡ true → w ≡ c) → not (h || c) ≡ (m && not w)
 letting true c m w i f = rw i refl
 letting false c m w i f = rw (i, f i) refl
@@ -126,22 +121,13 @@ none_if_bears men p side Bishop a y x s k e = absurd (false≢true (sym s))
 none_if_bears men p side Knight a y x s k e = none_on_jump a y x (and_parts p _ e).1
 none_if_bears men p side Pawn a y x s k e = absurd (false≢true (sym k))
 
--- where a pawn goes by a step or a double step, if no man stands there
-abbrev pub steps : List Man → Side → ℕ → ℕ → Bool
-steps men side a x = is_ahead side 1 a x || ((rank_of a == starting_rank side) && is_ahead side 2 a x && is_empty men (half_way a x))
-
-pub goes_as_pawn : (men : List Man) (man : Man) (x : ℕ) → is_pawn man ≡ true → goes_quietly men man x ≡ (steps men man.side man.at x && is_empty men x)
+pub goes_as_pawn : (men : List Man) (man : Man) (x : ℕ) → is_pawn man ≡ true → goes_quietly men man x ≡ pawn_goes men man.side man.at x
 unfolding reaches_target pawn_steps pawn_double_steps pawn_takes
 goes_as_pawn men man x p =
     rw p
     (going_pawn (is_ahead man.side 1 man.at x) ((rank_of man.at == starting_rank man.side) && is_ahead man.side 2 man.at x && is_empty men (half_way man.at x))
     (pawn_captures man.side man.at x) (has_side men (other_side man.side) x) (is_empty men x)
     (λ e. no_side_there men (other_side man.side) x (not-true _ e)))
-
-pub steps_are : (men : List Man) (side : Side) (a x : ℕ) → (pawn_steps men side a x || pawn_double_steps men side a x) ≡ (steps men side a x && is_empty men x)
-unfolding pawn_steps pawn_double_steps
-steps_are men side a x =
-    both_ends (is_ahead side 1 a x) ((rank_of a == starting_rank side) && is_ahead side 2 a x && is_empty men (half_way a x)) (is_empty men x)
 
 pub goes_as_piece : (men : List Man) (man : Man) (x : ℕ) → is_pawn man ≡ false → goes_quietly men man x ≡ (bears_on men man x && is_empty men x)
 unfolding reaches_target

@@ -4,11 +4,11 @@ use Rattle.std.specs.List.{list_any}
 use Rattle.study_board.specs.declared.men.Side.{Side}
 use Rattle.study_board.specs.declared.men.Kind.TheVariants.{King}
 use Rattle.study_board.specs.declared.men.Man.{Man}
-use Rattle.study_board.specs.Geometry.{strictly_between}
+use Rattle.study_board.specs.Geometry.{rank_of, strictly_between}
 use Rattle.study_board.specs.Men.{bears_on, is_man, other_side, same_side}
-use Rattle.study_board.specs.Position.{in_check, is_occupied}
+use Rattle.study_board.specs.Position.{in_check, is_empty, is_occupied}
 use Rattle.study_board.specs.Sets.{is_slider}
-use Rattle.study_moves.specs.Rules.{reaches_target}
+use Rattle.study_moves.specs.Rules.{half_way, is_ahead, reaches_target, starting_rank}
 use Rattle.study_index.specs.Moved.{from_to}
 use Rattle.study_retro.specs.Still.{facing, on_square}
 
@@ -25,6 +25,11 @@ king_attacked_with others last side y k = is_man side King k
 -- no two of the men share a square
 abbrev pub AreApart : List Man → Type 0
 AreApart men = (x : ℕ) → count_by (λ m. m.at == x) men ≤ 1
+
+-- a pawn goes from a to x, where no man stands, by a step or a double step
+abbrev pub pawn_goes : List Man → Side → ℕ → ℕ → Bool
+pawn_goes men side a x =
+    (is_ahead side 1 a x || ((rank_of a == starting_rank side) && is_ahead side 2 a x && is_empty men (half_way a x))) && is_empty men x
 
 -- the man goes to x, where no man stands
 abbrev pub goes_quietly : List Man → Man → ℕ → Bool

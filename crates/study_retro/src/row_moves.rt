@@ -5,11 +5,10 @@ ghost use Rattle.study_board.specs.declared.men.Kind.TheVariants.{King};
 ghost use Rattle.study_board.specs.Men.{other_side, same_kind, same_side};
 ghost use Rattle.study_board.specs.Position.{is_empty, is_occupied};
 ghost use Rattle.study_board.specs.Sets.{has};
-ghost use Rattle.study_moves.specs.Rules.{pawn_double_steps, pawn_steps};
 ghost use Rattle.study_moves.specs.AnyOrder.{is_safe_target};
 ghost use Rattle.study_moves.specs.Unmoves.{came_from, comes, pawn_came, pawn_comes};
 ghost use Rattle.study_index.specs.Moved.{from_to};
-ghost use Rattle.study_retro.specs.RowMoves.{AreApart, goes_quietly, lets_pass};
+ghost use Rattle.study_retro.specs.RowMoves.{AreApart, goes_quietly, lets_pass, pawn_goes};
 ghost use Rattle.study_retro.specs.Still.{on_square};
 
 use crate::escapes::occupied;
@@ -155,7 +154,7 @@ pub fn squares_led(others: &[Man], last: &Man, to_move: Side, man: &Man, origin:
 /// The empty squares to which a pawn goes by a step or a double step.
 #[inline]
 fn pawn_targets(men: &[Man], side: Side, a: Square) -> SquareSet
-    ensures { (x : ℕ) → x < 64 → has result x ≡ (pawn_steps men.now side a x || pawn_double_steps men.now side a x) }
+    ensures { (x : ℕ) → x < 64 → has result x ≡ pawn_goes men.now side a x }
 {
     let (n, rank) = (a.number(), a.rank());
     match side {
