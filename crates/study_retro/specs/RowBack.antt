@@ -1,5 +1,5 @@
 -- Not part of any public contract: what comes before some of a row of numbers, 64 of them, one for each square of the last man.
-use Rattle.std.specs.Prelude.{◌≡◌, ℕ, ◌+◌, ◌*◌, ◌<◌, true, Some}
+use Rattle.std.specs.Prelude.{◌≡◌, ℕ, ◌+◌, ◌*◌, ◌<◌, ◌⊎◌, true, Some}
 use Rattle.study_board.specs.declared.men.Man.{Man}
 use Rattle.study_board.specs.Position.{Position}
 use Rattle.study_board.specs.Sets.{has}
@@ -8,9 +8,13 @@ use Rattle.study_material.specs.declared.class.Class.{Class}
 use Rattle.study_index.specs.Computed.{position_numbered}
 use Rattle.study_retro.specs.Predecessors.{IsBeforeBy, IsBeforeFrom}
 
--- n is one of the numbers of the row whose squares are in the set
-abbrev pub IsInRow : ℕ → ℕ → ℕ → Type 0
-IsInRow row set n = (y : ℕ) × (y < 64) × (has set y ≡ true) × (n ≡ 64 * row + y)
+-- n is the number, or that of the position with the same men in which a capture in passing is legal
+abbrev pub IsItOrTwin : Class → ℕ → ℕ → Type 0
+IsItOrTwin c number n = (n ≡ number) ⊎ (n ≡ number + 16777216) × ((p : Position) × (position_numbered c n ≡ Some p))
+
+-- the same of one of the numbers of the row whose squares are in the set
+abbrev pub IsInRowOrTwin : Class → ℕ → ℕ → ℕ → Type 0
+IsInRowOrTwin c row set n = (y : ℕ) × (y < 64) × (has set y ≡ true) × IsItOrTwin c (64 * row + y) n
 
 -- the man can have come from a in the positions of those numbers
 abbrev pub CanAllHaveLed : Class → ℕ → ℕ → Man → ℕ → Type 0

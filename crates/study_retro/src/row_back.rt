@@ -4,34 +4,53 @@ ghost use Rattle.study_board.specs.Sets.{has};
 ghost use Rattle.study_index.specs.Number.{cells_of};
 ghost use Rattle.study_retro.specs.Predecessors.{IsBefore, IsBeforeBy, IsBeforeFrom};
 ghost use Rattle.study_retro.specs.Propagation.{AreSet, IsSetWhere};
-ghost use Rattle.study_retro.specs.RowBack.{CanAllHaveLed, IsBeforeRowBy, IsBeforeRowFrom, IsInRow};
+ghost use Rattle.study_retro.specs.RowBack.{CanAllHaveLed, IsBeforeRowBy, IsBeforeRowFrom, IsInRowOrTwin, IsItOrTwin};
 ghost use Rattle.study_retro.specs.RowLevels.{AreNumbered, IsBeforeRow};
 ghost use Rattle.study_retro.specs.Still.{on_square};
 
 use crate::back::{Change, write_before_man, write_cell, write_from};
-use crate::earlier::has_both_pawns;
+use crate::earlier::{has_twin, may_pass};
 use crate::row::Row;
 use crate::row_levels::write_before_each;
 use crate::row_moves::{origins_beside, squares_led};
 use study_board::{Man, Square, SquareSet};
-use study_index::{Departure, RowDeparture, told};
+use study_index::{Departure, EN_PASSANT_BIT, RowDeparture, told};
 use study_material::Class;
 
-/// Sets cells of a row, where they tell of no mate, or of none so near.
-#[inline]
-fn write_row(cells: &mut [u8], row: u32, set: SquareSet, change: Change)
-    requires row { row < 1048576 }
-    requires cells { (y : ℕ) → y < 64 → has set y ≡ true → 64 * row + y < length cells.old }
+/// Sets the cell of a number without the bit of a capture in passing, and that of the number with it, if it has a position:
+/// each where it tells of no mate, or of none so near.
+#[inline(always)]
+fn write_with_twin(class: Class, cells: &mut [u8], number: u32, change: Change)
+    requires number { number < cells_of class }
+    requires plain { number < 16777216 }
     requires cell { 0 < change.cell }
-    ensures rise { AreSet (IsInRow row set) change.cell change.over cells.old cells.new }
-    ensures done { (y : ℕ) → y < 64 → has set y ≡ true → IsSetWhere change.cell change.over cells.new (64 * row + y) }
+    requires cells { length cells.old ≡ cells_of class }
+    ensures rise { AreSet (IsItOrTwin class number) change.cell change.over cells.old cells.new }
+    ensures done { (n : ℕ) → IsItOrTwin class number n → IsSetWhere change.cell change.over cells.new n }
+{
+    write_cell(cells, number, change);
+    if has_twin(class, number) {
+        write_cell(cells, number + EN_PASSANT_BIT, change);
+    }
+}
+
+/// The same of some numbers of a row.
+#[inline]
+fn write_row(class: Class, cells: &mut [u8], row: u32, set: SquareSet, change: Change)
+    requires numbers { (y : ℕ) → y < 64 → has set y ≡ true → (64 * row + y < cells_of class) × (64 * row + y < 16777216) }
+    requires row { row < 1048576 }
+    requires cell { 0 < change.cell }
+    requires cells { length cells.old ≡ cells_of class }
+    ensures rise { AreSet (IsInRowOrTwin class row set) change.cell change.over cells.old cells.new }
+    ensures done { (n y : ℕ) → y < 64 → has set y ≡ true → IsItOrTwin class (64 * row + y) n → IsSetWhere change.cell change.over cells.new n }
 {
     let mut rest = set;
     let mut next = 0u8;
     while !rest.is_empty() {
         let square = rest.first();
         rest = rest.without(SquareSet::of(square));
-        write_cell(cells, 64 * row + u32::from(square.number()), change);
+        let number = 64 * row + u32::from(square.number());
+        write_with_twin(class, cells, number, change);
         next = square.number() + 1;
     }
 }
@@ -70,7 +89,7 @@ fn write_each_led(
     }
 }
 
-/// The same: at once, where the numbers before are a row and leave no capture in passing.
+/// The same: at once, where the numbers before are a row and the move leaves no capture in passing.
 #[inline]
 fn write_led(
     cells: &mut [u8],
@@ -91,11 +110,11 @@ fn write_led(
     ensures done { (n y : ℕ) → y < 64 → has led y ≡ true → IsBeforeFrom departure.now.class (64 * departure.now.row + y) man.now origin n
         → IsSetWhere change.cell change.over cells.new n }
 {
-    if has_both_pawns(departure.class) {
+    if may_pass(departure.class, origin, man.at) {
         return write_each_led(cells, departure, led, man, slot, origin, change);
     }
     match departure.row_to(origin) {
-        Some(before) => write_row(cells, before, led, change),
+        Some(before) => write_row(departure.class, cells, before, led, change),
         None => write_each_led(cells, departure, led, man, slot, origin, change),
     }
 }
