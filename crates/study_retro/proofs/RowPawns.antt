@@ -1,5 +1,5 @@
 -- The empty squares to which a pawn goes, by the squares one and two ranks ahead.
-use Rattle.std.proofs.Common.{◌≡◌, ℕ, ◌+◌, ◌-◌, ◌<◌, ◌≤◌, ◌==◌, nat_le, true, ◌&&◌, List, refl, sym, arith}
+use Rattle.std.proofs.Common.{◌≡◌, ℕ, ◌+◌, ◌-◌, ◌<◌, ◌≤◌, ◌==◌, nat_le, true, ◌&&◌, List, sym, arith}
 use Rattle.std.proofs.lemmas.Bool.{and_from, and_parts, eq-eqb, eqb-true, le-leb, leb-true}
 use Rattle.study_board.specs.declared.men.Man.{Man}
 use Rattle.study_board.specs.declared.men.Side.TheVariants.{White, Black}
