@@ -70,11 +70,16 @@ none_on_king_step a y x e =
 pub none_on_jump : (a y x : ℕ) → knight_jump a x ≡ true → strictly_between a y x ≡ false
 unfolding knight_jump
 none_on_jump a y x e = none_if _ (λ s. elim (or_cases _ _ e) [
-  | inl h ↦ let p = and_parts (files_apart a x == 1) (ranks_apart a x == 2) h in askew 1 2 s (eqb-true _ _ p.0) (eqb-true _ _ p.1) (λ k. absurd (omega arith)) (λ k. absurd (omega arith)) (λ k. absurd (omega arith))
-  | inr h ↦ let p = and_parts (files_apart a x == 2) (ranks_apart a x == 1) h in askew 2 1 s (eqb-true _ _ p.0) (eqb-true _ _ p.1) (λ k. absurd (omega arith)) (λ k. absurd (omega arith)) (λ k. absurd (omega arith))
+  | inl h ↦
+      let p = and_parts (files_apart a x == 1) (ranks_apart a x == 2) h in
+      askew 1 2 s (eqb-true _ _ p.0) (eqb-true _ _ p.1) (λ k. absurd (omega arith)) (λ k. absurd (omega arith)) (λ k. absurd (omega arith))
+  | inr h ↦
+      let p = and_parts (files_apart a x == 2) (ranks_apart a x == 1) h in
+      askew 2 1 s (eqb-true _ _ p.0) (eqb-true _ _ p.1) (λ k. absurd (omega arith)) (λ k. absurd (omega arith)) (λ k. absurd (omega arith))
 ])
   where
-    askew : (m n : ℕ) → strictly_between a y x ≡ true → files_apart a x ≡ m → ranks_apart a x ≡ n → (m ≡ 0 → ⊥) → (n ≡ 0 → ⊥) → (m ≡ n → ⊥) → ⊥
+    askew : (m n : ℕ) → strictly_between a y x ≡ true → files_apart a x ≡ m → ranks_apart a x ≡ n
+        → (m ≡ 0 → ⊥) → (n ≡ 0 → ⊥) → (m ≡ n → ⊥) → ⊥
     askew m n s p q u v w = none_askew _ _ _ _ _ _ (on_way a y x s) (λ k. u (sym p ∙ k)) (λ k. v (sym q ∙ k)) (λ k. w (sym p ∙ k ∙ q))
 
 -- x is n ranks ahead of a, as some side's pawns go

@@ -139,7 +139,13 @@ fn squares_letting(others: &[Man], last: &Man, side: Side, from: Square, to: Squ
 
 /// The squares of the man of the last slot with which the man can have come from the square by a quiet move.
 #[inline]
-pub fn squares_led(others: &[Man], last: &Man, to_move: Side, man: &Man, origin: Square) -> SquareSet
+pub fn squares_led(
+    others: &[Man],
+    last: &Man,
+    to_move: Side,
+    man: &Man,
+    origin: Square,
+) -> SquareSet
     requires few { length others.now ≤ 4 }
     requires last { same_kind last.now.kind King ≡ false }
     requires man { Contains others.now man.now }
@@ -189,7 +195,13 @@ pub fn targets_beside(others: &[Man], man: &Man) -> SquareSet
 
 /// The squares of the man of the last slot with which the man can go to the square by a move that takes no man.
 #[inline]
-pub fn squares_going(others: &[Man], last: &Man, to_move: Side, man: &Man, target: Square) -> SquareSet
+pub fn squares_going(
+    others: &[Man],
+    last: &Man,
+    to_move: Side,
+    man: &Man,
+    target: Square,
+) -> SquareSet
     requires few { length others.now ≤ 4 }
     requires last { same_kind last.now.kind King ≡ false }
     requires man { Contains others.now man.now }

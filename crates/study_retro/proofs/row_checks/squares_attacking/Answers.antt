@@ -23,4 +23,5 @@ loop-m-preserved c y ly =
 pub returns : goal.returns
 returns c y ly =
     c.loop-m.invariant y ly
-    ∙ ap (λ (l : List Man). list_any (λ m. same_side m.side c.args.by && bears_with c.args.others.now y m c.args.x) l) (take_all c.loop-m.m-index c.args.others.now (omega arith))
+    ∙ ap (λ (l : List Man). list_any (λ m. same_side m.side c.args.by && bears_with c.args.others.now y m c.args.x) l)
+    (take_all c.loop-m.m-index c.args.others.now (omega arith))

@@ -19,5 +19,6 @@ loop-k-preserved c y ly =
 pub returns : goal.returns
 returns c y ly =
     c.loop-k.invariant y ly
-    ∙ ap (λ (l : List Man). list_any (king_attacked_with c.args.others.now c.args.last.now c.args.side y) l) (take_all c.loop-k.k-index c.args.others.now (omega arith))
+    ∙ ap (λ (l : List Man). list_any (king_attacked_with c.args.others.now c.args.last.now c.args.side y) l)
+    (take_all c.loop-k.k-index c.args.others.now (omega arith))
     ∙ row_check c.args.others.now c.args.last.now y c.args.side c.requires
