@@ -1,5 +1,5 @@
 -- What is told of a part of the cells is told of the cells.
-use Rattle.std.proofs.Common.{◌≡◌, ℕ, ◌+◌, ◌-◌, ◌<◌, ◌≤◌, List, length, slice_index, Bool, true, false, nat_lt, ◌⊎◌, inl, inr, take, drop, below_more, arith, refl, ◌∙◌, subst}
+use Rattle.std.proofs.Common.{◌≡◌, ℕ, ◌+◌, ◌-◌, ◌*◌, ◌/◌, ◌<◌, ◌≤◌, List, length, slice_index, Bool, true, false, nat_lt, ◌⊎◌, inl, inr, take, drop, arith, refl, ◌∙◌, subst}
 use Rattle.std.proofs.lemmas.Bool.Decides.{nat_tests}
 use Rattle.std.proofs.lemmas.List.{get_or-drop, get_or-take, length-take-le, length-drop}
 
@@ -22,9 +22,16 @@ below_or i n = by_test (nat_lt i n) refl
     by_test true e = inl (grind (arith, nat_tests))
     by_test false e = inr (grind (arith, nat_tests))
 
--- what holds below a number, there, and from the next to another holds below the other
-pub below_next : (Q : ℕ → Type 0) (n m : ℕ) → ((i : ℕ) → i < n → Q i) → Q n → ((i : ℕ) → n + 1 ≤ i → i < m → Q i) → (i : ℕ) → i < m → Q i
-below_next Q n m before here after i b = elim (below_or i (n + 1)) [
-  | inl l ↦ below_more Q n before here i l
-  | inr g ↦ after i g b
+-- what holds before the row of a number, in that row up to its end, and from there to another number holds below the other
+pub below_row : (Q : ℕ → Type 0) (n e m : ℕ) → ((i : ℕ) → i < 64 * (n / 64) → Q i)
+    → ((y : ℕ) → y < 64 → 64 * (n / 64) + y < e → Q (64 * (n / 64) + y)) → e ≤ 64 * (n / 64) + 64
+    → ((i : ℕ) → e ≤ i → i < m → Q i) → (i : ℕ) → i < m → Q i
+below_row Q n e m before row few after i b = elim (below_or i (64 * (n / 64))) [
+  | inl l ↦ before i l
+  | inr g ↦ elim (below_or i e) [
+    | inr h ↦ after i h b
+    | inl l ↦
+        let same : 64 * (n / 64) + (i - 64 * (n / 64)) ≡ i = omega (arith, g) in
+        subst Q same (row (i - 64 * (n / 64)) (omega (arith, l, few, g)) (omega (arith, same, l)))
+  ]
 ]

@@ -20,6 +20,8 @@ pub mod BackLemmas
 pub mod StillChess
 pub mod RowLemmas
 pub mod RowChecks
+pub mod RowSets
+pub mod RowBackLemmas
 pub mod RowGeometry
 pub mod RowPawns
 pub mod RowMoveLemmas

@@ -50,6 +50,14 @@ module _ (all rest next : ℕ) (h : AreLeft all rest next) where
   pub left-none : rest ≡ 0 → (x : ℕ) → next ≤ x → x < 64 → has all x ≡ false
   left-none e x g on = sym (h.left x g on) ∙ (ap (λ (s : ℕ). has s x) e ∙ has-zero x)
 
+-- what holds of the squares taken holds of all where none is left
+pub taken-all : (Q : ℕ → Type 0) (all rest next : ℕ) → AreLeft all rest next → ((x : ℕ) → x < next → has all x ≡ true → Q x) → rest ≡ 0
+    → (x : ℕ) → x < 64 → has all x ≡ true → Q x
+taken-all Q all rest next h before none x on e = elim (cases_lt x next) [
+  | inl low ↦ before x low e
+  | inr high ↦ absurd (false≢true (sym (left-none all rest next h none x high on) ∙ e))
+]
+
 -- what is in one set and not in another
 pub in-one : (a b : Bool) → (a && not b) ≡ true → a ≡ true
 in-one true b e = refl

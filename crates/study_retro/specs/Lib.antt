@@ -15,3 +15,5 @@ pub mod Numbered
 pub mod ClassGame
 pub mod Still
 pub mod RowMoves
+pub mod RowLevels
+pub mod RowBack

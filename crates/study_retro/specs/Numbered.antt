@@ -55,10 +55,19 @@ module _ {P : Type 0} where
   abbrev pub StepLeads : Numbered P → ℕ → ℕ → Type 0
   StepLeads g n m = LeadsTo (leads_in g) g.home g.index g.position n m
 
-  -- a number stands for a position; and each whose cell is not 0 does
+  -- a move leads from the position of n to one of a number of the row whose square is in the set
+  abbrev pub LeadsIntoRow : Numbered P → ℕ → ℕ → ℕ → Type 0
+  LeadsIntoRow g row set n = (y : ℕ) × (y < 64) × (has set y ≡ true) × StepLeads g n (64 * row + y)
+
+  -- a number stands for a position
   abbrev pub HasPosition : Numbered P → ℕ → Type 0
   HasPosition g n = (p : P) × (g.position n ≡ Some p)
 
+  -- so do the numbers of a row whose squares are in the set: 64 numbers, one for each square
+  abbrev pub HavePositions : Numbered P → ℕ → ℕ → Type 0
+  HavePositions g row set = (y : ℕ) → y < 64 → has set y ≡ true → HasPosition g (64 * row + y)
+
+  -- so does each number whose cell is not 0
   abbrev pub CellsHavePositions : Numbered P → List ℕ → Type 0
   CellsHavePositions g cells = (i : ℕ) → slice_index cells i ≢ 0 → HasPosition g i
 
@@ -125,6 +134,13 @@ module _ {P : Type 0} where
   abbrev pub LossIsKept : Numbered P → ℕ → ℕ → List ℕ → List ℕ → Type 0
   LossIsKept g k n old new =
       (p q : P) → g.position n ≡ Some p → leads_in g p q → slice_index old n ≡ k + 2 → IsMatedWithin g (k + 1) p → slice_index new n ≡ k + 2
+
+  -- the same of the cells of a row
+  abbrev pub RowLossesAreTrue : Numbered P → ℕ → ℕ → List ℕ → Type 0
+  RowLossesAreTrue g k row cells = (y : ℕ) → y < 64 → LossIsTrue g k (64 * row + y) cells
+
+  abbrev pub RowLossesAreKept : Numbered P → ℕ → ℕ → List ℕ → List ℕ → Type 0
+  RowLossesAreKept g k row old new = (y : ℕ) → y < 64 → LossIsKept g k (64 * row + y) old new
 
   -- the same of all cells
   abbrev pub LossesAreTrue : Numbered P → ℕ → List ℕ → Type 0

@@ -1,5 +1,8 @@
 //! Cells looked at by blocks, all of a block at once.
-ghost use Rattle.std.specs.Prelude.{◌≡◌, ◌≢◌, ◌<◌, ◌≤◌, ◌^◌, ℕ, false, length, slice_index};
+ghost use Rattle.std.specs.Prelude.{◌≡◌, ◌≢◌, ◌+◌, ◌*◌, ◌/◌, ◌<◌, ◌≤◌, ◌^◌, ◌&&◌, ◌==◌, ℕ, true, false, length, slice_index};
+ghost use Rattle.study_board.specs.Sets.{has};
+
+use study_board::{Square, SquareSet};
 
 /// How many cells are looked at before what they tell is asked.
 const BLOCK: usize = 64;
@@ -109,4 +112,59 @@ pub fn has_later(cells: &[u8], level: u8) -> bool
         at = end;
     }
     false
+}
+
+/// The square, where the byte is this one; or none.
+#[inline(always)]
+fn square_where(square: Square, cell: u8, byte: u8) -> SquareSet
+    ensures { (y : ℕ) → y < 64 → has result y ≡ (cell == byte && square == y) }
+{
+    if cell == byte {
+        SquareSet::of(square)
+    } else {
+        SquareSet::empty()
+    }
+}
+
+/// The places of the cells that are this byte, a square for each. The loop has no way out, so that many cells are compared at
+/// once.
+#[inline]
+fn squares_with(cells: &[u8], byte: u8) -> SquareSet
+    requires { length cells.now ≤ 64 }
+    ensures here { (y : ℕ) → y < 64 → has result y ≡ true → (y < length cells.now) × (slice_index cells.now y ≡ byte) }
+    ensures all { (y : ℕ) → y < length cells.now → slice_index cells.now y ≡ byte → has result y ≡ true }
+{
+    let mut set = SquareSet::empty();
+    for (place, cell) in cells.iter().enumerate() {
+        set = set.union(square_where(Square::at(place as u8), *cell, byte));
+    }
+    set
+}
+
+/// Of the 64 cells of a row, those that are this byte: a square for each, in their order.
+pub fn row_with(cells: &[u8], row: u32, byte: u8) -> SquareSet
+    requires row { 64 * row ≤ length cells.now }
+    requires small { length cells.now < 2 ^ 32 }
+    ensures here { (y : ℕ) → y < 64 → has result y ≡ true → (64 * row + y < length cells.now) × (slice_index cells.now (64 * row + y) ≡ byte) }
+    ensures all { (y : ℕ) → y < 64 → 64 * row + y < length cells.now → slice_index cells.now (64 * row + y) ≡ byte → has result y ≡ true }
+{
+    let first = (64 * row) as usize;
+    let end = cells.len().min(first.saturating_add(BLOCK));
+    squares_with(&cells[first..end], byte)
+}
+
+/// Where the row of a number ends, or all numbers do.
+pub fn row_end(number: u32, size: u32) -> u32
+    requires { number < size }
+    ensures above { number < result }
+    ensures within { result ≤ size }
+    ensures full { result < size → result ≡ 64 * (number / 64) + 64 }
+    ensures row { result ≤ 64 * (number / 64) + 64 }
+{
+    let rest = 64 - number % 64;
+    if size - number <= rest {
+        size
+    } else {
+        number + rest
+    }
 }

@@ -6,23 +6,23 @@ ghost use Rattle.study_moves.specs.EnPassant.{has_legal_en_passant};
 ghost use Rattle.study_index.specs.Computed.{index_of, position_numbered};
 ghost use Rattle.study_retro.specs.Table.{IsReady, IsClosed};
 
-use crate::back::{Change, write_before};
+use crate::back::Change;
 use crate::captures::captures;
 use crate::consistency::label;
 use crate::earlier::{may_pass, predecessor_numbers};
-use crate::escapes::{has_move, quiet_moves};
 use crate::game::{Game, Location};
 use crate::initial::{Initial, initial_by_moves};
-use crate::propagate::{is_lost_by_moves, lower_by_moves, mark_by_moves};
+use crate::row_back::write_before_row;
+use crate::row_levels::{lost_in_plain_row, lost_of_each, lower_each, mark_each};
 use crate::rows::still_in_row;
 use crate::stepped::{LabelledGame, SteppedGame};
-use crate::still::{begins_unknown, may_promote, stays};
+use crate::still::{begins_unknown, may_promote};
 use crate::table_set::TableSet;
 use crate::value::{Value, value_at};
 use arrayvec::ArrayVec;
 use std::alloc::Allocator;
 use study_board::{Position, SquareSet, is_occupied};
-use study_index::{EN_PASSANT_BIT, cells, decode, index, number_moved, told};
+use study_index::{EN_PASSANT_BIT, cells, decode, index, number_moved};
 use study_material::{Class, class_of};
 use study_moves::{Move, MoveList, is_mate, legal_moves, played};
 
@@ -157,40 +157,32 @@ impl<'t, 'a, A: Allocator> SteppedGame for ClassGame<'t, 'a, A> {
         still_in_row(self.class, row)
     }
 
-    fn lower_before(&self, cells: &mut [u8], number: u32, level: u8) -> u64 {
-        if number >= EN_PASSANT_BIT {
-            return lower_by_moves(self, cells, number, level);
+    fn lower_before(&self, cells: &mut [u8], row: u32, decided: SquareSet, level: u8) -> u64 {
+        if row >= EN_PASSANT_BIT / 64 {
+            return lower_each(self, cells, row, decided, level);
         }
         let change = Change {
             cell: level + 2,
             over: true,
         };
-        write_before(self.class, cells, number, change)
+        write_before_row(self.class, cells, row, decided, change)
     }
 
-    fn mark_before(&self, cells: &mut [u8], number: u32, level: u8) -> u64 {
-        if number >= EN_PASSANT_BIT {
-            return mark_by_moves(self, cells, number, level);
+    fn mark_before(&self, cells: &mut [u8], row: u32, decided: SquareSet, level: u8) -> u64 {
+        if row >= EN_PASSANT_BIT / 64 {
+            return mark_each(self, cells, row, decided, level);
         }
         let change = Change {
             cell: level + 2,
             over: false,
         };
-        write_before(self.class, cells, number, change)
+        write_before_row(self.class, cells, row, decided, change)
     }
 
-    fn is_lost_at(&self, cells: &[u8], number: u32, level: u8) -> bool {
-        if number >= EN_PASSANT_BIT {
-            return is_lost_by_moves(self, cells, number, level);
+    fn lost_in_row(&self, cells: &[u8], row: u32, candidates: SquareSet, level: u8) -> SquareSet {
+        if row >= EN_PASSANT_BIT / 64 {
+            return lost_of_each(self, cells, row, candidates, level);
         }
-        let setup = told(self.class, number);
-        let moves = quiet_moves(self, cells, number, &setup, level);
-        if moves.escape {
-            return false;
-        }
-        if stays(self.class, number, &setup) {
-            return moves.some || has_move(self.class, number, &setup);
-        }
-        is_lost_by_moves(self, cells, number, level)
+        lost_in_plain_row(self, cells, row, candidates, level)
     }
 }

@@ -1,14 +1,14 @@
 //! Levels: from the mates in at most so many plies to those in one more.
-ghost use Rattle.std.specs.Prelude.{◌≡◌, ◌≢◌, ◌+◌, ◌<◌, ◌≤◌, ◌%◌, ℕ, false, length, slice_index, IsTrue};
+ghost use Rattle.std.specs.Prelude.{◌≡◌, ◌≢◌, ◌+◌, ◌*◌, ◌^◌, ◌<◌, ◌≤◌, ◌⊎◌, ◌%◌, ℕ, false, length, slice_index, IsTrue};
 ghost use Rattle.study_retro.specs.Propagation.{AreAdded, AreDropped, AreLowered};
 ghost use Rattle.study_retro.specs.Numbered.{CellsAreRight, CellsHavePositions, EndsRight, HasFarMate, IsNumberedClass};
-ghost use Rattle.study_retro.specs.Numbered.{LossIsKept, LossIsTrue, LossesAreKept, LossesAreTrue, LossesGoBack};
+ghost use Rattle.study_retro.specs.Numbered.{LossesAreKept, LossesAreTrue, LossesGoBack, RowLossesAreKept, RowLossesAreTrue};
 ghost use Rattle.study_retro.specs.Numbered.{OutsideIsRight, RaisesLevel, StepLeads, WhereWinsAreTold, WinsGoBack};
 
-use crate::blocks::{has_later, next_of};
+use crate::blocks::{has_later, next_of, row_end, row_with};
 use crate::consistency::first_inconsistent;
 use crate::initial::initialise;
-use crate::propagate::set_cell;
+use crate::propagate::clear_in_row;
 use crate::stepped::SteppedGame;
 use crate::value::MAX_DISTANCE;
 
@@ -25,9 +25,12 @@ pub fn propagate_losses<G: SteppedGame>(game: &G, cells: &mut [u8], level: u8) -
     let size = game.cells();
     let mut number = next_of(cells, 0, level + 1);
     while number < size {
-        let more = game.lower_before(cells, number, level);
-        examined = examined.saturating_add(more).saturating_add(1);
-        number = next_of(cells, number + 1, level + 1);
+        let decided = row_with(cells, number / 64, level + 1);
+        let more = game.lower_before(cells, number / 64, decided, level);
+        examined = examined
+            .saturating_add(more)
+            .saturating_add(u64::from(decided.len()));
+        number = next_of(cells, row_end(number, size), level + 1);
     }
     examined
 }
@@ -45,32 +48,33 @@ pub fn propagate_wins<G: SteppedGame>(game: &G, cells: &mut [u8], level: u8) -> 
     let size = game.cells();
     let mut number = next_of(cells, 0, level + 1);
     while number < size {
-        let more = game.mark_before(cells, number, level);
-        examined = examined.saturating_add(more).saturating_add(1);
-        number = next_of(cells, number + 1, level + 1);
+        let decided = row_with(cells, number / 64, level + 1);
+        let more = game.mark_before(cells, number / 64, decided, level);
+        examined = examined
+            .saturating_add(more)
+            .saturating_add(u64::from(decided.len()));
+        number = next_of(cells, row_end(number, size), level + 1);
     }
     examined
 }
 
-/// Looks at a number that may be lost in `level + 1` plies: its cell stays where it is, and else is 0.
-pub fn confirm_loss<G: SteppedGame>(game: &G, cells: &mut [u8], number: u32, level: u8) -> u64
+/// Looks at the numbers of a row that may be lost in `level + 1` plies: their cells stay where they are, and else are 0.
+fn confirm_row<G: SteppedGame>(game: &G, cells: &mut [u8], row: u32, level: u8) -> u64
     requires laws { IsNumberedClass (G.numbered game.now) }
     requires level { level < 254 }
-    requires number { number < (G.numbered game.now).size }
+    requires row { 64 * row < (G.numbered game.now).size }
     requires cells { length cells.old ≡ (G.numbered game.now).size }
+    requires small { length cells.old < 2 ^ 32 }
     requires numbered { CellsHavePositions (G.numbered game.now) cells.old }
     ensures fall { AreDropped level cells.old cells.new }
-    ensures other { (i : ℕ) → i ≢ number → slice_index cells.new i ≡ slice_index cells.old i }
-    ensures lost { WhereWinsAreTold (G.numbered game.now) level cells.old (LossIsTrue (G.numbered game.now) level number cells.new) }
-    ensures kept { WhereWinsAreTold (G.numbered game.now) level cells.old (LossIsKept (G.numbered game.now) level number cells.old cells.new) }
+    ensures other { (i : ℕ) → (i < 64 * row) ⊎ (64 * row + 64 ≤ i) → slice_index cells.new i ≡ slice_index cells.old i }
+    ensures lost { WhereWinsAreTold (G.numbered game.now) level cells.old (RowLossesAreTrue (G.numbered game.now) level row cells.new) }
+    ensures kept { WhereWinsAreTold (G.numbered game.now) level cells.old (RowLossesAreKept (G.numbered game.now) level row cells.old cells.new) }
 {
-    if cells[number as usize] != level + 2 {
-        return 0;
-    }
-    if !game.is_lost_at(cells, number, level) {
-        set_cell(cells, number, 0);
-    }
-    1
+    let candidates = row_with(cells, row, level + 2);
+    let lost = game.lost_in_row(cells, row, candidates, level);
+    clear_in_row(cells, row, candidates.without(lost));
+    u64::from(candidates.len())
 }
 
 /// Looks at all numbers that may be lost in `level + 1` plies: those that are marked, and those that moves out of the class
@@ -89,8 +93,8 @@ pub fn confirm_losses<G: SteppedGame>(game: &G, cells: &mut [u8], level: u8) -> 
     let size = game.cells();
     let mut number = next_of(cells, 0, level + 2);
     while number < size {
-        examined = examined.saturating_add(confirm_loss(game, cells, number, level));
-        number = next_of(cells, number + 1, level + 2);
+        examined = examined.saturating_add(confirm_row(game, cells, number / 64, level));
+        number = next_of(cells, row_end(number, size), level + 2);
     }
     examined
 }

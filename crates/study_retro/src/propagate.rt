@@ -1,11 +1,13 @@
 //! Steps back from one decided position.
-ghost use Rattle.std.specs.Prelude.{◌≡◌, ◌≢◌, ◌↔◌, ◌+◌, ◌<◌, ◌≤◌, ◌⊎◌, ℕ, false, length, slice_index, Some, IsTrue};
+ghost use Rattle.std.specs.Prelude.{◌≡◌, ◌≢◌, ◌↔◌, ◌+◌, ◌*◌, ◌^◌, ◌<◌, ◌≤◌, ◌⊎◌, ℕ, true, false, length, slice_index, Some, IsTrue};
+ghost use Rattle.study_board.specs.Sets.{has};
 ghost use Rattle.study_retro.specs.Propagation.{AreAdded, AreLowered, IsLowered, IsMarked, IsSetBy};
 ghost use Rattle.study_retro.specs.Numbered.{IsNumberedClass, LosesBy, NoLossBy, StepLeads};
 
 use crate::game::Game;
 use crate::stepped::LabelledGame;
 use crate::value::Value;
+use study_board::SquareSet;
 
 /// Sets a cell, where it tells of no mate so near.
 pub fn lower_cell(cells: &mut [u8], number: u32, cell: u8)
@@ -32,13 +34,32 @@ pub fn mark_cell(cells: &mut [u8], number: u32, cell: u8)
     }
 }
 
-/// Sets a cell.
-pub fn set_cell(cells: &mut [u8], number: u32, cell: u8)
+/// Sets a cell to 0.
+fn clear_cell(cells: &mut [u8], number: u32)
     requires number { number < length cells.old }
-    ensures each { (i : ℕ) → (slice_index cells.new i ≡ slice_index cells.old i) ⊎ (i ≡ number) × (slice_index cells.new i ≡ cell) }
-    ensures here { slice_index cells.new number ≡ cell }
+    ensures each { (i : ℕ) → (slice_index cells.new i ≡ slice_index cells.old i) ⊎ (i ≡ number) × (slice_index cells.new i ≡ 0) }
+    ensures here { slice_index cells.new number ≡ 0 }
 {
-    cells[number as usize] = cell;
+    cells[number as usize] = 0;
+}
+
+/// Sets the cells of a row to 0 whose squares are in the set.
+pub fn clear_in_row(cells: &mut [u8], row: u32, squares: SquareSet)
+    requires row { 64 * row ≤ length cells.old }
+    requires small { length cells.old < 2 ^ 32 }
+    requires squares { (y : ℕ) → y < 64 → has squares y ≡ true → 64 * row + y < length cells.old }
+    ensures each { (i : ℕ) → (slice_index cells.new i ≡ slice_index cells.old i)
+        ⊎ ((y : ℕ) × (y < 64) × (has squares y ≡ true) × (i ≡ 64 * row + y)) × (slice_index cells.new i ≡ 0) }
+    ensures done { (y : ℕ) → y < 64 → has squares y ≡ true → slice_index cells.new (64 * row + y) ≡ 0 }
+{
+    let mut rest = squares;
+    let mut next = 0u8;
+    while !rest.is_empty() {
+        let square = rest.first();
+        rest = rest.without(SquareSet::of(square));
+        clear_cell(cells, 64 * row + u32::from(square.number()));
+        next = square.number() + 1;
+    }
 }
 
 /// A position that is lost in `level` plies: what leads to it is won in one more.

@@ -1,8 +1,10 @@
 //! What the levels ask of a game, besides its rules: so a game that reads its numbers may answer faster than by lists of moves.
-ghost use Rattle.std.specs.Prelude.{◌≡◌, ◌≢◌, ◌+◌, ◌<◌, ℕ, false, length, slice_index, IsTrue, None, Some};
+ghost use Rattle.std.specs.Prelude.{◌≡◌, ◌≢◌, ◌+◌, ◌*◌, ◌<◌, ℕ, true, false, length, slice_index, None, Some};
+ghost use Rattle.study_board.specs.Sets.{has};
 ghost use Rattle.study_retro.specs.Cells.{distance_of};
 ghost use Rattle.study_retro.specs.Propagation.{AreAdded, AreLowered, IsSetBy};
-ghost use Rattle.study_retro.specs.Numbered.{CellIsHeld, HasPosition, IsNumberedClass, IsUnknownIn, LosesBy, NoLossBy, OutsideIsRight, StepLeads, label_by};
+ghost use Rattle.study_retro.specs.Numbered.{CellIsHeld, HavePositions, IsNumberedClass, IsUnknownIn, LeadsIntoRow, LosesBy, NoLossBy};
+ghost use Rattle.study_retro.specs.Numbered.{OutsideIsRight, StepLeads, label_by};
 
 use crate::game::Game;
 use crate::initial::Initial;
@@ -36,30 +38,32 @@ pub trait SteppedGame: LabelledGame {
         requires laws { IsNumberedClass (Self.numbered self.now) }
         ensures { IsUnknownIn (Self.numbered self.now) row result };
 
-    /// A position that is lost in `level` plies: what leads to it is won in one more.
-    fn lower_before(&self, cells: &mut [u8], number: u32, level: u8) -> u64
+    /// Positions of a row that are lost in `level` plies: what leads to one of them is won in one more.
+    fn lower_before(&self, cells: &mut [u8], row: u32, decided: SquareSet, level: u8) -> u64
         requires laws { IsNumberedClass (Self.numbered self.now) }
         requires level { level < 254 }
-        requires numbered { HasPosition (Self.numbered self.now) number }
+        requires numbered { HavePositions (Self.numbered self.now) row decided }
         requires cells { length cells.old ≡ (Self.numbered self.now).size }
-        ensures rise { AreLowered (λ i. StepLeads (Self.numbered self.now) i number) level cells.old cells.new }
-        ensures done { (i : ℕ) → StepLeads (Self.numbered self.now) i number → IsSetBy (level + 2) cells.new i };
+        ensures rise { AreLowered (LeadsIntoRow (Self.numbered self.now) row decided) level cells.old cells.new }
+        ensures done { (i y : ℕ) → y < 64 → has decided y ≡ true → StepLeads (Self.numbered self.now) i (64 * row + y) → IsSetBy (level + 2) cells.new i };
 
-    /// A position that is won in `level` plies: what leads to it is marked, where it tells of no mate.
-    fn mark_before(&self, cells: &mut [u8], number: u32, level: u8) -> u64
+    /// Positions of a row that are won in `level` plies: what leads to one of them is marked, where it tells of no mate.
+    fn mark_before(&self, cells: &mut [u8], row: u32, decided: SquareSet, level: u8) -> u64
         requires laws { IsNumberedClass (Self.numbered self.now) }
         requires level { level < 254 }
-        requires numbered { HasPosition (Self.numbered self.now) number }
+        requires numbered { HavePositions (Self.numbered self.now) row decided }
         requires cells { length cells.old ≡ (Self.numbered self.now).size }
-        ensures rise { AreAdded (λ i. StepLeads (Self.numbered self.now) i number) level cells.old cells.new }
-        ensures done { (i : ℕ) → StepLeads (Self.numbered self.now) i number → slice_index cells.new i ≢ 0 };
+        ensures rise { AreAdded (LeadsIntoRow (Self.numbered self.now) row decided) level cells.old cells.new }
+        ensures done { (i y : ℕ) → y < 64 → has decided y ≡ true → StepLeads (Self.numbered self.now) i (64 * row + y) → slice_index cells.new i ≢ 0 };
 
-    /// Whether the position of a number has a move, and each leads to a win within `level` plies.
-    fn is_lost_at(&self, cells: &[u8], number: u32, level: u8) -> bool
+    /// Of some positions of a row, those that have a move, and each leads to a win within `level` plies.
+    fn lost_in_row(&self, cells: &[u8], row: u32, candidates: SquareSet, level: u8) -> SquareSet
         requires laws { IsNumberedClass (Self.numbered self.now) }
-        requires numbered { HasPosition (Self.numbered self.now) number }
+        requires numbered { HavePositions (Self.numbered self.now) row candidates }
         requires cells { length cells.now ≡ (Self.numbered self.now).size }
-        ensures yes { IsTrue result → (p : Self.Position) × ((Self.numbered self.now).position number ≡ Some p)
-            × LosesBy (Self.numbered self.now) cells.now level p }
-        ensures no { result ≡ false → NoLossBy (Self.numbered self.now) cells.now level number };
+        ensures only { (y : ℕ) → y < 64 → has result y ≡ true → has candidates y ≡ true }
+        ensures yes { (y : ℕ) → y < 64 → has result y ≡ true → (p : Self.Position)
+            × ((Self.numbered self.now).position (64 * row + y) ≡ Some p) × LosesBy (Self.numbered self.now) cells.now level p }
+        ensures no { (y : ℕ) → y < 64 → has candidates y ≡ true → has result y ≡ false
+            → NoLossBy (Self.numbered self.now) cells.now level (64 * row + y) };
 }

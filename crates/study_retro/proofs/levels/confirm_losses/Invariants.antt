@@ -1,4 +1,4 @@
-use Rattle.std.proofs.Common.{◌≡◌, ℕ, ◌+◌, ◌<◌, ◌≤◌, length, slice_index, Some, ◌-◌}
+use Rattle.std.proofs.Common.{◌≡◌, ℕ, ◌+◌, ◌*◌, ◌/◌, ◌<◌, ◌≤◌, length, slice_index, Some, ◌-◌}
 use Rattle.study_retro.specs.Forced.{LeadsBy}
 use Rattle.study_retro.specs.Propagation.{AreDropped}
 use Rattle.study_retro.specs.Numbered.{CellsHavePositions, OutsideIsRight, TellWins, IsMatedWithin}
@@ -10,7 +10,7 @@ invariant-loop-number g l = record {
   size : length l.cells ≡ (g.G.Game.numbered l.game).size;
   numbered : CellsHavePositions (g.G.Game.numbered l.game) l.cells;
   fall : AreDropped l.level l.initial.cells l.cells;
-  rest : (j : ℕ) → l.number ≤ j → slice_index l.cells j ≡ slice_index l.initial.cells j;
+  rest : (j : ℕ) → l.number < (g.G.Game.numbered l.game).size → 64 * (l.number / 64) ≤ j → slice_index l.cells j ≡ slice_index l.initial.cells j;
   lost : OutsideIsRight (g.G.Game.numbered l.game) → TellWins (g.G.Game.numbered l.game) l.level l.initial.cells
       → (j : ℕ) → j < l.number → (p : g.row.G-Position.Denot) → (g.G.Game.numbered l.game).position j ≡ Some p
       → slice_index l.cells j ≡ l.level + 2 → IsMatedWithin (g.G.Game.numbered l.game) (l.level + 1) p;

@@ -6,7 +6,6 @@ use Rattle.study_retro.proofs.levels.propagate_losses.Given as goal
 abbrev pub invariant-loop-number : goal.invariant-loop-number
 invariant-loop-number g l = record {
   there : l.number ≤ (g.G.Game.numbered l.game).size;
-  here : l.number < (g.G.Game.numbered l.game).size → slice_index l.cells l.number ≡ l.level + 1;
   size : length l.cells ≡ (g.G.Game.numbered l.game).size;
   numbered : CellsHavePositions (g.G.Game.numbered l.game) l.cells;
   rise : AreLowered (λ i. (j : ℕ) × (slice_index l.initial.cells j ≡ l.level + 1) × StepLeads (g.G.Game.numbered l.game) i j) l.level l.initial.cells l.cells;

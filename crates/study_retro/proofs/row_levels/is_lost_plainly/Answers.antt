@@ -4,7 +4,7 @@ use Rattle.study_moves.specs.Rules.{after}
 use Rattle.study_retro.specs.declared.value.Value.TheVariants.{Win}
 use Rattle.study_retro.specs.ClassGame.{class_game}
 use Rattle.study_retro.specs.Numbered.{label_by}
-use Rattle.study_retro.proofs.class_game.ClassGameSteppedGame.is_lost_at.Goals as goal
+use Rattle.study_retro.proofs.row_levels.is_lost_plainly.Goals as goal
 
 -- where each move is quiet, the quiet moves decide
 pub returns-then-moves-2-clause-yes : goal.returns-then-moves-2-clause-yes
@@ -16,7 +16,7 @@ returns-then-moves-2-clause-yes g c = λ t.
       record {
         some = (after q.0 m.0, (m.0, m.1, refl));
         each = λ r l.
-            subst (λ (p : Position). (n : ℕ) × (label_by (class_game c.args.self.now.class c.args.self.now.tables.now) c.args.cells.now p ≡ Win n)
+            subst (λ (p : Position). (n : ℕ) × (label_by (class_game c.args.game.now.class c.args.game.now.tables.now) c.args.cells.now p ≡ Win n)
             × (n ≤ c.args.level)) l.2
             (c.quiet_moves-moves.ensures.no c.if-moves.false q.0 q.1 l.0 l.1 (c.stays.ensures c.if-stays.true q.0 q.1 l.0 l.1));
       },
@@ -31,7 +31,7 @@ returns-else-moves-2-clause-yes g c = λ t.
       record {
         some = (after q.0 m.0, (m.0, m.1, refl));
         each = λ r l.
-            subst (λ (p : Position). (n : ℕ) × (label_by (class_game c.args.self.now.class c.args.self.now.tables.now) c.args.cells.now p ≡ Win n)
+            subst (λ (p : Position). (n : ℕ) × (label_by (class_game c.args.game.now.class c.args.game.now.tables.now) c.args.cells.now p ≡ Win n)
             × (n ≤ c.args.level)) l.2
             (c.quiet_moves-moves.ensures.no c.if-moves.false q.0 q.1 l.0 l.1 (c.stays.ensures c.if-stays.true q.0 q.1 l.0 l.1));
       },
@@ -40,5 +40,5 @@ returns-else-moves-2-clause-yes g c = λ t.
 pub returns-else-moves-2-clause-no : goal.returns-else-moves-2-clause-no
 returns-else-moves-2-clause-no g c = λ f p e h. c.has_move.ensures.no f p e h.some.1.0 h.some.1.1
 
-pub is_lost_by_moves-requires-2-clause-number : goal.is_lost_by_moves-requires-2-clause-number
-is_lost_by_moves-requires-2-clause-number g c = c.requires.laws.below c.args.number c.requires.numbered.0 c.requires.numbered.1
+pub is_lost_by_moves-requires-clause-number : goal.is_lost_by_moves-requires-clause-number
+is_lost_by_moves-requires-clause-number g c = c.requires.laws.below c.args.number c.requires.numbered.0 c.requires.numbered.1

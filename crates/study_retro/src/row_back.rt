@@ -1,0 +1,211 @@
+//! Steps back from decided positions of a row of numbers: each man but the last goes back from all of them at once.
+ghost use Rattle.std.specs.Prelude.{◌≡◌, ◌<◌, ◌+◌, ◌*◌, ℕ, true, length, Contains};
+ghost use Rattle.study_board.specs.Sets.{has};
+ghost use Rattle.study_index.specs.Number.{cells_of};
+ghost use Rattle.study_retro.specs.Predecessors.{IsBefore, IsBeforeBy, IsBeforeFrom};
+ghost use Rattle.study_retro.specs.Propagation.{AreSet, IsSetWhere};
+ghost use Rattle.study_retro.specs.RowBack.{CanAllHaveLed, IsBeforeRowBy, IsBeforeRowFrom, IsInRow};
+ghost use Rattle.study_retro.specs.RowLevels.{AreNumbered, IsBeforeRow};
+ghost use Rattle.study_retro.specs.Still.{on_square};
+
+use crate::back::{Change, write_before_man, write_cell, write_from};
+use crate::earlier::has_both_pawns;
+use crate::row::Row;
+use crate::row_levels::write_before_each;
+use crate::row_moves::{origins_beside, squares_led};
+use study_board::{Man, Square, SquareSet};
+use study_index::{Departure, RowDeparture, told};
+use study_material::Class;
+
+/// Sets cells of a row, where they tell of no mate, or of none so near.
+#[inline]
+fn write_row(cells: &mut [u8], row: u32, set: SquareSet, change: Change)
+    requires row { row < 1048576 }
+    requires cells { (y : ℕ) → y < 64 → has set y ≡ true → 64 * row + y < length cells.old }
+    requires cell { 0 < change.cell }
+    ensures rise { AreSet (IsInRow row set) change.cell change.over cells.old cells.new }
+    ensures done { (y : ℕ) → y < 64 → has set y ≡ true → IsSetWhere change.cell change.over cells.new (64 * row + y) }
+{
+    let mut rest = set;
+    let mut next = 0u8;
+    while !rest.is_empty() {
+        let square = rest.first();
+        rest = rest.without(SquareSet::of(square));
+        write_cell(cells, 64 * row + u32::from(square.number()), change);
+        next = square.number() + 1;
+    }
+}
+
+/// Sets the cells of the positions from which a quiet move of the man from the square leads to positions of the row that it
+/// departs from, going back: number by number.
+#[inline]
+fn write_each_led(
+    cells: &mut [u8],
+    departure: &RowDeparture,
+    led: SquareSet,
+    man: &Man,
+    slot: u32,
+    origin: Square,
+    change: Change,
+)
+    requires numbered { AreNumbered departure.now.class departure.now.row led }
+    requires plain { departure.now.row < 262144 }
+    requires led { CanAllHaveLed departure.now.class departure.now.row led man.now origin }
+    requires cell { 0 < change.cell }
+    requires cells { length cells.old ≡ cells_of departure.now.class }
+    ensures rise { AreSet (IsBeforeRowFrom departure.now.class departure.now.row led man.now origin) change.cell change.over cells.old cells.new }
+    ensures done { (n y : ℕ) → y < 64 → has led y ≡ true → IsBeforeFrom departure.now.class (64 * departure.now.row + y) man.now origin n
+        → IsSetWhere change.cell change.over cells.new n }
+{
+    let class = departure.class;
+    let mut rest = led;
+    let mut next = 0u8;
+    while !rest.is_empty() {
+        let square = rest.first();
+        rest = rest.without(SquareSet::of(square));
+        let number = 64 * departure.row + u32::from(square.number());
+        let one = Departure::new(class, number, man.at, slot);
+        write_from(class, cells, man, &one, origin, change);
+        next = square.number() + 1;
+    }
+}
+
+/// The same: at once, where the numbers before are a row and leave no capture in passing.
+#[inline]
+fn write_led(
+    cells: &mut [u8],
+    departure: &RowDeparture,
+    led: SquareSet,
+    man: &Man,
+    slot: u32,
+    origin: Square,
+    change: Change,
+)
+    requires from { departure.now.from ≡ man.now.at }
+    requires numbered { AreNumbered departure.now.class departure.now.row led }
+    requires plain { departure.now.row < 262144 }
+    requires led { CanAllHaveLed departure.now.class departure.now.row led man.now origin }
+    requires cell { 0 < change.cell }
+    requires cells { length cells.old ≡ cells_of departure.now.class }
+    ensures rise { AreSet (IsBeforeRowFrom departure.now.class departure.now.row led man.now origin) change.cell change.over cells.old cells.new }
+    ensures done { (n y : ℕ) → y < 64 → has led y ≡ true → IsBeforeFrom departure.now.class (64 * departure.now.row + y) man.now origin n
+        → IsSetWhere change.cell change.over cells.new n }
+{
+    if has_both_pawns(departure.class) {
+        return write_each_led(cells, departure, led, man, slot, origin, change);
+    }
+    match departure.row_to(origin) {
+        Some(before) => write_row(cells, before, led, change),
+        None => write_each_led(cells, departure, led, man, slot, origin, change),
+    }
+}
+
+/// Sets the cells of the positions from which a quiet move of one of the other men leads to some positions of a row, and
+/// tells how many they are.
+fn write_before_man_of_row(
+    row: &Row,
+    cells: &mut [u8],
+    decided: SquareSet,
+    man: &Man,
+    slot: u32,
+    change: Change,
+) -> u64
+    requires numbered { AreNumbered row.now.class row.now.number decided }
+    requires man { Contains row.now.others.items man.now }
+    requires cell { 0 < change.cell }
+    requires cells { length cells.old ≡ cells_of row.now.class }
+    ensures rise { AreSet (IsBeforeRowBy row.now.class row.now.number decided man.now) change.cell change.over cells.old cells.new }
+    ensures done { (n y : ℕ) → y < 64 → has decided y ≡ true → IsBeforeBy row.now.class (64 * row.now.number + y) man.now n
+        → IsSetWhere change.cell change.over cells.new n }
+{
+    if man.side != row.to_move.other() {
+        return 0;
+    }
+    let others = row.others.as_slice();
+    let departure = RowDeparture::new(row.class, row.number, man.at, slot);
+    let mut count = 0u64;
+    let mut rest = origins_beside(others, man);
+    let mut next = 0u8;
+    while !rest.is_empty() {
+        let origin = rest.first();
+        rest = rest.without(SquareSet::of(origin));
+        let led = decided.intersection(squares_led(others, &row.last, row.to_move, man, origin));
+        write_led(cells, &departure, led, man, slot, origin, change);
+        count = count.saturating_add(u64::from(led.len()));
+        next = origin.number() + 1;
+    }
+    count
+}
+
+/// The same of the last man, from each of its squares in turn.
+fn write_before_last(row: &Row, cells: &mut [u8], decided: SquareSet, change: Change) -> u64
+    requires numbered { AreNumbered row.now.class row.now.number decided }
+    requires cell { 0 < change.cell }
+    requires cells { length cells.old ≡ cells_of row.now.class }
+    ensures rise { AreSet (IsBeforeRow row.now.class row.now.number decided) change.cell change.over cells.old cells.new }
+    ensures done { (n y : ℕ) → y < 64 → has decided y ≡ true → IsBeforeBy row.now.class (64 * row.now.number + y) (on_square row.now.last y) n
+        → IsSetWhere change.cell change.over cells.new n }
+{
+    let slot = row.others.len() as u32;
+    let mut count = 0u64;
+    let mut rest = decided;
+    let mut next = 0u8;
+    while !rest.is_empty() {
+        let square = rest.first();
+        rest = rest.without(SquareSet::of(square));
+        let number = 64 * row.number + u32::from(square.number());
+        let last = Man {
+            side: row.last.side,
+            kind: row.last.kind,
+            at: square,
+        };
+        let setup = told(row.class, number);
+        let more = write_before_man(row.class, cells, number, &setup, &last, slot, change);
+        count = count.saturating_add(more);
+        next = square.number() + 1;
+    }
+    count
+}
+
+/// The same of all men.
+fn write_before_men(row: &Row, cells: &mut [u8], decided: SquareSet, change: Change) -> u64
+    requires numbered { AreNumbered row.now.class row.now.number decided }
+    requires cell { 0 < change.cell }
+    requires cells { length cells.old ≡ cells_of row.now.class }
+    ensures rise { AreSet (IsBeforeRow row.now.class row.now.number decided) change.cell change.over cells.old cells.new }
+    ensures done { (n y : ℕ) → y < 64 → has decided y ≡ true → IsBefore row.now.class (64 * row.now.number + y) n
+        → IsSetWhere change.cell change.over cells.new n }
+{
+    let mut count = write_before_last(row, cells, decided, change);
+    for (slot, man) in row.others.as_slice().iter().enumerate() {
+        let more = write_before_man_of_row(row, cells, decided, man, slot as u32, change);
+        count = count.saturating_add(more);
+    }
+    count
+}
+
+/// Sets the cells of the positions from which a quiet move leads to the position of a number of the row whose square is in
+/// the set, and tells how many they are.
+pub fn write_before_row(
+    class: Class,
+    cells: &mut [u8],
+    row: u32,
+    decided: SquareSet,
+    change: Change,
+) -> u64
+    requires numbered { AreNumbered class row decided }
+    requires plain { 64 * row < 16777216 }
+    requires cell { 0 < change.cell }
+    requires cells { length cells.old ≡ cells_of class }
+    ensures rise { AreSet (IsBeforeRow class row decided) change.cell change.over cells.old cells.new }
+    ensures done { (n y : ℕ) → y < 64 → has decided y ≡ true → IsBefore class (64 * row + y) n → IsSetWhere change.cell change.over cells.new n }
+{
+    if decided.is_empty() {
+        return 0;
+    }
+    let _square = decided.first();
+    match Row::new(class, row) {
+        None => write_before_each(class, cells, row, decided, change),
+        Some(row) => write_before_men(&row, cells, decided, change),
+    }
+}
