@@ -96,6 +96,11 @@ going_pawn false false pc hs true f = rw (f refl) (and_false' pc)
     and_false' true = refl
     and_false' false = refl
 
+each_empty : (one t ea : Bool) → ((one && ea) || (t && ea)) ≡ ((one || t) && ea)
+each_empty true t true = refl
+each_empty true t false = and_false t
+each_empty false t ea = refl
+
 letting : (h c m w : Bool) → m ≡ not h → (m ≡ true → w ≡ c) → not (h || c) ≡ (m && not w)
 letting true c m w i f = rw i refl
 letting false c m w i f = rw (i, f i) refl
@@ -124,13 +129,21 @@ none_if_bears men p side Bishop a y x s k e = absurd (false≢true (sym s))
 none_if_bears men p side Knight a y x s k e = none_on_jump a y x (and_parts p _ e).1
 none_if_bears men p side Pawn a y x s k e = absurd (false≢true (sym k))
 
-pub goes_as_pawn : (men : List Man) (man : Man) (x : ℕ) → is_pawn man ≡ true → goes_quietly men man x ≡ pawn_goes men man.side man.at x
+goes_as_pawn : (men : List Man) (man : Man) (x : ℕ) → is_pawn man ≡ true → goes_quietly men man x ≡ pawn_goes men man.side man.at x
 unfolding reaches_target pawn_steps pawn_double_steps pawn_takes
 goes_as_pawn men man x p =
     rw p
     (going_pawn (is_ahead man.side 1 man.at x) ((rank_of man.at == starting_rank man.side) && is_ahead man.side 2 man.at x && is_empty men (half_way man.at x))
     (pawn_captures man.side man.at x) (has_side men (other_side man.side) x) (is_empty men x)
     (λ e. no_side_there men (other_side man.side) x (not-true _ e)))
+
+pub steps_as_pawn : (men : List Man) (man : Man) (x : ℕ) → is_pawn man ≡ true
+    → (pawn_steps men man.side man.at x || pawn_double_steps men man.side man.at x) ≡ goes_quietly men man x
+unfolding pawn_steps pawn_double_steps
+steps_as_pawn men man x p =
+    each_empty (is_ahead man.side 1 man.at x) ((rank_of man.at == starting_rank man.side) && is_ahead man.side 2 man.at x && is_empty men (half_way man.at x))
+    (is_empty men x)
+    ∙ sym (goes_as_pawn men man x p)
 
 pub goes_as_piece : (men : List Man) (man : Man) (x : ℕ) → is_pawn man ≡ false → goes_quietly men man x ≡ (bears_on men man x && is_empty men x)
 unfolding reaches_target
