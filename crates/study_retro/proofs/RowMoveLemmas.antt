@@ -1,12 +1,13 @@
 -- Where the men of a row come from and where they go, by the square of the man of the last slot.
-use Rattle.std.proofs.Common.{◌≡◌, ℕ, ◌+◌, ◌≤◌, ◌==◌, Bool, true, false, cond, not, ◌&&◌, ◌||◌, inl, inr, List, [], ◌∷◌, ◌++◌, map, None, refl, sym, ◌∙◌, ap, subst, arith}
+use Rattle.std.proofs.Common.{◌≡◌, ℕ, ◌+◌, ◌≤◌, ◌==◌, Bool, true, false, cond, not, ◌&&◌, ◌||◌}
+use Rattle.std.proofs.Common.{inl, inr, List, [], ◌∷◌, ◌++◌, map, None, refl, sym, ◌∙◌, ap, subst, arith}
 use Rattle.std.specs.Prelude.{count_by}
 use Rattle.std.specs.List.{Contains, filter, list_any}
 use Rattle.std.specs.List.Sorted.{IsPermutation}
-use Rattle.std.proofs.lemmas.Bool.{and_from, and_parts, cases_Bool, eqb-true, eq-eqb, false≢true, not-true, or_parts}
+use Rattle.std.proofs.lemmas.Bool.{and_from, and_parts, cases_Bool, eq-eqb, false≢true, not-true, or_parts}
 use Rattle.std.proofs.lemmas.List.{map-append}
 use Rattle.std.proofs.lemmas.List.Folds.{list_any-append}
-use Rattle.std.proofs.lemmas.List.Sorted.{IsPermutation-cons, IsPermutation-middle, IsPermutation-refl, IsPermutation-sym, IsPermutation-trans, sum_by-IsPermutation}
+use Rattle.std.proofs.lemmas.List.Sorted.{IsPermutation-cons, IsPermutation-middle, IsPermutation-refl, IsPermutation-trans, sum_by-IsPermutation}
 use Rattle.study_board.specs.declared.men.Side.{Side}
 use Rattle.study_board.specs.declared.men.Kind.{Kind}
 use Rattle.study_board.specs.declared.men.Kind.TheVariants.{King, Queen, Rook, Bishop, Knight, Pawn}
@@ -70,13 +71,15 @@ pawn_with false false two eh ea s h w eh' ea' i j f g e = absurd (false≢true e
 less : (b w b' : Bool) → b' ≡ (b && not w) → b' ≡ true → b ≡ true
 less b w b' i e = (and_parts b (not w) (sym i ∙ e)).0
 
-pawn_less : (one t eh ea h w eh' ea' : Bool) → eh' ≡ (eh && not h) → ea' ≡ (ea && not w) → ((one || (t && eh')) && ea') ≡ true → ((one || (t && eh)) && ea) ≡ true
+pawn_less : (one t eh ea h w eh' ea' : Bool) → eh' ≡ (eh && not h) → ea' ≡ (ea && not w)
+    → ((one || (t && eh')) && ea') ≡ true → ((one || (t && eh)) && ea) ≡ true
 pawn_less true t eh ea h w eh' ea' i j e = less ea w ea' j e
 pawn_less false true eh ea h w eh' ea' i j e = let p = and_parts eh' ea' e in and_from _ _ (less eh h eh' i p.0) (less ea w ea' j p.1)
 pawn_less false false eh ea h w eh' ea' i j e = absurd (false≢true e)
 
 -- a man that bears on an empty square
-piece_with : (b ea sl s w b' ea' : Bool) → b' ≡ (b && not (sl && s)) → ea' ≡ (ea && not w) → (sl ≡ false → b ≡ true → s ≡ false) → (b && ea) ≡ true → (b' && ea') ≡ not (s || w)
+piece_with : (b ea sl s w b' ea' : Bool) → b' ≡ (b && not (sl && s)) → ea' ≡ (ea && not w) → (sl ≡ false → b ≡ true → s ≡ false)
+    → (b && ea) ≡ true → (b' && ea') ≡ not (s || w)
 piece_with b ea true s w b' ea' i j f e = let p = and_parts b ea e in rw (i, j, p.0, p.1) (neither s w)
 piece_with b ea false s w b' ea' i j f e = let p = and_parts b ea e in rw (i, j, p.0, p.1, f refl p.0) refl
 
@@ -92,6 +95,11 @@ going_pawn false false pc hs true f = rw (f refl) (and_false' pc)
     and_false' : (b : Bool) → ((b && false) && true) ≡ false
     and_false' true = refl
     and_false' false = refl
+
+each_empty : (one t ea : Bool) → ((one && ea) || (t && ea)) ≡ ((one || t) && ea)
+each_empty true t true = refl
+each_empty true t false = and_false t
+each_empty false t ea = refl
 
 letting : (h c m w : Bool) → m ≡ not h → (m ≡ true → w ≡ c) → not (h || c) ≡ (m && not w)
 letting true c m w i f = rw i refl
@@ -121,7 +129,7 @@ none_if_bears men p side Bishop a y x s k e = absurd (false≢true (sym s))
 none_if_bears men p side Knight a y x s k e = none_on_jump a y x (and_parts p _ e).1
 none_if_bears men p side Pawn a y x s k e = absurd (false≢true (sym k))
 
-pub goes_as_pawn : (men : List Man) (man : Man) (x : ℕ) → is_pawn man ≡ true → goes_quietly men man x ≡ pawn_goes men man.side man.at x
+goes_as_pawn : (men : List Man) (man : Man) (x : ℕ) → is_pawn man ≡ true → goes_quietly men man x ≡ pawn_goes men man.side man.at x
 unfolding reaches_target pawn_steps pawn_double_steps pawn_takes
 goes_as_pawn men man x p =
     rw p
@@ -129,21 +137,33 @@ goes_as_pawn men man x p =
     (pawn_captures man.side man.at x) (has_side men (other_side man.side) x) (is_empty men x)
     (λ e. no_side_there men (other_side man.side) x (not-true _ e)))
 
+pub steps_as_pawn : (men : List Man) (man : Man) (x : ℕ) → is_pawn man ≡ true
+    → (pawn_steps men man.side man.at x || pawn_double_steps men man.side man.at x) ≡ goes_quietly men man x
+unfolding pawn_steps pawn_double_steps
+steps_as_pawn men man x p =
+    each_empty (is_ahead man.side 1 man.at x) ((rank_of man.at == starting_rank man.side) && is_ahead man.side 2 man.at x && is_empty men (half_way man.at x))
+    (is_empty men x)
+    ∙ sym (goes_as_pawn men man x p)
+
 pub goes_as_piece : (men : List Man) (man : Man) (x : ℕ) → is_pawn man ≡ false → goes_quietly men man x ≡ (bears_on men man x && is_empty men x)
 unfolding reaches_target
 goes_as_piece men man x p = rw p refl
 
--- what a man comes by is an empty square
-free_if_comes : (men : List Man) (man : Man) (a : ℕ) → comes men man a ≡ true → is_occupied men a ≡ false
+-- whence a pawn comes, and another man
+comes_as_pawn : (men : List Man) (man : Man) (a : ℕ) → is_pawn man ≡ true → comes men man a
+    ≡ (((is_ahead man.side 1 a man.at && not (rank_of a == first_rank man.side))
+    || ((rank_of a == starting_rank man.side) && is_ahead man.side 2 a man.at && is_empty men (half_way a man.at))) && is_empty men a)
 unfolding comes pawn_comes
+comes_as_pawn men man a p = rw p refl
+
+comes_as_piece : (men : List Man) (man : Man) (a : ℕ) → is_pawn man ≡ false → comes men man a ≡ (bears_on men man a && is_empty men a)
+unfolding comes
+comes_as_piece men man a p = rw p refl
+
+free_if_comes : (men : List Man) (man : Man) (a : ℕ) → comes men man a ≡ true → is_occupied men a ≡ false
 free_if_comes men man a e = elim (cases_Bool (is_pawn man)) [
-  | inl p ↦
-      let c : (((is_ahead man.side 1 a man.at && not (rank_of a == first_rank man.side))
-      || ((rank_of a == starting_rank man.side) && is_ahead man.side 2 a man.at && is_empty men (half_way a man.at))) && is_empty men a) ≡ true = rw p at e in
-      not-true _ (and_parts _ (is_empty men a) c).1
-  | inr p ↦
-      let c : (bears_on men man a && is_empty men a) ≡ true = rw p at e in
-      not-true _ (and_parts (bears_on men man a) (is_empty men a) c).1
+  | inl p ↦ not-true _ (and_parts _ (is_empty men a) (sym (comes_as_pawn men man a p) ∙ e)).1
+  | inr p ↦ not-true _ (and_parts _ (is_empty men a) (sym (comes_as_piece men man a p) ∙ e)).1
 ]
 
 -- ---- the man put on another square
@@ -183,7 +203,8 @@ module _ (man : Man) (a : ℕ) where
   moved_men [] i c o = absurd i
   moved_men (x ∷ xs) (inl s) c o =
       let same : (x.at == man.at) ≡ true = eq-eqb _ _ (ap (λ (m : Man). m.at) s) in
-      let more : count_by (λ m. m.at == man.at) (x ∷ xs) ≡ 1 + count_by (λ m. m.at == man.at) xs = count_by-cons (λ m. m.at == man.at) x xs ∙ rw same refl in
+      let more : count_by (λ m. m.at == man.at) (x ∷ xs) ≡ 1 + count_by (λ m. m.at == man.at) xs =
+      count_by-cons (λ m. m.at == man.at) x xs ∙ rw same refl in
       let none : count_by (λ m. m.at == man.at) xs ≡ 0 = omega (arith, c, more) in
       let first : f x ≡ z = moves_there man.at a x same ∙ ap (λ (m : Man). on_square m a) s in
       let gone : q x ≡ false = stays_plain man a x ∙ rw same refl in
@@ -197,7 +218,8 @@ module _ (man : Man) (a : ℕ) where
       by_test : (count_by (λ m. m.at == man.at) xs ≤ 1 → is_occupied xs a ≡ false → IsPermutation (map f xs) (z ∷ filter q xs))
           → (b : Bool) → (x.at == man.at) ≡ b → IsPermutation (map f (x ∷ xs)) (z ∷ filter q (x ∷ xs))
       by_test ih true same =
-          let more : count_by (λ m. m.at == man.at) (x ∷ xs) ≡ 1 + count_by (λ m. m.at == man.at) xs = count_by-cons (λ m. m.at == man.at) x xs ∙ rw same refl in
+          let more : count_by (λ m. m.at == man.at) (x ∷ xs) ≡ 1 + count_by (λ m. m.at == man.at) xs =
+          count_by-cons (λ m. m.at == man.at) x xs ∙ rw same refl in
           let none : count_by (λ m. m.at == man.at) xs ≡ 0 = omega (arith, c, more) in
           absurd (false≢true (sym (none_among (λ y. y.at == man.at) xs man (unoccupied man.at xs none) i) ∙ eq-eqb man.at man.at refl))
       by_test ih false other =
@@ -231,72 +253,67 @@ module _ (others : List Man) (last : Man) (y : ℕ) where
   empty_there : (x : ℕ) → is_empty men x ≡ (is_empty others x && not (x == y))
   empty_there x = empty_with x ∙ ap (λ (b : Bool). is_empty others x && not b) (eqb-both y x)
 
+  -- on what empty squares a man that is no pawn bears
+  bears_where : (man : Man) (x : ℕ) → is_pawn man ≡ false → (bears_on others man x && is_empty others x) ≡ true
+      → (bears_on men man x && is_empty men x) ≡ not (hinders man.at x y)
+  bears_where man x p e =
+      piece_with (bears_on others man x) (is_empty others x) (is_slider man.kind) (strictly_between man.at y x) (x == y)
+      (bears_on men man x) (is_empty men x) (bears_men others last y man x) (empty_there x)
+      (λ s k. none_if_bears others (not (man.at == x)) man.side man.kind man.at y x s p k) e
+
+  bears_less : (man : Man) (x : ℕ) → (bears_on men man x && is_empty men x) ≡ true → (bears_on others man x && is_empty others x) ≡ true
+  bears_less man x e =
+      piece_less (bears_on others man x) (is_empty others x) (is_slider man.kind && strictly_between man.at y x) (x == y)
+      (bears_on men man x) (is_empty men x) (bears_men others last y man x) (empty_there x) e
+
   -- the last man hinders a man to come where it stands in between or on the square, and else does not
   pub comes_with : (man : Man) (a : ℕ) → comes others man a ≡ true → comes men man a ≡ not (hinders man.at a y)
-  unfolding comes pawn_comes
   comes_with man a e = elim (cases_Bool (is_pawn man)) [
     | inl p ↦
-        let c : (((is_ahead man.side 1 a man.at && not (rank_of a == first_rank man.side))
-        || ((rank_of a == starting_rank man.side) && is_ahead man.side 2 a man.at && is_empty others (half_way a man.at))) && is_empty others a) ≡ true = rw p at e in
-        rw p
-        (pawn_with (is_ahead man.side 1 a man.at && not (rank_of a == first_rank man.side)) (rank_of a == starting_rank man.side) (is_ahead man.side 2 a man.at)
-        (is_empty others (half_way a man.at)) (is_empty others a) (strictly_between man.at y a) (y == half_way a man.at) (a == y)
-        (is_empty men (half_way a man.at)) (is_empty men a) (empty_with (half_way a man.at)) (empty_there a)
+        let h = half_way a man.at in
+        comes_as_pawn men man a p
+        ∙ pawn_with (is_ahead man.side 1 a man.at && not (rank_of a == first_rank man.side)) (rank_of a == starting_rank man.side)
+        (is_ahead man.side 2 a man.at) (is_empty others h) (is_empty others a) (strictly_between man.at y a) (y == h) (a == y)
+        (is_empty men h) (is_empty men a) (empty_with h) (empty_there a)
         (λ k. between-both man.at y a ∙ none_on_step man.side a y man.at (and_parts _ _ k).0)
-        (λ k. between-both man.at y a ∙ one_on_double_step man.side a y man.at k) c)
-    | inr p ↦
-        let c : (bears_on others man a && is_empty others a) ≡ true = rw p at e in
-        rw p
-        (piece_with (bears_on others man a) (is_empty others a) (is_slider man.kind) (strictly_between man.at y a) (a == y) (bears_on men man a) (is_empty men a)
-        (bears_men others last y man a) (empty_there a)
-        (λ s k. none_if_bears others (not (man.at == a)) man.side man.kind man.at y a s p k) c)
+        (λ k. between-both man.at y a ∙ one_on_double_step man.side a y man.at k) (sym (comes_as_pawn others man a p) ∙ e)
+    | inr p ↦ comes_as_piece men man a p ∙ bears_where man a p (sym (comes_as_piece others man a p) ∙ e)
   ]
 
   -- where a man comes with the last man on the board, it comes without
   pub comes_less : (man : Man) (a : ℕ) → comes men man a ≡ true → comes others man a ≡ true
-  unfolding comes pawn_comes
   comes_less man a e = elim (cases_Bool (is_pawn man)) [
     | inl p ↦
-        let c : (((is_ahead man.side 1 a man.at && not (rank_of a == first_rank man.side))
-        || ((rank_of a == starting_rank man.side) && is_ahead man.side 2 a man.at && is_empty men (half_way a man.at))) && is_empty men a) ≡ true = rw p at e in
-        rw p
-        (pawn_less (is_ahead man.side 1 a man.at && not (rank_of a == first_rank man.side)) ((rank_of a == starting_rank man.side) && is_ahead man.side 2 a man.at)
-        (is_empty others (half_way a man.at)) (is_empty others a) (y == half_way a man.at) (a == y)
-        (is_empty men (half_way a man.at)) (is_empty men a) (empty_with (half_way a man.at)) (empty_there a) c)
-    | inr p ↦
-        let c : (bears_on men man a && is_empty men a) ≡ true = rw p at e in
-        rw p
-        (piece_less (bears_on others man a) (is_empty others a) (is_slider man.kind && strictly_between man.at y a) (a == y) (bears_on men man a) (is_empty men a)
-        (bears_men others last y man a) (empty_there a) c)
+        let h = half_way a man.at in
+        comes_as_pawn others man a p
+        ∙ pawn_less (is_ahead man.side 1 a man.at && not (rank_of a == first_rank man.side))
+        ((rank_of a == starting_rank man.side) && is_ahead man.side 2 a man.at) (is_empty others h) (is_empty others a) (y == h) (a == y)
+        (is_empty men h) (is_empty men a) (empty_with h) (empty_there a) (sym (comes_as_pawn men man a p) ∙ e)
+    | inr p ↦ comes_as_piece others man a p ∙ bears_less man a (sym (comes_as_piece men man a p) ∙ e)
   ]
 
   -- the same of where a man goes
   pub goes_with : (man : Man) (x : ℕ) → goes_quietly others man x ≡ true → goes_quietly men man x ≡ not (hinders man.at x y)
   goes_with man x e = elim (cases_Bool (is_pawn man)) [
     | inl p ↦
+        let h = half_way man.at x in
         goes_as_pawn men man x p
         ∙ pawn_with (is_ahead man.side 1 man.at x) (rank_of man.at == starting_rank man.side) (is_ahead man.side 2 man.at x)
-        (is_empty others (half_way man.at x)) (is_empty others x) (strictly_between man.at y x) (y == half_way man.at x) (x == y)
-        (is_empty men (half_way man.at x)) (is_empty men x) (empty_with (half_way man.at x)) (empty_there x)
+        (is_empty others h) (is_empty others x) (strictly_between man.at y x) (y == h) (x == y)
+        (is_empty men h) (is_empty men x) (empty_with h) (empty_there x)
         (none_on_step man.side man.at y x) (one_on_double_step man.side man.at y x) (sym (goes_as_pawn others man x p) ∙ e)
-    | inr p ↦
-        goes_as_piece men man x p
-        ∙ piece_with (bears_on others man x) (is_empty others x) (is_slider man.kind) (strictly_between man.at y x) (x == y) (bears_on men man x) (is_empty men x)
-        (bears_men others last y man x) (empty_there x)
-        (λ s k. none_if_bears others (not (man.at == x)) man.side man.kind man.at y x s p k) (sym (goes_as_piece others man x p) ∙ e)
+    | inr p ↦ goes_as_piece men man x p ∙ bears_where man x p (sym (goes_as_piece others man x p) ∙ e)
   ]
 
   pub goes_less : (man : Man) (x : ℕ) → goes_quietly men man x ≡ true → goes_quietly others man x ≡ true
   goes_less man x e = elim (cases_Bool (is_pawn man)) [
     | inl p ↦
+        let h = half_way man.at x in
         goes_as_pawn others man x p
         ∙ pawn_less (is_ahead man.side 1 man.at x) ((rank_of man.at == starting_rank man.side) && is_ahead man.side 2 man.at x)
-        (is_empty others (half_way man.at x)) (is_empty others x) (y == half_way man.at x) (x == y)
-        (is_empty men (half_way man.at x)) (is_empty men x) (empty_with (half_way man.at x)) (empty_there x) (sym (goes_as_pawn men man x p) ∙ e)
-    | inr p ↦
-        goes_as_piece others man x p
-        ∙ piece_less (bears_on others man x) (is_empty others x) (is_slider man.kind && strictly_between man.at y x) (x == y) (bears_on men man x) (is_empty men x)
-        (bears_men others last y man x) (empty_there x) (sym (goes_as_piece men man x p) ∙ e)
+        (is_empty others h) (is_empty others x) (y == h) (x == y) (is_empty men h) (is_empty men x) (empty_with h) (empty_there x)
+        (sym (goes_as_pawn men man x p) ∙ e)
+    | inr p ↦ goes_as_piece others man x p ∙ bears_less man x (sym (goes_as_piece men man x p) ∙ e)
   ]
 
   among_end : (ms : List Man) → IsAmong l (ms ++ l ∷ [])
@@ -343,7 +360,8 @@ module _ (others : List Man) (last : Man) (y : ℕ) where
         ∙ check_with side free
 
     -- on which squares of the last man the man can have come from a square
-    pub led_with : (side : Side) → same_side man.side (other_side side) ≡ true → comes others man a ≡ true → lets_pass others last side man.at a y ≡ came_from men side man a
+    pub led_with : (side : Side) → same_side man.side (other_side side) ≡ true → comes others man a ≡ true
+        → lets_pass others last side man.at a y ≡ came_from men side man a
     led_with side his e =
         letting (hinders man.at a y) (in_check (map (from_to man.at a) others ++ l ∷ []) side) (comes men man a) (was_check men side man a) (comes_with man a e)
         (λ k. check_before side his (free_if_comes men man a k))
