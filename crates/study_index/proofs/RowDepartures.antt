@@ -19,7 +19,7 @@ use Rattle.study_index.specs.Decoded.{slots_of, slots_have_pawn, AreSlots, head,
 use Rattle.study_index.specs.Stepped.{are_like_slots, square_weight, square_told, IsStepped}
 use Rattle.study_index.specs.Departure.{keeps_image, StandsOn}
 use Rattle.study_index.specs.LeastImage.{turned_by, least_image, is_on_diagonal, with_head}
-use Rattle.study_index.specs.RowDeparture.{IsRowSum, IsRowSumOfKing, IsRowFoundBy}
+use Rattle.study_index.specs.RowDeparture.{IsRowSum, IsRowSumOfKing, IsRowOfLast, IsRowFoundBy}
 use Rattle.study_index.proofs.ClassSlots.{AreSlots-class, is_cell-below, number_below}
 use Rattle.study_index.proofs.AddedNumbers.{IsStepped-moved}
 use Rattle.study_index.proofs.KingNumbers.{king_index}
@@ -137,6 +137,46 @@ sum_in_row pawns [] m i y a s c one few l = absurd s
 sum_in_row pawns (k ∷ []) m i y a s c one few l = absurd s
 sum_in_row pawns (k ∷ b ∷ x ∷ z ∷ w ∷ fs) m i y a s c one few l = absurd s
 
+-- ---- the last man
+
+-- each number of a row tells its place there as the last man's square
+last_in_row : (slots : List Slot) (m y : ℕ) (d : Man) → AreSlots slots → y < 64
+    → (slice_index_or (told_men slots (64 * m + y)) (length slots - 1) d).at ≡ y
+last_in_row (k ∷ b ∷ []) m y d s l = omega (arith, l)
+last_in_row (k ∷ b ∷ x ∷ []) m y d s l = omega (arith, l)
+last_in_row (k ∷ b ∷ x ∷ z ∷ []) m y d s l = omega (arith, l)
+last_in_row [] m y d s l = absurd s
+last_in_row (k ∷ []) m y d s l = absurd s
+last_in_row (k ∷ b ∷ x ∷ z ∷ w ∷ fs) m y d s l = absurd s
+
+-- the sum with the last man on another square
+abbrev IsSumOfLast : ℕ → ℕ → ℕ → ℕ → ℕ → Type 0
+IsSumOfLast places count m y a =
+    turned_by places count (64 * m + y) - square_told count (count - 1) (64 * m + y) * square_weight count (count - 1)
+    + a * square_weight count (count - 1) ≡ 64 * (turned_by places count (64 * m) / 64) + a
+
+last_joined : (t u v y a : ℕ) → t % 64 ≡ 0 → u ≡ t + y → v ≡ y → u - v * 1 + a * 1 ≡ 64 * (t / 64) + a
+last_joined t u v y a e f d = omega (arith, e, f, d)
+
+sum_of_last : (pawns : Bool) (slots : List Slot) (m y a : ℕ) → AreSlots slots → y < 64 → IsSumOfLast (listed_count pawns) (length slots) m y a
+sum_of_last true (k ∷ b ∷ []) m y a s l = let t = turned_in_row 32 m y l in last_joined _ _ _ y a t.whole t.grows (omega (arith, l))
+sum_of_last false (k ∷ b ∷ []) m y a s l = let t = turned_in_row 10 m y l in last_joined _ _ _ y a t.whole t.grows (omega (arith, l))
+sum_of_last true (k ∷ b ∷ x ∷ []) m y a s l = let t = turned_in_row 2048 m y l in last_joined _ _ _ y a t.whole t.grows (omega (arith, l))
+sum_of_last false (k ∷ b ∷ x ∷ []) m y a s l = let t = turned_in_row 640 m y l in last_joined _ _ _ y a t.whole t.grows (omega (arith, l))
+sum_of_last true (k ∷ b ∷ x ∷ z ∷ []) m y a s l = let t = turned_in_row 131072 m y l in last_joined _ _ _ y a t.whole t.grows (omega (arith, l))
+sum_of_last false (k ∷ b ∷ x ∷ z ∷ []) m y a s l = let t = turned_in_row 40960 m y l in last_joined _ _ _ y a t.whole t.grows (omega (arith, l))
+sum_of_last pawns [] m y a s l = absurd s
+sum_of_last pawns (k ∷ []) m y a s l = absurd s
+sum_of_last pawns (k ∷ b ∷ x ∷ z ∷ w ∷ fs) m y a s l = absurd s
+
+last_after_first : (slots : List Slot) → AreSlots slots → (1 ≤ length slots - 1) × (length slots - 1 < length slots)
+last_after_first (k ∷ b ∷ []) s = (omega arith , omega arith)
+last_after_first (k ∷ b ∷ x ∷ []) s = (omega arith , omega arith)
+last_after_first (k ∷ b ∷ x ∷ z ∷ []) s = (omega arith , omega arith)
+last_after_first [] s = absurd s
+last_after_first (k ∷ []) s = absurd s
+last_after_first (k ∷ b ∷ x ∷ z ∷ w ∷ fs) s = absurd s
+
 -- ---- the white king
 
 king_in_row : (slots : List Slot) (m z q y : ℕ) → AreSlots slots → y < 64
@@ -228,6 +268,12 @@ module _ (c : Class) (r : ℕ) where
       ap (λ (n : ℕ). head slots n) (bit_in_row r y l) ∙ head_in_row slots (without_bit (64 * r) / 64) y (AreSlots-class c) l
       ∙ ap (λ (n : ℕ). head slots n) (sym (first_in_row r))
 
+  -- no number of the row is mirrored, if the first is not
+  keeps_in_row : (y : ℕ) → y < 64 → keeps_image (slots_of c) (without_bit (64 * r)) ≡ true
+      → keeps_image (slots_of c) (without_bit (64 * r + y)) ≡ true
+  keeps_in_row y l keeps =
+      ap (λ (h : ℕ). not (are_like_slots (slots_of c)) && (slots_have_pawn (slots_of c) || not (is_on_diagonal (h % 10)))) (heads_in_row y l) ∙ keeps
+
   -- the terms of a man of a slot after the first and before the last
   pub IsRowSum-terms : (i x : ℕ) (t : RowTerms) → 64 * r < cells_of c → 1 ≤ i → i + 1 < length (slots_of c)
       → keeps_image (slots_of c) (without_bit (64 * r)) ≡ true
@@ -242,8 +288,7 @@ module _ (c : Class) (r : ℕ) where
       let m = without_bit (64 * r) / 64 in
       let short : i < length slots = omega (arith, few) in
       let inside = row_below c r y below l in
-      let kept : keeps_image slots (without_bit n) ≡ true =
-      ap (λ (h : ℕ). not (are_like_slots slots) && (pawns || not (is_on_diagonal (h % 10)))) (heads_in_row y l) ∙ keeps in
+      let kept = keeps_in_row y l keeps in
       let cell : nat_lt (head slots (64 * m) / listed_count pawns) 2 ≡ true =
       ap (λ (k : ℕ). nat_lt (head slots k / listed_count pawns) 2) (sym (first_in_row r))
       ∙ is_cell-below c (without_bit (64 * r)) ∙ below_test (without_bit (64 * r)) (numbers_of c) (number_below c (64 * r) below) in
@@ -259,6 +304,25 @@ module _ (c : Class) (r : ℕ) where
 
       as_terms : (u v w z : ℕ) → u ≡ w → v ≡ z → 64 * (u + a * v) + y ≡ 64 * (w + a * z) + y
       as_terms u v w z e f = rw (e, f) refl
+
+  -- the last man
+  pub IsRowOfLast-turned : keeps_image (slots_of c) (without_bit (64 * r)) ≡ true → 64 * r < cells_of c
+      → IsRowOfLast c r (turned_by (listed_count (slots_have_pawn (slots_of c))) (length (slots_of c)) (without_bit (64 * r)) / 64)
+  IsRowOfLast-turned keeps below y a p l on moved =
+      let slots = slots_of c in
+      let places = listed_count (slots_have_pawn slots) in
+      let count = length slots in
+      let n = 64 * r + y in
+      let m = without_bit (64 * r) / 64 in
+      let i = length slots - 1 in
+      let s = AreSlots-class c in
+      let few = last_after_first slots s in
+      let stands : StandsOn c n i y =
+      λ d. ap (λ (k : ℕ). (slice_index_or (told_men slots k) i d).at) (bit_in_row r y l) ∙ last_in_row slots m y d s l in
+      added_sum c n i a p (row_below c r y below l) few.0 few.1 on (keeps_in_row y l keeps) (IsStepped-moved c n i y a p few.1 stands moved)
+      ∙ ap (λ (k : ℕ). turned_by places count k - square_told count i k * square_weight count i + a * square_weight count i) (bit_in_row r y l)
+      ∙ sum_of_last (slots_have_pawn slots) slots m y a s l
+      ∙ ap (λ (k : ℕ). 64 * (turned_by places count k / 64) + a) (sym (first_in_row r))
 
   -- the terms of the white king
   pub IsRowSumOfKing-terms : (x : ℕ) (t : RowTerms) → 1 < length (slots_of c) → are_like_slots (slots_of c) ≡ false

@@ -32,6 +32,10 @@ IsRowOfKing pawns t a k =
 abbrev pub IsRowSumOfKing : Class → ℕ → ℕ → RowTerms → Type 0
 IsRowSumOfKing c r x t = (a k : ℕ) → a < 64 → IsRowOfKing (slots_have_pawn (slots_of c)) t a k → IsRowTo c r x a k
 
+-- after the last man has moved from its square to any square the numbers of the row r are those of the row k, by that square
+abbrev pub IsRowOfLast : Class → ℕ → ℕ → Type 0
+IsRowOfLast c r k = (y a : ℕ) (p : Position) → y < 64 → a < 64 → IsMoved c (64 * r + y) y a p → index_of p ≡ 64 * k + a
+
 -- the way leads to the row after the man on x has moved
 pub record IsRowFoundBy (c : Class) (r x : ℕ) (way : RowWay) : Type 0 where
   pub sum : (t : RowTerms) → way ≡ Sum t → IsRowSum c r x t
