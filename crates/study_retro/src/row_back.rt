@@ -1,5 +1,6 @@
 //! Steps back from decided positions of a row of numbers: each man but the last goes back from all of them at once.
 ghost use Rattle.std.specs.Prelude.{◌≡◌, ◌<◌, ◌+◌, ◌*◌, ℕ, true, length, Contains};
+ghost use Rattle.study_board.specs.Men.{other_side, same_side};
 ghost use Rattle.study_board.specs.Sets.{has};
 ghost use Rattle.study_index.specs.Number.{cells_of};
 ghost use Rattle.study_retro.specs.Predecessors.{IsBefore, IsBeforeBy, IsBeforeFrom};
@@ -120,7 +121,76 @@ fn write_led(
 }
 
 /// Sets the cells of the positions from which a quiet move of one of the other men leads to some positions of a row, and
-/// tells how many they are.
+/// tells how many they are: number by number.
+fn write_before_man_each(
+    row: &Row,
+    cells: &mut [u8],
+    decided: SquareSet,
+    man: &Man,
+    slot: u32,
+    change: Change,
+) -> u64
+    requires numbered { AreNumbered row.now.class row.now.number decided }
+    requires man { Contains row.now.others.items man.now }
+    requires cell { 0 < change.cell }
+    requires cells { length cells.old ≡ cells_of row.now.class }
+    ensures rise { AreSet (IsBeforeRowBy row.now.class row.now.number decided man.now) change.cell change.over cells.old cells.new }
+    ensures done { (n y : ℕ) → y < 64 → has decided y ≡ true → IsBeforeBy row.now.class (64 * row.now.number + y) man.now n
+        → IsSetWhere change.cell change.over cells.new n }
+{
+    let mut count = 0u64;
+    let mut rest = decided;
+    let mut next = 0u8;
+    while !rest.is_empty() {
+        let square = rest.first();
+        rest = rest.without(SquareSet::of(square));
+        let number = 64 * row.number + u32::from(square.number());
+        let setup = told(row.class, number);
+        let more = write_before_man(row.class, cells, number, &setup, man, slot, change);
+        count = count.saturating_add(more);
+        next = square.number() + 1;
+    }
+    count
+}
+
+/// The same by what the numbers have in common.
+fn write_before_man_from(
+    row: &Row,
+    cells: &mut [u8],
+    decided: SquareSet,
+    man: &Man,
+    slot: u32,
+    departure: &RowDeparture,
+    change: Change,
+) -> u64
+    requires class { departure.now.class ≡ row.now.class }
+    requires row { departure.now.row ≡ row.now.number }
+    requires from { departure.now.from ≡ man.now.at }
+    requires side { same_side man.now.side (other_side row.now.to_move) ≡ true }
+    requires numbered { AreNumbered row.now.class row.now.number decided }
+    requires man { Contains row.now.others.items man.now }
+    requires cell { 0 < change.cell }
+    requires cells { length cells.old ≡ cells_of row.now.class }
+    ensures rise { AreSet (IsBeforeRowBy row.now.class row.now.number decided man.now) change.cell change.over cells.old cells.new }
+    ensures done { (n y : ℕ) → y < 64 → has decided y ≡ true → IsBeforeBy row.now.class (64 * row.now.number + y) man.now n
+        → IsSetWhere change.cell change.over cells.new n }
+{
+    let others = row.others.as_slice();
+    let mut count = 0u64;
+    let mut rest = origins_beside(others, man);
+    let mut next = 0u8;
+    while !rest.is_empty() {
+        let origin = rest.first();
+        rest = rest.without(SquareSet::of(origin));
+        let led = decided.intersection(squares_led(others, &row.last, row.to_move, man, origin));
+        write_led(cells, departure, led, man, slot, origin, change);
+        count = count.saturating_add(u64::from(led.len()));
+        next = origin.number() + 1;
+    }
+    count
+}
+
+/// The same, if it is one of the side that moved.
 fn write_before_man_of_row(
     row: &Row,
     cells: &mut [u8],
@@ -140,20 +210,10 @@ fn write_before_man_of_row(
     if man.side != row.to_move.other() {
         return 0;
     }
-    let others = row.others.as_slice();
-    let departure = RowDeparture::new(row.class, row.number, man.at, slot);
-    let mut count = 0u64;
-    let mut rest = origins_beside(others, man);
-    let mut next = 0u8;
-    while !rest.is_empty() {
-        let origin = rest.first();
-        rest = rest.without(SquareSet::of(origin));
-        let led = decided.intersection(squares_led(others, &row.last, row.to_move, man, origin));
-        write_led(cells, &departure, led, man, slot, origin, change);
-        count = count.saturating_add(u64::from(led.len()));
-        next = origin.number() + 1;
+    match RowDeparture::new(row.class, row.number, man.at, slot) {
+        None => write_before_man_each(row, cells, decided, man, slot, change),
+        Some(departure) => write_before_man_from(row, cells, decided, man, slot, &departure, change),
     }
-    count
 }
 
 /// The same of the last man, from each of its squares in turn.
