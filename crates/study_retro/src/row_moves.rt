@@ -2,8 +2,9 @@
 ghost use Rattle.std.specs.Prelude.{◌≡◌, ◌<◌, ◌≤◌, ◌&&◌, ◌||◌, ◌==◌, ℕ, not, true, false, length, map, [], ◌∷◌, ◌++◌};
 ghost use Rattle.std.specs.List.{Contains};
 ghost use Rattle.study_board.specs.declared.men.Kind.TheVariants.{King};
+ghost use Rattle.study_board.specs.declared.men.Side.{Side};
 ghost use Rattle.study_board.specs.Men.{other_side, same_kind, same_side};
-ghost use Rattle.study_board.specs.Position.{is_occupied};
+ghost use Rattle.study_board.specs.Position.{in_check, is_occupied};
 ghost use Rattle.study_board.specs.Sets.{has};
 ghost use Rattle.study_moves.specs.AnyOrder.{is_safe_target};
 ghost use Rattle.study_moves.specs.Unmoves.{came_from, comes};
@@ -120,4 +121,42 @@ pub fn squares_going(
         && not (is_occupied (others.now ++ on_square last.now y ∷ []) target)) }
 {
     squares_letting(others, last, to_move, man.at, target)
+}
+
+/// The man on another square.
+#[inline]
+fn on(man: &Man, square: Square) -> Man
+    ensures { result ≡ on_square man.now square }
+{
+    Man {
+        side: man.side,
+        kind: man.kind,
+        at: square,
+    }
+}
+
+/// The squares from which the man of the last slot can have come to the square by a quiet move, given those on which it lets
+/// a king of the side to move be attacked.
+#[inline]
+pub fn origins_of_last(others: &[Man], last: &Man, square: Square, check: SquareSet) -> SquareSet
+    ensures { (side : Side) → same_side last.now.side (other_side side) ≡ true
+        → ((a : ℕ) → a < 64 → has check a ≡ in_check (others.now ++ on_square last.now a ∷ []) side)
+        → AreApart (others.now ++ on_square last.now square ∷ [])
+        → (a : ℕ) → a < 64 → has result a ≡ came_from (others.now ++ on_square last.now square ∷ []) side (on_square last.now square) a }
+{
+    origins_beside(others, &on(last, square)).without(check)
+}
+
+/// The squares to which the man of the last slot can go from the square by a move that takes no man, given those on which it
+/// lets a king of its side be attacked.
+#[inline]
+pub fn targets_of_last(others: &[Man], last: &Man, square: Square, check: SquareSet) -> SquareSet
+    ensures { (side : Side) → same_side last.now.side side ≡ true
+        → ((x : ℕ) → x < 64 → has check x ≡ in_check (others.now ++ on_square last.now x ∷ []) side)
+        → AreApart (others.now ++ on_square last.now square ∷ [])
+        → (x : ℕ) → x < 64 → has result x
+        ≡ (is_safe_target (others.now ++ on_square last.now square ∷ []) side (on_square last.now square) x
+        && not (is_occupied (others.now ++ on_square last.now square ∷ []) x)) }
+{
+    targets_beside(others, &on(last, square)).without(check)
 }
