@@ -1,7 +1,7 @@
 -- The positions before those of a row, where the numbers after a man has moved are a row.
 use Rattle.std.proofs.Common.{◌≡◌, ℕ, ◌+◌, ◌*◌, ◌<◌, ◌++◌, ◌∷◌, [], false, true, List, Contains, Some, inl, inr, refl, sym, ◌∙◌, ap, subst}
 use Rattle.std.specs.List.Sorted.{IsPermutation}
-use Rattle.std.proofs.lemmas.List.Elements.{Contains-append_left}
+use Rattle.std.proofs.lemmas.List.Elements.{Contains-append_left, Contains-push}
 use Rattle.study_board.specs.declared.men.Man.{Man}
 use Rattle.study_board.specs.declared.men.Side.{Side}
 use Rattle.study_board.specs.Men.{other_side, same_side}
@@ -51,6 +51,16 @@ module _ (c : Class) (number y : ℕ) (q : Position) (at : position_numbered c n
   row_apart =
       let d = told_decoded c number q at in
       AreApart-position q row_men d.valid (subst (λ (zs : List Man). IsPermutation zs q.men) (sym told.0) (told_of c number q d).same_men)
+
+  -- the last man can have led to the position from where it can have come
+  pub last_led : same_side last.side (other_side side) ≡ true → (a : ℕ) → a < 64 → came_from row_men side (on_square last y) a ≡ true
+      → CanHaveLed q (move_from (on_square last y) a)
+  last_led his a on e = came_led c number q at row_men side told (on_square last y) (Contains-push others (on_square last y)) his a on e
+
+  -- and only from there
+  pub last_came : (a n : ℕ) → a < 64 → IsBeforeFrom c number (on_square last y) a n → (same_side last.side (other_side side) ≡ true)
+      × (came_from row_men side (on_square last y) a ≡ true)
+  last_came a n on b = led_came c number q at row_men side told (on_square last y) (Contains-push others (on_square last y)) a n on b
 
   module _ (man : Man) (among : Contains others man) where
     -- one of the other men can have led to the position from where it can have come with the last man on y

@@ -5,17 +5,18 @@ ghost use Rattle.study_board.specs.Sets.{has};
 ghost use Rattle.study_index.specs.Number.{cells_of};
 ghost use Rattle.study_retro.specs.Predecessors.{IsBefore, IsBeforeBy, IsBeforeFrom};
 ghost use Rattle.study_retro.specs.Propagation.{AreSet, IsSetWhere};
-ghost use Rattle.study_retro.specs.RowBack.{CanAllHaveLed, IsBeforeRowBy, IsBeforeRowFrom, IsInRowOrTwin, IsItOrTwin};
+ghost use Rattle.study_retro.specs.RowBack.{CanAllHaveLed, IsBeforeRowBy, IsBeforeRowFrom, IsInRowOrTwin, IsItOrTwin, IsOriginInRow};
 ghost use Rattle.study_retro.specs.RowLevels.{AreNumbered, IsBeforeRow};
 ghost use Rattle.study_retro.specs.Still.{on_square};
 
 use crate::back::{Change, write_before_man, write_cell, write_from};
-use crate::earlier::{has_twin, may_pass};
+use crate::earlier::{has_both_pawns, has_twin, may_pass};
 use crate::row::Row;
+use crate::row_checks::squares_of_check;
 use crate::row_levels::write_before_each;
-use crate::row_moves::{origins_beside, squares_led};
+use crate::row_moves::{origins_beside, origins_of_last, squares_led};
 use study_board::{Man, Square, SquareSet};
-use study_index::{Departure, EN_PASSANT_BIT, RowDeparture, told};
+use study_index::{Departure, EN_PASSANT_BIT, RowDeparture, row_of_last, told};
 use study_material::Class;
 
 /// Sets the cell of a number without the bit of a capture in passing, and that of the number with it, if it has a position:
@@ -216,8 +217,8 @@ fn write_before_man_of_row(
     }
 }
 
-/// The same of the last man, from each of its squares in turn.
-fn write_before_last(row: &Row, cells: &mut [u8], decided: SquareSet, change: Change) -> u64
+/// The same of the last man: number by number.
+fn write_before_last_each(row: &Row, cells: &mut [u8], decided: SquareSet, change: Change) -> u64
     requires numbered { AreNumbered row.now.class row.now.number decided }
     requires cell { 0 < change.cell }
     requires cells { length cells.old ≡ cells_of row.now.class }
@@ -244,6 +245,62 @@ fn write_before_last(row: &Row, cells: &mut [u8], decided: SquareSet, change: Ch
         next = square.number() + 1;
     }
     count
+}
+
+/// The squares from which the last man can have come to some squares, and from how many it can for each of those in all.
+#[derive(Clone, Copy)]
+struct LastOrigins {
+    squares: SquareSet,
+    count: u64,
+}
+
+/// The squares from which the last man, of the side that moved, can have come in some positions of a row.
+fn origins_in_row(row: &Row, decided: SquareSet) -> LastOrigins
+    requires side { same_side row.now.last.side (other_side row.now.to_move) ≡ true }
+    requires numbered { AreNumbered row.now.class row.now.number decided }
+    ensures only { (a : ℕ) → a < 64 → has result.squares a ≡ true → IsOriginInRow row.now.others.items row.now.last row.now.to_move decided a }
+    ensures all { (a : ℕ) → a < 64 → IsOriginInRow row.now.others.items row.now.last row.now.to_move decided a → has result.squares a ≡ true }
+{
+    let others = row.others.as_slice();
+    let check = squares_of_check(others, &row.last, row.to_move);
+    let mut squares = SquareSet::empty();
+    let mut count = 0u64;
+    let mut rest = decided;
+    let mut next = 0u8;
+    while !rest.is_empty() {
+        let square = rest.first();
+        rest = rest.without(SquareSet::of(square));
+        let origins = origins_of_last(others, &row.last, square, check);
+        squares = squares.union(origins);
+        count = count.saturating_add(u64::from(origins.len()));
+        next = square.number() + 1;
+    }
+    LastOrigins { squares, count }
+}
+
+/// The same of the last man: at once, where the numbers before are a row and no move leaves a capture in passing.
+fn write_before_last(row: &Row, cells: &mut [u8], decided: SquareSet, change: Change) -> u64
+    requires numbered { AreNumbered row.now.class row.now.number decided }
+    requires cell { 0 < change.cell }
+    requires cells { length cells.old ≡ cells_of row.now.class }
+    ensures rise { AreSet (IsBeforeRow row.now.class row.now.number decided) change.cell change.over cells.old cells.new }
+    ensures done { (n y : ℕ) → y < 64 → has decided y ≡ true → IsBeforeBy row.now.class (64 * row.now.number + y) (on_square row.now.last y) n
+        → IsSetWhere change.cell change.over cells.new n }
+{
+    if row.last.side != row.to_move.other() {
+        return 0;
+    }
+    if has_both_pawns(row.class) {
+        return write_before_last_each(row, cells, decided, change);
+    }
+    match row_of_last(row.class, row.number) {
+        None => write_before_last_each(row, cells, decided, change),
+        Some(before) => {
+            let origins = origins_in_row(row, decided);
+            write_row(row.class, cells, before, origins.squares, change);
+            origins.count
+        }
+    }
 }
 
 /// The same of all men.
