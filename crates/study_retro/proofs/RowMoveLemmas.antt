@@ -7,6 +7,7 @@ use Rattle.std.specs.List.Sorted.{IsPermutation}
 use Rattle.std.proofs.lemmas.Bool.{and_from, and_parts, cases_Bool, eq-eqb, eqb-true, false≢true, false_from_ne_true, not-true, or_parts}
 use Rattle.std.proofs.lemmas.List.{map-append}
 use Rattle.std.proofs.lemmas.List.Folds.{list_any-append}
+use Rattle.std.proofs.lemmas.List.Sums.{sum_by-append}
 use Rattle.std.proofs.lemmas.List.Sorted.{IsPermutation-cons, IsPermutation-middle, IsPermutation-refl, IsPermutation-trans, sum_by-IsPermutation}
 use Rattle.study_board.specs.declared.men.Side.{Side}
 use Rattle.study_board.specs.declared.men.Side.TheVariants.{White, Black}
@@ -359,9 +360,11 @@ module _ (others : List Man) (last : Man) (y : ℕ) where
   -- ---- the king with a man on another square
 
   module _ (man : Man) (a : ℕ) (among : IsAmong man men) (apart : AreApart men) (side : Side) where
-    check_moved : is_occupied men a ≡ false → in_check (on_square man a ∷ filter (survives None man a) men) side ≡ in_check (map (from_to man.at a) men) side
+    check_moved : is_occupied men a ≡ false
+        → in_check (on_square man a ∷ filter (survives None man a) men) side ≡ in_check (map (from_to man.at a) men) side
     check_moved free =
-        sym (in_check_same (map (from_to man.at a) men) (on_square man a ∷ filter (survives None man a) men) (moved_men man a men among (apart man.at) free) side)
+        sym (in_check_same (map (from_to man.at a) men) (on_square man a ∷ filter (survives None man a) men)
+        (moved_men man a men among (apart man.at) free) side)
 
     check_before : same_side man.side (other_side side) ≡ true → is_occupied men a ≡ false
         → was_check men side man a ≡ in_check (map (from_to man.at a) men) side
@@ -410,7 +413,8 @@ module _ (others : List Man) (last : Man) (y : ℕ) where
     pub led_with : (side : Side) → same_side man.side (other_side side) ≡ true → comes others man a ≡ true
         → lets_pass others last side man.at a y ≡ came_from men side man a
     led_with side his e =
-        letting (hinders man.at a y) (in_check (map (from_to man.at a) others ++ l ∷ []) side) (comes men man a) (was_check men side man a) (comes_with man a e)
+        letting (hinders man.at a y) (in_check (map (from_to man.at a) others ++ l ∷ []) side) (comes men man a) (was_check men side man a)
+        (comes_with man a e)
         (λ k. check_before man a among_men apart side his (free_if_comes men man a k) ∙ check_with side)
 
     -- and on which it can go to a square where no man stands
@@ -419,7 +423,8 @@ module _ (others : List Man) (last : Man) (y : ℕ) where
     unfolding is_safe_target
     going_with side mine e =
         letting_go (hinders man.at a y) (in_check (map (from_to man.at a) others ++ l ∷ []) side) (reaches_target men None man a) (has_side men side a)
-        (is_unsafe men side man a) (is_occupied men a) (goes_with man a e) (no_side_there men side a) (λ k. check_after man a among_men apart side mine k ∙ check_with side)
+        (is_unsafe men side man a) (is_occupied men a) (goes_with man a e) (no_side_there men side a)
+        (λ k. check_after man a among_men apart side mine k ∙ check_with side)
 
   -- ---- the last man itself: it comes and goes as with the others alone
 
@@ -437,7 +442,8 @@ module _ (others : List Man) (last : Man) (y : ℕ) where
     | inl p ↦
         let h = half_way a y in
         comes_as_pawn men l a p
-        ∙ pawn_alone (is_ahead last.side 1 a y && not (rank_of a == first_rank last.side)) ((rank_of a == starting_rank last.side) && is_ahead last.side 2 a y)
+        ∙ pawn_alone (is_ahead last.side 1 a y && not (rank_of a == first_rank last.side))
+        ((rank_of a == starting_rank last.side) && is_ahead last.side 2 a y)
         (is_empty others h) (is_empty others a) (y == h) (a == y) (is_empty men h) (is_empty men a) (empty_with h) (empty_there a)
         (λ k. elsewhere_ahead last.side a y 1 (λ z. absurd (omega (arith, z))) (and_parts _ _ k).0)
         (λ k. elsewhere_ahead last.side a y 2 (λ z. absurd (omega (arith, z))) (and_parts _ _ k).1)
@@ -462,17 +468,16 @@ module _ (others : List Man) (last : Man) (y : ℕ) where
 
   module _ (side : Side) (check : ℕ) (tells : (a : ℕ) → a < 64 → has check a ≡ in_check (others ++ on_square last a ∷ []) side)
       (apart : AreApart men) (a : ℕ) (on : a < 64) where
-    none_there : (xs : List Man) → count_by (λ m. m.at == y) (xs ++ l ∷ []) ≡ count_by (λ m. m.at == y) xs + 1
-    none_there [] = count_by-cons (λ m. m.at == y) l [] ∙ rw (eq-eqb y y refl) refl
-    none_there (x ∷ xs) =
-        let left = count_by-cons (λ m. m.at == y) x (xs ++ l ∷ []) in
-        let right = count_by-cons (λ m. m.at == y) x xs in
-        omega (arith, left, right, none_there xs)
+    none_there : count_by (λ m. m.at == y) others ≡ 0
+    none_there =
+        let sum = sum_by-append (λ (m : Man). cond (m.at == y) 1 0) others (l ∷ []) in
+        let one : count_by (λ m. m.at == y) (l ∷ []) ≡ 1 = count_by-cons (λ m. m.at == y) l [] ∙ rw (eq-eqb y y refl) refl in
+        omega (arith, apart y, sum, one)
 
     moved_itself : map (from_to y a) men ≡ others ++ on_square last a ∷ []
     moved_itself =
         map-append (from_to y a) others (l ∷ [])
-        ∙ ap (λ (ms : List Man). ms ++ from_to y a l ∷ []) (none_moves y a others (omega (arith, apart y, none_there others)))
+        ∙ ap (λ (ms : List Man). ms ++ from_to y a l ∷ []) (none_moves y a others none_there)
         ∙ ap (λ (m : Man). others ++ m ∷ []) (moves_there y a l (eq-eqb y y refl))
 
     check_itself : in_check (map (from_to y a) men) side ≡ has check a
