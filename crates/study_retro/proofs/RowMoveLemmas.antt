@@ -1,22 +1,24 @@
 -- Where the men of a row come from and where they go, by the square of the man of the last slot.
-use Rattle.std.proofs.Common.{◌≡◌, ℕ, ◌+◌, ◌≤◌, ◌==◌, Bool, true, false, cond, not, ◌&&◌, ◌||◌}
+use Rattle.std.proofs.Common.{◌≡◌, ℕ, ◌+◌, ◌<◌, ◌≤◌, ◌==◌, Bool, true, false, cond, not, ◌&&◌, ◌||◌}
 use Rattle.std.proofs.Common.{inl, inr, List, [], ◌∷◌, ◌++◌, map, None, refl, sym, ◌∙◌, ap, subst, arith}
 use Rattle.std.specs.Prelude.{count_by}
 use Rattle.std.specs.List.{Contains, filter, list_any}
 use Rattle.std.specs.List.Sorted.{IsPermutation}
-use Rattle.std.proofs.lemmas.Bool.{and_from, and_parts, cases_Bool, eq-eqb, false≢true, not-true, or_parts}
+use Rattle.std.proofs.lemmas.Bool.{and_from, and_parts, cases_Bool, eq-eqb, eqb-true, false≢true, false_from_ne_true, not-true, or_parts}
 use Rattle.std.proofs.lemmas.List.{map-append}
 use Rattle.std.proofs.lemmas.List.Folds.{list_any-append}
+use Rattle.std.proofs.lemmas.List.Sums.{sum_by-append}
 use Rattle.std.proofs.lemmas.List.Sorted.{IsPermutation-cons, IsPermutation-middle, IsPermutation-refl, IsPermutation-trans, sum_by-IsPermutation}
 use Rattle.study_board.specs.declared.men.Side.{Side}
+use Rattle.study_board.specs.declared.men.Side.TheVariants.{White, Black}
 use Rattle.study_board.specs.declared.men.Kind.{Kind}
 use Rattle.study_board.specs.declared.men.Kind.TheVariants.{King, Queen, Rook, Bishop, Knight, Pawn}
 use Rattle.study_board.specs.declared.men.Man.{Man}
 use Rattle.study_board.specs.EqualLaws.{sides_equal}
-use Rattle.study_board.specs.Geometry.{rank_of, strictly_between}
+use Rattle.study_board.specs.Geometry.{file_of, rank_of, strictly_between}
 use Rattle.study_board.specs.Men.{bears_on, is_pawn, other_side, pawn_captures, reaches, same_kind, same_side}
 use Rattle.study_board.specs.Position.{Position, IsValid, in_check, is_empty, is_occupied}
-use Rattle.study_board.specs.Sets.{is_slider}
+use Rattle.study_board.specs.Sets.{has, is_slider}
 use Rattle.study_board.proofs.Faults.{in_check_same}
 use Rattle.study_board.proofs.Lists.{count_by-cons}
 use Rattle.study_board.proofs.MenInOrder.{IsPermutation-placed}
@@ -25,7 +27,7 @@ use Rattle.study_moves.specs.AnyOrder.{is_safe_target}
 use Rattle.study_moves.specs.KingSafety.{is_unsafe}
 use Rattle.study_moves.specs.Unmoves.{came_from, comes, first_rank, men_before, pawn_comes, was_check}
 use Rattle.study_moves.proofs.BearsBothWays.{between-both, eqb-both}
-use Rattle.study_moves.proofs.KingSafety.{in_check_after}
+use Rattle.study_moves.proofs.KingSafety.{in_check_after, not_at_end}
 use Rattle.study_moves.proofs.MenOfList.{IsAmong, none_among}
 use Rattle.study_moves.proofs.PutBack.{stays_plain}
 use Rattle.study_moves.proofs.QuietChecks.{in_check_before, is_occupied_is, no_side_there}
@@ -117,6 +119,34 @@ letting_go false c true hs u false i f g = rw (f refl, g refl) (alone (not c))
     alone false = refl
 letting_go false c false hs u o i f g = absurd (false≢true i)
 
+-- ---- tests where the last man itself goes: it is not in its own way
+
+and_true : (b : Bool) → (b && true) ≡ b
+and_true true = refl
+and_true false = refl
+
+unchanged : (b w b' : Bool) → b' ≡ (b && not w) → w ≡ false → b' ≡ b
+unchanged b w b' i e = i ∙ rw e (and_true b)
+
+pawn_alone : (one t eh ea h w eh' ea' : Bool) → eh' ≡ (eh && not h) → ea' ≡ (ea && not w) → (one ≡ true → w ≡ false)
+    → (t ≡ true → w ≡ false) → (t ≡ true → h ≡ false) → ((one || (t && eh')) && ea') ≡ ((one || (t && eh)) && ea)
+pawn_alone true t eh ea h w eh' ea' i j f g k = unchanged ea w ea' j (f refl)
+pawn_alone false true eh ea h w eh' ea' i j f g k = rw (unchanged eh h eh' i (k refl), unchanged ea w ea' j (g refl)) refl
+pawn_alone false false eh ea h w eh' ea' i j f g k = refl
+
+piece_alone : (b ea c w b' ea' : Bool) → b' ≡ (b && not c) → ea' ≡ (ea && not w) → c ≡ false → (b ≡ true → w ≡ false) → (b' && ea') ≡ (b && ea)
+piece_alone true ea c w b' ea' i j e f = rw (i, e, unchanged ea w ea' j (f refl)) refl
+piece_alone false ea c w b' ea' i j e f = rw i refl
+
+letting_own : (m w c : Bool) → (m ≡ true → w ≡ c) → (m && not c) ≡ (m && not w)
+letting_own true w c f = rw (f refl) refl
+letting_own false w c f = refl
+
+letting_own_go : (r hs u o c : Bool) → (o ≡ false → hs ≡ false) → (o ≡ false → u ≡ c) → ((r && not o) && not c) ≡ (((r && not hs) && not u) && not o)
+letting_own_go false hs u o c f g = refl
+letting_own_go true hs u true c f g = sym (and_false ((true && not hs) && not u))
+letting_own_go true hs u false c f g = rw (f refl, g refl) (sym (and_true (not c)))
+
 -- ---- where men go in one step nothing is between
 
 none_if_bears : (men : List Man) (p : Bool) (side : Side) (kind : Kind) (a y x : ℕ) → is_slider kind ≡ false → same_kind kind Pawn ≡ false
@@ -148,6 +178,13 @@ steps_as_pawn men man x p =
 pub goes_as_piece : (men : List Man) (man : Man) (x : ℕ) → is_pawn man ≡ false → goes_quietly men man x ≡ (bears_on men man x && is_empty men x)
 unfolding reaches_target
 goes_as_piece men man x p = rw p refl
+
+-- a pawn goes to another square
+elsewhere_ahead : (side : Side) (a x n : ℕ) → (n ≡ 0 → ⊥) → is_ahead side n a x ≡ true → (a == x) ≡ false
+elsewhere_ahead White a x n some e = false_from_ne_true _ (λ k.
+    let r = eqb-true _ _ (and_parts (file_of x == file_of a) (rank_of x == rank_of a + n) e).1 in some (omega (arith, r, ap rank_of (eqb-true a x k))))
+elsewhere_ahead Black a x n some e = false_from_ne_true _ (λ k.
+    let r = eqb-true _ _ (and_parts (file_of x == file_of a) (rank_of x + n == rank_of a) e).1 in some (omega (arith, r, ap rank_of (eqb-true a x k))))
 
 -- whence a pawn comes, and another man
 comes_as_pawn : (men : List Man) (man : Man) (a : ℕ) → is_pawn man ≡ true → comes men man a
@@ -320,7 +357,30 @@ module _ (others : List Man) (last : Man) (y : ℕ) where
   among_end [] = inl refl
   among_end (m ∷ ms) = inr (among_end ms)
 
-  -- ---- the king with the man on another square
+  -- ---- the king with a man on another square
+
+  module _ (man : Man) (a : ℕ) (among : IsAmong man men) (apart : AreApart men) (side : Side) where
+    check_moved : is_occupied men a ≡ false
+        → in_check (on_square man a ∷ filter (survives None man a) men) side ≡ in_check (map (from_to man.at a) men) side
+    check_moved free =
+        sym (in_check_same (map (from_to man.at a) men) (on_square man a ∷ filter (survives None man a) men)
+        (moved_men man a men among (apart man.at) free) side)
+
+    check_before : same_side man.side (other_side side) ≡ true → is_occupied men a ≡ false
+        → was_check men side man a ≡ in_check (map (from_to man.at a) men) side
+    unfolding men_before
+    check_before his free =
+        sym (in_check_before men man a free side (sides_equal man.side (other_side side) his))
+        ∙ sym (in_check_same (on_square man a ∷ filter (survives None man a) men) (men_before men man a)
+        (IsPermutation-placed (on_square man a) (filter (survives None man a) men)) side)
+        ∙ check_moved free
+
+    check_after : same_side man.side side ≡ true → is_occupied men a ≡ false → is_unsafe men side man a ≡ in_check (map (from_to man.at a) men) side
+    check_after mine free =
+        sym (in_check_after men None man a side (on_square man a) refl mine (none_passed None man a refl) (no_side_there men side a free) refl)
+        ∙ check_moved free
+
+  -- ---- one of the other men
 
   module _ (man : Man) (a : ℕ) (among : Contains others man) (apart : AreApart men) where
     last_elsewhere : (xs : List Man) → IsAmong man xs → count_by (λ m. m.at == man.at) (xs ++ l ∷ []) ≤ 1 → (y == man.at) ≡ false
@@ -343,34 +403,19 @@ module _ (others : List Man) (last : Man) (y : ℕ) where
         let stays : from_to man.at a l ≡ l = rw (last_elsewhere others (among-of others man among) (apart man.at)) refl in
         map-append (from_to man.at a) others (l ∷ []) ∙ ap (λ (m : Man). map (from_to man.at a) others ++ m ∷ []) stays
 
-    check_with : (side : Side) → is_occupied men a ≡ false
-        → in_check (on_square man a ∷ filter (survives None man a) men) side ≡ in_check (map (from_to man.at a) others ++ l ∷ []) side
-    check_with side free =
-        sym (in_check_same (map (from_to man.at a) men) (on_square man a ∷ filter (survives None man a) men)
-        (moved_men man a men (among_all others (among-of others man among)) (apart man.at) free) side)
-        ∙ ap (λ (ms : List Man). in_check ms side) moved_with
+    among_men : IsAmong man men
+    among_men = among_all others (among-of others man among)
 
-    check_before : (side : Side) → same_side man.side (other_side side) ≡ true → is_occupied men a ≡ false
-        → was_check men side man a ≡ in_check (map (from_to man.at a) others ++ l ∷ []) side
-    unfolding men_before
-    check_before side his free =
-        sym (in_check_before men man a free side (sides_equal man.side (other_side side) his))
-        ∙ sym (in_check_same (on_square man a ∷ filter (survives None man a) men) (men_before men man a)
-        (IsPermutation-placed (on_square man a) (filter (survives None man a) men)) side)
-        ∙ check_with side free
+    check_with : (side : Side) → in_check (map (from_to man.at a) men) side ≡ in_check (map (from_to man.at a) others ++ l ∷ []) side
+    check_with side = ap (λ (ms : List Man). in_check ms side) moved_with
 
     -- on which squares of the last man the man can have come from a square
     pub led_with : (side : Side) → same_side man.side (other_side side) ≡ true → comes others man a ≡ true
         → lets_pass others last side man.at a y ≡ came_from men side man a
     led_with side his e =
-        letting (hinders man.at a y) (in_check (map (from_to man.at a) others ++ l ∷ []) side) (comes men man a) (was_check men side man a) (comes_with man a e)
-        (λ k. check_before side his (free_if_comes men man a k))
-
-    check_after : (side : Side) → same_side man.side side ≡ true → is_occupied men a ≡ false
-        → is_unsafe men side man a ≡ in_check (map (from_to man.at a) others ++ l ∷ []) side
-    check_after side mine free =
-        sym (in_check_after men None man a side (on_square man a) refl mine (none_passed None man a refl) (no_side_there men side a free) refl)
-        ∙ check_with side free
+        letting (hinders man.at a y) (in_check (map (from_to man.at a) others ++ l ∷ []) side) (comes men man a) (was_check men side man a)
+        (comes_with man a e)
+        (λ k. check_before man a among_men apart side his (free_if_comes men man a k) ∙ check_with side)
 
     -- and on which it can go to a square where no man stands
     pub going_with : (side : Side) → same_side man.side side ≡ true → goes_quietly others man a ≡ true
@@ -378,7 +423,80 @@ module _ (others : List Man) (last : Man) (y : ℕ) where
     unfolding is_safe_target
     going_with side mine e =
         letting_go (hinders man.at a y) (in_check (map (from_to man.at a) others ++ l ∷ []) side) (reaches_target men None man a) (has_side men side a)
-        (is_unsafe men side man a) (is_occupied men a) (goes_with man a e) (no_side_there men side a) (check_after side mine)
+        (is_unsafe men side man a) (is_occupied men a) (goes_with man a e) (no_side_there men side a)
+        (λ k. check_after man a among_men apart side mine k ∙ check_with side)
+
+  -- ---- the last man itself: it comes and goes as with the others alone
+
+  apart_if_bears : (x : ℕ) → bears_on others l x ≡ true → (x == y) ≡ false
+  apart_if_bears x e = eqb-both x y ∙ not-true _ (and_parts (not (y == x)) (reaches others last.side last.kind y x) e).0
+
+  piece_itself : (x : ℕ) → (bears_on men l x && is_empty men x) ≡ (bears_on others l x && is_empty others x)
+  piece_itself x =
+      piece_alone (bears_on others l x) (is_empty others x) (is_slider last.kind && strictly_between y y x) (x == y)
+      (bears_on men l x) (is_empty men x) (bears_men others last y l x) (empty_there x)
+      (ap (λ (b : Bool). is_slider last.kind && b) (between-both y y x ∙ not_at_end x y) ∙ and_false (is_slider last.kind)) (apart_if_bears x)
+
+  comes_itself : (a : ℕ) → comes men l a ≡ comes others l a
+  comes_itself a = elim (cases_Bool (is_pawn last)) [
+    | inl p ↦
+        let h = half_way a y in
+        comes_as_pawn men l a p
+        ∙ pawn_alone (is_ahead last.side 1 a y && not (rank_of a == first_rank last.side))
+        ((rank_of a == starting_rank last.side) && is_ahead last.side 2 a y)
+        (is_empty others h) (is_empty others a) (y == h) (a == y) (is_empty men h) (is_empty men a) (empty_with h) (empty_there a)
+        (λ k. elsewhere_ahead last.side a y 1 (λ z. absurd (omega (arith, z))) (and_parts _ _ k).0)
+        (λ k. elsewhere_ahead last.side a y 2 (λ z. absurd (omega (arith, z))) (and_parts _ _ k).1)
+        (λ k. sym (one_on_double_step last.side a y y (and_parts _ _ k).1) ∙ not_at_end a y)
+        ∙ sym (comes_as_pawn others l a p)
+    | inr p ↦ comes_as_piece men l a p ∙ piece_itself a ∙ sym (comes_as_piece others l a p)
+  ]
+
+  goes_itself : (x : ℕ) → goes_quietly men l x ≡ goes_quietly others l x
+  goes_itself x = elim (cases_Bool (is_pawn last)) [
+    | inl p ↦
+        let h = half_way y x in
+        goes_as_pawn men l x p
+        ∙ pawn_alone (is_ahead last.side 1 y x) ((rank_of y == starting_rank last.side) && is_ahead last.side 2 y x)
+        (is_empty others h) (is_empty others x) (y == h) (x == y) (is_empty men h) (is_empty men x) (empty_with h) (empty_there x)
+        (λ k. eqb-both x y ∙ elsewhere_ahead last.side y x 1 (λ z. absurd (omega (arith, z))) k)
+        (λ k. eqb-both x y ∙ elsewhere_ahead last.side y x 2 (λ z. absurd (omega (arith, z))) (and_parts _ _ k).1)
+        (λ k. sym (one_on_double_step last.side y y x (and_parts _ _ k).1) ∙ between-both y y x ∙ not_at_end x y)
+        ∙ sym (goes_as_pawn others l x p)
+    | inr p ↦ goes_as_piece men l x p ∙ piece_itself x ∙ sym (goes_as_piece others l x p)
+  ]
+
+  module _ (side : Side) (check : ℕ) (tells : (a : ℕ) → a < 64 → has check a ≡ in_check (others ++ on_square last a ∷ []) side)
+      (apart : AreApart men) (a : ℕ) (on : a < 64) where
+    none_there : count_by (λ m. m.at == y) others ≡ 0
+    none_there =
+        let sum = sum_by-append (λ (m : Man). cond (m.at == y) 1 0) others (l ∷ []) in
+        let one : count_by (λ m. m.at == y) (l ∷ []) ≡ 1 = count_by-cons (λ m. m.at == y) l [] ∙ rw (eq-eqb y y refl) refl in
+        omega (arith, apart y, sum, one)
+
+    moved_itself : map (from_to y a) men ≡ others ++ on_square last a ∷ []
+    moved_itself =
+        map-append (from_to y a) others (l ∷ [])
+        ∙ ap (λ (ms : List Man). ms ++ from_to y a l ∷ []) (none_moves y a others none_there)
+        ∙ ap (λ (m : Man). others ++ m ∷ []) (moves_there y a l (eq-eqb y y refl))
+
+    check_itself : in_check (map (from_to y a) men) side ≡ has check a
+    check_itself = ap (λ (ms : List Man). in_check ms side) moved_itself ∙ sym (tells a on)
+
+    -- whence it can have come, and where it can go, taking no man
+    pub led_itself : same_side last.side (other_side side) ≡ true → (comes others l a && not (has check a)) ≡ came_from men side l a
+    led_itself his =
+        ap (λ (b : Bool). b && not (has check a)) (sym (comes_itself a))
+        ∙ letting_own (comes men l a) (was_check men side l a) (has check a)
+        (λ k. check_before l a (among_end others) apart side his (free_if_comes men l a k) ∙ check_itself)
+
+    pub going_itself : same_side last.side side ≡ true
+        → (goes_quietly others l a && not (has check a)) ≡ (is_safe_target men side l a && not (is_occupied men a))
+    unfolding is_safe_target
+    going_itself mine =
+        ap (λ (b : Bool). b && not (has check a)) (sym (goes_itself a))
+        ∙ letting_own_go (reaches_target men None l a) (has_side men side a) (is_unsafe men side l a) (is_occupied men a) (has check a)
+        (no_side_there men side a) (λ k. check_after l a (among_end others) apart side mine k ∙ check_itself)
 
   -- origins and targets are among those without the last man
   pub came_less : (side : Side) (man : Man) (a : ℕ) → came_from men side man a ≡ true → comes others man a ≡ true
