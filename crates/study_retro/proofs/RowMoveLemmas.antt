@@ -466,18 +466,22 @@ module _ (others : List Man) (last : Man) (y : ℕ) where
     | inr p ↦ goes_as_piece men l x p ∙ piece_itself x ∙ sym (goes_as_piece others l x p)
   ]
 
+  -- none of the others stands on the last man's square
+  none_there : AreApart men → count_by (λ m. m.at == y) others ≡ 0
+  none_there apart =
+      let sum = sum_by-append (λ (m : Man). cond (m.at == y) 1 0) others (l ∷ []) in
+      let one : count_by (λ m. m.at == y) (l ∷ []) ≡ 1 = count_by-cons (λ m. m.at == y) l [] ∙ rw (eq-eqb y y refl) refl in
+      omega (arith, apart y, sum, one)
+
+  pub stands_alone : AreApart men → is_occupied others y ≡ false
+  stands_alone apart = unoccupied y others (none_there apart)
+
   module _ (side : Side) (check : ℕ) (tells : (a : ℕ) → a < 64 → has check a ≡ in_check (others ++ on_square last a ∷ []) side)
       (apart : AreApart men) (a : ℕ) (on : a < 64) where
-    none_there : count_by (λ m. m.at == y) others ≡ 0
-    none_there =
-        let sum = sum_by-append (λ (m : Man). cond (m.at == y) 1 0) others (l ∷ []) in
-        let one : count_by (λ m. m.at == y) (l ∷ []) ≡ 1 = count_by-cons (λ m. m.at == y) l [] ∙ rw (eq-eqb y y refl) refl in
-        omega (arith, apart y, sum, one)
-
     moved_itself : map (from_to y a) men ≡ others ++ on_square last a ∷ []
     moved_itself =
         map-append (from_to y a) others (l ∷ [])
-        ∙ ap (λ (ms : List Man). ms ++ from_to y a l ∷ []) (none_moves y a others none_there)
+        ∙ ap (λ (ms : List Man). ms ++ from_to y a l ∷ []) (none_moves y a others (none_there apart))
         ∙ ap (λ (m : Man). others ++ m ∷ []) (moves_there y a l (eq-eqb y y refl))
 
     check_itself : in_check (map (from_to y a) men) side ≡ has check a

@@ -12,10 +12,10 @@ use Rattle.study_board.specs.declared.men.Kind.TheVariants.{King, Pawn}
 use Rattle.study_board.specs.declared.men.Man.{Man}
 use Rattle.study_board.specs.Geometry.{rank_of}
 use Rattle.study_board.specs.Men.{bears_on, is_attacked, is_man, is_pawn, other_side, same_side}
-use Rattle.study_board.specs.Position.{Position, has_square_twice, in_check, is_occupied}
+use Rattle.study_board.specs.Position.{Position, in_check, is_occupied}
 use Rattle.study_board.specs.EqualLaws.{sides_equal}
 use Rattle.study_board.specs.Sets.{has}
-use Rattle.study_board.proofs.Faults.{has_square_twice_same, in_check_same}
+use Rattle.study_board.proofs.Faults.{in_check_same}
 use Rattle.study_board.proofs.Valid.{IsFaultless, IsFaultless-from_first}
 use Rattle.study_moves.specs.declared.moves.Move.{Move}
 use Rattle.study_moves.specs.Rules.{after, has_side, is_legal, is_promotion_choice, last_rank, starting_rank, reaches_last_rank, reaches_target}
@@ -208,10 +208,6 @@ module _ (c : Class) (number : ℕ) (q : Position) (at : position_numbered c num
   pub no_capture_of_king : in_check q.men (other_side side) ≡ true → ⊥
   no_capture_of_king e =
       false≢true (sym faultless.safe ∙ ap (λ (t : Side). in_check q.men (other_side t)) (sym (side_is c number q at men side told)) ∙ e)
-
-  -- nor where two men share a square
-  pub no_shared_square : has_square_twice men ≡ true → ⊥
-  no_shared_square e = false≢true (sym faultless.once ∙ sym (has_square_twice_same men q.men told_men_are) ∙ e)
 
 -- before the levels the cell of its number is 0, as is that of a number without a position
 pub still_held : (c : Class) (held : List (Option Table)) (number : ℕ) → IsNumberedClass (class_game c held) → OutsideIsRight (class_game c held)

@@ -1,15 +1,16 @@
 //! Numbers in a row, 64 that differ in the square of the man of the last slot alone: on which of its squares nothing is known
 //! before the levels is found for all of them at once.
-ghost use Rattle.std.specs.Prelude.{◌≡◌, ◌<◌, ◌+◌, ◌*◌, ◌&&◌, ◌==◌, ℕ, true, [], ◌∷◌, ◌++◌, Some};
+ghost use Rattle.std.specs.Prelude.{◌≡◌, ◌<◌, ◌+◌, ◌*◌, ◌&&◌, ◌⊎◌, ◌==◌, ℕ, true, [], ◌∷◌, ◌++◌, Some};
 ghost use Rattle.std.specs.List.{list_any, All};
 ghost use Rattle.study_board.specs.Geometry.{rank_of};
 ghost use Rattle.study_board.specs.Men.{bears_on};
-ghost use Rattle.study_board.specs.Position.{Position as Seen};
+ghost use Rattle.study_board.specs.Position.{Position as Seen, is_occupied};
 ghost use Rattle.study_board.specs.Sets.{has};
 ghost use Rattle.study_index.specs.Computed.{position_numbered};
 ghost use Rattle.study_retro.specs.Still.{AreStill, AreStillOrNone, IsStill, bears_on_king, facing, is_exposed, is_restless};
 ghost use Rattle.study_retro.specs.Still.{keeps_check, matters, on_square, rank_before_last};
 
+use crate::escapes::occupied;
 use crate::still::{attacked_squares, has_king_in, has_man_in, may_promote, rank_before_last};
 use study_board::{Kind, Man, Side, Square, SquareSet, attacks, between};
 use study_index::{Setup, told};
@@ -159,9 +160,11 @@ fn still_squares(others: &[Man], last: &Man, to_move: Side) -> SquareSet
 #[inline]
 fn unknown_squares(others: &[Man], last: &Man, to_move: Side) -> SquareSet
     ensures { (y : ℕ) → y < 64 → has result y ≡ true → All (λ m. m.at < 64) others.now
-        → AreStillOrNone (others.now ++ on_square last.now y ∷ []) to_move }
+        → AreStillOrNone (others.now ++ on_square last.now y ∷ []) to_move ⊎ (is_occupied others.now y ≡ true) }
 {
-    still_squares(others, last, to_move).union(squares_without_position(others, to_move))
+    still_squares(others, last, to_move)
+        .union(squares_without_position(others, to_move))
+        .union(occupied(others))
 }
 
 /// Squares of the man of the last slot in a row of numbers with which no position is worth anything before the levels.

@@ -5,7 +5,7 @@ ghost use Rattle.std.specs.List.{list_any};
 ghost use Rattle.study_board.specs.declared.men.Kind.TheVariants.{King, Pawn};
 ghost use Rattle.study_board.specs.Geometry.{rank_of};
 ghost use Rattle.study_board.specs.Men.{bears_on, is_attacked, is_man, same_side};
-ghost use Rattle.study_board.specs.Position.{Position as Seen, has_square_twice, in_check};
+ghost use Rattle.study_board.specs.Position.{Position as Seen, in_check};
 ghost use Rattle.study_board.specs.Sets.{has};
 ghost use Rattle.study_moves.specs.Game.{IsMate};
 ghost use Rattle.study_index.specs.Computed.{position_numbered};
@@ -81,16 +81,6 @@ pub fn has_king_in(men: &[Man], side: Side, set: SquareSet) -> bool
     found
 }
 
-/// Whether two men share a square.
-#[inline]
-#[tactic(auto, unfolding(study_board::specs::Position::has_square_twice))]
-fn has_square_twice(men: &[Man]) -> bool
-    ensures { result ≡ has_square_twice men.now }
-{
-    men.iter()
-        .any(|x| men.iter().filter(|y| y.at == x.at).count() > 1)
-}
-
 /// Whether a pawn of the side is one step from its last rank.
 #[inline]
 pub fn may_promote(men: &[Man], side: Side) -> bool
@@ -137,16 +127,15 @@ fn is_checked(class: Class, number: u32, setup: &Setup) -> bool
     has_king_in(men, setup.to_move, attacked)
 }
 
-/// Whether the number has no position since the side to move could take the other king, or two men share a square.
+/// Whether the number has no position since the side to move could take the other king.
 #[inline]
-fn is_impossible(class: Class, number: u32, setup: &Setup, attacked: SquareSet) -> bool
+fn could_take_king(class: Class, number: u32, setup: &Setup, attacked: SquareSet) -> bool
     requires told { AreTold class number setup.now.men.items setup.now.to_move }
     requires attacked { (x : ℕ) → x < 64 → has attacked x ≡ is_attacked setup.now.men.items setup.now.to_move x }
     ensures { IsTrue result → (q : Seen) → position_numbered class number ≡ Some q → ⊥ }
 {
     let _read = (class, number);
-    let men = setup.men.as_slice();
-    has_king_in(men, setup.to_move.other(), attacked) || has_square_twice(men)
+    has_king_in(setup.men.as_slice(), setup.to_move.other(), attacked)
 }
 
 /// Whether the side to move is not mated, if the number has a position.
@@ -174,7 +163,7 @@ fn begins_still(class: Class, number: u32) -> bool
     if stays_by(class, number, &setup, attacked) {
         return is_no_mate(class, number, &setup);
     }
-    is_impossible(class, number, &setup, attacked)
+    could_take_king(class, number, &setup, attacked)
 }
 
 /// Whether nothing is known of the number before the levels. Of numbers with the bit only such are told as have no position

@@ -1,6 +1,9 @@
-use Rattle.std.proofs.Common.{◌≡◌, ◌+◌, ◌-◌, ◌*◌, ◌<◌, [], ◌∷◌, ◌++◌, length, take, arith, ◌∙◌, sym, ap}
+use Rattle.std.proofs.Common.{◌≡◌, ◌+◌, ◌-◌, ◌*◌, ◌<◌, [], ◌∷◌, ◌++◌, length, take, inl, inr, arith, ◌∙◌, sym, ap}
+use Rattle.std.proofs.lemmas.Bool.{false≢true}
 use Rattle.std.proofs.lemmas.List.{take_all, take_more}
 use Rattle.study_board.specs.declared.men.Man.{Man}
+use Rattle.study_retro.proofs.RowBackLemmas.{row_apart}
+use Rattle.study_retro.proofs.RowMoveLemmas.{stands_alone}
 use Rattle.study_retro.proofs.RowLemmas.{row_told, others_on_board, still_position}
 use Rattle.study_retro.specs.Predecessors.{AreTold}
 use Rattle.study_retro.specs.Still.{on_square}
@@ -20,5 +23,7 @@ returns-in-len1-up c = λ y ly e q at.
     let told = row_told c.args.class c.args.row y ly c.requires others last side first in
     let low : 64 * c.args.row + y < 16777216 = (let r = c.requires in omega (arith, r, ly)) in
     let l = on_square last y in
-    still_position c.args.class (64 * c.args.row + y) q at low others l side told
-    (c.unknown_squares.ensures y ly e (others_on_board c.args.class (64 * c.args.row + y) q at low others l side told))
+    elim (c.unknown_squares.ensures y ly e (others_on_board c.args.class (64 * c.args.row + y) q at low others l side told)) [
+      | inl still ↦ still_position c.args.class (64 * c.args.row + y) q at low others l side told still
+      | inr there ↦ absurd (false≢true (sym (stands_alone others last y (row_apart c.args.class (64 * c.args.row + y) y q at others last side told)) ∙ there))
+    ]
