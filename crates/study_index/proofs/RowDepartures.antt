@@ -78,7 +78,7 @@ joined t u s v w y a l e f d b =
 -- the side to move counts a multiple of 64
 record IsTurnedInRow (k m y : ℕ) : Type 0 where
   pub grows : cond (nat_lt (64 * m + y) (64 * k)) (64 * m + y + 64 * k) (64 * m + y - 64 * k)
-    ≡ cond (nat_lt (64 * m) (64 * k)) (64 * m + 64 * k) (64 * m - 64 * k) + y
+      ≡ cond (nat_lt (64 * m) (64 * k)) (64 * m + 64 * k) (64 * m - 64 * k) + y
   pub whole : cond (nat_lt (64 * m) (64 * k)) (64 * m + 64 * k) (64 * m - 64 * k) % 64 ≡ 0
 
 turned_in_row : (k m y : ℕ) → y < 64 → IsTurnedInRow k m y
@@ -170,9 +170,9 @@ sum_of_last pawns (k ∷ []) m y a s l = absurd s
 sum_of_last pawns (k ∷ b ∷ x ∷ z ∷ w ∷ fs) m y a s l = absurd s
 
 last_after_first : (slots : List Slot) → AreSlots slots → (1 ≤ length slots - 1) × (length slots - 1 < length slots)
-last_after_first (k ∷ b ∷ []) s = (omega arith , omega arith)
-last_after_first (k ∷ b ∷ x ∷ []) s = (omega arith , omega arith)
-last_after_first (k ∷ b ∷ x ∷ z ∷ []) s = (omega arith , omega arith)
+last_after_first (k ∷ b ∷ []) s = (omega arith, omega arith)
+last_after_first (k ∷ b ∷ x ∷ []) s = (omega arith, omega arith)
+last_after_first (k ∷ b ∷ x ∷ z ∷ []) s = (omega arith, omega arith)
 last_after_first [] s = absurd s
 last_after_first (k ∷ []) s = absurd s
 last_after_first (k ∷ b ∷ x ∷ z ∷ w ∷ fs) s = absurd s
