@@ -1,76 +1,66 @@
-use Rattle.std.proofs.Common.{◌≡◌, ◌+◌, ◌*◌, ◌<◌, ◌++◌, ◌∷◌, [], ℕ, List, Contains, Some, refl, sym, ◌∙◌, ap, subst}
-use Rattle.std.proofs.lemmas.List.Elements.{Contains-push}
+use Rattle.std.proofs.Common.{◌≡◌, ◌+◌, ◌*◌, ◌<◌, ◌∷◌, ◌++◌, [], ℕ, Some, inl, sym, ◌∙◌, ap, subst, arith}
+use Rattle.std.proofs.lemmas.Bool.{false≢true, not-true, not-false}
 use Rattle.study_board.specs.declared.men.Man.{Man}
-use Rattle.study_retro.specs.Predecessors.{IsBeforeBy}
-use Rattle.study_retro.specs.Propagation.{AreSet, IsSetWhere}
+use Rattle.study_board.specs.declared.men.Side.{Side}
+use Rattle.study_board.specs.Men.{same_side}
+use Rattle.study_board.proofs.EqualMen.{side_same}
+use Rattle.study_retro.specs.RowBack.{IsInRowOrTwin}
 use Rattle.study_retro.specs.RowLevels.{IsBeforeRow}
 use Rattle.study_retro.specs.Still.{on_square}
-use Rattle.study_retro.proofs.BackLemmas.{set-why}
-use Rattle.study_retro.proofs.RowSets.{AreSetBelow, ForSome, first-as, set-none, set-more, set-all}
-use Rattle.study_retro.proofs.SquaresLeft.{AreLeft, left-all, first-in, left-more}
+use Rattle.study_retro.proofs.BackLemmas.{before_is, set-why}
+use Rattle.study_retro.proofs.RowBackLemmas.{fit_before, fit_below, last_led, last_came}
 use Rattle.study_retro.proofs.row_back.write_before_last.Goals as goal
 
-pub loop-next-init : goal.loop-next-init
-loop-next-init c = record {
-  left = left-all c.args.decided;
-  size = c.requires.cells;
-  set = set-none c.args.decided (λ y n. IsBeforeBy c.args.row.now.class (64 * c.args.row.now.number + y) (on_square c.args.row.now.last y) n)
-      c.args.change.cell c.args.change.over c.args.cells.now;
-}
-
-pub write_before_man-more-requires-clause-numbered : goal.write_before_man-more-requires-clause-numbered
-write_before_man-more-requires-clause-numbered c =
-    let g = c.first-square.ensures in
-    let y = c.from.result in
-    let f = first-as c.loop-next.rest c.first-square.result y g.inside g.there g.least (c.from.ensures ∙ c.number.ensures.value) in
-    c.requires.numbered y f.inside (first-in _ _ _ c.loop-next.invariant.left y f.inside f.there)
-
-pub write_before_man-more-requires-clause-man : goal.write_before_man-more-requires-clause-man
-write_before_man-more-requires-clause-man c =
+-- no other side's man has moved
+pub returns-then-ne-clause-done : goal.returns-then-ne-clause-done
+returns-then-ne-clause-done c = λ n y on e b.
     let row = c.args.row.now in
-    let y = c.from.result in
-    let same : y ≡ c.first-square.result = c.from.ensures ∙ c.number.ensures.value in
-    let f = first-as c.loop-next.rest c.first-square.result y c.first-square.ensures.inside c.first-square.ensures.there c.first-square.ensures.least same in
-    subst (λ (x : ℕ). Contains c.told-setup.result.men.items (on_square row.last x)) same
-    (subst (λ (xs : List Man). Contains xs (on_square row.last y)) ((row.told y f.inside).0 ∙ sym c.told-setup.ensures.men)
-    (Contains-push row.others.items (on_square row.last y)))
+    let q = c.requires.numbered y on e in
+    let came = last_came row.class (64 * row.number + y) y q.0 q.1 row.others.items row.last row.to_move (row.told y on) b.0 n b.1 b.2 in
+    absurd (false≢true (sym (sym (side_same _ _) ∙ not-true _ (sym c.ne.ensures ∙ c.if-ne.true)) ∙ ap (λ (s : Side). same_side row.last.side s) c.other.ensures ∙ came.0))
 
-pub loop-next-preserved : goal.loop-next-preserved
-loop-next-preserved c =
-    let g = c.first-square.ensures in
-    let row = c.args.row.now in
-    let inv = c.loop-next.invariant in
-    let y = c.from.result in
-    let next : c.number-next.result ≡ c.first-square.result = c.number-next.ensures.value in
-    let same : y ≡ c.first-square.result = c.from.ensures ∙ c.number.ensures.value in
-    let Why : ℕ → ℕ → Type 0 = λ y n. IsBeforeBy row.class (64 * row.number + y) (on_square row.last y) n in
-    let cell = c.args.change.cell in
-    let over = c.args.change.over in
-    let mid = c.loop-next.cells in
-    let new = c.write_before_man-more.new.cells in
-    record {
-      left = subst (λ (n : ℕ). AreLeft c.args.decided c.without-rest.result (n + 1)) (sym next)
-          (left-more _ _ _ inv.left c.first-square.result g.inside g.there g.least c.of.result c.without-rest.result c.of.ensures c.without-rest.ensures);
-      size = c.write_before_man-more.auto.cells ∙ inv.size;
-      set = subst (λ (n : ℕ). AreSetBelow c.args.decided Why cell over (n + 1) c.args.cells.now new) (same ∙ sym next)
-          (set-more c.args.decided Why cell over c.loop-next.rest c.loop-next.next inv.left y
-          (first-as c.loop-next.rest c.first-square.result y g.inside g.there g.least same) c.requires.cell
-          c.args.cells.now mid new inv.set
-          (subst (λ (x : ℕ). AreSet (IsBeforeBy row.class (64 * row.number + y) (on_square row.last x)) cell over mid new) (sym same) c.write_before_man-more.ensures.rise)
-          (λ n w. c.write_before_man-more.ensures.done n (subst (λ (x : ℕ). IsBeforeBy row.class (64 * row.number + y) (on_square row.last x) n) same w)));
-    }
+pub origins_in_row-origins-requires-clause-side : goal.origins_in_row-origins-requires-clause-side
+origins_in_row-origins-requires-clause-side c =
+    sym (ap (λ (s : Side). same_side c.args.row.now.last.side s) c.other.ensures) ∙ sym (side_same _ _) ∙ not-false _ (sym c.ne.ensures ∙ c.if-ne.false)
 
-pub returns-clause-rise : goal.returns-clause-rise
-returns-clause-rise c =
+pub write_row-requires-clause-numbers : goal.write_row-requires-clause-numbers
+write_row-requires-clause-numbers c = λ a ona there.
     let row = c.args.row.now in
-    let Why : ℕ → ℕ → Type 0 = λ y n. IsBeforeBy row.class (64 * row.number + y) (on_square row.last y) n in
-    set-why c.args.change.cell c.args.change.over (ForSome c.args.decided Why c.args.change.cell c.args.change.over)
-    (IsBeforeRow row.class row.number c.args.decided) c.args.cells.now c.loop-next.cells
-    (λ n w. (w.0, w.1, w.2, (on_square row.last w.0, w.3))) c.loop-next.invariant.set.rise
+    let w = c.origins_in_row-origins.ensures.only a ona there in
+    let y = w.0 in
+    let number = 64 * row.number + y in
+    let q = c.requires.numbered y w.1 w.2 in
+    let low : number < 16777216 = let r = row.plain in let on = w.1 in omega (arith, r, on) in
+    let his = sym (ap (λ (s : Side). same_side row.last.side s) c.other.ensures) ∙ sym (side_same _ _) ∙ not-false _ (sym c.ne.ensures ∙ c.if-ne.false) in
+    fit_below row.class number q.0 q.1 low (on_square row.last y) a (64 * c.in-Some.before + a) (inl (sym c.has_both_pawns.ensures ∙ c.if-has_both_pawns.false))
+    (λ p moved. c.in-Some.ensures.numbers y a p w.1 ona moved)
+    (last_led row.class number y q.0 q.1 row.others.items row.last row.to_move (row.told y w.1) his a ona w.3)
 
-pub returns-clause-done : goal.returns-clause-done
-returns-clause-done c = λ n y on e w.
+pub returns-in-Some-clause-rise : goal.returns-in-Some-clause-rise
+returns-in-Some-clause-rise c =
     let row = c.args.row.now in
-    set-all c.args.decided (λ y n. IsBeforeBy row.class (64 * row.number + y) (on_square row.last y) n)
-    c.args.change.cell c.args.change.over c.loop-next.rest c.loop-next.next c.loop-next.invariant.left
-    (c.is_empty.ensures.0 c.loop-next-test.false) c.args.cells.now c.loop-next.cells c.loop-next.invariant.set n y on e w
+    let his = sym (ap (λ (s : Side). same_side row.last.side s) c.other.ensures) ∙ sym (side_same _ _) ∙ not-false _ (sym c.ne.ensures ∙ c.if-ne.false) in
+    set-why c.args.change.cell c.args.change.over (IsInRowOrTwin row.class c.in-Some.before c.origins_in_row-origins.result.squares)
+    (IsBeforeRow row.class row.number c.args.decided) c.args.cells.now c.write_row.new.cells
+    (λ i v.
+    let a = v.0 in
+    let ona = v.1 in
+    let w = c.origins_in_row-origins.ensures.only a ona v.2 in
+    let y = w.0 in
+    let number = 64 * row.number + y in
+    let q = c.requires.numbered y w.1 w.2 in
+    let low : number < 16777216 = let r = row.plain in let on = w.1 in omega (arith, r, on) in
+    let before = fit_before row.class number q.0 q.1 low (on_square row.last y) a (64 * c.in-Some.before + a)
+    (inl (sym c.has_both_pawns.ensures ∙ c.if-has_both_pawns.false)) (λ p moved. c.in-Some.ensures.numbers y a p w.1 ona moved)
+    (last_led row.class number y q.0 q.1 row.others.items row.last row.to_move (row.told y w.1) his a ona w.3) i v.3 in
+    (y, w.1, w.2, (on_square row.last y, (a, ona, before))))
+    c.write_row.ensures.rise
+
+pub returns-in-Some-clause-done : goal.returns-in-Some-clause-done
+returns-in-Some-clause-done c = λ n y on e b.
+    let row = c.args.row.now in
+    let a = b.0 in
+    let q = c.requires.numbered y on e in
+    let came = last_came row.class (64 * row.number + y) y q.0 q.1 row.others.items row.last row.to_move (row.told y on) a n b.1 b.2 in
+    c.write_row.ensures.done n a b.1 (c.origins_in_row-origins.ensures.all a b.1 (y, on, e, came.1))
+    (before_is row.class (64 * row.number + y) q.0 q.1 (on_square row.last y) a (64 * c.in-Some.before + a) (λ p moved. c.in-Some.ensures.numbers y a p on b.1 moved) n b.2)
