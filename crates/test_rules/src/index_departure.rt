@@ -66,7 +66,10 @@ fn expect_numbers_in_row(rt: &impl Abort, row: &str, departure: &RowDeparture, s
     for word in field(row, 3).split(' ') {
         let to = square(word).expect(rt, row);
         let want = number(wants.next().unwrap_or(""));
-        assert!(rt; want == Some(departure.number_to(to, last)), "{row}: {word}");
+        assert!(rt;
+            want == Some(departure.number_to(to, last)),
+            "{row}: {word}"
+        );
     }
 }
 
@@ -98,7 +101,10 @@ fn expect_rows(rt: &impl Abort, row: &str) {
     for slot in 0..5 {
         let departure = RowDeparture::new(class, start / 64, from, slot);
         let before_last = slot + 1 < field(row, 0).len() as u32;
-        assert!(rt; departure.is_some() == (slot == filled && before_last), "{row}: {slot}");
+        assert!(rt;
+            departure.is_some() == (slot == filled && before_last),
+            "{row}: {slot}"
+        );
         expect_rows_by(rt, row, departure, slot == filled);
     }
 }
