@@ -13,18 +13,18 @@ use Rattle.study_material.specs.declared.class.Class.TheVariants.{KNNK, KNPK, KP
 use Rattle.study_material.specs.declared.class.Class.TheVariants.{KRKB, KRKN, KRKP, KBKB, KBKN, KBKP, KNKN, KNKP, KPKP}
 use Rattle.study_index.specs.declared.decoding.Slot.{Slot}
 use Rattle.study_index.specs.declared.row_way.RowTerms.{RowTerms}
-use Rattle.study_index.specs.declared.row_way.RowWay.TheVariants.{Sum, King}
+use Rattle.study_index.specs.declared.row_way.RowWay.TheVariants.{Sum, LeastImage, King}
 use Rattle.study_index.specs.Number.{listed_count, side_number, without_bit, numbers_of, cells_of}
 use Rattle.study_index.specs.Decoded.{slots_of, slots_have_pawn, AreSlots, head, side_numbered, told_men, told_side}
 use Rattle.study_index.specs.Stepped.{are_like_slots, square_weight, square_told, IsStepped}
 use Rattle.study_index.specs.Departure.{keeps_image, StandsOn}
 use Rattle.study_index.specs.LeastImage.{turned_by, least_image, is_on_diagonal, with_head}
-use Rattle.study_index.specs.RowDeparture.{IsRowSum, IsRowSumOfKing, IsRowOfLast, IsRowFoundBy}
+use Rattle.study_index.specs.RowDeparture.{row_with, IsRowSum, IsLeastOfRowSum, IsRowSumOfKing, IsRowOfLast, IsKingInRow, IsRowFoundBy}
 use Rattle.study_index.proofs.ClassSlots.{AreSlots-class, is_cell-below, number_below}
 use Rattle.study_index.proofs.AddedNumbers.{IsStepped-moved}
 use Rattle.study_index.proofs.KingNumbers.{king_index}
 use Rattle.study_index.proofs.ListedKings.{listed_number}
-use Rattle.study_index.proofs.SteppedNumbers.{added_sum, told_within, image_kept}
+use Rattle.study_index.proofs.SteppedNumbers.{added_sum, added_image, told_within, image_kept}
 
 -- ---- what the numbers of a row tell alike
 
@@ -78,7 +78,7 @@ joined t u s v w y a l e f d b =
 -- the side to move counts a multiple of 64
 record IsTurnedInRow (k m y : ℕ) : Type 0 where
   pub grows : cond (nat_lt (64 * m + y) (64 * k)) (64 * m + y + 64 * k) (64 * m + y - 64 * k)
-    ≡ cond (nat_lt (64 * m) (64 * k)) (64 * m + 64 * k) (64 * m - 64 * k) + y
+      ≡ cond (nat_lt (64 * m) (64 * k)) (64 * m + 64 * k) (64 * m - 64 * k) + y
   pub whole : cond (nat_lt (64 * m) (64 * k)) (64 * m + 64 * k) (64 * m - 64 * k) % 64 ≡ 0
 
 turned_in_row : (k m y : ℕ) → y < 64 → IsTurnedInRow k m y
@@ -170,9 +170,9 @@ sum_of_last pawns (k ∷ []) m y a s l = absurd s
 sum_of_last pawns (k ∷ b ∷ x ∷ z ∷ w ∷ fs) m y a s l = absurd s
 
 last_after_first : (slots : List Slot) → AreSlots slots → (1 ≤ length slots - 1) × (length slots - 1 < length slots)
-last_after_first (k ∷ b ∷ []) s = (omega arith , omega arith)
-last_after_first (k ∷ b ∷ x ∷ []) s = (omega arith , omega arith)
-last_after_first (k ∷ b ∷ x ∷ z ∷ []) s = (omega arith , omega arith)
+last_after_first (k ∷ b ∷ []) s = (omega arith, omega arith)
+last_after_first (k ∷ b ∷ x ∷ []) s = (omega arith, omega arith)
+last_after_first (k ∷ b ∷ x ∷ z ∷ []) s = (omega arith, omega arith)
 last_after_first [] s = absurd s
 last_after_first (k ∷ []) s = absurd s
 last_after_first (k ∷ b ∷ x ∷ z ∷ w ∷ fs) s = absurd s
@@ -275,35 +275,56 @@ module _ (c : Class) (r : ℕ) where
       ap (λ (h : ℕ). not (are_like_slots (slots_of c)) && (slots_have_pawn (slots_of c) || not (is_on_diagonal (h % 10)))) (heads_in_row y l) ∙ keeps
 
   -- the terms of a man of a slot after the first and before the last
-  pub IsRowSum-terms : (i x : ℕ) (t : RowTerms) → 64 * r < cells_of c → 1 ≤ i → i + 1 < length (slots_of c)
-      → keeps_image (slots_of c) (without_bit (64 * r)) ≡ true
-      → ((d : Man) → (slice_index_or (told_men (slots_of c) (without_bit (64 * r))) i d).at ≡ x)
-      → t.rest ≡ (turned_by (listed_count (slots_have_pawn (slots_of c))) (length (slots_of c)) (without_bit (64 * r))
-      - square_told (length (slots_of c)) i (without_bit (64 * r)) * square_weight (length (slots_of c)) i) / 64
-      → t.weight ≡ square_weight (length (slots_of c)) i / 64 → IsRowSum c r x t
-  IsRowSum-terms i x t below one few keeps stands e f a on y p l moved =
+  abbrev pub AreTermsOf : ℕ → RowTerms → Type 0
+  AreTermsOf i t =
+      (t.rest ≡ (turned_by (listed_count (slots_have_pawn (slots_of c))) (length (slots_of c)) (without_bit (64 * r))
+      - square_told (length (slots_of c)) i (without_bit (64 * r)) * square_weight (length (slots_of c)) i) / 64)
+      × (t.weight ≡ square_weight (length (slots_of c)) i / 64)
+
+  sum_of_row : (i y a : ℕ) (t : RowTerms) → 64 * r < cells_of c → 1 ≤ i → i + 1 < length (slots_of c) → y < 64 → AreTermsOf i t
+      → turned_by (listed_count (slots_have_pawn (slots_of c))) (length (slots_of c)) (without_bit (64 * r + y))
+      - square_told (length (slots_of c)) i (without_bit (64 * r + y)) * square_weight (length (slots_of c)) i
+      + a * square_weight (length (slots_of c)) i ≡ 64 * row_with t a + y
+  sum_of_row i y a t below one few l is =
       let slots = slots_of c in
       let pawns = slots_have_pawn slots in
-      let n = 64 * r + y in
       let m = without_bit (64 * r) / 64 in
-      let short : i < length slots = omega (arith, few) in
-      let inside = row_below c r y below l in
-      let kept = keeps_in_row y l keeps in
       let cell : nat_lt (head slots (64 * m) / listed_count pawns) 2 ≡ true =
       ap (λ (k : ℕ). nat_lt (head slots k / listed_count pawns) 2) (sym (first_in_row r))
       ∙ is_cell-below c (without_bit (64 * r)) ∙ below_test (without_bit (64 * r)) (numbers_of c) (number_below c (64 * r) below) in
       let sums : ℕ → ℕ = λ k. turned_by (listed_count pawns) (length slots) k - square_told (length slots) i k * square_weight (length slots) i in
-      added_sum c n i a p inside one short on kept (IsStepped-moved c n i x a p short (stands_in_row i x y l few stands) moved)
-      ∙ ap (λ (k : ℕ). sums k + a * square_weight (length slots) i) (bit_in_row r y l)
+      ap (λ (k : ℕ). sums k + a * square_weight (length slots) i) (bit_in_row r y l)
       ∙ sum_in_row pawns slots m i y a (AreSlots-class c) cell one few l
       ∙ ap (λ (k : ℕ). 64 * (sums k / 64 + a * (square_weight (length slots) i / 64)) + y) (sym (first_in_row r))
-      ∙ sym (as_terms _ _ _ _ e f)
+      ∙ sym (as_terms _ _ _ _ is.0 is.1)
     where
       below_test : (m k : ℕ) → m < k → nat_lt m k ≡ true
       below_test m k l = grind (arith, nat_tests)
 
       as_terms : (u v w z : ℕ) → u ≡ w → v ≡ z → 64 * (u + a * v) + y ≡ 64 * (w + a * z) + y
       as_terms u v w z e f = rw (e, f) refl
+
+  -- where no number of the row is mirrored
+  pub IsRowSum-terms : (i x : ℕ) (t : RowTerms) → 64 * r < cells_of c → 1 ≤ i → i + 1 < length (slots_of c)
+      → keeps_image (slots_of c) (without_bit (64 * r)) ≡ true
+      → ((d : Man) → (slice_index_or (told_men (slots_of c) (without_bit (64 * r))) i d).at ≡ x) → AreTermsOf i t → IsRowSum c r x t
+  IsRowSum-terms i x t below one few keeps stands is a on y p l moved =
+      let n = 64 * r + y in
+      let short : i < length (slots_of c) = omega (arith, few) in
+      added_sum c n i a p (row_below c r y below l) one short on (keeps_in_row y l keeps)
+      (IsStepped-moved c n i x a p short (stands_in_row i x y l few stands) moved)
+      ∙ sum_of_row i y a t below one few l is
+
+  -- and where some may be
+  pub IsLeastOfRowSum-terms : (i x : ℕ) (t : RowTerms) → 64 * r < cells_of c → 1 ≤ i → i + 1 < length (slots_of c)
+      → ((d : Man) → (slice_index_or (told_men (slots_of c) (without_bit (64 * r))) i d).at ≡ x) → AreTermsOf i t → IsLeastOfRowSum c r x t
+  IsLeastOfRowSum-terms i x t below one few stands is a y p on l moved =
+      let slots = slots_of c in
+      let n = 64 * r + y in
+      let short : i < length slots = omega (arith, few) in
+      added_image c n i a p (row_below c r y below l) one short
+      (IsStepped-moved c n i x a p short (stands_in_row i x y l few stands) moved)
+      ∙ ap (λ (k : ℕ). least_image (slots_have_pawn slots) (are_like_slots slots) slots k) (sum_of_row i y a t below one few l is)
 
   -- the last man
   pub IsRowOfLast-turned : keeps_image (slots_of c) (without_bit (64 * r)) ≡ true → 64 * r < cells_of c
@@ -354,11 +375,24 @@ module _ (c : Class) (r : ℕ) where
   pub found_row_sum : (x : ℕ) (t : RowTerms) → IsRowSum c r x t → IsRowFoundBy c r x (Sum t)
   found_row_sum x t h = record {
     sum = λ u e. subst (λ (v : RowTerms). IsRowSum c r x v) (let g : t ≡ u = cc in g) h;
+    image = λ u e. absurd cc;
     king = λ u e. absurd cc;
+    stands = λ u e. absurd cc;
   }
 
-  pub found_row_king : (x : ℕ) (t : RowTerms) → IsRowSumOfKing c r x t → IsRowFoundBy c r x (King t)
-  found_row_king x t h = record {
+  pub found_row_image : (x : ℕ) (t : RowTerms) → IsLeastOfRowSum c r x t → IsRowFoundBy c r x (LeastImage t)
+  found_row_image x t h = record {
     sum = λ u e. absurd cc;
-    king = λ u e. subst (λ (v : RowTerms). IsRowSumOfKing c r x v) (let g : t ≡ u = cc in g) h;
+    image = λ u e. subst (λ (v : RowTerms). IsLeastOfRowSum c r x v) (let g : t ≡ u = cc in g) h;
+    king = λ u e. absurd cc;
+    stands = λ u e. absurd cc;
+  }
+
+  pub found_row_king : (x : ℕ) (t : RowTerms) → (are_like_slots (slots_of c) ≡ false → IsRowSumOfKing c r x t) → IsKingInRow c r x
+      → IsRowFoundBy c r x (King t)
+  found_row_king x t h stands = record {
+    sum = λ u e. absurd cc;
+    image = λ u e. absurd cc;
+    king = λ u e unlike. subst (λ (v : RowTerms). IsRowSumOfKing c r x v) (let g : t ≡ u = cc in g) (h unlike);
+    stands = λ u e. stands;
   }

@@ -1,15 +1,17 @@
 -- The rows after one man moves, as sums: a row is that of the 64 numbers which differ in the square of the last man alone.
-use Rattle.std.specs.Prelude.{◌≡◌, ℕ, ◌+◌, ◌*◌, ◌<◌, Bool, true, not, ◌||◌, Some}
+use Rattle.std.specs.Prelude.{◌≡◌, ℕ, ◌+◌, ◌*◌, ◌<◌, Bool, true, false, not, ◌||◌, Some}
 use Rattle.study_board.specs.Position.{Position}
 use Rattle.study_material.specs.declared.class.Class.{Class}
 use Rattle.study_index.specs.declared.row_way.RowTerms.{RowTerms}
 use Rattle.study_index.specs.declared.row_way.RowWay.{RowWay}
-use Rattle.study_index.specs.declared.row_way.RowWay.TheVariants.{Sum, King}
+use Rattle.study_index.specs.declared.row_way.RowWay.TheVariants.{Sum, LeastImage, King}
 use Rattle.study_index.specs.Computed.{index_of}
 use Rattle.study_index.specs.Decoded.{slots_of, slots_have_pawn}
 use Rattle.study_index.specs.Moved.{IsMoved}
 use Rattle.study_index.specs.Number.{place, listed_count}
-use Rattle.study_index.specs.LeastImage.{is_on_diagonal}
+use Rattle.study_index.specs.LeastImage.{is_on_diagonal, least_image}
+use Rattle.study_index.specs.Stepped.{are_like_slots}
+use Rattle.study_index.specs.Departure.{StandsOn}
 
 -- the sum with the man on a
 abbrev pub row_with : RowTerms → ℕ → ℕ
@@ -22,6 +24,12 @@ IsRowTo c r x a k = (y : ℕ) (p : Position) → y < 64 → IsMoved c (64 * r + 
 -- the row after the man on x has moved to any square a is the sum
 abbrev pub IsRowSum : Class → ℕ → ℕ → RowTerms → Type 0
 IsRowSum c r x t = (a : ℕ) → a < 64 → IsRowTo c r x a (row_with t a)
+
+-- each number after the man on x has moved to any square a is the least image of that of the sum
+abbrev pub IsLeastOfRowSum : Class → ℕ → ℕ → RowTerms → Type 0
+IsLeastOfRowSum c r x t =
+    (a y : ℕ) (p : Position) → a < 64 → y < 64 → IsMoved c (64 * r + y) x a p
+    → index_of p ≡ least_image (slots_have_pawn (slots_of c)) (are_like_slots (slots_of c)) (slots_of c) (64 * row_with t a + y)
 
 -- k is the sum with the place of a, which is listed, and not on the diagonal where no man is a pawn
 abbrev pub IsRowOfKing : Bool → RowTerms → ℕ → ℕ → Type 0
@@ -36,7 +44,13 @@ IsRowSumOfKing c r x t = (a k : ℕ) → a < 64 → IsRowOfKing (slots_have_pawn
 abbrev pub IsRowOfLast : Class → ℕ → ℕ → Type 0
 IsRowOfLast c r k = (y a : ℕ) (p : Position) → y < 64 → a < 64 → IsMoved c (64 * r + y) y a p → index_of p ≡ 64 * k + a
 
--- the way leads to the row after the man on x has moved
+-- each number of the row tells that the white king stands on x
+abbrev pub IsKingInRow : Class → ℕ → ℕ → Type 0
+IsKingInRow c r x = (y : ℕ) → y < 64 → StandsOn c (64 * r + y) 0 x
+
+-- the way leads to the row, or to its numbers, after the man on x has moved
 pub record IsRowFoundBy (c : Class) (r x : ℕ) (way : RowWay) : Type 0 where
   pub sum : (t : RowTerms) → way ≡ Sum t → IsRowSum c r x t
-  pub king : (t : RowTerms) → way ≡ King t → IsRowSumOfKing c r x t
+  pub image : (t : RowTerms) → way ≡ LeastImage t → IsLeastOfRowSum c r x t
+  pub king : (t : RowTerms) → way ≡ King t → are_like_slots (slots_of c) ≡ false → IsRowSumOfKing c r x t
+  pub stands : (t : RowTerms) → way ≡ King t → IsKingInRow c r x

@@ -13,7 +13,8 @@ ghost use Rattle.study_index.specs.RowDeparture.{IsRowFoundBy, IsRowOfKing};
 
 use crate::decoding::{head, slots};
 use crate::departure::{keeps_image, stands_in};
-use crate::least_image::is_on_diagonal;
+use crate::least_image::{is_on_diagonal, least_image};
+use crate::moved::number_stepped;
 use crate::number::{EN_PASSANT_BIT, listed_count, place, side_number};
 use crate::reading::{class_has_pawn, has_like_men, side_told};
 use crate::row_way::{RowTerms, RowWay};
@@ -29,6 +30,7 @@ pub struct RowDeparture {
     pub row: u32,
     pub from: Square,
     way: RowWay,
+    ghost cell: { 64 * row < cells_of class },
     ghost found: { IsRowFoundBy class row from way },
 }
 
@@ -71,8 +73,7 @@ fn terms_of_king(pawns: bool, count: u32, head: u32, row: u32) -> RowTerms
     }
 }
 
-/// How the row is found after the man on the square has moved, where it may be the man of the slot, if the numbers are
-/// known to be in one row.
+/// How the numbers of the row are found after the man on the square has moved, if it is the man of the slot, before the last.
 #[inline(always)]
 fn way_from(class: Class, row: u32, from: Square, slot: u32) -> Option<RowWay>
     requires { 64 * row < cells_of class }
@@ -81,17 +82,18 @@ fn way_from(class: Class, row: u32, from: Square, slot: u32) -> Option<RowWay>
     let (slots, pawns) = (slots(class), class_has_pawn(class));
     let n = 64 * row % EN_PASSANT_BIT;
     let count = slots.len() as u32;
-    if slot >= count - 1 || has_like_men(class) || !stands_in(slots, pawns, n, slot, from) {
+    if slot >= count - 1 || !stands_in(slots, pawns, n, slot, from) {
         return None;
     }
     if slot == 0 {
         let terms = terms_of_king(pawns, count, head(slots, n), n / 64);
         return Some(RowWay::King(terms));
     }
+    let terms = terms_of(pawns, count, n, slot);
     if keeps_image(class, slots, pawns, n) {
-        Some(RowWay::Sum(terms_of(pawns, count, n, slot)))
+        Some(RowWay::Sum(terms))
     } else {
-        None
+        Some(RowWay::LeastImage(terms))
     }
 }
 
@@ -111,9 +113,8 @@ fn row_of_king(pawns: bool, terms: RowTerms, to: Square) -> Option<u32>
 }
 
 impl RowDeparture {
-    /// The departure of the man that stands on the square by the numbers of the row, those from 64 times the row on, if
-    /// the numbers after it has moved are known to be in one row. There is none where the slot, the first at 0, is not that
-    /// of the man, or is the last.
+    /// The departure of the man that stands on the square by the numbers of the row, those from 64 times the row on. There
+    /// is none where the slot, the first at 0, is not that of the man, or is the last.
     #[inline(always)]
     pub fn new(class: Class, row: u32, from: Square, slot: u32) -> Option<Self>
         requires { 64 * row < cells_of class }
@@ -133,8 +134,8 @@ impl RowDeparture {
     }
 
     /// The row of the numbers after the man has moved to another square, each with the last man where it was: what
-    /// `Departure::number_to` tells of each. It is not known where the man is the white king and the square is not listed,
-    /// or is on the diagonal where no man is a pawn.
+    /// `Departure::number_to` tells of each. It is not known where two men are like; where the man is the white king and the
+    /// square is not listed, or is on the diagonal where no man is a pawn; or where it is another man and the king is there.
     #[inline(always)]
     pub fn row_to(&self, to: Square) -> Option<u32>
         ensures numbers { IfSome result (λ r. (y : ℕ) (p : Seen) → y < 64
@@ -143,7 +144,34 @@ impl RowDeparture {
     {
         match self.way {
             RowWay::Sum(terms) => Some(terms.with(u32::from(to.number()))),
-            RowWay::King(terms) => row_of_king(class_has_pawn(self.class), terms, to),
+            RowWay::LeastImage(_) => None,
+            RowWay::King(terms) => {
+                if has_like_men(self.class) {
+                    None
+                } else {
+                    row_of_king(class_has_pawn(self.class), terms, to)
+                }
+            }
+        }
+    }
+
+    /// The number of the row's position with the last man on its square, after the man has moved to another square: what
+    /// `Departure::number_to` tells.
+    #[inline(always)]
+    pub fn number_to(&self, to: Square, last: Square) -> u32
+        ensures { (p : Seen) → IsMoved self.now.class (64 * self.now.row + last) self.now.from to p → index_of p ≡ result }
+    {
+        let class = self.class;
+        let place = u32::from(last.number());
+        match self.way {
+            RowWay::Sum(terms) => 64 * terms.with(u32::from(to.number())) + place,
+            RowWay::LeastImage(terms) => least_image(
+                class_has_pawn(class),
+                has_like_men(class),
+                slots(class),
+                64 * terms.with(u32::from(to.number())) + place,
+            ),
+            RowWay::King(_) => number_stepped(class, 64 * self.row + place, 0, to),
         }
     }
 }

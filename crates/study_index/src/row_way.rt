@@ -1,11 +1,12 @@
 //! How the row of the numbers after a move of one man is found.
 ghost use Rattle.std.specs.Prelude.{◌≡◌, ◌+◌, ◌*◌, ◌<◌, ◌≤◌};
 
-/// How the row of the numbers after the man has moved is found: as a sum with its square; or as a sum with its place, where
-/// it is the white king.
+/// How the row of the numbers after the man has moved is found: as a sum with its square; as the least images of one, which
+/// need not be a row; or as a sum with its place, where it is the white king.
 #[derive(Clone, Copy)]
 pub enum RowWay {
     Sum(RowTerms),
+    LeastImage(RowTerms),
     King(RowTerms),
 }
 

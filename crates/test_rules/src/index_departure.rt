@@ -2,6 +2,7 @@
 use crate::men::square;
 use crate::rows::{field, number};
 use std::process::Abort;
+use study_board::Square;
 use study_index::{Departure, RowDeparture, cells, row_of_last};
 use study_material::Class;
 
@@ -44,7 +45,7 @@ KRKN,1174028,-
 KQQK,377064,-
 KNNK,1995368,-";
 
-/// That the man leads to each number of the row, whatever slot it is said to fill.
+/// That the man leads to each number of the row, whatever slot it is said to fill, and alone or among a row of numbers.
 fn expect_numbers(rt: &impl Abort, row: &str) {
     let class = Class::parse(field(row, 0)).ok().expect(rt, row);
     let start = number(field(row, 1)).expect(rt, row);
@@ -52,6 +53,23 @@ fn expect_numbers(rt: &impl Abort, row: &str) {
     assert!(rt; start < cells(class), "{row}");
     for slot in 0..5 {
         expect_numbers_by(rt, row, &Departure::new(class, start, from, slot));
+        if let Some(departure) = RowDeparture::new(class, start / 64, from, slot) {
+            expect_numbers_in_row(rt, row, &departure, start);
+        }
+    }
+}
+
+/// That the departure by the numbers of a row leads from the one to each number of the text.
+fn expect_numbers_in_row(rt: &impl Abort, row: &str, departure: &RowDeparture, start: u32) {
+    let last = Square::new((start % 64) as u8).expect(rt, row);
+    let mut wants = field(row, 4).split(' ');
+    for word in field(row, 3).split(' ') {
+        let to = square(word).expect(rt, row);
+        let want = number(wants.next().unwrap_or(""));
+        assert!(rt;
+            want == Some(departure.number_to(to, last)),
+            "{row}: {word}"
+        );
     }
 }
 
@@ -82,6 +100,11 @@ fn expect_rows(rt: &impl Abort, row: &str) {
     assert!(rt; start < cells(class), "{row}");
     for slot in 0..5 {
         let departure = RowDeparture::new(class, start / 64, from, slot);
+        let before_last = slot + 1 < field(row, 0).len() as u32;
+        assert!(rt;
+            departure.is_some() == (slot == filled && before_last),
+            "{row}: {slot}"
+        );
         expect_rows_by(rt, row, departure, slot == filled);
     }
 }

@@ -1,4 +1,4 @@
-use Rattle.std.proofs.Common.{◌≡◌, ℕ, ◌*◌, ◌/◌, refl, sym, ◌∙◌, subst}
+use Rattle.std.proofs.Common.{ℕ, ◌/◌, refl, sym, ◌∙◌, subst}
 use Rattle.study_index.specs.RowDeparture.{IsRowOfLast}
 use Rattle.study_index.proofs.RowDepartures.{IsRowOfLast-turned}
 use Rattle.study_index.proofs.row_departure.row_of_last.Goals as goal

@@ -9,11 +9,11 @@ returns-in-Sum-clause-numbers c = λ y p l t.
     ∙ ap (λ (k : ℕ). 64 * k + y)
     (sym (c.with.ensures.value ∙ ap (λ (a : ℕ). c.in-Sum.terms.rest + a * c.in-Sum.terms.weight) (c.from.ensures ∙ c.number.ensures.value)))
 
-pub returns-in-King-clause-numbers : goal.returns-in-King-clause-numbers
-returns-in-King-clause-numbers c =
+pub returns-else-has_like_men-clause-numbers : goal.returns-else-has_like_men-clause-numbers
+returns-else-has_like_men-clause-numbers c =
     let d = c.args.self.now in
     by_row c.row_of_king.result c.row_of_king.ensures.value
-    (λ k h. d.found.king c.in-King.terms c.in-King.is c.args.to k c.row_of_king.ensures.on_board
+    (λ k h. d.found.king c.in-King.terms c.in-King.is (sym c.has_like_men.ensures ∙ c.if-has_like_men.false) c.args.to k c.row_of_king.ensures.on_board
     (subst (λ (w : Bool). IsRowOfKing w c.in-King.terms c.args.to k) c.class_has_pawn.ensures h))
   where
     by_row : (o : Option ℕ) → IfSome o (λ k. IsRowOfKing c.class_has_pawn.result c.in-King.terms c.args.to k)
