@@ -3,7 +3,7 @@ ghost use Rattle.std.specs.Prelude.{◌≡◌, ◌<◌, ◌+◌, ◌*◌, ℕ, t
 ghost use Rattle.study_board.specs.Men.{other_side, same_side};
 ghost use Rattle.study_board.specs.Sets.{has};
 ghost use Rattle.study_index.specs.Number.{cells_of};
-ghost use Rattle.study_retro.specs.Predecessors.{IsBefore, IsBeforeBy, IsBeforeFrom};
+ghost use Rattle.study_retro.specs.Predecessors.{IsBefore, IsBeforeBy, IsBeforeFrom, PassesNone};
 ghost use Rattle.study_retro.specs.Propagation.{AreSet, IsSetWhere};
 ghost use Rattle.study_retro.specs.RowBack.{CanAllHaveLed, IsBeforeRowBy, IsBeforeRowFrom, IsInRowOrTwin, IsItOrTwin, IsOriginInRow};
 ghost use Rattle.study_retro.specs.RowLevels.{AreNumbered, IsBeforeRow};
@@ -91,6 +91,39 @@ fn write_each_led(
     }
 }
 
+/// The same where the move leaves no capture in passing.
+#[inline]
+fn write_each_moved(
+    cells: &mut [u8],
+    departure: &RowDeparture,
+    led: SquareSet,
+    man: &Man,
+    origin: Square,
+    change: Change,
+)
+    requires from { departure.now.from ≡ man.now.at }
+    requires passes { PassesNone departure.now.class origin man.now.at }
+    requires numbered { AreNumbered departure.now.class departure.now.row led }
+    requires plain { departure.now.row < 262144 }
+    requires led { CanAllHaveLed departure.now.class departure.now.row led man.now origin }
+    requires cell { 0 < change.cell }
+    requires cells { length cells.old ≡ cells_of departure.now.class }
+    ensures rise { AreSet (IsBeforeRowFrom departure.now.class departure.now.row led man.now origin) change.cell change.over cells.old cells.new }
+    ensures done { (n y : ℕ) → y < 64 → has led y ≡ true → IsBeforeFrom departure.now.class (64 * departure.now.row + y) man.now origin n
+        → IsSetWhere change.cell change.over cells.new n }
+{
+    let _man = man.at;
+    let mut rest = led;
+    let mut next = 0u8;
+    while !rest.is_empty() {
+        let square = rest.first();
+        rest = rest.without(SquareSet::of(square));
+        let before = departure.number_to(origin, square);
+        write_with_twin(departure.class, cells, before, change);
+        next = square.number() + 1;
+    }
+}
+
 /// The same: at once, where the numbers before are a row and the move leaves no capture in passing.
 #[inline]
 fn write_led(
@@ -117,7 +150,7 @@ fn write_led(
     }
     match departure.row_to(origin) {
         Some(before) => write_row(departure.class, cells, before, led, change),
-        None => write_each_led(cells, departure, led, man, slot, origin, change),
+        None => write_each_moved(cells, departure, led, man, origin, change),
     }
 }
 
