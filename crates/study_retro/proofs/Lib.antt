@@ -34,3 +34,4 @@ pub mod BlockLemmas
 pub mod QuietSteps
 pub mod Twins
 pub mod MovedSteps
+pub mod RowEscapeLemmas

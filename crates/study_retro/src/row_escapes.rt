@@ -284,29 +284,29 @@ fn lost_after_quiet<A: Allocator>(
     game: &ClassGame<A>,
     cells: &[u8],
     row: u32,
-    moves: RowMoves,
+    losing: SquareSet,
+    some: SquareSet,
     level: u8,
 ) -> SquareSet
     requires laws { IsNumberedClass (class_game game.now.class game.now.tables.now) }
     requires plain { row < 262144 }
-    requires numbered { AreNumbered game.now.class row moves.losing }
-    requires quiet { AllLose (class_game game.now.class game.now.tables.now) cells.now level row moves.losing }
-    requires some { HaveMoves game.now.class row moves.some }
+    requires numbered { AreNumbered game.now.class row losing }
+    requires quiet { AllLose (class_game game.now.class game.now.tables.now) cells.now level row losing }
+    requires some { HaveMoves game.now.class row some }
     requires cells { length cells.now ≡ cells_of game.now.class }
-    ensures only { AreAmong result moves.losing }
+    ensures only { AreAmong result losing }
     ensures yes { (y : ℕ) → y < 64 → has result y ≡ true → (p : Seen) × (position_numbered game.now.class (64 * row + y) ≡ Some p)
         × LosesBy (class_game game.now.class game.now.tables.now) cells.now level p }
-    ensures no { OthersHold (class_game game.now.class game.now.tables.now) cells.now level row moves.losing result }
+    ensures no { OthersHold (class_game game.now.class game.now.tables.now) cells.now level row losing result }
 {
     let mut lost = SquareSet::empty();
-    let mut rest = moves.losing;
+    let mut rest = losing;
     let mut next = 0u8;
     while !rest.is_empty() {
         let square = rest.first();
         rest = rest.without(SquareSet::of(square));
         let number = 64 * row + u32::from(square.number());
-        let some = moves.some.contains(square);
-        if is_lost_after_quiet(game, cells, number, some, level) {
+        if is_lost_after_quiet(game, cells, number, some.contains(square), level) {
             lost = lost.union(SquareSet::of(square));
         }
         next = square.number() + 1;
@@ -333,7 +333,7 @@ fn lost_of_row<A: Allocator>(
     ensures no { OthersHold (class_game game.now.class game.now.tables.now) cells.now level row.now.number candidates result }
 {
     let moves = quiet_moves_in_row(game, cells, row, candidates, level);
-    lost_after_quiet(game, cells, row.number, moves, level)
+    lost_after_quiet(game, cells, row.number, moves.losing, moves.some, level)
 }
 
 /// Of some positions of a row, those that have a move, and each leads to a win within `level` plies, where no capture in

@@ -1,0 +1,30 @@
+use Rattle.std.proofs.Common.{◌≡◌, ℕ, ◌+◌, ◌*◌, false, true, Some, arith, sym, ◌∙◌, ap}
+use Rattle.std.proofs.lemmas.Bool.{false≢true}
+use Rattle.study_board.specs.Sets.{has}
+use Rattle.study_board.proofs.SetBits.{has-zero}
+use Rattle.study_index.specs.Computed.{position_numbered}
+use Rattle.study_retro.specs.ClassGame.{class_game}
+use Rattle.study_retro.specs.Numbered.{NoLossBy}
+use Rattle.study_retro.proofs.RowSets.{first-as}
+use Rattle.study_retro.proofs.SquaresLeft.{first-in, left-all, taken-all}
+use Rattle.study_retro.proofs.row_escapes.lost_after_quiet.Goals as goal
+
+pub loop-next-init : goal.loop-next-init
+loop-next-init g c = record {
+  left = left-all c.args.losing;
+  yes = λ y on e. absurd (false≢true (sym (ap (λ (s : ℕ). has s y) c.empty-lost.ensures ∙ has-zero y) ∙ e));
+  refuted = λ y l. absurd (omega (arith, l));
+}
+
+pub is_lost_after_quiet-requires-clause-quiet : goal.is_lost_after_quiet-requires-clause-quiet
+is_lost_after_quiet-requires-clause-quiet g c = λ q at.
+    let h = c.first-square.ensures in
+    let y = c.from.result in
+    let f = first-as c.loop-next.rest c.first-square.result y h.inside h.there h.least (c.from.ensures ∙ c.number.ensures.value) in
+    c.requires.quiet y q f.inside (first-in _ _ _ c.loop-next.invariant.left y f.inside f.there) at
+
+pub returns-clause-no : goal.returns-clause-no
+returns-clause-no g c = λ y on e f.
+    let inv = c.loop-next.invariant in
+    taken-all (λ (x : ℕ). has c.loop-next.lost x ≡ false → NoLossBy (class_game c.args.game.now.class c.args.game.now.tables.now) c.args.cells.now c.args.level (64 * c.args.row + x))
+    c.args.losing c.loop-next.rest c.loop-next.next inv.left (λ x l h. inv.refuted x l h) (c.is_empty.ensures.0 c.loop-next-test.false) y on e f
