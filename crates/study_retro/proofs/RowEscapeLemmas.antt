@@ -1,8 +1,8 @@
 -- The quiet moves from the numbers of a row.
-use Rattle.std.proofs.Common.{◌≡◌, ℕ, ◌+◌, ◌*◌, ◌<◌, ◌≤◌, ◌==◌, Bool, true, false, not, ◌&&◌, ◌||◌, ◌++◌, ◌∷◌, [], List, slice_index, Option, Contains, Some, inl, inr, arith}
+use Rattle.std.proofs.Common.{◌≡◌, ℕ, ◌+◌, ◌*◌, ◌<◌, ◌≤◌, ◌==◌, Bool, true, false, not, ◌&&◌, ◌||◌, ◌++◌, ◌∷◌, [], List, slice_index, Option, Contains, Some, ◌⊎◌, inl, inr, arith}
 use Rattle.std.proofs.Common.{refl, sym, ◌∙◌, ap, subst}
 use Rattle.std.proofs.lemmas.Bool.{and_parts, false≢true, cases_lt, cases_Bool, eq-eqb, ne_eqb}
-use Rattle.std.proofs.lemmas.List.Elements.{Contains-append_left}
+use Rattle.std.proofs.lemmas.List.Elements.{Contains-append_left, Contains-push, Contains-push_cases}
 use Rattle.study_board.specs.declared.men.Man.{Man}
 use Rattle.study_board.specs.declared.men.Side.{Side}
 use Rattle.study_board.specs.Men.{same_side}
@@ -22,12 +22,12 @@ use Rattle.study_retro.specs.Table.{Table}
 use Rattle.study_retro.specs.Cells.{value_of}
 use Rattle.study_retro.specs.declared.value.Value.TheVariants.{Win}
 use Rattle.study_retro.specs.ClassGame.{class_game}
-use Rattle.study_retro.specs.Numbered.{IsNumberedClass, NoLossBy}
+use Rattle.study_retro.specs.Numbered.{IsNumberedClass, NoLossBy, Numbered}
 use Rattle.study_retro.specs.Predecessors.{AreTold}
-use Rattle.study_retro.specs.RowEscapes.{CanGo}
+use Rattle.study_retro.specs.RowEscapes.{AreAmong, CanGo}
 use Rattle.study_retro.specs.RowMoves.{AreApart, goes_quietly}
-use Rattle.study_retro.specs.Still.{HasMove, IsWonAfter, move_to, on_square}
-use Rattle.study_retro.proofs.BackLemmas.{occupied_same, safe_below, safe_by, safe_escape, safe_won, some_legal}
+use Rattle.study_retro.specs.Still.{HasMove, IsWonAfter, QuietMovesLose, QuietMovesLoseBy, move_to, on_square}
+use Rattle.study_retro.proofs.BackLemmas.{lose_each, occupied_same, safe_below, safe_by, safe_escape, safe_plain, safe_won, some_legal}
 use Rattle.study_retro.proofs.RowBackLemmas.{row_apart}
 use Rattle.study_retro.proofs.RowMoveLemmas.{going_less}
 use Rattle.study_retro.proofs.RowSets.{IsFirst}
@@ -137,7 +137,47 @@ module _ (c : Class) (number : ℕ) (q : Position) (at : position_numbered c num
     go_won = safe_won c number q at plain the_men the_side (refl, refl) man go.among go.own x on go.safe go.free stays held laws cells k fits
         (inl (inl single))
 
+-- ---- of those that may lose, those from which the man goes are left where it loses
+
+module _ (losing going lost less new : ℕ) (less-is : (x : ℕ) → x < 64 → has less x ≡ (has losing x && not (has going x)))
+    (new-is : (x : ℕ) → has new x ≡ (has less x || has lost x)) where
+  pub thin-cases : (y : ℕ) → y < 64 → has new y ≡ true → (has lost y ≡ true) ⊎ (has losing y ≡ true) × (has going y ≡ false)
+  thin-cases y on e = by_lost (has losing y) (has going y) (has lost y) (sym (ap (λ (b : Bool). b || has lost y) (less-is y on)) ∙ (sym (new-is y) ∙ e))
+    where
+      by_lost : (a b k : Bool) → ((a && not b) || k) ≡ true → (k ≡ true) ⊎ (a ≡ true) × (b ≡ false)
+      by_lost a b true e = inl refl
+      by_lost true false false e = inr (refl, refl)
+      by_lost true true false e = absurd (false≢true e)
+      by_lost false b false e = absurd (false≢true e)
+
+  pub thin-gone : (y : ℕ) → y < 64 → has losing y ≡ true → has new y ≡ false → (has going y ≡ true) × (has lost y ≡ false)
+  thin-gone y on t e =
+      by_lost (has losing y) (has going y) (has lost y) t (sym (ap (λ (b : Bool). b || has lost y) (less-is y on)) ∙ (sym (new-is y) ∙ e))
+    where
+      by_lost : (a b k : Bool) → a ≡ true → ((a && not b) || k) ≡ false → (b ≡ true) × (k ≡ false)
+      by_lost true true false t e = (refl, refl)
+      by_lost true true true t e = absurd (false≢true (sym e))
+      by_lost true false k t e = absurd (false≢true (sym e))
+      by_lost false b k t e = absurd (false≢true t)
+
 -- ---- the men of a row
+
+module _ (c : Class) (number y : ℕ) (q : Position) (at : position_numbered c number ≡ Some q) (plain : number < 16777216) (others : List Man) (last : Man)
+    (side : Side) (told : AreTold c number (others ++ on_square last y ∷ []) side) where
+  -- where the quiet moves of the other men lose, and those of the last, all do
+  pub row_lose : (g : Numbered Position) (cells : List ℕ) (k : ℕ) → ((m : Man) → Contains others m → QuietMovesLoseBy g cells k q m)
+      → QuietMovesLoseBy g cells k q (on_square last y) → QuietMovesLose g cells k q
+  row_lose g cells k each final =
+      lose_each c number q at plain (others ++ on_square last y ∷ []) side told g cells k
+      (λ m i. elim (Contains-push_cases others (on_square last y) m i) [
+        | inl h ↦ each m h
+        | inr e ↦ subst (λ (x : Man). QuietMovesLoseBy g cells k q x) e final
+      ])
+
+-- the last man is one of those told
+pub last_told : (c : Class) (number y : ℕ) (others : List Man) (last : Man) (side : Side) → AreTold c number (others ++ on_square last y ∷ []) side
+    → Contains (told_men (slots_of c) (without_bit number)) (on_square last y)
+last_told c number y others last side told = subst (λ (ms : List Man). Contains ms (on_square last y)) told.0 (Contains-push others (on_square last y))
 
 module _ (c : Class) (number y : ℕ) (q : Position) (at : position_numbered c number ≡ Some q) (plain : number < 16777216) (others : List Man) (last : Man)
     (side : Side) (told : AreTold c number (others ++ on_square last y ∷ []) side) (man : Man) (among : Contains others man) where
@@ -173,3 +213,8 @@ module _ (c : Class) (number y : ℕ) (q : Position) (at : position_numbered c n
           going_less others last y side man x s.2 free,
           λ set word. word (row_apart c number y q at others last side told) ∙ rw (s.2, free) refl,
         )
+
+    -- and it does not promote
+    pub row_stays : reaches_last_rank man x ≡ false
+    row_stays =
+        safe_plain c number q at plain men side told (move_to man x) legal man (Contains-append_left others (on_square last y ∷ []) man among) refl refl

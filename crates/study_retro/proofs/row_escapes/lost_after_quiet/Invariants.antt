@@ -1,19 +1,18 @@
-use Rattle.std.proofs.Common.{◌≡◌, ℕ, ◌+◌, ◌*◌, ◌<◌, ◌-◌, true, false, Some}
+use Rattle.std.proofs.Common.{◌≡◌, ℕ, ◌+◌, ◌*◌, ◌-◌, Some}
 use Rattle.study_board.specs.Position.{Position}
-use Rattle.study_board.specs.Sets.{has}
 use Rattle.study_index.specs.Computed.{position_numbered}
 use Rattle.study_retro.specs.ClassGame.{class_game}
 use Rattle.study_retro.specs.Numbered.{LosesBy, NoLossBy}
+use Rattle.study_retro.proofs.RowEscapeLemmas.{AreKeptBelow}
 use Rattle.study_retro.proofs.SquaresLeft.{AreLeft}
 use Rattle.study_retro.proofs.row_escapes.lost_after_quiet.Given as goal
 
 abbrev pub invariant-loop-next : goal.invariant-loop-next
 invariant-loop-next g l = record {
   left : AreLeft l.fn.losing l.rest l.next;
-  yes : (y : ℕ) → y < 64 → has l.lost y ≡ true → (y < l.next) × (has l.fn.losing y ≡ true) × ((p : Position)
-      × (position_numbered l.game.class (64 * l.row + y) ≡ Some p) × LosesBy (class_game l.game.class l.game.tables.now) l.cells l.level p);
-  refuted : (y : ℕ) → y < l.next → has l.fn.losing y ≡ true → has l.lost y ≡ false
-      → NoLossBy (class_game l.game.class l.game.tables.now) l.cells l.level (64 * l.row + y);
+  kept : AreKeptBelow l.fn.losing (λ y. (p : Position) × (position_numbered l.game.class (64 * l.row + y) ≡ Some p)
+      × LosesBy (class_game l.game.class l.game.tables.now) l.cells l.level p)
+      (λ y. NoLossBy (class_game l.game.class l.game.tables.now) l.cells l.level (64 * l.row + y)) l.next l.lost;
 }
 
 abbrev pub decreases-loop-next : goal.decreases-loop-next
