@@ -48,6 +48,15 @@ right_true : (a b : Bool) → b ≡ true → (a || b) ≡ true
 right_true true b e = refl
 right_true false b e = e
 
+pub square-is : (t y : ℕ) → (t == y) ≡ true → t ≡ y
+square-is t y e = elim (cases_lt t y) [
+  | inl low ↦ absurd (false≢true (sym (ne_eqb t y (λ s. omega (arith, s, low))) ∙ e))
+  | inr high ↦ elim (cases_lt y t) [
+    | inl low ↦ absurd (false≢true (sym (ne_eqb t y (λ s. omega (arith, s, low))) ∙ e))
+    | inr top ↦ omega (arith, high, top)
+  ]
+]
+
 module _ (all : ℕ) (Yes Not : ℕ → Type 0) where
   pub record AreKeptBelow (next kept : ℕ) : Type 0 where
     pub among : (y : ℕ) → y < 64 → has kept y ≡ true → (has all y ≡ true) × Yes y
@@ -67,7 +76,7 @@ module _ (all : ℕ) (Yes Not : ℕ → Type 0) where
       kept-with one more single union here = record {
         among = λ y on e. elim (cases_Bool (t == y)) [
           | inl same ↦ (
-              subst (λ (x : ℕ). (has all x ≡ true) × Yes x) (is y same) (first-in all rest next left t f.inside f.there, here)
+              subst (λ (x : ℕ). (has all x ≡ true) × Yes x) (square-is t y same) (first-in all rest next left t f.inside f.there, here)
             )
           | inr other ↦ h.among y on (or_cases (has kept y) (has one y) (sym (union y) ∙ e) (single y on ∙ other))
         ];
@@ -80,15 +89,6 @@ module _ (all : ℕ) (Yes Not : ℕ → Type 0) where
           ]
         ];
       }
-        where
-          is : (y : ℕ) → (t == y) ≡ true → t ≡ y
-          is y e = elim (cases_lt t y) [
-            | inl low ↦ absurd (false≢true (sym (ne_eqb t y (λ s. omega (arith, s, low))) ∙ e))
-            | inr high ↦ elim (cases_lt y t) [
-              | inl low ↦ absurd (false≢true (sym (ne_eqb t y (λ s. omega (arith, s, low))) ∙ e))
-              | inr top ↦ omega (arith, high, top)
-            ]
-          ]
 
       -- or it is not
       pub kept-without : Not t → AreKeptBelow (t + 1) kept

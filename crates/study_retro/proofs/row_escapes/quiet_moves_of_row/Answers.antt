@@ -46,7 +46,7 @@ loop-others-init g c = record {
 -- where none is left to lose the others need not be looked at
 pub returns-then-is_empty-clause-yes : goal.returns-then-is_empty-clause-yes
 returns-then-is_empty-clause-yes g c = λ y q on e.
-    absurd (false≢true (sym (ap (λ (s : ℕ). has s y) (c.is_empty-2.ensures.0 c.if-is_empty.true) ∙ has-zero y) ∙ e))
+    absurd (false≢true (sym (ap (λ (s : ℕ). has s y) (c.is_empty-in-loop-others.ensures.0 c.if-is_empty.true) ∙ has-zero y) ∙ e))
 
 pub losing_after-lost-requires-clause-numbered : goal.losing_after-lost-requires-clause-numbered
 losing_after-lost-requires-clause-numbered g c = λ y on e.
@@ -88,8 +88,8 @@ loop-others-preserved g c =
     let new = c.union-losing.result in
     let his : same_side man.side row.to_move ≡ true = sym (side_same _ _) ∙ not-false _ (sym c.ne.ensures ∙ c.if-ne.false) in
     let left = left-more _ _ _ inv.left a f.inside f.there f.least c.of.result c.without-rest.result c.of.ensures c.without-rest.ensures in
-    let cases = thin-cases losing going lost c.without-losing.result new c.without-losing.ensures c.union-losing.ensures in
-    let gone = thin-gone losing going lost c.without-losing.result new c.without-losing.ensures c.union-losing.ensures in
+    let cases = thin-cases losing going lost c.without.result new c.without.ensures c.union-losing.ensures in
+    let gone = thin-gone losing going lost c.without.result new c.without.ensures c.union-losing.ensures in
     let mine : (y : ℕ) → y < 64 → has going y ≡ true → has losing y ≡ true = λ y on e. (and_parts _ _ (sym (c.intersection-going.ensures y) ∙ e)).0 in
     let before : (y : ℕ) → y < 64 → has new y ≡ true → has losing y ≡ true = λ y on e.
     elim (cases y on e) [ inl l ↦ mine y on (c.losing_after-lost.ensures.only y on l) | inr k ↦ k.0 ] in
