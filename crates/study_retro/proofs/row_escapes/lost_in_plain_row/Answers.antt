@@ -1,11 +1,18 @@
 use Rattle.std.proofs.Common.{◌≡◌, ℕ, ◌+◌, ◌*◌, ◌<◌, Some, arith, sym, ◌∙◌, ap, subst}
+use Rattle.std.proofs.lemmas.Bool.{false≢true}
 use Rattle.study_board.specs.Position.{Position}
+use Rattle.study_board.specs.Sets.{has}
+use Rattle.study_board.proofs.SetBits.{has-zero}
 use Rattle.study_index.specs.Computed.{position_numbered}
 use Rattle.study_index.proofs.ClassLaws.{below}
 use Rattle.study_index.proofs.ComputedIndex.{told_decoded}
 use Rattle.study_retro.specs.ClassGame.{class_game}
 use Rattle.study_retro.specs.Numbered.{LosesBy, NoLossBy}
 use Rattle.study_retro.proofs.row_escapes.lost_in_plain_row.Goals as goal
+
+pub returns-then-is_empty-clause-yes : goal.returns-then-is_empty-clause-yes
+returns-then-is_empty-clause-yes g c = λ y on e.
+    absurd (false≢true (sym (ap (λ (s : ℕ). has s y) (c.is_empty.ensures.0 c.if-is_empty.true) ∙ has-zero y) ∙ e))
 
 pub new-requires-clause-cell : goal.new-requires-clause-cell
 new-requires-clause-cell g c =

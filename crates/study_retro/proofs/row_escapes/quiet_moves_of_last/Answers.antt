@@ -1,5 +1,5 @@
 use Rattle.std.proofs.Common.{◌≡◌, ℕ, ◌+◌, ◌*◌, ◌<◌, ◌==◌, ◌||◌, Bool, true, false, Some, inl, inr, arith, refl, sym, ◌∙◌, ap, subst}
-use Rattle.std.proofs.lemmas.Bool.{cases_Bool}
+use Rattle.std.proofs.lemmas.Bool.{cases_Bool, not-false, not-true}
 use Rattle.study_board.specs.Position.{Position}
 use Rattle.study_board.specs.Sets.{has}
 use Rattle.study_index.specs.Computed.{position_numbered}
@@ -45,7 +45,7 @@ loop-next-preserved g c =
       kept = subst (λ (n : ℕ). AreKeptBelow set Yes Not (n + 1) c.if-not-moves.losing) (sym next)
           (elim c.if-not-moves.branch [
             | then-not-moves w ↦
-                let here : Yes t = λ q at. c.quiet_moves_of-moves.ensures.no w.if-not-moves.true q
+                let here : Yes t = λ q at. c.quiet_moves_of-moves.ensures.no (not-true _ w.if-not-moves.true) q
                 (ap (λ (n : ℕ). position_numbered class n) number ∙ at) in
                 subst (λ (s : ℕ). AreKeptBelow set Yes Not (t + 1) s) (sym w.losing-is)
                 (kept-with set Yes Not c.loop-next.rest c.loop-next.next inv.left c.loop-next.losing inv.kept t f w.of-then-not-moves.result
@@ -53,7 +53,7 @@ loop-next-preserved g c =
             | else-not-moves w ↦
                 subst (λ (s : ℕ). AreKeptBelow set Yes Not (t + 1) s) (sym w.losing-is)
                 (kept-without set Yes Not c.loop-next.rest c.loop-next.next inv.left c.loop-next.losing inv.kept t f
-                (subst Not same (c.quiet_moves_of-moves.ensures.yes w.if-not-moves.false)))
+                (subst Not same (c.quiet_moves_of-moves.ensures.yes (not-false _ w.if-not-moves.false))))
           ]);
       some = elim c.if-moves.branch [
         | then-moves w ↦

@@ -132,7 +132,7 @@ loop-others-preserved g c =
         | inl there ↦ inv.some y q on there at
         | inr out ↦
             let goes : has going y ≡ true = sym (ap (λ (b : Bool). b || has going y) out) ∙ (sym (c.union-some.ensures y) ∙ e) in
-            let both = and_parts _ _ (sym (c.intersection-going.ensures y) ∙ goes) in
+            let both = and_parts (has losing y) (has c.squares_going.result y) (sym (c.intersection-going.ensures y) ∙ goes) in
             let told = subst (λ (d : Class). AreTold d (64 * row.number + y) (row.others.items ++ on_square row.last y ∷ []) row.to_move) c.requires.class (row.told y on) in
             let plain : 64 * row.number + y < 16777216 = omega (arith, small, on) in
             go_some class (64 * row.number + y) q at plain man a f.inside
