@@ -1,8 +1,9 @@
 -- The quiet moves from the numbers of a row.
-use Rattle.std.proofs.Common.{◌≡◌, ℕ, ◌+◌, ◌*◌, ◌<◌, ◌≤◌, ◌==◌, Bool, true, false, not, ◌&&◌, ◌||◌, ◌++◌, ◌∷◌, [], List, slice_index, Option, Contains, Some, ◌⊎◌, inl, inr, arith}
+use Rattle.std.proofs.Common.{◌≡◌, ℕ, ◌+◌, ◌*◌, ◌<◌, ◌≤◌, ◌==◌, Bool, true, false, not, ◌&&◌, ◌||◌, ◌++◌, ◌∷◌}
+use Rattle.std.proofs.Common.{[], List, slice_index, Option, Contains, Some, ◌⊎◌, inl, inr, arith}
 use Rattle.std.proofs.Common.{refl, sym, ◌∙◌, ap, subst}
 use Rattle.std.proofs.lemmas.Bool.{and_parts, false≢true, cases_lt, cases_Bool, eq-eqb, ne_eqb}
-use Rattle.std.proofs.lemmas.List.Elements.{Contains-append_left, Contains-push, Contains-push_cases}
+use Rattle.std.proofs.lemmas.List.Elements.{Contains-append_left, Contains-push_cases}
 use Rattle.study_board.specs.declared.men.Man.{Man}
 use Rattle.study_board.specs.declared.men.Side.{Side}
 use Rattle.study_board.specs.Men.{same_side}
@@ -173,11 +174,6 @@ module _ (c : Class) (number y : ℕ) (q : Position) (at : position_numbered c n
         | inl h ↦ each m h
         | inr e ↦ subst (λ (x : Man). QuietMovesLoseBy g cells k q x) e final
       ])
-
--- the last man is one of those told
-pub last_told : (c : Class) (number y : ℕ) (others : List Man) (last : Man) (side : Side) → AreTold c number (others ++ on_square last y ∷ []) side
-    → Contains (told_men (slots_of c) (without_bit number)) (on_square last y)
-last_told c number y others last side told = subst (λ (ms : List Man). Contains ms (on_square last y)) told.0 (Contains-push others (on_square last y))
 
 module _ (c : Class) (number y : ℕ) (q : Position) (at : position_numbered c number ≡ Some q) (plain : number < 16777216) (others : List Man) (last : Man)
     (side : Side) (told : AreTold c number (others ++ on_square last y ∷ []) side) (man : Man) (among : Contains others man) where

@@ -264,7 +264,8 @@ fn is_lost_after_quiet<A: Allocator>(
     requires laws { IsNumberedClass (class_game game.now.class game.now.tables.now) }
     requires numbered { HasPosition (class_game game.now.class game.now.tables.now) number }
     requires plain { number < 16777216 }
-    requires quiet { (q : Seen) → position_numbered game.now.class number ≡ Some q → QuietMovesLose (class_game game.now.class game.now.tables.now) cells.now level q }
+    requires quiet { (q : Seen) → position_numbered game.now.class number ≡ Some q
+        → QuietMovesLose (class_game game.now.class game.now.tables.now) cells.now level q }
     requires some { IsTrue some → (q : Seen) → position_numbered game.now.class number ≡ Some q → HasMove q }
     requires cells { length cells.now ≡ cells_of game.now.class }
     ensures yes { IsTrue result → (p : Seen) × (position_numbered game.now.class number ≡ Some p)

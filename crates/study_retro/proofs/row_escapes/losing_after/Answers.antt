@@ -1,8 +1,5 @@
-use Rattle.std.proofs.Common.{◌≡◌, ℕ, ◌+◌, ◌*◌, ◌<◌, ◌≤◌, slice_index, arith, refl, sym, ◌∙◌, subst}
-use Rattle.std.proofs.lemmas.Bool.{false≢true, cases_Bool}
-use Rattle.study_board.specs.Position.{Position}
-use Rattle.study_index.specs.Computed.{index_of}
-use Rattle.study_index.specs.Moved.{IsMoved}
+use Rattle.std.proofs.Common.{ℕ, ◌+◌, ◌*◌, ◌<◌, arith, refl, sym, ◌∙◌, subst}
+use Rattle.std.proofs.lemmas.Bool.{false≢true}
 use Rattle.study_retro.proofs.BackLemmas.{departed}
 use Rattle.study_retro.proofs.RowEscapeLemmas.{go_below, go_escape, go_won}
 use Rattle.study_retro.proofs.row_escapes.losing_after.Goals as goal
@@ -21,7 +18,8 @@ squares_won-requires-clause-cells g c = λ y on e.
     let k = 64 * c.in-Some.after + y in
     let small = c.requires.plain in
     let q = c.requires.numbered y on e in
-    let fits = departed class c.args.departure.now.class number number c.args.man.now.at c.args.departure.now.from c.args.target k c.requires.class refl c.requires.from
+    let fits = departed class c.args.departure.now.class number number c.args.man.now.at c.args.departure.now.from c.args.target k
+    c.requires.class refl c.requires.from
     (λ p moved. c.in-Some.ensures.numbers y p on moved) in
     let single = sym c.has_both_pawns.ensures ∙ c.if-has_both_pawns.false in
     let stays = sym c.reaches_last_rank.ensures ∙ c.if-reaches_last_rank.false in
@@ -41,7 +39,8 @@ returns-in-Some-clause-yes g c = λ stays y p on r at.
     let k = 64 * c.in-Some.after + y in
     let small = c.requires.plain in
     let q = c.requires.numbered y on e in
-    let fits = departed class c.args.departure.now.class number number c.args.man.now.at c.args.departure.now.from c.args.target k c.requires.class refl c.requires.from
+    let fits = departed class c.args.departure.now.class number number c.args.man.now.at c.args.departure.now.from c.args.target k
+    c.requires.class refl c.requires.from
     (λ p moved. c.in-Some.ensures.numbers y p on moved) in
     let single = sym c.has_both_pawns.ensures ∙ c.if-has_both_pawns.false in
     go_won class number q.0 q.1 (omega (arith, small, on)) c.args.man.now c.args.target c.requires.on (c.requires.going y on e) single stays
@@ -54,7 +53,8 @@ returns-in-Some-clause-no g c = λ y on e r.
     let k = 64 * c.in-Some.after + y in
     let small = c.requires.plain in
     let q = c.requires.numbered y on e in
-    let fits = departed class c.args.departure.now.class number number c.args.man.now.at c.args.departure.now.from c.args.target k c.requires.class refl c.requires.from
+    let fits = departed class c.args.departure.now.class number number c.args.man.now.at c.args.departure.now.from c.args.target k
+    c.requires.class refl c.requires.from
     (λ p moved. c.in-Some.ensures.numbers y p on moved) in
     let single = sym c.has_both_pawns.ensures ∙ c.if-has_both_pawns.false in
     let stays = sym c.reaches_last_rank.ensures ∙ c.if-reaches_last_rank.false in

@@ -1,4 +1,4 @@
-use Rattle.std.proofs.Common.{◌≡◌, ℕ, ◌+◌, ◌*◌, ◌<◌, false, true, List, Contains, Some, refl, sym, ◌∙◌, ap, subst}
+use Rattle.std.proofs.Common.{◌≡◌, ℕ, ◌+◌, ◌*◌, false, List, Contains, Some, refl, sym, ◌∙◌, ap, subst}
 use Rattle.study_board.specs.declared.men.Man.{Man}
 use Rattle.study_board.specs.declared.men.Side.{Side}
 use Rattle.study_board.specs.Men.{same_side}
@@ -24,7 +24,8 @@ loop-next-init g c =
     let Yes : ℕ → Type 0 = λ y. reaches_last_rank c.args.man.now c.args.target ≡ false → (q : Position)
     → position_numbered c.args.game.now.class (64 * c.args.departure.now.row + y) ≡ Some q
     → IsWonAfter (class_game c.args.game.now.class c.args.game.now.tables.now) c.args.cells.now c.args.level q (move_to c.args.man.now c.args.target) in
-    let Not : ℕ → Type 0 = λ y. NoLossBy (class_game c.args.game.now.class c.args.game.now.tables.now) c.args.cells.now c.args.level (64 * c.args.departure.now.row + y) in
+    let Not : ℕ → Type 0 = λ y. NoLossBy (class_game c.args.game.now.class c.args.game.now.tables.now) c.args.cells.now c.args.level
+    (64 * c.args.departure.now.row + y) in
     record { left = left-all c.args.going; kept = kept-none c.args.going Yes Not c.empty-losing.result c.empty-losing.ensures }
 
 pub new-one-requires : goal.new-one-requires
@@ -70,7 +71,8 @@ loses_to-requires-clause-safe g c =
     let f = first-as c.loop-next.rest c.first-square.result y h.inside h.there h.least (c.from.ensures ∙ c.number.ensures.value) in
     let can = c.requires.going y f.inside (first-in _ _ _ c.loop-next.invariant.left y f.inside f.there) in
     ap (λ (ms : List Man). is_safe_target ms c.told-setup.result.to_move c.args.man.now c.args.target) c.told-setup.ensures.men
-    ∙ (ap (λ (s : Side). is_safe_target (told_men (slots_of class) (without_bit number)) s c.args.man.now c.args.target) c.told-setup.ensures.to_move ∙ can.safe)
+    ∙ (ap (λ (s : Side). is_safe_target (told_men (slots_of class) (without_bit number)) s c.args.man.now c.args.target) c.told-setup.ensures.to_move
+        ∙ can.safe)
 
 pub loses_to-requires-clause-free : goal.loses_to-requires-clause-free
 loses_to-requires-clause-free g c =
@@ -91,7 +93,8 @@ loop-next-preserved g c =
     let Yes : ℕ → Type 0 = λ y. reaches_last_rank c.args.man.now c.args.target ≡ false → (q : Position)
     → position_numbered c.args.game.now.class (64 * c.args.departure.now.row + y) ≡ Some q
     → IsWonAfter (class_game c.args.game.now.class c.args.game.now.tables.now) c.args.cells.now c.args.level q (move_to c.args.man.now c.args.target) in
-    let Not : ℕ → Type 0 = λ y. NoLossBy (class_game c.args.game.now.class c.args.game.now.tables.now) c.args.cells.now c.args.level (64 * c.args.departure.now.row + y) in
+    let Not : ℕ → Type 0 = λ y. NoLossBy (class_game c.args.game.now.class c.args.game.now.tables.now) c.args.cells.now c.args.level
+    (64 * c.args.departure.now.row + y) in
     let f : IsFirst c.loop-next.rest t = first-as c.loop-next.rest t t h.inside h.there h.least refl in
     record {
       left = subst (λ (n : ℕ). AreLeft set c.without-rest.result (n + 1)) (sym next)
@@ -102,10 +105,12 @@ loop-next-preserved g c =
                 let here : Yes t = subst Yes same (λ plain q at. c.loses_to.ensures.yes w.if-loses_to.true plain q
                 (ap (λ (n : ℕ). position_numbered c.args.game.now.class n) c.new-one.ensures.number ∙ at)) in
                 subst (λ (s : ℕ). AreKeptBelow set Yes Not (t + 1) s) (sym w.losing-is)
-                (kept-with set Yes Not c.loop-next.rest c.loop-next.next inv.left c.loop-next.losing inv.kept t f w.of-then-loses_to.result w.union-losing.result
+                (kept-with set Yes Not c.loop-next.rest c.loop-next.next inv.left
+                c.loop-next.losing inv.kept t f w.of-then-loses_to.result w.union-losing.result
                 w.of-then-loses_to.ensures w.union-losing.ensures here)
             | else-loses_to w ↦
-                let here : Not t = subst Not same (subst (λ (n : ℕ). NoLossBy (class_game c.args.game.now.class c.args.game.now.tables.now) c.args.cells.now
+                let here : Not t = subst Not same (subst (λ (n : ℕ). NoLossBy (class_game c.args.game.now.class c.args.game.now.tables.now)
+                c.args.cells.now
                 c.args.level n) c.new-one.ensures.number (c.loses_to.ensures.no w.if-loses_to.false)) in
                 subst (λ (s : ℕ). AreKeptBelow set Yes Not (t + 1) s) (sym w.losing-is)
                 (kept-without set Yes Not c.loop-next.rest c.loop-next.next inv.left c.loop-next.losing inv.kept t f here)
@@ -124,6 +129,7 @@ returns-clause-no g c = λ y on e f.
     let Yes : ℕ → Type 0 = λ y. reaches_last_rank c.args.man.now c.args.target ≡ false → (q : Position)
     → position_numbered c.args.game.now.class (64 * c.args.departure.now.row + y) ≡ Some q
     → IsWonAfter (class_game c.args.game.now.class c.args.game.now.tables.now) c.args.cells.now c.args.level q (move_to c.args.man.now c.args.target) in
-    let Not : ℕ → Type 0 = λ y. NoLossBy (class_game c.args.game.now.class c.args.game.now.tables.now) c.args.cells.now c.args.level (64 * c.args.departure.now.row + y) in
+    let Not : ℕ → Type 0 = λ y. NoLossBy (class_game c.args.game.now.class c.args.game.now.tables.now) c.args.cells.now c.args.level
+    (64 * c.args.departure.now.row + y) in
     kept-all c.args.going Yes Not c.loop-next.rest c.loop-next.next inv.left c.loop-next.losing inv.kept
     (c.is_empty.ensures.0 c.loop-next-test.false) y on e f

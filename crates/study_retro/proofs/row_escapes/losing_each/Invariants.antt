@@ -1,4 +1,4 @@
-use Rattle.std.proofs.Common.{◌≡◌, ℕ, ◌+◌, ◌*◌, ◌-◌, false, Some}
+use Rattle.std.proofs.Common.{◌≡◌, ◌+◌, ◌*◌, ◌-◌, false, Some}
 use Rattle.study_board.specs.Position.{Position}
 use Rattle.study_moves.specs.Rules.{reaches_last_rank}
 use Rattle.study_index.specs.Computed.{position_numbered}

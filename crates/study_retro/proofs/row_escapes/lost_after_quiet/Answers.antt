@@ -1,4 +1,4 @@
-use Rattle.std.proofs.Common.{◌≡◌, ℕ, ◌+◌, ◌*◌, ◌<◌, Some, refl, sym, ◌∙◌, subst}
+use Rattle.std.proofs.Common.{◌≡◌, ℕ, ◌+◌, ◌*◌, Some, refl, sym, ◌∙◌, subst}
 use Rattle.study_board.specs.Position.{Position}
 use Rattle.study_index.specs.Computed.{position_numbered}
 use Rattle.study_retro.specs.ClassGame.{class_game}
@@ -13,7 +13,8 @@ pub loop-next-init : goal.loop-next-init
 loop-next-init g c =
     let Yes : ℕ → Type 0 = λ y. (p : Position) × (position_numbered c.args.game.now.class (64 * c.args.row + y) ≡ Some p)
     × LosesBy (class_game c.args.game.now.class c.args.game.now.tables.now) c.args.cells.now c.args.level p in
-    let Not : ℕ → Type 0 = λ y. NoLossBy (class_game c.args.game.now.class c.args.game.now.tables.now) c.args.cells.now c.args.level (64 * c.args.row + y) in
+    let Not : ℕ → Type 0 = λ y. NoLossBy (class_game c.args.game.now.class c.args.game.now.tables.now) c.args.cells.now c.args.level
+    (64 * c.args.row + y) in
     record { left = left-all c.args.losing; kept = kept-none c.args.losing Yes Not c.empty-lost.result c.empty-lost.ensures }
 
 pub is_lost_after_quiet-requires-clause-quiet : goal.is_lost_after_quiet-requires-clause-quiet
@@ -33,7 +34,8 @@ loop-next-preserved g c =
     let set = c.args.losing in
     let Yes : ℕ → Type 0 = λ y. (p : Position) × (position_numbered c.args.game.now.class (64 * c.args.row + y) ≡ Some p)
     × LosesBy (class_game c.args.game.now.class c.args.game.now.tables.now) c.args.cells.now c.args.level p in
-    let Not : ℕ → Type 0 = λ y. NoLossBy (class_game c.args.game.now.class c.args.game.now.tables.now) c.args.cells.now c.args.level (64 * c.args.row + y) in
+    let Not : ℕ → Type 0 = λ y. NoLossBy (class_game c.args.game.now.class c.args.game.now.tables.now) c.args.cells.now c.args.level
+    (64 * c.args.row + y) in
     let f : IsFirst c.loop-next.rest t = first-as c.loop-next.rest t t h.inside h.there h.least refl in
     record {
       left = subst (λ (n : ℕ). AreLeft set c.without-rest.result (n + 1)) (sym next)
@@ -63,6 +65,7 @@ returns-clause-no g c = λ y on e f.
     let inv = c.loop-next.invariant in
     let Yes : ℕ → Type 0 = λ y. (p : Position) × (position_numbered c.args.game.now.class (64 * c.args.row + y) ≡ Some p)
     × LosesBy (class_game c.args.game.now.class c.args.game.now.tables.now) c.args.cells.now c.args.level p in
-    let Not : ℕ → Type 0 = λ y. NoLossBy (class_game c.args.game.now.class c.args.game.now.tables.now) c.args.cells.now c.args.level (64 * c.args.row + y) in
+    let Not : ℕ → Type 0 = λ y. NoLossBy (class_game c.args.game.now.class c.args.game.now.tables.now) c.args.cells.now c.args.level
+    (64 * c.args.row + y) in
     kept-all c.args.losing Yes Not c.loop-next.rest c.loop-next.next inv.left c.loop-next.lost inv.kept
     (c.is_empty.ensures.0 c.loop-next-test.false) y on e f

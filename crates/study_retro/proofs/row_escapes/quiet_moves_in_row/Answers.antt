@@ -1,4 +1,4 @@
-use Rattle.std.proofs.Common.{◌≡◌, ℕ, ◌+◌, ◌*◌, ◌<◌, ◌++◌, ◌∷◌, [], true, false, List, Contains, inl, inr, arith, sym, ◌∙◌, ap, subst}
+use Rattle.std.proofs.Common.{ℕ, ◌+◌, ◌*◌, ◌++◌, ◌∷◌, [], List, Contains, inl, inr, arith, sym, ◌∙◌, ap, subst}
 use Rattle.std.proofs.lemmas.Bool.{cases_Bool, false≢true}
 use Rattle.std.proofs.lemmas.List.{take_all}
 use Rattle.std.proofs.lemmas.List.Elements.{Contains-get_or}
@@ -28,7 +28,8 @@ quiet_moves_of_row-moves-requires-clause-numbered g c = λ y on e. c.requires.nu
 pub quiet_moves_of_row-moves-requires-clause-man : goal.quiet_moves_of_row-moves-requires-clause-man
 quiet_moves_of_row-moves-requires-clause-man g c =
     let men = c.as_slice-man-items.result.now in
-    let there : Contains men c.man-item.result = subst (λ (x : Man). Contains men x) (sym c.man-item.is) (Contains-get_or men c.loop-slot.slot _ c.loop-slot-test.true) in
+    let there : Contains men c.man-item.result = subst (λ (x : Man). Contains men x) (sym c.man-item.is)
+    (Contains-get_or men c.loop-slot.slot _ c.loop-slot-test.true) in
     subst (λ (xs : List Man). Contains xs c.man-item.result) c.as_slice-man-items.ensures.value there
 
 pub loop-slot-preserved : goal.loop-slot-preserved
@@ -38,11 +39,13 @@ loop-slot-preserved g c =
     let inv = c.loop-slot.invariant in
     let e = c.quiet_moves_of_row-moves.ensures in
     let new = c.quiet_moves_of_row-moves.result.losing in
-    let Q : Man → Type 0 = λ x. AllLoseBy (class_game c.args.game.now.class c.args.game.now.tables.now) c.args.cells.now c.args.level c.args.row.now.number new x in
+    let Q : Man → Type 0 = λ x. AllLoseBy (class_game c.args.game.now.class c.args.game.now.tables.now) c.args.cells.now c.args.level
+    c.args.row.now.number new x in
     record {
       among = λ y on t. inv.among y on (e.only y on t);
       hold = λ y on t f. elim (cases_Bool (has c.loop-slot.moves.losing y)) [ inl there ↦ e.no y on there f | inr out ↦ inv.hold y on t out ];
-      lose = each-more Q men c.loop-slot.slot m c.loop-slot-test.true (λ x i y q on t at. inv.lose x i y q on (e.only y on t) at) (subst Q c.man-item.is e.yes);
+      lose = each-more Q men c.loop-slot.slot m c.loop-slot-test.true (λ x i y q on t at. inv.lose x i y q on (e.only y on t) at)
+          (subst Q c.man-item.is e.yes);
       some = e.some;
     }
 
@@ -63,11 +66,13 @@ returns-clause-yes g c = λ y q on t at.
     let men = c.as_slice-man-items.result.now in
     let row = c.args.row.now in
     let small = row.plain in
-    let told = subst (λ (d : Class). AreTold d (64 * row.number + y) (row.others.items ++ on_square row.last y ∷ []) row.to_move) c.requires.class (row.told y on) in
+    let told = subst (λ (d : Class). AreTold d (64 * row.number + y) (row.others.items ++ on_square row.last y ∷ []) row.to_move) c.requires.class
+    (row.told y on) in
     row_lose c.args.game.now.class (64 * row.number + y) y q at (omega (arith, small, on)) row.others.items row.last row.to_move told
     (class_game c.args.game.now.class c.args.game.now.tables.now) c.args.cells.now c.args.level
     (λ m i. let C : List Man → Type 0 = λ xs. Contains xs m in
     c.loop-slot.invariant.lose m
-    (subst C (sym (take_all c.loop-slot.slot men (let h = c.loop-slot-test.false in omega (arith, h)))) (subst C (sym c.as_slice-man-items.ensures.value) i))
+    (subst C (sym (take_all c.loop-slot.slot men (let h = c.loop-slot-test.false in omega (arith, h))))
+    (subst C (sym c.as_slice-man-items.ensures.value) i))
     y q on (c.quiet_moves_of_last.ensures.only y on t) at)
     (c.quiet_moves_of_last.ensures.yes y q on t at)

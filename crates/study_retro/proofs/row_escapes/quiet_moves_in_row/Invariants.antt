@@ -1,4 +1,4 @@
-use Rattle.std.proofs.Common.{◌≡◌, take, Contains}
+use Rattle.std.proofs.Common.{take, Contains}
 use Rattle.study_board.specs.declared.men.Man.{Man}
 use Rattle.study_retro.specs.ClassGame.{class_game}
 use Rattle.study_retro.specs.RowEscapes.{AllLoseBy, AreAmong, HaveMoves, OthersHold}

@@ -1,4 +1,4 @@
-use Rattle.std.proofs.Common.{◌≡◌, ℕ, ◌+◌, ◌*◌, ◌<◌, ◌==◌, ◌||◌, Bool, true, false, Some, inl, inr, arith, refl, sym, ◌∙◌, ap, subst}
+use Rattle.std.proofs.Common.{◌≡◌, ℕ, ◌+◌, ◌*◌, ◌==◌, ◌||◌, Bool, true, Some, inl, inr, refl, sym, ◌∙◌, ap, subst}
 use Rattle.std.proofs.lemmas.Bool.{cases_Bool, not-false, not-true}
 use Rattle.study_board.specs.Position.{Position}
 use Rattle.study_board.specs.Sets.{has}
@@ -6,7 +6,7 @@ use Rattle.study_index.specs.Computed.{position_numbered}
 use Rattle.study_retro.specs.ClassGame.{class_game}
 use Rattle.study_retro.specs.Numbered.{NoLossBy}
 use Rattle.study_retro.specs.RowEscapes.{HaveMoves}
-use Rattle.study_retro.specs.Still.{HasMove, QuietMovesLoseBy, on_square}
+use Rattle.study_retro.specs.Still.{QuietMovesLoseBy, on_square}
 use Rattle.study_retro.proofs.RowEscapeLemmas.{AreKeptBelow, kept-all, kept-none, kept-with, kept-without, square-is}
 use Rattle.study_retro.proofs.RowSets.{IsFirst, first-as}
 use Rattle.study_retro.proofs.SquaresLeft.{AreLeft, left-all, left-more}
@@ -17,7 +17,8 @@ pub loop-next-init : goal.loop-next-init
 loop-next-init g c =
     let Yes : ℕ → Type 0 = λ y. (q : Position) → position_numbered c.args.game.now.class (64 * c.args.row.now.number + y) ≡ Some q
     → QuietMovesLoseBy (class_game c.args.game.now.class c.args.game.now.tables.now) c.args.cells.now c.args.level q (on_square c.args.row.now.last y) in
-    let Not : ℕ → Type 0 = λ y. NoLossBy (class_game c.args.game.now.class c.args.game.now.tables.now) c.args.cells.now c.args.level (64 * c.args.row.now.number + y) in
+    let Not : ℕ → Type 0 = λ y. NoLossBy (class_game c.args.game.now.class c.args.game.now.tables.now) c.args.cells.now c.args.level
+    (64 * c.args.row.now.number + y) in
     record {
       left = left-all c.args.so_far.losing;
       kept = kept-none c.args.so_far.losing Yes Not c.empty-losing.result c.empty-losing.ensures;
@@ -36,7 +37,8 @@ loop-next-preserved g c =
     let row = c.args.row.now in
     let Yes : ℕ → Type 0 = λ y. (q : Position) → position_numbered c.args.game.now.class (64 * c.args.row.now.number + y) ≡ Some q
     → QuietMovesLoseBy (class_game c.args.game.now.class c.args.game.now.tables.now) c.args.cells.now c.args.level q (on_square c.args.row.now.last y) in
-    let Not : ℕ → Type 0 = λ y. NoLossBy (class_game c.args.game.now.class c.args.game.now.tables.now) c.args.cells.now c.args.level (64 * c.args.row.now.number + y) in
+    let Not : ℕ → Type 0 = λ y. NoLossBy (class_game c.args.game.now.class c.args.game.now.tables.now) c.args.cells.now c.args.level
+    (64 * c.args.row.now.number + y) in
     let f : IsFirst c.loop-next.rest t = first-as c.loop-next.rest t t h.inside h.there h.least refl in
     let number : 64 * row.number + c.from.result ≡ 64 * row.number + t = ap (λ (n : ℕ). 64 * row.number + n) same in
     record {
@@ -83,6 +85,7 @@ returns-clause-no g c = λ y on e f.
     let inv = c.loop-next.invariant in
     let Yes : ℕ → Type 0 = λ y. (q : Position) → position_numbered c.args.game.now.class (64 * c.args.row.now.number + y) ≡ Some q
     → QuietMovesLoseBy (class_game c.args.game.now.class c.args.game.now.tables.now) c.args.cells.now c.args.level q (on_square c.args.row.now.last y) in
-    let Not : ℕ → Type 0 = λ y. NoLossBy (class_game c.args.game.now.class c.args.game.now.tables.now) c.args.cells.now c.args.level (64 * c.args.row.now.number + y) in
+    let Not : ℕ → Type 0 = λ y. NoLossBy (class_game c.args.game.now.class c.args.game.now.tables.now) c.args.cells.now c.args.level
+    (64 * c.args.row.now.number + y) in
     kept-all c.args.so_far.losing Yes Not c.loop-next.rest c.loop-next.next inv.left c.loop-next.losing inv.kept
     (c.is_empty.ensures.0 c.loop-next-test.false) y on e f

@@ -1,8 +1,8 @@
-use Rattle.std.proofs.Common.{◌≡◌, ◌+◌, ◌*◌, ◌<◌, ◌&&◌, ◌||◌, ℕ, not, true, false, Bool, List, [], ◌∷◌, ◌++◌, Some, inl, inr, refl, sym, ◌∙◌, ap, subst, arith}
+use Rattle.std.proofs.Common.{◌≡◌, ◌+◌, ◌*◌, ◌<◌, ◌&&◌, ◌||◌, ℕ, not, true, Bool, List, [], ◌∷◌, ◌++◌, inl, inr, refl, sym, ◌∙◌, ap, subst, arith}
 use Rattle.std.proofs.lemmas.Bool.{false≢true, and_parts, cases_Bool, cases_lt, not-true, not-false}
 use Rattle.study_board.specs.declared.men.Man.{Man}
 use Rattle.study_board.specs.Men.{same_side}
-use Rattle.study_board.specs.Position.{Position, is_occupied}
+use Rattle.study_board.specs.Position.{is_occupied}
 use Rattle.study_board.specs.Sets.{has}
 use Rattle.study_board.proofs.EqualMen.{side_same}
 use Rattle.study_board.proofs.SetBits.{has-zero}
@@ -14,7 +14,7 @@ use Rattle.study_index.specs.Computed.{position_numbered}
 use Rattle.study_retro.specs.ClassGame.{class_game}
 use Rattle.study_retro.specs.Numbered.{NoLossBy}
 use Rattle.study_retro.specs.Predecessors.{AreTold}
-use Rattle.study_retro.specs.RowEscapes.{AreWonAfter, CanGo}
+use Rattle.study_retro.specs.RowEscapes.{CanGo}
 use Rattle.study_retro.specs.RowMoves.{AreApart, goes_quietly}
 use Rattle.study_retro.specs.Still.{IsWonAfter, move_to, on_square}
 use Rattle.study_retro.proofs.RowEscapeLemmas.{go_some, row_can, row_goes, row_stays, thin-cases, thin-gone}
@@ -29,7 +29,8 @@ pub returns-then-ne-clause-yes : goal.returns-then-ne-clause-yes
 returns-then-ne-clause-yes g c = λ y q on e at x legal quiet.
     let row = c.args.row.now in
     let small = row.plain in
-    let told = subst (λ (d : Class). AreTold d (64 * row.number + y) (row.others.items ++ on_square row.last y ∷ []) row.to_move) c.requires.class (row.told y on) in
+    let told = subst (λ (d : Class). AreTold d (64 * row.number + y) (row.others.items ++ on_square row.last y ∷ []) row.to_move) c.requires.class
+    (row.told y on) in
     let go = row_goes c.args.game.now.class (64 * row.number + y) y q at (omega (arith, small, on)) row.others.items row.last row.to_move told
     c.args.man.now c.requires.man x legal quiet in
     absurd (false≢true (sym (sym (side_same _ _) ∙ not-true _ (sym c.ne.ensures ∙ c.if-ne.true)) ∙ go.1))
@@ -62,7 +63,8 @@ losing_after-lost-requires-clause-going g c = λ y on e.
     let small = row.plain in
     let both = and_parts _ _ (sym (c.intersection-going.ensures y) ∙ e) in
     let q = c.requires.numbered y on (c.loop-others.invariant.among y on both.0) in
-    let told = subst (λ (d : Class). AreTold d (64 * row.number + y) (row.others.items ++ on_square row.last y ∷ []) row.to_move) c.requires.class (row.told y on) in
+    let told = subst (λ (d : Class). AreTold d (64 * row.number + y) (row.others.items ++ on_square row.last y ∷ []) row.to_move) c.requires.class
+    (row.told y on) in
     let his = sym (side_same _ _) ∙ not-false _ (sym c.ne.ensures ∙ c.if-ne.false) in
     let word = subst (λ (xs : List Man). AreApart (xs ++ on_square row.last y ∷ []) → has c.squares_going.result y
     ≡ (is_safe_target (xs ++ on_square row.last y ∷ []) row.to_move man a && not (is_occupied (xs ++ on_square row.last y ∷ []) a)))
@@ -109,10 +111,12 @@ loop-others-preserved g c =
       lose = λ x y q l e on there at legal quiet. elim (cases_lt x c.loop-others.next) [
         | inl low ↦ inv.lose x y q low e on (before y on there) at legal quiet
         | inr high ↦ elim (cases_lt x a) [
-          | inl low ↦ absurd (false≢true (sym (first-only _ _ _ inv.left a f.inside f.there f.least x high low (let s = f.inside in omega (arith, low, s))) ∙ e))
+          | inl low ↦ absurd (false≢true (sym (first-only _ _ _ inv.left a f.inside f.there f.least x high low
+              (let s = f.inside in omega (arith, low, s))) ∙ e))
           | inr top ↦
               let same : x ≡ a = omega (arith, l, top, next) in
-              let told = subst (λ (d : Class). AreTold d (64 * row.number + y) (row.others.items ++ on_square row.last y ∷ []) row.to_move) c.requires.class (row.told y on) in
+              let told = subst (λ (d : Class). AreTold d (64 * row.number + y) (row.others.items ++ on_square row.last y ∷ []) row.to_move)
+              c.requires.class (row.told y on) in
               let legal_a = subst (λ (z : ℕ). is_legal q (move_to man z) ≡ true) same legal in
               let quiet_a = subst (λ (z : ℕ). IsQuiet q (move_to man z)) same quiet in
               let plain : 64 * row.number + y < 16777216 = omega (arith, small, on) in
@@ -123,7 +127,8 @@ loop-others-preserved g c =
                     (row_stays class (64 * row.number + y) y q at plain row.others.items row.last row.to_move told man c.requires.man a legal_a quiet_a)
                     y q on is_lost (ap (λ (d : ℕ). position_numbered class (64 * d + y)) is_row ∙ at)
                 | inr k ↦
-                    let go = row_goes class (64 * row.number + y) y q at plain row.others.items row.last row.to_move told man c.requires.man a legal_a quiet_a in
+                    let go = row_goes class (64 * row.number + y) y q at plain row.others.items row.last row.to_move told man
+                    c.requires.man a legal_a quiet_a in
                     absurd (false≢true (sym k.1 ∙ (c.intersection-going.ensures y ∙ rw (k.0, go.3 c.squares_going.result (word y on)) refl)))
               ])
         ]
@@ -133,7 +138,8 @@ loop-others-preserved g c =
         | inr out ↦
             let goes : has going y ≡ true = sym (ap (λ (b : Bool). b || has going y) out) ∙ (sym (c.union-some.ensures y) ∙ e) in
             let both = and_parts (has losing y) (has c.squares_going.result y) (sym (c.intersection-going.ensures y) ∙ goes) in
-            let told = subst (λ (d : Class). AreTold d (64 * row.number + y) (row.others.items ++ on_square row.last y ∷ []) row.to_move) c.requires.class (row.told y on) in
+            let told = subst (λ (d : Class). AreTold d (64 * row.number + y) (row.others.items ++ on_square row.last y ∷ []) row.to_move)
+            c.requires.class (row.told y on) in
             let plain : 64 * row.number + y < 16777216 = omega (arith, small, on) in
             go_some class (64 * row.number + y) q at plain man a f.inside
             (row_can class (64 * row.number + y) y q at plain row.others.items row.last row.to_move told man c.requires.man his a c.squares_going.result
@@ -145,7 +151,8 @@ pub returns-clause-yes : goal.returns-clause-yes
 returns-clause-yes g c = λ y q on e at x legal quiet.
     let row = c.args.row.now in
     let small = row.plain in
-    let told = subst (λ (d : Class). AreTold d (64 * row.number + y) (row.others.items ++ on_square row.last y ∷ []) row.to_move) c.requires.class (row.told y on) in
+    let told = subst (λ (d : Class). AreTold d (64 * row.number + y) (row.others.items ++ on_square row.last y ∷ []) row.to_move) c.requires.class
+    (row.told y on) in
     let go = row_goes c.args.game.now.class (64 * row.number + y) y q at (omega (arith, small, on)) row.others.items row.last row.to_move told
     c.args.man.now c.requires.man x legal quiet in
     let there = c.targets_beside-rest.ensures x go.0

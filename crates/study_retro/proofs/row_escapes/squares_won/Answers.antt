@@ -1,4 +1,4 @@
-use Rattle.std.proofs.Common.{◌≡◌, ℕ, ◌+◌, ◌*◌, ◌≤◌, slice_index, refl, sym, ◌∙◌, ap, subst}
+use Rattle.std.proofs.Common.{◌≡◌, ℕ, ◌+◌, ◌*◌, ◌≤◌, slice_index, refl, sym, ◌∙◌, subst}
 use Rattle.std.proofs.lemmas.Bool.{false≢true}
 use Rattle.study_retro.specs.Cells.{value_of}
 use Rattle.study_retro.specs.declared.value.Value.TheVariants.{Win}
@@ -12,7 +12,8 @@ pub loop-next-init : goal.loop-next-init
 loop-next-init c = record {
   left = left-all c.args.set;
   kept = kept-none c.args.set (λ y. (m : ℕ) × (value_of (slice_index c.args.cells.now (64 * c.args.row + y)) ≡ Win m) × (m ≤ c.args.level))
-      (λ y. ((m : ℕ) × (value_of (slice_index c.args.cells.now (64 * c.args.row + y)) ≡ Win m) × (m ≤ c.args.level)) → ⊥) c.empty-won.result c.empty-won.ensures;
+      (λ y. ((m : ℕ) × (value_of (slice_index c.args.cells.now (64 * c.args.row + y)) ≡ Win m) × (m ≤ c.args.level)) → ⊥) c.empty-won.result
+      c.empty-won.ensures;
 }
 
 pub loop-next-preserved : goal.loop-next-preserved
