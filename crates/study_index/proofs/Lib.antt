@@ -25,5 +25,5 @@ pub mod AddedNumbers
 pub mod LeastImages
 pub mod KingNumbers
 mod Departures
-mod RowDepartures
+pub mod RowDepartures
 pub mod ListedKings

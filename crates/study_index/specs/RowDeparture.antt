@@ -1,5 +1,5 @@
 -- The rows after one man moves, as sums: a row is that of the 64 numbers which differ in the square of the last man alone.
-use Rattle.std.specs.Prelude.{◌≡◌, ℕ, ◌+◌, ◌*◌, ◌<◌, Bool, true, not, ◌||◌, Option, Some}
+use Rattle.std.specs.Prelude.{◌≡◌, ℕ, ◌+◌, ◌*◌, ◌<◌, Bool, true, not, ◌||◌, Some}
 use Rattle.study_board.specs.Position.{Position}
 use Rattle.study_material.specs.declared.class.Class.{Class}
 use Rattle.study_index.specs.declared.row_way.RowTerms.{RowTerms}
@@ -31,6 +31,10 @@ IsRowOfKing pawns t a k =
 -- the same where the man is the white king, of whose squares the place counts
 abbrev pub IsRowSumOfKing : Class → ℕ → ℕ → RowTerms → Type 0
 IsRowSumOfKing c r x t = (a k : ℕ) → a < 64 → IsRowOfKing (slots_have_pawn (slots_of c)) t a k → IsRowTo c r x a k
+
+-- after the last man has moved from its square to any square the numbers of the row r are those of the row k, by that square
+abbrev pub IsRowOfLast : Class → ℕ → ℕ → Type 0
+IsRowOfLast c r k = (y a : ℕ) (p : Position) → y < 64 → a < 64 → IsMoved c (64 * r + y) y a p → index_of p ≡ 64 * k + a
 
 -- the way leads to the row after the man on x has moved
 pub record IsRowFoundBy (c : Class) (r x : ℕ) (way : RowWay) : Type 0 where

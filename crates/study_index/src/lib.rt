@@ -32,4 +32,4 @@ pub use least::index;
 pub use moved::{number_moved, number_stepped};
 pub use number::EN_PASSANT_BIT;
 pub use reading::{Setup, told};
-pub use row_departure::RowDeparture;
+pub use row_departure::{RowDeparture, row_of_last};

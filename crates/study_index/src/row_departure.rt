@@ -1,5 +1,5 @@
 //! The row of the numbers after one man, not the last, moves from its square to any other: what the moves have in common
-//! is found once for all the numbers of a row.
+//! is found once for all the numbers of a row. And the row after the last man moves.
 ghost use Rattle.std.specs.Prelude.{◌≡◌, ℕ, ◌+◌, ◌*◌, ◌/◌, ◌%◌, ◌^◌, ◌-◌, ◌<◌, ◌≤◌, IfSome};
 ghost use Rattle.study_board.specs.Men.{other_side};
 ghost use Rattle.study_board.specs.Position.{Position as Seen};
@@ -71,25 +71,27 @@ fn terms_of_king(pawns: bool, count: u32, head: u32, row: u32) -> RowTerms
     }
 }
 
-/// How the row is found after the man on the square has moved, where it may be the man of the slot.
+/// How the row is found after the man on the square has moved, where it may be the man of the slot, if the numbers are
+/// known to be in one row.
 #[inline(always)]
-fn way_from(class: Class, row: u32, from: Square, slot: u32) -> RowWay
+fn way_from(class: Class, row: u32, from: Square, slot: u32) -> Option<RowWay>
     requires { 64 * row < cells_of class }
-    ensures { IsRowFoundBy class row from result }
+    ensures { IfSome result (λ w. IsRowFoundBy class row from w) }
 {
     let (slots, pawns) = (slots(class), class_has_pawn(class));
     let n = 64 * row % EN_PASSANT_BIT;
     let count = slots.len() as u32;
     if slot >= count - 1 || has_like_men(class) || !stands_in(slots, pawns, n, slot, from) {
-        return RowWay::Apart;
+        return None;
     }
     if slot == 0 {
-        return RowWay::King(terms_of_king(pawns, count, head(slots, n), n / 64));
+        let terms = terms_of_king(pawns, count, head(slots, n), n / 64);
+        return Some(RowWay::King(terms));
     }
     if keeps_image(class, slots, pawns, n) {
-        RowWay::Sum(terms_of(pawns, count, n, slot))
+        Some(RowWay::Sum(terms_of(pawns, count, n, slot)))
     } else {
-        RowWay::Apart
+        None
     }
 }
 
@@ -109,26 +111,30 @@ fn row_of_king(pawns: bool, terms: RowTerms, to: Square) -> Option<u32>
 }
 
 impl RowDeparture {
-    /// The departure of the man that stands on the square by the numbers of the row: those from 64 times the row on.
-    /// Where the slot, the first at 0, is not that of the man, or is the last, `row_to` tells nothing.
+    /// The departure of the man that stands on the square by the numbers of the row, those from 64 times the row on, if
+    /// the numbers after it has moved are known to be in one row. There is none where the slot, the first at 0, is not that
+    /// of the man, or is the last.
     #[inline(always)]
-    pub fn new(class: Class, row: u32, from: Square, slot: u32) -> Self
+    pub fn new(class: Class, row: u32, from: Square, slot: u32) -> Option<Self>
         requires { 64 * row < cells_of class }
-        ensures class { result.class ≡ class }
-        ensures row { result.row ≡ row }
-        ensures from { result.from ≡ from }
+        ensures class { IfSome result (λ d. d.class ≡ class) }
+        ensures row { IfSome result (λ d. d.row ≡ row) }
+        ensures from { IfSome result (λ d. d.from ≡ from) }
     {
-        let way = way_from(class, row, from, slot);
-        RowDeparture {
-            class,
-            row,
-            from,
-            way,
+        match way_from(class, row, from, slot) {
+            Some(way) => Some(RowDeparture {
+                class,
+                row,
+                from,
+                way,
+            }),
+            None => None,
         }
     }
 
-    /// The row of the numbers after the man has moved to another square, each with the last man where it was, if they are
-    /// known to be in one: what `Departure::number_to` tells of each.
+    /// The row of the numbers after the man has moved to another square, each with the last man where it was: what
+    /// `Departure::number_to` tells of each. It is not known where the man is the white king and the square is not listed,
+    /// or is on the diagonal where no man is a pawn.
     #[inline(always)]
     pub fn row_to(&self, to: Square) -> Option<u32>
         ensures numbers { IfSome result (λ r. (y : ℕ) (p : Seen) → y < 64
@@ -138,7 +144,24 @@ impl RowDeparture {
         match self.way {
             RowWay::Sum(terms) => Some(terms.with(u32::from(to.number()))),
             RowWay::King(terms) => row_of_king(class_has_pawn(self.class), terms, to),
-            RowWay::Apart => None,
         }
+    }
+}
+
+/// The row of the numbers after the last man has moved, if they are known to be in one: the last man's new square is the
+/// place in it.
+#[inline(always)]
+pub fn row_of_last(class: Class, row: u32) -> Option<u32>
+    requires { 64 * row < cells_of class }
+    ensures numbers { IfSome result (λ r. (y a : ℕ) (p : Seen) → y < 64 → a < 64
+        → IsMoved class (64 * row + y) y a p → index_of p ≡ 64 * r + a) }
+    ensures small { IfSome result (λ r. r < 1048576) }
+{
+    let (slots, pawns) = (slots(class), class_has_pawn(class));
+    let n = 64 * row % EN_PASSANT_BIT;
+    if keeps_image(class, slots, pawns, n) {
+        Some(side_turned(pawns, slots.len() as u32, n) / 64)
+    } else {
+        None
     }
 }

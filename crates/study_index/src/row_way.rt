@@ -1,13 +1,12 @@
 //! How the row of the numbers after a move of one man is found.
 ghost use Rattle.std.specs.Prelude.{◌≡◌, ◌+◌, ◌*◌, ◌<◌, ◌≤◌};
 
-/// How the row of the numbers after the man has moved is found: as a sum with its square; as a sum with its place, where
-/// it is the white king; or not at all, where they may be in several rows.
+/// How the row of the numbers after the man has moved is found: as a sum with its square; or as a sum with its place, where
+/// it is the white king.
 #[derive(Clone, Copy)]
 pub enum RowWay {
     Sum(RowTerms),
     King(RowTerms),
-    Apart,
 }
 
 /// The row with the other side to move and without the man, and what a square or a place of the man counts in it.

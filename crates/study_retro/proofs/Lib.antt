@@ -23,7 +23,6 @@ pub mod RowChecks
 pub mod RowSets
 pub mod RowBackLemmas
 pub mod RowGeometry
-pub mod RowPawns
 pub mod RowMoveLemmas
 pub mod SquaresLeft
 pub mod DueTally

@@ -1,7 +1,7 @@
 -- The positions before those of a row, where the numbers after a man has moved are a row.
-use Rattle.std.proofs.Common.{◌≡◌, ℕ, ◌+◌, ◌*◌, ◌<◌, ◌++◌, ◌∷◌, [], false, true, List, Contains, Some, inl, inr, sym, ◌∙◌, ap, subst}
+use Rattle.std.proofs.Common.{◌≡◌, ℕ, ◌+◌, ◌*◌, ◌<◌, ◌++◌, ◌∷◌, [], false, true, List, Contains, Some, inl, inr, refl, sym, ◌∙◌, ap, subst}
 use Rattle.std.specs.List.Sorted.{IsPermutation}
-use Rattle.std.proofs.lemmas.List.Elements.{Contains-append_left}
+use Rattle.std.proofs.lemmas.List.Elements.{Contains-append_left, Contains-push}
 use Rattle.study_board.specs.declared.men.Man.{Man}
 use Rattle.study_board.specs.declared.men.Side.{Side}
 use Rattle.study_board.specs.Men.{other_side, same_side}
@@ -9,31 +9,35 @@ use Rattle.study_board.specs.Position.{Position}
 use Rattle.study_board.specs.Sets.{has}
 use Rattle.study_moves.specs.Unmoves.{CanHaveLed, came_from, comes, move_from}
 use Rattle.study_material.specs.declared.class.Class.{Class}
-use Rattle.study_material.specs.Class.{lists_of}
-use Rattle.study_index.specs.Number.{has_both_pawns}
+use Rattle.study_moves.specs.Rules.{after}
+use Rattle.study_index.specs.Number.{cells_of}
 use Rattle.study_index.specs.Computed.{index_of, position_numbered}
 use Rattle.study_index.specs.Moved.{IsMoved}
 use Rattle.study_index.proofs.ComputedIndex.{told_decoded}
 use Rattle.study_index.proofs.DecodedNumbers.{told_of}
-use Rattle.study_retro.specs.Predecessors.{AreTold, IsBeforeFrom}
+use Rattle.study_retro.specs.Predecessors.{AreTold, IsBeforeFrom, PassesNone}
+use Rattle.study_retro.specs.RowBack.{IsItOrTwin}
 use Rattle.study_retro.specs.RowMoves.{AreApart}
 use Rattle.study_retro.specs.Still.{on_square}
-use Rattle.study_retro.proofs.BackLemmas.{before_is, is_before, came_led, led_came}
-use Rattle.study_retro.proofs.MovedSteps.{lands_single}
+use Rattle.study_retro.proofs.BackLemmas.{before_below, is_before, twin_before, small_before, came_led, led_came}
+use Rattle.study_retro.proofs.MovedSteps.{lands_left}
+use Rattle.study_retro.proofs.QuietSteps.{dead_plain}
 use Rattle.study_retro.proofs.RowMoveLemmas.{AreApart-position, came_less}
-use Rattle.study_retro.proofs.Twins.{single_twinless}
 
-module _ (c : Class) (single : has_both_pawns (lists_of c) ≡ false) (number : ℕ) (q : Position) (at : position_numbered c number ≡ Some q) (man : Man)
-    (a k : ℕ) (fits : (p : Position) → IsMoved c number man.at a p → index_of p ≡ k) where
-  -- where one side alone has pawns the number that fits is before; and no other is
-  pub is_one_before : CanHaveLed q (move_from man a) → IsBeforeFrom c number man a k
-  is_one_before h = is_before c number q at man a k fits h (lands_single c number q at single h.from (move_from man a) h.leads)
+module _ (c : Class) (number : ℕ) (q : Position) (at : position_numbered c number ≡ Some q) (plain : number < 16777216) (man : Man) (a k : ℕ)
+    (passes : PassesNone c a man.at) (fits : (p : Position) → IsMoved c number man.at a p → index_of p ≡ k) (h : CanHaveLed q (move_from man a)) where
+  lands : index_of (after h.from (move_from man a)) ≡ number
+  lands = lands_left c number q at (dead_plain c number q at plain) h.from (move_from man a) h.leads (inl passes)
 
-  pub one_before_is : (n : ℕ) → IsBeforeFrom c number man a n → n ≡ k
-  one_before_is n b = elim (before_is c number q at man a k fits n b) [
-    | inl e ↦ e
-    | inr s ↦ absurd (single_twinless c k single s.1.0 (subst (λ (m : ℕ). position_numbered c m ≡ Some s.1.0) s.0 s.1.1))
-  ]
+  -- where the move leaves no capture in passing the number that fits is before, and so is its twin; and no other is
+  pub fit_before : (n : ℕ) → IsItOrTwin c k n → IsBeforeFrom c number man a n
+  fit_before n (inl e) = subst (λ (m : ℕ). IsBeforeFrom c number man a m) (sym e) (is_before c number q at man a k fits h lands)
+  fit_before n (inr s) =
+      subst (λ (m : ℕ). IsBeforeFrom c number man a m) (sym s.0)
+      (twin_before c number q at man a k fits h lands s.1.0 (subst (λ (m : ℕ). position_numbered c m ≡ Some s.1.0) s.0 s.1.1))
+
+  pub fit_below : (k < cells_of c) × (k < 16777216)
+  fit_below = (before_below c number man a k (fit_before k (inl refl)), small_before c number q at man a k fits h)
 
 -- ---- the men of a row
 
@@ -47,6 +51,16 @@ module _ (c : Class) (number y : ℕ) (q : Position) (at : position_numbered c n
   row_apart =
       let d = told_decoded c number q at in
       AreApart-position q row_men d.valid (subst (λ (zs : List Man). IsPermutation zs q.men) (sym told.0) (told_of c number q d).same_men)
+
+  -- the last man can have led to the position from where it can have come
+  pub last_led : same_side last.side (other_side side) ≡ true → (a : ℕ) → a < 64 → came_from row_men side (on_square last y) a ≡ true
+      → CanHaveLed q (move_from (on_square last y) a)
+  last_led his a on e = came_led c number q at row_men side told (on_square last y) (Contains-push others (on_square last y)) his a on e
+
+  -- and only from there
+  pub last_came : (a n : ℕ) → a < 64 → IsBeforeFrom c number (on_square last y) a n → (same_side last.side (other_side side) ≡ true)
+      × (came_from row_men side (on_square last y) a ≡ true)
+  last_came a n on b = led_came c number q at row_men side told (on_square last y) (Contains-push others (on_square last y)) a n on b
 
   module _ (man : Man) (among : Contains others man) where
     -- one of the other men can have led to the position from where it can have come with the last man on y

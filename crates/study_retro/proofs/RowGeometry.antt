@@ -1,7 +1,7 @@
 -- What stands between two squares of a step.
-use Rattle.std.proofs.Common.{◌≡◌, ℕ, ◌+◌, ◌<◌, ◌≤◌, ◌==◌, Bool, true, false, ◌&&◌, ◌||◌, ◌⊎◌, inl, inr, refl, sym, ◌∙◌, ap, subst, arith, nat_le, nat_lt}
+use Rattle.std.proofs.Common.{◌≡◌, ℕ, ◌+◌, ◌<◌, ◌≤◌, ◌==◌, Bool, true, false, ◌&&◌, ◌||◌, ◌⊎◌, inl, inr, refl, sym, ◌∙◌, arith, nat_le, nat_lt}
 use borrow.Author.Tests.{ltb-true}
-use Rattle.std.proofs.lemmas.Bool.{and_from, and_parts, cases_Bool, eq-eqb, eqb-true, false≢true, leb-true, lt-ltb, or_cases, or_right}
+use Rattle.std.proofs.lemmas.Bool.{and_from, and_parts, eq-eqb, eqb-true, false≢true, leb-true, lt-ltb, or_cases, or_right}
 use Rattle.study_board.specs.declared.men.Side.{Side}
 use Rattle.study_board.specs.declared.men.Side.TheVariants.{White, Black}
 use Rattle.study_board.specs.Geometry.{apart, file_of, rank_of, files_apart, ranks_apart, is_between, king_step, knight_jump, on_bishop_line, strictly_between}
@@ -70,11 +70,16 @@ none_on_king_step a y x e =
 pub none_on_jump : (a y x : ℕ) → knight_jump a x ≡ true → strictly_between a y x ≡ false
 unfolding knight_jump
 none_on_jump a y x e = none_if _ (λ s. elim (or_cases _ _ e) [
-  | inl h ↦ let p = and_parts (files_apart a x == 1) (ranks_apart a x == 2) h in askew 1 2 s (eqb-true _ _ p.0) (eqb-true _ _ p.1) (λ k. absurd (omega arith)) (λ k. absurd (omega arith)) (λ k. absurd (omega arith))
-  | inr h ↦ let p = and_parts (files_apart a x == 2) (ranks_apart a x == 1) h in askew 2 1 s (eqb-true _ _ p.0) (eqb-true _ _ p.1) (λ k. absurd (omega arith)) (λ k. absurd (omega arith)) (λ k. absurd (omega arith))
+  | inl h ↦
+      let p = and_parts (files_apart a x == 1) (ranks_apart a x == 2) h in
+      askew 1 2 s (eqb-true _ _ p.0) (eqb-true _ _ p.1) (λ k. absurd (omega arith)) (λ k. absurd (omega arith)) (λ k. absurd (omega arith))
+  | inr h ↦
+      let p = and_parts (files_apart a x == 2) (ranks_apart a x == 1) h in
+      askew 2 1 s (eqb-true _ _ p.0) (eqb-true _ _ p.1) (λ k. absurd (omega arith)) (λ k. absurd (omega arith)) (λ k. absurd (omega arith))
 ])
   where
-    askew : (m n : ℕ) → strictly_between a y x ≡ true → files_apart a x ≡ m → ranks_apart a x ≡ n → (m ≡ 0 → ⊥) → (n ≡ 0 → ⊥) → (m ≡ n → ⊥) → ⊥
+    askew : (m n : ℕ) → strictly_between a y x ≡ true → files_apart a x ≡ m → ranks_apart a x ≡ n
+        → (m ≡ 0 → ⊥) → (n ≡ 0 → ⊥) → (m ≡ n → ⊥) → ⊥
     askew m n s p q u v w = none_askew _ _ _ _ _ _ (on_way a y x s) (λ k. u (sym p ∙ k)) (λ k. v (sym q ∙ k)) (λ k. w (sym p ∙ k ∙ q))
 
 -- x is n ranks ahead of a, as some side's pawns go

@@ -1,5 +1,5 @@
 -- A set of squares, taken one by one from the first.
-use Rattle.std.proofs.Common.{◌≡◌, ℕ, ◌+◌, ◌<◌, ◌≤◌, ◌==◌, Bool, true, false, not, ◌&&◌, refl, sym, ◌∙◌, ap, subst, arith, inl, inr}
+use Rattle.std.proofs.Common.{◌≡◌, ℕ, ◌+◌, ◌<◌, ◌≤◌, ◌==◌, Bool, true, false, not, ◌&&◌, refl, sym, ◌∙◌, ap, arith, inl, inr}
 use Rattle.std.proofs.lemmas.Bool.{false≢true, cases_lt, eq-eqb, ne_eqb}
 use Rattle.study_board.specs.Sets.{has}
 use Rattle.study_board.proofs.SetBits.{has-zero}
@@ -50,23 +50,13 @@ module _ (all rest next : ℕ) (h : AreLeft all rest next) where
   pub left-none : rest ≡ 0 → (x : ℕ) → next ≤ x → x < 64 → has all x ≡ false
   left-none e x g on = sym (h.left x g on) ∙ (ap (λ (s : ℕ). has s x) e ∙ has-zero x)
 
--- what holds of the squares taken holds with one more, and of all where none is left
-module _ (Q : ℕ → Type 0) (all rest next : ℕ) (h : AreLeft all rest next) (before : (x : ℕ) → x < next → has all x ≡ true → Q x) where
-  pub taken-more : (t n : ℕ) → t < 64 → has rest t ≡ true → ((x : ℕ) → x < t → has rest x ≡ false) → n ≡ t → Q t
-      → (x : ℕ) → x < n + 1 → has all x ≡ true → Q x
-  taken-more t n on there least same here x l e = elim (cases_lt x next) [
-    | inl low ↦ before x low e
-    | inr high ↦ elim (cases_lt x t) [
-      | inl low ↦ absurd (false≢true (sym (first-only all rest next h t on there least x high low (omega (arith, low, on))) ∙ e))
-      | inr top ↦ (let is : t ≡ x = omega (arith, l, top, same) in subst Q is here)
-    ]
-  ]
-
-  pub taken-all : rest ≡ 0 → (x : ℕ) → x < 64 → has all x ≡ true → Q x
-  taken-all none x on e = elim (cases_lt x next) [
-    | inl low ↦ before x low e
-    | inr high ↦ absurd (false≢true (sym (left-none all rest next h none x high on) ∙ e))
-  ]
+-- what holds of the squares taken holds of all where none is left
+pub taken-all : (Q : ℕ → Type 0) (all rest next : ℕ) → AreLeft all rest next → ((x : ℕ) → x < next → has all x ≡ true → Q x) → rest ≡ 0
+    → (x : ℕ) → x < 64 → has all x ≡ true → Q x
+taken-all Q all rest next h before none x on e = elim (cases_lt x next) [
+  | inl low ↦ before x low e
+  | inr high ↦ absurd (false≢true (sym (left-none all rest next h none x high on) ∙ e))
+]
 
 -- what is in one set and not in another
 pub in-one : (a b : Bool) → (a && not b) ≡ true → a ≡ true

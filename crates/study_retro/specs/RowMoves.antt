@@ -35,9 +35,10 @@ pawn_goes men side a x =
 abbrev pub goes_quietly : List Man → Man → ℕ → Bool
 goes_quietly men man x = reaches_target men None man x && not (is_occupied men x)
 
--- where the last man stands on y, it hinders no man to come to a square from another one, or to go there; and then no king of the side is attacked
+-- a man on y stands in the way between two squares, or on the second
 abbrev pub hinders : ℕ → ℕ → ℕ → Bool
 hinders from to y = strictly_between from y to || (to == y)
 
+-- where the last man stands on y, it is not in the way, and no king of the side is attacked with the man of the first square on the second
 abbrev pub lets_pass : List Man → Man → Side → ℕ → ℕ → ℕ → Bool
 lets_pass others last side from to y = not (hinders from to y || in_check (map (from_to from to) others ++ on_square last y ∷ []) side)

@@ -146,12 +146,7 @@ pub fn write_before_each(
 
 /// Whether the position of a number has a move, and each leads to a win within `level` plies, where no capture in passing is
 /// legal.
-fn is_lost_plainly<A: Allocator>(
-    game: &ClassGame<A>,
-    cells: &[u8],
-    number: u32,
-    level: u8,
-) -> bool
+fn is_lost_plainly<A: Allocator>(game: &ClassGame<A>, cells: &[u8], number: u32, level: u8) -> bool
     requires laws { IsNumberedClass (class_game game.now.class game.now.tables.now) }
     requires numbered { HasPosition (class_game game.now.class game.now.tables.now) number }
     requires plain { number < 16777216 }

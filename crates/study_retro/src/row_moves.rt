@@ -2,19 +2,21 @@
 ghost use Rattle.std.specs.Prelude.{◌≡◌, ◌<◌, ◌≤◌, ◌&&◌, ◌||◌, ◌==◌, ℕ, not, true, false, length, map, [], ◌∷◌, ◌++◌};
 ghost use Rattle.std.specs.List.{Contains};
 ghost use Rattle.study_board.specs.declared.men.Kind.TheVariants.{King};
+ghost use Rattle.study_board.specs.declared.men.Side.{Side};
 ghost use Rattle.study_board.specs.Men.{other_side, same_kind, same_side};
-ghost use Rattle.study_board.specs.Position.{is_empty, is_occupied};
+ghost use Rattle.study_board.specs.Position.{in_check, is_occupied};
 ghost use Rattle.study_board.specs.Sets.{has};
 ghost use Rattle.study_moves.specs.AnyOrder.{is_safe_target};
-ghost use Rattle.study_moves.specs.Unmoves.{came_from, comes, pawn_came, pawn_comes};
+ghost use Rattle.study_moves.specs.Unmoves.{came_from, comes};
 ghost use Rattle.study_index.specs.Moved.{from_to};
-ghost use Rattle.study_retro.specs.RowMoves.{AreApart, goes_quietly, lets_pass, pawn_goes};
+ghost use Rattle.study_retro.specs.RowMoves.{AreApart, goes_quietly, lets_pass};
 ghost use Rattle.study_retro.specs.Still.{on_square};
 
 use crate::escapes::occupied;
 use crate::row_checks::squares_of_check;
 use arrayvec::ArrayVec;
-use study_board::{Kind, Man, Side, Square, SquareSet, attacks, between, is_occupied};
+use study_board::{Kind, Man, Side, Square, SquareSet, attacks, between};
+use study_moves::{origins_of_kind, pawn_step_targets};
 
 /// The man, put on `to` if it stands on `from`.
 #[inline]
@@ -45,81 +47,12 @@ pub fn with_man_on(others: &[Man], from: Square, to: Square) -> ArrayVec<Man, 4>
     list
 }
 
-/// The square, if it is empty.
-#[inline]
-fn set_if_empty(men: &[Man], x: Square) -> SquareSet
-    ensures { (a : ℕ) → a < 64 → has result a ≡ ((x == a) && is_empty men.now x) }
-{
-    if is_occupied(men, x.number()) {
-        SquareSet::empty()
-    } else {
-        SquareSet::of(x)
-    }
-}
-
-/// The first square, if it is empty, and then the second one, if that is empty too.
-#[inline]
-fn two_empty_steps(men: &[Man], one: Square, two: Square) -> SquareSet
-    ensures { (a : ℕ) → a < 64 → has result a ≡ pawn_came men.now true true one two a }
-{
-    if is_occupied(men, one.number()) {
-        SquareSet::empty()
-    } else {
-        SquareSet::of(one).union(set_if_empty(men, two))
-    }
-}
-
-/// The first square, if it is inside the pawn's ranks and empty, and the second, if the pawn starts by a double step and
-/// both are empty.
-#[inline]
-fn empty_steps(men: &[Man], inside: bool, starts: bool, one: Square, two: Square) -> SquareSet
-    requires { starts ≡ true → inside ≡ true }
-    ensures { (a : ℕ) → a < 64 → has result a ≡ pawn_came men.now inside starts one two a }
-{
-    if !inside {
-        SquareSet::empty()
-    } else if starts {
-        two_empty_steps(men, one, two)
-    } else {
-        set_if_empty(men, one)
-    }
-}
-
-/// The squares from which a pawn can have come by a step or a double step.
-#[inline]
-fn pawn_origins(men: &[Man], side: Side, x: Square) -> SquareSet
-    ensures { (a : ℕ) → a < 64 → has result a ≡ pawn_comes men.now side x a }
-{
-    let (n, rank) = (x.number(), x.rank());
-    match side {
-        Side::White => empty_steps(
-            men,
-            2 <= rank,
-            rank == 3,
-            Square::at(n.saturating_sub(8)),
-            Square::at(n.saturating_sub(16)),
-        ),
-        Side::Black => empty_steps(
-            men,
-            rank <= 5,
-            rank == 4,
-            Square::at((n + 8).min(63)),
-            Square::at((n + 16).min(63)),
-        ),
-    }
-}
-
 /// The squares from which the man can have come, as its kind goes, with the others alone on the board.
 #[inline]
-#[tactic(auto, unfolding(study_moves::specs::Unmoves::comes))]
 pub fn origins_beside(others: &[Man], man: &Man) -> SquareSet
     ensures { (a : ℕ) → a < 64 → has result a ≡ comes others.now man.now a }
 {
-    if man.kind == Kind::Pawn {
-        pawn_origins(others, man.side, man.at)
-    } else {
-        attacks(others, man).without(occupied(others))
-    }
+    origins_of_kind(others, man)
 }
 
 /// The squares of the man of the last slot on which it neither stands in the way of a man nor lets a king of the side be
@@ -139,7 +72,13 @@ fn squares_letting(others: &[Man], last: &Man, side: Side, from: Square, to: Squ
 
 /// The squares of the man of the last slot with which the man can have come from the square by a quiet move.
 #[inline]
-pub fn squares_led(others: &[Man], last: &Man, to_move: Side, man: &Man, origin: Square) -> SquareSet
+pub fn squares_led(
+    others: &[Man],
+    last: &Man,
+    to_move: Side,
+    man: &Man,
+    origin: Square,
+) -> SquareSet
     requires few { length others.now ≤ 4 }
     requires last { same_kind last.now.kind King ≡ false }
     requires man { Contains others.now man.now }
@@ -151,37 +90,13 @@ pub fn squares_led(others: &[Man], last: &Man, to_move: Side, man: &Man, origin:
     squares_letting(others, last, to_move, man.at, origin)
 }
 
-/// The empty squares to which a pawn goes by a step or a double step.
-#[inline]
-fn pawn_targets(men: &[Man], side: Side, a: Square) -> SquareSet
-    ensures { (x : ℕ) → x < 64 → has result x ≡ pawn_goes men.now side a x }
-{
-    let (n, rank) = (a.number(), a.rank());
-    match side {
-        Side::White => empty_steps(
-            men,
-            rank <= 6,
-            rank == 1,
-            Square::at((n + 8).min(63)),
-            Square::at((n + 16).min(63)),
-        ),
-        Side::Black => empty_steps(
-            men,
-            1 <= rank,
-            rank == 6,
-            Square::at(n.saturating_sub(8)),
-            Square::at(n.saturating_sub(16)),
-        ),
-    }
-}
-
 /// The empty squares to which the man goes, as its kind goes, with the others alone on the board.
 #[inline]
 pub fn targets_beside(others: &[Man], man: &Man) -> SquareSet
     ensures { (x : ℕ) → x < 64 → has result x ≡ goes_quietly others.now man.now x }
 {
     if man.kind == Kind::Pawn {
-        pawn_targets(others, man.side, man.at)
+        pawn_step_targets(others, man.side, man.at)
     } else {
         attacks(others, man).without(occupied(others))
     }
@@ -189,7 +104,13 @@ pub fn targets_beside(others: &[Man], man: &Man) -> SquareSet
 
 /// The squares of the man of the last slot with which the man can go to the square by a move that takes no man.
 #[inline]
-pub fn squares_going(others: &[Man], last: &Man, to_move: Side, man: &Man, target: Square) -> SquareSet
+pub fn squares_going(
+    others: &[Man],
+    last: &Man,
+    to_move: Side,
+    man: &Man,
+    target: Square,
+) -> SquareSet
     requires few { length others.now ≤ 4 }
     requires last { same_kind last.now.kind King ≡ false }
     requires man { Contains others.now man.now }
@@ -200,4 +121,42 @@ pub fn squares_going(others: &[Man], last: &Man, to_move: Side, man: &Man, targe
         && not (is_occupied (others.now ++ on_square last.now y ∷ []) target)) }
 {
     squares_letting(others, last, to_move, man.at, target)
+}
+
+/// The man on another square.
+#[inline]
+fn on(man: &Man, square: Square) -> Man
+    ensures { result ≡ on_square man.now square }
+{
+    Man {
+        side: man.side,
+        kind: man.kind,
+        at: square,
+    }
+}
+
+/// The squares from which the man of the last slot can have come to the square by a quiet move, given those on which it lets
+/// a king of the side to move be attacked.
+#[inline]
+pub fn origins_of_last(others: &[Man], last: &Man, square: Square, check: SquareSet) -> SquareSet
+    ensures { (side : Side) → same_side last.now.side (other_side side) ≡ true
+        → ((a : ℕ) → a < 64 → has check a ≡ in_check (others.now ++ on_square last.now a ∷ []) side)
+        → AreApart (others.now ++ on_square last.now square ∷ [])
+        → (a : ℕ) → a < 64 → has result a ≡ came_from (others.now ++ on_square last.now square ∷ []) side (on_square last.now square) a }
+{
+    origins_beside(others, &on(last, square)).without(check)
+}
+
+/// The squares to which the man of the last slot can go from the square by a move that takes no man, given those on which it
+/// lets a king of its side be attacked.
+#[inline]
+pub fn targets_of_last(others: &[Man], last: &Man, square: Square, check: SquareSet) -> SquareSet
+    ensures { (side : Side) → same_side last.now.side side ≡ true
+        → ((x : ℕ) → x < 64 → has check x ≡ in_check (others.now ++ on_square last.now x ∷ []) side)
+        → AreApart (others.now ++ on_square last.now square ∷ [])
+        → (x : ℕ) → x < 64 → has result x
+        ≡ (is_safe_target (others.now ++ on_square last.now square ∷ []) side (on_square last.now square) x
+        && not (is_occupied (others.now ++ on_square last.now square ∷ []) x)) }
+{
+    targets_beside(others, &on(last, square)).without(check)
 }

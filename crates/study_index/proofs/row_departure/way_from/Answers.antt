@@ -1,4 +1,4 @@
-use Rattle.std.proofs.Common.{◌≡◌, ℕ, ◌+◌, ◌*◌, ◌<◌, ◌≤◌, ◌-◌, List, length, slice_index_or, refl, sym, ◌∙◌, subst, arith}
+use Rattle.std.proofs.Common.{◌≡◌, ℕ, ◌+◌, ◌*◌, ◌<◌, ◌-◌, List, length, slice_index_or, refl, sym, ◌∙◌, subst, arith}
 use Rattle.study_board.specs.declared.men.Man.{Man}
 use Rattle.study_index.specs.declared.decoding.Slot.{Slot}
 use Rattle.study_index.specs.Number.{without_bit}
@@ -8,14 +8,14 @@ use Rattle.study_index.proofs.row_departure.way_from.Goals as goal
 
 pub returns-then-slot-eq0 : goal.returns-then-slot-eq0
 returns-then-slot-eq0 c =
-    found_row_king c.args.class c.args.row c.args.from c.terms_of_king.result
-    (IsRowSumOfKing-terms c.args.class c.args.row c.args.from c.terms_of_king.result (omega arith)
+    found_row_king c.args.class c.args.row c.args.from c.terms_of_king-terms.result
+    (IsRowSumOfKing-terms c.args.class c.args.row c.args.from c.terms_of_king-terms.result (omega arith)
     (sym c.has_like_men.ensures ∙ c.if-has_like_men.false)
     (subst (λ (ss : List Slot). (d : Man) → (slice_index_or (told_men ss (without_bit (64 * c.args.row))) 0 d).at ≡ c.args.from) c.slots-slots.ensures
     (subst (λ (i : ℕ). (d : Man) → (slice_index_or (told_men c.slots-slots.result.now (without_bit (64 * c.args.row))) i d).at ≡ c.args.from)
     (let z : c.args.slot ≡ 0 = c.if-slot-eq0.true in z) (c.stands_in.ensures c.if-not-stands_in.false).1))
-    (c.terms_of_king.ensures.rest ∙ rw (c.head.ensures, c.class_has_pawn-pawns.ensures, c.slots-slots.ensures) refl)
-    (c.terms_of_king.ensures.weight ∙ rw c.slots-slots.ensures refl))
+    (c.terms_of_king-terms.ensures.rest ∙ rw (c.head.ensures, c.class_has_pawn-pawns.ensures, c.slots-slots.ensures) refl)
+    (c.terms_of_king-terms.ensures.weight ∙ rw c.slots-slots.ensures refl))
 
 pub returns-then-keeps_image : goal.returns-then-keeps_image
 returns-then-keeps_image c =

@@ -1,4 +1,4 @@
-use Rattle.std.proofs.Common.{ℕ, ◌&&◌, ◌==◌, ◌∙◌, ap}
+use Rattle.std.proofs.Common.{ℕ, ◌∙◌, ap}
 use Rattle.std.proofs.lemmas.Bool.{ne_eqb}
 use Rattle.study_board.specs.Sets.{has}
 use Rattle.study_board.proofs.SetBits.{has-zero}

@@ -23,8 +23,8 @@ loop-number-preserved g c =
     let rest : (j : ℕ) → 64 * (n / 64) ≤ j → slice_index mid j ≡ slice_index old j = λ j b. inv.rest j low b in
     let far : (j : ℕ) → c.row_end.result < (g.G.Game.numbered c.args.game.now).size → c.row_end.result ≤ j → slice_index new j ≡ slice_index old j =
     λ j l b.
-        (let f = end.full (omega (arith, l, size-is)) in
-        c.confirm_row.ensures.other j (inr (omega (arith, f, b))) ∙ rest j (omega (arith, f, b))) in
+    (let f = end.full (omega (arith, l, size-is)) in
+    c.confirm_row.ensures.other j (inr (omega (arith, f, b))) ∙ rest j (omega (arith, f, b))) in
     let now : TellWins (g.G.Game.numbered c.args.game.now) c.args.level old → TellWins (g.G.Game.numbered c.args.game.now) c.args.level mid =
     λ tells. dropped-tells c.args.level (leads_in (g.G.Game.numbered c.args.game.now))
     (g.G.Game.numbered c.args.game.now).mate (g.G.Game.numbered c.args.game.now).position old mid inv.fall tells in

@@ -1,4 +1,4 @@
-use Rattle.std.proofs.Common.{◌≡◌, ℕ, ◌+◌, ◌*◌, ◌<◌, true, slice_index, Some, inl, inr, arith, sym, ◌∙◌, ap, subst}
+use Rattle.std.proofs.Common.{◌≡◌, ℕ, ◌+◌, ◌*◌, true, slice_index, Some, inl, inr, arith, sym, ◌∙◌, ap, subst}
 use Rattle.std.proofs.lemmas.Bool.{false≢true}
 use Rattle.study_board.specs.Sets.{has}
 use Rattle.study_retro.specs.Forced.{Mated}
@@ -21,8 +21,11 @@ returns-clause-fall g c = λ i. elim (c.clear_in_row.ensures.each i) [
   | inl e ↦ inl e
   | inr x ↦
       let w = x.0 in
-      inr (ap (λ (j : ℕ). slice_index c.args.cells.now j) w.3
-      ∙ (c.row_with-candidates.ensures.here w.0 w.1 (in-one _ _ (sym (c.without.ensures w.0 w.1) ∙ w.2))).1, x.1)
+      inr (
+        ap (λ (j : ℕ). slice_index c.args.cells.now j) w.3
+            ∙ (c.row_with-candidates.ensures.here w.0 w.1 (in-one _ _ (sym (c.without.ensures w.0 w.1) ∙ w.2))).1,
+        x.1,
+      )
 ]
 
 pub returns-clause-other : goal.returns-clause-other

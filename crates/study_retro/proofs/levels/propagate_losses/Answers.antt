@@ -1,4 +1,4 @@
-use Rattle.std.proofs.Common.{◌≡◌, ℕ, ◌+◌, ◌*◌, ◌/◌, ◌<◌, length, slice_index, arith, inl, inr, ◌∙◌}
+use Rattle.std.proofs.Common.{◌≡◌, ℕ, ◌+◌, ◌*◌, ◌/◌, length, slice_index, arith, inl, inr, ◌∙◌}
 use Rattle.study_retro.specs.Numbered.{HasPosition, StepLeads}
 use Rattle.study_retro.specs.Propagation.{AreLowered}
 use Rattle.study_retro.proofs.BlockLemmas.{below_row}

@@ -5,7 +5,7 @@ use Rattle.study_retro.specs.Predecessors.{IsBeforeFrom}
 use Rattle.study_retro.specs.Propagation.{AreSet, IsSetWhere}
 use Rattle.study_retro.specs.RowBack.{IsBeforeRowBy}
 use Rattle.study_retro.proofs.SquaresLeft.{AreLeft}
-use Rattle.study_retro.proofs.row_back.write_before_man_of_row.Given as goal
+use Rattle.study_retro.proofs.row_back.write_before_man_from.Given as goal
 
 abbrev pub invariant-loop-next : goal.invariant-loop-next
 invariant-loop-next l = record {
