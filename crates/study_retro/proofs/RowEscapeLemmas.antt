@@ -14,8 +14,7 @@ use Rattle.study_moves.specs.Rules.{is_legal, reaches_last_rank}
 use Rattle.study_moves.specs.Unmoves.{IsQuiet}
 use Rattle.study_moves.specs.AnyOrder.{is_safe_target}
 use Rattle.study_material.specs.declared.class.Class.{Class}
-use Rattle.study_material.specs.Class.{lists_of}
-use Rattle.study_index.specs.Number.{cells_of, has_both_pawns, without_bit}
+use Rattle.study_index.specs.Number.{cells_of, without_bit}
 use Rattle.study_index.specs.Decoded.{slots_of, told_men, told_side}
 use Rattle.study_index.specs.Computed.{index_of, position_numbered}
 use Rattle.study_index.specs.Moved.{IsMoved}
@@ -24,7 +23,7 @@ use Rattle.study_retro.specs.Cells.{value_of}
 use Rattle.study_retro.specs.declared.value.Value.TheVariants.{Win}
 use Rattle.study_retro.specs.ClassGame.{class_game}
 use Rattle.study_retro.specs.Numbered.{IsNumberedClass, NoLossBy, Numbered}
-use Rattle.study_retro.specs.Predecessors.{AreTold}
+use Rattle.study_retro.specs.Predecessors.{AreTold, PassesNone}
 use Rattle.study_retro.specs.RowEscapes.{AreAmong, CanGo}
 use Rattle.study_retro.specs.RowMoves.{AreApart, goes_quietly}
 use Rattle.study_retro.specs.Still.{HasMove, IsWonAfter, QuietMovesLose, QuietMovesLoseBy, move_to, on_square}
@@ -123,20 +122,20 @@ module _ (c : Class) (number : ℕ) (q : Position) (at : position_numbered c num
   pub go_some : HasMove q
   go_some = some_legal c number q at plain the_men the_side (refl, refl) man go.among go.own x on go.safe
 
-  module _ (single : has_both_pawns (lists_of c) ≡ false) (stays : reaches_last_rank man x ≡ false) (held : List (Option Table))
+  module _ (passes : PassesNone c man.at x) (stays : reaches_last_rank man x ≡ false) (held : List (Option Table))
       (laws : IsNumberedClass (class_game c held)) (cells : List ℕ) (k : ℕ) (fits : (p : Position) → IsMoved c number man.at x p → index_of p ≡ k) where
     pub go_below : k < cells_of c
     go_below = safe_below c number q at plain the_men the_side (refl, refl) man go.among go.own x on go.safe go.free stays held laws cells k fits
-        (inl (inl single))
+        (inl passes)
 
     pub go_escape : (level : ℕ) → (((m : ℕ) × (value_of (slice_index cells k) ≡ Win m) × (m ≤ level)) → ⊥) → NoLossBy (class_game c held) cells level number
     go_escape = safe_escape c number q at plain the_men the_side (refl, refl) man go.among go.own x on go.safe go.free stays held laws cells k fits
-        (inl (inl single))
+        (inl passes)
 
     pub go_won : (level : ℕ) → ((m : ℕ) × (value_of (slice_index cells k) ≡ Win m) × (m ≤ level))
         → (p : Position) → position_numbered c number ≡ Some p → IsWonAfter (class_game c held) cells level p (move_to man x)
     go_won = safe_won c number q at plain the_men the_side (refl, refl) man go.among go.own x on go.safe go.free stays held laws cells k fits
-        (inl (inl single))
+        (inl passes)
 
 -- ---- of those that may lose, those from which the man goes are left where it loses
 

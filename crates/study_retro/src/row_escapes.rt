@@ -1,6 +1,7 @@
 //! Which positions of a row of numbers are lost, where no capture in passing is legal: each man but the last is moved in all
 //! of them at once.
 ghost use Rattle.std.specs.Prelude.{◌≡◌, ◌≤◌, ◌<◌, ◌+◌, ◌*◌, ℕ, true, false, length, slice_index, IsTrue, Some, Contains};
+ghost use Rattle.study_board.specs.Men.{same_side};
 ghost use Rattle.study_board.specs.Position.{Position as Seen};
 ghost use Rattle.study_board.specs.Sets.{has};
 ghost use Rattle.study_moves.specs.Rules.{reaches_last_rank};
@@ -15,7 +16,7 @@ ghost use Rattle.study_retro.specs.Still.{HasMove, QuietMovesLose};
 ghost use Rattle.study_retro.specs.declared.value.Value.TheVariants.{Win};
 
 use crate::class_game::ClassGame;
-use crate::earlier::has_both_pawns;
+use crate::earlier::may_pass;
 use crate::escapes::{has_move, loses_to, quiet_moves_of, reaches_last_rank};
 use crate::propagate::{is_lost_by_moves, is_won};
 use crate::row::Row;
@@ -118,7 +119,7 @@ fn losing_after<A: Allocator>(
     if reaches_last_rank(man, target) {
         return going;
     }
-    if has_both_pawns(game.class) {
+    if may_pass(game.class, man.at, target) {
         return losing_each(game, cells, departure, going, man, slot, target, level);
     }
     match departure.row_to(target) {
@@ -135,7 +136,95 @@ struct RowMoves {
     some: SquareSet,
 }
 
-/// What the quiet moves seen come to with those of one of the other men.
+/// What the quiet moves seen come to with those of one of the other men: number by number.
+fn quiet_moves_of_man_each<A: Allocator>(
+    game: &ClassGame<A>,
+    cells: &[u8],
+    row: &Row,
+    so_far: RowMoves,
+    man: &Man,
+    slot: u32,
+    level: u8,
+) -> RowMoves
+    requires laws { IsNumberedClass (class_game game.now.class game.now.tables.now) }
+    requires class { row.now.class ≡ game.now.class }
+    requires numbered { AreNumbered game.now.class row.now.number so_far.losing }
+    requires man { Contains row.now.others.items man.now }
+    requires some { HaveMoves game.now.class row.now.number so_far.some }
+    requires cells { length cells.now ≡ cells_of game.now.class }
+    ensures only { AreAmong result.losing so_far.losing }
+    ensures no { OthersHold (class_game game.now.class game.now.tables.now) cells.now level row.now.number so_far.losing result.losing }
+    ensures yes { AllLoseBy (class_game game.now.class game.now.tables.now) cells.now level row.now.number result.losing man.now }
+    ensures some { HaveMoves game.now.class row.now.number result.some }
+{
+    let mut losing = SquareSet::empty();
+    let mut some = so_far.some;
+    let mut rest = so_far.losing;
+    let mut next = 0u8;
+    while !rest.is_empty() {
+        let square = rest.first();
+        rest = rest.without(SquareSet::of(square));
+        let number = 64 * row.number + u32::from(square.number());
+        let setup = told(game.class, number);
+        let moves = quiet_moves_of(game, cells, number, &setup, man, slot, level);
+        if !moves.escape {
+            losing = losing.union(SquareSet::of(square));
+        }
+        if moves.some {
+            some = some.union(SquareSet::of(square));
+        }
+        next = square.number() + 1;
+    }
+    RowMoves { losing, some }
+}
+
+/// The same by what the numbers have in common.
+fn quiet_moves_of_man_from<A: Allocator>(
+    game: &ClassGame<A>,
+    cells: &[u8],
+    row: &Row,
+    so_far: RowMoves,
+    man: &Man,
+    slot: u32,
+    departure: &RowDeparture,
+    level: u8,
+) -> RowMoves
+    requires laws { IsNumberedClass (class_game game.now.class game.now.tables.now) }
+    requires class { row.now.class ≡ game.now.class }
+    requires departure { departure.now.class ≡ row.now.class }
+    requires row { departure.now.row ≡ row.now.number }
+    requires from { departure.now.from ≡ man.now.at }
+    requires side { same_side man.now.side row.now.to_move ≡ true }
+    requires numbered { AreNumbered game.now.class row.now.number so_far.losing }
+    requires man { Contains row.now.others.items man.now }
+    requires some { HaveMoves game.now.class row.now.number so_far.some }
+    requires cells { length cells.now ≡ cells_of game.now.class }
+    ensures only { AreAmong result.losing so_far.losing }
+    ensures no { OthersHold (class_game game.now.class game.now.tables.now) cells.now level row.now.number so_far.losing result.losing }
+    ensures yes { AllLoseBy (class_game game.now.class game.now.tables.now) cells.now level row.now.number result.losing man.now }
+    ensures some { HaveMoves game.now.class row.now.number result.some }
+{
+    let others = row.others.as_slice();
+    let mut losing = so_far.losing;
+    let mut some = so_far.some;
+    let mut rest = targets_beside(others, man);
+    let mut next = 0u8;
+    while !rest.is_empty() {
+        if losing.is_empty() {
+            return RowMoves { losing, some };
+        }
+        let target = rest.first();
+        rest = rest.without(SquareSet::of(target));
+        let going = losing.intersection(squares_going(others, &row.last, row.to_move, man, target));
+        let lost = losing_after(game, cells, departure, going, man, slot, target, level);
+        losing = losing.without(going).union(lost);
+        some = some.union(going);
+        next = target.number() + 1;
+    }
+    RowMoves { losing, some }
+}
+
+/// The same, if it is one of the side to move.
 fn quiet_moves_of_row<A: Allocator>(
     game: &ClassGame<A>,
     cells: &[u8],
@@ -159,25 +248,10 @@ fn quiet_moves_of_row<A: Allocator>(
     if man.side != row.to_move {
         return so_far;
     }
-    let others = row.others.as_slice();
-    let departure = RowDeparture::new(row.class, row.number, man.at, slot);
-    let mut losing = so_far.losing;
-    let mut some = so_far.some;
-    let mut rest = targets_beside(others, man);
-    let mut next = 0u8;
-    while !rest.is_empty() {
-        if losing.is_empty() {
-            return RowMoves { losing, some };
-        }
-        let target = rest.first();
-        rest = rest.without(SquareSet::of(target));
-        let going = losing.intersection(squares_going(others, &row.last, row.to_move, man, target));
-        let lost = losing_after(game, cells, &departure, going, man, slot, target, level);
-        losing = losing.without(going).union(lost);
-        some = some.union(going);
-        next = target.number() + 1;
+    match RowDeparture::new(row.class, row.number, man.at, slot) {
+        None => quiet_moves_of_man_each(game, cells, row, so_far, man, slot, level),
+        Some(departure) => quiet_moves_of_man_from(game, cells, row, so_far, man, slot, &departure, level),
     }
-    RowMoves { losing, some }
 }
 
 /// What the quiet moves seen come to with those of the last man, on each of its squares in turn.

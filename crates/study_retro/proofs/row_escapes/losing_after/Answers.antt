@@ -21,10 +21,10 @@ squares_won-requires-clause-cells g c = λ y on e.
     let fits = departed class c.args.departure.now.class number number c.args.man.now.at c.args.departure.now.from c.args.target k
     c.requires.class refl c.requires.from
     (λ p moved. c.in-Some.ensures.numbers y p on moved) in
-    let single = sym c.has_both_pawns.ensures ∙ c.if-has_both_pawns.false in
+    let passes = c.may_pass.ensures c.if-may_pass.false in
     let stays = sym c.reaches_last_rank.ensures ∙ c.if-reaches_last_rank.false in
     subst (λ (m : ℕ). k < m) (sym c.requires.cells)
-    (go_below class number q.0 q.1 (omega (arith, small, on)) c.args.man.now c.args.target c.requires.on (c.requires.going y on e) single stays
+    (go_below class number q.0 q.1 (omega (arith, small, on)) c.args.man.now c.args.target c.requires.on (c.requires.going y on e) passes stays
     c.args.game.now.tables.now c.requires.laws c.args.cells.now k fits)
 
 pub returns-in-Some-clause-only : goal.returns-in-Some-clause-only
@@ -42,8 +42,8 @@ returns-in-Some-clause-yes g c = λ stays y p on r at.
     let fits = departed class c.args.departure.now.class number number c.args.man.now.at c.args.departure.now.from c.args.target k
     c.requires.class refl c.requires.from
     (λ p moved. c.in-Some.ensures.numbers y p on moved) in
-    let single = sym c.has_both_pawns.ensures ∙ c.if-has_both_pawns.false in
-    go_won class number q.0 q.1 (omega (arith, small, on)) c.args.man.now c.args.target c.requires.on (c.requires.going y on e) single stays
+    let passes = c.may_pass.ensures c.if-may_pass.false in
+    go_won class number q.0 q.1 (omega (arith, small, on)) c.args.man.now c.args.target c.requires.on (c.requires.going y on e) passes stays
     c.args.game.now.tables.now c.requires.laws c.args.cells.now k fits c.args.level won.1 p at
 
 pub returns-in-Some-clause-no : goal.returns-in-Some-clause-no
@@ -56,7 +56,7 @@ returns-in-Some-clause-no g c = λ y on e r.
     let fits = departed class c.args.departure.now.class number number c.args.man.now.at c.args.departure.now.from c.args.target k
     c.requires.class refl c.requires.from
     (λ p moved. c.in-Some.ensures.numbers y p on moved) in
-    let single = sym c.has_both_pawns.ensures ∙ c.if-has_both_pawns.false in
+    let passes = c.may_pass.ensures c.if-may_pass.false in
     let stays = sym c.reaches_last_rank.ensures ∙ c.if-reaches_last_rank.false in
-    go_escape class number q.0 q.1 (omega (arith, small, on)) c.args.man.now c.args.target c.requires.on (c.requires.going y on e) single stays
+    go_escape class number q.0 q.1 (omega (arith, small, on)) c.args.man.now c.args.target c.requires.on (c.requires.going y on e) passes stays
     c.args.game.now.tables.now c.requires.laws c.args.cells.now k fits c.args.level (λ w. c.squares_won.ensures.no y w.0 on e r w.1 w.2)
