@@ -33,3 +33,4 @@ pub mod BlockLemmas
 pub mod QuietSteps
 pub mod Twins
 pub mod MovedSteps
+pub mod RowEscapeLemmas

@@ -17,3 +17,4 @@ pub mod Still
 pub mod RowMoves
 pub mod RowLevels
 pub mod RowBack
+pub mod RowEscapes

@@ -79,7 +79,7 @@ fn wins_after<A: Allocator>(
 /// Whether the legal move of the man to the square, on which no man stands, is not quiet, or lets the other side win within
 /// `level` plies.
 #[inline]
-fn loses_to<A: Allocator>(
+pub fn loses_to<A: Allocator>(
     game: &ClassGame<A>,
     cells: &[u8],
     departure: &Departure,
@@ -124,7 +124,7 @@ pub struct QuietMoves {
 
 /// What the quiet moves of the man come to.
 #[inline]
-fn quiet_moves_of<A: Allocator>(
+pub fn quiet_moves_of<A: Allocator>(
     game: &ClassGame<A>,
     cells: &[u8],
     number: u32,

@@ -23,6 +23,7 @@ mod room;
 mod row;
 mod row_back;
 mod row_checks;
+mod row_escapes;
 mod row_levels;
 mod row_moves;
 mod rows;

@@ -168,7 +168,7 @@ fn is_lost_plainly<A: Allocator>(game: &ClassGame<A>, cells: &[u8], number: u32,
 
 /// Of some positions of a row, those that have a move, and each leads to a win within `level` plies, where no capture in
 /// passing is legal.
-pub fn lost_in_plain_row<A: Allocator>(
+pub fn lost_plainly_each<A: Allocator>(
     game: &ClassGame<A>,
     cells: &[u8],
     row: u32,

@@ -5,7 +5,7 @@ use Rattle.study_index.specs.Computed.{position_numbered}
 use Rattle.study_retro.specs.ClassGame.{class_game}
 use Rattle.study_retro.specs.Numbered.{LosesBy, NoLossBy}
 use Rattle.study_retro.proofs.SquaresLeft.{AreLeft}
-use Rattle.study_retro.proofs.row_levels.lost_in_plain_row.Given as goal
+use Rattle.study_retro.proofs.row_levels.lost_plainly_each.Given as goal
 
 abbrev pub invariant-loop-next : goal.invariant-loop-next
 invariant-loop-next g l = record {

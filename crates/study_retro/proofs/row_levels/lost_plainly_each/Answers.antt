@@ -5,7 +5,7 @@ use Rattle.study_board.proofs.SetBits.{has-zero}
 use Rattle.study_retro.specs.ClassGame.{class_game}
 use Rattle.study_retro.specs.Numbered.{NoLossBy}
 use Rattle.study_retro.proofs.SquaresLeft.{left-all, taken-all}
-use Rattle.study_retro.proofs.row_levels.lost_in_plain_row.Goals as goal
+use Rattle.study_retro.proofs.row_levels.lost_plainly_each.Goals as goal
 
 pub loop-next-init : goal.loop-next-init
 loop-next-init g c = record {

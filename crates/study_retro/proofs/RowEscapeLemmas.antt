@@ -1,0 +1,215 @@
+-- The quiet moves from the numbers of a row.
+use Rattle.std.proofs.Common.{◌≡◌, ℕ, ◌+◌, ◌*◌, ◌<◌, ◌≤◌, ◌==◌, Bool, true, false, not, ◌&&◌, ◌||◌, ◌++◌, ◌∷◌}
+use Rattle.std.proofs.Common.{[], List, slice_index, Option, Contains, Some, ◌⊎◌, inl, inr, arith}
+use Rattle.std.proofs.Common.{refl, sym, ◌∙◌, ap, subst}
+use Rattle.std.proofs.lemmas.Bool.{and_parts, false≢true, cases_lt, cases_Bool, eq-eqb, ne_eqb}
+use Rattle.std.proofs.lemmas.List.Elements.{Contains-append_left, Contains-push_cases}
+use Rattle.study_board.specs.declared.men.Man.{Man}
+use Rattle.study_board.specs.declared.men.Side.{Side}
+use Rattle.study_board.specs.Men.{same_side}
+use Rattle.study_board.specs.Position.{Position, is_occupied}
+use Rattle.study_board.specs.Sets.{has}
+use Rattle.study_board.proofs.SetBits.{has-zero}
+use Rattle.study_moves.specs.Rules.{is_legal, reaches_last_rank}
+use Rattle.study_moves.specs.Unmoves.{IsQuiet}
+use Rattle.study_moves.specs.AnyOrder.{is_safe_target}
+use Rattle.study_material.specs.declared.class.Class.{Class}
+use Rattle.study_index.specs.Number.{cells_of, without_bit}
+use Rattle.study_index.specs.Decoded.{slots_of, told_men, told_side}
+use Rattle.study_index.specs.Computed.{index_of, position_numbered}
+use Rattle.study_index.specs.Moved.{IsMoved}
+use Rattle.study_retro.specs.Table.{Table}
+use Rattle.study_retro.specs.Cells.{value_of}
+use Rattle.study_retro.specs.declared.value.Value.TheVariants.{Win}
+use Rattle.study_retro.specs.ClassGame.{class_game}
+use Rattle.study_retro.specs.Numbered.{IsNumberedClass, NoLossBy, Numbered}
+use Rattle.study_retro.specs.Predecessors.{AreTold, PassesNone}
+use Rattle.study_retro.specs.RowEscapes.{AreAmong, CanGo}
+use Rattle.study_retro.specs.RowMoves.{AreApart, goes_quietly}
+use Rattle.study_retro.specs.Still.{HasMove, IsWonAfter, QuietMovesLose, QuietMovesLoseBy, move_to, on_square}
+use Rattle.study_retro.proofs.BackLemmas.{lose_each, occupied_same, safe_below, safe_by, safe_escape, safe_plain, safe_won, some_legal}
+use Rattle.study_retro.proofs.RowBackLemmas.{row_apart}
+use Rattle.study_retro.proofs.RowMoveLemmas.{going_less}
+use Rattle.study_retro.proofs.RowSets.{IsFirst}
+use Rattle.study_retro.proofs.SquaresLeft.{AreLeft, first-in, first-only, left-none}
+use Rattle.study_retro.proofs.Twins.{single_twinless}
+
+-- ---- of the squares of a set, taken one by one, some are kept
+
+or_cases : (a b : Bool) → (a || b) ≡ true → b ≡ false → a ≡ true
+or_cases true b e f = refl
+or_cases false b e f = absurd (false≢true (sym f ∙ e))
+
+left_false : (a b : Bool) → (a || b) ≡ false → a ≡ false
+left_false true b e = e
+left_false false b e = refl
+
+right_true : (a b : Bool) → b ≡ true → (a || b) ≡ true
+right_true true b e = refl
+right_true false b e = e
+
+pub square-is : (t y : ℕ) → (t == y) ≡ true → t ≡ y
+square-is t y e = elim (cases_lt t y) [
+  | inl low ↦ absurd (false≢true (sym (ne_eqb t y (λ s. omega (arith, s, low))) ∙ e))
+  | inr high ↦ elim (cases_lt y t) [
+    | inl low ↦ absurd (false≢true (sym (ne_eqb t y (λ s. omega (arith, s, low))) ∙ e))
+    | inr top ↦ omega (arith, high, top)
+  ]
+]
+
+module _ (all : ℕ) (Yes Not : ℕ → Type 0) where
+  pub record AreKeptBelow (next kept : ℕ) : Type 0 where
+    pub among : (y : ℕ) → y < 64 → has kept y ≡ true → (has all y ≡ true) × Yes y
+    pub others : (y : ℕ) → y < next → y < 64 → has all y ≡ true → has kept y ≡ false → Not y
+
+  pub kept-none : (kept : ℕ) → kept ≡ 0 → AreKeptBelow 0 kept
+  kept-none kept e = record {
+    among = λ y on t. absurd (false≢true (sym (ap (λ (s : ℕ). has s y) e ∙ has-zero y) ∙ t));
+    others = λ y l. absurd (omega (arith, l));
+  }
+
+  module _ (rest next : ℕ) (left : AreLeft all rest next) (kept : ℕ) (h : AreKeptBelow next kept) where
+    module _ (t : ℕ) (f : IsFirst rest t) where
+      -- the first of those left is kept
+      pub kept-with : (one more : ℕ) → ((x : ℕ) → x < 64 → has one x ≡ (t == x)) → ((x : ℕ) → has more x ≡ (has kept x || has one x)) → Yes t
+          → AreKeptBelow (t + 1) more
+      kept-with one more single union here = record {
+        among = λ y on e. elim (cases_Bool (t == y)) [
+          | inl same ↦ (
+              subst (λ (x : ℕ). (has all x ≡ true) × Yes x) (square-is t y same) (first-in all rest next left t f.inside f.there, here)
+            )
+          | inr other ↦ h.among y on (or_cases (has kept y) (has one y) (sym (union y) ∙ e) (single y on ∙ other))
+        ];
+        others = λ y l on e n. elim (cases_lt y next) [
+          | inl low ↦ h.others y low on e (left_false (has kept y) (has one y) (sym (union y) ∙ n))
+          | inr high ↦ elim (cases_lt y t) [
+            | inl low ↦ absurd (false≢true (sym (first-only all rest next left t f.inside f.there f.least y high low on) ∙ e))
+            | inr top ↦
+                absurd (false≢true (sym n ∙ (union y ∙ right_true (has kept y) (has one y) (single y on ∙ eq-eqb t y (omega (arith, l, top))))))
+          ]
+        ];
+      }
+
+      -- or it is not
+      pub kept-without : Not t → AreKeptBelow (t + 1) kept
+      kept-without here = record {
+        among = h.among;
+        others = λ y l on e n. elim (cases_lt y next) [
+          | inl low ↦ h.others y low on e n
+          | inr high ↦ elim (cases_lt y t) [
+            | inl low ↦ absurd (false≢true (sym (first-only all rest next left t f.inside f.there f.least y high low on) ∙ e))
+            | inr top ↦ let same : t ≡ y = omega (arith, l, top) in subst Not same here
+          ]
+        ];
+      }
+
+    pub kept-all : rest ≡ 0 → (y : ℕ) → y < 64 → has all y ≡ true → has kept y ≡ false → Not y
+    kept-all none y on e n = elim (cases_lt y next) [
+      | inl low ↦ h.others y low on e n
+      | inr high ↦ absurd (false≢true (sym (left-none all rest next left none y high on) ∙ e))
+    ]
+
+-- ---- a quiet move of a man from a number, and the number that fits
+
+module _ (c : Class) (number : ℕ) (q : Position) (at : position_numbered c number ≡ Some q) (plain : number < 16777216) (man : Man) (x : ℕ) (on : x < 64)
+    (go : CanGo c number man x) where
+  abbrev the_men : List Man
+  the_men = told_men (slots_of c) (without_bit number)
+
+  abbrev the_side : Side
+  the_side = told_side (slots_of c) (without_bit number)
+
+  pub go_some : HasMove q
+  go_some = some_legal c number q at plain the_men the_side (refl, refl) man go.among go.own x on go.safe
+
+  module _ (passes : PassesNone c man.at x) (stays : reaches_last_rank man x ≡ false) (held : List (Option Table))
+      (laws : IsNumberedClass (class_game c held)) (cells : List ℕ) (k : ℕ) (fits : (p : Position) → IsMoved c number man.at x p → index_of p ≡ k) where
+    pub go_below : k < cells_of c
+    go_below = safe_below c number q at plain the_men the_side (refl, refl) man go.among go.own x on go.safe go.free stays held laws cells k fits
+        (inl passes)
+
+    pub go_escape : (level : ℕ) → (((m : ℕ) × (value_of (slice_index cells k) ≡ Win m) × (m ≤ level)) → ⊥) → NoLossBy (class_game c held) cells level number
+    go_escape = safe_escape c number q at plain the_men the_side (refl, refl) man go.among go.own x on go.safe go.free stays held laws cells k fits
+        (inl passes)
+
+    pub go_won : (level : ℕ) → ((m : ℕ) × (value_of (slice_index cells k) ≡ Win m) × (m ≤ level))
+        → (p : Position) → position_numbered c number ≡ Some p → IsWonAfter (class_game c held) cells level p (move_to man x)
+    go_won = safe_won c number q at plain the_men the_side (refl, refl) man go.among go.own x on go.safe go.free stays held laws cells k fits
+        (inl passes)
+
+-- ---- of those that may lose, those from which the man goes are left where it loses
+
+module _ (losing going lost less new : ℕ) (less-is : (x : ℕ) → x < 64 → has less x ≡ (has losing x && not (has going x)))
+    (new-is : (x : ℕ) → has new x ≡ (has less x || has lost x)) where
+  pub thin-cases : (y : ℕ) → y < 64 → has new y ≡ true → (has lost y ≡ true) ⊎ (has losing y ≡ true) × (has going y ≡ false)
+  thin-cases y on e = by_lost (has losing y) (has going y) (has lost y) (sym (ap (λ (b : Bool). b || has lost y) (less-is y on)) ∙ (sym (new-is y) ∙ e))
+    where
+      by_lost : (a b k : Bool) → ((a && not b) || k) ≡ true → (k ≡ true) ⊎ (a ≡ true) × (b ≡ false)
+      by_lost a b true e = inl refl
+      by_lost true false false e = inr (refl, refl)
+      by_lost true true false e = absurd (false≢true e)
+      by_lost false b false e = absurd (false≢true e)
+
+  pub thin-gone : (y : ℕ) → y < 64 → has losing y ≡ true → has new y ≡ false → (has going y ≡ true) × (has lost y ≡ false)
+  thin-gone y on t e =
+      by_lost (has losing y) (has going y) (has lost y) t (sym (ap (λ (b : Bool). b || has lost y) (less-is y on)) ∙ (sym (new-is y) ∙ e))
+    where
+      by_lost : (a b k : Bool) → a ≡ true → ((a && not b) || k) ≡ false → (b ≡ true) × (k ≡ false)
+      by_lost true true false t e = (refl, refl)
+      by_lost true true true t e = absurd (false≢true (sym e))
+      by_lost true false k t e = absurd (false≢true (sym e))
+      by_lost false b k t e = absurd (false≢true t)
+
+-- ---- the men of a row
+
+module _ (c : Class) (number y : ℕ) (q : Position) (at : position_numbered c number ≡ Some q) (plain : number < 16777216) (others : List Man) (last : Man)
+    (side : Side) (told : AreTold c number (others ++ on_square last y ∷ []) side) where
+  -- where the quiet moves of the other men lose, and those of the last, all do
+  pub row_lose : (g : Numbered Position) (cells : List ℕ) (k : ℕ) → ((m : Man) → Contains others m → QuietMovesLoseBy g cells k q m)
+      → QuietMovesLoseBy g cells k q (on_square last y) → QuietMovesLose g cells k q
+  row_lose g cells k each final =
+      lose_each c number q at plain (others ++ on_square last y ∷ []) side told g cells k
+      (λ m i. elim (Contains-push_cases others (on_square last y) m i) [
+        | inl h ↦ each m h
+        | inr e ↦ subst (λ (x : Man). QuietMovesLoseBy g cells k q x) e final
+      ])
+
+module _ (c : Class) (number y : ℕ) (q : Position) (at : position_numbered c number ≡ Some q) (plain : number < 16777216) (others : List Man) (last : Man)
+    (side : Side) (told : AreTold c number (others ++ on_square last y ∷ []) side) (man : Man) (among : Contains others man) where
+  abbrev men : List Man
+  men = others ++ on_square last y ∷ []
+
+  -- one of the other men goes where it is safe with the last man on y
+  pub row_can : same_side man.side side ≡ true → (x set : ℕ)
+      → (AreApart men → has set y ≡ (is_safe_target men side man x && not (is_occupied men x))) → has set y ≡ true → CanGo c number man x
+  row_can his x set word e =
+      let both = and_parts (is_safe_target men side man x) (not (is_occupied men x)) (sym (word (row_apart c number y q at others last side told)) ∙ e) in
+      record {
+        among = subst (λ (ms : List Man). Contains ms man) told.0 (Contains-append_left others (on_square last y ∷ []) man among);
+        own = ap (λ (s : Side). same_side man.side s) (sym told.1) ∙ his;
+        safe = ap (λ (s : Side). is_safe_target (told_men (slots_of c) (without_bit number)) s man x) (sym told.1)
+            ∙ (ap (λ (ms : List Man). is_safe_target ms side man x) (sym told.0) ∙ both.0);
+        free = ap (λ (ms : List Man). is_occupied ms x) (sym told.0) ∙ negated (is_occupied men x) both.1;
+      }
+    where
+      negated : (b : Bool) → not b ≡ true → b ≡ false
+      negated false e = refl
+      negated true e = absurd (false≢true e)
+
+  -- and where a quiet move of it goes it is safe
+  module _ (x : ℕ) (legal : is_legal q (move_to man x) ≡ true) (quiet : IsQuiet q (move_to man x)) where
+    pub row_goes : (x < 64) × (same_side man.side side ≡ true) × (goes_quietly others man x ≡ true)
+        × ((set : ℕ) → (AreApart men → has set y ≡ (is_safe_target men side man x && not (is_occupied men x))) → has set y ≡ true)
+    row_goes =
+        let s = safe_by c number q at plain men side told (move_to man x) legal man (Contains-append_left others (on_square last y ∷ []) man among) refl in
+        let free = occupied_same c number q at plain men side told x ∙ quiet.0 in (
+          s.0,
+          s.1,
+          going_less others last y side man x s.2 free,
+          λ set word. word (row_apart c number y q at others last side told) ∙ rw (s.2, free) refl,
+        )
+
+    -- and it does not promote
+    pub row_stays : reaches_last_rank man x ≡ false
+    row_stays =
+        safe_plain c number q at plain men side told (move_to man x) legal man (Contains-append_left others (on_square last y ∷ []) man among) refl refl

@@ -1,0 +1,53 @@
+-- Not part of any public contract: what the quiet moves of some of a row of numbers come to: 64 numbers, one for each square.
+use Rattle.std.specs.Prelude.{◌≡◌, ℕ, ◌+◌, ◌*◌, ◌<◌, true, false, List, Contains, Some}
+use Rattle.study_board.specs.declared.men.Man.{Man}
+use Rattle.study_board.specs.Men.{same_side}
+use Rattle.study_board.specs.Position.{Position, is_occupied}
+use Rattle.study_board.specs.Sets.{has}
+use Rattle.study_moves.specs.AnyOrder.{is_safe_target}
+use Rattle.study_material.specs.declared.class.Class.{Class}
+use Rattle.study_index.specs.Number.{without_bit}
+use Rattle.study_index.specs.Decoded.{slots_of, told_men, told_side}
+use Rattle.study_index.specs.Computed.{position_numbered}
+use Rattle.study_retro.specs.Numbered.{Numbered, NoLossBy}
+use Rattle.study_retro.specs.Still.{HasMove, IsWonAfter, QuietMovesLose, QuietMovesLoseBy, move_to, on_square}
+
+-- the squares of one set are among those of the other
+abbrev pub AreAmong : ℕ → ℕ → Type 0
+AreAmong few all = (y : ℕ) → y < 64 → has few y ≡ true → has all y ≡ true
+
+-- by the men that the number tells, the man is one of the side to move, and goes to the square, on which none stands
+pub record CanGo (c : Class) (number : ℕ) (man : Man) (x : ℕ) : Type 0 where
+  pub among : Contains (told_men (slots_of c) (without_bit number)) man
+  pub own : same_side man.side (told_side (slots_of c) (without_bit number)) ≡ true
+  pub safe : is_safe_target (told_men (slots_of c) (without_bit number)) (told_side (slots_of c) (without_bit number)) man x ≡ true
+  pub free : is_occupied (told_men (slots_of c) (without_bit number)) x ≡ false
+
+-- so by those of a row whose squares are in the set
+abbrev pub CanAllGo : Class → ℕ → ℕ → Man → ℕ → Type 0
+CanAllGo c row set man x = (y : ℕ) → y < 64 → has set y ≡ true → CanGo c (64 * row + y) man x
+
+-- those whose squares are in the one set, but not in the other, do not lose
+abbrev pub OthersHold : Numbered Position → List ℕ → ℕ → ℕ → ℕ → ℕ → Type 0
+OthersHold g cells k row all losing = (y : ℕ) → y < 64 → has all y ≡ true → has losing y ≡ false → NoLossBy g cells k (64 * row + y)
+
+-- in those of the set the other side wins after the move of the man; after each quiet move of it; of the last man; of all men
+abbrev pub AreWonAfter : Numbered Position → List ℕ → ℕ → ℕ → ℕ → Man → ℕ → Type 0
+AreWonAfter g cells k row set man x =
+    (y : ℕ) (q : Position) → y < 64 → has set y ≡ true → g.position (64 * row + y) ≡ Some q → IsWonAfter g cells k q (move_to man x)
+
+abbrev pub AllLoseBy : Numbered Position → List ℕ → ℕ → ℕ → ℕ → Man → Type 0
+AllLoseBy g cells k row set man =
+    (y : ℕ) (q : Position) → y < 64 → has set y ≡ true → g.position (64 * row + y) ≡ Some q → QuietMovesLoseBy g cells k q man
+
+abbrev pub AllLoseByLast : Numbered Position → List ℕ → ℕ → ℕ → ℕ → Man → Type 0
+AllLoseByLast g cells k row set last =
+    (y : ℕ) (q : Position) → y < 64 → has set y ≡ true → g.position (64 * row + y) ≡ Some q → QuietMovesLoseBy g cells k q (on_square last y)
+
+abbrev pub AllLose : Numbered Position → List ℕ → ℕ → ℕ → ℕ → Type 0
+AllLose g cells k row set =
+    (y : ℕ) (q : Position) → y < 64 → has set y ≡ true → g.position (64 * row + y) ≡ Some q → QuietMovesLose g cells k q
+
+-- those of the set have a move
+abbrev pub HaveMoves : Class → ℕ → ℕ → Type 0
+HaveMoves c row set = (y : ℕ) (q : Position) → y < 64 → has set y ≡ true → position_numbered c (64 * row + y) ≡ Some q → HasMove q

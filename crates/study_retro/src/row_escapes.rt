@@ -1,0 +1,441 @@
+//! Which positions of a row of numbers are lost, where no capture in passing is legal: each man but the last is moved in all
+//! of them at once.
+ghost use Rattle.std.specs.Prelude.{◌≡◌, ◌≤◌, ◌<◌, ◌+◌, ◌*◌, ℕ, true, false, length, slice_index, IsTrue, Some, Contains};
+ghost use Rattle.study_board.specs.Men.{same_side};
+ghost use Rattle.study_board.specs.Position.{Position as Seen};
+ghost use Rattle.study_board.specs.Sets.{has};
+ghost use Rattle.study_moves.specs.Rules.{reaches_last_rank};
+ghost use Rattle.study_index.specs.Number.{cells_of};
+ghost use Rattle.study_index.specs.Computed.{position_numbered};
+ghost use Rattle.study_retro.specs.Cells.{value_of};
+ghost use Rattle.study_retro.specs.ClassGame.{class_game};
+ghost use Rattle.study_retro.specs.Numbered.{HasPosition, HavePositions, IsNumberedClass, LosesBy, NoLossBy};
+ghost use Rattle.study_retro.specs.RowEscapes.{AllLose, AllLoseBy, AllLoseByLast, AreAmong, AreWonAfter, CanAllGo, HaveMoves, OthersHold};
+ghost use Rattle.study_retro.specs.RowLevels.{AreNumbered};
+ghost use Rattle.study_retro.specs.Still.{HasMove, QuietMovesLose};
+ghost use Rattle.study_retro.specs.declared.value.Value.TheVariants.{Win};
+
+use crate::class_game::ClassGame;
+use crate::earlier::may_pass;
+use crate::escapes::{has_move, loses_to, quiet_moves_of, reaches_last_rank};
+use crate::propagate::{is_lost_by_moves, is_won};
+use crate::row::Row;
+use crate::row_levels::lost_plainly_each;
+use crate::row_moves::{squares_going, targets_beside};
+use crate::still::stays;
+use crate::value::value_at;
+use std::alloc::Allocator;
+use study_board::{Man, Square, SquareSet};
+use study_index::{Departure, RowDeparture, told};
+
+/// Of some squares of a row, those whose cell tells of a win within `level` plies.
+#[inline]
+fn squares_won(cells: &[u8], row: u32, set: SquareSet, level: u8) -> SquareSet
+    requires row { row < 1048576 }
+    requires cells { (y : ℕ) → y < 64 → has set y ≡ true → 64 * row + y < length cells.now }
+    ensures yes { (y : ℕ) → y < 64 → has result y ≡ true
+        → (has set y ≡ true) × ((m : ℕ) × (value_of (slice_index cells.now (64 * row + y)) ≡ Win m) × (m ≤ level)) }
+    ensures no { (y m : ℕ) → y < 64 → has set y ≡ true → has result y ≡ false → value_of (slice_index cells.now (64 * row + y)) ≡ Win m → m ≤ level → ⊥ }
+{
+    let mut won = SquareSet::empty();
+    let mut rest = set;
+    let mut next = 0u8;
+    while !rest.is_empty() {
+        let square = rest.first();
+        rest = rest.without(SquareSet::of(square));
+        let number = 64 * row + u32::from(square.number());
+        if is_won(value_at(cells[number as usize]), level) {
+            won = won.union(SquareSet::of(square));
+        }
+        next = square.number() + 1;
+    }
+    won
+}
+
+/// The squares of some numbers of a row at which the legal move of the man to the square, on which no man stands, is not quiet,
+/// or lets the other side win within `level` plies: number by number.
+fn losing_each<A: Allocator>(
+    game: &ClassGame<A>,
+    cells: &[u8],
+    departure: &RowDeparture,
+    going: SquareSet,
+    man: &Man,
+    slot: u32,
+    target: Square,
+    level: u8,
+) -> SquareSet
+    requires laws { IsNumberedClass (class_game game.now.class game.now.tables.now) }
+    requires plain { departure.now.row < 262144 }
+    requires numbered { AreNumbered game.now.class departure.now.row going }
+    requires going { CanAllGo game.now.class departure.now.row going man.now target }
+    requires cells { length cells.now ≡ cells_of game.now.class }
+    ensures only { AreAmong result going }
+    ensures yes { reaches_last_rank man.now target ≡ false
+        → AreWonAfter (class_game game.now.class game.now.tables.now) cells.now level departure.now.row result man.now target }
+    ensures no { OthersHold (class_game game.now.class game.now.tables.now) cells.now level departure.now.row going result }
+{
+    let mut losing = SquareSet::empty();
+    let mut rest = going;
+    let mut next = 0u8;
+    while !rest.is_empty() {
+        let square = rest.first();
+        rest = rest.without(SquareSet::of(square));
+        let number = 64 * departure.row + u32::from(square.number());
+        let setup = told(game.class, number);
+        let one = Departure::new(game.class, number, man.at, slot);
+        if loses_to(game, cells, &one, &setup, man, target, level) {
+            losing = losing.union(SquareSet::of(square));
+        }
+        next = square.number() + 1;
+    }
+    losing
+}
+
+/// The same: at once, where the numbers after the move are a row and leave no capture in passing.
+#[inline]
+fn losing_after<A: Allocator>(
+    game: &ClassGame<A>,
+    cells: &[u8],
+    departure: &RowDeparture,
+    going: SquareSet,
+    man: &Man,
+    slot: u32,
+    target: Square,
+    level: u8,
+) -> SquareSet
+    requires laws { IsNumberedClass (class_game game.now.class game.now.tables.now) }
+    requires class { departure.now.class ≡ game.now.class }
+    requires from { departure.now.from ≡ man.now.at }
+    requires plain { departure.now.row < 262144 }
+    requires on { target < 64 }
+    requires numbered { AreNumbered game.now.class departure.now.row going }
+    requires going { CanAllGo game.now.class departure.now.row going man.now target }
+    requires cells { length cells.now ≡ cells_of game.now.class }
+    ensures only { AreAmong result going }
+    ensures yes { reaches_last_rank man.now target ≡ false
+        → AreWonAfter (class_game game.now.class game.now.tables.now) cells.now level departure.now.row result man.now target }
+    ensures no { OthersHold (class_game game.now.class game.now.tables.now) cells.now level departure.now.row going result }
+{
+    if reaches_last_rank(man, target) {
+        return going;
+    }
+    if may_pass(game.class, man.at, target) {
+        return losing_each(game, cells, departure, going, man, slot, target, level);
+    }
+    match departure.row_to(target) {
+        Some(after) => squares_won(cells, after, going, level),
+        None => losing_each(game, cells, departure, going, man, slot, target, level),
+    }
+}
+
+/// What the quiet moves seen of a row come to: the squares of the numbers at which none escapes, and of those at which a
+/// legal move was seen.
+#[derive(Clone, Copy)]
+struct RowMoves {
+    losing: SquareSet,
+    some: SquareSet,
+}
+
+/// What the quiet moves seen come to with those of one of the other men: number by number.
+fn quiet_moves_of_man_each<A: Allocator>(
+    game: &ClassGame<A>,
+    cells: &[u8],
+    row: &Row,
+    so_far: RowMoves,
+    man: &Man,
+    slot: u32,
+    level: u8,
+) -> RowMoves
+    requires laws { IsNumberedClass (class_game game.now.class game.now.tables.now) }
+    requires class { row.now.class ≡ game.now.class }
+    requires numbered { AreNumbered game.now.class row.now.number so_far.losing }
+    requires man { Contains row.now.others.items man.now }
+    requires some { HaveMoves game.now.class row.now.number so_far.some }
+    requires cells { length cells.now ≡ cells_of game.now.class }
+    ensures only { AreAmong result.losing so_far.losing }
+    ensures no { OthersHold (class_game game.now.class game.now.tables.now) cells.now level row.now.number so_far.losing result.losing }
+    ensures yes { AllLoseBy (class_game game.now.class game.now.tables.now) cells.now level row.now.number result.losing man.now }
+    ensures some { HaveMoves game.now.class row.now.number result.some }
+{
+    let mut losing = SquareSet::empty();
+    let mut some = so_far.some;
+    let mut rest = so_far.losing;
+    let mut next = 0u8;
+    while !rest.is_empty() {
+        let square = rest.first();
+        rest = rest.without(SquareSet::of(square));
+        let number = 64 * row.number + u32::from(square.number());
+        let setup = told(game.class, number);
+        let moves = quiet_moves_of(game, cells, number, &setup, man, slot, level);
+        if !moves.escape {
+            losing = losing.union(SquareSet::of(square));
+        }
+        if moves.some {
+            some = some.union(SquareSet::of(square));
+        }
+        next = square.number() + 1;
+    }
+    RowMoves { losing, some }
+}
+
+/// The same by what the numbers have in common.
+fn quiet_moves_of_man_from<A: Allocator>(
+    game: &ClassGame<A>,
+    cells: &[u8],
+    row: &Row,
+    so_far: RowMoves,
+    man: &Man,
+    slot: u32,
+    departure: &RowDeparture,
+    level: u8,
+) -> RowMoves
+    requires laws { IsNumberedClass (class_game game.now.class game.now.tables.now) }
+    requires class { row.now.class ≡ game.now.class }
+    requires departure { departure.now.class ≡ row.now.class }
+    requires row { departure.now.row ≡ row.now.number }
+    requires from { departure.now.from ≡ man.now.at }
+    requires side { same_side man.now.side row.now.to_move ≡ true }
+    requires numbered { AreNumbered game.now.class row.now.number so_far.losing }
+    requires man { Contains row.now.others.items man.now }
+    requires some { HaveMoves game.now.class row.now.number so_far.some }
+    requires cells { length cells.now ≡ cells_of game.now.class }
+    ensures only { AreAmong result.losing so_far.losing }
+    ensures no { OthersHold (class_game game.now.class game.now.tables.now) cells.now level row.now.number so_far.losing result.losing }
+    ensures yes { AllLoseBy (class_game game.now.class game.now.tables.now) cells.now level row.now.number result.losing man.now }
+    ensures some { HaveMoves game.now.class row.now.number result.some }
+{
+    let others = row.others.as_slice();
+    let mut losing = so_far.losing;
+    let mut some = so_far.some;
+    let mut rest = targets_beside(others, man);
+    let mut next = 0u8;
+    while !rest.is_empty() {
+        if losing.is_empty() {
+            return RowMoves { losing, some };
+        }
+        let target = rest.first();
+        rest = rest.without(SquareSet::of(target));
+        let going = losing.intersection(squares_going(others, &row.last, row.to_move, man, target));
+        let lost = losing_after(game, cells, departure, going, man, slot, target, level);
+        losing = losing.without(going).union(lost);
+        some = some.union(going);
+        next = target.number() + 1;
+    }
+    RowMoves { losing, some }
+}
+
+/// The same, if it is one of the side to move.
+fn quiet_moves_of_row<A: Allocator>(
+    game: &ClassGame<A>,
+    cells: &[u8],
+    row: &Row,
+    so_far: RowMoves,
+    man: &Man,
+    slot: u32,
+    level: u8,
+) -> RowMoves
+    requires laws { IsNumberedClass (class_game game.now.class game.now.tables.now) }
+    requires class { row.now.class ≡ game.now.class }
+    requires numbered { AreNumbered game.now.class row.now.number so_far.losing }
+    requires man { Contains row.now.others.items man.now }
+    requires some { HaveMoves game.now.class row.now.number so_far.some }
+    requires cells { length cells.now ≡ cells_of game.now.class }
+    ensures only { AreAmong result.losing so_far.losing }
+    ensures no { OthersHold (class_game game.now.class game.now.tables.now) cells.now level row.now.number so_far.losing result.losing }
+    ensures yes { AllLoseBy (class_game game.now.class game.now.tables.now) cells.now level row.now.number result.losing man.now }
+    ensures some { HaveMoves game.now.class row.now.number result.some }
+{
+    if man.side != row.to_move {
+        return so_far;
+    }
+    match RowDeparture::new(row.class, row.number, man.at, slot) {
+        None => quiet_moves_of_man_each(game, cells, row, so_far, man, slot, level),
+        Some(departure) => quiet_moves_of_man_from(game, cells, row, so_far, man, slot, &departure, level),
+    }
+}
+
+/// What the quiet moves seen come to with those of the last man, on each of its squares in turn.
+fn quiet_moves_of_last<A: Allocator>(
+    game: &ClassGame<A>,
+    cells: &[u8],
+    row: &Row,
+    so_far: RowMoves,
+    level: u8,
+) -> RowMoves
+    requires laws { IsNumberedClass (class_game game.now.class game.now.tables.now) }
+    requires class { row.now.class ≡ game.now.class }
+    requires numbered { AreNumbered game.now.class row.now.number so_far.losing }
+    requires some { HaveMoves game.now.class row.now.number so_far.some }
+    requires cells { length cells.now ≡ cells_of game.now.class }
+    ensures only { AreAmong result.losing so_far.losing }
+    ensures no { OthersHold (class_game game.now.class game.now.tables.now) cells.now level row.now.number so_far.losing result.losing }
+    ensures yes { AllLoseByLast (class_game game.now.class game.now.tables.now) cells.now level row.now.number result.losing row.now.last }
+    ensures some { HaveMoves game.now.class row.now.number result.some }
+{
+    let slot = row.others.len() as u32;
+    let mut losing = SquareSet::empty();
+    let mut some = so_far.some;
+    let mut rest = so_far.losing;
+    let mut next = 0u8;
+    while !rest.is_empty() {
+        let square = rest.first();
+        rest = rest.without(SquareSet::of(square));
+        let number = 64 * row.number + u32::from(square.number());
+        let last = Man {
+            side: row.last.side,
+            kind: row.last.kind,
+            at: square,
+        };
+        let setup = told(game.class, number);
+        let moves = quiet_moves_of(game, cells, number, &setup, &last, slot, level);
+        if !moves.escape {
+            losing = losing.union(SquareSet::of(square));
+        }
+        if moves.some {
+            some = some.union(SquareSet::of(square));
+        }
+        next = square.number() + 1;
+    }
+    RowMoves { losing, some }
+}
+
+/// What the quiet moves of all men come to, at some numbers of a row.
+fn quiet_moves_in_row<A: Allocator>(
+    game: &ClassGame<A>,
+    cells: &[u8],
+    row: &Row,
+    candidates: SquareSet,
+    level: u8,
+) -> RowMoves
+    requires laws { IsNumberedClass (class_game game.now.class game.now.tables.now) }
+    requires class { row.now.class ≡ game.now.class }
+    requires numbered { AreNumbered game.now.class row.now.number candidates }
+    requires cells { length cells.now ≡ cells_of game.now.class }
+    ensures only { AreAmong result.losing candidates }
+    ensures no { OthersHold (class_game game.now.class game.now.tables.now) cells.now level row.now.number candidates result.losing }
+    ensures yes { AllLose (class_game game.now.class game.now.tables.now) cells.now level row.now.number result.losing }
+    ensures some { HaveMoves game.now.class row.now.number result.some }
+{
+    let mut moves = RowMoves {
+        losing: candidates,
+        some: SquareSet::empty(),
+    };
+    for (slot, man) in row.others.as_slice().iter().enumerate() {
+        moves = quiet_moves_of_row(game, cells, row, moves, man, slot as u32, level);
+    }
+    quiet_moves_of_last(game, cells, row, moves, level)
+}
+
+/// Whether the position of a number, whose quiet moves each lead to a win within `level` plies, has a move, and each leads to
+/// such a win.
+fn is_lost_after_quiet<A: Allocator>(
+    game: &ClassGame<A>,
+    cells: &[u8],
+    number: u32,
+    some: bool,
+    level: u8,
+) -> bool
+    requires laws { IsNumberedClass (class_game game.now.class game.now.tables.now) }
+    requires numbered { HasPosition (class_game game.now.class game.now.tables.now) number }
+    requires plain { number < 16777216 }
+    requires quiet { (q : Seen) → position_numbered game.now.class number ≡ Some q
+        → QuietMovesLose (class_game game.now.class game.now.tables.now) cells.now level q }
+    requires some { IsTrue some → (q : Seen) → position_numbered game.now.class number ≡ Some q → HasMove q }
+    requires cells { length cells.now ≡ cells_of game.now.class }
+    ensures yes { IsTrue result → (p : Seen) × (position_numbered game.now.class number ≡ Some p)
+        × LosesBy (class_game game.now.class game.now.tables.now) cells.now level p }
+    ensures no { result ≡ false → NoLossBy (class_game game.now.class game.now.tables.now) cells.now level number }
+{
+    let setup = told(game.class, number);
+    if stays(game.class, number, &setup) {
+        return some || has_move(game.class, number, &setup);
+    }
+    is_lost_by_moves(game, cells, number, level)
+}
+
+/// Of the numbers of a row at which no quiet move escapes, those whose position has a move, and each leads to a win within
+/// `level` plies.
+fn lost_after_quiet<A: Allocator>(
+    game: &ClassGame<A>,
+    cells: &[u8],
+    row: u32,
+    losing: SquareSet,
+    some: SquareSet,
+    level: u8,
+) -> SquareSet
+    requires laws { IsNumberedClass (class_game game.now.class game.now.tables.now) }
+    requires plain { row < 262144 }
+    requires numbered { AreNumbered game.now.class row losing }
+    requires quiet { AllLose (class_game game.now.class game.now.tables.now) cells.now level row losing }
+    requires some { HaveMoves game.now.class row some }
+    requires cells { length cells.now ≡ cells_of game.now.class }
+    ensures only { AreAmong result losing }
+    ensures yes { (y : ℕ) → y < 64 → has result y ≡ true → (p : Seen) × (position_numbered game.now.class (64 * row + y) ≡ Some p)
+        × LosesBy (class_game game.now.class game.now.tables.now) cells.now level p }
+    ensures no { OthersHold (class_game game.now.class game.now.tables.now) cells.now level row losing result }
+{
+    let mut lost = SquareSet::empty();
+    let mut rest = losing;
+    let mut next = 0u8;
+    while !rest.is_empty() {
+        let square = rest.first();
+        rest = rest.without(SquareSet::of(square));
+        let number = 64 * row + u32::from(square.number());
+        if is_lost_after_quiet(game, cells, number, some.contains(square), level) {
+            lost = lost.union(SquareSet::of(square));
+        }
+        next = square.number() + 1;
+    }
+    lost
+}
+
+/// Of some positions of a row, those that have a move, and each leads to a win within `level` plies, where no capture in
+/// passing is legal and the last man is no king.
+fn lost_of_row<A: Allocator>(
+    game: &ClassGame<A>,
+    cells: &[u8],
+    row: &Row,
+    candidates: SquareSet,
+    level: u8,
+) -> SquareSet
+    requires laws { IsNumberedClass (class_game game.now.class game.now.tables.now) }
+    requires class { row.now.class ≡ game.now.class }
+    requires numbered { AreNumbered game.now.class row.now.number candidates }
+    requires cells { length cells.now ≡ cells_of game.now.class }
+    ensures only { AreAmong result candidates }
+    ensures yes { (y : ℕ) → y < 64 → has result y ≡ true → (p : Seen) × (position_numbered game.now.class (64 * row.now.number + y) ≡ Some p)
+        × LosesBy (class_game game.now.class game.now.tables.now) cells.now level p }
+    ensures no { OthersHold (class_game game.now.class game.now.tables.now) cells.now level row.now.number candidates result }
+{
+    let moves = quiet_moves_in_row(game, cells, row, candidates, level);
+    lost_after_quiet(game, cells, row.number, moves.losing, moves.some, level)
+}
+
+/// Of some positions of a row, those that have a move, and each leads to a win within `level` plies, where no capture in
+/// passing is legal.
+pub fn lost_in_plain_row<A: Allocator>(
+    game: &ClassGame<A>,
+    cells: &[u8],
+    row: u32,
+    candidates: SquareSet,
+    level: u8,
+) -> SquareSet
+    requires laws { IsNumberedClass (class_game game.now.class game.now.tables.now) }
+    requires numbered { HavePositions (class_game game.now.class game.now.tables.now) row candidates }
+    requires plain { 64 * row < 16777216 }
+    requires cells { length cells.now ≡ (class_game game.now.class game.now.tables.now).size }
+    ensures only { (y : ℕ) → y < 64 → has result y ≡ true → has candidates y ≡ true }
+    ensures yes { (y : ℕ) → y < 64 → has result y ≡ true → (p : Seen) × (position_numbered game.now.class (64 * row + y) ≡ Some p)
+        × LosesBy (class_game game.now.class game.now.tables.now) cells.now level p }
+    ensures no { (y : ℕ) → y < 64 → has candidates y ≡ true → has result y ≡ false
+        → NoLossBy (class_game game.now.class game.now.tables.now) cells.now level (64 * row + y) }
+{
+    if candidates.is_empty() {
+        return candidates;
+    }
+    let _square = candidates.first();
+    match Row::new(game.class, row) {
+        None => lost_plainly_each(game, cells, row, candidates, level),
+        Some(row) => lost_of_row(game, cells, &row, candidates, level),
+    }
+}
