@@ -10,6 +10,7 @@ ghost use Rattle.study_index.specs.Computed.{position_numbered};
 ghost use Rattle.study_retro.specs.Cells.{value_of};
 ghost use Rattle.study_retro.specs.ClassGame.{class_game};
 ghost use Rattle.study_retro.specs.Numbered.{HasPosition, HavePositions, IsNumberedClass, LosesBy, NoLossBy};
+ghost use Rattle.study_retro.specs.Predecessors.{PassesNone};
 ghost use Rattle.study_retro.specs.RowEscapes.{AllLose, AllLoseBy, AllLoseByLast, AreAmong, AreWonAfter, CanAllGo, HaveMoves, OthersHold};
 ghost use Rattle.study_retro.specs.RowLevels.{AreNumbered};
 ghost use Rattle.study_retro.specs.Still.{HasMove, QuietMovesLose};
@@ -91,6 +92,47 @@ fn losing_each<A: Allocator>(
     losing
 }
 
+/// The same of a quiet move that leaves no capture in passing.
+#[inline]
+fn losing_each_moved<A: Allocator>(
+    game: &ClassGame<A>,
+    cells: &[u8],
+    departure: &RowDeparture,
+    going: SquareSet,
+    man: &Man,
+    target: Square,
+    level: u8,
+) -> SquareSet
+    requires laws { IsNumberedClass (class_game game.now.class game.now.tables.now) }
+    requires class { departure.now.class ≡ game.now.class }
+    requires from { departure.now.from ≡ man.now.at }
+    requires passes { PassesNone game.now.class man.now.at target }
+    requires stays { reaches_last_rank man.now target ≡ false }
+    requires plain { departure.now.row < 262144 }
+    requires on { target < 64 }
+    requires numbered { AreNumbered game.now.class departure.now.row going }
+    requires going { CanAllGo game.now.class departure.now.row going man.now target }
+    requires cells { length cells.now ≡ cells_of game.now.class }
+    ensures only { AreAmong result going }
+    ensures yes { AreWonAfter (class_game game.now.class game.now.tables.now) cells.now level departure.now.row result man.now target }
+    ensures no { OthersHold (class_game game.now.class game.now.tables.now) cells.now level departure.now.row going result }
+{
+    let _read = (game.class, man.at);
+    let mut losing = SquareSet::empty();
+    let mut rest = going;
+    let mut next = 0u8;
+    while !rest.is_empty() {
+        let square = rest.first();
+        rest = rest.without(SquareSet::of(square));
+        let after = departure.number_to(target, square);
+        if is_won(value_at(cells[after as usize]), level) {
+            losing = losing.union(SquareSet::of(square));
+        }
+        next = square.number() + 1;
+    }
+    losing
+}
+
 /// The same: at once, where the numbers after the move are a row and leave no capture in passing.
 #[inline]
 fn losing_after<A: Allocator>(
@@ -124,7 +166,7 @@ fn losing_after<A: Allocator>(
     }
     match departure.row_to(target) {
         Some(after) => squares_won(cells, after, going, level),
-        None => losing_each(game, cells, departure, going, man, slot, target, level),
+        None => losing_each_moved(game, cells, departure, going, man, target, level),
     }
 }
 
