@@ -33,7 +33,8 @@ KRK,49108,63,62 55,1,126 119
 KRK,20543,10,17 18 9,0,- - -
 KRK,20543,63,55 61,2,- -
 KRKN,1174028,40,33 47,2,- -
-KQQK,377064,40,0,2,-
+KQQK,377064,40,0,3,-
+KPPK,778964,11,19 27,2,- -
 KK,658,18,26 27,1,- -";
 
 /// Classes, numbers, and the rows of the numbers after the last man has moved: none where the white king is on the diagonal
