@@ -25,4 +25,5 @@ pub mod AddedNumbers
 pub mod LeastImages
 pub mod KingNumbers
 mod Departures
+pub mod RowDepartures
 pub mod ListedKings

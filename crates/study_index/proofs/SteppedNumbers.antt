@@ -85,7 +85,7 @@ within_four : (places n x : ℕ) → IsTurned places (n / 64 / 64 / 64) x
     × (square_told 4 3 n * square_weight 4 3 ≤ turned_by places 4 n)
 within_four places n x h = let t = turned_four places n x h in (omega (arith, t), omega (arith, t), omega (arith, t))
 
-told_within : (pawns : Bool) (slots : List Slot) (n i : ℕ) → AreSlots slots → nat_lt (head slots n / listed_count pawns) 2 ≡ true → 1 ≤ i → i < length slots
+pub told_within : (pawns : Bool) (slots : List Slot) (n i : ℕ) → AreSlots slots → nat_lt (head slots n / listed_count pawns) 2 ≡ true → 1 ≤ i → i < length slots
     → square_told (length slots) i n * square_weight (length slots) i ≤ turned_by (listed_count pawns) (length slots) n
 told_within pawns (k ∷ b ∷ []) n i s c l m =
     let e : 1 ≡ i = omega arith in
@@ -302,7 +302,7 @@ place_kept [] n i a s c on l m = absurd s
 place_kept (k ∷ []) n i a s c on l m = absurd s
 place_kept (k ∷ b ∷ x ∷ y ∷ z ∷ fs) n i a s c on l m = absurd s
 
-image_kept : (w l d : Bool) (slots : List Slot) (m : ℕ) → (not l && (w || not d)) ≡ true → is_on_diagonal (head slots m % 10) ≡ d
+pub image_kept : (w l d : Bool) (slots : List Slot) (m : ℕ) → (not l && (w || not d)) ≡ true → is_on_diagonal (head slots m % 10) ≡ d
     → least_image w l slots m ≡ m
 unfolding least_image ascending_if
 image_kept true false d slots m e f = refl

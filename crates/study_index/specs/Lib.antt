@@ -11,3 +11,4 @@ pub mod Stepped
 pub mod Weights
 pub mod LeastImage
 pub mod Departure
+pub mod RowDeparture

@@ -31,7 +31,7 @@ pub struct Departure {
 
 /// Whether the number with one square of a slot after the first replaced is the least of its images.
 #[inline]
-fn keeps_image(class: Class, slots: &[Slot], pawns: bool, n: u32) -> bool
+pub fn keeps_image(class: Class, slots: &[Slot], pawns: bool, n: u32) -> bool
     requires slots { slots.now ≡ slots_of class }
     requires pawns { pawns ≡ slots_have_pawn (slots_of class) }
     ensures { result ≡ keeps_image (slots_of class) n }
@@ -66,7 +66,7 @@ fn way_of(class: Class, number: u32, from: Square, slot: u32) -> Way
 
 /// Whether the man of a slot, the first at 0, stands on the square, by the number.
 #[inline(always)]
-fn stands_in(slots: &[Slot], pawns: bool, n: u32, slot: u32, from: Square) -> bool
+pub fn stands_in(slots: &[Slot], pawns: bool, n: u32, slot: u32, from: Square) -> bool
     requires slots { AreSlots slots.now }
     requires pawns { pawns ≡ slots_have_pawn slots.now }
     ensures { IsTrue result → (slot < length slots.now) × ((d : AMan) → (slice_index_or (told_men slots.now n) slot d).at ≡ from) }

@@ -108,10 +108,11 @@ pub fn origins(men: &[Man], to_move: Side, man: &Man) -> SquareSet
     origins_of_kind(men, man).without(origins_in_check(men, to_move, man))
 }
 
-/// The squares from which the man can have come, as its kind goes.
+/// The empty squares from which the man can have come, as its kind goes, with these men on the board now, in any order,
+/// whether or not a king was attacked then.
 #[inline(always)]
 #[tactic(auto, unfolding(crate::specs::Unmoves::comes))]
-fn origins_of_kind(men: &[Man], man: &Man) -> SquareSet
+pub fn origins_of_kind(men: &[Man], man: &Man) -> SquareSet
     ensures { (a : ℕ) → a < 64 → has result a ≡ comes men.now man.now a }
 {
     if man.kind == Kind::Pawn {

@@ -20,6 +20,10 @@ pub mod BackLemmas
 pub mod StillChess
 pub mod RowLemmas
 pub mod RowChecks
+pub mod RowSets
+pub mod RowBackLemmas
+pub mod RowGeometry
+pub mod RowMoveLemmas
 pub mod SquaresLeft
 pub mod DueTally
 pub mod QuietClass

@@ -1,13 +1,13 @@
 -- Whether a king is attacked, by the square of the man of the last slot.
-use Rattle.std.proofs.Common.{◌≡◌, ℕ, ◌<◌, ◌==◌, nat_lt, Bool, true, false, not, ◌&&◌, ◌||◌, List, [], ◌∷◌, ◌++◌, refl, sym, ◌∙◌, ap, arith}
+use Rattle.std.proofs.Common.{◌≡◌, ℕ, ◌==◌, Bool, true, false, not, ◌&&◌, ◌||◌, List, [], ◌∷◌, ◌++◌, refl, sym, ◌∙◌, ap}
 use Rattle.std.specs.List.{list_any}
-use Rattle.std.proofs.lemmas.Bool.{false≢true, eqb-true, eq-eqb}
+use Rattle.std.proofs.lemmas.Bool.{eqb-true, eq-eqb}
 use Rattle.std.proofs.lemmas.List.Folds.{list_any-append}
 use Rattle.study_board.specs.declared.men.Side.{Side}
 use Rattle.study_board.specs.declared.men.Kind.{Kind}
 use Rattle.study_board.specs.declared.men.Kind.TheVariants.{King, Queen, Rook, Bishop, Knight, Pawn}
 use Rattle.study_board.specs.declared.men.Man.{Man}
-use Rattle.study_board.specs.Geometry.{file_of, rank_of, apart, is_between, on_bishop_line, strictly_between}
+use Rattle.study_board.specs.Geometry.{strictly_between}
 use Rattle.study_board.specs.Men.{bears_on, is_attacked, is_blocked, is_man, other_side, reaches, same_kind, same_side}
 use Rattle.study_board.specs.Position.{in_check}
 use Rattle.study_board.specs.Sets.{is_slider, reaches_if}
@@ -51,7 +51,8 @@ module _ (others : List Man) (last : Man) (y : ℕ) where
   unfolding is_blocked
   blocked_with a x = list_any-append (λ m. strictly_between a m.at x) others (l ∷ [])
 
-  reaches_with : (p : Bool) (side : Side) (kind : Kind) (a x : ℕ) → (p && reaches men side kind a x) ≡ ((p && reaches others side kind a x) && not (is_slider kind && strictly_between a y x))
+  reaches_with : (p : Bool) (side : Side) (kind : Kind) (a x : ℕ) → (p && reaches men side kind a x)
+      ≡ ((p && reaches others side kind a x) && not (is_slider kind && strictly_between a y x))
   unfolding reaches
   reaches_with p side King a x = and_one _
   reaches_with p side Queen a x = rw (blocked_with a x) (line_with p _ (is_blocked others a x) (strictly_between a y x))
@@ -60,7 +61,7 @@ module _ (others : List Man) (last : Man) (y : ℕ) where
   reaches_with p side Knight a x = and_one _
   reaches_with p side Pawn a x = and_one _
 
-  bears_men : (m : Man) (x : ℕ) → bears_on men m x ≡ bears_with others y m x
+  pub bears_men : (m : Man) (x : ℕ) → bears_on men m x ≡ bears_with others y m x
   bears_men m x = reaches_with (not (m.at == x)) m.side m.kind m.at x
 
   between_self : (x : ℕ) → strictly_between y y x ≡ false
@@ -96,8 +97,12 @@ module _ (others : List Man) (last : Man) (y : ℕ) where
   unfolding is_attacked
   attacked_with by x =
       list_any-append (λ m. same_side m.side by && bears_on men m x) others (l ∷ [])
-      ∙ rw (or_none (same_side last.side by && bears_on men l x), bears_last x,
-        list_any_same (λ m. same_side m.side by && bears_on men m x) (λ m. same_side m.side by && bears_with others y m x) (λ m. ap (λ (b : Bool). same_side m.side by && b) (bears_men m x)) others) refl
+      ∙ rw (
+        or_none (same_side last.side by && bears_on men l x),
+        bears_last x,
+        list_any_same (λ m. same_side m.side by && bears_on men m x) (λ m. same_side m.side by && bears_with others y m x)
+            (λ m. ap (λ (b : Bool). same_side m.side by && b) (bears_men m x)) others,
+      ) refl
 
   pub row_check : (side : Side) → same_kind last.kind King ≡ false → list_any (king_attacked_with others last side y) others ≡ in_check men side
   unfolding in_check

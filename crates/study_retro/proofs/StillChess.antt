@@ -43,7 +43,7 @@ use Rattle.study_retro.proofs.MovedSteps.{quiet_stays}
 use Rattle.study_retro.proofs.QuietSteps.{dead_plain}
 use Rattle.study_moves.specs.EnPassant.{has_legal_en_passant}
 
-among-of : (xs : List Man) (m : Man) → Contains xs m → IsAmong m xs
+pub among-of : (xs : List Man) (m : Man) → Contains xs m → IsAmong m xs
 among-of [] m c = absurd (omega (arith, c.1))
 among-of (x ∷ xs) m c = by_index (among-of xs m) c.0 c.1 c.2
   where

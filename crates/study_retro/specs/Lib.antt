@@ -16,3 +16,4 @@ pub mod ClassGame
 pub mod Still
 pub mod RowMoves
 pub mod RowLevels
+pub mod RowBack

@@ -1,13 +1,16 @@
 -- Not part of any public contract: what the men of a row are attacked by and where they go, by the square of the man of the last slot.
-use Rattle.std.specs.Prelude.{ℕ, Bool, not, ◌&&◌, ◌||◌, List}
+use Rattle.std.specs.Prelude.{ℕ, ◌≤◌, Bool, not, ◌&&◌, ◌||◌, ◌==◌, List, [], ◌∷◌, ◌++◌, None, map, count_by}
 use Rattle.std.specs.List.{list_any}
 use Rattle.study_board.specs.declared.men.Side.{Side}
 use Rattle.study_board.specs.declared.men.Kind.TheVariants.{King}
 use Rattle.study_board.specs.declared.men.Man.{Man}
-use Rattle.study_board.specs.Geometry.{strictly_between}
+use Rattle.study_board.specs.Geometry.{rank_of, strictly_between}
 use Rattle.study_board.specs.Men.{bears_on, is_man, other_side, same_side}
+use Rattle.study_board.specs.Position.{in_check, is_empty, is_occupied}
 use Rattle.study_board.specs.Sets.{is_slider}
-use Rattle.study_retro.specs.Still.{facing}
+use Rattle.study_moves.specs.Rules.{half_way, is_ahead, reaches_target, starting_rank}
+use Rattle.study_index.specs.Moved.{from_to}
+use Rattle.study_retro.specs.Still.{facing, on_square}
 
 -- the man bears on x where a further man stands on y
 abbrev pub bears_with : List Man → ℕ → Man → ℕ → Bool
@@ -18,3 +21,24 @@ abbrev pub king_attacked_with : List Man → Man → Side → ℕ → Man → Bo
 king_attacked_with others last side y k = is_man side King k
     && (list_any (λ m. same_side m.side (other_side side) && bears_with others y m k.at) others
     || (same_side last.side (other_side side) && bears_on others (facing last k.at) y))
+
+-- no two of the men share a square
+abbrev pub AreApart : List Man → Type 0
+AreApart men = (x : ℕ) → count_by (λ m. m.at == x) men ≤ 1
+
+-- a pawn goes from a to x, where no man stands, by a step or a double step
+abbrev pub pawn_goes : List Man → Side → ℕ → ℕ → Bool
+pawn_goes men side a x =
+    (is_ahead side 1 a x || ((rank_of a == starting_rank side) && is_ahead side 2 a x && is_empty men (half_way a x))) && is_empty men x
+
+-- the man goes to x, where no man stands
+abbrev pub goes_quietly : List Man → Man → ℕ → Bool
+goes_quietly men man x = reaches_target men None man x && not (is_occupied men x)
+
+-- a man on y stands in the way between two squares, or on the second
+abbrev pub hinders : ℕ → ℕ → ℕ → Bool
+hinders from to y = strictly_between from y to || (to == y)
+
+-- where the last man stands on y, it is not in the way, and no king of the side is attacked with the man of the first square on the second
+abbrev pub lets_pass : List Man → Man → Side → ℕ → ℕ → ℕ → Bool
+lets_pass others last side from to y = not (hinders from to y || in_check (map (from_to from to) others ++ on_square last y ∷ []) side)

@@ -23,7 +23,7 @@ pub struct Change {
 
 /// Sets a cell, where it tells of no mate, or of none so near.
 #[inline]
-fn write_cell(cells: &mut [u8], number: u32, change: Change)
+pub fn write_cell(cells: &mut [u8], number: u32, change: Change)
     requires number { number < length cells.old }
     requires cell { 0 < change.cell }
     ensures rise { AreSet (λ i. i ≡ number) change.cell change.over cells.old cells.new }
@@ -39,7 +39,7 @@ fn write_cell(cells: &mut [u8], number: u32, change: Change)
 /// Sets the cells of the positions from which a quiet move of the man from the square leads to the position of the
 /// number that it departs from, going back.
 #[inline]
-fn write_from(
+pub fn write_from(
     class: Class,
     cells: &mut [u8],
     man: &Man,
@@ -70,7 +70,7 @@ fn write_from(
 /// Sets the cells of the positions from which a quiet move of the man leads to the position of this number, and tells how
 /// many they are.
 #[inline]
-fn write_before_man(
+pub fn write_before_man(
     class: Class,
     cells: &mut [u8],
     number: u32,

@@ -39,7 +39,7 @@ pub fn reaches_last_rank(man: &Man, target: Square) -> bool
 
 /// The squares with a man.
 #[inline]
-fn occupied(men: &[Man]) -> SquareSet
+pub fn occupied(men: &[Man]) -> SquareSet
     ensures { (x : ℕ) → x < 64 → has result x ≡ is_occupied men.now x }
 {
     let mut set = SquareSet::empty();

@@ -117,7 +117,7 @@ pub fn lost_of_each<G: LabelledGame>(
 
 /// Sets the cells of the positions from which a quiet move leads to the position of a number of the row whose square is in
 /// the set, and tells how many they are.
-pub fn write_before_row(
+pub fn write_before_each(
     class: Class,
     cells: &mut [u8],
     row: u32,

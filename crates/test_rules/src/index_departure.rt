@@ -2,7 +2,7 @@
 use crate::men::square;
 use crate::rows::{field, number};
 use std::process::Abort;
-use study_index::{Departure, cells};
+use study_index::{Departure, RowDeparture, cells, row_of_last};
 use study_material::Class;
 
 /// Classes, numbers, the square from which a man goes, those to which it goes, and the numbers after that, by another
@@ -20,6 +20,29 @@ KPPK,778964,11,19 27,9168084 9168155
 KQKP,9422001,49,41 33,1033385 1033377
 KPKP,258678,9,17,8647798
 KK,658,18,26 27,19 27";
+
+/// Classes, numbers, the square from which a man goes, those to which it goes, its slot, and the rows of the numbers after
+/// that, a 64th of them: none where the white king is on the diagonal or comes to it or to a square that is not listed, where
+/// two men are like, and where the man is the last.
+const ROWS: &str = "\
+KRKN,1174028,9,0 1,0,- 47016
+KPK,85536,40,41 42,0,3448 3512
+KPKP,258678,9,17,2,135121
+KRK,49108,63,62 55,1,126 119
+KRK,20543,10,17 18 9,0,- - -
+KRK,20543,63,55 61,2,- -
+KRKN,1174028,40,33 47,2,- -
+KQQK,377064,40,0,2,-
+KK,658,18,26 27,1,- -";
+
+/// Classes, numbers, and the rows of the numbers after the last man has moved: none where the white king is on the diagonal
+/// or two men are like.
+const ROWS_OF_LAST: &str = "\
+KRK,20543,960
+KQKP,9422001,16146
+KRKN,1174028,-
+KQQK,377064,-
+KNNK,1995368,-";
 
 /// That the man leads to each number of the row, whatever slot it is said to fill.
 fn expect_numbers(rt: &impl Abort, row: &str) {
@@ -47,5 +70,53 @@ fn expect_numbers_by(rt: &impl Abort, row: &str, departure: &Departure) {
 fn a_man_leads_to_a_number_for_each_square(rt: HostRuntime) {
     for row in DEPARTURES.lines() {
         expect_numbers(&rt, row);
+    }
+}
+
+/// That the man of the slot leads to each row, and that of another to none.
+fn expect_rows(rt: &impl Abort, row: &str) {
+    let class = Class::parse(field(row, 0)).ok().expect(rt, row);
+    let start = number(field(row, 1)).expect(rt, row);
+    let from = square(field(row, 2)).expect(rt, row);
+    let filled = number(field(row, 4)).expect(rt, row);
+    assert!(rt; start < cells(class), "{row}");
+    for slot in 0..5 {
+        let departure = RowDeparture::new(class, start / 64, from, slot);
+        expect_rows_by(rt, row, departure, slot == filled);
+    }
+}
+
+/// That the departure leads to each row, if the slot is the man's.
+fn expect_rows_by(rt: &impl Abort, row: &str, departure: Option<RowDeparture>, filled: bool) {
+    let mut wants = field(row, 5).split(' ');
+    for word in field(row, 3).split(' ') {
+        let to = square(word).expect(rt, row);
+        let want = number(wants.next().unwrap_or(""));
+        let got = departure.and_then(|d| d.row_to(to));
+        assert!(rt; got == if filled { want } else { None }, "{row}: {word}");
+    }
+    assert!(rt; wants.next().is_none(), "{row}");
+}
+
+#[test]
+fn a_man_leads_to_a_row_for_each_square(rt: HostRuntime) {
+    for row in ROWS.lines() {
+        expect_rows(&rt, row);
+    }
+}
+
+/// That the last man leads to the row.
+fn expect_row_of_last(rt: &impl Abort, row: &str) {
+    let class = Class::parse(field(row, 0)).ok().expect(rt, row);
+    let start = number(field(row, 1)).expect(rt, row);
+    assert!(rt; start < cells(class), "{row}");
+    let want = number(field(row, 2));
+    assert!(rt; row_of_last(class, start / 64) == want, "{row}");
+}
+
+#[test]
+fn the_last_man_leads_to_a_row(rt: HostRuntime) {
+    for row in ROWS_OF_LAST.lines() {
+        expect_row_of_last(&rt, row);
     }
 }

@@ -19,6 +19,12 @@ impl<T, const N: usize> ArrayVec<T, N> {
     }
 
     #[inline]
+    pub fn pop(&mut self) -> Option<T> {
+        self.len = self.len.checked_sub(1)?;
+        Some(unsafe { self.items[self.len as usize].assume_init_read() })
+    }
+
+    #[inline]
     pub fn insert(&mut self, at: usize, item: T) {
         self.push(item);
         self.items[at..self.len as usize].rotate_right(1);

@@ -6,7 +6,7 @@ use Rattle.study_board.specs.Geometry.{strictly_between}
 use Rattle.study_board.specs.Men.{bears_on, same_side}
 use Rattle.study_board.specs.Sets.{is_slider}
 use Rattle.study_board.proofs.SetBits.{any_none, any_more}
-use Rattle.study_retro.specs.RowMoves.{bears_with, king_attacked_with}
+use Rattle.study_retro.specs.RowMoves.{bears_with}
 use Rattle.study_retro.proofs.RowChecks.{and_and}
 use Rattle.study_retro.proofs.row_checks.squares_attacking.Goals as goal
 
@@ -23,4 +23,5 @@ loop-m-preserved c y ly =
 pub returns : goal.returns
 returns c y ly =
     c.loop-m.invariant y ly
-    ∙ ap (λ (l : List Man). list_any (λ m. same_side m.side c.args.by && bears_with c.args.others.now y m c.args.x) l) (take_all c.loop-m.m-index c.args.others.now (omega arith))
+    ∙ ap (λ (l : List Man). list_any (λ m. same_side m.side c.args.by && bears_with c.args.others.now y m c.args.x) l)
+    (take_all c.loop-m.m-index c.args.others.now (omega arith))

@@ -2,7 +2,7 @@ use Rattle.std.proofs.Common.{◌≡◌, ℕ, ◌<◌, ◌&&◌, take}
 use Rattle.std.specs.List.{list_any}
 use Rattle.study_board.specs.Men.{same_side}
 use Rattle.study_board.specs.Sets.{has}
-use Rattle.study_retro.specs.RowMoves.{bears_with, king_attacked_with}
+use Rattle.study_retro.specs.RowMoves.{bears_with}
 use Rattle.study_retro.proofs.row_checks.squares_attacking.Given as goal
 
 abbrev pub invariant-loop-m : goal.invariant-loop-m

@@ -1,10 +1,9 @@
-use Rattle.std.proofs.Common.{◌∙◌, ◌&&◌, arith, ap, List}
+use Rattle.std.proofs.Common.{◌∙◌, arith, ap, List}
 use Rattle.std.specs.List.{list_any}
 use Rattle.std.proofs.lemmas.List.{take_all}
 use Rattle.study_board.specs.declared.men.Man.{Man}
-use Rattle.study_board.specs.Men.{same_side}
 use Rattle.study_board.proofs.SetBits.{any_none, any_more}
-use Rattle.study_retro.specs.RowMoves.{bears_with, king_attacked_with}
+use Rattle.study_retro.specs.RowMoves.{king_attacked_with}
 use Rattle.study_retro.proofs.RowChecks.{row_check}
 use Rattle.study_retro.proofs.row_checks.squares_of_check.Goals as goal
 
@@ -20,5 +19,6 @@ loop-k-preserved c y ly =
 pub returns : goal.returns
 returns c y ly =
     c.loop-k.invariant y ly
-    ∙ ap (λ (l : List Man). list_any (king_attacked_with c.args.others.now c.args.last.now c.args.side y) l) (take_all c.loop-k.k-index c.args.others.now (omega arith))
+    ∙ ap (λ (l : List Man). list_any (king_attacked_with c.args.others.now c.args.last.now c.args.side y) l)
+    (take_all c.loop-k.k-index c.args.others.now (omega arith))
     ∙ row_check c.args.others.now c.args.last.now y c.args.side c.requires

@@ -1,8 +1,7 @@
-use Rattle.std.proofs.Common.{◌≡◌, ℕ, ◌<◌, ◌&&◌, take}
+use Rattle.std.proofs.Common.{◌≡◌, ℕ, ◌<◌, take}
 use Rattle.std.specs.List.{list_any}
-use Rattle.study_board.specs.Men.{same_side}
 use Rattle.study_board.specs.Sets.{has}
-use Rattle.study_retro.specs.RowMoves.{bears_with, king_attacked_with}
+use Rattle.study_retro.specs.RowMoves.{king_attacked_with}
 use Rattle.study_retro.proofs.row_checks.squares_of_check.Given as goal
 
 abbrev pub invariant-loop-k : goal.invariant-loop-k

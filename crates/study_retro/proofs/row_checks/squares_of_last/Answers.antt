@@ -8,5 +8,6 @@ use Rattle.study_retro.proofs.row_checks.squares_of_last.Goals as goal
 
 pub returns-then-ne : goal.returns-then-ne
 returns-then-ne c y ly =
-    let other : same_side c.args.last.now.side c.args.by ≡ false = sym (side_same c.args.last.now.side c.args.by) ∙ not-true _ (sym c.ne.ensures ∙ c.if-ne.true) in
+    let other : same_side c.args.last.now.side c.args.by ≡ false =
+    sym (side_same c.args.last.now.side c.args.by) ∙ not-true _ (sym c.ne.ensures ∙ c.if-ne.true) in
     rw c.empty.ensures (none_unless _ (bears_on c.args.others.now (facing c.args.last.now c.args.x) y) y other)

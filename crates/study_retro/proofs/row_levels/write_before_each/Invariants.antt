@@ -5,7 +5,7 @@ use Rattle.study_retro.specs.Predecessors.{IsBefore}
 use Rattle.study_retro.specs.Propagation.{AreSet, IsSetWhere}
 use Rattle.study_retro.specs.RowLevels.{IsBeforeRow}
 use Rattle.study_retro.proofs.SquaresLeft.{AreLeft}
-use Rattle.study_retro.proofs.row_levels.write_before_row.Given as goal
+use Rattle.study_retro.proofs.row_levels.write_before_each.Given as goal
 
 abbrev pub invariant-loop-next : goal.invariant-loop-next
 invariant-loop-next l = record {

@@ -2,7 +2,7 @@ use Rattle.std.proofs.Common.{ℕ, ◌+◌, ◌*◌}
 use Rattle.study_retro.specs.Predecessors.{IsBefore}
 use Rattle.study_retro.specs.Propagation.{IsSetWhere}
 use Rattle.study_retro.proofs.SquaresLeft.{taken-all}
-use Rattle.study_retro.proofs.row_levels.write_before_row.Goals as goal
+use Rattle.study_retro.proofs.row_levels.write_before_each.Goals as goal
 
 pub returns-clause-done : goal.returns-clause-done
 returns-clause-done c = λ n y on e b.

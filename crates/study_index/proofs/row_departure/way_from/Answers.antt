@@ -1,0 +1,31 @@
+use Rattle.std.proofs.Common.{◌≡◌, ℕ, ◌+◌, ◌*◌, ◌<◌, ◌-◌, List, length, slice_index_or, refl, sym, ◌∙◌, subst, arith}
+use Rattle.study_board.specs.declared.men.Man.{Man}
+use Rattle.study_index.specs.declared.decoding.Slot.{Slot}
+use Rattle.study_index.specs.Number.{without_bit}
+use Rattle.study_index.specs.Decoded.{told_men}
+use Rattle.study_index.proofs.RowDepartures.{IsRowSum-terms, IsRowSumOfKing-terms, found_row_sum, found_row_king}
+use Rattle.study_index.proofs.row_departure.way_from.Goals as goal
+
+pub returns-then-slot-eq0 : goal.returns-then-slot-eq0
+returns-then-slot-eq0 c =
+    found_row_king c.args.class c.args.row c.args.from c.terms_of_king-terms.result
+    (IsRowSumOfKing-terms c.args.class c.args.row c.args.from c.terms_of_king-terms.result (omega arith)
+    (sym c.has_like_men.ensures ∙ c.if-has_like_men.false)
+    (subst (λ (ss : List Slot). (d : Man) → (slice_index_or (told_men ss (without_bit (64 * c.args.row))) 0 d).at ≡ c.args.from) c.slots-slots.ensures
+    (subst (λ (i : ℕ). (d : Man) → (slice_index_or (told_men c.slots-slots.result.now (without_bit (64 * c.args.row))) i d).at ≡ c.args.from)
+    (let z : c.args.slot ≡ 0 = c.if-slot-eq0.true in z) (c.stands_in.ensures c.if-not-stands_in.false).1))
+    (c.terms_of_king-terms.ensures.rest ∙ rw (c.head.ensures, c.class_has_pawn-pawns.ensures, c.slots-slots.ensures) refl)
+    (c.terms_of_king-terms.ensures.weight ∙ rw c.slots-slots.ensures refl))
+
+pub returns-then-keeps_image : goal.returns-then-keeps_image
+returns-then-keeps_image c =
+    let is = c.slots-slots.ensures in
+    let before : c.args.slot < length c.slots-slots.result.now - 1 = omega (arith, c.if-slot-count.false) in
+    found_row_sum c.args.class c.args.row c.args.from c.terms_of.result
+    (IsRowSum-terms c.args.class c.args.row c.args.slot c.args.from c.terms_of.result c.requires (omega (arith, c.if-slot-eq0.false))
+    (subst (λ (ss : List Slot). c.args.slot + 1 < length ss) is (omega (arith, before)))
+    (sym c.keeps_image.ensures ∙ c.if-keeps_image.true)
+    (subst (λ (ss : List Slot). (d : Man) → (slice_index_or (told_men ss (without_bit (64 * c.args.row))) c.args.slot d).at ≡ c.args.from) is
+    (c.stands_in.ensures c.if-not-stands_in.false).1)
+    (c.terms_of.ensures.rest ∙ rw (c.class_has_pawn-pawns.ensures, is) refl)
+    (c.terms_of.ensures.weight ∙ rw is refl))

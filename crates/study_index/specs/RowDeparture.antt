@@ -1,0 +1,42 @@
+-- The rows after one man moves, as sums: a row is that of the 64 numbers which differ in the square of the last man alone.
+use Rattle.std.specs.Prelude.{◌≡◌, ℕ, ◌+◌, ◌*◌, ◌<◌, Bool, true, not, ◌||◌, Some}
+use Rattle.study_board.specs.Position.{Position}
+use Rattle.study_material.specs.declared.class.Class.{Class}
+use Rattle.study_index.specs.declared.row_way.RowTerms.{RowTerms}
+use Rattle.study_index.specs.declared.row_way.RowWay.{RowWay}
+use Rattle.study_index.specs.declared.row_way.RowWay.TheVariants.{Sum, King}
+use Rattle.study_index.specs.Computed.{index_of}
+use Rattle.study_index.specs.Decoded.{slots_of, slots_have_pawn}
+use Rattle.study_index.specs.Moved.{IsMoved}
+use Rattle.study_index.specs.Number.{place, listed_count}
+use Rattle.study_index.specs.LeastImage.{is_on_diagonal}
+
+-- the sum with the man on a
+abbrev pub row_with : RowTerms → ℕ → ℕ
+row_with t a = t.rest + a * t.weight
+
+-- after the man on x has moved to a the numbers of the row r are, in their order, those of the row k
+abbrev pub IsRowTo : Class → ℕ → ℕ → ℕ → ℕ → Type 0
+IsRowTo c r x a k = (y : ℕ) (p : Position) → y < 64 → IsMoved c (64 * r + y) x a p → index_of p ≡ 64 * k + y
+
+-- the row after the man on x has moved to any square a is the sum
+abbrev pub IsRowSum : Class → ℕ → ℕ → RowTerms → Type 0
+IsRowSum c r x t = (a : ℕ) → a < 64 → IsRowTo c r x a (row_with t a)
+
+-- k is the sum with the place of a, which is listed, and not on the diagonal where no man is a pawn
+abbrev pub IsRowOfKing : Bool → RowTerms → ℕ → ℕ → Type 0
+IsRowOfKing pawns t a k =
+    (q : ℕ) × (Some q ≡ place pawns a) × (q < listed_count pawns) × ((pawns || not (is_on_diagonal q)) ≡ true) × (k ≡ row_with t q)
+
+-- the same where the man is the white king, of whose squares the place counts
+abbrev pub IsRowSumOfKing : Class → ℕ → ℕ → RowTerms → Type 0
+IsRowSumOfKing c r x t = (a k : ℕ) → a < 64 → IsRowOfKing (slots_have_pawn (slots_of c)) t a k → IsRowTo c r x a k
+
+-- after the last man has moved from its square to any square the numbers of the row r are those of the row k, by that square
+abbrev pub IsRowOfLast : Class → ℕ → ℕ → Type 0
+IsRowOfLast c r k = (y a : ℕ) (p : Position) → y < 64 → a < 64 → IsMoved c (64 * r + y) y a p → index_of p ≡ 64 * k + a
+
+-- the way leads to the row after the man on x has moved
+pub record IsRowFoundBy (c : Class) (r x : ℕ) (way : RowWay) : Type 0 where
+  pub sum : (t : RowTerms) → way ≡ Sum t → IsRowSum c r x t
+  pub king : (t : RowTerms) → way ≡ King t → IsRowSumOfKing c r x t

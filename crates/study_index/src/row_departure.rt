@@ -1,0 +1,167 @@
+//! The row of the numbers after one man, not the last, moves from its square to any other: what the moves have in common
+//! is found once for all the numbers of a row. And the row after the last man moves.
+ghost use Rattle.std.specs.Prelude.{◌≡◌, ℕ, ◌+◌, ◌*◌, ◌/◌, ◌%◌, ◌^◌, ◌-◌, ◌<◌, ◌≤◌, IfSome};
+ghost use Rattle.study_board.specs.Men.{other_side};
+ghost use Rattle.study_board.specs.Position.{Position as Seen};
+ghost use Rattle.study_index.specs.Computed.{index_of};
+ghost use Rattle.study_index.specs.Number.{cells_of, listed_count, side_number};
+ghost use Rattle.study_index.specs.Decoded.{side_numbered};
+ghost use Rattle.study_index.specs.Moved.{IsMoved};
+ghost use Rattle.study_index.specs.LeastImage.{turned_by};
+ghost use Rattle.study_index.specs.Stepped.{square_weight, square_told};
+ghost use Rattle.study_index.specs.RowDeparture.{IsRowFoundBy, IsRowOfKing};
+
+use crate::decoding::{head, slots};
+use crate::departure::{keeps_image, stands_in};
+use crate::least_image::is_on_diagonal;
+use crate::number::{EN_PASSANT_BIT, listed_count, place, side_number};
+use crate::reading::{class_has_pawn, has_like_men, side_told};
+use crate::row_way::{RowTerms, RowWay};
+use crate::stepped::{side_turned, square_told, square_weight};
+use study_board::Square;
+use study_material::Class;
+
+/// The numbers of a row, which differ in the square of the last man alone, and the square of one of their other men. What
+/// the rows after the man has moved have in common is found once.
+#[derive(Clone, Copy)]
+pub struct RowDeparture {
+    pub class: Class,
+    pub row: u32,
+    pub from: Square,
+    way: RowWay,
+    ghost found: { IsRowFoundBy class row from way },
+}
+
+/// The row of the numbers with the other side to move and without the man of a slot after the first and before the last.
+#[inline(always)]
+fn terms_of(pawns: bool, count: u32, n: u32, slot: u32) -> RowTerms
+    requires many { count ≤ 4 }
+    requires number { n < 16777216 }
+    requires after { 1 ≤ slot }
+    requires before { slot + 1 < count }
+    ensures rest { result.rest ≡ (turned_by (listed_count pawns) count n - square_told count slot n * square_weight count slot) / 64 }
+    ensures weight { result.weight ≡ square_weight count slot / 64 }
+{
+    let weight = square_weight(count, slot);
+    let left = square_told(count, slot, n) * weight;
+    RowTerms {
+        rest: side_turned(pawns, count, n).saturating_sub(left) / 64,
+        weight: weight / 64,
+    }
+}
+
+/// The same without the white king.
+#[inline(always)]
+fn terms_of_king(pawns: bool, count: u32, head: u32, row: u32) -> RowTerms
+    requires few { 2 ≤ count }
+    requires many { count ≤ 4 }
+    ensures rest { result.rest ≡ side_number (other_side (side_numbered (head / listed_count pawns))) * listed_count pawns * 64 ^ (count - 2)
+        + row % 64 ^ (count - 2) }
+    ensures weight { result.weight ≡ 64 ^ (count - 2) }
+{
+    let side = side_number(side_told(pawns, head).other()) * listed_count(pawns);
+    let weight = match count {
+        2 => 1,
+        3 => 64,
+        _ => 4_096,
+    };
+    RowTerms {
+        rest: side * weight + row % weight,
+        weight,
+    }
+}
+
+/// How the row is found after the man on the square has moved, where it may be the man of the slot, if the numbers are
+/// known to be in one row.
+#[inline(always)]
+fn way_from(class: Class, row: u32, from: Square, slot: u32) -> Option<RowWay>
+    requires { 64 * row < cells_of class }
+    ensures { IfSome result (λ w. IsRowFoundBy class row from w) }
+{
+    let (slots, pawns) = (slots(class), class_has_pawn(class));
+    let n = 64 * row % EN_PASSANT_BIT;
+    let count = slots.len() as u32;
+    if slot >= count - 1 || has_like_men(class) || !stands_in(slots, pawns, n, slot, from) {
+        return None;
+    }
+    if slot == 0 {
+        let terms = terms_of_king(pawns, count, head(slots, n), n / 64);
+        return Some(RowWay::King(terms));
+    }
+    if keeps_image(class, slots, pawns, n) {
+        Some(RowWay::Sum(terms_of(pawns, count, n, slot)))
+    } else {
+        None
+    }
+}
+
+/// The row with the white king on the square, if it is one: the square is listed, and not on the diagonal where no man is a
+/// pawn.
+#[inline(always)]
+fn row_of_king(pawns: bool, terms: RowTerms, to: Square) -> Option<u32>
+    ensures value { IfSome result (λ r. IsRowOfKing pawns terms to r) }
+    ensures on_board { to < 64 }
+    ensures small { IfSome result (λ r. r < 1048576) }
+{
+    let _square = to.number();
+    match place(pawns, to) {
+        Some(q) if pawns || !is_on_diagonal(u32::from(q)) => Some(terms.with(u32::from(q))),
+        _ => None,
+    }
+}
+
+impl RowDeparture {
+    /// The departure of the man that stands on the square by the numbers of the row, those from 64 times the row on, if
+    /// the numbers after it has moved are known to be in one row. There is none where the slot, the first at 0, is not that
+    /// of the man, or is the last.
+    #[inline(always)]
+    pub fn new(class: Class, row: u32, from: Square, slot: u32) -> Option<Self>
+        requires { 64 * row < cells_of class }
+        ensures class { IfSome result (λ d. d.class ≡ class) }
+        ensures row { IfSome result (λ d. d.row ≡ row) }
+        ensures from { IfSome result (λ d. d.from ≡ from) }
+    {
+        match way_from(class, row, from, slot) {
+            Some(way) => Some(RowDeparture {
+                class,
+                row,
+                from,
+                way,
+            }),
+            None => None,
+        }
+    }
+
+    /// The row of the numbers after the man has moved to another square, each with the last man where it was: what
+    /// `Departure::number_to` tells of each. It is not known where the man is the white king and the square is not listed,
+    /// or is on the diagonal where no man is a pawn.
+    #[inline(always)]
+    pub fn row_to(&self, to: Square) -> Option<u32>
+        ensures numbers { IfSome result (λ r. (y : ℕ) (p : Seen) → y < 64
+            → IsMoved self.now.class (64 * self.now.row + y) self.now.from to p → index_of p ≡ 64 * r + y) }
+        ensures small { IfSome result (λ r. r < 1048576) }
+    {
+        match self.way {
+            RowWay::Sum(terms) => Some(terms.with(u32::from(to.number()))),
+            RowWay::King(terms) => row_of_king(class_has_pawn(self.class), terms, to),
+        }
+    }
+}
+
+/// The row of the numbers after the last man has moved, if they are known to be in one: the last man's new square is the
+/// place in it.
+#[inline(always)]
+pub fn row_of_last(class: Class, row: u32) -> Option<u32>
+    requires { 64 * row < cells_of class }
+    ensures numbers { IfSome result (λ r. (y a : ℕ) (p : Seen) → y < 64 → a < 64
+        → IsMoved class (64 * row + y) y a p → index_of p ≡ 64 * r + a) }
+    ensures small { IfSome result (λ r. r < 1048576) }
+{
+    let (slots, pawns) = (slots(class), class_has_pawn(class));
+    let n = 64 * row % EN_PASSANT_BIT;
+    if keeps_image(class, slots, pawns, n) {
+        Some(side_turned(pawns, slots.len() as u32, n) / 64)
+    } else {
+        None
+    }
+}

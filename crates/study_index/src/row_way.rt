@@ -1,0 +1,30 @@
+//! How the row of the numbers after a move of one man is found.
+ghost use Rattle.std.specs.Prelude.{◌≡◌, ◌+◌, ◌*◌, ◌<◌, ◌≤◌};
+
+/// How the row of the numbers after the man has moved is found: as a sum with its square; or as a sum with its place, where
+/// it is the white king.
+#[derive(Clone, Copy)]
+pub enum RowWay {
+    Sum(RowTerms),
+    King(RowTerms),
+}
+
+/// The row with the other side to move and without the man, and what a square or a place of the man counts in it.
+#[derive(Clone, Copy)]
+pub struct RowTerms {
+    pub rest: u32,
+    pub weight: u32,
+    ghost few: { (rest < 524288) × (weight ≤ 4096) },
+}
+
+impl RowTerms {
+    /// The sum with the man on a square or a place.
+    #[inline(always)]
+    pub fn with(self, at: u32) -> u32
+        requires { at < 64 }
+        ensures value { result ≡ self.rest + at * self.weight }
+        ensures small { result < 1048576 }
+    {
+        self.rest + at * self.weight
+    }
+}

@@ -1,0 +1,77 @@
+-- The positions before those of a row, where the numbers after a man has moved are a row.
+use Rattle.std.proofs.Common.{◌≡◌, ℕ, ◌+◌, ◌*◌, ◌<◌, ◌++◌, ◌∷◌, [], false, true, List, Contains, Some, inl, inr, refl, sym, ◌∙◌, ap, subst}
+use Rattle.std.specs.List.Sorted.{IsPermutation}
+use Rattle.std.proofs.lemmas.List.Elements.{Contains-append_left, Contains-push}
+use Rattle.study_board.specs.declared.men.Man.{Man}
+use Rattle.study_board.specs.declared.men.Side.{Side}
+use Rattle.study_board.specs.Men.{other_side, same_side}
+use Rattle.study_board.specs.Position.{Position}
+use Rattle.study_board.specs.Sets.{has}
+use Rattle.study_moves.specs.Unmoves.{CanHaveLed, came_from, comes, move_from}
+use Rattle.study_material.specs.declared.class.Class.{Class}
+use Rattle.study_moves.specs.Rules.{after}
+use Rattle.study_index.specs.Number.{cells_of}
+use Rattle.study_index.specs.Computed.{index_of, position_numbered}
+use Rattle.study_index.specs.Moved.{IsMoved}
+use Rattle.study_index.proofs.ComputedIndex.{told_decoded}
+use Rattle.study_index.proofs.DecodedNumbers.{told_of}
+use Rattle.study_retro.specs.Predecessors.{AreTold, IsBeforeFrom, PassesNone}
+use Rattle.study_retro.specs.RowBack.{IsItOrTwin}
+use Rattle.study_retro.specs.RowMoves.{AreApart}
+use Rattle.study_retro.specs.Still.{on_square}
+use Rattle.study_retro.proofs.BackLemmas.{before_below, is_before, twin_before, small_before, came_led, led_came}
+use Rattle.study_retro.proofs.MovedSteps.{lands_left}
+use Rattle.study_retro.proofs.QuietSteps.{dead_plain}
+use Rattle.study_retro.proofs.RowMoveLemmas.{AreApart-position, came_less}
+
+module _ (c : Class) (number : ℕ) (q : Position) (at : position_numbered c number ≡ Some q) (plain : number < 16777216) (man : Man) (a k : ℕ)
+    (passes : PassesNone c a man.at) (fits : (p : Position) → IsMoved c number man.at a p → index_of p ≡ k) (h : CanHaveLed q (move_from man a)) where
+  lands : index_of (after h.from (move_from man a)) ≡ number
+  lands = lands_left c number q at (dead_plain c number q at plain) h.from (move_from man a) h.leads (inl passes)
+
+  -- where the move leaves no capture in passing the number that fits is before, and so is its twin; and no other is
+  pub fit_before : (n : ℕ) → IsItOrTwin c k n → IsBeforeFrom c number man a n
+  fit_before n (inl e) = subst (λ (m : ℕ). IsBeforeFrom c number man a m) (sym e) (is_before c number q at man a k fits h lands)
+  fit_before n (inr s) =
+      subst (λ (m : ℕ). IsBeforeFrom c number man a m) (sym s.0)
+      (twin_before c number q at man a k fits h lands s.1.0 (subst (λ (m : ℕ). position_numbered c m ≡ Some s.1.0) s.0 s.1.1))
+
+  pub fit_below : (k < cells_of c) × (k < 16777216)
+  fit_below = (before_below c number man a k (fit_before k (inl refl)), small_before c number q at man a k fits h)
+
+-- ---- the men of a row
+
+module _ (c : Class) (number y : ℕ) (q : Position) (at : position_numbered c number ≡ Some q) (others : List Man) (last : Man) (side : Side)
+    (told : AreTold c number (others ++ on_square last y ∷ []) side) where
+  abbrev pub row_men : List Man
+  row_men = others ++ on_square last y ∷ []
+
+  -- no two of them share a square
+  pub row_apart : AreApart row_men
+  row_apart =
+      let d = told_decoded c number q at in
+      AreApart-position q row_men d.valid (subst (λ (zs : List Man). IsPermutation zs q.men) (sym told.0) (told_of c number q d).same_men)
+
+  -- the last man can have led to the position from where it can have come
+  pub last_led : same_side last.side (other_side side) ≡ true → (a : ℕ) → a < 64 → came_from row_men side (on_square last y) a ≡ true
+      → CanHaveLed q (move_from (on_square last y) a)
+  last_led his a on e = came_led c number q at row_men side told (on_square last y) (Contains-push others (on_square last y)) his a on e
+
+  -- and only from there
+  pub last_came : (a n : ℕ) → a < 64 → IsBeforeFrom c number (on_square last y) a n → (same_side last.side (other_side side) ≡ true)
+      × (came_from row_men side (on_square last y) a ≡ true)
+  last_came a n on b = led_came c number q at row_men side told (on_square last y) (Contains-push others (on_square last y)) a n on b
+
+  module _ (man : Man) (among : Contains others man) where
+    -- one of the other men can have led to the position from where it can have come with the last man on y
+    pub row_led : same_side man.side (other_side side) ≡ true → (a : ℕ) → a < 64 → (led : ℕ) → (AreApart row_men → has led y ≡ came_from row_men side man a)
+        → has led y ≡ true → CanHaveLed q (move_from man a)
+    row_led his a on led word e =
+        came_led c number q at row_men side told man (Contains-append_left others (on_square last y ∷ []) man among) his a on (sym (word row_apart) ∙ e)
+
+    -- and only from there
+    pub row_came : (a n : ℕ) → a < 64 → IsBeforeFrom c number man a n → (same_side man.side (other_side side) ≡ true)
+        × (came_from row_men side man a ≡ true) × (comes others man a ≡ true)
+    row_came a n on b =
+        let h = led_came c number q at row_men side told man (Contains-append_left others (on_square last y ∷ []) man among) a n on b in
+        (h.0, h.1, came_less others last y side man a h.1)

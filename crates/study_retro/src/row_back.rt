@@ -1,0 +1,347 @@
+//! Steps back from decided positions of a row of numbers: each man but the last goes back from all of them at once.
+ghost use Rattle.std.specs.Prelude.{◌≡◌, ◌<◌, ◌+◌, ◌*◌, ℕ, true, length, Contains};
+ghost use Rattle.study_board.specs.Men.{other_side, same_side};
+ghost use Rattle.study_board.specs.Sets.{has};
+ghost use Rattle.study_index.specs.Number.{cells_of};
+ghost use Rattle.study_retro.specs.Predecessors.{IsBefore, IsBeforeBy, IsBeforeFrom};
+ghost use Rattle.study_retro.specs.Propagation.{AreSet, IsSetWhere};
+ghost use Rattle.study_retro.specs.RowBack.{CanAllHaveLed, IsBeforeRowBy, IsBeforeRowFrom, IsInRowOrTwin, IsItOrTwin, IsOriginInRow};
+ghost use Rattle.study_retro.specs.RowLevels.{AreNumbered, IsBeforeRow};
+ghost use Rattle.study_retro.specs.Still.{on_square};
+
+use crate::back::{Change, write_before_man, write_cell, write_from};
+use crate::earlier::{has_both_pawns, has_twin, may_pass};
+use crate::row::Row;
+use crate::row_checks::squares_of_check;
+use crate::row_levels::write_before_each;
+use crate::row_moves::{origins_beside, origins_of_last, squares_led};
+use study_board::{Man, Square, SquareSet};
+use study_index::{Departure, EN_PASSANT_BIT, RowDeparture, row_of_last, told};
+use study_material::Class;
+
+/// Sets the cell of a number without the bit of a capture in passing, and that of the number with it, if it has a position:
+/// each where it tells of no mate, or of none so near.
+#[inline(always)]
+fn write_with_twin(class: Class, cells: &mut [u8], number: u32, change: Change)
+    requires number { number < cells_of class }
+    requires plain { number < 16777216 }
+    requires cell { 0 < change.cell }
+    requires cells { length cells.old ≡ cells_of class }
+    ensures rise { AreSet (IsItOrTwin class number) change.cell change.over cells.old cells.new }
+    ensures done { (n : ℕ) → IsItOrTwin class number n → IsSetWhere change.cell change.over cells.new n }
+{
+    write_cell(cells, number, change);
+    if has_twin(class, number) {
+        write_cell(cells, number + EN_PASSANT_BIT, change);
+    }
+}
+
+/// The same of some numbers of a row.
+#[inline]
+fn write_row(class: Class, cells: &mut [u8], row: u32, set: SquareSet, change: Change)
+    requires numbers { (y : ℕ) → y < 64 → has set y ≡ true → (64 * row + y < cells_of class) × (64 * row + y < 16777216) }
+    requires row { row < 1048576 }
+    requires cell { 0 < change.cell }
+    requires cells { length cells.old ≡ cells_of class }
+    ensures rise { AreSet (IsInRowOrTwin class row set) change.cell change.over cells.old cells.new }
+    ensures done { (n y : ℕ) → y < 64 → has set y ≡ true → IsItOrTwin class (64 * row + y) n → IsSetWhere change.cell change.over cells.new n }
+{
+    let mut rest = set;
+    let mut next = 0u8;
+    while !rest.is_empty() {
+        let square = rest.first();
+        rest = rest.without(SquareSet::of(square));
+        let number = 64 * row + u32::from(square.number());
+        write_with_twin(class, cells, number, change);
+        next = square.number() + 1;
+    }
+}
+
+/// Sets the cells of the positions from which a quiet move of the man from the square leads to positions of the row that it
+/// departs from, going back: number by number.
+#[inline]
+fn write_each_led(
+    cells: &mut [u8],
+    departure: &RowDeparture,
+    led: SquareSet,
+    man: &Man,
+    slot: u32,
+    origin: Square,
+    change: Change,
+)
+    requires numbered { AreNumbered departure.now.class departure.now.row led }
+    requires plain { departure.now.row < 262144 }
+    requires led { CanAllHaveLed departure.now.class departure.now.row led man.now origin }
+    requires cell { 0 < change.cell }
+    requires cells { length cells.old ≡ cells_of departure.now.class }
+    ensures rise { AreSet (IsBeforeRowFrom departure.now.class departure.now.row led man.now origin) change.cell change.over cells.old cells.new }
+    ensures done { (n y : ℕ) → y < 64 → has led y ≡ true → IsBeforeFrom departure.now.class (64 * departure.now.row + y) man.now origin n
+        → IsSetWhere change.cell change.over cells.new n }
+{
+    let class = departure.class;
+    let mut rest = led;
+    let mut next = 0u8;
+    while !rest.is_empty() {
+        let square = rest.first();
+        rest = rest.without(SquareSet::of(square));
+        let number = 64 * departure.row + u32::from(square.number());
+        let one = Departure::new(class, number, man.at, slot);
+        write_from(class, cells, man, &one, origin, change);
+        next = square.number() + 1;
+    }
+}
+
+/// The same: at once, where the numbers before are a row and the move leaves no capture in passing.
+#[inline]
+fn write_led(
+    cells: &mut [u8],
+    departure: &RowDeparture,
+    led: SquareSet,
+    man: &Man,
+    slot: u32,
+    origin: Square,
+    change: Change,
+)
+    requires from { departure.now.from ≡ man.now.at }
+    requires numbered { AreNumbered departure.now.class departure.now.row led }
+    requires plain { departure.now.row < 262144 }
+    requires led { CanAllHaveLed departure.now.class departure.now.row led man.now origin }
+    requires cell { 0 < change.cell }
+    requires cells { length cells.old ≡ cells_of departure.now.class }
+    ensures rise { AreSet (IsBeforeRowFrom departure.now.class departure.now.row led man.now origin) change.cell change.over cells.old cells.new }
+    ensures done { (n y : ℕ) → y < 64 → has led y ≡ true → IsBeforeFrom departure.now.class (64 * departure.now.row + y) man.now origin n
+        → IsSetWhere change.cell change.over cells.new n }
+{
+    if may_pass(departure.class, origin, man.at) {
+        return write_each_led(cells, departure, led, man, slot, origin, change);
+    }
+    match departure.row_to(origin) {
+        Some(before) => write_row(departure.class, cells, before, led, change),
+        None => write_each_led(cells, departure, led, man, slot, origin, change),
+    }
+}
+
+/// Sets the cells of the positions from which a quiet move of one of the other men leads to some positions of a row, and
+/// tells how many they are: number by number.
+fn write_before_man_each(
+    row: &Row,
+    cells: &mut [u8],
+    decided: SquareSet,
+    man: &Man,
+    slot: u32,
+    change: Change,
+) -> u64
+    requires numbered { AreNumbered row.now.class row.now.number decided }
+    requires man { Contains row.now.others.items man.now }
+    requires cell { 0 < change.cell }
+    requires cells { length cells.old ≡ cells_of row.now.class }
+    ensures rise { AreSet (IsBeforeRowBy row.now.class row.now.number decided man.now) change.cell change.over cells.old cells.new }
+    ensures done { (n y : ℕ) → y < 64 → has decided y ≡ true → IsBeforeBy row.now.class (64 * row.now.number + y) man.now n
+        → IsSetWhere change.cell change.over cells.new n }
+{
+    let mut count = 0u64;
+    let mut rest = decided;
+    let mut next = 0u8;
+    while !rest.is_empty() {
+        let square = rest.first();
+        rest = rest.without(SquareSet::of(square));
+        let number = 64 * row.number + u32::from(square.number());
+        let setup = told(row.class, number);
+        let more = write_before_man(row.class, cells, number, &setup, man, slot, change);
+        count = count.saturating_add(more);
+        next = square.number() + 1;
+    }
+    count
+}
+
+/// The same by what the numbers have in common.
+fn write_before_man_from(
+    row: &Row,
+    cells: &mut [u8],
+    decided: SquareSet,
+    man: &Man,
+    slot: u32,
+    departure: &RowDeparture,
+    change: Change,
+) -> u64
+    requires class { departure.now.class ≡ row.now.class }
+    requires row { departure.now.row ≡ row.now.number }
+    requires from { departure.now.from ≡ man.now.at }
+    requires side { same_side man.now.side (other_side row.now.to_move) ≡ true }
+    requires numbered { AreNumbered row.now.class row.now.number decided }
+    requires man { Contains row.now.others.items man.now }
+    requires cell { 0 < change.cell }
+    requires cells { length cells.old ≡ cells_of row.now.class }
+    ensures rise { AreSet (IsBeforeRowBy row.now.class row.now.number decided man.now) change.cell change.over cells.old cells.new }
+    ensures done { (n y : ℕ) → y < 64 → has decided y ≡ true → IsBeforeBy row.now.class (64 * row.now.number + y) man.now n
+        → IsSetWhere change.cell change.over cells.new n }
+{
+    let others = row.others.as_slice();
+    let mut count = 0u64;
+    let mut rest = origins_beside(others, man);
+    let mut next = 0u8;
+    while !rest.is_empty() {
+        let origin = rest.first();
+        rest = rest.without(SquareSet::of(origin));
+        let led = decided.intersection(squares_led(others, &row.last, row.to_move, man, origin));
+        write_led(cells, departure, led, man, slot, origin, change);
+        count = count.saturating_add(u64::from(led.len()));
+        next = origin.number() + 1;
+    }
+    count
+}
+
+/// The same, if it is one of the side that moved.
+fn write_before_man_of_row(
+    row: &Row,
+    cells: &mut [u8],
+    decided: SquareSet,
+    man: &Man,
+    slot: u32,
+    change: Change,
+) -> u64
+    requires numbered { AreNumbered row.now.class row.now.number decided }
+    requires man { Contains row.now.others.items man.now }
+    requires cell { 0 < change.cell }
+    requires cells { length cells.old ≡ cells_of row.now.class }
+    ensures rise { AreSet (IsBeforeRowBy row.now.class row.now.number decided man.now) change.cell change.over cells.old cells.new }
+    ensures done { (n y : ℕ) → y < 64 → has decided y ≡ true → IsBeforeBy row.now.class (64 * row.now.number + y) man.now n
+        → IsSetWhere change.cell change.over cells.new n }
+{
+    if man.side != row.to_move.other() {
+        return 0;
+    }
+    match RowDeparture::new(row.class, row.number, man.at, slot) {
+        None => write_before_man_each(row, cells, decided, man, slot, change),
+        Some(departure) => write_before_man_from(row, cells, decided, man, slot, &departure, change),
+    }
+}
+
+/// The same of the last man: number by number.
+fn write_before_last_each(row: &Row, cells: &mut [u8], decided: SquareSet, change: Change) -> u64
+    requires numbered { AreNumbered row.now.class row.now.number decided }
+    requires cell { 0 < change.cell }
+    requires cells { length cells.old ≡ cells_of row.now.class }
+    ensures rise { AreSet (IsBeforeRow row.now.class row.now.number decided) change.cell change.over cells.old cells.new }
+    ensures done { (n y : ℕ) → y < 64 → has decided y ≡ true → IsBeforeBy row.now.class (64 * row.now.number + y) (on_square row.now.last y) n
+        → IsSetWhere change.cell change.over cells.new n }
+{
+    let slot = row.others.len() as u32;
+    let mut count = 0u64;
+    let mut rest = decided;
+    let mut next = 0u8;
+    while !rest.is_empty() {
+        let square = rest.first();
+        rest = rest.without(SquareSet::of(square));
+        let number = 64 * row.number + u32::from(square.number());
+        let last = Man {
+            side: row.last.side,
+            kind: row.last.kind,
+            at: square,
+        };
+        let setup = told(row.class, number);
+        let more = write_before_man(row.class, cells, number, &setup, &last, slot, change);
+        count = count.saturating_add(more);
+        next = square.number() + 1;
+    }
+    count
+}
+
+/// The squares from which the last man can have come to some squares, and from how many it can for each of those in all.
+#[derive(Clone, Copy)]
+struct LastOrigins {
+    squares: SquareSet,
+    count: u64,
+}
+
+/// The squares from which the last man, of the side that moved, can have come in some positions of a row.
+fn origins_in_row(row: &Row, decided: SquareSet) -> LastOrigins
+    requires side { same_side row.now.last.side (other_side row.now.to_move) ≡ true }
+    requires numbered { AreNumbered row.now.class row.now.number decided }
+    ensures only { (a : ℕ) → a < 64 → has result.squares a ≡ true → IsOriginInRow row.now.others.items row.now.last row.now.to_move decided a }
+    ensures all { (a : ℕ) → a < 64 → IsOriginInRow row.now.others.items row.now.last row.now.to_move decided a → has result.squares a ≡ true }
+{
+    let others = row.others.as_slice();
+    let check = squares_of_check(others, &row.last, row.to_move);
+    let mut squares = SquareSet::empty();
+    let mut count = 0u64;
+    let mut rest = decided;
+    let mut next = 0u8;
+    while !rest.is_empty() {
+        let square = rest.first();
+        rest = rest.without(SquareSet::of(square));
+        let origins = origins_of_last(others, &row.last, square, check);
+        squares = squares.union(origins);
+        count = count.saturating_add(u64::from(origins.len()));
+        next = square.number() + 1;
+    }
+    LastOrigins { squares, count }
+}
+
+/// The same of the last man: at once, where the numbers before are a row and no move leaves a capture in passing.
+fn write_before_last(row: &Row, cells: &mut [u8], decided: SquareSet, change: Change) -> u64
+    requires numbered { AreNumbered row.now.class row.now.number decided }
+    requires cell { 0 < change.cell }
+    requires cells { length cells.old ≡ cells_of row.now.class }
+    ensures rise { AreSet (IsBeforeRow row.now.class row.now.number decided) change.cell change.over cells.old cells.new }
+    ensures done { (n y : ℕ) → y < 64 → has decided y ≡ true → IsBeforeBy row.now.class (64 * row.now.number + y) (on_square row.now.last y) n
+        → IsSetWhere change.cell change.over cells.new n }
+{
+    if row.last.side != row.to_move.other() {
+        return 0;
+    }
+    if has_both_pawns(row.class) {
+        return write_before_last_each(row, cells, decided, change);
+    }
+    match row_of_last(row.class, row.number) {
+        None => write_before_last_each(row, cells, decided, change),
+        Some(before) => {
+            let origins = origins_in_row(row, decided);
+            write_row(row.class, cells, before, origins.squares, change);
+            origins.count
+        }
+    }
+}
+
+/// The same of all men.
+fn write_before_men(row: &Row, cells: &mut [u8], decided: SquareSet, change: Change) -> u64
+    requires numbered { AreNumbered row.now.class row.now.number decided }
+    requires cell { 0 < change.cell }
+    requires cells { length cells.old ≡ cells_of row.now.class }
+    ensures rise { AreSet (IsBeforeRow row.now.class row.now.number decided) change.cell change.over cells.old cells.new }
+    ensures done { (n y : ℕ) → y < 64 → has decided y ≡ true → IsBefore row.now.class (64 * row.now.number + y) n
+        → IsSetWhere change.cell change.over cells.new n }
+{
+    let mut count = write_before_last(row, cells, decided, change);
+    for (slot, man) in row.others.as_slice().iter().enumerate() {
+        let more = write_before_man_of_row(row, cells, decided, man, slot as u32, change);
+        count = count.saturating_add(more);
+    }
+    count
+}
+
+/// Sets the cells of the positions from which a quiet move leads to the position of a number of the row whose square is in
+/// the set, and tells how many they are.
+pub fn write_before_row(
+    class: Class,
+    cells: &mut [u8],
+    row: u32,
+    decided: SquareSet,
+    change: Change,
+) -> u64
+    requires numbered { AreNumbered class row decided }
+    requires plain { 64 * row < 16777216 }
+    requires cell { 0 < change.cell }
+    requires cells { length cells.old ≡ cells_of class }
+    ensures rise { AreSet (IsBeforeRow class row decided) change.cell change.over cells.old cells.new }
+    ensures done { (n y : ℕ) → y < 64 → has decided y ≡ true → IsBefore class (64 * row + y) n → IsSetWhere change.cell change.over cells.new n }
+{
+    if decided.is_empty() {
+        return 0;
+    }
+    let _square = decided.first();
+    match Row::new(class, row) {
+        None => write_before_each(class, cells, row, decided, change),
+        Some(row) => write_before_men(&row, cells, decided, change),
+    }
+}

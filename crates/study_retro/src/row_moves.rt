@@ -1,0 +1,162 @@
+//! Whence the men of a row of numbers can have come, and where they can go, by the square of the man of the last slot.
+ghost use Rattle.std.specs.Prelude.{◌≡◌, ◌<◌, ◌≤◌, ◌&&◌, ◌||◌, ◌==◌, ℕ, not, true, false, length, map, [], ◌∷◌, ◌++◌};
+ghost use Rattle.std.specs.List.{Contains};
+ghost use Rattle.study_board.specs.declared.men.Kind.TheVariants.{King};
+ghost use Rattle.study_board.specs.declared.men.Side.{Side};
+ghost use Rattle.study_board.specs.Men.{other_side, same_kind, same_side};
+ghost use Rattle.study_board.specs.Position.{in_check, is_occupied};
+ghost use Rattle.study_board.specs.Sets.{has};
+ghost use Rattle.study_moves.specs.AnyOrder.{is_safe_target};
+ghost use Rattle.study_moves.specs.Unmoves.{came_from, comes};
+ghost use Rattle.study_index.specs.Moved.{from_to};
+ghost use Rattle.study_retro.specs.RowMoves.{AreApart, goes_quietly, lets_pass};
+ghost use Rattle.study_retro.specs.Still.{on_square};
+
+use crate::escapes::occupied;
+use crate::row_checks::squares_of_check;
+use arrayvec::ArrayVec;
+use study_board::{Kind, Man, Side, Square, SquareSet, attacks, between};
+use study_moves::{origins_of_kind, pawn_step_targets};
+
+/// The man, put on `to` if it stands on `from`.
+#[inline]
+fn put(man: &Man, from: Square, to: Square) -> Man
+    ensures { result ≡ from_to from to man.now }
+{
+    if man.at == from {
+        Man {
+            side: man.side,
+            kind: man.kind,
+            at: to,
+        }
+    } else {
+        *man
+    }
+}
+
+/// The men, the one on `from` put on `to`.
+#[inline]
+pub fn with_man_on(others: &[Man], from: Square, to: Square) -> ArrayVec<Man, 4>
+    requires { length others.now ≤ 4 }
+    ensures { result.items ≡ map (from_to from to) others.now }
+{
+    let mut list = ArrayVec::new();
+    for man in others {
+        list.push(put(man, from, to));
+    }
+    list
+}
+
+/// The squares from which the man can have come, as its kind goes, with the others alone on the board.
+#[inline]
+pub fn origins_beside(others: &[Man], man: &Man) -> SquareSet
+    ensures { (a : ℕ) → a < 64 → has result a ≡ comes others.now man.now a }
+{
+    origins_of_kind(others, man)
+}
+
+/// The squares of the man of the last slot on which it neither stands in the way of a man nor lets a king of the side be
+/// attacked with the man on the other square.
+#[inline]
+fn squares_letting(others: &[Man], last: &Man, side: Side, from: Square, to: Square) -> SquareSet
+    requires few { length others.now ≤ 4 }
+    requires last { same_kind last.now.kind King ≡ false }
+    ensures { (y : ℕ) → y < 64 → has result y ≡ lets_pass others.now last.now side from to y }
+{
+    let moved = with_man_on(others, from, to);
+    between(from, to)
+        .union(SquareSet::of(to))
+        .union(squares_of_check(moved.as_slice(), last, side))
+        .complement()
+}
+
+/// The squares of the man of the last slot with which the man can have come from the square by a quiet move.
+#[inline]
+pub fn squares_led(
+    others: &[Man],
+    last: &Man,
+    to_move: Side,
+    man: &Man,
+    origin: Square,
+) -> SquareSet
+    requires few { length others.now ≤ 4 }
+    requires last { same_kind last.now.kind King ≡ false }
+    requires man { Contains others.now man.now }
+    requires side { same_side man.now.side (other_side to_move) ≡ true }
+    requires comes { comes others.now man.now origin ≡ true }
+    ensures { (y : ℕ) → y < 64 → AreApart (others.now ++ on_square last.now y ∷ [])
+        → has result y ≡ came_from (others.now ++ on_square last.now y ∷ []) to_move man.now origin }
+{
+    squares_letting(others, last, to_move, man.at, origin)
+}
+
+/// The empty squares to which the man goes, as its kind goes, with the others alone on the board.
+#[inline]
+pub fn targets_beside(others: &[Man], man: &Man) -> SquareSet
+    ensures { (x : ℕ) → x < 64 → has result x ≡ goes_quietly others.now man.now x }
+{
+    if man.kind == Kind::Pawn {
+        pawn_step_targets(others, man.side, man.at)
+    } else {
+        attacks(others, man).without(occupied(others))
+    }
+}
+
+/// The squares of the man of the last slot with which the man can go to the square by a move that takes no man.
+#[inline]
+pub fn squares_going(
+    others: &[Man],
+    last: &Man,
+    to_move: Side,
+    man: &Man,
+    target: Square,
+) -> SquareSet
+    requires few { length others.now ≤ 4 }
+    requires last { same_kind last.now.kind King ≡ false }
+    requires man { Contains others.now man.now }
+    requires side { same_side man.now.side to_move ≡ true }
+    requires goes { goes_quietly others.now man.now target ≡ true }
+    ensures { (y : ℕ) → y < 64 → AreApart (others.now ++ on_square last.now y ∷ []) → has result y
+        ≡ (is_safe_target (others.now ++ on_square last.now y ∷ []) to_move man.now target
+        && not (is_occupied (others.now ++ on_square last.now y ∷ []) target)) }
+{
+    squares_letting(others, last, to_move, man.at, target)
+}
+
+/// The man on another square.
+#[inline]
+fn on(man: &Man, square: Square) -> Man
+    ensures { result ≡ on_square man.now square }
+{
+    Man {
+        side: man.side,
+        kind: man.kind,
+        at: square,
+    }
+}
+
+/// The squares from which the man of the last slot can have come to the square by a quiet move, given those on which it lets
+/// a king of the side to move be attacked.
+#[inline]
+pub fn origins_of_last(others: &[Man], last: &Man, square: Square, check: SquareSet) -> SquareSet
+    ensures { (side : Side) → same_side last.now.side (other_side side) ≡ true
+        → ((a : ℕ) → a < 64 → has check a ≡ in_check (others.now ++ on_square last.now a ∷ []) side)
+        → AreApart (others.now ++ on_square last.now square ∷ [])
+        → (a : ℕ) → a < 64 → has result a ≡ came_from (others.now ++ on_square last.now square ∷ []) side (on_square last.now square) a }
+{
+    origins_beside(others, &on(last, square)).without(check)
+}
+
+/// The squares to which the man of the last slot can go from the square by a move that takes no man, given those on which it
+/// lets a king of its side be attacked.
+#[inline]
+pub fn targets_of_last(others: &[Man], last: &Man, square: Square, check: SquareSet) -> SquareSet
+    ensures { (side : Side) → same_side last.now.side side ≡ true
+        → ((x : ℕ) → x < 64 → has check x ≡ in_check (others.now ++ on_square last.now x ∷ []) side)
+        → AreApart (others.now ++ on_square last.now square ∷ [])
+        → (x : ℕ) → x < 64 → has result x
+        ≡ (is_safe_target (others.now ++ on_square last.now square ∷ []) side (on_square last.now square) x
+        && not (is_occupied (others.now ++ on_square last.now square ∷ []) x)) }
+{
+    targets_beside(others, &on(last, square)).without(check)
+}
