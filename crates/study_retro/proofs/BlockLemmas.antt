@@ -1,5 +1,6 @@
 -- What is told of a part of the cells is told of the cells.
-use Rattle.std.proofs.Common.{◌≡◌, ℕ, ◌+◌, ◌-◌, ◌*◌, ◌/◌, ◌<◌, ◌≤◌, List, length, slice_index, Bool, true, false, nat_lt, ◌⊎◌, inl, inr, take, drop, arith, refl, ◌∙◌, subst}
+use Rattle.std.proofs.Common.{◌≡◌, ℕ, ◌+◌, ◌-◌, ◌*◌, ◌/◌, ◌<◌, ◌≤◌, List, length, slice_index, Bool, true, false, nat_lt, ◌⊎◌, inl, inr}
+use Rattle.std.proofs.Common.{take, drop, arith, refl, ◌∙◌, subst}
 use Rattle.std.proofs.lemmas.Bool.Decides.{nat_tests}
 use Rattle.std.proofs.lemmas.List.{get_or-drop, get_or-take, length-take-le, length-drop}
 

@@ -10,6 +10,9 @@ const BLOCK: usize = 64;
 /// How many cells are looked at one by one before blocks of them are.
 const NEAR: usize = 8;
 
+/// How many cells of a row are compared at once.
+const PART: usize = 16;
+
 /// Whether some cell is this byte. The loop has no way out, so that many cells are compared at once.
 #[inline]
 fn has_byte(cells: &[u8], byte: u8) -> bool
@@ -126,8 +129,25 @@ fn square_where(square: Square, cell: u8, byte: u8) -> SquareSet
     }
 }
 
-/// The places of the cells that are this byte, a square for each. The loop has no way out, so that many cells are compared at
-/// once.
+/// The places of the cells that are this byte, from one on and before `end`, a square for each.
+#[inline(always)]
+fn squares_among(cells: &[u8], from: usize, end: usize, byte: u8) -> SquareSet
+    requires from { from ≤ end }
+    requires end { end ≤ length cells.now }
+    requires few { length cells.now ≤ 64 }
+    ensures here { (y : ℕ) → y < 64 → has result y ≡ true → (y < length cells.now) × (slice_index cells.now y ≡ byte) }
+    ensures all { (y : ℕ) → from ≤ y → y < end → slice_index cells.now y ≡ byte → has result y ≡ true }
+{
+    let mut set = SquareSet::empty();
+    let mut place = from;
+    while place < end {
+        set = set.union(square_where(Square::at(place as u8), cells[place], byte));
+        place += 1;
+    }
+    set
+}
+
+/// The places of the cells that are this byte, a square for each. Few parts of the cells have any.
 #[inline]
 fn squares_with(cells: &[u8], byte: u8) -> SquareSet
     requires { length cells.now ≤ 64 }
@@ -135,10 +155,14 @@ fn squares_with(cells: &[u8], byte: u8) -> SquareSet
     ensures all { (y : ℕ) → y < length cells.now → slice_index cells.now y ≡ byte → has result y ≡ true }
 {
     let mut set = SquareSet::empty();
-    for (place, cell) in cells.iter().enumerate() {
-        set = set.union(square_where(Square::at(place as u8), *cell, byte));
+    let mut at = 0usize;
+    while at + PART <= cells.len() {
+        if has_byte(&cells[at..at + PART], byte) {
+            set = set.union(squares_among(cells, at, at + PART, byte));
+        }
+        at += PART;
     }
-    set
+    set.union(squares_among(cells, at, cells.len(), byte))
 }
 
 /// Of the 64 cells of a row, those that are this byte: a square for each, in their order.

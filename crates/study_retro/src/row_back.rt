@@ -246,7 +246,9 @@ fn write_before_man_of_row(
     }
     match RowDeparture::new(row.class, row.number, man.at, slot) {
         None => write_before_man_each(row, cells, decided, man, slot, change),
-        Some(departure) => write_before_man_from(row, cells, decided, man, slot, &departure, change),
+        Some(departure) => write_before_man_from(
+            row, cells, decided, man, slot, &departure, change,
+        ),
     }
 }
 

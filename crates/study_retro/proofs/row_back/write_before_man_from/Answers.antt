@@ -30,8 +30,7 @@ pub write_led-requires-clause-numbered : goal.write_led-requires-clause-numbered
 write_led-requires-clause-numbered c = λ y on e.
     let row = c.args.row.now in
     let both = and_parts _ _ (sym (c.intersection-led.ensures y) ∙ e) in
-    let q = c.requires.numbered y on both.0 in
-    (
+    let q = c.requires.numbered y on both.0 in (
       q.0,
       ap (λ (d : ℕ). position_numbered c.args.departure.now.class (64 * d + y)) c.requires.row
           ∙ subst (λ (d : Class). position_numbered d (64 * row.number + y) ≡ Some q.0) (sym c.requires.class) q.1,

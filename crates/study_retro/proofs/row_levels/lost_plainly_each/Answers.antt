@@ -17,5 +17,6 @@ loop-next-init g c = record {
 pub returns-clause-no : goal.returns-clause-no
 returns-clause-no g c = λ y on e f.
     let inv = c.loop-next.invariant in
-    taken-all (λ (x : ℕ). has c.loop-next.lost x ≡ false → NoLossBy (class_game c.args.game.now.class c.args.game.now.tables.now) c.args.cells.now c.args.level (64 * c.args.row + x))
+    taken-all (λ (x : ℕ). has c.loop-next.lost x ≡ false
+    → NoLossBy (class_game c.args.game.now.class c.args.game.now.tables.now) c.args.cells.now c.args.level (64 * c.args.row + x))
     c.args.candidates c.loop-next.rest c.loop-next.next inv.left (λ x l h. inv.refuted x l h) (c.is_empty.ensures.0 c.loop-next-test.false) y on e f
