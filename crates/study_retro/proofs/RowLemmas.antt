@@ -63,7 +63,7 @@ blocked_any : (men : List Man) (a x : ℕ) → is_blocked [] a x ≡ true → is
 unfolding is_blocked
 blocked_any men a x e = absurd (false≢true e)
 
-bears_alone : (men : List Man) (m : Man) (x : ℕ) → bears_on [] m x ≡ false → bears_on men m x ≡ false
+pub bears_alone : (men : List Man) (m : Man) (x : ℕ) → bears_on [] m x ≡ false → bears_on men m x ≡ false
 bears_alone men m x e = by_kind (not (m.at == x)) [] men m.side m.kind m.at x (blocked_any men m.at x) e
 
 open_reach : (side : Side) (kind : Kind) (a x : ℕ) → reaches [] side kind a x ≡ reaches_if false side kind a x

@@ -23,13 +23,25 @@ fn squares_aside(m: &Man, x: Square) -> SquareSet
     }
 }
 
+/// Whether the man bears on the square. Most men would not do so on an empty board.
+#[inline(always)]
+#[tactic(auto, using(crate::proofs::RowLemmas::bears_alone))]
+fn bears(others: &[Man], m: &Man, x: Square) -> bool
+    ensures { result ≡ bears_on others.now m.now x }
+{
+    let _square = x.number();
+    if !attacks(&[], m).contains(x) {
+        return false;
+    }
+    attacks(others, m).contains(x)
+}
+
 /// Whether the man is of the side and bears on the square.
 #[inline]
 fn bears_if_side(others: &[Man], by: Side, m: &Man, x: Square) -> bool
     ensures { result ≡ (same_side m.now.side by && bears_on others.now m.now x) }
 {
-    let _square = x.number();
-    m.side == by && attacks(others, m).contains(x)
+    m.side == by && bears(others, m, x)
 }
 
 /// The squares of a further man with which the man, of the side, bears on the square.

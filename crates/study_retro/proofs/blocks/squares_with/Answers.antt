@@ -20,7 +20,7 @@ loop-at-preserved c =
     elim c.if-has_byte.branch [
       | then-has_byte w ↦
           let both : (y : ℕ) → has c.if-has_byte.set y ≡ (has c.loop-at.set y || has w.squares_among.result y) =
-            λ y. ap (λ (s : ℕ). has s y) w.set-is ∙ w.union-set.ensures y in
+          λ y. ap (λ (s : ℕ). has s y) w.set-is ∙ w.union-set.ensures y in
           record {
             within = fits;
             here = λ y on e. elim (or_cases _ _ (sym (both y) ∙ e)) [
