@@ -15,7 +15,7 @@ use Rattle.study_board.specs.declared.men.Man.{Man}
 use Rattle.study_board.specs.Geometry.{on_bishop_line, rank_of, strictly_between}
 use Rattle.study_board.specs.Men.{bears_on, is_attacked, is_blocked, is_man, is_pawn, other_side, reaches, same_kind, same_side}
 use Rattle.study_board.specs.Position.{Position, in_check}
-use Rattle.study_board.specs.Sets.{has, reaches_if}
+use Rattle.study_board.specs.Sets.{has, is_slider, reaches_if}
 use Rattle.study_board.proofs.Faults.{in_check_same}
 use Rattle.study_moves.proofs.BearsBothWays.{reaches-both, same_test}
 use Rattle.study_moves.proofs.MenOfList.{All-among, IsAmong, list_any-from, list_any-none, none_among, some_among}
@@ -65,6 +65,19 @@ blocked_any men a x e = absurd (false≢true e)
 
 pub bears_alone : (men : List Man) (m : Man) (x : ℕ) → bears_on [] m x ≡ false → bears_on men m x ≡ false
 bears_alone men m x e = by_kind (not (m.at == x)) [] men m.side m.kind m.at x (blocked_any men m.at x) e
+
+-- no man is in the way of one that goes along no lines
+reach_stepping : (men : List Man) (side : Side) (kind : Kind) (a x : ℕ) → is_slider kind ≡ false → reaches [] side kind a x ≡ reaches men side kind a x
+unfolding reaches
+reach_stepping men side King a x e = refl
+reach_stepping men side Queen a x e = absurd (false≢true (sym e))
+reach_stepping men side Rook a x e = absurd (false≢true (sym e))
+reach_stepping men side Bishop a x e = absurd (false≢true (sym e))
+reach_stepping men side Knight a x e = refl
+reach_stepping men side Pawn a x e = refl
+
+pub bears_stepping : (men : List Man) (m : Man) (x : ℕ) → is_slider m.kind ≡ false → bears_on [] m x ≡ bears_on men m x
+bears_stepping men m x e = ap (λ (r : Bool). not (m.at == x) && r) (reach_stepping men m.side m.kind m.at x e)
 
 open_reach : (side : Side) (kind : Kind) (a x : ℕ) → reaches [] side kind a x ≡ reaches_if false side kind a x
 unfolding reaches reaches_if is_blocked

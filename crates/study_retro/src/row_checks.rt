@@ -23,9 +23,10 @@ fn squares_aside(m: &Man, x: Square) -> SquareSet
     }
 }
 
-/// Whether the man bears on the square. Most men would not do so on an empty board.
+/// Whether the man bears on the square. Most men would not do so on an empty board; those that go along no lines do so on
+/// any board, if on that.
 #[inline(always)]
-#[tactic(auto, using(crate::proofs::RowLemmas::bears_alone))]
+#[tactic(auto, using(crate::proofs::RowLemmas::bears_alone, crate::proofs::RowLemmas::bears_stepping))]
 fn bears(others: &[Man], m: &Man, x: Square) -> bool
     ensures { result ≡ bears_on others.now m.now x }
 {
@@ -33,7 +34,7 @@ fn bears(others: &[Man], m: &Man, x: Square) -> bool
     if !attacks(&[], m).contains(x) {
         return false;
     }
-    attacks(others, m).contains(x)
+    !m.kind.is_slider() || attacks(others, m).contains(x)
 }
 
 /// Whether the man is of the side and bears on the square.
