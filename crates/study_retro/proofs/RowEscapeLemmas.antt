@@ -27,7 +27,7 @@ use Rattle.study_retro.specs.declared.value.Value.TheVariants.{Win}
 use Rattle.study_retro.specs.ClassGame.{class_game}
 use Rattle.study_retro.specs.Numbered.{IsNumberedClass, NoLossBy, Numbered}
 use Rattle.study_retro.specs.Predecessors.{AreTold, PassesNone}
-use Rattle.study_retro.specs.RowEscapes.{AreAmong, CanGo, goes_beside}
+use Rattle.study_retro.specs.RowEscapes.{CanGo, goes_beside}
 use Rattle.study_retro.specs.RowMoves.{AreApart, goes_quietly}
 use Rattle.study_retro.specs.Still.{HasMove, IsWonAfter, QuietMovesLose, QuietMovesLoseBy, move_to, on_square}
 use Rattle.study_retro.proofs.BackLemmas.{lose_each, occupied_same, safe_below, safe_by, safe_escape, safe_plain, safe_won, some_legal}
@@ -35,7 +35,6 @@ use Rattle.study_retro.proofs.RowBackLemmas.{row_apart}
 use Rattle.study_retro.proofs.RowMoveLemmas.{going_less}
 use Rattle.study_retro.proofs.RowSets.{IsFirst}
 use Rattle.study_retro.proofs.SquaresLeft.{AreLeft, first-in, first-only, left-none}
-use Rattle.study_retro.proofs.Twins.{single_twinless}
 
 -- ---- of the squares of a set, taken one by one, some are kept
 
@@ -80,7 +79,7 @@ module _ (all : ℕ) (Yes Not : ℕ → Type 0) where
         among = λ y on e. elim (cases_Bool (t == y)) [
           | inl same ↦ (
               subst (λ (x : ℕ). (has all x ≡ true) × Yes x) (square-is t y same) (first-in all rest next left t f.inside f.there, here)
-            )
+              )
           | inr other ↦ h.among y on (or_cases (has kept y) (has one y) (sym (union y) ∙ e) (single y on ∙ other))
         ];
         others = λ y l on e n. elim (cases_lt y next) [
@@ -245,7 +244,7 @@ module _ (c : Class) (number y : ℕ) (q : Position) (at : position_numbered c n
         s.1,
         rw (s.2, free) refl,
         safe_plain c number q at plain all_men side told (move_to (on_square last y) x) legal (on_square last y)
-        (Contains-push others (on_square last y)) refl refl,
+            (Contains-push others (on_square last y)) refl refl,
       )
 
 -- ---- the last rank of a side

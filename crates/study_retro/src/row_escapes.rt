@@ -11,7 +11,8 @@ ghost use Rattle.study_index.specs.Computed.{position_numbered};
 ghost use Rattle.study_retro.specs.Cells.{value_of};
 ghost use Rattle.study_retro.specs.ClassGame.{class_game};
 ghost use Rattle.study_retro.specs.Numbered.{HasPosition, HavePositions, IsNumberedClass, LosesBy, NoLossBy};
-ghost use Rattle.study_retro.specs.RowEscapes.{AllLose, AllLoseBy, AllLoseByLast, AreAmong, AreWonAfter, CanAllGo, Goes, GoesInRow, GoesOutside, HaveMoves, OthersHold, goes_beside};
+ghost use Rattle.study_retro.specs.RowEscapes.{AllLose, AllLoseBy, AllLoseByLast, AreAmong, AreWonAfter, CanAllGo};
+ghost use Rattle.study_retro.specs.RowEscapes.{Goes, GoesInRow, GoesOutside, HaveMoves, OthersHold, goes_beside};
 ghost use Rattle.study_retro.specs.RowLevels.{AreNumbered};
 ghost use Rattle.study_retro.specs.Still.{HasMove, QuietMovesLose, on_square};
 ghost use Rattle.study_retro.specs.declared.value.Value.TheVariants.{Win};
@@ -252,7 +253,9 @@ fn quiet_moves_of_row<A: Allocator>(
     }
     match RowDeparture::new(row.class, row.number, man.at, slot) {
         None => quiet_moves_of_man_each(game, cells, row, so_far, man, slot, level),
-        Some(departure) => quiet_moves_of_man_from(game, cells, row, so_far, man, slot, &departure, level),
+        Some(departure) => quiet_moves_of_man_from(
+            game, cells, row, so_far, man, slot, &departure, level,
+        ),
     }
 }
 

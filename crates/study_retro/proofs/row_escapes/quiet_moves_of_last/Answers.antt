@@ -1,4 +1,4 @@
-use Rattle.std.proofs.Common.{◌≡◌, ℕ, ◌+◌, ◌*◌, ◌<◌, ◌||◌, ◌++◌, ◌∷◌, [], not, ◌&&◌, Bool, true, false, Some, inl, inr, refl, sym, ◌∙◌, ap, subst, arith}
+use Rattle.std.proofs.Common.{◌≡◌, ℕ, ◌+◌, ◌*◌, ◌<◌, ◌||◌, ◌++◌, ◌∷◌, [], not, Bool, true, false, inl, inr, refl, sym, ◌∙◌, subst, arith}
 use Rattle.std.proofs.lemmas.Bool.{and_parts, false≢true, not-false, not-true}
 use Rattle.study_board.specs.Position.{Position}
 use Rattle.study_board.specs.Sets.{has}
@@ -113,5 +113,5 @@ returns-in-Some-clause-some g c = λ y q on e at. elim (c.moves_of_last.ensures.
       let plain : number < 16777216 = let on = on in omega (arith, small, on) in
       let told = subst (λ (d : Class). AreTold d number (row.others.items ++ on_square row.last y ∷ []) row.to_move) c.requires.class (row.told y on) in
       go_some class number q at plain (on_square row.last y) w.1.0 w.1.1
-          (last_can class number y q at plain row.others.items row.last row.to_move told his w.1.0 w.1.2)
+      (last_can class number y q at plain row.others.items row.last row.to_move told his w.1.0 w.1.2)
 ]

@@ -1,4 +1,4 @@
-use Rattle.std.proofs.Common.{◌≡◌, ◌-◌, ◌<◌, ◌∷◌, ◌++◌, [], ℕ, true}
+use Rattle.std.proofs.Common.{◌≡◌, ◌-◌, ◌<◌, ℕ, true}
 use Rattle.study_board.specs.Sets.{has}
 use Rattle.study_retro.specs.RowEscapes.{GoesInRow, goes_beside}
 use Rattle.study_retro.proofs.SquaresLeft.{AreLeft}
