@@ -2,15 +2,17 @@
 use Rattle.std.proofs.Common.{◌≡◌, ℕ, ◌+◌, ◌*◌, ◌<◌, ◌≤◌, ◌==◌, Bool, true, false, not, ◌&&◌, ◌||◌, ◌++◌, ◌∷◌}
 use Rattle.std.proofs.Common.{[], List, slice_index, Option, Contains, Some, ◌⊎◌, inl, inr, arith}
 use Rattle.std.proofs.Common.{refl, sym, ◌∙◌, ap, subst}
-use Rattle.std.proofs.lemmas.Bool.{and_parts, false≢true, cases_lt, cases_Bool, eq-eqb, ne_eqb}
-use Rattle.std.proofs.lemmas.List.Elements.{Contains-append_left, Contains-push_cases}
+use Rattle.std.proofs.lemmas.Bool.{and_parts, false≢true, cases_lt, cases_Bool, eq-eqb, ne_eqb, not-true}
+use Rattle.std.proofs.lemmas.List.Elements.{Contains-append_left, Contains-push, Contains-push_cases}
 use Rattle.study_board.specs.declared.men.Man.{Man}
 use Rattle.study_board.specs.declared.men.Side.{Side}
+use Rattle.study_board.specs.declared.men.Side.TheVariants.{White, Black}
+use Rattle.study_board.specs.Geometry.{on_bishop_line, rank_of, strictly_between}
 use Rattle.study_board.specs.Men.{same_side}
 use Rattle.study_board.specs.Position.{Position, is_occupied}
 use Rattle.study_board.specs.Sets.{has}
 use Rattle.study_board.proofs.SetBits.{has-zero}
-use Rattle.study_moves.specs.Rules.{is_legal, reaches_last_rank}
+use Rattle.study_moves.specs.Rules.{is_legal, last_rank, reaches_last_rank}
 use Rattle.study_moves.specs.Unmoves.{IsQuiet}
 use Rattle.study_moves.specs.AnyOrder.{is_safe_target}
 use Rattle.study_material.specs.declared.class.Class.{Class}
@@ -18,13 +20,14 @@ use Rattle.study_index.specs.Number.{cells_of, without_bit}
 use Rattle.study_index.specs.Decoded.{slots_of, told_men, told_side}
 use Rattle.study_index.specs.Computed.{index_of, position_numbered}
 use Rattle.study_index.specs.Moved.{IsMoved}
+use Rattle.study_index.proofs.Symmetries.{all_below, at_below}
 use Rattle.study_retro.specs.Table.{Table}
 use Rattle.study_retro.specs.Cells.{value_of}
 use Rattle.study_retro.specs.declared.value.Value.TheVariants.{Win}
 use Rattle.study_retro.specs.ClassGame.{class_game}
 use Rattle.study_retro.specs.Numbered.{IsNumberedClass, NoLossBy, Numbered}
 use Rattle.study_retro.specs.Predecessors.{AreTold, PassesNone}
-use Rattle.study_retro.specs.RowEscapes.{AreAmong, CanGo}
+use Rattle.study_retro.specs.RowEscapes.{CanGo, goes_beside}
 use Rattle.study_retro.specs.RowMoves.{AreApart, goes_quietly}
 use Rattle.study_retro.specs.Still.{HasMove, IsWonAfter, QuietMovesLose, QuietMovesLoseBy, move_to, on_square}
 use Rattle.study_retro.proofs.BackLemmas.{lose_each, occupied_same, safe_below, safe_by, safe_escape, safe_plain, safe_won, some_legal}
@@ -32,7 +35,6 @@ use Rattle.study_retro.proofs.RowBackLemmas.{row_apart}
 use Rattle.study_retro.proofs.RowMoveLemmas.{going_less}
 use Rattle.study_retro.proofs.RowSets.{IsFirst}
 use Rattle.study_retro.proofs.SquaresLeft.{AreLeft, first-in, first-only, left-none}
-use Rattle.study_retro.proofs.Twins.{single_twinless}
 
 -- ---- of the squares of a set, taken one by one, some are kept
 
@@ -77,7 +79,7 @@ module _ (all : ℕ) (Yes Not : ℕ → Type 0) where
         among = λ y on e. elim (cases_Bool (t == y)) [
           | inl same ↦ (
               subst (λ (x : ℕ). (has all x ≡ true) × Yes x) (square-is t y same) (first-in all rest next left t f.inside f.there, here)
-            )
+              )
           | inr other ↦ h.among y on (or_cases (has kept y) (has one y) (sym (union y) ∙ e) (single y on ∙ other))
         ];
         others = λ y l on e n. elim (cases_lt y next) [
@@ -213,3 +215,57 @@ module _ (c : Class) (number y : ℕ) (q : Position) (at : position_numbered c n
     pub row_stays : reaches_last_rank man x ≡ false
     row_stays =
         safe_plain c number q at plain men side told (move_to man x) legal man (Contains-append_left others (on_square last y ∷ []) man among) refl refl
+
+module _ (c : Class) (number y : ℕ) (q : Position) (at : position_numbered c number ≡ Some q) (plain : number < 16777216) (others : List Man) (last : Man)
+    (side : Side) (told : AreTold c number (others ++ on_square last y ∷ []) side) where
+  abbrev all_men : List Man
+  all_men = others ++ on_square last y ∷ []
+
+  -- the last man goes where it is safe
+  pub last_can : same_side last.side side ≡ true → (x : ℕ) → goes_beside others last side y x ≡ true → CanGo c number (on_square last y) x
+  last_can his x e =
+      let both = and_parts (is_safe_target all_men side (on_square last y) x) (not (is_occupied all_men x)) e in
+      record {
+        among = subst (λ (ms : List Man). Contains ms (on_square last y)) told.0 (Contains-push others (on_square last y));
+        own = ap (λ (s : Side). same_side last.side s) (sym told.1) ∙ his;
+        safe = ap (λ (s : Side). is_safe_target (told_men (slots_of c) (without_bit number)) s (on_square last y) x) (sym told.1)
+            ∙ (ap (λ (ms : List Man). is_safe_target ms side (on_square last y) x) (sym told.0) ∙ both.0);
+        free = ap (λ (ms : List Man). is_occupied ms x) (sym told.0) ∙ not-true (is_occupied all_men x) both.1;
+      }
+
+  -- and its quiet moves go there, and do not promote
+  pub last_goes : (x : ℕ) → is_legal q (move_to (on_square last y) x) ≡ true → IsQuiet q (move_to (on_square last y) x)
+      → (x < 64) × (same_side last.side side ≡ true) × (goes_beside others last side y x ≡ true) × (reaches_last_rank last x ≡ false)
+  last_goes x legal quiet =
+      let s = safe_by c number q at plain all_men side told (move_to (on_square last y) x) legal (on_square last y)
+      (Contains-push others (on_square last y)) refl in
+      let free = occupied_same c number q at plain all_men side told x ∙ quiet.0 in (
+        s.0,
+        s.1,
+        rw (s.2, free) refl,
+        safe_plain c number q at plain all_men side told (move_to (on_square last y) x) legal (on_square last y)
+            (Contains-push others (on_square last y)) refl refl,
+      )
+
+-- ---- the last rank of a side
+
+same_bool : Bool → Bool → Bool
+same_bool true b = b
+same_bool false b = not b
+
+abbrev pub on_rank_line : ℕ → ℕ → Bool
+on_rank_line a y = (a == y || strictly_between a y (a + 7)) || (a + 7 == y)
+
+rank_test : (s : Side) → all_below 64 (λ y. same_bool (on_rank_line (8 * last_rank s) y) (rank_of y == last_rank s)) ≡ true
+unfolding same_bool strictly_between on_bishop_line
+rank_test White = refl
+rank_test Black = refl
+
+pub on_last_rank : (s : Side) (y : ℕ) → y < 64 → on_rank_line (8 * last_rank s) y ≡ (rank_of y == last_rank s)
+unfolding same_bool
+on_last_rank s y l = by_test _ _ (at_below 64 (λ y. same_bool (on_rank_line (8 * last_rank s) y) (rank_of y == last_rank s)) (rank_test s) y l)
+  where
+    by_test : (b c : Bool) → same_bool b c ≡ true → b ≡ c
+    by_test true c e = sym e
+    by_test false true e = absurd (false≢true e)
+    by_test false false e = refl

@@ -1,6 +1,7 @@
 -- Not part of any public contract: what the quiet moves of some of a row of numbers come to: 64 numbers, one for each square.
-use Rattle.std.specs.Prelude.{◌≡◌, ℕ, ◌+◌, ◌*◌, ◌<◌, true, false, List, Contains, Some}
+use Rattle.std.specs.Prelude.{◌≡◌, ℕ, ◌+◌, ◌*◌, ◌<◌, ◌&&◌, ◌++◌, ◌∷◌, [], Bool, not, true, false, List, Contains, Some}
 use Rattle.study_board.specs.declared.men.Man.{Man}
+use Rattle.study_board.specs.declared.men.Side.{Side}
 use Rattle.study_board.specs.Men.{same_side}
 use Rattle.study_board.specs.Position.{Position, is_occupied}
 use Rattle.study_board.specs.Sets.{has}
@@ -51,3 +52,18 @@ AllLose g cells k row set =
 -- those of the set have a move
 abbrev pub HaveMoves : Class → ℕ → ℕ → Type 0
 HaveMoves c row set = (y : ℕ) (q : Position) → y < 64 → has set y ≡ true → position_numbered c (64 * row + y) ≡ Some q → HasMove q
+
+-- with the last man on y, beside the others, it is safe on x, to which it goes without taking a man
+abbrev pub goes_beside : List Man → Man → Side → ℕ → ℕ → Bool
+goes_beside others last side y x = is_safe_target (others ++ on_square last y ∷ []) side (on_square last y) x
+    && not (is_occupied (others ++ on_square last y ∷ []) x)
+
+-- it goes to some square; to one outside of the set; to x from one of the squares of the set
+abbrev pub Goes : List Man → Man → Side → ℕ → Type 0
+Goes others last side y = (x : ℕ) × (x < 64) × (goes_beside others last side y x ≡ true)
+
+abbrev pub GoesOutside : List Man → Man → Side → ℕ → ℕ → Type 0
+GoesOutside others last side set y = (x : ℕ) × (x < 64) × (goes_beside others last side y x ≡ true) × (has set x ≡ false)
+
+abbrev pub GoesInRow : List Man → Man → Side → ℕ → ℕ → Type 0
+GoesInRow others last side set x = (y : ℕ) × (y < 64) × (has set y ≡ true) × (goes_beside others last side y x ≡ true)

@@ -1,33 +1,36 @@
 //! Which positions of a row of numbers are lost, where no capture in passing is legal: each man but the last is moved in all
 //! of them at once.
-ghost use Rattle.std.specs.Prelude.{◌≡◌, ◌≤◌, ◌<◌, ◌+◌, ◌*◌, ℕ, true, false, length, slice_index, IsTrue, Some, Contains};
+ghost use Rattle.std.specs.Prelude.{◌≡◌, ◌≤◌, ◌<◌, ◌+◌, ◌*◌, ◌==◌, ◌⊎◌, ◌++◌, ◌∷◌, [], ℕ, true, false, length, slice_index, IsTrue, Some, Contains};
 ghost use Rattle.study_board.specs.Men.{same_side};
-ghost use Rattle.study_board.specs.Position.{Position as Seen};
+ghost use Rattle.study_board.specs.Geometry.{rank_of};
+ghost use Rattle.study_board.specs.Position.{Position as Seen, in_check};
 ghost use Rattle.study_board.specs.Sets.{has};
-ghost use Rattle.study_moves.specs.Rules.{reaches_last_rank};
+ghost use Rattle.study_moves.specs.Rules.{last_rank, reaches_last_rank};
 ghost use Rattle.study_index.specs.Number.{cells_of};
 ghost use Rattle.study_index.specs.Computed.{position_numbered};
 ghost use Rattle.study_retro.specs.Cells.{value_of};
 ghost use Rattle.study_retro.specs.ClassGame.{class_game};
 ghost use Rattle.study_retro.specs.Numbered.{HasPosition, HavePositions, IsNumberedClass, LosesBy, NoLossBy};
 ghost use Rattle.study_retro.specs.Predecessors.{PassesNone};
-ghost use Rattle.study_retro.specs.RowEscapes.{AllLose, AllLoseBy, AllLoseByLast, AreAmong, AreWonAfter, CanAllGo, HaveMoves, OthersHold};
+ghost use Rattle.study_retro.specs.RowEscapes.{AllLose, AllLoseBy, AllLoseByLast, AreAmong, AreWonAfter, CanAllGo};
+ghost use Rattle.study_retro.specs.RowEscapes.{Goes, GoesInRow, GoesOutside, HaveMoves, OthersHold, goes_beside};
 ghost use Rattle.study_retro.specs.RowLevels.{AreNumbered};
-ghost use Rattle.study_retro.specs.Still.{HasMove, QuietMovesLose};
+ghost use Rattle.study_retro.specs.Still.{HasMove, QuietMovesLose, on_square};
 ghost use Rattle.study_retro.specs.declared.value.Value.TheVariants.{Win};
 
 use crate::class_game::ClassGame;
-use crate::earlier::may_pass;
+use crate::earlier::{has_both_pawns, may_pass};
 use crate::escapes::{has_move, loses_to, quiet_moves_of, reaches_last_rank};
 use crate::propagate::{is_lost_by_moves, is_won};
 use crate::row::Row;
+use crate::row_checks::squares_of_check;
 use crate::row_levels::lost_plainly_each;
-use crate::row_moves::{squares_going, targets_beside};
+use crate::row_moves::{squares_going, targets_beside, targets_of_last};
 use crate::still::stays;
 use crate::value::value_at;
 use std::alloc::Allocator;
-use study_board::{Man, Square, SquareSet};
-use study_index::{Departure, RowDeparture, told};
+use study_board::{Kind, Man, Side, Square, SquareSet, between};
+use study_index::{Departure, RowDeparture, row_of_last, told};
 
 /// Of some squares of a row, those whose cell tells of a win within `level` plies.
 #[inline]
@@ -292,12 +295,14 @@ fn quiet_moves_of_row<A: Allocator>(
     }
     match RowDeparture::new(row.class, row.number, man.at, slot) {
         None => quiet_moves_of_man_each(game, cells, row, so_far, man, slot, level),
-        Some(departure) => quiet_moves_of_man_from(game, cells, row, so_far, man, slot, &departure, level),
+        Some(departure) => quiet_moves_of_man_from(
+            game, cells, row, so_far, man, slot, &departure, level,
+        ),
     }
 }
 
 /// What the quiet moves seen come to with those of the last man, on each of its squares in turn.
-fn quiet_moves_of_last<A: Allocator>(
+fn quiet_moves_of_last_each<A: Allocator>(
     game: &ClassGame<A>,
     cells: &[u8],
     row: &Row,
@@ -339,6 +344,149 @@ fn quiet_moves_of_last<A: Allocator>(
         next = square.number() + 1;
     }
     RowMoves { losing, some }
+}
+
+/// The last rank of the side.
+#[inline]
+fn last_rank(side: Side) -> u8
+    ensures { result ≡ last_rank side }
+{
+    match side {
+        Side::White => 7,
+        Side::Black => 0,
+    }
+}
+
+/// The squares of the last rank of the side.
+#[inline]
+fn last_rank_squares(side: Side) -> SquareSet
+    ensures { (x : ℕ) → x < 64 → has result x ≡ (rank_of x == last_rank side) }
+{
+    let start = 8 * last_rank(side);
+    let (first, last) = (Square::at(start), Square::at(start + 7));
+    SquareSet::of(first)
+        .union(between(first, last))
+        .union(SquareSet::of(last))
+}
+
+/// The squares on which the man promotes: those of its last rank, if it is a pawn.
+#[inline]
+fn promotion_squares(man: &Man) -> SquareSet
+    ensures { (x : ℕ) → x < 64 → has result x ≡ reaches_last_rank man.now x }
+{
+    if man.kind == Kind::Pawn {
+        last_rank_squares(man.side)
+    } else {
+        SquareSet::empty()
+    }
+}
+
+/// Whether there is a square in the set.
+#[inline]
+fn has_any(set: SquareSet) -> bool
+    ensures some { IsTrue result → (x : ℕ) × (x < 64) × (has set x ≡ true) }
+    ensures none { result ≡ false → (x : ℕ) → has set x ≡ false }
+{
+    if set.is_empty() {
+        return false;
+    }
+    let _square = set.first();
+    true
+}
+
+/// The squares to which the last man, of the side to move, goes in some positions of a row by a move that takes no man, given
+/// those on which it lets a king of its side be attacked.
+fn targets_in_row(row: &Row, set: SquareSet, check: SquareSet) -> SquareSet
+    requires side { same_side row.now.last.side row.now.to_move ≡ true }
+    requires check { (x : ℕ) → x < 64 → has check x ≡ in_check (row.now.others.items ++ on_square row.now.last x ∷ []) row.now.to_move }
+    requires numbered { AreNumbered row.now.class row.now.number set }
+    ensures only { (x : ℕ) → x < 64 → has result x ≡ true → GoesInRow row.now.others.items row.now.last row.now.to_move set x }
+    ensures all { (x : ℕ) → x < 64 → GoesInRow row.now.others.items row.now.last row.now.to_move set x → has result x ≡ true }
+{
+    let others = row.others.as_slice();
+    let mut squares = SquareSet::empty();
+    let mut rest = set;
+    let mut next = 0u8;
+    while !rest.is_empty() {
+        let square = rest.first();
+        rest = rest.without(SquareSet::of(square));
+        let targets = targets_of_last(others, &row.last, square, check);
+        squares = squares.union(targets);
+        next = square.number() + 1;
+    }
+    squares
+}
+
+/// What the moves seen come to with those of the last man, of the side to move, given the squares on which it does not escape.
+fn moves_of_last(row: &Row, so_far: RowMoves, check: SquareSet, lost: SquareSet) -> RowMoves
+    requires side { same_side row.now.last.side row.now.to_move ≡ true }
+    requires check { (x : ℕ) → x < 64 → has check x ≡ in_check (row.now.others.items ++ on_square row.now.last x ∷ []) row.now.to_move }
+    requires numbered { AreNumbered row.now.class row.now.number so_far.losing }
+    ensures only { AreAmong result.losing so_far.losing }
+    ensures yes { (y x : ℕ) → y < 64 → has result.losing y ≡ true → x < 64
+        → goes_beside row.now.others.items row.now.last row.now.to_move y x ≡ true → has lost x ≡ true }
+    ensures no { (y : ℕ) → y < 64 → has so_far.losing y ≡ true → has result.losing y ≡ false
+        → GoesOutside row.now.others.items row.now.last row.now.to_move lost y }
+    ensures some { (y : ℕ) → y < 64 → has result.some y ≡ true
+        → (has so_far.some y ≡ true) ⊎ (has so_far.losing y ≡ true) × Goes row.now.others.items row.now.last row.now.to_move y }
+{
+    let others = row.others.as_slice();
+    let mut losing = SquareSet::empty();
+    let mut some = so_far.some;
+    let mut rest = so_far.losing;
+    let mut next = 0u8;
+    while !rest.is_empty() {
+        let square = rest.first();
+        rest = rest.without(SquareSet::of(square));
+        let targets = targets_of_last(others, &row.last, square, check);
+        let escapes = has_any(targets.without(lost));
+        if !escapes {
+            losing = losing.union(SquareSet::of(square));
+        }
+        let goes = has_any(targets);
+        if goes {
+            some = some.union(SquareSet::of(square));
+        }
+        next = square.number() + 1;
+    }
+    RowMoves { losing, some }
+}
+
+/// What the quiet moves seen come to with those of the last man: at once, where the numbers after are a
+/// row and no move leaves a capture in passing.
+fn quiet_moves_of_last<A: Allocator>(
+    game: &ClassGame<A>,
+    cells: &[u8],
+    row: &Row,
+    so_far: RowMoves,
+    level: u8,
+) -> RowMoves
+    requires laws { IsNumberedClass (class_game game.now.class game.now.tables.now) }
+    requires class { row.now.class ≡ game.now.class }
+    requires numbered { AreNumbered game.now.class row.now.number so_far.losing }
+    requires some { HaveMoves game.now.class row.now.number so_far.some }
+    requires cells { length cells.now ≡ cells_of game.now.class }
+    ensures only { AreAmong result.losing so_far.losing }
+    ensures no { OthersHold (class_game game.now.class game.now.tables.now) cells.now level row.now.number so_far.losing result.losing }
+    ensures yes { AllLoseByLast (class_game game.now.class game.now.tables.now) cells.now level row.now.number result.losing row.now.last }
+    ensures some { HaveMoves game.now.class row.now.number result.some }
+{
+    if row.last.side != row.to_move {
+        return so_far;
+    }
+    if has_both_pawns(row.class) {
+        return quiet_moves_of_last_each(game, cells, row, so_far, level);
+    }
+    match row_of_last(row.class, row.number) {
+        None => quiet_moves_of_last_each(game, cells, row, so_far, level),
+        Some(after) => {
+            let check = squares_of_check(row.others.as_slice(), &row.last, row.to_move);
+            let promoting = promotion_squares(&row.last);
+            let quiet = targets_in_row(row, so_far.losing, check).without(promoting);
+            let won = squares_won(cells, after, quiet, level);
+            moves_of_last(row, so_far, check, won.union(promoting))
+        }
+    }
 }
 
 /// What the quiet moves of all men come to, at some numbers of a row.

@@ -72,7 +72,7 @@ loses_to-requires-clause-safe g c =
     let can = c.requires.going y f.inside (first-in _ _ _ c.loop-next.invariant.left y f.inside f.there) in
     ap (λ (ms : List Man). is_safe_target ms c.told-setup.result.to_move c.args.man.now c.args.target) c.told-setup.ensures.men
     ∙ (ap (λ (s : Side). is_safe_target (told_men (slots_of class) (without_bit number)) s c.args.man.now c.args.target) c.told-setup.ensures.to_move
-        ∙ can.safe)
+    ∙ can.safe)
 
 pub loses_to-requires-clause-free : goal.loses_to-requires-clause-free
 loses_to-requires-clause-free g c =

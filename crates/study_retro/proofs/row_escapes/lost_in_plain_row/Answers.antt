@@ -37,5 +37,5 @@ returns-in-Some-clause-yes g c = λ y on e.
 pub returns-in-Some-clause-no : goal.returns-in-Some-clause-no
 returns-in-Some-clause-no g c = λ y on e f.
     subst (λ (r : ℕ). NoLossBy (class_game c.args.game.now.class c.args.game.now.tables.now) c.args.cells.now c.args.level (64 * r + y))
-        c.in-Some.ensures.number
+    c.in-Some.ensures.number
     (c.lost_of_row.ensures.no y on e f)

@@ -1,10 +1,9 @@
 use Rattle.std.proofs.Common.{◌≡◌, ◌+◌, ◌*◌, ◌<◌, ◌&&◌, ◌||◌, ℕ, not, true, Bool, List, [], ◌∷◌, ◌++◌, inl, inr, refl, sym, ◌∙◌, ap, subst, arith}
-use Rattle.std.proofs.lemmas.Bool.{false≢true, and_parts, cases_Bool, cases_lt, not-true, not-false}
+use Rattle.std.proofs.lemmas.Bool.{false≢true, and_parts, cases_Bool, cases_lt}
 use Rattle.study_board.specs.declared.men.Man.{Man}
 use Rattle.study_board.specs.Men.{same_side}
 use Rattle.study_board.specs.Position.{is_occupied}
 use Rattle.study_board.specs.Sets.{has}
-use Rattle.study_board.proofs.EqualMen.{side_same}
 use Rattle.study_board.proofs.SetBits.{has-zero}
 use Rattle.study_moves.specs.Rules.{is_legal}
 use Rattle.study_moves.specs.Unmoves.{IsQuiet}

@@ -7,7 +7,7 @@ use Rattle.study_retro.specs.RowEscapes.{HaveMoves}
 use Rattle.study_retro.specs.Still.{QuietMovesLoseBy, on_square}
 use Rattle.study_retro.proofs.RowEscapeLemmas.{AreKeptBelow}
 use Rattle.study_retro.proofs.SquaresLeft.{AreLeft}
-use Rattle.study_retro.proofs.row_escapes.quiet_moves_of_last.Given as goal
+use Rattle.study_retro.proofs.row_escapes.quiet_moves_of_last_each.Given as goal
 
 abbrev pub invariant-loop-next : goal.invariant-loop-next
 invariant-loop-next g l = record {
