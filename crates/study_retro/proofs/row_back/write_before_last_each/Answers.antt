@@ -1,8 +1,8 @@
-use Rattle.std.proofs.Common.{◌≡◌, ◌+◌, ◌*◌, ◌<◌, ◌++◌, ◌∷◌, [], ℕ, List, Contains, Some, refl, sym, ◌∙◌, ap, subst}
+use Rattle.std.proofs.Common.{◌≡◌, ◌+◌, ◌*◌, ℕ, List, Contains, sym, ◌∙◌, subst}
 use Rattle.std.proofs.lemmas.List.Elements.{Contains-push}
 use Rattle.study_board.specs.declared.men.Man.{Man}
 use Rattle.study_retro.specs.Predecessors.{IsBeforeBy}
-use Rattle.study_retro.specs.Propagation.{AreSet, IsSetWhere}
+use Rattle.study_retro.specs.Propagation.{AreSet}
 use Rattle.study_retro.specs.RowLevels.{IsBeforeRow}
 use Rattle.study_retro.specs.Still.{on_square}
 use Rattle.study_retro.proofs.BackLemmas.{set-why}

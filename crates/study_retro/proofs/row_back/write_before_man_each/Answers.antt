@@ -1,12 +1,9 @@
-use Rattle.std.proofs.Common.{◌≡◌, ◌+◌, ◌*◌, ◌<◌, ◌++◌, ◌∷◌, [], ℕ, List, Contains, Some, refl, sym, ◌∙◌, ap, subst}
+use Rattle.std.proofs.Common.{◌≡◌, ◌+◌, ◌*◌, ◌∷◌, [], ℕ, List, Contains, sym, ◌∙◌, subst}
 use Rattle.std.proofs.lemmas.List.Elements.{Contains-append_left}
 use Rattle.study_board.specs.declared.men.Man.{Man}
 use Rattle.study_retro.specs.Predecessors.{IsBeforeBy}
-use Rattle.study_retro.specs.Propagation.{AreSet, IsSetWhere}
-use Rattle.study_retro.specs.RowLevels.{IsBeforeRow}
 use Rattle.study_retro.specs.Still.{on_square}
-use Rattle.study_retro.proofs.BackLemmas.{set-why}
-use Rattle.study_retro.proofs.RowSets.{AreSetBelow, ForSome, first-as, set-none, set-more, set-all}
+use Rattle.study_retro.proofs.RowSets.{AreSetBelow, first-as, set-none, set-more, set-all}
 use Rattle.study_retro.proofs.SquaresLeft.{AreLeft, left-all, first-in, left-more}
 use Rattle.study_retro.proofs.row_back.write_before_man_each.Goals as goal
 

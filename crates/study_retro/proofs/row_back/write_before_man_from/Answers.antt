@@ -1,10 +1,7 @@
 use Rattle.std.proofs.Common.{◌≡◌, ◌+◌, ◌*◌, ◌<◌, ℕ, true, List, [], ◌∷◌, ◌++◌, Some, inl, inr, refl, sym, ◌∙◌, ap, subst, arith}
-use Rattle.std.proofs.lemmas.Bool.{false≢true, and_parts, cases_lt, not-true, not-false}
+use Rattle.std.proofs.lemmas.Bool.{false≢true, and_parts, cases_lt}
 use Rattle.study_board.specs.declared.men.Man.{Man}
-use Rattle.study_board.specs.declared.men.Side.{Side}
-use Rattle.study_board.specs.Men.{same_side}
 use Rattle.study_board.specs.Sets.{has}
-use Rattle.study_board.proofs.EqualMen.{side_same}
 use Rattle.study_moves.specs.Unmoves.{came_from, comes}
 use Rattle.study_material.specs.declared.class.Class.{Class}
 use Rattle.study_index.specs.Computed.{position_numbered}
@@ -15,7 +12,7 @@ use Rattle.study_retro.specs.RowMoves.{AreApart}
 use Rattle.study_retro.specs.Still.{on_square}
 use Rattle.study_retro.proofs.BackLemmas.{set-then, set-kept, set-why}
 use Rattle.study_retro.proofs.RowBackLemmas.{row_apart, row_led, row_came}
-use Rattle.study_retro.proofs.SquaresLeft.{AreLeft, left-all, first-in, first-only, left-more, left-none}
+use Rattle.study_retro.proofs.SquaresLeft.{AreLeft, left-all, first-only, left-more, left-none}
 use Rattle.study_retro.proofs.row_back.write_before_man_from.Goals as goal
 
 pub loop-next-init : goal.loop-next-init

@@ -3,7 +3,6 @@ use Rattle.study_board.specs.Position.{Position}
 use Rattle.study_index.specs.Computed.{index_of}
 use Rattle.study_index.specs.Moved.{IsMoved}
 use Rattle.study_retro.specs.Predecessors.{IsBeforeFrom}
-use Rattle.study_retro.specs.Propagation.{AreSet}
 use Rattle.study_retro.specs.RowBack.{IsItOrTwin}
 use Rattle.study_retro.proofs.BackLemmas.{before_is, set-why}
 use Rattle.study_retro.proofs.RowBackLemmas.{fit_before, fit_below}

@@ -1,4 +1,4 @@
-use Rattle.std.proofs.Common.{◌≡◌, ◌+◌, ◌*◌, ◌<◌, ℕ, Some, sym, ◌∙◌, subst, arith}
+use Rattle.std.proofs.Common.{◌≡◌, ◌+◌, ◌*◌, ◌<◌, ℕ, sym, subst, arith}
 use Rattle.study_board.specs.Position.{Position}
 use Rattle.study_index.specs.Computed.{index_of}
 use Rattle.study_index.specs.Moved.{IsMoved}

@@ -1,4 +1,4 @@
-use Rattle.std.proofs.Common.{◌≡◌, ◌-◌, ◌+◌, ◌*◌, ℕ, length}
+use Rattle.std.proofs.Common.{◌≡◌, ◌-◌, ◌+◌, ◌*◌, length}
 use Rattle.study_index.specs.Number.{cells_of}
 use Rattle.study_retro.specs.RowBack.{IsItOrTwin}
 use Rattle.study_retro.proofs.RowSets.{AreSetBelow}

@@ -1,12 +1,10 @@
-use Rattle.std.proofs.Common.{◌≡◌, ℕ, ◌+◌, ◌*◌, ◌<◌, ◌≤◌, Some, slice_index, arith, refl, sym, ◌∙◌, ap, subst}
+use Rattle.std.proofs.Common.{◌≡◌, ℕ, ◌+◌, ◌*◌, ◌<◌, Some, arith, refl, sym, ◌∙◌, subst}
 use Rattle.std.proofs.lemmas.Bool.{false≢true}
 use Rattle.study_board.specs.Position.{Position}
 use Rattle.study_index.specs.Computed.{position_numbered}
-use Rattle.study_retro.specs.Cells.{value_of}
 use Rattle.study_retro.specs.ClassGame.{class_game}
 use Rattle.study_retro.specs.Numbered.{NoLossBy}
 use Rattle.study_retro.specs.Still.{IsWonAfter, move_to}
-use Rattle.study_retro.specs.declared.value.Value.TheVariants.{Win}
 use Rattle.study_retro.proofs.BackLemmas.{departed}
 use Rattle.study_retro.proofs.RowEscapeLemmas.{AreKeptBelow, go_below, go_escape, go_won, kept-all, kept-none, kept-with, kept-without}
 use Rattle.study_retro.proofs.RowSets.{IsFirst}
