@@ -506,15 +506,14 @@ fn quiet_moves_in_row<A: Allocator>(
     ensures yes { AllLose (class_game game.now.class game.now.tables.now) cells.now level row.now.number result.losing }
     ensures some { HaveMoves game.now.class row.now.number result.some }
 {
-    let untested = RowMoves {
+    let mut moves = RowMoves {
         losing: candidates,
         some: SquareSet::empty(),
     };
-    let mut moves = quiet_moves_of_last(game, cells, row, untested, level);
     for (slot, man) in row.others.as_slice().iter().enumerate() {
         moves = quiet_moves_of_row(game, cells, row, moves, man, slot as u32, level);
     }
-    moves
+    quiet_moves_of_last(game, cells, row, moves, level)
 }
 
 /// Whether the position of a number, whose quiet moves each lead to a win within `level` plies, has a move, and each leads to

@@ -16,16 +16,11 @@ use Rattle.study_retro.proofs.row_escapes.quiet_moves_in_row.Goals as goal
 
 pub loop-slot-init : goal.loop-slot-init
 loop-slot-init g c = record {
-  among = c.quiet_moves_of_last-moves.ensures.only;
-  hold = c.quiet_moves_of_last-moves.ensures.no;
+  among = λ y on e. e;
+  hold = λ y on e f. absurd (false≢true (sym f ∙ e));
   lose = λ m i. absurd (let l = i.1 in omega (arith, l));
-  last = c.quiet_moves_of_last-moves.ensures.yes;
-  some = c.quiet_moves_of_last-moves.ensures.some;
+  some = λ y q on e. absurd (false≢true (sym (ap (λ (s : ℕ). has s y) c.empty.ensures ∙ has-zero y) ∙ e));
 }
-
-pub quiet_moves_of_last-moves-requires-clause-some : goal.quiet_moves_of_last-moves-requires-clause-some
-quiet_moves_of_last-moves-requires-clause-some g c = λ y q on e.
-    absurd (false≢true (sym (ap (λ (s : ℕ). has s y) c.empty.ensures ∙ has-zero y) ∙ e))
 
 pub quiet_moves_of_row-moves-requires-clause-numbered : goal.quiet_moves_of_row-moves-requires-clause-numbered
 quiet_moves_of_row-moves-requires-clause-numbered g c = λ y on e. c.requires.numbered y on (c.loop-slot.invariant.among y on e)
@@ -51,9 +46,20 @@ loop-slot-preserved g c =
       hold = λ y on t f. elim (cases_Bool (has c.loop-slot.moves.losing y)) [ inl there ↦ e.no y on there f | inr out ↦ inv.hold y on t out ];
       lose = each-more Q men c.loop-slot.slot m c.loop-slot-test.true (λ x i y q on t at. inv.lose x i y q on (e.only y on t) at)
           (subst Q c.man-item.is e.yes);
-      last = λ y q on t at. inv.last y q on (e.only y on t) at;
       some = e.some;
     }
+
+pub quiet_moves_of_last-requires-clause-numbered : goal.quiet_moves_of_last-requires-clause-numbered
+quiet_moves_of_last-requires-clause-numbered g c = λ y on e. c.requires.numbered y on (c.loop-slot.invariant.among y on e)
+
+pub returns-clause-only : goal.returns-clause-only
+returns-clause-only g c = λ y on e. c.loop-slot.invariant.among y on (c.quiet_moves_of_last.ensures.only y on e)
+
+pub returns-clause-no : goal.returns-clause-no
+returns-clause-no g c = λ y on t f. elim (cases_Bool (has c.loop-slot.moves.losing y)) [
+  | inl there ↦ c.quiet_moves_of_last.ensures.no y on there f
+  | inr out ↦ c.loop-slot.invariant.hold y on t out
+]
 
 pub returns-clause-yes : goal.returns-clause-yes
 returns-clause-yes g c = λ y q on t at.
@@ -68,5 +74,5 @@ returns-clause-yes g c = λ y q on t at.
     c.loop-slot.invariant.lose m
     (subst C (sym (take_all c.loop-slot.slot men (let h = c.loop-slot-test.false in omega (arith, h))))
     (subst C (sym c.as_slice-man-items.ensures.value) i))
-    y q on t at)
-    (c.loop-slot.invariant.last y q on t at)
+    y q on (c.quiet_moves_of_last.ensures.only y on t) at)
+    (c.quiet_moves_of_last.ensures.yes y q on t at)
