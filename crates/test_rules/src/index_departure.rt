@@ -101,7 +101,7 @@ fn expect_rows(rt: &impl Abort, row: &str) {
     assert!(rt; start < cells(class), "{row}");
     for slot in 0..5 {
         let departure = RowDeparture::new(class, start / 64, from, slot);
-        let before_last = slot + 1 < field(row, 0).len() as u32;
+        let before_last = slot as usize + 1 < field(row, 0).len();
         assert!(rt;
             departure.is_some() == (slot == filled && before_last),
             "{row}: {slot}"
