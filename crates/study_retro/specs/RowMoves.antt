@@ -1,13 +1,13 @@
 -- Not part of any public contract: what the men of a row are attacked by and where they go, by the square of the man of the last slot.
-use Rattle.std.specs.Prelude.{ℕ, ◌≤◌, Bool, not, ◌&&◌, ◌||◌, ◌==◌, List, [], ◌∷◌, ◌++◌, None, map, count_by}
+use Rattle.std.specs.Prelude.{◌≡◌, ℕ, ◌<◌, ◌≤◌, Bool, not, ◌&&◌, ◌||◌, ◌==◌, List, [], ◌∷◌, ◌++◌, None, map, count_by}
 use Rattle.std.specs.List.{list_any}
 use Rattle.study_board.specs.declared.men.Side.{Side}
 use Rattle.study_board.specs.declared.men.Kind.TheVariants.{King}
 use Rattle.study_board.specs.declared.men.Man.{Man}
 use Rattle.study_board.specs.Geometry.{rank_of, strictly_between}
-use Rattle.study_board.specs.Men.{bears_on, is_man, other_side, same_side}
+use Rattle.study_board.specs.Men.{bears_on, is_attacked, is_man, other_side, same_side}
 use Rattle.study_board.specs.Position.{in_check, is_empty, is_occupied}
-use Rattle.study_board.specs.Sets.{is_slider}
+use Rattle.study_board.specs.Sets.{has, is_slider}
 use Rattle.study_moves.specs.Rules.{half_way, is_ahead, reaches_target, starting_rank}
 use Rattle.study_index.specs.Moved.{from_to}
 use Rattle.study_retro.specs.Still.{facing, on_square}
@@ -42,3 +42,17 @@ hinders from to y = strictly_between from y to || (to == y)
 -- where the last man stands on y, it is not in the way, and no king of the side is attacked with the man of the first square on the second
 abbrev pub lets_pass : List Man → Man → Side → ℕ → ℕ → ℕ → Bool
 lets_pass others last side from to y = not (hinders from to y || in_check (map (from_to from to) others ++ on_square last y ∷ []) side)
+
+-- with the last man on y some man of the side, of the others or the last, bears on x
+abbrev pub attacked_with_last : List Man → Man → Side → ℕ → ℕ → Bool
+attacked_with_last others last side x y = list_any (λ m. same_side m.side side && bears_with others y m x) others
+    || (same_side last.side side && bears_on others (facing last x) y)
+
+-- of the others those that do not stand on the square, by what some of them is
+abbrev pub AreRest : List Man → ℕ → List Man → Type 0
+AreRest others from rest = (p : Man → Bool) → list_any p rest ≡ list_any (λ m. not (m.at == from) && p m) others
+
+-- where the man on the square goes those stay, and on the squares of the set those of them that are not of the side bear
+pub record AreStaying (others : List Man) (from : ℕ) (side : Side) (staying : List Man) (attacked : ℕ) : Type 0 where
+  pub rest : AreRest others from staying
+  pub bear : (x : ℕ) → x < 64 → has attacked x ≡ is_attacked staying (other_side side) x
