@@ -3,41 +3,42 @@ use Rattle.std.proofs.Common.{◌≡◌, ℕ, ◌+◌, ◌<◌, ◌≤◌, ◌==
 use Rattle.std.proofs.Common.{map, take, get_or, length, refl, sym, ◌∙◌, ap, arith}
 use Rattle.std.specs.Prelude.{count_by}
 use Rattle.std.specs.List.{Contains, list_any}
-use Rattle.std.proofs.lemmas.Bool.{and_left, cases_Bool, eq-eqb, false≢true, or_from, or_parts}
+use Rattle.std.proofs.lemmas.Bool.{and_left, eq-eqb, false≢true, or_from, or_parts}
 use Rattle.std.proofs.lemmas.List.Folds.{list_any-append, list_any_more}
 use Rattle.std.proofs.lemmas.List.Sums.{sum_by-append}
 use Rattle.study_board.specs.declared.men.Side.{Side}
 use Rattle.study_board.specs.declared.men.Kind.TheVariants.{King}
 use Rattle.study_board.specs.declared.men.Man.{Man}
 use Rattle.study_board.specs.Geometry.{strictly_between}
-use Rattle.study_board.specs.Men.{bears_on, is_attacked, is_blocked, is_man, other_side, reaches, same_side}
-use Rattle.study_board.specs.Position.{is_occupied}
+use Rattle.study_board.specs.Men.{bears_on, is_attacked, is_blocked, is_man, other_side, reaches, same_kind, same_side}
+use Rattle.study_board.specs.Position.{in_check, is_occupied}
 use Rattle.study_board.specs.Sets.{is_slider, reaches_if}
 use Rattle.study_board.proofs.Faults.{list_any_same}
 use Rattle.study_board.proofs.Lists.{count_by-cons}
 use Rattle.study_moves.proofs.KingSafety.{not_at_end}
 use Rattle.study_moves.proofs.MenOfList.{IsAmong, none_among}
 use Rattle.study_index.specs.Moved.{from_to}
-use Rattle.study_index.proofs.AddedNumbers.{moves_there}
-use Rattle.study_retro.specs.RowMoves.{AreApart, AreRest, attacked_with_last, bears_with, king_attacked_with}
+use Rattle.study_retro.specs.RowMoves.{AreApart, AreRest, IsOnlyKing, attacked_by_two, attacked_with_last, bears_with, gone_to, king_attacked_with}
 use Rattle.study_retro.specs.Still.{facing, on_square}
-use Rattle.study_retro.proofs.RowChecks.{and_and, bears_men, between_self, or_none, reach_if}
+use Rattle.study_retro.proofs.RowChecks.{and_and, bears_men, between_self, or_none, reach_if, row_check}
+use Rattle.study_retro.proofs.RowLemmas.{bears_alone}
 use Rattle.study_retro.proofs.RowMoveLemmas.{unoccupied}
 use Rattle.study_retro.proofs.StillChess.{among-of}
 
 -- ---- tests
 
--- nothing is between on a line to its own end, and a man that goes along no lines is hindered by none
+-- nothing is between on a line to its own end
 aside : (b s e : Bool) → e ≡ false → (b && not (s && e)) ≡ b
 aside true true false n = refl
 aside true true true n = absurd (false≢true (sym n))
 aside true false e n = refl
 aside false s e n = refl
 
-stepping : (b s e : Bool) → s ≡ false → (b && not (s && e)) ≡ b
-stepping true false e n = refl
-stepping true true e n = absurd (false≢true (sym n))
-stepping false s e n = refl
+-- what stands in the way of a man among all does so alone
+twice : (s b e n c : Bool) → (e ≡ false → b ≡ false) → c ≡ (e && n) → (s && (b && n)) ≡ ((s && b) && (s && c))
+twice true b true n c f i = ap (λ (t : Bool). b && t) (sym i)
+twice true b false n c f i = rw (f refl) refl
+twice false b e n c f i = refl
 
 nowhere : (s t r n : Bool) → t ≡ true → (s && ((not t && r) && n)) ≡ false
 nowhere true true r n e = refl
@@ -62,7 +63,7 @@ crosswise false false a b = refl
 
 -- ---- some man of a list
 
-pub any_map : (p : Man → Bool) (h : Man → Man) (xs : List Man) → list_any p (map h xs) ≡ list_any (λ m. p (h m)) xs
+any_map : (p : Man → Bool) (h : Man → Man) (xs : List Man) → list_any p (map h xs) ≡ list_any (λ m. p (h m)) xs
 any_map p h [] = refl
 any_map p h (x ∷ xs) = ap (λ (b : Bool). p (h x) || b) (any_map p h xs)
 
@@ -90,8 +91,27 @@ module _ (others : List Man) (from i : ℕ) (d m : Man) (lt : i < length others)
       (and_left (not ((get_or others i d).at == from)) (p (get_or others i d)) (ap (λ (k : Man). not (k.at == from)) (sym is) ∙ e))
       ∙ or_none (list_any (λ k. not (k.at == from) && p k) (take i others)))
 
+-- one more man is a king of the side, or is none
+module _ (others : List Man) (side : Side) (i : ℕ) (d m : Man) (lt : i < length others) (is : m ≡ get_or others i d) where
+  pub king_more : is_man side King m ≡ true → ((f : ℕ → Bool) → list_any (λ k. is_man side King k && f k.at) (take i others) ≡ false)
+      → IsOnlyKing (take (i + 1) others) side m.at
+  king_more king none f =
+      list_any_more (λ k. is_man side King k && f k.at) others i d lt
+      ∙ ap (λ (b : Bool). b || (is_man side King (get_or others i d) && f (get_or others i d).at)) (none f)
+      ∙ ap (λ (k : Man). is_man side King k && f k.at) (sym is)
+      ∙ ap (λ (b : Bool). b && f m.at) king
+
+  pub king_less : is_man side King m ≡ false → (f : ℕ → Bool)
+      → list_any (λ k. is_man side King k && f k.at) (take (i + 1) others) ≡ list_any (λ k. is_man side King k && f k.at) (take i others)
+  king_less no_king f =
+      list_any_more (λ k. is_man side King k && f k.at) others i d lt
+      ∙ ap (λ (b : Bool). list_any (λ k. is_man side King k && f k.at) (take i others) || b)
+      (ap (λ (k : Man). is_man side King k && f k.at) (sym is) ∙ and_left (is_man side King m) (f m.at) no_king)
+      ∙ or_none (list_any (λ k. is_man side King k && f k.at) (take i others))
+
 -- where no man of the side bears on x, none does with one more on the board
-pub none_with : (men : List Man) (side : Side) (x y : ℕ) → is_attacked men side x ≡ false → list_any (λ m. same_side m.side side && bears_with men y m x) men ≡ false
+pub none_with : (men : List Man) (side : Side) (x y : ℕ) → is_attacked men side x ≡ false
+    → list_any (λ m. same_side m.side side && bears_with men y m x) men ≡ false
 unfolding is_attacked
 none_with men side x y none =
     any_weaker (λ m. same_side m.side side && bears_on men m x) (λ m. same_side m.side side && bears_with men y m x)
@@ -142,9 +162,6 @@ module _ (man : Man) (to : ℕ) where
       by_test ih false other =
           ap (λ (b : Bool). (b && p (on_square x to)) || list_any (λ m. (m.at == man.at) && p (on_square m to)) xs) other
           ∙ ih (omega (arith, c, count_by-cons (λ m. m.at == man.at) x xs))
-
-  pub stays_there : (k : Man) → (k.at == man.at) ≡ false → from_to man.at to k ≡ k
-  stays_there k e = rw e refl
 
 -- ---- the men of a row, one of the others put on another square
 
@@ -223,46 +240,52 @@ module _ (others staying : List Man) (last man : Man) (to y : ℕ) (among : Cont
         (bears_moved z x ∙ aside (bears_on staying z x) (is_slider man.kind) (strictly_between to to x) (between_self to x))
         ∙ sym (and_and (same_side man.side side) (bears_on staying z x) (not (is_slider man.kind && strictly_between to y x)))
 
-    pub attacked_by_two : attacked_with_last moved last side x y
-        ≡ (((same_side man.side side && bears_on staying z x) && not (is_slider man.kind && strictly_between to y x))
-        || (same_side last.side side && bears_on moved (facing last x) y))
-    attacked_by_two =
-        ap (λ (b : Bool). b || (same_side last.side side && bears_on moved (facing last x) y))
+    abbrev by_last : Man
+    by_last = facing last x
+
+    last_after : (same_side last.side side && bears_on moved by_last y)
+        ≡ ((same_side last.side side && bears_on staying by_last y) && (same_side last.side side && bears_on (z ∷ []) by_last y))
+    last_after =
+        ap (λ (b : Bool). same_side last.side side && b) (bears_moved by_last y)
+        ∙ twice (same_side last.side side) (bears_on staying by_last y) (bears_on [] by_last y) (not (is_slider last.kind && strictly_between x to y))
+        (bears_on (z ∷ []) by_last y) (bears_alone staying by_last y) (bears_men [] man to by_last y)
+
+    pub by_two : attacked_with_last moved last side x y ≡ attacked_by_two staying last side man to x y
+    by_two =
+        ap (λ (b : Bool). b || (same_side last.side side && bears_on moved by_last y))
         (any_moved (λ m. same_side m.side side && bears_with moved y m x)
         ∙ ap (λ (b : Bool). b || (same_side man.side side && bears_with moved y z x)) none_staying
         ∙ by_itself)
+        ∙ ap (λ (b : Bool). ((same_side man.side side && bears_on staying z x) && not (is_slider man.kind && strictly_between to y x)) || b) last_after
 
-  -- a last man that goes along no lines bears on a square as if the man had left the board
-  pub last_steps : (x : ℕ) → is_slider last.kind ≡ false → bears_on moved (facing last x) y ≡ bears_on staying (facing last x) y
-  last_steps x e =
-      bears_moved (facing last x) y
-      ∙ stepping (bears_on staying (facing last x) y) (is_slider last.kind) (strictly_between x to y) e
+  -- ---- on the square of a king, that of the man or another
 
-  -- ---- the man k of the others, after the other man has gone
+  pub there_or_else : (side : Side) (k : ℕ) → (k == man.at) ≡ true
+      → attacked_with_last staying last side to y ≡ attacked_with_last moved last side (gone_to man.at to k) y
+  there_or_else side k e = sym (attacked_there side) ∙ ap (λ (x : ℕ). attacked_with_last moved last side x y) (sym (goes k e))
+    where
+      goes : (a : ℕ) → (a == man.at) ≡ true → gone_to man.at to a ≡ to
+      goes a t = rw t refl
 
-  module _ (side : Side) (k : Man) where
-    pub no_king : is_man side King k ≡ false → king_attacked_with moved last side y (from_to man.at to k) ≡ false
-    no_king n = elim (cases_Bool (k.at == man.at)) [
-      | inl e ↦
-          ap (λ (m : Man). king_attacked_with moved last side y m) (moves_there man.at to k e)
-          ∙ and_left (is_man side King k) (attacked_with_last moved last (other_side side) to y) n
-      | inr e ↦
-          ap (λ (m : Man). king_attacked_with moved last side y m) (stays_there man to k e)
-          ∙ and_left (is_man side King k) (attacked_with_last moved last (other_side side) k.at y) n
-    ]
+-- where a man stands after another one has gone
+pub still_at : (from to k : ℕ) → (k == from) ≡ false → gone_to from to k ≡ k
+still_at from to k e = rw e refl
 
-    pub king_there : is_man side King k ≡ true → (k.at == man.at) ≡ true
-        → attacked_with_last staying last (other_side side) to y ≡ king_attacked_with moved last side y (from_to man.at to k)
-    king_there is e =
-        sym (ap (λ (m : Man). king_attacked_with moved last side y m) (moves_there man.at to k e)
-        ∙ ap (λ (b : Bool). b && attacked_with_last moved last (other_side side) to y) is
-        ∙ attacked_there (other_side side))
+-- the side is in check where its only king, after the man has gone, is attacked
+module _ (others : List Man) (last : Man) (from to y : ℕ) (side : Side) where
+  one_king : (men : List Man) (t : Bool) (m : Man) → king_attacked_with men last side y (cond t (on_square m to) m)
+      ≡ (is_man side King m && attacked_with_last men last (other_side side) (cond t to m.at) y)
+  one_king men true m = refl
+  one_king men false m = refl
 
-    pub king_elsewhere : is_man side King k ≡ true → (k.at == man.at) ≡ false
-        → attacked_with_last moved last (other_side side) k.at y ≡ king_attacked_with moved last side y (from_to man.at to k)
-    king_elsewhere is e =
-        sym (ap (λ (m : Man). king_attacked_with moved last side y m) (stays_there man to k e)
-        ∙ ap (λ (b : Bool). b && attacked_with_last moved last (other_side side) k.at y) is)
-
-    pub king_as_it_is : (k.at == man.at) ≡ false → king_attacked_with moved last side y k ≡ king_attacked_with moved last side y (from_to man.at to k)
-    king_as_it_is e = ap (λ (m : Man). king_attacked_with moved last side y m) (sym (stays_there man to k e))
+  pub check_by_king : (k : ℕ) → IsOnlyKing others side k → same_kind last.kind King ≡ false
+      → attacked_with_last (map (from_to from to) others) last (other_side side) (gone_to from to k) y
+      ≡ in_check (map (from_to from to) others ++ on_square last y ∷ []) side
+  check_by_king k only none =
+      let men = map (from_to from to) others in
+      let f : ℕ → Bool = λ a. attacked_with_last men last (other_side side) (gone_to from to a) y in
+      sym (sym (row_check men last y side none)
+      ∙ any_map (king_attacked_with men last side y) (from_to from to) others
+      ∙ list_any_same (λ m. king_attacked_with men last side y (from_to from to m)) (λ m. is_man side King m && f m.at)
+      (λ m. one_king men (m.at == from) m) others
+      ∙ only f)

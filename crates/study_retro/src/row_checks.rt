@@ -1,5 +1,5 @@
 //! On which squares of the man of the last slot a king is attacked: in a row of numbers that man alone stands elsewhere.
-ghost use Rattle.std.specs.Prelude.{◌≡◌, ◌<◌, ◌≤◌, ◌&&◌, ◌||◌, ℕ, not, false, length, map, [], ◌∷◌, ◌++◌};
+ghost use Rattle.std.specs.Prelude.{◌≡◌, ◌<◌, ◌≤◌, ◌&&◌, ◌||◌, ℕ, not, false, length, map, [], ◌∷◌, ◌++◌, Some, IfSome};
 ghost use Rattle.std.specs.List.{list_any, All, Contains};
 ghost use Rattle.study_board.specs.declared.men.Kind.TheVariants.{King};
 ghost use Rattle.study_board.specs.Geometry.{strictly_between};
@@ -7,7 +7,8 @@ ghost use Rattle.study_board.specs.Men.{bears_on, is_attacked, other_side, same_
 ghost use Rattle.study_board.specs.Position.{in_check};
 ghost use Rattle.study_board.specs.Sets.{has, is_slider};
 ghost use Rattle.study_index.specs.Moved.{from_to};
-ghost use Rattle.study_retro.specs.RowMoves.{AreApart, AreRest, AreStaying, attacked_with_last, bears_with, king_attacked_with};
+ghost use Rattle.study_retro.specs.RowMoves.{AreApart, AreRest, AreStaying, IsOnlyKing, attacked_by_two, attacked_with_last};
+ghost use Rattle.study_retro.specs.RowMoves.{bears_with, gone_to, king_attacked_with};
 ghost use Rattle.study_retro.specs.Still.{facing, on_square};
 
 use crate::still::attacked_squares;
@@ -88,6 +89,14 @@ fn squares_of_last(others: &[Man], last: &Man, by: Side, x: Square) -> SquareSet
     attacks(others, &facing)
 }
 
+/// The squares of the man of the last slot with which the square is attacked, by it or by the others.
+#[inline]
+fn squares_attacking_with(others: &[Man], last: &Man, by: Side, x: Square) -> SquareSet
+    ensures { (y : ℕ) → y < 64 → has result y ≡ attacked_with_last others.now last.now by x y }
+{
+    squares_attacking(others, by, x).union(squares_of_last(others, last, by, x))
+}
+
 /// The squares of the man of the last slot with which the man, if it is a king of the side, is attacked.
 #[inline]
 fn squares_attacking_king(others: &[Man], last: &Man, side: Side, k: &Man) -> SquareSet
@@ -96,8 +105,7 @@ fn squares_attacking_king(others: &[Man], last: &Man, side: Side, k: &Man) -> Sq
     if !k.is(side, Kind::King) {
         return SquareSet::empty();
     }
-    let by = side.other();
-    squares_attacking(others, by, k.at).union(squares_of_last(others, last, by, k.at))
+    squares_attacking_with(others, last, side.other(), k.at)
 }
 
 /// The squares of the man of the last slot with which a king of the side is attacked.
@@ -113,25 +121,69 @@ pub fn squares_of_check(others: &[Man], last: &Man, side: Side) -> SquareSet
     set
 }
 
-/// The others where one of them goes: those that stay, and the squares on which those of the other side bear, the last man and
-/// the one that goes being off the board.
+/// The others where one of them goes, as they attack the king of a side: those that stay, the squares on which they bear without
+/// the last man, the square of the king before, if there is just one, and the squares from which the last man bears on it.
 #[derive(Drop)]
 pub struct Staying {
     pub men: ArrayVec<Man, 4>,
     pub attacked: SquareSet,
+    pub king: Option<Square>,
+    pub checks: SquareSet,
 }
 
 impl Staying {
-    /// Those that stay where the man on the square goes, as they attack a king of the side.
+    /// Those that stay where the man on the square goes.
     #[inline]
-    pub fn new(others: &[Man], from: Square, side: Side) -> Self
+    pub fn new(others: &[Man], last: &Man, from: Square, side: Side) -> Self
         requires { length others.now ≤ 4 }
-        ensures { AreStaying others.now from side result.men.items result.attacked }
+        ensures { AreStaying others.now last.now from side result.men.items result.attacked result.king result.checks }
     {
+        let by = side.other();
         let men = men_staying(others, from);
-        let attacked = attacked_squares(men.as_slice(), side.other());
-        Staying { men, attacked }
+        let attacked = attacked_squares(men.as_slice(), by);
+        match only_king(others, side) {
+            Some(square) => {
+                let checks = squares_of_last(men.as_slice(), last, by, square);
+                let king = Some(square);
+                Staying {
+                    men,
+                    attacked,
+                    king,
+                    checks,
+                }
+            }
+            None => Staying {
+                men,
+                attacked,
+                king: None,
+                checks: SquareSet::empty(),
+            },
+        }
     }
+}
+
+/// The square of the king of the side, if there is just one.
+#[inline]
+fn only_king(men: &[Man], side: Side) -> Option<Square>
+    ensures { IfSome result (λ k. IsOnlyKing men.now side k) }
+{
+    let mut square = Square::at(0);
+    let mut some = false;
+    let mut more = false;
+    for m in men {
+        if m.is(side, Kind::King) {
+            more = some;
+            some = true;
+            square = m.at;
+        }
+    }
+    if more {
+        return None;
+    }
+    if !some {
+        return None;
+    }
+    Some(square)
 }
 
 /// The men that do not stand on the square.
@@ -199,93 +251,60 @@ fn squares_attacking_by(
     squares_attacking(staying, by, x).union(of_last)
 }
 
-/// The squares from which the man of the last slot, if it is of the side, bears on a square with the man on `to`. If it goes
-/// along no lines, that man is not in its way.
-#[inline(always)]
-fn squares_of_last_after(
-    others: &[Man],
-    staying: &[Man],
-    last: &Man,
-    by: Side,
-    man: &Man,
-    to: Square,
-    x: Square,
-) -> SquareSet
-    requires few { length others.now ≤ 4 }
-    requires man { Contains others.now man.now }
-    requires rest { AreRest others.now man.now.at staying.now }
-    ensures { (y : ℕ) → y < 64 → AreApart (others.now ++ on_square last.now y ∷ []) → has result y
-        ≡ (same_side last.now.side by && bears_on (map (from_to man.now.at to) others.now) (facing last.now x) y) }
-{
-    if last.side != by {
-        return SquareSet::empty();
-    }
-    if !last.kind.is_slider() {
-        return squares_of_last(staying, last, by, x);
-    }
-    let moved = with_man_on(others, man.at, to);
-    squares_of_last(moved.as_slice(), last, by, x)
-}
-
 /// The squares of the man of the last slot with which a square, on which none of those that stay bears, is attacked by it or by
-/// the man on `to`.
+/// the man on `to`, given the squares from which it bears on that one with the man off the board.
 #[inline(always)]
 fn squares_attacking_by_two(
-    others: &[Man],
     staying: &[Man],
+    checks: SquareSet,
     last: &Man,
     by: Side,
     man: &Man,
     to: Square,
     x: Square,
 ) -> SquareSet
-    requires few { length others.now ≤ 4 }
-    requires man { Contains others.now man.now }
-    requires rest { AreRest others.now man.now.at staying.now }
-    requires none { is_attacked staying.now by x ≡ false }
-    ensures { (y : ℕ) → y < 64 → AreApart (others.now ++ on_square last.now y ∷ [])
-        → has result y ≡ attacked_with_last (map (from_to man.now.at to) others.now) last.now by x y }
+    requires { (y : ℕ) → y < 64 → has checks y ≡ (same_side last.now.side by && bears_on staying.now (facing last.now x) y) }
+    ensures { (y : ℕ) → y < 64 → has result y ≡ attacked_by_two staying.now last.now by man.now to x y }
 {
     let gone = Man {
         side: man.side,
         kind: man.kind,
         at: to,
     };
-    squares_bearing_with(staying, by, &gone, x).union(squares_of_last_after(others, staying, last, by, man, to, x))
+    let of_last = checks.intersection(squares_of_last(&[gone], last, by, x));
+    squares_bearing_with(staying, by, &gone, x).union(of_last)
 }
 
-/// The squares of the man of the last slot with which one of the others, if it is a king of the side, is attacked with the man
-/// on `to`.
+/// The squares of the man of the last slot with which the only king of the side, on that square before, is attacked with the
+/// man on `to`.
 #[inline(always)]
-fn squares_attacking_king_after(
+fn squares_attacking_after(
     others: &[Man],
     staying: &Staying,
     last: &Man,
     side: Side,
     man: &Man,
     to: Square,
-    k: &Man,
+    king: Square,
 ) -> SquareSet
     requires few { length others.now ≤ 4 }
     requires man { Contains others.now man.now }
-    requires staying { AreStaying others.now man.now.at side staying.now.men.items staying.now.attacked }
+    requires staying { AreStaying others.now last.now man.now.at side staying.now.men.items staying.now.attacked staying.now.king staying.now.checks }
+    requires king { staying.now.king ≡ Some king }
     ensures { (y : ℕ) → y < 64 → AreApart (others.now ++ on_square last.now y ∷ []) → has result y
-        ≡ king_attacked_with (map (from_to man.now.at to) others.now) last.now side y (from_to man.now.at to k.now) }
+        ≡ attacked_with_last (map (from_to man.now.at to) others.now) last.now (other_side side) (gone_to man.now.at to king) y }
 {
-    if !k.is(side, Kind::King) {
-        return SquareSet::empty();
-    }
-    let _square = k.at.number();
+    let _square = king.number();
     let by = side.other();
     let men = staying.men.as_slice();
-    if k.at == man.at {
+    if king == man.at {
         return squares_attacking_by(men, staying.attacked, last, by, to);
     }
-    if staying.attacked.contains(k.at) {
+    if staying.attacked.contains(king) {
         let moved = with_man_on(others, man.at, to);
-        return squares_attacking_king(moved.as_slice(), last, side, k);
+        return squares_attacking_with(moved.as_slice(), last, by, king);
     }
-    squares_attacking_by_two(others, men, last, by, man, to, k.at)
+    squares_attacking_by_two(men, staying.checks, last, by, man, to, king)
 }
 
 /// The squares of the man of the last slot with which a king of the side is attacked with the man, one of the others, on `to`.
@@ -301,13 +320,15 @@ pub fn squares_of_check_after(
     requires few { length others.now ≤ 4 }
     requires last { same_kind last.now.kind King ≡ false }
     requires man { Contains others.now man.now }
-    requires staying { AreStaying others.now man.now.at side staying.now.men.items staying.now.attacked }
+    requires staying { AreStaying others.now last.now man.now.at side staying.now.men.items staying.now.attacked staying.now.king staying.now.checks }
     ensures { (y : ℕ) → y < 64 → AreApart (others.now ++ on_square last.now y ∷ [])
         → has result y ≡ in_check (map (from_to man.now.at to) others.now ++ on_square last.now y ∷ []) side }
 {
-    let mut set = SquareSet::empty();
-    for k in others {
-        set = set.union(squares_attacking_king_after(others, staying, last, side, man, to, k));
+    match staying.king {
+        Some(king) => squares_attacking_after(others, staying, last, side, man, to, king),
+        None => {
+            let moved = with_man_on(others, man.at, to);
+            squares_of_check(moved.as_slice(), last, side)
+        }
     }
-    set
 }
