@@ -217,7 +217,14 @@ fn write_before_man_from(
     while !rest.is_empty() {
         let origin = rest.first();
         rest = rest.without(SquareSet::of(origin));
-        let led = decided.intersection(squares_led(others, &staying, &row.last, row.to_move, man, origin));
+        let led = decided.intersection(squares_led(
+            others,
+            &staying,
+            &row.last,
+            row.to_move,
+            man,
+            origin,
+        ));
         write_led(cells, departure, led, man, slot, origin, change);
         count = count.saturating_add(u64::from(led.len()));
         next = origin.number() + 1;

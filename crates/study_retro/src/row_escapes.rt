@@ -261,7 +261,14 @@ fn quiet_moves_of_man_from<A: Allocator>(
         }
         let target = rest.first();
         rest = rest.without(SquareSet::of(target));
-        let going = losing.intersection(squares_going(others, &staying, &row.last, row.to_move, man, target));
+        let going = losing.intersection(squares_going(
+            others,
+            &staying,
+            &row.last,
+            row.to_move,
+            man,
+            target,
+        ));
         let lost = losing_after(game, cells, departure, going, man, slot, target, level);
         losing = losing.without(going).union(lost);
         some = some.union(going);

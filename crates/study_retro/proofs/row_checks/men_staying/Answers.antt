@@ -1,8 +1,7 @@
-use Rattle.std.proofs.Common.{◌≡◌, ◌==◌, ◌&&◌, ◌++◌, ◌∷◌, [], not, true, false, length, List, sym, ◌∙◌, ap, subst, arith}
+use Rattle.std.proofs.Common.{◌≡◌, ◌==◌, ◌&&◌, ◌++◌, ◌∷◌, [], not, true, false, length, List, sym, ◌∙◌, ap, arith}
 use Rattle.std.specs.List.{list_any}
 use Rattle.std.proofs.lemmas.List.{take_all}
 use Rattle.study_board.specs.declared.men.Man.{Man}
-use Rattle.study_retro.specs.RowMoves.{AreRest}
 use Rattle.study_retro.proofs.CheckLemmas.{staying_less, staying_more}
 use Rattle.study_retro.proofs.row_checks.men_staying.Goals as goal
 use Rattle.study_retro.proofs.row_checks.men_staying.Goals.{then-ne, else-ne}

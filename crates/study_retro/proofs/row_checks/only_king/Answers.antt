@@ -1,11 +1,10 @@
-use Rattle.std.proofs.Common.{◌≡◌, ◌&&◌, true, false, List, sym, ◌∙◌, ap, subst, arith}
+use Rattle.std.proofs.Common.{◌≡◌, ◌&&◌, true, false, List, sym, ◌∙◌, ap, arith}
 use Rattle.std.specs.List.{list_any}
 use Rattle.std.proofs.lemmas.Bool.{false≢true}
 use Rattle.std.proofs.lemmas.List.{take_all}
 use Rattle.study_board.specs.declared.men.Man.{Man}
 use Rattle.study_board.specs.declared.men.Kind.TheVariants.{King}
 use Rattle.study_board.specs.Men.{is_man}
-use Rattle.study_retro.specs.RowMoves.{IsOnlyKing}
 use Rattle.study_retro.proofs.CheckLemmas.{king_less, king_more}
 use Rattle.study_retro.proofs.row_checks.only_king.Goals as goal
 use Rattle.study_retro.proofs.row_checks.only_king.Goals.{then-is, else-is}

@@ -1,8 +1,7 @@
-use Rattle.std.proofs.Common.{◌≡◌, ℕ, ◌<◌, ◌&&◌, List, ◌∙◌, ap}
+use Rattle.std.proofs.Common.{◌&&◌, List, ◌∙◌, ap}
 use Rattle.study_board.specs.declared.men.Man.{Man}
 use Rattle.study_board.specs.declared.men.Side.{Side}
 use Rattle.study_board.specs.Men.{bears_on, is_attacked, same_side}
-use Rattle.study_board.specs.Sets.{has}
 use Rattle.study_retro.specs.Still.{facing}
 use Rattle.study_retro.proofs.row_checks.Staying.new.Goals as goal
 
@@ -30,6 +29,6 @@ returns-in-None c =
       bear = λ x on. c.attacked_squares-attacked.ensures x on
           ∙ ap (λ (zs : List Man). is_attacked zs c.other-by.result x) c.as_slice.ensures.value
           ∙ ap (λ (s : Side). is_attacked men s x) c.other-by.ensures;
-      only = record { };
-      give = record { };
+      only = record {};
+      give = record {};
     }
