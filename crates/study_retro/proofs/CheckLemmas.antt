@@ -260,9 +260,9 @@ module _ (others staying : List Man) (last man : Man) (to y : ℕ) (among : Cont
 
   -- ---- on the square of a king, that of the man or another
 
-  pub there_or_else : (side : Side) (k : ℕ) → (k == man.at) ≡ true
+  pub king_itself : (side : Side) (k : ℕ) → (k == man.at) ≡ true
       → attacked_with_last staying last side to y ≡ attacked_with_last moved last side (gone_to man.at to k) y
-  there_or_else side k e = sym (attacked_there side) ∙ ap (λ (x : ℕ). attacked_with_last moved last side x y) (sym (goes k e))
+  king_itself side k e = sym (attacked_there side) ∙ ap (λ (x : ℕ). attacked_with_last moved last side x y) (sym (goes k e))
     where
       goes : (a : ℕ) → (a == man.at) ≡ true → gone_to man.at to a ≡ to
       goes a t = rw t refl

@@ -277,7 +277,7 @@ fn quiet_moves_of_man_from<A: Allocator>(
     RowMoves { losing, some }
 }
 
-/// The same, if it is one of the side to move.
+/// The same, if it is one of the side to move, and some are left to lose.
 fn quiet_moves_of_row<A: Allocator>(
     game: &ClassGame<A>,
     cells: &[u8],
@@ -299,6 +299,9 @@ fn quiet_moves_of_row<A: Allocator>(
     ensures some { HaveMoves game.now.class row.now.number result.some }
 {
     if man.side != row.to_move {
+        return so_far;
+    }
+    if so_far.losing.is_empty() {
         return so_far;
     }
     match RowDeparture::new(row.class, row.number, man.at, slot) {

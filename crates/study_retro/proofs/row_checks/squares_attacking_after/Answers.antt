@@ -7,7 +7,7 @@ use Rattle.study_board.specs.Sets.{has}
 use Rattle.study_index.specs.Moved.{from_to}
 use Rattle.study_retro.specs.RowMoves.{attacked_by_two, attacked_with_last, gone_to}
 use Rattle.study_retro.specs.Still.{facing}
-use Rattle.study_retro.proofs.CheckLemmas.{by_two, still_at, there_or_else}
+use Rattle.study_retro.proofs.CheckLemmas.{by_two, king_itself, still_at}
 use Rattle.study_retro.proofs.row_checks.squares_attacking_after.Goals as goal
 
 pub squares_attacking_by-requires : goal.squares_attacking_by-requires
@@ -23,7 +23,7 @@ returns-then-eq c y ly apart =
     let men = c.args.staying.now.men.items in
     c.squares_attacking_by.ensures y ly
     ∙ ap (λ (zs : List Man). attacked_with_last zs last c.other-by.result to y) c.as_slice-men.ensures.value
-    ∙ there_or_else c.args.others.now men last c.args.man.now to y c.requires.man c.requires.staying.rest apart c.other-by.result
+    ∙ king_itself c.args.others.now men last c.args.man.now to y c.requires.man c.requires.staying.rest apart c.other-by.result
     c.args.king (sym c.eq.ensures ∙ c.if-eq.true)
     ∙ ap (λ (s : Side). attacked_with_last (map (from_to c.args.man.now.at to) c.args.others.now) last s (gone_to c.args.man.now.at to c.args.king) y)
     c.other-by.ensures
@@ -45,7 +45,8 @@ squares_attacking_by_two-requires c y ly =
     let men = c.args.staying.now.men.items in
     let k = c.args.king in
     subst (λ (o : Option ℕ). IfSome o (λ x. (a : ℕ) → a < 64
-    → has c.args.staying.now.checks a ≡ (same_side last.side (other_side c.args.side) && bears_on men (facing last x) a))) c.requires.king c.requires.staying.give y ly
+    → has c.args.staying.now.checks a ≡ (same_side last.side (other_side c.args.side) && bears_on men (facing last x) a)))
+    c.requires.king c.requires.staying.give y ly
     ∙ sym (ap (λ (zs : List Man). same_side last.side c.other-by.result && bears_on zs (facing last k) y) c.as_slice-men.ensures.value
     ∙ ap (λ (s : Side). same_side last.side s && bears_on men (facing last k) y) c.other-by.ensures)
 
