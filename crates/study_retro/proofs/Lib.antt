@@ -24,6 +24,7 @@ pub mod RowSets
 pub mod RowBackLemmas
 pub mod RowGeometry
 pub mod RowMoveLemmas
+pub mod CheckLemmas
 pub mod SquaresLeft
 pub mod DueTally
 pub mod QuietClass

@@ -27,7 +27,7 @@ pub and_and : (a b c : Bool) → ((a && b) && c) ≡ (a && (b && c))
 and_and true b c = refl
 and_and false b c = refl
 
-or_none : (b : Bool) → (b || false) ≡ b
+pub or_none : (b : Bool) → (b || false) ≡ b
 or_none true = refl
 or_none false = refl
 
@@ -39,6 +39,18 @@ line_with true true false true = refl
 line_with true true false false = refl
 
 -- ---- further men
+
+pub between_self : (y x : ℕ) → strictly_between y y x ≡ false
+between_self y x = between-both y y x ∙ not_at_end x y
+
+pub reach_if : (xs : List Man) (side : Side) (kind : Kind) (a x : ℕ) → reaches xs side kind a x ≡ reaches_if (is_blocked xs a x) side kind a x
+unfolding reaches reaches_if
+reach_if xs side King a x = refl
+reach_if xs side Queen a x = refl
+reach_if xs side Rook a x = refl
+reach_if xs side Bishop a x = refl
+reach_if xs side Knight a x = refl
+reach_if xs side Pawn a x = refl
 
 module _ (others : List Man) (last : Man) (y : ℕ) where
   abbrev pub l : Man
@@ -64,18 +76,6 @@ module _ (others : List Man) (last : Man) (y : ℕ) where
   pub bears_men : (m : Man) (x : ℕ) → bears_on men m x ≡ bears_with others y m x
   bears_men m x = reaches_with (not (m.at == x)) m.side m.kind m.at x
 
-  between_self : (x : ℕ) → strictly_between y y x ≡ false
-  between_self x = between-both y y x ∙ not_at_end x y
-
-  reach_if : (xs : List Man) (side : Side) (kind : Kind) (a x : ℕ) → reaches xs side kind a x ≡ reaches_if (is_blocked xs a x) side kind a x
-  unfolding reaches reaches_if
-  reach_if xs side King a x = refl
-  reach_if xs side Queen a x = refl
-  reach_if xs side Rook a x = refl
-  reach_if xs side Bishop a x = refl
-  reach_if xs side Knight a x = refl
-  reach_if xs side Pawn a x = refl
-
   same_squares : (a b : ℕ) → (a == b) ≡ (b == a)
   same_squares a b = same_test (a == b) (b == a) (λ e. eq-eqb b a (sym (eqb-true a b e))) (λ e. eq-eqb a b (sym (eqb-true b a e)))
 
@@ -85,7 +85,7 @@ module _ (others : List Man) (last : Man) (y : ℕ) where
         same_squares y x,
         reach_if men last.side last.kind y x,
         blocked_with y x,
-        between_self x,
+        between_self y x,
         or_none (is_blocked others y x),
         blocked-both others y x,
         reach_if others (other_side last.side) last.kind x y,

@@ -205,7 +205,7 @@ free_if_comes men man a e = elim (cases_Bool (is_pawn man)) [
 
 -- ---- the man put on another square
 
-unoccupied : (x : ℕ) (xs : List Man) → count_by (λ m. m.at == x) xs ≡ 0 → is_occupied xs x ≡ false
+pub unoccupied : (x : ℕ) (xs : List Man) → count_by (λ m. m.at == x) xs ≡ 0 → is_occupied xs x ≡ false
 unfolding is_occupied
 unoccupied x [] e = refl
 unoccupied x (m ∷ ms) e = by_test (m.at == x) refl (unoccupied x ms (omega (arith, e, count_by-cons (λ y. y.at == x) m ms)))

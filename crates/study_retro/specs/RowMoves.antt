@@ -1,13 +1,13 @@
 -- Not part of any public contract: what the men of a row are attacked by and where they go, by the square of the man of the last slot.
-use Rattle.std.specs.Prelude.{ℕ, ◌≤◌, Bool, not, ◌&&◌, ◌||◌, ◌==◌, List, [], ◌∷◌, ◌++◌, None, map, count_by}
+use Rattle.std.specs.Prelude.{◌≡◌, ℕ, ◌<◌, ◌≤◌, Bool, not, ◌&&◌, ◌||◌, ◌==◌, List, [], ◌∷◌, ◌++◌, Option, None, IfSome, if◌then◌else◌, map, count_by}
 use Rattle.std.specs.List.{list_any}
 use Rattle.study_board.specs.declared.men.Side.{Side}
 use Rattle.study_board.specs.declared.men.Kind.TheVariants.{King}
 use Rattle.study_board.specs.declared.men.Man.{Man}
 use Rattle.study_board.specs.Geometry.{rank_of, strictly_between}
-use Rattle.study_board.specs.Men.{bears_on, is_man, other_side, same_side}
+use Rattle.study_board.specs.Men.{bears_on, is_attacked, is_man, other_side, same_side}
 use Rattle.study_board.specs.Position.{in_check, is_empty, is_occupied}
-use Rattle.study_board.specs.Sets.{is_slider}
+use Rattle.study_board.specs.Sets.{has, is_slider}
 use Rattle.study_moves.specs.Rules.{half_way, is_ahead, reaches_target, starting_rank}
 use Rattle.study_index.specs.Moved.{from_to}
 use Rattle.study_retro.specs.Still.{facing, on_square}
@@ -42,3 +42,36 @@ hinders from to y = strictly_between from y to || (to == y)
 -- where the last man stands on y, it is not in the way, and no king of the side is attacked with the man of the first square on the second
 abbrev pub lets_pass : List Man → Man → Side → ℕ → ℕ → ℕ → Bool
 lets_pass others last side from to y = not (hinders from to y || in_check (map (from_to from to) others ++ on_square last y ∷ []) side)
+
+-- with the last man on y some man of the side, of the others or the last, bears on x
+abbrev pub attacked_with_last : List Man → Man → Side → ℕ → ℕ → Bool
+attacked_with_last others last side x y = list_any (λ m. same_side m.side side && bears_with others y m x) others
+    || (same_side last.side side && bears_on others (facing last x) y)
+
+-- of the others those that do not stand on the square, by what some of them is
+abbrev pub AreRest : List Man → ℕ → List Man → Type 0
+AreRest others from rest = (p : Man → Bool) → list_any p rest ≡ list_any (λ m. not (m.at == from) && p m) others
+
+-- k is where the only king of the side among the men stands
+abbrev pub IsOnlyKing : List Man → Side → ℕ → Type 0
+IsOnlyKing men side k = (f : ℕ → Bool) → list_any (λ m. is_man side King m && f m.at) men ≡ f k
+
+-- where a man on a stands after the one on the first square has gone to the second
+abbrev pub gone_to : ℕ → ℕ → ℕ → ℕ
+gone_to from to a = if a == from then to else a
+
+-- of the others those stay where the man on the square goes; on the squares of the set those of them that are not of the side bear;
+-- and the last man bears on the side's only king from those of the other set, if it is not of the side
+pub record AreStaying (others : List Man) (last : Man) (from : ℕ) (side : Side) (staying : List Man) (attacked : ℕ) (king : Option ℕ) (checks : ℕ)
+    : Type 0 where
+  pub rest : AreRest others from staying
+  pub bear : (x : ℕ) → x < 64 → has attacked x ≡ is_attacked staying (other_side side) x
+  pub only : IfSome king (λ k. IsOnlyKing others side k)
+  pub give : IfSome king (λ k. (y : ℕ) → y < 64 → has checks y ≡ (same_side last.side (other_side side) && bears_on staying (facing last k) y))
+
+-- with the last man on y it bears on x, or the man does that has gone to a square, where no other man of the side does
+abbrev pub attacked_by_two : List Man → Man → Side → Man → ℕ → ℕ → ℕ → Bool
+attacked_by_two staying last side man to x y =
+    ((same_side man.side side && bears_on staying (on_square man to) x) && not (is_slider man.kind && strictly_between to y x))
+    || ((same_side last.side side && bears_on staying (facing last x) y)
+    && (same_side last.side side && bears_on (on_square man to ∷ []) (facing last x) y))

@@ -12,7 +12,7 @@ ghost use Rattle.study_retro.specs.Still.{on_square};
 use crate::back::{Change, write_before_man, write_cell, write_from};
 use crate::earlier::{has_both_pawns, has_twin, may_pass};
 use crate::row::Row;
-use crate::row_checks::squares_of_check;
+use crate::row_checks::{Staying, squares_of_check};
 use crate::row_levels::write_before_each;
 use crate::row_moves::{origins_beside, origins_of_last, squares_led};
 use study_board::{Man, Square, SquareSet};
@@ -210,13 +210,21 @@ fn write_before_man_from(
         → IsSetWhere change.cell change.over cells.new n }
 {
     let others = row.others.as_slice();
+    let staying = Staying::new(others, &row.last, man.at, row.to_move);
     let mut count = 0u64;
     let mut rest = origins_beside(others, man);
     let mut next = 0u8;
     while !rest.is_empty() {
         let origin = rest.first();
         rest = rest.without(SquareSet::of(origin));
-        let led = decided.intersection(squares_led(others, &row.last, row.to_move, man, origin));
+        let led = decided.intersection(squares_led(
+            others,
+            &staying,
+            &row.last,
+            row.to_move,
+            man,
+            origin,
+        ));
         write_led(cells, departure, led, man, slot, origin, change);
         count = count.saturating_add(u64::from(led.len()));
         next = origin.number() + 1;

@@ -23,7 +23,7 @@ use crate::earlier::{has_both_pawns, may_pass};
 use crate::escapes::{has_move, loses_to, quiet_moves_of, reaches_last_rank};
 use crate::propagate::{is_lost_by_moves, is_won};
 use crate::row::Row;
-use crate::row_checks::squares_of_check;
+use crate::row_checks::{Staying, squares_of_check};
 use crate::row_levels::lost_plainly_each;
 use crate::row_moves::{squares_going, targets_beside, targets_of_last};
 use crate::still::stays;
@@ -250,6 +250,7 @@ fn quiet_moves_of_man_from<A: Allocator>(
     ensures some { HaveMoves game.now.class row.now.number result.some }
 {
     let others = row.others.as_slice();
+    let staying = Staying::new(others, &row.last, man.at, row.to_move);
     let mut losing = so_far.losing;
     let mut some = so_far.some;
     let mut rest = targets_beside(others, man);
@@ -260,7 +261,14 @@ fn quiet_moves_of_man_from<A: Allocator>(
         }
         let target = rest.first();
         rest = rest.without(SquareSet::of(target));
-        let going = losing.intersection(squares_going(others, &row.last, row.to_move, man, target));
+        let going = losing.intersection(squares_going(
+            others,
+            &staying,
+            &row.last,
+            row.to_move,
+            man,
+            target,
+        ));
         let lost = losing_after(game, cells, departure, going, man, slot, target, level);
         losing = losing.without(going).union(lost);
         some = some.union(going);
@@ -269,7 +277,7 @@ fn quiet_moves_of_man_from<A: Allocator>(
     RowMoves { losing, some }
 }
 
-/// The same, if it is one of the side to move.
+/// The same, if it is one of the side to move, and some are left to lose.
 fn quiet_moves_of_row<A: Allocator>(
     game: &ClassGame<A>,
     cells: &[u8],
@@ -291,6 +299,9 @@ fn quiet_moves_of_row<A: Allocator>(
     ensures some { HaveMoves game.now.class row.now.number result.some }
 {
     if man.side != row.to_move {
+        return so_far;
+    }
+    if so_far.losing.is_empty() {
         return so_far;
     }
     match RowDeparture::new(row.class, row.number, man.at, slot) {

@@ -1,5 +1,5 @@
 //! Whence the men of a row of numbers can have come, and where they can go, by the square of the man of the last slot.
-ghost use Rattle.std.specs.Prelude.{◌≡◌, ◌<◌, ◌≤◌, ◌&&◌, ◌||◌, ◌==◌, ℕ, not, true, false, length, map, [], ◌∷◌, ◌++◌};
+ghost use Rattle.std.specs.Prelude.{◌≡◌, ◌<◌, ◌≤◌, ◌&&◌, ◌||◌, ◌==◌, ℕ, not, true, false, length, [], ◌∷◌, ◌++◌};
 ghost use Rattle.std.specs.List.{Contains};
 ghost use Rattle.study_board.specs.declared.men.Kind.TheVariants.{King};
 ghost use Rattle.study_board.specs.declared.men.Side.{Side};
@@ -8,44 +8,13 @@ ghost use Rattle.study_board.specs.Position.{in_check, is_occupied};
 ghost use Rattle.study_board.specs.Sets.{has};
 ghost use Rattle.study_moves.specs.AnyOrder.{is_safe_target};
 ghost use Rattle.study_moves.specs.Unmoves.{came_from, comes};
-ghost use Rattle.study_index.specs.Moved.{from_to};
-ghost use Rattle.study_retro.specs.RowMoves.{AreApart, goes_quietly, lets_pass};
+ghost use Rattle.study_retro.specs.RowMoves.{AreApart, AreStaying, goes_quietly, lets_pass};
 ghost use Rattle.study_retro.specs.Still.{on_square};
 
 use crate::escapes::occupied;
-use crate::row_checks::squares_of_check;
-use arrayvec::ArrayVec;
+use crate::row_checks::{Staying, squares_of_check_after};
 use study_board::{Kind, Man, Side, Square, SquareSet, attacks, between};
 use study_moves::{origins_of_kind, pawn_step_targets};
-
-/// The man, put on `to` if it stands on `from`.
-#[inline]
-fn put(man: &Man, from: Square, to: Square) -> Man
-    ensures { result ≡ from_to from to man.now }
-{
-    if man.at == from {
-        Man {
-            side: man.side,
-            kind: man.kind,
-            at: to,
-        }
-    } else {
-        *man
-    }
-}
-
-/// The men, the one on `from` put on `to`.
-#[inline]
-pub fn with_man_on(others: &[Man], from: Square, to: Square) -> ArrayVec<Man, 4>
-    requires { length others.now ≤ 4 }
-    ensures { result.items ≡ map (from_to from to) others.now }
-{
-    let mut list = ArrayVec::new();
-    for man in others {
-        list.push(put(man, from, to));
-    }
-    list
-}
 
 /// The squares from which the man can have come, as its kind goes, with the others alone on the board.
 #[inline]
@@ -55,18 +24,27 @@ pub fn origins_beside(others: &[Man], man: &Man) -> SquareSet
     origins_of_kind(others, man)
 }
 
-/// The squares of the man of the last slot on which it neither stands in the way of a man nor lets a king of the side be
+/// The squares of the man of the last slot on which it neither stands in the way of the man nor lets a king of the side be
 /// attacked with the man on the other square.
-#[inline]
-fn squares_letting(others: &[Man], last: &Man, side: Side, from: Square, to: Square) -> SquareSet
+#[inline(always)]
+fn squares_letting(
+    others: &[Man],
+    staying: &Staying,
+    last: &Man,
+    side: Side,
+    man: &Man,
+    to: Square,
+) -> SquareSet
     requires few { length others.now ≤ 4 }
     requires last { same_kind last.now.kind King ≡ false }
-    ensures { (y : ℕ) → y < 64 → has result y ≡ lets_pass others.now last.now side from to y }
+    requires man { Contains others.now man.now }
+    requires staying { AreStaying others.now last.now man.now.at side staying.now.men.items staying.now.attacked staying.now.king staying.now.checks }
+    ensures { (y : ℕ) → y < 64 → AreApart (others.now ++ on_square last.now y ∷ [])
+        → has result y ≡ lets_pass others.now last.now side man.now.at to y }
 {
-    let moved = with_man_on(others, from, to);
-    between(from, to)
+    between(man.at, to)
         .union(SquareSet::of(to))
-        .union(squares_of_check(moved.as_slice(), last, side))
+        .union(squares_of_check_after(others, staying, last, side, man, to))
         .complement()
 }
 
@@ -74,6 +52,7 @@ fn squares_letting(others: &[Man], last: &Man, side: Side, from: Square, to: Squ
 #[inline]
 pub fn squares_led(
     others: &[Man],
+    staying: &Staying,
     last: &Man,
     to_move: Side,
     man: &Man,
@@ -82,12 +61,13 @@ pub fn squares_led(
     requires few { length others.now ≤ 4 }
     requires last { same_kind last.now.kind King ≡ false }
     requires man { Contains others.now man.now }
+    requires staying { AreStaying others.now last.now man.now.at to_move staying.now.men.items staying.now.attacked staying.now.king staying.now.checks }
     requires side { same_side man.now.side (other_side to_move) ≡ true }
     requires comes { comes others.now man.now origin ≡ true }
     ensures { (y : ℕ) → y < 64 → AreApart (others.now ++ on_square last.now y ∷ [])
         → has result y ≡ came_from (others.now ++ on_square last.now y ∷ []) to_move man.now origin }
 {
-    squares_letting(others, last, to_move, man.at, origin)
+    squares_letting(others, staying, last, to_move, man, origin)
 }
 
 /// The empty squares to which the man goes, as its kind goes, with the others alone on the board.
@@ -106,6 +86,7 @@ pub fn targets_beside(others: &[Man], man: &Man) -> SquareSet
 #[inline]
 pub fn squares_going(
     others: &[Man],
+    staying: &Staying,
     last: &Man,
     to_move: Side,
     man: &Man,
@@ -114,13 +95,14 @@ pub fn squares_going(
     requires few { length others.now ≤ 4 }
     requires last { same_kind last.now.kind King ≡ false }
     requires man { Contains others.now man.now }
+    requires staying { AreStaying others.now last.now man.now.at to_move staying.now.men.items staying.now.attacked staying.now.king staying.now.checks }
     requires side { same_side man.now.side to_move ≡ true }
     requires goes { goes_quietly others.now man.now target ≡ true }
     ensures { (y : ℕ) → y < 64 → AreApart (others.now ++ on_square last.now y ∷ []) → has result y
         ≡ (is_safe_target (others.now ++ on_square last.now y ∷ []) to_move man.now target
         && not (is_occupied (others.now ++ on_square last.now y ∷ []) target)) }
 {
-    squares_letting(others, last, to_move, man.at, target)
+    squares_letting(others, staying, last, to_move, man, target)
 }
 
 /// The man on another square.

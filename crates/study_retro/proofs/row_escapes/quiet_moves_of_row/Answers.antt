@@ -1,6 +1,8 @@
-use Rattle.std.proofs.Common.{◌+◌, ◌*◌, ◌++◌, ◌∷◌, [], sym, ◌∙◌, subst, arith}
+use Rattle.std.proofs.Common.{ℕ, ◌+◌, ◌*◌, ◌++◌, ◌∷◌, [], sym, ◌∙◌, ap, subst, arith}
 use Rattle.std.proofs.lemmas.Bool.{false≢true, not-true, not-false}
+use Rattle.study_board.specs.Sets.{has}
 use Rattle.study_board.proofs.EqualMen.{side_same}
+use Rattle.study_board.proofs.SetBits.{has-zero}
 use Rattle.study_material.specs.declared.class.Class.{Class}
 use Rattle.study_retro.specs.Predecessors.{AreTold}
 use Rattle.study_retro.specs.Still.{on_square}
@@ -20,6 +22,14 @@ returns-then-ne-clause-yes g c = λ y q on e at x legal quiet.
     let go = row_goes c.args.game.now.class (64 * row.number + y) y q at (omega (arith, small, on)) row.others.items row.last row.to_move told
     c.args.man.now c.requires.man x legal quiet in
     absurd (false≢true (sym (sym (side_same _ _) ∙ not-true _ (sym c.ne.ensures ∙ c.if-ne.true)) ∙ go.1))
+
+-- and where none is left to lose none needs to be looked at
+pub returns-then-is_empty-clause-no : goal.returns-then-is_empty-clause-no
+returns-then-is_empty-clause-no g c = λ y on e f. absurd (false≢true (sym f ∙ e))
+
+pub returns-then-is_empty-clause-yes : goal.returns-then-is_empty-clause-yes
+returns-then-is_empty-clause-yes g c = λ y q on e.
+    absurd (false≢true (sym (ap (λ (s : ℕ). has s y) (c.is_empty.ensures.0 c.if-is_empty.true) ∙ has-zero y) ∙ e))
 
 pub quiet_moves_of_man_from-requires-clause-side : goal.quiet_moves_of_man_from-requires-clause-side
 quiet_moves_of_man_from-requires-clause-side g c = sym (side_same _ _) ∙ not-false _ (sym c.ne.ensures ∙ c.if-ne.false)

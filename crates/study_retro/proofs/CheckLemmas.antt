@@ -1,0 +1,291 @@
+-- Whether a king is attacked where one of the men of a row has gone to another square, by those that stay.
+use Rattle.std.proofs.Common.{◌≡◌, ℕ, ◌+◌, ◌<◌, ◌≤◌, ◌==◌, Bool, true, false, cond, not, ◌&&◌, ◌||◌, inl, inr, List, [], ◌∷◌, ◌++◌}
+use Rattle.std.proofs.Common.{map, take, get_or, length, refl, sym, ◌∙◌, ap, arith}
+use Rattle.std.specs.Prelude.{count_by}
+use Rattle.std.specs.List.{Contains, list_any}
+use Rattle.std.proofs.lemmas.Bool.{and_left, eq-eqb, false≢true, or_from, or_parts}
+use Rattle.std.proofs.lemmas.List.Folds.{list_any-append, list_any_more}
+use Rattle.std.proofs.lemmas.List.Sums.{sum_by-append}
+use Rattle.study_board.specs.declared.men.Side.{Side}
+use Rattle.study_board.specs.declared.men.Kind.TheVariants.{King}
+use Rattle.study_board.specs.declared.men.Man.{Man}
+use Rattle.study_board.specs.Geometry.{strictly_between}
+use Rattle.study_board.specs.Men.{bears_on, is_attacked, is_blocked, is_man, other_side, reaches, same_kind, same_side}
+use Rattle.study_board.specs.Position.{in_check, is_occupied}
+use Rattle.study_board.specs.Sets.{is_slider, reaches_if}
+use Rattle.study_board.proofs.Faults.{list_any_same}
+use Rattle.study_board.proofs.Lists.{count_by-cons}
+use Rattle.study_moves.proofs.KingSafety.{not_at_end}
+use Rattle.study_moves.proofs.MenOfList.{IsAmong, none_among}
+use Rattle.study_index.specs.Moved.{from_to}
+use Rattle.study_retro.specs.RowMoves.{AreApart, AreRest, IsOnlyKing, attacked_by_two, attacked_with_last, bears_with, gone_to, king_attacked_with}
+use Rattle.study_retro.specs.Still.{facing, on_square}
+use Rattle.study_retro.proofs.RowChecks.{and_and, bears_men, between_self, or_none, reach_if, row_check}
+use Rattle.study_retro.proofs.RowLemmas.{bears_alone}
+use Rattle.study_retro.proofs.RowMoveLemmas.{unoccupied}
+use Rattle.study_retro.proofs.StillChess.{among-of}
+
+-- ---- tests
+
+-- nothing is between on a line to its own end
+aside : (b s e : Bool) → e ≡ false → (b && not (s && e)) ≡ b
+aside true true false n = refl
+aside true true true n = absurd (false≢true (sym n))
+aside true false e n = refl
+aside false s e n = refl
+
+-- what stands in the way of a man among all does so alone
+twice : (s b e n c : Bool) → (e ≡ false → b ≡ false) → c ≡ (e && n) → (s && (b && n)) ≡ ((s && b) && (s && c))
+twice true b true n c f i = ap (λ (t : Bool). b && t) (sym i)
+twice true b false n c f i = rw (f refl) refl
+twice false b e n c f i = refl
+
+nowhere : (s t r n : Bool) → t ≡ true → (s && ((not t && r) && n)) ≡ false
+nowhere true true r n e = refl
+nowhere true false r n e = absurd (false≢true e)
+nowhere false t r n e = refl
+
+less_one : (s b n : Bool) → (s && b) ≡ false → (s && (b && n)) ≡ false
+less_one true true n e = absurd (false≢true (sym e))
+less_one true false n e = refl
+less_one false b n e = refl
+
+fewer : (s b c n b' : Bool) → b' ≡ (b && c) → (s && b) ≡ false → (s && (b' && n)) ≡ false
+fewer true true c n b' i e = absurd (false≢true (sym e))
+fewer true false c n b' i e = rw i refl
+fewer false b c n b' i e = refl
+
+crosswise : (i j a b : Bool) → ((i || j) || (a || b)) ≡ ((i || a) || (j || b))
+crosswise true j a b = refl
+crosswise false true true b = refl
+crosswise false true false b = refl
+crosswise false false a b = refl
+
+-- ---- some man of a list
+
+any_map : (p : Man → Bool) (h : Man → Man) (xs : List Man) → list_any p (map h xs) ≡ list_any (λ m. p (h m)) xs
+any_map p h [] = refl
+any_map p h (x ∷ xs) = ap (λ (b : Bool). p (h x) || b) (any_map p h xs)
+
+any_weaker : (p q : Man → Bool) → ((m : Man) → p m ≡ false → q m ≡ false) → (xs : List Man) → list_any p xs ≡ false → list_any q xs ≡ false
+any_weaker p q h [] e = refl
+any_weaker p q h (x ∷ xs) e =
+    let o = or_parts (p x) (list_any p xs) e in
+    or_from (q x) (list_any q xs) (h x o.0) (any_weaker p q h xs o.1)
+
+-- one more man of the others stays, or is the one that goes
+module _ (others : List Man) (from i : ℕ) (d m : Man) (lt : i < length others) (is : m ≡ get_or others i d) where
+  pub staying_more : (xs : List Man) → AreRest (take i others) from xs → not (m.at == from) ≡ true → AreRest (take (i + 1) others) from (xs ++ m ∷ [])
+  staying_more xs rest e p =
+      list_any-append p xs (m ∷ [])
+      ∙ ap (λ (b : Bool). b || list_any p (m ∷ [])) (rest p)
+      ∙ ap (λ (b : Bool). list_any (λ k. not (k.at == from) && p k) (take i others) || b)
+      (or_none (p m) ∙ sym (ap (λ (b : Bool). b && p m) e) ∙ ap (λ (k : Man). not (k.at == from) && p k) is)
+      ∙ sym (list_any_more (λ k. not (k.at == from) && p k) others i d lt)
+
+  pub staying_less : (xs : List Man) → AreRest (take i others) from xs → not (m.at == from) ≡ false → AreRest (take (i + 1) others) from xs
+  staying_less xs rest e p =
+      rest p
+      ∙ sym (list_any_more (λ k. not (k.at == from) && p k) others i d lt
+      ∙ ap (λ (b : Bool). list_any (λ k. not (k.at == from) && p k) (take i others) || b)
+      (and_left (not ((get_or others i d).at == from)) (p (get_or others i d)) (ap (λ (k : Man). not (k.at == from)) (sym is) ∙ e))
+      ∙ or_none (list_any (λ k. not (k.at == from) && p k) (take i others)))
+
+-- one more man is a king of the side, or is none
+module _ (others : List Man) (side : Side) (i : ℕ) (d m : Man) (lt : i < length others) (is : m ≡ get_or others i d) where
+  pub king_more : is_man side King m ≡ true → ((f : ℕ → Bool) → list_any (λ k. is_man side King k && f k.at) (take i others) ≡ false)
+      → IsOnlyKing (take (i + 1) others) side m.at
+  king_more king none f =
+      list_any_more (λ k. is_man side King k && f k.at) others i d lt
+      ∙ ap (λ (b : Bool). b || (is_man side King (get_or others i d) && f (get_or others i d).at)) (none f)
+      ∙ ap (λ (k : Man). is_man side King k && f k.at) (sym is)
+      ∙ ap (λ (b : Bool). b && f m.at) king
+
+  pub king_less : is_man side King m ≡ false → (f : ℕ → Bool)
+      → list_any (λ k. is_man side King k && f k.at) (take (i + 1) others) ≡ list_any (λ k. is_man side King k && f k.at) (take i others)
+  king_less no_king f =
+      list_any_more (λ k. is_man side King k && f k.at) others i d lt
+      ∙ ap (λ (b : Bool). list_any (λ k. is_man side King k && f k.at) (take i others) || b)
+      (ap (λ (k : Man). is_man side King k && f k.at) (sym is) ∙ and_left (is_man side King m) (f m.at) no_king)
+      ∙ or_none (list_any (λ k. is_man side King k && f k.at) (take i others))
+
+-- where no man of the side bears on x, none does with one more on the board
+pub none_with : (men : List Man) (side : Side) (x y : ℕ) → is_attacked men side x ≡ false
+    → list_any (λ m. same_side m.side side && bears_with men y m x) men ≡ false
+unfolding is_attacked
+none_with men side x y none =
+    any_weaker (λ m. same_side m.side side && bears_on men m x) (λ m. same_side m.side side && bears_with men y m x)
+    (λ m e. less_one (same_side m.side side) (bears_on men m x) (not (is_slider m.kind && strictly_between m.at y x)) e) men none
+
+-- ---- the man put on another square
+
+module _ (man : Man) (to : ℕ) where
+  one_moved : (p : Man → Bool) (t : Bool) (x : Man) → p (cond t (on_square x to) x) ≡ ((not t && p x) || (t && p (on_square x to)))
+  one_moved p true x = refl
+  one_moved p false x = sym (or_none (p x))
+
+  -- some man is one that stays or one that has gone
+  each_moved : (p : Man → Bool) (xs : List Man) → list_any p (map (from_to man.at to) xs)
+      ≡ (list_any (λ m. not (m.at == man.at) && p m) xs || list_any (λ m. (m.at == man.at) && p (on_square m to)) xs)
+  each_moved p [] = refl
+  each_moved p (x ∷ xs) =
+      ap (λ (b : Bool). b || list_any p (map (from_to man.at to) xs)) (one_moved p (x.at == man.at) x)
+      ∙ ap (λ (b : Bool). ((not (x.at == man.at) && p x) || ((x.at == man.at) && p (on_square x to))) || b) (each_moved p xs)
+      ∙ crosswise (not (x.at == man.at) && p x) ((x.at == man.at) && p (on_square x to))
+      (list_any (λ m. not (m.at == man.at) && p m) xs) (list_any (λ m. (m.at == man.at) && p (on_square m to)) xs)
+
+  the_moved : (p : Man → Bool) (xs : List Man) → IsAmong man xs → count_by (λ m. m.at == man.at) xs ≤ 1
+      → list_any (λ m. (m.at == man.at) && p (on_square m to)) xs ≡ p (on_square man to)
+  unfolding is_occupied
+  the_moved p [] i c = absurd i
+  the_moved p (x ∷ xs) (inl s) c =
+      let same : (x.at == man.at) ≡ true = eq-eqb _ _ (ap (λ (m : Man). m.at) s) in
+      let more : count_by (λ m. m.at == man.at) (x ∷ xs) ≡ 1 + count_by (λ m. m.at == man.at) xs =
+      count_by-cons (λ m. m.at == man.at) x xs ∙ rw same refl in
+      let none : count_by (λ m. m.at == man.at) xs ≡ 0 = omega (arith, c, more) in
+      let out : list_any (λ m. (m.at == man.at) && p (on_square m to)) xs ≡ false =
+      any_weaker (λ m. m.at == man.at) (λ m. (m.at == man.at) && p (on_square m to)) (λ m e. and_left (m.at == man.at) (p (on_square m to)) e) xs
+      (unoccupied man.at xs none) in
+      ap (λ (b : Bool). (b && p (on_square x to)) || list_any (λ m. (m.at == man.at) && p (on_square m to)) xs) same
+      ∙ ap (λ (b : Bool). p (on_square x to) || b) out
+      ∙ or_none (p (on_square x to))
+      ∙ ap (λ (m : Man). p (on_square m to)) s
+  the_moved p (x ∷ xs) (inr i) c = by_test (the_moved p xs i) (x.at == man.at) refl
+    where
+      by_test : (count_by (λ m. m.at == man.at) xs ≤ 1 → list_any (λ m. (m.at == man.at) && p (on_square m to)) xs ≡ p (on_square man to))
+          → (b : Bool) → (x.at == man.at) ≡ b → list_any (λ m. (m.at == man.at) && p (on_square m to)) (x ∷ xs) ≡ p (on_square man to)
+      by_test ih true same =
+          let more : count_by (λ m. m.at == man.at) (x ∷ xs) ≡ 1 + count_by (λ m. m.at == man.at) xs =
+          count_by-cons (λ m. m.at == man.at) x xs ∙ rw same refl in
+          let none : count_by (λ m. m.at == man.at) xs ≡ 0 = omega (arith, c, more) in
+          absurd (false≢true (sym (none_among (λ y. y.at == man.at) xs man (unoccupied man.at xs none) i) ∙ eq-eqb man.at man.at refl))
+      by_test ih false other =
+          ap (λ (b : Bool). (b && p (on_square x to)) || list_any (λ m. (m.at == man.at) && p (on_square m to)) xs) other
+          ∙ ih (omega (arith, c, count_by-cons (λ m. m.at == man.at) x xs))
+
+-- ---- the men of a row, one of the others put on another square
+
+module _ (others staying : List Man) (last man : Man) (to y : ℕ) (among : Contains others man) (rest : AreRest others man.at staying)
+    (apart : AreApart (others ++ on_square last y ∷ [])) where
+  abbrev pub moved : List Man
+  moved = map (from_to man.at to) others
+
+  abbrev z : Man
+  z = on_square man to
+
+  any_moved : (p : Man → Bool) → list_any p moved ≡ (list_any p staying || p z)
+  any_moved p =
+      let all = apart man.at in
+      let sum = sum_by-append (λ (m : Man). cond (m.at == man.at) 1 0) others (on_square last y ∷ []) in
+      let few : count_by (λ m. m.at == man.at) others ≤ 1 = omega (arith, all, sum) in
+      each_moved man to p others
+      ∙ ap (λ (b : Bool). list_any (λ m. not (m.at == man.at) && p m) others || b) (the_moved man to p others (among-of others man among) few)
+      ∙ ap (λ (b : Bool). b || p z) (sym (rest p))
+
+  blocked_moved : (a x : ℕ) → is_blocked moved a x ≡ is_blocked (staying ++ z ∷ []) a x
+  unfolding is_blocked
+  blocked_moved a x =
+      any_moved (λ m. strictly_between a m.at x)
+      ∙ sym (list_any-append (λ m. strictly_between a m.at x) staying (z ∷ [])
+      ∙ ap (λ (b : Bool). list_any (λ m. strictly_between a m.at x) staying || b) (or_none (strictly_between a to x)))
+
+  bears_moved : (m : Man) (x : ℕ) → bears_on moved m x ≡ bears_with staying to m x
+  bears_moved m x =
+      ap (λ (b : Bool). not (m.at == x) && b)
+      (reach_if moved m.side m.kind m.at x ∙ ap (λ (b : Bool). reaches_if b m.side m.kind m.at x) (blocked_moved m.at x)
+      ∙ sym (reach_if (staying ++ z ∷ []) m.side m.kind m.at x))
+      ∙ bears_men staying man to m x
+
+  -- ---- on the square where the man has gone
+
+  bears_there : (m : Man) → bears_with moved y m to ≡ bears_with staying y m to
+  bears_there m =
+      ap (λ (b : Bool). b && not (is_slider m.kind && strictly_between m.at y to))
+      (bears_moved m to ∙ aside (bears_on staying m to) (is_slider m.kind) (strictly_between m.at to to) (not_at_end m.at to))
+
+  none_itself : (side : Side) → (same_side man.side side && bears_with moved y z to) ≡ false
+  none_itself side =
+      nowhere (same_side man.side side) (to == to) (reaches moved man.side man.kind to to) (not (is_slider man.kind && strictly_between to y to))
+      (eq-eqb to to refl)
+
+  last_there : bears_on moved (facing last to) y ≡ bears_on staying (facing last to) y
+  last_there =
+      bears_moved (facing last to) y
+      ∙ aside (bears_on staying (facing last to) y) (is_slider last.kind) (strictly_between to to y) (between_self to y)
+
+  attacked_there : (side : Side) → attacked_with_last moved last side to y ≡ attacked_with_last staying last side to y
+  attacked_there side =
+      ap (λ (b : Bool). b || (same_side last.side side && bears_on moved (facing last to) y))
+      (any_moved (λ m. same_side m.side side && bears_with moved y m to)
+      ∙ ap (λ (b : Bool). list_any (λ m. same_side m.side side && bears_with moved y m to) staying || b) (none_itself side)
+      ∙ or_none (list_any (λ m. same_side m.side side && bears_with moved y m to) staying)
+      ∙ list_any_same (λ m. same_side m.side side && bears_with moved y m to) (λ m. same_side m.side side && bears_with staying y m to)
+      (λ m. ap (λ (b : Bool). same_side m.side side && b) (bears_there m)) staying)
+      ∙ ap (λ (b : Bool). list_any (λ m. same_side m.side side && bears_with staying y m to) staying || (same_side last.side side && b)) last_there
+
+  -- ---- on a square on which no man bears that stays
+
+  module _ (side : Side) (x : ℕ) (none : is_attacked staying side x ≡ false) where
+    none_staying : list_any (λ m. same_side m.side side && bears_with moved y m x) staying ≡ false
+    unfolding is_attacked
+    none_staying =
+        any_weaker (λ m. same_side m.side side && bears_on staying m x) (λ m. same_side m.side side && bears_with moved y m x)
+        (λ m e. fewer (same_side m.side side) (bears_on staying m x) (not (is_slider m.kind && strictly_between m.at to x))
+        (not (is_slider m.kind && strictly_between m.at y x)) (bears_on moved m x) (bears_moved m x) e) staying none
+
+    by_itself : (same_side man.side side && bears_with moved y z x)
+        ≡ ((same_side man.side side && bears_on staying z x) && not (is_slider man.kind && strictly_between to y x))
+    by_itself =
+        ap (λ (b : Bool). same_side man.side side && (b && not (is_slider man.kind && strictly_between to y x)))
+        (bears_moved z x ∙ aside (bears_on staying z x) (is_slider man.kind) (strictly_between to to x) (between_self to x))
+        ∙ sym (and_and (same_side man.side side) (bears_on staying z x) (not (is_slider man.kind && strictly_between to y x)))
+
+    abbrev by_last : Man
+    by_last = facing last x
+
+    last_after : (same_side last.side side && bears_on moved by_last y)
+        ≡ ((same_side last.side side && bears_on staying by_last y) && (same_side last.side side && bears_on (z ∷ []) by_last y))
+    last_after =
+        ap (λ (b : Bool). same_side last.side side && b) (bears_moved by_last y)
+        ∙ twice (same_side last.side side) (bears_on staying by_last y) (bears_on [] by_last y) (not (is_slider last.kind && strictly_between x to y))
+        (bears_on (z ∷ []) by_last y) (bears_alone staying by_last y) (bears_men [] man to by_last y)
+
+    pub by_two : attacked_with_last moved last side x y ≡ attacked_by_two staying last side man to x y
+    by_two =
+        ap (λ (b : Bool). b || (same_side last.side side && bears_on moved by_last y))
+        (any_moved (λ m. same_side m.side side && bears_with moved y m x)
+        ∙ ap (λ (b : Bool). b || (same_side man.side side && bears_with moved y z x)) none_staying
+        ∙ by_itself)
+        ∙ ap (λ (b : Bool). ((same_side man.side side && bears_on staying z x) && not (is_slider man.kind && strictly_between to y x)) || b) last_after
+
+  -- ---- on the square of a king, that of the man or another
+
+  pub king_itself : (side : Side) (k : ℕ) → (k == man.at) ≡ true
+      → attacked_with_last staying last side to y ≡ attacked_with_last moved last side (gone_to man.at to k) y
+  king_itself side k e = sym (attacked_there side) ∙ ap (λ (x : ℕ). attacked_with_last moved last side x y) (sym (goes k e))
+    where
+      goes : (a : ℕ) → (a == man.at) ≡ true → gone_to man.at to a ≡ to
+      goes a t = rw t refl
+
+-- where a man stands after another one has gone
+pub still_at : (from to k : ℕ) → (k == from) ≡ false → gone_to from to k ≡ k
+still_at from to k e = rw e refl
+
+-- the side is in check where its only king, after the man has gone, is attacked
+module _ (others : List Man) (last : Man) (from to y : ℕ) (side : Side) where
+  one_king : (men : List Man) (t : Bool) (m : Man) → king_attacked_with men last side y (cond t (on_square m to) m)
+      ≡ (is_man side King m && attacked_with_last men last (other_side side) (cond t to m.at) y)
+  one_king men true m = refl
+  one_king men false m = refl
+
+  pub check_by_king : (k : ℕ) → IsOnlyKing others side k → same_kind last.kind King ≡ false
+      → attacked_with_last (map (from_to from to) others) last (other_side side) (gone_to from to k) y
+      ≡ in_check (map (from_to from to) others ++ on_square last y ∷ []) side
+  check_by_king k only none =
+      let men = map (from_to from to) others in
+      let f : ℕ → Bool = λ a. attacked_with_last men last (other_side side) (gone_to from to a) y in
+      sym (sym (row_check men last y side none)
+      ∙ any_map (king_attacked_with men last side y) (from_to from to) others
+      ∙ list_any_same (λ m. king_attacked_with men last side y (from_to from to m)) (λ m. is_man side King m && f m.at)
+      (λ m. one_king men (m.at == from) m) others
+      ∙ only f)
