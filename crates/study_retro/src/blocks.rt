@@ -7,9 +7,6 @@ use study_board::{Square, SquareSet};
 /// How many cells are looked at before what they tell is asked.
 const BLOCK: usize = 64;
 
-/// How many cells are looked at one by one before blocks of them are.
-const NEAR: usize = 8;
-
 /// How many cells of a row are compared at once.
 const PART: usize = 16;
 
@@ -41,65 +38,23 @@ fn has_above(cells: &[u8], byte: u8) -> bool
     found
 }
 
-/// A place from which no block of so many cells up to there has this byte.
-#[inline(always)]
-fn block_of(cells: &[u8], from: usize, byte: u8, width: usize) -> usize
-    requires from { from ≤ length cells.now }
-    requires small { length cells.now < 2 ^ 32 }
-    requires some { 0 < width }
-    requires few { width ≤ 64 }
-    ensures above { from ≤ result }
-    ensures within { result ≤ length cells.now }
-    ensures none { (i : ℕ) → from ≤ i → i < result → slice_index cells.now i ≢ byte }
-{
-    let mut at = from;
-    while at + width <= cells.len() {
-        if has_byte(&cells[at..at + width], byte) {
-            return at;
-        }
-        at += width;
-    }
-    at
-}
-
-/// The first place before `end`, from one on, of a cell that is this byte; or `end`, where none is.
-#[inline(always)]
-fn first_before(cells: &[u8], from: usize, end: usize, byte: u8) -> usize
-    requires from { from ≤ end }
-    requires end { end ≤ length cells.now }
-    ensures above { from ≤ result }
-    ensures within { result ≤ end }
-    ensures none { (i : ℕ) → from ≤ i → i < result → slice_index cells.now i ≢ byte }
-    ensures here { result < end → slice_index cells.now result ≡ byte }
-{
-    let mut at = from;
-    while at < end {
-        if cells[at] == byte {
-            return at;
-        }
-        at += 1;
-    }
-    at
-}
-
-/// The first place, from one on, of a cell that is this byte; or the number of cells, where none is. Where many are, one
-/// is near, so the next few cells are looked at first.
-pub fn next_of(cells: &[u8], from: u32, byte: u8) -> u32
+/// A place, from one on, up to which no cell is this byte: where the first block begins that has such a cell, or where no whole
+/// block is left.
+pub fn next_block(cells: &[u8], from: u32, byte: u8) -> u32
     requires from { from ≤ length cells.now }
     requires small { length cells.now < 2 ^ 32 }
     ensures above { from ≤ result }
     ensures within { result ≤ length cells.now }
     ensures none { (i : ℕ) → from ≤ i → i < result → slice_index cells.now i ≢ byte }
-    ensures here { result < length cells.now → slice_index cells.now result ≡ byte }
 {
-    let near = cells.len().min((from as usize).saturating_add(NEAR));
-    let first = first_before(cells, from as usize, near, byte);
-    if first < near {
-        return first as u32;
+    let mut at = from as usize;
+    while at + BLOCK <= cells.len() {
+        if has_byte(&cells[at..at + BLOCK], byte) {
+            return at as u32;
+        }
+        at += BLOCK;
     }
-    let block = block_of(cells, near, byte, BLOCK);
-    let part = block_of(cells, block, byte, NEAR);
-    first_before(cells, part, cells.len(), byte) as u32
+    at as u32
 }
 
 /// Whether some cell tells of a mate in `level` plies or more.

@@ -17,8 +17,7 @@ use crate::captures::move_to;
 use crate::class_game::ClassGame;
 use crate::consistency::label;
 use crate::earlier::may_leave_capture;
-use crate::propagate::is_won;
-use crate::value::value_at;
+use crate::propagate::{is_won, tells_win};
 use std::alloc::Allocator;
 use study_board::{Kind, Man, Side, Square, SquareSet};
 use study_index::{Departure, Setup, decode};
@@ -112,7 +111,7 @@ pub fn loses_to<A: Allocator>(
     if may_leave_capture(game.class, man.at, target, after) {
         return wins_after(game, cells, departure.number, man, target, level);
     }
-    is_won(value_at(cells[after as usize]), level)
+    tells_win(cells[after as usize], level)
 }
 
 /// What quiet moves come to: whether the other side does not win within so many plies after one, and if not, whether one is legal.

@@ -5,7 +5,7 @@ ghost use Rattle.study_retro.specs.Numbered.{CellsAreRight, CellsHavePositions, 
 ghost use Rattle.study_retro.specs.Numbered.{LossesAreKept, LossesAreTrue, LossesGoBack, RowLossesAreKept, RowLossesAreTrue};
 ghost use Rattle.study_retro.specs.Numbered.{OutsideIsRight, RaisesLevel, StepLeads, WhereWinsAreTold, WinsGoBack};
 
-use crate::blocks::{has_later, next_of, row_end, row_with};
+use crate::blocks::{has_later, next_block, row_end, row_with};
 use crate::consistency::first_inconsistent;
 use crate::initial::initialise;
 use crate::propagate::clear_in_row;
@@ -23,14 +23,14 @@ pub fn propagate_losses<G: SteppedGame>(game: &G, cells: &mut [u8], level: u8) -
 {
     let mut examined = 0u64;
     let size = game.cells();
-    let mut number = next_of(cells, 0, level + 1);
+    let mut number = next_block(cells, 0, level + 1);
     while number < size {
         let decided = row_with(cells, number / 64, level + 1);
         let more = game.lower_before(cells, number / 64, decided, level);
         examined = examined
             .saturating_add(more)
             .saturating_add(u64::from(decided.len()));
-        number = next_of(cells, row_end(number, size), level + 1);
+        number = next_block(cells, row_end(number, size), level + 1);
     }
     examined
 }
@@ -46,14 +46,14 @@ pub fn propagate_wins<G: SteppedGame>(game: &G, cells: &mut [u8], level: u8) -> 
 {
     let mut examined = 0u64;
     let size = game.cells();
-    let mut number = next_of(cells, 0, level + 1);
+    let mut number = next_block(cells, 0, level + 1);
     while number < size {
         let decided = row_with(cells, number / 64, level + 1);
         let more = game.mark_before(cells, number / 64, decided, level);
         examined = examined
             .saturating_add(more)
             .saturating_add(u64::from(decided.len()));
-        number = next_of(cells, row_end(number, size), level + 1);
+        number = next_block(cells, row_end(number, size), level + 1);
     }
     examined
 }
@@ -91,10 +91,10 @@ pub fn confirm_losses<G: SteppedGame>(game: &G, cells: &mut [u8], level: u8) -> 
 {
     let mut examined = 0u64;
     let size = game.cells();
-    let mut number = next_of(cells, 0, level + 2);
+    let mut number = next_block(cells, 0, level + 2);
     while number < size {
         examined = examined.saturating_add(confirm_row(game, cells, number / 64, level));
-        number = next_of(cells, row_end(number, size), level + 2);
+        number = next_block(cells, row_end(number, size), level + 2);
     }
     examined
 }

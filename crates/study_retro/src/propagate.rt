@@ -1,6 +1,7 @@
 //! Steps back from one decided position.
 ghost use Rattle.std.specs.Prelude.{◌≡◌, ◌≢◌, ◌↔◌, ◌+◌, ◌*◌, ◌^◌, ◌<◌, ◌≤◌, ◌⊎◌, ℕ, true, false, length, slice_index, Some, IsTrue};
 ghost use Rattle.study_board.specs.Sets.{has};
+ghost use Rattle.study_retro.specs.Cells.{value_of};
 ghost use Rattle.study_retro.specs.Propagation.{AreAdded, AreLowered, IsLowered, IsMarked, IsSetBy};
 ghost use Rattle.study_retro.specs.Numbered.{IsNumberedClass, LosesBy, NoLossBy, StepLeads};
 
@@ -125,6 +126,14 @@ pub fn is_won(value: Value, level: u8) -> bool
         Value::Win(n) => n <= level,
         _ => false,
     }
+}
+
+/// Whether a cell tells of a win within `level` plies: without a value made of it, so that many are looked at fast.
+#[inline]
+pub fn tells_win(cell: u8, level: u8) -> bool
+    ensures { IsTrue result ↔ ((m : ℕ) × (value_of cell ≡ Value.Win m) × (m ≤ level)) }
+{
+    cell != 0 && cell % 2 == 0 && cell - 1 <= level
 }
 
 /// Whether the position of a number has a move, and each leads to a win within `level` plies.

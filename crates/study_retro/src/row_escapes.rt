@@ -21,13 +21,12 @@ ghost use Rattle.study_retro.specs.declared.value.Value.TheVariants.{Win};
 use crate::class_game::ClassGame;
 use crate::earlier::{has_both_pawns, may_pass};
 use crate::escapes::{has_move, loses_to, quiet_moves_of, reaches_last_rank};
-use crate::propagate::{is_lost_by_moves, is_won};
+use crate::propagate::{is_lost_by_moves, tells_win};
 use crate::row::Row;
 use crate::row_checks::{Staying, squares_of_check};
 use crate::row_levels::lost_plainly_each;
 use crate::row_moves::{squares_going, targets_beside, targets_of_last};
 use crate::still::stays;
-use crate::value::value_at;
 use std::alloc::Allocator;
 use study_board::{Kind, Man, Side, Square, SquareSet, between};
 use study_index::{Departure, RowDeparture, row_of_last, told};
@@ -48,7 +47,7 @@ fn squares_won(cells: &[u8], row: u32, set: SquareSet, level: u8) -> SquareSet
         let square = rest.first();
         rest = rest.without(SquareSet::of(square));
         let number = 64 * row + u32::from(square.number());
-        if is_won(value_at(cells[number as usize]), level) {
+        if tells_win(cells[number as usize], level) {
             won = won.union(SquareSet::of(square));
         }
         next = square.number() + 1;
@@ -128,7 +127,7 @@ fn losing_each_moved<A: Allocator>(
         let square = rest.first();
         rest = rest.without(SquareSet::of(square));
         let after = departure.number_to(target, square);
-        if is_won(value_at(cells[after as usize]), level) {
+        if tells_win(cells[after as usize], level) {
             losing = losing.union(SquareSet::of(square));
         }
         next = square.number() + 1;

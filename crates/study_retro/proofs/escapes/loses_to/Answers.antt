@@ -35,11 +35,11 @@ returns-clause-yes g c = λ t plain p e.
     let fits =
     departed c.args.game.now.class c.args.departure.now.class c.args.departure.now.number c.args.departure.now.number c.args.man.now.at
     c.args.departure.now.from c.args.target c.number_to-after.result c.requires.class refl c.requires.from c.number_to-after.ensures in
-    let w = c.is_won.ensures.0 t in
+    let w = c.tells_win.ensures.0 t in
     safe_won c.args.game.now.class c.args.departure.now.number q.0 q.1 c.requires.plain c.args.setup.now.men.items c.args.setup.now.to_move
     c.requires.told c.args.man.now c.requires.man c.requires.side c.args.target c.requires.on c.requires.safe c.requires.free plain
     c.args.game.now.tables.now c.requires.laws c.args.cells.now c.number_to-after.result fits (c.may_leave_capture.ensures c.if-may_leave_capture.false) c.args.level
-    (w.0, sym c.value_at.ensures ∙ w.1, w.2) p e
+    w p e
 
 pub returns-clause-no : goal.returns-clause-no
 returns-clause-no g c = λ f.
@@ -52,4 +52,4 @@ returns-clause-no g c = λ f.
     c.requires.told c.args.man.now c.requires.man c.requires.side c.args.target c.requires.on c.requires.safe
     c.requires.free stays
     c.args.game.now.tables.now c.requires.laws c.args.cells.now c.number_to-after.result fits (c.may_leave_capture.ensures c.if-may_leave_capture.false) c.args.level
-    (λ w. false≢true (sym f ∙ c.is_won.ensures.1 (w.0, c.value_at.ensures ∙ w.1, w.2)))
+    (λ w. false≢true (sym f ∙ c.tells_win.ensures.1 w))

@@ -17,7 +17,7 @@ loop-number-preserved g c =
     let mid = c.loop-number.cells in
     let new = c.lower_before-more.new.cells in
     let row = c.loop-number.number / 64 in
-    let next = c.next_of-number-in-loop-number.ensures in
+    let next = c.next_block-number-in-loop-number.ensures in
     let end = c.row_end.ensures in
     let size : length new ≡ (g.G.Game.numbered c.args.game.now).size = c.lower_before-more.auto.cells ∙ inv.size in
     let Why : ℕ → Type 0 = λ i. (j : ℕ) × (slice_index old j ≡ k + 1) × StepLeads (g.G.Game.numbered c.args.game.now) i j in
@@ -33,7 +33,7 @@ loop-number-preserved g c =
       size = size;
       numbered = lowered-has k (HasPosition (g.G.Game.numbered c.args.game.now)) old new c.requires.numbered Why (λ i w. (w.2.0, w.2.2)) all;
       rise = all;
-      done = below_row _ c.loop-number.number c.row_end.result c.next_of-number-in-loop-number.result
+      done = below_row _ c.loop-number.number c.row_end.result c.next_block-number-in-loop-number.result
           (λ j b i s t. lowered-set k Why mid new more i (inv.done j (omega (arith, b)) i s t))
           (λ y on l i s t. c.lower_before-more.ensures.done i y on
           (c.row_with-decided.ensures.all y on (let w = end.within in let e = c.cells-size.ensures in let m = inv.size in omega (arith, l, w, e, m))

@@ -10,7 +10,7 @@ use Rattle.study_retro.proofs.RowEscapeLemmas.{AreKeptBelow, go_below, go_escape
 use Rattle.study_retro.proofs.RowSets.{IsFirst}
 use Rattle.study_retro.proofs.SquaresLeft.{AreLeft, first-in, left-all, left-more}
 use Rattle.study_retro.proofs.row_escapes.losing_each_moved.Goals as goal
-use Rattle.study_retro.proofs.row_escapes.losing_each_moved.Goals.{then-is_won, else-is_won}
+use Rattle.study_retro.proofs.row_escapes.losing_each_moved.Goals.{then-tells_win, else-tells_win}
 
 pub loop-next-init : goal.loop-next-init
 loop-next-init g c =
@@ -61,20 +61,20 @@ loop-next-preserved g c =
     record {
       left = subst (λ (n : ℕ). AreLeft set c.without-rest.result (n + 1)) (sym next)
           (left-more _ _ _ inv.left t h.inside h.there h.least c.of.result c.without-rest.result c.of.ensures c.without-rest.ensures);
-      kept = subst (λ (n : ℕ). AreKeptBelow set Yes Not (n + 1) c.if-is_won.losing) (sym next)
-          (elim c.if-is_won.branch [
-            | then-is_won w ↦
-                let won = c.is_won.ensures.0 w.if-is_won.true in
+      kept = subst (λ (n : ℕ). AreKeptBelow set Yes Not (n + 1) c.if-tells_win.losing) (sym next)
+          (elim c.if-tells_win.branch [
+            | then-tells_win w ↦
+                let won = c.tells_win.ensures.0 w.if-tells_win.true in
                 let here : Yes t = go_won class number q.0 q.1 low c.args.man.now c.args.target c.requires.on (c.requires.going t h.inside into) c.requires.passes
-                c.requires.stays c.args.game.now.tables.now c.requires.laws c.args.cells.now k fits c.args.level (won.0, sym c.value_at.ensures ∙ won.1, won.2) in
+                c.requires.stays c.args.game.now.tables.now c.requires.laws c.args.cells.now k fits c.args.level won in
                 subst (λ (s : ℕ). AreKeptBelow set Yes Not (t + 1) s) (sym w.losing-is)
                 (kept-with set Yes Not c.loop-next.rest c.loop-next.next inv.left
-                c.loop-next.losing inv.kept t f w.of-then-is_won.result w.union-losing.result
-                w.of-then-is_won.ensures w.union-losing.ensures here)
-            | else-is_won w ↦
+                c.loop-next.losing inv.kept t f w.of-then-tells_win.result w.union-losing.result
+                w.of-then-tells_win.ensures w.union-losing.ensures here)
+            | else-tells_win w ↦
                 let here : Not t = go_escape class number q.0 q.1 low c.args.man.now c.args.target c.requires.on (c.requires.going t h.inside into) c.requires.passes
                 c.requires.stays c.args.game.now.tables.now c.requires.laws c.args.cells.now k fits c.args.level
-                (λ m. false≢true (sym w.if-is_won.false ∙ c.is_won.ensures.1 (m.0, c.value_at.ensures ∙ m.1, m.2))) in
+                (λ m. false≢true (sym w.if-tells_win.false ∙ c.tells_win.ensures.1 m)) in
                 subst (λ (s : ℕ). AreKeptBelow set Yes Not (t + 1) s) (sym w.losing-is)
                 (kept-without set Yes Not c.loop-next.rest c.loop-next.next inv.left c.loop-next.losing inv.kept t f here)
           ]);

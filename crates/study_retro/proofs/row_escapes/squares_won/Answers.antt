@@ -6,7 +6,7 @@ use Rattle.study_retro.proofs.RowEscapeLemmas.{AreKeptBelow, kept-all, kept-none
 use Rattle.study_retro.proofs.RowSets.{IsFirst, first-as}
 use Rattle.study_retro.proofs.SquaresLeft.{AreLeft, left-all, left-more}
 use Rattle.study_retro.proofs.row_escapes.squares_won.Goals as goal
-use Rattle.study_retro.proofs.row_escapes.squares_won.Goals.{then-is_won, else-is_won}
+use Rattle.study_retro.proofs.row_escapes.squares_won.Goals.{then-tells_win, else-tells_win}
 
 pub loop-next-init : goal.loop-next-init
 loop-next-init c = record {
@@ -30,16 +30,16 @@ loop-next-preserved c =
     record {
       left = subst (λ (n : ℕ). AreLeft set c.without-rest.result (n + 1)) (sym next)
           (left-more _ _ _ inv.left t h.inside h.there h.least c.of.result c.without-rest.result c.of.ensures c.without-rest.ensures);
-      kept = subst (λ (n : ℕ). AreKeptBelow set Yes Not (n + 1) c.if-is_won.won) (sym next)
-          (elim c.if-is_won.branch [
-            | then-is_won w ↦
-                let won = c.is_won.ensures.0 w.if-is_won.true in
-                let here : Yes t = subst Yes same (won.0, sym c.value_at.ensures ∙ won.1, won.2) in
+      kept = subst (λ (n : ℕ). AreKeptBelow set Yes Not (n + 1) c.if-tells_win.won) (sym next)
+          (elim c.if-tells_win.branch [
+            | then-tells_win w ↦
+                let won = c.tells_win.ensures.0 w.if-tells_win.true in
+                let here : Yes t = subst Yes same won in
                 subst (λ (s : ℕ). AreKeptBelow set Yes Not (t + 1) s) (sym w.won-is)
-                (kept-with set Yes Not c.loop-next.rest c.loop-next.next inv.left c.loop-next.won inv.kept t f w.of-then-is_won.result w.union-won.result
-                w.of-then-is_won.ensures w.union-won.ensures here)
-            | else-is_won w ↦
-                let here : Not t = subst Not same (λ k. false≢true (sym w.if-is_won.false ∙ c.is_won.ensures.1 (k.0, c.value_at.ensures ∙ k.1, k.2))) in
+                (kept-with set Yes Not c.loop-next.rest c.loop-next.next inv.left c.loop-next.won inv.kept t f w.of-then-tells_win.result w.union-won.result
+                w.of-then-tells_win.ensures w.union-won.ensures here)
+            | else-tells_win w ↦
+                let here : Not t = subst Not same (λ k. false≢true (sym w.if-tells_win.false ∙ c.tells_win.ensures.1 k)) in
                 subst (λ (s : ℕ). AreKeptBelow set Yes Not (t + 1) s) (sym w.won-is)
                 (kept-without set Yes Not c.loop-next.rest c.loop-next.next inv.left c.loop-next.won inv.kept t f here)
           ]);

@@ -1,5 +1,5 @@
 use Rattle.std.proofs.Common.{◌≢◌, ℕ, ◌<◌, ◌≤◌, ◌-◌, length, slice_index}
-use Rattle.study_retro.proofs.blocks.block_of.Given as goal
+use Rattle.study_retro.proofs.blocks.next_block.Given as goal
 
 abbrev pub invariant-loop-at : goal.invariant-loop-at
 invariant-loop-at l = record {
