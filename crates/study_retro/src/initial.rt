@@ -106,16 +106,20 @@ fn clear_all(cells: &mut [u8])
     cells.fill(0);
 }
 
-/// Writes the cell that a number begins with, and tells whether it has a mate that no cell can tell.
+/// Writes the cell that a number begins with, where the class has that number, and tells whether it has a mate that no cell
+/// can tell.
 #[inline]
 fn write_first<G: SteppedGame>(game: &G, cells: &mut [u8], number: u32) -> bool
     requires laws { IsNumberedClass (G.numbered game.now) }
-    requires number { number < (G.numbered game.now).size }
     requires cells { length cells.old ≡ (G.numbered game.now).size }
     ensures other { (i : ℕ) → i ≢ number → slice_index cells.new i ≡ slice_index cells.old i }
-    ensures held { OutsideIsRight (G.numbered game.now) → CellIsHeld (G.numbered game.now) result 0 number (slice_index cells.new number) }
-    ensures numbered { slice_index cells.new number ≢ 0 → HasPosition (G.numbered game.now) number }
+    ensures held { number < (G.numbered game.now).size → OutsideIsRight (G.numbered game.now)
+        → CellIsHeld (G.numbered game.now) result 0 number (slice_index cells.new number) }
+    ensures numbered { number < (G.numbered game.now).size → slice_index cells.new number ≢ 0 → HasPosition (G.numbered game.now) number }
 {
+    if number >= game.cells() {
+        return false;
+    }
     let first = game.first(number);
     cells[number as usize] = first.cell;
     first.far
@@ -141,14 +145,14 @@ fn write_each_first<G: SteppedGame>(
         → slice_index cells.new (64 * row + y) ≢ 0 → HasPosition (G.numbered game.now) (64 * row + y) }
 {
     let mut far = false;
-    let size = game.cells();
+    let _size = game.cells();
     let mut rest = squares;
     let mut next = 0u8;
     while !rest.is_empty() {
         let square = rest.first();
         rest = rest.without(SquareSet::of(square));
         let number = 64 * row + u32::from(square.number());
-        if number < size && write_first(game, cells, number) {
+        if write_first(game, cells, number) {
             far = true;
         }
         next = square.number() + 1;
