@@ -1,14 +1,17 @@
 //! What a number is worth before the levels: the mates, and what the moves out of the class alone give.
-ghost use Rattle.std.specs.Prelude.{◌≡◌, ◌≢◌, ◌<◌, ◌/◌, ◌%◌, ℕ, true, false, length, None, Some};
+ghost use Rattle.std.specs.Prelude.{◌≡◌, ◌≢◌, ◌+◌, ◌*◌, ◌<◌, ◌≤◌, ◌⊎◌, ℕ, true, false, length, slice_index, None, Some};
+ghost use Rattle.study_board.specs.Sets.{has};
 ghost use Rattle.study_retro.specs.Propagation.{IsInitial};
-ghost use Rattle.study_retro.specs.Numbered.{CellIsHeld, CellsAreHeld, CellsHavePositions, IsNumberedClass, IsUnknownIn, OutsideGives, OutsideIsRight};
+ghost use Rattle.study_retro.specs.Numbered.{CellIsHeld, CellsAreHeld, CellsHavePositions, HasPosition, IsNumberedClass, OutsideGives};
+ghost use Rattle.study_retro.specs.Numbered.{OutsideIsRight};
 ghost use Rattle.study_retro.specs.BestReplies.{drawn_with, lost_with, won_with};
 
 use crate::best_replies::BestReplies;
+use crate::blocks::row_end;
 use crate::game::{Game, Location};
 use crate::stepped::SteppedGame;
 use crate::value::{MAX_DISTANCE, Value};
-use study_board::{Square, SquareSet};
+use study_board::SquareSet;
 
 /// Takes the value of a position out of the class into a replies.
 pub fn with_conversion<G: Game>(game: &G, replies: BestReplies, at: &G::Position) -> BestReplies
@@ -96,36 +99,82 @@ pub fn initial_by_moves<G: Game>(game: &G, number: u32) -> Initial
     initial_by_value(value_by_conversion(game, &at))
 }
 
-/// At which numbers of its row nothing is known, told anew where the row begins.
-#[inline]
-fn unknown_at<G: SteppedGame>(game: &G, number: u32, unknown: SquareSet) -> SquareSet
-    requires laws { IsNumberedClass (G.numbered game.now) }
-    requires before { number % 64 ≢ 0 → IsUnknownIn (G.numbered game.now) (number / 64) unknown }
-    ensures { IsUnknownIn (G.numbered game.now) (number / 64) result }
+/// Sets all cells to 0.
+fn clear_all(cells: &mut [u8])
+    ensures { (i : ℕ) → slice_index cells.new i ≡ 0 }
 {
-    if number % 64 == 0 {
-        game.unknown_in_row(number / 64)
-    } else {
-        unknown
-    }
+    cells.fill(0);
 }
 
-/// What a number begins with, by the numbers of its row at which nothing is known.
+/// Writes the cell that a number begins with, where the class has that number, and tells whether it has a mate that no cell
+/// can tell.
 #[inline]
-fn first_in_row<G: SteppedGame>(game: &G, number: u32, unknown: SquareSet) -> Initial
+fn write_first<G: SteppedGame>(game: &G, cells: &mut [u8], number: u32) -> bool
     requires laws { IsNumberedClass (G.numbered game.now) }
-    requires number { number < (G.numbered game.now).size }
-    requires unknown { IsUnknownIn (G.numbered game.now) (number / 64) unknown }
-    ensures held { OutsideIsRight (G.numbered game.now) → CellIsHeld (G.numbered game.now) result.far 0 number result.cell }
-    ensures none { (G.numbered game.now).position number ≡ None → result.cell ≡ 0 }
+    requires cells { length cells.old ≡ (G.numbered game.now).size }
+    ensures other { (i : ℕ) → i ≢ number → slice_index cells.new i ≡ slice_index cells.old i }
+    ensures held { number < (G.numbered game.now).size → OutsideIsRight (G.numbered game.now)
+        → CellIsHeld (G.numbered game.now) result 0 number (slice_index cells.new number) }
+    ensures numbered { number < (G.numbered game.now).size → slice_index cells.new number ≢ 0 → HasPosition (G.numbered game.now) number }
 {
-    if unknown.contains(Square::at((number % 64) as u8)) {
-        return Initial {
-            cell: 0,
-            far: false,
-        };
+    if number >= game.cells() {
+        return false;
     }
-    game.first(number)
+    let first = game.first(number);
+    cells[number as usize] = first.cell;
+    first.far
+}
+
+/// Writes the cells that the numbers of a row begin with whose squares are in the set, and tells whether some have a mate
+/// that no cell can tell.
+#[inline]
+fn write_each_first<G: SteppedGame>(
+    game: &G,
+    cells: &mut [u8],
+    row: u32,
+    squares: SquareSet,
+) -> bool
+    requires laws { IsNumberedClass (G.numbered game.now) }
+    requires row { 64 * row < (G.numbered game.now).size }
+    requires cells { length cells.old ≡ (G.numbered game.now).size }
+    ensures other { (i : ℕ) → (i < 64 * row) ⊎ (64 * row + 64 ≤ i) → slice_index cells.new i ≡ slice_index cells.old i }
+    ensures kept { (y : ℕ) → y < 64 → has squares y ≡ false → slice_index cells.new (64 * row + y) ≡ slice_index cells.old (64 * row + y) }
+    ensures held { OutsideIsRight (G.numbered game.now) → (y : ℕ) → y < 64 → has squares y ≡ true → 64 * row + y < (G.numbered game.now).size
+        → CellIsHeld (G.numbered game.now) result 0 (64 * row + y) (slice_index cells.new (64 * row + y)) }
+    ensures numbered { (y : ℕ) → y < 64 → has squares y ≡ true → 64 * row + y < (G.numbered game.now).size
+        → slice_index cells.new (64 * row + y) ≢ 0 → HasPosition (G.numbered game.now) (64 * row + y) }
+{
+    let mut far = false;
+    let _size = game.cells();
+    let mut rest = squares;
+    let mut next = 0u8;
+    while !rest.is_empty() {
+        let square = rest.first();
+        rest = rest.without(SquareSet::of(square));
+        let number = 64 * row + u32::from(square.number());
+        if write_first(game, cells, number) {
+            far = true;
+        }
+        next = square.number() + 1;
+    }
+    far
+}
+
+/// What the numbers of a row begin with whose cells are 0, and whether some mate cannot be told.
+#[inline]
+fn initialise_row<G: SteppedGame>(game: &G, cells: &mut [u8], row: u32) -> bool
+    requires laws { IsNumberedClass (G.numbered game.now) }
+    requires row { 64 * row < (G.numbered game.now).size }
+    requires cells { length cells.old ≡ (G.numbered game.now).size }
+    requires zero { (y : ℕ) → y < 64 → slice_index cells.old (64 * row + y) ≡ 0 }
+    ensures other { (i : ℕ) → (i < 64 * row) ⊎ (64 * row + 64 ≤ i) → slice_index cells.new i ≡ slice_index cells.old i }
+    ensures held { OutsideIsRight (G.numbered game.now) → (y : ℕ) → y < 64 → 64 * row + y < (G.numbered game.now).size
+        → CellIsHeld (G.numbered game.now) result 0 (64 * row + y) (slice_index cells.new (64 * row + y)) }
+    ensures numbered { (y : ℕ) → y < 64 → 64 * row + y < (G.numbered game.now).size
+        → slice_index cells.new (64 * row + y) ≢ 0 → HasPosition (G.numbered game.now) (64 * row + y) }
+{
+    let unknown = game.unknown_in_row(row);
+    write_each_first(game, cells, row, unknown.complement())
 }
 
 /// What all numbers begin with, and whether some mate cannot be told.
@@ -135,15 +184,15 @@ pub fn initialise<G: SteppedGame>(game: &G, cells: &mut [u8]) -> bool
     ensures held { OutsideIsRight (G.numbered game.now) → CellsAreHeld (G.numbered game.now) result 0 cells.new }
     ensures numbered { CellsHavePositions (G.numbered game.now) cells.new }
 {
+    clear_all(cells);
     let mut far = false;
-    let mut unknown = SquareSet::empty();
-    for number in 0..game.cells() {
-        unknown = unknown_at(game, number, unknown);
-        let first = first_in_row(game, number, unknown);
-        cells[number as usize] = first.cell;
-        if first.far {
+    let size = game.cells();
+    let mut number = 0;
+    while number < size {
+        if initialise_row(game, cells, number / 64) {
             far = true;
         }
+        number = row_end(number, size);
     }
     far
 }
