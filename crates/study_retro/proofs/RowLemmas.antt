@@ -3,7 +3,7 @@ use Rattle.std.proofs.Common.{◌≡◌, ℕ, ◌+◌, ◌*◌, ◌/◌, ◌%◌
 use Rattle.std.proofs.Common.{Some, refl, sym, ◌∙◌, ap, subst, arith}
 use Rattle.std.specs.List.{All, list_any}
 use Rattle.std.specs.List.Sorted.{IsPermutation}
-use Rattle.std.proofs.lemmas.Bool.{and_from, and_parts, cases_Bool, eqb-true, eq-eqb, false≢true, or_from, or_parts}
+use Rattle.std.proofs.lemmas.Bool.{and_parts, cases_Bool, eqb-true, eq-eqb, false≢true, or_from, or_parts}
 use Rattle.std.proofs.lemmas.List.Elements.{All-pop}
 use Rattle.std.proofs.lemmas.List.Folds.{list_any-append}
 use Rattle.std.proofs.lemmas.List.Sorted.{All-permutation, IsPermutation-sym}
@@ -18,7 +18,7 @@ use Rattle.study_board.specs.Position.{Position, in_check}
 use Rattle.study_board.specs.Sets.{has, is_slider, reaches_if}
 use Rattle.study_board.proofs.Faults.{in_check_same}
 use Rattle.study_moves.proofs.BearsBothWays.{reaches-both, same_test}
-use Rattle.study_moves.proofs.MenOfList.{All-among, IsAmong, list_any-from, list_any-none, none_among, some_among}
+use Rattle.study_moves.proofs.MenOfList.{All-among, IsAmong, list_any-none, none_among}
 use Rattle.study_material.specs.declared.class.Class.{Class}
 use Rattle.study_index.specs.declared.decoding.Slot.{Slot}
 use Rattle.study_index.specs.Computed.{position_numbered}
@@ -29,7 +29,7 @@ use Rattle.study_index.proofs.ComputedIndex.{told_decoded}
 use Rattle.study_index.proofs.DecodedNumbers.{told_of}
 use Rattle.study_index.proofs.Symmetries.{all_below, at_below}
 use Rattle.study_retro.specs.Predecessors.{AreTold}
-use Rattle.study_retro.specs.Still.{AreStill, AreStillOrNone, IsStill, facing, is_exposed, is_restless, keeps_check, matters, on_square, rank_before_last}
+use Rattle.study_retro.specs.Still.{AreStill, AreStillOrNone, IsStill, facing, is_exposed, is_restless, matters, on_square, rank_before_last}
 use Rattle.study_retro.proofs.BackLemmas.{side_is}
 use Rattle.study_retro.proofs.StillChess.{no_capture_of_king, stays_quiet}
 
@@ -130,25 +130,6 @@ same_twice White White = refl
 same_twice White Black = refl
 same_twice Black White = refl
 same_twice Black Black = refl
-
--- where the other king could be taken whatever the last man does it can be taken
-pub could_take : (others : List Man) (last : Man) (side : Side) (y : ℕ) → list_any (λ k. list_any (λ m. keeps_check others side y k m) others) others ≡ true
-    → in_check (others ++ on_square last y ∷ []) (other_side side) ≡ true
-unfolding in_check is_attacked
-could_take others last side y e =
-    let men = others ++ on_square last y ∷ [] in
-    let ks = some_among (λ k. list_any (λ m. keeps_check others side y k m) others) others e in
-    let k = ks.0 in
-    let ms = some_among (λ m. keeps_check others side y k m) others ks.2 in
-    let m = ms.0 in
-    let a = and_parts _ _ ms.2 in
-    let b = and_parts _ _ a.0 in
-    let c = and_parts _ _ b.0 in
-    let bears = bears_still others (on_square last y) m k.at (not_true _ a.1) b.1 in
-    let attacked = list_any-from (λ n. same_side n.side (other_side (other_side side)) && bears_on men n k.at) men m (IsAmong-more others (on_square last y) m ms.1)
-    (and_from _ _ (same_twice m.side side ∙ c.0) bears) in
-    list_any-from (λ n. is_man (other_side side) King n && is_attacked men (other_side (other_side side)) n.at) men k (IsAmong-more others (on_square last y) k ks.1)
-    (and_from _ _ c.1 attacked)
 
 -- ---- sides
 

@@ -5,8 +5,8 @@ use Rattle.study_board.specs.declared.men.Side.{Side}
 use Rattle.study_board.specs.declared.men.Side.TheVariants.{White, Black}
 use Rattle.study_board.specs.declared.men.Kind.TheVariants.{King, Pawn}
 use Rattle.study_board.specs.declared.men.Man.{Man}
-use Rattle.study_board.specs.Geometry.{rank_of, strictly_between}
-use Rattle.study_board.specs.Men.{bears_on, is_attacked, is_man, is_pawn, other_side, same_kind, same_side}
+use Rattle.study_board.specs.Geometry.{rank_of}
+use Rattle.study_board.specs.Men.{is_attacked, is_man, is_pawn, other_side, same_kind, same_side}
 use Rattle.study_board.specs.Position.{Position, in_check}
 use Rattle.study_board.specs.Sets.{has}
 use Rattle.study_moves.specs.declared.moves.Move.{Move}
@@ -77,13 +77,6 @@ is_restless others last side ours theirs = same_kind last.kind King
     || list_any (λ m. same_side m.side (other_side side) && has ours m.at) others
     || list_any (λ m. is_man side Pawn m && (rank_of m.at == rank_before_last side)) others
     || list_any (λ m. is_man side King m && has theirs m.at) others
-
--- the man, of the side, bears on the other king; and it does where a further man stands on x
-abbrev pub bears_on_king : List Man → Side → Man → Man → Bool
-bears_on_king men side k m = same_side m.side side && is_man (other_side side) King k && bears_on men m k.at
-
-abbrev pub keeps_check : List Man → Side → ℕ → Man → Man → Bool
-keeps_check men side x k m = bears_on_king men side k m && not (strictly_between m.at x k.at)
 
 -- the men are still, or the other king could be taken, so that they have no position
 abbrev pub AreStillOrNone : List Man → Side → Type 0

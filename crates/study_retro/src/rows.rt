@@ -3,14 +3,15 @@
 ghost use Rattle.std.specs.Prelude.{◌≡◌, ◌<◌, ◌+◌, ◌*◌, ◌&&◌, ◌⊎◌, ◌==◌, ℕ, true, [], ◌∷◌, ◌++◌, Some};
 ghost use Rattle.std.specs.List.{list_any, All};
 ghost use Rattle.study_board.specs.Geometry.{rank_of};
-ghost use Rattle.study_board.specs.Men.{bears_on};
-ghost use Rattle.study_board.specs.Position.{Position as Seen, is_occupied};
+ghost use Rattle.study_board.specs.Men.{bears_on, other_side};
+ghost use Rattle.study_board.specs.Position.{Position as Seen, in_check, is_occupied};
 ghost use Rattle.study_board.specs.Sets.{has};
 ghost use Rattle.study_index.specs.Computed.{position_numbered};
-ghost use Rattle.study_retro.specs.Still.{AreStill, AreStillOrNone, IsStill, bears_on_king, facing, is_exposed, is_restless};
-ghost use Rattle.study_retro.specs.Still.{keeps_check, matters, on_square, rank_before_last};
+ghost use Rattle.study_retro.specs.Still.{AreStill, AreStillOrNone, IsStill, facing, is_exposed, is_restless};
+ghost use Rattle.study_retro.specs.Still.{matters, on_square, rank_before_last};
 
 use crate::escapes::occupied;
+use crate::row_checks::squares_of_check;
 use crate::still::{attacked_squares, has_king_in, has_man_in, may_promote, rank_before_last};
 use study_board::{Kind, Man, Side, Square, SquareSet, attacks, between};
 use study_index::{Setup, told};
@@ -96,48 +97,16 @@ fn are_restless(
         || has_king_in(others, to_move, theirs)
 }
 
-/// Whether the man, of the side to move, bears on the other king.
+/// Squares of the man of the last slot with which the other king could be taken; none are told of a king.
 #[inline]
-fn bears_on_king(men: &[Man], to_move: Side, k: &Man, m: &Man) -> bool
-    ensures { result ≡ bears_on_king men.now to_move k.now m.now }
+fn squares_without_position(others: &[Man], last: &Man, to_move: Side) -> SquareSet
+    ensures { (y : ℕ) → y < 64 → has result y ≡ true → in_check (others.now ++ on_square last.now y ∷ []) (other_side to_move) ≡ true }
 {
-    let _square = k.at.number();
-    m.side == to_move && k.is(to_move.other(), Kind::King) && attacks(men, m).contains(k.at)
-}
-
-/// The squares of the man of the last slot from which it does not come between a man and the other king that it bears on.
-#[inline]
-fn squares_keeping_check(others: &[Man], to_move: Side, k: &Man, m: &Man) -> SquareSet
-    ensures { (y : ℕ) → y < 64 → has result y ≡ keeps_check others.now to_move y k.now m.now }
-{
-    if !bears_on_king(others, to_move, k, m) {
-        return SquareSet::empty();
+    if last.kind == Kind::King {
+        SquareSet::empty()
+    } else {
+        squares_of_check(others, last, to_move.other())
     }
-    between(m.at, k.at).complement()
-}
-
-/// The same of all men.
-#[inline]
-fn squares_keeping_checks(others: &[Man], to_move: Side, k: &Man) -> SquareSet
-    ensures { (y : ℕ) → y < 64 → has result y ≡ list_any (λ m. keeps_check others.now to_move y k.now m) others.now }
-{
-    let mut set = SquareSet::empty();
-    for m in others {
-        set = set.union(squares_keeping_check(others, to_move, k, m));
-    }
-    set
-}
-
-/// The squares of the man of the last slot with which the other king could be taken.
-#[inline]
-fn squares_without_position(others: &[Man], to_move: Side) -> SquareSet
-    ensures { (y : ℕ) → y < 64 → has result y ≡ list_any (λ k. list_any (λ m. keeps_check others.now to_move y k m) others.now) others.now }
-{
-    let mut set = SquareSet::empty();
-    for k in others {
-        set = set.union(squares_keeping_checks(others, to_move, k));
-    }
-    set
 }
 
 /// Squares of the man of the last slot with which the men are still, by the squares on which each side bears without it.
@@ -163,7 +132,7 @@ fn unknown_squares(others: &[Man], last: &Man, to_move: Side) -> SquareSet
         → AreStillOrNone (others.now ++ on_square last.now y ∷ []) to_move ⊎ (is_occupied others.now y ≡ true) }
 {
     still_squares(others, last, to_move)
-        .union(squares_without_position(others, to_move))
+        .union(squares_without_position(others, last, to_move))
         .union(occupied(others))
 }
 
