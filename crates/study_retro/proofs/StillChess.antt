@@ -241,7 +241,7 @@ in-of [] m i = absurd i
 in-of (x ∷ xs) m (inl e) = (zero, omega arith, e)
 in-of (x ∷ xs) m (inr i) = let r = in-of xs m i in let l = r.1 in (suc r.0, omega (arith, l), r.2)
 
-standing : (men : List Man) (x : ℕ) → is_occupied men x ≡ true → (o : Man) × Contains men o × (o.at ≡ x)
+pub standing : (men : List Man) (x : ℕ) → is_occupied men x ≡ true → (o : Man) × Contains men o × (o.at ≡ x)
 unfolding is_occupied
 standing men x e = let s = some_among (λ m. m.at == x) men e in (s.0, in-of men s.0 s.1, eqb-true s.0.at x s.2)
 
@@ -249,7 +249,7 @@ going : (men : List Man) (side : Side) (man : Man) (x : ℕ) → is_safe_target 
 unfolding is_safe_target
 going men side man x e = (and_parts _ _ (and_parts _ _ e).0).0
 
-move_parts : (m : Move) (man : Man) (x : ℕ) → m.origin ≡ man.at → m.target ≡ x → m.promoted ≡ None → move_to man x ≡ m
+pub move_parts : (m : Move) (man : Man) (x : ℕ) → m.origin ≡ man.at → m.target ≡ x → m.promoted ≡ None → move_to man x ≡ m
 move_parts m man x o t p =
     sym
     (ap (λ (a : ℕ). let r : Move = record { origin = a; target = m.target; promoted = m.promoted } in r) o

@@ -1,5 +1,5 @@
 //! The captures and promotions of a position in which no capture in passing is legal.
-ghost use Rattle.std.specs.Prelude.{◌≡◌, ◌≤◌, ◌<◌, ◌+◌, ◌&&◌, ℕ, List, None, not, true, Contains};
+ghost use Rattle.std.specs.Prelude.{◌≡◌, ◌≤◌, ◌<◌, ◌+◌, ◌++◌, ◌&&◌, ℕ, List, None, not, true, Contains};
 ghost use Rattle.arrayvec.specs.ArrayVec.{array_vec_len};
 ghost use Rattle.study_board.specs.declared.men.Man.{Man as AMan};
 ghost use Rattle.study_board.specs.Men.{same_side};
@@ -8,7 +8,7 @@ ghost use Rattle.study_moves.specs.declared.moves.Move.{Move as AMove};
 ghost use Rattle.study_moves.specs.Rules.{is_legal, reaches_last_rank, reaches_target};
 ghost use Rattle.study_moves.specs.AnyOrder.{HasSafeTargets};
 ghost use Rattle.study_moves.specs.Unmoves.{IsQuiet};
-ghost use Rattle.study_retro.specs.Still.{GoesPlainly, is_about_to_promote, move_to, promotion_to};
+ghost use Rattle.study_retro.specs.Still.{GoesPlainly, is_about_to_promote, move_to, promotion_to, promotions_to};
 
 use crate::escapes::reaches_last_rank;
 use crate::still::rank_before_last;
@@ -66,7 +66,7 @@ fn add_captures_of(at: &Position, man: &Man, list: &mut MoveList)
     }
 }
 
-/// The first and the last but one more of the numbers of the squares to which a pawn goes that is one step from its last rank.
+/// A range of squares that has each one to which a pawn goes that is one step from its last rank.
 #[inline]
 fn promotion_range(pawn: &Man) -> (u8, u8)
     requires { is_about_to_promote pawn.now ≡ true }
@@ -93,6 +93,18 @@ fn promotion_to(man: &Man, target: Square, kind: Kind) -> Move
     }
 }
 
+/// Adds the four promotions of a pawn on a square.
+#[inline]
+fn add_promotions_to(pawn: &Man, target: Square, list: &mut MoveList)
+    requires { array_vec_len list.old + 4 ≤ MAX_MOVES }
+    ensures { list.new.items ≡ list.old.items ++ promotions_to pawn.now target }
+{
+    list.push(promotion_to(pawn, target, Kind::Queen));
+    list.push(promotion_to(pawn, target, Kind::Rook));
+    list.push(promotion_to(pawn, target, Kind::Bishop));
+    list.push(promotion_to(pawn, target, Kind::Knight));
+}
+
 /// Adds the promotions of a pawn of the side to move that is one step from its last rank.
 fn add_promotions_of(at: &Position, pawn: &Man, list: &mut MoveList)
     requires room { array_vec_len list.old + 12 ≤ MAX_MOVES }
@@ -111,10 +123,7 @@ fn add_promotions_of(at: &Position, pawn: &Man, list: &mut MoveList)
     for number in start..end {
         let target = Square::at(number);
         if safe.contains(target) {
-            list.push(promotion_to(pawn, target, Kind::Queen));
-            list.push(promotion_to(pawn, target, Kind::Rook));
-            list.push(promotion_to(pawn, target, Kind::Bishop));
-            list.push(promotion_to(pawn, target, Kind::Knight));
+            add_promotions_to(pawn, target, list);
         }
     }
 }
