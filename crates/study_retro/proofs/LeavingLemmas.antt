@@ -1,4 +1,5 @@
--- A pawn one step from its last rank goes to three squares at most, where it promotes; no other man promotes.
+-- Captures and promotions: a pawn one step from its last rank goes to three squares at most, and promotes there; no other man
+-- promotes.
 use Rattle.std.proofs.Common.{◌≡◌, ℕ, zero, suc, ◌+◌, ◌<◌, ◌≤◌, ◌==◌, ◌&&◌, ◌⊎◌, inl, inr, arith, not, Bool, true, false}
 use Rattle.std.proofs.Common.{List, [], ◌∷◌, ◌++◌, length, get_or, Contains, Option, None, Some, refl, sym, ◌∙◌, ap, subst}
 use Rattle.std.proofs.lemmas.List.{length-append}
@@ -15,9 +16,9 @@ use Rattle.study_board.specs.declared.men.Kind.TheVariants.{King, Queen, Rook, B
 use Rattle.study_moves.specs.declared.moves.Move.{Move}
 use Rattle.study_moves.specs.AnyOrder.{HasSafeTargets, is_safe_target}
 use Rattle.study_moves.specs.Rules.{is_legal, is_promotion_choice, is_promotion_piece, last_rank, reaches_last_rank, reaches_target, starting_rank}
+use Rattle.study_moves.proofs.MenOfList.{IsAmong, some_among}
 use Rattle.study_moves.proofs.HowMenGo.{IsAheadBy, IsStep, IsDoubleStep, IsCapture, pawn_ways}
 use Rattle.study_moves.specs.Unmoves.{IsQuiet}
-use Rattle.study_retro.proofs.StillChess.{move_parts, standing}
 use Rattle.study_retro.specs.Still.{GoesPlainly, move_to, is_about_to_promote, promotion_to, promotions_to, rank_before_last}
 
 pub last_or_before : (x n : ℕ) → x < n + 1 → (x < n) ⊎ (x ≡ n)
@@ -154,8 +155,8 @@ promoted_parts m man k o p =
     (ap (λ (a : ℕ). let r : Move = record { origin = a; target = m.target; promoted = m.promoted } in r) o
     ∙ ap (λ (c : Option Kind). let r : Move = record { origin = man.at; target = m.target; promoted = c } in r) p)
 
--- none where none is to promote
-unpromoted : (b : Bool) (o : Option Kind) → b ≡ false → is_promotion_choice b o ≡ true → o ≡ None
+-- none is chosen where none promotes
+pub unpromoted : (b : Bool) (o : Option Kind) → b ≡ false → is_promotion_choice b o ≡ true → o ≡ None
 unpromoted false None e c = refl
 unpromoted false (Some k) e c = absurd (false≢true c)
 unpromoted true o e c = absurd (false≢true (sym e))
@@ -163,6 +164,23 @@ unpromoted true o e c = absurd (false≢true (sym e))
 goes_there : (q : Position) (man : Man) (x : ℕ) → is_safe_target q.men q.to_move man x ≡ true → reaches_target q.men None man x ≡ true
 unfolding is_safe_target
 goes_there q man x e = (and_parts _ _ (and_parts _ _ e).0).0
+
+-- the man on an occupied square
+in-of : (xs : List Man) (m : Man) → IsAmong m xs → Contains xs m
+in-of [] m i = absurd i
+in-of (x ∷ xs) m (inl e) = (zero, omega arith, e)
+in-of (x ∷ xs) m (inr i) = let r = in-of xs m i in let l = r.1 in (suc r.0, omega (arith, l), r.2)
+
+standing : (men : List Man) (x : ℕ) → is_occupied men x ≡ true → (o : Man) × Contains men o × (o.at ≡ x)
+unfolding is_occupied
+standing men x e = let s = some_among (λ m. m.at == x) men e in (s.0, in-of men s.0 s.1, eqb-true s.0.at x s.2)
+
+move_parts : (m : Move) (man : Man) (x : ℕ) → m.origin ≡ man.at → m.target ≡ x → m.promoted ≡ None → move_to man x ≡ m
+move_parts m man x o t p =
+    sym
+    (ap (λ (a : ℕ). let r : Move = record { origin = a; target = m.target; promoted = m.promoted } in r) o
+    ∙ ap (λ (y : ℕ). let r : Move = record { origin = man.at; target = y; promoted = m.promoted } in r) t
+    ∙ ap (λ (k : Option Kind). let r : Move = record { origin = man.at; target = x; promoted = k } in r) p)
 
 -- the man that a legal move moves
 pub mover_is : (q : Position) → HasSafeTargets q q.men → (m : Move) → is_legal q m ≡ true
@@ -198,7 +216,7 @@ module _ (q : Position) (tells : HasSafeTargets q q.men) (man : Man) (among : Co
       tells.legal man (promotion_to man x k) among refl on
       ∙ rw (his, safe, near_promotes q.men man x (goes_there q man x safe) near, piece) refl
 
-  -- it takes a man or promotes, so that one that promotes none takes a man
+  -- a move of another man that is not quiet takes a man
   module _ (m : Move) (origin : m.origin ≡ man.at) (legal : is_legal q m ≡ true) (leaves : IsQuiet q m → ⊥) (far : is_about_to_promote man ≡ false) where
     plain : reaches_last_rank man m.target ≡ false
     plain = far_plain q.men man m.target (reached m origin legal) far
