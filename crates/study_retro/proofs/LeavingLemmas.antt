@@ -232,6 +232,9 @@ module _ (q : Position) (tells : HasSafeTargets q q.men) (man : Man) (among : Co
 
     pub capture_is : (o : Man) × Contains q.men o × GoesPlainly q man o.at × (move_to man o.at ≡ m)
     capture_is =
-        let o = taken in
-        (o.0, o.1, (ap (λ (y : ℕ). is_safe_target q.men q.to_move man y) o.2 ∙ (parts m origin legal).0, ap (λ (y : ℕ). reaches_last_rank man y) o.2 ∙ plain),
-        move_parts m man o.0.at origin (sym o.2) none)
+        let o = taken in (
+          o.0,
+          o.1,
+          (ap (λ (y : ℕ). is_safe_target q.men q.to_move man y) o.2 ∙ (parts m origin legal).0, ap (λ (y : ℕ). reaches_last_rank man y) o.2 ∙ plain),
+          move_parts m man o.0.at origin (sym o.2) none,
+        )

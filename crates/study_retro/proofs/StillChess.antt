@@ -97,11 +97,11 @@ module _ (men : List Man) (side : Side) where
     target_plain goes = elim (cases_Bool (is_about_to_promote man)) [
       | inr far ↦ far_plain men man x goes far
       | inl near ↦ (
-        let h = and_parts (is_pawn man) (rank_of man.at == rank_before_last man.side) near in
-        let pawn : is_pawn man ≡ true = h.0 in
-        let rank : rank_of man.at ≡ rank_before_last side = eqb-true _ _ h.1 ∙ ap (λ (s : Side). rank_before_last s) (sides_equal man.side side his) in
-        absurd (false≢true (sym (none_among (λ m. is_man side Pawn m && (rank_of m.at == rank_before_last side)) men man promotes among)
-        ∙ rw (his, pawn, eq-eqb _ _ rank) refl)))
+          let h = and_parts (is_pawn man) (rank_of man.at == rank_before_last man.side) near in
+          let pawn : is_pawn man ≡ true = h.0 in
+          let rank : rank_of man.at ≡ rank_before_last side = eqb-true _ _ h.1 ∙ ap (λ (s : Side). rank_before_last s) (sides_equal man.side side his) in
+          absurd (false≢true (sym (none_among (λ m. is_man side Pawn m && (rank_of m.at == rank_before_last side)) men man promotes among)
+          ∙ rw (his, pawn, eq-eqb _ _ rank) refl)))
     ]
 
 pub not_true : (b : Bool) → not b ≡ true → b ≡ false

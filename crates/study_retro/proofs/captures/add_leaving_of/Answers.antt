@@ -1,4 +1,4 @@
-use Rattle.std.proofs.Common.{◌≡◌, ◌∙◌, sym, subst, Contains}
+use Rattle.std.proofs.Common.{◌∙◌, sym, subst, Contains}
 use Rattle.study_moves.specs.declared.moves.Move.{Move}
 use Rattle.study_retro.proofs.LeavingLemmas.{capture_is}
 use Rattle.study_retro.proofs.captures.add_leaving_of.Goals as goal

@@ -1,14 +1,14 @@
-use Rattle.std.proofs.Common.{◌≡◌, ◌<◌, ◌≤◌, ℕ, ◌∙◌, ◌⊎◌, inl, inr, sym, ap, subst, arith, true, length, List, ◌++◌, Contains}
+use Rattle.std.proofs.Common.{◌≡◌, ◌<◌, ℕ, ◌∙◌, inl, inr, sym, ap, subst, arith, true, List, ◌++◌, Contains}
 use Rattle.std.proofs.lemmas.Bool.{false≢true}
-use Rattle.study_board.specs.declared.men.Kind.{Kind}
 use Rattle.study_board.specs.declared.men.Man.{Man}
 use Rattle.study_board.specs.declared.men.Side.{Side}
 use Rattle.study_board.specs.Sets.{has}
 use Rattle.study_moves.specs.declared.moves.Move.{Move}
-use Rattle.study_moves.specs.Rules.{is_legal, is_promotion_piece}
+use Rattle.study_moves.specs.Rules.{is_legal}
 use Rattle.study_moves.specs.AnyOrder.{is_safe_target}
 use Rattle.study_retro.specs.Still.{promotion_to, promotions_to}
-use Rattle.study_retro.proofs.LeavingLemmas.{four_kept, four_more, four_only, four_there, parts, promotion_is, promotion_legal, reached, target_on, last_or_before}
+use Rattle.study_retro.proofs.LeavingLemmas.{four_kept, four_more, four_only, four_there, last_or_before}
+use Rattle.study_retro.proofs.LeavingLemmas.{parts, promotion_is, promotion_legal, reached, target_on}
 use Rattle.study_retro.proofs.captures.add_promotions_of.Goals as goal
 use Rattle.study_retro.proofs.captures.add_promotions_of.Goals.{then-contains, else-contains}
 

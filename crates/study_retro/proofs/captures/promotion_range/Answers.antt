@@ -1,4 +1,4 @@
-use Rattle.std.proofs.Common.{◌≡◌, ap, arith, subst}
+use Rattle.std.proofs.Common.{arith, subst}
 use Rattle.study_board.specs.declared.men.Side.{Side}
 use Rattle.study_retro.proofs.LeavingLemmas.{IsNext, near_next}
 use Rattle.study_retro.proofs.captures.promotion_range.Goals as goal
