@@ -15,6 +15,7 @@ pub mod NextLemmas
 pub mod StillLemmas
 pub mod FirstLemmas
 pub mod CaptureLemmas
+pub mod LeavingLemmas
 pub mod CellsLemmas
 pub mod BackLemmas
 pub mod StillChess

@@ -37,7 +37,8 @@ use Rattle.study_retro.specs.Numbered.{CellIsHeld, IsNumberedClass, OutsideIsRig
 use Rattle.study_retro.specs.Propagation.{IsHeldCell}
 use Rattle.study_retro.specs.Predecessors.{AreTold}
 use Rattle.study_retro.proofs.FirstLemmas.{held-draw}
-use Rattle.study_retro.specs.Still.{GoesPlainly, HasOnlyQuiet, IsStill, move_to, rank_before_last}
+use Rattle.study_retro.specs.Still.{is_about_to_promote, GoesPlainly, HasOnlyQuiet, IsStill, move_to, rank_before_last}
+use Rattle.study_retro.proofs.LeavingLemmas.{far_plain, unpromoted}
 use Rattle.study_retro.proofs.BackLemmas.{occupied_same, side_is, told_targets}
 use Rattle.study_retro.proofs.MovedSteps.{quiet_stays}
 use Rattle.study_retro.proofs.QuietSteps.{dead_plain}
@@ -64,14 +65,6 @@ first_false true b e f = absurd (false≢true (sym e ∙ f))
 last_false : (a b : Bool) → (a && b) ≡ false → a ≡ true → b ≡ false
 last_false true b e f = e
 last_false false b e f = absurd (false≢true f)
-
-before : (s : Side) (a x : ℕ) → rank_of x ≡ last_rank s → IsAheadBy s 1 a x → rank_of a ≡ rank_before_last s
-before White a x e h = omega (arith, e, h)
-before Black a x e h = omega (arith, e, h)
-
-not_double : (s : Side) (a x : ℕ) → rank_of x ≡ last_rank s → rank_of a ≡ starting_rank s → IsAheadBy s 2 a x → ⊥
-not_double White a x e f h = omega (arith, e, f, h)
-not_double Black a x e f h = omega (arith, e, f, h)
 
 -- the men of the side to move, none of which attacks another, go to empty squares
 module _ (men : List Man) (side : Side) where
@@ -101,31 +94,15 @@ module _ (men : List Man) (side : Side) where
   module _ (promotes : list_any (λ m. is_man side Pawn m && (rank_of m.at == rank_before_last side)) men ≡ false) (man : Man) (among : IsAmong
       man men) (his : same_side man.side side ≡ true) (x : ℕ) where
     target_plain : reaches_target men None man x ≡ true → reaches_last_rank man x ≡ false
-    target_plain goes = elim (cases_Bool (is_pawn man)) [
-      | inr e ↦ rw e refl
-      | inl pawn ↦ elim (cases_Bool (rank_of x == last_rank man.side)) [
-        | inr e ↦ rw (pawn, e) refl
-        | inl last ↦ absurd (stands pawn (from_last man.at x (eqb-true _ _ last) (pawn_ways men None man x pawn goes)))
-      ]
+    target_plain goes = elim (cases_Bool (is_about_to_promote man)) [
+      | inr far ↦ far_plain men man x goes far
+      | inl near ↦ (
+          let h = and_parts (is_pawn man) (rank_of man.at == rank_before_last man.side) near in
+          let pawn : is_pawn man ≡ true = h.0 in
+          let rank : rank_of man.at ≡ rank_before_last side = eqb-true _ _ h.1 ∙ ap (λ (s : Side). rank_before_last s) (sides_equal man.side side his) in
+          absurd (false≢true (sym (none_among (λ m. is_man side Pawn m && (rank_of m.at == rank_before_last side)) men man promotes among)
+          ∙ rw (his, pawn, eq-eqb _ _ rank) refl)))
     ]
-      where
-        same : man.side ≡ side
-        same = sides_equal man.side side his
-
-        from_last : (a y : ℕ) → rank_of y ≡ last_rank man.side
-            → IsStep men man.side a y ⊎ (IsDoubleStep men man.side a y ⊎ IsCapture man.side a y) → (rank_of a ≡ rank_before_last man.side)
-        from_last a y e (inl h) = before man.side a y e h.ahead
-        from_last a y e (inr (inl h)) = absurd (not_double man.side a y e h.start h.ahead)
-        from_last a y e (inr (inr h)) = before man.side a y e h.ahead
-
-        stands : is_pawn man ≡ true → rank_of man.at ≡ rank_before_last man.side → ⊥
-        stands pawn r = false≢true (sym (none_among (λ m. is_man side Pawn m && (rank_of m.at == rank_before_last side)) men man promotes among)
-            ∙ rw (his, pawn, eq-eqb _ _ (r ∙ ap (λ (s : Side). rank_before_last s) same)) refl)
-
-none_to_promote : (b : Bool) (o : Option Kind) → b ≡ false → is_promotion_choice b o ≡ true → o ≡ None
-none_to_promote false None e f = refl
-none_to_promote false (Some k) e f = absurd (false≢true f)
-none_to_promote true o e f = absurd (false≢true (sym e))
 
 pub not_true : (b : Bool) → not b ≡ true → b ≡ false
 not_true false e = refl
@@ -159,7 +136,7 @@ stays_quiet c number q at low men side told takes promotes = quiet
             let free = target_empty men side takes man (among-of men man among) his m.target goes.0
             (ap (λ (t : Side). has_side men t m.target) turn ∙ not_true (has_side men q.to_move m.target) goes.1) in
             let plain = target_plain men side promotes man (among-of men man among) his m.target goes.0 in
-            (sym (occupied_same c number q at low men side told m.target) ∙ free, none_to_promote (reaches_last_rank man m.target) m.promoted plain choice)
+            (sym (occupied_same c number q at low men side told m.target) ∙ free, unpromoted (reaches_last_rank man m.target) m.promoted plain choice)
 
 -- ---- words of squares
 
@@ -234,27 +211,7 @@ still_held c held number laws outer still = by_position (position_numbered c num
             let home = is_of-IsOf c (after q l.0.0) (quiet_stays c number q e (dead_plain c number q e low) l.0.0 l.0.1 (s.1 l.0.0 l.0.1)) in
             false≢true (sym l.1 ∙ ap (λ (p : Position). is_of c p) (sym l.0.2) ∙ home)
 
--- ---- moves out of the class
-
-in-of : (xs : List Man) (m : Man) → IsAmong m xs → Contains xs m
-in-of [] m i = absurd i
-in-of (x ∷ xs) m (inl e) = (zero, omega arith, e)
-in-of (x ∷ xs) m (inr i) = let r = in-of xs m i in let l = r.1 in (suc r.0, omega (arith, l), r.2)
-
-standing : (men : List Man) (x : ℕ) → is_occupied men x ≡ true → (o : Man) × Contains men o × (o.at ≡ x)
-unfolding is_occupied
-standing men x e = let s = some_among (λ m. m.at == x) men e in (s.0, in-of men s.0 s.1, eqb-true s.0.at x s.2)
-
-going : (men : List Man) (side : Side) (man : Man) (x : ℕ) → is_safe_target men side man x ≡ true → reaches_target men None man x ≡ true
-unfolding is_safe_target
-going men side man x e = (and_parts _ _ (and_parts _ _ e).0).0
-
-move_parts : (m : Move) (man : Man) (x : ℕ) → m.origin ≡ man.at → m.target ≡ x → m.promoted ≡ None → move_to man x ≡ m
-move_parts m man x o t p =
-    sym
-    (ap (λ (a : ℕ). let r : Move = record { origin = a; target = m.target; promoted = m.promoted } in r) o
-    ∙ ap (λ (y : ℕ). let r : Move = record { origin = man.at; target = y; promoted = m.promoted } in r) t
-    ∙ ap (λ (k : Option Kind). let r : Move = record { origin = man.at; target = x; promoted = k } in r) p)
+-- ---- the legal moves by the men of the position
 
 module _ (c : Class) (number : ℕ) (q : Position) (at : position_numbered c number ≡ Some q) (dead : has_legal_en_passant q ≡ false) where
   -- the men of the position tell its legal moves
@@ -262,30 +219,3 @@ module _ (c : Class) (number : ℕ) (q : Position) (at : position_numbered c num
   own_targets =
       let d = told_decoded c number q at in
       (men-tell-moves q q.men d.valid (IsPermutation-refl q.men)).0 dead
-
-  -- where none promotes a move out of the class takes a man
-  module _ (promotes : list_any (λ m. is_man q.to_move Pawn m && (rank_of m.at == rank_before_last q.to_move)) q.men ≡ false) (items : List Move) (all : (man : Man)
-      → Contains q.men man → same_side man.side q.to_move ≡ true → (o : Man) → Contains q.men o → GoesPlainly q man o.at → Contains items (move_to man o.at)) where
-    pub leaving_listed : (m : Move) → is_legal q m ≡ true → is_of c (after q m) ≡ false → Contains items m
-    leaving_listed m legal out =
-        let t = own_targets.mover m legal in
-        let is = and_parts _ _ (sym (own_targets.legal t.0 m t.1 t.2 t.3) ∙ legal) in
-        let own = and_parts _ _ is.0 in
-        by_man t.0 t.1 t.2 own.0 own.1 is.1 (is_occupied q.men m.target) refl
-      where
-        by_man : (man : Man) → Contains q.men man → m.origin ≡ man.at → same_side man.side q.to_move ≡ true → is_safe_target q.men q.to_move man m.target ≡ true
-            → is_promotion_choice (reaches_last_rank man m.target) m.promoted ≡ true → (b : Bool) → is_occupied q.men m.target ≡ b → Contains items m
-        by_man man among origin his safe choice b e =
-            let plain = target_plain q.men q.to_move promotes man (among-of q.men man among) his m.target (going q.men q.to_move man m.target safe) in
-            let none = none_to_promote (reaches_last_rank man m.target) m.promoted plain choice in
-            by_square man among origin his safe plain none b e
-          where
-            by_square : (man : Man) → Contains q.men man → m.origin ≡ man.at → same_side man.side q.to_move ≡ true
-                → is_safe_target q.men q.to_move man m.target ≡ true → reaches_last_rank man m.target ≡ false → m.promoted ≡ None
-                → (b : Bool) → is_occupied q.men m.target ≡ b → Contains items m
-            by_square man among origin his safe plain none false e =
-                absurd (false≢true (sym out ∙ is_of-IsOf c (after q m) (quiet_stays c number q at dead m legal (e, none))))
-            by_square man among origin his safe plain none true e =
-                let o = standing q.men m.target e in
-                subst (λ (x : Move). Contains items x) (move_parts m man o.0.at origin (sym o.2) none)
-                (all man among his o.0 o.1 (ap (λ (x : ℕ). is_safe_target q.men q.to_move man x) o.2 ∙ safe, ap (λ (x : ℕ). reaches_last_rank man x) o.2 ∙ plain))

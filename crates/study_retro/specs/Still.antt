@@ -1,9 +1,10 @@
 -- Not part of any public contract: the quiet moves of a position, and what they lead to.
-use Rattle.std.specs.Prelude.{◌≡◌, ℕ, ◌≤◌, Bool, true, false, not, ◌&&◌, ◌||◌, ◌==◌, ◌⊎◌, if◌then◌else◌, List, None}
+use Rattle.std.specs.Prelude.{◌≡◌, ℕ, ◌≤◌, Bool, true, false, not, ◌&&◌, ◌||◌, ◌==◌, ◌⊎◌, if◌then◌else◌, List, [], ◌∷◌, None, Some}
 use Rattle.std.specs.List.{list_any}
 use Rattle.study_board.specs.declared.men.Side.{Side}
 use Rattle.study_board.specs.declared.men.Side.TheVariants.{White, Black}
-use Rattle.study_board.specs.declared.men.Kind.TheVariants.{King, Pawn}
+use Rattle.study_board.specs.declared.men.Kind.{Kind}
+use Rattle.study_board.specs.declared.men.Kind.TheVariants.{King, Queen, Rook, Bishop, Knight, Pawn}
 use Rattle.study_board.specs.declared.men.Man.{Man}
 use Rattle.study_board.specs.Geometry.{rank_of}
 use Rattle.study_board.specs.Men.{is_attacked, is_man, is_pawn, other_side, same_kind, same_side}
@@ -33,6 +34,18 @@ IsStill q = (IsMate q → ⊥) × HasOnlyQuiet q
 -- the move of the man to x, without a promotion
 abbrev pub move_to : Man → ℕ → Move
 move_to man x = record { origin = man.at; target = x; promoted = None }
+
+-- the same with a promotion
+abbrev pub promotion_to : Man → ℕ → Kind → Move
+promotion_to man x kind = record { origin = man.at; target = x; promoted = Some kind }
+
+-- its four promotions on x
+abbrev pub promotions_to : Man → ℕ → List Move
+promotions_to man x = promotion_to man x Queen ∷ promotion_to man x Rook ∷ promotion_to man x Bishop ∷ promotion_to man x Knight ∷ []
+
+-- a pawn one step from its last rank
+abbrev pub is_about_to_promote : Man → Bool
+is_about_to_promote man = is_pawn man && (rank_of man.at == rank_before_last man.side)
 
 -- the man can go to x where no capture in passing is legal, and does not promote there
 abbrev pub GoesPlainly : Position → Man → ℕ → Type 0

@@ -7,7 +7,7 @@ ghost use Rattle.study_index.specs.Computed.{index_of, position_numbered};
 ghost use Rattle.study_retro.specs.Table.{IsReady, IsClosed};
 
 use crate::back::Change;
-use crate::captures::captures;
+use crate::captures::captures_and_promotions;
 use crate::consistency::label;
 use crate::earlier::{may_pass, predecessor_numbers};
 use crate::game::{Game, Location};
@@ -17,7 +17,7 @@ use crate::row_escapes::lost_in_plain_row;
 use crate::row_levels::{lost_of_each, lower_each, mark_each};
 use crate::rows::still_in_row;
 use crate::stepped::{LabelledGame, SteppedGame};
-use crate::still::{begins_unknown, may_promote};
+use crate::still::begins_unknown;
 use crate::table_set::TableSet;
 use crate::value::{Value, value_at};
 use arrayvec::ArrayVec;
@@ -60,10 +60,10 @@ impl<'t, 'a, A: Allocator> Game for ClassGame<'t, 'a, A> {
     }
 
     fn leaving(&self, at: &Position) -> MoveList {
-        if has_passed(at) || may_promote(at.men(), at.to_move()) {
+        if has_passed(at) {
             return legal_moves(at);
         }
-        captures(at)
+        captures_and_promotions(at)
     }
 
     fn leaves(&self, at: &Position, by: Move) -> bool {
