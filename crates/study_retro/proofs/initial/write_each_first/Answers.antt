@@ -1,4 +1,4 @@
-use Rattle.std.proofs.Common.{arith, ℕ, ◌≡◌, ◌≢◌, ◌+◌, ◌*◌, ◌<◌, ◌≤◌, true, length, slice_index, ◌∙◌, sym, subst, inl, inr}
+use Rattle.std.proofs.Common.{arith, ℕ, ◌≡◌, ◌≢◌, ◌+◌, ◌*◌, ◌<◌, ◌≤◌, true, slice_index, ◌∙◌, sym, subst, inl, inr}
 use Rattle.std.proofs.lemmas.Bool.{false≢true, cases_lt}
 use Rattle.study_board.specs.Sets.{has}
 use Rattle.study_retro.specs.Numbered.{CellIsHeld, HasPosition}
@@ -28,7 +28,7 @@ loop-next-preserved g c =
       | else-write_first w ↦ (λ x. w.far-is ∙ x, λ x. absurd (false≢true (sym w.if-write_first.false ∙ x)))
     ] in
     let taken : (Q : ℕ → Type 0) → ((x : ℕ) → x < c.loop-next.next → has c.args.squares x ≡ true → Q x) → Q z
-        → (x : ℕ) → x < c.number-next.result + 1 → has c.args.squares x ≡ true → Q x =
+    → (x : ℕ) → x < c.number-next.result + 1 → has c.args.squares x ≡ true → Q x =
     λ Q before here x l e. elim (cases_lt x z) [
       | inr high ↦ subst Q (let is : z ≡ x = omega (arith, high, l, next, same) in is) here
       | inl under ↦ elim (cases_lt x c.loop-next.next) [
