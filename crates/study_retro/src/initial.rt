@@ -117,7 +117,7 @@ fn write_first<G: SteppedGame>(game: &G, cells: &mut [u8], number: u32) -> bool
         → CellIsHeld (G.numbered game.now) result 0 number (slice_index cells.new number) }
     ensures numbered { number < (G.numbered game.now).size → slice_index cells.new number ≢ 0 → HasPosition (G.numbered game.now) number }
 {
-    if number >= game.cells() {
+    if number as usize >= cells.len() {
         return false;
     }
     let first = game.first(number);
