@@ -1,6 +1,6 @@
 -- Captures and promotions: a pawn one step from its last rank goes to three squares at most, and promotes there; no other man
 -- promotes.
-use Rattle.std.proofs.Common.{◌≡◌, ℕ, zero, suc, ◌+◌, ◌<◌, ◌≤◌, ◌==◌, ◌&&◌, ◌⊎◌, inl, inr, arith, not, Bool, true, false}
+use Rattle.std.proofs.Common.{◌≡◌, ℕ, zero, suc, ◌+◌, ◌<◌, ◌≤◌, ◌==◌, ◌⊎◌, inl, inr, arith, Bool, true, false}
 use Rattle.std.proofs.Common.{List, [], ◌∷◌, ◌++◌, length, get_or, Contains, Option, None, Some, refl, sym, ◌∙◌, ap, subst}
 use Rattle.std.proofs.lemmas.List.{length-append}
 use Rattle.std.proofs.lemmas.List.Elements.{Contains-append_cases, Contains-append_left, Contains-append_right}
@@ -15,7 +15,7 @@ use Rattle.study_board.specs.declared.men.Kind.{Kind}
 use Rattle.study_board.specs.declared.men.Kind.TheVariants.{King, Queen, Rook, Bishop, Knight, Pawn}
 use Rattle.study_moves.specs.declared.moves.Move.{Move}
 use Rattle.study_moves.specs.AnyOrder.{HasSafeTargets, is_safe_target}
-use Rattle.study_moves.specs.Rules.{is_legal, is_promotion_choice, is_promotion_piece, last_rank, reaches_last_rank, reaches_target, starting_rank}
+use Rattle.study_moves.specs.Rules.{is_legal, is_promotion_choice, is_promotion_piece, last_rank, reaches_last_rank, reaches_target}
 use Rattle.study_moves.proofs.MenOfList.{IsAmong, some_among}
 use Rattle.study_moves.proofs.HowMenGo.{IsAheadBy, IsStep, IsDoubleStep, IsCapture, pawn_ways}
 use Rattle.study_moves.specs.Unmoves.{IsQuiet}

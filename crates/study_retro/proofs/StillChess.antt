@@ -1,5 +1,5 @@
 -- Where nothing is attacked and no pawn is about to promote, each move is quiet.
-use Rattle.std.proofs.Common.{◌≡◌, ℕ, zero, suc, ◌<◌, ◌==◌, ◌⊎◌, inl, inr, arith, Bool, true, false, not, ◌&&◌, List, [], ◌∷◌, length, get_or, Contains}
+use Rattle.std.proofs.Common.{◌≡◌, ℕ, zero, suc, ◌<◌, ◌==◌, inl, inr, arith, Bool, true, false, not, ◌&&◌, List, [], ◌∷◌, length, get_or, Contains}
 use Rattle.std.proofs.Common.{Option, Some, None, refl, sym, ◌∙◌, ap, subst}
 use Rattle.std.specs.List.{list_any}
 use Rattle.std.specs.List.Sorted.{IsPermutation}
@@ -7,7 +7,6 @@ use Rattle.std.proofs.lemmas.List.Sorted.{All-permutation, IsPermutation-refl, I
 use Rattle.std.proofs.lemmas.Bool.{and_parts, cases_Bool, eqb-true, eq-eqb, false≢true}
 use Rattle.study_board.specs.declared.men.Side.{Side}
 use Rattle.study_board.specs.declared.men.Side.TheVariants.{White, Black}
-use Rattle.study_board.specs.declared.men.Kind.{Kind}
 use Rattle.study_board.specs.declared.men.Kind.TheVariants.{King, Pawn}
 use Rattle.study_board.specs.declared.men.Man.{Man}
 use Rattle.study_board.specs.Geometry.{rank_of}
@@ -18,12 +17,12 @@ use Rattle.study_board.specs.Sets.{has}
 use Rattle.study_board.proofs.Faults.{in_check_same}
 use Rattle.study_board.proofs.Valid.{IsFaultless, IsFaultless-from_first}
 use Rattle.study_moves.specs.declared.moves.Move.{Move}
-use Rattle.study_moves.specs.Rules.{after, has_side, is_legal, is_promotion_choice, last_rank, starting_rank, reaches_last_rank, reaches_target}
+use Rattle.study_moves.specs.Rules.{after, has_side, is_legal, is_promotion_choice, reaches_last_rank, reaches_target}
 use Rattle.study_moves.specs.AnyOrder.{HasSafeTargets, is_safe_target}
 use Rattle.study_moves.proofs.AnyOrder.{men-tell-moves}
 use Rattle.study_moves.specs.Unmoves.{IsQuiet}
-use Rattle.study_moves.proofs.HowMenGo.{IsAheadBy, IsStep, IsDoubleStep, IsCapture, bears_or_empty, pawn_ways}
-use Rattle.study_moves.proofs.MenOfList.{All-among, IsAmong, list_any-none, none_among, some_among}
+use Rattle.study_moves.proofs.HowMenGo.{bears_or_empty}
+use Rattle.study_moves.proofs.MenOfList.{All-among, IsAmong, list_any-none, none_among}
 use Rattle.study_material.specs.declared.class.Class.{Class}
 use Rattle.study_material.specs.Class.{is_of}
 use Rattle.study_material.proofs.Classes.{is_of-IsOf}
@@ -37,7 +36,7 @@ use Rattle.study_retro.specs.Numbered.{CellIsHeld, IsNumberedClass, OutsideIsRig
 use Rattle.study_retro.specs.Propagation.{IsHeldCell}
 use Rattle.study_retro.specs.Predecessors.{AreTold}
 use Rattle.study_retro.proofs.FirstLemmas.{held-draw}
-use Rattle.study_retro.specs.Still.{is_about_to_promote, GoesPlainly, HasOnlyQuiet, IsStill, move_to, rank_before_last}
+use Rattle.study_retro.specs.Still.{is_about_to_promote, HasOnlyQuiet, IsStill, rank_before_last}
 use Rattle.study_retro.proofs.LeavingLemmas.{far_plain, unpromoted}
 use Rattle.study_retro.proofs.BackLemmas.{occupied_same, side_is, told_targets}
 use Rattle.study_retro.proofs.MovedSteps.{quiet_stays}
@@ -107,6 +106,23 @@ module _ (men : List Man) (side : Side) where
 pub not_true : (b : Bool) → not b ≡ true → b ≡ false
 not_true false e = refl
 not_true true e = absurd (false≢true e)
+
+-- a man that bears on none of the other side takes none
+module _ (men : List Man) (side : Side) (man : Man) (ours : ℕ) (word : (x : ℕ) → x < 64 → has ours x ≡ bears_on men man x) where
+  pub takes_none : list_any (λ m. same_side m.side (other_side side) && has ours m.at) men ≡ false → (o : Man) → Contains men o → o.at < 64
+      → is_safe_target men side man o.at ≡ true → ⊥
+  unfolding is_safe_target is_occupied has_side
+  takes_none none o among on safe =
+      let goes = and_parts _ _ (and_parts _ _ safe).0 in
+      let own : has_side men side o.at ≡ false = not_true _ goes.1 in
+      elim (bears_or_empty men None man o.at goes.0) [
+        | inr e ↦
+            false≢true (sym (none_among (λ m. m.at == o.at) men o (not_true _ e) (among-of men o among)) ∙ eq-eqb o.at o.at refl)
+        | inl bears ↦
+            let mine = first_false _ _ (none_among (λ k. same_side k.side side && (k.at == o.at)) men o own (among-of men o among)) (eq-eqb o.at o.at refl) in
+            false≢true (sym (none_among (λ m. same_side m.side (other_side side) && has ours m.at) men o none (among-of men o among))
+            ∙ rw (other_than o.side side mine, word o.at on ∙ bears) refl)
+      ]
 
 -- so each move is quiet
 pub stays_quiet : (c : Class) (number : ℕ) (q : Position) → position_numbered c number ≡ Some q → number < 16777216

@@ -11,9 +11,9 @@ ghost use Rattle.study_moves.specs.Unmoves.{IsQuiet};
 ghost use Rattle.study_retro.specs.Still.{GoesPlainly, is_about_to_promote, move_to, promotion_to, promotions_to};
 
 use crate::escapes::reaches_last_rank;
-use crate::still::rank_before_last;
+use crate::still::{has_man_in, rank_before_last};
 use arrayvec::ArrayVec;
-use study_board::{Kind, Man, Position, Side, Square, SquareSet};
+use study_board::{Kind, Man, Position, Side, Square, SquareSet, attacks};
 use study_moves::{MAX_MOVES, Move, MoveList, safe_targets};
 
 /// Whether the square is in the set, and the man no pawn that reaches its last rank there.
@@ -44,7 +44,7 @@ fn is_about_to_promote(man: &Man) -> bool
     man.kind == Kind::Pawn && man.at.rank() == rank_before_last(man.side)
 }
 
-/// Adds the captures of a man of the side to move that do not promote.
+/// Adds the captures of a man of the side to move that do not promote. Most men bear on none of the other side.
 fn add_captures_of(at: &Position, man: &Man, list: &mut MoveList)
     requires room { array_vec_len list.old + 4 ≤ MAX_MOVES }
     requires tells { HasSafeTargets at.now at.now.men }
@@ -57,8 +57,12 @@ fn add_captures_of(at: &Position, man: &Man, list: &mut MoveList)
         → Contains list.new.items (move_to man.now other.at) }
     ensures few { array_vec_len list.new ≤ array_vec_len list.old + 4 }
 {
+    let side = at.to_move();
     let men = at.men();
-    let safe = safe_targets(men, at.to_move(), man);
+    if !has_man_in(men, side.other(), attacks(men, man)) {
+        return;
+    }
+    let safe = safe_targets(men, side, man);
     for other in men {
         if goes_plainly(safe, man, other.at) {
             list.push(move_to(man, other.at));
