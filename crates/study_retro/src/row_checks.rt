@@ -1,5 +1,5 @@
 //! On which squares of the man of the last slot a king is attacked: in a row of numbers that man alone stands elsewhere.
-ghost use Rattle.std.specs.Prelude.{◌≡◌, ◌<◌, ◌≤◌, ◌&&◌, ◌||◌, ℕ, not, false, length, map, [], ◌∷◌, ◌++◌, Some, IfSome};
+ghost use Rattle.std.specs.Prelude.{◌≡◌, ◌<◌, ◌≤◌, ◌&&◌, ◌||◌, ℕ, not, true, false, length, map, [], ◌∷◌, ◌++◌, Some, IfSome};
 ghost use Rattle.std.specs.List.{list_any, All, Contains};
 ghost use Rattle.study_board.specs.declared.men.Kind.TheVariants.{King};
 ghost use Rattle.study_board.specs.Geometry.{strictly_between};
@@ -125,6 +125,15 @@ pub fn squares_of_check(others: &[Man], last: &Man, side: Side) -> SquareSet
 pub struct Bearer {
     pub man: Man,
     pub squares: SquareSet,
+}
+
+impl Default for Bearer {
+    fn default() -> Self {
+        Bearer {
+            man: Man::default(),
+            squares: SquareSet::empty(),
+        }
+    }
 }
 
 /// The others where one of them goes, as they attack the king of a side: those that stay, those of them that attack it, the
@@ -380,7 +389,7 @@ fn squares_attacking_after(
     ensures { (y : ℕ) → y < 64 → AreApart (others.now ++ on_square last.now y ∷ []) → has result y
         ≡ attacked_with_last (map (from_to man.now.at to) others.now) last.now (other_side side) (gone_to man.now.at to king) y }
 {
-    let _read = (others, king.number(), to.number());
+    let _read = (others.len(), king.number(), to.number());
     let by = side.other();
     let men = staying.men.as_slice();
     let bearers = staying.bearers.as_slice();
