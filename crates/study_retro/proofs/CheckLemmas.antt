@@ -10,7 +10,7 @@ use Rattle.study_board.specs.declared.men.Side.{Side}
 use Rattle.study_board.specs.declared.men.Kind.TheVariants.{King}
 use Rattle.study_board.specs.declared.men.Man.{Man}
 use Rattle.study_board.specs.Geometry.{strictly_between}
-use Rattle.study_board.specs.Men.{bears_on, is_attacked, is_blocked, is_man, other_side, reaches, same_kind, same_side}
+use Rattle.study_board.specs.Men.{bears_on, is_blocked, is_man, other_side, reaches, same_kind, same_side}
 use Rattle.study_board.specs.Position.{in_check, is_occupied}
 use Rattle.study_board.specs.Sets.{has, is_slider, reaches_if}
 use Rattle.study_board.proofs.Faults.{list_any_same}
@@ -23,6 +23,7 @@ use Rattle.study_retro.specs.RowMoves.{king_attacked_with, stands_aside}
 use Rattle.study_retro.specs.declared.row_checks.Bearer.{Bearer}
 use Rattle.study_retro.specs.Still.{facing, on_square}
 use Rattle.study_retro.proofs.RowChecks.{and_and, bears_last, bears_men, between_self, or_none, reach_if, row_check}
+use Rattle.study_retro.proofs.RowLemmas.{bears_alone}
 use Rattle.study_retro.proofs.RowMoveLemmas.{unoccupied}
 use Rattle.study_retro.proofs.StillChess.{among-of}
 
@@ -34,6 +35,10 @@ aside true true false n = refl
 aside true true true n = absurd (false≢true (sym n))
 aside true false e n = refl
 aside false s e n = refl
+
+neither : (s b : Bool) → b ≡ false → (s && b) ≡ false
+neither true b e = e
+neither false b e = refl
 
 -- what bears on a square past a man does so where there is no other
 pub past_one : (h c t n : Bool) → (h ≡ true → c ≡ true) → t ≡ (c && n) → (h && t) ≡ (h && n)
@@ -85,6 +90,14 @@ none_of p q h (b ∷ bs) e =
 pub gathered : (p : Bearer → Bool) (bs : List Bearer) (i : ℕ) (d b : Bearer) (x set more set' : ℕ) → i < length bs → b ≡ get_or bs i d
     → has set x ≡ list_any p (take i bs) → has more x ≡ p b → has set' x ≡ (has set x || has more x) → has set' x ≡ list_any p (take (i + 1) bs)
 gathered p bs i d b x set more set' lt is e f g = g ∙ rw (e, f, is) (sym (list_any_more p bs i d lt))
+
+-- what a man bears on among others it bears on alone
+pub bears_without : (men : List Man) (m : Man) (x : ℕ) (s : Bool) → (s && bears_on men m x) ≡ true → bears_on [] m x ≡ true
+bears_without men m x s e = by_test (bears_on [] m x) refl
+  where
+    by_test : (b : Bool) → bears_on [] m x ≡ b → b ≡ true
+    by_test true o = refl
+    by_test false o = absurd (false≢true (sym (neither s (bears_on men m x) (bears_alone men m x o)) ∙ e))
 
 -- where none bears on x, none does past further men
 pub none_past : (bearers : List Bearer) (z x y : ℕ) → list_any (λ b. has b.squares x) bearers ≡ false → list_any (bears_past z x y) bearers ≡ false

@@ -5,7 +5,7 @@ use Rattle.study_board.specs.declared.men.Side.{Side}
 use Rattle.study_board.specs.declared.men.Kind.TheVariants.{King}
 use Rattle.study_board.specs.declared.men.Man.{Man}
 use Rattle.study_board.specs.Geometry.{rank_of, strictly_between}
-use Rattle.study_board.specs.Men.{bears_on, is_attacked, is_man, other_side, same_side}
+use Rattle.study_board.specs.Men.{bears_on, is_man, other_side, same_side}
 use Rattle.study_board.specs.Position.{in_check, is_empty, is_occupied}
 use Rattle.study_board.specs.Sets.{has, is_slider}
 use Rattle.study_moves.specs.Rules.{half_way, is_ahead, reaches_target, starting_rank}

@@ -3,7 +3,7 @@ ghost use Rattle.std.specs.Prelude.{◌≡◌, ◌<◌, ◌≤◌, ◌&&◌, ◌
 ghost use Rattle.std.specs.List.{list_any, All, Contains};
 ghost use Rattle.study_board.specs.declared.men.Kind.TheVariants.{King};
 ghost use Rattle.study_board.specs.Geometry.{strictly_between};
-ghost use Rattle.study_board.specs.Men.{bears_on, is_attacked, other_side, same_kind, same_side};
+ghost use Rattle.study_board.specs.Men.{bears_on, other_side, same_kind, same_side};
 ghost use Rattle.study_board.specs.Position.{in_check};
 ghost use Rattle.study_board.specs.Sets.{has, is_slider};
 ghost use Rattle.study_index.specs.Moved.{from_to};
@@ -349,7 +349,13 @@ fn squares_bearing_from(given: SquareSet, man: &Man, to: Square, x: Square) -> S
 /// The squares from which the man of the last slot bears on the square past the man on `to`, given those from which it does so
 /// with that one off the board.
 #[inline(always)]
-fn squares_of_last_past(checks: SquareSet, last: &Man, man: &Man, to: Square, x: Square) -> SquareSet
+fn squares_of_last_past(
+    checks: SquareSet,
+    last: &Man,
+    man: &Man,
+    to: Square,
+    x: Square,
+) -> SquareSet
     requires { (y : ℕ) → y < 64 → has checks y ≡ true → bears_on [] (facing last.now x) y ≡ true }
     ensures { (y : ℕ) → y < 64 → has result y ≡ (has checks y && stands_aside (facing last.now x) y to) }
 {
@@ -398,7 +404,9 @@ fn squares_attacking_after(
     }
     let of_man = squares_bearing_from(staying.given, man, to, king);
     let of_last = squares_of_last_past(staying.checks, last, man, to, king);
-    squares_attacking_past(bearers, staying.attacked, to, king).union(of_man).union(of_last)
+    squares_attacking_past(bearers, staying.attacked, to, king)
+        .union(of_man)
+        .union(of_last)
 }
 
 /// The men, the one on `from` put on `to`.
