@@ -45,13 +45,6 @@ pub past_one : (h c t n : Bool) → (h ≡ true → c ≡ true) → t ≡ (c && 
 past_one true c t n f i = i ∙ ap (λ (b : Bool). b && n) (f refl)
 past_one false c t n f i = refl
 
--- one that is on a line to its own end stands aside
-past_end : (s b l e n : Bool) → e ≡ false → ((s && b) && (not (l && e) && n)) ≡ (s && (b && n))
-past_end true b true true n i = absurd (false≢true (sym i))
-past_end true b true false n i = refl
-past_end true b false e n i = refl
-past_end false b l e n i = refl
-
 past_two : (s b n k : Bool) → (s && ((b && n) && k)) ≡ ((s && b) && (n && k))
 past_two true true n k = refl
 past_two true false n k = refl
@@ -99,11 +92,11 @@ bears_without men m x s e = by_test (bears_on [] m x) refl
     by_test true o = refl
     by_test false o = absurd (false≢true (sym (neither s (bears_on men m x) (bears_alone men m x o)) ∙ e))
 
--- where none bears on x, none does past further men
-pub none_past : (bearers : List Bearer) (z x y : ℕ) → list_any (λ b. has b.squares x) bearers ≡ false → list_any (bears_past z x y) bearers ≡ false
-none_past bearers z x y none =
-    none_of (λ b. has b.squares x) (bears_past z x y) (λ b e. and_left (has b.squares x) (stands_aside b.man x z && stands_aside b.man x y) e)
-    bearers none
+-- where none bears on x, none of some kind does
+pub none_with : (bearers : List Bearer) (p : Man → Bool) (x : ℕ) → list_any (λ b. has b.squares x) bearers ≡ false
+    → list_any (λ b. has b.squares x && p b.man) bearers ≡ false
+none_with bearers p x none =
+    none_of (λ b. has b.squares x) (λ b. has b.squares x && p b.man) (λ b e. and_left (has b.squares x) (p b.man) e) bearers none
 
 -- one more man is of the side, or is not
 module _ (men : List Man) (by : Side) (i : ℕ) (d m : Man) (lt : i < length men) (is : m ≡ get_or men i d) (x : ℕ) (p : Man → Bool) where
@@ -131,14 +124,13 @@ module _ (men : List Man) (by : Side) (i : ℕ) (d m : Man) (lt : i < length men
       ∙ ap (λ (b : Bool). list_any of (take i men) || b) (sym (ap of is) ∙ ap (λ (b : Bool). (b && bears_on men m x) && p m) other)
       ∙ or_none (list_any of (take i men)))
 
--- the men that bear on a square do so past one on that square itself
-pub past_itself : (men : List Man) (by : Side) (bearers : List Bearer) → AreBearers men by bearers → (x y : ℕ) → x < 64
-    → list_any (bears_past x x y) bearers ≡ list_any (λ m. same_side m.side by && bears_with men y m x) men
-past_itself men by bearers bear x y on =
-    bear x on (λ m. stands_aside m x x && stands_aside m x y)
-    ∙ list_any_same (λ m. (same_side m.side by && bears_on men m x) && (stands_aside m x x && stands_aside m x y))
-    (λ m. same_side m.side by && bears_with men y m x)
-    (λ m. past_end (same_side m.side by) (bears_on men m x) (is_slider m.kind) (strictly_between m.at x x) (stands_aside m x y) (not_at_end m.at x)) men
+-- the men that bear on a square are among those that bear
+pub among_bearers : (men : List Man) (by : Side) (bearers : List Bearer) → AreBearers men by bearers → (x y : ℕ) → x < 64
+    → list_any (λ b. has b.squares x && stands_aside b.man x y) bearers ≡ list_any (λ m. same_side m.side by && bears_with men y m x) men
+among_bearers men by bearers bear x y on =
+    bear x on (λ m. stands_aside m x y)
+    ∙ list_any_same (λ m. (same_side m.side by && bears_on men m x) && stands_aside m x y) (λ m. same_side m.side by && bears_with men y m x)
+    (λ m. and_and (same_side m.side by) (bears_on men m x) (stands_aside m x y)) men
 
 -- one more man of the others stays, or is the one that goes
 module _ (others : List Man) (from i : ℕ) (d m : Man) (lt : i < length others) (is : m ≡ get_or others i d) where

@@ -256,6 +256,34 @@ fn squares_borne_on(bearers: &[Bearer]) -> SquareSet
     set
 }
 
+/// The squares of a further man with which the man bears on the square.
+#[inline]
+fn squares_bearing(b: &Bearer, x: Square) -> SquareSet
+    ensures { (y : ℕ) → y < 64 → has result y ≡ (has b.now.squares x && stands_aside b.now.man x y) }
+{
+    if !b.squares.contains(x) {
+        return SquareSet::empty();
+    }
+    squares_aside(&b.man, x)
+}
+
+/// The squares of a further man with which some of them bear on the square, given the squares on which some of them bear.
+#[inline(always)]
+fn squares_attacking_of(bearers: &[Bearer], attacked: SquareSet, x: Square) -> SquareSet
+    requires { (z : ℕ) → z < 64 → has attacked z ≡ list_any (λ b. has b.squares z) bearers.now }
+    ensures { (y : ℕ) → y < 64 → has result y ≡ list_any (λ b. has b.squares x && stands_aside b.man x y) bearers.now }
+{
+    let _square = x.number();
+    let mut set = SquareSet::empty();
+    if !attacked.contains(x) {
+        return set;
+    }
+    for b in bearers {
+        set = set.union(squares_bearing(b, x));
+    }
+    set
+}
+
 /// The squares of a further man with which the man bears on the square, one standing on `to`.
 #[inline]
 fn squares_bearing_past(b: &Bearer, to: Square, x: Square) -> SquareSet
@@ -327,7 +355,7 @@ fn squares_attacking_by(
     ensures { (y : ℕ) → y < 64 → has result y ≡ attacked_with_last staying.now last.now by x y }
 {
     let _square = x.number();
-    squares_attacking_past(bearers, attacked, x, x).union(squares_of_last(staying, last, by, x))
+    squares_attacking_of(bearers, attacked, x).union(squares_of_last(staying, last, by, x))
 }
 
 /// The squares of a further man with which the man, on `to`, bears on the square, given those from which it does so without.

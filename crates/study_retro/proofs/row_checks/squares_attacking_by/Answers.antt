@@ -3,7 +3,7 @@ use Rattle.std.specs.List.{list_any}
 use Rattle.study_board.specs.Men.{same_side}
 use Rattle.study_board.specs.Sets.{has}
 use Rattle.study_retro.specs.RowMoves.{bears_with}
-use Rattle.study_retro.proofs.CheckLemmas.{past_itself}
+use Rattle.study_retro.proofs.CheckLemmas.{among_bearers}
 use Rattle.study_retro.proofs.row_checks.squares_attacking_by.Goals as goal
 
 pub returns : goal.returns
@@ -12,5 +12,5 @@ returns c y ly =
     let x = c.args.x in
     c.union.ensures y
     ∙ ap (λ (b : Bool). b || has c.squares_of_last.result y)
-    (c.squares_attacking_past.ensures y ly ∙ past_itself men c.args.by c.args.bearers.now c.requires.bear x y c.number-square.ensures.small)
+    (c.squares_attacking_of.ensures y ly ∙ among_bearers men c.args.by c.args.bearers.now c.requires.bear x y c.number-square.ensures.small)
     ∙ ap (λ (b : Bool). list_any (λ m. same_side m.side c.args.by && bears_with men y m x) men || b) (c.squares_of_last.ensures y ly)

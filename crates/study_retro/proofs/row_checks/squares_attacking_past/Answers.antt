@@ -1,15 +1,15 @@
-use Rattle.std.proofs.Common.{List, sym, ◌∙◌, ap, arith}
+use Rattle.std.proofs.Common.{◌&&◌, List, sym, ◌∙◌, ap, arith}
 use Rattle.std.specs.List.{list_any}
 use Rattle.std.proofs.lemmas.List.{take_all}
 use Rattle.study_board.proofs.SetBits.{has-zero}
 use Rattle.study_retro.specs.declared.row_checks.Bearer.{Bearer}
-use Rattle.study_retro.specs.RowMoves.{bears_past}
-use Rattle.study_retro.proofs.CheckLemmas.{gathered, none_past}
+use Rattle.study_retro.specs.RowMoves.{bears_past, stands_aside}
+use Rattle.study_retro.proofs.CheckLemmas.{gathered, none_with}
 use Rattle.study_retro.proofs.row_checks.squares_attacking_past.Goals as goal
 
 pub returns-then-not-contains : goal.returns-then-not-contains
 returns-then-not-contains c y ly =
-    rw c.empty-set.ensures (has-zero y ∙ sym (none_past c.args.bearers.now c.args.to c.args.x y
+    rw c.empty-set.ensures (has-zero y ∙ sym (none_with c.args.bearers.now (λ m. stands_aside m c.args.x c.args.to && stands_aside m c.args.x y) c.args.x
     (sym (c.requires c.args.x c.number-square.ensures.small) ∙ sym c.contains.ensures ∙ c.if-not-contains.true)))
 
 pub loop-b-init : goal.loop-b-init
