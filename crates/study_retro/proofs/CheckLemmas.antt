@@ -10,17 +10,19 @@ use Rattle.study_board.specs.declared.men.Side.{Side}
 use Rattle.study_board.specs.declared.men.Kind.TheVariants.{King}
 use Rattle.study_board.specs.declared.men.Man.{Man}
 use Rattle.study_board.specs.Geometry.{strictly_between}
-use Rattle.study_board.specs.Men.{bears_on, is_attacked, is_blocked, is_man, other_side, reaches, same_kind, same_side}
+use Rattle.study_board.specs.Men.{bears_on, is_blocked, is_man, other_side, reaches, same_kind, same_side}
 use Rattle.study_board.specs.Position.{in_check, is_occupied}
-use Rattle.study_board.specs.Sets.{is_slider, reaches_if}
+use Rattle.study_board.specs.Sets.{has, is_slider, reaches_if}
 use Rattle.study_board.proofs.Faults.{list_any_same}
 use Rattle.study_board.proofs.Lists.{count_by-cons}
 use Rattle.study_moves.proofs.KingSafety.{not_at_end}
 use Rattle.study_moves.proofs.MenOfList.{IsAmong, none_among}
 use Rattle.study_index.specs.Moved.{from_to}
-use Rattle.study_retro.specs.RowMoves.{AreApart, AreRest, IsOnlyKing, attacked_by_two, attacked_with_last, bears_with, gone_to, king_attacked_with}
+use Rattle.study_retro.specs.RowMoves.{AreApart, AreBearers, AreRest, IsOnlyKing, attacked_with_last, bears_past, bears_with, gone_to}
+use Rattle.study_retro.specs.RowMoves.{king_attacked_with, stands_aside}
+use Rattle.study_retro.specs.declared.row_checks.Bearer.{Bearer}
 use Rattle.study_retro.specs.Still.{facing, on_square}
-use Rattle.study_retro.proofs.RowChecks.{and_and, bears_men, between_self, or_none, reach_if, row_check}
+use Rattle.study_retro.proofs.RowChecks.{and_and, bears_last, bears_men, between_self, or_none, reach_if, row_check}
 use Rattle.study_retro.proofs.RowLemmas.{bears_alone}
 use Rattle.study_retro.proofs.RowMoveLemmas.{unoccupied}
 use Rattle.study_retro.proofs.StillChess.{among-of}
@@ -34,26 +36,24 @@ aside true true true n = absurd (false≢true (sym n))
 aside true false e n = refl
 aside false s e n = refl
 
--- what stands in the way of a man among all does so alone
-twice : (s b e n c : Bool) → (e ≡ false → b ≡ false) → c ≡ (e && n) → (s && (b && n)) ≡ ((s && b) && (s && c))
-twice true b true n c f i = ap (λ (t : Bool). b && t) (sym i)
-twice true b false n c f i = rw (f refl) refl
-twice false b e n c f i = refl
+neither : (s b : Bool) → b ≡ false → (s && b) ≡ false
+neither true b e = e
+neither false b e = refl
+
+-- what bears on a square past a man does so where there is no other
+pub past_one : (h c t n : Bool) → (h ≡ true → c ≡ true) → t ≡ (c && n) → (h && t) ≡ (h && n)
+past_one true c t n f i = i ∙ ap (λ (b : Bool). b && n) (f refl)
+past_one false c t n f i = refl
+
+past_two : (s b n k : Bool) → (s && ((b && n) && k)) ≡ ((s && b) && (n && k))
+past_two true true n k = refl
+past_two true false n k = refl
+past_two false b n k = refl
 
 nowhere : (s t r n : Bool) → t ≡ true → (s && ((not t && r) && n)) ≡ false
 nowhere true true r n e = refl
 nowhere true false r n e = absurd (false≢true e)
 nowhere false t r n e = refl
-
-less_one : (s b n : Bool) → (s && b) ≡ false → (s && (b && n)) ≡ false
-less_one true true n e = absurd (false≢true (sym e))
-less_one true false n e = refl
-less_one false b n e = refl
-
-fewer : (s b c n b' : Bool) → b' ≡ (b && c) → (s && b) ≡ false → (s && (b' && n)) ≡ false
-fewer true true c n b' i e = absurd (false≢true (sym e))
-fewer true false c n b' i e = rw i refl
-fewer false b c n b' i e = refl
 
 crosswise : (i j a b : Bool) → ((i || j) || (a || b)) ≡ ((i || a) || (j || b))
 crosswise true j a b = refl
@@ -72,6 +72,65 @@ any_weaker p q h [] e = refl
 any_weaker p q h (x ∷ xs) e =
     let o = or_parts (p x) (list_any p xs) e in
     or_from (q x) (list_any q xs) (h x o.0) (any_weaker p q h xs o.1)
+
+none_of : (p q : Bearer → Bool) → ((b : Bearer) → p b ≡ false → q b ≡ false) → (bs : List Bearer) → list_any p bs ≡ false → list_any q bs ≡ false
+none_of p q h [] e = refl
+none_of p q h (b ∷ bs) e =
+    let o = or_parts (p b) (list_any p bs) e in
+    or_from (q b) (list_any q bs) (h b o.0) (none_of p q h bs o.1)
+
+-- a set gathered from each of those that bear to the next
+pub gathered : (p : Bearer → Bool) (bs : List Bearer) (i : ℕ) (d b : Bearer) (x set more set' : ℕ) → i < length bs → b ≡ get_or bs i d
+    → has set x ≡ list_any p (take i bs) → has more x ≡ p b → has set' x ≡ (has set x || has more x) → has set' x ≡ list_any p (take (i + 1) bs)
+gathered p bs i d b x set more set' lt is e f g = g ∙ rw (e, f, is) (sym (list_any_more p bs i d lt))
+
+-- what a man bears on among others it bears on alone
+pub bears_without : (men : List Man) (m : Man) (x : ℕ) (s : Bool) → (s && bears_on men m x) ≡ true → bears_on [] m x ≡ true
+bears_without men m x s e = by_test (bears_on [] m x) refl
+  where
+    by_test : (b : Bool) → bears_on [] m x ≡ b → b ≡ true
+    by_test true o = refl
+    by_test false o = absurd (false≢true (sym (neither s (bears_on men m x) (bears_alone men m x o)) ∙ e))
+
+-- where none bears on x, none of some kind does
+pub none_with : (bearers : List Bearer) (p : Man → Bool) (x : ℕ) → list_any (λ b. has b.squares x) bearers ≡ false
+    → list_any (λ b. has b.squares x && p b.man) bearers ≡ false
+none_with bearers p x none =
+    none_of (λ b. has b.squares x) (λ b. has b.squares x && p b.man) (λ b e. and_left (has b.squares x) (p b.man) e) bearers none
+
+-- one more man is of the side, or is not
+module _ (men : List Man) (by : Side) (i : ℕ) (d m : Man) (lt : i < length men) (is : m ≡ get_or men i d) (x : ℕ) (p : Man → Bool) where
+  pub bearer_more : (bs : List Bearer) (s : ℕ)
+      → list_any (λ b. has b.squares x && p b.man) bs ≡ list_any (λ k. (same_side k.side by && bears_on men k x) && p k) (take i men)
+      → has s x ≡ bears_on men m x → same_side m.side by ≡ true
+      → list_any (λ b. has b.squares x && p b.man) (bs ++ record { man = m; squares = s } ∷ [])
+      ≡ list_any (λ k. (same_side k.side by && bears_on men k x) && p k) (take (i + 1) men)
+  bearer_more bs s so_far on ours =
+      let q : Bearer → Bool = λ b. has b.squares x && p b.man in
+      let of : Man → Bool = λ k. (same_side k.side by && bears_on men k x) && p k in
+      let all = list_any-append q bs (record { man = m; squares = s } ∷ []) in
+      all
+      ∙ ap (λ (b : Bool). b || ((has s x && p m) || false)) so_far
+      ∙ ap (λ (b : Bool). list_any of (take i men) || b)
+      (or_none (has s x && p m) ∙ ap (λ (b : Bool). b && p m) (on ∙ sym (ap (λ (b : Bool). b && bears_on men m x) ours)) ∙ ap of is)
+      ∙ sym (list_any_more of men i d lt)
+
+  pub bearer_less : same_side m.side by ≡ false
+      → list_any (λ k. (same_side k.side by && bears_on men k x) && p k) (take i men)
+      ≡ list_any (λ k. (same_side k.side by && bears_on men k x) && p k) (take (i + 1) men)
+  bearer_less other =
+      let of : Man → Bool = λ k. (same_side k.side by && bears_on men k x) && p k in
+      sym (list_any_more of men i d lt
+      ∙ ap (λ (b : Bool). list_any of (take i men) || b) (sym (ap of is) ∙ ap (λ (b : Bool). (b && bears_on men m x) && p m) other)
+      ∙ or_none (list_any of (take i men)))
+
+-- the men that bear on a square are among those that bear
+pub among_bearers : (men : List Man) (by : Side) (bearers : List Bearer) → AreBearers men by bearers → (x y : ℕ) → x < 64
+    → list_any (λ b. has b.squares x && stands_aside b.man x y) bearers ≡ list_any (λ m. same_side m.side by && bears_with men y m x) men
+among_bearers men by bearers bear x y on =
+    bear x on (λ m. stands_aside m x y)
+    ∙ list_any_same (λ m. (same_side m.side by && bears_on men m x) && stands_aside m x y) (λ m. same_side m.side by && bears_with men y m x)
+    (λ m. and_and (same_side m.side by) (bears_on men m x) (stands_aside m x y)) men
 
 -- one more man of the others stays, or is the one that goes
 module _ (others : List Man) (from i : ℕ) (d m : Man) (lt : i < length others) (is : m ≡ get_or others i d) where
@@ -108,14 +167,6 @@ module _ (others : List Man) (side : Side) (i : ℕ) (d m : Man) (lt : i < lengt
       ∙ ap (λ (b : Bool). list_any (λ k. is_man side King k && f k.at) (take i others) || b)
       (ap (λ (k : Man). is_man side King k && f k.at) (sym is) ∙ and_left (is_man side King m) (f m.at) no_king)
       ∙ or_none (list_any (λ k. is_man side King k && f k.at) (take i others))
-
--- where no man of the side bears on x, none does with one more on the board
-pub none_with : (men : List Man) (side : Side) (x y : ℕ) → is_attacked men side x ≡ false
-    → list_any (λ m. same_side m.side side && bears_with men y m x) men ≡ false
-unfolding is_attacked
-none_with men side x y none =
-    any_weaker (λ m. same_side m.side side && bears_on men m x) (λ m. same_side m.side side && bears_with men y m x)
-    (λ m e. less_one (same_side m.side side) (bears_on men m x) (not (is_slider m.kind && strictly_between m.at y x)) e) men none
 
 -- ---- the man put on another square
 
@@ -223,40 +274,40 @@ module _ (others staying : List Man) (last man : Man) (to y : ℕ) (among : Cont
       (λ m. ap (λ (b : Bool). same_side m.side side && b) (bears_there m)) staying)
       ∙ ap (λ (b : Bool). list_any (λ m. same_side m.side side && bears_with staying y m to) staying || (same_side last.side side && b)) last_there
 
-  -- ---- on a square on which no man bears that stays
+  -- ---- on another square
 
-  module _ (side : Side) (x : ℕ) (none : is_attacked staying side x ≡ false) where
-    none_staying : list_any (λ m. same_side m.side side && bears_with moved y m x) staying ≡ false
-    unfolding is_attacked
-    none_staying =
-        any_weaker (λ m. same_side m.side side && bears_on staying m x) (λ m. same_side m.side side && bears_with moved y m x)
-        (λ m e. fewer (same_side m.side side) (bears_on staying m x) (not (is_slider m.kind && strictly_between m.at to x))
-        (not (is_slider m.kind && strictly_between m.at y x)) (bears_on moved m x) (bears_moved m x) e) staying none
+  module _ (side : Side) (bearers : List Bearer) (bear : AreBearers staying side bearers) (x : ℕ) (on : x < 64) where
+    by_staying : list_any (λ m. same_side m.side side && bears_with moved y m x) staying ≡ list_any (bears_past to x y) bearers
+    by_staying =
+        list_any_same (λ m. same_side m.side side && bears_with moved y m x)
+        (λ m. (same_side m.side side && bears_on staying m x) && (stands_aside m x to && stands_aside m x y))
+        (λ m. ap (λ (b : Bool). same_side m.side side && (b && stands_aside m x y)) (bears_moved m x)
+        ∙ past_two (same_side m.side side) (bears_on staying m x) (stands_aside m x to) (stands_aside m x y)) staying
+        ∙ sym (bear x on (λ m. stands_aside m x to && stands_aside m x y))
 
     by_itself : (same_side man.side side && bears_with moved y z x)
-        ≡ ((same_side man.side side && bears_on staying z x) && not (is_slider man.kind && strictly_between to y x))
+        ≡ ((same_side man.side side && bears_on staying (facing man x) to) && stands_aside z x y)
     by_itself =
-        ap (λ (b : Bool). same_side man.side side && (b && not (is_slider man.kind && strictly_between to y x)))
-        (bears_moved z x ∙ aside (bears_on staying z x) (is_slider man.kind) (strictly_between to to x) (between_self to x))
-        ∙ sym (and_and (same_side man.side side) (bears_on staying z x) (not (is_slider man.kind && strictly_between to y x)))
+        ap (λ (b : Bool). same_side man.side side && (b && stands_aside z x y))
+        (bears_moved z x ∙ sym (bears_men staying man to z x) ∙ bears_last staying man to x)
+        ∙ sym (and_and (same_side man.side side) (bears_on staying (facing man x) to) (stands_aside z x y))
 
-    abbrev by_last : Man
-    by_last = facing last x
+    by_last : (same_side last.side side && bears_on moved (facing last x) y)
+        ≡ ((same_side last.side side && bears_on staying (facing last x) y) && stands_aside (facing last x) y to)
+    by_last =
+        ap (λ (b : Bool). same_side last.side side && b) (bears_moved (facing last x) y)
+        ∙ sym (and_and (same_side last.side side) (bears_on staying (facing last x) y) (stands_aside (facing last x) y to))
 
-    last_after : (same_side last.side side && bears_on moved by_last y)
-        ≡ ((same_side last.side side && bears_on staying by_last y) && (same_side last.side side && bears_on (z ∷ []) by_last y))
-    last_after =
-        ap (λ (b : Bool). same_side last.side side && b) (bears_moved by_last y)
-        ∙ twice (same_side last.side side) (bears_on staying by_last y) (bears_on [] by_last y) (not (is_slider last.kind && strictly_between x to y))
-        (bears_on (z ∷ []) by_last y) (bears_alone staying by_last y) (bears_men [] man to by_last y)
-
-    pub by_two : attacked_with_last moved last side x y ≡ attacked_by_two staying last side man to x y
-    by_two =
-        ap (λ (b : Bool). b || (same_side last.side side && bears_on moved by_last y))
+    pub by_three : attacked_with_last moved last side x y
+        ≡ ((list_any (bears_past to x y) bearers || ((same_side man.side side && bears_on staying (facing man x) to) && stands_aside z x y))
+        || ((same_side last.side side && bears_on staying (facing last x) y) && stands_aside (facing last x) y to))
+    by_three =
+        ap (λ (b : Bool). b || (same_side last.side side && bears_on moved (facing last x) y))
         (any_moved (λ m. same_side m.side side && bears_with moved y m x)
-        ∙ ap (λ (b : Bool). b || (same_side man.side side && bears_with moved y z x)) none_staying
-        ∙ by_itself)
-        ∙ ap (λ (b : Bool). ((same_side man.side side && bears_on staying z x) && not (is_slider man.kind && strictly_between to y x)) || b) last_after
+        ∙ ap (λ (b : Bool). b || (same_side man.side side && bears_with moved y z x)) by_staying
+        ∙ ap (λ (b : Bool). list_any (bears_past to x y) bearers || b) by_itself)
+        ∙ ap (λ (b : Bool). (list_any (bears_past to x y) bearers
+        || ((same_side man.side side && bears_on staying (facing man x) to) && stands_aside z x y)) || b) by_last
 
   -- ---- on the square of a king, that of the man or another
 

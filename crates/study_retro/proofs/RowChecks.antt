@@ -79,7 +79,7 @@ module _ (others : List Man) (last : Man) (y : ℕ) where
   same_squares : (a b : ℕ) → (a == b) ≡ (b == a)
   same_squares a b = same_test (a == b) (b == a) (λ e. eq-eqb b a (sym (eqb-true a b e))) (λ e. eq-eqb a b (sym (eqb-true b a e)))
 
-  bears_last : (x : ℕ) → bears_on men l x ≡ bears_on others (facing last x) y
+  pub bears_last : (x : ℕ) → bears_on men l x ≡ bears_on others (facing last x) y
   bears_last x =
       rw (
         same_squares y x,

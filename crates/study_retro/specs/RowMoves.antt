@@ -5,11 +5,12 @@ use Rattle.study_board.specs.declared.men.Side.{Side}
 use Rattle.study_board.specs.declared.men.Kind.TheVariants.{King}
 use Rattle.study_board.specs.declared.men.Man.{Man}
 use Rattle.study_board.specs.Geometry.{rank_of, strictly_between}
-use Rattle.study_board.specs.Men.{bears_on, is_attacked, is_man, other_side, same_side}
+use Rattle.study_board.specs.Men.{bears_on, is_man, other_side, same_side}
 use Rattle.study_board.specs.Position.{in_check, is_empty, is_occupied}
 use Rattle.study_board.specs.Sets.{has, is_slider}
 use Rattle.study_moves.specs.Rules.{half_way, is_ahead, reaches_target, starting_rank}
 use Rattle.study_index.specs.Moved.{from_to}
+use Rattle.study_retro.specs.declared.row_checks.Bearer.{Bearer}
 use Rattle.study_retro.specs.Still.{facing, on_square}
 
 -- the man bears on x where a further man stands on y
@@ -60,18 +61,26 @@ IsOnlyKing men side k = (f : ℕ → Bool) → list_any (λ m. is_man side King 
 abbrev pub gone_to : ℕ → ℕ → ℕ → ℕ
 gone_to from to a = if a == from then to else a
 
--- of the others those stay where the man on the square goes; on the squares of the set those of them that are not of the side bear;
--- and the last man bears on the side's only king from those of the other set, if it is not of the side
-pub record AreStaying (others : List Man) (last : Man) (from : ℕ) (side : Side) (staying : List Man) (attacked : ℕ) (king : Option ℕ) (checks : ℕ)
-    : Type 0 where
-  pub rest : AreRest others from staying
-  pub bear : (x : ℕ) → x < 64 → has attacked x ≡ is_attacked staying (other_side side) x
-  pub only : IfSome king (λ k. IsOnlyKing others side k)
-  pub give : IfSome king (λ k. (y : ℕ) → y < 64 → has checks y ≡ (same_side last.side (other_side side) && bears_on staying (facing last k) y))
+-- a further man on y is not in the way of the man to x
+abbrev pub stands_aside : Man → ℕ → ℕ → Bool
+stands_aside m x y = not (is_slider m.kind && strictly_between m.at y x)
 
--- with the last man on y it bears on x, or the man does that has gone to a square, where no other man of the side does
-abbrev pub attacked_by_two : List Man → Man → Side → Man → ℕ → ℕ → ℕ → Bool
-attacked_by_two staying last side man to x y =
-    ((same_side man.side side && bears_on staying (on_square man to) x) && not (is_slider man.kind && strictly_between to y x))
-    || ((same_side last.side side && bears_on staying (facing last x) y)
-    && (same_side last.side side && bears_on (on_square man to ∷ []) (facing last x) y))
+-- the man bears on x past men on z and y
+abbrev pub bears_past : ℕ → ℕ → ℕ → Bearer → Bool
+bears_past z x y b = has b.squares x && (stands_aside b.man x z && stands_aside b.man x y)
+
+-- of the men those of the side, each with the squares on which it bears, by what some of them is that bears on a square
+abbrev pub AreBearers : List Man → Side → List Bearer → Type 0
+AreBearers men side bearers = (x : ℕ) → x < 64 → (p : Man → Bool)
+    → list_any (λ b. has b.squares x && p b.man) bearers ≡ list_any (λ m. (same_side m.side side && bears_on men m x) && p m) men
+
+-- of the others those stay where the man goes; the bearers are those of them that are not of the side, and bear on the squares of the first
+-- set; and from those of the other sets the last man and the one that goes, if they are not of the side, bear on the side's only king
+pub record AreStaying (others : List Man) (last man : Man) (side : Side) (staying : List Man) (bearers : List Bearer) (attacked : ℕ)
+    (king : Option ℕ) (checks given : ℕ) : Type 0 where
+  pub rest : AreRest others man.at staying
+  pub bear : AreBearers staying (other_side side) bearers
+  pub all : (x : ℕ) → x < 64 → has attacked x ≡ list_any (λ b. has b.squares x) bearers
+  pub only : IfSome king (λ k. IsOnlyKing others side k)
+  pub last_bears : IfSome king (λ k. (y : ℕ) → y < 64 → has checks y ≡ (same_side last.side (other_side side) && bears_on staying (facing last k) y))
+  pub man_bears : IfSome king (λ k. (y : ℕ) → y < 64 → has given y ≡ (same_side man.side (other_side side) && bears_on staying (facing man k) y))

@@ -210,7 +210,7 @@ fn write_before_man_from(
         → IsSetWhere change.cell change.over cells.new n }
 {
     let others = row.others.as_slice();
-    let staying = Staying::new(others, &row.last, man.at, row.to_move);
+    let staying = Staying::new(others, &row.last, man, row.to_move);
     let mut count = 0u64;
     let mut rest = origins_beside(others, man);
     let mut next = 0u8;

@@ -1,17 +1,16 @@
 //! On which squares of the man of the last slot a king is attacked: in a row of numbers that man alone stands elsewhere.
-ghost use Rattle.std.specs.Prelude.{◌≡◌, ◌<◌, ◌≤◌, ◌&&◌, ◌||◌, ℕ, not, false, length, map, [], ◌∷◌, ◌++◌, Some, IfSome};
+ghost use Rattle.std.specs.Prelude.{◌≡◌, ◌<◌, ◌≤◌, ◌&&◌, ◌||◌, ℕ, not, true, false, length, map, [], ◌∷◌, ◌++◌, Some, IfSome};
 ghost use Rattle.std.specs.List.{list_any, All, Contains};
 ghost use Rattle.study_board.specs.declared.men.Kind.TheVariants.{King};
 ghost use Rattle.study_board.specs.Geometry.{strictly_between};
-ghost use Rattle.study_board.specs.Men.{bears_on, is_attacked, other_side, same_kind, same_side};
+ghost use Rattle.study_board.specs.Men.{bears_on, other_side, same_kind, same_side};
 ghost use Rattle.study_board.specs.Position.{in_check};
 ghost use Rattle.study_board.specs.Sets.{has, is_slider};
 ghost use Rattle.study_index.specs.Moved.{from_to};
-ghost use Rattle.study_retro.specs.RowMoves.{AreApart, AreRest, AreStaying, IsOnlyKing, attacked_by_two, attacked_with_last};
-ghost use Rattle.study_retro.specs.RowMoves.{bears_with, gone_to, king_attacked_with};
+ghost use Rattle.study_retro.specs.RowMoves.{AreApart, AreBearers, AreRest, AreStaying, IsOnlyKing, attacked_with_last};
+ghost use Rattle.study_retro.specs.RowMoves.{bears_past, bears_with, gone_to, king_attacked_with, stands_aside};
 ghost use Rattle.study_retro.specs.Still.{facing, on_square};
 
-use crate::still::attacked_squares;
 use arrayvec::ArrayVec;
 use study_board::{Kind, Man, Side, Square, SquareSet, attacks, between};
 
@@ -121,42 +120,68 @@ pub fn squares_of_check(others: &[Man], last: &Man, side: Side) -> SquareSet
     set
 }
 
-/// The others where one of them goes, as they attack the king of a side: those that stay, the squares on which they bear without
-/// the last man, the square of the king before, if there is just one, and the squares from which the last man bears on it.
+/// A man and the squares on which it bears without the last man.
+#[derive(Clone, Copy)]
+pub struct Bearer {
+    pub man: Man,
+    pub squares: SquareSet,
+}
+
+impl Default for Bearer {
+    fn default() -> Self {
+        Bearer {
+            man: Man::default(),
+            squares: SquareSet::empty(),
+        }
+    }
+}
+
+/// The others where one of them goes, as they attack the king of a side: those that stay, those of them that attack it, the
+/// squares on which these bear, the square of the king before, if there is just one, and the squares from which the last man
+/// and the one that goes bear on it.
 #[derive(Drop)]
 pub struct Staying {
     pub men: ArrayVec<Man, 4>,
+    pub bearers: ArrayVec<Bearer, 4>,
     pub attacked: SquareSet,
     pub king: Option<Square>,
     pub checks: SquareSet,
+    pub given: SquareSet,
 }
 
 impl Staying {
-    /// Those that stay where the man on the square goes.
-    #[inline]
-    pub fn new(others: &[Man], last: &Man, from: Square, side: Side) -> Self
+    /// Those that stay where the man goes.
+    #[inline(always)]
+    pub fn new(others: &[Man], last: &Man, man: &Man, side: Side) -> Self
         requires { length others.now ≤ 4 }
-        ensures { AreStaying others.now last.now from side result.men.items result.attacked result.king result.checks }
+        ensures { AreStaying others.now last.now man.now side result.men.items result.bearers.items result.attacked result.king
+            result.checks result.given }
     {
         let by = side.other();
-        let men = men_staying(others, from);
-        let attacked = attacked_squares(men.as_slice(), by);
+        let men = men_staying(others, man.at);
+        let bearers = bearers_of(men.as_slice(), by);
+        let attacked = squares_borne_on(bearers.as_slice());
         match only_king(others, side) {
             Some(square) => {
                 let checks = squares_of_last(men.as_slice(), last, by, square);
+                let given = squares_of_last(men.as_slice(), man, by, square);
                 let king = Some(square);
                 Staying {
                     men,
+                    bearers,
                     attacked,
                     king,
                     checks,
+                    given,
                 }
             }
             None => Staying {
                 men,
+                bearers,
                 attacked,
                 king: None,
                 checks: SquareSet::empty(),
+                given: SquareSet::empty(),
             },
         }
     }
@@ -201,6 +226,103 @@ fn men_staying(others: &[Man], from: Square) -> ArrayVec<Man, 4>
     list
 }
 
+/// The men of the side, each with the squares on which it bears.
+#[inline]
+fn bearers_of(men: &[Man], by: Side) -> ArrayVec<Bearer, 4>
+    requires { length men.now ≤ 4 }
+    ensures { AreBearers men.now by result.items }
+{
+    let mut list = ArrayVec::new();
+    for m in men {
+        if m.side == by {
+            list.push(Bearer {
+                man: *m,
+                squares: attacks(men, m),
+            });
+        }
+    }
+    list
+}
+
+/// The squares on which some of them bear.
+#[inline]
+fn squares_borne_on(bearers: &[Bearer]) -> SquareSet
+    ensures { (x : ℕ) → x < 64 → has result x ≡ list_any (λ b. has b.squares x) bearers.now }
+{
+    let mut set = SquareSet::empty();
+    for b in bearers {
+        set = set.union(b.squares);
+    }
+    set
+}
+
+/// The squares of a further man with which the man bears on the square.
+#[inline]
+fn squares_bearing(b: &Bearer, x: Square) -> SquareSet
+    ensures { (y : ℕ) → y < 64 → has result y ≡ (has b.now.squares x && stands_aside b.now.man x y) }
+{
+    if !b.squares.contains(x) {
+        return SquareSet::empty();
+    }
+    squares_aside(&b.man, x)
+}
+
+/// The squares of a further man with which some of them bear on the square, given the squares on which some of them bear.
+#[inline(always)]
+fn squares_attacking_of(bearers: &[Bearer], attacked: SquareSet, x: Square) -> SquareSet
+    requires { (z : ℕ) → z < 64 → has attacked z ≡ list_any (λ b. has b.squares z) bearers.now }
+    ensures { (y : ℕ) → y < 64 → has result y ≡ list_any (λ b. has b.squares x && stands_aside b.man x y) bearers.now }
+{
+    let _square = x.number();
+    let mut set = SquareSet::empty();
+    if !attacked.contains(x) {
+        return set;
+    }
+    for b in bearers {
+        set = set.union(squares_bearing(b, x));
+    }
+    set
+}
+
+/// The squares of a further man with which the man bears on the square, one standing on `to`.
+#[inline]
+fn squares_bearing_past(b: &Bearer, to: Square, x: Square) -> SquareSet
+    ensures { (y : ℕ) → y < 64 → has result y ≡ bears_past to x y b.now }
+{
+    let _square = to.number();
+    if !b.squares.contains(x) {
+        return SquareSet::empty();
+    }
+    let set = squares_aside(&b.man, x);
+    if !set.contains(to) {
+        return SquareSet::empty();
+    }
+    set
+}
+
+/// The squares of a further man with which some of them bear on the square, one standing on `to`, given the squares on which
+/// some of them bear.
+#[inline(always)]
+fn squares_attacking_past(
+    bearers: &[Bearer],
+    attacked: SquareSet,
+    to: Square,
+    x: Square,
+) -> SquareSet
+    requires { (z : ℕ) → z < 64 → has attacked z ≡ list_any (λ b. has b.squares z) bearers.now }
+    ensures { (y : ℕ) → y < 64 → has result y ≡ list_any (bears_past to x y) bearers.now }
+{
+    let _square = x.number();
+    let mut set = SquareSet::empty();
+    if !attacked.contains(x) {
+        return set;
+    }
+    for b in bearers {
+        set = set.union(squares_bearing_past(b, to, x));
+    }
+    set
+}
+
 /// The man, put on `to` if it stands on `from`.
 #[inline]
 fn put(man: &Man, from: Square, to: Square) -> Man
@@ -217,62 +339,68 @@ fn put(man: &Man, from: Square, to: Square) -> Man
     }
 }
 
-/// The men, the one on `from` put on `to`.
-#[inline]
-fn with_man_on(others: &[Man], from: Square, to: Square) -> ArrayVec<Man, 4>
-    requires { length others.now ≤ 4 }
-    ensures { result.items ≡ map (from_to from to) others.now }
-{
-    let mut list = ArrayVec::new();
-    for man in others {
-        list.push(put(man, from, to));
-    }
-    list
-}
-
 /// The squares of the man of the last slot with which the square is attacked by it or by men that stay, given the squares on
 /// which those of the side bear without it.
 #[inline(always)]
 fn squares_attacking_by(
     staying: &[Man],
+    bearers: &[Bearer],
     attacked: SquareSet,
     last: &Man,
     by: Side,
     x: Square,
 ) -> SquareSet
-    requires { (z : ℕ) → z < 64 → has attacked z ≡ is_attacked staying.now by z }
+    requires bear { AreBearers staying.now by bearers.now }
+    requires attacked { (z : ℕ) → z < 64 → has attacked z ≡ list_any (λ b. has b.squares z) bearers.now }
     ensures { (y : ℕ) → y < 64 → has result y ≡ attacked_with_last staying.now last.now by x y }
 {
     let _square = x.number();
-    let of_last = squares_of_last(staying, last, by, x);
-    if !attacked.contains(x) {
-        return of_last;
-    }
-    squares_attacking(staying, by, x).union(of_last)
+    squares_attacking_of(bearers, attacked, x).union(squares_of_last(staying, last, by, x))
 }
 
-/// The squares of the man of the last slot with which a square, on which none of those that stay bears, is attacked by it or by
-/// the man on `to`, given the squares from which it bears on that one with the man off the board.
+/// The squares of a further man with which the man, on `to`, bears on the square, given those from which it does so without.
 #[inline(always)]
-fn squares_attacking_by_two(
-    staying: &[Man],
-    checks: SquareSet,
-    last: &Man,
-    by: Side,
-    man: &Man,
-    to: Square,
-    x: Square,
-) -> SquareSet
-    requires { (y : ℕ) → y < 64 → has checks y ≡ (same_side last.now.side by && bears_on staying.now (facing last.now x) y) }
-    ensures { (y : ℕ) → y < 64 → has result y ≡ attacked_by_two staying.now last.now by man.now to x y }
+fn squares_bearing_from(given: SquareSet, man: &Man, to: Square, x: Square) -> SquareSet
+    ensures { (y : ℕ) → y < 64 → has result y ≡ (has given to && stands_aside (on_square man.now to) x y) }
 {
+    if !given.contains(to) {
+        return SquareSet::empty();
+    }
     let gone = Man {
         side: man.side,
         kind: man.kind,
         at: to,
     };
-    let of_last = checks.intersection(squares_of_last(&[gone], last, by, x));
-    squares_bearing_with(staying, by, &gone, x).union(of_last)
+    squares_aside(&gone, x)
+}
+
+/// The squares from which the man of the last slot bears on the square past the man on `to`, given those from which it does so
+/// with that one off the board.
+#[inline(always)]
+fn squares_of_last_past(
+    checks: SquareSet,
+    last: &Man,
+    man: &Man,
+    to: Square,
+    x: Square,
+) -> SquareSet
+    requires { (y : ℕ) → y < 64 → has checks y ≡ true → bears_on [] (facing last.now x) y ≡ true }
+    ensures { (y : ℕ) → y < 64 → has result y ≡ (has checks y && stands_aside (facing last.now x) y to) }
+{
+    if !last.kind.is_slider() {
+        return checks;
+    }
+    let gone = Man {
+        side: man.side,
+        kind: man.kind,
+        at: to,
+    };
+    let facing = Man {
+        side: last.side.other(),
+        kind: last.kind,
+        at: x,
+    };
+    checks.intersection(attacks(&[gone], &facing))
 }
 
 /// The squares of the man of the last slot with which the only king of the side, on that square before, is attacked with the
@@ -289,22 +417,37 @@ fn squares_attacking_after(
 ) -> SquareSet
     requires few { length others.now ≤ 4 }
     requires man { Contains others.now man.now }
-    requires staying { AreStaying others.now last.now man.now.at side staying.now.men.items staying.now.attacked staying.now.king staying.now.checks }
+    requires staying { AreStaying others.now last.now man.now side staying.now.men.items staying.now.bearers.items staying.now.attacked
+        staying.now.king staying.now.checks staying.now.given }
     requires king { staying.now.king ≡ Some king }
     ensures { (y : ℕ) → y < 64 → AreApart (others.now ++ on_square last.now y ∷ []) → has result y
         ≡ attacked_with_last (map (from_to man.now.at to) others.now) last.now (other_side side) (gone_to man.now.at to king) y }
 {
-    let _square = king.number();
+    let _read = (others.len(), king.number(), to.number());
     let by = side.other();
     let men = staying.men.as_slice();
+    let bearers = staying.bearers.as_slice();
     if king == man.at {
-        return squares_attacking_by(men, staying.attacked, last, by, to);
+        return squares_attacking_by(men, bearers, staying.attacked, last, by, to);
     }
-    if staying.attacked.contains(king) {
-        let moved = with_man_on(others, man.at, to);
-        return squares_attacking_with(moved.as_slice(), last, by, king);
+    let of_man = squares_bearing_from(staying.given, man, to, king);
+    let of_last = squares_of_last_past(staying.checks, last, man, to, king);
+    squares_attacking_past(bearers, staying.attacked, to, king)
+        .union(of_man)
+        .union(of_last)
+}
+
+/// The men, the one on `from` put on `to`.
+#[inline]
+fn with_man_on(others: &[Man], from: Square, to: Square) -> ArrayVec<Man, 4>
+    requires { length others.now ≤ 4 }
+    ensures { result.items ≡ map (from_to from to) others.now }
+{
+    let mut list = ArrayVec::new();
+    for man in others {
+        list.push(put(man, from, to));
     }
-    squares_attacking_by_two(men, staying.checks, last, by, man, to, king)
+    list
 }
 
 /// The squares of the man of the last slot with which a king of the side is attacked with the man, one of the others, on `to`.
@@ -320,7 +463,8 @@ pub fn squares_of_check_after(
     requires few { length others.now ≤ 4 }
     requires last { same_kind last.now.kind King ≡ false }
     requires man { Contains others.now man.now }
-    requires staying { AreStaying others.now last.now man.now.at side staying.now.men.items staying.now.attacked staying.now.king staying.now.checks }
+    requires staying { AreStaying others.now last.now man.now side staying.now.men.items staying.now.bearers.items staying.now.attacked
+        staying.now.king staying.now.checks staying.now.given }
     ensures { (y : ℕ) → y < 64 → AreApart (others.now ++ on_square last.now y ∷ [])
         → has result y ≡ in_check (map (from_to man.now.at to) others.now ++ on_square last.now y ∷ []) side }
 {

@@ -249,7 +249,7 @@ fn quiet_moves_of_man_from<A: Allocator>(
     ensures some { HaveMoves game.now.class row.now.number result.some }
 {
     let others = row.others.as_slice();
-    let staying = Staying::new(others, &row.last, man.at, row.to_move);
+    let staying = Staying::new(others, &row.last, man, row.to_move);
     let mut losing = so_far.losing;
     let mut some = so_far.some;
     let mut rest = targets_beside(others, man);

@@ -38,7 +38,8 @@ fn squares_letting(
     requires few { length others.now ≤ 4 }
     requires last { same_kind last.now.kind King ≡ false }
     requires man { Contains others.now man.now }
-    requires staying { AreStaying others.now last.now man.now.at side staying.now.men.items staying.now.attacked staying.now.king staying.now.checks }
+    requires staying { AreStaying others.now last.now man.now side staying.now.men.items staying.now.bearers.items staying.now.attacked
+        staying.now.king staying.now.checks staying.now.given }
     ensures { (y : ℕ) → y < 64 → AreApart (others.now ++ on_square last.now y ∷ [])
         → has result y ≡ lets_pass others.now last.now side man.now.at to y }
 {
@@ -61,7 +62,8 @@ pub fn squares_led(
     requires few { length others.now ≤ 4 }
     requires last { same_kind last.now.kind King ≡ false }
     requires man { Contains others.now man.now }
-    requires staying { AreStaying others.now last.now man.now.at to_move staying.now.men.items staying.now.attacked staying.now.king staying.now.checks }
+    requires staying { AreStaying others.now last.now man.now to_move staying.now.men.items staying.now.bearers.items staying.now.attacked
+        staying.now.king staying.now.checks staying.now.given }
     requires side { same_side man.now.side (other_side to_move) ≡ true }
     requires comes { comes others.now man.now origin ≡ true }
     ensures { (y : ℕ) → y < 64 → AreApart (others.now ++ on_square last.now y ∷ [])
@@ -95,7 +97,8 @@ pub fn squares_going(
     requires few { length others.now ≤ 4 }
     requires last { same_kind last.now.kind King ≡ false }
     requires man { Contains others.now man.now }
-    requires staying { AreStaying others.now last.now man.now.at to_move staying.now.men.items staying.now.attacked staying.now.king staying.now.checks }
+    requires staying { AreStaying others.now last.now man.now to_move staying.now.men.items staying.now.bearers.items staying.now.attacked
+        staying.now.king staying.now.checks staying.now.given }
     requires side { same_side man.now.side to_move ≡ true }
     requires goes { goes_quietly others.now man.now target ≡ true }
     ensures { (y : ℕ) → y < 64 → AreApart (others.now ++ on_square last.now y ∷ []) → has result y

@@ -1,14 +1,16 @@
-use Rattle.std.proofs.Common.{Bool, ◌||◌, ◌&&◌, sym, ◌∙◌, ap}
-use Rattle.study_board.specs.Men.{bears_on, same_side}
-use Rattle.study_retro.specs.Still.{facing}
-use Rattle.study_retro.proofs.CheckLemmas.{none_with}
+use Rattle.std.proofs.Common.{Bool, ◌||◌, ◌&&◌, ◌∙◌, ap}
+use Rattle.std.specs.List.{list_any}
+use Rattle.study_board.specs.Men.{same_side}
+use Rattle.study_board.specs.Sets.{has}
+use Rattle.study_retro.specs.RowMoves.{bears_with}
+use Rattle.study_retro.proofs.CheckLemmas.{among_bearers}
 use Rattle.study_retro.proofs.row_checks.squares_attacking_by.Goals as goal
 
-pub returns-then-not-contains : goal.returns-then-not-contains
-returns-then-not-contains c y ly =
+pub returns : goal.returns
+returns c y ly =
     let men = c.args.staying.now in
-    let last = c.args.last.now in
-    c.squares_of_last-of_last.ensures y ly
-    ∙ ap (λ (b : Bool). b || (same_side last.side c.args.by && bears_on men (facing last c.args.x) y))
-    (sym (none_with men c.args.by c.args.x y
-    (sym (c.requires c.args.x c.number-square.ensures.small) ∙ sym c.contains.ensures ∙ c.if-not-contains.true)))
+    let x = c.args.x in
+    c.union.ensures y
+    ∙ ap (λ (b : Bool). b || has c.squares_of_last.result y)
+    (c.squares_attacking_of.ensures y ly ∙ among_bearers men c.args.by c.args.bearers.now c.requires.bear x y c.number-square.ensures.small)
+    ∙ ap (λ (b : Bool). list_any (λ m. same_side m.side c.args.by && bears_with men y m x) men || b) (c.squares_of_last.ensures y ly)
