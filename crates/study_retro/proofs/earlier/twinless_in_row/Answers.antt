@@ -18,8 +18,8 @@ returns c = λ y ly e.
     let out = not_true (has c.squares_abreast.result y) (sym (c.complement-2.ensures y ly) ∙ e) in
     apart_twinless c.args.class n
     (λ rank files low high.
-        c.squares_abreast.ensures y ly out
-        (sym (ap (λ (x : ℕ). rank_of x) white) ∙ rank ∙ ap (λ (x : ℕ). rank_of x) black)
-        (sym (ap (λ (x : ℕ). files_apart x y) white) ∙ sym (ap (λ (x : ℕ). files_apart (n / 64 % 64) x) black) ∙ files)
-        (subst (λ (x : ℕ). 3 ≤ rank_of x) white low)
-        (subst (λ (x : ℕ). rank_of x ≤ 4) white high))
+    c.squares_abreast.ensures y ly out
+    (sym (ap (λ (x : ℕ). rank_of x) white) ∙ rank ∙ ap (λ (x : ℕ). rank_of x) black)
+    (sym (ap (λ (x : ℕ). files_apart x y) white) ∙ sym (ap (λ (x : ℕ). files_apart (n / 64 % 64) x) black) ∙ files)
+    (subst (λ (x : ℕ). 3 ≤ rank_of x) white low)
+    (subst (λ (x : ℕ). rank_of x ≤ 4) white high))
