@@ -9,7 +9,7 @@ ghost use Rattle.study_retro.specs.Table.{IsReady, IsClosed};
 use crate::back::Change;
 use crate::captures::captures_and_promotions;
 use crate::consistency::label;
-use crate::earlier::{may_pass, predecessor_numbers};
+use crate::earlier::{may_pass, predecessor_numbers, twinless_in_row};
 use crate::game::{Game, Location};
 use crate::initial::{Initial, initial_by_moves};
 use crate::row_back::write_before_row;
@@ -153,7 +153,7 @@ impl<'t, 'a, A: Allocator> SteppedGame for ClassGame<'t, 'a, A> {
 
     fn unknown_in_row(&self, row: u32) -> SquareSet {
         if row >= EN_PASSANT_BIT / 64 {
-            return SquareSet::empty();
+            return twinless_in_row(self.class, row - EN_PASSANT_BIT / 64);
         }
         still_in_row(self.class, row)
     }

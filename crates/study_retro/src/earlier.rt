@@ -1,8 +1,9 @@
 //! What leads to the position of a number, within its class.
-ghost use Rattle.std.specs.Prelude.{◌≡◌, ◌≢◌, ◌+◌, ◌≤◌, ◌<◌, ◌⊎◌, ◌↔◌, ℕ, true, false, Some, None, IfSome, IfNone, IsTrue, Contains};
+ghost use Rattle.std.specs.Prelude.{◌≡◌, ◌≢◌, ◌+◌, ◌*◌, ◌≤◌, ◌<◌, ◌⊎◌, ◌↔◌, ℕ, true, false, Some, None, IfSome, IfNone, IsTrue, Contains};
 ghost use Rattle.arrayvec.specs.ArrayVec.{array_vec_len};
 ghost use Rattle.study_board.specs.Position.{Position as Seen};
 ghost use Rattle.study_board.specs.Geometry.{files_apart, rank_of};
+ghost use Rattle.study_board.specs.Sets.{has};
 ghost use Rattle.study_moves.specs.Rules.{after, is_legal};
 ghost use Rattle.study_moves.specs.Unmoves.{LeadsQuietly, CanHaveLed, move_from};
 ghost use Rattle.study_material.specs.Class.{lists_of};
@@ -11,7 +12,7 @@ ghost use Rattle.study_index.specs.Computed.{index_of, position_numbered};
 ghost use Rattle.study_retro.specs.Predecessors.{IsPlainNumber, IsNumberBefore, ComesBefore, PassesNone, IsTwinless, LeavesNone};
 
 use arrayvec::ArrayVec;
-use study_board::{Man, Position, Square};
+use study_board::{Man, Position, Square, SquareSet};
 use study_index::{EN_PASSANT_BIT, cells, decode, index, number_moved};
 use study_material::Class;
 use study_moves::{Move, played, unmoves, unplayed};
@@ -171,6 +172,31 @@ pub fn may_have_twin(class: Class, number: u32) -> bool
     ensures { result ≡ false → IsTwinless class number }
 {
     has_both_pawns(class) && are_abreast(number / 64 % 64, number % 64)
+}
+
+/// The squares beside one from which a pawn can capture in passing, and on the edge of the board the next by number.
+#[inline]
+fn squares_abreast(a: Square) -> SquareSet
+    ensures { (y : ℕ) → y < 64 → has result y ≡ false → rank_of a ≡ rank_of y → files_apart a y ≡ 1 → (3 ≤ rank_of a) → (rank_of a ≤ 4) → ⊥ }
+{
+    let number = a.number();
+    if number < 24 || number > 39 {
+        return SquareSet::empty();
+    }
+    SquareSet::of(Square::at(number - 1)).union(SquareSet::of(Square::at(number + 1)))
+}
+
+/// Squares of the man of the last slot in a row of numbers with which no capture in passing is legal, by the squares of the
+/// pawns.
+#[inline]
+pub fn twinless_in_row(class: Class, row: u32) -> SquareSet
+    ensures { (y : ℕ) → y < 64 → has result y ≡ true → IsTwinless class (64 * row + y) }
+{
+    if !has_both_pawns(class) {
+        return SquareSet::empty().complement();
+    }
+    let pawn = Square::at((row % 64) as u8);
+    squares_abreast(pawn).complement()
 }
 
 /// Whether a quiet move from the one square to the other, after which the men are those of the number, may leave the
