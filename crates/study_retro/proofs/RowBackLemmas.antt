@@ -1,13 +1,18 @@
 -- The positions before those of a row, where the numbers after a man has moved are a row.
-use Rattle.std.proofs.Common.{◌≡◌, ℕ, ◌<◌, ◌++◌, ◌∷◌, [], true, List, Contains, Some, inl, inr, refl, sym, ◌∙◌, subst}
+use Rattle.std.proofs.Common.{◌≡◌, ◌==◌, ℕ, ◌<◌, ◌+◌, ◌*◌, ◌&&◌, ◌||◌, ◌++◌, ◌∷◌, [], arith, Bool, true, false, not, List, Contains, Some, inl, inr, refl, sym, ◌∙◌, subst}
 use Rattle.std.specs.List.Sorted.{IsPermutation}
 use Rattle.std.proofs.lemmas.List.Elements.{Contains-append_left, Contains-push}
 use Rattle.study_board.specs.declared.men.Man.{Man}
 use Rattle.study_board.specs.declared.men.Side.{Side}
-use Rattle.study_board.specs.Men.{other_side, same_side}
-use Rattle.study_board.specs.Position.{Position}
+use Rattle.study_board.specs.Men.{other_side, same_side, is_pawn}
+use Rattle.study_board.specs.Geometry.{on_bishop_line, rank_of, file_of, ranks_apart, strictly_between}
+use Rattle.study_index.proofs.Symmetries.{all_below, at_below}
+use Rattle.study_board.specs.Position.{Position, is_empty}
+use Rattle.study_board.specs.declared.men.Side.TheVariants.{White, Black}
 use Rattle.study_board.specs.Sets.{has}
-use Rattle.study_moves.specs.Unmoves.{CanHaveLed, came_from, comes, move_from}
+use Rattle.std.proofs.lemmas.Bool.{false≢true, and_parts, or_cases, eqb-true, eq-eqb}
+use Rattle.study_moves.specs.Unmoves.{CanHaveLed, came_from, comes, first_rank, move_from, pawn_comes}
+use Rattle.study_moves.specs.Rules.{half_way, is_ahead}
 use Rattle.study_material.specs.declared.class.Class.{Class}
 use Rattle.study_moves.specs.Rules.{after}
 use Rattle.study_index.specs.Number.{cells_of}
@@ -16,7 +21,7 @@ use Rattle.study_index.specs.Moved.{IsMoved}
 use Rattle.study_index.proofs.ComputedIndex.{told_decoded}
 use Rattle.study_index.proofs.DecodedNumbers.{told_of}
 use Rattle.study_retro.specs.Predecessors.{AreTold, IsBeforeFrom, PassesNone}
-use Rattle.study_retro.specs.RowBack.{IsItOrTwin}
+use Rattle.study_retro.specs.RowBack.{ComesPlainly, IsItOrTwin, double_step_rank}
 use Rattle.study_retro.specs.RowMoves.{AreApart}
 use Rattle.study_retro.specs.Still.{on_square}
 use Rattle.study_retro.proofs.BackLemmas.{before_below, is_before, twin_before, small_before, came_led, led_came}
@@ -75,3 +80,75 @@ module _ (c : Class) (number y : ℕ) (q : Position) (at : position_numbered c n
     row_came a n on b =
         let h = led_came c number q at row_men side told man (Contains-append_left others (on_square last y ∷ []) man among) a n on b in
         (h.0, h.1, came_less others last y side man a h.1)
+
+-- ---- where a double step leads
+
+same_bool : Bool → Bool → Bool
+same_bool true b = b
+same_bool false b = not b
+
+abbrev pub on_rank_line : ℕ → ℕ → Bool
+on_rank_line a y = (a == y || strictly_between a y (a + 7)) || (a + 7 == y)
+
+rank_test : (s : Side) → all_below 64 (λ y. same_bool (on_rank_line (8 * double_step_rank s) y) (rank_of y == double_step_rank s)) ≡ true
+unfolding same_bool strictly_between on_bishop_line
+rank_test White = refl
+rank_test Black = refl
+
+pub on_double_step_rank : (s : Side) (y : ℕ) → y < 64 → on_rank_line (8 * double_step_rank s) y ≡ (rank_of y == double_step_rank s)
+unfolding same_bool
+on_double_step_rank s y l =
+    by_test _ _ (at_below 64 (λ y. same_bool (on_rank_line (8 * double_step_rank s) y) (rank_of y == double_step_rank s)) (rank_test s) y l)
+  where
+    by_test : (b c : Bool) → same_bool b c ≡ true → b ≡ c
+    by_test true c e = sym e
+    by_test false true e = absurd (false≢true e)
+    by_test false false e = refl
+
+-- a pawn has come to another square than one of those by a step
+no_double : (side : Side) (men : List Man) (y a : ℕ) → (rank_of y == double_step_rank side) ≡ false → pawn_comes men side y a ≡ true
+    → (ranks_apart a y == 2) ≡ false
+unfolding pawn_comes
+no_double White men y a off e =
+    let first = not (rank_of a == first_rank White) in
+    let step = is_ahead White 1 a y && first in
+    let double = (rank_of a == 1) && is_ahead White 2 a y && is_empty men (half_way a y) in
+    elim (or_cases step double (and_parts (step || double) (is_empty men a) e).0) [
+      | inl one ↦
+          let s = eqb-true (rank_of y) (rank_of a + 1) (and_parts (file_of y == file_of a) (rank_of y == rank_of a + 1) (and_parts (is_ahead White 1 a y) first one).0).1 in
+          let d : ranks_apart a y ≡ 1 = omega (arith, s) in
+          rw d refl
+      | inr two ↦
+          let h = and_parts (rank_of a == 1) (is_ahead White 2 a y) (and_parts _ (is_empty men (half_way a y)) two).0 in
+          let s = eqb-true (rank_of y) (rank_of a + 2) (and_parts (file_of y == file_of a) (rank_of y == rank_of a + 2) h.1).1 in
+          let t = eqb-true (rank_of a) 1 h.0 in
+          let r : rank_of y ≡ 3 = omega (arith, s, t) in
+          absurd (false≢true (sym off ∙ eq-eqb _ _ r))
+    ]
+no_double Black men y a off e =
+    let first = not (rank_of a == first_rank Black) in
+    let step = is_ahead Black 1 a y && first in
+    let double = (rank_of a == 6) && is_ahead Black 2 a y && is_empty men (half_way a y) in
+    elim (or_cases step double (and_parts (step || double) (is_empty men a) e).0) [
+      | inl one ↦
+          let s = eqb-true (rank_of y + 1) (rank_of a) (and_parts (file_of y == file_of a) (rank_of y + 1 == rank_of a) (and_parts (is_ahead Black 1 a y) first one).0).1 in
+          let d : ranks_apart a y ≡ 1 = omega (arith, s) in
+          rw d refl
+      | inr two ↦
+          let h = and_parts (rank_of a == 6) (is_ahead Black 2 a y) (and_parts _ (is_empty men (half_way a y)) two).0 in
+          let s = eqb-true (rank_of y + 2) (rank_of a) (and_parts (file_of y == file_of a) (rank_of y + 2 == rank_of a) h.1).1 in
+          let t = eqb-true (rank_of a) 6 h.0 in
+          let r : rank_of y ≡ 4 = omega (arith, s, t) in
+          absurd (false≢true (sym off ∙ eq-eqb _ _ r))
+    ]
+
+pub pawn_plainly : (c : Class) (last : Man) (y : ℕ) → is_pawn last ≡ true → (rank_of y == double_step_rank last.side) ≡ false → ComesPlainly c last y
+unfolding comes
+pawn_plainly c last y pawn off men a e =
+    let e' : pawn_comes men last.side y a ≡ true = rw pawn at e in
+    inr (no_double last.side men y a off e')
+
+-- where the last man comes plainly, its last move has left no capture in passing
+pub came_plainly : (c : Class) (last : Man) (y : ℕ) → ComesPlainly c last y → (others : List Man) (side : Side) (a : ℕ)
+    → came_from (others ++ on_square last y ∷ []) side (on_square last y) a ≡ true → PassesNone c a y
+came_plainly c last y plainly others side a e = plainly (others ++ on_square last y ∷ []) a (and_parts _ _ e).0

@@ -1,13 +1,14 @@
 -- Not part of any public contract: what comes before some of a row of numbers, 64 of them, one for each square of the last man.
 use Rattle.std.specs.Prelude.{◌≡◌, ℕ, ◌+◌, ◌*◌, ◌<◌, ◌⊎◌, true, List, [], ◌∷◌, ◌++◌, Some}
 use Rattle.study_board.specs.declared.men.Side.{Side}
+use Rattle.study_board.specs.declared.men.Side.TheVariants.{White, Black}
 use Rattle.study_board.specs.declared.men.Man.{Man}
 use Rattle.study_board.specs.Position.{Position}
 use Rattle.study_board.specs.Sets.{has}
-use Rattle.study_moves.specs.Unmoves.{CanHaveLed, came_from, move_from}
+use Rattle.study_moves.specs.Unmoves.{CanHaveLed, came_from, comes, move_from}
 use Rattle.study_material.specs.declared.class.Class.{Class}
 use Rattle.study_index.specs.Computed.{position_numbered}
-use Rattle.study_retro.specs.Predecessors.{IsBeforeBy, IsBeforeFrom}
+use Rattle.study_retro.specs.Predecessors.{IsBeforeBy, IsBeforeFrom, PassesNone}
 use Rattle.study_retro.specs.Still.{on_square}
 
 -- n is the number, or that of the position with the same men in which a capture in passing is legal
@@ -27,6 +28,15 @@ CanAllHaveLed c row set man a =
 abbrev pub IsOriginInRow : List Man → Man → Side → ℕ → ℕ → Type 0
 IsOriginInRow others last side set a =
     (y : ℕ) × (y < 64) × (has set y ≡ true) × (came_from (others ++ on_square last y ∷ []) side (on_square last y) a ≡ true)
+
+-- the rank to which a double step of the side leads
+abbrev pub double_step_rank : Side → ℕ
+double_step_rank White = 3
+double_step_rank Black = 4
+
+-- no move by which the man comes to y, beside any others, leaves a capture in passing
+abbrev pub ComesPlainly : Class → Man → ℕ → Type 0
+ComesPlainly c last y = (men : List Man) (a : ℕ) → comes men (on_square last y) a ≡ true → PassesNone c a y
 
 -- n is the number of a position from which a quiet move of the man, from a, leads to one of those numbers; and from some square
 abbrev pub IsBeforeRowFrom : Class → ℕ → ℕ → Man → ℕ → ℕ → Type 0

@@ -1,11 +1,15 @@
 //! Steps back from decided positions of a row of numbers: each man but the last goes back from all of them at once.
-ghost use Rattle.std.specs.Prelude.{◌≡◌, ◌<◌, ◌+◌, ◌*◌, ℕ, true, length, Contains};
+ghost use Rattle.std.specs.Prelude.{◌≡◌, ◌==◌, ◌<◌, ◌+◌, ◌*◌, ℕ, true, false, length, Contains};
+ghost use Rattle.study_board.specs.Geometry.{rank_of};
+ghost use Rattle.study_board.specs.Position.{Position as Seen};
+ghost use Rattle.study_index.specs.Computed.{index_of};
+ghost use Rattle.study_index.specs.Moved.{IsMoved};
 ghost use Rattle.study_board.specs.Men.{other_side, same_side};
 ghost use Rattle.study_board.specs.Sets.{has};
 ghost use Rattle.study_index.specs.Number.{cells_of};
 ghost use Rattle.study_retro.specs.Predecessors.{IsBefore, IsBeforeBy, IsBeforeFrom, PassesNone};
 ghost use Rattle.study_retro.specs.Propagation.{AreSet, IsSetWhere};
-ghost use Rattle.study_retro.specs.RowBack.{CanAllHaveLed, IsBeforeRowBy, IsBeforeRowFrom, IsInRowOrTwin, IsItOrTwin, IsOriginInRow};
+ghost use Rattle.study_retro.specs.RowBack.{CanAllHaveLed, ComesPlainly, IsBeforeRowBy, IsBeforeRowFrom, IsInRowOrTwin, IsItOrTwin, IsOriginInRow, double_step_rank};
 ghost use Rattle.study_retro.specs.RowLevels.{AreNumbered, IsBeforeRow};
 ghost use Rattle.study_retro.specs.Still.{on_square};
 
@@ -15,7 +19,7 @@ use crate::row::Row;
 use crate::row_checks::{Staying, squares_of_check};
 use crate::row_levels::write_before_each;
 use crate::row_moves::{origins_beside, origins_of_last, squares_led};
-use study_board::{Man, Square, SquareSet};
+use study_board::{Kind, Man, Side, Square, SquareSet, between};
 use study_index::{Departure, EN_PASSANT_BIT, RowDeparture, row_of_last, told};
 use study_material::Class;
 
@@ -321,7 +325,94 @@ fn origins_in_row(row: &Row, decided: SquareSet) -> LastOrigins
     LastOrigins { squares, count }
 }
 
+/// The rank to which a double step of the side leads.
+#[inline]
+fn double_step_rank(side: Side) -> u8
+    ensures { result ≡ double_step_rank side }
+{
+    match side {
+        Side::White => 3,
+        Side::Black => 4,
+    }
+}
+
+/// The squares of that rank.
+#[inline]
+fn double_step_squares(side: Side) -> SquareSet
+    ensures { (y : ℕ) → y < 64 → has result y ≡ (rank_of y == double_step_rank side) }
+{
+    let start = 8 * double_step_rank(side);
+    let (first, last) = (Square::at(start), Square::at(start + 7));
+    SquareSet::of(first)
+        .union(between(first, last))
+        .union(SquareSet::of(last))
+}
+
+/// Squares on some of which the last man may have come by a move that leaves a capture in passing; on the others it has not.
+#[inline]
+fn passing_squares(class: Class, last: &Man) -> SquareSet
+    ensures { (y : ℕ) → y < 64 → has result y ≡ false → ComesPlainly class last.now y }
+{
+    if !has_both_pawns(class) {
+        SquareSet::empty()
+    } else if last.kind == Kind::Pawn {
+        double_step_squares(last.side)
+    } else {
+        SquareSet::empty().complement()
+    }
+}
+
 /// The same of the last man: at once, where the numbers before are a row and no move leaves a capture in passing.
+fn write_before_last_at_once(
+    row: &Row,
+    cells: &mut [u8],
+    decided: SquareSet,
+    before: u32,
+    change: Change,
+) -> u64
+    requires side { same_side row.now.last.side (other_side row.now.to_move) ≡ true }
+    requires numbered { AreNumbered row.now.class row.now.number decided }
+    requires plainly { (y : ℕ) → y < 64 → has decided y ≡ true → ComesPlainly row.now.class row.now.last y }
+    requires before { (y a : ℕ) (p : Seen) → y < 64 → a < 64 → IsMoved row.now.class (64 * row.now.number + y) y a p
+        → index_of p ≡ 64 * before + a }
+    requires small { before < 1048576 }
+    requires cell { 0 < change.cell }
+    requires cells { length cells.old ≡ cells_of row.now.class }
+    ensures rise { AreSet (IsBeforeRow row.now.class row.now.number decided) change.cell change.over cells.old cells.new }
+    ensures done { (n y : ℕ) → y < 64 → has decided y ≡ true → IsBeforeBy row.now.class (64 * row.now.number + y) (on_square row.now.last y) n
+        → IsSetWhere change.cell change.over cells.new n }
+{
+    let origins = origins_in_row(row, decided);
+    write_row(row.class, cells, before, origins.squares, change);
+    origins.count
+}
+
+/// The same: at once but from the squares where a move may leave a capture in passing.
+fn write_before_last_apart(
+    row: &Row,
+    cells: &mut [u8],
+    decided: SquareSet,
+    before: u32,
+    change: Change,
+) -> u64
+    requires side { same_side row.now.last.side (other_side row.now.to_move) ≡ true }
+    requires numbered { AreNumbered row.now.class row.now.number decided }
+    requires before { (y a : ℕ) (p : Seen) → y < 64 → a < 64 → IsMoved row.now.class (64 * row.now.number + y) y a p
+        → index_of p ≡ 64 * before + a }
+    requires small { before < 1048576 }
+    requires cell { 0 < change.cell }
+    requires cells { length cells.old ≡ cells_of row.now.class }
+    ensures rise { AreSet (IsBeforeRow row.now.class row.now.number decided) change.cell change.over cells.old cells.new }
+    ensures done { (n y : ℕ) → y < 64 → has decided y ≡ true → IsBeforeBy row.now.class (64 * row.now.number + y) (on_square row.now.last y) n
+        → IsSetWhere change.cell change.over cells.new n }
+{
+    let passing = passing_squares(row.class, &row.last);
+    let count = write_before_last_each(row, cells, decided.intersection(passing), change);
+    let plain = decided.without(passing);
+    count.saturating_add(write_before_last_at_once(row, cells, plain, before, change))
+}
+
+/// The same, of any side: at once, where the numbers before are a row and no move leaves a capture in passing.
 fn write_before_last(row: &Row, cells: &mut [u8], decided: SquareSet, change: Change) -> u64
     requires numbered { AreNumbered row.now.class row.now.number decided }
     requires cell { 0 < change.cell }
@@ -333,16 +424,9 @@ fn write_before_last(row: &Row, cells: &mut [u8], decided: SquareSet, change: Ch
     if row.last.side != row.to_move.other() {
         return 0;
     }
-    if has_both_pawns(row.class) {
-        return write_before_last_each(row, cells, decided, change);
-    }
     match row_of_last(row.class, row.number) {
         None => write_before_last_each(row, cells, decided, change),
-        Some(before) => {
-            let origins = origins_in_row(row, decided);
-            write_row(row.class, cells, before, origins.squares, change);
-            origins.count
-        }
+        Some(before) => write_before_last_apart(row, cells, decided, before, change),
     }
 }
 
