@@ -77,10 +77,10 @@ AreBearers men side bearers = (x : ℕ) → x < 64 → (p : Man → Bool)
 -- of the others those stay where the man goes; the bearers are those of them that are not of the side, and bear on the squares of the first
 -- set; and from those of the other sets the last man and the one that goes, if they are not of the side, bear on the side's only king
 pub record AreStaying (others : List Man) (last man : Man) (side : Side) (staying : List Man) (bearers : List Bearer) (attacked : ℕ)
-    (king : Option ℕ) (checks given : ℕ) : Type 0 where
+    (king : Option ℕ) (checks checks_of_man : ℕ) : Type 0 where
   pub rest : AreRest others man.at staying
   pub bear : AreBearers staying (other_side side) bearers
   pub all : (x : ℕ) → x < 64 → has attacked x ≡ list_any (λ b. has b.squares x) bearers
   pub only : IfSome king (λ k. IsOnlyKing others side k)
   pub last_bears : IfSome king (λ k. (y : ℕ) → y < 64 → has checks y ≡ (same_side last.side (other_side side) && bears_on staying (facing last k) y))
-  pub man_bears : IfSome king (λ k. (y : ℕ) → y < 64 → has given y ≡ (same_side man.side (other_side side) && bears_on staying (facing man k) y))
+  pub man_bears : IfSome king (λ k. (y : ℕ) → y < 64 → has checks_of_man y ≡ (same_side man.side (other_side side) && bears_on staying (facing man k) y))

@@ -146,7 +146,7 @@ pub struct Staying {
     pub attacked: SquareSet,
     pub king: Option<Square>,
     pub checks: SquareSet,
-    pub given: SquareSet,
+    pub checks_of_man: SquareSet,
 }
 
 impl Staying {
@@ -155,7 +155,7 @@ impl Staying {
     pub fn new(others: &[Man], last: &Man, man: &Man, side: Side) -> Self
         requires { length others.now ≤ 4 }
         ensures { AreStaying others.now last.now man.now side result.men.items result.bearers.items result.attacked result.king
-            result.checks result.given }
+            result.checks result.checks_of_man }
     {
         let by = side.other();
         let men = men_staying(others, man.at);
@@ -164,7 +164,7 @@ impl Staying {
         match only_king(others, side) {
             Some(square) => {
                 let checks = squares_of_last(men.as_slice(), last, by, square);
-                let given = squares_of_last(men.as_slice(), man, by, square);
+                let checks_of_man = squares_of_last(men.as_slice(), man, by, square);
                 let king = Some(square);
                 Staying {
                     men,
@@ -172,7 +172,7 @@ impl Staying {
                     attacked,
                     king,
                     checks,
-                    given,
+                    checks_of_man,
                 }
             }
             None => Staying {
@@ -181,7 +181,7 @@ impl Staying {
                 attacked,
                 king: None,
                 checks: SquareSet::empty(),
-                given: SquareSet::empty(),
+                checks_of_man: SquareSet::empty(),
             },
         }
     }
@@ -360,10 +360,10 @@ fn squares_attacking_by(
 
 /// The squares of a further man with which the man, on `to`, bears on the square, given those from which it does so without.
 #[inline(always)]
-fn squares_bearing_from(given: SquareSet, man: &Man, to: Square, x: Square) -> SquareSet
-    ensures { (y : ℕ) → y < 64 → has result y ≡ (has given to && stands_aside (on_square man.now to) x y) }
+fn squares_bearing_from(checks: SquareSet, man: &Man, to: Square, x: Square) -> SquareSet
+    ensures { (y : ℕ) → y < 64 → has result y ≡ (has checks to && stands_aside (on_square man.now to) x y) }
 {
-    if !given.contains(to) {
+    if !checks.contains(to) {
         return SquareSet::empty();
     }
     let gone = Man {
@@ -418,7 +418,7 @@ fn squares_attacking_after(
     requires few { length others.now ≤ 4 }
     requires man { Contains others.now man.now }
     requires staying { AreStaying others.now last.now man.now side staying.now.men.items staying.now.bearers.items staying.now.attacked
-        staying.now.king staying.now.checks staying.now.given }
+        staying.now.king staying.now.checks staying.now.checks_of_man }
     requires king { staying.now.king ≡ Some king }
     ensures { (y : ℕ) → y < 64 → AreApart (others.now ++ on_square last.now y ∷ []) → has result y
         ≡ attacked_with_last (map (from_to man.now.at to) others.now) last.now (other_side side) (gone_to man.now.at to king) y }
@@ -430,7 +430,7 @@ fn squares_attacking_after(
     if king == man.at {
         return squares_attacking_by(men, bearers, staying.attacked, last, by, to);
     }
-    let of_man = squares_bearing_from(staying.given, man, to, king);
+    let of_man = squares_bearing_from(staying.checks_of_man, man, to, king);
     let of_last = squares_of_last_past(staying.checks, last, man, to, king);
     squares_attacking_past(bearers, staying.attacked, to, king)
         .union(of_man)
@@ -464,7 +464,7 @@ pub fn squares_of_check_after(
     requires last { same_kind last.now.kind King ≡ false }
     requires man { Contains others.now man.now }
     requires staying { AreStaying others.now last.now man.now side staying.now.men.items staying.now.bearers.items staying.now.attacked
-        staying.now.king staying.now.checks staying.now.given }
+        staying.now.king staying.now.checks staying.now.checks_of_man }
     ensures { (y : ℕ) → y < 64 → AreApart (others.now ++ on_square last.now y ∷ [])
         → has result y ≡ in_check (map (from_to man.now.at to) others.now ++ on_square last.now y ∷ []) side }
 {

@@ -39,7 +39,7 @@ fn squares_letting(
     requires last { same_kind last.now.kind King ≡ false }
     requires man { Contains others.now man.now }
     requires staying { AreStaying others.now last.now man.now side staying.now.men.items staying.now.bearers.items staying.now.attacked
-        staying.now.king staying.now.checks staying.now.given }
+        staying.now.king staying.now.checks staying.now.checks_of_man }
     ensures { (y : ℕ) → y < 64 → AreApart (others.now ++ on_square last.now y ∷ [])
         → has result y ≡ lets_pass others.now last.now side man.now.at to y }
 {
@@ -63,7 +63,7 @@ pub fn squares_led(
     requires last { same_kind last.now.kind King ≡ false }
     requires man { Contains others.now man.now }
     requires staying { AreStaying others.now last.now man.now to_move staying.now.men.items staying.now.bearers.items staying.now.attacked
-        staying.now.king staying.now.checks staying.now.given }
+        staying.now.king staying.now.checks staying.now.checks_of_man }
     requires side { same_side man.now.side (other_side to_move) ≡ true }
     requires comes { comes others.now man.now origin ≡ true }
     ensures { (y : ℕ) → y < 64 → AreApart (others.now ++ on_square last.now y ∷ [])
@@ -98,7 +98,7 @@ pub fn squares_going(
     requires last { same_kind last.now.kind King ≡ false }
     requires man { Contains others.now man.now }
     requires staying { AreStaying others.now last.now man.now to_move staying.now.men.items staying.now.bearers.items staying.now.attacked
-        staying.now.king staying.now.checks staying.now.given }
+        staying.now.king staying.now.checks staying.now.checks_of_man }
     requires side { same_side man.now.side to_move ≡ true }
     requires goes { goes_quietly others.now man.now target ≡ true }
     ensures { (y : ℕ) → y < 64 → AreApart (others.now ++ on_square last.now y ∷ []) → has result y

@@ -47,7 +47,7 @@ returns c y ly apart =
     let of_last = c.squares_of_last_past-of_last in
     let given =
     subst (λ (o : Option ℕ). IfSome o (λ x. (a : ℕ) → a < 64
-    → has c.args.staying.now.given a ≡ (same_side man.side by && bears_on men (facing man x) a)))
+    → has c.args.staying.now.checks_of_man a ≡ (same_side man.side by && bears_on men (facing man x) a)))
     c.requires.king c.requires.staying.man_bears to c.number-2.ensures.small in
     let checks =
     subst (λ (o : Option ℕ). IfSome o (λ x. (a : ℕ) → a < 64
