@@ -9,7 +9,8 @@ ghost use Rattle.study_board.specs.Sets.{has};
 ghost use Rattle.study_index.specs.Number.{cells_of};
 ghost use Rattle.study_retro.specs.Predecessors.{IsBefore, IsBeforeBy, IsBeforeFrom, PassesNone};
 ghost use Rattle.study_retro.specs.Propagation.{AreSet, IsSetWhere};
-ghost use Rattle.study_retro.specs.RowBack.{CanAllHaveLed, ComesPlainly, IsBeforeRowBy, IsBeforeRowFrom, IsInRowOrTwin, IsItOrTwin, IsOriginInRow, double_step_rank};
+ghost use Rattle.study_retro.specs.RowBack.{CanAllHaveLed, ComesPlainly, IsBeforeRowBy, IsBeforeRowFrom, IsInRowOrTwin};
+ghost use Rattle.study_retro.specs.RowBack.{IsItOrTwin, IsOriginInRow, double_step_rank};
 ghost use Rattle.study_retro.specs.RowLevels.{AreNumbered, IsBeforeRow};
 ghost use Rattle.study_retro.specs.Still.{on_square};
 

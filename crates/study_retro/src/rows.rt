@@ -55,7 +55,7 @@ fn squares_bearing(others: &[Man], last: &Man, to_move: Side) -> SquareSet
 
 /// The squares of the rank from which a pawn of the side promotes.
 #[inline]
-fn promoting_squares(side: Side) -> SquareSet
+pub fn promoting_squares(side: Side) -> SquareSet
     ensures { (y : ℕ) → y < 64 → has result y ≡ (rank_of y == rank_before_last side) }
 {
     let start = 8 * rank_before_last(side);
