@@ -1,12 +1,11 @@
 -- The positions before those of a row, where the numbers after a man has moved are a row.
-use Rattle.std.proofs.Common.{◌≡◌, ◌==◌, ℕ, ◌<◌, ◌+◌, ◌*◌, ◌&&◌, ◌||◌, ◌++◌, ◌∷◌, [], arith, Bool, true, false, not, List, Contains, Some, inl, inr, refl, sym, ◌∙◌, subst}
+use Rattle.std.proofs.Common.{◌≡◌, ◌==◌, ℕ, ◌<◌, ◌+◌, ◌&&◌, ◌||◌, ◌++◌, ◌∷◌, [], arith, true, false, not, List, Contains, Some, inl, inr, refl, sym, ◌∙◌, subst}
 use Rattle.std.specs.List.Sorted.{IsPermutation}
 use Rattle.std.proofs.lemmas.List.Elements.{Contains-append_left, Contains-push}
 use Rattle.study_board.specs.declared.men.Man.{Man}
 use Rattle.study_board.specs.declared.men.Side.{Side}
 use Rattle.study_board.specs.Men.{other_side, same_side, is_pawn}
-use Rattle.study_board.specs.Geometry.{on_bishop_line, rank_of, file_of, ranks_apart, strictly_between}
-use Rattle.study_index.proofs.Symmetries.{all_below, at_below}
+use Rattle.study_board.specs.Geometry.{rank_of, file_of, ranks_apart}
 use Rattle.study_board.specs.Position.{Position, is_empty}
 use Rattle.study_board.specs.declared.men.Side.TheVariants.{White, Black}
 use Rattle.study_board.specs.Sets.{has}
@@ -82,28 +81,6 @@ module _ (c : Class) (number y : ℕ) (q : Position) (at : position_numbered c n
         (h.0, h.1, came_less others last y side man a h.1)
 
 -- ---- where a double step leads
-
-same_bool : Bool → Bool → Bool
-same_bool true b = b
-same_bool false b = not b
-
-abbrev pub on_rank_line : ℕ → ℕ → Bool
-on_rank_line a y = (a == y || strictly_between a y (a + 7)) || (a + 7 == y)
-
-rank_test : (s : Side) → all_below 64 (λ y. same_bool (on_rank_line (8 * double_step_rank s) y) (rank_of y == double_step_rank s)) ≡ true
-unfolding same_bool strictly_between on_bishop_line
-rank_test White = refl
-rank_test Black = refl
-
-pub on_double_step_rank : (s : Side) (y : ℕ) → y < 64 → on_rank_line (8 * double_step_rank s) y ≡ (rank_of y == double_step_rank s)
-unfolding same_bool
-on_double_step_rank s y l =
-    by_test _ _ (at_below 64 (λ y. same_bool (on_rank_line (8 * double_step_rank s) y) (rank_of y == double_step_rank s)) (rank_test s) y l)
-  where
-    by_test : (b c : Bool) → same_bool b c ≡ true → b ≡ c
-    by_test true c e = sym e
-    by_test false true e = absurd (false≢true e)
-    by_test false false e = refl
 
 -- a pawn has come to another square than one of those by a step
 no_double : (side : Side) (men : List Man) (y a : ℕ) → (rank_of y == double_step_rank side) ≡ false → pawn_comes men side y a ≡ true

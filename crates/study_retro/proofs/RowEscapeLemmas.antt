@@ -1,20 +1,24 @@
 -- The quiet moves from the numbers of a row.
 use Rattle.std.proofs.Common.{◌≡◌, ℕ, ◌+◌, ◌*◌, ◌<◌, ◌≤◌, ◌==◌, Bool, true, false, not, ◌&&◌, ◌||◌, ◌++◌, ◌∷◌}
-use Rattle.std.proofs.Common.{[], List, slice_index, Option, Contains, Some, ◌⊎◌, inl, inr, arith}
+use Rattle.std.proofs.Common.{[], List, slice_index, Option, Contains, None, Some, ◌⊎◌, inl, inr, arith}
 use Rattle.std.proofs.Common.{refl, sym, ◌∙◌, ap, subst}
 use Rattle.std.proofs.lemmas.Bool.{and_parts, false≢true, cases_lt, cases_Bool, eq-eqb, ne_eqb, not-true}
 use Rattle.std.proofs.lemmas.List.Elements.{Contains-append_left, Contains-push, Contains-push_cases}
 use Rattle.study_board.specs.declared.men.Man.{Man}
 use Rattle.study_board.specs.declared.men.Side.{Side}
 use Rattle.study_board.specs.declared.men.Side.TheVariants.{White, Black}
-use Rattle.study_board.specs.Geometry.{on_bishop_line, rank_of, strictly_between}
-use Rattle.study_board.specs.Men.{same_side}
+use Rattle.study_board.specs.Geometry.{on_bishop_line, rank_of, ranks_apart, strictly_between}
+use Rattle.study_moves.proofs.HowMenGo.{IsStep, IsDoubleStep, IsCapture, pawn_ways}
+use Rattle.study_retro.specs.Still.{rank_before_last}
+use Rattle.study_retro.specs.RowEscapes.{LeavesPlainly}
+use Rattle.study_board.specs.Men.{is_pawn, other_side, same_side}
 use Rattle.study_board.specs.Position.{Position, is_occupied}
 use Rattle.study_board.specs.Sets.{has}
 use Rattle.study_board.proofs.SetBits.{has-zero}
-use Rattle.study_moves.specs.Rules.{is_legal, last_rank, reaches_last_rank}
+use Rattle.study_moves.specs.Rules.{has_side, is_legal, last_rank, reaches_last_rank, reaches_target}
 use Rattle.study_moves.specs.Unmoves.{IsQuiet}
 use Rattle.study_moves.specs.AnyOrder.{is_safe_target}
+use Rattle.study_moves.specs.KingSafety.{is_unsafe}
 use Rattle.study_material.specs.declared.class.Class.{Class}
 use Rattle.study_index.specs.Number.{cells_of, without_bit}
 use Rattle.study_index.specs.Decoded.{slots_of, told_men, told_side}
@@ -269,3 +273,25 @@ on_last_rank s y l = by_test _ _ (at_below 64 (λ y. same_bool (on_rank_line (8 
     by_test true c e = sym e
     by_test false true e = absurd (false≢true e)
     by_test false false e = refl
+
+-- ---- where a double step starts
+
+-- a pawn goes from another square than one of those by a step or a capture
+no_double : (side : Side) (men : List Man) (y x : ℕ) → (rank_of y == rank_before_last (other_side side)) ≡ false
+    → IsStep men side y x ⊎ (IsDoubleStep men side y x ⊎ IsCapture side y x) → (ranks_apart y x == 2) ≡ false
+no_double White men y x off (inl step) = let s = step.ahead in let d : ranks_apart y x ≡ 1 = omega (arith, s) in rw d refl
+no_double White men y x off (inr (inl double)) = absurd (false≢true (sym off ∙ eq-eqb _ _ double.start))
+no_double White men y x off (inr (inr takes)) = let s = takes.ahead in let d : ranks_apart y x ≡ 1 = omega (arith, s) in rw d refl
+no_double Black men y x off (inl step) = let s = step.ahead in let d : ranks_apart y x ≡ 1 = omega (arith, s) in rw d refl
+no_double Black men y x off (inr (inl double)) = absurd (false≢true (sym off ∙ eq-eqb _ _ double.start))
+no_double Black men y x off (inr (inr takes)) = let s = takes.ahead in let d : ranks_apart y x ≡ 1 = omega (arith, s) in rw d refl
+
+pub leaves_plainly : (c : Class) (last : Man) (y : ℕ) → is_pawn last ≡ true → (rank_of y == rank_before_last (other_side last.side)) ≡ false
+    → LeavesPlainly c last y
+unfolding is_safe_target
+leaves_plainly c last y pawn off others side x e =
+    let men = others ++ on_square last y ∷ [] in
+    let safe = and_parts (is_safe_target men side (on_square last y) x) (not (is_occupied men x)) e in
+    let reaches = and_parts (reaches_target men None (on_square last y) x) (not (has_side men side x))
+    (and_parts _ (not (is_unsafe men side (on_square last y) x)) safe.0).0 in
+    inr (no_double last.side men y x off (pawn_ways men None (on_square last y) x pawn reaches.0))

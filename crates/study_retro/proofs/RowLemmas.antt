@@ -341,14 +341,14 @@ same_bool false b = not b
 abbrev pub on_rank_line : ℕ → ℕ → Bool
 on_rank_line a y = (a == y || strictly_between a y (a + 7)) || (a + 7 == y)
 
-rank_test : (s : Side) → all_below 64 (λ y. same_bool (on_rank_line (8 * rank_before_last s) y) (rank_of y == rank_before_last s)) ≡ true
+rank_test : all_below 8 (λ r. all_below 64 (λ y. same_bool (on_rank_line (8 * r) y) (rank_of y == r))) ≡ true
 unfolding same_bool strictly_between on_bishop_line
-rank_test White = refl
-rank_test Black = refl
+rank_test = refl
 
-pub on_rank : (s : Side) (y : ℕ) → y < 64 → on_rank_line (8 * rank_before_last s) y ≡ (rank_of y == rank_before_last s)
+pub on_rank : (r y : ℕ) → r < 8 → y < 64 → on_rank_line (8 * r) y ≡ (rank_of y == r)
 unfolding same_bool
-on_rank s y l = by_test _ _ (at_below 64 (λ y. same_bool (on_rank_line (8 * rank_before_last s) y) (rank_of y == rank_before_last s)) (rank_test s) y l)
+on_rank r y low l = by_test _ _ (at_below 64 (λ y. same_bool (on_rank_line (8 * r) y) (rank_of y == r))
+    (at_below 8 (λ r. all_below 64 (λ y. same_bool (on_rank_line (8 * r) y) (rank_of y == r))) rank_test r low) y l)
   where
     by_test : (b c : Bool) → same_bool b c ≡ true → b ≡ c
     by_test true c e = sym e

@@ -11,6 +11,7 @@ use Rattle.study_index.specs.Number.{without_bit}
 use Rattle.study_index.specs.Decoded.{slots_of, told_men, told_side}
 use Rattle.study_index.specs.Computed.{position_numbered}
 use Rattle.study_retro.specs.Numbered.{Numbered, NoLossBy}
+use Rattle.study_retro.specs.Predecessors.{PassesNone}
 use Rattle.study_retro.specs.Still.{HasMove, IsWonAfter, QuietMovesLose, QuietMovesLoseBy, move_to, on_square}
 
 -- the squares of one set are among those of the other
@@ -67,3 +68,7 @@ GoesOutside others last side set y = (x : ℕ) × (x < 64) × (goes_beside other
 
 abbrev pub GoesInRow : List Man → Man → Side → ℕ → ℕ → Type 0
 GoesInRow others last side set x = (y : ℕ) × (y < 64) × (has set y ≡ true) × (goes_beside others last side y x ≡ true)
+
+-- no move by which the man goes from y without taking a man, beside any others, leaves a capture in passing
+abbrev pub LeavesPlainly : Class → Man → ℕ → Type 0
+LeavesPlainly c last y = (others : List Man) (side : Side) (x : ℕ) → goes_beside others last side y x ≡ true → PassesNone c y x

@@ -20,7 +20,8 @@ use crate::row::Row;
 use crate::row_checks::{Staying, squares_of_check};
 use crate::row_levels::write_before_each;
 use crate::row_moves::{origins_beside, origins_of_last, squares_led};
-use study_board::{Kind, Man, Side, Square, SquareSet, between};
+use crate::rows::squares_of_rank;
+use study_board::{Kind, Man, Side, Square, SquareSet};
 use study_index::{Departure, EN_PASSANT_BIT, RowDeparture, row_of_last, told};
 use study_material::Class;
 
@@ -337,18 +338,6 @@ fn double_step_rank(side: Side) -> u8
     }
 }
 
-/// The squares of that rank.
-#[inline]
-fn double_step_squares(side: Side) -> SquareSet
-    ensures { (y : ℕ) → y < 64 → has result y ≡ (rank_of y == double_step_rank side) }
-{
-    let start = 8 * double_step_rank(side);
-    let (first, last) = (Square::at(start), Square::at(start + 7));
-    SquareSet::of(first)
-        .union(between(first, last))
-        .union(SquareSet::of(last))
-}
-
 /// Squares on some of which the last man may have come by a move that leaves a capture in passing; on the others it has not.
 #[inline]
 fn passing_squares(class: Class, last: &Man) -> SquareSet
@@ -357,7 +346,7 @@ fn passing_squares(class: Class, last: &Man) -> SquareSet
     if !has_both_pawns(class) {
         SquareSet::empty()
     } else if last.kind == Kind::Pawn {
-        double_step_squares(last.side)
+        squares_of_rank(double_step_rank(last.side))
     } else {
         SquareSet::empty().complement()
     }

@@ -7,13 +7,14 @@ ghost use Rattle.study_board.specs.Position.{Position as Seen, in_check};
 ghost use Rattle.study_board.specs.Sets.{has};
 ghost use Rattle.study_moves.specs.Rules.{last_rank, reaches_last_rank};
 ghost use Rattle.study_index.specs.Number.{cells_of};
-ghost use Rattle.study_index.specs.Computed.{position_numbered};
+ghost use Rattle.study_index.specs.Computed.{index_of, position_numbered};
+ghost use Rattle.study_index.specs.Moved.{IsMoved};
 ghost use Rattle.study_retro.specs.Cells.{value_of};
 ghost use Rattle.study_retro.specs.ClassGame.{class_game};
 ghost use Rattle.study_retro.specs.Numbered.{HasPosition, HavePositions, IsNumberedClass, LosesBy, NoLossBy};
 ghost use Rattle.study_retro.specs.Predecessors.{PassesNone};
 ghost use Rattle.study_retro.specs.RowEscapes.{AllLose, AllLoseBy, AllLoseByLast, AreAmong, AreWonAfter, CanAllGo};
-ghost use Rattle.study_retro.specs.RowEscapes.{Goes, GoesInRow, GoesOutside, HaveMoves, OthersHold, goes_beside};
+ghost use Rattle.study_retro.specs.RowEscapes.{Goes, GoesInRow, GoesOutside, LeavesPlainly, HaveMoves, OthersHold, goes_beside};
 ghost use Rattle.study_retro.specs.RowLevels.{AreNumbered};
 ghost use Rattle.study_retro.specs.Still.{HasMove, QuietMovesLose, on_square};
 ghost use Rattle.study_retro.specs.declared.value.Value.TheVariants.{Win};
@@ -26,10 +27,12 @@ use crate::row::Row;
 use crate::row_checks::{Staying, squares_of_check};
 use crate::row_levels::lost_plainly_each;
 use crate::row_moves::{squares_going, targets_beside, targets_of_last};
-use crate::still::stays;
+use crate::rows::squares_of_rank;
+use crate::still::{rank_before_last, stays};
 use std::alloc::Allocator;
 use study_board::{Kind, Man, Side, Square, SquareSet, between};
 use study_index::{Departure, RowDeparture, row_of_last, told};
+use study_material::Class;
 
 /// Of some squares of a row, those whose cell tells of a win within `level` plies.
 #[inline]
@@ -462,8 +465,91 @@ fn moves_of_last(row: &Row, so_far: RowMoves, check: SquareSet, lost: SquareSet)
     RowMoves { losing, some }
 }
 
-/// What the quiet moves seen come to with those of the last man: at once, where the numbers after are a
+/// Squares from some of which the last man may go by a move that leaves a capture in passing; from the others it does not.
+#[inline]
+fn leaving_squares(class: Class, last: &Man) -> SquareSet
+    ensures { (y : ℕ) → y < 64 → has result y ≡ false → LeavesPlainly class last.now y }
+{
+    if !has_both_pawns(class) {
+        SquareSet::empty()
+    } else if last.kind == Kind::Pawn {
+        squares_of_rank(rank_before_last(last.side.other()))
+    } else {
+        SquareSet::empty().complement()
+    }
+}
+
+/// What the quiet moves seen come to with those of the last man, of the side to move: at once, where the numbers after are a
 /// row and no move leaves a capture in passing.
+fn quiet_moves_of_last_at_once<A: Allocator>(
+    game: &ClassGame<A>,
+    cells: &[u8],
+    row: &Row,
+    so_far: RowMoves,
+    after: u32,
+    level: u8,
+) -> RowMoves
+    requires laws { IsNumberedClass (class_game game.now.class game.now.tables.now) }
+    requires class { row.now.class ≡ game.now.class }
+    requires side { same_side row.now.last.side row.now.to_move ≡ true }
+    requires after { (y x : ℕ) (p : Seen) → y < 64 → x < 64 → IsMoved row.now.class (64 * row.now.number + y) y x p → index_of p ≡ 64 * after + x }
+    requires small { after < 1048576 }
+    requires numbered { AreNumbered game.now.class row.now.number so_far.losing }
+    requires some { HaveMoves game.now.class row.now.number so_far.some }
+    requires plainly { (y : ℕ) → y < 64 → has so_far.losing y ≡ true → LeavesPlainly row.now.class row.now.last y }
+    requires cells { length cells.now ≡ cells_of game.now.class }
+    ensures only { AreAmong result.losing so_far.losing }
+    ensures no { OthersHold (class_game game.now.class game.now.tables.now) cells.now level row.now.number so_far.losing result.losing }
+    ensures yes { AllLoseByLast (class_game game.now.class game.now.tables.now) cells.now level row.now.number result.losing row.now.last }
+    ensures some { HaveMoves game.now.class row.now.number result.some }
+{
+    let check = squares_of_check(row.others.as_slice(), &row.last, row.to_move);
+    let promoting = promotion_squares(&row.last);
+    let quiet = targets_in_row(row, so_far.losing, check).without(promoting);
+    let won = squares_won(cells, after, quiet, level);
+    moves_of_last(row, so_far, check, won.union(promoting))
+}
+
+/// The same: at once but from the squares where a move may leave a capture in passing.
+fn quiet_moves_of_last_apart<A: Allocator>(
+    game: &ClassGame<A>,
+    cells: &[u8],
+    row: &Row,
+    so_far: RowMoves,
+    after: u32,
+    level: u8,
+) -> RowMoves
+    requires laws { IsNumberedClass (class_game game.now.class game.now.tables.now) }
+    requires class { row.now.class ≡ game.now.class }
+    requires side { same_side row.now.last.side row.now.to_move ≡ true }
+    requires after { (y x : ℕ) (p : Seen) → y < 64 → x < 64 → IsMoved row.now.class (64 * row.now.number + y) y x p → index_of p ≡ 64 * after + x }
+    requires small { after < 1048576 }
+    requires numbered { AreNumbered game.now.class row.now.number so_far.losing }
+    requires some { HaveMoves game.now.class row.now.number so_far.some }
+    requires cells { length cells.now ≡ cells_of game.now.class }
+    ensures only { AreAmong result.losing so_far.losing }
+    ensures no { OthersHold (class_game game.now.class game.now.tables.now) cells.now level row.now.number so_far.losing result.losing }
+    ensures yes { AllLoseByLast (class_game game.now.class game.now.tables.now) cells.now level row.now.number result.losing row.now.last }
+    ensures some { HaveMoves game.now.class row.now.number result.some }
+{
+    let leaving = leaving_squares(row.class, &row.last);
+    let passing = RowMoves {
+        losing: so_far.losing.intersection(leaving),
+        some: so_far.some,
+    };
+    let plain = RowMoves {
+        losing: so_far.losing.without(leaving),
+        some: so_far.some,
+    };
+    let each = quiet_moves_of_last_each(game, cells, row, passing, level);
+    let at_once = quiet_moves_of_last_at_once(game, cells, row, plain, after, level);
+    RowMoves {
+        losing: each.losing.union(at_once.losing),
+        some: each.some.union(at_once.some),
+    }
+}
+
+/// The same, of any side: at once, where the numbers after are a row and no move leaves a capture in passing.
 fn quiet_moves_of_last<A: Allocator>(
     game: &ClassGame<A>,
     cells: &[u8],
@@ -484,18 +570,9 @@ fn quiet_moves_of_last<A: Allocator>(
     if row.last.side != row.to_move {
         return so_far;
     }
-    if has_both_pawns(row.class) {
-        return quiet_moves_of_last_each(game, cells, row, so_far, level);
-    }
     match row_of_last(row.class, row.number) {
         None => quiet_moves_of_last_each(game, cells, row, so_far, level),
-        Some(after) => {
-            let check = squares_of_check(row.others.as_slice(), &row.last, row.to_move);
-            let promoting = promotion_squares(&row.last);
-            let quiet = targets_in_row(row, so_far.losing, check).without(promoting);
-            let won = squares_won(cells, after, quiet, level);
-            moves_of_last(row, so_far, check, won.union(promoting))
-        }
+        Some(after) => quiet_moves_of_last_apart(game, cells, row, so_far, after, level),
     }
 }
 

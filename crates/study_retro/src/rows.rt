@@ -53,12 +53,13 @@ fn squares_bearing(others: &[Man], last: &Man, to_move: Side) -> SquareSet
     set
 }
 
-/// The squares of the rank from which a pawn of the side promotes.
+/// The squares of a rank, the first at 0.
 #[inline]
-fn promoting_squares(side: Side) -> SquareSet
-    ensures { (y : ℕ) → y < 64 → has result y ≡ (rank_of y == rank_before_last side) }
+pub fn squares_of_rank(rank: u8) -> SquareSet
+    requires { rank < 8 }
+    ensures { (y : ℕ) → y < 64 → has result y ≡ (rank_of y == rank) }
 {
-    let start = 8 * rank_before_last(side);
+    let start = 8 * rank;
     let (first, last) = (Square::at(start), Square::at(start + 7));
     SquareSet::of(first)
         .union(between(first, last))
@@ -73,7 +74,7 @@ fn squares_exposed(last: &Man, to_move: Side, attacked: SquareSet) -> SquareSet
     if last.side != to_move {
         attacked
     } else if last.kind == Kind::Pawn {
-        promoting_squares(to_move)
+        squares_of_rank(rank_before_last(to_move))
     } else {
         SquareSet::empty()
     }

@@ -1,6 +1,7 @@
-use Rattle.std.proofs.Common.{◌≡◌, ℕ, true, not, sym, ◌∙◌, ap}
+use Rattle.std.proofs.Common.{◌≡◌, ◌==◌, ℕ, true, not, sym, ◌∙◌, ap}
 use Rattle.std.proofs.lemmas.Bool.{false≢true}
 use Rattle.study_board.specs.declared.men.Kind.TheVariants.{Pawn}
+use Rattle.study_board.specs.Geometry.{rank_of}
 use Rattle.study_board.specs.Men.{is_pawn}
 use Rattle.study_board.proofs.EqualMen.{kind_same}
 use Rattle.study_board.proofs.SetBits.{has-zero}
@@ -12,7 +13,7 @@ pub returns-then-eq : goal.returns-then-eq
 returns-then-eq c = λ y on e.
     let last = c.args.last.now in
     let pawn : is_pawn last ≡ true = sym (kind_same last.kind Pawn) ∙ sym c.eq.ensures ∙ c.if-eq.true in
-    pawn_plainly c.args.class last y pawn (sym (c.double_step_squares.ensures y on) ∙ e)
+    pawn_plainly c.args.class last y pawn (ap (λ (r : ℕ). rank_of y == r) (sym c.double_step_rank.ensures) ∙ (sym (c.squares_of_rank.ensures y on) ∙ e))
 
 -- each square is in the set
 pub returns-else-eq : goal.returns-else-eq
