@@ -104,3 +104,7 @@ pub record LeadsOn (c : Class) (q : Position) : Type 0 where
 -- what every legal move leads to
 abbrev pub MovesLeadOn : Type 0
 MovesLeadOn = (c : Class) (p q : Position) → IsValid p → IsOf c p → Leads p q → LeadsOn c q
+
+-- the position is of the class, or of one that needs it, directly or through others
+abbrev pub NeedsClass : Position → Class → Type 0
+NeedsClass p d = (c : Class) × IsOf c p × IsNeeded c d

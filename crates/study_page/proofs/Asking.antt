@@ -8,7 +8,7 @@ use Rattle.study_prober.specs.declared.values.ProbeFault.{ProbeFault}
 use Rattle.study_prober.specs.declared.values.ProbeFault.TheVariants as probe
 use Rattle.study_marks.specs.Answers.{WereTold, IsFirstFault}
 use Rattle.study_marks.specs.Told.{failures_told}
-use Rattle.study_review.specs.Asked.{AllTold, Stopped}
+use Rattle.study_review.specs.Asked.{AllTold, Stopped, within}
 use Rattle.study_page.specs.Made.{HasAsked, fault_of}
 use Rattle.study_review.specs.Review.{HasReviewed}
 use Rattle.study_review.specs.declared.fault.ReviewFault.{ReviewFault}
@@ -16,6 +16,7 @@ use Rattle.study_review.specs.declared.fault.ReviewFault.TheVariants as fault
 use Rattle.study_page.specs.declared.fault.NotMade.{NotMade}
 use Rattle.study_page.specs.declared.fault.NotMade.TheVariants.{OutOfMemory, Untold}
 use Rattle.study_review.proofs.AskedSteps.{told-none, told-then, fault-then}
+use Rattle.study_review.proofs.Within.{LeadsTo, all-wider, stops-wider}
 
 same-failures : (T U : Type 0) (f : ProbeFault) (n : ℕ) → failures_told {T = T} (Err f) n ≡ failures_told {T = U} (Err f) n
 same-failures T U (probe.NoTable c) n = refl
@@ -107,3 +108,13 @@ module _ {V : Type 0} (held : V → Class → Bool) (gives : V → Position → 
 
   pub page-fails : {T : Type 0} (old new : V) (r : Result T ReviewFault) → IsErrAnd r (λ x. x ≡ fault.Device) → Told old new → Reviews old r new
   page-fails old new r is h = same-reviews old new r fault.Device is h
+
+-- the same of a position that leads to it
+module _ {V : Type 0} (held : V → Class → Bool) (gives : V → Position → ProbeAnswer → Type 0)
+    (may_fail : V → Class → SourceFault → Type 0) (asked_of failed_of : V → ℕ) (is_honest : V → Type 0)
+    (p q : Position) (lead : LeadsTo p q) where
+  pub asks-wider : {T : Type 0} (old new : V) (r : Result T NotMade) → HasAsked held (within q gives) may_fail asked_of failed_of is_honest {T = T} old r new
+      → HasAsked held (within p gives) may_fail asked_of failed_of is_honest {T = T} old r new
+  asks-wider old new (Ok x) h = all-wider held gives may_fail asked_of failed_of is_honest p q lead old new h
+  asks-wider old new (Err OutOfMemory) h = all-wider held gives may_fail asked_of failed_of is_honest p q lead old new h
+  asks-wider old new (Err (Untold f)) h = stops-wider held gives may_fail asked_of failed_of is_honest p q lead old new f h

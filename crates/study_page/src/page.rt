@@ -5,6 +5,7 @@ ghost use Rattle.study_text.specs.Taken.{TakesPrefix};
 ghost use Rattle.study_marks.specs.BenchState.{marked, IsKeptRight};
 ghost use Rattle.study_marks.specs.Study.{plain_study};
 ghost use Rattle.study_prober.specs.declared.values.ProbeFault.{ProbeFault as AProbeFault};
+ghost use Rattle.study_review.specs.Asked.{within};
 ghost use Rattle.study_review.specs.Review.{HasReviewed};
 ghost use Rattle.study_html.specs.Markup.{IsWellNested};
 ghost use Rattle.study_page.specs.Made.{HasAsked};
@@ -44,7 +45,7 @@ fn part_of<'a, 'b, A: Allocator, B: Allocator, V: Values>(
     values: &mut V,
 ) -> Result<Html<'a, A>, NotMade>
     ensures text { V.is_honest values.old → IfOk result (AreRows part (marked bench.now)) }
-    ensures asked { HasAsked V.held V.gives V.may_fail V.asked_of V.failed_of V.is_honest values.old result values.new }
+    ensures asked { HasAsked V.held (within (marked bench.now).start.position V.gives) V.may_fail V.asked_of V.failed_of V.is_honest values.old result values.new }
 {
     let mut html = Html::new(alloc);
     let mut steps = Vec::new(alloc);
@@ -61,7 +62,7 @@ fn parts_of<'a, 'b, A: Allocator, B: Allocator, V: Values>(
     ensures text { V.is_honest values.old → IfOk result (λ p. AreRows Part.Faults (marked bench.now) p.faults
         × AreRows Part.Duals (marked bench.now) p.duals × AreRows Part.Tries (marked bench.now) p.tries
         × AreRows Part.Defences (marked bench.now) p.defences × AreRows Part.Ends (marked bench.now) p.ends) }
-    ensures asked { HasAsked V.held V.gives V.may_fail V.asked_of V.failed_of V.is_honest values.old result values.new }
+    ensures asked { HasAsked V.held (within (marked bench.now).start.position V.gives) V.may_fail V.asked_of V.failed_of V.is_honest values.old result values.new }
 {
     let faults = part_of(alloc, Part::Faults, bench, values)?;
     let duals = part_of(alloc, Part::Duals, bench, values)?;
@@ -300,7 +301,7 @@ fn page_of<'a, 'b, A: Allocator, B: Allocator, V: Values>(
     number: u32,
 ) -> Result<Html<'a, A>, NotMade>
     ensures text { V.is_honest values.old → IfOk result (IsPage (marked bench.now) number) }
-    ensures asked { HasAsked V.held V.gives V.may_fail V.asked_of V.failed_of V.is_honest values.old result values.new }
+    ensures asked { HasAsked V.held (within (marked bench.now).start.position V.gives) V.may_fail V.asked_of V.failed_of V.is_honest values.old result values.new }
 {
     let mut html = Html::new(alloc);
     let mut counts = Text::new(alloc);
@@ -340,7 +341,7 @@ pub fn write_page<'a, 'b, A: Allocator, B: Allocator, V: Values, W: Write>(
         × TakesPrefix (W.contents out.old) (W.contents out.new) text }
     ensures memory { result ≡ Err ReviewFault.OutOfMemory → out.new ≡ out.old }
     ensures untold { (fault : AProbeFault) → result ≡ Err (ReviewFault.Values fault) → out.new ≡ out.old }
-    ensures asked { HasReviewed V.held V.gives V.may_fail V.asked_of V.failed_of V.is_honest values.old result values.new }
+    ensures asked { HasReviewed V.held (within (marked bench.now).start.position V.gives) V.may_fail V.asked_of V.failed_of V.is_honest values.old result values.new }
 {
     let page = page_of(alloc, bench, values, number)?;
     write_text(out, page.as_slice())?;

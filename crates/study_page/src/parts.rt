@@ -4,6 +4,7 @@ ghost use Rattle.std.specs.List.{All};
 ghost use Rattle.study_moves.specs.Rules.{is_legal};
 ghost use Rattle.study_tree.specs.Tree.{has_spot};
 ghost use Rattle.study_marks.specs.BenchState.{marked};
+ghost use Rattle.study_review.specs.Asked.{within};
 ghost use Rattle.study_review.specs.Made.{Grew};
 ghost use Rattle.study_review.specs.Line.{IsPlaceOf};
 ghost use Rattle.study_page.specs.Made.{HasAsked};
@@ -46,7 +47,7 @@ fn add_dual<'a, A: Allocator, V: Values>(
     requires legal { is_legal made.now.before.position made.now.played ≡ true }
     ensures text { V.is_honest values.old → OnOk result (Grew (IsFaultOf start.now made.now.before.aim made.now.before.depth
         made.now.before.line.items made.now.before.position made.now.played told.0 (Some (MoveMark.Dual told.1))) html.old html.new) }
-    ensures asked { HasAsked V.held V.gives V.may_fail V.asked_of V.failed_of V.is_honest values.old result values.new }
+    ensures asked { HasAsked V.held (within made.now.before.position V.gives) V.may_fail V.asked_of V.failed_of V.is_honest values.old result values.new }
 {
     match timed_alternatives(&made.before, made.played, values) {
         Err(fault) => Err(NotMade::Untold(fault)),
@@ -79,7 +80,7 @@ pub fn add_fault<'a, 'b, A: Allocator, B: Allocator, V: Values>(
     values: &mut V,
 ) -> Result<(), NotMade>
     ensures text { V.is_honest values.old → OnOk result (Grew (FaultItems (marked bench.now) steps.now) html.old html.new) }
-    ensures asked { HasAsked V.held V.gives V.may_fail V.asked_of V.failed_of V.is_honest values.old result values.new }
+    ensures asked { HasAsked V.held (within (marked bench.now).start.position V.gives) V.may_fail V.asked_of V.failed_of V.is_honest values.old result values.new }
 {
     if !is_solution_move(bench, steps) {
         return Ok(());
@@ -121,7 +122,7 @@ fn add_dual_card<'a, A: Allocator, V: Values>(
     requires legal { is_legal made.now.before.position made.now.played ≡ true }
     ensures text { V.is_honest values.old → OnOk result (Grew (IsCardOf start.now made.now.before.aim made.now.before.depth
         made.now.before.line.items made.now.before.position made.now.played told.0 (Some (MoveMark.Dual told.1))) html.old html.new) }
-    ensures asked { HasAsked V.held V.gives V.may_fail V.asked_of V.failed_of V.is_honest values.old result values.new }
+    ensures asked { HasAsked V.held (within made.now.before.position V.gives) V.may_fail V.asked_of V.failed_of V.is_honest values.old result values.new }
 {
     match timed_alternatives(&made.before, made.played, values) {
         Err(fault) => Err(NotMade::Untold(fault)),
@@ -155,7 +156,7 @@ pub fn add_card<'a, 'b, A: Allocator, B: Allocator, V: Values>(
     values: &mut V,
 ) -> Result<(), NotMade>
     ensures text { V.is_honest values.old → OnOk result (Grew (Cards (marked bench.now) steps.now) html.old html.new) }
-    ensures asked { HasAsked V.held V.gives V.may_fail V.asked_of V.failed_of V.is_honest values.old result values.new }
+    ensures asked { HasAsked V.held (within (marked bench.now).start.position V.gives) V.may_fail V.asked_of V.failed_of V.is_honest values.old result values.new }
 {
     let first = bench.start();
     let value = value_at(bench, steps);
@@ -206,7 +207,7 @@ pub fn add_try<'a, 'b, A: Allocator, B: Allocator, V: Values>(
 ) -> Result<(), NotMade>
     requires { IsPlaceOf (marked bench.now) steps.now place.now }
     ensures text { V.is_honest values.old → OnOk result (Grew (TryRows (marked bench.now) steps.now) html.old html.new) }
-    ensures asked { HasAsked V.held V.gives V.may_fail V.asked_of V.failed_of V.is_honest values.old result values.new }
+    ensures asked { HasAsked V.held (within place.now.position V.gives) V.may_fail V.asked_of V.failed_of V.is_honest values.old result values.new }
 {
     if !is_try(bench, steps) {
         return Ok(());
@@ -254,7 +255,7 @@ pub fn add_defences<'a, 'b, A: Allocator, B: Allocator, V: Values>(
     requires found { IsTrue (has_spot (marked bench.now).tree steps.now) }
     requires place { IsPlaceOf (marked bench.now) steps.now place.now }
     ensures text { V.is_honest values.old → OnOk result (Grew (DefenceRows (marked bench.now) steps.now) html.old html.new) }
-    ensures asked { HasAsked V.held V.gives V.may_fail V.asked_of V.failed_of V.is_honest values.old result values.new }
+    ensures asked { HasAsked V.held (within place.now.position V.gives) V.may_fail V.asked_of V.failed_of V.is_honest values.old result values.new }
 {
     if !is_defended(bench, steps) {
         return Ok(());
@@ -325,7 +326,7 @@ fn add_continued<'a, A: Allocator, V: Values>(
     requires { place.now.depth + 20 < 2 ^ 64 }
     ensures text { V.is_honest values.old → OnOk result (Grew (IsEnd start.now place.now.depth node.now place.now.position value)
         html.old html.new) }
-    ensures asked { HasAsked V.held V.gives V.may_fail V.asked_of V.failed_of V.is_honest values.old result values.new }
+    ensures asked { HasAsked V.held (within place.now.position V.gives) V.may_fail V.asked_of V.failed_of V.is_honest values.old result values.new }
 {
     if value == Value::Draw {
         let before = Node {
@@ -362,7 +363,7 @@ pub fn add_end<'a, 'b, A: Allocator, B: Allocator, V: Values>(
 ) -> Result<(), NotMade>
     requires { IsPlaceOf (marked bench.now) steps.now place.now }
     ensures text { V.is_honest values.old → OnOk result (Grew (EndRows (marked bench.now) steps.now) html.old html.new) }
-    ensures asked { HasAsked V.held V.gives V.may_fail V.asked_of V.failed_of V.is_honest values.old result values.new }
+    ensures asked { HasAsked V.held (within place.now.position V.gives) V.may_fail V.asked_of V.failed_of V.is_honest values.old result values.new }
 {
     if !is_open_end(bench, steps, &place.position) {
         return Ok(());

@@ -3,6 +3,7 @@ ghost use Rattle.std.specs.Prelude.{◌≡◌, ◌∷◌, IsTrue, OnOk};
 ghost use Rattle.study_tree.specs.Tree.{has_spot};
 ghost use Rattle.study_marks.specs.BenchState.{marked};
 ghost use Rattle.study_marks.specs.FaultSums.{below_at};
+ghost use Rattle.study_review.specs.Asked.{within};
 ghost use Rattle.study_review.specs.Made.{Grew};
 ghost use Rattle.study_review.specs.Review.{paths_from, LinesOfEach};
 ghost use Rattle.study_page.specs.Made.{HasAsked, RowsOf};
@@ -36,8 +37,9 @@ fn add_own<'a, 'b, A: Allocator, B: Allocator, V: Values>(
 ) -> Result<(), NotMade>
     requires { IsTrue (has_spot (marked bench.now).tree steps.now) }
     ensures text { V.is_honest values.old → OnOk result (Grew (RowsOf part (marked bench.now) steps.now) html.old html.new) }
-    ensures asked { HasAsked V.held V.gives V.may_fail V.asked_of V.failed_of V.is_honest values.old result values.new }
+    ensures asked { HasAsked V.held (within (marked bench.now).start.position V.gives) V.may_fail V.asked_of V.failed_of V.is_honest values.old result values.new }
 {
+    let first = bench.start();
     match place_in(bench, steps) {
         None => Ok(()),
         Some(place) => match part {
@@ -63,7 +65,7 @@ pub fn add_each<'a, 'b, A: Allocator, B: Allocator, V: Values>(
     ensures text { V.is_honest values.old → OnOk result (Grew (LinesOfEach (RowsOf part (marked bench.now))
         (steps.old.items ∷ paths_from steps.old.items 0 (below_at (marked bench.now).tree.below steps.old.items))) html.old html.new) }
     ensures path { OnOk result (steps.new.items ≡ steps.old.items) }
-    ensures asked { HasAsked V.held V.gives V.may_fail V.asked_of V.failed_of V.is_honest values.old result values.new }
+    ensures asked { HasAsked V.held (within (marked bench.now).start.position V.gives) V.may_fail V.asked_of V.failed_of V.is_honest values.old result values.new }
 {
     add_own(alloc, part, html, bench, steps.as_slice(), values)?;
     let count = count_at(bench, steps.as_slice());

@@ -2,7 +2,7 @@
 use Rattle.std.proofs.Common.{◌≡◌, ◌⊎◌, ℕ, zero, suc, ◌+◌, ◌-◌, ◌<◌, ◌≤◌}
 use Rattle.std.proofs.Common.{List, [], ◌∷◌, ◌++◌, length, take, drop, Option, Some, None, Ok}
 use Rattle.std.proofs.Common.{Bool, true, false, inl, inr, Err, refl, sym, ap, subst, ◌∙◌, arith, append_assoc}
-use Rattle.std.specs.Prelude.{slice_get, IfSome, sum_by}
+use Rattle.std.specs.Prelude.{slice_get, IfSome}
 use Rattle.std.proofs.lemmas.List.{append-nil, length-drop}
 use Rattle.std.proofs.lemmas.List.Sums.{sum_by_push}
 use Rattle.std.proofs.KnownBytes.{Appends-nil, Appends-trans}
@@ -324,7 +324,7 @@ module _ (tells : Plainly → ℕ → List ℕ → Type 0) (refusal : ℕ → Li
   counts-pgn : (p : Point) (line : List ℕ) (reply : Reply) (a : Added) (b : Bool) → IsPgnAfter tells refusal p line reply b a → Counts p a
   counts-pgn p line reply a true e = counts-refusal p line reply a e
   counts-pgn p line reply a false (inl (plain, text, b, t, e)) = subst (Counts p) (sym e) (refl, omega arith)
-  counts-pgn p line reply a false (inr (why, l, e)) = counts-refusal p line (refused reply.state why) a e
+  counts-pgn p line reply a false (inr (plain, why, d, l, e)) = counts-refusal p line (refused reply.state why) a e
 
   counts-checked : (p : Point) (line : List ℕ) (reply : Reply) (a : Added) (b : Bool) → IsCheckedAfter tells refusal p line reply b a → Counts p a
   counts-checked p line reply a true e = counts-refusal p line reply a e

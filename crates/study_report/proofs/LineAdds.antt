@@ -5,7 +5,6 @@ use Rattle.std.specs.Io.KnownBytes.{Appends}
 use Rattle.std.proofs.KnownBytes.{Appends-nil}
 use Rattle.std.proofs.lemmas.List.{append-nil}
 use Rattle.std.proofs.lemmas.Result.{IfOk-weaker, IfErr-weaker}
-use Rattle.study_text.specs.Taken.{TakesPrefix}
 use Rattle.study_marks.specs.Edits.{Plainly}
 use Rattle.study_reply.specs.declared.refusal.Refusal.{Refusal}
 use Rattle.study_script.specs.declared.running.RunFault.{RunFault}
@@ -112,9 +111,9 @@ module _ (tells : Plainly → ℕ → List ℕ → Type 0) (refusal : ℕ → Li
       (study_added p s there.0, inl (plain, there.0, b, subst (λ i. tells plain i there.0) at there.1, refl), there.2)
 
   -- a study that is left out
-  pub left-out : (p : Point) (s : State) (line : List ℕ) (why : Refusal) → IsLeftOut s why
+  pub left-out : (p : Point) (s : State) (line : List ℕ) (plain : Plainly) (why : Refusal) → s.document ≡ study plain → IsLeftOut s plain why
       → IsStudyTold tells refusal p s line (refusal_added tells refusal p line (refused s why))
-  left-out p s line why h = inr (why, h, refl)
+  left-out p s line plain why b h = inr (plain, why, b, h, refl)
 
   -- ---- after the script's reply
 

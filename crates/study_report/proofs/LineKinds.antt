@@ -10,7 +10,7 @@ use Rattle.study_reply.specs.declared.refusal.Refusal.{Refusal}
 use Rattle.study_reply.specs.declared.refusal.Refusal.TheVariants.{NoStudy, OutOfMemory}
 use Rattle.study_script.specs.State.{State, Document, empty, start, study, Outside, quiet, no_path, no_room, no_room_for, unread, unopened}
 use Rattle.study_script.specs.State.{cut_off, file, header}
-use Rattle.study_script.specs.Replies.{Reply, accepted, refused, class_told, IsPgnReply, IsReplyWhere}
+use Rattle.study_script.specs.Replies.{Reply, refused, class_told, IsPgnReply, IsReplyWhere}
 use Rattle.study_report.specs.declared.kind.Kind.TheVariants.{PassedOver, Study, Checked}
 use Rattle.study_report.specs.Told.{kind_in, class_kind}
 use Rattle.study_report.specs.Written.{none_trusted}

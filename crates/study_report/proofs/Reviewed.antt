@@ -1,8 +1,7 @@
 -- What values are after a review.
 use Rattle.std.proofs.Common.{◌≡◌, ℕ, Bool, true, List, [], ◌∷◌, Result, Ok, Err, refl, sym, subst, ◌∙◌, inl, inr}
-use Rattle.study_board.specs.Position.{Position}
+use Rattle.study_board.specs.Position.{Position, IsValid}
 use Rattle.study_material.specs.declared.class.Class.{Class}
-use Rattle.study_material.proofs.EachHasClass.{class_exists}
 use Rattle.study_tablefile.specs.declared.fault.SourceFault.{SourceFault}
 use Rattle.study_prober.specs.Values.{ProbeAnswer}
 use Rattle.study_prober.specs.declared.values.ProbeFault.{ProbeFault}
@@ -11,8 +10,9 @@ use Rattle.study_marks.specs.Answers.{WereTold, IsFirstFault}
 use Rattle.study_marks.specs.Told.{failures_told}
 use Rattle.study_review.specs.declared.fault.ReviewFault.{ReviewFault}
 use Rattle.study_review.specs.declared.fault.ReviewFault.TheVariants.{OutOfMemory, Device, Values}
-use Rattle.study_review.specs.Asked.{AllTold, Stopped}
+use Rattle.study_review.specs.Asked.{Stopped, within}
 use Rattle.study_review.specs.Review.{HasReviewed}
+use Rattle.study_review.proofs.Within.{missed-needed, unread-needed}
 use Rattle.study_report.specs.Told.{IsUntoldBy}
 
 module _ {V : Type 0} (held : V → Class → Bool) (gives : V → Position → ProbeAnswer → Type 0)
@@ -27,14 +27,6 @@ module _ {V : Type 0} (held : V → Class → Bool) (gives : V → Position → 
   fault-fails old new [] g h c f m = absurd h
   fault-fails old new (p ∷ ps) g (inl a) c f m = a.fails_as_before c f m
   fault-fails old new (p ∷ ps) g (inr (v, mid, a, rest)) c f m = a.fails_as_before c f (fault-fails mid new ps g rest c f m)
-
-  -- the table that is not read is one that might fail so before
-  fault-read : (old new : V) (asked : List Position) (f : SourceFault) → IsFirstFault gives may_fail asked_of old asked (TableRead f) new
-      → (c : Class) × may_fail old c f
-  fault-read old new [] f h = absurd h
-  fault-read old new (p ∷ ps) f (inl a) = let of_class = class_exists p a.valid in (of_class.0, a.failed_so of_class.0 f of_class.1 refl)
-  fault-read old new (p ∷ ps) f (inr (v, mid, a, rest)) =
-      let later = fault-read mid new ps f rest in (later.0, a.fails_as_before later.0 f later.1)
 
   abbrev pub Reviews : {T : Type 0} → V → Result T ReviewFault → V → Type 0
   Reviews {T = T} old r new = HasReviewed held gives may_fail asked_of failed_of is_honest {T = T} old r new
@@ -58,25 +50,31 @@ module _ {V : Type 0} (held : V → Class → Bool) (gives : V → Position → 
   reviewed-tables old new (Err Device) h = h.tables
   reviewed-tables old new (Err (Values g)) h = h.tables
 
+module _ {V : Type 0} (held : V → Class → Bool) (gives : V → Position → ProbeAnswer → Type 0)
+    (may_fail : V → Class → SourceFault → Type 0) (asked_of failed_of : V → ℕ) (is_honest : V → Type 0) (p : Position) (valid : IsValid p) where
   untold-by : (paged : Bool) (old new : V) (fault : ProbeFault) → is_honest old
       → ((f : SourceFault) → failed_of new ≡ failures_told {T = Unit {0}} (Err (TableRead f)) (failed_of old) → paged ≡ true)
-      → Stopped held gives may_fail asked_of failed_of is_honest old fault new
-      → IsUntoldBy (held old) paged (may_fail old) fault
-  untold-by paged old new (NoTable c) honest by_pages h = h.untold c refl
+      → Stopped held (within p gives) may_fail asked_of failed_of is_honest old fault new
+      → IsUntoldBy (held old) paged (may_fail old) p fault
+  untold-by paged old new (NoTable c) honest by_pages h =
+      (h.untold c refl, missed-needed gives may_fail asked_of p valid old new (NoTable c) c h.told refl)
   untold-by paged old new (TableRead f) honest by_pages h =
-      let read = fault-read old new h.told.0 f h.told.1 in (by_pages f h.failures, read.0, read.1)
+      let read = unread-needed gives may_fail asked_of p valid old new (TableRead f) f h.told refl in
+      (by_pages f h.failures, read.0, read.1, read.2)
   untold-by paged old new (PageDamaged c n) honest by_pages h = absurd (h.no_damage honest)
 
   -- why a study is left out
   pub reviewed-why : {T : Type 0} (paged : Bool) (old new : V) (r : Result T ReviewFault) (fault : ProbeFault) → is_honest old
       → ((f : SourceFault) → failed_of new ≡ failures_told {T = Unit {0}} (Err (TableRead f)) (failed_of old) → paged ≡ true)
-      → Reviews old r new → r ≡ Err (Values fault) → IsUntoldBy (held old) paged (may_fail old) fault
+      → HasReviewed held (within p gives) may_fail asked_of failed_of is_honest {T = T} old r new → r ≡ Err (Values fault)
+      → IsUntoldBy (held old) paged (may_fail old) p fault
   reviewed-why {T = T} paged old new r fault honest by_pages h e =
-      untold-by paged old new fault honest by_pages (subst (λ (x : Result T ReviewFault). Reviews {T = T} old x new) e h)
+      untold-by paged old new fault honest by_pages
+      (subst (λ (x : Result T ReviewFault). HasReviewed held (within p gives) may_fail asked_of failed_of is_honest {T = T} old x new) e h)
 
 -- the same classes are held, and tables may fail in no other way
 pub untold-same : (h k : Class → Bool) (paged by : Bool) (may m : Class → SourceFault → Type 0) (fault : ProbeFault) → ((c : Class) → h c ≡ k c)
-    → paged ≡ by → ((c : Class) (f : SourceFault) → may c f → m c f) → IsUntoldBy h paged may fault → IsUntoldBy k by m fault
-untold-same h k paged by may m (NoTable c) e b w u = sym (e c) ∙ u
-untold-same h k paged by may m (TableRead f) e b w (paged-is, c, fails) = (sym b ∙ paged-is, c, w c f fails)
-untold-same h k paged by may m (PageDamaged c n) e b w u = absurd u
+    → paged ≡ by → ((c : Class) (f : SourceFault) → may c f → m c f) → (p : Position) → IsUntoldBy h paged may p fault → IsUntoldBy k by m p fault
+untold-same h k paged by may m (NoTable c) e b w p u = (sym (e c) ∙ u.0, u.1)
+untold-same h k paged by may m (TableRead f) e b w p (paged-is, c, needs, fails) = (sym b ∙ paged-is, c, needs, w c f fails)
+untold-same h k paged by may m (PageDamaged c n) e b w p u = absurd u

@@ -1,6 +1,8 @@
 -- What a report tells of the lines of a script.
-use Rattle.std.specs.Prelude.{◌≡◌, ◌⊎◌, ℕ, suc, Bool, true, false, List, [], ◌∷◌, ◌++◌, Option, Some, None, Result, Ok, Err}
+use Rattle.std.specs.Prelude.{◌≡◌, ◌⊎◌, ℕ, suc, Bool, true, false, List, [], ◌∷◌, ◌++◌, Option, Some, None, Ok}
+use Rattle.study_board.specs.Position.{Position}
 use Rattle.study_material.specs.declared.class.Class.{Class}
+use Rattle.study_material.specs.Needs.{NeedsClass}
 use Rattle.study_tablefile.specs.declared.fault.SourceFault.{SourceFault}
 use Rattle.study_prober.specs.declared.values.ProbeFault.{ProbeFault}
 use Rattle.study_prober.specs.declared.values.ProbeFault.TheVariants.{NoTable, TableRead, PageDamaged}
@@ -65,20 +67,21 @@ nothing_added p s = record { text = []; after = record { state = s; lines = suc 
 abbrev pub study_added : Point → State → List ℕ → Added
 study_added p s text = record { text = text; after = record { state = s; lines = suc p.lines; studies = suc p.studies }; told = AStudy }
 
--- Why the value of a position cannot be read, by which classes are held, whether tables are read by pages, and how tables may fail: there is
--- no table of its class, or tables are read by pages and one of them may fail so.
-abbrev pub IsUntoldBy : (Class → Bool) → Bool → (Class → SourceFault → Type 0) → ProbeFault → Type 0
-IsUntoldBy held paged may (NoTable c) = held c ≡ false
-IsUntoldBy held paged may (TableRead f) = (paged ≡ true) × (c : Class) × may c f
-IsUntoldBy held paged may (PageDamaged c n) = ⊥
+-- Why a value that a position leads to cannot be read, by which classes are held, whether tables are read by pages, and how tables may fail:
+-- of a class that the position needs there is no table, or tables are read by pages and one of such a class may fail so.
+abbrev pub IsUntoldBy : (Class → Bool) → Bool → (Class → SourceFault → Type 0) → Position → ProbeFault → Type 0
+IsUntoldBy held paged may p (NoTable c) = (held c ≡ false) × NeedsClass p c
+IsUntoldBy held paged may p (TableRead f) = (paged ≡ true) × (c : Class) × NeedsClass p c × may c f
+IsUntoldBy held paged may p (PageDamaged c n) = ⊥
 
 -- the same, where the script holds this state
-abbrev pub IsUntoldIn : State → ProbeFault → Type 0
-IsUntoldIn s fault = IsUntoldBy (is_among s.classes) s.paged (λ c f. s.shelf.faults c f ≡ true) fault
+abbrev pub IsUntoldIn : State → Position → ProbeFault → Type 0
+IsUntoldIn s p fault = IsUntoldBy (is_among s.classes) s.paged (λ c f. s.shelf.faults c f ≡ true) p fault
 
--- why a study is left out: for want of memory, or a value cannot be read
-abbrev pub IsLeftOut : State → Refusal → Type 0
-IsLeftOut s why = (why ≡ OutOfMemory) ⊎ ((fault : ProbeFault) × IsUntoldIn s fault × (why ≡ of_probe fault))
+-- why a study is left out: for want of memory, or a value that its start leads to cannot be read
+abbrev pub IsLeftOut : State → Plainly → Refusal → Type 0
+IsLeftOut s plain why =
+    (why ≡ OutOfMemory) ⊎ ((fault : ProbeFault) × IsUntoldIn s plain.start.position fault × (why ≡ of_probe fault))
 
 -- the study in a document, with its number, where there is one
 abbrev pub studies_on : Document → ℕ → List (Plainly × ℕ)
@@ -110,7 +113,7 @@ module _ (tells : Plainly → ℕ → List ℕ → Type 0) (refusal : ℕ → Li
   abbrev pub IsStudyTold : Point → State → List ℕ → Added → Type 0
   IsStudyTold p s line added =
       ((plain : Plainly) × (text : List ℕ) × (s.document ≡ study plain) × tells plain (suc p.studies) text × (added ≡ study_added p s text))
-      ⊎ ((why : Refusal) × IsLeftOut s why × (added ≡ refusal_added p line (refused s why)))
+      ⊎ ((plain : Plainly) × (why : Refusal) × (s.document ≡ study plain) × IsLeftOut s plain why × (added ≡ refusal_added p line (refused s why)))
 
   -- after the script's reply to a `pgn` line, and to another line that is checked
   abbrev pub IsPgnAfter : Point → List ℕ → Reply → Bool → Added → Type 0

@@ -6,6 +6,7 @@ ghost use Rattle.study_text.specs.Taken.{TakesPrefix};
 ghost use Rattle.study_marks.specs.Edits.{Plainly};
 ghost use Rattle.study_marks.specs.BenchState.{marked, IsKeptRight};
 ghost use Rattle.study_marks.specs.Study.{plain_study};
+ghost use Rattle.study_review.specs.Asked.{within};
 ghost use Rattle.study_review.specs.Review.{HasReviewed};
 
 use std::alloc::Allocator;
@@ -65,7 +66,7 @@ pub trait Report {
         ensures listed { (told : List (Plainly × ℕ)) → V.is_honest values.old → IsKeptRight bench.now → lists self.old told
             → OnOk result (lists self.new (told ++ (plain_study (marked bench.now), number) ∷ [])) }
         ensures unlisted { (told : List (Plainly × ℕ)) → lists self.old told → OnErr result (lists self.new told) }
-        ensures asked { HasReviewed V.held V.gives V.may_fail V.asked_of V.failed_of V.is_honest values.old result values.new };
+        ensures asked { HasReviewed V.held (within (marked bench.now).start.position V.gives) V.may_fail V.asked_of V.failed_of V.is_honest values.old result values.new };
 
     /// Tells of a refused line: its number, its bytes, and the script's reply to it.
     fn add_refusal<'a, A: Allocator, W: Write>(

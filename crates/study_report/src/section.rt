@@ -8,7 +8,7 @@ ghost use Rattle.study_prober.specs.declared.values.ProbeFault.{ProbeFault as AP
 ghost use Rattle.study_marks.specs.Edits.{Plainly};
 ghost use Rattle.study_marks.specs.BenchState.{marked, IsKeptRight};
 ghost use Rattle.study_marks.specs.Study.{plain_study};
-ghost use Rattle.study_script.specs.State.{State};
+ghost use Rattle.study_script.specs.State.{State, study};
 ghost use Rattle.study_script.specs.Held.{Holds, tables_honest, tables_held, tables_may_fail, are_paged};
 ghost use Rattle.study_report.specs.Told.{IsUntoldBy, IsUntoldIn, studies_on};
 ghost use Rattle.study_report.specs.Written.{IsSection, IsSectionPart};
@@ -41,12 +41,13 @@ pub fn add_study<'a, P: PageSource, A: Allocator, W: Write, T: Report>(
         → OnOk result (T.lists report.new (told ++ (plain_study (marked bench.now), number) ∷ [])) }
     ensures unlisted { (told : List (Plainly × ℕ)) → T.lists report.old told → OnErr result (T.lists report.new told) }
     ensures why { (fault : AProbeFault) → tables_honest P.honest tables.old → result ≡ Err (ReviewFault.Values fault)
-        → IsUntoldBy (tables_held tables.old) (are_paged tables.old) (tables_may_fail P.gives tables.old) fault }
+        → IsUntoldBy (tables_held tables.old) (are_paged tables.old) (tables_may_fail P.gives tables.old) (marked bench.now).start.position fault }
     ensures honest { tables_honest P.honest tables.old → tables_honest P.honest tables.new }
     ensures tables { (c : AClass) → tables_held tables.new c ≡ tables_held tables.old c }
     ensures fails_as_before { (c : AClass) (f : ASourceFault) → tables_may_fail P.gives tables.new c f → tables_may_fail P.gives tables.old c f }
     ensures mode { are_paged tables.new ≡ are_paged tables.old }
 {
+    let first = bench.start();
     match tables {
         Tables::Whole(tables) => report.add_study(alloc, bench, tables, number, out),
         Tables::Paged(tables) => report.add_study(alloc, bench, tables, number, out),
@@ -71,8 +72,8 @@ pub fn add_section<'a, P: PageSource, A: Allocator, W: Write, T: Report>(
     ensures listed { (s : State) (told : List (Plainly × ℕ)) → Holds P.honest P.gives document.now tables.old s → T.lists report.old told
         → OnOk result (T.lists report.new (told ++ studies_on s.document number)) }
     ensures unlisted { (told : List (Plainly × ℕ)) → T.lists report.old told → OnErr result (T.lists report.new told) }
-    ensures why { (s : State) (fault : AProbeFault) → Holds P.honest P.gives document.now tables.old s → result ≡ Err (ReviewFault.Values fault)
-        → IsUntoldIn s fault }
+    ensures why { (s : State) (plain : Plainly) (fault : AProbeFault) → Holds P.honest P.gives document.now tables.old s → s.document ≡ study plain
+        → result ≡ Err (ReviewFault.Values fault) → IsUntoldIn s plain.start.position fault }
     ensures holds { (s : State) → Holds P.honest P.gives document.now tables.old s → Holds P.honest P.gives document.now tables.new s }
 {
     match document {

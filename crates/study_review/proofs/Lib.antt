@@ -12,6 +12,7 @@ pub mod AlternativesCounted
 pub mod Refuted
 pub mod ChildMoves
 pub mod FaultsListed
+pub mod Within
 pub mod Asking
 pub mod WrittenOrder
 pub mod Stands

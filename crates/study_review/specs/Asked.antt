@@ -1,13 +1,27 @@
 -- What was asked where each question depends on the answers before it.
 use Rattle.std.specs.Prelude.{◌≡◌, ℕ, Bool, false, List, Result, Ok, Err}
-use Rattle.study_board.specs.Position.{Position}
+use Rattle.study_board.specs.Position.{Position, IsValid}
 use Rattle.study_material.specs.declared.class.Class.{Class}
+use Rattle.study_material.specs.Class.{IsOf}
+use Rattle.study_material.specs.Needs.{NeedsClass}
 use Rattle.study_tablefile.specs.declared.fault.SourceFault.{SourceFault}
 use Rattle.study_prober.specs.Values.{ProbeAnswer, IsNotDamage}
 use Rattle.study_prober.specs.declared.values.ProbeFault.{ProbeFault}
 use Rattle.study_prober.specs.declared.values.ProbeFault.TheVariants.{NoTable}
 use Rattle.study_marks.specs.Told.{failures_told}
 use Rattle.study_marks.specs.Answers.{WereTold, IsFirstFault}
+
+-- each class of q is one that p needs
+abbrev pub IsReached : Position → Position → Type 0
+IsReached p q = IsValid p → (c : Class) → IsOf c q → NeedsClass p c
+
+-- an answer for want of a table is for one that p needs
+abbrev pub IsWithinNeeds : Position → ProbeAnswer → Type 0
+IsWithinNeeds p answer = IsValid p → (c : Class) → answer ≡ Err (NoTable c) → NeedsClass p c
+
+-- the answers of values, to no question but for positions of the classes that p needs, and for want of no other table
+abbrev pub within : {V : Type 0} → Position → (V → Position → ProbeAnswer → Type 0) → V → Position → ProbeAnswer → Type 0
+within p gives v q answer = gives v q answer × IsReached p q × IsWithinNeeds p answer
 
 -- Positions were asked one after the other, and the value of each was told; or of each but the last, whose answer was the fault.
 abbrev pub HasTold : {V T : Type 0} → (V → Position → ProbeAnswer → Type 0) → (V → Class → SourceFault → Type 0)

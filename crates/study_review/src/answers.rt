@@ -2,6 +2,7 @@
 ghost use Rattle.std.specs.Prelude.{◌≡◌, ◌+◌, ◌++◌, ◌≤◌, ◌<◌, ◌^◌, ◌==◌, if◌then◌else◌, true, length, Some, None, OnOk, IfOk, IfSome};
 ghost use Rattle.std.specs.List.{All};
 ghost use Rattle.study_moves.specs.Rules.{is_legal, after};
+ghost use Rattle.study_review.specs.Asked.{within};
 ghost use Rattle.study_review.specs.declared.missing.Defence.{Defence as ADefence};
 ghost use Rattle.study_marks.specs.Goals.{holds};
 ghost use Rattle.study_review.specs.Defences.{IsAnswered};
@@ -53,7 +54,7 @@ fn answers_among<V: Values>(
     ensures game { V.is_honest values.old → IfOk result (λ y. AreAnswers node.now.aim.now node.now.depth node.now.position.now moves.now y) }
     ensures few { IfOk result (λ y. y.count ≤ length moves.now) }
     ensures legal { IfOk result (λ y. IfSome y.only (λ m. is_legal node.now.position.now m ≡ true)) }
-    ensures asked { HasAsked V.held V.gives V.may_fail V.asked_of V.failed_of V.is_honest values.old result values.new }
+    ensures asked { HasAsked V.held (within node.now.position.now V.gives) V.may_fail V.asked_of V.failed_of V.is_honest values.old result values.new }
 {
     match moves.split_first() {
         None => Ok(Answers {
@@ -86,7 +87,7 @@ fn add_defence<A: Allocator, V: Values>(
     ensures text { V.is_honest values.old → OnOk result ((y : ADefence) × (y.played ≡ x.now.played) × (y.value ≡ x.now.value)
         × IsAnswered node.now.aim.now (node.now.depth + 1) (after node.now.position.now x.now.played) y
         × (text.new ≡ text.old ++ missing_line steps.now node.now.position.now y)) }
-    ensures asked { HasAsked V.held V.gives V.may_fail V.asked_of V.failed_of V.is_honest values.old result values.new }
+    ensures asked { HasAsked V.held (within node.now.position.now V.gives) V.may_fail V.asked_of V.failed_of V.is_honest values.old result values.new }
 {
     let next = played(node.position, x.played);
     let after = Node {
@@ -119,7 +120,7 @@ pub fn add_defences<A: Allocator, V: Values>(
     requires legal { All (λ x. is_legal node.now.position.now x.played ≡ true) told.now }
     ensures text { V.is_honest values.old → OnOk result (Grew (AreMissingLines steps.now node.now.aim.now node.now.depth node.now.position.now
         there.now told.now) text.old text.new) }
-    ensures asked { HasAsked V.held V.gives V.may_fail V.asked_of V.failed_of V.is_honest values.old result values.new }
+    ensures asked { HasAsked V.held (within node.now.position.now V.gives) V.may_fail V.asked_of V.failed_of V.is_honest values.old result values.new }
 {
     match told.split_first() {
         None => Ok(()),

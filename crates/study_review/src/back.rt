@@ -2,7 +2,7 @@
 ghost use Rattle.std.specs.Prelude.{◌≡◌, ◌≤◌, ◌↔◌, true, false, length, IfOk, IfErr, IsErrOf};
 ghost use Rattle.std.specs.List.{All};
 ghost use Rattle.study_prober.specs.Values.{IsNotDamage};
-ghost use Rattle.study_review.specs.Asked.{HasTold};
+ghost use Rattle.study_review.specs.Asked.{HasTold, within};
 ghost use Rattle.study_material.specs.declared.class.Class.{Class as AClass};
 ghost use Rattle.study_moves.specs.Rules.{is_legal};
 ghost use Rattle.study_marks.specs.Told.{failures_told};
@@ -53,7 +53,7 @@ fn is_near(line: &[Position], q: &Position) -> bool
 fn has_lost<V: Values>(q: &Position, values: &mut V) -> Result<bool, ProbeFault>
     ensures game { V.is_honest values.old → IfOk result (λ b. (b ≡ true) ↔ HasLost q.now) }
     ensures untold { (c : AClass) → IsErrOf result (ProbeFault.NoTable c) → V.held values.old c ≡ false }
-    ensures told { HasTold V.gives V.may_fail V.asked_of values.old result values.new }
+    ensures told { HasTold (within q.now V.gives) V.may_fail V.asked_of values.old result values.new }
     ensures no_damage { V.is_honest values.old → IfErr result IsNotDamage }
     ensures failures { V.failed_of values.new ≡ failures_told result (V.failed_of values.old) }
     ensures honest { V.is_honest values.old → V.is_honest values.new }
@@ -82,7 +82,7 @@ fn are_back<V: Values>(
     requires few { length moves.now ≤ MAX_MOVES }
     ensures game { V.is_honest values.old → IfOk result (λ b. (b ≡ true) ↔ AreBack line.now m r.now won moves.now) }
     ensures untold { (c : AClass) → IsErrOf result (ProbeFault.NoTable c) → V.held values.old c ≡ false }
-    ensures told { HasTold V.gives V.may_fail V.asked_of values.old result values.new }
+    ensures told { HasTold (within r.now V.gives) V.may_fail V.asked_of values.old result values.new }
     ensures no_damage { V.is_honest values.old → IfErr result IsNotDamage }
     ensures failures { V.failed_of values.new ≡ failures_told result (V.failed_of values.old) }
     ensures honest { V.is_honest values.old → V.is_honest values.new }
@@ -115,7 +115,7 @@ fn goes_back<V: Values>(
 ) -> Result<bool, ProbeFault>
     ensures game { V.is_honest values.old → IfOk result (λ b. (b ≡ true) ↔ GoesBack line.now m r.now) }
     ensures untold { (c : AClass) → IsErrOf result (ProbeFault.NoTable c) → V.held values.old c ≡ false }
-    ensures told { HasTold V.gives V.may_fail V.asked_of values.old result values.new }
+    ensures told { HasTold (within r.now V.gives) V.may_fail V.asked_of values.old result values.new }
     ensures no_damage { V.is_honest values.old → IfErr result IsNotDamage }
     ensures failures { V.failed_of values.new ≡ failures_told result (V.failed_of values.old) }
     ensures honest { V.is_honest values.old → V.is_honest values.new }
@@ -139,7 +139,7 @@ fn forces_back<V: Values>(
     ensures game { V.is_honest values.old → IfOk result (λ b. (b ≡ true)
         ↔ SomeLeads (GoesBack line.now m) q.now moves.now) }
     ensures untold { (c : AClass) → IsErrOf result (ProbeFault.NoTable c) → V.held values.old c ≡ false }
-    ensures told { HasTold V.gives V.may_fail V.asked_of values.old result values.new }
+    ensures told { HasTold (within q.now V.gives) V.may_fail V.asked_of values.old result values.new }
     ensures no_damage { V.is_honest values.old → IfErr result IsNotDamage }
     ensures failures { V.failed_of values.new ≡ failures_told result (V.failed_of values.old) }
     ensures honest { V.is_honest values.old → V.is_honest values.new }
@@ -169,7 +169,7 @@ pub fn is_back<V: Values>(
     ensures game { V.is_honest values.old → IfOk result (λ b. (b ≡ true) ↔ IsBack line.now m q.now) }
     ensures none_asked { m ≡ 0 → V.asked_of values.new ≡ V.asked_of values.old }
     ensures untold { (c : AClass) → IsErrOf result (ProbeFault.NoTable c) → V.held values.old c ≡ false }
-    ensures told { HasTold V.gives V.may_fail V.asked_of values.old result values.new }
+    ensures told { HasTold (within q.now V.gives) V.may_fail V.asked_of values.old result values.new }
     ensures no_damage { V.is_honest values.old → IfErr result IsNotDamage }
     ensures failures { V.failed_of values.new ≡ failures_told result (V.failed_of values.old) }
     ensures honest { V.is_honest values.old → V.is_honest values.new }
@@ -193,7 +193,7 @@ pub fn time_lost<V: Values>(
 ) -> Result<Option<u8>, ProbeFault>
     ensures game { V.is_honest values.old → IfOk result (IsTimeLost line.now q.now) }
     ensures untold { (c : AClass) → IsErrOf result (ProbeFault.NoTable c) → V.held values.old c ≡ false }
-    ensures told { HasTold V.gives V.may_fail V.asked_of values.old result values.new }
+    ensures told { HasTold (within q.now V.gives) V.may_fail V.asked_of values.old result values.new }
     ensures no_damage { V.is_honest values.old → IfErr result IsNotDamage }
     ensures failures { V.failed_of values.new ≡ failures_told result (V.failed_of values.old) }
     ensures honest { V.is_honest values.old → V.is_honest values.new }

@@ -4,7 +4,7 @@ ghost use Rattle.std.specs.List.{All};
 ghost use Rattle.arrayvec.specs.ArrayVec.{array_vec_len};
 ghost use Rattle.study_prober.specs.Values.{IsNotDamage};
 ghost use Rattle.study_marks.specs.Answers.{WereTold, IsFirstFault};
-ghost use Rattle.study_review.specs.Asked.{HasTold};
+ghost use Rattle.study_review.specs.Asked.{HasTold, within};
 ghost use Rattle.study_material.specs.declared.class.Class.{Class as AClass};
 ghost use Rattle.study_moves.specs.Rules.{is_legal, after};
 ghost use Rattle.study_moves.specs.LegalList.{legal_list};
@@ -116,7 +116,7 @@ pub fn play_on<V: Values>(
     ensures game { V.is_honest values.old → OnOk result ((play : List AContinuation)
         × IsBestPlay plies p.now play × (list.new.items ≡ list.old.items ++ play)) }
     ensures untold { (c : AClass) → IsErrOf result (ProbeFault.NoTable c) → V.held values.old c ≡ false }
-    ensures told { HasTold V.gives V.may_fail V.asked_of values.old result values.new }
+    ensures told { HasTold (within p.now V.gives) V.may_fail V.asked_of values.old result values.new }
     ensures no_damage { V.is_honest values.old → IfErr result IsNotDamage }
     ensures failures { V.failed_of values.new ≡ failures_told result (V.failed_of values.old) }
     ensures honest { V.is_honest values.old → V.is_honest values.new }
@@ -144,7 +144,7 @@ pub fn best_play<V: Values>(
 ) -> Result<ArrayVec<Continuation, 20>, ProbeFault>
     ensures game { V.is_honest values.old → IfOk result (λ list. IsBestPlay 20 p.now list.items) }
     ensures untold { (c : AClass) → IsErrOf result (ProbeFault.NoTable c) → V.held values.old c ≡ false }
-    ensures told { HasTold V.gives V.may_fail V.asked_of values.old result values.new }
+    ensures told { HasTold (within p.now V.gives) V.may_fail V.asked_of values.old result values.new }
     ensures no_damage { V.is_honest values.old → IfErr result IsNotDamage }
     ensures failures { V.failed_of values.new ≡ failures_told result (V.failed_of values.old) }
     ensures honest { V.is_honest values.old → V.is_honest values.new }

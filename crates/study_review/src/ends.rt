@@ -3,6 +3,7 @@ ghost use Rattle.std.specs.Prelude.{◌≡◌, ◌<◌, ◌^◌, true, length, O
 ghost use Rattle.std.specs.List.{All};
 ghost use Rattle.study_moves.specs.Rules.{is_legal};
 ghost use Rattle.study_moves.specs.LegalList.{legal_list};
+ghost use Rattle.study_review.specs.Asked.{within};
 ghost use Rattle.study_review.specs.Best.{first_best, IsBestPlay};
 ghost use Rattle.study_review.specs.Continuations.{AreChosen};
 ghost use Rattle.study_review.specs.Made.{Grew, HasAsked};
@@ -45,7 +46,7 @@ fn play_from<V: Values>(
     requires { All (λ x. is_legal p.now x.played ≡ true) told.now }
     ensures game { AreChosen (λ v. true) p.now (legal_list p.now) told.now → V.is_honest values.old → IfOk result (λ list. IsBestPlay 20 p.now list.items) }
     ensures legal { IfOk result (λ list. ArePlayed p.now list.items) }
-    ensures asked { HasAsked V.held V.gives V.may_fail V.asked_of V.failed_of V.is_honest values.old result values.new }
+    ensures asked { HasAsked V.held (within p.now V.gives) V.may_fail V.asked_of V.failed_of V.is_honest values.old result values.new }
 {
     let mut list = ArrayVec::new();
     match best_of(p, told) {
@@ -73,7 +74,7 @@ fn add_best<A: Allocator, V: Values>(
     requires { All (λ x. is_legal p.now x.played ≡ true) told.now }
     ensures text { AreChosen (λ v. true) p.now (legal_list p.now) told.now → V.is_honest values.old
         → OnOk result (Grew (IsPlay steps.now p.now value) text.old text.new) }
-    ensures asked { HasAsked V.held V.gives V.may_fail V.asked_of V.failed_of V.is_honest values.old result values.new }
+    ensures asked { HasAsked V.held (within p.now V.gives) V.may_fail V.asked_of V.failed_of V.is_honest values.old result values.new }
 {
     let list = play_from(p, told, values)?;
     add_play(text, steps, p, value, list.as_slice())?;
@@ -94,7 +95,7 @@ pub fn add_continued<A: Allocator, V: Values>(
     requires few { length told.now < 2 ^ 32 }
     ensures text { AreChosen (λ v. true) p.now (legal_list p.now) told.now → V.is_honest values.old
         → OnOk result (Grew (IsEnd steps.now p.now value) text.old text.new) }
-    ensures asked { HasAsked V.held V.gives V.may_fail V.asked_of V.failed_of V.is_honest values.old result values.new }
+    ensures asked { HasAsked V.held (within p.now V.gives) V.may_fail V.asked_of V.failed_of V.is_honest values.old result values.new }
 {
     match value {
         Value::Draw => {

@@ -6,7 +6,7 @@ ghost use Rattle.study_prober.specs.Values.{IsNotDamage};
 ghost use Rattle.study_material.specs.declared.class.Class.{Class as AClass};
 ghost use Rattle.study_moves.specs.Rules.{is_legal, after};
 ghost use Rattle.study_marks.specs.Told.{failures_told};
-ghost use Rattle.study_review.specs.Asked.{HasTold};
+ghost use Rattle.study_review.specs.Asked.{HasTold, within};
 ghost use Rattle.study_review.specs.Defences.{the_only, AreAnswered, AreDefences};
 ghost use Rattle.study_review.specs.declared.missing.Defence.{Defence as ADefence};
 ghost use Rattle.study_review.specs.Play.{IsPlayed};
@@ -98,7 +98,7 @@ fn answer_each<V: Values>(
     ensures game { V.is_honest values.old → OnOk result ((answered : List ADefence)
         × AreAnswered node.now.aim.now node.now.depth node.now.position.now moves.now answered × (list.new.items ≡ list.old.items ++ answered)) }
     ensures untold { (c : AClass) → IsErrOf result (ProbeFault.NoTable c) → V.held values.old c ≡ false }
-    ensures told { HasTold V.gives V.may_fail V.asked_of values.old result values.new }
+    ensures told { HasTold (within node.now.position.now V.gives) V.may_fail V.asked_of values.old result values.new }
     ensures no_damage { V.is_honest values.old → IfErr result IsNotDamage }
     ensures failures { V.failed_of values.new ≡ failures_told result (V.failed_of values.old) }
     ensures honest { V.is_honest values.old → V.is_honest values.new }
@@ -134,7 +134,7 @@ pub fn defences<V: Values>(
     ensures game { V.is_honest values.old → IfOk result (λ list. AreDefences
         node.now.aim.now node.now.depth node.now.position.now there.now list.items) }
     ensures untold { (c : AClass) → IsErrOf result (ProbeFault.NoTable c) → V.held values.old c ≡ false }
-    ensures told { HasTold V.gives V.may_fail V.asked_of values.old result values.new }
+    ensures told { HasTold (within node.now.position.now V.gives) V.may_fail V.asked_of values.old result values.new }
     ensures no_damage { V.is_honest values.old → IfErr result IsNotDamage }
     ensures failures { V.failed_of values.new ≡ failures_told result (V.failed_of values.old) }
     ensures honest { V.is_honest values.old → V.is_honest values.new }

@@ -3,6 +3,7 @@ ghost use Rattle.std.specs.Prelude.{◌≡◌, ◌+◌, ◌++◌, ◌∷◌, [],
 ghost use Rattle.std.specs.List.{All};
 ghost use Rattle.study_moves.specs.Rules.{is_legal};
 ghost use Rattle.study_marks.specs.BenchState.{marked};
+ghost use Rattle.study_review.specs.Asked.{within};
 ghost use Rattle.study_review.specs.Made.{Grew, HasAsked};
 ghost use Rattle.study_review.specs.Nodes.{AlsoLines, FaultLines, is_solution_move, mark_at, value_at};
 ghost use Rattle.study_review.specs.Told.{AreAlsoLines};
@@ -47,7 +48,7 @@ fn add_alternative<A: Allocator, V: Values>(
     ensures text { V.is_honest values.old → IfOk result (λ n. Grew (AreAlsoLines step.now.steps.now step.now.before.aim.now
         step.now.before.depth step.now.line.now step.now.before.position.now step.now.played (x.now ∷ []) n) text.old text.new) }
     ensures few { IfOk result (λ n. n ≤ 1) }
-    ensures asked { HasAsked V.held V.gives V.may_fail V.asked_of V.failed_of V.is_honest values.old result values.new }
+    ensures asked { HasAsked V.held (within step.now.before.position.now V.gives) V.may_fail V.asked_of V.failed_of V.is_honest values.old result values.new }
 {
     let before = &step.before;
     if is_among(&x.played, &[step.played]) || !holds(before.aim, before.depth + 1, x.value) {
@@ -81,7 +82,7 @@ pub fn add_alternatives<A: Allocator, V: Values>(
     ensures text { V.is_honest values.old → IfOk result (λ n. Grew (AreAlsoLines step.now.steps.now step.now.before.aim.now
         step.now.before.depth step.now.line.now step.now.before.position.now step.now.played told.now n) text.old text.new) }
     ensures few { IfOk result (λ n. n ≤ length told.now) }
-    ensures asked { HasAsked V.held V.gives V.may_fail V.asked_of V.failed_of V.is_honest values.old result values.new }
+    ensures asked { HasAsked V.held (within step.now.before.position.now V.gives) V.may_fail V.asked_of V.failed_of V.is_honest values.old result values.new }
 {
     match told.split_first() {
         None => Ok(0),
@@ -134,7 +135,7 @@ fn add_dual_lines<'a, 'b, A: Allocator, B: Allocator, V: Values>(
     requires listed { listed ≡ is_solution_move (marked bench.now) step.now.steps.now }
     ensures also { V.is_honest values.old → OnOk result (Grew (AlsoLines (marked bench.now) step.now.steps.now) draft.old.nodes draft.new.nodes) }
     ensures fault { V.is_honest values.old → OnOk result (Grew (FaultLines (marked bench.now) step.now.steps.now) draft.old.faults draft.new.faults) }
-    ensures asked { HasAsked V.held V.gives V.may_fail V.asked_of V.failed_of V.is_honest values.old result values.new }
+    ensures asked { HasAsked V.held (within step.now.before.position.now V.gives) V.may_fail V.asked_of V.failed_of V.is_honest values.old result values.new }
 {
     ask_moves(step.before.position, values, &mut draft.told)?;
     let time = add_alternatives(&mut draft.nodes, step, draft.told.as_slice(), values)?;
@@ -192,7 +193,7 @@ pub fn add_move<'a, 'b, A: Allocator, B: Allocator, V: Values>(
     requires listed { listed ≡ is_solution_move (marked bench.now) step.now.steps.now }
     ensures also { V.is_honest values.old → OnOk result (Grew (AlsoLines (marked bench.now) step.now.steps.now) draft.old.nodes draft.new.nodes) }
     ensures fault { V.is_honest values.old → OnOk result (Grew (FaultLines (marked bench.now) step.now.steps.now) draft.old.faults draft.new.faults) }
-    ensures asked { HasAsked V.held V.gives V.may_fail V.asked_of V.failed_of V.is_honest values.old result values.new }
+    ensures asked { HasAsked V.held (within step.now.before.position.now V.gives) V.may_fail V.asked_of V.failed_of V.is_honest values.old result values.new }
 {
     match on_move(mark) {
         Some(MoveMark::Dual(others)) => {

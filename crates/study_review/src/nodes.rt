@@ -8,6 +8,7 @@ ghost use Rattle.study_tree.specs.Edits.{width};
 ghost use Rattle.study_marks.specs.BenchState.{marked};
 ghost use Rattle.study_marks.specs.Goals.{aim_of, hero_moves, holds};
 ghost use Rattle.study_marks.specs.FaultSums.{below_at};
+ghost use Rattle.study_review.specs.Asked.{within};
 ghost use Rattle.study_review.specs.Continuations.{AreChosen};
 ghost use Rattle.study_review.specs.Faults.{in_solution};
 ghost use Rattle.study_review.specs.Made.{Grew, HasAsked};
@@ -114,7 +115,7 @@ fn add_missing<'a, 'b, A: Allocator, B: Allocator, V: Values>(
     requires legal { All (λ x. is_legal here.now.node.position.now x.played ≡ true) told.now }
     ensures text { AreChosen (λ v. true) here.now.node.position.now (legal_list here.now.node.position.now) told.now → V.is_honest values.old
         → OnOk result (Grew (MissingLines (marked bench.now) here.now.steps.now) text.old text.new) }
-    ensures asked { HasAsked V.held V.gives V.may_fail V.asked_of V.failed_of V.is_honest values.old result values.new }
+    ensures asked { HasAsked V.held (within here.now.node.position.now V.gives) V.may_fail V.asked_of V.failed_of V.is_honest values.old result values.new }
 {
     if !is_defended(here) {
         return Ok(());
@@ -148,7 +149,7 @@ fn add_end<'b, A: Allocator, B: Allocator, V: Values>(
     requires few { length told.now < 2 ^ 32 }
     ensures text { AreChosen (λ v. true) here.now.node.position.now (legal_list here.now.node.position.now) told.now → V.is_honest values.old
         → OnOk result (Grew (EndLines (marked bench.now) here.now.steps.now) text.old text.new) }
-    ensures asked { HasAsked V.held V.gives V.may_fail V.asked_of V.failed_of V.is_honest values.old result values.new }
+    ensures asked { HasAsked V.held (within here.now.node.position.now V.gives) V.may_fail V.asked_of V.failed_of V.is_honest values.old result values.new }
 {
     if !is_open_end(here, told) {
         return Ok(());
@@ -183,7 +184,7 @@ fn add_told<'a, 'b, A: Allocator, B: Allocator, V: Values>(
     requires few { length told.now < 2 ^ 32 }
     ensures text { AreChosen (λ v. true) here.now.node.position.now (legal_list here.now.node.position.now) told.now → V.is_honest values.old
         → OnOk result (Grew (OwnLines (marked bench.now) here.now.steps.now) text.old text.new) }
-    ensures asked { HasAsked V.held V.gives V.may_fail V.asked_of V.failed_of V.is_honest values.old result values.new }
+    ensures asked { HasAsked V.held (within here.now.node.position.now V.gives) V.may_fail V.asked_of V.failed_of V.is_honest values.old result values.new }
 {
     add_refuted(text, bench, here, told)?;
     add_missing(alloc, text, bench, here, told, values)?;
@@ -206,7 +207,7 @@ pub fn add_own<'a, 'b, A: Allocator, B: Allocator, V: Values>(
     requires solution { here.now.solution ≡ in_solution (aim_of (marked bench.now)) 0 here.now.steps.now }
     requires tried { here.now.tried ≡ is_try (marked bench.now) here.now.steps.now }
     ensures text { V.is_honest values.old → OnOk result (Grew (OwnLines (marked bench.now) here.now.steps.now) text.old text.new) }
-    ensures asked { HasAsked V.held V.gives V.may_fail V.asked_of V.failed_of V.is_honest values.old result values.new }
+    ensures asked { HasAsked V.held (within here.now.node.position.now V.gives) V.may_fail V.asked_of V.failed_of V.is_honest values.old result values.new }
 {
     if here.children != 0 && !here.tried && !is_defended(here) {
         return Ok(());

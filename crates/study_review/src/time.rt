@@ -6,7 +6,7 @@ ghost use Rattle.study_prober.specs.Values.{IsNotDamage};
 ghost use Rattle.study_material.specs.declared.class.Class.{Class as AClass};
 ghost use Rattle.study_moves.specs.Rules.{is_legal};
 ghost use Rattle.study_marks.specs.Told.{failures_told};
-ghost use Rattle.study_review.specs.Asked.{HasTold};
+ghost use Rattle.study_review.specs.Asked.{HasTold, within};
 ghost use Rattle.study_review.specs.Time.{IsTimeTold, AreTimed, AreTimedAlternatives};
 ghost use Rattle.study_review.specs.declared.time.Alternative.{Alternative as AnAlternative};
 
@@ -53,7 +53,7 @@ pub fn time_told<V: Values>(
 ) -> Result<Option<u8>, ProbeFault>
     ensures game { V.is_honest values.old → IfOk result (IsTimeTold goal line.now q.now) }
     ensures untold { (c : AClass) → IsErrOf result (ProbeFault.NoTable c) → V.held values.old c ≡ false }
-    ensures told { HasTold V.gives V.may_fail V.asked_of values.old result values.new }
+    ensures told { HasTold (within q.now V.gives) V.may_fail V.asked_of values.old result values.new }
     ensures no_damage { V.is_honest values.old → IfErr result IsNotDamage }
     ensures failures { V.failed_of values.new ≡ failures_told result (V.failed_of values.old) }
     ensures honest { V.is_honest values.old → V.is_honest values.new }
@@ -100,7 +100,7 @@ fn time_each<V: Values>(
     ensures game { V.is_honest values.old → OnOk result ((timed : List AnAlternative)
         × AreTimed place.now.aim.goal place.now.line.items place.now.position moves.now timed × (list.new.items ≡ list.old.items ++ timed)) }
     ensures untold { (c : AClass) → IsErrOf result (ProbeFault.NoTable c) → V.held values.old c ≡ false }
-    ensures told { HasTold V.gives V.may_fail V.asked_of values.old result values.new }
+    ensures told { HasTold (within place.now.position V.gives) V.may_fail V.asked_of values.old result values.new }
     ensures no_damage { V.is_honest values.old → IfErr result IsNotDamage }
     ensures failures { V.failed_of values.new ≡ failures_told result (V.failed_of values.old) }
     ensures honest { V.is_honest values.old → V.is_honest values.new }
@@ -131,7 +131,7 @@ pub fn timed_alternatives<V: Values>(
     ensures game { V.is_honest values.old → IfOk result (λ list. AreTimedAlternatives
         place.now.aim place.now.depth place.now.line.items place.now.position m list.items) }
     ensures untold { (c : AClass) → IsErrOf result (ProbeFault.NoTable c) → V.held values.old c ≡ false }
-    ensures told { HasTold V.gives V.may_fail V.asked_of values.old result values.new }
+    ensures told { HasTold (within place.now.position V.gives) V.may_fail V.asked_of values.old result values.new }
     ensures no_damage { V.is_honest values.old → IfErr result IsNotDamage }
     ensures failures { V.failed_of values.new ≡ failures_told result (V.failed_of values.old) }
     ensures honest { V.is_honest values.old → V.is_honest values.new }

@@ -5,6 +5,7 @@ ghost use Rattle.study_moves.specs.Rules.{is_legal, after};
 ghost use Rattle.study_moves.specs.LegalList.{legal_list};
 ghost use Rattle.study_retro.specs.Game.{IsValueOf};
 ghost use Rattle.study_retro.specs.declared.value.Value.{Value as AValue};
+ghost use Rattle.study_review.specs.Asked.{within};
 ghost use Rattle.study_review.specs.Continuations.{AreChosen};
 ghost use Rattle.study_review.specs.Made.{HasAsked};
 ghost use Rattle.study_review.specs.Told.{AreTold};
@@ -20,7 +21,7 @@ use study_retro::Value;
 /// The value of a position.
 pub fn ask<V: Values>(q: &Position, values: &mut V) -> Result<Value, NotMade>
     ensures game { V.is_honest values.old → IfOk result (IsValueOf q.now) }
-    ensures asked { HasAsked V.held V.gives V.may_fail V.asked_of V.failed_of V.is_honest values.old result values.new }
+    ensures asked { HasAsked V.held (within q.now V.gives) V.may_fail V.asked_of V.failed_of V.is_honest values.old result values.new }
 {
     // (the position is valid, as the clauses on its answer say)
     let _men = q.men();
@@ -42,7 +43,7 @@ fn ask_one<'a, A: Allocator, V: Values>(
         × (told.new.items ≡ told.old.items ++ (record { played = m.now; value = v }) ∷ [])) }
     ensures legal { All (λ x. is_legal p.now x.played ≡ true) told.old.items → OnOk result (All (λ x. is_legal p.now x.played ≡ true) told.new.items) }
     ensures len { OnOk result (vec_len told.new ≡ vec_len told.old + 1) }
-    ensures asked { HasAsked V.held V.gives V.may_fail V.asked_of V.failed_of V.is_honest values.old result values.new }
+    ensures asked { HasAsked V.held (within p.now V.gives) V.may_fail V.asked_of V.failed_of V.is_honest values.old result values.new }
 {
     let next = played(p, *m);
     let value = ask(&next, values)?;
@@ -62,7 +63,7 @@ fn ask_each<'a, A: Allocator, V: Values>(
     ensures game { V.is_honest values.old → OnOk result (AreTold p.now moves.now told.old.items told.new.items) }
     ensures legal { OnOk result (All (λ x. is_legal p.now x.played ≡ true) told.new.items) }
     ensures len { OnOk result (vec_len told.new ≡ vec_len told.old + length moves.now) }
-    ensures asked { HasAsked V.held V.gives V.may_fail V.asked_of V.failed_of V.is_honest values.old result values.new }
+    ensures asked { HasAsked V.held (within p.now V.gives) V.may_fail V.asked_of V.failed_of V.is_honest values.old result values.new }
 {
     match moves.split_first() {
         None => Ok(()),
@@ -83,7 +84,7 @@ pub fn ask_moves<'a, A: Allocator, V: Values>(
     ensures legal { OnOk result (All (λ x. is_legal p.now x.played ≡ true) told.new.items) }
     ensures all { OnOk result (length told.new.items ≡ length (legal_list p.now)) }
     ensures few { OnOk result (length told.new.items ≤ MAX_MOVES) }
-    ensures asked { HasAsked V.held V.gives V.may_fail V.asked_of V.failed_of V.is_honest values.old result values.new }
+    ensures asked { HasAsked V.held (within p.now V.gives) V.may_fail V.asked_of V.failed_of V.is_honest values.old result values.new }
 {
     told.clear();
     let moves = legal_moves(p);

@@ -5,6 +5,7 @@ ghost use Rattle.study_tree.specs.Tree.{spot_at};
 ghost use Rattle.study_marks.specs.Goals.{aim_of};
 ghost use Rattle.study_marks.specs.BenchState.{marked};
 ghost use Rattle.study_marks.specs.FaultSums.{below_at};
+ghost use Rattle.study_review.specs.Asked.{within};
 ghost use Rattle.study_review.specs.Line.{line_to};
 ghost use Rattle.study_review.specs.Made.{Grew, HasAsked};
 ghost use Rattle.study_review.specs.Nodes.{front_of, NodeLines, FaultLines};
@@ -53,7 +54,7 @@ fn add_lines<'a, 'b, A: Allocator, B: Allocator, V: Values>(
     requires by { arrival_of (spot_at (marked bench.now).tree steps.now) ≡ Some by.now }
     ensures faults { V.is_honest values.old → OnOk result (Grew (FaultLines (marked bench.now) steps.now) draft.old.faults draft.new.faults) }
     ensures nodes { V.is_honest values.old → OnOk result (Grew (NodeLines (marked bench.now) steps.now) draft.old.nodes draft.new.nodes) }
-    ensures asked { HasAsked V.held V.gives V.may_fail V.asked_of V.failed_of V.is_honest values.old result values.new }
+    ensures asked { HasAsked V.held (within (marked bench.now).start.position V.gives) V.may_fail V.asked_of V.failed_of V.is_honest values.old result values.new }
 {
     let first = bench.start();
     let (before, here) = stands;
@@ -113,7 +114,7 @@ fn enter<'a, 'b, A: Allocator, B: Allocator, V: Values>(
     ensures stand { IfOk result (IsStand (marked bench.now) trail.new.steps.items) }
     ensures faults { V.is_honest values.old → OnOk result (Grew (FaultLines (marked bench.now) trail.new.steps.items) draft.old.faults draft.new.faults) }
     ensures nodes { V.is_honest values.old → OnOk result (Grew (NodeLines (marked bench.now) trail.new.steps.items) draft.old.nodes draft.new.nodes) }
-    ensures asked { HasAsked V.held V.gives V.may_fail V.asked_of V.failed_of V.is_honest values.old result values.new }
+    ensures asked { HasAsked V.held (within (marked bench.now).start.position V.gives) V.may_fail V.asked_of V.failed_of V.is_honest values.old result values.new }
 {
     let first = bench.start();
     trail.steps.push(place)?;
@@ -159,7 +160,7 @@ fn add_below<'a, 'b, A: Allocator, B: Allocator, V: Values>(
         (paths_from trail.old.steps.items 0 (below_at (marked bench.now).tree.below trail.old.steps.items))) draft.old.faults draft.new.faults) }
     ensures nodes { V.is_honest values.old → OnOk result (Grew (LinesOfEach (NodeLines (marked bench.now))
         (paths_from trail.old.steps.items 0 (below_at (marked bench.now).tree.below trail.old.steps.items))) draft.old.nodes draft.new.nodes) }
-    ensures asked { HasAsked V.held V.gives V.may_fail V.asked_of V.failed_of V.is_honest values.old result values.new }
+    ensures asked { HasAsked V.held (within (marked bench.now).start.position V.gives) V.may_fail V.asked_of V.failed_of V.is_honest values.old result values.new }
 {
     for place in 0..stand.children {
         let next = enter(alloc, draft, trail, bench, aim, stand, place, values)?;
@@ -185,7 +186,7 @@ fn add_root<'a, 'b, A: Allocator, B: Allocator, V: Values>(
     requires mark { mark ≡ (marked bench.now).tree.label }
     ensures faults { draft.new.faults ≡ draft.old.faults }
     ensures nodes { V.is_honest values.old → OnOk result (Grew (NodeLines (marked bench.now) []) draft.old.nodes draft.new.nodes) }
-    ensures asked { HasAsked V.held V.gives V.may_fail V.asked_of V.failed_of V.is_honest values.old result values.new }
+    ensures asked { HasAsked V.held (within (marked bench.now).start.position V.gives) V.may_fail V.asked_of V.failed_of V.is_honest values.old result values.new }
 {
     let here = Here {
         node: Node {
@@ -222,7 +223,7 @@ pub fn add_all<'a, 'b, A: Allocator, B: Allocator, V: Values>(
         draft.old.faults draft.new.faults) }
     ensures nodes { V.is_honest values.old → OnOk result (Grew (LinesOfEach (NodeLines (marked bench.now)) (written_order (marked bench.now)))
         draft.old.nodes draft.new.nodes) }
-    ensures asked { HasAsked V.held V.gives V.may_fail V.asked_of V.failed_of V.is_honest values.old result values.new }
+    ensures asked { HasAsked V.held (within (marked bench.now).start.position V.gives) V.may_fail V.asked_of V.failed_of V.is_honest values.old result values.new }
 {
     let aim = aim_in(bench);
     let stand = root_stand(bench, count_at(bench, &[]));

@@ -8,6 +8,7 @@ ghost use Rattle.study_marks.specs.BenchState.{marked, IsKeptRight};
 ghost use Rattle.study_marks.specs.Study.{plain_study};
 ghost use Rattle.study_prober.specs.declared.values.ProbeFault.{ProbeFault as AProbeFault};
 ghost use Rattle.study_marks.specs.FaultSums.{skipped};
+ghost use Rattle.study_review.specs.Asked.{within};
 ghost use Rattle.study_review.specs.Made.{HasAsked};
 ghost use Rattle.study_review.specs.Review.{study_line, stipulation_line, empty_line, is_empty, none_below, IsReview, IsReviewOf, HasReviewed};
 
@@ -130,7 +131,7 @@ fn text_of<'a, 'b, A: Allocator, B: Allocator, V: Values>(
     number: u32,
 ) -> Result<Text<'a, A>, NotMade>
     ensures text { V.is_honest values.old → IfOk result (IsReview (marked bench.now) number) }
-    ensures asked { HasAsked V.held V.gives V.may_fail V.asked_of V.failed_of V.is_honest values.old result values.new }
+    ensures asked { HasAsked V.held (within (marked bench.now).start.position V.gives) V.may_fail V.asked_of V.failed_of V.is_honest values.old result values.new }
 {
     let root = root_mark(bench);
     let mut draft = Draft {
@@ -163,7 +164,7 @@ pub fn write_review<'a, 'b, A: Allocator, B: Allocator, V: Values, W: Write>(
         × TakesPrefix (W.contents out.old) (W.contents out.new) text }
     ensures memory { result ≡ Err ReviewFault.OutOfMemory → out.new ≡ out.old }
     ensures untold { (fault : AProbeFault) → result ≡ Err (ReviewFault.Values fault) → out.new ≡ out.old }
-    ensures asked { HasReviewed V.held V.gives V.may_fail V.asked_of V.failed_of V.is_honest values.old result values.new }
+    ensures asked { HasReviewed V.held (within (marked bench.now).start.position V.gives) V.may_fail V.asked_of V.failed_of V.is_honest values.old result values.new }
 {
     let text = text_of(alloc, bench, values, number)?;
     write_text(out, text.as_slice())?;

@@ -7,8 +7,8 @@ use Rattle.std.proofs.lemmas.Bool.{false≢true}
 use Rattle.study_board.specs.Position.{Position, IsValid}
 use Rattle.study_material.specs.declared.class.Class.{Class}
 use Rattle.study_material.specs.Class.{IsOf, PositionsHaveOneClass}
-use Rattle.study_material.specs.Needs.{IsNeeded, IsOrder}
-use Rattle.study_view.specs.Setup.{NeedsClass, IsNeededBy, AreThose}
+use Rattle.study_material.specs.Needs.{IsNeeded, IsOrder, NeedsClass}
+use Rattle.study_view.specs.Setup.{IsNeededBy, AreThose}
 
 -- ---- elements of a list
 

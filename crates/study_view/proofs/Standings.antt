@@ -4,7 +4,16 @@ use Rattle.std.specs.Prelude.{MatchOption, IsSome}
 use Rattle.std.specs.List.{filter, range_with_len}
 use Rattle.std.proofs.lemmas.List.{append-nil}
 use Rattle.std.proofs.lemmas.Bool.{ne_eqb, eq-eqb}
-use Rattle.study_board.specs.Position.{Position}
+use Rattle.study_board.specs.Position.{Position, IsValid, in_order}
+use Rattle.study_board.specs.declared.men.Man.{Man}
+use Rattle.study_board.specs.declared.men.Side.{Side}
+use Rattle.study_board.specs.declared.men.Side.TheVariants.{White, Black}
+use Rattle.study_board.specs.Men.{same_side}
+use Rattle.study_board.proofs.MenInOrder.{IsPermutation-in_order}
+use Rattle.study_material.specs.Lists.{lists, kinds_of, put_kind, ordered, of, is_other_than_king}
+use Rattle.study_material.specs.Lists.{Lists}
+use Rattle.study_material.proofs.KindCounts.{lists-IsPermutation}
+use Rattle.study_review.proofs.Within.{LeadsTo, needs-own}
 use Rattle.study_board.specs.declared.fault.PositionFault.{PositionFault}
 use Rattle.study_marks.specs.declared.stipulation.Stipulation.{Stipulation}
 use Rattle.study_view.specs.declared.squares.Standing.{Standing}
@@ -16,7 +25,7 @@ use Rattle.study_retro.specs.declared.value.Value.{Value}
 use Rattle.study_review.specs.declared.continuation.Continuation.{Continuation}
 use Rattle.study_review.proofs.Chosen.{all-first}
 use Rattle.study_view.specs.Shown.{IsPlayedIn}
-use Rattle.study_view.specs.Survey.{by_moves, stood, stood_fault, squares_but, IsStanding, IsTold, AreStandings}
+use Rattle.study_view.specs.Survey.{moved_man, moved_men, by_moves, stood, stood_fault, squares_but, IsStanding, IsTold, AreStandings}
 
 range-step : (n : ℕ) → n < 64 → range_with_len n (64 - n) ≡ n ∷ range_with_len (n + 1) (64 - (n + 1))
 range-step n lt =
@@ -70,3 +79,29 @@ pub by-legal : (q : Position) (v : Value) (list : List Continuation) → All (λ
 by-legal q v [] h = tt
 by-legal q v (x ∷ []) h = all-first (λ (y : Continuation). is_legal q y.played ≡ true) x (x ∷ []) [] refl h
 by-legal q v (x ∷ y ∷ l) h = tt
+
+-- ---- the material of the position with a man on another square
+
+moved-kind : (from to : ℕ) (m : Man) → (moved_man from to m).kind ≡ m.kind
+moved-kind from to m = elim (m.at == from) as (λ b. (cond b (record m { at = to }) m).kind ≡ m.kind) [ true ↦ refl | false ↦ refl ]
+
+moved-side : (from to : ℕ) (m : Man) → (moved_man from to m).side ≡ m.side
+moved-side from to m = elim (m.at == from) as (λ b. (cond b (record m { at = to }) m).side ≡ m.side) [ true ↦ refl | false ↦ refl ]
+
+moved-kinds : (side : Side) (from to : ℕ) (men : List Man) → kinds_of side (moved_men from to men) ≡ kinds_of side men
+moved-kinds side from to [] = refl
+moved-kinds side from to (m ∷ ms) = rw (moved-kind from to m, moved-side from to m, moved-kinds side from to ms) refl
+
+moved-lists : (from to : ℕ) (men : List Man) → lists (moved_men from to men) ≡ lists men
+moved-lists from to men = rw (moved-kinds White from to men, moved-kinds Black from to men) refl
+
+stood-lists : (p : Position) (from to : ℕ) → lists (stood p from to).men ≡ lists p.men
+stood-lists p from to =
+    lists-IsPermutation (moved_men from to p.men) (in_order (moved_men from to p.men)) (IsPermutation-in_order (moved_men from to p.men)) ∙ moved-lists from to p.men
+
+-- it is of the same class
+pub leads-stood : (p : Position) (from to : ℕ) (q : Position) → IsValid q → q ≡ stood p from to → LeadsTo p q
+leads-stood p from to q valid e = record {
+  valid = λ v. valid;
+  reached = λ v c is. needs-own p c (is ∙ ap (λ (l : Lists). ordered l) (ap (λ (r : Position). lists r.men) e ∙ stood-lists p from to));
+}

@@ -6,7 +6,7 @@ use Rattle.study_tablefile.specs.declared.fault.SourceFault.{SourceFault}
 use Rattle.study_prober.specs.Values.{ProbeAnswer}
 use Rattle.study_prober.specs.declared.values.ProbeFault.{ProbeFault}
 use Rattle.study_marks.specs.Answers.{WereTold, IsFirstFault}
-use Rattle.study_review.specs.Asked.{AllTold, Stopped}
+use Rattle.study_review.specs.Asked.{AllTold, Stopped, within}
 use Rattle.study_view.specs.declared.fault.ViewFault.{ViewFault}
 use Rattle.study_view.specs.declared.fault.ViewFault.TheVariants.{NoSuchNode, OutOfMemory, Device, Values}
 use Rattle.study_view.specs.declared.fault.SurveyFault.{SurveyFault}
@@ -14,27 +14,27 @@ use Rattle.study_view.specs.declared.fault.SurveyFault.TheVariants as survey
 
 module _ {V : Type 0} (held : V → Class → Bool) (gives : V → Position → ProbeAnswer → Type 0)
     (may_fail : V → Class → SourceFault → Type 0) (asked_of failed_of : V → ℕ) (is_honest : V → Type 0) where
-  -- these positions were asked in their order, and each value was told
-  pub record EachTold (asked : List Position) (old new : V) : Type 0 where
+  -- these positions were asked in their order, to each of which p leads, and each value was told
+  pub record EachTold (p : Position) (asked : List Position) (old new : V) : Type 0 where
     pub each : WereTold gives may_fail asked_of old asked new
-    pub all : AllTold held gives may_fail asked_of failed_of is_honest old new
+    pub all : AllTold held (within p gives) may_fail asked_of failed_of is_honest old new
 
   -- these positions were asked in their order, up to the first whose value could not be read, for this fault
-  pub record StoppedAt (asked : List Position) (old : V) (f : ProbeFault) (new : V) : Type 0 where
+  pub record StoppedAt (p : Position) (asked : List Position) (old : V) (f : ProbeFault) (new : V) : Type 0 where
     pub first : IsFirstFault gives may_fail asked_of old asked f new
-    pub stopped : Stopped held gives may_fail asked_of failed_of is_honest old f new
+    pub stopped : Stopped held (within p gives) may_fail asked_of failed_of is_honest old f new
 
-  abbrev pub HasToldEach : {T : Type 0} → List Position → V → Result T ProbeFault → V → Type 0
-  HasToldEach asked old (Ok x) new = EachTold asked old new
-  HasToldEach asked old (Err f) new = StoppedAt asked old f new
+  abbrev pub HasToldEach : {T : Type 0} → Position → List Position → V → Result T ProbeFault → V → Type 0
+  HasToldEach p asked old (Ok x) new = EachTold p asked old new
+  HasToldEach p asked old (Err f) new = StoppedAt p asked old f new
 
   -- each value was told, unless the call was refused for the first that was not, or before one was asked
-  abbrev pub HasViewed : {T : Type 0} → List Position → V → Result T ViewFault → V → Type 0
-  HasViewed asked old (Ok x) new = EachTold asked old new
-  HasViewed asked old (Err NoSuchNode) new = new ≡ old
-  HasViewed asked old (Err OutOfMemory) new = EachTold asked old new
-  HasViewed asked old (Err Device) new = EachTold asked old new
-  HasViewed asked old (Err (Values f)) new = StoppedAt asked old f new
+  abbrev pub HasViewed : {T : Type 0} → Position → List Position → V → Result T ViewFault → V → Type 0
+  HasViewed p asked old (Ok x) new = EachTold p asked old new
+  HasViewed p asked old (Err NoSuchNode) new = new ≡ old
+  HasViewed p asked old (Err OutOfMemory) new = EachTold p asked old new
+  HasViewed p asked old (Err Device) new = EachTold p asked old new
+  HasViewed p asked old (Err (Values f)) new = StoppedAt p asked old f new
 
   -- some positions were asked, and each value was told, or the first that could not be read was not for this fault
   abbrev pub HasToldSome : {T : Type 0} → V → Result T ProbeFault → V → Type 0

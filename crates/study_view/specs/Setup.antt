@@ -5,8 +5,7 @@ use Rattle.study_board.specs.declared.men.Man.{Man}
 use Rattle.study_board.specs.declared.men.Side.{Side}
 use Rattle.study_board.specs.Position.{Position, could_be_passed}
 use Rattle.study_material.specs.declared.class.Class.{Class}
-use Rattle.study_material.specs.Class.{IsOf}
-use Rattle.study_material.specs.Needs.{IsNeeded, by_size}
+use Rattle.study_material.specs.Needs.{NeedsClass, by_size}
 
 -- the squares from a number on that a pawn of the side that is not to move can just have jumped over
 abbrev pub passed_from : List Man → Side → ℕ → List ℕ
@@ -15,10 +14,6 @@ passed_from men side first = filter (could_be_passed men side) (range_with_len f
 -- a1, b1 up to h8
 abbrev pub passed_squares : List Man → Side → List ℕ
 passed_squares men side = passed_from men side 0
-
--- the position is of the class, or of one that needs it, directly or through others
-abbrev pub NeedsClass : Position → Class → Type 0
-NeedsClass p d = (c : Class) × IsOf c p × IsNeeded c d
 
 -- one of the positions is
 abbrev pub IsNeededBy : List Position → Class → Type 0

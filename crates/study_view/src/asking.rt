@@ -4,6 +4,7 @@ ghost use Rattle.std.specs.List.{All};
 ghost use Rattle.study_moves.specs.LegalList.{legal_list};
 ghost use Rattle.study_moves.specs.Rules.{is_legal};
 ghost use Rattle.study_retro.specs.Game.{IsValueOf};
+ghost use Rattle.study_review.specs.Asked.{within};
 ghost use Rattle.study_review.specs.Continuations.{AreChosen, AreHoldingMoves, each_after};
 ghost use Rattle.study_view.specs.Asked.{HasToldEach, HasToldSome};
 
@@ -25,7 +26,7 @@ pub fn ask_moves<V: Values>(
         AreChosen (λ v. true) node.now.position.now (legal_list node.now.position.now) list.items) }
     ensures legal { IfOk result (λ list. All (λ x. is_legal node.now.position.now x.played ≡ true) list.items) }
     ensures asked { HasToldEach V.held V.gives V.may_fail V.asked_of V.failed_of V.is_honest
-        (each_after node.now.position.now (legal_list node.now.position.now)) values.old result values.new }
+        node.now.position.now (each_after node.now.position.now (legal_list node.now.position.now)) values.old result values.new }
 {
     missing_moves(node, &[], values)
 }
@@ -33,7 +34,7 @@ pub fn ask_moves<V: Values>(
 /// The value of a position.
 pub fn ask_value<V: Values>(q: &Position, values: &mut V) -> Result<Value, ProbeFault>
     ensures game { V.is_honest values.old → IfOk result (IsValueOf q.now) }
-    ensures asked { HasToldSome V.held V.gives V.may_fail V.asked_of V.failed_of V.is_honest values.old result values.new }
+    ensures asked { HasToldSome V.held (within q.now V.gives) V.may_fail V.asked_of V.failed_of V.is_honest values.old result values.new }
 {
     // (the position is valid, as the clauses on its answer say)
     let _men = q.men();
@@ -48,7 +49,7 @@ pub fn ask_first_moves<V: Values>(
 ) -> Result<ArrayVec<Continuation, MAX_MOVES>, ProbeFault>
     ensures game { V.is_honest values.old → IfOk result (λ list. AreHoldingMoves aim.now 0 q.now list.items) }
     ensures legal { IfOk result (λ list. All (λ x. is_legal q.now x.played ≡ true) list.items) }
-    ensures asked { HasToldSome V.held V.gives V.may_fail V.asked_of V.failed_of V.is_honest values.old result values.new }
+    ensures asked { HasToldSome V.held (within q.now V.gives) V.may_fail V.asked_of V.failed_of V.is_honest values.old result values.new }
 {
     let node = Node {
         aim,

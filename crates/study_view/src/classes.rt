@@ -3,8 +3,8 @@ ghost use Rattle.std.specs.Prelude.{◌≡◌, ◌↔◌, ◌≤◌, ◌<◌, �
 ghost use Rattle.std.specs.List.{Contains};
 ghost use Rattle.arrayvec.specs.ArrayVec.{array_vec_len};
 ghost use Rattle.study_material.specs.declared.class.Class.{Class as AClass};
-ghost use Rattle.study_material.specs.Needs.{by_size};
-ghost use Rattle.study_view.specs.Setup.{NeedsClass, IsNeededBy, AreThose, AreClassesNeeded};
+ghost use Rattle.study_material.specs.Needs.{NeedsClass, by_size};
+ghost use Rattle.study_view.specs.Setup.{IsNeededBy, AreThose, AreClassesNeeded};
 
 use arrayvec::ArrayVec;
 use study_board::Position;

@@ -1,9 +1,11 @@
 //! Where else a man could stand.
-ghost use Rattle.std.specs.Prelude.{◌≡◌, ◌+◌, ◌++◌, ◌∷◌, [], ◌-◌, ◌<◌, ◌≤◌, ◌↔◌, List, length, None, OnOk, IfOk, IfSome, IfNone, IsSome, Err};
+ghost use Rattle.std.specs.Prelude.{◌≡◌, ◌+◌, ◌++◌, ◌∷◌, [], ◌-◌, ◌<◌, ◌≤◌, ◌↔◌, ◌⊎◌, List, length, None, OnOk, IfOk, IfErr, IfSome, IfNone, IsSome, Err};
 ghost use Rattle.std.specs.List.{All};
 ghost use Rattle.arrayvec.specs.ArrayVec.{array_vec_len};
-ghost use Rattle.study_board.specs.Position.{man_at};
+ghost use Rattle.study_board.specs.Position.{man_at, IsValid};
 ghost use Rattle.study_marks.specs.Goals.{holds};
+ghost use Rattle.study_prober.specs.declared.values.ProbeFault.{ProbeFault as AProbeFault};
+ghost use Rattle.study_review.specs.Asked.{within};
 ghost use Rattle.study_view.specs.Asked.{HasToldSome};
 ghost use Rattle.study_view.specs.declared.squares.Stood.{Stood as AStood};
 ghost use Rattle.study_view.specs.Survey.{moved_man, moved_men, stood, stood_fault, by_moves, other_squares};
@@ -90,10 +92,14 @@ fn moved_men(from: Square, to: Square, men: &[Man]) -> ArrayVec<Man, 4>
 pub fn with_man_at(p: &Position, from: Square, to: Square) -> Option<Position>
     ensures none { IfNone result (IsSome (stood_fault p.now from to)) }
     ensures some { IfSome result (λ q. (stood_fault p.now from to ≡ None) × (q ≡ stood p.now from to)) }
+    ensures valid { IfSome result IsValid }
 {
     let men = moved_men(from, to, p.men());
     match Position::new(men.as_slice(), p.to_move(), p.passed()) {
-        Ok(q) => Some(q),
+        Ok(q) => {
+            let _men = q.men();
+            Some(q)
+        }
         Err(_) => None,
     }
 }
@@ -125,7 +131,7 @@ fn told_by<V: Values>(
     ensures game { V.is_honest values.old → IfOk result
         (IsToldBy (holds aim.now 0 value) aim.now.hero_first aim.now q.now value) }
     ensures legal { IfOk result (IsPlayedIn q.now) }
-    ensures asked { HasToldSome V.held V.gives V.may_fail V.asked_of V.failed_of V.is_honest values.old result values.new }
+    ensures asked { HasToldSome V.held (within q.now V.gives) V.may_fail V.asked_of V.failed_of V.is_honest values.old result values.new }
 {
     if !holds(aim, 0, value) {
         return Ok(Standing::Fails(value));
@@ -147,7 +153,7 @@ fn told<V: Values>(
 ) -> Result<Standing, ProbeFault>
     ensures game { V.is_honest values.old → IfOk result (IsTold stipulation.now q.now) }
     ensures legal { IfOk result (IsPlayedIn q.now) }
-    ensures asked { HasToldSome V.held V.gives V.may_fail V.asked_of V.failed_of V.is_honest values.old result values.new }
+    ensures asked { HasToldSome V.held (within q.now V.gives) V.may_fail V.asked_of V.failed_of V.is_honest values.old result values.new }
 {
     let aim = aim_of(stipulation, q.to_move());
     match ask_value(q, values) {
@@ -165,7 +171,7 @@ fn standing_at<V: Values>(
     ensures game { V.is_honest values.old → IfOk result
         (IsStanding question.now.position.now question.now.square question.now.stipulation.now x) }
     ensures legal { IfOk result (λ s. IsShown question.now.position.now question.now.square (record { at = x; standing = s })) }
-    ensures asked { HasToldSome V.held V.gives V.may_fail V.asked_of V.failed_of V.is_honest values.old result values.new }
+    ensures asked { HasToldSome V.held (within question.now.position.now V.gives) V.may_fail V.asked_of V.failed_of V.is_honest values.old result values.new }
 {
     match with_man_at(question.position, question.square, x) {
         None => Ok(Standing::Impossible),
@@ -204,7 +210,7 @@ fn stand_from<V: Values>(
     ensures game { V.is_honest values.old → OnOk result ((more : List AStood) × AreStandings question.now.position.now
         question.now.square question.now.stipulation.now (squares_but question.now.square number (64 - number)) more
         × (list.new.items ≡ list.old.items ++ more)) }
-    ensures asked { HasToldSome V.held V.gives V.may_fail V.asked_of V.failed_of V.is_honest values.old result values.new }
+    ensures asked { HasToldSome V.held (within question.now.position.now V.gives) V.may_fail V.asked_of V.failed_of V.is_honest values.old result values.new }
 {
     if number >= 64 {
         return Ok(());
@@ -230,7 +236,7 @@ pub fn stand_each<V: Values>(
     ensures game { V.is_honest values.old → IfOk result (λ list. AreStandings question.now.position.now
         question.now.square question.now.stipulation.now (other_squares question.now.square) list.items) }
     ensures listed { IfOk result (λ list. All (IsShown question.now.position.now question.now.square) list.items) }
-    ensures asked { HasToldSome V.held V.gives V.may_fail V.asked_of V.failed_of V.is_honest values.old result values.new }
+    ensures asked { HasToldSome V.held (within question.now.position.now V.gives) V.may_fail V.asked_of V.failed_of V.is_honest values.old result values.new }
 {
     let mut list = ArrayVec::new();
     match stand_from(question, 0, values, &mut list) {
@@ -247,7 +253,8 @@ pub fn survey<V: Values>(
     ensures game { V.is_honest values.old → IfOk result (λ list. AreStandings question.now.position.now
         question.now.square question.now.stipulation.now (other_squares question.now.square) list.items) }
     ensures no_man { (result ≡ Err SurveyFault.NoMan) ↔ (man_at question.now.position.now.men question.now.square ≡ None) }
-    ensures asked { HasSurveyed V.held V.gives V.may_fail V.asked_of V.failed_of V.is_honest values.old result values.new }
+    ensures only { IfErr result (λ f. (f ≡ SurveyFault.NoMan) ⊎ ((fault : AProbeFault) × (f ≡ SurveyFault.Values fault))) }
+    ensures asked { HasSurveyed V.held (within question.now.position.now V.gives) V.may_fail V.asked_of V.failed_of V.is_honest values.old result values.new }
 {
     match question.position.man_at(question.square) {
         None => Err(SurveyFault::NoMan),

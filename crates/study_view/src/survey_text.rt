@@ -7,6 +7,7 @@ ghost use Rattle.study_moves.specs.Rules.{is_legal};
 ghost use Rattle.study_prober.specs.declared.values.ProbeFault.{ProbeFault as AProbeFault};
 ghost use Rattle.study_review.specs.Words.{value_words};
 ghost use Rattle.study_text.specs.Taken.{TakesPrefix};
+ghost use Rattle.study_review.specs.Asked.{within};
 ghost use Rattle.study_view.specs.Asked.{HasSurveyed};
 ghost use Rattle.study_view.specs.Shown.{IsShown};
 ghost use Rattle.study_view.specs.Survey.{stood, survey_line, standing_words, standing_line, IsSurvey};
@@ -162,7 +163,7 @@ fn survey_text<'a, A: Allocator, V: Values>(
         (IsSurvey question.now.position.now question.now.square question.now.stipulation.now) }
     ensures no_man { (result ≡ Err SurveyFault.NoMan) ↔ (man_at question.now.position.now.men question.now.square ≡ None) }
     ensures device { ¬ (result ≡ Err SurveyFault.Device) }
-    ensures asked { HasSurveyed V.held V.gives V.may_fail V.asked_of V.failed_of V.is_honest values.old result values.new }
+    ensures asked { HasSurveyed V.held (within question.now.position.now V.gives) V.may_fail V.asked_of V.failed_of V.is_honest values.old result values.new }
 {
     match question.position.man_at(question.square) {
         None => Err(SurveyFault::NoMan),
@@ -194,7 +195,7 @@ pub fn write_survey<'a, A: Allocator, V: Values, W: Write>(
     ensures gone { result ≡ Err SurveyFault.NoMan → out.new ≡ out.old }
     ensures memory { result ≡ Err SurveyFault.OutOfMemory → out.new ≡ out.old }
     ensures untold { (fault : AProbeFault) → result ≡ Err (SurveyFault.Values fault) → out.new ≡ out.old }
-    ensures asked { HasSurveyed V.held V.gives V.may_fail V.asked_of V.failed_of V.is_honest values.old result values.new }
+    ensures asked { HasSurveyed V.held (within question.now.position.now V.gives) V.may_fail V.asked_of V.failed_of V.is_honest values.old result values.new }
 {
     let text = survey_text(alloc, question, values)?;
     write_text(out, text.as_slice())?;

@@ -94,7 +94,7 @@ fn view_from<'a, 'b, A: Allocator, B: Allocator, V: Values>(
     ensures found { ¬ (result ≡ Err ViewFault.NoSuchNode) }
     ensures device { ¬ (result ≡ Err ViewFault.Device) }
     ensures asked { HasViewed V.held V.gives V.may_fail V.asked_of V.failed_of V.is_honest
-        (asked_at (marked bench.now) steps.now) values.old result values.new }
+        (marked bench.now).start.position (asked_at (marked bench.now) steps.now) values.old result values.new }
 {
     let stipulation = bench.stipulation();
     let aim = aim_of(&stipulation, bench.start().position.to_move());
@@ -125,7 +125,7 @@ fn view_at<'a, 'b, A: Allocator, B: Allocator, V: Values>(
     ensures no_node { (result ≡ Err ViewFault.NoSuchNode) ↔ (spot_at (marked bench.now).tree path.now ≡ None) }
     ensures device { ¬ (result ≡ Err ViewFault.Device) }
     ensures asked { HasViewed V.held V.gives V.may_fail V.asked_of V.failed_of V.is_honest
-        (asked_at (marked bench.now) path.now) values.old result values.new }
+        (marked bench.now).start.position (asked_at (marked bench.now) path.now) values.old result values.new }
 {
     let _first = bench.start();
     match bench.start_at(path) {
@@ -156,7 +156,7 @@ pub fn write_view<'a, 'b, A: Allocator, B: Allocator, V: Values, W: Write>(
     ensures memory { result ≡ Err ViewFault.OutOfMemory → out.new ≡ out.old }
     ensures untold { (fault : AProbeFault) → result ≡ Err (ViewFault.Values fault) → out.new ≡ out.old }
     ensures asked { HasViewed V.held V.gives V.may_fail V.asked_of V.failed_of V.is_honest
-        (asked_at (marked bench.now) path.now) values.old result values.new }
+        (marked bench.now).start.position (asked_at (marked bench.now) path.now) values.old result values.new }
 {
     let text = view_at(alloc, bench, path, values)?;
     write_text(out, text.as_slice())?;

@@ -3,13 +3,12 @@ use Rattle.std.proofs.Common.{◌≡◌, ◌⊎◌, ℕ, Bool, true, List, [], �
 use Rattle.std.specs.Prelude.{IfOk, IfErr, IsErrAnd}
 use Rattle.study_script.specs.declared.running.RunFault.{RunFault}
 use Rattle.study_script.specs.declared.running.RunFault.TheVariants as run_fault
-use Rattle.study_board.specs.Position.{Position}
+use Rattle.study_board.specs.Position.{Position, IsValid}
 use Rattle.study_material.specs.declared.class.Class.{Class}
-use Rattle.study_material.proofs.EachHasClass.{class_exists}
 use Rattle.study_notation.specs.declared.start.Start.{Start}
 use Rattle.study_tablefile.specs.declared.fault.SourceFault.{SourceFault}
-use Rattle.study_marks.specs.Answers.{IsFirstFault}
-use Rattle.study_review.specs.Asked.{Stopped}
+use Rattle.study_review.specs.Asked.{Stopped, within}
+use Rattle.study_review.proofs.Within.{missed-needed, unread-needed}
 use Rattle.study_view.specs.declared.fault.SurveyFault.{SurveyFault}
 use Rattle.study_view.specs.declared.fault.SurveyFault.TheVariants as survey
 use Rattle.study_view.specs.declared.fault.ViewFault.{ViewFault}
@@ -22,7 +21,8 @@ use Rattle.study_script.specs.declared.document.Document.{Document as HeldDocume
 use Rattle.study_script.specs.declared.tables.Tables.{Tables}
 use Rattle.study_script.specs.declared.tables.Tables.TheVariants.{Whole, Paged}
 use Rattle.study_script.specs.State.{State, is_among}
-use Rattle.study_script.specs.Held.{Holds, are_paged, tables_asked, tables_failed, tables_give, tables_held, tables_honest, tables_may_fail}
+use Rattle.study_web.specs.Views.{IsViewUntold, StudyStopped}
+use Rattle.study_script.specs.Held.{Holds, document_seen, are_paged, tables_asked, tables_failed, tables_give, tables_held, tables_honest, tables_may_fail}
 use Rattle.study_report.specs.Told.{IsUntoldIn}
 use Rattle.study_web.specs.declared.denial.Denial.{Denial}
 use Rattle.study_web.specs.declared.denial.Denial.TheVariants as denial
@@ -66,54 +66,50 @@ abbrev Faults : Type 0
 Faults = Class → SourceFault → Bool
 
 pub survey_over : (h : Known) (m : Faults) (Right : Type 0) (start : Start) (square : ℕ) (d : Denial) → IsOfTables h m d
-    → IsSurveyDenial (IsOfValues h m Right) start square d
+    → IsSurveyDenial (IsOfValues h m Right start.position) start square d
 survey_over h m Right start square (denial.Refused refusal) is = inl is
 survey_over h m Right start square (denial.OfFile c refusal) is = inl is
 survey_over h m Right start square denial.NoMan is = absurd is
 
 module _ {V : Type 0} (held : V → Class → Bool) (gives : V → Position → ProbeAnswer → Type 0) (may_fail : V → Class → SourceFault → Type 0)
     (asked_of failed_of : V → ℕ) (is_honest : V → Type 0) where
-  -- a table that is not read is one that might fail so at first
-  fails_at : (old new : V) (asked : List Position) (f : SourceFault) → IsFirstFault gives may_fail asked_of old asked (probe.TableRead f) new
-      → (c : Class) × may_fail old c f
-  fails_at old new [] f h = absurd h
-  fails_at old new (p ∷ ps) f (inl is) = let of_class = class_exists p is.valid in (of_class.0, is.failed_so of_class.0 f of_class.1 refl)
-  fails_at old new (p ∷ ps) f (inr (v, mid, is, more)) =
-      let r = fails_at mid new ps f more in (r.0, is.fails_as_before r.0 f r.1)
-
-  untold : (h : Known) (m : Faults) (Right : Type 0) (old new : V) (fault : ProbeFault)
-      → Stopped held gives may_fail asked_of failed_of is_honest old fault new → ((c : Class) → IsHeldAs (h c) (held old c))
-      → ((c : Class) (f : SourceFault) → may_fail old c f → m c f ≡ true) → (Right → is_honest old) → IsValueUntold h m Right fault
-  untold h m Right old new (probe.NoTable c) is known fails right = subst (IsHeldAs (h c)) (is.untold c refl) (known c)
-  untold h m Right old new (probe.TableRead f) is known fails right =
-      let r = fails_at old new is.told.0 f is.told.1 in (r.0, fails r.0 f r.1)
-  untold h m Right old new (probe.PageDamaged c n) is known fails right = λ k. is.no_damage (right k)
+  untold : (h : Known) (m : Faults) (Right : Type 0) (p : Position) → IsValid p → (old new : V) (fault : ProbeFault)
+      → Stopped held (within p gives) may_fail asked_of failed_of is_honest old fault new → ((c : Class) → IsHeldAs (h c) (held old c))
+      → ((c : Class) (f : SourceFault) → may_fail old c f → m c f ≡ true) → (Right → is_honest old) → IsValueUntold h m Right p fault
+  untold h m Right p valid old new (probe.NoTable c) is known fails right =
+      (subst (IsHeldAs (h c)) (is.untold c refl) (known c), missed-needed gives may_fail asked_of p valid old new (probe.NoTable c) c is.told refl)
+  untold h m Right p valid old new (probe.TableRead f) is known fails right =
+      let r = unread-needed gives may_fail asked_of p valid old new (probe.TableRead f) f is.told refl in (r.0, r.1, fails r.0 f r.2)
+  untold h m Right p valid old new (probe.PageDamaged c n) is known fails right = λ k. is.no_damage (right k)
 
   -- a survey is refused for the value that cannot be read
   pub survey_denied : (h : Known) (m : Faults) (Right : Type 0) (old new : V) (fault : ProbeFault) (start : Start) (square : ℕ)
-      (r : Result (Unit {0}) SurveyFault) → r ≡ Err (survey.Values fault)
-      → HasSurveyed held gives may_fail asked_of failed_of is_honest old r new → ((c : Class) → IsHeldAs (h c) (held old c))
+      (r : Result (Unit {0}) SurveyFault) → IsValid start.position → r ≡ Err (survey.Values fault)
+      → HasSurveyed held (within start.position gives) may_fail asked_of failed_of is_honest old r new → ((c : Class) → IsHeldAs (h c) (held old c))
       → ((c : Class) (f : SourceFault) → may_fail old c f → m c f ≡ true) → (Right → is_honest old)
-      → IsSurveyDenial (IsOfValues h m Right) start square (denial.Refused (of_probe fault))
-  survey_denied h m Right old new fault start square r e is known fails right =
-      let stopped = subst (λ (x : Result (Unit {0}) SurveyFault). HasSurveyed held gives may_fail asked_of failed_of is_honest old x new) e is in
-      inr (fault, untold h m Right old new fault stopped known fails right, refl)
+      → IsSurveyDenial (IsOfValues h m Right start.position) start square (denial.Refused (of_probe fault))
+  survey_denied h m Right old new fault start square r valid e is known fails right =
+      let stopped = subst (λ (x : Result (Unit {0}) SurveyFault). HasSurveyed held (within start.position gives) may_fail asked_of failed_of is_honest old x new) e is in
+      inr (fault, untold h m Right start.position valid old new fault stopped known fails right, refl)
 
   -- a view is refused for the value that cannot be read
-  pub view_stopped : (asked : List Position) (old new : V) (fault : ProbeFault) (r : Result (Unit {0}) ViewFault) → r ≡ Err (view.Values fault)
-      → HasViewed held gives may_fail asked_of failed_of is_honest asked old r new → Stopped held gives may_fail asked_of failed_of is_honest old fault new
-  view_stopped asked old new fault r e is =
-      let there = subst (λ (x : Result (Unit {0}) ViewFault). HasViewed held gives may_fail asked_of failed_of is_honest asked old x new) e is in
+  pub view_stopped : (p : Position) (asked : List Position) (old new : V) (fault : ProbeFault) (r : Result (Unit {0}) ViewFault) → r ≡ Err (view.Values fault)
+      → HasViewed held gives may_fail asked_of failed_of is_honest p asked old r new → Stopped held (within p gives) may_fail asked_of failed_of is_honest old fault new
+  view_stopped p asked old new fault r e is =
+      let there = subst (λ (x : Result (Unit {0}) ViewFault). HasViewed held gives may_fail asked_of failed_of is_honest p asked old x new) e is in
       there.stopped
 
   -- in a state that holds the same, the value cannot be read for this fault
-  pub untold_in : (s : State) (old new : V) (fault : ProbeFault) → Stopped held gives may_fail asked_of failed_of is_honest old fault new
+  pub untold_in : (s : State) (p : Position) → IsValid p → (old new : V) (fault : ProbeFault)
+      → Stopped held (within p gives) may_fail asked_of failed_of is_honest old fault new
       → is_honest old → ((c : Class) → held old c ≡ is_among s.classes c)
-      → ((c : Class) (f : SourceFault) → may_fail old c f → (s.paged ≡ true) × (s.shelf.faults c f ≡ true)) → IsUntoldIn s fault
-  untold_in s old new (probe.NoTable c) is honest known fails = sym (known c) ∙ is.untold c refl
-  untold_in s old new (probe.TableRead f) is honest known fails =
-      let r = fails_at old new is.told.0 f is.told.1 in let k = fails r.0 f r.1 in (k.0, r.0, k.1)
-  untold_in s old new (probe.PageDamaged c n) is honest known fails = absurd (is.no_damage honest)
+      → ((c : Class) (f : SourceFault) → may_fail old c f → (s.paged ≡ true) × (s.shelf.faults c f ≡ true)) → IsUntoldIn s p fault
+  untold_in s p valid old new (probe.NoTable c) is honest known fails =
+      (sym (known c) ∙ is.untold c refl, missed-needed gives may_fail asked_of p valid old new (probe.NoTable c) c is.told refl)
+  untold_in s p valid old new (probe.TableRead f) is honest known fails =
+      let r = unread-needed gives may_fail asked_of p valid old new (probe.TableRead f) f is.told refl in
+      let k = fails r.0 f r.2 in (k.0, r.0, r.1, k.1)
+  untold_in s p valid old new (probe.PageDamaged c n) is honest known fails = absurd (is.no_damage honest)
 
 -- tables that may fail are read by pages
 paged_where : {P A : Type 0} (gives : GivesOf P) (t : Tables P A) (c : Class) (f : SourceFault) → tables_may_fail gives t c f → are_paged t ≡ true
@@ -122,11 +118,14 @@ paged_where gives (Paged w) c f h = refl
 
 -- the same of the tables of a session
 pub untold_left : {P A : Type 0} (honest : P → Table → ℕ → Type 0) (gives : GivesOf P) (b : HeldDocument A) (old new : Tables P A) (fault : ProbeFault)
-    → Stopped tables_held (tables_give gives) (tables_may_fail gives) tables_asked tables_failed (tables_honest honest) old fault new
-    → (s : State) → Holds honest gives b old s → IsUntoldIn s fault
-untold_left honest gives b old new fault is s holds =
-    untold_in tables_held (tables_give gives) (tables_may_fail gives) tables_asked tables_failed (tables_honest honest) s old new fault is holds.values
-    holds.classes (λ c f h. (sym holds.paged ∙ paged_where gives old c f h, holds.faults c f h))
+    → StudyStopped tables_held (tables_give gives) (tables_may_fail gives) tables_asked tables_failed (tables_honest honest) (document_seen b) old fault new
+    → (s : State) → Holds honest gives b old s → IsViewUntold s fault
+untold_left honest gives b old new fault (plain, seen, valid, is) s holds = (
+  plain,
+  sym holds.document ∙ seen,
+  untold_in tables_held (tables_give gives) (tables_may_fail gives) tables_asked tables_failed (tables_honest honest) s plain.start.position valid old new
+      fault is holds.values holds.classes (λ c f h. (sym holds.paged ∙ paged_where gives old c f h, holds.faults c f h)),
+)
 
 -- what is told of each text under a premise
 pub if_right : {V E : Type 0} (made : Result V E) (items : V → List ℕ) (Right : Type 0) (IsIt : List ℕ → Type 0)

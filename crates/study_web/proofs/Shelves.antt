@@ -2,6 +2,7 @@
 use Rattle.std.proofs.Common.{◌≡◌, ℕ, Bool, false, List, replicate, Option, Some, None, Result, Ok, Err, is_some, refl, subst, sym, ◌∙◌, inl, inr}
 use Rattle.std.specs.Prelude.{IfOk, IfErr}
 use Rattle.std.proofs.lemmas.List.{get_or-replicate}
+use Rattle.study_board.specs.Position.{Position}
 use Rattle.study_material.specs.declared.class.Class.{Class}
 use Rattle.study_material.specs.Class.{class_number}
 use Rattle.study_tablefile.specs.declared.fault.SourceFault.{SourceFault}
@@ -92,14 +93,14 @@ module _ (h k : Class → Option (Result (List ℕ) StoreFault)) (m n : Class �
   still_named (Ok x) is = tt
   still_named (Err d) is = tables_alike d is
 
-  untold_alike : (Right Sound : Type 0) → (Sound → Right) → (fault : ProbeFault) → IsValueUntold h m Right fault → IsValueUntold k n Sound fault
-  untold_alike Right Sound g (probe.NoTable c) is = subst (λ (o : Option (Result (List ℕ) StoreFault)). IsHeldAs o false) (same c) is
-  untold_alike Right Sound g (probe.TableRead f) (c, is) = (c, sym (alike c f) ∙ is)
-  untold_alike Right Sound g (probe.PageDamaged c i) is = λ k. is (g k)
+  untold_alike : (Right Sound : Type 0) → (Sound → Right) → (p : Position) (fault : ProbeFault) → IsValueUntold h m Right p fault → IsValueUntold k n Sound p fault
+  untold_alike Right Sound g p (probe.NoTable c) is = (subst (λ (o : Option (Result (List ℕ) StoreFault)). IsHeldAs o false) (same c) is.0, is.1)
+  untold_alike Right Sound g p (probe.TableRead f) (c, needs, is) = (c, needs, sym (alike c f) ∙ is)
+  untold_alike Right Sound g p (probe.PageDamaged c i) is = λ k. is (g k)
 
-  pub values_alike : (Right Sound : Type 0) → (Sound → Right) → (d : Denial) → IsOfValues h m Right d → IsOfValues k n Sound d
-  values_alike Right Sound g d (inl is) = inl (tables_alike d is)
-  values_alike Right Sound g d (inr (fault, is, same)) = inr (fault, untold_alike Right Sound g fault is, same)
+  pub values_alike : (Right Sound : Type 0) → (Sound → Right) → (p : Position) (d : Denial) → IsOfValues h m Right p d → IsOfValues k n Sound p d
+  values_alike Right Sound g p d (inl is) = inl (tables_alike d is)
+  values_alike Right Sound g p d (inr (fault, is, same)) = inr (fault, untold_alike Right Sound g p fault is, same)
 
 -- the same of a store that has these spans and bytes
 module _ {spans at : List Span} {bytes bs : List ℕ} {written : List Bool} (e : at ≡ spans) (f : bs ≡ bytes) (w : written ≡ replicate 36 false) where
@@ -113,11 +114,11 @@ module _ {spans at : List Span} {bytes bs : List ℕ} {written : List Bool} (e :
   tables_made d is = tables_alike (known header_given at bs written) (λ c. Some (header_given (file_in spans bytes c)))
       (faults_known at bs written) (λ c. file_faults (file_in spans bytes c) c) headers_made faults_made d is
 
-  pub values_made : (d : Denial) → IsOfValues (known header_given at bs written) (faults_known at bs written) (AreAllRight at bs) d
-      → IsOfFileValues spans bytes d
-  values_made d is = values_alike (known header_given at bs written) (λ c. Some (header_given (file_in spans bytes c)))
+  pub values_made : (p : Position) (d : Denial) → IsOfValues (known header_given at bs written) (faults_known at bs written) (AreAllRight at bs) p d
+      → IsOfFileValues spans bytes p d
+  values_made p d is = values_alike (known header_given at bs written) (λ c. Some (header_given (file_in spans bytes c)))
       (faults_known at bs written) (λ c. file_faults (file_in spans bytes c) c) headers_made faults_made (AreAllRight at bs)
-      (AreAllRight spans bytes) (right_made e f) d is
+      (AreAllRight spans bytes) (right_made e f) p d is
 
   -- what is so over the store is so over the files
   pub over_made : (IsSo : List Class → Shelf → Type 0) → OverStore (known header_given at bs written) (faults_known at bs written) IsSo

@@ -141,7 +141,7 @@ IsSurveyDenial May start square d = May d
 -- the survey of the man, over files that are right
 abbrev pub IsSurveyed : List Span → List ℕ → ℕ → Stipulation → Start → List ℕ → Ending → Type 0
 IsSurveyed spans bytes square st start =
-    IsWhole (λ text. AreAllRight spans bytes → IsSurvey start.position square st text) (IsSurveyDenial (IsOfFileValues spans bytes) start square)
+    IsWhole (λ text. AreAllRight spans bytes → IsSurvey start.position square st text) (IsSurveyDenial (IsOfFileValues spans bytes start.position) start square)
     IsNoMemory
 
 abbrev pub IsOutOfMemory : Denial → Type 0

@@ -1,6 +1,8 @@
 -- The tables of all files that a store gives by pages.
 use Rattle.std.specs.Prelude.{◌≡◌, ◌⊎◌, ℕ, Bool, true, false, is_some, List, Option, Some, None, Result, Ok, Err}
+use Rattle.study_board.specs.Position.{Position}
 use Rattle.study_material.specs.declared.class.Class.{Class}
+use Rattle.study_material.specs.Needs.{NeedsClass}
 use Rattle.study_tablefile.specs.declared.fault.SourceFault.{SourceFault}
 use Rattle.study_prober.specs.declared.fault.PagedFault.{PagedFault}
 use Rattle.study_prober.specs.declared.values.ProbeFault.{ProbeFault}
@@ -54,21 +56,21 @@ module _ (headers : Class → Option (Result (List ℕ) StoreFault)) (faults : C
   IsOfTables (denial.OfFile c refusal) = IsBadFile (headers c) (faults c) c refusal
   IsOfTables denial.NoMan = ⊥
 
-  -- Why the value of a position cannot be read: there is no file of its class, or a file that cannot be read, or a page is damaged, as none is of
-  -- right files.
-  abbrev pub IsValueUntold : Type 0 → ProbeFault → Type 0
-  IsValueUntold Right (probe.NoTable c) = IsHeldAs (headers c) false
-  IsValueUntold Right (probe.TableRead f) = (c : Class) × (faults c f ≡ true)
-  IsValueUntold Right (probe.PageDamaged c n) = Right → ⊥
+  -- Why a value that a position leads to cannot be read: of a class that the position needs there is no file, or one that cannot be read, or a page
+  -- is damaged, as none is of right files.
+  abbrev pub IsValueUntold : Type 0 → Position → ProbeFault → Type 0
+  IsValueUntold Right p (probe.NoTable c) = IsHeldAs (headers c) false × NeedsClass p c
+  IsValueUntold Right p (probe.TableRead f) = (c : Class) × NeedsClass p c × (faults c f ≡ true)
+  IsValueUntold Right p (probe.PageDamaged c n) = Right → ⊥
 
   -- why the tables give no answer: they are not opened, or a value cannot be read
-  abbrev pub IsOfValues : Type 0 → Denial → Type 0
-  IsOfValues Right d = IsOfTables d ⊎ ((fault : ProbeFault) × IsValueUntold Right fault × (d ≡ denial.Refused (of_probe fault)))
+  abbrev pub IsOfValues : Type 0 → Position → Denial → Type 0
+  IsOfValues Right p d = IsOfTables d ⊎ ((fault : ProbeFault) × IsValueUntold Right p fault × (d ≡ denial.Refused (of_probe fault)))
 
 -- the same of the files that are handed in
 abbrev pub IsOfFiles : List Span → List ℕ → Denial → Type 0
 IsOfFiles spans bytes = IsOfTables (λ c. Some (header_given (file_in spans bytes c))) (λ c. file_faults (file_in spans bytes c) c)
 
-abbrev pub IsOfFileValues : List Span → List ℕ → Denial → Type 0
+abbrev pub IsOfFileValues : List Span → List ℕ → Position → Denial → Type 0
 IsOfFileValues spans bytes =
     IsOfValues (λ c. Some (header_given (file_in spans bytes c))) (λ c. file_faults (file_in spans bytes c) c) (AreAllRight spans bytes)

@@ -1,11 +1,14 @@
 -- What a script leaves in the document, as a page is shown it.
 use Rattle.std.specs.Prelude.{◌≡◌, ◌≢◌, ℕ, Bool, true, false, List, [], ◌++◌, Option, Result}
+use Rattle.study_board.specs.Position.{Position, IsValid}
 use Rattle.study_material.specs.declared.class.Class.{Class}
 use Rattle.study_tree.specs.Tree.{has_spot}
 use Rattle.study_marks.specs.Edits.{Plainly}
 use Rattle.study_command.specs.Lines.{script_lines}
 use Rattle.study_tablefile.specs.declared.fault.SourceFault.{SourceFault}
+use Rattle.study_prober.specs.Values.{ProbeAnswer}
 use Rattle.study_prober.specs.declared.values.ProbeFault.{ProbeFault}
+use Rattle.study_review.specs.Asked.{Stopped, within}
 use Rattle.study_script.specs.declared.store.StoreFault.{StoreFault}
 use Rattle.study_script.specs.State.{Document, empty, start, study, Shelf, State, is_among}
 use Rattle.study_report.specs.Lines.{refusal_line}
@@ -59,9 +62,13 @@ LacksNode (study plain) path = has_spot plain.tree path ≡ false
 abbrev pub LacksNodeOver : List ℕ → List ℕ → List Class → Shelf → Type 0
 LacksNodeOver script path classes shelf = (state : State) × (refused : List ℕ) × IsLeft classes shelf script state refused × LacksNode state.document path
 
--- a value cannot be read in the state that a script leaves: no table of its class is held, or one may fail so
+-- a value that the start of the study leads to cannot be read
+abbrev pub IsViewUntold : State → ProbeFault → Type 0
+IsViewUntold s fault = (plain : Plainly) × (s.document ≡ study plain) × IsUntoldIn s plain.start.position fault
+
+-- the same in the state that a script leaves
 abbrev pub IsUntoldOver : List ℕ → ProbeFault → List Class → Shelf → Type 0
-IsUntoldOver script fault classes shelf = (state : State) × (refused : List ℕ) × IsLeft classes shelf script state refused × IsUntoldIn state fault
+IsUntoldOver script fault classes shelf = (state : State) × (refused : List ℕ) × IsLeft classes shelf script state refused × IsViewUntold state fault
 
 -- ---- over files
 
@@ -76,3 +83,11 @@ abbrev pub OverFiles : List Span → List ℕ → (List Class → Shelf → Type
 OverFiles spans bytes IsSo =
     (classes : List Class) × AreHandedIn spans bytes classes
     × (shelf : Shelf) × ((c : Class) (f : SourceFault) → shelf.faults c f ≡ file_faults (file_in spans bytes c) c f) × IsSo classes shelf
+
+-- values that a study's start leads to were told but for the last, for this fault
+module _ {V : Type 0} (held : V → Class → Bool) (gives : V → Position → ProbeAnswer → Type 0)
+    (may_fail : V → Class → SourceFault → Type 0) (asked_of failed_of : V → ℕ) (is_honest : V → Type 0) where
+  abbrev pub StudyStopped : Document → V → ProbeFault → V → Type 0
+  StudyStopped document old fault new =
+      (plain : Plainly) × (document ≡ study plain) × IsValid plain.start.position
+      × Stopped held (within plain.start.position gives) may_fail asked_of failed_of is_honest old fault new

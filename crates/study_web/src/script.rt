@@ -7,15 +7,13 @@ ghost use Rattle.study_marks.specs.BenchState.{marked, IsKeptRight};
 ghost use Rattle.study_marks.specs.Study.{plain_study};
 ghost use Rattle.study_command.specs.Paths.{steps_of, is_path_word};
 ghost use Rattle.study_prober.specs.PagedTables.{held_of, SourcesAreRight, MayFail};
-ghost use Rattle.study_review.specs.Asked.{Stopped};
-ghost use Rattle.study_report.specs.Told.{IsUntoldIn};
 ghost use Rattle.study_script.specs.Held.{document_seen, tables_honest, IsMarked, Holds};
-ghost use Rattle.study_script.specs.State.{State, is_among};
+ghost use Rattle.study_script.specs.State.{State, is_among, study};
 ghost use Rattle.study_view.specs.View.{IsViewOf};
 ghost use Rattle.study_view.specs.Words.{study_line};
 ghost use Rattle.study_web.specs.Answers.{MayEnd, IsNever, IsReviewOver, IsUnread, IsViewDenial};
 ghost use Rattle.study_web.specs.Opened.{IsOfTables};
-ghost use Rattle.study_web.specs.Views.{IsDocumentView, IsLeft, IsUntoldOver, IsViewOver, LacksNode, LacksNodeOver, OverStore};
+ghost use Rattle.study_web.specs.Views.{IsDocumentView, IsLeft, IsUntoldOver, IsViewOver, LacksNode, LacksNodeOver, OverStore, IsViewUntold, StudyStopped};
 
 use crate::denial::Denial;
 use crate::refusals::Refusals;
@@ -80,11 +78,12 @@ fn bench_view<'a, A: Allocator, V: Values>(
 ) -> Result<Vec<u8, &'a A>, NoText>
     requires { is_path_word path.now ≡ true }
     ensures none { IfErr result (MayEnd (IsViewDenial
-        (λ fault. Stopped V.held V.gives V.may_fail V.asked_of V.failed_of V.is_honest values.old fault values.new)
+        (λ fault. StudyStopped V.held V.gives V.may_fail V.asked_of V.failed_of V.is_honest (study (plain_study (marked bench.now))) values.old fault values.new)
         (has_spot (plain_study (marked bench.now)).tree (steps_of path.now) ≡ false)) IsNever) }
     ensures text { V.is_honest values.old → IsKeptRight bench.now
         → IfOk result (λ text. IsViewOf (plain_study (marked bench.now)) (steps_of path.now) text.items) }
 {
+    let first = bench.start();
     let Ok(path) = read_path(alloc, path) else {
         return Err(NoText::Denied(Denial::Refused(Refusal::OutOfMemory)));
     };
@@ -134,7 +133,7 @@ fn document_view<'a, A: Allocator, V: Values>(
 ) -> Result<Vec<u8, &'a A>, NoText>
     requires { is_path_word path.now ≡ true }
     ensures none { IfErr result (MayEnd (IsViewDenial
-        (λ fault. Stopped V.held V.gives V.may_fail V.asked_of V.failed_of V.is_honest values.old fault values.new)
+        (λ fault. StudyStopped V.held V.gives V.may_fail V.asked_of V.failed_of V.is_honest (document_seen document.now) values.old fault values.new)
         (LacksNode (document_seen document.now) (steps_of path.now))) IsNever) }
     ensures text { V.is_honest values.old → IsMarked document.now
         → IfOk result (λ text. IsDocumentView (document_seen document.now) (steps_of path.now) text.items) }
@@ -219,7 +218,7 @@ fn left_view<'a, P: PageSource, A: Allocator>(
 ) -> Result<Vec<u8, &'a A>, NoText>
     requires { is_path_word path.now ≡ true }
     ensures none { IfErr result (MayEnd (IsViewDenial
-        (λ fault. (state : State) → Holds P.honest P.gives left.entry.document left.entry.tables state → IsUntoldIn state fault)
+        (λ fault. (state : State) → Holds P.honest P.gives left.entry.document left.entry.tables state → IsViewUntold state fault)
         (LacksNode (document_seen left.entry.document) (steps_of path.now))) IsNever) }
     ensures text { tables_honest P.honest left.entry.tables → IsMarked left.entry.document
         → IfOk result (λ text. (view : List ℕ) × IsDocumentView (document_seen left.entry.document) (steps_of path.now) view

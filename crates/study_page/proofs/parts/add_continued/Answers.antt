@@ -1,17 +1,34 @@
 use Rattle.std.proofs.Common.{map}
 use Rattle.study_moves.specs.Rules.{after}
 use Rattle.study_moves.specs.LegalList.{legal_list}
+use Rattle.study_review.proofs.Within.{each-legal, some-fault, some-told}
 use Rattle.study_review.proofs.NotHeld.{untold-of}
-use Rattle.study_page.proofs.Asking.{of-fault}
+use Rattle.study_review.specs.Asked.{within}
+use Rattle.study_page.proofs.Asking.{of-fault, of-told, no-memory}
 use Rattle.study_page.proofs.parts.add_continued.Goals as goal
 
 pub returns-in-Err-clause-asked : goal.returns-in-Err-clause-asked
 returns-in-Err-clause-asked g c =
-    of-fault g.V.Values.held g.V.Values.gives g.V.Values.may_fail g.V.Values.asked_of g.V.Values.failed_of g.V.Values.is_honest (Unit {0})
-    c.args.values.now c.drawing_moves.new.values c.in-Err.fault (
-      map (after c.args.place.now.position) (legal_list c.args.place.now.position),
-      c.in-Err.ensures.first,
-    )
+    of-fault g.V.Values.held (within c.args.place.now.position g.V.Values.gives) g.V.Values.may_fail g.V.Values.asked_of g.V.Values.failed_of g.V.Values.is_honest (Unit {0})
+    c.args.values.now c.drawing_moves.new.values c.in-Err.fault 
+    (some-fault g.V.Values.may_fail g.V.Values.asked_of g.V.Values.gives c.args.place.now.position (g.V.Values.held c.args.values.now) c.args.values.now c.drawing_moves.new.values
+    (map (after c.args.place.now.position) (legal_list c.args.place.now.position)) c.in-Err.fault (each-legal c.args.place.now.position) c.in-Err.ensures.untold c.in-Err.ensures.first)
     (λ k e. untold-of (g.V.Values.held c.args.values.now) (map (after c.args.place.now.position) (legal_list c.args.place.now.position))
     c.in-Err.fault k c.in-Err.ensures.untold e)
     c.in-Err.ensures.no_damage c.in-Err.ensures.failures c.drawing_moves.ensures.honest c.drawing_moves.ensures.tables
+
+pub returns-in_err-put_keep_at-in-Ok-clause-asked : goal.returns-in_err-put_keep_at-in-Ok-clause-asked
+returns-in_err-put_keep_at-in-Ok-clause-asked g c =
+    no-memory g.V.Values.held (within c.args.place.now.position g.V.Values.gives) g.V.Values.may_fail g.V.Values.asked_of g.V.Values.failed_of g.V.Values.is_honest
+    c.args.values.now c.drawing_moves.new.values c.from_residual.result c.from_residual.ensures.1
+    (of-told g.V.Values.held (within c.args.place.now.position g.V.Values.gives) g.V.Values.may_fail g.V.Values.asked_of g.V.Values.failed_of g.V.Values.is_honest
+    c.args.values.now c.drawing_moves.new.values
+    (some-told g.V.Values.may_fail g.V.Values.asked_of g.V.Values.gives c.args.place.now.position c.args.values.now c.drawing_moves.new.values (map (after c.args.place.now.position) (legal_list c.args.place.now.position)) (each-legal c.args.place.now.position) c.in-Ok.ensures.told)
+    c.in-Ok.ensures.failures c.drawing_moves.ensures.honest c.drawing_moves.ensures.tables)
+
+pub returns-in_ok-put_keep_at-in-Ok-clause-asked : goal.returns-in_ok-put_keep_at-in-Ok-clause-asked
+returns-in_ok-put_keep_at-in-Ok-clause-asked g c =
+    of-told g.V.Values.held (within c.args.place.now.position g.V.Values.gives) g.V.Values.may_fail g.V.Values.asked_of g.V.Values.failed_of g.V.Values.is_honest
+    c.args.values.now c.drawing_moves.new.values
+    (some-told g.V.Values.may_fail g.V.Values.asked_of g.V.Values.gives c.args.place.now.position c.args.values.now c.drawing_moves.new.values (map (after c.args.place.now.position) (legal_list c.args.place.now.position)) (each-legal c.args.place.now.position) c.in-Ok.ensures.told)
+    c.in-Ok.ensures.failures c.drawing_moves.ensures.honest c.drawing_moves.ensures.tables

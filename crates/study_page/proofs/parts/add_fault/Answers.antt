@@ -5,6 +5,8 @@ use Rattle.study_marks.specs.declared.mark.MoveMark.TheVariants.{Dual, Mistake}
 use Rattle.study_marks.specs.BenchState.{marked}
 use Rattle.study_review.specs.Made.{Grew}
 use Rattle.study_page.specs.Rows.{IsFaultOf, mistake_item}
+use Rattle.study_review.proofs.Within.{leads-at}
+use Rattle.study_page.proofs.Asking.{asks-wider}
 use Rattle.study_page.proofs.MadeRows.{fault-made}
 use Rattle.study_page.proofs.parts.add_fault.Goals as goal
 
@@ -36,3 +38,8 @@ returns-in_ok-put_mistake-in-Some-Mistake-clause-text g c h =
       c.in_ok-put_mistake-in-Some-Mistake.ensures
           ∙ ap (λ (st : Start). c.args.html.now ++ mistake_item st before.depth before.position made.played v) c.start-first.ensures.value,
     )
+
+pub returns-in-Some-Dual-clause-asked : goal.returns-in-Some-Dual-clause-asked
+returns-in-Some-Dual-clause-asked g c =
+    asks-wider g.V.Values.held g.V.Values.gives g.V.Values.may_fail g.V.Values.asked_of g.V.Values.failed_of g.V.Values.is_honest (marked c.args.bench.now).start.position c.in-Some.made.before.position (leads-at (marked c.args.bench.now) c.in-Some.ensures.made.front c.in-Some.made.before.position c.start-first.ensures.study.playable c.in-Some.ensures.made.before.position)
+    c.args.values.now c.add_dual.new.values c.add_dual.result c.add_dual.ensures.asked

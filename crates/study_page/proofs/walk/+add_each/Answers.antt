@@ -6,6 +6,7 @@ use Rattle.study_marks.specs.BenchState.{marked}
 use Rattle.study_pgn.proofs.ChildSteps.{popped}
 use Rattle.study_review.specs.Made.{Grew}
 use Rattle.study_page.specs.Made.{RowsOf}
+use Rattle.study_review.specs.Asked.{within}
 use Rattle.study_page.proofs.Asking.{all-then, asks-then, same-asks}
 use Rattle.study_review.proofs.WrittenOrder.{there-child, fewer-child, none-yet, child-written, all-written}
 use Rattle.study_page.proofs.walk.+add_each.Goals as goal
@@ -51,7 +52,7 @@ loop-place-preserved g t c =
           (c.loop-place.invariant.written h);
       back = popped steps c.add_each.new.steps.items c.pop.new.self.items k (vec_len c.add_each.new.steps)
           (c.in_ok-add_each.ensures.path ∙ path) (omega (arith, c.add_each.new.steps.ok.0)) c.pop.ensures.rest;
-      told = all-then g.V.Values.held g.V.Values.gives g.V.Values.may_fail g.V.Values.asked_of g.V.Values.failed_of g.V.Values.is_honest
+      told = all-then g.V.Values.held (within (marked c.args.bench.now).start.position g.V.Values.gives) g.V.Values.may_fail g.V.Values.asked_of g.V.Values.failed_of g.V.Values.is_honest
           c.args.values.now c.loop-place.values c.add_each.new.values c.loop-place.invariant.told c.in_ok-add_each.ensures.asked;
     }
 
@@ -67,8 +68,8 @@ returns-clause-text g t c h =
 
 pub returns-in_err-add_each-clause-asked : goal.returns-in_err-add_each-clause-asked
 returns-in_err-add_each-clause-asked g t c =
-    asks-then g.V.Values.held g.V.Values.gives g.V.Values.may_fail g.V.Values.asked_of g.V.Values.failed_of g.V.Values.is_honest
+    asks-then g.V.Values.held (within (marked c.args.bench.now).start.position g.V.Values.gives) g.V.Values.may_fail g.V.Values.asked_of g.V.Values.failed_of g.V.Values.is_honest
     c.args.values.now c.loop-place.values c.add_each.new.values c.from_residual-in_err-add_each.result c.loop-place.invariant.told
-    (same-asks g.V.Values.held g.V.Values.gives g.V.Values.may_fail g.V.Values.asked_of g.V.Values.failed_of g.V.Values.is_honest
+    (same-asks g.V.Values.held (within (marked c.args.bench.now).start.position g.V.Values.gives) g.V.Values.may_fail g.V.Values.asked_of g.V.Values.failed_of g.V.Values.is_honest
     c.loop-place.values c.add_each.new.values c.from_residual-in_err-add_each.result c.in_err-add_each.field-0.0
     c.from_residual-in_err-add_each.ensures.1 c.in_err-add_each.ensures.asked)

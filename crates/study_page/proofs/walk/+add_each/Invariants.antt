@@ -2,7 +2,7 @@ use Rattle.std.proofs.Common.{◌≡◌}
 use Rattle.study_tree.specs.Forest.{nodes_in}
 use Rattle.study_marks.specs.BenchState.{marked}
 use Rattle.study_marks.specs.FaultSums.{below_at}
-use Rattle.study_review.specs.Asked.{AllTold}
+use Rattle.study_review.specs.Asked.{AllTold, within}
 use Rattle.study_page.specs.Made.{RowsOf}
 use Rattle.study_review.proofs.WrittenOrder.{GoesOn}
 use Rattle.study_page.proofs.walk.+add_each.Given as goal
@@ -17,6 +17,6 @@ invariant-loop-place g l = record {
   written : g.V.Values.is_honest l.fn.values → GoesOn (RowsOf l.part (marked l.bench)) l.fn.steps.items
       (below_at (marked l.bench).tree.below l.fn.steps.items) l.place l.initial.html l.html;
   back : l.steps.items ≡ l.fn.steps.items;
-  told : AllTold g.V.Values.held g.V.Values.gives g.V.Values.may_fail g.V.Values.asked_of g.V.Values.failed_of g.V.Values.is_honest
+  told : AllTold g.V.Values.held (within (marked l.bench).start.position g.V.Values.gives) g.V.Values.may_fail g.V.Values.asked_of g.V.Values.failed_of g.V.Values.is_honest
       l.fn.values l.values;
 }

@@ -1,13 +1,12 @@
-use Rattle.std.proofs.Common.{◌≡◌, true, false, ◌+◌, ◌++◌, sym, ap, subst, ◌∙◌}
+use Rattle.std.proofs.Common.{◌≡◌, false, ◌+◌, ◌++◌, sym, ap, subst, ◌∙◌}
 use Rattle.std.specs.Prelude.{IfOk}
-use Rattle.study_material.specs.declared.class.Class.{Class}
 use Rattle.study_command.specs.Parser.{command_of}
 use Rattle.study_script.specs.State.{State, Document}
 use Rattle.study_script.specs.Session.{SessionHolds}
 use Rattle.study_script.specs.Held.{Holds, document_seen}
 use Rattle.study_script.specs.Stores.{HonestOn, StoreSeen}
-use Rattle.study_report.specs.declared.kind.Kind.TheVariants.{PassedOver, Study}
-use Rattle.study_report.specs.Told.{kind_in, IsAddedAs, IsStudyTold, listed_in}
+use Rattle.study_report.specs.declared.kind.Kind.TheVariants.{Study}
+use Rattle.study_report.specs.Told.{IsAddedAs, IsStudyTold, listed_in}
 use Rattle.study_report.specs.Written.{none_trusted}
 use Rattle.study_report.proofs.LineKinds.{trusted-study, pgn-asked, pgn-finds}
 use Rattle.study_report.proofs.LineAdds.{pgn-refused, pgn-told, replied-adds, replied-stops, adds-weaker, stops-weaker, refusal-none, none-listed}

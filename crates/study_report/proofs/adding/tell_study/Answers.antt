@@ -1,4 +1,4 @@
-use Rattle.std.proofs.Common.{◌≡◌, ◌+◌, suc, refl, subst, inl, inr, arith}
+use Rattle.std.proofs.Common.{◌≡◌, ◌+◌, refl, subst, inl, inr, arith}
 use Rattle.std.specs.Prelude.{IfOk, IfErr, codes}
 use Rattle.study_reply.specs.Names.{words_of}
 use Rattle.study_reply.specs.Words.{reply_line}
@@ -29,7 +29,7 @@ returns-in-Err-OutOfMemory-clause-ok g c = λ p s plain held b at.
     (λ t. (t ≡ s) × Holds g.P.PageSource.honest g.P.PageSource.gives c.args.document.now c.add_section.new.tables t)
     p c.args.line.now (refused s OutOfMemory) c.args.at.line bytes c.refuse_line.result
     (g.W.Write.contents c.args.out.now) (g.W.Write.contents c.refuse_line.new.out) at.0 refl
-    (left-out g.T.Report.tells g.T.Report.refusal p s c.args.line.now OutOfMemory (inl refl)) (refl, c.add_section.ensures.holds s held)
+    (left-out g.T.Report.tells g.T.Report.refusal p s c.args.line.now plain OutOfMemory b (inl refl)) (refl, c.add_section.ensures.holds s held)
     (subst (λ w. IfOk c.refuse_line.result (RefusalWritten (g.T.Report.refusal c.args.at.line c.args.line.now bytes) (g.W.Write.contents w)
     (g.W.Write.contents c.refuse_line.new.out))) (c.in-Err-OutOfMemory.ensures.memory cc) c.refuse_line.ensures.ok)
 
@@ -39,7 +39,7 @@ returns-in-Err-OutOfMemory-clause-err g c = λ p s plain held b at.
     refusal-stops g.T.Report.tells g.T.Report.refusal (IsStudyTold g.T.Report.tells g.T.Report.refusal p s c.args.line.now)
     p c.args.line.now (refused s OutOfMemory) c.args.at.line bytes c.refuse_line.result
     (g.W.Write.contents c.args.out.now) (g.W.Write.contents c.refuse_line.new.out) at.0 refl
-    (left-out g.T.Report.tells g.T.Report.refusal p s c.args.line.now OutOfMemory (inl refl))
+    (left-out g.T.Report.tells g.T.Report.refusal p s c.args.line.now plain OutOfMemory b (inl refl))
     (subst (λ w. IfErr c.refuse_line.result (StopsIn (g.T.Report.refusal c.args.at.line c.args.line.now bytes) (g.W.Write.contents w)
     (g.W.Write.contents c.refuse_line.new.out))) (c.in-Err-OutOfMemory.ensures.memory cc) c.refuse_line.ensures.err)
 
@@ -51,8 +51,8 @@ returns-in-Err-Values-clause-ok g c = λ p s plain held b at.
     (λ t. (t ≡ s) × Holds g.P.PageSource.honest g.P.PageSource.gives c.args.document.now c.add_section.new.tables t)
     p c.args.line.now (refused s why) c.args.at.line bytes c.refuse_line-in-Err-Values.result
     (g.W.Write.contents c.args.out.now) (g.W.Write.contents c.refuse_line-in-Err-Values.new.out) at.0 refl
-    (left-out g.T.Report.tells g.T.Report.refusal p s c.args.line.now why
-    (inr (c.in-Err-Values.fault, c.in-Err-Values.ensures.why s c.in-Err-Values.fault held cc, c.of_probe.ensures)))
+    (left-out g.T.Report.tells g.T.Report.refusal p s c.args.line.now plain why b
+    (inr (c.in-Err-Values.fault, c.in-Err-Values.ensures.why s plain c.in-Err-Values.fault held b cc, c.of_probe.ensures)))
     (refl, c.add_section.ensures.holds s held)
     (subst (λ w. IfOk c.refuse_line-in-Err-Values.result (RefusalWritten (g.T.Report.refusal c.args.at.line c.args.line.now bytes) (g.W.Write.contents w)
     (g.W.Write.contents c.refuse_line-in-Err-Values.new.out))) (c.in-Err-Values.ensures.untold c.in-Err-Values.fault cc)
@@ -65,8 +65,8 @@ returns-in-Err-Values-clause-err g c = λ p s plain held b at.
     refusal-stops g.T.Report.tells g.T.Report.refusal (IsStudyTold g.T.Report.tells g.T.Report.refusal p s c.args.line.now)
     p c.args.line.now (refused s why) c.args.at.line bytes c.refuse_line-in-Err-Values.result
     (g.W.Write.contents c.args.out.now) (g.W.Write.contents c.refuse_line-in-Err-Values.new.out) at.0 refl
-    (left-out g.T.Report.tells g.T.Report.refusal p s c.args.line.now why
-    (inr (c.in-Err-Values.fault, c.in-Err-Values.ensures.why s c.in-Err-Values.fault held cc, c.of_probe.ensures)))
+    (left-out g.T.Report.tells g.T.Report.refusal p s c.args.line.now plain why b
+    (inr (c.in-Err-Values.fault, c.in-Err-Values.ensures.why s plain c.in-Err-Values.fault held b cc, c.of_probe.ensures)))
     (subst (λ w. IfErr c.refuse_line-in-Err-Values.result (StopsIn (g.T.Report.refusal c.args.at.line c.args.line.now bytes) (g.W.Write.contents w)
     (g.W.Write.contents c.refuse_line-in-Err-Values.new.out))) (c.in-Err-Values.ensures.untold c.in-Err-Values.fault cc)
     c.refuse_line-in-Err-Values.ensures.err)

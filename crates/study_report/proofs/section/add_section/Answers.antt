@@ -5,7 +5,7 @@ use Rattle.study_marks.specs.BenchState.{marked}
 use Rattle.study_marks.specs.Study.{plain_study}
 use Rattle.study_script.specs.Held.{document_seen, IsMarked, tables_held, are_paged, tables_may_fail}
 use Rattle.study_script.specs.State.{Document, empty, start, study, is_among}
-use Rattle.study_report.specs.Told.{studies_on}
+use Rattle.study_report.specs.Told.{IsUntoldBy, studies_on}
 use Rattle.study_report.specs.Written.{IsSection, IsSectionPart}
 use Rattle.study_report.proofs.Reviewed.{untold-same}
 use Rattle.study_report.proofs.section.add_section.Goals as goal
@@ -32,10 +32,13 @@ returns-in-Study-clause-listed g c s told h kept =
     (c.add_study.ensures.listed told h.values right kept)
 
 pub returns-in-Study-clause-why : goal.returns-in-Study-clause-why
-returns-in-Study-clause-why g c s fault h e =
+returns-in-Study-clause-why g c s plain fault h b e =
+    let seen : study (plain_study (marked c.in-Study.bench)) ≡ study plain = sym (ap document_seen c.in-Study.is) ∙ h.document ∙ b in
+    let same : plain_study (marked c.in-Study.bench) ≡ plain = cc in
     untold-same (tables_held c.args.tables.now) (is_among s.classes) (are_paged c.args.tables.now) s.paged
-    (tables_may_fail g.P.PageSource.gives c.args.tables.now) (λ d f. s.shelf.faults d f ≡ true) fault h.classes h.paged h.faults
-    (c.add_study.ensures.why fault h.values e)
+    (tables_may_fail g.P.PageSource.gives c.args.tables.now) (λ d f. s.shelf.faults d f ≡ true) fault h.classes h.paged h.faults plain.start.position
+    (subst (λ (x : Plainly). IsUntoldBy (tables_held c.args.tables.now) (are_paged c.args.tables.now) (tables_may_fail g.P.PageSource.gives c.args.tables.now) x.start.position fault) same
+    (c.add_study.ensures.why fault h.values e))
 
 pub returns-in-Study-clause-holds : goal.returns-in-Study-clause-holds
 returns-in-Study-clause-holds g c s h = record {

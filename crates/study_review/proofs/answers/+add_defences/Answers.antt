@@ -1,5 +1,6 @@
 use Rattle.std.proofs.Common.{sym, ◌∙◌}
 use Rattle.std.proofs.lemmas.Result.{on_ok_weaker}
+use Rattle.study_review.specs.Asked.{within}
 use Rattle.study_review.proofs.Asking.{asks-then}
 use Rattle.study_review.proofs.MovesTold.{defence-there, defence-more}
 use Rattle.study_review.proofs.answers.+add_defences.Goals as goal
@@ -21,6 +22,6 @@ returns-in_ok-add_defence-in-Some-clause-text g t c h =
 
 pub returns-in_ok-add_defence-in-Some-clause-asked : goal.returns-in_ok-add_defence-in-Some-clause-asked
 returns-in_ok-add_defence-in-Some-clause-asked g t c =
-    asks-then g.V.Values.held g.V.Values.gives g.V.Values.may_fail g.V.Values.asked_of g.V.Values.failed_of g.V.Values.is_honest
+    asks-then g.V.Values.held (within c.args.node.now.position.now g.V.Values.gives) g.V.Values.may_fail g.V.Values.asked_of g.V.Values.failed_of g.V.Values.is_honest
     c.args.values.now c.add_defence.new.values c.add_defences-in-Some.new.values c.add_defences-in-Some.result
     c.in_ok-add_defence-in-Some.ensures.asked c.add_defences-in-Some.ensures.asked

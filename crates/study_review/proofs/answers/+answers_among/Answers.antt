@@ -1,16 +1,18 @@
-use Rattle.std.proofs.Common.{sym, subst, ◌∙◌}
+use Rattle.std.proofs.Common.{rules, sym, subst, ◌∙◌}
 use Rattle.study_board.specs.Position.{Position}
 use Rattle.study_retro.specs.Game.{IsValueOf}
+use Rattle.study_review.specs.Asked.{within}
+use Rattle.study_review.proofs.Within.{leads-first, all-wider, asks-wider}
 use Rattle.study_review.proofs.Asking.{all-then, asks-then, same-asks}
 use Rattle.study_review.proofs.MovesTold.{answer-more, answer-same}
 use Rattle.study_review.proofs.answers.+answers_among.Goals as goal
 
 pub returns-in_err-later-in-Some-clause-asked : goal.returns-in_err-later-in-Some-clause-asked
 returns-in_err-later-in-Some-clause-asked g t c =
-    asks-then g.V.Values.held g.V.Values.gives g.V.Values.may_fail g.V.Values.asked_of g.V.Values.failed_of g.V.Values.is_honest
+    asks-then g.V.Values.held (within c.args.node.now.position.now g.V.Values.gives) g.V.Values.may_fail g.V.Values.asked_of g.V.Values.failed_of g.V.Values.is_honest
     c.args.values.now c.ask.new.values c.answers_among.new.values c.from_residual-in_err-later-in-Some.result
-    c.in_ok-value-in-Some.ensures.asked
-    (same-asks g.V.Values.held g.V.Values.gives g.V.Values.may_fail g.V.Values.asked_of g.V.Values.failed_of g.V.Values.is_honest
+    (all-wider g.V.Values.held g.V.Values.gives g.V.Values.may_fail g.V.Values.asked_of g.V.Values.failed_of g.V.Values.is_honest c.args.node.now.position.now c.played-next.result (leads-first c.args.node.now.position.now c.played-next.result c.in-Some.m.now c.args.moves.now c.in-Some.rest.now c.in-Some.ensures.cases.0 c.requires.legal c.played-next.ensures.value) c.args.values.now c.ask.new.values c.in_ok-value-in-Some.ensures.asked)
+    (same-asks g.V.Values.held (within c.args.node.now.position.now g.V.Values.gives) g.V.Values.may_fail g.V.Values.asked_of g.V.Values.failed_of g.V.Values.is_honest
     c.ask.new.values c.answers_among.new.values c.from_residual-in_err-later-in-Some.result c.in_err-later-in-Some.field-0.0 c.from_residual-in_err-later-in-Some.ensures.1
     c.in_err-later-in-Some.ensures.asked)
 
@@ -24,8 +26,9 @@ returns-then-holds-clause-game g t c h =
 
 pub returns-then-holds-clause-asked : goal.returns-then-holds-clause-asked
 returns-then-holds-clause-asked g t c =
-    all-then g.V.Values.held g.V.Values.gives g.V.Values.may_fail g.V.Values.asked_of g.V.Values.failed_of g.V.Values.is_honest
-    c.args.values.now c.ask.new.values c.answers_among.new.values c.in_ok-value-in-Some.ensures.asked c.in_ok-later-in-Some.ensures.asked
+    all-then g.V.Values.held (within c.args.node.now.position.now g.V.Values.gives) g.V.Values.may_fail g.V.Values.asked_of g.V.Values.failed_of g.V.Values.is_honest
+    c.args.values.now c.ask.new.values c.answers_among.new.values
+    (all-wider g.V.Values.held g.V.Values.gives g.V.Values.may_fail g.V.Values.asked_of g.V.Values.failed_of g.V.Values.is_honest c.args.node.now.position.now c.played-next.result (leads-first c.args.node.now.position.now c.played-next.result c.in-Some.m.now c.args.moves.now c.in-Some.rest.now c.in-Some.ensures.cases.0 c.requires.legal c.played-next.ensures.value) c.args.values.now c.ask.new.values c.in_ok-value-in-Some.ensures.asked) c.in_ok-later-in-Some.ensures.asked
 
 pub returns-else-holds-clause-game : goal.returns-else-holds-clause-game
 returns-else-holds-clause-game g t c h =
@@ -37,5 +40,11 @@ returns-else-holds-clause-game g t c h =
 
 pub returns-else-holds-clause-asked : goal.returns-else-holds-clause-asked
 returns-else-holds-clause-asked g t c =
-    all-then g.V.Values.held g.V.Values.gives g.V.Values.may_fail g.V.Values.asked_of g.V.Values.failed_of g.V.Values.is_honest
-    c.args.values.now c.ask.new.values c.answers_among.new.values c.in_ok-value-in-Some.ensures.asked c.in_ok-later-in-Some.ensures.asked
+    all-then g.V.Values.held (within c.args.node.now.position.now g.V.Values.gives) g.V.Values.may_fail g.V.Values.asked_of g.V.Values.failed_of g.V.Values.is_honest
+    c.args.values.now c.ask.new.values c.answers_among.new.values
+    (all-wider g.V.Values.held g.V.Values.gives g.V.Values.may_fail g.V.Values.asked_of g.V.Values.failed_of g.V.Values.is_honest c.args.node.now.position.now c.played-next.result (leads-first c.args.node.now.position.now c.played-next.result c.in-Some.m.now c.args.moves.now c.in-Some.rest.now c.in-Some.ensures.cases.0 c.requires.legal c.played-next.ensures.value) c.args.values.now c.ask.new.values c.in_ok-value-in-Some.ensures.asked) c.in_ok-later-in-Some.ensures.asked
+
+pub returns-in_err-value-in-Some-clause-asked : goal.returns-in_err-value-in-Some-clause-asked
+returns-in_err-value-in-Some-clause-asked g t c =
+    asks-wider g.V.Values.held g.V.Values.gives g.V.Values.may_fail g.V.Values.asked_of g.V.Values.failed_of g.V.Values.is_honest c.args.node.now.position.now c.played-next.result (leads-first c.args.node.now.position.now c.played-next.result c.in-Some.m.now c.args.moves.now c.in-Some.rest.now c.in-Some.ensures.cases.0 c.requires.legal c.played-next.ensures.value)
+    c.args.values.now c.ask.new.values _ (search rules)

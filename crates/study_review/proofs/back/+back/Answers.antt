@@ -3,6 +3,8 @@ use Rattle.std.proofs.lemmas.Bool.{iff_false}
 use Rattle.study_moves.specs.declared.moves.Move.{Move}
 use Rattle.study_review.specs.Back.{IsBack}
 use Rattle.study_review.specs.Leads.{SomeLeads, AreBack, GoesBack}
+use Rattle.study_review.specs.Asked.{within}
+use Rattle.study_review.proofs.Within.{leads-first, told-wider, fault-wider}
 use Rattle.study_review.proofs.AskedSteps.{told-then, fault-then, asked-then}
 use Rattle.study_review.proofs.BackSteps.{AreLegal, goes-by, back-by, if-ok, some-later}
 use Rattle.study_review.proofs.back.+back.Goals as goal
@@ -35,26 +37,56 @@ forces_back-returns-in-Ok-false-clause-game g t c h =
 
 pub are_back-returns-in-Err-is_back-clause-told : goal.are_back-returns-in-Err-is_back-clause-told
 are_back-returns-in-Err-is_back-clause-told g t c =
-    fault-then g.V.Values.gives g.V.Values.may_fail g.V.Values.asked_of c.args.values.now c.has_lost.new.values c.is_back.new.values
-    c.in-Err-is_back.fault c.in-Ok-true.ensures.told c.in-Err-is_back.ensures.told
+    fault-then (within c.args.r.now g.V.Values.gives) g.V.Values.may_fail g.V.Values.asked_of c.args.values.now c.has_lost.new.values c.is_back.new.values
+    c.in-Err-is_back.fault
+    (told-wider g.V.Values.may_fail g.V.Values.asked_of g.V.Values.gives c.args.r.now c.played-next.result (leads-first c.args.r.now c.played-next.result c.in-Some.h.now c.args.moves.now c.in-Some.rest.now c.in-Some.ensures.cases.0 c.requires.legal c.played-next.ensures.value)
+    c.args.values.now c.has_lost.new.values c.in-Ok-true.ensures.told)
+    (fault-wider g.V.Values.may_fail g.V.Values.asked_of g.V.Values.gives c.args.r.now c.played-next.result (leads-first c.args.r.now c.played-next.result c.in-Some.h.now c.args.moves.now c.in-Some.rest.now c.in-Some.ensures.cases.0 c.requires.legal c.played-next.ensures.value)
+    c.has_lost.new.values c.is_back.new.values c.in-Err-is_back.fault c.in-Err-is_back.ensures.told)
 
 pub are_back-returns-in-Ok-true-is_back-clause-told : goal.are_back-returns-in-Ok-true-is_back-clause-told
 are_back-returns-in-Ok-true-is_back-clause-told g t c =
-    asked-then g.V.Values.gives g.V.Values.may_fail g.V.Values.asked_of c.args.values.now c.is_back.new.values c.are_back.new.values c.are_back.result
-    (told-then g.V.Values.gives g.V.Values.may_fail g.V.Values.asked_of c.args.values.now c.has_lost.new.values c.is_back.new.values c.in-Ok-true.ensures.told
-    c.in-Ok-true-is_back.ensures.told) c.are_back.ensures.told
+    asked-then (within c.args.r.now g.V.Values.gives) g.V.Values.may_fail g.V.Values.asked_of c.args.values.now c.is_back.new.values c.are_back.new.values c.are_back.result
+    (told-then (within c.args.r.now g.V.Values.gives) g.V.Values.may_fail g.V.Values.asked_of c.args.values.now c.has_lost.new.values c.is_back.new.values
+    (told-wider g.V.Values.may_fail g.V.Values.asked_of g.V.Values.gives c.args.r.now c.played-next.result (leads-first c.args.r.now c.played-next.result c.in-Some.h.now c.args.moves.now c.in-Some.rest.now c.in-Some.ensures.cases.0 c.requires.legal c.played-next.ensures.value)
+    c.args.values.now c.has_lost.new.values c.in-Ok-true.ensures.told)
+    (told-wider g.V.Values.may_fail g.V.Values.asked_of g.V.Values.gives c.args.r.now c.played-next.result (leads-first c.args.r.now c.played-next.result c.in-Some.h.now c.args.moves.now c.in-Some.rest.now c.in-Some.ensures.cases.0 c.requires.legal c.played-next.ensures.value)
+    c.has_lost.new.values c.is_back.new.values c.in-Ok-true-is_back.ensures.told)) c.are_back.ensures.told
 
 pub are_back-returns-in-Ok-false-is_back-clause-told : goal.are_back-returns-in-Ok-false-is_back-clause-told
 are_back-returns-in-Ok-false-is_back-clause-told g t c =
-    told-then g.V.Values.gives g.V.Values.may_fail g.V.Values.asked_of c.args.values.now
-    c.has_lost.new.values c.is_back.new.values c.in-Ok-true.ensures.told c.in-Ok-false-is_back.ensures.told
+    told-then (within c.args.r.now g.V.Values.gives) g.V.Values.may_fail g.V.Values.asked_of c.args.values.now
+    c.has_lost.new.values c.is_back.new.values
+    (told-wider g.V.Values.may_fail g.V.Values.asked_of g.V.Values.gives c.args.r.now c.played-next.result (leads-first c.args.r.now c.played-next.result c.in-Some.h.now c.args.moves.now c.in-Some.rest.now c.in-Some.ensures.cases.0 c.requires.legal c.played-next.ensures.value)
+    c.args.values.now c.has_lost.new.values c.in-Ok-true.ensures.told)
+    (told-wider g.V.Values.may_fail g.V.Values.asked_of g.V.Values.gives c.args.r.now c.played-next.result (leads-first c.args.r.now c.played-next.result c.in-Some.h.now c.args.moves.now c.in-Some.rest.now c.in-Some.ensures.cases.0 c.requires.legal c.played-next.ensures.value)
+    c.has_lost.new.values c.is_back.new.values c.in-Ok-false-is_back.ensures.told)
 
 pub are_back-returns-in-Ok-false-clause-told : goal.are_back-returns-in-Ok-false-clause-told
 are_back-returns-in-Ok-false-clause-told g t c =
-    asked-then g.V.Values.gives g.V.Values.may_fail g.V.Values.asked_of c.args.values.now c.has_lost.new.values c.are_back-in-Ok-false.new.values
-    c.are_back-in-Ok-false.result c.in-Ok-false.ensures.told c.are_back-in-Ok-false.ensures.told
+    asked-then (within c.args.r.now g.V.Values.gives) g.V.Values.may_fail g.V.Values.asked_of c.args.values.now c.has_lost.new.values c.are_back-in-Ok-false.new.values
+    c.are_back-in-Ok-false.result
+    (told-wider g.V.Values.may_fail g.V.Values.asked_of g.V.Values.gives c.args.r.now c.played-next.result (leads-first c.args.r.now c.played-next.result c.in-Some.h.now c.args.moves.now c.in-Some.rest.now c.in-Some.ensures.cases.0 c.requires.legal c.played-next.ensures.value)
+    c.args.values.now c.has_lost.new.values c.in-Ok-false.ensures.told) c.are_back-in-Ok-false.ensures.told
 
 pub forces_back-returns-in-Ok-false-clause-told : goal.forces_back-returns-in-Ok-false-clause-told
 forces_back-returns-in-Ok-false-clause-told g t c =
-    asked-then g.V.Values.gives g.V.Values.may_fail g.V.Values.asked_of c.args.values.now c.goes_back.new.values c.forces_back.new.values
-    c.forces_back.result c.in-Ok-false.ensures.told c.forces_back.ensures.told
+    asked-then (within c.args.q.now g.V.Values.gives) g.V.Values.may_fail g.V.Values.asked_of c.args.values.now c.goes_back.new.values c.forces_back.new.values
+    c.forces_back.result
+    (told-wider g.V.Values.may_fail g.V.Values.asked_of g.V.Values.gives c.args.q.now c.played-next.result (leads-first c.args.q.now c.played-next.result c.in-Some.n.now c.args.moves.now c.in-Some.rest.now c.in-Some.ensures.cases.0 c.requires.legal c.played-next.ensures.value)
+    c.args.values.now c.goes_back.new.values c.in-Ok-false.ensures.told) c.forces_back.ensures.told
+
+pub are_back-returns-in-Err-clause-told : goal.are_back-returns-in-Err-clause-told
+are_back-returns-in-Err-clause-told g t c =
+    fault-wider g.V.Values.may_fail g.V.Values.asked_of g.V.Values.gives c.args.r.now c.played-next.result (leads-first c.args.r.now c.played-next.result c.in-Some.h.now c.args.moves.now c.in-Some.rest.now c.in-Some.ensures.cases.0 c.requires.legal c.played-next.ensures.value)
+    c.args.values.now c.has_lost.new.values c.in-Err.fault c.in-Err.ensures.told
+
+pub forces_back-returns-in-Err-clause-told : goal.forces_back-returns-in-Err-clause-told
+forces_back-returns-in-Err-clause-told g t c =
+    fault-wider g.V.Values.may_fail g.V.Values.asked_of g.V.Values.gives c.args.q.now c.played-next.result (leads-first c.args.q.now c.played-next.result c.in-Some.n.now c.args.moves.now c.in-Some.rest.now c.in-Some.ensures.cases.0 c.requires.legal c.played-next.ensures.value)
+    c.args.values.now c.goes_back.new.values c.in-Err.fault c.in-Err.ensures.told
+
+pub forces_back-returns-in-Ok-true-clause-told : goal.forces_back-returns-in-Ok-true-clause-told
+forces_back-returns-in-Ok-true-clause-told g t c =
+    told-wider g.V.Values.may_fail g.V.Values.asked_of g.V.Values.gives c.args.q.now c.played-next.result (leads-first c.args.q.now c.played-next.result c.in-Some.n.now c.args.moves.now c.in-Some.rest.now c.in-Some.ensures.cases.0 c.requires.legal c.played-next.ensures.value)
+    c.args.values.now c.goes_back.new.values c.in-Ok-true.ensures.told

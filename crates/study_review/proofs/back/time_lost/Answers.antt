@@ -1,16 +1,17 @@
 use Rattle.std.proofs.Common.{◌∙◌}
+use Rattle.study_review.specs.Asked.{within}
 use Rattle.study_review.proofs.BackSteps.{none-more}
 use Rattle.study_review.proofs.AskedSteps.{told-then, fault-then}
 use Rattle.study_review.proofs.back.time_lost.Goals as goal
 
 pub returns-in-Err-clause-told : goal.returns-in-Err-clause-told
 returns-in-Err-clause-told g c =
-    fault-then g.V.Values.gives g.V.Values.may_fail g.V.Values.asked_of c.args.values.now c.loop-m.values c.is_back.new.values c.in-Err.fault
+    fault-then (within c.args.q.now g.V.Values.gives) g.V.Values.may_fail g.V.Values.asked_of c.args.values.now c.loop-m.values c.is_back.new.values c.in-Err.fault
     c.loop-m.invariant.told c.in-Err.ensures.told
 
 pub returns-in-Ok-true-clause-told : goal.returns-in-Ok-true-clause-told
 returns-in-Ok-true-clause-told g c =
-    told-then g.V.Values.gives g.V.Values.may_fail g.V.Values.asked_of c.args.values.now c.loop-m.values c.is_back.new.values
+    told-then (within c.args.q.now g.V.Values.gives) g.V.Values.may_fail g.V.Values.asked_of c.args.values.now c.loop-m.values c.is_back.new.values
     c.loop-m.invariant.told c.in-Ok-true.ensures.told
 
 pub loop-m-preserved : goal.loop-m-preserved
@@ -20,7 +21,7 @@ loop-m-preserved g c = record {
       (c.in-Ok-false.ensures.game (c.loop-m.invariant.honest h));
   honest = λ h. c.is_back.ensures.honest (c.loop-m.invariant.honest h);
   failures = c.in-Ok-false.ensures.failures ∙ c.loop-m.invariant.failures;
-  told = told-then g.V.Values.gives g.V.Values.may_fail g.V.Values.asked_of c.args.values.now c.loop-m.values c.is_back.new.values
+  told = told-then (within c.args.q.now g.V.Values.gives) g.V.Values.may_fail g.V.Values.asked_of c.args.values.now c.loop-m.values c.is_back.new.values
       c.loop-m.invariant.told c.in-Ok-false.ensures.told;
   tables = λ k. c.is_back.ensures.tables k ∙ c.loop-m.invariant.tables k;
 }

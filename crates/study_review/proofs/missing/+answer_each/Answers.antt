@@ -4,6 +4,8 @@ use Rattle.std.specs.List.{All}
 use Rattle.study_board.specs.Position.{Position}
 use Rattle.study_moves.specs.Rules.{is_legal, after}
 use Rattle.study_review.specs.declared.continuation.Continuation.{Continuation}
+use Rattle.study_review.specs.Asked.{within}
+use Rattle.study_review.proofs.Within.{leads-to, each-legal, some-told, told-wider, fault-wider, some-fault}
 use Rattle.study_review.proofs.Chosen.{all-first, all-rest}
 use Rattle.study_moves.specs.LegalList.{legal_list}
 use Rattle.study_review.proofs.NotHeld.{untold-not-held}
@@ -17,8 +19,14 @@ returns-in-Err-clause-untold g t c k e =
 
 pub returns-in-Ok-clause-told : goal.returns-in-Ok-clause-told
 returns-in-Ok-clause-told g t c =
-    asked-then g.V.Values.gives g.V.Values.may_fail g.V.Values.asked_of c.args.values.now c.holding_moves.new.values c.answer_each.new.values
-    c.answer_each.result (map (after c.played-next.result) (legal_list c.played-next.result), c.in-Ok.ensures.told) c.answer_each.ensures.told
+    asked-then (within c.args.node.now.position.now g.V.Values.gives) g.V.Values.may_fail g.V.Values.asked_of c.args.values.now c.holding_moves.new.values c.answer_each.new.values
+    c.answer_each.result
+    (told-wider g.V.Values.may_fail g.V.Values.asked_of g.V.Values.gives c.args.node.now.position.now c.played-next.result
+    (leads-to c.args.node.now.position.now c.played-next.result c.in-Some.x.now.played
+    (all-first (λ x. is_legal c.args.node.now.position.now x.played ≡ true) c.in-Some.x.now c.args.moves.now c.in-Some.rest.now c.in-Some.ensures.cases.0 c.requires.legal) c.played-next.ensures.value)
+    c.args.values.now c.holding_moves.new.values
+    (some-told g.V.Values.may_fail g.V.Values.asked_of g.V.Values.gives c.played-next.result c.args.values.now c.holding_moves.new.values
+    (map (after c.played-next.result) (legal_list c.played-next.result)) (each-legal c.played-next.result) c.in-Ok.ensures.told)) c.answer_each.ensures.told
 
 pub answer_each-requires : goal.answer_each-requires
 answer_each-requires g t c κs within =
@@ -47,3 +55,12 @@ answer_each-requires g t c κs within =
         ),
       ),
     )
+
+pub returns-in-Err-clause-told : goal.returns-in-Err-clause-told
+returns-in-Err-clause-told g t c =
+    fault-wider g.V.Values.may_fail g.V.Values.asked_of g.V.Values.gives c.args.node.now.position.now c.played-next.result
+    (leads-to c.args.node.now.position.now c.played-next.result c.in-Some.x.now.played
+    (all-first (λ x. is_legal c.args.node.now.position.now x.played ≡ true) c.in-Some.x.now c.args.moves.now c.in-Some.rest.now c.in-Some.ensures.cases.0 c.requires.legal) c.played-next.ensures.value)
+    c.args.values.now c.holding_moves.new.values c.in-Err.fault
+    (some-fault g.V.Values.may_fail g.V.Values.asked_of g.V.Values.gives c.played-next.result (g.V.Values.held c.args.values.now) c.args.values.now c.holding_moves.new.values
+    (map (after c.played-next.result) (legal_list c.played-next.result)) c.in-Err.fault (each-legal c.played-next.result) c.in-Err.ensures.untold c.in-Err.ensures.first)

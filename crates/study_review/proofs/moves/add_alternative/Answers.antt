@@ -1,7 +1,8 @@
-use Rattle.std.proofs.Common.{sym, ap, subst, refl, ◌∙◌}
+use Rattle.std.proofs.Common.{rules, sym, ap, subst, refl, ◌∙◌}
 use Rattle.std.specs.Prelude.{if◌then◌else◌}
 use Rattle.study_board.specs.Position.{Position}
 use Rattle.study_review.specs.Time.{IsTimeTold}
+use Rattle.study_review.proofs.Within.{leads-to, asks-wider, all-wider, stops-wider}
 use Rattle.study_review.proofs.MovesTold.{one-besides}
 use Rattle.study_review.proofs.moves.add_alternative.Goals as goal
 
@@ -20,3 +21,27 @@ returns-else-is_some-clause-text g c h =
     (record { played = c.args.x.now.played; value = c.args.x.now.value; time = c.in-Ok.time }) 0 c.args.text.now c.add_also_line.new.text
     (sym c.is_among.ensures ∙ c.if-is_among.false) (sym c.holds.ensures ∙ c.if-not-holds.false) refl refl time
     (ap (λ b. if b then 1 else 0) (sym c.is_some.ensures ∙ c.if-is_some.false)) c.in_ok-add_also_line-in-Ok.ensures
+
+pub returns-in_err-add_also_line-in-Ok-clause-asked : goal.returns-in_err-add_also_line-in-Ok-clause-asked
+returns-in_err-add_also_line-in-Ok-clause-asked g c =
+    asks-wider g.V.Values.held g.V.Values.gives g.V.Values.may_fail g.V.Values.asked_of g.V.Values.failed_of g.V.Values.is_honest
+    c.args.step.now.before.position.now c.played-next.result (leads-to c.args.step.now.before.position.now c.played-next.result c.args.x.now.played c.requires.legal c.played-next.ensures.value)
+    c.args.values.now c.time_told.new.values _ (search rules)
+
+pub returns-in-Err-clause-asked : goal.returns-in-Err-clause-asked
+returns-in-Err-clause-asked g c =
+    stops-wider g.V.Values.held g.V.Values.gives g.V.Values.may_fail g.V.Values.asked_of g.V.Values.failed_of g.V.Values.is_honest
+    c.args.step.now.before.position.now c.played-next.result (leads-to c.args.step.now.before.position.now c.played-next.result c.args.x.now.played c.requires.legal c.played-next.ensures.value)
+    c.args.values.now c.time_told.new.values c.in-Err.fault (search rules)
+
+pub returns-then-is_some-clause-asked : goal.returns-then-is_some-clause-asked
+returns-then-is_some-clause-asked g c =
+    all-wider g.V.Values.held g.V.Values.gives g.V.Values.may_fail g.V.Values.asked_of g.V.Values.failed_of g.V.Values.is_honest
+    c.args.step.now.before.position.now c.played-next.result (leads-to c.args.step.now.before.position.now c.played-next.result c.args.x.now.played c.requires.legal c.played-next.ensures.value)
+    c.args.values.now c.time_told.new.values (search rules)
+
+pub returns-else-is_some-clause-asked : goal.returns-else-is_some-clause-asked
+returns-else-is_some-clause-asked g c =
+    all-wider g.V.Values.held g.V.Values.gives g.V.Values.may_fail g.V.Values.asked_of g.V.Values.failed_of g.V.Values.is_honest
+    c.args.step.now.before.position.now c.played-next.result (leads-to c.args.step.now.before.position.now c.played-next.result c.args.x.now.played c.requires.legal c.played-next.ensures.value)
+    c.args.values.now c.time_told.new.values (search rules)

@@ -3,6 +3,7 @@ use Rattle.study_marks.specs.BenchState.{marked}
 use Rattle.study_moves.specs.LegalList.{legal_list}
 use Rattle.study_review.specs.declared.continuation.Continuation.{Continuation}
 use Rattle.study_review.specs.Continuations.{AreChosen}
+use Rattle.study_review.specs.Asked.{within}
 use Rattle.study_review.proofs.Asking.{all-then, asks-then, same-asks, no-memory}
 use Rattle.study_review.proofs.NodesTold.{also-told, dual-told}
 use Rattle.study_review.proofs.moves.add_dual_lines.Goals as goal
@@ -12,18 +13,18 @@ add_alternatives-requires-clause-few g c = omega (arith, c.in_ok-ask_moves.ensur
 
 pub returns-in_err-time-clause-asked : goal.returns-in_err-time-clause-asked
 returns-in_err-time-clause-asked g c =
-    asks-then g.V.Values.held g.V.Values.gives g.V.Values.may_fail g.V.Values.asked_of g.V.Values.failed_of g.V.Values.is_honest
+    asks-then g.V.Values.held (within c.args.step.now.before.position.now g.V.Values.gives) g.V.Values.may_fail g.V.Values.asked_of g.V.Values.failed_of g.V.Values.is_honest
     c.args.values.now c.ask_moves.new.values c.add_alternatives.new.values c.from_residual-in_err-time.result
     c.in_ok-ask_moves.ensures.asked
-    (same-asks g.V.Values.held g.V.Values.gives g.V.Values.may_fail g.V.Values.asked_of g.V.Values.failed_of g.V.Values.is_honest
+    (same-asks g.V.Values.held (within c.args.step.now.before.position.now g.V.Values.gives) g.V.Values.may_fail g.V.Values.asked_of g.V.Values.failed_of g.V.Values.is_honest
     c.ask_moves.new.values c.add_alternatives.new.values c.from_residual-in_err-time.result c.in_err-time.field-0.0 c.from_residual-in_err-time.ensures.1
     c.in_err-time.ensures.asked)
 
 pub returns-in_err-add_listed_dual-clause-asked : goal.returns-in_err-add_listed_dual-clause-asked
 returns-in_err-add_listed_dual-clause-asked g c =
-    no-memory g.V.Values.held g.V.Values.gives g.V.Values.may_fail g.V.Values.asked_of g.V.Values.failed_of g.V.Values.is_honest
+    no-memory g.V.Values.held (within c.args.step.now.before.position.now g.V.Values.gives) g.V.Values.may_fail g.V.Values.asked_of g.V.Values.failed_of g.V.Values.is_honest
     c.args.values.now c.add_alternatives.new.values c.from_residual-in_err-add_listed_dual.result c.from_residual-in_err-add_listed_dual.ensures.1
-    (all-then g.V.Values.held g.V.Values.gives g.V.Values.may_fail g.V.Values.asked_of g.V.Values.failed_of g.V.Values.is_honest
+    (all-then g.V.Values.held (within c.args.step.now.before.position.now g.V.Values.gives) g.V.Values.may_fail g.V.Values.asked_of g.V.Values.failed_of g.V.Values.is_honest
     c.args.values.now c.ask_moves.new.values c.add_alternatives.new.values c.in_ok-ask_moves.ensures.asked c.in_ok-time.ensures.asked)
 
 pub returns-clause-also : goal.returns-clause-also
@@ -44,5 +45,5 @@ returns-clause-fault g c h =
 
 pub returns-clause-asked : goal.returns-clause-asked
 returns-clause-asked g c =
-    all-then g.V.Values.held g.V.Values.gives g.V.Values.may_fail g.V.Values.asked_of g.V.Values.failed_of g.V.Values.is_honest
+    all-then g.V.Values.held (within c.args.step.now.before.position.now g.V.Values.gives) g.V.Values.may_fail g.V.Values.asked_of g.V.Values.failed_of g.V.Values.is_honest
     c.args.values.now c.ask_moves.new.values c.add_alternatives.new.values c.in_ok-ask_moves.ensures.asked c.in_ok-time.ensures.asked

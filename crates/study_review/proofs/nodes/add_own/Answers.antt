@@ -1,5 +1,6 @@
 use Rattle.std.proofs.Common.{length, sym, ap, arith, ◌∙◌}
 use Rattle.study_marks.specs.BenchState.{marked}
+use Rattle.study_review.specs.Asked.{within}
 use Rattle.study_review.proofs.Asking.{asks-then}
 use Rattle.study_review.proofs.NodesShown.{not-zero}
 use Rattle.study_review.proofs.NodesTold.{own-none}
@@ -16,5 +17,5 @@ add_told-requires-clause-few g c = omega (arith, c.in_ok-ask_moves.ensures.few, 
 
 pub returns-clause-asked : goal.returns-clause-asked
 returns-clause-asked g c =
-    asks-then g.V.Values.held g.V.Values.gives g.V.Values.may_fail g.V.Values.asked_of g.V.Values.failed_of g.V.Values.is_honest
+    asks-then g.V.Values.held (within c.args.here.now.node.position.now g.V.Values.gives) g.V.Values.may_fail g.V.Values.asked_of g.V.Values.failed_of g.V.Values.is_honest
     c.args.values.now c.ask_moves.new.values c.add_told.new.values c.add_told.result c.in_ok-ask_moves.ensures.asked c.add_told.ensures.asked

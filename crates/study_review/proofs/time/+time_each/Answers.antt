@@ -1,14 +1,20 @@
 use Rattle.arrayvec.specs.ArrayVec.{array_vec_len}
 use Rattle.std.proofs.Common.{◌≡◌, ◌+◌, ◌≤◌, true, arith, length, ap, suc}
 use Rattle.study_moves.specs.Rules.{is_legal}
+use Rattle.study_review.specs.Asked.{within}
+use Rattle.study_review.proofs.Within.{leads-to, told-wider, fault-wider}
 use Rattle.study_review.proofs.Chosen.{all-first, all-rest}
 use Rattle.study_review.proofs.AskedSteps.{asked-then}
 use Rattle.study_review.proofs.time.+time_each.Goals as goal
 
 pub returns-in-Ok-clause-told : goal.returns-in-Ok-clause-told
 returns-in-Ok-clause-told g t c =
-    asked-then g.V.Values.gives g.V.Values.may_fail g.V.Values.asked_of c.args.values.now c.time_told.new.values c.time_each.new.values
-    c.time_each.result c.in-Ok.ensures.told c.time_each.ensures.told
+    asked-then (within c.args.place.now.position g.V.Values.gives) g.V.Values.may_fail g.V.Values.asked_of c.args.values.now c.time_told.new.values c.time_each.new.values
+    c.time_each.result
+    (told-wider g.V.Values.may_fail g.V.Values.asked_of g.V.Values.gives c.args.place.now.position c.played-next.result
+    (leads-to c.args.place.now.position c.played-next.result c.in-Some.x.now.played
+    (all-first (λ x. is_legal c.args.place.now.position x.played ≡ true) c.in-Some.x.now c.args.moves.now c.in-Some.rest.now c.in-Some.ensures.cases.0 c.requires.legal) c.played-next.ensures.value)
+    c.args.values.now c.time_told.new.values c.in-Ok.ensures.told) c.time_each.ensures.told
 
 pub time_each-requires : goal.time_each-requires
 time_each-requires g t c κs within =
@@ -31,3 +37,10 @@ time_each-requires g t c κs within =
         ),
       ),
     )
+
+pub returns-in-Err-clause-told : goal.returns-in-Err-clause-told
+returns-in-Err-clause-told g t c =
+    fault-wider g.V.Values.may_fail g.V.Values.asked_of g.V.Values.gives c.args.place.now.position c.played-next.result
+    (leads-to c.args.place.now.position c.played-next.result c.in-Some.x.now.played
+    (all-first (λ x. is_legal c.args.place.now.position x.played ≡ true) c.in-Some.x.now c.args.moves.now c.in-Some.rest.now c.in-Some.ensures.cases.0 c.requires.legal) c.played-next.ensures.value)
+    c.args.values.now c.time_told.new.values c.in-Err.fault c.in-Err.ensures.told

@@ -1,6 +1,8 @@
 use Rattle.std.proofs.Common.{map, ◌∷◌, []}
 use Rattle.study_moves.specs.Rules.{after}
 use Rattle.study_review.specs.Continuations.{others}
+use Rattle.study_review.specs.Asked.{within}
+use Rattle.study_review.proofs.Within.{each-other, some-told, some-fault}
 use Rattle.study_review.proofs.NotHeld.{untold-not-held}
 use Rattle.study_review.proofs.AskedSteps.{told-then, fault-then}
 use Rattle.study_review.proofs.time.timed_alternatives.Goals as goal
@@ -13,12 +15,18 @@ returns-in-Err-clause-untold g c k e =
 pub returns-in-Err-time_each-clause-told : goal.returns-in-Err-time_each-clause-told
 returns-in-Err-time_each-clause-told g c =
     let p = c.args.place.now.position in
-    fault-then g.V.Values.gives g.V.Values.may_fail g.V.Values.asked_of c.args.values.now
+    fault-then (within c.args.place.now.position g.V.Values.gives) g.V.Values.may_fail g.V.Values.asked_of c.args.values.now
     c.alternatives.new.values c.time_each.new.values c.in-Err-time_each.fault
-    (map (after p) (others (c.args.m ∷ []) p), c.in-Ok.ensures.told) c.in-Err-time_each.ensures.told
+    (some-told g.V.Values.may_fail g.V.Values.asked_of g.V.Values.gives p c.args.values.now c.alternatives.new.values (map (after p) (others (c.args.m ∷ []) p)) (each-other p (c.args.m ∷ [])) c.in-Ok.ensures.told) c.in-Err-time_each.ensures.told
 
 pub returns-in-Ok-time_each-clause-told : goal.returns-in-Ok-time_each-clause-told
 returns-in-Ok-time_each-clause-told g c =
     let p = c.args.place.now.position in
-    told-then g.V.Values.gives g.V.Values.may_fail g.V.Values.asked_of c.args.values.now c.alternatives.new.values c.time_each.new.values
-    (map (after p) (others (c.args.m ∷ []) p), c.in-Ok.ensures.told) c.in-Ok-time_each.ensures.told
+    told-then (within c.args.place.now.position g.V.Values.gives) g.V.Values.may_fail g.V.Values.asked_of c.args.values.now c.alternatives.new.values c.time_each.new.values
+    (some-told g.V.Values.may_fail g.V.Values.asked_of g.V.Values.gives p c.args.values.now c.alternatives.new.values (map (after p) (others (c.args.m ∷ []) p)) (each-other p (c.args.m ∷ [])) c.in-Ok.ensures.told) c.in-Ok-time_each.ensures.told
+
+pub returns-in-Err-clause-told : goal.returns-in-Err-clause-told
+returns-in-Err-clause-told g c =
+    let p = c.args.place.now.position in
+    some-fault g.V.Values.may_fail g.V.Values.asked_of g.V.Values.gives p (g.V.Values.held c.args.values.now) c.args.values.now c.alternatives.new.values
+    (map (after p) (others (c.args.m ∷ []) p)) c.in-Err.fault (each-other p (c.args.m ∷ [])) c.in-Err.ensures.untold c.in-Err.ensures.first

@@ -1,5 +1,6 @@
 use Rattle.std.proofs.Common.{◌≡◌, true, length, suc, ap, arith}
 use Rattle.study_moves.specs.Rules.{is_legal}
+use Rattle.study_review.specs.Asked.{within}
 use Rattle.study_review.proofs.Asking.{asks-then}
 use Rattle.study_review.proofs.Chosen.{all-rest}
 use Rattle.study_review.proofs.ToldMoves.{told-one}
@@ -30,5 +31,5 @@ returns-in_ok-ask_one-in-Some-clause-game g t c h =
 
 pub returns-in_ok-ask_one-in-Some-clause-asked : goal.returns-in_ok-ask_one-in-Some-clause-asked
 returns-in_ok-ask_one-in-Some-clause-asked g t c =
-    asks-then g.V.Values.held g.V.Values.gives g.V.Values.may_fail g.V.Values.asked_of g.V.Values.failed_of g.V.Values.is_honest
+    asks-then g.V.Values.held (within c.args.p.now g.V.Values.gives) g.V.Values.may_fail g.V.Values.asked_of g.V.Values.failed_of g.V.Values.is_honest
     c.args.values.now c.ask_one.new.values c.ask_each.new.values c.ask_each.result c.in_ok-ask_one-in-Some.ensures.asked c.ask_each.ensures.asked

@@ -6,6 +6,7 @@ use Rattle.study_marks.specs.BenchState.{marked}
 use Rattle.study_marks.specs.FaultSums.{below_at}
 use Rattle.study_review.specs.Nodes.{NodeLines, FaultLines}
 use Rattle.study_review.specs.Review.{paths_from}
+use Rattle.study_review.specs.Asked.{within}
 use Rattle.study_review.proofs.Asking.{all-then, asks-then, same-asks}
 use Rattle.study_review.proofs.WholeReview.{taken-off}
 use Rattle.study_review.proofs.WrittenOrder.{fewer-child, child-written, both-written, below-written}
@@ -13,9 +14,9 @@ use Rattle.study_review.proofs.walk.+add_below.Goals as goal
 
 pub returns-in_err-next-clause-asked : goal.returns-in_err-next-clause-asked
 returns-in_err-next-clause-asked g t c =
-    asks-then g.V.Values.held g.V.Values.gives g.V.Values.may_fail g.V.Values.asked_of g.V.Values.failed_of g.V.Values.is_honest
+    asks-then g.V.Values.held (within (marked c.args.bench.now).start.position g.V.Values.gives) g.V.Values.may_fail g.V.Values.asked_of g.V.Values.failed_of g.V.Values.is_honest
     c.args.values.now c.loop-place.values c.enter.new.values c.from_residual.result c.loop-place.invariant.told
-    (same-asks g.V.Values.held g.V.Values.gives g.V.Values.may_fail g.V.Values.asked_of g.V.Values.failed_of g.V.Values.is_honest
+    (same-asks g.V.Values.held (within (marked c.args.bench.now).start.position g.V.Values.gives) g.V.Values.may_fail g.V.Values.asked_of g.V.Values.failed_of g.V.Values.is_honest
     c.loop-place.values c.enter.new.values c.from_residual.result c.in_err-next.field-0.0 c.from_residual.ensures.1 c.in_err-next.ensures.asked)
 
 pub add_below-requires : goal.add_below-requires
@@ -31,11 +32,11 @@ add_below-requires g t c κs within =
 
 pub returns-in_err-add_below-clause-asked : goal.returns-in_err-add_below-clause-asked
 returns-in_err-add_below-clause-asked g t c =
-    asks-then g.V.Values.held g.V.Values.gives g.V.Values.may_fail g.V.Values.asked_of g.V.Values.failed_of g.V.Values.is_honest
+    asks-then g.V.Values.held (within (marked c.args.bench.now).start.position g.V.Values.gives) g.V.Values.may_fail g.V.Values.asked_of g.V.Values.failed_of g.V.Values.is_honest
     c.args.values.now c.enter.new.values c.add_below.new.values c.from_residual-in_err-add_below.result
-    (all-then g.V.Values.held g.V.Values.gives g.V.Values.may_fail g.V.Values.asked_of g.V.Values.failed_of g.V.Values.is_honest
+    (all-then g.V.Values.held (within (marked c.args.bench.now).start.position g.V.Values.gives) g.V.Values.may_fail g.V.Values.asked_of g.V.Values.failed_of g.V.Values.is_honest
     c.args.values.now c.loop-place.values c.enter.new.values c.loop-place.invariant.told c.in_ok-next.ensures.asked)
-    (same-asks g.V.Values.held g.V.Values.gives g.V.Values.may_fail g.V.Values.asked_of g.V.Values.failed_of g.V.Values.is_honest
+    (same-asks g.V.Values.held (within (marked c.args.bench.now).start.position g.V.Values.gives) g.V.Values.may_fail g.V.Values.asked_of g.V.Values.failed_of g.V.Values.is_honest
     c.enter.new.values c.add_below.new.values c.from_residual-in_err-add_below.result c.in_err-add_below.field-0.0
     c.from_residual-in_err-add_below.ensures.1 c.in_err-add_below.ensures.asked)
 
@@ -64,9 +65,9 @@ loop-place-preserved g t c =
       line = taken-off c.args.trail.now.line.items c.add_below.new.trail.line.items c.pop.new.self.items c.in_ok-next.next.position (vec_len c.add_below.new.trail.line)
           (c.in_ok-add_below.ensures.line ∙ c.in_ok-next.ensures.line ∙ ap (λ (l : List Position). l ++ c.in_ok-next.next.position ∷ []) c.loop-place.invariant.line)
           (omega (arith, c.add_below.new.trail.line.ok.0)) c.pop.ensures.rest;
-      told = all-then g.V.Values.held g.V.Values.gives g.V.Values.may_fail g.V.Values.asked_of g.V.Values.failed_of g.V.Values.is_honest
+      told = all-then g.V.Values.held (within (marked c.args.bench.now).start.position g.V.Values.gives) g.V.Values.may_fail g.V.Values.asked_of g.V.Values.failed_of g.V.Values.is_honest
           c.args.values.now c.enter.new.values c.add_below.new.values
-          (all-then g.V.Values.held g.V.Values.gives g.V.Values.may_fail g.V.Values.asked_of g.V.Values.failed_of g.V.Values.is_honest
+          (all-then g.V.Values.held (within (marked c.args.bench.now).start.position g.V.Values.gives) g.V.Values.may_fail g.V.Values.asked_of g.V.Values.failed_of g.V.Values.is_honest
           c.args.values.now c.loop-place.values c.enter.new.values c.loop-place.invariant.told c.in_ok-next.ensures.asked) c.in_ok-add_below.ensures.asked;
     }
 

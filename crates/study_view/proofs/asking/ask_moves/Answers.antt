@@ -3,6 +3,7 @@ use Rattle.std.specs.Prelude.{IfOk}
 use Rattle.study_moves.specs.declared.moves.Move.{Move}
 use Rattle.study_review.specs.Continuations.{AreChosen, each_after, others}
 use Rattle.study_view.specs.Asked.{HasToldEach}
+use Rattle.study_review.proofs.Within.{each-other}
 use Rattle.study_view.proofs.AllAsked.{told-each, others-of-none}
 use Rattle.study_view.proofs.asking.ask_moves.Goals as goal
 
@@ -17,8 +18,8 @@ returns-clause-asked g c =
     let p = c.args.node.now.position.now in
     subst
     (λ (ms : List Move). HasToldEach g.V.Values.held g.V.Values.gives g.V.Values.may_fail g.V.Values.asked_of g.V.Values.failed_of g.V.Values.is_honest
-    (each_after p ms) c.args.values.now c.missing_moves.result c.missing_moves.new.values) (others-of-none p)
+    p (each_after p ms) c.args.values.now c.missing_moves.result c.missing_moves.new.values) (others-of-none p)
     (told-each g.V.Values.held g.V.Values.gives g.V.Values.may_fail g.V.Values.asked_of g.V.Values.failed_of g.V.Values.is_honest
-    (each_after p (others [] p)) c.args.values.now c.missing_moves.new.values c.missing_moves.result c.missing_moves.ensures.told
+    p (each_after p (others [] p)) (each-other p []) c.args.values.now c.missing_moves.new.values c.missing_moves.result c.missing_moves.ensures.told
     c.missing_moves.ensures.first c.missing_moves.ensures.untold c.missing_moves.ensures.no_damage c.missing_moves.ensures.failures
     c.missing_moves.ensures.honest c.missing_moves.ensures.tables)

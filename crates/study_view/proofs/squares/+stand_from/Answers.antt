@@ -1,6 +1,7 @@
 use Rattle.std.proofs.Common.{◌≡◌, ◌<◌, ◌++◌, ◌∷◌, [], List, ℕ, arith, sym, ap, subst, ◌∙◌}
 use Rattle.study_view.specs.Survey.{IsStanding}
 use Rattle.study_view.specs.declared.squares.Stood.{Stood}
+use Rattle.study_review.specs.Asked.{within}
 use Rattle.study_view.proofs.AllAsked.{some-then}
 use Rattle.study_view.proofs.Standings.{adds-past, adds-one}
 use Rattle.study_view.proofs.squares.+stand_from.Goals as goal
@@ -26,6 +27,6 @@ returns-in-Ok-clause-game g t c h =
 
 pub returns-in-Ok-clause-asked : goal.returns-in-Ok-clause-asked
 returns-in-Ok-clause-asked g t c =
-    some-then g.V.Values.held g.V.Values.gives g.V.Values.may_fail g.V.Values.asked_of g.V.Values.failed_of g.V.Values.is_honest
+    some-then g.V.Values.held (within c.args.question.now.position.now g.V.Values.gives) g.V.Values.may_fail g.V.Values.asked_of g.V.Values.failed_of g.V.Values.is_honest
     c.args.values.now c.standing_at.new.values c.stand_from-in-Ok.new.values c.stand_from-in-Ok.result c.in-Ok.ensures.asked
     c.stand_from-in-Ok.ensures.asked

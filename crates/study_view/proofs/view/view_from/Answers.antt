@@ -10,7 +10,9 @@ use Rattle.study_review.specs.Continuations.{AreChosen}
 use Rattle.study_view.specs.Asked.{EachTold, StoppedAt}
 use Rattle.study_view.specs.declared.fault.ViewFault.TheVariants.{OutOfMemory, Values}
 use Rattle.study_view.specs.View.{asked_at}
-use Rattle.study_view.proofs.AllAsked.{refused-after}
+use Rattle.study_view.proofs.AllAsked.{refused-after, each-wider, stopped-wider}
+use Rattle.study_review.proofs.Within.{leads-at}
+use Rattle.study_view.proofs.StartsAt.{position-of}
 use Rattle.study_view.proofs.ViewMade.{asked-is, view-is}
 use Rattle.study_view.proofs.view.view_from.Goals as goal
 
@@ -19,27 +21,33 @@ returns-in_err-moves-clause-asked g c =
     let s = marked c.args.bench.now in
     let f = c.in_err-moves.field-0.0 in
     refused-after g.V.Values.held g.V.Values.gives g.V.Values.may_fail g.V.Values.asked_of g.V.Values.failed_of g.V.Values.is_honest
-    (asked_at s c.args.steps.now) c.args.values.now c.ask_moves.new.values c.from_residual.result (Values f) c.from_residual.ensures.1
+    s.start.position (asked_at s c.args.steps.now) c.args.values.now c.ask_moves.new.values c.from_residual.result (Values f) c.from_residual.ensures.1
     (subst
     (λ (asked : List Position). StoppedAt g.V.Values.held g.V.Values.gives g.V.Values.may_fail g.V.Values.asked_of g.V.Values.failed_of g.V.Values.is_honest
-    asked c.args.values.now f c.ask_moves.new.values) (asked-is s c.args.steps.now c.args.start.now c.requires.start) c.in_err-moves.ensures.asked)
+    s.start.position asked c.args.values.now f c.ask_moves.new.values) (asked-is s c.args.steps.now c.args.start.now c.requires.start)
+    (stopped-wider g.V.Values.held g.V.Values.gives g.V.Values.may_fail g.V.Values.asked_of g.V.Values.failed_of g.V.Values.is_honest s.start.position c.args.start.now.position
+    (leads-at s c.args.steps.now c.args.start.now.position c.start.ensures.study.playable (position-of s c.args.steps.now c.args.start.now c.requires.start)) _ c.args.values.now f c.ask_moves.new.values c.in_err-moves.ensures.asked))
 
 pub returns-in_err-text-clause-asked : goal.returns-in_err-text-clause-asked
 returns-in_err-text-clause-asked g c =
     let s = marked c.args.bench.now in
     refused-after g.V.Values.held g.V.Values.gives g.V.Values.may_fail g.V.Values.asked_of g.V.Values.failed_of g.V.Values.is_honest
-    (asked_at s c.args.steps.now) c.args.values.now c.ask_moves.new.values c.from_residual-in_err-text.result OutOfMemory
+    s.start.position (asked_at s c.args.steps.now) c.args.values.now c.ask_moves.new.values c.from_residual-in_err-text.result OutOfMemory
     c.from_residual-in_err-text.ensures.1
     (subst
     (λ (asked : List Position). EachTold g.V.Values.held g.V.Values.gives g.V.Values.may_fail g.V.Values.asked_of g.V.Values.failed_of g.V.Values.is_honest
-    asked c.args.values.now c.ask_moves.new.values) (asked-is s c.args.steps.now c.args.start.now c.requires.start) c.in_ok-moves.ensures.asked)
+    s.start.position asked c.args.values.now c.ask_moves.new.values) (asked-is s c.args.steps.now c.args.start.now c.requires.start)
+    (each-wider g.V.Values.held g.V.Values.gives g.V.Values.may_fail g.V.Values.asked_of g.V.Values.failed_of g.V.Values.is_honest s.start.position c.args.start.now.position
+    (leads-at s c.args.steps.now c.args.start.now.position c.start.ensures.study.playable (position-of s c.args.steps.now c.args.start.now c.requires.start)) _ c.args.values.now c.ask_moves.new.values c.in_ok-moves.ensures.asked))
 
 pub returns-clause-asked : goal.returns-clause-asked
 returns-clause-asked g c =
+    let s = marked c.args.bench.now in
     subst
     (λ (asked : List Position). EachTold g.V.Values.held g.V.Values.gives g.V.Values.may_fail g.V.Values.asked_of g.V.Values.failed_of g.V.Values.is_honest
-    asked c.args.values.now c.ask_moves.new.values) (asked-is (marked c.args.bench.now) c.args.steps.now c.args.start.now c.requires.start)
-    c.in_ok-moves.ensures.asked
+    s.start.position asked c.args.values.now c.ask_moves.new.values) (asked-is s c.args.steps.now c.args.start.now c.requires.start)
+    (each-wider g.V.Values.held g.V.Values.gives g.V.Values.may_fail g.V.Values.asked_of g.V.Values.failed_of g.V.Values.is_honest s.start.position c.args.start.now.position
+    (leads-at s c.args.steps.now c.args.start.now.position c.start.ensures.study.playable (position-of s c.args.steps.now c.args.start.now c.requires.start)) _ c.args.values.now c.ask_moves.new.values c.in_ok-moves.ensures.asked)
 
 pub returns-clause-text : goal.returns-clause-text
 returns-clause-text g c h =

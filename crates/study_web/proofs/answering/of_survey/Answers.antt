@@ -13,8 +13,8 @@ returns g c =
     let spans = c.args.spans.now in
     let bytes = c.args.bytes.now in
     whole_told c.survey_of.result (λ v. v.items) (λ text. AreAllRight spans bytes → IsSurvey asked.start.position asked.square asked.stipulation text)
-    (IsSurveyDenial (IsOfFileValues spans bytes) asked.start asked.square) IsNoMemory c.told.result.text.items c.told.result.ended c.told.ensures.text c.told.ensures.none
+    (IsSurveyDenial (IsOfFileValues spans bytes asked.start.position) asked.start asked.square) IsNoMemory c.told.result.text.items c.told.result.ended c.told.ensures.text c.told.ensures.none
     (if_right c.survey_of.result (λ v. v.items) (AreAllRight spans bytes) (IsSurvey asked.start.position asked.square asked.stipulation)
     (λ right. c.survey_of.ensures.text (right_made made.spans made.bytes right)))
-    (survey_denial _ (IsOfFileValues spans bytes) asked.start asked.square (values_made made.spans made.bytes made.written)
+    (survey_denial _ (IsOfFileValues spans bytes asked.start.position) asked.start asked.square (values_made made.spans made.bytes made.written asked.start.position)
     c.survey_of.result c.survey_of.ensures.none) refl

@@ -1,8 +1,9 @@
-use Rattle.std.proofs.Common.{◌≡◌, false, Err, sym, ap, subst, ◌∙◌}
+use Rattle.std.proofs.Common.{◌≡◌, false, Err, refl, sym, ap, subst, ◌∙◌}
 use Rattle.study_prober.specs.declared.values.ProbeFault.{ProbeFault}
 use Rattle.study_tree.specs.Tree.{has_spot}
 use Rattle.study_marks.specs.Study.{plain_study}
-use Rattle.study_review.specs.Asked.{Stopped}
+use Rattle.study_script.specs.State.{study}
+use Rattle.study_web.specs.Views.{StudyStopped}
 use Rattle.study_reply.specs.declared.refusal.Refusal.{Refusal}
 use Rattle.study_web.specs.declared.denial.Denial.TheVariants as denial
 use Rattle.study_web.specs.Answers.{IsViewDenial}
@@ -22,9 +23,11 @@ returns-in-Err-Values-clause-none g c =
     let old = c.args.values.now in
     let new = c.write_view.new.values in
     let Untold : ProbeFault → Type 0 =
-    λ fault. Stopped g.V.Values.held g.V.Values.gives g.V.Values.may_fail g.V.Values.asked_of g.V.Values.failed_of g.V.Values.is_honest old fault new in
+    λ fault. StudyStopped g.V.Values.held g.V.Values.gives g.V.Values.may_fail g.V.Values.asked_of g.V.Values.failed_of g.V.Values.is_honest
+    (study (plain_study (marked c.args.bench.now))) old fault new in
     subst (λ (r : Refusal). IsViewDenial Untold (has_spot (plain_study (marked c.args.bench.now)).tree (steps_of c.args.path.now) ≡ false) (denial.Refused r))
     (sym c.of_probe.ensures)
-    (probe_denial Untold _ c.in-Err-Values.fault (view_stopped g.V.Values.held g.V.Values.gives g.V.Values.may_fail g.V.Values.asked_of
-    g.V.Values.failed_of g.V.Values.is_honest _ old new c.in-Err-Values.fault c.write_view.result
+    (probe_denial Untold _ c.in-Err-Values.fault (plain_study (marked c.args.bench.now), refl, c.start-first.ensures.study.valid,
+    view_stopped g.V.Values.held g.V.Values.gives g.V.Values.may_fail g.V.Values.asked_of
+    g.V.Values.failed_of g.V.Values.is_honest (marked c.args.bench.now).start.position _ old new c.in-Err-Values.fault c.write_view.result
     (c.in-Err-Values.is ∙ ap Err c.in-Err-Values.field-0-is) c.write_view.ensures.asked))
