@@ -21,7 +21,7 @@ study_tablefile write_table
 study_tablefile read_table ok text
 study_tablefile tables_are_read_again
 study_tablefile only_texts_are_read
-study_prober Values::value game stays_honest
+study_values Values::value game stays_honest
 study_prober WholeTables::value
 study_prober PagedTables::value told whole
 study_marks Bench::new made right refusal
@@ -204,7 +204,7 @@ def follow_signature(path, call):
     text, name = path.read_text(), call.split("::")[-1]
     signature = re.search(rf"fn {name}\b[^{{;]*?(?=\n\s*(?:ensures|requires|\{{))", text)
     for word in [call.split("::")[0], *WORD.findall(signature[0] if signature else "")]:
-        for crate in ("study_board", "study_moves", "study_retro", "study_prober", "study_notation", "study_tree", "study_marks"):
+        for crate in ("study_board", "study_moves", "study_table", "study_retro", "study_prober", "study_notation", "study_tree", "study_marks"):
             if word in crate_sources(crate).views:
                 visit_type(crate, word)
 

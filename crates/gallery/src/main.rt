@@ -10,10 +10,10 @@ use std::{env, fs, io};
 use study_command::Line;
 use study_prober::WholeTables;
 use study_report::{Lines, follow};
-use study_retro::TableSet;
 use study_script::{
     Document, MemoryStore, RunFault, Session, Summary, TableStore, Tables, run_session,
 };
+use study_table::TableSet;
 
 /// The exit status is 0 where each script was run to its end, and 1 where one was not.
 fn main(rt: HostRuntime) -> ExitCode {

@@ -9,7 +9,7 @@ use Rattle.study_board.specs.declared.men.Man.{Man}
 use Rattle.study_board.specs.Position.{Position}
 use Rattle.study_board.proofs.Lists.{count_by-cons}
 use Rattle.study_material.specs.declared.class.Class.{Class}
-use Rattle.study_index.specs.Number.{without_bit}
+use Rattle.study_values.specs.Number.{without_bit}
 use Rattle.study_index.specs.Decoded.{slots_of, slots_have_pawn, slot_filled, told_men}
 use Rattle.study_index.specs.Stepped.{moved_to, IsStepped}
 use Rattle.study_index.specs.Moved.{from_to, IsMoved}

@@ -9,10 +9,10 @@ use Rattle.study_board.specs.Geometry.{file_of, rank_of}
 use Rattle.study_board.specs.Images.{differ}
 use Rattle.study_board.specs.Symmetry.{turned_square, turned_man, mirrored}
 use Rattle.study_index.specs.declared.filling.PlacedMan.{PlacedMan}
-use Rattle.study_index.specs.Filling.{man_slot_number}
-use Rattle.study_index.specs.Computed.{put, sorted}
-use Rattle.study_index.specs.Number.{place, listed_count, side_number, append_squares, number}
-use Rattle.study_index.specs.Canonical.{canonical_symmetry, last_two_exchanged, are_like, descends, turned_number, least, least_by, least_of}
+use Rattle.study_values.specs.Filling.{man_slot_number}
+use Rattle.study_values.specs.Index.{put, sorted}
+use Rattle.study_values.specs.Number.{place, listed_count, side_number, append_squares, number}
+use Rattle.study_values.specs.Canonical.{canonical_symmetry, last_two_exchanged, are_like, descends, turned_number, least, least_by, least_of}
 use Rattle.study_index.specs.Squares.{placed, put_placed, squares_placed, square_symmetry, counted_at, number_at, exchanged_at, descends_at, least_turned, least_at}
 
 abbrev pub AreOnBoard : List Man → Type 0

@@ -29,9 +29,9 @@ use Rattle.study_material.specs.declared.class.Class.{Class}
 use Rattle.study_material.specs.Lists.{Lists, of, lists_exchanged, lists, ordered, is_exchanged, is_swapped}
 use Rattle.study_material.specs.Class.{lists_of, IsOf}
 use Rattle.study_material.proofs.ClassOfImage.{ordered-image, swapped-image, compare_lists, black_first, white_first, equal}
-use Rattle.study_index.specs.Filling.{IsFilling}
-use Rattle.study_index.specs.Number.{number, listed_count, kinds_have_pawn, has_both_pawns, numbers_of, cells_of}
-use Rattle.study_index.specs.Number.{with_bit, has_bit, without_bit, IsLeastNumber, IsIndex}
+use Rattle.study_values.specs.Filling.{IsFilling}
+use Rattle.study_values.specs.Number.{number, listed_count, kinds_have_pawn, has_both_pawns, numbers_of, cells_of}
+use Rattle.study_values.specs.Number.{with_bit, has_bit, without_bit, IsLeastNumber, IsIndex}
 use Rattle.study_index.specs.Decoded.{slots_of, passed_behind, IsDecoded}
 use Rattle.study_index.specs.Laws.{AreAlikeIn}
 use Rattle.study_index.proofs.ClassSlots.{AreSlots-class, is_cell-below, class_in_order}

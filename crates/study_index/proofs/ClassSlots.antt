@@ -17,7 +17,7 @@ use Rattle.study_material.specs.declared.class.Class.TheVariants.{KQKB, KQKN, KQ
 use Rattle.study_material.specs.declared.class.Class.TheVariants.{KBKB, KBKN, KBKP, KNKN, KNKP, KPKP}
 use Rattle.study_board.proofs.Coordinates.{bool_same}
 use borrow.Author.Tests.{ltb-true}
-use Rattle.study_index.specs.Number.{numbers_of, cells_of, without_bit}
+use Rattle.study_values.specs.Number.{numbers_of, cells_of, without_bit}
 use Rattle.study_index.specs.Decoded.{AreSlots, slots_of, is_cell}
 
 pub AreSlots-class : (c : Class) → AreSlots (slots_of c)

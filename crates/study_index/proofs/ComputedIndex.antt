@@ -17,10 +17,11 @@ use Rattle.study_board.proofs.Valid.{IsFaultless-from_first, IsAscending-from_so
 use Rattle.study_material.specs.declared.class.Class.{Class}
 use Rattle.study_material.specs.Lists.{is_swapped}
 use Rattle.study_index.specs.declared.decoding.Slot.{Slot}
-use Rattle.study_index.specs.Number.{IsLeastNumber, IsIndex, listed_count, numbers_of, cells_of, without_bit}
+use Rattle.study_values.specs.Number.{IsLeastNumber, IsIndex, listed_count, numbers_of, cells_of, without_bit}
 use Rattle.study_index.specs.Decoded.{IsDecoded, AreSlots, slots_of, slots_have_pawn, men_of, told_men, listed_square, man}
 use borrow.Author.Tests.{ltb-true}
-use Rattle.study_index.specs.Computed.{least_number, index_of, position_told, is_entry, position_numbered}
+use Rattle.study_index.specs.Computed.{position_told, is_entry, position_numbered}
+use Rattle.study_values.specs.Index.{least_number, index_of}
 use Rattle.study_index.proofs.ClassLaws.{below}
 use Rattle.study_index.proofs.ClassSlots.{AreSlots-class, is_cell-below, number_below}
 use Rattle.study_index.proofs.TurnedNumbers.{least_is}

@@ -8,9 +8,9 @@ use Rattle.study_board.specs.Symmetry.{turned_side}
 use Rattle.study_moves.specs.EnPassant.{has_legal_en_passant}
 use Rattle.study_material.specs.declared.class.Class.{Class}
 use Rattle.study_material.specs.Lists.{is_exchanged, is_swapped}
-use Rattle.study_index.specs.Canonical.{least_of}
-use Rattle.study_index.specs.Filling.{IsFilling}
-use Rattle.study_index.specs.Number.{has_pawn, with_bit, has_bit, without_bit, IsLeastNumber}
+use Rattle.study_values.specs.Canonical.{least_of}
+use Rattle.study_values.specs.Filling.{IsFilling}
+use Rattle.study_values.specs.Number.{has_pawn, with_bit, has_bit, without_bit, IsLeastNumber}
 use Rattle.study_index.specs.Decoded.{slots_of, slots_have_pawn, told_men, told_side, passed_behind, is_cell, IsPlaced, HasLeast, IsDecoded}
 use Rattle.study_index.proofs.ClassSlots.{AreSlots-class, class_in_order}
 use Rattle.study_index.proofs.ListOrder.{lists-filled}

@@ -6,7 +6,7 @@ use Rattle.study_board.specs.declared.men.Side.TheVariants.{White, Black}
 use Rattle.study_board.specs.declared.men.Kind.{Kind}
 use Rattle.study_board.specs.declared.men.Kind.TheVariants.{King, Rook, Pawn}
 use Rattle.study_material.specs.declared.class.Class.TheVariants.{KK, KRK, KPK, KQKR, KRKP, KPKP}
-use Rattle.study_index.specs.Number.{place, number, with_bit, has_bit, without_bit, cells_of}
+use Rattle.study_values.specs.Number.{place, number, with_bit, has_bit, without_bit, cells_of}
 use Rattle.study_index.specs.Decoded.{slot_for, slots_of, listed_square, told_men, passed_behind}
 
 abbrev man : Side → Kind → ℕ → Man

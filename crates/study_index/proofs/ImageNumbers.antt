@@ -10,8 +10,8 @@ use Rattle.study_board.proofs.ImagesOfImages.{IsTurnable-from_valid, image_joine
 use Rattle.study_moves.specs.EnPassant.{has_legal_en_passant, without_passed, bare}
 use Rattle.study_material.specs.Lists.{Lists, lists, is_swapped}
 use Rattle.study_material.proofs.ClassOfImage.{turned_lists, lists-image, swapped-image}
-use Rattle.study_index.specs.Filling.{IsFilling}
-use Rattle.study_index.specs.Number.{has_pawn, number, IsNumber, IsLeastNumber}
+use Rattle.study_values.specs.Filling.{IsFilling}
+use Rattle.study_values.specs.Number.{has_pawn, number, IsNumber, IsLeastNumber}
 
 -- where the two lists are equal the colours are kept
 abbrev pub Keeps : Symmetry → Position → Type 0

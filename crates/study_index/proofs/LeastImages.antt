@@ -10,9 +10,9 @@ use Rattle.study_board.specs.declared.symmetry.Symmetry.{Symmetry}
 use Rattle.study_board.specs.Geometry.{file_of, rank_of}
 use Rattle.study_board.specs.Symmetry.{turned_square}
 use Rattle.study_index.specs.declared.decoding.Slot.{Slot}
-use Rattle.study_index.specs.Filling.{man_slot_number}
-use Rattle.study_index.specs.Number.{place, listed_count}
-use Rattle.study_index.specs.Canonical.{are_like, least, least_of}
+use Rattle.study_values.specs.Filling.{man_slot_number}
+use Rattle.study_values.specs.Number.{place, listed_count}
+use Rattle.study_values.specs.Canonical.{are_like, least, least_of}
 use Rattle.study_index.specs.Squares.{square_symmetry, number_at, exchanged_at, least_turned, least_at}
 use Rattle.study_index.specs.Decoded.{slot_filled, AreSlots, listed_square, men_of, head, side_numbered}
 use Rattle.study_index.specs.Stepped.{are_like_slots}

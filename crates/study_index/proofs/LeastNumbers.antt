@@ -12,9 +12,9 @@ use Rattle.study_board.specs.declared.men.Man.{Man}
 use Rattle.study_board.specs.Position.{Position, IsValid}
 use Rattle.study_board.specs.declared.symmetry.Symmetry.{Symmetry}
 use Rattle.study_board.specs.Symmetry.{turned_square, turned_side, turned_man}
-use Rattle.study_index.specs.Filling.{IsFilling}
-use Rattle.study_index.specs.Number.{place, number, has_pawn, append_squares, listed_count, side_number}
-use Rattle.study_index.specs.Canonical.{canonical_symmetry, last_two_exchanged, are_like, descends, least, least_by, least_of, turned_number}
+use Rattle.study_values.specs.Filling.{IsFilling}
+use Rattle.study_values.specs.Number.{place, number, has_pawn, append_squares, listed_count, side_number}
+use Rattle.study_values.specs.Canonical.{canonical_symmetry, last_two_exchanged, are_like, descends, least, least_by, least_of, turned_number}
 use Rattle.study_index.proofs.Fillings.{IsMaterial, IsMaterial-from_valid, HasKings-from_filling, fillings_of, exchanged-fills}
 use Rattle.study_index.proofs.Symmetries.{admitted, chosen-only, some-listed, chosen-admitted, chosen-colours, chosen-pawns}
 

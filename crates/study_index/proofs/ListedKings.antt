@@ -7,7 +7,7 @@ use Rattle.study_board.specs.declared.men.Side.{Side}
 use Rattle.study_board.specs.declared.symmetry.Symmetry.{Symmetry}
 use Rattle.study_board.specs.Symmetry.{turned_square}
 use Rattle.study_index.specs.declared.decoding.Slot.{Slot}
-use Rattle.study_index.specs.Number.{place, listed_count, side_number}
+use Rattle.study_values.specs.Number.{place, listed_count, side_number}
 use Rattle.study_index.specs.Decoded.{AreSlots, told_men}
 use Rattle.study_index.specs.Squares.{number_at}
 use Rattle.study_index.specs.Stepped.{moved_to}

@@ -10,11 +10,11 @@ use Rattle.study_board.specs.Position.{Position}
 use Rattle.study_board.specs.Symmetry.{turned_side}
 use Rattle.study_material.specs.declared.class.Class.{Class}
 use Rattle.study_material.specs.Lists.{is_exchanged, is_swapped}
-use Rattle.study_index.specs.Filling.{man_slot_number, NoneBefore, IsInSlots, IsFilling}
-use Rattle.study_index.specs.Number.{has_pawn, with_bit, without_bit, IsLeastNumber}
+use Rattle.study_values.specs.Filling.{man_slot_number, NoneBefore, IsInSlots, IsFilling}
+use Rattle.study_values.specs.Number.{has_pawn, with_bit, without_bit, IsLeastNumber}
 use Rattle.study_index.specs.Decoded.{slot_filled, slots_of, slots_have_pawn, told_men, told_side}
-use Rattle.study_index.specs.Canonical.{least_of}
-use Rattle.study_index.specs.Computed.{index_of}
+use Rattle.study_values.specs.Canonical.{least_of}
+use Rattle.study_values.specs.Index.{index_of}
 use Rattle.study_index.specs.Moved.{from_to, IsMoved}
 use Rattle.study_index.proofs.NumbersReadOff.{filled-men_of, has_pawn-slots, IsInSlots-men_of}
 use Rattle.study_index.proofs.ClassSlots.{AreSlots-class, class_in_order}

@@ -19,8 +19,8 @@ use Rattle.study_index.proofs.MenInOrder.{ascending_same}
 use Rattle.study_board.proofs.Faults.{first_fault_same}
 use Rattle.study_moves.specs.EnPassant.{has_legal_en_passant}
 use Rattle.study_index.specs.declared.decoding.Slot.{Slot}
-use Rattle.study_index.specs.Filling.{IsInSlots, man_slot_number}
-use Rattle.study_index.specs.Number.{place, listed_count, number, has_pawn, append_squares, side_number, with_bit, has_bit, without_bit, IsLeastNumber, IsIndex}
+use Rattle.study_values.specs.Filling.{IsInSlots, man_slot_number}
+use Rattle.study_values.specs.Number.{place, listed_count, number, has_pawn, append_squares, side_number, with_bit, has_bit, without_bit, IsLeastNumber, IsIndex}
 use Rattle.study_index.specs.Decoded.{slot_filled, IsDecodedAt, AreSlots, listed_square, slots_have_pawn, man, head, men_of}
 use Rattle.study_index.specs.Decoded.{side_numbered, told_men, told_side, passed_behind, is_cell, IsPlaced, IsFaulty}
 use Rattle.study_index.proofs.Symmetries.{all_below, at_below}

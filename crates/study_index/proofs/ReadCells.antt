@@ -15,7 +15,7 @@ use Rattle.study_board.proofs.Valid.{IsFaultless-from_first}
 use Rattle.study_moves.specs.EnPassant.{has_legal_en_passant, is_taken}
 use Rattle.study_material.specs.declared.class.Class.{Class}
 use Rattle.study_index.specs.declared.decoding.Slot.{Slot}
-use Rattle.study_index.specs.Number.{numbers_of, cells_of, with_bit, has_bit, without_bit}
+use Rattle.study_values.specs.Number.{numbers_of, cells_of, with_bit, has_bit, without_bit}
 use Rattle.study_index.specs.Decoded.{slots_of, slots_have_pawn, told_men, told_side, passed_behind, is_cell, IsDecoded, IsPlaced, IsFaulty, HasLeast}
 use Rattle.study_index.proofs.ClassSlots.{AreSlots-class, is_cell-below, number_below, few_cells}
 use Rattle.study_index.proofs.DecodedNumbers.{IsTold, IsLeastTold, read_decoded, not_least, not_passing}

@@ -14,7 +14,7 @@ use Rattle.study_material.specs.declared.class.Class.TheVariants.{KRKB, KRKN, KR
 use Rattle.study_index.specs.declared.decoding.Slot.{Slot}
 use Rattle.study_index.specs.declared.row_way.RowTerms.{RowTerms}
 use Rattle.study_index.specs.declared.row_way.RowWay.TheVariants.{Sum, LeastImage, King}
-use Rattle.study_index.specs.Number.{listed_count, side_number, without_bit, numbers_of, cells_of}
+use Rattle.study_values.specs.Number.{listed_count, side_number, without_bit, numbers_of, cells_of}
 use Rattle.study_index.specs.Decoded.{slots_of, slots_have_pawn, AreSlots, head, side_numbered, told_men, told_side}
 use Rattle.study_index.specs.Stepped.{are_like_slots, square_weight, square_told, IsStepped}
 use Rattle.study_index.specs.Departure.{keeps_image, StandsOn}

@@ -12,11 +12,11 @@ use Rattle.study_board.specs.Men.{other_side}
 use Rattle.study_board.specs.Position.{Position}
 use Rattle.study_material.specs.declared.class.Class.{Class}
 use Rattle.study_index.specs.declared.decoding.Slot.{Slot}
-use Rattle.study_index.specs.Filling.{man_slot_number, NoneBefore, IsInSlots}
-use Rattle.study_index.specs.Number.{number, side_number, listed_count, without_bit, numbers_of, cells_of}
+use Rattle.study_values.specs.Filling.{man_slot_number, NoneBefore, IsInSlots}
+use Rattle.study_values.specs.Number.{number, side_number, listed_count, without_bit, numbers_of, cells_of}
 use Rattle.study_index.specs.Decoded.{slot_filled, slots_of, slots_have_pawn, AreSlots, men_of, head, side_numbered, told_men, told_side}
-use Rattle.study_index.specs.Canonical.{least_of}
-use Rattle.study_index.specs.Computed.{index_of}
+use Rattle.study_values.specs.Canonical.{least_of}
+use Rattle.study_values.specs.Index.{index_of}
 use Rattle.study_index.specs.Stepped.{moved_to, stepped, are_like_slots, IsStepped, NumbersStep, square_weight, square_told}
 use Rattle.study_index.specs.Departure.{keeps_image}
 use Rattle.study_index.specs.LeastImage.{turned_by, stepped_by, least_image, ascending_if, is_on_diagonal}

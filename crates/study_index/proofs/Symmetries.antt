@@ -5,8 +5,8 @@ use Rattle.std.proofs.lemmas.Bool.{false≢true}
 use Rattle.std.proofs.lemmas.Bool.Decides.{nat_tests}
 use Rattle.study_board.specs.declared.symmetry.Symmetry.{Symmetry}
 use Rattle.study_board.specs.Symmetry.{turned_square, keeps_pawns}
-use Rattle.study_index.specs.Number.{place}
-use Rattle.study_index.specs.Canonical.{canonical_symmetry}
+use Rattle.study_values.specs.Number.{place}
+use Rattle.study_values.specs.Canonical.{canonical_symmetry}
 
 -- what symmetries men admit, with a pawn among them or not
 abbrev pub admitted : Bool → Symmetry → Bool

@@ -12,10 +12,10 @@ use Rattle.study_board.specs.Position.{Position, IsValid}
 use Rattle.study_board.specs.Symmetry.{turned_side, turned_man}
 use Rattle.study_material.specs.Lists.{is_swapped}
 use Rattle.study_material.proofs.ClassOfImage.{IsPermutation-turned}
-use Rattle.study_index.specs.Filling.{man_slot_number, NoneBefore, IsInSlots, IsFilling}
-use Rattle.study_index.specs.Number.{has_pawn, number, IsNumber, IsLeastNumber}
-use Rattle.study_index.specs.Canonical.{turned_number, least_of}
-use Rattle.study_index.specs.Computed.{sorted}
+use Rattle.study_values.specs.Filling.{man_slot_number, NoneBefore, IsInSlots, IsFilling}
+use Rattle.study_values.specs.Number.{has_pawn, number, IsNumber, IsLeastNumber}
+use Rattle.study_values.specs.Canonical.{turned_number, least_of}
+use Rattle.study_values.specs.Index.{sorted}
 use Rattle.study_index.proofs.Slots.{IsFilling-sorted}
 use Rattle.study_index.proofs.LeastNumbers.{IsNumberOf, IsIndexOf, IsIndex-least_of}
 

@@ -15,9 +15,9 @@ use Rattle.study_board.specs.Position.{Position, IsValid, first_fault}
 use Rattle.study_material.specs.declared.class.Class.{Class}
 use Rattle.study_material.specs.Class.{lists_of}
 use Rattle.study_index.specs.declared.decoding.Slot.{Slot}
-use Rattle.study_index.specs.Canonical.{least_of}
-use Rattle.study_index.specs.Filling.{IsFilling, slot_number}
-use Rattle.study_index.specs.Number.{number, listed_count, has_pawn, has_bit, without_bit, IsIndex}
+use Rattle.study_values.specs.Canonical.{least_of}
+use Rattle.study_values.specs.Filling.{IsFilling, slot_number}
+use Rattle.study_values.specs.Number.{number, listed_count, has_pawn, has_bit, without_bit, IsIndex}
 
 -- what slot a man fills
 abbrev pub slot_filled : Man → Slot

@@ -7,10 +7,10 @@ use Rattle.study_index.specs.declared.decoding.Slot.{Slot}
 use Rattle.study_index.specs.declared.way.Terms.{Terms}
 use Rattle.study_index.specs.declared.way.Way.{Way}
 use Rattle.study_index.specs.declared.way.Way.TheVariants.{Sum, LeastImage, King}
-use Rattle.study_index.specs.Computed.{index_of}
+use Rattle.study_values.specs.Index.{index_of}
 use Rattle.study_index.specs.Decoded.{head, slots_of, slots_have_pawn, told_men}
 use Rattle.study_index.specs.Moved.{IsMoved}
-use Rattle.study_index.specs.Number.{without_bit}
+use Rattle.study_values.specs.Number.{without_bit}
 use Rattle.study_index.specs.Stepped.{are_like_slots}
 use Rattle.study_index.specs.LeastImage.{is_on_diagonal, least_image}
 

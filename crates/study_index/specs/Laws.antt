@@ -12,9 +12,10 @@ use Rattle.study_material.specs.declared.class.Class.{Class}
 use Rattle.study_material.specs.Lists.{is_swapped}
 use Rattle.study_material.specs.Class.{lists_of, IsOf}
 use Rattle.study_material.specs.Needs.{LeadsOn}
-use Rattle.study_index.specs.Number.{IsIndex, cells_of, without_bit, has_bit}
+use Rattle.study_values.specs.Number.{IsIndex, cells_of, without_bit, has_bit}
 use Rattle.study_index.specs.Decoded.{IsDecoded, slots_of, told_men, told_side, passed_behind}
-use Rattle.study_index.specs.Computed.{index_of, position_numbered}
+use Rattle.study_index.specs.Computed.{position_numbered}
+use Rattle.study_values.specs.Index.{index_of}
 
 -- positions that are alike, the colours kept where the lists of the class are equal
 pub record AreAlikeIn (c : Class) (p q : Position) : Type 0 where

@@ -1,7 +1,4 @@
-pub mod Filling
-pub mod Number
 pub mod Bits
-pub mod Canonical
 pub mod Decoded
 pub mod Computed
 pub mod Laws

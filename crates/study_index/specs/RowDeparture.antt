@@ -5,10 +5,10 @@ use Rattle.study_material.specs.declared.class.Class.{Class}
 use Rattle.study_index.specs.declared.row_way.RowTerms.{RowTerms}
 use Rattle.study_index.specs.declared.row_way.RowWay.{RowWay}
 use Rattle.study_index.specs.declared.row_way.RowWay.TheVariants.{Sum, LeastImage, King}
-use Rattle.study_index.specs.Computed.{index_of}
+use Rattle.study_values.specs.Index.{index_of}
 use Rattle.study_index.specs.Decoded.{slots_of, slots_have_pawn}
 use Rattle.study_index.specs.Moved.{IsMoved}
-use Rattle.study_index.specs.Number.{place, listed_count}
+use Rattle.study_values.specs.Number.{place, listed_count}
 use Rattle.study_index.specs.LeastImage.{is_on_diagonal, least_image}
 use Rattle.study_index.specs.Stepped.{are_like_slots}
 use Rattle.study_index.specs.Departure.{StandsOn}

@@ -7,9 +7,9 @@ use Rattle.study_board.specs.declared.symmetry.Symmetry.{Symmetry}
 use Rattle.study_board.specs.Geometry.{file_of, rank_of}
 use Rattle.study_board.specs.Symmetry.{turned_square}
 use Rattle.study_index.specs.declared.filling.PlacedMan.{PlacedMan}
-use Rattle.study_index.specs.Filling.{man_slot_number}
-use Rattle.study_index.specs.Number.{place, listed_count, side_number}
-use Rattle.study_index.specs.Canonical.{least}
+use Rattle.study_values.specs.Filling.{man_slot_number}
+use Rattle.study_values.specs.Number.{place, listed_count, side_number}
+use Rattle.study_values.specs.Canonical.{least}
 
 -- a man as its slot and its square
 abbrev pub placed : Bool → Man → PlacedMan

@@ -7,9 +7,9 @@ use Rattle.study_board.specs.Position.{Position, IsValid}
 use Rattle.study_moves.specs.EnPassant.{has_legal_en_passant}
 use Rattle.study_material.specs.declared.class.Class.{Class}
 use Rattle.study_index.specs.declared.decoding.Slot.{Slot}
-use Rattle.study_index.specs.Number.{without_bit, cells_of}
+use Rattle.study_values.specs.Number.{without_bit, cells_of}
 use Rattle.study_index.specs.Decoded.{slots_of, slots_have_pawn, number_of_slot, told_men, told_side}
-use Rattle.study_index.specs.Computed.{index_of}
+use Rattle.study_values.specs.Index.{index_of}
 
 -- the man of one place of a list, the first at 0, on another square
 abbrev pub moved_to : ℕ → ℕ → List Man → List Man

@@ -3,7 +3,7 @@ ghost use Rattle.std.specs.Prelude.{◌≡◌, ◌&&◌, true, ◌+◌, ◌*◌,
 ghost use Rattle.study_board.specs.Position.{Position as Seen, has_one_king, in_order};
 ghost use Rattle.study_board.specs.declared.men.Side.TheVariants.{White, Black};
 ghost use Rattle.study_material.specs.Class.{lists_of};
-ghost use Rattle.study_index.specs.Number.{listed_count, cells_of};
+ghost use Rattle.study_values.specs.Number.{listed_count, cells_of};
 ghost use Rattle.study_index.specs.Computed.{position_numbered};
 ghost use Rattle.study_index.specs.Decoded.{IsDecoded, AreSlots, slots_of, listed_square, slots_have_pawn};
 ghost use Rattle.study_index.specs.Decoded.{man, head, told_men, told_side, square_behind_pawn};
@@ -13,10 +13,11 @@ ghost use Rattle.study_board.specs.Men.{other_side};
 
 use crate::en_passant::{has_legal_en_passant, square_behind_pawn};
 use crate::least_image::least_image;
-use crate::number::{EN_PASSANT_BIT, listed_count};
+use crate::number::listed_count;
 use crate::reading::{class_has_pawn, has_like_men, told_by};
 use study_board::{Kind, Man, Position, Side, Square, has_fault, in_order};
 use study_material::Class;
+use study_values::{EN_PASSANT_BIT, cells};
 
 /// What man fills a place in the order of a class.
 #[derive(Clone, Copy)]
@@ -154,21 +155,6 @@ fn decode_slots(slots: &[Slot], pawns: bool, like: bool, n: u32, passed: bool) -
     }
     let setup = told_by(slots, pawns, n);
     position_if(setup.men.as_slice(), setup.to_move, passed)
-}
-
-/// How many cells there are for positions of the class.
-pub fn cells(class: Class) -> u32
-    ensures { result ≡ cells_of class }
-{
-    use Class::*;
-    match class {
-        KK => 1_280,
-        KQK | KRK | KBK | KNK => 81_920,
-        KPK => 262_144,
-        KQPK | KRPK | KBPK | KNPK | KPPK | KQKP | KRKP | KBKP | KNKP => EN_PASSANT_BIT,
-        KPKP => 2 * EN_PASSANT_BIT,
-        _ => 5_242_880,
-    }
 }
 
 /// The position of a number without the bit.

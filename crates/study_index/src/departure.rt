@@ -2,8 +2,8 @@
 ghost use Rattle.std.specs.Prelude.{◌≡◌, ◌<◌, ◌≤◌, length, slice_index_or, IsTrue};
 ghost use Rattle.study_board.specs.declared.men.Man.{Man as AMan};
 ghost use Rattle.study_board.specs.Position.{Position as Seen};
-ghost use Rattle.study_index.specs.Computed.{index_of};
-ghost use Rattle.study_index.specs.Number.{cells_of, without_bit};
+ghost use Rattle.study_values.specs.Index.{index_of};
+ghost use Rattle.study_values.specs.Number.{cells_of, without_bit};
 ghost use Rattle.study_index.specs.Decoded.{AreSlots, slots_of, slots_have_pawn, told_men};
 ghost use Rattle.study_index.specs.Moved.{IsMoved};
 ghost use Rattle.study_index.specs.Departure.{IsFoundBy, keeps_image};
@@ -11,12 +11,12 @@ ghost use Rattle.study_index.specs.Departure.{IsFoundBy, keeps_image};
 use crate::decoding::{Slot, head, slots};
 use crate::least_image::{is_on_diagonal, least_image};
 use crate::moved::{number_moved, number_stepped};
-use crate::number::EN_PASSANT_BIT;
 use crate::reading::{class_has_pawn, has_like_men, king_told};
 use crate::stepped::{side_turned, square_told, square_weight};
 use crate::way::{Terms, Way};
 use study_board::Square;
 use study_material::Class;
+use study_values::EN_PASSANT_BIT;
 
 /// A number and the square of one of its men. What the numbers after the man has moved have in common is found once.
 #[derive(Clone, Copy)]

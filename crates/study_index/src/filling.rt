@@ -1,6 +1,6 @@
 //! The men of a position in the order of their slots.
 ghost use Rattle.std.specs.Prelude.{◌≡◌, ◌<◌, nat_le, [], ◌∷◌, if◌then◌else◌};
-ghost use Rattle.study_index.specs.Filling.{man_slot_number, slot_number};
+ghost use Rattle.study_values.specs.Filling.{man_slot_number, slot_number};
 ghost use Rattle.study_index.specs.Squares.{placed, put_placed};
 ghost use Rattle.study_board.specs.Symmetry.{turned_side};
 
@@ -35,7 +35,7 @@ pub fn side_after(colours: bool, side: Side) -> Side
 }
 
 #[inline]
-#[tactic(auto, unfolding(crate::specs::Filling::man_slot_number))]
+#[tactic(auto, unfolding(study_values::specs::Filling::man_slot_number))]
 pub fn man_slot_number(colours: bool, m: &Man) -> u8
     ensures { result ≡ man_slot_number colours m.now }
 {

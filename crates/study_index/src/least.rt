@@ -1,9 +1,9 @@
 //! The index of a position.
 ghost use Rattle.std.specs.Prelude.{◌≡◌, ◌≤◌, ◌<◌, length, [], ◌∷◌};
-ghost use Rattle.study_index.specs.Number.{IsLeastNumber, IsIndex};
-ghost use Rattle.study_index.specs.Computed.{least_number, index_of, sorted};
+ghost use Rattle.study_values.specs.Number.{IsLeastNumber, IsIndex};
+ghost use Rattle.study_values.specs.Index.{least_number, index_of, sorted};
 ghost use Rattle.study_board.specs.Symmetry.{turned_square};
-ghost use Rattle.study_index.specs.Canonical.{least, least_of};
+ghost use Rattle.study_values.specs.Canonical.{least, least_of};
 ghost use Rattle.study_index.specs.Squares.{square_symmetry, exchanged_at, descends_at, number_at, least_turned, least_at};
 
 use crate::colour_swap::is_swapped;
@@ -11,9 +11,10 @@ use crate::en_passant::has_legal_en_passant;
 use crate::filling::{
     man_slot_number, placed, side_after, square_of_man, with_one, with_three, with_two,
 };
-use crate::number::{EN_PASSANT_BIT, Frame, has_pawn, number};
+use crate::number::{Frame, has_pawn, number};
 use crate::transform::turned;
 use study_board::{Man, Position, Square, Symmetry};
+use study_values::EN_PASSANT_BIT;
 
 /// The symmetry that brings the square to a listed one, if any does, written without a swap of colours: the ranks that
 /// a swap mirrors are mirrored back where there is no pawn.
@@ -113,7 +114,7 @@ fn least_at(frame: Frame, like: bool, squares: &[Square]) -> Option<u32>
 
 /// The least number of men who stand in the order of their slots.
 #[inline(always)]
-#[tactic(auto, unfolding(crate::specs::Squares::least_at, crate::specs::Canonical::least_of))]
+#[tactic(auto, unfolding(crate::specs::Squares::least_at, study_values::specs::Canonical::least_of))]
 pub fn least_of(frame: Frame, men: &[Man]) -> Option<u32>
     requires { length men.now ≤ 4 }
     ensures { result ≡ least_of frame.has_pawns frame.to_move frame.swap_colours men.now }
@@ -167,7 +168,7 @@ fn least_with_two(frame: Frame, a: Man, b: Man, c: Man, d: Man) -> Option<u32>
 
 /// The least number of the men, put in the order of their slots.
 #[inline]
-#[tactic(auto, unfolding(crate::specs::Canonical::least_of))]
+#[tactic(auto, unfolding(study_values::specs::Canonical::least_of))]
 fn least_in_slots(frame: Frame, men: &[Man]) -> Option<u32>
     requires { length men.now ≤ 4 }
     ensures { result ≡ least_of frame.has_pawns frame.to_move frame.swap_colours (sorted frame.swap_colours men.now) }
@@ -235,7 +236,7 @@ fn least_number(p: &Position) -> u32
 
 /// The number of a position in the tables of its class: the least number of the images that the class admits, and
 /// 16,777,216 more where a capture in passing is legal.
-#[tactic(auto, unfolding(crate::specs::Computed::index_of))]
+#[tactic(auto, unfolding(study_values::specs::Index::index_of))]
 pub fn index(p: &Position) -> u32
     ensures least { IsIndex p.now result }
     ensures value { result ≡ index_of p.now }

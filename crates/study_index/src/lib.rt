@@ -22,7 +22,7 @@ mod stepped;
 mod transform;
 mod way;
 
-pub use decoding::{cells, decode};
+pub use decoding::decode;
 pub use departure::Departure;
 pub use laws::{
     alike_mates_agree, classes_are_numbered, numbers_are_read, numbers_step, numbers_tell,
@@ -30,6 +30,6 @@ pub use laws::{
 };
 pub use least::index;
 pub use moved::{number_moved, number_stepped};
-pub use number::EN_PASSANT_BIT;
 pub use reading::{Setup, told};
 pub use row_departure::{RowDeparture, row_of_last};
+pub use study_values::{EN_PASSANT_BIT, cells};

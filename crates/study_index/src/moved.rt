@@ -3,10 +3,10 @@ ghost use Rattle.std.specs.Prelude.{◌≡◌, ◌<◌, ◌↔◌, false, map, l
 ghost use Rattle.study_board.specs.declared.men.Man.{Man as AMan};
 ghost use Rattle.study_board.specs.Men.{other_side};
 ghost use Rattle.study_board.specs.Position.{Position as Seen};
-ghost use Rattle.study_index.specs.Canonical.{least_of};
+ghost use Rattle.study_values.specs.Canonical.{least_of};
 ghost use Rattle.study_index.specs.Decoded.{AreSlots, slots_of, slots_have_pawn, man, told_men, told_side};
-ghost use Rattle.study_index.specs.Computed.{index_of};
-ghost use Rattle.study_index.specs.Number.{cells_of};
+ghost use Rattle.study_values.specs.Index.{index_of};
+ghost use Rattle.study_values.specs.Number.{cells_of};
 ghost use Rattle.study_index.specs.Stepped.{moved_to, IsStepped};
 ghost use Rattle.study_index.specs.Moved.{IsMoved, from_to};
 ghost use Rattle.study_index.specs.LeastImage.{king_symmetry, squares, with_head};
@@ -16,11 +16,12 @@ ghost use Rattle.study_board.specs.Symmetry.{turned_square};
 use crate::decoding::{Slot, head, man, slots};
 use crate::least::least_of;
 use crate::least_image::least_image;
-use crate::number::{EN_PASSANT_BIT, Frame, listed_count, number, place, side_number};
+use crate::number::{Frame, listed_count, number, place, side_number};
 use crate::reading::{class_has_pawn, has_like_men, king_told, side_told};
 use crate::stepped::stepped;
 use study_board::{Man, Side, Square, Symmetry};
 use study_material::Class;
+use study_values::EN_PASSANT_BIT;
 
 /// The man, put on `to` if it stands on `from`.
 #[inline]

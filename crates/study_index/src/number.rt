@@ -2,14 +2,11 @@
 ghost use Rattle.study_board.specs.Men.{is_pawn};
 ghost use Rattle.std.specs.Prelude.{◌≡◌, ◌+◌, ◌*◌, ◌^◌, ◌≤◌, ◌<◌, length, IfSome};
 ghost use Rattle.study_board.specs.Symmetry.{turned_square};
-ghost use Rattle.study_index.specs.Number.{place, listed_count, side_number, has_pawn, places_before};
+ghost use Rattle.study_values.specs.Number.{place, listed_count, side_number, has_pawn, places_before};
 ghost use Rattle.study_index.specs.Squares.{counted_at, number_at};
 
 use crate::transform::turned;
 use study_board::{Kind, Man, Side, Square, Symmetry};
-
-/// What the number of a position has more where a capture in passing is legal.
-pub const EN_PASSANT_BIT: u32 = 16_777_216;
 
 /// What is added to a file for its square's place in the triangle a1, d1, d4.
 #[inline]
@@ -27,7 +24,7 @@ fn places_before(rank: u8) -> u8
 
 /// The place of a square, if it is listed.
 #[inline]
-#[tactic(auto, unfolding(crate::specs::Number::place))]
+#[tactic(auto, unfolding(study_values::specs::Number::place))]
 pub fn place(pawns: bool, s: Square) -> Option<u8>
     ensures value { result ≡ place pawns s }
     ensures small { IfSome result (λ q. q < listed_count pawns) }

@@ -1,15 +1,15 @@
 //! The men and the side to move that a number tells, whether or not it has a position.
 ghost use Rattle.std.specs.Prelude.{◌≡◌, ◌/◌, ◌%◌, length};
 ghost use Rattle.arrayvec.specs.ArrayVec.{array_vec_len};
-ghost use Rattle.study_index.specs.Number.{listed_count, without_bit};
+ghost use Rattle.study_values.specs.Number.{listed_count, without_bit};
 ghost use Rattle.study_index.specs.Stepped.{are_like_slots};
 ghost use Rattle.study_index.specs.Decoded.{AreSlots, slots_of, slots_have_pawn, man, head, listed_square, side_numbered, told_men, told_side};
 
 use crate::decoding::{Slot, listed_square, man, slots};
-use crate::number::EN_PASSANT_BIT;
 use arrayvec::ArrayVec;
 use study_board::{Man, Side};
 use study_material::Class;
+use study_values::EN_PASSANT_BIT;
 
 /// What a number tells: a man for each slot of its class, in their order, and the side to move.
 #[derive(Drop)]

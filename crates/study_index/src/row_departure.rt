@@ -3,8 +3,8 @@
 ghost use Rattle.std.specs.Prelude.{◌≡◌, ℕ, ◌+◌, ◌*◌, ◌/◌, ◌%◌, ◌^◌, ◌-◌, ◌<◌, ◌≤◌, IfSome};
 ghost use Rattle.study_board.specs.Men.{other_side};
 ghost use Rattle.study_board.specs.Position.{Position as Seen};
-ghost use Rattle.study_index.specs.Computed.{index_of};
-ghost use Rattle.study_index.specs.Number.{cells_of, listed_count, side_number};
+ghost use Rattle.study_values.specs.Index.{index_of};
+ghost use Rattle.study_values.specs.Number.{cells_of, listed_count, side_number};
 ghost use Rattle.study_index.specs.Decoded.{side_numbered};
 ghost use Rattle.study_index.specs.Moved.{IsMoved};
 ghost use Rattle.study_index.specs.LeastImage.{turned_by};
@@ -15,12 +15,13 @@ use crate::decoding::{head, slots};
 use crate::departure::{keeps_image, stands_in};
 use crate::least_image::{is_on_diagonal, least_image};
 use crate::moved::number_stepped;
-use crate::number::{EN_PASSANT_BIT, listed_count, place, side_number};
+use crate::number::{listed_count, place, side_number};
 use crate::reading::{class_has_pawn, has_like_men, side_told};
 use crate::row_way::{RowTerms, RowWay};
 use crate::stepped::{side_turned, square_told, square_weight};
 use study_board::Square;
 use study_material::Class;
+use study_values::EN_PASSANT_BIT;
 
 /// The numbers of a row, which differ in the square of the last man alone, and the square of one of their other men. What
 /// the rows after the man has moved have in common is found once.

@@ -1,6 +1,6 @@
 //! One square of a number replaced by another, with the other side to move.
 ghost use Rattle.std.specs.Prelude.{◌≡◌, ◌*◌, ◌^◌, ◌-◌, ◌<◌, ◌≤◌};
-ghost use Rattle.study_index.specs.Number.{listed_count};
+ghost use Rattle.study_values.specs.Number.{listed_count};
 ghost use Rattle.study_index.specs.Stepped.{square_weight, square_told};
 ghost use Rattle.study_index.specs.LeastImage.{turned_by, stepped_by};
 

@@ -11,8 +11,8 @@ use Rattle.study_board.proofs.Lists.{count_by-cons}
 use Rattle.study_moves.specs.declared.moves.Move.{Move}
 use Rattle.study_moves.specs.Rules.{after}
 use Rattle.study_moves.specs.Laws.{EachHasAtMostOneValue}
-use Rattle.study_retro.specs.declared.value.Value.{Value}
-use Rattle.study_retro.specs.Game.{IsValueOf}
+use Rattle.study_values.specs.declared.value.Value.{Value}
+use Rattle.study_values.specs.Game.{IsValueOf}
 use Rattle.study_moves.specs.LegalList.{legal_list}
 use Rattle.study_notation.specs.Matching.{same_promotion}
 use Rattle.study_moves.specs.Order.{move_place}

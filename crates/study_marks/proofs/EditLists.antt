@@ -14,7 +14,8 @@ use Rattle.study_marks.specs.declared.edit.Edit.TheVariants as edits
 use Rattle.study_marks.specs.Study.{plain_study, position_at}
 use Rattle.study_marks.specs.Queries.{asked_at, positions_asked, IsOutside, HasStopped, is_of_tables, counted_times}
 use Rattle.study_marks.specs.Edits.{Plainly, shifted, edited, edited_by, insert_refusal, shift_refusal}
-use Rattle.study_prober.specs.Values.{ProbeAnswer, SourceFault}
+use Rattle.study_values.specs.Values.{ProbeAnswer}
+use Rattle.study_values.specs.declared.fault.SourceFault.{SourceFault}
 use Rattle.study_marks.specs.Answers.{TellsFirstFault}
 use Rattle.study_marks.specs.EditLists.{StopsAtFault}
 use Rattle.study_tree.specs.Tree.{Plain}

@@ -6,7 +6,7 @@ use Rattle.std.proofs.lemmas.Bool.{eq-eqb, ne_eqb, lt-ltb, le-ltb}
 use Rattle.study_board.specs.Position.{Position}
 use Rattle.study_moves.specs.declared.moves.Move.{Move}
 use Rattle.study_moves.specs.Rules.{after}
-use Rattle.study_retro.specs.declared.value.Value.{Value}
+use Rattle.study_values.specs.declared.value.Value.{Value}
 use Rattle.study_tree.specs.Forest.{Forest, none, more, Twig}
 use Rattle.study_tree.specs.Edits.{node_in, width}
 use Rattle.study_tree.specs.Tree.{Spot, twig_spot}

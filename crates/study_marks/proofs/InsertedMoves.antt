@@ -13,8 +13,8 @@ use Rattle.study_tree.proofs.TreeDepth.{IsWithin-add_last}
 use Rattle.study_text.specs.Counts.{counted}
 use Rattle.study_tree.specs.Tree.{Plain, Spot, has_spot, spot_at, size_of, with_child}
 use Rattle.study_material.specs.declared.class.Class.{Class}
-use Rattle.study_prober.specs.declared.values.ProbeFault.{ProbeFault}
-use Rattle.study_prober.specs.declared.values.ProbeFault.TheVariants as probe
+use Rattle.study_values.specs.declared.values.ProbeFault.{ProbeFault}
+use Rattle.study_values.specs.declared.values.ProbeFault.TheVariants as probe
 use Rattle.study_marks.specs.declared.label.Label.{Label}
 use Rattle.study_marks.specs.declared.label.Told.{Told}
 use Rattle.study_marks.specs.declared.mark.Mark.{Mark}

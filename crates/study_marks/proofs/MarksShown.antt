@@ -7,8 +7,8 @@ use Rattle.study_board.proofs.Lists.{count_by-cons}
 use Rattle.study_board.specs.Position.{Position}
 use Rattle.study_moves.specs.declared.moves.Move.{Move}
 use Rattle.study_moves.specs.Rules.{after}
-use Rattle.study_retro.specs.declared.value.Value.{Value}
-use Rattle.study_retro.specs.declared.value.Value.TheVariants as values
+use Rattle.study_values.specs.declared.value.Value.{Value}
+use Rattle.study_values.specs.declared.value.Value.TheVariants as values
 use Rattle.study_tree.specs.Forest.{Forest, none, more}
 use Rattle.study_tree.specs.Edits.{with_last, add_last, place_edited, dropped_at, raised_at, second}
 use Rattle.study_marks.specs.declared.stipulation.Goal.{Goal}

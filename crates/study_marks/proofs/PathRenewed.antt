@@ -4,7 +4,7 @@ use Rattle.std.proofs.Common.{Some, None, refl, sym, ap, ◌∙◌, arith, zero,
 use Rattle.study_tree.specs.Forest.{Forest, none, more, Twig, nodes_in}
 use Rattle.study_tree.specs.Edits.{has_node, node_in, width}
 use Rattle.study_tree.specs.Tree.{Plain, Spot, spot_at, twig_spot, has_spot}
-use Rattle.study_retro.specs.declared.value.Value.{Value}
+use Rattle.study_values.specs.declared.value.Value.{Value}
 use Rattle.study_marks.specs.declared.mark.MoveMark.{MoveMark}
 use Rattle.study_marks.specs.declared.mark.MoveMark.TheVariants.{Only, Dual, Mistake, Idle, Reply}
 use Rattle.study_marks.specs.Marks.{own_faults}

@@ -6,8 +6,8 @@ use Rattle.std.specs.Prelude.{IfErr, IsErrAnd}
 use Rattle.study_board.specs.Position.{Position}
 use Rattle.study_material.specs.declared.class.Class.{Class}
 use Rattle.study_moves.specs.Rules.{is_legal, after}
-use Rattle.study_prober.specs.declared.values.ProbeFault.{ProbeFault}
-use Rattle.study_prober.specs.declared.values.ProbeFault.TheVariants as probe
+use Rattle.study_values.specs.declared.values.ProbeFault.{ProbeFault}
+use Rattle.study_values.specs.declared.values.ProbeFault.TheVariants as probe
 use Rattle.study_tree.specs.Forest.{Forest, none, more, Twig, nodes_in}
 use Rattle.study_tree.specs.Edits.{node_in, width}
 use Rattle.study_tree.specs.Tree.{Plain}

@@ -18,7 +18,8 @@ use Rattle.study_marks.specs.Queries.{is_of_tables, is_of_device, counted_times,
 use Rattle.study_marks.specs.Edits.{Plainly, shifted, edited, edit_refusal, insert_refusal, delete_refusal, promote_refusal, shift_refusal, tag_refusal}
 use Rattle.study_marks.specs.BenchState.{BenchState, marked, IsKeptRight, told_tree}
 use Rattle.study_marks.specs.Answers.{TellsFirstFault}
-use Rattle.study_prober.specs.Values.{ProbeAnswer, SourceFault}
+use Rattle.study_values.specs.Values.{ProbeAnswer}
+use Rattle.study_values.specs.declared.fault.SourceFault.{SourceFault}
 
 module _ {A : Type 0} where
   -- the positions whose values an edit of this study asks

@@ -5,9 +5,9 @@ use Rattle.study_moves.specs.Rules.{after}
 use Rattle.study_material.specs.declared.class.Class.{Class}
 use Rattle.study_material.specs.Class.{IsOf}
 use Rattle.study_moves.specs.LegalList.{legal_list}
-use Rattle.study_prober.specs.Values.{page_number}
-use Rattle.study_prober.specs.declared.values.ProbeFault.{ProbeFault}
-use Rattle.study_prober.specs.declared.values.ProbeFault.TheVariants as probe
+use Rattle.study_values.specs.Values.{page_number}
+use Rattle.study_values.specs.declared.values.ProbeFault.{ProbeFault}
+use Rattle.study_values.specs.declared.values.ProbeFault.TheVariants as probe
 use Rattle.study_tree.specs.Forest.{Forest, none, more}
 use Rattle.study_text.specs.Counts.{counted}
 use Rattle.study_marks.specs.declared.refusal.Refusal.{Refusal}

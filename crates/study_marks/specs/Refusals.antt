@@ -1,6 +1,6 @@
 -- How the refusal of an edit tells of a fault of a tree or of values.
-use Rattle.study_prober.specs.declared.values.ProbeFault.{ProbeFault}
-use Rattle.study_prober.specs.declared.values.ProbeFault.TheVariants as probe
+use Rattle.study_values.specs.declared.values.ProbeFault.{ProbeFault}
+use Rattle.study_values.specs.declared.values.ProbeFault.TheVariants as probe
 use Rattle.study_tree.specs.declared.fault.TreeFault.{TreeFault}
 use Rattle.study_tree.specs.declared.fault.TreeFault.TheVariants as tree
 use Rattle.study_marks.specs.declared.refusal.Refusal.{Refusal}

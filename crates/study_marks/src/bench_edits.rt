@@ -2,7 +2,7 @@
 ghost use Rattle.std.specs.Prelude.{◌≡◌, ◌+◌, ◌⊎◌, [], ◌∷◌, length, map, slice_set, OnOk, OnErr};
 ghost use Rattle.std.specs.Prelude.{IfOk, IfErr, IsOk, MatchOption, Some, None, Ok, Err, true};
 ghost use Rattle.study_material.specs.declared.class.Class.{Class as AClass};
-ghost use Rattle.study_prober.specs.Values.{SourceFault as ASourceFault};
+ghost use Rattle.study_values.specs.declared.fault.SourceFault.{SourceFault as ASourceFault};
 ghost use Rattle.study_moves.specs.Rules.{after};
 ghost use Rattle.study_tree.specs.Forest.{none};
 ghost use Rattle.study_tree.specs.Edits.{children_at};
@@ -38,8 +38,8 @@ use std::alloc::Allocator;
 use study_board::Position;
 use study_moves::{Move, played};
 use study_notation::Start;
-use study_prober::Values;
 use study_tree::{MAX_DEPTH, MAX_NODES, Path, Tree};
+use study_values::Values;
 
 impl<'a, A: Allocator> Bench<'a, A> {
     /// A study with the root alone, and no tag known.

@@ -3,19 +3,20 @@ ghost use Rattle.std.specs.Prelude.{◌≡◌, ◌+◌, ◌≤◌, true, List, l
 ghost use Rattle.std.specs.List.{All};
 ghost use Rattle.study_material.specs.declared.class.Class.{Class as AClass};
 ghost use Rattle.study_moves.specs.Rules.{is_legal, after};
-ghost use Rattle.study_retro.specs.declared.value.Value.{Value as AValue};
+ghost use Rattle.study_values.specs.declared.value.Value.{Value as AValue};
 ghost use Rattle.study_marks.specs.Annotated.{AreValuesAfter};
 ghost use Rattle.study_marks.specs.Tally.{tally_of, tallies_joined};
 ghost use Rattle.study_marks.specs.Queries.{asked_at, AreTablesHeld};
 ghost use Rattle.study_marks.specs.Told.{IsToldOf, IsUntold, WasAsked, failures_told};
-ghost use Rattle.study_prober.specs.Values.{IsNotDamage, SourceFault as ASourceFault};
+ghost use Rattle.study_values.specs.Values.{IsNotDamage};
+ghost use Rattle.study_values.specs.declared.fault.SourceFault.{SourceFault as ASourceFault};
 ghost use Rattle.study_marks.specs.Answers.{IsFirstFault, WereTold};
 
 use crate::label::Told;
 use crate::tally::Tally;
 use study_board::Position;
 use study_moves::{MAX_MOVES, Move, legal_moves, played};
-use study_prober::{ProbeFault, Values};
+use study_values::{ProbeFault, Values};
 
 /// Asks the values after these moves, and adds them to the tally.
 fn tally_moves<V: Values>(

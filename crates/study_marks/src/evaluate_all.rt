@@ -5,7 +5,8 @@ ghost use Rattle.study_tree.specs.Tree.{plain_tree};
 ghost use Rattle.study_marks.specs.declared.label.Told.{Told as ATold};
 ghost use Rattle.study_marks.specs.Study.{IsPlayable};
 ghost use Rattle.study_marks.specs.Queries.{asked_at, asked_below, AreTablesHeld, IsOutside, HasAsked, failures_after};
-ghost use Rattle.study_prober.specs.Values.{IsNotDamage, SourceFault as ASourceFault};
+ghost use Rattle.study_values.specs.Values.{IsNotDamage};
+ghost use Rattle.study_values.specs.declared.fault.SourceFault.{SourceFault as ASourceFault};
 ghost use Rattle.study_marks.specs.Answers.{IsUndamaged, WereTold, IsFirstFault, TellsFirstFault};
 ghost use Rattle.study_marks.specs.Told.{IsToldOf, AllAreTold, IsUntold, WasAsked, failures_told};
 ghost use Rattle.study_marks.specs.BenchState.{told_tree};
@@ -17,8 +18,8 @@ use crate::refusal::Refusal;
 use std::alloc::{AllocError, Allocator};
 use study_board::Position;
 use study_moves::played;
-use study_prober::{ProbeFault, Values};
 use study_tree::{Branch, Tree};
+use study_values::{ProbeFault, Values};
 
 /// Puts one more position last.
 fn push_position<'a, A: Allocator>(

@@ -12,7 +12,7 @@ use crate::stipulation::{Goal, MateMoves, Stipulation};
 use crate::tally::Tally;
 use study_board::Side;
 use study_moves::MAX_MOVES;
-use study_retro::Value;
+use study_values::Value;
 
 /// The goal, and whether the hero makes the first move.
 #[derive(Clone, Copy)]

@@ -3,8 +3,8 @@ ghost use Rattle.std.specs.Prelude.{◌≡◌};
 
 use std::alloc::Allocator;
 use study_material::Class;
-use study_prober::ProbeFault;
 use study_tree::{Path, TreeFault};
+use study_values::ProbeFault;
 
 /// Why an edit is refused, in the order in which the reasons are looked for.
 #[derive(Drop)]

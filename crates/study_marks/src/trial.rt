@@ -1,7 +1,7 @@
 //! The mark of a move that the tree need not have.
 ghost use Rattle.std.specs.Prelude.{◌≡◌, ◌≤◌, ◌∷◌, [], length, Some, Err, true, IsTrue, IsOk, IsErrOf, OnOk, IfOk, IfErr, MatchOption};
 ghost use Rattle.study_material.specs.declared.class.Class.{Class as AClass};
-ghost use Rattle.study_prober.specs.Values.{SourceFault as ASourceFault};
+ghost use Rattle.study_values.specs.declared.fault.SourceFault.{SourceFault as ASourceFault};
 ghost use Rattle.study_moves.specs.Rules.{is_legal, after};
 ghost use Rattle.study_tree.specs.Tree.{Spot, has_spot, spot_at};
 ghost use Rattle.study_marks.specs.declared.label.Label.{Label as ALabel};
@@ -20,9 +20,8 @@ use crate::replay::position_at as node_position;
 use std::alloc::Allocator;
 use study_board::Position;
 use study_moves::{Move, is_legal, played};
-use study_prober::Values;
-use study_retro::Value;
 use study_tree::{MAX_DEPTH, Path};
+use study_values::{Value, Values};
 
 impl<'a, A: Allocator> Bench<'a, A> {
     /// The value, the mark and the faults that a new node would show if this legal move were inserted below the node.

@@ -4,7 +4,7 @@ use Rattle.std.specs.Prelude.{MatchOption}
 use Rattle.std.proofs.lemmas.List.{append-nil}
 use Rattle.study_board.specs.Position.{Position}
 use Rattle.study_moves.specs.declared.moves.Move.{Move}
-use Rattle.study_retro.specs.declared.value.Value.{Value}
+use Rattle.study_values.specs.declared.value.Value.{Value}
 use Rattle.study_tree.specs.Tree.{spot_at}
 use Rattle.study_marks.specs.declared.mark_rules.Aim.{Aim}
 use Rattle.study_marks.specs.declared.mark.Mark.{Mark}

@@ -1,7 +1,7 @@
 -- The part of a page with the verdict.
 use Rattle.std.specs.Prelude.{ℕ, ◌==◌, Bool, List, [], ◌++◌, length, if◌then◌else◌, codes, decimal}
 use Rattle.study_board.specs.declared.men.Side.{Side}
-use Rattle.study_retro.specs.declared.value.Value.{Value}
+use Rattle.study_values.specs.declared.value.Value.{Value}
 use Rattle.study_marks.specs.declared.mark.Mark.{Mark}
 use Rattle.study_marks.specs.Study.{Study}
 use Rattle.study_marks.specs.Goals.{aim_of}

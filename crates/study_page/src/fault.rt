@@ -1,9 +1,9 @@
 //! Why nothing is written.
 
 use std::alloc::{AllocError, AllocFailed};
-use study_prober::ProbeFault;
 use study_review::ReviewFault;
 use study_text::DeviceFailed;
+use study_values::ProbeFault;
 use thiserror::Error;
 
 /// Why a part of the pages is not written, or not whole.

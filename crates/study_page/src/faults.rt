@@ -13,9 +13,9 @@ use study_html::{Element, Html, put_words};
 use study_moves::Move;
 use study_notation::Start;
 use study_pgn::{add_san, add_value};
-use study_retro::Value;
 use study_review::{Alternative, Continuation};
 use study_text::Text;
+use study_values::Value;
 
 fn add_lost<A: Allocator>(text: &mut Text<'_, A>, time: Option<u8>) -> Result<(), AllocError>
     ensures { OnOk result (text.new ≡ text.old ++ lost_words time) }

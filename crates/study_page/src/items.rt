@@ -19,9 +19,9 @@ use study_html::{Element, Html, put_words};
 use study_moves::{Move, legal_moves};
 use study_notation::Start;
 use study_pgn::{add_san, add_value};
-use study_retro::Value;
 use study_review::{Alternative, Continuation};
 use study_text::Text;
+use study_values::Value;
 
 #[tactic(auto, unfolding(crate::specs::Rows::loses_time))]
 pub fn loses_time() -> &'static [u8]

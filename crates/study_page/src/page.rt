@@ -4,7 +4,7 @@ ghost use Rattle.std.specs.Io.KnownBytes.{Appends};
 ghost use Rattle.study_text.specs.Taken.{TakesPrefix};
 ghost use Rattle.study_marks.specs.BenchState.{marked, IsKeptRight};
 ghost use Rattle.study_marks.specs.Study.{plain_study};
-ghost use Rattle.study_prober.specs.declared.values.ProbeFault.{ProbeFault as AProbeFault};
+ghost use Rattle.study_values.specs.declared.values.ProbeFault.{ProbeFault as AProbeFault};
 ghost use Rattle.study_review.specs.Asked.{within};
 ghost use Rattle.study_review.specs.Review.{HasReviewed};
 ghost use Rattle.study_html.specs.Markup.{IsWellNested};
@@ -23,9 +23,9 @@ use std::alloc::{AllocError, Allocator};
 use std::io::Write;
 use study_html::{Element, Html, put_words};
 use study_marks::Bench;
-use study_prober::Values;
 use study_review::ReviewFault;
 use study_text::{Text, write_text};
+use study_values::Values;
 
 /// What is made of the nodes, part by part.
 #[derive(Drop)]

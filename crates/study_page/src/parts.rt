@@ -26,13 +26,12 @@ use study_board::Position;
 use study_html::Html;
 use study_marks::{Bench, MoveMark};
 use study_notation::Start;
-use study_prober::Values;
-use study_retro::Value;
 use study_review::{
     Alternative, Continuation, Defence, Made, Node, Place, best_play, children_in, defences,
     drawing_moves, made_in, place_in, refutations, timed_alternatives, value_at,
 };
 use study_text::Text;
+use study_values::{Value, Values};
 
 /// The item of a dual.
 fn add_dual<'a, A: Allocator, V: Values>(

@@ -14,9 +14,9 @@ use study_html::{Element, Html, put_words};
 use study_moves::{legal_moves, played};
 use study_notation::Start;
 use study_pgn::add_san;
-use study_retro::Value;
 use study_review::{Continuation, add_move};
 use study_text::Text;
+use study_values::Value;
 
 fn is_white(side: Side) -> bool
     ensures { result ≡ is_white side }

@@ -12,9 +12,9 @@ use study_board::Side;
 use study_html::{Element, Html, put_words};
 use study_marks::{Bench, Mark, Stipulation};
 use study_pgn::{add_value, is_right, root_mark};
-use study_retro::Value;
 use study_review::is_empty;
 use study_text::Text;
+use study_values::Value;
 
 /// The verdict on a study: wrong, sound, or unsound with so many faults.
 #[derive(Clone, Copy)]

@@ -13,8 +13,8 @@ use crate::parts::{add_card, add_defences, add_end, add_fault, add_try};
 use std::alloc::Allocator;
 use study_html::Html;
 use study_marks::Bench;
-use study_prober::Values;
 use study_review::{count_at, place_in};
+use study_values::Values;
 
 /// A part of a page that has something of some nodes.
 #[derive(Clone, Copy)]

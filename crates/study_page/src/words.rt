@@ -10,9 +10,9 @@ use study_marks::Bench;
 use study_moves::Move;
 use study_notation::Start;
 use study_pgn::{add_san, move_dots};
-use study_retro::Value;
 use study_review::made_in;
 use study_text::Text;
+use study_values::Value;
 
 fn add_minus<A: Allocator>(text: &mut Text<'_, A>, minus: bool) -> Result<(), AllocError>
     ensures { OnOk result (text.new ≡ text.old ++ minus_where minus) }

@@ -7,14 +7,15 @@ use std::io::{LineWriter, Write};
 use std::process::ExitCode;
 use study_board::Side;
 use study_html::{Html, write_closing, write_opening};
-use study_index::cells;
 use study_marks::{Bench, Goal, MateMoves, Stipulation, TagName};
 use study_material::Class;
 use study_notation::{read_fen, read_san};
 use study_page::{add_entry, write_page, write_refusal, write_summary};
 use study_prober::WholeTables;
-use study_retro::{BuildRoom, TableSet, build};
+use study_retro::{BuildRoom, build};
+use study_table::TableSet;
 use study_tree::Path;
+use study_values::cells;
 
 /// The start of both studies.
 const START: &str = "k7/1R6/8/K7/8/8/8/8 w - - 0 1";

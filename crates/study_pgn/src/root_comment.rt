@@ -10,8 +10,8 @@ use crate::value_text::{add_value, side_name};
 use std::alloc::{AllocError, Allocator};
 use study_board::Side;
 use study_marks::{Goal, Mark, Stipulation, hero_loses, hero_mates};
-use study_retro::Value;
 use study_text::Text;
+use study_values::Value;
 
 fn add_goal<A: Allocator>(text: &mut Text<'_, A>, goal: Goal) -> Result<(), AllocError>
     ensures { OnOk result (text.new ≡ text.old ++ goal_text goal) }

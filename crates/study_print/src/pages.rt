@@ -10,8 +10,8 @@ use std::io::Write;
 use study_html::Html;
 use study_marks::Bench;
 use study_page::{PageFault, add_entry, write_page, write_refusal};
-use study_prober::Values;
 use study_report::{NotTold, Report, ReviewFault};
+use study_values::Values;
 
 /// How many studies were told.
 #[derive(Clone, Copy, Debug, PartialEq, Eq)]

@@ -5,15 +5,16 @@ use Rattle.std.proofs.Common.{replicate, get_or, refl, sym, ap, ◌∙◌, arith
 use Rattle.std.proofs.lemmas.List.{take_at, length-replicate, get_or-replicate, get_or_append_left, get_or-append_right, get_or-take, get_or-drop, get_or_past}
 use Rattle.std.proofs.lemmas.Bool.{cases_lt}
 use Rattle.study_material.specs.declared.class.Class.{Class}
-use Rattle.study_index.specs.Number.{cells_of}
-use Rattle.study_retro.specs.declared.value.Value.{Value}
-use Rattle.study_retro.specs.Cells.{value_of}
-use Rattle.study_retro.specs.Table.{Table, IsComplete}
-use Rattle.study_tablefile.specs.File.{fields_text, page_cells_of, page_digest, page_text, pages_of}
+use Rattle.study_values.specs.Number.{cells_of}
+use Rattle.study_values.specs.declared.value.Value.{Value}
+use Rattle.study_values.specs.Cells.{value_of}
+use Rattle.study_table.specs.Table.{Table, IsComplete}
+use Rattle.study_tablefile.specs.File.{fields_text, page_cells_of, page_digest, page_text}
+use Rattle.study_values.specs.Size.{pages_of}
 use Rattle.study_tablefile.specs.declared.source.Header.{Header}
 use Rattle.study_tablefile.specs.Source.{is_whole_page, page_of}
 use Rattle.study_tablefile.proofs.ReadAgain.{whole_again}
-use Rattle.study_prober.specs.declared.values.ProbeFault.{ProbeFault}
+use Rattle.study_values.specs.declared.values.ProbeFault.{ProbeFault}
 use Rattle.study_prober.specs.Sources.{IsHeaderOf, cells_on_page}
 
 -- zeros, and what is beyond them, read as 0

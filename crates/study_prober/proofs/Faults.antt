@@ -5,9 +5,9 @@ use Rattle.std.proofs.lemmas.Bool.Decides.{nat_tests}
 use Rattle.std.specs.Prelude.{Result, Ok, Err, Some, None, IfErr, IsErrAnd, IsErrOf, MatchOption}
 use Rattle.study_material.specs.declared.class.Class.{Class}
 use Rattle.study_material.specs.Class.{class_number}
-use Rattle.study_tablefile.specs.declared.fault.SourceFault.{SourceFault}
-use Rattle.study_tablefile.specs.declared.fault.SourceFault.TheVariants.{Device}
-use Rattle.study_tablefile.specs.declared.fault.FileFault.{FileFault}
+use Rattle.study_values.specs.declared.fault.SourceFault.{SourceFault}
+use Rattle.study_values.specs.declared.fault.SourceFault.TheVariants.{Device}
+use Rattle.study_values.specs.declared.fault.FileFault.{FileFault}
 use Rattle.study_tablefile.specs.declared.source.Header.{Header}
 use Rattle.study_tablefile.specs.Reading.{class_read}
 use Rattle.study_prober.specs.declared.fault.PagedFault.{PagedFault}

@@ -4,15 +4,15 @@ use Rattle.std.proofs.Common.{length, map, get_or, set, refl, sym, ap, ◌∙◌
 use Rattle.std.specs.Prelude.{Option, Some, is_some, Result, Ok, Err, IfOk, OnErr}
 use Rattle.std.proofs.lemmas.Bool.{false≢true}
 use Rattle.study_material.specs.declared.class.Class.{Class}
-use Rattle.study_retro.specs.declared.value.Value.{Value}
+use Rattle.study_values.specs.declared.value.Value.{Value}
 use Rattle.study_material.specs.Class.{class_number}
-use Rattle.study_retro.specs.Table.{Table}
-use Rattle.study_tablefile.specs.declared.fault.SourceFault.{SourceFault}
+use Rattle.study_table.specs.Table.{Table}
+use Rattle.study_values.specs.declared.fault.SourceFault.{SourceFault}
 use Rattle.study_tablefile.specs.declared.source.Header.{Header}
 use Rattle.study_tablefile.specs.Source.{Question, of_page, is_whole_page}
 use Rattle.study_prober.specs.declared.page_cache.PageKey.{PageKey}
 use Rattle.study_prober.specs.declared.open_table.OpenTable.{OpenTable}
-use Rattle.study_prober.specs.declared.values.ProbeFault.{ProbeFault}
+use Rattle.study_values.specs.declared.values.ProbeFault.{ProbeFault}
 use Rattle.study_prober.specs.Sources.{IsGivenPage, HasBadPage, IsReadFrom, GiveAlike}
 use Rattle.study_prober.specs.PagedTables.{held_of, places_for_classes, IsKept, AreGiven}
 use Rattle.study_prober.proofs.HeldSources.{held_either, held_placed, some_same}

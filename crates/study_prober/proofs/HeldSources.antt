@@ -6,8 +6,8 @@ use Rattle.std.proofs.lemmas.List.{get_or-set_same, get_or-set_other, length-set
 use Rattle.std.proofs.lemmas.Bool.{cases_lt, false≢true}
 use Rattle.study_material.specs.declared.class.Class.{Class}
 use Rattle.study_material.specs.Class.{class_number}
-use Rattle.study_retro.specs.Table.{Table}
-use Rattle.study_retro.proofs.SetLemmas.{class_number-injective}
+use Rattle.study_table.specs.Table.{Table}
+use Rattle.study_table.proofs.SetLemmas.{class_number-injective}
 use Rattle.study_prober.specs.declared.page_cache.PageKey.{PageKey}
 use Rattle.study_tablefile.specs.declared.source.Header.{Header}
 use Rattle.study_prober.specs.declared.open_table.OpenTable.{OpenTable}

@@ -7,13 +7,13 @@ use Rattle.std.proofs.lemmas.List.{set-get_or}
 use Rattle.std.proofs.lemmas.Map.Made.{lookup-map_values}
 use Rattle.lru.proofs.CallerLemmas.{Contains-lookup}
 use Rattle.study_material.specs.declared.class.Class.{Class}
-use Rattle.study_retro.specs.declared.value.Value.{Value}
-use Rattle.study_retro.specs.Cells.{value_of}
+use Rattle.study_values.specs.declared.value.Value.{Value}
+use Rattle.study_values.specs.Cells.{value_of}
 use Rattle.study_material.specs.Class.{class_number}
-use Rattle.study_retro.specs.Table.{Table}
+use Rattle.study_table.specs.Table.{Table}
 use Rattle.study_prober.specs.declared.page_cache.PageKey.{PageKey}
 use Rattle.study_prober.specs.declared.open_table.OpenTable.{OpenTable}
-use Rattle.study_prober.specs.declared.values.ProbeFault.{ProbeFault}
+use Rattle.study_values.specs.declared.values.ProbeFault.{ProbeFault}
 use Rattle.study_prober.specs.PageCache.{same_key, key_at, cell_at, kept_cell}
 use Rattle.study_prober.specs.PagedTables.{held_of, IsKept}
 use Rattle.study_prober.proofs.Keys.{same_key-is, keys_compared}

@@ -3,15 +3,15 @@ use Rattle.std.proofs.Common.{◌≡◌, ℕ, ◌/◌, ◌<◌, List, refl, sym,
 use Rattle.std.specs.Prelude.{Option, Some, None, Result, Ok, Err, IfOk, IfErr, IsErrOf}
 use Rattle.study_board.specs.Position.{Position}
 use Rattle.study_material.specs.Class.{IsOf}
-use Rattle.study_index.specs.Computed.{index_of}
-use Rattle.study_retro.specs.Table.{Table, IsComplete}
+use Rattle.study_values.specs.Index.{index_of}
+use Rattle.study_table.specs.Table.{Table, IsComplete}
 use Rattle.study_material.specs.declared.class.Class.{Class}
-use Rattle.study_tablefile.specs.declared.fault.SourceFault.{SourceFault}
+use Rattle.study_values.specs.declared.fault.SourceFault.{SourceFault}
 use Rattle.study_tablefile.specs.Source.{Question, of_page}
 use Rattle.study_prober.specs.declared.open_table.OpenTable.{OpenTable}
-use Rattle.study_prober.specs.declared.values.ProbeFault.TheVariants.{NoTable, TableRead, PageDamaged}
-use Rattle.study_prober.specs.Values.{ProbeAnswer, IsNotDamage}
-use Rattle.study_tablefile.specs.File.{pages_of}
+use Rattle.study_values.specs.declared.values.ProbeFault.TheVariants.{NoTable, TableRead, PageDamaged}
+use Rattle.study_values.specs.Values.{ProbeAnswer, IsNotDamage}
+use Rattle.study_values.specs.Size.{pages_of}
 use Rattle.study_prober.specs.Sources.{GivesOf, GiveAlike, HonestOf, HasBadPage, IsReadFrom}
 use Rattle.study_prober.specs.PagedTables.{IsHeldAnswer, IsSameSource, MayFail, SourcesAreRight, held_of}
 use Rattle.study_prober.proofs.HeldSources.{some_none}

@@ -4,21 +4,21 @@ use Rattle.std.specs.Prelude.{Option, Some, Result, Ok, Err, IfOk, IsErrOf}
 use Rattle.study_board.specs.Position.{Position, IsValid}
 use Rattle.study_material.specs.declared.class.Class.{Class}
 use Rattle.study_material.specs.Class.{IsOf}
-use Rattle.study_index.specs.Number.{IsIndex, cells_of}
-use Rattle.study_index.specs.Computed.{index_of}
+use Rattle.study_values.specs.Number.{IsIndex, cells_of}
+use Rattle.study_values.specs.Index.{index_of}
 use Rattle.study_index.proofs.ClassLaws.{below, numbered}
-use Rattle.study_retro.specs.declared.value.Value.{Value}
-use Rattle.study_retro.specs.Cells.{value_of}
-use Rattle.study_retro.specs.Game.{IsValueOf}
-use Rattle.study_retro.specs.Sound.{IsRight}
+use Rattle.study_values.specs.declared.value.Value.{Value}
+use Rattle.study_values.specs.Cells.{value_of}
+use Rattle.study_values.specs.Game.{IsValueOf}
+use Rattle.study_table.specs.Sound.{IsRight}
 use Rattle.study_material.specs.Class.{class_number}
-use Rattle.study_retro.specs.Table.{Table, IsComplete}
-use Rattle.study_retro.proofs.SoundLemmas.{at_value}
+use Rattle.study_table.specs.Table.{Table, IsComplete}
+use Rattle.study_table.proofs.SoundLemmas.{at_value}
 use Rattle.study_tablefile.specs.declared.source.Header.{Header}
 use Rattle.study_prober.specs.declared.page_cache.PageKey.{PageKey}
 use Rattle.study_prober.specs.declared.open_table.OpenTable.{OpenTable}
-use Rattle.study_prober.specs.declared.values.ProbeFault.{ProbeFault}
-use Rattle.study_prober.specs.declared.values.ProbeFault.TheVariants.{PageDamaged}
+use Rattle.study_values.specs.declared.values.ProbeFault.{ProbeFault}
+use Rattle.study_values.specs.declared.values.ProbeFault.TheVariants.{PageDamaged}
 use Rattle.study_prober.specs.Sources.{IsHeaderOf, AreOf}
 use Rattle.study_prober.specs.PagedTables.{held_of, IsKept, SourcesAreRight}
 use Rattle.study_prober.proofs.HeldSources.{held_same, some_same}

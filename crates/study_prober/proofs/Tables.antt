@@ -8,15 +8,15 @@ use Rattle.study_board.specs.Position.{Position}
 use Rattle.study_material.specs.declared.class.Class.{Class}
 use Rattle.study_material.specs.Class.{IsOf}
 use Rattle.study_material.proofs.Classes.{lists_of-injective}
-use Rattle.study_retro.specs.declared.value.Value.{Value}
+use Rattle.study_values.specs.declared.value.Value.{Value}
 use Rattle.study_material.specs.Class.{class_number}
-use Rattle.study_retro.specs.Table.{Table, table_of, IsClosed}
-use Rattle.study_retro.specs.Sound.{IsRight}
-use Rattle.study_prober.specs.Values.{ProbeAnswer}
+use Rattle.study_table.specs.Table.{Table, table_of, IsClosed}
+use Rattle.study_table.specs.Sound.{IsRight}
+use Rattle.study_values.specs.Values.{ProbeAnswer}
 use Rattle.study_prober.specs.WholeTables.{TablesAreRight, IsCellAnswer, cell_answer}
 use Rattle.study_prober.proofs.HeldSources.{same_class}
-use Rattle.study_prober.specs.declared.values.ProbeFault.{ProbeFault}
-use Rattle.study_prober.specs.declared.values.ProbeFault.TheVariants.{NoTable}
+use Rattle.study_values.specs.declared.values.ProbeFault.{ProbeFault}
+use Rattle.study_values.specs.declared.values.ProbeFault.TheVariants.{NoTable}
 
 pub one_class : (c d : Class) (p : Position) → IsOf c p → IsOf d p → c ≡ d
 one_class c d p h k = lists_of-injective c d (h ∙ sym k)

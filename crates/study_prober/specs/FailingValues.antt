@@ -3,10 +3,10 @@ use Rattle.std.specs.Prelude.{◌≡◌, Bool, true, Some, Err}
 use Rattle.study_board.specs.Position.{Position}
 use Rattle.study_material.specs.declared.class.Class.{Class}
 use Rattle.study_material.specs.Class.{IsOf}
-use Rattle.study_tablefile.specs.declared.fault.SourceFault.TheVariants.{Device}
-use Rattle.study_prober.specs.Values.{ProbeAnswer}
+use Rattle.study_values.specs.declared.fault.SourceFault.TheVariants.{Device}
+use Rattle.study_values.specs.Values.{ProbeAnswer}
 use Rattle.study_prober.specs.declared.failing_values.FailingValues.{FailingValues}
-use Rattle.study_prober.specs.declared.values.ProbeFault.TheVariants.{TableRead}
+use Rattle.study_values.specs.declared.values.ProbeFault.TheVariants.{TableRead}
 
 -- the question that is asked next is the one that fails, and a table of the position's class is held
 pub record FailsNext {V : Type 0} (held : V → Class → Bool) (w : FailingValues V) (p : Position) : Type 0 where

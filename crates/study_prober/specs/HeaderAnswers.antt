@@ -2,9 +2,9 @@
 use Rattle.std.specs.Prelude.{◌≡◌, ℕ, ◌==◌, List, Bool, true, false, ⊤, Option, Some, None, Result, Ok, Err, IfErr, IsErrOf, MatchOption, if◌then◌else◌}
 use Rattle.study_material.specs.declared.class.Class.{Class}
 use Rattle.study_material.specs.Class.{class_number}
-use Rattle.study_retro.specs.Table.{Table}
-use Rattle.study_tablefile.specs.declared.fault.SourceFault.{SourceFault}
-use Rattle.study_tablefile.specs.declared.fault.FileFault.{FileFault}
+use Rattle.study_table.specs.Table.{Table}
+use Rattle.study_values.specs.declared.fault.SourceFault.{SourceFault}
+use Rattle.study_values.specs.declared.fault.FileFault.{FileFault}
 use Rattle.study_tablefile.specs.declared.source.Header.{Header}
 use Rattle.study_text.specs.Counts.{counted}
 use Rattle.study_tablefile.specs.Source.{of_header}

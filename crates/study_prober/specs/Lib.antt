@@ -1,4 +1,3 @@
-pub mod Values
 pub mod WholeTables
 pub mod Sources
 pub mod PagedTables

@@ -4,19 +4,19 @@ use Rattle.std.specs.Prelude.{Contains, true, ⊤, Option, Some, None, is_some, 
 use Rattle.study_board.specs.Position.{Position}
 use Rattle.study_material.specs.declared.class.Class.{Class}
 use Rattle.study_material.specs.Class.{IsOf}
-use Rattle.study_index.specs.Computed.{index_of}
-use Rattle.study_retro.specs.Cells.{value_of}
+use Rattle.study_values.specs.Index.{index_of}
+use Rattle.study_values.specs.Cells.{value_of}
 use Rattle.study_material.specs.Class.{class_number}
-use Rattle.study_retro.specs.Table.{Table}
-use Rattle.study_tablefile.specs.declared.fault.SourceFault.{SourceFault}
-use Rattle.study_tablefile.specs.File.{pages_of}
+use Rattle.study_table.specs.Table.{Table}
+use Rattle.study_values.specs.declared.fault.SourceFault.{SourceFault}
+use Rattle.study_values.specs.Size.{pages_of}
 use Rattle.study_tablefile.specs.Source.{of_page}
 use Rattle.study_prober.specs.declared.page_cache.PageKey.{PageKey}
 use Rattle.study_prober.specs.declared.open_table.OpenTable.{OpenTable}
 use Rattle.study_prober.specs.Sources.{GivesOf, HonestOf, IsHeaderOf, IsGivenPage, IsAnswerFrom, AreOf, GivesRight, AreHonestAlike}
 use Rattle.study_prober.specs.PageCache.{key_at}
-use Rattle.study_prober.specs.Values.{ProbeAnswer}
-use Rattle.study_prober.specs.declared.values.ProbeFault.TheVariants.{NoTable}
+use Rattle.study_values.specs.Values.{ProbeAnswer}
+use Rattle.study_values.specs.declared.values.ProbeFault.TheVariants.{NoTable}
 
 -- the sources, each at the place of its class, the pages that are kept, the last used first, and how many there may be
 pub record Paged (S : Type 0) : Type 0 where

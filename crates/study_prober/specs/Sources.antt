@@ -1,21 +1,21 @@
 -- Sources of pages, and the cells of their tables' pages.
 use Rattle.std.specs.Prelude.{◌≡◌, ◌⊎◌, ℕ, ◌*◌, ◌/◌, ◌%◌, List, slice_index, take, drop, Contains, Bool, true, false, Result, Ok, Err, if◌then◌else◌}
 use Rattle.study_material.specs.declared.class.Class.{Class}
-use Rattle.study_index.specs.Number.{cells_of}
-use Rattle.study_retro.specs.Table.{Table, IsComplete}
-use Rattle.study_retro.specs.Sound.{IsRight}
-use Rattle.study_retro.specs.Cells.{value_of}
-use Rattle.study_retro.specs.declared.value.Value.{Value}
+use Rattle.study_values.specs.Number.{cells_of}
+use Rattle.study_table.specs.Table.{Table, IsComplete}
+use Rattle.study_table.specs.Sound.{IsRight}
+use Rattle.study_values.specs.Cells.{value_of}
+use Rattle.study_values.specs.declared.value.Value.{Value}
 use Rattle.study_tablefile.specs.declared.source.Header.{Header}
 use Rattle.study_tablefile.specs.File.{IsVersionOf, fields_text, page_cells_of}
-use Rattle.study_tablefile.specs.declared.fault.SourceFault.{SourceFault}
+use Rattle.study_values.specs.declared.fault.SourceFault.{SourceFault}
 use Rattle.study_text.specs.Counts.{counted}
 use Rattle.study_tablefile.specs.Source.{is_whole_page, Question, of_page}
 use Rattle.study_prober.specs.declared.open_table.OpenTable.{OpenTable}
 use Rattle.study_prober.specs.declared.page_cache.PageKey.{PageKey}
-use Rattle.study_prober.specs.Values.{ProbeAnswer}
-use Rattle.study_prober.specs.declared.values.ProbeFault.{ProbeFault}
-use Rattle.study_prober.specs.declared.values.ProbeFault.TheVariants.{NoTable, TableRead, PageDamaged}
+use Rattle.study_values.specs.Values.{ProbeAnswer}
+use Rattle.study_values.specs.declared.values.ProbeFault.{ProbeFault}
+use Rattle.study_values.specs.declared.values.ProbeFault.TheVariants.{NoTable, TableRead, PageDamaged}
 
 -- the header of a class
 pub record IsHeaderOf (h : Header) (c : Class) : Type 0 where

@@ -3,12 +3,12 @@ use Rattle.std.specs.Prelude.{◌≡◌, ℕ, List, slice_index, Option, Some, N
 use Rattle.study_board.specs.Position.{Position}
 use Rattle.study_material.specs.declared.class.Class.{Class}
 use Rattle.study_material.specs.Class.{IsOf}
-use Rattle.study_index.specs.Computed.{index_of}
-use Rattle.study_retro.specs.Cells.{value_of}
-use Rattle.study_retro.specs.Table.{Table, table_of}
-use Rattle.study_retro.specs.Sound.{IsRight}
-use Rattle.study_prober.specs.Values.{ProbeAnswer}
-use Rattle.study_prober.specs.declared.values.ProbeFault.TheVariants.{NoTable}
+use Rattle.study_values.specs.Index.{index_of}
+use Rattle.study_values.specs.Cells.{value_of}
+use Rattle.study_table.specs.Table.{Table, table_of}
+use Rattle.study_table.specs.Sound.{IsRight}
+use Rattle.study_values.specs.Values.{ProbeAnswer}
+use Rattle.study_values.specs.declared.values.ProbeFault.TheVariants.{NoTable}
 
 -- the tables that are held, and how often a value was asked
 pub record Whole : Type 0 where

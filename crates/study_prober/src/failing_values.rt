@@ -2,17 +2,15 @@
 ghost use Rattle.std.specs.Prelude.{◌≡◌, ◌↔◌, ◌⊎◌, ℕ, Some, Err, false, IfOk, IfErr, IsErrOf};
 ghost use Rattle.study_material.specs.declared.class.Class.{Class as AClass};
 ghost use Rattle.study_material.specs.Class.{IsOf};
-ghost use Rattle.study_retro.specs.Game.{IsValueOf};
+ghost use Rattle.study_values.specs.Game.{IsValueOf};
 ghost use Rattle.study_text.specs.Counts.{counted};
-ghost use Rattle.study_tablefile.specs.declared.fault.SourceFault.{SourceFault as ASourceFault};
-ghost use Rattle.study_tablefile.specs.declared.fault.SourceFault.TheVariants.{Device};
-ghost use Rattle.study_prober.specs.Values.{IsNotDamage, faults_after, page_number};
+ghost use Rattle.study_values.specs.declared.fault.SourceFault.{SourceFault as ASourceFault};
+ghost use Rattle.study_values.specs.declared.fault.SourceFault.TheVariants.{Device};
+ghost use Rattle.study_values.specs.Values.{IsNotDamage, faults_after, page_number};
 
-use crate::values::{ProbeFault, Values, failures_after};
 use study_board::Position;
 use study_material::{Class, class_of};
-use study_retro::Value;
-use study_tablefile::SourceFault;
+use study_values::{ProbeFault, SourceFault, Value, Values, failures_after};
 
 /// The values of another source, but for one question, at which the device of the table fails.
 #[derive(Drop)]

@@ -2,7 +2,7 @@
 
 use std::alloc::AllocError;
 use study_material::Class;
-use study_tablefile::{FileFault, SourceFault};
+use study_values::{FileFault, SourceFault};
 use thiserror::Error;
 
 /// Why a source of pages is not held. Faults are in the order in which they are told.

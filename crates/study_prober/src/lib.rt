@@ -13,12 +13,10 @@ mod fault;
 mod open_table;
 mod page_cache;
 mod paged_tables;
-mod values;
 mod whole_tables;
 
 pub use failing_values::FailingValues;
 pub use fault::PagedFault;
 pub use paged_tables::PagedTables;
-pub use study_tablefile::SourceFault;
-pub use values::{ProbeFault, Values};
+pub use study_values::{ProbeFault, SourceFault, Values};
 pub use whole_tables::WholeTables;

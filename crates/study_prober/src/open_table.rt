@@ -2,11 +2,12 @@
 ghost use Rattle.std.specs.Prelude.{◌≡◌, ◌<◌, ◌/◌, ℕ, List, Result, Err, None, IfOk, OnOk, OnErr, IsErrOf, Contains, slice_index, take};
 ghost use Rattle.study_material.specs.declared.class.Class.{Class as AClass};
 ghost use Rattle.study_text.specs.Counts.{counted};
-ghost use Rattle.study_retro.specs.Cells.{value_of};
-ghost use Rattle.study_retro.specs.Table.{Table as Seen, IsComplete};
-ghost use Rattle.study_index.specs.Number.{cells_of};
-ghost use Rattle.study_tablefile.specs.declared.fault.SourceFault.{SourceFault as ASourceFault};
-ghost use Rattle.study_tablefile.specs.File.{IsVersionOf, pages_of};
+ghost use Rattle.study_values.specs.Cells.{value_of};
+ghost use Rattle.study_table.specs.Table.{Table as Seen, IsComplete};
+ghost use Rattle.study_values.specs.Number.{cells_of};
+ghost use Rattle.study_values.specs.declared.fault.SourceFault.{SourceFault as ASourceFault};
+ghost use Rattle.study_tablefile.specs.File.{IsVersionOf};
+ghost use Rattle.study_values.specs.Size.{pages_of};
 ghost use Rattle.study_tablefile.specs.Source.{page_of, of_page};
 ghost use Rattle.study_prober.specs.PageCache.{kept_cell};
 ghost use Rattle.study_prober.specs.PagedTables.{IsPageFor, IsToldAgain};
@@ -16,12 +17,9 @@ ghost use Rattle.study_prober.specs.HeaderAnswers.{MayAnswer, IsHonestHeader, Is
 
 use crate::fault::PagedFault;
 use crate::page_cache::{PageKey, Pages, cache_page, cached_cell, page_key};
-use crate::values::ProbeFault;
 use std::alloc::Allocator;
-use study_retro::{Value, value_at};
-use study_tablefile::{
-    HEADER_BYTES, Header, PAGE_BYTES, PAGE_CELLS, PageSource, page_cells, read_header,
-};
+use study_tablefile::{Header, PageSource, page_cells, read_header};
+use study_values::{HEADER_BYTES, PAGE_BYTES, PAGE_CELLS, ProbeFault, Value, value_at};
 
 /// A source of pages, and what its header says.
 #[derive(Drop)]

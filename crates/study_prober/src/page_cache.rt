@@ -8,7 +8,7 @@ use lru::{DefaultHasher, LruCache};
 use std::alloc::{AllocError, Allocator};
 use std::hash::{Hash, Hasher};
 use study_material::Class;
-use study_tablefile::{PAGE_BYTES, PAGE_CELLS};
+use study_values::{PAGE_BYTES, PAGE_CELLS};
 
 /// Which page of which class.
 #[derive(Clone, Copy, Debug, PartialEq, Eq)]

@@ -4,29 +4,29 @@ ghost use Rattle.std.specs.Prelude.{None, Ok, Err, true, false, is_some, IfOk, I
 ghost use Rattle.std.specs.Prelude.{IsErrOf, length, slice_index, slice_set, replicate};
 ghost use Rattle.study_material.specs.declared.class.Class.{Class as AClass};
 ghost use Rattle.study_material.specs.Class.{IsOf};
-ghost use Rattle.study_index.specs.Computed.{index_of};
-ghost use Rattle.study_retro.specs.Cells.{value_of};
-ghost use Rattle.study_retro.specs.Game.{IsValueOf};
+ghost use Rattle.study_values.specs.Index.{index_of};
+ghost use Rattle.study_values.specs.Cells.{value_of};
+ghost use Rattle.study_values.specs.Game.{IsValueOf};
 ghost use Rattle.study_material.specs.Class.{class_number};
-ghost use Rattle.study_retro.specs.Table.{Table as Seen, IsComplete};
+ghost use Rattle.study_table.specs.Table.{Table as Seen, IsComplete};
 ghost use Rattle.study_text.specs.Counts.{counted};
 ghost use Rattle.study_tablefile.specs.Source.{of_page};
-ghost use Rattle.study_tablefile.specs.File.{IsVersionOf, pages_of};
-ghost use Rattle.study_tablefile.specs.declared.fault.FileFault.{FileFault as AFileFault};
-ghost use Rattle.study_tablefile.specs.declared.fault.SourceFault.{SourceFault as ASourceFault};
+ghost use Rattle.study_tablefile.specs.File.{IsVersionOf};
+ghost use Rattle.study_values.specs.Size.{pages_of};
+ghost use Rattle.study_values.specs.declared.fault.FileFault.{FileFault as AFileFault};
+ghost use Rattle.study_values.specs.declared.fault.SourceFault.{SourceFault as ASourceFault};
 ghost use Rattle.study_prober.specs.PageCache.{kept_cell};
 ghost use Rattle.study_prober.specs.declared.open_table.OpenTable.{OpenTable as AHeld};
 ghost use Rattle.study_prober.specs.Sources.{AreHonestAlike, GiveAlike, HasBadPage, IsReadFrom, GivesRight};
 ghost use Rattle.study_prober.specs.Sources.{IsHeaderOf, PutsNone, PutsOnly, failed_after};
 ghost use Rattle.study_prober.specs.PagedTables.{SourcesAreRight, AreGiven, IsKept, IsPageFor, IsPagedAnswer, IsSameSource, IsToldAgain, MayFail, held_of};
 ghost use Rattle.study_prober.specs.PagedTables.{places_for_classes};
-ghost use Rattle.study_prober.specs.Values.{IsNotDamage, faults_after, page_number};
+ghost use Rattle.study_values.specs.Values.{IsNotDamage, faults_after, page_number};
 ghost use Rattle.study_prober.specs.HeaderAnswers.{IsRefusedBy, MayAnswer, paged_fault};
 
 use crate::fault::PagedFault;
 use crate::open_table::{OpenTable, header_of, value_of_number};
 use crate::page_cache::Pages;
-use crate::values::{ProbeFault, Values, failures_after};
 use lru::LruCache;
 use std::alloc::{AllocError, Allocator};
 use std::marker::Model;
@@ -34,8 +34,8 @@ use std::num::NonZeroUsize;
 use study_board::Position;
 use study_index::index;
 use study_material::{CLASS_COUNT, Class, class_of};
-use study_retro::Value;
 use study_tablefile::PageSource;
+use study_values::{ProbeFault, Value, Values, failures_after};
 
 /// Tables whose pages are read as they are asked, and the pages that were used last.
 #[derive(Drop)]

@@ -3,24 +3,24 @@ ghost use Rattle.std.specs.Prelude.{◌≡◌, ◌↔◌, ℕ, false, is_some, S
 ghost use Rattle.std.specs.Prelude.{IsErrAnd, IsErrOf, MatchOption, slice_index, slice_set};
 ghost use Rattle.study_material.specs.declared.class.Class.{Class as AClass};
 ghost use Rattle.study_material.specs.Class.{IsOf};
-ghost use Rattle.study_index.specs.Computed.{index_of};
-ghost use Rattle.study_retro.specs.Cells.{value_of};
-ghost use Rattle.study_retro.specs.Game.{IsValueOf};
+ghost use Rattle.study_values.specs.Index.{index_of};
+ghost use Rattle.study_values.specs.Cells.{value_of};
+ghost use Rattle.study_values.specs.Game.{IsValueOf};
 ghost use Rattle.study_material.specs.Class.{class_number};
-ghost use Rattle.study_retro.specs.Table.{Table as Seen, table_of};
-ghost use Rattle.study_retro.specs.TableSet.{add_fault};
-ghost use Rattle.study_retro.specs.Sound.{IsRight};
+ghost use Rattle.study_table.specs.Table.{Table as Seen, table_of};
+ghost use Rattle.study_table.specs.TableSet.{add_fault};
+ghost use Rattle.study_table.specs.Sound.{IsRight};
 ghost use Rattle.study_text.specs.Counts.{counted};
-ghost use Rattle.study_tablefile.specs.declared.fault.SourceFault.{SourceFault as ASourceFault};
-ghost use Rattle.study_prober.specs.Values.{IsNotDamage, faults_after, page_number};
+ghost use Rattle.study_values.specs.declared.fault.SourceFault.{SourceFault as ASourceFault};
+ghost use Rattle.study_values.specs.Values.{IsNotDamage, faults_after, page_number};
 ghost use Rattle.study_prober.specs.WholeTables.{TablesAreRight, IsCellAnswer, Whole};
 
-use crate::values::{ProbeFault, Values};
 use std::alloc::Allocator;
 use std::marker::Model;
 use study_board::Position;
 use study_material::{Class, class_of};
-use study_retro::{AddRefused, Table, TableSet, Value};
+use study_table::{AddRefused, Table, TableSet};
+use study_values::{ProbeFault, Value, Values};
 
 /// Tables in memory.
 #[derive(Drop)]

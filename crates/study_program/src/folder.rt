@@ -2,7 +2,7 @@
 ghost use Rattle.std.specs.Prelude.{⊤, ◌≡◌, true, None, OnOk, OnErr, vec_len, length, ◌⊎◌, IfErr};
 ghost use Rattle.std.specs.Io.KnownBytes.{Consumes};
 ghost use Rattle.study_tablefile.specs.Reading.{IsShort};
-ghost use Rattle.study_tablefile.specs.declared.fault.SourceFault.TheVariants.{Device, Short};
+ghost use Rattle.study_values.specs.declared.fault.SourceFault.TheVariants.{Device, Short};
 ghost use Rattle.study_text.specs.Counts.{counted};
 
 use std::alloc::{AllocError, Allocator};
@@ -11,7 +11,8 @@ use std::rt::Files;
 use std::{fs, io};
 use study_material::{CLASS_COUNT, Class};
 use study_script::{StoreFault, TableStore};
-use study_tablefile::{HEADER_BYTES, PAGE_BYTES, PageSource, SourceFault};
+use study_tablefile::PageSource;
+use study_values::{HEADER_BYTES, PAGE_BYTES, SourceFault};
 
 /// The files of tables in a folder. The room for their names is taken once.
 #[derive(Drop)]

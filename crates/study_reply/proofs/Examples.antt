@@ -5,9 +5,9 @@ use Rattle.std.specs.Fmt.{digits}
 use Rattle.study_board.specs.declared.men.Side.TheVariants.{White}
 use Rattle.study_material.specs.declared.class.Class.TheVariants.{KK, KQK, KRK}
 use Rattle.study_material.specs.Class.{name_of}
-use Rattle.study_retro.specs.declared.value.Value.TheVariants.{Win, Loss}
+use Rattle.study_values.specs.declared.value.Value.TheVariants.{Win, Loss}
 use Rattle.study_text.specs.Words.{words}
-use Rattle.study_tablefile.specs.declared.fault.FileFault.TheVariants.{Version}
+use Rattle.study_values.specs.declared.fault.FileFault.TheVariants.{Version}
 use Rattle.study_marks.specs.declared.mark.MoveMark.TheVariants.{Dual}
 use Rattle.study_marks.specs.declared.stipulation.Goal.TheVariants.{MateIn}
 use Rattle.study_reply.specs.declared.refusal.Refusal.TheVariants.{NoTable, AlreadyThere, File, TableReadPage}

@@ -5,11 +5,11 @@ use Rattle.study_notation.specs.declared.fault.FenFault.{FenFault}
 use Rattle.study_notation.specs.declared.fault.FenFault.TheVariants as fen
 use Rattle.study_notation.specs.declared.fault.SanFault.{SanFault}
 use Rattle.study_notation.specs.declared.fault.SanFault.TheVariants as san
-use Rattle.study_tablefile.specs.declared.fault.FileFault.{FileFault}
-use Rattle.study_tablefile.specs.declared.fault.FileFault.TheVariants as file
-use Rattle.study_tablefile.specs.declared.fault.SourceFault.TheVariants as source
-use Rattle.study_prober.specs.declared.values.ProbeFault.{ProbeFault}
-use Rattle.study_prober.specs.declared.values.ProbeFault.TheVariants as probe
+use Rattle.study_values.specs.declared.fault.FileFault.{FileFault}
+use Rattle.study_values.specs.declared.fault.FileFault.TheVariants as file
+use Rattle.study_values.specs.declared.fault.SourceFault.TheVariants as source
+use Rattle.study_values.specs.declared.values.ProbeFault.{ProbeFault}
+use Rattle.study_values.specs.declared.values.ProbeFault.TheVariants as probe
 use Rattle.study_command.specs.declared.command.SyntaxFault.{SyntaxFault}
 use Rattle.study_command.specs.declared.command.SyntaxFault.TheVariants as form
 use Rattle.study_tree.specs.Paths.{path_text}

@@ -1,7 +1,7 @@
 -- What the commands of a class come to, in the words of a reply.
 use Rattle.std.specs.Prelude.{◌+◌, ◌*◌, ℕ, true, false, List, ◌++◌, Result, Ok, Err, codes}
 use Rattle.study_material.specs.Class.{name_of}
-use Rattle.study_tablefile.specs.File.{pages_of}
+use Rattle.study_values.specs.Size.{pages_of}
 use Rattle.study_reply.specs.declared.table_reply.TableReply.{TableReply}
 use Rattle.study_reply.specs.declared.table_reply.TableReply.TheVariants.{Built, Loaded, Saved, Verified}
 use Rattle.study_reply.specs.declared.refusal.Refusal.{Refusal}

@@ -5,9 +5,9 @@ use Rattle.study_board.specs.Position.{Position, in_check}
 use Rattle.study_moves.specs.declared.moves.Move.{Move}
 use Rattle.study_material.specs.declared.class.Class.{Class}
 use Rattle.study_material.specs.Class.{name_of}
-use Rattle.study_index.specs.Number.{cells_of}
-use Rattle.study_retro.specs.declared.value.Value.{Value}
-use Rattle.study_retro.specs.declared.value.Value.TheVariants as value
+use Rattle.study_values.specs.Number.{cells_of}
+use Rattle.study_values.specs.declared.value.Value.{Value}
+use Rattle.study_values.specs.declared.value.Value.TheVariants as value
 use Rattle.study_moves.specs.LegalList.{legal_list}
 use Rattle.study_notation.specs.Written.{move_text}
 use Rattle.study_marks.specs.declared.stipulation.Goal.{Goal}

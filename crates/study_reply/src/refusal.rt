@@ -5,7 +5,7 @@ ghost use Rattle.study_reply.specs.Names.{fen_name, san_name, form_name, file_na
 use study_command::SyntaxFault;
 use study_material::Class;
 use study_notation::{FenFault, SanFault};
-use study_tablefile::{FileFault, SourceFault};
+use study_values::{FileFault, SourceFault};
 
 /// Why a line is refused. The path of a broken shift is told apart.
 #[derive(Clone, Copy, Debug, PartialEq, Eq)]

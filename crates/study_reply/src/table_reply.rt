@@ -9,10 +9,9 @@ ghost use Rattle.study_reply.specs.TableReply.{table_text};
 use crate::words::put_line;
 use itoa::Buffer;
 use std::io::Write;
-use study_index::cells;
 use study_material::Class;
-use study_tablefile::file_bytes;
 use study_text::{DeviceFailed, write_text};
+use study_values::{cells, file_size};
 
 /// What a command of a class did.
 #[derive(Clone, Copy, Debug, PartialEq, Eq)]
@@ -33,7 +32,7 @@ pub fn put_table_reply<W: Write>(out: &mut W, reply: TableReply) -> Result<(), D
     match reply {
         TableReply::Built(class, win) => put_built(out, class, win),
         TableReply::Loaded(class) => put_size(out, b"loaded ", class, b" cells ", cells(class)),
-        TableReply::Saved(class) => put_size(out, b"saved ", class, b" bytes ", file_bytes(class)),
+        TableReply::Saved(class) => put_size(out, b"saved ", class, b" bytes ", file_size(class)),
         TableReply::Verified(class, right) => put_verdict(out, class, right),
     }
 }

@@ -22,9 +22,8 @@ use study_board::{Position, Side};
 use study_marks::{Goal, Mark, MoveMark, Refusal as EditRefusal, Stipulation};
 use study_moves::{Move, in_check, legal_moves};
 use study_notation::write_san;
-use study_prober::ProbeFault;
-use study_retro::Value;
 use study_text::{DeviceFailed, write_text};
+use study_values::{ProbeFault, Value};
 
 /// Writes words and a line feed.
 pub fn put_line<W: Write>(out: &mut W, front: &[u8], back: &[u8]) -> Result<(), DeviceFailed>

@@ -2,11 +2,11 @@
 use Rattle.std.proofs.Common.{◌≡◌, ℕ, true, false, is_some, Result, Err, refl, sym, subst, arith}
 use Rattle.study_board.specs.Position.{Position, IsValid}
 use Rattle.study_material.specs.declared.class.Class.{Class}
-use Rattle.study_retro.specs.Table.{Table, table_of}
-use Rattle.study_tablefile.specs.declared.fault.SourceFault.{SourceFault}
-use Rattle.study_prober.specs.Values.{ProbeAnswer}
+use Rattle.study_table.specs.Table.{Table, table_of}
+use Rattle.study_values.specs.declared.fault.SourceFault.{SourceFault}
+use Rattle.study_values.specs.Values.{ProbeAnswer}
 use Rattle.study_prober.specs.Sources.{GivesOf}
-use Rattle.study_prober.specs.declared.values.ProbeFault.{ProbeFault}
+use Rattle.study_values.specs.declared.values.ProbeFault.{ProbeFault}
 use Rattle.study_prober.specs.WholeTables.{Whole, TablesAreRight, IsCellAnswer}
 use Rattle.study_prober.specs.PagedTables.{Paged, SourcesAreRight, IsPagedAnswer, MayFail, held_of}
 use Rattle.study_review.specs.declared.fault.ReviewFault.{ReviewFault}

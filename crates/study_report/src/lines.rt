@@ -9,9 +9,9 @@ use itoa::Buffer;
 use std::alloc::Allocator;
 use std::io::Write;
 use study_marks::Bench;
-use study_prober::Values;
 use study_review::{ReviewFault, write_review};
 use study_text::{DeviceFailed, write_text};
+use study_values::Values;
 
 /// Studies as their reviews, and refused lines as `refused 7 NoTable KRK`.
 #[derive(Clone, Copy, Debug, PartialEq, Eq)]

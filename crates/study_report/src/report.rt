@@ -1,7 +1,7 @@
 //! What a report writes.
 ghost use Rattle.std.specs.Prelude.{◌≡◌, ℕ, List, [], ◌∷◌, ◌++◌, Err, OnOk, OnErr};
 ghost use Rattle.std.specs.Io.KnownBytes.{Appends};
-ghost use Rattle.study_prober.specs.declared.values.ProbeFault.{ProbeFault as AProbeFault};
+ghost use Rattle.study_values.specs.declared.values.ProbeFault.{ProbeFault as AProbeFault};
 ghost use Rattle.study_text.specs.Taken.{TakesPrefix};
 ghost use Rattle.study_marks.specs.Edits.{Plainly};
 ghost use Rattle.study_marks.specs.BenchState.{marked, IsKeptRight};
@@ -12,9 +12,9 @@ ghost use Rattle.study_review.specs.Review.{HasReviewed};
 use std::alloc::Allocator;
 use std::io::Write;
 use study_marks::Bench;
-use study_prober::Values;
 use study_review::ReviewFault;
 use study_text::DeviceFailed;
+use study_values::Values;
 use thiserror::Error;
 
 /// Why a refused line is not told, or not whole.

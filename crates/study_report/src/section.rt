@@ -2,9 +2,9 @@
 ghost use Rattle.std.specs.Prelude.{◌≡◌, ℕ, List, [], ◌∷◌, ◌++◌, Err, OnOk, OnErr};
 ghost use Rattle.std.specs.Io.KnownBytes.{Appends};
 ghost use Rattle.study_material.specs.declared.class.Class.{Class as AClass};
-ghost use Rattle.study_tablefile.specs.declared.fault.SourceFault.{SourceFault as ASourceFault};
+ghost use Rattle.study_values.specs.declared.fault.SourceFault.{SourceFault as ASourceFault};
 ghost use Rattle.study_text.specs.Taken.{TakesPrefix};
-ghost use Rattle.study_prober.specs.declared.values.ProbeFault.{ProbeFault as AProbeFault};
+ghost use Rattle.study_values.specs.declared.values.ProbeFault.{ProbeFault as AProbeFault};
 ghost use Rattle.study_marks.specs.Edits.{Plainly};
 ghost use Rattle.study_marks.specs.BenchState.{marked, IsKeptRight};
 ghost use Rattle.study_marks.specs.Study.{plain_study};
@@ -17,10 +17,10 @@ use crate::report::Report;
 use std::alloc::Allocator;
 use std::io::Write;
 use study_marks::Bench;
-use study_prober::Values;
 use study_review::ReviewFault;
 use study_script::{Document, Tables};
 use study_tablefile::PageSource;
+use study_values::Values;
 
 /// Tells of the study on the bench, by whole tables or by pages.
 pub fn add_study<'a, P: PageSource, A: Allocator, W: Write, T: Report>(

@@ -18,17 +18,18 @@ use Rattle.study_moves.specs.AnyOrder.{HasOrigins, HasSafeTargets, is_safe_targe
 use Rattle.study_moves.proofs.AnyOrder.{men-tell-moves}
 use Rattle.study_material.specs.declared.class.Class.{Class}
 use Rattle.study_material.specs.Class.{is_of}
-use Rattle.study_index.specs.Number.{cells_of, without_bit}
+use Rattle.study_values.specs.Number.{cells_of, without_bit}
 use Rattle.study_index.specs.Decoded.{slots_of, told_men, told_side}
-use Rattle.study_index.specs.Computed.{index_of, position_numbered}
+use Rattle.study_index.specs.Computed.{position_numbered}
+use Rattle.study_values.specs.Index.{index_of}
 use Rattle.study_index.specs.Moved.{IsMoved}
 use Rattle.study_index.proofs.ClassLaws.{below}
 use Rattle.study_index.proofs.ComputedIndex.{told_decoded}
 use Rattle.study_index.proofs.DecodedNumbers.{told_of}
 use Rattle.study_retro.specs.Propagation.{AreAdded, AreLowered, AreSet, IsSetWhere, LeadsTo}
-use Rattle.study_retro.specs.Table.{Table}
-use Rattle.study_retro.specs.Cells.{value_of}
-use Rattle.study_retro.specs.declared.value.Value.TheVariants.{Win}
+use Rattle.study_table.specs.Table.{Table}
+use Rattle.study_values.specs.Cells.{value_of}
+use Rattle.study_values.specs.declared.value.Value.TheVariants.{Win}
 use Rattle.study_retro.specs.ClassGame.{class_game}
 use Rattle.study_retro.specs.Numbered.{Numbered, IsNumberedClass, LosesBy, NoLossBy}
 use Rattle.study_retro.specs.Still.{IsWonAfter, QuietMovesLose, QuietMovesLoseBy, move_to}

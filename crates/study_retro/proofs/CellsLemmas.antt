@@ -2,12 +2,12 @@
 use Rattle.std.proofs.Common.{◌≡◌, ◌≢◌, ℕ, zero, suc, [], ◌∷◌, ◌+◌, ◌<◌, ◌≤◌, ◌⊎◌, inl, inr, sym}
 use Rattle.std.proofs.Common.{◌∙◌, subst, arith, below_more, List, slice_index, slice_set, length, get_or, take, Contains}
 use Rattle.std.proofs.Common.{Option, Bool, true, false, not, IsTrue, ◌==◌, refl, ap}
-use Rattle.study_retro.specs.declared.value.Value.{Value}
-use Rattle.study_retro.specs.declared.value.Value.TheVariants.{Win}
+use Rattle.study_values.specs.declared.value.Value.{Value}
+use Rattle.study_values.specs.declared.value.Value.TheVariants.{Win}
 use Rattle.std.proofs.lemmas.Bool.{eqb-true}
 use Rattle.std.proofs.lemmas.List.{take_more, get_or-set_same, get_or-set_other}
 use Rattle.std.proofs.lemmas.List.Elements.{Contains-push_cases}
-use Rattle.study_retro.specs.Forced.{LeadsBy}
+use Rattle.study_table.specs.Forced.{LeadsBy}
 use Rattle.study_retro.specs.Propagation.{IsWonCell, TellsWins, IsLostBy, AreAdded, AreDropped, AreLowered, IsSetBy}
 
 pub not_won-zero : (k c : ℕ) → c ≡ 0 → IsWonCell k c → ⊥

@@ -3,10 +3,10 @@ use Rattle.std.proofs.Common.{◌≡◌, ℕ, zero, suc, ◌+◌, ◌<◌, inl, 
 use Rattle.std.proofs.Common.{length, get_or, take, Contains, Option, None, arith, sym, subst}
 use Rattle.std.proofs.lemmas.List.{take_more}
 use Rattle.std.proofs.lemmas.List.Elements.{Contains-push, Contains-push_cases, Contains-append_left}
-use Rattle.study_retro.specs.declared.value.Value.{Value}
-use Rattle.study_retro.specs.declared.value.Value.TheVariants.{Win, Loss, Draw}
+use Rattle.study_values.specs.declared.value.Value.{Value}
+use Rattle.study_values.specs.declared.value.Value.TheVariants.{Win, Loss, Draw}
 use Rattle.study_retro.specs.BestReplies.{lost_with, won_with, drawn_with, given_by}
-use Rattle.study_retro.specs.Forced.{LeadsBy, Gives, GivesOutside}
+use Rattle.study_table.specs.Forced.{LeadsBy, Gives, GivesOutside}
 use Rattle.study_retro.proofs.TallyLemmas.{IsTally, IsTally-empty, IsTally-push, Gives-given_by}
 
 -- xs has those of the moves that pass

@@ -26,9 +26,10 @@ use Rattle.study_moves.proofs.AlikePositions.{admits_bare}
 use Rattle.study_material.specs.declared.class.Class.{Class}
 use Rattle.study_material.specs.Lists.{Lists, lists, ordered}
 use Rattle.study_material.specs.Class.{IsOf}
-use Rattle.study_index.specs.Number.{IsIndex, with_bit, without_bit}
+use Rattle.study_values.specs.Number.{IsIndex, with_bit, without_bit}
 use Rattle.study_index.specs.Decoded.{slots_of, told_men, told_side}
-use Rattle.study_index.specs.Computed.{index_of, position_told, is_entry, position_numbered}
+use Rattle.study_index.specs.Computed.{position_told, is_entry, position_numbered}
+use Rattle.study_values.specs.Index.{index_of}
 use Rattle.study_index.specs.Laws.{AreAlikeIn}
 use Rattle.study_index.proofs.ClassLaws.{entry, numbered, same_class, same_index, alike_back, alike_move}
 use Rattle.study_index.proofs.ComputedIndex.{IsIndex-index_of, index_of-only, told_decoded, decoded_told}

@@ -1,13 +1,13 @@
 -- What the mates, and the moves out of the class, tell before the levels.
 use Rattle.std.proofs.Common.{◌≡◌, ◌≢◌, ℕ, zero, suc, ◌+◌, ◌-◌, ◌%◌, ◌<◌, ◌≤◌, ◌⊎◌, inl, inr, sym, subst, refl, arith, Option, Some, None, Bool, true, false}
-use Rattle.study_retro.specs.declared.value.Value.{Value}
-use Rattle.study_retro.specs.declared.value.Value.TheVariants.{Win, Loss, Draw}
-use Rattle.study_retro.specs.Forced.{Mated, Mates, IsGame, IsWin, IsLoss, GivesOutside}
-use Rattle.study_retro.specs.Right.{IsRightOutside}
-use Rattle.study_retro.specs.Class.{IsClass}
+use Rattle.study_values.specs.declared.value.Value.{Value}
+use Rattle.study_values.specs.declared.value.Value.TheVariants.{Win, Loss, Draw}
+use Rattle.study_table.specs.Forced.{Mated, Mates, IsGame, IsWin, IsLoss, GivesOutside}
+use Rattle.study_table.specs.Right.{IsRightOutside}
+use Rattle.study_table.specs.Class.{IsClass}
 use Rattle.study_retro.specs.Propagation.{IsInitial, IsHeld, IsHeldCell}
-use Rattle.study_retro.proofs.ForcedLemmas.{Mates-Mated, IsGame-unique}
-use Rattle.study_retro.proofs.ParityLemmas.{odd-win, even-loss}
+use Rattle.study_table.proofs.ForcedLemmas.{Mates-Mated, IsGame-unique}
+use Rattle.study_table.proofs.ParityLemmas.{odd-win, even-loss}
 
 -- what a cell is worth where no mate is too far for one, it is worth where one may be
 pub held-more : {P : Type 0} (leads : P → P → Type 0) (mate : P → Type 0) (home : P → Bool) {far more : Bool} → (far ≡ true → more ≡ true)

@@ -1,17 +1,17 @@
 -- What cells before a level tell: which positions are won within so many plies, and which are lost in one more.
 use Rattle.std.proofs.Common.{◌≡◌, ◌≢◌, ℕ, suc, ◌+◌, ◌-◌, ◌%◌, add-one, ◌<◌, ◌≤◌, ◌⊎◌, inl, inr, sym, ◌∙◌}
 use Rattle.std.proofs.Common.{ap, subst, arith, List, slice_index, Option, Some, Bool, true, []}
-use Rattle.study_retro.specs.declared.value.Value.{Value}
-use Rattle.study_retro.specs.declared.value.Value.TheVariants.{Win, Loss, Draw}
-use Rattle.study_retro.specs.Forced.{Mated, Mates, IsGame}
-use Rattle.study_retro.specs.Cells.{value_of, label_of}
-use Rattle.study_retro.specs.Right.{IsRightOutside}
-use Rattle.study_retro.specs.Class.{IsClass}
+use Rattle.study_values.specs.declared.value.Value.{Value}
+use Rattle.study_values.specs.declared.value.Value.TheVariants.{Win, Loss, Draw}
+use Rattle.study_table.specs.Forced.{Mated, Mates, IsGame}
+use Rattle.study_values.specs.Cells.{value_of, label_of}
+use Rattle.study_table.specs.Right.{IsRightOutside}
+use Rattle.study_table.specs.Class.{IsClass}
 use Rattle.study_retro.specs.Propagation.{IsLostBy, IsWonCell, TellsWins, IsHeld, IsHeldCell, AreHeld}
-use Rattle.study_retro.proofs.ForcedLemmas.{Mates-le, Mates-Mated}
-use Rattle.study_retro.proofs.AlongLemmas.{Mates-along, Mated-along}
-use Rattle.study_retro.proofs.ClassLemmas.{true_or_false, image_keeps, label-home, label-outside}
-use Rattle.study_retro.proofs.LevelLemmas.{zero_or_not}
+use Rattle.study_table.proofs.ForcedLemmas.{Mates-le, Mates-Mated}
+use Rattle.study_table.proofs.AlongLemmas.{Mates-along, Mated-along}
+use Rattle.study_table.proofs.ClassLemmas.{true_or_false, image_keeps, label-home, label-outside}
+use Rattle.study_table.proofs.LevelLemmas.{zero_or_not}
 use Rattle.std.proofs.lemmas.Bool.Decides.{nat_tests}
 
 pub value_of-even : (c : ℕ) → c ≢ 0 → c % 2 ≡ 0 → value_of c ≡ Win (c - 1)

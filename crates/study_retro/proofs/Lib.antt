@@ -1,13 +1,4 @@
-pub mod ForcedLemmas
 pub mod TallyLemmas
-pub mod AlongLemmas
-pub mod ClassLemmas
-pub mod ParityLemmas
-pub mod LevelLemmas
-pub mod SetLemmas
-pub mod GameValues
-pub mod ChessClass
-pub mod SoundLemmas
 pub mod PlaceLemmas
 pub mod ReportLemmas
 pub mod HeldLemmas

@@ -20,21 +20,22 @@ use Rattle.study_material.specs.declared.class.Class.{Class}
 use Rattle.study_material.specs.Lists.{ordered}
 use Rattle.study_material.specs.Class.{lists_of, IsOf}
 use Rattle.study_material.proofs.Classes.{is_of-IsOf}
-use Rattle.study_index.specs.Number.{with_bit, without_bit, has_both_pawns, cells_of}
+use Rattle.study_values.specs.Number.{with_bit, without_bit, has_both_pawns, cells_of}
 use Rattle.study_index.specs.Decoded.{slots_of, told_men, told_side}
-use Rattle.study_index.specs.Computed.{index_of, least_number, position_numbered}
+use Rattle.study_index.specs.Computed.{position_numbered}
+use Rattle.study_values.specs.Index.{index_of, least_number}
 use Rattle.study_index.specs.Moved.{from_to, IsMoved}
 use Rattle.study_index.proofs.ClassLaws.{entry}
 use Rattle.study_index.proofs.ComputedIndex.{told_decoded}
 use Rattle.study_index.proofs.DecodedNumbers.{told_of}
 use Rattle.study_index.proofs.LivePassing.{not_live_passed}
-use Rattle.study_retro.specs.Table.{Table}
-use Rattle.study_retro.specs.Cells.{value_of}
+use Rattle.study_table.specs.Table.{Table}
+use Rattle.study_values.specs.Cells.{value_of}
 use Rattle.study_retro.specs.ClassGame.{class_game}
 use Rattle.study_retro.specs.Numbered.{IsNumberedClass, label_by}
 use Rattle.study_retro.specs.Predecessors.{LeavesNone}
 use Rattle.study_moves.proofs.NoMoveBetween.{HasMover-from_is_legal}
-use Rattle.study_retro.proofs.ClassLemmas.{label-home}
+use Rattle.study_table.proofs.ClassLemmas.{label-home}
 use Rattle.study_retro.proofs.QuietClass.{quiet_men, quiet_lists, unpassing}
 use Rattle.study_retro.proofs.QuietSteps.{other_turn, dead_of, dead_after}
 use Rattle.study_retro.proofs.EarlierChess.{lands_home, numbered_index, valid_without}

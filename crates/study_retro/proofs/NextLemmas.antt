@@ -1,17 +1,17 @@
 -- From the cells before a level to those after it.
 use Rattle.std.proofs.Common.{◌≡◌, ◌≢◌, ℕ, zero, suc, ◌+◌, ◌-◌, ◌%◌, add-one, ◌<◌, ◌≤◌, ◌⊎◌, inl, inr, sym, ◌∙◌, ap}
 use Rattle.std.proofs.Common.{subst, refl, arith, List, slice_index, Option, Some, None, Bool, true, false}
-use Rattle.study_retro.specs.declared.value.Value.{Value}
-use Rattle.study_retro.specs.declared.value.Value.TheVariants.{Win, Loss, Draw}
-use Rattle.study_retro.specs.Forced.{Mated, Mates, IsWin, IsLoss, IsGame}
-use Rattle.study_retro.specs.Cells.{value_of}
-use Rattle.study_retro.specs.Right.{IsRightOutside}
-use Rattle.study_retro.specs.Class.{IsClass}
+use Rattle.study_values.specs.declared.value.Value.{Value}
+use Rattle.study_values.specs.declared.value.Value.TheVariants.{Win, Loss, Draw}
+use Rattle.study_table.specs.Forced.{Mated, Mates, IsWin, IsLoss, IsGame}
+use Rattle.study_values.specs.Cells.{value_of}
+use Rattle.study_table.specs.Right.{IsRightOutside}
+use Rattle.study_table.specs.Class.{IsClass}
 use Rattle.study_retro.specs.Propagation.{LeadsTo, IsHeld, IsHeldCell, AreHeld}
-use Rattle.study_retro.proofs.ForcedLemmas.{Mates-le, Mates-Mated}
-use Rattle.study_retro.proofs.ParityLemmas.{Mated-odd, Mates-even}
-use Rattle.study_retro.proofs.ClassLemmas.{true_or_false, some_or_none}
-use Rattle.study_retro.proofs.LevelLemmas.{zero_or_not}
+use Rattle.study_table.proofs.ForcedLemmas.{Mates-le, Mates-Mated}
+use Rattle.study_table.proofs.ParityLemmas.{Mated-odd, Mates-even}
+use Rattle.study_table.proofs.ClassLemmas.{true_or_false, some_or_none}
+use Rattle.study_table.proofs.LevelLemmas.{zero_or_not}
 use Rattle.study_retro.proofs.HeldLemmas.{value_of-even, value_of-odd, even_or_odd, le_or_above, home_number, Mates-image, Mated-image, held-wins}
 
 -- a cell that is not set within k plies

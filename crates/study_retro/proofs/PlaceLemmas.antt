@@ -7,18 +7,19 @@ use Rattle.study_material.specs.declared.class.Class.{Class}
 use Rattle.study_material.specs.Class.{IsOf}
 use Rattle.study_material.specs.Needs.{LeadsOn}
 use Rattle.study_material.proofs.Classes.{lists_of-injective}
-use Rattle.study_index.specs.Number.{IsIndex, cells_of}
-use Rattle.study_index.specs.Computed.{index_of, position_numbered}
+use Rattle.study_values.specs.Number.{IsIndex, cells_of}
+use Rattle.study_index.specs.Computed.{position_numbered}
+use Rattle.study_values.specs.Index.{index_of}
 use Rattle.study_index.specs.Decoded.{IsDecoded}
 use Rattle.study_index.proofs.ComputedIndex.{index_of-only, told_decoded, decoded_told}
-use Rattle.study_retro.specs.declared.value.Value.{Value}
-use Rattle.study_retro.specs.Cells.{value_of}
-use Rattle.study_retro.specs.Table.{Table, table_of, IsReady, IsClosed}
+use Rattle.study_values.specs.declared.value.Value.{Value}
+use Rattle.study_values.specs.Cells.{value_of}
+use Rattle.study_table.specs.Table.{Table, table_of, IsReady, IsClosed}
 use Rattle.study_material.specs.Class.{is_of}
 use Rattle.study_material.proofs.Classes.{IsOf-is_of, is_of-IsOf}
-use Rattle.study_retro.specs.Game.{value_in}
-use Rattle.study_retro.proofs.ClassLemmas.{some_or_none}
-use Rattle.study_retro.proofs.ChessClass.{chess_class, value_in-held}
+use Rattle.study_table.specs.Game.{value_in}
+use Rattle.study_table.proofs.ClassLemmas.{some_or_none}
+use Rattle.study_table.proofs.ChessClass.{chess_class, value_in-held}
 
 pub decode_at : (c : Class) (n : ℕ) (o : Option Position) → IfSome o (λ q. IsDecoded c n q)
     → IfNone o ((q : Position) → IsDecoded c n q → ⊥) → o ≡ position_numbered c n

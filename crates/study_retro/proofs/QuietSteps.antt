@@ -6,12 +6,12 @@ use Rattle.study_board.specs.Position.{Position, IsValid}
 use Rattle.study_moves.specs.declared.moves.Move.{Move}
 use Rattle.study_moves.specs.Rules.{is_legal, after}
 use Rattle.study_moves.proofs.NoMoveBetween.{HasMover-from_is_legal}
-use Rattle.study_index.specs.Number.{has_both_pawns}
+use Rattle.study_values.specs.Number.{has_both_pawns}
 use Rattle.study_index.proofs.LivePassing.{live_class}
 use Rattle.study_material.specs.declared.class.Class.{Class}
 use Rattle.study_material.specs.Class.{lists_of, IsOf}
 use Rattle.study_moves.specs.EnPassant.{has_legal_en_passant, is_taken}
-use Rattle.study_index.specs.Number.{with_bit, without_bit}
+use Rattle.study_values.specs.Number.{with_bit, without_bit}
 use Rattle.study_index.specs.Computed.{position_numbered}
 use Rattle.study_index.proofs.ComputedIndex.{told_decoded}
 use Rattle.study_index.proofs.WithBit.{HasParts-from}

@@ -1,7 +1,7 @@
 -- The greatest distance of cells, one cell more at a time.
 use Rattle.std.proofs.Common.{◌≡◌, ℕ, ◌+◌, ◌<◌, ◌≤◌, ◌⊎◌, inl, inr, max, List, length, slice_index, Option, Some, None, sym, ◌∙◌, subst, ap, arith}
-use Rattle.study_retro.specs.declared.value.Value.{Value}
-use Rattle.study_retro.specs.Cells.{value_of}
+use Rattle.study_values.specs.declared.value.Value.{Value}
+use Rattle.study_values.specs.Cells.{value_of}
 use Rattle.study_retro.specs.Report.{IsGreatest, greater}
 
 module _ (distance : Value → Option ℕ) (xs : List ℕ) where

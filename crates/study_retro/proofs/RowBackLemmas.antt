@@ -15,8 +15,9 @@ use Rattle.study_moves.specs.Unmoves.{CanHaveLed, came_from, comes, first_rank, 
 use Rattle.study_moves.specs.Rules.{half_way, is_ahead}
 use Rattle.study_material.specs.declared.class.Class.{Class}
 use Rattle.study_moves.specs.Rules.{after}
-use Rattle.study_index.specs.Number.{cells_of}
-use Rattle.study_index.specs.Computed.{index_of, position_numbered}
+use Rattle.study_values.specs.Number.{cells_of}
+use Rattle.study_index.specs.Computed.{position_numbered}
+use Rattle.study_values.specs.Index.{index_of}
 use Rattle.study_index.specs.Moved.{IsMoved}
 use Rattle.study_index.proofs.ComputedIndex.{told_decoded}
 use Rattle.study_index.proofs.DecodedNumbers.{told_of}

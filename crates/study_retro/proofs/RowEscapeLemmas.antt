@@ -16,14 +16,15 @@ use Rattle.study_moves.specs.Rules.{is_legal, last_rank, reaches_last_rank}
 use Rattle.study_moves.specs.Unmoves.{IsQuiet}
 use Rattle.study_moves.specs.AnyOrder.{is_safe_target}
 use Rattle.study_material.specs.declared.class.Class.{Class}
-use Rattle.study_index.specs.Number.{cells_of, without_bit}
+use Rattle.study_values.specs.Number.{cells_of, without_bit}
 use Rattle.study_index.specs.Decoded.{slots_of, told_men, told_side}
-use Rattle.study_index.specs.Computed.{index_of, position_numbered}
+use Rattle.study_index.specs.Computed.{position_numbered}
+use Rattle.study_values.specs.Index.{index_of}
 use Rattle.study_index.specs.Moved.{IsMoved}
 use Rattle.study_index.proofs.Symmetries.{all_below, at_below}
-use Rattle.study_retro.specs.Table.{Table}
-use Rattle.study_retro.specs.Cells.{value_of}
-use Rattle.study_retro.specs.declared.value.Value.TheVariants.{Win}
+use Rattle.study_table.specs.Table.{Table}
+use Rattle.study_values.specs.Cells.{value_of}
+use Rattle.study_values.specs.declared.value.Value.TheVariants.{Win}
 use Rattle.study_retro.specs.ClassGame.{class_game}
 use Rattle.study_retro.specs.Numbered.{IsNumberedClass, NoLossBy, Numbered}
 use Rattle.study_retro.specs.Predecessors.{AreTold, PassesNone}

@@ -23,7 +23,7 @@ use Rattle.study_material.specs.declared.class.Class.{Class}
 use Rattle.study_index.specs.declared.decoding.Slot.{Slot}
 use Rattle.study_index.specs.Computed.{position_numbered}
 use Rattle.study_index.specs.Decoded.{AreSlots, man, men_of, slots_of, told_men, told_side, head, slots_have_pawn, side_numbered}
-use Rattle.study_index.specs.Number.{listed_count, without_bit}
+use Rattle.study_values.specs.Number.{listed_count, without_bit}
 use Rattle.study_index.proofs.ClassSlots.{AreSlots-class}
 use Rattle.study_index.proofs.ComputedIndex.{told_decoded}
 use Rattle.study_index.proofs.DecodedNumbers.{told_of}

@@ -30,7 +30,7 @@ use Rattle.study_index.specs.Computed.{position_numbered}
 use Rattle.study_index.proofs.ComputedIndex.{told_decoded}
 use Rattle.study_index.proofs.DecodedNumbers.{told_of}
 use Rattle.study_moves.specs.Game.{IsMate}
-use Rattle.study_retro.specs.Table.{Table}
+use Rattle.study_table.specs.Table.{Table}
 use Rattle.study_retro.specs.ClassGame.{class_game}
 use Rattle.study_retro.specs.Numbered.{CellIsHeld, IsNumberedClass, OutsideIsRight, leads_in}
 use Rattle.study_retro.specs.Propagation.{IsHeldCell}

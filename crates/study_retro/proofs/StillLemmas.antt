@@ -1,15 +1,15 @@
 -- Cells that tell of no mate to come stay as they are at every later level, and so are right.
 use Rattle.std.proofs.Common.{◌≡◌, ℕ, zero, suc, ◌+◌, ◌-◌, ◌<◌, ◌≤◌, inl, inr, sym, subst, refl}
 use Rattle.std.proofs.Common.{arith, List, slice_index, Option, Some, None, Bool, true, false}
-use Rattle.study_retro.specs.declared.value.Value.{Value}
-use Rattle.study_retro.specs.Forced.{IsGame, IsRightBelow}
-use Rattle.study_retro.specs.Cells.{value_of}
-use Rattle.study_retro.specs.Right.{IsRightOutside, IsRightCell, AreRight, IsRightBelowCell, AreRightBelow}
-use Rattle.study_retro.specs.Class.{IsClass}
+use Rattle.study_values.specs.declared.value.Value.{Value}
+use Rattle.study_table.specs.Forced.{IsGame, IsRightBelow}
+use Rattle.study_values.specs.Cells.{value_of}
+use Rattle.study_table.specs.Right.{IsRightOutside, IsRightCell, AreRight, IsRightBelowCell, AreRightBelow}
+use Rattle.study_table.specs.Class.{IsClass}
 use Rattle.study_retro.specs.Propagation.{IsHeld, IsHeldCell, AreHeld}
-use Rattle.study_retro.proofs.ForcedLemmas.{Mates-le, IsGame-below}
-use Rattle.study_retro.proofs.ClassLemmas.{some_or_none}
-use Rattle.study_retro.proofs.LevelLemmas.{zero_or_not}
+use Rattle.study_table.proofs.ForcedLemmas.{Mates-le, IsGame-below}
+use Rattle.study_table.proofs.ClassLemmas.{some_or_none}
+use Rattle.study_table.proofs.LevelLemmas.{zero_or_not}
 use Rattle.study_retro.proofs.HeldLemmas.{even_or_odd}
 use Rattle.study_retro.proofs.NextLemmas.{Mated-le, level-even, level-odd}
 

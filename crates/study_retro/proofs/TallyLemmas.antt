@@ -3,11 +3,11 @@ use Rattle.std.proofs.Common.{◌≡◌, ◌≢◌, ℕ, zero, ◌+◌, ◌<◌,
 use Rattle.std.proofs.Common.{true, false, IsTrue, List, [], ◌∷◌, ◌++◌, length, get_or, take, Contains}
 use Rattle.std.proofs.Common.{Option, Some, None, arith, sym, ◌∙◌, subst, refl, ap, add-one}
 use Rattle.std.proofs.lemmas.List.Elements.{Contains-push, Contains-push_cases, Contains-append_left}
-use Rattle.study_retro.specs.declared.value.Value.{Value}
-use Rattle.study_retro.specs.declared.value.Value.TheVariants.{Win, Loss, Draw}
+use Rattle.study_values.specs.declared.value.Value.{Value}
+use Rattle.study_values.specs.declared.value.Value.TheVariants.{Win, Loss, Draw}
 use Rattle.std.proofs.lemmas.List.{take_more}
 use Rattle.study_retro.specs.BestReplies.{lost_with, won_with, drawn_with, given_by}
-use Rattle.study_retro.specs.Forced.{LeadsBy, Gives, HasLoss, HasOnlyWins, HasDraw}
+use Rattle.study_table.specs.Forced.{LeadsBy, Gives, HasLoss, HasOnlyWins, HasDraw}
 
 -- one of the moves has the value
 abbrev pub Seen : {M : Type 0} → (M → Value) → List M → Value → Type 0

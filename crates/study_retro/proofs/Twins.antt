@@ -23,9 +23,10 @@ use Rattle.study_material.specs.declared.class.Class.{Class}
 use Rattle.study_material.specs.declared.class.Class.TheVariants.{KPKP}
 use Rattle.study_material.specs.Class.{lists_of, IsOf}
 use Rattle.study_material.proofs.Classes.{lists_of-injective}
-use Rattle.study_index.specs.Number.{with_bit, without_bit, has_both_pawns}
+use Rattle.study_values.specs.Number.{with_bit, without_bit, has_both_pawns}
 use Rattle.study_index.specs.Decoded.{slots_of, told_men}
-use Rattle.study_index.specs.Computed.{index_of, least_number, position_numbered}
+use Rattle.study_index.specs.Computed.{position_numbered}
+use Rattle.study_values.specs.Index.{index_of, least_number}
 use Rattle.study_index.proofs.ClassLaws.{entry, numbered}
 use Rattle.study_index.proofs.ComputedIndex.{IsIndex-index_of, told_decoded, decoded_told}
 use Rattle.study_index.proofs.DecodedNumbers.{told_of}

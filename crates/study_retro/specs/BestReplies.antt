@@ -1,7 +1,7 @@
 -- Not part of any public contract: the nearest loss, the farthest win and whether there is a draw among the values after a position's moves.
 use Rattle.std.specs.Prelude.{ℕ, ◌+◌, min, max, Bool, true, false, if◌then◌else◌, Option, Some, None}
-use Rattle.study_retro.specs.declared.value.Value.{Value}
-use Rattle.study_retro.specs.declared.value.Value.TheVariants.{Win, Loss, Draw}
+use Rattle.study_values.specs.declared.value.Value.{Value}
+use Rattle.study_values.specs.declared.value.Value.TheVariants.{Win, Loss, Draw}
 
 -- the nearest loss, after one value more
 abbrev pub lost_with : Option ℕ → Value → Option ℕ

@@ -5,12 +5,13 @@ use Rattle.study_moves.specs.Rules.{is_legal, after}
 use Rattle.study_moves.specs.Game.{IsMate}
 use Rattle.study_material.specs.declared.class.Class.{Class}
 use Rattle.study_material.specs.Needs.{LeadsOn}
-use Rattle.study_index.specs.Number.{cells_of}
-use Rattle.study_index.specs.Computed.{index_of, position_numbered}
+use Rattle.study_values.specs.Number.{cells_of}
+use Rattle.study_index.specs.Computed.{position_numbered}
+use Rattle.study_values.specs.Index.{index_of}
 use Rattle.study_index.specs.Laws.{AreAlikeIn}
 use Rattle.study_material.specs.Class.{is_of}
-use Rattle.study_retro.specs.Game.{value_in}
-use Rattle.study_retro.specs.Table.{Table}
+use Rattle.study_table.specs.Game.{value_in}
+use Rattle.study_table.specs.Table.{Table}
 use Rattle.study_retro.specs.Numbered.{Numbered}
 
 -- the positions of the class, and those of the classes that it needs, whose values the held tables tell

@@ -1,14 +1,6 @@
-pub mod Table
-pub mod Game
 pub mod Report
-pub mod TableSet
-pub mod Sound
-pub mod Forced
-pub mod Cells
 pub mod BestReplies
 pub mod Places
-pub mod Right
-pub mod Class
 pub mod Propagation
 pub mod Predecessors
 pub mod Numbered

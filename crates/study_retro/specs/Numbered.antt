@@ -2,13 +2,13 @@
 use Rattle.std.specs.Prelude.{◌≡◌, ◌≢◌, ℕ, ◌+◌, ◌*◌, ◌<◌, Bool, true, false, IsTrue, List, slice_index, Option, Some}
 use Rattle.study_board.specs.Sets.{has}
 use Rattle.study_moves.specs.declared.moves.Move.{Move}
-use Rattle.study_retro.specs.declared.value.Value.{Value}
+use Rattle.study_values.specs.declared.value.Value.{Value}
 use Rattle.study_retro.specs.declared.game.Location.{Location}
-use Rattle.study_retro.specs.Forced.{LeadsBy, Mated, Gives, GivesOutside}
-use Rattle.study_retro.specs.Cells.{label_of}
-use Rattle.study_retro.specs.Class.{IsClass}
+use Rattle.study_table.specs.Forced.{LeadsBy, Mated, Gives, GivesOutside}
+use Rattle.study_values.specs.Cells.{label_of}
+use Rattle.study_table.specs.Class.{IsClass}
 use Rattle.study_retro.specs.Places.{IsPlace}
-use Rattle.study_retro.specs.Right.{AreRight, IsRightOutside, IsGivenCell, IsOtherCell, HasFar}
+use Rattle.study_table.specs.Right.{AreRight, IsRightOutside, IsGivenCell, IsOtherCell, HasFar}
 use Rattle.study_retro.specs.Propagation.{LeadsTo, IsLostBy, TellsWins, IsHeldCell, AreHeld, IsSetBy}
 
 -- The positions of a class, by numbers, and the moves among them and out of the class.

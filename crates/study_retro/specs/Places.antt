@@ -1,7 +1,7 @@
 -- Not part of any public contract: where the value of a position stands, in a cell of the class or outside of it.
 use Rattle.std.specs.Prelude.{◌≡◌, ℕ, ◌<◌, Bool, true, false}
-use Rattle.study_retro.specs.Cells.{distance_of}
-use Rattle.study_retro.specs.declared.value.Value.{Value}
+use Rattle.study_values.specs.Cells.{distance_of}
+use Rattle.study_values.specs.declared.value.Value.{Value}
 use Rattle.study_retro.specs.declared.game.Location.{Location}
 use Rattle.study_retro.specs.declared.game.Location.TheVariants.{Cell, Outside}
 

@@ -9,9 +9,10 @@ use Rattle.study_moves.specs.Rules.{after}
 use Rattle.study_moves.specs.Unmoves.{LeadsQuietly, move_from}
 use Rattle.study_material.specs.declared.class.Class.{Class}
 use Rattle.study_material.specs.Class.{lists_of}
-use Rattle.study_index.specs.Number.{has_both_pawns, without_bit}
+use Rattle.study_values.specs.Number.{has_both_pawns, without_bit}
 use Rattle.study_index.specs.Decoded.{slots_of, told_men, told_side}
-use Rattle.study_index.specs.Computed.{index_of, position_numbered}
+use Rattle.study_index.specs.Computed.{position_numbered}
+use Rattle.study_values.specs.Index.{index_of}
 
 -- the move leads from a position without a passed square to the number's, and n is the number of that position, or of the one with the
 -- same men in which a capture in passing is legal

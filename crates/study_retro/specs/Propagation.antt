@@ -1,9 +1,9 @@
 -- Not part of any public contract: what a builder knows that goes back from decided positions.
 use Rattle.std.specs.Prelude.{◌≡◌, ◌≢◌, ◌⊎◌, ℕ, ◌+◌, ◌-◌, ◌%◌, ◌<◌, ◌≤◌, Bool, true, false, List, slice_index, Option, Some, None}
-use Rattle.study_retro.specs.Forced.{Mated, Mates, IsGame, IsWin}
-use Rattle.study_retro.specs.Cells.{distance_of, value_of}
-use Rattle.study_retro.specs.declared.value.Value.{Value}
-use Rattle.study_retro.specs.declared.value.Value.TheVariants.{Win, Draw}
+use Rattle.study_table.specs.Forced.{Mated, Mates, IsGame, IsWin}
+use Rattle.study_values.specs.Cells.{distance_of, value_of}
+use Rattle.study_values.specs.declared.value.Value.{Value}
+use Rattle.study_values.specs.declared.value.Value.TheVariants.{Win, Draw}
 
 -- a move leads from the position of n to a position of the class whose number is m
 abbrev pub LeadsTo : {P : Type 0} → (P → P → Type 0) → (P → Bool) → (P → ℕ) → (ℕ → Option P) → ℕ → ℕ → Type 0

@@ -7,7 +7,7 @@ use Rattle.study_board.specs.Position.{Position, is_occupied}
 use Rattle.study_board.specs.Sets.{has}
 use Rattle.study_moves.specs.AnyOrder.{is_safe_target}
 use Rattle.study_material.specs.declared.class.Class.{Class}
-use Rattle.study_index.specs.Number.{without_bit}
+use Rattle.study_values.specs.Number.{without_bit}
 use Rattle.study_index.specs.Decoded.{slots_of, told_men, told_side}
 use Rattle.study_index.specs.Computed.{position_numbered}
 use Rattle.study_retro.specs.Numbered.{Numbered, NoLossBy}

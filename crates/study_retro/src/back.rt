@@ -2,7 +2,7 @@
 ghost use Rattle.std.specs.Prelude.{◌≡◌, ◌<◌, ℕ, length, Some, Contains};
 ghost use Rattle.study_board.specs.Position.{Position as Seen};
 ghost use Rattle.study_moves.specs.Unmoves.{CanHaveLed, move_from};
-ghost use Rattle.study_index.specs.Number.{cells_of};
+ghost use Rattle.study_values.specs.Number.{cells_of};
 ghost use Rattle.study_index.specs.Computed.{position_numbered};
 ghost use Rattle.study_retro.specs.Predecessors.{AreTold, IsBeforeFrom, IsBeforeBy, IsBefore};
 ghost use Rattle.study_retro.specs.Propagation.{AreSet, IsSetWhere};
@@ -10,9 +10,10 @@ ghost use Rattle.study_retro.specs.Propagation.{AreSet, IsSetWhere};
 use crate::earlier::{has_twin, lands_from};
 use crate::propagate::{lower_cell, mark_cell};
 use study_board::{Man, Square, SquareSet};
-use study_index::{Departure, EN_PASSANT_BIT, Setup, told};
+use study_index::{Departure, Setup, told};
 use study_material::Class;
 use study_moves::origins;
+use study_values::EN_PASSANT_BIT;
 
 /// What a step back writes to a cell: over 0, and if `over`, over more than that too.
 #[derive(Clone, Copy)]

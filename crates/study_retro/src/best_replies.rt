@@ -2,9 +2,9 @@
 ghost use Rattle.std.specs.Prelude.{◌≡◌, ◌<◌, None, false};
 ghost use Rattle.std.specs.Option.{ForSome};
 ghost use Rattle.study_retro.specs.BestReplies.{lost_with, won_with, drawn_with, given_by};
-ghost use Rattle.study_retro.specs.Cells.{distance_of};
+ghost use Rattle.study_values.specs.Cells.{distance_of};
 
-use crate::value::Value;
+use study_values::Value;
 
 /// What the values seen so far come to: the nearest loss, the farthest win, and whether there is a draw.
 #[derive(Clone, Copy)]

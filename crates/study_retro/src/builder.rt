@@ -2,21 +2,20 @@
 ghost use Rattle.std.specs.Prelude.{◌≡◌, ◌↔◌, Some, Err, IfOk, IsErrOf, IsTrue};
 ghost use Rattle.study_material.specs.declared.class.Class.{Class as AClass};
 ghost use Rattle.study_material.specs.Needs.{needs_of};
-ghost use Rattle.study_index.specs.Number.{cells_of};
-ghost use Rattle.study_retro.specs.TableSet.{first_missing};
-ghost use Rattle.study_retro.specs.Table.{IsReady};
-ghost use Rattle.study_retro.specs.Sound.{IsRight, NeedsAreRight, HasFarPosition};
+ghost use Rattle.study_values.specs.Number.{cells_of};
+ghost use Rattle.study_table.specs.TableSet.{first_missing};
+ghost use Rattle.study_table.specs.Table.{IsReady};
+ghost use Rattle.study_table.specs.Sound.{IsRight, NeedsAreRight, HasFarPosition};
 ghost use Rattle.study_retro.specs.Report.{IsGreatest, greater, win_of, loss_of};
 
 use crate::class_game::ClassGame;
 use crate::consistency::are_right;
 use crate::levels::fill;
 use crate::room::BuildRoom;
-use crate::table::Table;
-use crate::table_set::TableSet;
-use crate::value::{Value, value_at};
 use std::alloc::Allocator;
 use study_material::Class;
+use study_table::{Table, TableSet};
+use study_values::{Value, value_at};
 use thiserror::Error;
 
 /// Why a table is not built.
@@ -68,7 +67,7 @@ pub fn build<'a, A: Allocator>(
     }
     let deepest = greatest_distances(cells.as_slice());
     let report = BuildReport {
-        cells: study_index::cells(class),
+        cells: study_values::cells(class),
         examined: filled.examined,
         deepest_win: deepest.win,
         deepest_loss: deepest.loss,

@@ -3,8 +3,9 @@ ghost use Rattle.std.specs.Prelude.{◌≡◌, true, false, IsTrue, IfSome, Some
 ghost use Rattle.study_moves.specs.Rules.{after, is_legal};
 ghost use Rattle.study_moves.specs.Unmoves.{IsQuiet};
 ghost use Rattle.study_moves.specs.EnPassant.{has_legal_en_passant};
-ghost use Rattle.study_index.specs.Computed.{index_of, position_numbered};
-ghost use Rattle.study_retro.specs.Table.{IsReady, IsClosed};
+ghost use Rattle.study_index.specs.Computed.{position_numbered};
+ghost use Rattle.study_values.specs.Index.{index_of};
+ghost use Rattle.study_table.specs.Table.{IsReady, IsClosed};
 
 use crate::back::Change;
 use crate::captures::captures_and_promotions;
@@ -18,14 +19,14 @@ use crate::row_levels::{lost_of_each, lower_each, mark_each};
 use crate::rows::still_in_row;
 use crate::stepped::{LabelledGame, SteppedGame};
 use crate::still::begins_unknown;
-use crate::table_set::TableSet;
-use crate::value::{Value, value_at};
 use arrayvec::ArrayVec;
 use std::alloc::Allocator;
 use study_board::{Position, SquareSet, is_occupied};
-use study_index::{EN_PASSANT_BIT, cells, decode, index, number_moved};
+use study_index::{decode, index, number_moved};
 use study_material::{Class, class_of};
 use study_moves::{Move, MoveList, is_mate, legal_moves, played};
+use study_table::TableSet;
+use study_values::{EN_PASSANT_BIT, Value, cells, value_at};
 
 /// A class whose needs are held.
 #[derive(Drop)]

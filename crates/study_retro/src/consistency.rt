@@ -1,12 +1,12 @@
 //! What the cells of a table give a number, and whether they tell it.
 ghost use Rattle.std.specs.Prelude.{◌≡◌, ◌<◌, ◌↔◌, false, length, Some, IsTrue, IfSome, IfNone, ℕ};
-ghost use Rattle.study_retro.specs.Cells.{distance_of};
+ghost use Rattle.study_values.specs.Cells.{distance_of};
 ghost use Rattle.study_retro.specs.Numbered.{CellsAreRight, CellsGive, IsGivenAt, IsNumberedClass, IsOtherAt, OutsideIsRight, label_by};
 
 use crate::best_replies::BestReplies;
 use crate::game::{Game, Location};
 use crate::stepped::LabelledGame;
-use crate::value::{Value, value_at};
+use study_values::{Value, value_at};
 
 /// The label of a position.
 pub fn label<G: Game>(game: &G, cells: &[u8], at: &G::Position) -> Value

@@ -7,15 +7,17 @@ ghost use Rattle.study_board.specs.Sets.{has};
 ghost use Rattle.study_moves.specs.Rules.{after, is_legal};
 ghost use Rattle.study_moves.specs.Unmoves.{LeadsQuietly, CanHaveLed, move_from};
 ghost use Rattle.study_material.specs.Class.{lists_of};
-ghost use Rattle.study_index.specs.Number.{has_both_pawns};
-ghost use Rattle.study_index.specs.Computed.{index_of, position_numbered};
+ghost use Rattle.study_values.specs.Number.{has_both_pawns};
+ghost use Rattle.study_index.specs.Computed.{position_numbered};
+ghost use Rattle.study_values.specs.Index.{index_of};
 ghost use Rattle.study_retro.specs.Predecessors.{IsPlainNumber, IsNumberBefore, ComesBefore, PassesNone, IsTwinless, LeavesNone};
 
 use arrayvec::ArrayVec;
 use study_board::{Man, Position, Square, SquareSet};
-use study_index::{EN_PASSANT_BIT, cells, decode, index, number_moved};
+use study_index::{decode, index, number_moved};
 use study_material::Class;
 use study_moves::{Move, played, unmoves, unplayed};
+use study_values::{EN_PASSANT_BIT, cells};
 
 /// The numbers of the positions from which a quiet move leads to the position of this number.
 pub fn predecessor_numbers(class: Class, at: &Position, number: u32) -> ArrayVec<u32, 384>

@@ -6,7 +6,7 @@ ghost use Rattle.study_board.specs.Position.{Position as Seen, is_occupied};
 ghost use Rattle.study_moves.specs.declared.moves.Move.{Move as AMove};
 ghost use Rattle.study_moves.specs.Rules.{is_legal, reaches_last_rank};
 ghost use Rattle.study_moves.specs.AnyOrder.{is_safe_target};
-ghost use Rattle.study_index.specs.Number.{cells_of};
+ghost use Rattle.study_values.specs.Number.{cells_of};
 ghost use Rattle.study_index.specs.Computed.{position_numbered};
 ghost use Rattle.study_retro.specs.ClassGame.{class_game};
 ghost use Rattle.study_retro.specs.Numbered.{IsNumberedClass, NoLossBy};

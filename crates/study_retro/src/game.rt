@@ -1,12 +1,12 @@
 //! The game that a table is of: the positions of a class, by numbers.
 ghost use Rattle.std.specs.Prelude.{◌≡◌, ◌↔◌, ◌<◌, ℕ, true, false, IsTrue, Some, Contains};
 ghost use Rattle.study_retro.specs.Numbered.{Numbered, StandsAt, StepLeads};
-ghost use Rattle.study_retro.specs.declared.value.Value.{Value};
+ghost use Rattle.study_values.specs.declared.value.Value.{Value};
 ghost use Rattle.study_moves.specs.declared.moves.Move.{Move};
 
-use crate::value::Value;
 use arrayvec::ArrayVec;
 use study_moves::{Move, MoveList};
+use study_values::Value;
 
 /// Where the value of a position stands.
 #[derive(Clone, Copy)]

@@ -10,8 +10,8 @@ use crate::best_replies::BestReplies;
 use crate::blocks::row_end;
 use crate::game::{Game, Location};
 use crate::stepped::SteppedGame;
-use crate::value::{MAX_DISTANCE, Value};
 use study_board::SquareSet;
+use study_values::{MAX_DISTANCE, Value};
 
 /// Takes the value of a position out of the class into a replies.
 pub fn with_conversion<G: Game>(game: &G, replies: BestReplies, at: &G::Position) -> BestReplies

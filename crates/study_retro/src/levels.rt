@@ -10,7 +10,7 @@ use crate::consistency::first_inconsistent;
 use crate::initial::initialise;
 use crate::propagate::clear_in_row;
 use crate::stepped::SteppedGame;
-use crate::value::MAX_DISTANCE;
+use study_values::MAX_DISTANCE;
 
 /// Goes back from all positions that are lost in `level` plies.
 pub fn propagate_losses<G: SteppedGame>(game: &G, cells: &mut [u8], level: u8) -> u64

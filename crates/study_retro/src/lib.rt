@@ -29,12 +29,8 @@ mod row_moves;
 mod rows;
 mod stepped;
 mod still;
-mod table;
-mod table_set;
-mod value;
 
 pub use builder::{BuildFault, BuildReport, build, verify};
 pub use room::BuildRoom;
-pub use table::Table;
-pub use table_set::{AddFault, AddRefused, TableSet};
-pub use value::{Value, value_at};
+pub use study_table::{AddFault, AddRefused, Table, TableSet};
+pub use study_values::{Value, value_at};

@@ -1,14 +1,14 @@
 //! Steps back from one decided position.
 ghost use Rattle.std.specs.Prelude.{◌≡◌, ◌≢◌, ◌↔◌, ◌+◌, ◌*◌, ◌^◌, ◌<◌, ◌≤◌, ◌⊎◌, ℕ, true, false, length, slice_index, Some, IsTrue};
 ghost use Rattle.study_board.specs.Sets.{has};
-ghost use Rattle.study_retro.specs.Cells.{value_of};
+ghost use Rattle.study_values.specs.Cells.{value_of};
 ghost use Rattle.study_retro.specs.Propagation.{AreAdded, AreLowered, IsLowered, IsMarked, IsSetBy};
 ghost use Rattle.study_retro.specs.Numbered.{IsNumberedClass, LosesBy, NoLossBy, StepLeads};
 
 use crate::game::Game;
 use crate::stepped::LabelledGame;
-use crate::value::Value;
 use study_board::SquareSet;
+use study_values::Value;
 
 /// Sets a cell, where it tells of no mate so near.
 pub fn lower_cell(cells: &mut [u8], number: u32, cell: u8)

@@ -2,7 +2,7 @@
 ghost use Rattle.std.specs.Prelude.{◌≡◌, ◌<◌, ◌+◌, ◌*◌, ℕ, false, [], ◌∷◌, ◌++◌, IfSome};
 ghost use Rattle.study_board.specs.declared.men.Kind.TheVariants.{King};
 ghost use Rattle.study_board.specs.Men.{same_kind};
-ghost use Rattle.study_index.specs.Number.{cells_of};
+ghost use Rattle.study_values.specs.Number.{cells_of};
 ghost use Rattle.study_retro.specs.Predecessors.{AreTold};
 ghost use Rattle.study_retro.specs.Still.{on_square};
 

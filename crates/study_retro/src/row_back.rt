@@ -2,11 +2,11 @@
 ghost use Rattle.std.specs.Prelude.{◌≡◌, ◌==◌, ◌<◌, ◌+◌, ◌*◌, ℕ, true, false, length, Contains};
 ghost use Rattle.study_board.specs.Geometry.{rank_of};
 ghost use Rattle.study_board.specs.Position.{Position as Seen};
-ghost use Rattle.study_index.specs.Computed.{index_of};
+ghost use Rattle.study_values.specs.Index.{index_of};
 ghost use Rattle.study_index.specs.Moved.{IsMoved};
 ghost use Rattle.study_board.specs.Men.{other_side, same_side};
 ghost use Rattle.study_board.specs.Sets.{has};
-ghost use Rattle.study_index.specs.Number.{cells_of};
+ghost use Rattle.study_values.specs.Number.{cells_of};
 ghost use Rattle.study_retro.specs.Predecessors.{IsBefore, IsBeforeBy, IsBeforeFrom, PassesNone};
 ghost use Rattle.study_retro.specs.Propagation.{AreSet, IsSetWhere};
 ghost use Rattle.study_retro.specs.RowBack.{CanAllHaveLed, ComesPlainly, IsBeforeRowBy, IsBeforeRowFrom};
@@ -21,8 +21,9 @@ use crate::row_checks::{Staying, squares_of_check};
 use crate::row_levels::write_before_each;
 use crate::row_moves::{origins_beside, origins_of_last, squares_led};
 use study_board::{Kind, Man, Side, Square, SquareSet, between};
-use study_index::{Departure, EN_PASSANT_BIT, RowDeparture, row_of_last, told};
+use study_index::{Departure, RowDeparture, row_of_last, told};
 use study_material::Class;
+use study_values::EN_PASSANT_BIT;
 
 /// Sets the cell of a number without the bit of a capture in passing, and that of the number with it, if it has a position:
 /// each where it tells of no mate, or of none so near.

@@ -6,9 +6,9 @@ ghost use Rattle.study_board.specs.Geometry.{rank_of};
 ghost use Rattle.study_board.specs.Position.{Position as Seen, in_check};
 ghost use Rattle.study_board.specs.Sets.{has};
 ghost use Rattle.study_moves.specs.Rules.{last_rank, reaches_last_rank};
-ghost use Rattle.study_index.specs.Number.{cells_of};
+ghost use Rattle.study_values.specs.Number.{cells_of};
 ghost use Rattle.study_index.specs.Computed.{position_numbered};
-ghost use Rattle.study_retro.specs.Cells.{value_of};
+ghost use Rattle.study_values.specs.Cells.{value_of};
 ghost use Rattle.study_retro.specs.ClassGame.{class_game};
 ghost use Rattle.study_retro.specs.Numbered.{HasPosition, HavePositions, IsNumberedClass, LosesBy, NoLossBy};
 ghost use Rattle.study_retro.specs.Predecessors.{PassesNone};
@@ -16,7 +16,7 @@ ghost use Rattle.study_retro.specs.RowEscapes.{AllLose, AllLoseBy, AllLoseByLast
 ghost use Rattle.study_retro.specs.RowEscapes.{Goes, GoesInRow, GoesOutside, HaveMoves, OthersHold, goes_beside};
 ghost use Rattle.study_retro.specs.RowLevels.{AreNumbered};
 ghost use Rattle.study_retro.specs.Still.{HasMove, QuietMovesLose, on_square};
-ghost use Rattle.study_retro.specs.declared.value.Value.TheVariants.{Win};
+ghost use Rattle.study_values.specs.declared.value.Value.TheVariants.{Win};
 
 use crate::class_game::ClassGame;
 use crate::earlier::{has_both_pawns, may_pass};

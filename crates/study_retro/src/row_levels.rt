@@ -2,7 +2,7 @@
 ghost use Rattle.std.specs.Prelude.{◌≡◌, ◌≢◌, ◌+◌, ◌*◌, ◌<◌, ℕ, true, false, length, slice_index, IsTrue, Some};
 ghost use Rattle.study_board.specs.Position.{Position as Seen};
 ghost use Rattle.study_board.specs.Sets.{has};
-ghost use Rattle.study_index.specs.Number.{cells_of};
+ghost use Rattle.study_values.specs.Number.{cells_of};
 ghost use Rattle.study_index.specs.Computed.{position_numbered};
 ghost use Rattle.study_retro.specs.ClassGame.{class_game};
 ghost use Rattle.study_retro.specs.Numbered.{HasPosition, HavePositions, IsNumberedClass, LeadsIntoRow, LosesBy, NoLossBy, StepLeads};

@@ -1,16 +1,16 @@
 //! What the levels ask of a game, besides its rules: so a game that reads its numbers may answer faster than by lists of moves.
 ghost use Rattle.std.specs.Prelude.{◌≡◌, ◌≢◌, ◌+◌, ◌*◌, ◌<◌, ℕ, true, false, length, slice_index, None, Some};
 ghost use Rattle.study_board.specs.Sets.{has};
-ghost use Rattle.study_retro.specs.Cells.{distance_of};
+ghost use Rattle.study_values.specs.Cells.{distance_of};
 ghost use Rattle.study_retro.specs.Propagation.{AreAdded, AreLowered, IsSetBy};
 ghost use Rattle.study_retro.specs.Numbered.{CellIsHeld, HavePositions, IsNumberedClass, IsUnknownIn, LeadsIntoRow, LosesBy, NoLossBy};
 ghost use Rattle.study_retro.specs.Numbered.{OutsideIsRight, StepLeads, label_by};
 
 use crate::game::Game;
 use crate::initial::Initial;
-use crate::value::Value;
 use study_board::SquareSet;
 use study_moves::Move;
+use study_values::Value;
 
 /// A game that tells where a move leads by the number of the position before it.
 pub trait LabelledGame: Game {

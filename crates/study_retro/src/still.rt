@@ -15,8 +15,9 @@ ghost use Rattle.study_retro.specs.Still.{HasOnlyQuiet, IsStill, rank_before_las
 use crate::earlier::may_have_twin;
 use crate::escapes::has_move;
 use study_board::{Kind, Man, Side, SquareSet, attacks};
-use study_index::{EN_PASSANT_BIT, Setup, told};
+use study_index::{Setup, told};
 use study_material::Class;
+use study_values::EN_PASSANT_BIT;
 
 /// The rank from which a pawn of the side promotes.
 #[inline]

@@ -8,9 +8,9 @@ use Rattle.study_board.specs.Position.{Position}
 use Rattle.study_moves.specs.declared.moves.Move.{Move}
 use Rattle.study_moves.specs.Rules.{is_legal, after}
 use Rattle.study_moves.specs.Laws.{EachHasAtMostOneValue}
-use Rattle.study_retro.specs.declared.value.Value.{Value}
-use Rattle.study_retro.specs.declared.value.Value.TheVariants.{Win, Loss, Draw}
-use Rattle.study_retro.specs.Game.{IsValueOf}
+use Rattle.study_values.specs.declared.value.Value.{Value}
+use Rattle.study_values.specs.declared.value.Value.TheVariants.{Win, Loss, Draw}
+use Rattle.study_values.specs.Game.{IsValueOf}
 use Rattle.study_marks.specs.Goals.{hero_loses}
 use Rattle.study_review.specs.Back.{stands_in, HasLost, IsNear, IsBack}
 use Rattle.study_review.specs.Leads.{SomeLeads, EachLeads, AreBack, GoesBack}

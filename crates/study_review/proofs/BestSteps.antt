@@ -6,8 +6,8 @@ use Rattle.study_board.specs.Position.{Position}
 use Rattle.study_moves.specs.declared.moves.Move.{Move}
 use Rattle.study_moves.specs.Rules.{is_legal, after}
 use Rattle.study_moves.specs.LegalList.{legal_list}
-use Rattle.study_retro.specs.declared.value.Value.{Value}
-use Rattle.study_retro.specs.Game.{IsValueOf}
+use Rattle.study_values.specs.declared.value.Value.{Value}
+use Rattle.study_values.specs.Game.{IsValueOf}
 use Rattle.study_review.specs.declared.continuation.Continuation.{Continuation}
 use Rattle.study_review.specs.Continuations.{AreChosen}
 use Rattle.study_review.specs.Play.{ArePlayed}

@@ -6,8 +6,8 @@ use Rattle.std.proofs.lemmas.List.{append-nil}
 use Rattle.study_board.specs.Position.{Position}
 use Rattle.study_moves.specs.declared.moves.Move.{Move}
 use Rattle.study_moves.specs.LegalList.{legal_list}
-use Rattle.study_retro.specs.declared.value.Value.{Value}
-use Rattle.study_retro.specs.declared.value.Value.TheVariants as values
+use Rattle.study_values.specs.declared.value.Value.{Value}
+use Rattle.study_values.specs.declared.value.Value.TheVariants as values
 use Rattle.study_tree.specs.Edits.{width}
 use Rattle.study_tree.specs.Tree.{spot_at}
 use Rattle.study_marks.specs.declared.mark_rules.Aim.{Aim}

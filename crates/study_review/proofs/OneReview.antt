@@ -8,8 +8,8 @@ use Rattle.study_moves.specs.declared.moves.Move.{Move}
 use Rattle.study_moves.specs.Rules.{after}
 use Rattle.study_moves.specs.LegalList.{legal_list}
 use Rattle.study_moves.specs.Laws.{EachHasAtMostOneValue}
-use Rattle.study_retro.specs.declared.value.Value.{Value}
-use Rattle.study_retro.specs.declared.value.Value.TheVariants.{Win, Loss, Draw}
+use Rattle.study_values.specs.declared.value.Value.{Value}
+use Rattle.study_values.specs.declared.value.Value.TheVariants.{Win, Loss, Draw}
 use Rattle.study_marks.specs.declared.stipulation.Goal.{Goal}
 use Rattle.study_marks.specs.declared.stipulation.Goal.TheVariants as goals
 use Rattle.study_marks.specs.declared.mark_rules.Aim.{Aim}

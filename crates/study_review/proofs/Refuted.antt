@@ -9,9 +9,9 @@ use Rattle.study_moves.specs.Rules.{after}
 use Rattle.study_moves.specs.Game.{IsLegal, MatesWithin, IsMatedWithin, IsWon}
 use Rattle.study_moves.specs.Laws.{EachForcesMateSoundly}
 use Rattle.study_moves.specs.LegalList.{legal_list}
-use Rattle.study_retro.specs.declared.value.Value.{Value}
-use Rattle.study_retro.specs.declared.value.Value.TheVariants as values
-use Rattle.study_retro.specs.Game.{IsValueOf}
+use Rattle.study_values.specs.declared.value.Value.{Value}
+use Rattle.study_values.specs.declared.value.Value.TheVariants as values
+use Rattle.study_values.specs.Game.{IsValueOf}
 use Rattle.study_marks.specs.declared.stipulation.Goal.{Goal}
 use Rattle.study_marks.specs.declared.stipulation.Goal.TheVariants.{Win, Draw, MateIn}
 use Rattle.study_marks.specs.Goals.{hero_moves, hero_mates, hero_loses, keeps_goal, plies_of, mates_by, holds}

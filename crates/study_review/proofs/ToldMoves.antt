@@ -6,8 +6,8 @@ use Rattle.study_board.specs.Position.{Position}
 use Rattle.study_moves.specs.declared.moves.Move.{Move}
 use Rattle.study_moves.specs.LegalList.{legal_list}
 use Rattle.study_moves.specs.Rules.{after}
-use Rattle.study_retro.specs.declared.value.Value.{Value}
-use Rattle.study_retro.specs.Game.{IsValueOf}
+use Rattle.study_values.specs.declared.value.Value.{Value}
+use Rattle.study_values.specs.Game.{IsValueOf}
 use Rattle.study_marks.specs.declared.mark_rules.Aim.{Aim}
 use Rattle.study_marks.specs.Goals.{holds}
 use Rattle.study_marks.specs.Annotated.{AreValuesAfter}

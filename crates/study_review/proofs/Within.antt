@@ -13,11 +13,11 @@ use Rattle.study_material.specs.Needs.{Reaches, IsNeeded, NeedsClass}
 use Rattle.study_material.proofs.Classes.{lists_of-injective}
 use Rattle.study_material.proofs.EachHasClass.{class_exists}
 use Rattle.study_material.proofs.MovesOn.{moves_lead_on}
-use Rattle.study_tablefile.specs.declared.fault.SourceFault.{SourceFault}
-use Rattle.study_retro.specs.declared.value.Value.{Value}
-use Rattle.study_prober.specs.Values.{ProbeAnswer}
-use Rattle.study_prober.specs.declared.values.ProbeFault.{ProbeFault}
-use Rattle.study_prober.specs.declared.values.ProbeFault.TheVariants as probe
+use Rattle.study_values.specs.declared.fault.SourceFault.{SourceFault}
+use Rattle.study_values.specs.declared.value.Value.{Value}
+use Rattle.study_values.specs.Values.{ProbeAnswer}
+use Rattle.study_values.specs.declared.values.ProbeFault.{ProbeFault}
+use Rattle.study_values.specs.declared.values.ProbeFault.TheVariants as probe
 use Rattle.study_marks.specs.Answers.{Answers, WereTold, IsFirstFault}
 use Rattle.study_marks.specs.Queries.{IsFirstMissing}
 use Rattle.study_marks.specs.Told.{IsUntold}

@@ -4,10 +4,10 @@ use Rattle.study_board.specs.Position.{Position, IsValid}
 use Rattle.study_material.specs.declared.class.Class.{Class}
 use Rattle.study_material.specs.Class.{IsOf}
 use Rattle.study_material.specs.Needs.{NeedsClass}
-use Rattle.study_tablefile.specs.declared.fault.SourceFault.{SourceFault}
-use Rattle.study_prober.specs.Values.{ProbeAnswer, IsNotDamage}
-use Rattle.study_prober.specs.declared.values.ProbeFault.{ProbeFault}
-use Rattle.study_prober.specs.declared.values.ProbeFault.TheVariants.{NoTable}
+use Rattle.study_values.specs.declared.fault.SourceFault.{SourceFault}
+use Rattle.study_values.specs.Values.{ProbeAnswer, IsNotDamage}
+use Rattle.study_values.specs.declared.values.ProbeFault.{ProbeFault}
+use Rattle.study_values.specs.declared.values.ProbeFault.TheVariants.{NoTable}
 use Rattle.study_marks.specs.Told.{failures_told}
 use Rattle.study_marks.specs.Answers.{WereTold, IsFirstFault}
 

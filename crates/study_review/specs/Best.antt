@@ -6,9 +6,9 @@ use Rattle.study_moves.specs.Rules.{after}
 use Rattle.study_moves.specs.Order.{IsBefore}
 use Rattle.study_moves.specs.Game.{IsLegal}
 use Rattle.study_moves.specs.declared.moves.Move.{Move}
-use Rattle.study_retro.specs.Game.{IsValueOf}
-use Rattle.study_retro.specs.declared.value.Value.{Value}
-use Rattle.study_retro.specs.declared.value.Value.TheVariants.{Win, Loss, Draw}
+use Rattle.study_values.specs.Game.{IsValueOf}
+use Rattle.study_values.specs.declared.value.Value.{Value}
+use Rattle.study_values.specs.declared.value.Value.TheVariants.{Win, Loss, Draw}
 use Rattle.study_review.specs.declared.continuation.Continuation.{Continuation}
 use Rattle.study_review.specs.Continuations.{AreChosen}
 

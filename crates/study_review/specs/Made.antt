@@ -2,8 +2,8 @@
 use Rattle.std.specs.Prelude.{◌≡◌, ℕ, Bool, List, ◌++◌, Result, Ok, Err}
 use Rattle.study_board.specs.Position.{Position}
 use Rattle.study_material.specs.declared.class.Class.{Class}
-use Rattle.study_tablefile.specs.declared.fault.SourceFault.{SourceFault}
-use Rattle.study_prober.specs.Values.{ProbeAnswer}
+use Rattle.study_values.specs.declared.fault.SourceFault.{SourceFault}
+use Rattle.study_values.specs.Values.{ProbeAnswer}
 use Rattle.study_review.specs.declared.fault.ReviewFault.{ReviewFault}
 use Rattle.study_review.specs.declared.fault.ReviewFault.TheVariants as fault
 use Rattle.study_review.specs.declared.fault.NotMade.{NotMade}

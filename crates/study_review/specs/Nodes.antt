@@ -5,8 +5,8 @@ use Rattle.std.specs.List.{flat_map}
 use Rattle.study_board.specs.Position.{Position, in_check}
 use Rattle.study_moves.specs.declared.moves.Move.{Move}
 use Rattle.study_moves.specs.LegalList.{legal_list}
-use Rattle.study_retro.specs.declared.value.Value.{Value}
-use Rattle.study_retro.specs.declared.value.Value.TheVariants.{Win, Loss, Draw}
+use Rattle.study_values.specs.declared.value.Value.{Value}
+use Rattle.study_values.specs.declared.value.Value.TheVariants.{Win, Loss, Draw}
 use Rattle.study_tree.specs.Forest.{Forest, none, more}
 use Rattle.study_tree.specs.Tree.{Spot, spot_at}
 use Rattle.study_marks.specs.declared.mark.Mark.{Mark}

@@ -2,8 +2,8 @@
 use Rattle.std.specs.Prelude.{◌≡◌, ℕ, ◌+◌, Bool, true, false, ◌&&◌, List, [], ◌∷◌, ◌++◌, codes, decimal, if◌then◌else◌, Result, Ok, Err}
 use Rattle.study_board.specs.Position.{Position}
 use Rattle.study_material.specs.declared.class.Class.{Class}
-use Rattle.study_tablefile.specs.declared.fault.SourceFault.{SourceFault}
-use Rattle.study_prober.specs.Values.{ProbeAnswer}
+use Rattle.study_values.specs.declared.fault.SourceFault.{SourceFault}
+use Rattle.study_values.specs.Values.{ProbeAnswer}
 use Rattle.study_notation.specs.FenSpelling.{fen_text}
 use Rattle.study_tree.specs.Forest.{Forest, none, more}
 use Rattle.study_marks.specs.declared.mark.Mark.{Mark}

@@ -6,8 +6,8 @@ use Rattle.study_moves.specs.declared.moves.Move.{Move}
 use Rattle.study_moves.specs.Rules.{after}
 use Rattle.study_moves.specs.LegalList.{legal_list}
 use Rattle.study_notation.specs.Written.{move_text}
-use Rattle.study_retro.specs.declared.value.Value.{Value}
-use Rattle.study_retro.specs.declared.value.Value.TheVariants.{Win, Loss, Draw}
+use Rattle.study_values.specs.declared.value.Value.{Value}
+use Rattle.study_values.specs.declared.value.Value.TheVariants.{Win, Loss, Draw}
 use Rattle.study_tree.specs.Paths.{path_text}
 use Rattle.study_review.specs.declared.continuation.Continuation.{Continuation}
 use Rattle.study_review.specs.declared.time.Alternative.{Alternative}

@@ -19,8 +19,8 @@ use crate::words::add_missing_line;
 use std::alloc::Allocator;
 use study_marks::holds;
 use study_moves::{MAX_MOVES, Move, legal_moves, played};
-use study_prober::Values;
 use study_text::Text;
+use study_values::Values;
 
 /// How many moves hold, and the move where it is one.
 #[derive(Clone, Copy)]

@@ -1,7 +1,7 @@
 //! Whether a move only loses time.
 ghost use Rattle.std.specs.Prelude.{◌≡◌, ◌≤◌, ◌↔◌, true, false, length, IfOk, IfErr, IsErrOf};
 ghost use Rattle.std.specs.List.{All};
-ghost use Rattle.study_prober.specs.Values.{IsNotDamage};
+ghost use Rattle.study_values.specs.Values.{IsNotDamage};
 ghost use Rattle.study_review.specs.Asked.{HasTold, within};
 ghost use Rattle.study_material.specs.declared.class.Class.{Class as AClass};
 ghost use Rattle.study_moves.specs.Rules.{is_legal};
@@ -12,7 +12,7 @@ ghost use Rattle.study_review.specs.Leads.{SomeLeads, AreBack, GoesBack};
 use study_board::Position;
 use study_marks::hero_loses;
 use study_moves::{MAX_MOVES, Move, legal_moves, played, values_are_unique};
-use study_prober::{ProbeFault, Values};
+use study_values::{ProbeFault, Values};
 
 /// Whether the position is one of the line.
 fn stands_in(line: &[Position], q: &Position) -> bool

@@ -2,7 +2,7 @@
 ghost use Rattle.std.specs.Prelude.{◌≡◌, ◌+◌, ◌++◌, ◌≤◌, true, List, length, map, is_ok, OnOk, IfOk, IfErr, IfSome, IfNone, IsErrOf, false};
 ghost use Rattle.std.specs.List.{All};
 ghost use Rattle.arrayvec.specs.ArrayVec.{array_vec_len};
-ghost use Rattle.study_prober.specs.Values.{IsNotDamage};
+ghost use Rattle.study_values.specs.Values.{IsNotDamage};
 ghost use Rattle.study_marks.specs.Answers.{WereTold, IsFirstFault};
 ghost use Rattle.study_review.specs.Asked.{HasTold, within};
 ghost use Rattle.study_material.specs.declared.class.Class.{Class as AClass};
@@ -19,8 +19,7 @@ use crate::continuation::Continuation;
 use arrayvec::ArrayVec;
 use study_board::Position;
 use study_moves::{Move, legal_moves, played, values_are_unique};
-use study_prober::{ProbeFault, Values};
-use study_retro::Value;
+use study_values::{ProbeFault, Value, Values};
 
 /// Whether the first of two values after moves is better for the one who made them.
 fn is_better(v: Value, w: Value) -> bool

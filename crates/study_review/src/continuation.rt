@@ -5,7 +5,7 @@ ghost use Rattle.study_review.specs.Continuations.{is_draw, is_wanted};
 use study_board::Position;
 use study_marks::{Aim, holds};
 use study_moves::Move;
-use study_retro::Value;
+use study_values::Value;
 
 /// A move, and the value of the position after it, seen from the side to move there.
 #[derive(Clone, Copy, Debug, PartialEq, Eq)]
@@ -16,7 +16,7 @@ pub struct Continuation {
 
 impl Default for Continuation {
     ghost use Rattle.std.specs.Prelude.{◌≡◌};
-    ghost use Rattle.study_retro.specs.declared.value.Value.TheVariants.{Draw};
+    ghost use Rattle.study_values.specs.declared.value.Value.TheVariants.{Draw};
 
     ghost is_default = { λ a. a.value ≡ Draw };
 

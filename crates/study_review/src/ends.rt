@@ -18,9 +18,8 @@ use arrayvec::ArrayVec;
 use std::alloc::Allocator;
 use study_board::Position;
 use study_moves::played;
-use study_prober::Values;
-use study_retro::Value;
 use study_text::Text;
+use study_values::{Value, Values};
 
 /// The first of these moves with the best value.
 fn best_of(p: &Position, told: &[Continuation]) -> Option<Continuation>

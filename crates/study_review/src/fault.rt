@@ -1,8 +1,8 @@
 //! Why no review is written.
 
 use std::alloc::{AllocError, AllocFailed};
-use study_prober::ProbeFault;
 use study_text::DeviceFailed;
+use study_values::ProbeFault;
 use thiserror::Error;
 
 /// Why the review of a study is not written, or not whole.

@@ -2,12 +2,12 @@
 ghost use Rattle.std.specs.Prelude.{◌≡◌, ◌+◌, ◌++◌, ◌∷◌, [], ◌<◌, ◌≤◌, ◌^◌, true, List, length, is_ok, OnOk, IfOk, IfErr};
 ghost use Rattle.std.specs.List.{All};
 ghost use Rattle.arrayvec.specs.ArrayVec.{array_vec_len};
-ghost use Rattle.study_prober.specs.Values.{IsNotDamage};
+ghost use Rattle.study_values.specs.Values.{IsNotDamage};
 ghost use Rattle.study_marks.specs.Answers.{WereTold, IsFirstFault};
 ghost use Rattle.study_material.specs.declared.class.Class.{Class as AClass};
 ghost use Rattle.study_moves.specs.Rules.{is_legal};
 ghost use Rattle.study_moves.specs.LegalList.{legal_list};
-ghost use Rattle.study_retro.specs.declared.value.Value.{Value as AValue};
+ghost use Rattle.study_values.specs.declared.value.Value.{Value as AValue};
 ghost use Rattle.study_marks.specs.Annotated.{AreValuesAfter};
 ghost use Rattle.study_marks.specs.Told.{IsUntold, WasAsked, failures_told};
 ghost use Rattle.study_review.specs.Continuations.{each_after, is_wanted, kept, chosen, others};
@@ -17,8 +17,7 @@ use crate::beside::others;
 use crate::continuation::{Continuation, Node, Wanted, is_wanted};
 use arrayvec::ArrayVec;
 use study_moves::{MAX_MOVES, Move, legal_moves, played};
-use study_prober::{ProbeFault, Values};
-use study_retro::Value;
+use study_values::{ProbeFault, Value, Values};
 
 /// Adds the move with the value after it, if it is wanted.
 fn keep(

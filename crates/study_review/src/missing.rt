@@ -2,7 +2,7 @@
 ghost use Rattle.std.specs.Prelude.{◌≡◌, ◌+◌, ◌++◌, ◌∷◌, [], ◌≤◌, ◌<◌, ◌^◌, List, true, false, length, IfOk, OnOk, IfErr, IsErrOf};
 ghost use Rattle.std.specs.List.{All};
 ghost use Rattle.arrayvec.specs.ArrayVec.{array_vec_len};
-ghost use Rattle.study_prober.specs.Values.{IsNotDamage};
+ghost use Rattle.study_values.specs.Values.{IsNotDamage};
 ghost use Rattle.study_material.specs.declared.class.Class.{Class as AClass};
 ghost use Rattle.study_moves.specs.Rules.{is_legal, after};
 ghost use Rattle.study_marks.specs.Told.{failures_told};
@@ -16,8 +16,7 @@ use crate::lists::{holding_moves, missing_moves};
 use arrayvec::ArrayVec;
 use study_board::Position;
 use study_moves::{MAX_MOVES, Move, played};
-use study_prober::{ProbeFault, Values};
-use study_retro::Value;
+use study_values::{ProbeFault, Value, Values};
 
 /// A move of the opponent: the value of the position after it, seen from the hero, how many of the hero's moves hold
 /// there, and that move where it is one.

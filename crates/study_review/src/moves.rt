@@ -21,9 +21,8 @@ use std::alloc::{AllocError, Allocator};
 use study_board::Position;
 use study_marks::{Bench, Mark, MoveMark, holds};
 use study_moves::{Move, played};
-use study_prober::Values;
-use study_retro::Value;
 use study_text::Text;
+use study_values::{Value, Values};
 
 /// A move of a study: the node before it, the positions from the root to that node, the path of the node that it leads
 /// to, and the move.

@@ -27,9 +27,8 @@ use std::alloc::{AllocError, Allocator};
 use study_board::Position;
 use study_marks::{Bench, hero_moves, holds};
 use study_moves::in_check;
-use study_prober::Values;
-use study_retro::Value;
 use study_text::Text;
+use study_values::{Value, Values};
 
 /// A node of a study: its path, what it shows, whether its path is of the solution, and whether the move to it is a try.
 #[derive(Clone, Copy)]

@@ -7,7 +7,7 @@ ghost use Rattle.study_review.specs.Nodes.{is_mistake, is_idle, value_at};
 use crate::stand::Stand;
 use std::alloc::Allocator;
 use study_marks::{Aim, Bench, MoveMark};
-use study_retro::Value;
+use study_values::Value;
 
 /// Whether the move is a mistake.
 pub fn is_mistake(mark: Option<MoveMark>) -> bool

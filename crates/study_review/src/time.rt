@@ -2,7 +2,7 @@
 ghost use Rattle.std.specs.Prelude.{◌≡◌, ◌+◌, ◌++◌, ◌∷◌, [], ◌≤◌, ◌<◌, ◌^◌, List, true, false, length, IfOk, OnOk, IfErr, IsErrOf};
 ghost use Rattle.std.specs.List.{All};
 ghost use Rattle.arrayvec.specs.ArrayVec.{array_vec_len};
-ghost use Rattle.study_prober.specs.Values.{IsNotDamage};
+ghost use Rattle.study_values.specs.Values.{IsNotDamage};
 ghost use Rattle.study_material.specs.declared.class.Class.{Class as AClass};
 ghost use Rattle.study_moves.specs.Rules.{is_legal};
 ghost use Rattle.study_marks.specs.Told.{failures_told};
@@ -18,8 +18,7 @@ use arrayvec::ArrayVec;
 use study_board::Position;
 use study_marks::Goal;
 use study_moves::{MAX_MOVES, Move, played};
-use study_prober::{ProbeFault, Values};
-use study_retro::Value;
+use study_values::{ProbeFault, Value, Values};
 
 /// Another move that holds: the value of the position after it, seen from the side to move there, and where it only loses
 /// time the least number of moves of the opponent, not counting the last, by which he forces a position of the line.

@@ -3,8 +3,8 @@ ghost use Rattle.std.specs.Prelude.{◌≡◌, ◌+◌, ◌≤◌, ◌++◌, ◌
 ghost use Rattle.std.specs.List.{All};
 ghost use Rattle.study_moves.specs.Rules.{is_legal, after};
 ghost use Rattle.study_moves.specs.LegalList.{legal_list};
-ghost use Rattle.study_retro.specs.Game.{IsValueOf};
-ghost use Rattle.study_retro.specs.declared.value.Value.{Value as AValue};
+ghost use Rattle.study_values.specs.Game.{IsValueOf};
+ghost use Rattle.study_values.specs.declared.value.Value.{Value as AValue};
 ghost use Rattle.study_review.specs.Asked.{within};
 ghost use Rattle.study_review.specs.Continuations.{AreChosen};
 ghost use Rattle.study_review.specs.Made.{HasAsked};
@@ -15,8 +15,7 @@ use crate::fault::NotMade;
 use std::alloc::Allocator;
 use study_board::Position;
 use study_moves::{MAX_MOVES, Move, legal_moves, played};
-use study_prober::Values;
-use study_retro::Value;
+use study_values::{Value, Values};
 
 /// The value of a position.
 pub fn ask<V: Values>(q: &Position, values: &mut V) -> Result<Value, NotMade>

@@ -22,7 +22,7 @@ use crate::stand::{Arrival, Stand, arrival_at, root_stand, stand_after};
 use std::alloc::Allocator;
 use study_board::Position;
 use study_marks::{Aim, Bench, Mark, hero_moves};
-use study_prober::Values;
+use study_values::Values;
 
 /// How many children the node has, none where there is no node.
 pub fn count_at<'b, B: Allocator>(bench: &Bench<'b, B>, steps: &[u16]) -> u16

@@ -19,8 +19,8 @@ use study_board::Position;
 use study_marks::holds;
 use study_moves::{Move, played};
 use study_notation::write_san;
-use study_retro::Value;
 use study_text::Text;
+use study_values::Value;
 
 /// A word, and a number after it.
 pub fn add_counted<A: Allocator>(

@@ -6,7 +6,7 @@ ghost use Rattle.study_tree.specs.Edits.{width};
 ghost use Rattle.study_marks.specs.Goals.{aim_of};
 ghost use Rattle.study_marks.specs.BenchState.{marked, IsKeptRight};
 ghost use Rattle.study_marks.specs.Study.{plain_study};
-ghost use Rattle.study_prober.specs.declared.values.ProbeFault.{ProbeFault as AProbeFault};
+ghost use Rattle.study_values.specs.declared.values.ProbeFault.{ProbeFault as AProbeFault};
 ghost use Rattle.study_marks.specs.FaultSums.{skipped};
 ghost use Rattle.study_review.specs.Asked.{within};
 ghost use Rattle.study_review.specs.Made.{HasAsked};
@@ -21,8 +21,8 @@ use std::io::Write;
 use study_marks::{Bench, Mark, hero_moves};
 use study_notation::write_fen;
 use study_pgn::{add_opening_words, root_mark};
-use study_prober::Values;
 use study_text::{Text, write_text};
+use study_values::Values;
 
 /// Where the study starts.
 #[tactic(auto, unfolding(crate::specs::Review::study_line))]

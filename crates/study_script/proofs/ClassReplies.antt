@@ -11,15 +11,15 @@ use Rattle.study_command.specs.declared.command.TableCommand.TheVariants.{Build,
 use Rattle.study_material.specs.declared.class.Class.{Class}
 use Rattle.study_material.specs.Needs.{needs_of}
 use Rattle.study_prober.specs.Sources.{GivesOf}
-use Rattle.study_tablefile.specs.declared.fault.SourceFault.{SourceFault}
+use Rattle.study_values.specs.declared.fault.SourceFault.{SourceFault}
 use Rattle.study_material.specs.Class.{class_number}
-use Rattle.study_retro.specs.Table.{Table, IsComplete, table_of}
-use Rattle.study_retro.specs.TableSet.{first_missing}
-use Rattle.study_retro.specs.Sound.{IsRight, HasFarPosition}
+use Rattle.study_table.specs.Table.{Table, IsComplete, table_of}
+use Rattle.study_table.specs.TableSet.{first_missing}
+use Rattle.study_table.specs.Sound.{IsRight, HasFarPosition}
 use Rattle.study_retro.specs.Report.{IsGreatest, win_of}
 use Rattle.study_tablefile.specs.Reading.{table_read, HasHeader}
-use Rattle.study_tablefile.specs.declared.fault.FileFault.{FileFault}
-use Rattle.study_tablefile.specs.declared.fault.FileFault.TheVariants as file_fault
+use Rattle.study_values.specs.declared.fault.FileFault.{FileFault}
+use Rattle.study_values.specs.declared.fault.FileFault.TheVariants as file_fault
 use Rattle.study_prober.specs.WholeTables.{Whole}
 use Rattle.study_script.specs.declared.store.StoreFault.{StoreFault}
 use Rattle.study_reply.specs.declared.refusal.Refusal.{Refusal}

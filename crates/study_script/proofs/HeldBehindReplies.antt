@@ -11,8 +11,8 @@ use Rattle.study_marks.specs.Edits.{Plainly}
 use Rattle.std.specs.Option.{option_map}
 use Rattle.study_material.specs.declared.class.Class.{Class}
 use Rattle.study_prober.specs.Sources.{GivesOf}
-use Rattle.study_tablefile.specs.declared.fault.SourceFault.{SourceFault}
-use Rattle.study_retro.specs.Table.{Table}
+use Rattle.study_values.specs.declared.fault.SourceFault.{SourceFault}
+use Rattle.study_table.specs.Table.{Table}
 use Rattle.study_tree.specs.Tree.{Spot}
 use Rattle.study_marks.specs.declared.mark.Mark.{Mark}
 use Rattle.study_reply.specs.declared.refusal.Refusal.TheVariants.{NoSuchNode}

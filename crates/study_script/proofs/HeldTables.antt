@@ -14,12 +14,12 @@ use Rattle.study_material.specs.declared.class.Class.TheVariants.{KBKB, KBKN, KB
 use Rattle.study_material.specs.Class.{name_of}
 use Rattle.study_material.specs.Needs.{needs_of}
 use Rattle.study_material.specs.Class.{class_number}
-use Rattle.study_retro.specs.Table.{Table, IsClosed, IsReady, table_of}
-use Rattle.study_retro.specs.TableSet.{first_missing, add_fault}
-use Rattle.study_retro.specs.Sound.{IsRight, NeedsAreRight}
+use Rattle.study_table.specs.Table.{Table, IsClosed, IsReady, table_of}
+use Rattle.study_table.specs.TableSet.{first_missing, add_fault}
+use Rattle.study_table.specs.Sound.{IsRight, NeedsAreRight}
 use Rattle.study_prober.specs.WholeTables.{Whole, TablesAreRight}
 use Rattle.study_prober.proofs.HeldSources.{same_class}
-use Rattle.study_tablefile.specs.declared.fault.SourceFault.{SourceFault}
+use Rattle.study_values.specs.declared.fault.SourceFault.{SourceFault}
 use Rattle.study_script.specs.declared.store.StoreFault.{StoreFault}
 use Rattle.study_script.specs.State.{State, Shelf, is_among, forgotten, forgotten_faults, written_anew}
 use Rattle.study_script.specs.Replies.{with_class, class_told}

@@ -5,9 +5,9 @@ use Rattle.std.proofs.lemmas.Bool.{lt-ltb}
 use Rattle.std.proofs.lemmas.List.{get_or-set_same, get_or-set_other}
 use Rattle.study_material.specs.declared.class.Class.{Class}
 use Rattle.study_material.specs.Class.{class_number}
-use Rattle.study_tablefile.specs.declared.fault.SourceFault.{SourceFault}
-use Rattle.study_tablefile.specs.declared.fault.SourceFault.TheVariants as source
-use Rattle.study_tablefile.specs.File.{pages_of}
+use Rattle.study_values.specs.declared.fault.SourceFault.{SourceFault}
+use Rattle.study_values.specs.declared.fault.SourceFault.TheVariants as source
+use Rattle.study_values.specs.Size.{pages_of}
 use Rattle.study_tablefile.specs.Source.{Question, of_header, of_page, IsAnswerOf}
 use Rattle.study_prober.proofs.HeldSources.{same_class}
 use Rattle.study_script.specs.declared.memory_store.MemoryFile.{MemoryFile}

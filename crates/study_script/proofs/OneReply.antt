@@ -10,14 +10,15 @@ use Rattle.study_moves.specs.declared.moves.Move.{Move}
 use Rattle.study_moves.specs.Game.{IsWon}
 use Rattle.study_moves.specs.Laws.{EachHasAtMostOneValue}
 use Rattle.study_material.specs.declared.class.Class.{Class}
-use Rattle.study_index.specs.Number.{cells_of}
-use Rattle.study_index.specs.Computed.{position_numbered, index_of}
-use Rattle.study_retro.specs.declared.value.Value.{Value}
-use Rattle.study_retro.specs.Cells.{distance_of, value_of}
-use Rattle.study_retro.specs.Table.{Table, IsComplete}
-use Rattle.study_retro.specs.Sound.{TellsValue, IsRight, HasFarPosition}
+use Rattle.study_values.specs.Number.{cells_of}
+use Rattle.study_index.specs.Computed.{position_numbered}
+use Rattle.study_values.specs.Index.{index_of}
+use Rattle.study_values.specs.declared.value.Value.{Value}
+use Rattle.study_values.specs.Cells.{distance_of, value_of}
+use Rattle.study_table.specs.Table.{Table, IsComplete}
+use Rattle.study_table.specs.Sound.{TellsValue, IsRight, HasFarPosition}
 use Rattle.study_retro.specs.Report.{Tells, IsGreatest, win_of}
-use Rattle.study_retro.proofs.SoundLemmas.{at_value}
+use Rattle.study_table.proofs.SoundLemmas.{at_value}
 use Rattle.study_prober.proofs.Tables.{one_class}
 use Rattle.study_notation.specs.declared.start.Start.{Start}
 use Rattle.study_notation.specs.declared.fault.FenFault.{FenFault}
@@ -45,7 +46,7 @@ use Rattle.study_reply.specs.declared.refusal.Refusal.{Refusal}
 use Rattle.study_reply.specs.declared.refusal.Refusal.TheVariants.{NoTable}
 use Rattle.study_command.specs.Parser.{Asked, fen_command, node_query, node_command, table_command, stipulate, insert, tag, solve, pgn, Asks, command_of}
 use Rattle.study_script.specs.State.{State, Document, empty, start, study, is_among, first_lacking, Outside, quiet}
-use Rattle.study_prober.specs.declared.values.ProbeFault.TheVariants as probe
+use Rattle.study_values.specs.declared.values.ProbeFault.TheVariants as probe
 use Rattle.study_script.specs.State.{no_path, no_room, no_room_for, unread, unopened, cut_off, file, header}
 use Rattle.std.specs.Prelude.{◌==◌, ◌%◌, ◌&&◌, codes}
 use Rattle.study_notation.specs.FenSpelling.{fen_text}

@@ -5,12 +5,12 @@ use Rattle.std.specs.Prelude.{MatchOption, IfErr}
 use Rattle.std.proofs.lemmas.List.{length-set}
 use Rattle.study_material.specs.declared.class.Class.{Class}
 use Rattle.study_material.specs.Class.{class_number}
-use Rattle.study_retro.specs.Table.{Table}
-use Rattle.study_tablefile.specs.declared.fault.SourceFault.{SourceFault}
+use Rattle.study_table.specs.Table.{Table}
+use Rattle.study_values.specs.declared.fault.SourceFault.{SourceFault}
 use Rattle.study_prober.specs.declared.fault.PagedFault.{PagedFault}
 use Rattle.study_prober.specs.declared.fault.PagedFault.TheVariants as fault_of
 use Rattle.study_prober.specs.declared.open_table.OpenTable.{OpenTable}
-use Rattle.study_tablefile.specs.File.{pages_of}
+use Rattle.study_values.specs.Size.{pages_of}
 use Rattle.study_tablefile.specs.Source.{of_page}
 use Rattle.study_prober.specs.Sources.{GivesOf, GivesRight}
 use Rattle.study_prober.specs.PagedTables.{Paged, MayFail, held_of, places_for_classes, SourcesAreRight}

@@ -2,12 +2,12 @@
 use Rattle.std.proofs.Common.{◌≡◌, ℕ, Bool, false, List, [], ◌∷◌, Option, Some, None, is_some, Result, Ok, Err, IfErr, refl, sym, subst, inl, inr}
 use Rattle.study_board.specs.Position.{Position}
 use Rattle.study_material.specs.declared.class.Class.{Class}
-use Rattle.study_tablefile.specs.declared.fault.SourceFault.{SourceFault}
+use Rattle.study_values.specs.declared.fault.SourceFault.{SourceFault}
 use Rattle.study_tablefile.specs.Source.{Question}
-use Rattle.study_prober.specs.Values.{ProbeAnswer}
+use Rattle.study_values.specs.Values.{ProbeAnswer}
 use Rattle.study_prober.specs.declared.open_table.OpenTable.{OpenTable}
-use Rattle.study_prober.specs.declared.values.ProbeFault.{ProbeFault}
-use Rattle.study_prober.specs.declared.values.ProbeFault.TheVariants as probe
+use Rattle.study_values.specs.declared.values.ProbeFault.{ProbeFault}
+use Rattle.study_values.specs.declared.values.ProbeFault.TheVariants as probe
 use Rattle.study_prober.specs.WholeTables.{Whole, IsCellAnswer}
 use Rattle.study_prober.specs.PagedTables.{Paged, IsPagedAnswer, MayFail, held_of}
 use Rattle.study_marks.specs.declared.refusal.Refusal.{Refusal as EditRefusal}

@@ -1,9 +1,9 @@
 -- What the commands of a class come to, before it is written.
 use Rattle.std.specs.Prelude.{◌≡◌, ◌⊎◌, ℕ, true, false, is_some, is_err, List, Option, Result, Ok, Err}
 use Rattle.study_material.specs.declared.class.Class.{Class}
-use Rattle.study_retro.specs.Table.{Table, table_of}
+use Rattle.study_table.specs.Table.{Table, table_of}
 use Rattle.study_prober.specs.WholeTables.{Whole, TablesAreRight}
-use Rattle.study_tablefile.specs.declared.fault.SourceFault.{SourceFault}
+use Rattle.study_values.specs.declared.fault.SourceFault.{SourceFault}
 use Rattle.study_prober.specs.Sources.{GivesOf}
 use Rattle.study_prober.specs.PagedTables.{Paged, MayFail, held_of, SourcesAreRight}
 use Rattle.study_reply.specs.declared.table_reply.TableReply.{TableReply}
@@ -11,7 +11,7 @@ use Rattle.study_reply.specs.declared.refusal.Refusal.{Refusal}
 use Rattle.study_reply.specs.Names.{words_of}
 use Rattle.study_reply.specs.TableReply.{decided_text}
 use Rattle.study_script.specs.StoreRefusals.{refusal_of_store}
-use Rattle.study_tablefile.specs.declared.fault.FileFault.{FileFault}
+use Rattle.study_values.specs.declared.fault.FileFault.{FileFault}
 use Rattle.study_tablefile.specs.Reading.{table_read, HasHeader}
 use Rattle.study_script.specs.declared.store.StoreFault.{StoreFault}
 use Rattle.study_reply.specs.declared.refusal.Refusal.TheVariants.{Device, OutOfMemory, File}

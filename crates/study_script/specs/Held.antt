@@ -3,12 +3,12 @@ use Rattle.std.specs.Prelude.{◌≡◌, ℕ, Bool, true, false, is_some, List, 
 use Rattle.study_script.specs.declared.store.StoreFault.{StoreFault}
 use Rattle.std.specs.Io.KnownBytes.{Appends}
 use Rattle.study_board.specs.Position.{Position}
-use Rattle.study_tablefile.specs.declared.fault.SourceFault.{SourceFault}
+use Rattle.study_values.specs.declared.fault.SourceFault.{SourceFault}
 use Rattle.study_tablefile.specs.Source.{Question}
 use Rattle.study_text.specs.Taken.{TakesPrefix}
 use Rattle.study_material.specs.declared.class.Class.{Class}
-use Rattle.study_retro.specs.Table.{Table, table_of}
-use Rattle.study_prober.specs.Values.{ProbeAnswer}
+use Rattle.study_table.specs.Table.{Table, table_of}
+use Rattle.study_values.specs.Values.{ProbeAnswer}
 use Rattle.study_prober.specs.WholeTables.{TablesAreRight, IsCellAnswer}
 use Rattle.study_prober.specs.Sources.{GivesOf}
 use Rattle.study_prober.specs.PagedTables.{SourcesAreRight, IsPagedAnswer, MayFail, held_of}
@@ -21,7 +21,7 @@ use Rattle.study_script.specs.declared.document.Document.TheVariants as held
 use Rattle.study_script.specs.declared.tables.Tables.{Tables}
 use Rattle.study_script.specs.declared.tables.Tables.TheVariants.{Whole, Paged}
 use Rattle.study_script.specs.State.{Document, empty, start, study, State, is_among, Outside}
-use Rattle.study_prober.specs.declared.values.ProbeFault.TheVariants as probe
+use Rattle.study_values.specs.declared.values.ProbeFault.TheVariants as probe
 use Rattle.study_script.specs.Replies.{Reply, MayFailAmong}
 
 module _ {A : Type 0} where

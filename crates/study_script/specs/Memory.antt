@@ -2,11 +2,12 @@
 use Rattle.std.specs.Prelude.{◌≡◌, ℕ, ◌+◌, ◌*◌, nat_lt, Bool, true, false, List, length, take, slice_index_or, Option, Some, None, Result, Ok, Err}
 use Rattle.study_material.specs.declared.class.Class.{Class}
 use Rattle.study_material.specs.Class.{class_number}
-use Rattle.study_retro.specs.Table.{Table, IsComplete}
-use Rattle.study_retro.specs.Sound.{IsRight}
-use Rattle.study_tablefile.specs.declared.fault.SourceFault.{SourceFault}
-use Rattle.study_tablefile.specs.declared.fault.SourceFault.TheVariants as source
-use Rattle.study_tablefile.specs.File.{IsVersionOf, pages_of, table_text}
+use Rattle.study_table.specs.Table.{Table, IsComplete}
+use Rattle.study_table.specs.Sound.{IsRight}
+use Rattle.study_values.specs.declared.fault.SourceFault.{SourceFault}
+use Rattle.study_values.specs.declared.fault.SourceFault.TheVariants as source
+use Rattle.study_tablefile.specs.File.{IsVersionOf, table_text}
+use Rattle.study_values.specs.Size.{pages_of}
 use Rattle.study_script.specs.declared.store.StoreFault.{StoreFault}
 use Rattle.study_script.specs.declared.store.StoreFault.TheVariants.{NoFile, Device}
 use Rattle.study_script.specs.declared.memory_store.MemoryFile.{MemoryFile}

@@ -10,16 +10,16 @@ use Rattle.study_moves.specs.Game.{MatesWithin, IsWon}
 use Rattle.study_material.specs.declared.class.Class.{Class}
 use Rattle.study_material.specs.Class.{IsOf, name_of, class_list}
 use Rattle.study_material.specs.Class.{class_number}
-use Rattle.study_retro.specs.Table.{Table, IsComplete}
-use Rattle.study_retro.specs.Sound.{IsRight, HasFarPosition}
+use Rattle.study_table.specs.Table.{Table, IsComplete}
+use Rattle.study_table.specs.Sound.{IsRight, HasFarPosition}
 use Rattle.study_retro.specs.Report.{IsGreatest, win_of}
-use Rattle.study_tablefile.specs.declared.fault.FileFault.{FileFault}
-use Rattle.study_tablefile.specs.declared.fault.SourceFault.{SourceFault}
-use Rattle.study_tablefile.specs.File.{pages_of}
+use Rattle.study_values.specs.declared.fault.FileFault.{FileFault}
+use Rattle.study_values.specs.declared.fault.SourceFault.{SourceFault}
+use Rattle.study_values.specs.Size.{pages_of}
 use Rattle.study_tablefile.specs.Reading.{HasHeader, table_read}
 use Rattle.study_prober.specs.declared.fault.PagedFault.{PagedFault}
 use Rattle.study_prober.specs.HeaderAnswers.{paged_fault}
-use Rattle.study_prober.specs.declared.values.ProbeFault.TheVariants as probe
+use Rattle.study_values.specs.declared.values.ProbeFault.TheVariants as probe
 use Rattle.study_notation.specs.declared.start.Start.{Start}
 use Rattle.study_notation.specs.declared.fault.FenFault.{FenFault}
 use Rattle.study_notation.specs.declared.fault.SanFault.{SanFault}

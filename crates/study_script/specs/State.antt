@@ -4,10 +4,10 @@ use Rattle.std.specs.List.{list_any}
 use Rattle.study_material.specs.declared.class.Class.{Class}
 use Rattle.study_material.specs.Needs.{needs_of}
 use Rattle.study_material.specs.Class.{class_number}
-use Rattle.study_tablefile.specs.declared.fault.SourceFault.{SourceFault}
-use Rattle.study_tablefile.specs.File.{pages_of}
+use Rattle.study_values.specs.declared.fault.SourceFault.{SourceFault}
+use Rattle.study_values.specs.Size.{pages_of}
 use Rattle.study_tablefile.specs.Source.{Question, of_header, of_page}
-use Rattle.study_prober.specs.declared.values.ProbeFault.{ProbeFault}
+use Rattle.study_values.specs.declared.values.ProbeFault.{ProbeFault}
 use Rattle.study_notation.specs.declared.start.Start.{Start}
 use Rattle.study_marks.specs.Edits.{Plainly}
 use Rattle.study_script.specs.declared.store.StoreFault.{StoreFault}

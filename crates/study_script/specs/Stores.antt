@@ -2,9 +2,9 @@
 use Rattle.std.specs.Prelude.{◌≡◌, ℕ, Bool, true, List, Option, Some, None, Result, Ok, Err, IfSome}
 use Rattle.study_material.specs.declared.class.Class.{Class}
 use Rattle.study_script.specs.declared.store.StoreFault.{StoreFault}
-use Rattle.study_tablefile.specs.declared.fault.SourceFault.{SourceFault}
-use Rattle.study_retro.specs.Table.{Table, IsComplete}
-use Rattle.study_retro.specs.Sound.{IsRight}
+use Rattle.study_values.specs.declared.fault.SourceFault.{SourceFault}
+use Rattle.study_table.specs.Table.{Table, IsComplete}
+use Rattle.study_table.specs.Sound.{IsRight}
 use Rattle.study_tablefile.specs.File.{IsVersionOf}
 use Rattle.study_tablefile.specs.Reading.{table_read}
 use Rattle.study_script.specs.State.{State, Shelf}

@@ -14,7 +14,7 @@ use std::alloc::{AllocError, Allocator};
 use std::io::{Read, Write};
 use study_command::{Line, LineFault, read_byte};
 use study_prober::{PagedTables, WholeTables};
-use study_retro::TableSet;
+use study_table::TableSet;
 use study_tablefile::PageSource;
 use thiserror::Error;
 

@@ -1,7 +1,7 @@
 //! Where the files of tables are.
 ghost use Rattle.std.specs.Prelude.{◌≡◌, ℕ, Bool, true, false, List, Option, Result, Ok, Err, IsOk, IfOk, MatchResult};
 ghost use Rattle.study_material.specs.declared.class.Class.{Class as AClass};
-ghost use Rattle.study_tablefile.specs.declared.fault.SourceFault.{SourceFault as ASourceFault};
+ghost use Rattle.study_values.specs.declared.fault.SourceFault.{SourceFault as ASourceFault};
 ghost use Rattle.study_tablefile.specs.Source.{Question, of_header};
 ghost use Rattle.study_script.specs.declared.store.StoreFault.{StoreFault as AStoreFault};
 ghost use Rattle.study_script.specs.State.{IsGiven, IsOpened, IsQuestionOf, forgotten, forgotten_faults};

@@ -1,9 +1,9 @@
 //! Classes of material: `build`, `load`, `save` and `verify`.
 ghost use Rattle.std.specs.Prelude.{◌≡◌, ◌↔◌, ℕ, Bool, true, List, Option, Some, None, Ok, false, is_some, slice_set, IfOk, IfErr, IfSome, IsTrue};
-ghost use Rattle.study_retro.specs.Sound.{IsRight, NeedsAreRight};
-ghost use Rattle.study_retro.specs.TableSet.{add_fault};
+ghost use Rattle.study_table.specs.Sound.{IsRight, NeedsAreRight};
+ghost use Rattle.study_table.specs.TableSet.{add_fault};
 ghost use Rattle.study_material.specs.Class.{class_number};
-ghost use Rattle.study_retro.specs.Table.{table_of, IsClosed, IsComplete};
+ghost use Rattle.study_table.specs.Table.{table_of, IsClosed, IsComplete};
 ghost use Rattle.study_tablefile.specs.Reading.{table_read};
 ghost use Rattle.study_script.specs.State.{State, is_among, first_lacking, IsGiven};
 ghost use Rattle.study_script.specs.StoreRefusals.{refusal_of_store, refusal_of_paged};
@@ -20,12 +20,13 @@ use crate::tables::Tables;
 use std::alloc::Allocator;
 use std::io::Write;
 use study_command::TableCommand;
-use study_index::cells;
 use study_material::Class;
-use study_prober::{PagedFault, PagedTables, Values, WholeTables};
+use study_prober::{PagedFault, PagedTables, WholeTables};
 use study_reply::{Answer, Refusal, Refused, Reply, TableReply};
-use study_retro::{BuildFault, BuildRoom, Table, build, verify};
-use study_tablefile::{FileFault, read_table, write_table};
+use study_retro::{BuildFault, BuildRoom, build, verify};
+use study_table::Table;
+use study_tablefile::{read_table, write_table};
+use study_values::{FileFault, Values, cells};
 
 /// Commands that take a class.
 pub fn table_command<'a, S: TableStore, A: Allocator>(

@@ -8,8 +8,8 @@ use Rattle.std.proofs.lemmas.Bool.{le-ltb}
 use Rattle.std.proofs.lemmas.List.{take_at, drop_at, drop_more, drop-drop, take-append-le, drop-append-le}
 use Rattle.study_material.specs.declared.class.Class.{Class}
 use Rattle.study_material.specs.Class.{class_list}
-use Rattle.study_tablefile.specs.declared.fault.FileFault.{FileFault}
-use Rattle.study_tablefile.specs.declared.fault.FileFault.TheVariants.{PageDamaged}
+use Rattle.study_values.specs.declared.fault.FileFault.{FileFault}
+use Rattle.study_values.specs.declared.fault.FileFault.TheVariants.{PageDamaged}
 use Rattle.study_tablefile.specs.File.{class_field, is_known_version, fields_text, page_digest}
 use Rattle.study_tablefile.specs.Reading.{class_named, version_of, class_read, page_fault, pages_read, table_behind, table_read, unless, IsShort}
 

@@ -1,4 +1,3 @@
-pub mod ClassBounds
 pub mod Lists
 pub mod PagesWritten
 pub mod BytesGiven

@@ -2,12 +2,13 @@
 use Rattle.std.proofs.Common.{◌≡◌, ℕ, zero, suc, ◌+◌, ◌*◌, ◌<◌, ◌≤◌, min, List, length, length-drop, take, drop, Option, refl, ap, ◌∙◌, arith}
 use Rattle.std.specs.Io.KnownBytes.{Appends}
 use Rattle.study_material.specs.declared.class.Class.{Class}
-use Rattle.study_retro.specs.Table.{Table}
-use Rattle.study_index.specs.Number.{cells_of}
+use Rattle.study_table.specs.Table.{Table}
+use Rattle.study_values.specs.Number.{cells_of}
 use Rattle.study_text.specs.Taken.{TakesPrefix}
-use Rattle.study_tablefile.specs.File.{written_version, fields_text, header_text, page_cells_of, page_text, pages_of, pages_text, table_text}
+use Rattle.study_tablefile.specs.File.{written_version, fields_text, header_text, page_cells_of, page_text, pages_text, table_text}
+use Rattle.study_values.specs.Size.{pages_of}
 use Rattle.study_text.proofs.TextTaken.{Wrote, Wrote-first, Wrote-cut, Wrote-all, Wrote-stops_at, stops_first}
-use Rattle.study_tablefile.proofs.ClassBounds.{pages_hold, pages_full, few_pages}
+use Rattle.study_values.proofs.ClassBounds.{pages_hold, pages_full, few_pages}
 use Rattle.study_tablefile.proofs.Lists.{next_page, next_rest}
 
 pub header_stops : (old new : Option (List ℕ)) (t : Table) (c : Class) → c ≡ t.class

@@ -2,7 +2,7 @@
 use Rattle.std.proofs.Common.{◌≡◌, ℕ, ◌+◌, ◌*◌, ◌≤◌, List, length, drop, Option, Some, refl, sym, ap, ◌∙◌, arith}
 use Rattle.std.specs.Io.KnownBytes.{Consumes, Keeps, IsAtEnd}
 use Rattle.std.proofs.lemmas.List.{drop_all, drop-drop}
-use Rattle.study_tablefile.specs.declared.fault.FileFault.TheVariants.{Cut, Device, PageDamaged, TrailingBytes}
+use Rattle.study_values.specs.declared.fault.FileFault.TheVariants.{Cut, Device, PageDamaged, TrailingBytes}
 use Rattle.study_tablefile.specs.Reading.{IsToldAt}
 use Rattle.study_tablefile.proofs.BytesGiven.{left_after, left_kept, left_none}
 

@@ -10,15 +10,16 @@ use Rattle.std.proofs.lemmas.Slice.Eq.{bytes_eq-Decides}
 use Rattle.std.proofs.lemmas.List.Elements.{All-append, All-take, All-drop}
 use Rattle.sha2.specs.Sha256.{sha256}
 use Rattle.study_material.specs.declared.class.Class.{Class}
-use Rattle.study_index.specs.Number.{cells_of}
-use Rattle.study_retro.specs.Table.{Table, IsComplete}
-use Rattle.study_tablefile.specs.declared.fault.FileFault.{FileFault}
-use Rattle.study_tablefile.specs.declared.fault.FileFault.TheVariants.{Cut, NotATable, Version, HeaderDamaged, PageDamaged, Padding, TrailingBytes}
+use Rattle.study_values.specs.Number.{cells_of}
+use Rattle.study_table.specs.Table.{Table, IsComplete}
+use Rattle.study_values.specs.declared.fault.FileFault.{FileFault}
+use Rattle.study_values.specs.declared.fault.FileFault.TheVariants.{Cut, NotATable, Version, HeaderDamaged, PageDamaged, Padding, TrailingBytes}
 use Rattle.study_tablefile.specs.File.{is_version, IsVersionOf, fields_text, header_text, page_cells_of}
-use Rattle.study_tablefile.specs.File.{page_digest, page_text, pages_of, pages_text, table_text}
+use Rattle.study_tablefile.specs.File.{page_digest, page_text, pages_text, table_text}
+use Rattle.study_values.specs.Size.{pages_of}
 use Rattle.study_tablefile.specs.Reading.{class_named, class_checked, version_of, class_read, page_fault}
 use Rattle.study_tablefile.specs.Reading.{pages_read, table_behind, table_end, table_read, unless}
-use Rattle.study_tablefile.proofs.ClassBounds.{pages_hold, pages_full}
+use Rattle.study_values.proofs.ClassBounds.{pages_hold, pages_full}
 use Rattle.std.proofs.lemmas.List.{take_all, take_at, drop_at, drop-drop}
 use Rattle.study_tablefile.proofs.BytesGiven.{named_known}
 use Rattle.study_tablefile.proofs.ReadAgain.{cells_length, padded_cells}

@@ -1,11 +1,12 @@
 -- The text of a table file, byte by byte.
-use Rattle.std.specs.Prelude.{◌≡◌, ℕ, Bool, true, not, ◌||◌, ◌==◌, zero, suc, ◌+◌, ◌-◌, ◌/◌, List, [], ◌++◌, length, take, drop, replicate, codes}
+use Rattle.std.specs.Prelude.{◌≡◌, ℕ, Bool, true, not, ◌||◌, ◌==◌, zero, suc, ◌+◌, ◌-◌, List, [], ◌++◌, length, take, drop, replicate, codes}
 use Rattle.byteorder.specs.Endian.{little_bytes}
 use Rattle.sha2.specs.Sha256.{sha256}
 use Rattle.study_material.specs.declared.class.Class.{Class}
 use Rattle.study_material.specs.Class.{name_of, lists_of}
-use Rattle.study_index.specs.Number.{has_both_pawns, cells_of}
-use Rattle.study_retro.specs.Table.{Table}
+use Rattle.study_values.specs.Number.{has_both_pawns, cells_of}
+use Rattle.study_table.specs.Table.{Table}
+use Rattle.study_values.specs.Size.{pages_of}
 
 -- the name of a class in 8 bytes
 unfoldable pub class_field : Class → List ℕ
@@ -50,10 +51,6 @@ page_text fields n cells = cells ++ page_digest fields n cells
 abbrev pub pages_text : List ℕ → ℕ → ℕ → List ℕ → List ℕ
 pages_text fields n zero cells = []
 pages_text fields n (suc k) cells = page_text fields n (page_cells_of cells) ++ pages_text fields (n + 1) k (drop 4096 cells)
-
--- how many pages a class has
-unfoldable pub pages_of : Class → ℕ
-pages_of c = (cells_of c + 4095) / 4096
 
 -- the text of a table in a version: a header, and then all pages
 unfoldable pub table_text : Table → ℕ → List ℕ

@@ -6,13 +6,14 @@ use Rattle.sha2.specs.Sha256.{sha256}
 use Rattle.byteorder.specs.Endian.{little_number}
 use Rattle.study_material.specs.declared.class.Class.{Class}
 use Rattle.study_material.specs.Class.{class_list}
-use Rattle.study_index.specs.Number.{cells_of}
-use Rattle.study_retro.specs.Table.{Table}
-use Rattle.study_tablefile.specs.declared.fault.FileFault.{FileFault}
-use Rattle.study_tablefile.specs.declared.fault.FileFault.TheVariants.{Cut, NotATable, Version, ClassUnknown}
-use Rattle.study_tablefile.specs.declared.fault.FileFault.TheVariants.{HeaderDamaged, PageDamaged, Padding}
-use Rattle.study_tablefile.specs.declared.fault.FileFault.TheVariants.{TrailingBytes, OutOfMemory, Device}
-use Rattle.study_tablefile.specs.File.{class_field, is_version, is_known_version, fields_text, page_digest, pages_of}
+use Rattle.study_values.specs.Number.{cells_of}
+use Rattle.study_table.specs.Table.{Table}
+use Rattle.study_values.specs.declared.fault.FileFault.{FileFault}
+use Rattle.study_values.specs.declared.fault.FileFault.TheVariants.{Cut, NotATable, Version, ClassUnknown}
+use Rattle.study_values.specs.declared.fault.FileFault.TheVariants.{HeaderDamaged, PageDamaged, Padding}
+use Rattle.study_values.specs.declared.fault.FileFault.TheVariants.{TrailingBytes, OutOfMemory, Device}
+use Rattle.study_tablefile.specs.File.{class_field, is_version, is_known_version, fields_text, page_digest}
+use Rattle.study_values.specs.Size.{pages_of}
 
 -- the class of files of the version that is written in 8 bytes, if there is one
 unfoldable pub class_named : ℕ → List ℕ → Option Class

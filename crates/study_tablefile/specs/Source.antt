@@ -2,9 +2,9 @@
 use Rattle.std.specs.Prelude.{◌≡◌, ℕ, ◌+◌, ◌-◌, ◌*◌, ◌<◌, ◌≤◌, min, Bool, true, ◌&&◌, List}
 use Rattle.std.specs.Prelude.{length, take, drop, replicate, Option, is_some, Result, Ok, Err}
 use Rattle.std.specs.Str.{bytes_eq}
-use Rattle.study_retro.specs.Table.{Table}
-use Rattle.study_tablefile.specs.declared.fault.SourceFault.{SourceFault}
-use Rattle.study_tablefile.specs.declared.fault.SourceFault.TheVariants.{Device, Short}
+use Rattle.study_table.specs.Table.{Table}
+use Rattle.study_values.specs.declared.fault.SourceFault.{SourceFault}
+use Rattle.study_values.specs.declared.fault.SourceFault.TheVariants.{Device, Short}
 use Rattle.study_tablefile.specs.File.{fields_text, page_cells_of, page_digest, page_text}
 
 -- the places of a page after the last cell

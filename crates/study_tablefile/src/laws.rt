@@ -1,7 +1,7 @@
 //! What is written is read again, what is read was written so, and the pages of a table are whole.
 ghost use Rattle.std.specs.Prelude.{◌≡◌, ◌<◌, ℕ, List, true, Ok, All};
-ghost use Rattle.study_index.specs.Number.{cells_of};
-ghost use Rattle.study_retro.specs.Table.{Table as Seen, IsComplete};
+ghost use Rattle.study_values.specs.Number.{cells_of};
+ghost use Rattle.study_table.specs.Table.{Table as Seen, IsComplete};
 ghost use Rattle.study_tablefile.specs.File.{IsVersionOf, fields_text, table_text};
 ghost use Rattle.study_tablefile.specs.Reading.{table_read};
 ghost use Rattle.study_tablefile.specs.Source.{is_whole_page, page_of};

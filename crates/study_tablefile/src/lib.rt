@@ -6,16 +6,15 @@
 //! gives a file page by page; `MemorySource` is one in memory, which fails where a test wants it.
 #![tactic(auto)]
 
-mod fault;
 mod laws;
 mod memory_source;
 mod reading;
 mod source;
 mod text;
 
-pub use fault::{FileFault, SourceFault};
 pub use laws::{only_texts_are_read, pages_are_whole, tables_are_read_again};
 pub use memory_source::MemorySource;
 pub use reading::read_table;
 pub use source::{Header, PageSource, page_cells, read_header};
-pub use text::{HEADER_BYTES, PAGE_BYTES, PAGE_CELLS, file_bytes, write_table};
+pub use study_values::{FileFault, HEADER_BYTES, PAGE_BYTES, PAGE_CELLS, SourceFault};
+pub use text::{file_bytes, write_table};

@@ -4,12 +4,12 @@ ghost use Rattle.std.specs.Prelude.{drop, ◌≤◌, IsErrOf, IfErr};
 ghost use Rattle.std.specs.Prelude.{OnOk, OnErr, ◌≢◌, ◌+◌, ◌-◌, ◌*◌};
 ghost use Rattle.study_text.specs.Counts.{counted};
 ghost use Rattle.study_tablefile.specs.Source.{page_of, IsAnswerOf, of_header, of_page};
-ghost use Rattle.study_tablefile.specs.File.{header_text, pages_of, table_text};
-ghost use Rattle.study_retro.specs.Table.{Table as Seen};
+ghost use Rattle.study_tablefile.specs.File.{header_text, table_text};
+ghost use Rattle.study_values.specs.Size.{pages_of};
+ghost use Rattle.study_table.specs.Table.{Table as Seen};
 
-use crate::fault::SourceFault;
 use crate::source::PageSource;
-use crate::text::{HEADER_BYTES, PAGE_BYTES};
+use study_values::{HEADER_BYTES, PAGE_BYTES, SourceFault};
 
 /// The pages of a text in memory, which fail where a test wants it.
 #[derive(Drop)]

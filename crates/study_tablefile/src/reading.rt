@@ -4,23 +4,20 @@ ghost use Rattle.std.specs.Prelude.{length, take, drop, replicate, OnOk, IfOk, I
 ghost use Rattle.sha2.specs.Sha256.{sha256};
 ghost use Rattle.std.specs.Str.{bytes_eq};
 ghost use Rattle.std.specs.Io.KnownBytes.{Consumes};
-ghost use Rattle.study_index.specs.Number.{cells_of};
-ghost use Rattle.study_tablefile.specs.File.{is_known_version, IsVersionOf, class_field, fields_text, page_digest, pages_of, table_text};
+ghost use Rattle.study_values.specs.Number.{cells_of};
+ghost use Rattle.study_tablefile.specs.File.{is_known_version, IsVersionOf, class_field, fields_text, page_digest, table_text};
+ghost use Rattle.study_values.specs.Size.{pages_of};
 ghost use Rattle.study_tablefile.specs.Reading.{class_named, version_of, class_read, page_fault, table_end, pages_read, table_read, IsShort, HasHeader};
 ghost use Rattle.study_tablefile.specs.Reading.{pages_after, IsReadBefore, IsToldAt};
-ghost use Rattle.study_tablefile.specs.declared.fault.FileFault.TheVariants.{Cut, Device, OutOfMemory, TrailingBytes};
+ghost use Rattle.study_values.specs.declared.fault.FileFault.TheVariants.{Cut, Device, OutOfMemory, TrailingBytes};
 
-use crate::fault::FileFault;
-use crate::text::{
-    FIELDS_BYTES, HEADER_BYTES, PAGE_BYTES, PAGE_CELLS, class_field, digest, fields, page_digest,
-    pages,
-};
+use crate::text::{FIELDS_BYTES, class_field, digest, fields, page_digest};
 use byteorder::{ByteOrder, LittleEndian};
 use std::alloc::Allocator;
 use std::io::Read;
-use study_index::cells;
 use study_material::Class;
-use study_retro::Table;
+use study_table::Table;
+use study_values::{FileFault, HEADER_BYTES, PAGE_BYTES, PAGE_CELLS, cells, pages};
 
 /// Fills a buffer from a reader; each of its errors is `Device`.
 fn read_exactly<R: Read>(input: &mut R, buf: &mut [u8]) -> Result<(), FileFault>

@@ -1,18 +1,18 @@
 //! Pages of tables, read one by one.
 ghost use Rattle.std.specs.Prelude.{◌≡◌, ◌<◌, ℕ, List, Result, OnOk, OnErr, IfOk, IfErr, Ok, Err};
-ghost use Rattle.study_index.specs.Number.{cells_of};
-ghost use Rattle.study_retro.specs.Table.{Table as Seen};
-ghost use Rattle.study_tablefile.specs.File.{IsVersionOf, fields_text, header_text, pages_of};
+ghost use Rattle.study_values.specs.Number.{cells_of};
+ghost use Rattle.study_table.specs.Table.{Table as Seen};
+ghost use Rattle.study_tablefile.specs.File.{IsVersionOf, fields_text, header_text};
+ghost use Rattle.study_values.specs.Size.{pages_of};
 ghost use Rattle.study_tablefile.specs.Reading.{version_of, class_read};
-ghost use Rattle.study_tablefile.specs.declared.fault.SourceFault.{SourceFault as ASourceFault};
+ghost use Rattle.study_values.specs.declared.fault.SourceFault.{SourceFault as ASourceFault};
 ghost use Rattle.study_text.specs.Counts.{counted};
 ghost use Rattle.study_tablefile.specs.Source.{is_whole_page, page_of, Question, of_header, of_page};
 
-use crate::fault::{FileFault, SourceFault};
 use crate::reading::{cells_of_page, has_page_digest, is_padding, read_class, version_of};
-use crate::text::{FIELDS_BYTES, HEADER_BYTES, PAGE_BYTES, PAGE_CELLS, fields};
-use study_index::cells;
+use crate::text::{FIELDS_BYTES, fields};
 use study_material::Class;
+use study_values::{FileFault, HEADER_BYTES, PAGE_BYTES, PAGE_CELLS, SourceFault, cells};
 
 /// What the header of a table file says.
 #[derive(Clone, Copy, Debug, PartialEq, Eq)]

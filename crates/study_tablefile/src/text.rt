@@ -2,30 +2,21 @@
 ghost use Rattle.std.specs.Prelude.{◌≡◌, ◌≤◌, ℕ, OnOk, OnErr, IfErr, length, ◌+◌, ◌*◌};
 ghost use Rattle.sha2.specs.Sha256.{sha256};
 ghost use Rattle.std.specs.Io.KnownBytes.{Appends};
-ghost use Rattle.study_retro.specs.Table.{Table as Seen};
+ghost use Rattle.study_table.specs.Table.{Table as Seen};
 ghost use Rattle.study_text.specs.Taken.{TakesPrefix};
 ghost use Rattle.study_tablefile.specs.File.{written_version, class_field, fields_text, header_text};
-ghost use Rattle.study_tablefile.specs.File.{page_cells_of, page_digest, page_text, pages_of, table_text};
-ghost use Rattle.study_tablefile.specs.declared.fault.FileFault.TheVariants.{Device};
+ghost use Rattle.study_tablefile.specs.File.{page_cells_of, page_digest, page_text, table_text};
+ghost use Rattle.study_values.specs.Size.{pages_of};
+ghost use Rattle.study_values.specs.declared.fault.FileFault.TheVariants.{Device};
 
-use crate::fault::FileFault;
 use byteorder::{ByteOrder, LittleEndian};
 use sha2::{Digest, Sha256};
 use std::alloc::Allocator;
 use std::io::Write;
-use study_index::cells;
 use study_material::Class;
-use study_retro::Table;
+use study_table::Table;
 use study_text::{DeviceFailed, write_text};
-
-/// Cells of a page.
-pub const PAGE_CELLS: usize = 4096;
-
-/// Bytes of a page: its cells and their SHA-256.
-pub const PAGE_BYTES: usize = 4128;
-
-/// Bytes of a header: its fields and their SHA-256.
-pub const HEADER_BYTES: usize = 64;
+use study_values::{FileFault, PAGE_CELLS, cells, file_size};
 
 /// Bytes of the fields of a header.
 pub const FIELDS_BYTES: usize = 32;
@@ -34,7 +25,7 @@ pub const FIELDS_BYTES: usize = 32;
 pub const DIGEST_BYTES: usize = 32;
 
 /// The name of a class in 8 bytes, with zero bytes after it.
-#[tactic(auto, using(crate::proofs::ClassBounds::short_name, crate::proofs::Lists::field_filled), unfolding(crate::specs::File::class_field))]
+#[tactic(auto, using(study_values::proofs::ClassBounds::short_name, crate::proofs::Lists::field_filled), unfolding(crate::specs::File::class_field))]
 pub fn class_field(class: Class) -> [u8; 8]
     ensures { result ≡ class_field class }
 {
@@ -126,21 +117,13 @@ fn put_page<W: Write>(
     )
 }
 
-/// How many pages a class has.
-#[tactic(auto, using(crate::proofs::ClassBounds::few_cells), unfolding(crate::specs::File::pages_of))]
-pub fn pages(class: Class) -> u32
-    ensures { result ≡ pages_of class }
-{
-    cells(class).div_ceil(PAGE_CELLS as u32)
-}
-
 /// How many bytes the file of a class has.
-#[tactic(auto, using(crate::proofs::ClassBounds::few_cells), unfolding(crate::specs::File::pages_of))]
+#[tactic(auto, using(study_values::proofs::ClassBounds::few_cells), unfolding(study_values::specs::Size::pages_of))]
 pub fn file_bytes(class: Class) -> u32
     ensures value { result ≡ 64 + 4128 * pages_of class }
     ensures text { (t : Seen) (v : ℕ) → t.class ≡ class → length (table_text t v) ≡ result }
 {
-    HEADER_BYTES as u32 + PAGE_BYTES as u32 * pages(class)
+    file_size(class)
 }
 
 /// Writes a table, or stops where the writer fails or takes nothing; it took a prefix of the text then.

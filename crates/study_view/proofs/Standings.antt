@@ -21,7 +21,7 @@ use Rattle.study_view.specs.declared.squares.Standing.TheVariants.{Impossible}
 use Rattle.study_view.specs.declared.squares.Stood.{Stood}
 use Rattle.std.specs.List.{All}
 use Rattle.study_moves.specs.Rules.{is_legal}
-use Rattle.study_retro.specs.declared.value.Value.{Value}
+use Rattle.study_values.specs.declared.value.Value.{Value}
 use Rattle.study_review.specs.declared.continuation.Continuation.{Continuation}
 use Rattle.study_review.proofs.Chosen.{all-first}
 use Rattle.study_view.specs.Shown.{IsPlayedIn}

@@ -20,8 +20,8 @@ use Rattle.study_moves.specs.Order.{move_place}
 use Rattle.study_moves.specs.Rules.{after}
 use Rattle.study_moves.proofs.AscendingKeys.{IsIn, IsIn-from_Contains, IsIn-filter, AscendsFrom, AscendsFrom-less}
 use Rattle.study_moves.proofs.LegalLists.{in_legal, is_legal-in, AscendsFrom-legal_list}
-use Rattle.study_retro.specs.declared.value.Value.{Value}
-use Rattle.study_retro.specs.Game.{IsValueOf}
+use Rattle.study_values.specs.declared.value.Value.{Value}
+use Rattle.study_values.specs.Game.{IsValueOf}
 use Rattle.study_marks.specs.declared.stipulation.Stipulation.{Stipulation}
 use Rattle.study_marks.specs.declared.mark_rules.Aim.{Aim}
 use Rattle.study_marks.specs.Goals.{holds}

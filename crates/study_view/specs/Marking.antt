@@ -1,7 +1,7 @@
 -- Not part of any public contract: the line of a move, by the values after all legal moves.
 use Rattle.std.specs.Prelude.{ℕ, ◌+◌, List, [], ◌∷◌, Some, if◌then◌else◌}
 use Rattle.study_notation.specs.declared.start.Start.{Start}
-use Rattle.study_retro.specs.declared.value.Value.{Value}
+use Rattle.study_values.specs.declared.value.Value.{Value}
 use Rattle.study_marks.specs.declared.mark_rules.Aim.{Aim}
 use Rattle.study_marks.specs.Goals.{hero_moves, holds}
 use Rattle.study_marks.specs.Marks.{mark_of}

@@ -9,8 +9,8 @@ use Rattle.study_board.specs.Men.{same_side}
 use Rattle.study_board.specs.Position.{Position, in_order, man_at, first_fault}
 use Rattle.study_notation.specs.FenSpelling.{square_text}
 use Rattle.study_notation.specs.Written.{move_text}
-use Rattle.study_retro.specs.declared.value.Value.{Value}
-use Rattle.study_retro.specs.Game.{IsValueOf}
+use Rattle.study_values.specs.declared.value.Value.{Value}
+use Rattle.study_values.specs.Game.{IsValueOf}
 use Rattle.study_marks.specs.declared.mark_rules.Aim.{Aim}
 use Rattle.study_marks.specs.declared.stipulation.Stipulation.{Stipulation}
 use Rattle.study_marks.specs.Goals.{holds}

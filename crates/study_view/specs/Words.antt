@@ -9,7 +9,7 @@ use Rattle.study_notation.specs.declared.start.Start.{Start}
 use Rattle.study_notation.specs.FenSpelling.{fen_text, square_text}
 use Rattle.study_notation.specs.Played.{start_after}
 use Rattle.study_notation.specs.Written.{move_text}
-use Rattle.study_retro.specs.declared.value.Value.{Value}
+use Rattle.study_values.specs.declared.value.Value.{Value}
 use Rattle.study_tree.specs.Tree.{Spot}
 use Rattle.study_marks.specs.declared.mark.Mark.{Mark}
 use Rattle.study_marks.specs.declared.mark.MoveMark.{MoveMark}

@@ -1,8 +1,8 @@
 //! Why nothing is written.
 
 use std::alloc::{AllocError, AllocFailed};
-use study_prober::ProbeFault;
 use study_text::DeviceFailed;
+use study_values::ProbeFault;
 use thiserror::Error;
 
 /// Why the view of a study is not written, or not whole.

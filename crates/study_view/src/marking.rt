@@ -11,9 +11,9 @@ use std::alloc::{AllocError, Allocator};
 use study_marks::{Aim, MoveMark, hero_moves, holds, only_or_dual};
 use study_moves::MAX_MOVES;
 use study_notation::Start;
-use study_retro::Value;
 use study_review::Continuation;
 use study_text::Text;
+use study_values::Value;
 
 /// A node: what the study wants, its depth, its position with the counts, and its value.
 #[derive(Clone, Copy)]

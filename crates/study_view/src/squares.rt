@@ -4,7 +4,7 @@ ghost use Rattle.std.specs.List.{All};
 ghost use Rattle.arrayvec.specs.ArrayVec.{array_vec_len};
 ghost use Rattle.study_board.specs.Position.{man_at, IsValid};
 ghost use Rattle.study_marks.specs.Goals.{holds};
-ghost use Rattle.study_prober.specs.declared.values.ProbeFault.{ProbeFault as AProbeFault};
+ghost use Rattle.study_values.specs.declared.values.ProbeFault.{ProbeFault as AProbeFault};
 ghost use Rattle.study_review.specs.Asked.{within};
 ghost use Rattle.study_view.specs.Asked.{HasToldSome};
 ghost use Rattle.study_view.specs.declared.squares.Stood.{Stood as AStood};
@@ -19,9 +19,8 @@ use arrayvec::ArrayVec;
 use study_board::{Man, Position, Square};
 use study_marks::{Aim, Stipulation, aim_of, holds};
 use study_moves::{MAX_MOVES, Move};
-use study_prober::{ProbeFault, Values};
-use study_retro::Value;
 use study_review::Continuation;
+use study_values::{ProbeFault, Value, Values};
 
 /// What a stipulation comes to with a man on a square: that is no position; the position fails or holds, with its value;
 /// and where the hero is to move, how many first moves hold, or which one, where it is one alone.

@@ -4,7 +4,7 @@ ghost use Rattle.std.specs.List.{All, flat_map};
 ghost use Rattle.std.specs.Io.KnownBytes.{Appends};
 ghost use Rattle.study_board.specs.Position.{man_at};
 ghost use Rattle.study_moves.specs.Rules.{is_legal};
-ghost use Rattle.study_prober.specs.declared.values.ProbeFault.{ProbeFault as AProbeFault};
+ghost use Rattle.study_values.specs.declared.values.ProbeFault.{ProbeFault as AProbeFault};
 ghost use Rattle.study_review.specs.Words.{value_words};
 ghost use Rattle.study_text.specs.Taken.{TakesPrefix};
 ghost use Rattle.study_review.specs.Asked.{within};
@@ -21,10 +21,9 @@ use study_board::{Man, Position};
 use study_marks::Stipulation;
 use study_moves::Move;
 use study_pgn::{add_san, add_stipulation};
-use study_prober::Values;
-use study_retro::Value;
 use study_review::{add_counted, add_value};
 use study_text::{Text, write_text};
+use study_values::{Value, Values};
 
 /// The man, and what the hero is to reach.
 #[tactic(auto, unfolding(crate::specs::Survey::survey_line))]

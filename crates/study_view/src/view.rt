@@ -8,7 +8,7 @@ ghost use Rattle.study_tree.specs.Tree.{has_spot, spot_at};
 ghost use Rattle.study_marks.specs.Goals.{aim_of};
 ghost use Rattle.study_marks.specs.BenchState.{marked, IsKeptRight};
 ghost use Rattle.study_marks.specs.Study.{plain_study};
-ghost use Rattle.study_prober.specs.declared.values.ProbeFault.{ProbeFault as AProbeFault};
+ghost use Rattle.study_values.specs.declared.values.ProbeFault.{ProbeFault as AProbeFault};
 ghost use Rattle.study_review.specs.Review.{stipulation_line, written_order};
 ghost use Rattle.study_view.specs.Asked.{HasViewed};
 ghost use Rattle.study_view.specs.Marking.{holding_count, told_line};
@@ -26,10 +26,10 @@ use study_marks::{Bench, aim_of};
 use study_moves::MAX_MOVES;
 use study_notation::Start;
 use study_pgn::root_mark;
-use study_prober::Values;
 use study_review::{Continuation, Node, add_stipulation_line, value_at};
 use study_text::{Text, write_text};
 use study_tree::Path;
+use study_values::Values;
 
 /// The start and the verdict.
 fn add_head<'b, A: Allocator, B: Allocator>(

@@ -14,9 +14,9 @@ use study_marks::{Mark, MoveMark, Shown};
 use study_moves::{Move, in_check, legal_moves};
 use study_notation::{Start, write_fen};
 use study_pgn::add_san;
-use study_retro::Value;
 use study_review::{add_counted, add_front, add_value};
 use study_text::Text;
+use study_values::Value;
 
 fn add_on_move<A: Allocator>(
     text: &mut Text<'_, A>,

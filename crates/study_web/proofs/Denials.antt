@@ -6,7 +6,7 @@ use Rattle.study_script.specs.declared.running.RunFault.TheVariants as run_fault
 use Rattle.study_board.specs.Position.{Position, IsValid}
 use Rattle.study_material.specs.declared.class.Class.{Class}
 use Rattle.study_notation.specs.declared.start.Start.{Start}
-use Rattle.study_tablefile.specs.declared.fault.SourceFault.{SourceFault}
+use Rattle.study_values.specs.declared.fault.SourceFault.{SourceFault}
 use Rattle.study_review.specs.Asked.{Stopped, within}
 use Rattle.study_review.proofs.Within.{missed-needed, unread-needed}
 use Rattle.study_view.specs.declared.fault.SurveyFault.{SurveyFault}
@@ -14,7 +14,7 @@ use Rattle.study_view.specs.declared.fault.SurveyFault.TheVariants as survey
 use Rattle.study_view.specs.declared.fault.ViewFault.{ViewFault}
 use Rattle.study_view.specs.declared.fault.ViewFault.TheVariants as view
 use Rattle.study_view.specs.Asked.{HasSurveyed, HasViewed}
-use Rattle.study_retro.specs.Table.{Table}
+use Rattle.study_table.specs.Table.{Table}
 use Rattle.study_prober.specs.Sources.{GivesOf}
 use Rattle.study_script.specs.declared.store.StoreFault.{StoreFault}
 use Rattle.study_script.specs.declared.document.Document.{Document as HeldDocument}
@@ -31,9 +31,9 @@ use Rattle.study_web.specs.declared.reply.NoText.TheVariants as no_text
 use Rattle.study_web.specs.declared.reply.Ending.{Ending}
 use Rattle.study_web.specs.declared.reply.Ending.TheVariants.{Answered, Refused, Ran}
 use Rattle.study_web.specs.declared.reply.Ending.TheVariants as ending
-use Rattle.study_prober.specs.Values.{ProbeAnswer}
-use Rattle.study_prober.specs.declared.values.ProbeFault.{ProbeFault}
-use Rattle.study_prober.specs.declared.values.ProbeFault.TheVariants as probe
+use Rattle.study_values.specs.Values.{ProbeAnswer}
+use Rattle.study_values.specs.declared.values.ProbeFault.{ProbeFault}
+use Rattle.study_values.specs.declared.values.ProbeFault.TheVariants as probe
 use Rattle.study_reply.specs.declared.refusal.Refusal.TheVariants.{NoSuchNode, OutOfMemory}
 use Rattle.study_reply.specs.Names.{of_probe}
 use Rattle.study_web.specs.Answers.{IsWhole, MayEnd, IsNever, IsNoMemory, IsViewDenial, IsSurveyDenial}

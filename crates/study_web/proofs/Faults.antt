@@ -5,8 +5,8 @@ use Rattle.std.specs.List.{Contains}
 use Rattle.std.proofs.lemmas.List.Elements.{Contains-get_or}
 use Rattle.study_material.specs.declared.class.Class.{Class}
 use Rattle.study_material.specs.Needs.{IsNeeded, IsOrder}
-use Rattle.study_retro.specs.Table.{Table}
-use Rattle.study_retro.specs.Sound.{NeedsAreRight}
+use Rattle.study_table.specs.Table.{Table}
+use Rattle.study_table.specs.Sound.{NeedsAreRight}
 use Rattle.study_prober.specs.WholeTables.{TablesAreRight}
 use Rattle.study_web.specs.declared.spans.Span.{Span}
 use Rattle.study_web.specs.declared.make.MakeFault.{MakeFault}

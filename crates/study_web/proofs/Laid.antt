@@ -6,8 +6,8 @@ use Rattle.std.proofs.lemmas.List.{append-nil, length-append, length-drop, take-
 use Rattle.std.proofs.Math.Seq.{take-append_seam, drop-append_seam}
 use Rattle.study_material.specs.declared.class.Class.{Class}
 use Rattle.study_material.specs.Class.{class_number}
-use Rattle.study_retro.specs.Table.{Table, IsComplete}
-use Rattle.study_retro.specs.Sound.{IsRight}
+use Rattle.study_table.specs.Table.{Table, IsComplete}
+use Rattle.study_table.specs.Sound.{IsRight}
 use Rattle.study_tablefile.specs.File.{IsVersionOf, table_text, written_version}
 use Rattle.study_tablefile.specs.Reading.{table_read}
 use Rattle.study_prober.proofs.HeldSources.{same_class}

@@ -10,12 +10,12 @@ use Rattle.study_material.specs.declared.class.Class.{Class}
 use Rattle.study_material.specs.Needs.{size, needs_of, is_in, Reaches, IsNeeded, IsOrder, NeedsComeFirst}
 use Rattle.study_material.proofs.NeedsTables.{size_table, by_size_is}
 use Rattle.study_material.specs.Class.{class_number}
-use Rattle.study_retro.specs.Table.{Table, IsClosed, table_of}
+use Rattle.study_table.specs.Table.{Table, IsClosed, table_of}
 use Rattle.study_retro.specs.declared.builder.BuildFault.{BuildFault}
 use Rattle.study_retro.specs.declared.builder.BuildFault.TheVariants as build
-use Rattle.study_retro.specs.declared.table_set.AddFault.{AddFault}
-use Rattle.study_retro.specs.TableSet.{first_missing, add_fault}
-use Rattle.study_retro.specs.Sound.{NeedsAreRight, HasFarPosition}
+use Rattle.study_table.specs.declared.table_set.AddFault.{AddFault}
+use Rattle.study_table.specs.TableSet.{first_missing, add_fault}
+use Rattle.study_table.specs.Sound.{NeedsAreRight, HasFarPosition}
 use Rattle.study_prober.specs.WholeTables.{Whole, TablesAreRight}
 use Rattle.study_prober.proofs.HeldSources.{same_class}
 use Rattle.study_script.proofs.HeldTables.{place_below}

@@ -4,7 +4,7 @@ use Rattle.std.specs.Prelude.{OnOk}
 use Rattle.std.proofs.lemmas.Bool.{false≢true, cases_Bool}
 use Rattle.study_material.specs.declared.class.Class.{Class}
 use Rattle.study_material.specs.Class.{class_number}
-use Rattle.study_tablefile.specs.declared.fault.SourceFault.{SourceFault}
+use Rattle.study_values.specs.declared.fault.SourceFault.{SourceFault}
 use Rattle.study_prober.proofs.HeldSources.{same_class}
 use Rattle.study_script.specs.declared.store.StoreFault.{StoreFault}
 use Rattle.study_script.specs.declared.store.StoreFault.TheVariants.{NoFile}

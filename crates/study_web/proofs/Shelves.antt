@@ -5,15 +5,15 @@ use Rattle.std.proofs.lemmas.List.{get_or-replicate}
 use Rattle.study_board.specs.Position.{Position}
 use Rattle.study_material.specs.declared.class.Class.{Class}
 use Rattle.study_material.specs.Class.{class_number}
-use Rattle.study_tablefile.specs.declared.fault.SourceFault.{SourceFault}
+use Rattle.study_values.specs.declared.fault.SourceFault.{SourceFault}
 use Rattle.study_script.specs.declared.store.StoreFault.{StoreFault}
 use Rattle.study_script.specs.declared.store.StoreFault.TheVariants as store
 use Rattle.study_script.specs.State.{Shelf, is_among, IsGiven, IsGivenAs, IsOpened}
 use Rattle.study_script.proofs.HeldTables.{place_below}
 use Rattle.study_web.specs.declared.spans.Span.{Span}
 use Rattle.study_web.specs.Spans.{file_in, bytes_given, header_given, file_faults}
-use Rattle.study_prober.specs.declared.values.ProbeFault.{ProbeFault}
-use Rattle.study_prober.specs.declared.values.ProbeFault.TheVariants as probe
+use Rattle.study_values.specs.declared.values.ProbeFault.{ProbeFault}
+use Rattle.study_values.specs.declared.values.ProbeFault.TheVariants as probe
 use Rattle.study_reply.specs.declared.refusal.Refusal.{Refusal}
 use Rattle.study_web.specs.declared.denial.Denial.{Denial}
 use Rattle.study_web.specs.declared.denial.Denial.TheVariants as denial

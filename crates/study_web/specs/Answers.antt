@@ -8,7 +8,7 @@ use Rattle.study_command.specs.Lines.{script_lines}
 use Rattle.study_reply.specs.declared.refusal.Refusal.TheVariants.{MissingTable, OutOfMemory, File, OtherClass, DistanceTooLarge}
 use Rattle.study_reply.specs.declared.refusal.Refusal.TheVariants.{NoSuchNode}
 use Rattle.study_reply.specs.Names.{of_probe}
-use Rattle.study_prober.specs.declared.values.ProbeFault.{ProbeFault}
+use Rattle.study_values.specs.declared.values.ProbeFault.{ProbeFault}
 use Rattle.study_script.specs.declared.running.Summary.{Summary}
 use Rattle.study_script.specs.declared.running.RunFault.{RunFault}
 use Rattle.study_script.specs.declared.running.RunFault.TheVariants as run_fault

@@ -3,8 +3,8 @@ use Rattle.std.specs.Prelude.{◌≡◌, ◌≢◌, ℕ, ◌+◌, ◌≤◌, Boo
 use Rattle.std.specs.List.{AllByRecursion}
 use Rattle.study_material.specs.declared.class.Class.{Class}
 use Rattle.study_material.specs.Class.{class_number}
-use Rattle.study_retro.specs.Table.{Table}
-use Rattle.study_retro.specs.Sound.{IsRight}
+use Rattle.study_table.specs.Table.{Table}
+use Rattle.study_table.specs.Sound.{IsRight}
 use Rattle.study_tablefile.specs.Reading.{table_read}
 use Rattle.study_web.specs.declared.spans.Span.{Span}
 use Rattle.study_web.specs.Making.{IsRightFileOf}

@@ -5,10 +5,10 @@ use Rattle.study_material.specs.declared.class.Class.{Class}
 use Rattle.study_material.specs.Needs.{size, needs_of, IsNeeded}
 use Rattle.study_retro.specs.declared.builder.BuildFault.{BuildFault}
 use Rattle.study_retro.specs.declared.builder.BuildFault.TheVariants as build
-use Rattle.study_retro.specs.Table.{Table, IsComplete, table_of}
-use Rattle.study_retro.specs.TableSet.{first_missing}
-use Rattle.study_retro.specs.Sound.{IsRight, HasFarPosition}
-use Rattle.study_tablefile.specs.declared.fault.FileFault.TheVariants as file
+use Rattle.study_table.specs.Table.{Table, IsComplete, table_of}
+use Rattle.study_table.specs.TableSet.{first_missing}
+use Rattle.study_table.specs.Sound.{IsRight, HasFarPosition}
+use Rattle.study_values.specs.declared.fault.FileFault.TheVariants as file
 use Rattle.study_tablefile.specs.File.{table_text, written_version}
 use Rattle.study_tablefile.specs.Reading.{table_read, HasHeader}
 use Rattle.study_web.specs.declared.make.MakeFault.{MakeFault}

@@ -3,7 +3,7 @@ use Rattle.std.specs.Prelude.{◌==◌, nat_le, ℕ, ◌+◌, Bool, true, false,
 use Rattle.std.specs.Prelude.{Option, Some, None, Result, Ok, Err}
 use Rattle.study_material.specs.declared.class.Class.{Class}
 use Rattle.study_material.specs.Class.{class_number}
-use Rattle.study_tablefile.specs.declared.fault.SourceFault.{SourceFault}
+use Rattle.study_values.specs.declared.fault.SourceFault.{SourceFault}
 use Rattle.study_script.specs.declared.store.StoreFault.{StoreFault}
 use Rattle.study_script.specs.declared.store.StoreFault.TheVariants.{NoFile}
 use Rattle.study_script.specs.Memory.{IsRightText, text_faults}

@@ -3,8 +3,8 @@ ghost use Rattle.std.specs.Prelude.{◌≡◌, ℕ, List, true, false, is_some, 
 ghost use Rattle.std.specs.List.{Contains};
 ghost use Rattle.study_material.specs.declared.class.Class.{Class as AClass};
 ghost use Rattle.study_material.specs.Needs.{needs_of, IsNeeded};
-ghost use Rattle.study_retro.specs.Table.{table_of};
-ghost use Rattle.study_retro.specs.Sound.{IsRight};
+ghost use Rattle.study_table.specs.Table.{table_of};
+ghost use Rattle.study_table.specs.Sound.{IsRight};
 ghost use Rattle.study_prober.specs.WholeTables.{TablesAreRight};
 ghost use Rattle.study_tablefile.specs.Reading.{table_read};
 ghost use Rattle.study_web.specs.Spans.{file_in, IsHonestIn};
@@ -13,11 +13,12 @@ ghost use Rattle.study_web.specs.declared.spans.Span.{Span as ASpan};
 
 use crate::spans::{Span, file_in};
 use std::alloc::{AllocError, Allocator};
-use study_index::cells;
 use study_material::{Class, needs_come_first, order};
 use study_prober::WholeTables;
-use study_retro::{BuildFault, BuildRoom, Table, TableSet, build};
-use study_tablefile::{FileFault, read_table, write_table};
+use study_retro::{BuildFault, BuildRoom, build};
+use study_table::{Table, TableSet};
+use study_tablefile::{read_table, write_table};
+use study_values::{FileFault, cells};
 use thiserror::Error;
 
 /// Why the file of a class is not made.

@@ -3,9 +3,9 @@
 use std::alloc::Allocator;
 use std::io::Write;
 use study_marks::Bench;
-use study_prober::Values;
 use study_report::{Lines, NotTold, Report};
 use study_review::ReviewFault;
+use study_values::Values;
 
 /// Refused lines as `refused 7 NoTable KRK`, and nothing of studies.
 #[derive(Clone, Copy, Debug, PartialEq, Eq)]

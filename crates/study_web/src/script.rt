@@ -1,7 +1,7 @@
 //! What is told of a script: its review, and the view of what it leaves in the document.
 ghost use Rattle.std.specs.Prelude.{◌≡◌, ◌≢◌, ◌≤◌, ◌⊎◌, ◌++◌, ℕ, [], true, false, is_some, List, Option, IfSome, IfOk, IfErr, OnOk};
 ghost use Rattle.study_material.specs.declared.class.Class.{Class as AClass};
-ghost use Rattle.study_tablefile.specs.declared.fault.SourceFault.{SourceFault as ASourceFault};
+ghost use Rattle.study_values.specs.declared.fault.SourceFault.{SourceFault as ASourceFault};
 ghost use Rattle.study_tree.specs.Tree.{has_spot};
 ghost use Rattle.study_marks.specs.BenchState.{marked, IsKeptRight};
 ghost use Rattle.study_marks.specs.Study.{plain_study};
@@ -23,12 +23,13 @@ use std::alloc::Allocator;
 use study_command::{Line, read_path};
 use study_marks::Bench;
 use study_notation::{Start, write_fen};
-use study_prober::{PagedTables, Values};
+use study_prober::PagedTables;
 use study_reply::{Refusal, of_probe, put_line};
 use study_report::{Lines, follow, follow_over};
 use study_script::{Document, RunFault, Session, Summary, TableStore, Tables};
 use study_tablefile::PageSource;
 use study_text::write_text;
+use study_values::Values;
 use study_view::{ViewFault, write_view};
 
 /// What is told of a script, and how the run over it ended.

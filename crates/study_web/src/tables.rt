@@ -1,7 +1,7 @@
 //! The tables of all files of a store, opened by pages.
 ghost use Rattle.std.specs.Prelude.{◌≡◌, ◌≤◌, ◌⊎◌, true, false, is_some, IfSome, OnOk, IfOk, IfErr, Err};
 ghost use Rattle.study_material.specs.declared.class.Class.{Class as AClass};
-ghost use Rattle.study_tablefile.specs.declared.fault.SourceFault.{SourceFault as ASourceFault};
+ghost use Rattle.study_values.specs.declared.fault.SourceFault.{SourceFault as ASourceFault};
 ghost use Rattle.study_prober.specs.PagedTables.{held_of, SourcesAreRight, MayFail};
 ghost use Rattle.study_script.specs.declared.store.StoreFault.TheVariants.{NoFile};
 ghost use Rattle.study_script.specs.State.{is_among, IsGiven, IsOpened};
@@ -10,9 +10,10 @@ ghost use Rattle.study_web.specs.Opened.{denial_of, IsHeldAs, IsOfTables};
 use crate::denial::Denial;
 use std::alloc::Allocator;
 use study_material::Class;
-use study_prober::{PagedFault, PagedTables, Values};
+use study_prober::{PagedFault, PagedTables};
 use study_reply::Refusal;
 use study_script::{StoreFault, TableStore};
+use study_values::Values;
 
 /// How many pages are kept where nothing is said.
 const PAGES: u16 = 1024;

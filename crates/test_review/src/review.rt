@@ -7,13 +7,12 @@ use study_board::Position;
 use study_marks::Bench;
 use study_material::Class;
 use study_moves::{MAX_MOVES, is_legal, played};
-use study_prober::Values;
-use study_retro::Value;
 use study_review::{
     Continuation, Defence, alternatives, best_play, children_in, defences, drawing_moves,
     holding_moves, is_in_solution, made_in, missing_moves, place_in, refutations,
     timed_alternatives,
 };
+use study_values::{Value, Values};
 
 const WAITING: Moves = &[
     (&[], "Rc7"),

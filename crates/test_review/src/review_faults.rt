@@ -5,9 +5,9 @@ use std::process::Abort;
 use study_marks::{Aim, Goal};
 use study_material::Class;
 use study_notation::read_san;
-use study_prober::{FailingValues, ProbeFault, Values};
+use study_prober::FailingValues;
 use study_review::{Node, Place, best_play, defences, timed_alternatives};
-use study_tablefile::SourceFault;
+use study_values::{ProbeFault, SourceFault, Values};
 
 const WIN: Aim = Aim {
     goal: Goal::Win,

@@ -6,8 +6,8 @@ use study_board::Position;
 use study_marks::{Aim, Goal};
 use study_material::Class;
 use study_moves::{is_legal, played};
-use study_prober::Values;
 use study_review::{Continuation, Node, alternatives, best_move, is_back, time_lost};
+use study_values::Values;
 
 /// How many alternatives a best move has, and of how many the position is back within 0, within 1 and within 2.
 type Counts = (usize, [usize; 3]);

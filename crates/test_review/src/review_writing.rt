@@ -6,10 +6,10 @@ use std::process::Abort;
 use std::test::Fail;
 use study_marks::Bench;
 use study_material::Class;
-use study_prober::{FailingValues, ProbeFault, Values};
+use study_prober::FailingValues;
 use study_review::{ReviewFault, write_review};
-use study_tablefile::SourceFault;
 use study_text::{MemoryWriter, WhenFull};
+use study_values::{ProbeFault, SourceFault, Values};
 
 /// By hand: Rh8 is the one mate, and nothing was inserted.
 const EMPTY: &[u8] = b"study 7 k7/8/1K6/8/8/8/8/7R w - - 0 1

@@ -4,15 +4,16 @@ ghost use Rattle.std.specs.Prelude.{◌≡◌};
 use std::alloc::Allocator;
 use std::process::Abort;
 use study_board::{Position, Side};
-use study_index::cells;
 use study_marks::{Bench, Goal, MateMoves, Stipulation};
 use study_material::Class;
 use study_moves::{Move, is_legal};
 use study_notation::{read_fen, read_san, write_san};
-use study_prober::{Values, WholeTables};
-use study_retro::{BuildRoom, TableSet, build};
+use study_prober::WholeTables;
+use study_retro::{BuildRoom, build};
 use study_review::{Node, Place};
+use study_table::TableSet;
 use study_tree::Path;
+use study_values::{Values, cells};
 
 /// The values of the tables of these classes, each of which needs none but those before it.
 pub(crate) fn tables_of<'a, A: Allocator>(

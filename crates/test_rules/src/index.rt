@@ -5,8 +5,9 @@ use crate::rows::{field, number};
 use arrayvec::ArrayVec;
 use std::process::Abort;
 use study_board::{Man, Position, Square};
-use study_index::{cells, decode, index};
+use study_index::{decode, index};
 use study_material::{Class, class_of};
+use study_values::cells;
 
 /// The men of a FEN's placement.
 fn men(placement: &str) -> Option<ArrayVec<Man, 4>> {

@@ -3,8 +3,9 @@ use crate::men::square;
 use crate::rows::{field, number};
 use std::process::Abort;
 use study_board::Square;
-use study_index::{Departure, RowDeparture, cells, row_of_last};
+use study_index::{Departure, RowDeparture, row_of_last};
 use study_material::Class;
+use study_values::cells;
 
 /// Classes, numbers, the square from which a man goes, those to which it goes, and the numbers after that, by another
 /// program. The white king goes or stands on the diagonal; like men pass one another; or a square is replaced.

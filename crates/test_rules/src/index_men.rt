@@ -3,8 +3,9 @@ use crate::men::{man, side, square};
 use crate::rows::{field, number};
 use std::process::Abort;
 use study_board::Man;
-use study_index::{cells, number_moved, number_stepped, told};
+use study_index::{number_moved, number_stepped, told};
 use study_material::Class;
+use study_values::cells;
 
 /// The class that a row begins with, and the number that follows.
 fn start(rt: &impl Abort, row: &str) -> (Class, u32) {

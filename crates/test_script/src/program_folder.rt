@@ -8,7 +8,8 @@ use std::io::{ErrorKind, Read, Seek, SeekFrom};
 use std::test::Fail;
 use std::{fs, io};
 use study_program::{FilePages, FolderStore};
-use study_tablefile::{PageSource, SourceFault};
+use study_tablefile::PageSource;
+use study_values::SourceFault;
 
 /// A rook mates in one: the commands, and their replies where the table can be read, where it is not held, and where it
 /// is held by pages and the one that is asked for is not there.

@@ -3,12 +3,13 @@ ghost use Rattle.std.specs.Prelude.{◌≤◌, IfSome};
 
 use std::alloc::Allocator;
 use std::process::Abort;
-use study_index::cells;
 use study_material::Class;
-use study_retro::{BuildRoom, TableSet, build};
+use study_retro::{BuildRoom, build};
 use study_script::{MemoryStore, RunFault, Settings, Summary, TableStore, run};
+use study_table::TableSet;
 use study_tablefile::write_table;
 use study_text::{MemoryReader, MemoryWriter};
+use study_values::cells;
 
 /// Lines of a script, each with ` -> ` and its reply after it, or ` ->` where it has none. A row without an arrow is one more
 /// line of the reply above it.

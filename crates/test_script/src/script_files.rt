@@ -3,12 +3,12 @@ use crate::rows::{Rows, check_over, no_files, text_of};
 use std::alloc::Allocator;
 use std::cell::RefCell;
 use std::process::Abort;
-use study_index::cells;
 use study_material::Class;
-use study_retro::Table;
 use study_script::{MemoryFile, MemoryStore};
+use study_table::Table;
 use study_tablefile::{read_table, write_table};
 use study_text::{MemoryReader, MemoryWriter, WhenFull};
+use study_values::cells;
 
 const SAVED: Rows<'static> = "load KRK -> error MissingTable KK
 build KK -> built KK cells 1280 win -

@@ -7,9 +7,9 @@ use study_marks::{
 use study_moves::Move;
 use study_notation::Start;
 use study_pgn::{PgnFault, write_pgn};
-use study_prober::Values;
 use study_text::MemoryWriter;
 use study_tree::Path;
+use study_values::Values;
 
 pub(crate) fn new_bench<'a, A: Allocator, V: Values>(
     alloc: &'a A,

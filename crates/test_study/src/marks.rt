@@ -7,14 +7,12 @@ use arrayvec::ArrayString;
 use std::alloc::{Allocator, Global};
 use std::process::Abort;
 use study_board::{Position, Side, Square};
-use study_index::cells;
 use study_marks::{Bench, Edit, Goal, Mark, MoveMark, Refusal, Stipulation, TagName};
 use study_material::Class;
 use study_moves::Move;
 use study_notation::{Start, write_fen};
-use study_prober::{ProbeFault, Values};
-use study_retro::Value;
 use study_tree::Path;
+use study_values::{ProbeFault, Value, Values, cells};
 
 fn mark_at<'a, A: Allocator>(
     rt: &impl Abort,
@@ -272,7 +270,7 @@ struct Draws {
 }
 
 impl Values for Draws {
-    ghost use Rattle.study_retro.specs.declared.value.Value.TheVariants.{Draw};
+    ghost use Rattle.study_values.specs.declared.value.Value.TheVariants.{Draw};
 
     ghost is_honest = { λ w. ⊥ };
 

@@ -9,7 +9,8 @@ use std::test::Fail;
 use study_board::Side;
 use study_marks::{Bench, Edit, Goal, Refusal, Stopped};
 use study_material::Class;
-use study_prober::{FailingValues, ProbeFault, Values, WholeTables};
+use study_prober::{FailingValues, WholeTables};
+use study_values::{ProbeFault, Values};
 
 /// A study on which the calls are made.
 #[derive(Clone, Copy)]

@@ -7,8 +7,9 @@ use std::alloc::Global;
 use std::process::Abort;
 use study_marks::Edit;
 use study_material::Class;
-use study_prober::{PagedTables, Values};
+use study_prober::PagedTables;
 use study_tablefile::{MemorySource, write_table};
+use study_values::Values;
 
 /// The file of king and rook against king.
 fn file_of<'a>(rt: &impl Abort, alloc: &'a Global) -> Vec<u8, &'a Global> {

@@ -3,14 +3,15 @@ use crate::calls;
 use std::alloc::{Allocator, Global};
 use std::process::Abort;
 use study_board::Side;
-use study_index::cells;
 use study_marks::{Bench, Goal, Stipulation};
 use study_material::Class;
 use study_moves::Move;
 use study_notation::{Start, read_fen, read_san};
-use study_prober::{Values, WholeTables};
-use study_retro::{BuildRoom, Table, TableSet, build};
+use study_prober::WholeTables;
+use study_retro::{BuildRoom, build};
+use study_table::{Table, TableSet};
 use study_tree::Path;
+use study_values::{Values, cells};
 
 /// The table of a class, over those that it needs.
 fn table_of<'a, A: Allocator>(

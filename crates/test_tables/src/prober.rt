@@ -6,12 +6,13 @@ use linked_list_allocator::LocalHeap;
 use std::alloc::{Allocator, Global};
 use std::process::Abort;
 use study_board::Position;
-use study_index::{cells, decode};
+use study_index::decode;
 use study_material::Class;
-use study_prober::{FailingValues, PagedFault, PagedTables, ProbeFault, Values, WholeTables};
-use study_retro::{Table, TableSet};
-use study_tablefile::{FileFault, MemorySource, PageSource, SourceFault, write_table};
+use study_prober::{FailingValues, PagedFault, PagedTables, WholeTables};
+use study_table::{Table, TableSet};
+use study_tablefile::{MemorySource, PageSource, write_table};
 use study_text::MemoryWriter;
+use study_values::{FileFault, ProbeFault, SourceFault, Values, cells};
 
 /// A table whose cells differ at the same place of two pages, and for two seeds.
 fn patterned<'a, A: Allocator>(

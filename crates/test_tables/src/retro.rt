@@ -4,9 +4,10 @@ use crate::tables::{built, changed, is_verified, set_of, table_of};
 use sha2::{Digest, Sha256};
 use std::alloc::Allocator;
 use std::process::Abort;
-use study_index::cells;
 use study_material::Class;
-use study_retro::{AddFault, BuildFault, BuildReport, BuildRoom, Table, TableSet, build};
+use study_retro::{BuildFault, BuildReport, BuildRoom, build};
+use study_table::{AddFault, Table, TableSet};
+use study_values::cells;
 
 /// Whether the cells have this SHA-256, in hexadecimal digits.
 fn is_digest(cells: &[u8], wanted: &str) -> bool {

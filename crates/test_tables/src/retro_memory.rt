@@ -2,7 +2,8 @@
 use linked_list_allocator::LocalHeap;
 use std::test::Fail;
 use study_material::Class;
-use study_retro::{BuildRoom, TableSet, build};
+use study_retro::{BuildRoom, build};
+use study_table::TableSet;
 
 /// On heaps from too small to ample: a set and a room are refused, then the set is made, then both, and then a table is built.
 #[test]

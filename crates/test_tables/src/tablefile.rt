@@ -8,12 +8,12 @@ use std::io::ErrorKind;
 use std::process::Abort;
 use std::test::Fail;
 use study_material::Class;
-use study_retro::Table;
+use study_table::Table;
 use study_tablefile::{
-    FileFault, MemorySource, PageSource, SourceFault, file_bytes, page_cells, read_header,
-    read_table, write_table,
+    MemorySource, PageSource, file_bytes, page_cells, read_header, read_table, write_table,
 };
 use study_text::{DeviceFailed, MemoryReader, MemoryWriter, WhenFull, write_text};
+use study_values::{FileFault, SourceFault};
 
 /// The fields of KK, which has 1,280 cells, in version 1.
 const KK_BEFORE: &[u8] =

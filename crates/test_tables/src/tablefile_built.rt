@@ -5,7 +5,7 @@ use std::alloc::Allocator;
 use std::process::Abort;
 use std::test::Fail;
 use study_material::Class;
-use study_tablefile::FileFault;
+use study_values::FileFault;
 
 /// That texts that come of this one, which is whole, have their faults.
 fn expect_faults<A: Allocator>(rt: &impl Abort, alloc: &A, text: &[u8]) {

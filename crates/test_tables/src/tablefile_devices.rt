@@ -6,10 +6,9 @@ use std::io::ErrorKind;
 use std::process::Abort;
 use std::test::Fail;
 use study_material::Class;
-use study_tablefile::{
-    FileFault, MemorySource, PageSource, SourceFault, page_cells, read_header, read_table,
-};
+use study_tablefile::{MemorySource, PageSource, page_cells, read_header, read_table};
 use study_text::MemoryReader;
+use study_values::{FileFault, SourceFault};
 
 /// The device's failure is told after so many bytes, and the reader is not asked again.
 fn fails_after<A: Allocator>(

@@ -1,9 +1,10 @@
 //! Tables as the tests build and change them.
 use std::alloc::Allocator;
 use std::process::Abort;
-use study_index::cells;
 use study_material::Class;
-use study_retro::{BuildReport, BuildRoom, Table, TableSet, build, verify};
+use study_retro::{BuildReport, BuildRoom, build, verify};
+use study_table::{Table, TableSet};
+use study_values::cells;
 
 /// A table, built over the tables of a set, and the report.
 pub fn table_of<'a, A: Allocator>(
@@ -54,7 +55,7 @@ pub fn changed<'a, A: Allocator>(
     let mut cells = table.cells().to_vec(alloc).ok().expect(rt, "memory");
     assert!(rt; number < cells.len());
     cells[number] = cell;
-    assert!(rt; cells.len() == study_index::cells(class) as usize);
+    assert!(rt; cells.len() == study_values::cells(class) as usize);
     Table::from_cells(class, cells)
 }
 

@@ -2,11 +2,11 @@
 use sha2::{Digest, Sha256};
 use std::alloc::Allocator;
 use std::process::Abort;
-use study_index::cells;
 use study_material::Class;
-use study_retro::Table;
-use study_tablefile::{FileFault, read_table, write_table};
+use study_table::Table;
+use study_tablefile::{read_table, write_table};
 use study_text::{MemoryReader, MemoryWriter, write_text};
+use study_values::{FileFault, cells};
 
 /// The fields of KK in version 2, which is written.
 pub const KK: &[u8] =

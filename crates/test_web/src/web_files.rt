@@ -4,7 +4,8 @@ use sha2::{Digest, Sha256};
 use std::alloc::Allocator;
 use std::test::Fail;
 use study_material::Class;
-use study_tablefile::{FileFault, read_table};
+use study_tablefile::read_table;
+use study_values::FileFault;
 use study_web::{MakeFault, Span, file_in, make_file};
 
 const KK_DIGEST: &str = "bfe492baf731a0dbf6e1e050f5bc3fe8c1b049383194dcdf82f023bfa409f462";

@@ -4,9 +4,10 @@ use sha2::{Digest, Sha256};
 use std::alloc::Allocator;
 use std::io;
 use std::time::Instant;
-use study_index::cells;
+use study_values::cells;
 use study_material::{Class, order};
-use study_retro::{BuildReport, BuildRoom, TableSet, build};
+use study_retro::{BuildReport, BuildRoom, build};
+use study_table::TableSet;
 
 /// Prints a distance in plies, or a dash where there is none.
 fn print_distance(rt: HostRuntime, plies: Option<u8>) -> io::Result<()> {

@@ -5,9 +5,10 @@ use crate::timed::tell;
 use std::alloc::Allocator;
 use std::io;
 use std::time::Instant;
-use study_index::cells;
+use study_values::cells;
 use study_material::{Class, order};
-use study_retro::{BuildRoom, Table, TableSet, build, verify};
+use study_retro::{BuildRoom, build, verify};
+use study_table::{Table, TableSet};
 
 /// The sum of a table's cells, and of what its building examined.
 fn add_cells<A: Allocator>(table: &Table<A>, examined: u64) -> u64 {

@@ -5,9 +5,9 @@ use sha2::{Digest, Sha256};
 use std::alloc::Allocator;
 use std::io;
 use std::time::Instant;
-use study_index::cells;
+use study_values::cells;
 use study_material::Class;
-use study_retro::Table;
+use study_table::Table;
 use study_tablefile::{file_bytes, read_table, write_table};
 
 /// The first byte of the digest of the bytes.

@@ -3,7 +3,8 @@
 
 use crate::timed::show;
 use std::io;
-use study_index::{cells, decode};
+use study_index::decode;
+use study_values::cells;
 use study_material::Class;
 
 /// The men of all positions of a class.

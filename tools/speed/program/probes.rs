@@ -6,10 +6,12 @@ use std::alloc::Allocator;
 use std::io;
 use std::time::Instant;
 use study_board::Position;
-use study_index::{cells, decode};
+use study_index::decode;
+use study_values::{Values, cells};
 use study_material::{Class, order};
-use study_prober::{PagedTables, Values, WholeTables};
-use study_retro::{BuildRoom, TableSet, build};
+use study_prober::{PagedTables, WholeTables};
+use study_retro::{BuildRoom, build};
+use study_table::TableSet;
 use study_tablefile::MemorySource;
 use study_tablefile::{PageSource, file_bytes, write_table};
 

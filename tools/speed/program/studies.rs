@@ -8,14 +8,15 @@ use std::io;
 use std::io::ErrorKind;
 use std::time::Instant;
 use study_board::Side;
-use study_index::cells;
+use study_values::cells;
 use study_marks::{Bench, Goal, MateMoves, Stipulation};
 use study_material::Class;
 use study_moves::{Move, legal_moves};
 use study_notation::{Start, read_fen};
 use study_pgn::write_pgn;
 use study_prober::WholeTables;
-use study_retro::{BuildRoom, TableSet, build};
+use study_retro::{BuildRoom, build};
+use study_table::TableSet;
 use study_tree::Path;
 
 const DRAW: Stipulation = Stipulation {

@@ -5,7 +5,7 @@ use std::io;
 use std::io::{ErrorKind, Write};
 use std::time::Instant;
 use study_marks::Bench;
-use study_prober::Values;
+use study_values::Values;
 use study_text::MemoryWriter;
 use study_tree::Path;
 use study_view::{Question, ViewFault, write_survey, write_view};

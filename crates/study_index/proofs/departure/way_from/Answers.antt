@@ -1,7 +1,7 @@
 use Rattle.std.proofs.Common.{◌≡◌, ℕ, List, slice_index_or, subst}
 use Rattle.study_board.specs.declared.men.Man.{Man}
 use Rattle.study_index.specs.declared.decoding.Slot.{Slot}
-use Rattle.study_index.specs.Number.{without_bit}
+use Rattle.study_values.specs.Number.{without_bit}
 use Rattle.study_index.specs.Decoded.{told_men}
 use Rattle.study_index.proofs.Departures.{found_king}
 use Rattle.study_index.proofs.departure.way_from.Goals as goal

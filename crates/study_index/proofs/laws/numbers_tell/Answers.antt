@@ -1,5 +1,5 @@
 use Rattle.std.proofs.lemmas.List.Sorted.{Contains-permutation, IsPermutation-sym}
-use Rattle.study_index.specs.Number.{without_bit}
+use Rattle.study_values.specs.Number.{without_bit}
 use Rattle.study_index.specs.Decoded.{slots_of, told_men}
 use Rattle.study_index.proofs.DecodedNumbers.{told_of}
 use Rattle.study_index.proofs.ComputedIndex.{told_decoded}

@@ -1,5 +1,5 @@
 use Rattle.std.proofs.Common.{ap, ◌∙◌}
-use Rattle.study_index.specs.Canonical.{least_of}
+use Rattle.study_values.specs.Canonical.{least_of}
 use Rattle.study_index.proofs.Slots.{sorted-alone}
 use Rattle.study_index.proofs.least.least_in_slots.Goals as goal
 

@@ -1,4 +1,4 @@
-use Rattle.study_index.specs.Number.{IsLeastNumber}
+use Rattle.study_values.specs.Number.{IsLeastNumber}
 use Rattle.study_index.proofs.ComputedIndex.{least_number-only}
 use Rattle.study_index.proofs.WithBit.{number_small}
 use Rattle.study_index.proofs.TurnedNumbers.{least_found, no_none, the_some}

@@ -2,8 +2,8 @@ use Rattle.std.proofs.Common.{◌≡◌, ◌<◌, List, Bool, false, length, sli
 use Rattle.study_board.specs.declared.men.Man.{Man}
 use Rattle.study_board.specs.Men.{other_side}
 use Rattle.study_index.specs.declared.decoding.Slot.{Slot}
-use Rattle.study_index.specs.Number.{without_bit}
-use Rattle.study_index.specs.Canonical.{least_of}
+use Rattle.study_values.specs.Number.{without_bit}
+use Rattle.study_values.specs.Canonical.{least_of}
 use Rattle.study_index.specs.Decoded.{slots_of, slots_have_pawn, told_men, told_side}
 use Rattle.study_index.specs.Moved.{from_to}
 use Rattle.study_index.proofs.MovedNumbers.{moved_number}

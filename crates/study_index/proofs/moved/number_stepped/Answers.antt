@@ -1,6 +1,6 @@
 use Rattle.std.proofs.Common.{◌≡◌, ℕ, ◌≤◌, Bool, List, refl, sym, ◌∙◌, subst, arith}
 use Rattle.study_index.specs.declared.decoding.Slot.{Slot}
-use Rattle.study_index.specs.Number.{without_bit}
+use Rattle.study_values.specs.Number.{without_bit}
 use Rattle.study_index.specs.Stepped.{IsStepped}
 use Rattle.study_index.proofs.SteppedNumbers.{stepped_index}
 use Rattle.study_index.proofs.KingNumbers.{number_so, king_index, no_number}

@@ -1,7 +1,7 @@
 use Rattle.std.proofs.Common.{◌≡◌, ℕ, ◌+◌, ◌*◌, ◌<◌, ◌-◌, List, length, slice_index_or, refl, sym, ◌∙◌, subst, arith}
 use Rattle.study_board.specs.declared.men.Man.{Man}
 use Rattle.study_index.specs.declared.decoding.Slot.{Slot}
-use Rattle.study_index.specs.Number.{without_bit}
+use Rattle.study_values.specs.Number.{without_bit}
 use Rattle.study_index.specs.Decoded.{slots_of, told_men}
 use Rattle.study_index.proofs.RowDepartures.{IsRowSum-terms, IsLeastOfRowSum-terms, IsRowSumOfKing-terms, stands_in_row}
 use Rattle.study_index.proofs.RowDepartures.{found_row_sum, found_row_image, found_row_king}

@@ -3,7 +3,7 @@ use Rattle.study_board.specs.Position.{Position}
 use Rattle.study_marks.specs.Told.{IsUntold}
 use Rattle.study_marks.specs.Relabelled.{asked_each}
 use Rattle.study_marks.proofs.PositionsListed.{IsAsked, asked-next, take-one, untold-at, asked-at, same-fault, fault-asked}
-use Rattle.study_prober.specs.Values.{IsNotDamage}
+use Rattle.study_values.specs.Values.{IsNotDamage}
 use Rattle.study_marks.specs.Answers.{IsFirstFault}
 use Rattle.study_marks.proofs.FaultsTold.{told-next, first-at}
 use Rattle.study_marks.proofs.evaluate_all.evaluate_each.Goals as goal

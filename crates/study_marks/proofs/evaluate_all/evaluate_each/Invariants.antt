@@ -1,7 +1,7 @@
 use Rattle.std.proofs.Common.{◌+◌, ◌≤◌, length, take}
 use Rattle.std.specs.Prelude.{vec_len, vec_capacity}
 use Rattle.study_material.specs.declared.class.Class.{Class}
-use Rattle.study_prober.specs.Values.{SourceFault}
+use Rattle.study_values.specs.declared.fault.SourceFault.{SourceFault}
 use Rattle.study_marks.specs.Relabelled.{asked_each}
 use Rattle.study_marks.specs.Answers.{WereTold}
 use Rattle.study_marks.proofs.PositionsListed.{IsAsked}

@@ -10,7 +10,7 @@ use Rattle.study_page.proofs.parts.add_try.Goals as goal
 pub returns-in-Err-clause-asked : goal.returns-in-Err-clause-asked
 returns-in-Err-clause-asked g c =
     of-fault g.V.Values.held (within c.args.place.now.position g.V.Values.gives) g.V.Values.may_fail g.V.Values.asked_of g.V.Values.failed_of g.V.Values.is_honest (Unit {0})
-    c.args.values.now c.refutations.new.values c.in-Err.fault 
+    c.args.values.now c.refutations.new.values c.in-Err.fault
     (some-fault g.V.Values.may_fail g.V.Values.asked_of g.V.Values.gives c.args.place.now.position (g.V.Values.held c.args.values.now) c.args.values.now c.refutations.new.values
     (map (after c.args.place.now.position) (legal_list c.args.place.now.position)) c.in-Err.fault (each-legal c.args.place.now.position) c.in-Err.ensures.untold c.in-Err.ensures.first)
     (λ k e. untold-of (g.V.Values.held c.args.values.now) (map (after c.args.place.now.position) (legal_list c.args.place.now.position))

@@ -1,6 +1,6 @@
 use Rattle.std.proofs.Common.{ℕ, List, take, get_or, inl, inr, sym, ◌∙◌, ap, subst}
 use Rattle.std.proofs.lemmas.List.{get_or-take}
-use Rattle.study_retro.specs.Cells.{value_of}
+use Rattle.study_values.specs.Cells.{value_of}
 use Rattle.study_prober.specs.Sources.{IsGivenPage}
 use Rattle.study_tablefile.specs.Source.{page_of}
 use Rattle.study_prober.proofs.Cells.{cells_of_text}

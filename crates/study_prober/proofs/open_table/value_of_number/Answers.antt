@@ -1,5 +1,5 @@
 use Rattle.std.proofs.Common.{ℕ, List, get_or, inl, inr, sym, ◌∙◌, ap, subst, ◌%◌}
-use Rattle.study_retro.specs.Cells.{value_of}
+use Rattle.study_values.specs.Cells.{value_of}
 use Rattle.study_prober.specs.Sources.{IsGivenPage, cells_on_page}
 use Rattle.study_prober.specs.declared.page_cache.PageKey.{PageKey}
 use Rattle.study_prober.proofs.Cells.{page_of_cell, cell_of_page, told_cell}

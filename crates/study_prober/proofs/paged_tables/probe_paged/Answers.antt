@@ -4,10 +4,10 @@ use Rattle.study_prober.specs.declared.page_cache.PageKey.{PageKey}
 use Rattle.study_prober.specs.declared.open_table.OpenTable.{OpenTable}
 use Rattle.study_prober.specs.PageCache.{key_at}
 use Rattle.study_prober.specs.PagedTables.{held_of}
-use Rattle.study_index.specs.Computed.{index_of}
+use Rattle.study_values.specs.Index.{index_of}
 use Rattle.study_material.specs.declared.class.Class.{Class}
 use Rattle.study_material.specs.Class.{IsOf}
-use Rattle.study_retro.proofs.SetLemmas.{class_number-injective}
+use Rattle.study_table.proofs.SetLemmas.{class_number-injective}
 use Rattle.study_prober.proofs.HeldSources.{header_own, held_other, none_past, kept_after, same_after, held_at}
 use Rattle.study_prober.proofs.KeptCells.{again_none, again_at}
 use Rattle.study_prober.proofs.Tables.{one_class}
@@ -16,7 +16,7 @@ use Rattle.study_prober.proofs.GivenPages.{given_after, alike_after, one_held, r
 use Rattle.study_text.specs.Counts.{counted}
 use Rattle.study_prober.specs.PageCache.{kept_cell}
 use Rattle.study_prober.proofs.ProbedSources.{number_in, told_at, whole_at, count_at, game_at}
-use Rattle.study_index.specs.Number.{cells_of}
+use Rattle.study_values.specs.Number.{cells_of}
 use Rattle.study_index.proofs.ClassLaws.{below, numbered}
 use Rattle.study_prober.proofs.Cells.{page_of_cell}
 use Rattle.study_prober.proofs.paged_tables.probe_paged.Goals as goal

@@ -2,7 +2,7 @@ use Rattle.std.proofs.Common.{◌≡◌, ℕ, List, ◌++◌, sym, ap, subst, �
 use Rattle.std.specs.Prelude.{codes, decimal, OnErr}
 use Rattle.study_material.specs.declared.class.Class.{Class}
 use Rattle.study_material.specs.Class.{name_of}
-use Rattle.study_index.specs.Number.{cells_of}
+use Rattle.study_values.specs.Number.{cells_of}
 use Rattle.study_text.specs.Taken.{TakesPrefix}
 use Rattle.study_reply.specs.Words.{reply_line, win_text, built_text}
 use Rattle.study_reply.proofs.table_reply.put_built.Goals as goal

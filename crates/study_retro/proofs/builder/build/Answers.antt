@@ -1,10 +1,10 @@
 use Rattle.std.proofs.Common.{◌≡◌, ◌∙◌, ℕ, Bool, true, false, not, List, ◌++◌, length, take, refl, sym, ap, subst}
 use Rattle.std.proofs.Math.Seq.{take-append_seam}
-use Rattle.study_retro.specs.Table.{Table}
+use Rattle.study_table.specs.Table.{Table}
 use Rattle.study_retro.specs.Report.{IsGreatest, win_of, loss_of}
-use Rattle.study_retro.proofs.ChessClass.{chess_class}
-use Rattle.study_retro.proofs.SetLemmas.{first_missing-none}
-use Rattle.study_retro.proofs.SoundLemmas.{outside_right, table_right, far-from}
+use Rattle.study_table.proofs.ChessClass.{chess_class}
+use Rattle.study_table.proofs.SetLemmas.{first_missing-none}
+use Rattle.study_table.proofs.SoundLemmas.{outside_right, table_right, far-from}
 use Rattle.study_retro.proofs.builder.build.Goals as goal
 
 fits_where : (b : Bool) → not b ≡ false → b ≡ true

@@ -1,9 +1,9 @@
 use Rattle.std.proofs.Common.{sym, subst}
 use Rattle.study_material.specs.declared.class.Class.{Class}
-use Rattle.study_retro.specs.Table.{IsReady}
-use Rattle.study_retro.specs.Sound.{NeedsAreRight}
-use Rattle.study_retro.proofs.ChessClass.{chess_class}
-use Rattle.study_retro.proofs.SoundLemmas.{outside_right, table_right, right_cells}
+use Rattle.study_table.specs.Table.{IsReady}
+use Rattle.study_table.specs.Sound.{NeedsAreRight}
+use Rattle.study_table.proofs.ChessClass.{chess_class}
+use Rattle.study_table.proofs.SoundLemmas.{outside_right, table_right, right_cells}
 use Rattle.study_retro.proofs.builder.verify.Goals as goal
 
 pub are_right-requires-clause-laws : goal.are_right-requires-clause-laws

@@ -1,5 +1,5 @@
 use Rattle.std.proofs.Common.{◌≡◌, inr, refl, true, false}
-use Rattle.study_retro.proofs.ClassLemmas.{other-wrong, cells-settled}
+use Rattle.study_table.proofs.ClassLemmas.{other-wrong, cells-settled}
 use Rattle.study_retro.proofs.consistency.are_right.Goals as goal
 
 pub returns-in-None : goal.returns-in-None

@@ -1,5 +1,5 @@
 use Rattle.std.proofs.Common.{ℕ, ◌<◌, slice_index}
-use Rattle.study_retro.specs.Right.{IsGivenCell}
+use Rattle.study_table.specs.Right.{IsGivenCell}
 use Rattle.study_retro.specs.Numbered.{label_by, leads_in}
 use Rattle.study_retro.proofs.consistency.first_inconsistent.Given as goal
 

@@ -1,8 +1,8 @@
 use Rattle.std.proofs.Common.{sym, ap, subst, ◌∙◌, List, Contains}
 use Rattle.std.proofs.lemmas.List.{take_all}
-use Rattle.study_retro.specs.Forced.{Gives}
+use Rattle.study_table.specs.Forced.{Gives}
 use Rattle.study_moves.specs.declared.moves.Move.{Move}
-use Rattle.study_retro.specs.declared.value.Value.{Value}
+use Rattle.study_values.specs.declared.value.Value.{Value}
 use Rattle.study_retro.specs.Numbered.{label_by, leads_in}
 use Rattle.study_retro.proofs.TallyLemmas.{IsTally, IsTally-take, Gives-given_by}
 use Rattle.study_retro.proofs.consistency.value_from_moves.Goals as goal

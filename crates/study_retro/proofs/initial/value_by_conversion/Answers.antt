@@ -1,12 +1,12 @@
 use Rattle.std.proofs.Common.{◌≡◌, ℕ, Bool, true, false, List, [], Option, slice_index_or, Contains, sym, ap, subst, ◌∙◌, inl, inr}
 use Rattle.std.proofs.lemmas.List.{take_all}
 use Rattle.std.proofs.lemmas.List.Elements.{Contains-get_or}
-use Rattle.study_retro.specs.Forced.{GivesOutside}
+use Rattle.study_table.specs.Forced.{GivesOutside}
 use Rattle.study_moves.specs.declared.moves.Move.{Move}
-use Rattle.study_retro.specs.declared.value.Value.{Value}
+use Rattle.study_values.specs.declared.value.Value.{Value}
 use Rattle.study_retro.specs.declared.best_replies.BestReplies.{BestReplies}
 use Rattle.study_retro.specs.Numbered.{leads_in}
-use Rattle.study_retro.proofs.ClassLemmas.{true_or_false}
+use Rattle.study_table.proofs.ClassLemmas.{true_or_false}
 use Rattle.study_retro.proofs.DueTally.{IsTallyOf, IsTallyOf-empty, IsTallyOf-in, IsTallyOf-out, GivesOutside-given_by}
 use Rattle.study_retro.proofs.initial.value_by_conversion.Goals as goal
 use Rattle.study_retro.proofs.initial.value_by_conversion.Goals.{then-leaves, else-leaves}

@@ -1,5 +1,5 @@
 use Rattle.std.proofs.Common.{◌≡◌, ℕ, ◌+◌, ◌*◌, ◌/◌, ◌<◌, ◌≤◌, length, slice_index, Some, ◌-◌}
-use Rattle.study_retro.specs.Forced.{LeadsBy}
+use Rattle.study_table.specs.Forced.{LeadsBy}
 use Rattle.study_retro.specs.Propagation.{AreDropped}
 use Rattle.study_retro.specs.Numbered.{CellsHavePositions, OutsideIsRight, TellWins, IsMatedWithin}
 use Rattle.study_retro.proofs.levels.confirm_losses.Given as goal

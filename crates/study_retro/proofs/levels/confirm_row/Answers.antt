@@ -1,9 +1,9 @@
 use Rattle.std.proofs.Common.{◌≡◌, ℕ, ◌+◌, ◌*◌, true, slice_index, Some, inl, inr, arith, sym, ◌∙◌, ap, subst}
 use Rattle.std.proofs.lemmas.Bool.{false≢true}
 use Rattle.study_board.specs.Sets.{has}
-use Rattle.study_retro.specs.Forced.{Mated}
+use Rattle.study_table.specs.Forced.{Mated}
 use Rattle.study_retro.specs.Numbered.{leads_in}
-use Rattle.study_retro.proofs.ClassLemmas.{true_or_false}
+use Rattle.study_table.proofs.ClassLemmas.{true_or_false}
 use Rattle.study_retro.proofs.HeldLemmas.{lost-sound, lost-complete}
 use Rattle.study_retro.proofs.SquaresLeft.{in-one, not-other, in-one-alone}
 use Rattle.study_retro.proofs.levels.confirm_row.Goals as goal

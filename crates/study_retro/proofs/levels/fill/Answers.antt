@@ -1,6 +1,6 @@
 use Rattle.std.proofs.Common.{ℕ, ◌<◌, ◌≤◌, inr, slice_index}
-use Rattle.study_retro.proofs.ClassLemmas.{cells-settled}
-use Rattle.study_retro.proofs.LevelLemmas.{other-far}
+use Rattle.study_table.proofs.ClassLemmas.{cells-settled}
+use Rattle.study_table.proofs.LevelLemmas.{other-far}
 use Rattle.study_retro.proofs.StillLemmas.{held-below}
 use Rattle.study_retro.proofs.levels.fill.Goals as goal
 

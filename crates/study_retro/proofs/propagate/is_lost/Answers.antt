@@ -2,7 +2,7 @@ use Rattle.std.proofs.Common.{◌≡◌, ℕ, ◌≤◌, true, false, List, slic
 use Rattle.std.proofs.lemmas.List.{take_all}
 use Rattle.std.proofs.lemmas.List.Elements.{Contains-get_or}
 use Rattle.study_moves.specs.declared.moves.Move.{Move}
-use Rattle.study_retro.specs.declared.value.Value.TheVariants.{Win}
+use Rattle.study_values.specs.declared.value.Value.TheVariants.{Win}
 use Rattle.study_retro.specs.Numbered.{label_by}
 use Rattle.study_retro.proofs.CellsLemmas.{each-more, lost_listed}
 use Rattle.study_retro.proofs.propagate.is_lost.Goals as goal

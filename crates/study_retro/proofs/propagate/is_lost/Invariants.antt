@@ -1,5 +1,5 @@
 use Rattle.std.proofs.Common.{◌≡◌, ℕ, ◌≤◌, take, Contains}
-use Rattle.study_retro.specs.declared.value.Value.TheVariants.{Win}
+use Rattle.study_values.specs.declared.value.Value.TheVariants.{Win}
 use Rattle.study_retro.specs.Numbered.{label_by}
 use Rattle.study_retro.proofs.propagate.is_lost.Given as goal
 

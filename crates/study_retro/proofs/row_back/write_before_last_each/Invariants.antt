@@ -1,5 +1,5 @@
 use Rattle.std.proofs.Common.{◌≡◌, ◌-◌, ◌+◌, ◌*◌, length}
-use Rattle.study_index.specs.Number.{cells_of}
+use Rattle.study_values.specs.Number.{cells_of}
 use Rattle.study_retro.specs.Predecessors.{IsBeforeBy}
 use Rattle.study_retro.specs.Still.{on_square}
 use Rattle.study_retro.proofs.RowSets.{AreSetBelow}

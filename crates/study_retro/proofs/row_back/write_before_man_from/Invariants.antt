@@ -1,6 +1,6 @@
 use Rattle.std.proofs.Common.{◌≡◌, ◌-◌, ◌+◌, ◌*◌, ◌<◌, ℕ, true, length}
 use Rattle.study_board.specs.Sets.{has}
-use Rattle.study_index.specs.Number.{cells_of}
+use Rattle.study_values.specs.Number.{cells_of}
 use Rattle.study_retro.specs.Predecessors.{IsBeforeFrom}
 use Rattle.study_retro.specs.Propagation.{AreSet, IsSetWhere}
 use Rattle.study_retro.specs.RowBack.{IsBeforeRowBy}

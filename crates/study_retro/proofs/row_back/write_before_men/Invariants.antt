@@ -1,7 +1,7 @@
 use Rattle.std.proofs.Common.{◌≡◌, ◌+◌, ◌*◌, ◌<◌, ℕ, true, length, take, Contains}
 use Rattle.study_board.specs.declared.men.Man.{Man}
 use Rattle.study_board.specs.Sets.{has}
-use Rattle.study_index.specs.Number.{cells_of}
+use Rattle.study_values.specs.Number.{cells_of}
 use Rattle.study_retro.specs.Predecessors.{IsBeforeBy}
 use Rattle.study_retro.specs.Propagation.{AreSet, IsSetWhere}
 use Rattle.study_retro.specs.RowLevels.{IsBeforeRow}

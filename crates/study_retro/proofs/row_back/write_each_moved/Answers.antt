@@ -1,6 +1,6 @@
 use Rattle.std.proofs.Common.{◌≡◌, ◌+◌, ◌*◌, ◌<◌, ℕ, sym, ◌∙◌, subst, arith}
 use Rattle.study_board.specs.Position.{Position}
-use Rattle.study_index.specs.Computed.{index_of}
+use Rattle.study_values.specs.Index.{index_of}
 use Rattle.study_index.specs.Moved.{IsMoved}
 use Rattle.study_retro.specs.Predecessors.{IsBeforeFrom}
 use Rattle.study_retro.specs.RowBack.{IsItOrTwin}

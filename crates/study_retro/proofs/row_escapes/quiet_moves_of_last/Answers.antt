@@ -5,7 +5,7 @@ use Rattle.study_board.specs.Sets.{has}
 use Rattle.study_board.proofs.EqualMen.{side_same}
 use Rattle.study_material.specs.declared.class.Class.{Class}
 use Rattle.study_material.specs.Class.{lists_of}
-use Rattle.study_index.specs.Number.{has_both_pawns}
+use Rattle.study_values.specs.Number.{has_both_pawns}
 use Rattle.study_index.specs.Moved.{IsMoved}
 use Rattle.study_retro.specs.Predecessors.{AreTold}
 use Rattle.study_retro.specs.Still.{on_square}

@@ -1,7 +1,7 @@
 use Rattle.std.proofs.Common.{◌≡◌, ℕ, ◌+◌, ◌*◌, ◌≤◌, slice_index, refl, sym, ◌∙◌, subst}
 use Rattle.std.proofs.lemmas.Bool.{false≢true}
-use Rattle.study_retro.specs.Cells.{value_of}
-use Rattle.study_retro.specs.declared.value.Value.TheVariants.{Win}
+use Rattle.study_values.specs.Cells.{value_of}
+use Rattle.study_values.specs.declared.value.Value.TheVariants.{Win}
 use Rattle.study_retro.proofs.RowEscapeLemmas.{AreKeptBelow, kept-all, kept-none, kept-with, kept-without}
 use Rattle.study_retro.proofs.RowSets.{IsFirst, first-as}
 use Rattle.study_retro.proofs.SquaresLeft.{AreLeft, left-all, left-more}

@@ -1,6 +1,6 @@
 use Rattle.std.proofs.Common.{◌≡◌, ℕ, ◌+◌, ◌*◌, ◌≤◌, ◌-◌, slice_index}
-use Rattle.study_retro.specs.Cells.{value_of}
-use Rattle.study_retro.specs.declared.value.Value.TheVariants.{Win}
+use Rattle.study_values.specs.Cells.{value_of}
+use Rattle.study_values.specs.declared.value.Value.TheVariants.{Win}
 use Rattle.study_retro.proofs.RowEscapeLemmas.{AreKeptBelow}
 use Rattle.study_retro.proofs.SquaresLeft.{AreLeft}
 use Rattle.study_retro.proofs.row_escapes.squares_won.Given as goal

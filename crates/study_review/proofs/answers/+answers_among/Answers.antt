@@ -1,6 +1,6 @@
 use Rattle.std.proofs.Common.{rules, sym, subst, ◌∙◌}
 use Rattle.study_board.specs.Position.{Position}
-use Rattle.study_retro.specs.Game.{IsValueOf}
+use Rattle.study_values.specs.Game.{IsValueOf}
 use Rattle.study_review.specs.Asked.{within}
 use Rattle.study_review.proofs.Within.{leads-first, all-wider, asks-wider}
 use Rattle.study_review.proofs.Asking.{all-then, asks-then, same-asks}

@@ -1,7 +1,7 @@
 use Rattle.std.proofs.Common.{rules, ◌≡◌, true, ◌↔◌, sym, subst}
 use Rattle.study_board.specs.Position.{IsValid}
 use Rattle.study_review.specs.Back.{HasLost}
-use Rattle.study_prober.specs.Values.{ProbeAnswer}
+use Rattle.study_values.specs.Values.{ProbeAnswer}
 use Rattle.study_review.specs.Asked.{HasTold, within}
 use Rattle.study_review.proofs.Within.{own-answer}
 use Rattle.study_review.proofs.AskedSteps.{asked-one}

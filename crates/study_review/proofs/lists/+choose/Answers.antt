@@ -3,7 +3,7 @@ use Rattle.std.proofs.Common.{◌≡◌, ◌+◌, ◌≤◌, arith, List, ◌∷
 use Rattle.study_board.specs.Position.{Position}
 use Rattle.study_moves.specs.declared.moves.Move.{Move}
 use Rattle.study_moves.specs.Rules.{after}
-use Rattle.study_retro.specs.Game.{IsValueOf}
+use Rattle.study_values.specs.Game.{IsValueOf}
 use Rattle.study_marks.specs.Told.{IsUntold, WasAsked}
 use Rattle.study_marks.proofs.ValuesAsked.{untold-here, untold-more, asked-more, legal-rest}
 use Rattle.study_review.specs.Continuations.{is_wanted}

@@ -1,6 +1,6 @@
 use Rattle.std.proofs.Common.{rules, subst}
 use Rattle.study_board.specs.Position.{IsValid}
-use Rattle.study_prober.specs.Values.{ProbeAnswer}
+use Rattle.study_values.specs.Values.{ProbeAnswer}
 use Rattle.study_review.specs.Asked.{within}
 use Rattle.study_review.proofs.Within.{own-answer}
 use Rattle.study_review.proofs.Asking.{Answered, value-answered}

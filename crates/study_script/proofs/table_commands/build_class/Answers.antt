@@ -1,8 +1,8 @@
 use Rattle.std.proofs.Common.{List, Option, Err, sym, ap, subst, ◌∙◌}
 use Rattle.study_material.specs.Needs.{needs_of}
-use Rattle.study_retro.specs.Table.{Table}
-use Rattle.study_retro.specs.TableSet.{first_missing}
-use Rattle.study_retro.specs.Sound.{NeedsAreRight}
+use Rattle.study_table.specs.Table.{Table}
+use Rattle.study_table.specs.TableSet.{first_missing}
+use Rattle.study_table.specs.Sound.{NeedsAreRight}
 use Rattle.study_script.proofs.HeldTables.{may_add, none_missing, needs_right, whole_with}
 use Rattle.study_script.proofs.ClassReplies.{build_held, build_no_room, build_missing, build_far, build_done}
 use Rattle.study_script.proofs.table_commands.build_class.Goals as goal

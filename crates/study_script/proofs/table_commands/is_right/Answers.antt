@@ -1,5 +1,5 @@
 use Rattle.std.proofs.Common.{◌≡◌, List, Option, Some, sym, ap, subst, ◌∙◌}
-use Rattle.study_retro.specs.Table.{Table, IsReady, table_of}
+use Rattle.study_table.specs.Table.{Table, IsReady, table_of}
 use Rattle.study_script.proofs.HeldTables.{ready_of, class_of_held}
 use Rattle.study_script.proofs.table_commands.is_right.Goals as goal
 

@@ -2,8 +2,8 @@ use Rattle.std.proofs.Common.{rules, ◌≡◌, ℕ, Bool, List, Option, Result,
 use denote.Enum.Bare.{differs_true, differs_false}
 use Rattle.study_material.specs.contracts.class.Class.{the_type}
 use Rattle.study_material.specs.Needs.{needs_of}
-use Rattle.study_retro.specs.Table.{Table}
-use Rattle.study_retro.specs.TableSet.{first_missing}
+use Rattle.study_table.specs.Table.{Table}
+use Rattle.study_table.specs.TableSet.{first_missing}
 use Rattle.study_script.specs.State.{IsGiven}
 use Rattle.study_script.specs.declared.store.StoreFault.{StoreFault}
 use Rattle.study_script.specs.Stores.{HonestOn, StoreSeen}

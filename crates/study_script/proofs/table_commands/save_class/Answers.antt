@@ -1,5 +1,5 @@
 use Rattle.std.proofs.Common.{List, Option, sym, ap, ◌∙◌, is_some}
-use Rattle.study_retro.specs.Table.{Table, table_of}
+use Rattle.study_table.specs.Table.{Table, table_of}
 use Rattle.study_script.specs.Stores.{HonestOn, StoreSeen}
 use Rattle.study_script.proofs.HeldTables.{store_anew}
 use Rattle.study_script.proofs.ClassReplies.{save_none, save_unopened, save_cut, save_done}

@@ -1,5 +1,5 @@
 use Rattle.std.proofs.Common.{◌≡◌, ℕ, suc, ◌+◌, ◌*◌, ◌-◌, List, drop, Some, rules, arith, inl, inr, ap, ◌∙◌}
-use Rattle.study_tablefile.specs.File.{pages_of}
+use Rattle.study_values.specs.Size.{pages_of}
 use Rattle.study_tablefile.proofs.BytesGiven.{pages_stop, pages_step, IfErr-given}
 use Rattle.study_tablefile.proofs.StoppedAt.{next_page_at}
 use Rattle.study_tablefile.proofs.reading.read_pages.Goals as goal

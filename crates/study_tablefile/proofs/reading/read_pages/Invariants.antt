@@ -1,5 +1,5 @@
 use Rattle.std.proofs.Common.{◌≡◌, ◌≤◌, ◌+◌, ◌*◌, ◌-◌, ℕ, List, [], drop, Some, vec_len, vec_capacity}
-use Rattle.study_tablefile.specs.File.{pages_of}
+use Rattle.study_values.specs.Size.{pages_of}
 use Rattle.study_tablefile.specs.Reading.{pages_read}
 use Rattle.study_tablefile.proofs.reading.read_pages.Given as goal
 

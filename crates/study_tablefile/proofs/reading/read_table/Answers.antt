@@ -1,10 +1,10 @@
 use Rattle.std.proofs.Common.{rules, arith, [], take, refl, sym, ap, subst, inl, inr, ◌∙◌, Result}
 use Rattle.std.proofs.lemmas.Result.{IfOk-weaker, IfErr-weaker}
 use Rattle.study_material.specs.declared.class.Class.{Class}
-use Rattle.study_tablefile.specs.declared.fault.FileFault.{FileFault}
+use Rattle.study_values.specs.declared.fault.FileFault.{FileFault}
 use Rattle.study_tablefile.specs.Reading.{version_of, class_read, pages_read, table_behind, pages_after, IsToldAt}
-use Rattle.study_tablefile.proofs.ClassBounds.{pages_hold, pages_full}
-use Rattle.study_tablefile.specs.File.{pages_of}
+use Rattle.study_values.proofs.ClassBounds.{pages_hold, pages_full}
+use Rattle.study_values.specs.Size.{pages_of}
 use Rattle.study_tablefile.proofs.TablesRead.{text_of_read}
 use Rattle.study_tablefile.proofs.BytesGiven.{header_known, left_after, IfErr-given}
 use Rattle.study_tablefile.proofs.reading.read_table.Goals as goal

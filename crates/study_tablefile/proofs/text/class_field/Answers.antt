@@ -1,5 +1,5 @@
 use Rattle.std.proofs.Common.{sym}
-use Rattle.study_tablefile.proofs.ClassBounds.{short_name}
+use Rattle.study_values.proofs.ClassBounds.{short_name}
 use Rattle.std.proofs.lemmas.List.{length-take-le}
 use Rattle.study_tablefile.proofs.text.class_field.Goals as goal
 

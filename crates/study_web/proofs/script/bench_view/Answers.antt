@@ -1,5 +1,5 @@
 use Rattle.std.proofs.Common.{◌≡◌, false, Err, refl, sym, ap, subst, ◌∙◌}
-use Rattle.study_prober.specs.declared.values.ProbeFault.{ProbeFault}
+use Rattle.study_values.specs.declared.values.ProbeFault.{ProbeFault}
 use Rattle.study_tree.specs.Tree.{has_spot}
 use Rattle.study_marks.specs.Study.{plain_study}
 use Rattle.study_script.specs.State.{study}
@@ -27,7 +27,11 @@ returns-in-Err-Values-clause-none g c =
     (study (plain_study (marked c.args.bench.now))) old fault new in
     subst (λ (r : Refusal). IsViewDenial Untold (has_spot (plain_study (marked c.args.bench.now)).tree (steps_of c.args.path.now) ≡ false) (denial.Refused r))
     (sym c.of_probe.ensures)
-    (probe_denial Untold _ c.in-Err-Values.fault (plain_study (marked c.args.bench.now), refl, c.start-first.ensures.study.valid,
-    view_stopped g.V.Values.held g.V.Values.gives g.V.Values.may_fail g.V.Values.asked_of
-    g.V.Values.failed_of g.V.Values.is_honest (marked c.args.bench.now).start.position _ old new c.in-Err-Values.fault c.write_view.result
-    (c.in-Err-Values.is ∙ ap Err c.in-Err-Values.field-0-is) c.write_view.ensures.asked))
+    (probe_denial Untold _ c.in-Err-Values.fault (
+      plain_study (marked c.args.bench.now),
+      refl,
+      c.start-first.ensures.study.valid,
+      view_stopped g.V.Values.held g.V.Values.gives g.V.Values.may_fail g.V.Values.asked_of
+          g.V.Values.failed_of g.V.Values.is_honest (marked c.args.bench.now).start.position _ old new c.in-Err-Values.fault c.write_view.result
+          (c.in-Err-Values.is ∙ ap Err c.in-Err-Values.field-0-is) c.write_view.ensures.asked,
+    ))

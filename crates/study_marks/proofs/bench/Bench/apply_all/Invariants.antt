@@ -1,6 +1,6 @@
 use Rattle.std.proofs.Common.{◌≡◌, take}
 use Rattle.study_material.specs.declared.class.Class.{Class}
-use Rattle.study_prober.specs.Values.{SourceFault}
+use Rattle.study_values.specs.declared.fault.SourceFault.{SourceFault}
 use Rattle.study_marks.proofs.EditLists.{IsRun}
 use Rattle.study_marks.proofs.bench.Bench.apply_all.Given as goal
 

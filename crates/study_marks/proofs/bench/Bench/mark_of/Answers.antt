@@ -1,7 +1,7 @@
 use Rattle.std.proofs.Common.{rules, ◌≡◌, ℕ, [], ◌∷◌, List, ap, ◌∙◌, subst, refl, inl, Err, IfErr}
 use Rattle.study_board.specs.Position.{Position}
 use Rattle.study_moves.specs.Rules.{after}
-use Rattle.study_retro.specs.Game.{IsValueOf}
+use Rattle.study_values.specs.Game.{IsValueOf}
 use Rattle.study_marks.specs.Study.{plain_study, position_at}
 use Rattle.study_marks.specs.BenchState.{marked}
 use Rattle.study_marks.specs.Queries.{AllHeld, IsOutside}

@@ -1,7 +1,7 @@
 use Rattle.std.proofs.Common.{Err, IsErrOf, subst}
-use Rattle.study_prober.specs.Values.{ProbeAnswer}
-use Rattle.study_prober.specs.declared.values.ProbeFault.TheVariants.{TableRead, PageDamaged}
-use Rattle.study_tablefile.specs.declared.fault.SourceFault.TheVariants.{Device}
+use Rattle.study_values.specs.Values.{ProbeAnswer}
+use Rattle.study_values.specs.declared.values.ProbeFault.TheVariants.{TableRead, PageDamaged}
+use Rattle.study_values.specs.declared.fault.SourceFault.TheVariants.{Device}
 use Rattle.study_prober.proofs.failing_values.FailingValuesValues.value.Goals as goal
 use Rattle.study_prober.proofs.failing_values.FailingValuesValues.value.Goals.{then-eq+then-holds, else-eq}
 

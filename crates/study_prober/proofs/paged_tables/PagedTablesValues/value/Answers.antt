@@ -2,7 +2,7 @@ use Rattle.std.proofs.Common.{◌≡◌, ◌/◌, ◌∙◌, ap, sym, subst}
 use Rattle.study_material.specs.declared.class.Class.{Class}
 use Rattle.study_prober.specs.PageCache.{key_at}
 use Rattle.study_prober.specs.PagedTables.{Paged, IsSameSource, SourcesAreRight, held_of}
-use Rattle.study_index.specs.Computed.{index_of}
+use Rattle.study_values.specs.Index.{index_of}
 use Rattle.study_prober.specs.Sources.{IsGivenPage}
 use Rattle.study_prober.proofs.GivenPages.{put_seen, fewer_seen, on_err}
 use Rattle.study_prober.proofs.KeptCells.{again_seen, none_seen}

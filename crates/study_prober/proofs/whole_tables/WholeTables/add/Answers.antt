@@ -1,6 +1,6 @@
 use Rattle.std.proofs.Common.{sym, ap, subst}
 use Rattle.std.specs.Prelude.{List, Option}
-use Rattle.study_retro.specs.Table.{Table}
+use Rattle.study_table.specs.Table.{Table}
 use Rattle.study_prober.specs.WholeTables.{Whole, TablesAreRight}
 use Rattle.study_prober.proofs.Tables.{right_added}
 use Rattle.study_prober.proofs.whole_tables.WholeTables.add.Goals as goal

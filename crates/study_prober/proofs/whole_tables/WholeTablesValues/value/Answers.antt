@@ -1,7 +1,7 @@
 use Rattle.std.proofs.Common.{◌≡◌, ◌∙◌, sym, ap, subst, List, Option, Some, Ok, get_or}
-use Rattle.study_index.specs.Computed.{index_of}
-use Rattle.study_retro.specs.Cells.{value_of}
-use Rattle.study_retro.specs.Table.{Table, table_of}
+use Rattle.study_values.specs.Index.{index_of}
+use Rattle.study_values.specs.Cells.{value_of}
+use Rattle.study_table.specs.Table.{Table, table_of}
 use Rattle.study_prober.specs.WholeTables.{Whole}
 use Rattle.study_prober.proofs.Tables.{one_class, same_table, table_class, some_held, cell_told}
 use Rattle.study_prober.proofs.whole_tables.WholeTablesValues.value.Goals as goal

@@ -1,0 +1,9 @@
+pub mod ForcedLemmas
+pub mod AlongLemmas
+pub mod ClassLemmas
+pub mod ParityLemmas
+pub mod LevelLemmas
+pub mod SetLemmas
+pub mod GameValues
+pub mod ChessClass
+pub mod SoundLemmas

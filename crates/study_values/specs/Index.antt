@@ -1,0 +1,28 @@
+-- The index of a position as a function: what is computed.
+use Rattle.std.specs.Prelude.{ℕ, Bool, nat_le, List, [], ◌∷◌, unwrap_or, if◌then◌else◌}
+use Rattle.study_board.specs.declared.men.Man.{Man}
+use Rattle.study_board.specs.Position.{Position}
+use Rattle.study_board.specs.Symmetry.{turned_side}
+use Rattle.study_moves.specs.EnPassant.{has_legal_en_passant}
+use Rattle.study_material.specs.Lists.{is_swapped}
+use Rattle.study_values.specs.Filling.{man_slot_number}
+use Rattle.study_values.specs.Number.{has_pawn, with_bit}
+use Rattle.study_values.specs.Canonical.{least_of}
+
+-- a man put after those of no later slot
+unfoldable pub put : Bool → Man → List Man → List Man
+put c m [] = m ∷ []
+put c m (x ∷ xs) = if nat_le (man_slot_number c x) (man_slot_number c m) then x ∷ put c m xs else m ∷ x ∷ xs
+
+-- the men in the order of their slots
+abbrev pub sorted : Bool → List Man → List Man
+sorted c [] = []
+sorted c (m ∷ ms) = put c m (sorted c ms)
+
+-- the least number of a valid position
+unfoldable pub least_number : Position → ℕ
+least_number p = unwrap_or (least_of (has_pawn p.men) (turned_side (is_swapped p.men) p.to_move) (is_swapped p.men) (sorted (is_swapped p.men) p.men)) 0
+
+-- the index of a valid position
+unfoldable pub index_of : Position → ℕ
+index_of p = with_bit (has_legal_en_passant p) (least_number p)

@@ -1,0 +1,94 @@
+//! What answers the values of positions.
+ghost use Rattle.std.specs.Prelude.{◌≡◌, ◌↔◌, ℕ, Bool, false, IfOk, IfErr, IsErrOf};
+ghost use Rattle.study_board.specs.Position.{Position as APosition};
+ghost use Rattle.study_material.specs.declared.class.Class.{Class as AClass};
+ghost use Rattle.study_material.specs.Class.{IsOf};
+ghost use Rattle.study_values.specs.Game.{IsValueOf};
+ghost use Rattle.study_text.specs.Counts.{counted};
+ghost use Rattle.study_values.specs.declared.fault.SourceFault.{SourceFault as ASourceFault};
+ghost use Rattle.study_values.specs.Values.{ProbeAnswer, IsNotDamage, faults_after, page_number};
+
+use crate::fault::SourceFault;
+use crate::value::Value;
+use study_board::Position;
+use study_material::Class;
+use thiserror::Error;
+
+/// Why a value is not told.
+#[derive(Clone, Copy, Debug, PartialEq, Eq, Error)]
+pub enum ProbeFault {
+    #[error("no table of {0:?} is held")]
+    NoTable(Class),
+    #[error("a table is not read: {0}")]
+    TableRead(SourceFault),
+    #[error("page {1} of {0:?} is damaged")]
+    PageDamaged(Class, u32),
+}
+
+impl From<SourceFault> for ProbeFault {
+    ghost use Rattle.std.specs.Prelude.{◌≡◌};
+    ghost use Rattle.study_values.specs.declared.values.ProbeFault.TheVariants.{TableRead};
+
+    ghost from_gives = { λ source fault. fault ≡ TableRead source };
+
+    fn from(fault: SourceFault) -> ProbeFault {
+        ProbeFault::TableRead(fault)
+    }
+}
+
+/// A count of faults after an answer.
+pub fn failures_after(count: u64, answer: &Result<Value, ProbeFault>) -> u64
+    ensures { result ≡ faults_after count answer.now }
+{
+    match answer {
+        Err(ProbeFault::TableRead(_) | ProbeFault::PageDamaged(_, _)) => count.saturating_add(1),
+        _ => count,
+    }
+}
+
+/// Tells the values of positions, and counts how often it is asked and how often a device or a page failed. Both counts
+/// stay at the last value of their type.
+pub trait Values: Drop {
+    /// Each value that is told, now and after any calls, is the game's.
+    ghost is_honest: { Self → Type 0 };
+    /// A table of the class is held.
+    ghost held: { Self → AClass → Bool };
+
+    /// What may be answered to the question for a position that is asked next. Values that do not tell their answers may
+    /// answer anything.
+    ghost gives: { Self → APosition → ProbeAnswer → Type 0 };
+
+    /// A table of this class may not be read for this fault, now and after any calls.
+    ghost may_fail: { Self → AClass → ASourceFault → Type 0 };
+
+    ghost asked_of: { Self → ℕ };
+
+    ghost failed_of: { Self → ℕ };
+
+    /// The value of a position.
+    fn value(&mut self, p: &Position) -> Result<Value, ProbeFault>
+        ensures game { is_honest self.old → IfOk result (IsValueOf p.now) }
+        ensures no_damage { is_honest self.old → IfErr result IsNotDamage }
+        ensures stays_honest { is_honest self.old → is_honest self.new }
+        ensures given { gives self.old p.now result }
+        ensures failed_so { (c : AClass) (f : ASourceFault) → IsOf c p.now → IsErrOf result (ProbeFault.TableRead f) → may_fail self.old c f }
+        ensures fails_as_before { (c : AClass) (f : ASourceFault) → may_fail self.new c f → may_fail self.old c f }
+        ensures no_table { (c : AClass) → IsErrOf result (ProbeFault.NoTable c) ↔ (IsOf c p.now × (held self.old c ≡ false)) }
+        ensures damaged { (c : AClass) (n : ℕ) → IsErrOf result (ProbeFault.PageDamaged c n)
+            → IsOf c p.now × (n ≡ page_number p.now) }
+        ensures same_tables { (c : AClass) → held self.new c ≡ held self.old c }
+        ensures asked { asked_of self.new ≡ counted (asked_of self.old) }
+        ensures failures { failed_of self.new ≡ faults_after (failed_of self.old) result };
+
+    /// Whether a table of the class is held.
+    fn holds(&self, class: Class) -> bool
+        ensures { result ≡ held self.now class };
+
+    /// How often a value was asked.
+    fn asked(&self) -> u64
+        ensures { result ≡ asked_of self.now };
+
+    /// How often a device or a page failed.
+    fn failures(&self) -> u64
+        ensures { result ≡ failed_of self.now };
+}
