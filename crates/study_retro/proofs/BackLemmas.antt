@@ -26,12 +26,12 @@ use Rattle.study_index.specs.Moved.{IsMoved}
 use Rattle.study_index.proofs.ClassLaws.{below}
 use Rattle.study_index.proofs.ComputedIndex.{told_decoded}
 use Rattle.study_index.proofs.DecodedNumbers.{told_of}
-use Rattle.study_retro.specs.Propagation.{AreAdded, AreLowered, AreSet, IsSetWhere, LeadsTo}
+use Rattle.study_levels.specs.Propagation.{AreAdded, AreLowered, AreSet, IsSetWhere, LeadsTo}
 use Rattle.study_table.specs.Table.{Table}
 use Rattle.study_values.specs.Cells.{value_of}
 use Rattle.study_values.specs.declared.value.Value.TheVariants.{Win}
 use Rattle.study_retro.specs.ClassGame.{class_game}
-use Rattle.study_retro.specs.Numbered.{Numbered, IsNumberedClass, LosesBy, NoLossBy}
+use Rattle.study_levels.specs.Numbered.{Numbered, IsNumberedClass, LosesBy, NoLossBy}
 use Rattle.study_retro.specs.Still.{IsWonAfter, QuietMovesLose, QuietMovesLoseBy, move_to}
 use Rattle.study_retro.specs.Predecessors.{AreTold, IsBefore, IsBeforeBy, IsBeforeFrom, IsNumberBefore, LeavesNone}
 use Rattle.study_retro.proofs.EarlierChess.{before_leads, leads_before, leads_numbered, small_index}

@@ -11,7 +11,7 @@ use Rattle.study_moves.specs.declared.moves.Move.{Move}
 use Rattle.study_moves.specs.Rules.{is_legal, reaches_last_rank}
 use Rattle.study_moves.specs.AnyOrder.{HasSafeTargets, is_safe_target}
 use Rattle.study_retro.specs.Still.{GoesPlainly, move_to}
-use Rattle.study_retro.proofs.CellsLemmas.{each-more}
+use Rattle.study_levels.proofs.CellsLemmas.{each-more}
 
 -- one move more
 module _ (xs ys : List Move) (mv : Move) (more : ys ≡ xs ++ mv ∷ []) where

@@ -36,7 +36,7 @@ use Rattle.study_index.proofs.ComputedIndex.{IsIndex-index_of, index_of-only, to
 use Rattle.study_index.proofs.ImageNumbers.{IsLeastNumber-passed}
 use Rattle.study_index.proofs.LivePassing.{live_along, not_live_passed}
 use Rattle.study_index.proofs.WithBit.{HasParts-from}
-use Rattle.study_retro.specs.Propagation.{LeadsTo}
+use Rattle.study_levels.specs.Propagation.{LeadsTo}
 use Rattle.study_retro.specs.Predecessors.{IsPlainNumber, IsNumberBefore, ComesBefore}
 use Rattle.study_material.specs.Class.{is_of}
 use Rattle.study_material.proofs.Classes.{IsOf-is_of, is_of-IsOf}

@@ -1,13 +1,7 @@
-pub mod TallyLemmas
 pub mod PlaceLemmas
 pub mod ReportLemmas
-pub mod HeldLemmas
-pub mod NextLemmas
-pub mod StillLemmas
-pub mod FirstLemmas
 pub mod CaptureLemmas
 pub mod LeavingLemmas
-pub mod CellsLemmas
 pub mod BackLemmas
 pub mod StillChess
 pub mod RowLemmas
@@ -17,12 +11,9 @@ pub mod RowBackLemmas
 pub mod RowGeometry
 pub mod RowMoveLemmas
 pub mod CheckLemmas
-pub mod SquaresLeft
-pub mod DueTally
 pub mod QuietClass
 pub mod EarlierChess
 pub mod Jumps
-pub mod BlockLemmas
 pub mod QuietSteps
 pub mod Twins
 pub mod MovedSteps

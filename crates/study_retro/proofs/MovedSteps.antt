@@ -32,7 +32,7 @@ use Rattle.study_index.proofs.LivePassing.{not_live_passed}
 use Rattle.study_table.specs.Table.{Table}
 use Rattle.study_values.specs.Cells.{value_of}
 use Rattle.study_retro.specs.ClassGame.{class_game}
-use Rattle.study_retro.specs.Numbered.{IsNumberedClass, label_by}
+use Rattle.study_levels.specs.Numbered.{IsNumberedClass, label_by}
 use Rattle.study_retro.specs.Predecessors.{LeavesNone}
 use Rattle.study_moves.proofs.NoMoveBetween.{HasMover-from_is_legal}
 use Rattle.study_table.proofs.ClassLemmas.{label-home}

@@ -26,7 +26,7 @@ use Rattle.study_table.specs.Table.{Table}
 use Rattle.study_values.specs.Cells.{value_of}
 use Rattle.study_values.specs.declared.value.Value.TheVariants.{Win}
 use Rattle.study_retro.specs.ClassGame.{class_game}
-use Rattle.study_retro.specs.Numbered.{IsNumberedClass, NoLossBy, Numbered}
+use Rattle.study_levels.specs.Numbered.{IsNumberedClass, NoLossBy, Numbered}
 use Rattle.study_retro.specs.Predecessors.{AreTold, PassesNone}
 use Rattle.study_retro.specs.RowEscapes.{CanGo, goes_beside}
 use Rattle.study_retro.specs.RowMoves.{AreApart, goes_quietly}
@@ -34,8 +34,7 @@ use Rattle.study_retro.specs.Still.{HasMove, IsWonAfter, QuietMovesLose, QuietMo
 use Rattle.study_retro.proofs.BackLemmas.{lose_each, occupied_same, safe_below, safe_by, safe_escape, safe_plain, safe_won, some_legal}
 use Rattle.study_retro.proofs.RowBackLemmas.{row_apart}
 use Rattle.study_retro.proofs.RowMoveLemmas.{going_less}
-use Rattle.study_retro.proofs.RowSets.{IsFirst}
-use Rattle.study_retro.proofs.SquaresLeft.{AreLeft, first-in, first-only, left-none}
+use Rattle.study_levels.proofs.SquaresLeft.{IsFirst, AreLeft, first-in, first-only, left-none}
 
 -- ---- of the squares of a set, taken one by one, some are kept
 

@@ -1,20 +1,10 @@
 -- Cells set for each square of a set in turn.
-use Rattle.std.proofs.Common.{◌≡◌, ℕ, ◌+◌, ◌<◌, Bool, true, false, List, inl, inr, arith, refl, sym, ◌∙◌, subst}
+use Rattle.std.proofs.Common.{◌≡◌, ℕ, ◌+◌, ◌<◌, Bool, true, List, inl, inr, arith, refl, sym, ◌∙◌, subst}
 use Rattle.std.proofs.lemmas.Bool.{false≢true, cases_lt}
 use Rattle.study_board.specs.Sets.{has}
-use Rattle.study_retro.specs.Propagation.{AreSet, IsSetWhere}
+use Rattle.study_levels.specs.Propagation.{AreSet, IsSetWhere}
 use Rattle.study_retro.proofs.BackLemmas.{set-then, set-kept, set-why}
-use Rattle.study_retro.proofs.SquaresLeft.{AreLeft, first-in, first-only, left-none}
-
--- the first square of a set
-pub record IsFirst (rest t : ℕ) : Type 0 where
-  pub inside : t < 64
-  pub there : has rest t ≡ true
-  pub least : (x : ℕ) → x < t → has rest x ≡ false
-
-pub first-as : (rest t s : ℕ) → t < 64 → has rest t ≡ true → ((x : ℕ) → x < t → has rest x ≡ false) → s ≡ t → IsFirst rest s
-first-as rest t s inside there least same =
-    subst (λ (x : ℕ). IsFirst rest x) (sym same) (record { inside = inside; there = there; least = least })
+use Rattle.study_levels.proofs.SquaresLeft.{IsFirst, AreLeft, first-in, first-only, left-none}
 
 module _ (all : ℕ) (Why : ℕ → ℕ → Type 0) (k : ℕ) (over : Bool) where
   -- the reason for some square of the set

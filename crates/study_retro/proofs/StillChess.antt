@@ -32,10 +32,10 @@ use Rattle.study_index.proofs.DecodedNumbers.{told_of}
 use Rattle.study_moves.specs.Game.{IsMate}
 use Rattle.study_table.specs.Table.{Table}
 use Rattle.study_retro.specs.ClassGame.{class_game}
-use Rattle.study_retro.specs.Numbered.{CellIsHeld, IsNumberedClass, OutsideIsRight, leads_in}
-use Rattle.study_retro.specs.Propagation.{IsHeldCell}
+use Rattle.study_levels.specs.Numbered.{CellIsHeld, IsNumberedClass, OutsideIsRight, leads_in}
+use Rattle.study_levels.specs.Propagation.{IsHeldCell}
 use Rattle.study_retro.specs.Predecessors.{AreTold}
-use Rattle.study_retro.proofs.FirstLemmas.{held-draw}
+use Rattle.study_levels.proofs.FirstLemmas.{held-draw}
 use Rattle.study_retro.specs.Still.{is_about_to_promote, HasOnlyQuiet, IsStill, rank_before_last}
 use Rattle.study_retro.proofs.LeavingLemmas.{far_plain, unpromoted}
 use Rattle.study_retro.proofs.BackLemmas.{occupied_same, side_is, told_targets}

@@ -12,7 +12,7 @@ use Rattle.study_index.specs.Laws.{AreAlikeIn}
 use Rattle.study_material.specs.Class.{is_of}
 use Rattle.study_table.specs.Game.{value_in}
 use Rattle.study_table.specs.Table.{Table}
-use Rattle.study_retro.specs.Numbered.{Numbered}
+use Rattle.study_levels.specs.Numbered.{Numbered}
 
 -- the positions of the class, and those of the classes that it needs, whose values the held tables tell
 abbrev pub class_game : Class → List (Option Table) → Numbered Position

@@ -1,9 +1,5 @@
 pub mod Report
-pub mod BestReplies
-pub mod Places
-pub mod Propagation
 pub mod Predecessors
-pub mod Numbered
 pub mod ClassGame
 pub mod Still
 pub mod RowMoves

@@ -10,7 +10,7 @@ use Rattle.study_material.specs.declared.class.Class.{Class}
 use Rattle.study_values.specs.Number.{without_bit}
 use Rattle.study_index.specs.Decoded.{slots_of, told_men, told_side}
 use Rattle.study_index.specs.Computed.{position_numbered}
-use Rattle.study_retro.specs.Numbered.{Numbered, NoLossBy}
+use Rattle.study_levels.specs.Numbered.{Numbered, NoLossBy}
 use Rattle.study_retro.specs.Still.{HasMove, IsWonAfter, QuietMovesLose, QuietMovesLoseBy, move_to, on_square}
 
 -- the squares of one set are among those of the other

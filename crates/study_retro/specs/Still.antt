@@ -16,7 +16,7 @@ use Rattle.study_moves.specs.Rules.{is_legal, after, reaches_last_rank}
 use Rattle.study_moves.specs.AnyOrder.{is_safe_target}
 use Rattle.study_moves.specs.Unmoves.{IsQuiet}
 use Rattle.study_values.specs.declared.value.Value.TheVariants.{Win}
-use Rattle.study_retro.specs.Numbered.{Numbered, label_by}
+use Rattle.study_levels.specs.Numbered.{Numbered, label_by}
 
 -- the rank from which a pawn promotes
 abbrev pub rank_before_last : Side → ℕ

@@ -5,12 +5,12 @@ ghost use Rattle.study_moves.specs.Unmoves.{CanHaveLed, move_from};
 ghost use Rattle.study_values.specs.Number.{cells_of};
 ghost use Rattle.study_index.specs.Computed.{position_numbered};
 ghost use Rattle.study_retro.specs.Predecessors.{AreTold, IsBeforeFrom, IsBeforeBy, IsBefore};
-ghost use Rattle.study_retro.specs.Propagation.{AreSet, IsSetWhere};
+ghost use Rattle.study_levels.specs.Propagation.{AreSet, IsSetWhere};
 
 use crate::earlier::{has_twin, lands_from};
-use crate::propagate::{lower_cell, mark_cell};
 use study_board::{Man, Square, SquareSet};
 use study_index::{Departure, Setup, told};
+use study_levels::{lower_cell, mark_cell};
 use study_material::Class;
 use study_moves::origins;
 use study_values::EN_PASSANT_BIT;

@@ -9,10 +9,8 @@ ghost use Rattle.study_table.specs.Sound.{IsRight, NeedsAreRight, HasFarPosition
 ghost use Rattle.study_retro.specs.Report.{IsGreatest, greater, win_of, loss_of};
 
 use crate::class_game::ClassGame;
-use crate::consistency::are_right;
-use crate::levels::fill;
-use crate::room::BuildRoom;
 use std::alloc::Allocator;
+use study_levels::{BuildRoom, are_right, fill};
 use study_material::Class;
 use study_table::{Table, TableSet};
 use study_values::{Value, value_at};

@@ -9,18 +9,17 @@ ghost use Rattle.study_moves.specs.AnyOrder.{is_safe_target};
 ghost use Rattle.study_values.specs.Number.{cells_of};
 ghost use Rattle.study_index.specs.Computed.{position_numbered};
 ghost use Rattle.study_retro.specs.ClassGame.{class_game};
-ghost use Rattle.study_retro.specs.Numbered.{IsNumberedClass, NoLossBy};
+ghost use Rattle.study_levels.specs.Numbered.{IsNumberedClass, NoLossBy};
 ghost use Rattle.study_retro.specs.Predecessors.{AreTold};
 ghost use Rattle.study_retro.specs.Still.{HasMove, QuietMovesLose, QuietMovesLoseBy, IsWonAfter, move_to};
 
 use crate::captures::move_to;
 use crate::class_game::ClassGame;
-use crate::consistency::label;
 use crate::earlier::may_leave_capture;
-use crate::propagate::{is_won, tells_win};
 use std::alloc::Allocator;
 use study_board::{Kind, Man, Side, Square, SquareSet};
 use study_index::{Departure, Setup, decode};
+use study_levels::{is_won, label, tells_win};
 use study_material::Class;
 use study_moves::{played, safe_targets};
 

@@ -8,7 +8,7 @@ ghost use Rattle.study_board.specs.Men.{other_side, same_side};
 ghost use Rattle.study_board.specs.Sets.{has};
 ghost use Rattle.study_values.specs.Number.{cells_of};
 ghost use Rattle.study_retro.specs.Predecessors.{IsBefore, IsBeforeBy, IsBeforeFrom, PassesNone};
-ghost use Rattle.study_retro.specs.Propagation.{AreSet, IsSetWhere};
+ghost use Rattle.study_levels.specs.Propagation.{AreSet, IsSetWhere};
 ghost use Rattle.study_retro.specs.RowBack.{CanAllHaveLed, ComesPlainly, IsBeforeRowBy, IsBeforeRowFrom};
 ghost use Rattle.study_retro.specs.RowBack.{IsInRowOrTwin, IsItOrTwin, IsOriginInRow, double_step_rank};
 ghost use Rattle.study_retro.specs.RowLevels.{AreNumbered, IsBeforeRow};

@@ -10,7 +10,7 @@ ghost use Rattle.study_values.specs.Number.{cells_of};
 ghost use Rattle.study_index.specs.Computed.{position_numbered};
 ghost use Rattle.study_values.specs.Cells.{value_of};
 ghost use Rattle.study_retro.specs.ClassGame.{class_game};
-ghost use Rattle.study_retro.specs.Numbered.{HasPosition, HavePositions, IsNumberedClass, LosesBy, NoLossBy};
+ghost use Rattle.study_levels.specs.Numbered.{HasPosition, HavePositions, IsNumberedClass, LosesBy, NoLossBy};
 ghost use Rattle.study_retro.specs.Predecessors.{PassesNone};
 ghost use Rattle.study_retro.specs.RowEscapes.{AllLose, AllLoseBy, AllLoseByLast, AreAmong, AreWonAfter, CanAllGo};
 ghost use Rattle.study_retro.specs.RowEscapes.{Goes, GoesInRow, GoesOutside, HaveMoves, OthersHold, goes_beside};
@@ -21,7 +21,6 @@ ghost use Rattle.study_values.specs.declared.value.Value.TheVariants.{Win};
 use crate::class_game::ClassGame;
 use crate::earlier::{has_both_pawns, may_pass};
 use crate::escapes::{has_move, loses_to, quiet_moves_of, reaches_last_rank};
-use crate::propagate::{is_lost_by_moves, tells_win};
 use crate::row::Row;
 use crate::row_checks::{Staying, squares_of_check};
 use crate::row_levels::lost_plainly_each;
@@ -30,6 +29,7 @@ use crate::still::stays;
 use std::alloc::Allocator;
 use study_board::{Kind, Man, Side, Square, SquareSet, between};
 use study_index::{Departure, RowDeparture, row_of_last, told};
+use study_levels::{is_lost_by_moves, tells_win};
 
 /// Of some squares of a row, those whose cell tells of a win within `level` plies.
 #[inline]

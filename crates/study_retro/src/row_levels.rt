@@ -5,21 +5,19 @@ ghost use Rattle.study_board.specs.Sets.{has};
 ghost use Rattle.study_values.specs.Number.{cells_of};
 ghost use Rattle.study_index.specs.Computed.{position_numbered};
 ghost use Rattle.study_retro.specs.ClassGame.{class_game};
-ghost use Rattle.study_retro.specs.Numbered.{HasPosition, HavePositions, IsNumberedClass, LeadsIntoRow, LosesBy, NoLossBy, StepLeads};
+ghost use Rattle.study_levels.specs.Numbered.{HasPosition, HavePositions, IsNumberedClass, LeadsIntoRow, LosesBy, NoLossBy, StepLeads};
 ghost use Rattle.study_retro.specs.Predecessors.{IsBefore};
-ghost use Rattle.study_retro.specs.Propagation.{AreAdded, AreLowered, AreSet, IsSetBy, IsSetWhere};
+ghost use Rattle.study_levels.specs.Propagation.{AreAdded, AreLowered, AreSet, IsSetBy, IsSetWhere};
 ghost use Rattle.study_retro.specs.RowLevels.{AreNumbered, IsBeforeRow};
 
 use crate::back::{Change, write_before};
 use crate::class_game::ClassGame;
 use crate::escapes::{has_move, quiet_moves};
-use crate::game::Game;
-use crate::propagate::{is_lost_by_moves, lower_by_moves, mark_by_moves};
-use crate::stepped::LabelledGame;
 use crate::still::stays;
 use std::alloc::Allocator;
 use study_board::SquareSet;
 use study_index::told;
+use study_levels::{Game, LabelledGame, is_lost_by_moves, lower_by_moves, mark_by_moves};
 use study_material::Class;
 
 /// Positions of a row that are lost in `level` plies, each gone back from by its moves: what leads to one of them is won in

@@ -3,8 +3,8 @@ use Rattle.std.proofs.lemmas.List.{take_all}
 use Rattle.std.proofs.lemmas.List.Elements.{Contains-get_or}
 use Rattle.study_board.specs.declared.men.Man.{Man}
 use Rattle.study_retro.specs.Predecessors.{IsBefore, IsBeforeBy}
-use Rattle.study_retro.specs.Propagation.{AreSet, IsSetWhere}
-use Rattle.study_retro.proofs.CellsLemmas.{each-more}
+use Rattle.study_levels.specs.Propagation.{AreSet, IsSetWhere}
+use Rattle.study_levels.proofs.CellsLemmas.{each-more}
 use Rattle.study_retro.proofs.BackLemmas.{set-then, set-kept, set-why, before_told}
 use Rattle.study_retro.proofs.back.write_before.Goals as goal
 

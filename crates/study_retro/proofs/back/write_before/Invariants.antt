@@ -2,7 +2,7 @@ use Rattle.std.proofs.Common.{◌≡◌, ℕ, length, take, Contains}
 use Rattle.study_board.specs.declared.men.Man.{Man}
 use Rattle.study_values.specs.Number.{cells_of}
 use Rattle.study_retro.specs.Predecessors.{IsBefore, IsBeforeBy}
-use Rattle.study_retro.specs.Propagation.{AreSet, IsSetWhere}
+use Rattle.study_levels.specs.Propagation.{AreSet, IsSetWhere}
 use Rattle.study_retro.proofs.back.write_before.Given as goal
 
 abbrev pub invariant-loop-slot : goal.invariant-loop-slot

@@ -7,8 +7,8 @@ use Rattle.study_index.proofs.ClassLaws.{below}
 use Rattle.study_index.proofs.ComputedIndex.{told_decoded}
 use Rattle.study_index.specs.Computed.{position_numbered}
 use Rattle.study_retro.specs.Predecessors.{IsBeforeBy, IsBeforeFrom}
-use Rattle.study_retro.specs.Propagation.{AreSet}
-use Rattle.study_retro.proofs.SquaresLeft.{AreLeft, left-all, first-in, first-only, left-more, left-none}
+use Rattle.study_levels.specs.Propagation.{AreSet}
+use Rattle.study_levels.proofs.SquaresLeft.{AreLeft, left-all, first-in, first-only, left-more, left-none}
 use Rattle.study_retro.proofs.BackLemmas.{set-then, set-kept, set-why, led_came, before_in, in_before}
 use Rattle.study_retro.proofs.back.write_before_man.Goals as goal
 

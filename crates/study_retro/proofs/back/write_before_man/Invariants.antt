@@ -2,8 +2,8 @@ use Rattle.std.proofs.Common.{◌≡◌, ℕ, ◌<◌, ◌-◌, true, length}
 use Rattle.study_board.specs.Sets.{has}
 use Rattle.study_values.specs.Number.{cells_of}
 use Rattle.study_retro.specs.Predecessors.{IsBeforeBy, IsBeforeFrom}
-use Rattle.study_retro.specs.Propagation.{AreSet, IsSetWhere}
-use Rattle.study_retro.proofs.SquaresLeft.{AreLeft}
+use Rattle.study_levels.specs.Propagation.{AreSet, IsSetWhere}
+use Rattle.study_levels.proofs.SquaresLeft.{AreLeft}
 use Rattle.study_retro.proofs.back.write_before_man.Given as goal
 
 abbrev pub invariant-loop-next : goal.invariant-loop-next

@@ -2,7 +2,7 @@ use Rattle.std.proofs.Common.{◌≡◌, ℕ, ◌+◌, ◌<◌, inl, inr, Some, 
 use Rattle.std.proofs.lemmas.Bool.{false≢true}
 use Rattle.study_index.specs.Computed.{position_numbered}
 use Rattle.study_retro.specs.Predecessors.{IsBeforeFrom}
-use Rattle.study_retro.specs.Propagation.{IsSetWhere}
+use Rattle.study_levels.specs.Propagation.{IsSetWhere}
 use Rattle.study_retro.proofs.BackLemmas.{departed, is_before, twin_before, small_before, before_is, before_below, set-then, set-kept, set-why}
 use Rattle.study_retro.proofs.back.write_from.Goals as goal
 

@@ -3,7 +3,7 @@ use Rattle.std.proofs.lemmas.List.{take_all}
 use Rattle.std.proofs.lemmas.List.Elements.{Contains-get_or}
 use Rattle.study_moves.specs.declared.moves.Move.{Move}
 use Rattle.study_retro.specs.Predecessors.{IsNumberBefore}
-use Rattle.study_retro.proofs.CellsLemmas.{each-more}
+use Rattle.study_levels.proofs.CellsLemmas.{each-more}
 use Rattle.study_retro.proofs.earlier.predecessor_numbers.Goals as goal
 
 pub loop-by-init : goal.loop-by-init

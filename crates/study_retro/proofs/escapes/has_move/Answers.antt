@@ -5,7 +5,7 @@ use Rattle.std.proofs.lemmas.List.Elements.{Contains-get_or}
 use Rattle.study_board.specs.declared.men.Man.{Man}
 use Rattle.study_board.specs.Men.{same_side}
 use Rattle.study_moves.specs.AnyOrder.{is_safe_target}
-use Rattle.study_retro.proofs.CellsLemmas.{each-more}
+use Rattle.study_levels.proofs.CellsLemmas.{each-more}
 use Rattle.study_retro.proofs.BackLemmas.{safe_by, some_legal, told_targets}
 use Rattle.study_retro.proofs.escapes.has_move.Goals as goal
 

@@ -7,7 +7,7 @@ use Rattle.study_board.specs.Position.{Position}
 use Rattle.study_index.specs.Computed.{position_numbered}
 use Rattle.study_retro.specs.ClassGame.{class_game}
 use Rattle.study_retro.specs.Still.{QuietMovesLoseBy}
-use Rattle.study_retro.proofs.CellsLemmas.{each-more}
+use Rattle.study_levels.proofs.CellsLemmas.{each-more}
 use Rattle.study_retro.proofs.BackLemmas.{lose_each}
 use Rattle.study_retro.proofs.escapes.quiet_moves.Goals as goal
 use Rattle.study_retro.proofs.escapes.quiet_moves.Goals.{then-some, else-some}

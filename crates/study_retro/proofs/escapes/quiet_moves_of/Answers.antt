@@ -9,7 +9,7 @@ use Rattle.study_moves.specs.AnyOrder.{is_safe_target}
 use Rattle.study_index.specs.Computed.{position_numbered}
 use Rattle.study_retro.specs.ClassGame.{class_game}
 use Rattle.study_retro.specs.Still.{IsWonAfter, move_to}
-use Rattle.study_retro.proofs.SquaresLeft.{AreLeft, left-all, first-in, first-only, left-more, left-none, in-one, not-other, in-one-alone}
+use Rattle.study_levels.proofs.SquaresLeft.{AreLeft, left-all, first-in, first-only, left-more, left-none, in-one, not-other, in-one-alone}
 use Rattle.study_retro.proofs.BackLemmas.{occupied_same, safe_by, safe_plain, some_legal}
 use Rattle.study_retro.proofs.escapes.quiet_moves_of.Goals as goal
 

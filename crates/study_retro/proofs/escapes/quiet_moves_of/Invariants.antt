@@ -5,7 +5,7 @@ use Rattle.study_moves.specs.Rules.{reaches_last_rank}
 use Rattle.study_index.specs.Computed.{position_numbered}
 use Rattle.study_retro.specs.ClassGame.{class_game}
 use Rattle.study_retro.specs.Still.{HasMove, IsWonAfter, move_to}
-use Rattle.study_retro.proofs.SquaresLeft.{AreLeft}
+use Rattle.study_levels.proofs.SquaresLeft.{AreLeft}
 use Rattle.study_retro.proofs.escapes.quiet_moves_of.Given as goal
 
 abbrev pub invariant-loop-rest : goal.invariant-loop-rest

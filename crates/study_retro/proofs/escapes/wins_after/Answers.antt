@@ -5,7 +5,7 @@ use Rattle.study_moves.specs.declared.moves.Move.{Move}
 use Rattle.study_moves.specs.Rules.{after}
 use Rattle.study_index.specs.Computed.{position_numbered}
 use Rattle.study_retro.specs.ClassGame.{class_game}
-use Rattle.study_retro.specs.Numbered.{LosesBy, label_by}
+use Rattle.study_levels.specs.Numbered.{LosesBy, label_by}
 use Rattle.study_retro.specs.Still.{IsWonAfter, move_to}
 use Rattle.study_retro.proofs.BackLemmas.{one_position}
 use Rattle.study_retro.proofs.escapes.wins_after.Goals as goal

@@ -3,7 +3,7 @@ use Rattle.study_board.specs.Sets.{has}
 use Rattle.study_moves.specs.Unmoves.{came_from}
 use Rattle.study_retro.specs.RowBack.{IsOriginInRow}
 use Rattle.study_retro.specs.Still.{on_square}
-use Rattle.study_retro.proofs.SquaresLeft.{AreLeft}
+use Rattle.study_levels.proofs.SquaresLeft.{AreLeft}
 use Rattle.study_retro.proofs.row_back.origins_in_row.Given as goal
 
 abbrev pub invariant-loop-next : goal.invariant-loop-next

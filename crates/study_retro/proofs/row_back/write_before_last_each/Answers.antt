@@ -2,12 +2,12 @@ use Rattle.std.proofs.Common.{◌≡◌, ◌+◌, ◌*◌, ℕ, List, Contains, 
 use Rattle.std.proofs.lemmas.List.Elements.{Contains-push}
 use Rattle.study_board.specs.declared.men.Man.{Man}
 use Rattle.study_retro.specs.Predecessors.{IsBeforeBy}
-use Rattle.study_retro.specs.Propagation.{AreSet}
+use Rattle.study_levels.specs.Propagation.{AreSet}
 use Rattle.study_retro.specs.RowLevels.{IsBeforeRow}
 use Rattle.study_retro.specs.Still.{on_square}
 use Rattle.study_retro.proofs.BackLemmas.{set-why}
-use Rattle.study_retro.proofs.RowSets.{AreSetBelow, ForSome, first-as, set-none, set-more, set-all}
-use Rattle.study_retro.proofs.SquaresLeft.{AreLeft, left-all, first-in, left-more}
+use Rattle.study_retro.proofs.RowSets.{AreSetBelow, ForSome, set-none, set-more, set-all}
+use Rattle.study_levels.proofs.SquaresLeft.{first-as, AreLeft, left-all, first-in, left-more}
 use Rattle.study_retro.proofs.row_back.write_before_last_each.Goals as goal
 
 pub loop-next-init : goal.loop-next-init

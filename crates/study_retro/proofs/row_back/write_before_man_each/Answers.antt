@@ -3,8 +3,8 @@ use Rattle.std.proofs.lemmas.List.Elements.{Contains-append_left}
 use Rattle.study_board.specs.declared.men.Man.{Man}
 use Rattle.study_retro.specs.Predecessors.{IsBeforeBy}
 use Rattle.study_retro.specs.Still.{on_square}
-use Rattle.study_retro.proofs.RowSets.{AreSetBelow, first-as, set-none, set-more, set-all}
-use Rattle.study_retro.proofs.SquaresLeft.{AreLeft, left-all, first-in, left-more}
+use Rattle.study_retro.proofs.RowSets.{AreSetBelow, set-none, set-more, set-all}
+use Rattle.study_levels.proofs.SquaresLeft.{first-as, AreLeft, left-all, first-in, left-more}
 use Rattle.study_retro.proofs.row_back.write_before_man_each.Goals as goal
 
 pub loop-next-init : goal.loop-next-init

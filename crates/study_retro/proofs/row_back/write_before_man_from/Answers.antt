@@ -6,13 +6,13 @@ use Rattle.study_moves.specs.Unmoves.{came_from, comes}
 use Rattle.study_material.specs.declared.class.Class.{Class}
 use Rattle.study_index.specs.Computed.{position_numbered}
 use Rattle.study_retro.specs.Predecessors.{IsBeforeFrom}
-use Rattle.study_retro.specs.Propagation.{AreSet, IsSetWhere}
+use Rattle.study_levels.specs.Propagation.{AreSet, IsSetWhere}
 use Rattle.study_retro.specs.RowBack.{IsBeforeRowBy, IsBeforeRowFrom}
 use Rattle.study_retro.specs.RowMoves.{AreApart}
 use Rattle.study_retro.specs.Still.{on_square}
 use Rattle.study_retro.proofs.BackLemmas.{set-then, set-kept, set-why}
 use Rattle.study_retro.proofs.RowBackLemmas.{row_apart, row_led, row_came}
-use Rattle.study_retro.proofs.SquaresLeft.{AreLeft, left-all, first-only, left-more, left-none}
+use Rattle.study_levels.proofs.SquaresLeft.{AreLeft, left-all, first-only, left-more, left-none}
 use Rattle.study_retro.proofs.row_back.write_before_man_from.Goals as goal
 
 pub loop-next-init : goal.loop-next-init

@@ -4,11 +4,11 @@ use Rattle.std.proofs.lemmas.List.Elements.{Contains-get_or, Contains-push_cases
 use Rattle.study_board.specs.declared.men.Man.{Man}
 use Rattle.study_board.specs.Sets.{has}
 use Rattle.study_retro.specs.Predecessors.{IsBeforeBy}
-use Rattle.study_retro.specs.Propagation.{AreSet, IsSetWhere}
+use Rattle.study_levels.specs.Propagation.{AreSet, IsSetWhere}
 use Rattle.study_retro.specs.RowBack.{IsBeforeRowBy}
 use Rattle.study_retro.specs.RowLevels.{IsBeforeRow}
 use Rattle.study_retro.specs.Still.{on_square}
-use Rattle.study_retro.proofs.CellsLemmas.{each-more}
+use Rattle.study_levels.proofs.CellsLemmas.{each-more}
 use Rattle.study_retro.proofs.BackLemmas.{set-then, set-kept, set-why, before_told}
 use Rattle.study_retro.proofs.row_back.write_before_men.Goals as goal
 

@@ -3,7 +3,7 @@ use Rattle.study_board.specs.declared.men.Man.{Man}
 use Rattle.study_board.specs.Sets.{has}
 use Rattle.study_values.specs.Number.{cells_of}
 use Rattle.study_retro.specs.Predecessors.{IsBeforeBy}
-use Rattle.study_retro.specs.Propagation.{AreSet, IsSetWhere}
+use Rattle.study_levels.specs.Propagation.{AreSet, IsSetWhere}
 use Rattle.study_retro.specs.RowLevels.{IsBeforeRow}
 use Rattle.study_retro.specs.Still.{on_square}
 use Rattle.study_retro.proofs.row_back.write_before_men.Given as goal

@@ -3,9 +3,9 @@ use Rattle.study_index.specs.Computed.{position_numbered}
 use Rattle.study_index.proofs.ClassLaws.{below}
 use Rattle.study_index.proofs.ComputedIndex.{told_decoded}
 use Rattle.study_retro.specs.Predecessors.{IsBeforeFrom}
-use Rattle.study_retro.specs.Propagation.{AreSet}
-use Rattle.study_retro.proofs.RowSets.{AreSetBelow, first-as, set-none, set-more, set-all}
-use Rattle.study_retro.proofs.SquaresLeft.{AreLeft, left-all, first-in, left-more}
+use Rattle.study_levels.specs.Propagation.{AreSet}
+use Rattle.study_retro.proofs.RowSets.{AreSetBelow, set-none, set-more, set-all}
+use Rattle.study_levels.proofs.SquaresLeft.{first-as, AreLeft, left-all, first-in, left-more}
 use Rattle.study_retro.proofs.row_back.write_each_led.Goals as goal
 
 pub loop-next-init : goal.loop-next-init

@@ -7,7 +7,7 @@ use Rattle.study_retro.specs.RowBack.{IsItOrTwin}
 use Rattle.study_retro.proofs.BackLemmas.{before_is, set-why}
 use Rattle.study_retro.proofs.RowBackLemmas.{fit_before, fit_below}
 use Rattle.study_retro.proofs.RowSets.{AreSetBelow, set-none, set-more, set-all}
-use Rattle.study_retro.proofs.SquaresLeft.{AreLeft, left-all, first-in, left-more}
+use Rattle.study_levels.proofs.SquaresLeft.{AreLeft, left-all, first-in, left-more}
 use Rattle.study_retro.proofs.row_back.write_each_moved.Goals as goal
 
 pub loop-next-init : goal.loop-next-init

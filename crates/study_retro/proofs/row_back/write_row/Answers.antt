@@ -1,7 +1,7 @@
 use Rattle.std.proofs.Common.{◌≡◌, ◌+◌, ◌*◌, ℕ, sym, ◌∙◌, subst}
 use Rattle.study_retro.specs.RowBack.{IsItOrTwin}
-use Rattle.study_retro.proofs.RowSets.{AreSetBelow, first-as, set-none, set-more, set-all}
-use Rattle.study_retro.proofs.SquaresLeft.{AreLeft, left-all, first-in, left-more}
+use Rattle.study_retro.proofs.RowSets.{AreSetBelow, set-none, set-more, set-all}
+use Rattle.study_levels.proofs.SquaresLeft.{first-as, AreLeft, left-all, first-in, left-more}
 use Rattle.study_retro.proofs.row_back.write_row.Goals as goal
 
 pub loop-next-init : goal.loop-next-init

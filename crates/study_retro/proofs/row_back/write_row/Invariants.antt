@@ -2,7 +2,7 @@ use Rattle.std.proofs.Common.{◌≡◌, ◌-◌, ◌+◌, ◌*◌, length}
 use Rattle.study_values.specs.Number.{cells_of}
 use Rattle.study_retro.specs.RowBack.{IsItOrTwin}
 use Rattle.study_retro.proofs.RowSets.{AreSetBelow}
-use Rattle.study_retro.proofs.SquaresLeft.{AreLeft}
+use Rattle.study_levels.proofs.SquaresLeft.{AreLeft}
 use Rattle.study_retro.proofs.row_back.write_row.Given as goal
 
 abbrev pub invariant-loop-next : goal.invariant-loop-next

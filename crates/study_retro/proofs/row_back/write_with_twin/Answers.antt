@@ -3,7 +3,7 @@ use Rattle.std.proofs.lemmas.Bool.{false≢true}
 use Rattle.study_index.proofs.ClassLaws.{below}
 use Rattle.study_index.proofs.ComputedIndex.{told_decoded}
 use Rattle.study_index.specs.Computed.{position_numbered}
-use Rattle.study_retro.specs.Propagation.{IsSetWhere}
+use Rattle.study_levels.specs.Propagation.{IsSetWhere}
 use Rattle.study_retro.specs.RowBack.{IsItOrTwin}
 use Rattle.study_retro.proofs.BackLemmas.{set-then, set-kept, set-why}
 use Rattle.study_retro.proofs.row_back.write_with_twin.Goals as goal

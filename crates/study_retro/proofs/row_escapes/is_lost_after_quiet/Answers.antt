@@ -3,7 +3,7 @@ use Rattle.study_board.specs.Position.{Position}
 use Rattle.study_moves.specs.Rules.{after}
 use Rattle.study_values.specs.declared.value.Value.TheVariants.{Win}
 use Rattle.study_retro.specs.ClassGame.{class_game}
-use Rattle.study_retro.specs.Numbered.{label_by}
+use Rattle.study_levels.specs.Numbered.{label_by}
 use Rattle.study_retro.proofs.row_escapes.is_lost_after_quiet.Goals as goal
 
 -- where each move is quiet, the quiet moves decide

@@ -11,11 +11,10 @@ use Rattle.study_index.specs.Computed.{position_numbered}
 use Rattle.study_index.proofs.ClassLaws.{below}
 use Rattle.study_index.proofs.ComputedIndex.{told_decoded}
 use Rattle.study_retro.specs.ClassGame.{class_game}
-use Rattle.study_retro.specs.Numbered.{NoLossBy}
+use Rattle.study_levels.specs.Numbered.{NoLossBy}
 use Rattle.study_retro.specs.Still.{IsWonAfter, move_to}
 use Rattle.study_retro.proofs.RowEscapeLemmas.{AreKeptBelow, kept-all, kept-none, kept-with, kept-without}
-use Rattle.study_retro.proofs.RowSets.{IsFirst, first-as}
-use Rattle.study_retro.proofs.SquaresLeft.{AreLeft, first-in, left-all, left-more}
+use Rattle.study_levels.proofs.SquaresLeft.{IsFirst, first-as, AreLeft, first-in, left-all, left-more}
 use Rattle.study_retro.proofs.row_escapes.losing_each.Goals as goal
 use Rattle.study_retro.proofs.row_escapes.losing_each.Goals.{then-loses_to, else-loses_to}
 

@@ -3,10 +3,10 @@ use Rattle.study_board.specs.Position.{Position}
 use Rattle.study_moves.specs.Rules.{reaches_last_rank}
 use Rattle.study_index.specs.Computed.{position_numbered}
 use Rattle.study_retro.specs.ClassGame.{class_game}
-use Rattle.study_retro.specs.Numbered.{NoLossBy}
+use Rattle.study_levels.specs.Numbered.{NoLossBy}
 use Rattle.study_retro.specs.Still.{IsWonAfter, move_to}
 use Rattle.study_retro.proofs.RowEscapeLemmas.{AreKeptBelow}
-use Rattle.study_retro.proofs.SquaresLeft.{AreLeft}
+use Rattle.study_levels.proofs.SquaresLeft.{AreLeft}
 use Rattle.study_retro.proofs.row_escapes.losing_each.Given as goal
 
 abbrev pub invariant-loop-next : goal.invariant-loop-next

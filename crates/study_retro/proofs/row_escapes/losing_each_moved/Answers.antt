@@ -3,12 +3,11 @@ use Rattle.std.proofs.lemmas.Bool.{false≢true}
 use Rattle.study_board.specs.Position.{Position}
 use Rattle.study_index.specs.Computed.{position_numbered}
 use Rattle.study_retro.specs.ClassGame.{class_game}
-use Rattle.study_retro.specs.Numbered.{NoLossBy}
+use Rattle.study_levels.specs.Numbered.{NoLossBy}
 use Rattle.study_retro.specs.Still.{IsWonAfter, move_to}
 use Rattle.study_retro.proofs.BackLemmas.{departed}
 use Rattle.study_retro.proofs.RowEscapeLemmas.{AreKeptBelow, go_below, go_escape, go_won, kept-all, kept-none, kept-with, kept-without}
-use Rattle.study_retro.proofs.RowSets.{IsFirst}
-use Rattle.study_retro.proofs.SquaresLeft.{AreLeft, first-in, left-all, left-more}
+use Rattle.study_levels.proofs.SquaresLeft.{IsFirst, AreLeft, first-in, left-all, left-more}
 use Rattle.study_retro.proofs.row_escapes.losing_each_moved.Goals as goal
 use Rattle.study_retro.proofs.row_escapes.losing_each_moved.Goals.{then-tells_win, else-tells_win}
 

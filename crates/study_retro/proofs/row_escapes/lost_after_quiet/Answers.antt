@@ -2,10 +2,9 @@ use Rattle.std.proofs.Common.{◌≡◌, ℕ, ◌+◌, ◌*◌, Some, refl, sym,
 use Rattle.study_board.specs.Position.{Position}
 use Rattle.study_index.specs.Computed.{position_numbered}
 use Rattle.study_retro.specs.ClassGame.{class_game}
-use Rattle.study_retro.specs.Numbered.{LosesBy, NoLossBy}
+use Rattle.study_levels.specs.Numbered.{LosesBy, NoLossBy}
 use Rattle.study_retro.proofs.RowEscapeLemmas.{AreKeptBelow, kept-all, kept-none, kept-with, kept-without}
-use Rattle.study_retro.proofs.RowSets.{IsFirst, first-as}
-use Rattle.study_retro.proofs.SquaresLeft.{AreLeft, first-in, left-all, left-more}
+use Rattle.study_levels.proofs.SquaresLeft.{IsFirst, first-as, AreLeft, first-in, left-all, left-more}
 use Rattle.study_retro.proofs.row_escapes.lost_after_quiet.Goals as goal
 use Rattle.study_retro.proofs.row_escapes.lost_after_quiet.Goals.{then-is_lost_after_quiet, else-is_lost_after_quiet}
 

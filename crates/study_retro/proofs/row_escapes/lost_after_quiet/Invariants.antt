@@ -2,9 +2,9 @@ use Rattle.std.proofs.Common.{◌≡◌, ◌+◌, ◌*◌, ◌-◌, Some}
 use Rattle.study_board.specs.Position.{Position}
 use Rattle.study_index.specs.Computed.{position_numbered}
 use Rattle.study_retro.specs.ClassGame.{class_game}
-use Rattle.study_retro.specs.Numbered.{LosesBy, NoLossBy}
+use Rattle.study_levels.specs.Numbered.{LosesBy, NoLossBy}
 use Rattle.study_retro.proofs.RowEscapeLemmas.{AreKeptBelow}
-use Rattle.study_retro.proofs.SquaresLeft.{AreLeft}
+use Rattle.study_levels.proofs.SquaresLeft.{AreLeft}
 use Rattle.study_retro.proofs.row_escapes.lost_after_quiet.Given as goal
 
 abbrev pub invariant-loop-next : goal.invariant-loop-next

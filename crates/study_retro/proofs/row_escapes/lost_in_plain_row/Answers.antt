@@ -7,7 +7,7 @@ use Rattle.study_index.specs.Computed.{position_numbered}
 use Rattle.study_index.proofs.ClassLaws.{below}
 use Rattle.study_index.proofs.ComputedIndex.{told_decoded}
 use Rattle.study_retro.specs.ClassGame.{class_game}
-use Rattle.study_retro.specs.Numbered.{LosesBy, NoLossBy}
+use Rattle.study_levels.specs.Numbered.{LosesBy, NoLossBy}
 use Rattle.study_retro.proofs.row_escapes.lost_in_plain_row.Goals as goal
 
 pub returns-then-is_empty-clause-yes : goal.returns-then-is_empty-clause-yes

@@ -8,8 +8,7 @@ use Rattle.study_retro.specs.RowMoves.{AreApart}
 use Rattle.study_retro.specs.Still.{on_square}
 use Rattle.study_retro.proofs.RowBackLemmas.{row_apart}
 use Rattle.study_retro.proofs.RowEscapeLemmas.{AreKeptBelow, kept-all, kept-none, kept-with, kept-without, square-is}
-use Rattle.study_retro.proofs.RowSets.{IsFirst, first-as}
-use Rattle.study_retro.proofs.SquaresLeft.{AreLeft, first-in, left-all, left-more}
+use Rattle.study_levels.proofs.SquaresLeft.{IsFirst, first-as, AreLeft, first-in, left-all, left-more}
 use Rattle.study_retro.proofs.row_escapes.moves_of_last.Goals as goal
 use Rattle.study_retro.proofs.row_escapes.moves_of_last.Goals.{then-not-escapes, else-not-escapes, then-goes, else-goes}
 

@@ -2,7 +2,7 @@ use Rattle.std.proofs.Common.{◌≡◌, ◌-◌, ◌<◌, ◌⊎◌, ℕ, true}
 use Rattle.study_board.specs.Sets.{has}
 use Rattle.study_retro.specs.RowEscapes.{Goes, GoesOutside, goes_beside}
 use Rattle.study_retro.proofs.RowEscapeLemmas.{AreKeptBelow}
-use Rattle.study_retro.proofs.SquaresLeft.{AreLeft}
+use Rattle.study_levels.proofs.SquaresLeft.{AreLeft}
 use Rattle.study_retro.proofs.row_escapes.moves_of_last.Given as goal
 
 abbrev pub invariant-loop-next : goal.invariant-loop-next

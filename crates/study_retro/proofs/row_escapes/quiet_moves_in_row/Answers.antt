@@ -10,7 +10,7 @@ use Rattle.study_retro.specs.ClassGame.{class_game}
 use Rattle.study_retro.specs.Predecessors.{AreTold}
 use Rattle.study_retro.specs.RowEscapes.{AllLoseBy}
 use Rattle.study_retro.specs.Still.{on_square}
-use Rattle.study_retro.proofs.CellsLemmas.{each-more}
+use Rattle.study_levels.proofs.CellsLemmas.{each-more}
 use Rattle.study_retro.proofs.RowEscapeLemmas.{row_lose}
 use Rattle.study_retro.proofs.row_escapes.quiet_moves_in_row.Goals as goal
 

@@ -2,11 +2,11 @@ use Rattle.std.proofs.Common.{◌≡◌, ◌+◌, ◌*◌, ◌-◌, Some}
 use Rattle.study_board.specs.Position.{Position}
 use Rattle.study_index.specs.Computed.{position_numbered}
 use Rattle.study_retro.specs.ClassGame.{class_game}
-use Rattle.study_retro.specs.Numbered.{NoLossBy}
+use Rattle.study_levels.specs.Numbered.{NoLossBy}
 use Rattle.study_retro.specs.RowEscapes.{HaveMoves}
 use Rattle.study_retro.specs.Still.{QuietMovesLoseBy, on_square}
 use Rattle.study_retro.proofs.RowEscapeLemmas.{AreKeptBelow}
-use Rattle.study_retro.proofs.SquaresLeft.{AreLeft}
+use Rattle.study_levels.proofs.SquaresLeft.{AreLeft}
 use Rattle.study_retro.proofs.row_escapes.quiet_moves_of_last_each.Given as goal
 
 abbrev pub invariant-loop-next : goal.invariant-loop-next

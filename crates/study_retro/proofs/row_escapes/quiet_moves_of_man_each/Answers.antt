@@ -7,13 +7,12 @@ use Rattle.study_board.specs.Sets.{has}
 use Rattle.study_material.specs.declared.class.Class.{Class}
 use Rattle.study_index.specs.Computed.{position_numbered}
 use Rattle.study_retro.specs.ClassGame.{class_game}
-use Rattle.study_retro.specs.Numbered.{NoLossBy}
+use Rattle.study_levels.specs.Numbered.{NoLossBy}
 use Rattle.study_retro.specs.Predecessors.{AreTold}
 use Rattle.study_retro.specs.RowEscapes.{HaveMoves}
 use Rattle.study_retro.specs.Still.{QuietMovesLoseBy, on_square}
 use Rattle.study_retro.proofs.RowEscapeLemmas.{AreKeptBelow, kept-all, kept-none, kept-with, kept-without, square-is}
-use Rattle.study_retro.proofs.RowSets.{IsFirst, first-as}
-use Rattle.study_retro.proofs.SquaresLeft.{AreLeft, left-all, left-more}
+use Rattle.study_levels.proofs.SquaresLeft.{IsFirst, first-as, AreLeft, left-all, left-more}
 use Rattle.study_retro.proofs.row_escapes.quiet_moves_of_man_each.Goals as goal
 use Rattle.study_retro.proofs.row_escapes.quiet_moves_of_man_each.Goals.{then-not-moves, else-not-moves, then-moves, else-moves}
 

@@ -11,13 +11,13 @@ use Rattle.study_moves.specs.AnyOrder.{is_safe_target}
 use Rattle.study_material.specs.declared.class.Class.{Class}
 use Rattle.study_index.specs.Computed.{position_numbered}
 use Rattle.study_retro.specs.ClassGame.{class_game}
-use Rattle.study_retro.specs.Numbered.{NoLossBy}
+use Rattle.study_levels.specs.Numbered.{NoLossBy}
 use Rattle.study_retro.specs.Predecessors.{AreTold}
 use Rattle.study_retro.specs.RowEscapes.{CanGo}
 use Rattle.study_retro.specs.RowMoves.{AreApart, goes_quietly}
 use Rattle.study_retro.specs.Still.{IsWonAfter, move_to, on_square}
 use Rattle.study_retro.proofs.RowEscapeLemmas.{go_some, row_can, row_goes, row_stays, thin-cases, thin-gone}
-use Rattle.study_retro.proofs.SquaresLeft.{AreLeft, left-all, first-only, left-more, left-none}
+use Rattle.study_levels.proofs.SquaresLeft.{AreLeft, left-all, first-only, left-more, left-none}
 use Rattle.study_retro.proofs.row_escapes.quiet_moves_of_man_from.Goals as goal
 
 pub loop-others-init : goal.loop-others-init

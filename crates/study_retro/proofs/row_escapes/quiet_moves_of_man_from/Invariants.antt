@@ -7,7 +7,7 @@ use Rattle.study_index.specs.Computed.{position_numbered}
 use Rattle.study_retro.specs.ClassGame.{class_game}
 use Rattle.study_retro.specs.RowEscapes.{AreAmong, HaveMoves, OthersHold}
 use Rattle.study_retro.specs.Still.{IsWonAfter, move_to}
-use Rattle.study_retro.proofs.SquaresLeft.{AreLeft}
+use Rattle.study_levels.proofs.SquaresLeft.{AreLeft}
 use Rattle.study_retro.proofs.row_escapes.quiet_moves_of_man_from.Given as goal
 
 abbrev pub invariant-loop-others : goal.invariant-loop-others

@@ -3,8 +3,7 @@ use Rattle.std.proofs.lemmas.Bool.{false≢true}
 use Rattle.study_values.specs.Cells.{value_of}
 use Rattle.study_values.specs.declared.value.Value.TheVariants.{Win}
 use Rattle.study_retro.proofs.RowEscapeLemmas.{AreKeptBelow, kept-all, kept-none, kept-with, kept-without}
-use Rattle.study_retro.proofs.RowSets.{IsFirst, first-as}
-use Rattle.study_retro.proofs.SquaresLeft.{AreLeft, left-all, left-more}
+use Rattle.study_levels.proofs.SquaresLeft.{IsFirst, first-as, AreLeft, left-all, left-more}
 use Rattle.study_retro.proofs.row_escapes.squares_won.Goals as goal
 use Rattle.study_retro.proofs.row_escapes.squares_won.Goals.{then-tells_win, else-tells_win}
 

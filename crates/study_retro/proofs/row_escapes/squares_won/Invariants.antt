@@ -2,7 +2,7 @@ use Rattle.std.proofs.Common.{◌≡◌, ℕ, ◌+◌, ◌*◌, ◌≤◌, ◌-�
 use Rattle.study_values.specs.Cells.{value_of}
 use Rattle.study_values.specs.declared.value.Value.TheVariants.{Win}
 use Rattle.study_retro.proofs.RowEscapeLemmas.{AreKeptBelow}
-use Rattle.study_retro.proofs.SquaresLeft.{AreLeft}
+use Rattle.study_levels.proofs.SquaresLeft.{AreLeft}
 use Rattle.study_retro.proofs.row_escapes.squares_won.Given as goal
 
 abbrev pub invariant-loop-next : goal.invariant-loop-next

@@ -8,7 +8,7 @@ use Rattle.study_retro.specs.RowEscapes.{goes_beside}
 use Rattle.study_retro.specs.RowMoves.{AreApart}
 use Rattle.study_retro.specs.Still.{on_square}
 use Rattle.study_retro.proofs.RowBackLemmas.{row_apart}
-use Rattle.study_retro.proofs.SquaresLeft.{AreLeft, left-all, first-in, first-only, left-more, left-none}
+use Rattle.study_levels.proofs.SquaresLeft.{AreLeft, left-all, first-in, first-only, left-more, left-none}
 use Rattle.study_retro.proofs.row_escapes.targets_in_row.Goals as goal
 
 pub loop-next-init : goal.loop-next-init

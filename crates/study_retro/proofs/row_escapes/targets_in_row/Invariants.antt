@@ -1,7 +1,7 @@
 use Rattle.std.proofs.Common.{◌≡◌, ◌-◌, ◌<◌, ℕ, true}
 use Rattle.study_board.specs.Sets.{has}
 use Rattle.study_retro.specs.RowEscapes.{GoesInRow, goes_beside}
-use Rattle.study_retro.proofs.SquaresLeft.{AreLeft}
+use Rattle.study_levels.proofs.SquaresLeft.{AreLeft}
 use Rattle.study_retro.proofs.row_escapes.targets_in_row.Given as goal
 
 abbrev pub invariant-loop-next : goal.invariant-loop-next

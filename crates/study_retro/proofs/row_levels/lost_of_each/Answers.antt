@@ -2,8 +2,8 @@ use Rattle.std.proofs.Common.{◌≡◌, ℕ, ◌+◌, ◌*◌, false, arith, sy
 use Rattle.std.proofs.lemmas.Bool.{false≢true}
 use Rattle.study_board.specs.Sets.{has}
 use Rattle.study_board.proofs.SetBits.{has-zero}
-use Rattle.study_retro.specs.Numbered.{NoLossBy}
-use Rattle.study_retro.proofs.SquaresLeft.{left-all, taken-all}
+use Rattle.study_levels.specs.Numbered.{NoLossBy}
+use Rattle.study_levels.proofs.SquaresLeft.{left-all, taken-all}
 use Rattle.study_retro.proofs.row_levels.lost_of_each.Goals as goal
 
 pub loop-next-init : goal.loop-next-init

@@ -1,7 +1,7 @@
 use Rattle.std.proofs.Common.{◌≡◌, ℕ, ◌+◌, ◌*◌, ◌<◌, ◌-◌, true, false, Some}
 use Rattle.study_board.specs.Sets.{has}
-use Rattle.study_retro.specs.Numbered.{LosesBy, NoLossBy}
-use Rattle.study_retro.proofs.SquaresLeft.{AreLeft}
+use Rattle.study_levels.specs.Numbered.{LosesBy, NoLossBy}
+use Rattle.study_levels.proofs.SquaresLeft.{AreLeft}
 use Rattle.study_retro.proofs.row_levels.lost_of_each.Given as goal
 
 abbrev pub invariant-loop-next : goal.invariant-loop-next

@@ -3,8 +3,8 @@ use Rattle.std.proofs.lemmas.Bool.{false≢true}
 use Rattle.study_board.specs.Sets.{has}
 use Rattle.study_board.proofs.SetBits.{has-zero}
 use Rattle.study_retro.specs.ClassGame.{class_game}
-use Rattle.study_retro.specs.Numbered.{NoLossBy}
-use Rattle.study_retro.proofs.SquaresLeft.{left-all, taken-all}
+use Rattle.study_levels.specs.Numbered.{NoLossBy}
+use Rattle.study_levels.proofs.SquaresLeft.{left-all, taken-all}
 use Rattle.study_retro.proofs.row_levels.lost_plainly_each.Goals as goal
 
 pub loop-next-init : goal.loop-next-init

@@ -1,7 +1,7 @@
 use Rattle.std.proofs.Common.{ℕ, ◌+◌, ◌*◌}
-use Rattle.study_retro.specs.Propagation.{IsSetBy}
-use Rattle.study_retro.specs.Numbered.{StepLeads}
-use Rattle.study_retro.proofs.SquaresLeft.{taken-all}
+use Rattle.study_levels.specs.Propagation.{IsSetBy}
+use Rattle.study_levels.specs.Numbered.{StepLeads}
+use Rattle.study_levels.proofs.SquaresLeft.{taken-all}
 use Rattle.study_retro.proofs.row_levels.lower_each.Goals as goal
 
 pub returns-clause-done : goal.returns-clause-done

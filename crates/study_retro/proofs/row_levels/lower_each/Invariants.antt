@@ -1,8 +1,8 @@
 use Rattle.std.proofs.Common.{◌≡◌, ℕ, ◌+◌, ◌*◌, ◌<◌, ◌-◌, true, length}
 use Rattle.study_board.specs.Sets.{has}
-use Rattle.study_retro.specs.Propagation.{AreLowered, IsSetBy}
-use Rattle.study_retro.specs.Numbered.{LeadsIntoRow, StepLeads}
-use Rattle.study_retro.proofs.SquaresLeft.{AreLeft}
+use Rattle.study_levels.specs.Propagation.{AreLowered, IsSetBy}
+use Rattle.study_levels.specs.Numbered.{LeadsIntoRow, StepLeads}
+use Rattle.study_levels.proofs.SquaresLeft.{AreLeft}
 use Rattle.study_retro.proofs.row_levels.lower_each.Given as goal
 
 abbrev pub invariant-loop-next : goal.invariant-loop-next

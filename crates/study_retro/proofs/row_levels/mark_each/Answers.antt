@@ -1,6 +1,6 @@
 use Rattle.std.proofs.Common.{◌≢◌, ℕ, ◌+◌, ◌*◌, slice_index}
-use Rattle.study_retro.specs.Numbered.{StepLeads}
-use Rattle.study_retro.proofs.SquaresLeft.{taken-all}
+use Rattle.study_levels.specs.Numbered.{StepLeads}
+use Rattle.study_levels.proofs.SquaresLeft.{taken-all}
 use Rattle.study_retro.proofs.row_levels.mark_each.Goals as goal
 
 pub returns-clause-done : goal.returns-clause-done

@@ -1,8 +1,8 @@
 use Rattle.std.proofs.Common.{◌≡◌, ◌≢◌, ℕ, ◌+◌, ◌*◌, ◌<◌, ◌-◌, true, length, slice_index}
 use Rattle.study_board.specs.Sets.{has}
-use Rattle.study_retro.specs.Propagation.{AreAdded}
-use Rattle.study_retro.specs.Numbered.{LeadsIntoRow, StepLeads}
-use Rattle.study_retro.proofs.SquaresLeft.{AreLeft}
+use Rattle.study_levels.specs.Propagation.{AreAdded}
+use Rattle.study_levels.specs.Numbered.{LeadsIntoRow, StepLeads}
+use Rattle.study_levels.proofs.SquaresLeft.{AreLeft}
 use Rattle.study_retro.proofs.row_levels.mark_each.Given as goal
 
 abbrev pub invariant-loop-next : goal.invariant-loop-next

@@ -1,7 +1,7 @@
 use Rattle.std.proofs.Common.{ℕ, ◌+◌, ◌*◌}
 use Rattle.study_retro.specs.Predecessors.{IsBefore}
-use Rattle.study_retro.specs.Propagation.{IsSetWhere}
-use Rattle.study_retro.proofs.SquaresLeft.{taken-all}
+use Rattle.study_levels.specs.Propagation.{IsSetWhere}
+use Rattle.study_levels.proofs.SquaresLeft.{taken-all}
 use Rattle.study_retro.proofs.row_levels.write_before_each.Goals as goal
 
 pub returns-clause-done : goal.returns-clause-done

@@ -1,6 +1,6 @@
 use Rattle.std.proofs.Common.{ℕ, ◌+◌, ◌*◌, true, refl}
 use Rattle.study_retro.specs.ClassGame.{class_game}
-use Rattle.study_retro.specs.Numbered.{LeadsIntoRow}
+use Rattle.study_levels.specs.Numbered.{LeadsIntoRow}
 use Rattle.study_retro.specs.RowLevels.{IsBeforeRow}
 use Rattle.study_retro.proofs.BackLemmas.{before_is_leads, leads_is_before, set-why, set-lowered}
 use Rattle.study_retro.proofs.class_game.ClassGameSteppedGame.lower_before.Goals as goal

@@ -1,6 +1,6 @@
 use Rattle.std.proofs.Common.{ℕ, ◌+◌, ◌*◌, false, refl}
 use Rattle.study_retro.specs.ClassGame.{class_game}
-use Rattle.study_retro.specs.Numbered.{LeadsIntoRow}
+use Rattle.study_levels.specs.Numbered.{LeadsIntoRow}
 use Rattle.study_retro.specs.RowLevels.{IsBeforeRow}
 use Rattle.study_retro.proofs.BackLemmas.{before_is_leads, leads_is_before, set-why, set-added}
 use Rattle.study_retro.proofs.class_game.ClassGameSteppedGame.mark_before.Goals as goal

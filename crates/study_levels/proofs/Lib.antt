@@ -1,0 +1,9 @@
+pub mod TallyLemmas
+pub mod HeldLemmas
+pub mod NextLemmas
+pub mod StillLemmas
+pub mod FirstLemmas
+pub mod CellsLemmas
+pub mod DueTally
+pub mod BlockLemmas
+pub mod SquaresLeft

@@ -1,0 +1,18 @@
+use Rattle.std.proofs.Common.{◌≡◌, ◌≢◌, ℕ, ◌+◌, ◌<◌, ◌≤◌, length, slice_index, ◌-◌}
+use Rattle.study_levels.specs.Propagation.{AreLowered}
+use Rattle.study_levels.specs.Numbered.{CellsHavePositions, StepLeads}
+use Rattle.study_levels.proofs.levels.propagate_losses.Given as goal
+
+abbrev pub invariant-loop-number : goal.invariant-loop-number
+invariant-loop-number g l = record {
+  there : l.number ≤ (g.G.Game.numbered l.game).size;
+  size : length l.cells ≡ (g.G.Game.numbered l.game).size;
+  numbered : CellsHavePositions (g.G.Game.numbered l.game) l.cells;
+  rise : AreLowered (λ i. (j : ℕ) × (slice_index l.initial.cells j ≡ l.level + 1) × StepLeads (g.G.Game.numbered l.game) i j) l.level l.initial.cells l.cells;
+  done : (j : ℕ) → j < l.number → (i : ℕ) → slice_index l.initial.cells j ≡ l.level + 1
+      → StepLeads (g.G.Game.numbered l.game) i j → (slice_index l.cells i ≢ 0)
+      × (slice_index l.cells i ≤ l.level + 2);
+}
+
+abbrev pub decreases-loop-number : goal.decreases-loop-number
+decreases-loop-number g l = (g.G.Game.numbered l.game).size - l.number

@@ -1,0 +1,17 @@
+use Rattle.std.proofs.Common.{◌≡◌, ◌≢◌, ℕ, ◌+◌, ◌<◌, length, slice_index, ◌≤◌, ◌-◌}
+use Rattle.study_levels.specs.Propagation.{AreAdded}
+use Rattle.study_levels.specs.Numbered.{CellsHavePositions, StepLeads}
+use Rattle.study_levels.proofs.levels.propagate_wins.Given as goal
+
+abbrev pub invariant-loop-number : goal.invariant-loop-number
+invariant-loop-number g l = record {
+  there : l.number ≤ (g.G.Game.numbered l.game).size;
+  size : length l.cells ≡ (g.G.Game.numbered l.game).size;
+  numbered : CellsHavePositions (g.G.Game.numbered l.game) l.cells;
+  rise : AreAdded (λ i. (j : ℕ) × StepLeads (g.G.Game.numbered l.game) i j) l.level l.initial.cells l.cells;
+  done : (j : ℕ) → j < l.number → (i : ℕ) → slice_index l.initial.cells j ≡ l.level + 1
+      → StepLeads (g.G.Game.numbered l.game) i j → slice_index l.cells i ≢ 0;
+}
+
+abbrev pub decreases-loop-number : goal.decreases-loop-number
+decreases-loop-number g l = (g.G.Game.numbered l.game).size - l.number

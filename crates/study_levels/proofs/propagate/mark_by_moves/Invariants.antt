@@ -1,0 +1,11 @@
+use Rattle.std.proofs.Common.{◌≡◌, ◌≢◌, ℕ, ◌<◌, length, slice_index}
+use Rattle.study_levels.specs.Propagation.{AreAdded}
+use Rattle.study_levels.specs.Numbered.{StepLeads}
+use Rattle.study_levels.proofs.propagate.mark_by_moves.Given as goal
+
+abbrev pub invariant-loop-from : goal.invariant-loop-from
+invariant-loop-from g l = record {
+  size : length l.cells ≡ (g.G.Game.numbered l.game).size;
+  rise : AreAdded (λ i. StepLeads (g.G.Game.numbered l.game) i l.number) l.level l.initial.cells l.cells;
+  done : (t : ℕ) → t < l.from-index → slice_index l.cells (slice_index l.from-items t) ≢ 0;
+}

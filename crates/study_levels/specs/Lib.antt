@@ -1,0 +1,4 @@
+pub mod BestReplies
+pub mod Places
+pub mod Propagation
+pub mod Numbered

@@ -1,0 +1,198 @@
+//! What a number is worth before the levels: the mates, and what the moves out of the class alone give.
+ghost use Rattle.std.specs.Prelude.{◌≡◌, ◌≢◌, ◌+◌, ◌*◌, ◌<◌, ◌≤◌, ◌⊎◌, ℕ, true, false, length, slice_index, None, Some};
+ghost use Rattle.study_board.specs.Sets.{has};
+ghost use Rattle.study_levels.specs.Propagation.{IsInitial};
+ghost use Rattle.study_levels.specs.Numbered.{CellIsHeld, CellsAreHeld, CellsHavePositions, HasPosition, IsNumberedClass, OutsideGives};
+ghost use Rattle.study_levels.specs.Numbered.{OutsideIsRight};
+ghost use Rattle.study_levels.specs.BestReplies.{drawn_with, lost_with, won_with};
+
+use crate::best_replies::BestReplies;
+use crate::blocks::row_end;
+use crate::game::{Game, Location};
+use crate::stepped::SteppedGame;
+use study_board::SquareSet;
+use study_values::{MAX_DISTANCE, Value};
+
+/// Takes the value of a position out of the class into a replies.
+pub fn with_conversion<G: Game>(game: &G, replies: BestReplies, at: &G::Position) -> BestReplies
+    requires { (G.numbered game.now).known at.now }
+    ensures in_lost { (G.numbered game.now).home at.now ≡ true → result.lost ≡ replies.lost }
+    ensures in_won { (G.numbered game.now).home at.now ≡ true → result.won ≡ replies.won }
+    ensures in_drawn { (G.numbered game.now).home at.now ≡ true → result.drawn ≡ replies.drawn }
+    ensures out_lost { (G.numbered game.now).home at.now ≡ false → result.lost ≡ lost_with replies.lost ((G.numbered game.now).outside at.now) }
+    ensures out_won { (G.numbered game.now).home at.now ≡ false → result.won ≡ won_with replies.won ((G.numbered game.now).outside at.now) }
+    ensures out_drawn { (G.numbered game.now).home at.now ≡ false → result.drawn ≡ drawn_with replies.drawn ((G.numbered game.now).outside at.now) }
+{
+    match game.place(at) {
+        Location::Cell(_) => replies,
+        Location::Outside(value) => replies.with(value),
+    }
+}
+
+/// What the moves out of the class alone give a position.
+pub fn value_by_conversion<G: Game>(game: &G, at: &G::Position) -> Value
+    requires laws { IsNumberedClass (G.numbered game.now) }
+    requires numbered { (n : ℕ) × ((G.numbered game.now).position n ≡ Some at.now) }
+    requires known { (G.numbered game.now).known at.now }
+    requires home { (G.numbered game.now).home at.now ≡ true }
+    ensures { OutsideGives (G.numbered game.now) at.now result }
+{
+    let moves = game.leaving(at);
+    let mut replies = BestReplies::new();
+    for by in moves.as_slice() {
+        if game.leaves(at, *by) {
+            let to = game.played(at, *by);
+            replies = with_conversion(game, replies, &to);
+        }
+    }
+    replies.value(false)
+}
+
+/// What a number begins with: its cell, and whether it has a mate that no cell can tell.
+#[derive(Clone, Copy)]
+pub struct Initial {
+    pub cell: u8,
+    pub far: bool,
+}
+
+/// What a value makes of a cell.
+pub fn initial_by_value(value: Value) -> Initial
+    ensures { IsInitial value result.cell result.far }
+{
+    match value.distance() {
+        None => Initial {
+            cell: 0,
+            far: false,
+        },
+        Some(n) => {
+            if n <= MAX_DISTANCE {
+                Initial {
+                    cell: n + 1,
+                    far: false,
+                }
+            } else {
+                Initial { cell: 0, far: true }
+            }
+        }
+    }
+}
+
+/// What a number begins with, by its moves.
+pub fn initial_by_moves<G: Game>(game: &G, number: u32) -> Initial
+    requires laws { IsNumberedClass (G.numbered game.now) }
+    requires number { number < (G.numbered game.now).size }
+    ensures held { OutsideIsRight (G.numbered game.now) → CellIsHeld (G.numbered game.now) result.far 0 number result.cell }
+    ensures none { (G.numbered game.now).position number ≡ None → result.cell ≡ 0 }
+{
+    let Some(at) = game.decode(number) else {
+        return Initial {
+            cell: 0,
+            far: false,
+        };
+    };
+    if game.is_mate(&at) {
+        return Initial {
+            cell: 1,
+            far: false,
+        };
+    }
+    initial_by_value(value_by_conversion(game, &at))
+}
+
+/// Sets all cells to 0.
+fn clear_all(cells: &mut [u8])
+    ensures { (i : ℕ) → slice_index cells.new i ≡ 0 }
+{
+    cells.fill(0);
+}
+
+/// Writes the cell that a number begins with, where the class has that number, and tells whether it has a mate that no cell
+/// can tell.
+#[inline]
+fn write_first<G: SteppedGame>(game: &G, cells: &mut [u8], number: u32) -> bool
+    requires laws { IsNumberedClass (G.numbered game.now) }
+    requires cells { length cells.old ≡ (G.numbered game.now).size }
+    ensures other { (i : ℕ) → i ≢ number → slice_index cells.new i ≡ slice_index cells.old i }
+    ensures held { number < (G.numbered game.now).size → OutsideIsRight (G.numbered game.now)
+        → CellIsHeld (G.numbered game.now) result 0 number (slice_index cells.new number) }
+    ensures numbered { number < (G.numbered game.now).size → slice_index cells.new number ≢ 0 → HasPosition (G.numbered game.now) number }
+{
+    if number as usize >= cells.len() {
+        return false;
+    }
+    let first = game.first(number);
+    cells[number as usize] = first.cell;
+    first.far
+}
+
+/// Writes the cells that the numbers of a row begin with whose squares are in the set, and tells whether some have a mate
+/// that no cell can tell.
+#[inline]
+fn write_each_first<G: SteppedGame>(
+    game: &G,
+    cells: &mut [u8],
+    row: u32,
+    squares: SquareSet,
+) -> bool
+    requires laws { IsNumberedClass (G.numbered game.now) }
+    requires row { 64 * row < (G.numbered game.now).size }
+    requires cells { length cells.old ≡ (G.numbered game.now).size }
+    ensures other { (i : ℕ) → (i < 64 * row) ⊎ (64 * row + 64 ≤ i) → slice_index cells.new i ≡ slice_index cells.old i }
+    ensures kept { (y : ℕ) → y < 64 → has squares y ≡ false → slice_index cells.new (64 * row + y) ≡ slice_index cells.old (64 * row + y) }
+    ensures held { OutsideIsRight (G.numbered game.now) → (y : ℕ) → y < 64 → has squares y ≡ true → 64 * row + y < (G.numbered game.now).size
+        → CellIsHeld (G.numbered game.now) result 0 (64 * row + y) (slice_index cells.new (64 * row + y)) }
+    ensures numbered { (y : ℕ) → y < 64 → has squares y ≡ true → 64 * row + y < (G.numbered game.now).size
+        → slice_index cells.new (64 * row + y) ≢ 0 → HasPosition (G.numbered game.now) (64 * row + y) }
+{
+    let mut far = false;
+    let _size = game.cells();
+    let mut rest = squares;
+    let mut next = 0u8;
+    while !rest.is_empty() {
+        let square = rest.first();
+        rest = rest.without(SquareSet::of(square));
+        let number = 64 * row + u32::from(square.number());
+        if write_first(game, cells, number) {
+            far = true;
+        }
+        next = square.number() + 1;
+    }
+    far
+}
+
+/// What the numbers of a row begin with whose cells are 0, and whether some mate cannot be told.
+#[inline]
+fn initialise_row<G: SteppedGame>(game: &G, cells: &mut [u8], row: u32) -> bool
+    requires laws { IsNumberedClass (G.numbered game.now) }
+    requires row { 64 * row < (G.numbered game.now).size }
+    requires cells { length cells.old ≡ (G.numbered game.now).size }
+    requires zero { (y : ℕ) → y < 64 → slice_index cells.old (64 * row + y) ≡ 0 }
+    ensures other { (i : ℕ) → (i < 64 * row) ⊎ (64 * row + 64 ≤ i) → slice_index cells.new i ≡ slice_index cells.old i }
+    ensures held { OutsideIsRight (G.numbered game.now) → (y : ℕ) → y < 64 → 64 * row + y < (G.numbered game.now).size
+        → CellIsHeld (G.numbered game.now) result 0 (64 * row + y) (slice_index cells.new (64 * row + y)) }
+    ensures numbered { (y : ℕ) → y < 64 → 64 * row + y < (G.numbered game.now).size
+        → slice_index cells.new (64 * row + y) ≢ 0 → HasPosition (G.numbered game.now) (64 * row + y) }
+{
+    let unknown = game.unknown_in_row(row);
+    write_each_first(game, cells, row, unknown.complement())
+}
+
+/// What all numbers begin with, and whether some mate cannot be told.
+pub fn initialise<G: SteppedGame>(game: &G, cells: &mut [u8]) -> bool
+    requires laws { IsNumberedClass (G.numbered game.now) }
+    requires cells { length cells.old ≡ (G.numbered game.now).size }
+    ensures held { OutsideIsRight (G.numbered game.now) → CellsAreHeld (G.numbered game.now) result 0 cells.new }
+    ensures numbered { CellsHavePositions (G.numbered game.now) cells.new }
+{
+    clear_all(cells);
+    let mut far = false;
+    let size = game.cells();
+    let mut number = 0;
+    while number < size {
+        if initialise_row(game, cells, number / 64) {
+            far = true;
+        }
+        number = row_end(number, size);
+    }
+    far
+}

@@ -1,0 +1,186 @@
+//! Levels: from the mates in at most so many plies to those in one more.
+ghost use Rattle.std.specs.Prelude.{◌≡◌, ◌≢◌, ◌+◌, ◌*◌, ◌^◌, ◌<◌, ◌≤◌, ◌⊎◌, ◌%◌, ℕ, false, length, slice_index, IsTrue};
+ghost use Rattle.study_levels.specs.Propagation.{AreAdded, AreDropped, AreLowered};
+ghost use Rattle.study_levels.specs.Numbered.{CellsAreRight, CellsHavePositions, EndsRight, HasFarMate, IsNumberedClass};
+ghost use Rattle.study_levels.specs.Numbered.{LossesAreKept, LossesAreTrue, LossesGoBack, RowLossesAreKept, RowLossesAreTrue};
+ghost use Rattle.study_levels.specs.Numbered.{OutsideIsRight, RaisesLevel, StepLeads, WhereWinsAreTold, WinsGoBack};
+
+use crate::blocks::{has_later, next_block, row_end, row_with};
+use crate::consistency::first_inconsistent;
+use crate::initial::initialise;
+use crate::propagate::clear_in_row;
+use crate::stepped::SteppedGame;
+use study_values::MAX_DISTANCE;
+
+/// Goes back from all positions that are lost in `level` plies.
+pub fn propagate_losses<G: SteppedGame>(game: &G, cells: &mut [u8], level: u8) -> u64
+    requires laws { IsNumberedClass (G.numbered game.now) }
+    requires level { level < 254 }
+    requires cells { length cells.old ≡ (G.numbered game.now).size }
+    requires numbered { CellsHavePositions (G.numbered game.now) cells.old }
+    ensures rise { AreLowered (λ i. (j : ℕ) × (slice_index cells.old j ≡ level + 1) × StepLeads (G.numbered game.now) i j) level cells.old cells.new }
+    ensures done { LossesGoBack (G.numbered game.now) level cells.old cells.new }
+{
+    let mut examined = 0u64;
+    let size = game.cells();
+    let mut number = next_block(cells, 0, level + 1);
+    while number < size {
+        let decided = row_with(cells, number / 64, level + 1);
+        let more = game.lower_before(cells, number / 64, decided, level);
+        examined = examined
+            .saturating_add(more)
+            .saturating_add(u64::from(decided.len()));
+        number = next_block(cells, row_end(number, size), level + 1);
+    }
+    examined
+}
+
+/// Marks all that leads to a position won in `level` plies, where it tells of no mate: it may be lost in one more.
+pub fn propagate_wins<G: SteppedGame>(game: &G, cells: &mut [u8], level: u8) -> u64
+    requires laws { IsNumberedClass (G.numbered game.now) }
+    requires level { level < 254 }
+    requires cells { length cells.old ≡ (G.numbered game.now).size }
+    requires numbered { CellsHavePositions (G.numbered game.now) cells.old }
+    ensures rise { AreAdded (λ i. (j : ℕ) × StepLeads (G.numbered game.now) i j) level cells.old cells.new }
+    ensures done { WinsGoBack (G.numbered game.now) level cells.old cells.new }
+{
+    let mut examined = 0u64;
+    let size = game.cells();
+    let mut number = next_block(cells, 0, level + 1);
+    while number < size {
+        let decided = row_with(cells, number / 64, level + 1);
+        let more = game.mark_before(cells, number / 64, decided, level);
+        examined = examined
+            .saturating_add(more)
+            .saturating_add(u64::from(decided.len()));
+        number = next_block(cells, row_end(number, size), level + 1);
+    }
+    examined
+}
+
+/// Looks at the numbers of a row that may be lost in `level + 1` plies: their cells stay where they are, and else are 0.
+fn confirm_row<G: SteppedGame>(game: &G, cells: &mut [u8], row: u32, level: u8) -> u64
+    requires laws { IsNumberedClass (G.numbered game.now) }
+    requires level { level < 254 }
+    requires row { 64 * row < (G.numbered game.now).size }
+    requires cells { length cells.old ≡ (G.numbered game.now).size }
+    requires small { length cells.old < 2 ^ 32 }
+    requires numbered { CellsHavePositions (G.numbered game.now) cells.old }
+    ensures fall { AreDropped level cells.old cells.new }
+    ensures other { (i : ℕ) → (i < 64 * row) ⊎ (64 * row + 64 ≤ i) → slice_index cells.new i ≡ slice_index cells.old i }
+    ensures lost { WhereWinsAreTold (G.numbered game.now) level cells.old (RowLossesAreTrue (G.numbered game.now) level row cells.new) }
+    ensures kept { WhereWinsAreTold (G.numbered game.now) level cells.old (RowLossesAreKept (G.numbered game.now) level row cells.old cells.new) }
+{
+    let candidates = row_with(cells, row, level + 2);
+    let lost = game.lost_in_row(cells, row, candidates, level);
+    clear_in_row(cells, row, candidates.without(lost));
+    u64::from(candidates.len())
+}
+
+/// Looks at all numbers that may be lost in `level + 1` plies: those that are marked, and those that moves out of the class
+/// make due. Each is tested once.
+pub fn confirm_losses<G: SteppedGame>(game: &G, cells: &mut [u8], level: u8) -> u64
+    requires laws { IsNumberedClass (G.numbered game.now) }
+    requires level { level < 254 }
+    requires odd { level % 2 ≡ 1 }
+    requires cells { length cells.old ≡ (G.numbered game.now).size }
+    requires numbered { CellsHavePositions (G.numbered game.now) cells.old }
+    ensures fall { AreDropped level cells.old cells.new }
+    ensures lost { WhereWinsAreTold (G.numbered game.now) level cells.old (LossesAreTrue (G.numbered game.now) level cells.new) }
+    ensures kept { WhereWinsAreTold (G.numbered game.now) level cells.old (LossesAreKept (G.numbered game.now) level cells.old cells.new) }
+{
+    let mut examined = 0u64;
+    let size = game.cells();
+    let mut number = next_block(cells, 0, level + 2);
+    while number < size {
+        examined = examined.saturating_add(confirm_row(game, cells, number / 64, level));
+        number = next_block(cells, row_end(number, size), level + 2);
+    }
+    examined
+}
+
+/// One level.
+pub fn step<G: SteppedGame>(game: &G, cells: &mut [u8], level: u8) -> u64
+    requires laws { IsNumberedClass (G.numbered game.now) }
+    requires level { level < 254 }
+    requires cells { length cells.old ≡ (G.numbered game.now).size }
+    requires numbered { CellsHavePositions (G.numbered game.now) cells.old }
+    ensures held { RaisesLevel (G.numbered game.now) level (level + 1) cells.old cells.new }
+    ensures numbered { CellsHavePositions (G.numbered game.now) cells.new }
+{
+    if level % 2 == 0 {
+        propagate_losses(game, cells, level)
+    } else {
+        let marked = propagate_wins(game, cells, level);
+        marked.saturating_add(confirm_losses(game, cells, level))
+    }
+}
+
+/// What levels came to: whether they ended where no cell told of a mate to come, and how much they examined.
+#[derive(Clone, Copy)]
+pub struct LevelsDone {
+    pub silent: bool,
+    pub examined: u64,
+}
+
+/// All levels.
+pub fn all_levels<G: SteppedGame>(game: &G, cells: &mut [u8]) -> LevelsDone
+    requires laws { IsNumberedClass (G.numbered game.now) }
+    requires cells { length cells.old ≡ (G.numbered game.now).size }
+    requires numbered { CellsHavePositions (G.numbered game.now) cells.old }
+    ensures held { RaisesLevel (G.numbered game.now) 0 254 cells.old cells.new }
+    ensures bytes { (i : ℕ) → slice_index cells.new i ≤ 255 }
+    ensures right { EndsRight (G.numbered game.now) result.silent cells.old cells.new }
+    ensures numbered { CellsHavePositions (G.numbered game.now) cells.new }
+{
+    let mut examined = 0u64;
+    for level in 0..MAX_DISTANCE {
+        if !has_later(cells, level) {
+            return LevelsDone {
+                silent: true,
+                examined,
+            };
+        }
+        examined = examined.saturating_add(step(game, cells, level));
+    }
+    LevelsDone {
+        silent: false,
+        examined,
+    }
+}
+
+/// What filling came to: whether every distance fits a cell, and how many numbers were decoded and positions gone back to.
+#[derive(Clone, Copy)]
+pub struct Filled {
+    pub fits: bool,
+    pub examined: u64,
+}
+
+/// Fills cells with the values of a class, whatever they held.
+pub fn fill<G: SteppedGame>(game: &G, cells: &mut [u8]) -> Filled
+    requires laws { IsNumberedClass (G.numbered game.now) }
+    requires cells { length cells.old ≡ (G.numbered game.now).size }
+    ensures right { OutsideIsRight (G.numbered game.now) → IsTrue result.fits → CellsAreRight (G.numbered game.now) cells.new }
+    ensures far { OutsideIsRight (G.numbered game.now) → result.fits ≡ false → HasFarMate (G.numbered game.now) }
+{
+    let far = initialise(game, cells);
+    let ended = all_levels(game, cells);
+    let examined = ended.examined.saturating_add(u64::from(game.cells()));
+    if ended.silent && !far {
+        return Filled {
+            fits: true,
+            examined,
+        };
+    }
+    let examined = examined.saturating_add(u64::from(game.cells()));
+    match first_inconsistent(game, cells) {
+        None => Filled {
+            fits: true,
+            examined,
+        },
+        Some(_) => Filled {
+            fits: false,
+            examined,
+        },
+    }
+}
