@@ -1,7 +1,7 @@
 #!/usr/bin/env python3
-"""Writes what crates/gallery_views is asked, and what it has to answer, from the files of an independent program:
+"""Writes which views and surveys crates/gallery makes, and what they have to be, from the files of an independent program:
 FOLDER/NAME.views, where each view follows a line `# view PATH`, and FOLDER/surveys.txt, where each survey follows a line
-`# FEN | SQUARE | SIDE GOAL`. Only those are taken whose tables the crate makes. That program has looked at each study where its
+`# FEN | SQUARE | SIDE GOAL`. Only those are taken whose tables the program makes. That program has looked at each study where its
 script first asks for the PGN, so the scripts are those of the gallery up to there.
 
     tools/expected_views.py FOLDER
@@ -10,7 +10,7 @@ import sys
 from pathlib import Path
 
 CRATES = Path(__file__).resolve().parent.parent / "crates"
-CRATE = CRATES / "gallery_views"
+CRATE = CRATES / "gallery"
 MADE = {"KK", "KQK", "KRK", "KBK", "KNK", "KPK", "KNNK"}
 ORDER = "KQRBNP"
 
@@ -52,9 +52,11 @@ def main(folder):
             asked.append(("-", f"survey {square} {stipulation} {fen}", survey))
     names = sorted({name for name, request, text in asked if name != "-"})
     for name in names:
-        (CRATE / f"data/{name}.script").write_text(script(name))
-    (CRATE / "data/requests").write_text("".join(f"{name} {request}\n" for name, request, text in asked))
-    (CRATE / "stdout").write_text("".join(f"# {name} {request}\n{text}" for name, request, text in asked))
+        (CRATE / f"data/views/{name}.script").write_text(script(name))
+    (CRATE / "data/views/requests").write_text("".join(f"{name} {request}\n" for name, request, text in asked))
+    front, rest = (CRATE / "stdout").read_text("latin-1").split("== views and surveys\n")
+    views = "".join(f"# {name} {request}\n{text}" for name, request, text in asked)
+    (CRATE / "stdout").write_text(front + "== views and surveys\n" + views + rest[rest.index("== pages\n"):], "latin-1")
     print(len(asked), "requests of", len(names), "studies")
 
 

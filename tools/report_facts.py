@@ -5,7 +5,7 @@
     tools/report_facts.py agree TABLES [SCRIPT ..]  the lines and the page of any script by one program: each fact of the lines has to be
                                                     in the page, and no other (without scripts, those of the gallery)
     tools/report_facts.py print NAME ..             what is expected of the scripts in one run: the whole file of pages
-    tools/report_facts.py gate                      writes what the gate expects of study_pages and studyreport_pages
+    tools/report_facts.py gate                      writes what the gate expects of the pages of gallery, and of studyreport
 
 The facts are those of examples/NAME.lines and the games of PGN in examples/NAME.expected; both come from a program that shares
 nothing with this repository. `agree` takes the lines of studyreport itself, and the games of studybench. The layout is that of
@@ -712,10 +712,11 @@ if __name__ == "__main__":
         sys.stdout.write(expected_file(words[1:]))
     elif words == ["gate"]:
         two = told_in("krk_waiting")
-        with open(os.path.join(TOP, "crates/study_pages/stdout"), "w", encoding="latin-1") as file:
-            file.write(opening() + "".join(page(study, number) for number, study in enumerate(two, 1))
+        front = read(TOP, "crates/gallery/stdout").split("== pages\n")[0]
+        with open(os.path.join(TOP, "crates/gallery/stdout"), "w", encoding="latin-1") as file:
+            file.write(front + "== pages\n" + opening() + "".join(page(study, number) for number, study in enumerate(two, 1))
                        + refusal(7, "insert root <b>\xe9", "BadByte", "a letter outside plain ASCII & 'so'") + summary(two) + "</body></html>\n")
-        crate = os.path.join(TOP, "crates/studyreport_pages")
+        crate = os.path.join(TOP, "crates/studyreport")
         with open(os.path.join(crate, "stdin"), "w", encoding="latin-1") as file:
             file.write("".join(read(EXAMPLES, name + ".script") for name in GATE) + "".join(line + "\n" for line, _ in GATE_MORE))
         with open(os.path.join(crate, "stdout"), "w", encoding="latin-1") as file:

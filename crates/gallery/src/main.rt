@@ -1,23 +1,21 @@
-//! Answers and reports studies of the gallery: for each word of the command line the script of that name, after a line with its name, then
-//! the lines of its studies. Its tables are built on the way, since there are no files. The gate compares what it writes with the gallery's
-//! expected replies and lines.
+//! What the studies of the gallery come to, for the gate: the replies to their scripts and the lines of their reports, then the views and
+//! surveys that a page of a browser asks for, then printed pages. The gate compares them with those of an independent program.
 #![tactic(auto)]
 
-use std::alloc::{Allocator, Global};
-use std::io::{BufReader, ErrorKind, LineWriter, Read, Write};
-use std::process::ExitCode;
-use std::{env, fs, io};
-use study_command::Line;
-use study_prober::WholeTables;
-use study_report::{Lines, follow};
-use study_script::{
-    Document, MemoryStore, RunFault, Session, Summary, TableStore, Tables, run_session,
-};
-use study_table::TableSet;
+mod pages;
+mod replies;
+mod views;
 
-/// The exit status is 0 where each script was run to its end, and 1 where one was not.
+use crate::pages::write_pages;
+use crate::replies::answer_scripts;
+use crate::views::answer_requests;
+use std::io::{LineWriter, Write};
+use std::process::ExitCode;
+use std::{env, io};
+
+/// The exit status is 0 where everything was taken to its end, and 1 where something was not.
 fn main(rt: HostRuntime) -> ExitCode {
-    match answer_all(&rt) {
+    match write_all(&rt) {
         Ok(()) => ExitCode::from(0),
         Err(error) => {
             let _ = eprintln!(&rt; "gallery: {error}");
@@ -26,57 +24,14 @@ fn main(rt: HostRuntime) -> ExitCode {
     }
 }
 
-fn answer_all(rt: &HostRuntime) -> io::Result<()> {
+fn write_all(rt: &HostRuntime) -> io::Result<()> {
     let alloc = rt.alloc();
     let names: Vec<String> = env::args(rt)?.skip(1).collect(alloc)?;
     let mut out = LineWriter::new(alloc, rt.stdout())?;
-    for name in names.as_slice() {
-        writeln!(out, "== {name}")?;
-        answer(rt, alloc, name.as_str(), &mut out)?;
-    }
+    answer_scripts(rt, names.as_slice(), &mut out)?;
+    writeln!(out, "== views and surveys")?;
+    answer_requests(rt, &mut out)?;
+    writeln!(out, "== pages")?;
+    write_pages(alloc, &mut out)?;
     out.flush()
-}
-
-/// A store without files, and without writers for those that are saved.
-fn no_files<'a, A: Allocator>(_alloc: &'a A) -> MemoryStore<'a, 'a, 'a, A> {
-    MemoryStore::new(&[])
-}
-
-fn answer<W: Write>(rt: &HostRuntime, alloc: Global, name: &str, out: &mut W) -> io::Result<()> {
-    let mut path = String::new(alloc);
-    path.push_str(name)?;
-    path.push_str(".script")?;
-    let mut store = no_files(&alloc);
-    let mut replies = BufReader::new(alloc, fs::open(rt, path.as_str())?)?;
-    let mut lines = BufReader::new(alloc, fs::open(rt, path.as_str())?)?;
-    answer_over(&alloc, name, &mut replies, &mut lines, out, &mut store)
-}
-
-/// The replies to a script, and the lines of its report by the tables that it built.
-fn answer_over<'a, R: Read, W: Write, S: TableStore, A: Allocator>(
-    alloc: &'a A,
-    name: &str,
-    replies: &mut R,
-    lines: &mut R,
-    out: &mut W,
-    store: &mut S,
-) -> io::Result<()> {
-    let mut line = Line::new(alloc)?;
-    let mut session = Session {
-        alloc,
-        document: Document::Empty,
-        tables: Tables::Whole(WholeTables::new(TableSet::new(alloc)?)),
-        store,
-    };
-    ended(run_session(&mut line, replies, out, &mut session))?;
-    writeln!(out, "== {name}, lines of a report")?;
-    session.document = Document::Empty;
-    ended(follow(&mut line, lines, out, &mut Lines, &mut session))
-}
-
-fn ended(answer: Result<Summary, RunFault>) -> io::Result<()> {
-    match answer {
-        Ok(_) => Ok(()),
-        Err(_) => Err(io::Error::from(ErrorKind::Other)),
-    }
 }

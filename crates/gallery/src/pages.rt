@@ -1,10 +1,7 @@
-//! Writes the pages of two studies over built tables, with a refused line and the list of both. The gate compares them with
-//! pages that were laid out from an independent program's facts and marks.
-#![tactic(auto)]
-
+//! The pages of two studies over built tables, with a refused line and the list of both.
 use std::alloc::{Allocator, Global};
-use std::io::{LineWriter, Write};
-use std::process::ExitCode;
+use std::io;
+use std::io::{ErrorKind, Write};
 use study_board::Side;
 use study_html::{Html, write_closing, write_opening};
 use study_marks::{Bench, Goal, MateMoves, Stipulation, TagName};
@@ -103,16 +100,10 @@ fn write_all<'a, A: Allocator, W: Write>(alloc: &'a A, out: &mut W) -> Option<()
     write_closing(out).ok()
 }
 
-fn write_pages(rt: &HostRuntime, alloc: Global) -> Option<()> {
-    let mut out = LineWriter::new(alloc, rt.stdout()).ok()?;
-    write_all(&alloc, &mut out)?;
-    out.flush().ok()
-}
-
-/// The exit status is 0 where all was written.
-fn main(rt: HostRuntime) -> ExitCode {
-    match write_pages(&rt, rt.alloc()) {
-        None => ExitCode::from(1),
-        Some(_) => ExitCode::from(0),
+/// Writes the pages as one file.
+pub fn write_pages<W: Write>(alloc: Global, out: &mut W) -> io::Result<()> {
+    match write_all(&alloc, out) {
+        Some(()) => Ok(()),
+        None => Err(io::Error::from(ErrorKind::Other)),
     }
 }

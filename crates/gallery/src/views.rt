@@ -1,11 +1,7 @@
-//! Answers what a page of a browser asks of studies of the gallery, over tables that it makes by requests, too: for each line of
-//! `requests` the line, and then the answer. Its first word names the script, and is `-` where none is asked of. The gate compares
-//! what it writes with the views and surveys of an independent program.
-#![tactic(auto)]
-
+//! Views and surveys of studies of the gallery, over tables that are made by requests, too: for each line of `views/requests` the line,
+//! and then the answer. Its first word names the script, and is `-` where none is needed.
 use std::alloc::{Allocator, Global};
-use std::io::{ErrorKind, LineWriter, Write};
-use std::process::ExitCode;
+use std::io::{ErrorKind, Write};
 use std::{fs, io};
 use study_material::Class;
 use study_web::{Ending, Reply, Span, answer, put_ending};
@@ -28,18 +24,8 @@ struct Files<'a, A: Allocator> {
     spans: Vec<Span, &'a A>,
 }
 
-/// The exit status is 0 where each request was taken to its end, and 1 where one was not.
-fn main(rt: HostRuntime) -> ExitCode {
-    match answer_all(&rt) {
-        Ok(()) => ExitCode::from(0),
-        Err(error) => {
-            let _ = eprintln!(&rt; "gallery_views: {error}");
-            ExitCode::from(1)
-        }
-    }
-}
-
-fn answer_all(rt: &HostRuntime) -> io::Result<()> {
+/// Answers each request, after the line that makes it.
+pub fn answer_requests<W: Write>(rt: &HostRuntime, out: &mut W) -> io::Result<()> {
     let alloc = rt.alloc();
     let mut files = Files {
         bytes: Vec::new(&alloc),
@@ -48,16 +34,15 @@ fn answer_all(rt: &HostRuntime) -> io::Result<()> {
     for class in MADE {
         make(&alloc, class, &mut files)?;
     }
-    let requests = fs::read_to_string(rt, "requests")?;
-    let mut out = LineWriter::new(alloc, rt.stdout())?;
+    let requests = fs::read_to_string(rt, "views/requests")?;
     for line in requests.lines() {
         if let Some((name, request)) = line.split_once(' ') {
             writeln!(out, "# {line}")?;
             let script = script_of(rt, alloc, name)?;
-            tell(&alloc, request, script.as_str(), &files, &mut out)?;
+            write_answer(&alloc, request, script.as_str(), &files, out)?;
         }
     }
-    out.flush()
+    Ok(())
 }
 
 /// Has the file of a class made, and puts it after the others.
@@ -83,6 +68,7 @@ fn script_of(rt: &HostRuntime, alloc: Global, name: &str) -> io::Result<String> 
         return Ok(String::new(alloc));
     }
     let mut path = String::new(alloc);
+    path.push_str("views/")?;
     path.push_str(name)?;
     path.push_str(".script")?;
     fs::read_to_string(rt, path.as_str())
@@ -106,17 +92,17 @@ fn ask<'a, A: Allocator>(
 }
 
 /// The text of an answer, and how it ended where it is not whole.
-fn tell<'a, A: Allocator, W: Write>(
+fn write_answer<'a, A: Allocator, W: Write>(
     alloc: &'a A,
     request: &str,
     script: &str,
     files: &Files<'a, A>,
     out: &mut W,
 ) -> io::Result<()> {
-    let told = ask(alloc, request, script, files);
-    out.write_all(told.text.as_slice())?;
-    if told.ended != Ending::Answered {
-        let _ = put_ending(out, told.ended);
+    let reply = ask(alloc, request, script, files);
+    out.write_all(reply.text.as_slice())?;
+    if reply.ended != Ending::Answered {
+        let _ = put_ending(out, reply.ended);
     }
     Ok(())
 }
