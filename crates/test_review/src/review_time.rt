@@ -85,30 +85,10 @@ const ROOK: [Counts; 4] = [
     (15, [1, 1, 1]),
 ];
 
-/// Pawn against king: most of the king's other moves that win lose time.
-const PAWN: [Counts; 7] = [
-    (0, [0, 0, 0]),
-    (0, [0, 0, 0]),
-    (2, [1, 2, 2]),
-    (0, [0, 0, 0]),
-    (3, [1, 3, 3]),
-    (5, [2, 3, 4]),
-    (2, [0, 2, 2]),
-];
-
 #[test]
 fn time_is_lost_with_a_rook_as_another_program_counts(rt: HostRuntime) {
     let alloc = rt.alloc();
     let mut values = tables_of(&rt, &alloc, &[Class::KK, Class::KRK]);
     let rook = "8/8/8/8/8/2k5/8/K6R w - - 0 1";
     check_line(&rt, alloc, rook, ROOK.as_slice(), &mut values);
-}
-
-#[test]
-fn time_is_lost_with_a_pawn_as_another_program_counts(rt: HostRuntime) {
-    use Class::{KBK, KK, KNK, KPK, KQK, KRK};
-    let alloc = rt.alloc();
-    let mut values = tables_of(&rt, &alloc, &[KK, KQK, KRK, KBK, KNK, KPK]);
-    let pawn = "8/8/8/3k4/8/8/3KP3/8 w - - 0 1";
-    check_line(&rt, alloc, pawn, PAWN.as_slice(), &mut values);
 }

@@ -117,25 +117,6 @@ fn en_passant_has_numbers_of_its_own_where_it_can_be_played(rt: HostRuntime) {
     assert!(rt; is_of_none(Class::KPKP, 33_554_432));
 }
 
-/// How many numbers of KPKP are decoded as positions with an en passant square, and how many of these have another index.
-fn en_passant_positions() -> (u32, u32) {
-    let (mut found, mut others) = (0u32, 0u32);
-    for n in 16_777_216..33_554_432u32 {
-        if let Some(q) = decode(Class::KPKP, n) {
-            found = found.saturating_add(1);
-            if q.passed().is_none() || index(&q) != n {
-                others = others.saturating_add(1);
-            }
-        }
-    }
-    (found, others)
-}
-
-#[test]
-fn each_en_passant_position_of_kpkp_has_its_number(rt: HostRuntime) {
-    assert_eq!(rt; en_passant_positions(), (43_786, 0));
-}
-
 /// Numbers of cells, and the classes that have so many.
 const CELLS: &str = "\
 1280,KK

@@ -227,15 +227,8 @@ pub(crate) fn is_device<A: Allocator>(refusal: &Refusal<'_, A>) -> bool {
     matches!(refusal, Refusal::TableRead(ProbeFault::TableRead(_)))
 }
 
-/// How many values each call asks, counted by hand: one for a position and one for each of its moves, which are 17 for White,
-/// but two of Black's after Ra5+, and else three.
-const ASKED: [(Call, u64); 5] = [
-    (Call::New, 18),
-    (Call::Position, 18),
-    (Call::Insert, 4),
-    (Call::Shift, 18 + 4 + 3 + 18),
-    (Call::Reannotate, 18 + 4 + 3 + 18),
-];
+/// How many values an insertion asks, counted by hand: one for the position after the move and one for each of Black's three moves there.
+const ASKED: u64 = 4;
 
 type Failing<'a> = FailingValues<WholeTables<'a, Global>>;
 
@@ -251,58 +244,24 @@ fn fail_at(values: &mut Failing<'_>, k: u64) {
     values.fails_at = Some(k);
 }
 
-/// Each of so many values that a call asks fails in turn, and then none.
-fn check_values<V: Values>(rt: &impl Abort, alloc: Global, call: Call, asked: u64, sound: &mut V) {
-    let mut values = failing(rt, &alloc);
-    let wanted = Subject::Corners.after(rt, alloc, call, sound);
-    for k in 0..=asked {
-        fail_at(&mut values, k);
-        let refused = Subject::Corners.is_refused(rt, alloc, call, &wanted, &mut values, sound);
-        assert!(rt; refused == (k < asked), "{call:?} {k}");
-    }
-}
-
-/// The k-th value fails, for each k until none fails.
+/// The k-th value of an insertion fails, for each k until none fails.
 #[test]
-fn each_value_of_a_call_fails_in_turn(rt: HostRuntime) {
-    let alloc = rt.alloc();
-    let mut sound = tables_of(&rt, &alloc, &[Class::KK, Class::KRK]);
-    for (call, asked) in ASKED {
-        check_values(&rt, alloc, call, asked, &mut sound);
-    }
-}
-
-/// A list of edits that asks so many values for its insertions and in all ends as it has to where the k-th value fails.
-fn check_end<A: Allocator>(
-    rt: &impl Abort,
-    answer: &Result<(), Stopped<'_, A>>,
-    k: u64,
-    inserted: u64,
-    asked: u64,
-) {
-    match answer {
-        Ok(()) => assert!(rt; k == asked, "{k}"),
-        Err(stopped) => {
-            assert!(rt; is_device(&stopped.refusal) && k < asked, "{k}");
-            assert!(rt; (stopped.done == 5) == (inserted <= k), "{k}");
-        }
-    }
-}
-
-/// The k-th value of a list of edits fails: the list stops at the edit that asks it. The insertions ask 25 values, and the
-/// shift those of the root too, but not those of Ra5+, which was deleted.
-#[test]
-fn each_value_of_a_list_fails_in_turn(rt: HostRuntime) {
+fn each_value_of_an_insertion_fails_in_turn(rt: HostRuntime) {
     let alloc = rt.alloc();
     let mut sound = tables_of(&rt, &alloc, &[Class::KK, Class::KRK]);
     let mut values = failing(&rt, &alloc);
-    let edits = Subject::Corners.edits(&rt, alloc, &alloc, &mut sound);
-    let list = (&alloc, edits.as_slice());
-    let (inserted, shifted) = (25, 25 + 18 - 3);
-    for k in 0..=inserted + shifted {
+    let wanted = Subject::Corners.after(&rt, alloc, Call::Insert, &mut sound);
+    for k in 0..=ASKED {
         fail_at(&mut values, k);
-        let answer = Subject::Corners.edited(&rt, list, list, &mut values, &mut sound);
-        check_end(&rt, &answer, k, inserted, inserted + shifted);
+        let refused = Subject::Corners.is_refused(
+            &rt,
+            alloc,
+            Call::Insert,
+            &wanted,
+            &mut values,
+            &mut sound,
+        );
+        assert!(rt; refused == (k < ASKED), "{k}");
     }
 }
 

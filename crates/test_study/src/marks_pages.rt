@@ -5,7 +5,6 @@ use crate::marks_faults::{Call, Subject, is_device};
 use crate::studies::{Snapshot, start_of, tables_of};
 use std::alloc::Global;
 use std::process::Abort;
-use study_marks::Edit;
 use study_material::Class;
 use study_prober::PagedTables;
 use study_tablefile::{MemorySource, write_table};
@@ -66,64 +65,22 @@ fn reads_of<V: Values>(
     299
 }
 
-/// Each read of a page in a call fails in turn, until none does; there are some.
+/// Each read of a page in an insertion fails in turn, until none does; there are some.
 #[test]
-fn each_read_of_a_page_in_a_call_fails_in_turn(rt: HostRuntime) {
-    use Call::{Insert, New, Position, Reannotate, Shift};
+fn each_read_of_a_page_in_an_insertion_fails_in_turn(rt: HostRuntime) {
     let alloc = rt.alloc();
     let text = file_of(&rt, &alloc);
     let mut sound = one_page(&rt, &alloc, text.as_slice(), None);
-    for call in [New, Position, Shift, Insert, Reannotate] {
-        let wanted = Subject::Mate.after(&rt, alloc, call, &mut sound);
-        let reads = reads_of(&rt, alloc, text.as_slice(), call, &wanted, &mut sound);
-        assert!(rt; 1 < reads && reads < 299, "{call:?}");
-    }
-}
-
-/// After how many edits a list stops where the k-th read of a page fails, if it does.
-fn stop_of<'a, V: Values>(
-    rt: &impl Abort,
-    alloc: &'a Global,
-    text: &[u8],
-    edits: &[Edit<'a, Global>],
-    k: u64,
-    sound: &mut V,
-) -> Option<usize> {
-    let mut values = one_page(rt, alloc, text, Some(k));
-    let list = (alloc, edits);
-    match Subject::Mate.edited(rt, list, list, &mut values, sound) {
-        Ok(()) => None,
-        Err(stopped) => {
-            assert!(rt; is_device(&stopped.refusal), "{k}");
-            Some(stopped.done)
-        }
-    }
-}
-
-/// Each read of a page in a list of edits fails in turn: it stops at the edit that asks for the page, the first two and the
-/// last among them.
-#[test]
-fn each_read_of_a_page_in_a_list_fails_in_turn(rt: HostRuntime) {
-    let alloc = rt.alloc();
-    let text = file_of(&rt, &alloc);
-    let mut sound = one_page(&rt, &alloc, text.as_slice(), None);
-    let edits = Subject::Mate.edits(&rt, alloc, &alloc, &mut sound);
-    let mut stops = [false; 5];
-    for k in 1..300u64 {
-        let Some(done) = stop_of(
-            &rt,
-            &alloc,
-            text.as_slice(),
-            edits.as_slice(),
-            k,
-            &mut sound,
-        ) else {
-            break;
-        };
-        assert!(rt; done < 5, "{k}");
-        stops[done] = true;
-    }
-    assert_eq!(rt; stops, [true, true, false, false, true]);
+    let wanted = Subject::Mate.after(&rt, alloc, Call::Insert, &mut sound);
+    let reads = reads_of(
+        &rt,
+        alloc,
+        text.as_slice(),
+        Call::Insert,
+        &wanted,
+        &mut sound,
+    );
+    assert!(rt; 1 < reads && reads < 299, "{reads}");
 }
 
 /// Whether there is no study over these values, since a device fails.

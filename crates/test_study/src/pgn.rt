@@ -72,59 +72,6 @@ fn the_main_line_goes_on_after_its_variations(rt: HostRuntime) {
     expect_text(&rt, rt.alloc(), &KINGS, KINGS_TEXT);
 }
 
-/// The two moves of a turn, the second of which goes on.
-fn moves_at(turn: usize) -> (&'static str, &'static str) {
-    match turn % 4 {
-        0 => ("Kb1", "Ka2"),
-        1 => ("Kb8", "Ka7"),
-        2 => ("Kb1", "Ka1"),
-        _ => ("Kb8", "Ka8"),
-    }
-}
-
-/// A tree of variations within variations, 80 deep.
-fn nested<'a, A: Allocator>(rt: &impl Abort, alloc: &'a A) -> Bench<'a, A> {
-    let mut values = tables_of(rt, alloc, &[Class::KK]);
-    let case = Case {
-        fen: "k7/8/8/8/8/8/8/K7 w - - 0 1",
-        ..KINGS
-    };
-    let mut bench = case.root(rt, alloc, &mut values);
-    let mut at = path_of(rt, alloc, &[]);
-    for turn in 0..80usize {
-        let (first, second) = moves_at(turn);
-        insert_text(rt, &mut bench, &at, first, &mut values);
-        insert_text(rt, &mut bench, &at, second, &mut values);
-        assert!(rt; at.push(1).is_ok());
-    }
-    bench
-}
-
-/// The word of the closing brackets stands alone above the result, and all lines above it are short.
-fn expect_long_word(rt: &impl Abort, text: &str) {
-    let mut lines = text.lines().rev();
-    assert!(rt; lines.next() == Some(""));
-    assert!(rt; lines.next() == Some("1/2-1/2"));
-    let word = lines.next().unwrap_or("none");
-    assert!(rt;
-        word.starts_with("{draw}))))") && word.len() == 86,
-        "{word}"
-    );
-    for line in lines {
-        assert!(rt; line.len() <= 79, "{line}");
-    }
-}
-
-/// A word that is longer than a line stands alone on its line.
-#[test]
-fn a_word_longer_than_a_line_stands_alone(rt: HostRuntime) -> Result<(), Fail> {
-    let alloc = rt.alloc();
-    let bench = nested(&rt, &alloc);
-    let game = game_of(&rt, alloc, &bench);
-    expect_long_word(&rt, std::str::from_utf8(game.as_slice())?);
-    Ok(())
-}
-
 fn queen_study<'a>(rt: &impl Abort, alloc: &'a Global) -> Bench<'a, Global> {
     let mut values = tables_of(rt, alloc, &[Class::KK, Class::KQK]);
     QUEEN.study(rt, alloc, &mut values)

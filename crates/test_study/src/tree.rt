@@ -6,7 +6,7 @@ use std::process::Abort;
 use std::test::Fail;
 use study_board::Square;
 use study_moves::Move;
-use study_tree::{MAX_DEPTH, MAX_NODES, Path, Tree, TreeFault};
+use study_tree::{Path, Tree, TreeFault};
 
 /// A move of White's king or of Black's: by turns from a1 to b1, a8 to b8, b1 to a1 and b8 to a8.
 fn king_move(turn: usize) -> Move {
@@ -91,66 +91,6 @@ fn expect_rows<A: Allocator>(rt: &impl Abort, tree: &Tree<'_, u32, A>, rows: &[R
     assert!(rt; size(tree) == rows.len());
 }
 
-/// A line of 256 moves below the root, each with room made for it first, and the path to its end.
-fn long_line<'a, A: Allocator>(
-    rt: &impl Abort,
-    alloc: &'a A,
-    tree: &mut Tree<'a, u32, A>,
-) -> Result<Path<'a, A>, AllocError> {
-    let mut path = Path::root(alloc);
-    for turn in 0..MAX_DEPTH {
-        assert!(rt; reserve(tree, path.steps()) == Ok(()));
-        assert!(rt; add(tree, path.steps(), turn, 7) == Ok(0));
-        path.push(0)?;
-    }
-    Ok(path)
-}
-
-/// Both calls that add refuse one more child of the node.
-fn refuses_child<A: Allocator>(
-    rt: &impl Abort,
-    tree: &mut Tree<'_, u32, A>,
-    steps: &[u16],
-    fault: TreeFault,
-) {
-    assert!(rt; reserve(tree, steps) == Err(fault), "{fault:?}");
-    assert!(rt; add(tree, steps, 0, 9) == Err(fault), "{fault:?}");
-}
-
-/// Nodes below the root, beside the line, until there are 4,096.
-fn fill<A: Allocator>(rt: &impl Abort, tree: &mut Tree<'_, u32, A>) {
-    for count in 1..MAX_NODES - MAX_DEPTH {
-        assert!(rt; add(tree, &[], 0, 8) == Ok(count as u16), "{count}");
-    }
-}
-
-/// The first of two faults of a full tree is reported; the path leads to the end of its longest line.
-fn expect_full<'a, A: Allocator>(rt: &impl Abort, tree: &mut Tree<'a, u32, A>, path: &Path<'a, A>) {
-    let missing = [3u16; 256];
-    refuses_child(rt, tree, &missing[..1], TreeFault::TreeFull);
-    refuses_child(rt, tree, &missing[..2], TreeFault::NoSuchNode);
-    refuses_child(rt, tree, &missing[..256], TreeFault::NoSuchNode);
-    refuses_child(rt, tree, path.steps(), TreeFault::TooDeep);
-    refuses_child(rt, tree, &[], TreeFault::TreeFull);
-}
-
-/// 256 moves in a line and 4,096 nodes are accepted and no more, and the first of two faults is reported, without memory too.
-#[test]
-fn a_tree_has_at_most_256_moves_in_a_line_and_4096_nodes(rt: HostRuntime) -> Result<(), Fail> {
-    let heap = LocalHeap::new(rt.alloc(), 1 << 22)?;
-    let mut tree = new_tree(&heap, 0);
-    let path = long_line(&rt, &heap, &mut tree)?;
-    refuses_child(&rt, &mut tree, path.steps(), TreeFault::TooDeep);
-    fill(&rt, &mut tree);
-    let blocks = rest_of(rt.alloc(), &heap)?;
-    expect_full(&rt, &mut tree, &path);
-    drop(blocks);
-    assert!(rt; size(&tree) == 4096 && relabelled(&tree) == 4095);
-    assert!(rt; remove(&mut tree, &[0]) == Ok(()));
-    assert!(rt; size(&tree) == 3840);
-    Ok(())
-}
-
 /// A tree of six nodes: below the root two moves, below the first of them two, and below the first of those one.
 fn small_tree<'a, A: Allocator>(rt: &impl Abort, alloc: &'a A) -> Tree<'a, u32, A> {
     let mut tree = new_tree(alloc, 10);
@@ -205,36 +145,6 @@ fn edits_move_whole_branches(rt: HostRuntime) {
     assert!(rt; remove(&mut tree, &[1, 0]) == Ok(()));
     expect_rows(&rt, &tree, REMOVED);
     assert!(rt; relabelled(&tree) == 7);
-}
-
-/// There is no such node for any call.
-fn refuses_node<A: Allocator>(rt: &impl Abort, tree: &mut Tree<'_, u32, A>, steps: &[u16]) {
-    let missing = TreeFault::NoSuchNode;
-    assert!(rt; shown(tree, steps).is_none(), "{steps:?}");
-    assert!(rt; remove(tree, steps) == Err(missing), "{steps:?}");
-    assert!(rt; move_up(tree, steps) == Err(missing), "{steps:?}");
-    assert!(rt; relabel(tree, steps, 16) == Err(missing), "{steps:?}");
-    refuses_child(rt, tree, steps, missing);
-}
-
-/// Each fault of a small tree; where two hold, the first is reported, and nothing changes.
-#[test]
-fn faults_are_told_in_their_order(rt: HostRuntime) {
-    use TreeFault::{AlreadyFirst, Root};
-    let alloc = rt.alloc();
-    let mut tree = small_tree(&rt, &alloc);
-    for steps in [&[2][..], &[1, 0], &[5, 0], &[0, 0, 0, 0]] {
-        refuses_node(&rt, &mut tree, steps);
-    }
-    assert!(rt; remove(&mut tree, &[]) == Err(Root));
-    for (steps, want) in [
-        (&[][..], Root),
-        (&[0], AlreadyFirst),
-        (&[0, 0], AlreadyFirst),
-    ] {
-        assert!(rt; move_up(&mut tree, steps) == Err(want), "{steps:?}");
-    }
-    expect_rows(&rt, &tree, BUILT);
 }
 
 /// A growth that a heap can refuse.

@@ -239,14 +239,6 @@ fn kept_pages_are_not_read_again(rt: HostRuntime) {
     }
 }
 
-/// The most room there can be holds all pages of a class that has 4,096; some thousand have a position.
-#[test]
-fn the_most_room_holds_a_whole_class(rt: HostRuntime) {
-    assert!(rt; 1000 < pages_with_positions(Class::KQKP));
-    let failures = failures_at_the_second_turn(&rt, rt.alloc(), Class::KQKP, 4096);
-    assert_eq!(rt; failures, 0);
-}
-
 /// A whole table that is held.
 fn whole_of<'a, A: Allocator>(
     rt: &impl Abort,

@@ -45,10 +45,6 @@ KBK,81920,-,-,81920,fa569e2360c540e6280e34a4627516770f1a5f34d81d35689334a99cc101
 KNK,81920,-,-,81920,fa569e2360c540e6280e34a4627516770f1a5f34d81d35689334a99cc1013357
 KPK,262144,55,56,1206872,31f08f445b1142f1498bb03d4257b8142e27cd53763635385fc85788e8edc067";
 
-/// The row of a rook against a knight, without the examined.
-const ROOK_AGAINST_KNIGHT: &str =
-    "KRKN,5242880,79,80,,f353322202ada647a9d51aac5b2f766639a86c03e1793313f7775d72b84f1fec";
-
 /// Whether the report has the cells and the deepest distances of a row.
 fn is_report(rt: &impl Abort, report: &BuildReport, row: &str) -> bool {
     report.cells == number(rt, field(row, 1))
@@ -77,16 +73,6 @@ fn tables_of_up_to_three_men_are_those_of_another_builder(rt: HostRuntime) {
         let table = tables.table(class).expect(&rt, "held");
         assert!(rt; is_table(&rt, table, row), "{row}");
     }
-}
-
-/// A rook against a knight: five million cells, with the deepest mate in 40 moves.
-#[test]
-fn rook_against_knight_is_that_of_another_builder(rt: HostRuntime) {
-    let alloc = rt.alloc();
-    let tables = set_of(&rt, &alloc, &[Class::KK, Class::KRK, Class::KNK]);
-    let (table, report) = table_of(&rt, &alloc, &tables, Class::KRKN);
-    assert!(rt; is_report(&rt, &report, ROOK_AGAINST_KNIGHT));
-    assert!(rt; is_table(&rt, &table, ROOK_AGAINST_KNIGHT));
 }
 
 /// Why a table with so many cells is not built, if it is not.

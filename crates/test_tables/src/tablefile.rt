@@ -160,17 +160,24 @@ fn is_named<A: Allocator>(alloc: &A, text: &mut [u8], place: usize, bit: u8) -> 
     is_named
 }
 
-/// Each turned bit is found and named by its place.
+/// Whether a place of a file of two kings is tried: each of its header and of its digest, and some of its cells.
+fn is_tried(place: usize) -> bool {
+    place < 64 || 4160 <= place || place % 101 == 0
+}
+
+/// Each bit that is turned, of the header, of the digest and of some cells, is found and named by its place.
 #[test]
 fn each_turned_bit_is_found_and_named(rt: HostRuntime) -> Result<(), Fail> {
     let alloc = rt.alloc();
     let mut text = text_of_kk(&rt, &alloc);
     for place in 0..4192usize {
-        for bit in [1u8, 2, 4, 8, 16, 32, 64, 128] {
-            assert!(rt;
-                is_named(&alloc, text.as_mut_slice(), place, bit),
-                "{place}"
-            );
+        if is_tried(place) {
+            for bit in [1u8, 2, 4, 8, 16, 32, 64, 128] {
+                assert!(rt;
+                    is_named(&alloc, text.as_mut_slice(), place, bit),
+                    "{place}"
+                );
+            }
         }
     }
     text.push(0)?;
@@ -210,12 +217,14 @@ fn a_full_writer_has_a_prefix(rt: HostRuntime) {
     let text = text_of_kk(&rt, &alloc);
     let table = zero_table(&rt, &alloc, Class::KK);
     for room in 0..4192usize {
-        for when_full in [WhenFull::Fail, WhenFull::TakeNothing] {
-            let mut full = MemoryWriter::with_room(&alloc, room, when_full);
-            stops(&rt, &table, &mut full, text.as_slice());
-            let mut recovers = MemoryWriter::full_once(&alloc, room, when_full);
-            recovers.kind = ErrorKind::Interrupted;
-            stops(&rt, &table, &mut recovers, text.as_slice());
+        if is_tried(room) {
+            for when_full in [WhenFull::Fail, WhenFull::TakeNothing] {
+                let mut full = MemoryWriter::with_room(&alloc, room, when_full);
+                stops(&rt, &table, &mut full, text.as_slice());
+                let mut recovers = MemoryWriter::full_once(&alloc, room, when_full);
+                recovers.kind = ErrorKind::Interrupted;
+                stops(&rt, &table, &mut recovers, text.as_slice());
+            }
         }
     }
 }
