@@ -1,5 +1,6 @@
 -- A fault of the file of a class that is needed is one of the whole.
-use Rattle.std.proofs.Common.{◌≡◌, ◌<◌, ℕ, List, length, Option, Some, None, refl, subst}
+use Rattle.std.proofs.Common.{◌≡◌, ◌≢◌, ◌<◌, ℕ, List, [], ◌∷◌, length, Option, Some, None, Result, Ok, Err, subst, inl, inr}
+use Rattle.std.specs.Prelude.{IfErr}
 use Rattle.std.proofs.Math.ListN.{get_or}
 use Rattle.std.specs.List.{Contains}
 use Rattle.std.proofs.lemmas.List.Elements.{Contains-get_or}
@@ -12,20 +13,46 @@ use Rattle.study_web.specs.declared.spans.Span.{Span}
 use Rattle.study_web.specs.declared.make.MakeFault.{MakeFault}
 use Rattle.study_web.specs.declared.make.MakeFault.TheVariants.{MissingTable, File, OtherClass, DistanceTooLarge, OutOfMemory}
 use Rattle.study_web.specs.Spans.{file_in}
-use Rattle.study_web.specs.Making.{IsFaultIn, IsMakeFault}
+use Rattle.study_web.specs.Making.{IsFaultIn, IsFirstFault, IsMakeFault, IsSoundIn}
 
-raised : (spans : List Span) (bytes : List ℕ) (c d : Class) (file : Option (List ℕ)) (fault : MakeFault) → file_in spans bytes d ≡ file
-    → IsNeeded c d → IsFaultIn file d fault → IsMakeFault spans bytes c fault
-raised spans bytes c d (Some text) (File e f) is needed (same, rest) = rw (same, is) (needed, (refl, rest))
-raised spans bytes c d (Some text) (OtherClass e o) is needed (same, t, reads, of, other) = rw (same, is) (needed, (refl, t, reads, of, other))
-raised spans bytes c d (Some text) (MissingTable e) is needed x = elim x [ ]
-raised spans bytes c d (Some text) DistanceTooLarge is needed x = elim x [ ]
-raised spans bytes c d (Some text) OutOfMemory is needed x = elim x [ ]
-raised spans bytes c d None fault is needed x = elim x [ ]
+-- no file has one of these faults
+no_missing : (spans : List Span) (bytes : List ℕ) (c e : Class) (ds : List Class) → IsFirstFault spans bytes c ds (MissingTable e) → ⊥
+no_missing spans bytes c e [] x = x
+no_missing spans bytes c e (d ∷ ds) (inl (other, x)) = none (file_in spans bytes d) x
+  where
+    none : (file : Option (List ℕ)) → IsFaultIn file d (MissingTable e) → ⊥
+    none None x = x
+    none (Some text) x = x
+no_missing spans bytes c e (d ∷ ds) (inr (sound, x)) = no_missing spans bytes c e ds x
 
-pub fault_raised : (spans : List Span) (bytes : List ℕ) (c d : Class) (fault : MakeFault)
-    → IsNeeded c d → IsFaultIn (file_in spans bytes d) d fault → IsMakeFault spans bytes c fault
-fault_raised spans bytes c d fault needed found = raised spans bytes c d (file_in spans bytes d) fault refl needed found
+no_distance : (spans : List Span) (bytes : List ℕ) (c : Class) (ds : List Class) → IsFirstFault spans bytes c ds DistanceTooLarge → ⊥
+no_distance spans bytes c [] x = x
+no_distance spans bytes c (d ∷ ds) (inl (other, x)) = none (file_in spans bytes d) x
+  where
+    none : (file : Option (List ℕ)) → IsFaultIn file d DistanceTooLarge → ⊥
+    none None x = x
+    none (Some text) x = x
+no_distance spans bytes c (d ∷ ds) (inr (sound, x)) = no_distance spans bytes c ds x
+
+-- the first fault of the files of what a class needs is one of the whole
+pub fault_raised : (spans : List Span) (bytes : List ℕ) (c : Class) (ds : List Class) (fault : MakeFault) → IsOrder c ds
+    → IsFirstFault spans bytes c ds fault → IsMakeFault spans bytes c fault
+fault_raised spans bytes c ds (File e f) order x = (ds, order, x)
+fault_raised spans bytes c ds (OtherClass e o) order x = (ds, order, x)
+fault_raised spans bytes c ds (MissingTable e) order x = absurd (no_missing spans bytes c e ds x)
+fault_raised spans bytes c ds DistanceTooLarge order x = absurd (no_distance spans bytes c ds x)
+fault_raised spans bytes c ds OutOfMemory order x = tt
+
+-- the first fault of the files of the classes behind one whose file has none
+pub later_fault : {T : Type 0} (r : Result T MakeFault) (spans : List Span) (bytes : List ℕ) (c need : Class) (rest all : List Class) → all ≡ need ∷ rest
+    → (need ≢ c → IsSoundIn (file_in spans bytes need) need) → IfErr r (IsFirstFault spans bytes c rest) → IfErr r (IsFirstFault spans bytes c all)
+later_fault (Ok x) spans bytes c need rest all is sound later = tt
+later_fault (Err fault) spans bytes c need rest all is sound later = rw is (inr (sound, later))
+
+pub all_raised : {T : Type 0} (r : Result T MakeFault) (spans : List Span) (bytes : List ℕ) (c : Class) (ds : List Class) → IsOrder c ds
+    → IfErr r (IsFirstFault spans bytes c ds) → IfErr r (IsMakeFault spans bytes c)
+all_raised (Ok x) spans bytes c ds order is = tt
+all_raised (Err fault) spans bytes c ds order is = fault_raised spans bytes c ds fault order is
 
 -- each class in the order of a class is needed
 pub needed_at : {c : Class} {order items : List Class} {i : ℕ} (d : Class) → IsOrder c order → items ≡ order → i < length items

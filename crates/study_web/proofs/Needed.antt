@@ -20,7 +20,8 @@ use Rattle.study_prober.specs.WholeTables.{Whole, TablesAreRight}
 use Rattle.study_prober.proofs.HeldSources.{same_class}
 use Rattle.study_script.proofs.HeldTables.{place_below}
 use Rattle.study_web.specs.declared.spans.Span.{Span}
-use Rattle.study_web.specs.Making.{LacksFile, HasRightNeeds, IsMakeFault, IsSettled, IsTaken, is_ascending, of_build}
+use Rattle.study_web.specs.Spans.{file_in}
+use Rattle.study_web.specs.Making.{LacksFile, HasRightNeeds, HaveFiles, IsFirstLacking, IsMakeFault, IsSettled, IsTaken, is_ascending, of_build}
 use Rattle.study_web.proofs.Faults.{needs_right}
 
 -- ---- lists of classes
@@ -147,6 +148,23 @@ module _ {E : Type 0} (w v : Whole) (t : Table) (r : Result (Unit {0}) E) (close
       go (Ok u) is k = rw is (stays w.tables t closed.places d h)
       go (Err e) is k = rw k h
 
+  -- a table that is added has a file where its class has one
+  pub keeps_files : (spans : List Span) (bytes : List ℕ) (c : Class) → t.class ≡ c → is_some (file_in spans bytes c) ≡ true
+      → HaveFiles spans bytes w.tables → HaveFiles spans bytes v.tables
+  keeps_files spans bytes c own file files = λ d. go r added same d
+    where
+      put : (d : Class) → is_some (table_of (set w.tables (class_number t.class) (Some t)) d) ≡ true → is_some (file_in spans bytes d) ≡ true
+      put d h = elim (same_class t.class d) [
+        | inl e ↦ subst (λ (k : Class). is_some (file_in spans bytes k) ≡ true) (sym own ∙ e) file
+        | inr f ↦ files d (sym (ap (λ (o : Option Table). is_some o)
+            (get_or-set_other w.tables (class_number t.class) (class_number d) (Some t) None (λ k. f (sym k)))) ∙ h)
+      ]
+
+      go : (x : Result (Unit {0}) E) → OnOk x (v ≡ record w { tables = set w.tables (class_number t.class) (Some t) }) → OnErr x (v ≡ w)
+          → (d : Class) → is_some (table_of v.tables d) ≡ true → is_some (file_in spans bytes d) ≡ true
+      go (Ok u) is k d h = put d (subst (λ (y : Whole). is_some (table_of y.tables d) ≡ true) is h)
+      go (Err e) is k d h = files d (subst (λ (y : Whole). is_some (table_of y.tables d) ≡ true) k h)
+
   -- a table that is added is held, or was, or lacks one that it needs
   pub taken : (spans : List Span) (bytes : List ℕ) (c : Class)
       → (is_some (table_of w.tables c) ≡ false → first_missing w.tables (needs_of c) ≡ None → IsOk r) → t.class ≡ c
@@ -185,28 +203,50 @@ settled_still : (spans : List Span) (bytes : List ℕ) (c d : Class) (old new : 
     → (is_some (table_of old d) ≡ true → is_some (table_of new d) ≡ true) → IsSettled spans bytes c old d → IsSettled spans bytes c new d
 settled_still spans bytes c d old new keeps is = λ l. elim (is l) [ inl held ↦ inl (keeps held) | inr lacks ↦ inr lacks ]
 
--- a class that is needed and not held has no file
-lacking : NeedsComeFirst → (spans : List Span) (bytes : List ℕ) (c d : Class) (held : List (Option Table))
-    → ((e : Class) → IsNeeded c e → IsSettled spans bytes c held e) → first_missing held (needs_of c) ≡ Some d
-    → Contains (needs_of c) d × LacksFile spans bytes d
-lacking first spans bytes c d held all e =
-    let at = missing_at held (needs_of c) d e in (
-      at.0,
-      elim (all d (1, (d, at.0, refl)) (needs_smaller first c d at.0)) [
-        | inl is ↦ absurd (false≢true (sym at.1 ∙ is))
-        | inr lacks ↦ lacks
-      ],
-    )
+-- with a table all that it needs is held, through others too
+held_through : (held : List (Option Table)) → IsClosed held → (n : ℕ) (c d : Class) → Reaches n c d → is_some (table_of held c) ≡ true
+    → is_some (table_of held d) ≡ true
+held_through held closed zero c d same h = subst (λ (x : Class). is_some (table_of held x) ≡ true) same h
+held_through held closed (suc n) c d (e, k, r) h =
+    held_through held closed n e d r (closed.ready c h e k)
+
+-- so a class whose table is held lacks no file
+has_files : (spans : List Span) (bytes : List ℕ) (held : List (Option Table)) → IsClosed held → HaveFiles spans bytes held → (c : Class)
+    → is_some (table_of held c) ≡ true → LacksFile spans bytes c → ⊥
+has_files spans bytes held closed files c h (d, (n, r), none) =
+    false≢true (sym (ap (λ (o : Option (List ℕ)). is_some o) none) ∙ files d (held_through held closed n c d r h))
+
+module _ (spans : List Span) (bytes : List ℕ) (held : List (Option Table)) (closed : IsClosed held) (files : HaveFiles spans bytes held) (d : Class) where
+  lacking_at : (e : Class) (es : List Class) → ((is_some (table_of held e) ≡ true) ⊎ LacksFile spans bytes e)
+      → (first_missing held es ≡ Some d → IsFirstLacking spans bytes es d) → (b : Bool) → is_some (table_of held e) ≡ b
+      → cond b (first_missing held es) (Some e) ≡ Some d → IsFirstLacking spans bytes (e ∷ es) d
+  lacking_at e es is rest true h k = inr (has_files spans bytes held closed files e h, rest k)
+  lacking_at e es (inl held_too) rest false h k = absurd (false≢true (sym h ∙ held_too))
+  lacking_at e es (inr lacks) rest false h k = let same : e ≡ d = cc in inl (same, lacks)
+
+  -- the first that is not held is the first that lacks a file
+  first_lacking : (es : List Class) → ((e : Class) → Contains es e → (is_some (table_of held e) ≡ true) ⊎ LacksFile spans bytes e)
+      → first_missing held es ≡ Some d → IsFirstLacking spans bytes es d
+  first_lacking [] all k = absurd (let no : ⊥ = cc in no)
+  first_lacking (e ∷ es) all k =
+      lacking_at e es (all e (at_head e es)) (first_lacking es (λ x at. all x (at_tail e es x at))) (is_some (table_of held e)) refl k
+
+-- the first class that is needed and not held is the first that lacks a file
+lacking : NeedsComeFirst → (spans : List Span) (bytes : List ℕ) (c d : Class) (held : List (Option Table)) → IsClosed held
+    → HaveFiles spans bytes held → ((e : Class) → IsNeeded c e → IsSettled spans bytes c held e) → first_missing held (needs_of c) ≡ Some d
+    → IsFirstLacking spans bytes (needs_of c) d
+lacking first spans bytes c d held closed files all e =
+    first_lacking spans bytes held closed files d (needs_of c) (λ x at. all x (1, (x, at, refl)) (needs_smaller first c x at)) e
 
 -- why a class is not built
 pub build_fault : NeedsComeFirst → (spans : List Span) (bytes : List ℕ) (c : Class) (held from : List (Option Table)) (fault : BuildFault)
     → from ≡ held → ((d : Class) → fault ≡ build.MissingTable d → first_missing from (needs_of c) ≡ Some d)
     → (NeedsAreRight from c → fault ≡ build.DistanceTooLarge → HasFarPosition c)
     → (HasRightNeeds spans bytes c → TablesAreRight held) → ((e : Class) → IsNeeded c e → IsSettled spans bytes c held e)
-    → IsMakeFault spans bytes c (of_build fault)
-build_fault first spans bytes c held from (build.MissingTable d) same missing far right all =
-    lacking first spans bytes c d held all (subst (λ (h : List (Option Table)). first_missing h (needs_of c) ≡ Some d) same (missing d refl))
-build_fault first spans bytes c held from build.DistanceTooLarge same missing far right all =
+    → IsClosed held → HaveFiles spans bytes held → IsMakeFault spans bytes c (of_build fault)
+build_fault first spans bytes c held from (build.MissingTable d) same missing far right all closed files =
+    lacking first spans bytes c d held closed files all (subst (λ (h : List (Option Table)). first_missing h (needs_of c) ≡ Some d) same (missing d refl))
+build_fault first spans bytes c held from build.DistanceTooLarge same missing far right all closed files =
     λ r. far (subst (λ (h : List (Option Table)). NeedsAreRight h c) (sym same) (needs_right (right r))) refl
 
 -- a table that nothing is against is added

@@ -10,7 +10,7 @@ use Rattle.study_web.specs.declared.denial.Denial.{Denial}
 use Rattle.study_web.specs.declared.reply.Ending.{Ending}
 use Rattle.study_web.specs.declared.reply.Ending.TheVariants.{Answered, Refused, Ran, Stopped}
 use Rattle.study_web.specs.declared.spans.Span.{Span}
-use Rattle.study_web.specs.Answers.{IsReviewed, IsReviewedTo, IsReviewOver}
+use Rattle.study_web.specs.Answers.{IsOwnEnd, IsReviewed, IsReviewedTo, IsReviewOver}
 use Rattle.study_web.specs.Opened.{IsOfFiles}
 use Rattle.study_web.specs.Spans.{file_in, file_faults, header_given}
 use Rattle.study_web.specs.Store.{known, faults_known}
@@ -20,14 +20,14 @@ use Rattle.study_web.proofs.Opening.{among_chosen}
 use Rattle.study_web.proofs.Shelves.{over_made}
 
 module _ (spans : List Span) (bytes script : List ℕ) where
-  by_summary : (text : List ℕ) (summary : Result Summary RunFault) → IsReviewedTo spans bytes script text summary
+  by_summary : (text : List ℕ) (summary : Result Summary RunFault) → IsOwnEnd summary → IsReviewedTo spans bytes script text summary
       → IsReviewed spans bytes script text (ending_of summary)
-  by_summary text (Ok summary) h = h
-  by_summary text (Err fault) h = h
+  by_summary text (Ok summary) own h = h
+  by_summary text (Err fault) own h = (own, h)
 
   pub reviewed_as : (told text : List ℕ) (summary : Result Summary RunFault) (ended : Ending) → text ≡ told → ended ≡ ending_of summary
-      → IsReviewedTo spans bytes script told summary → IsReviewed spans bytes script text ended
-  reviewed_as told text summary ended t e h = rw (t, e) (by_summary told summary h)
+      → IsOwnEnd summary → IsReviewedTo spans bytes script told summary → IsReviewed spans bytes script text ended
+  reviewed_as told text summary ended t e own h = rw (t, e) (by_summary told summary own h)
 
   pub reviewed_denied : (d : Denial) (text : List ℕ) (ended : Ending) → IsOfFiles spans bytes d → IsDenied d text ended
       → IsReviewed spans bytes script text ended
@@ -36,7 +36,7 @@ module _ (spans : List Span) (bytes script : List ℕ) where
   reviewed_denied d text (Stopped fault) of (same, is) =
       let chosen : Class → Bool = λ c. is_some (file_in spans bytes c) in
       let shelf : Shelf = record { files = λ c. None; headers = λ c. None; faults = λ c f. file_faults (file_in spans bytes c) c f } in
-      rw (same, is) (λ right. (filter chosen class_list, among_chosen chosen, shelf, λ c f. refl, (None, (0, omega arith, omega arith, (tt, [], tt, refl)))))
+      rw (same, is) (tt, λ right. (filter chosen class_list, among_chosen chosen, shelf, λ c f. refl, (None, (0, omega arith, omega arith, (tt, [], tt, refl)))))
   reviewed_denied d text (Ran summary) of x = absurd x
 
 pub review_made : {spans at : List Span} {bytes bs : List ℕ} {written : List Bool} → at ≡ spans → bs ≡ bytes → written ≡ replicate 36 false

@@ -1,7 +1,51 @@
 -- Scripts that are not read to their end.
-use Rattle.std.proofs.Common.{ℕ, List, None, arith}
+use Rattle.std.proofs.Common.{◌≡◌, ◌⊎◌, ℕ, List, [], Option, Some, None, Result, Err, refl, sym, subst, inl, inr, arith}
+use Rattle.study_script.specs.declared.running.Summary.{Summary}
+use Rattle.study_script.specs.declared.running.RunFault.{RunFault}
 use Rattle.study_script.specs.declared.running.RunFault.TheVariants.{OutOfMemory}
-use Rattle.study_web.specs.Answers.{IsUnread}
+use Rattle.study_script.specs.Outcome.{Outcome, Shape as RunShape}
+use Rattle.study_script.specs.State.{State}
+use Rattle.study_report.specs.Outcome.{Outcome as ReportOutcome, Shape}
+use Rattle.study_review.specs.Review.{IsReviewOf}
+use Rattle.study_web.specs.Answers.{IsOwn, IsUnread}
+use Rattle.study_web.specs.Views.{refused_line}
 
 pub no_memory : (script : List ℕ) → IsUnread script OutOfMemory
-no_memory script = (None, (0, omega arith, omega arith, tt))
+no_memory script = (tt, None, (0, omega arith, omega arith, tt))
+
+-- a script that a run stopped at for this fault is not read to its end
+pub unread_as : (script : List ℕ) (fault own : RunFault) → ((left : Option (List ℕ)) × Shape script left (Err fault)) → IsOwn own
+    → (own ≡ fault) ⊎ (own ≡ OutOfMemory) → IsUnread script own
+unread_as script fault own at is (inl same) =
+    let moved : (left : Option (List ℕ)) × Shape script left (Err own) =
+    subst (λ f. (left : Option (List ℕ)) × Shape script left (Err f)) (sym same) at in (is, moved.0, moved.1)
+unread_as script fault own at is (inr none) = rw none (no_memory script)
+
+-- ---- a run over a slice, into memory
+
+-- of a run for which there was no memory nothing is left
+pub own_shape : (script text written : List ℕ) (left : Option (List ℕ)) (ran told : Result Summary RunFault) → RunShape script left ran
+    → ((text ≡ written) × (told ≡ ran)) ⊎ ((text ≡ []) × (told ≡ Err OutOfMemory)) → (left : Option (List ℕ)) × RunShape script left told
+own_shape script text written left ran told is (inl (same, ended)) = (left, subst (RunShape script left) (sym ended) is)
+own_shape script text written left ran told is (inr (none, ended)) = rw ended (Some script, refl)
+
+pub own_outcome : (first : State) (script text written : List ℕ) (left : Option (List ℕ)) (ran told : Result Summary RunFault)
+    → Outcome first script left (Some []) (Some written) ran
+    → ((text ≡ written) × (told ≡ ran)) ⊎ ((text ≡ []) × (told ≡ Err OutOfMemory))
+    → (left : Option (List ℕ)) × Outcome first script left (Some []) (Some text) told
+own_outcome first script text written left ran told is (inl (same, ended)) = (left, rw (same, ended) is)
+own_outcome first script text written left ran told is (inr (none, ended)) = rw (none, ended) (Some script, (refl, refl))
+
+pub own_review : (first : State) (script text written : List ℕ) (left : Option (List ℕ)) (ran told : Result Summary RunFault)
+    → ReportOutcome IsReviewOf refused_line first script left (Some []) (Some written) ran
+    → ((text ≡ written) × (told ≡ ran)) ⊎ ((text ≡ []) × (told ≡ Err OutOfMemory))
+    → (left : Option (List ℕ)) × ReportOutcome IsReviewOf refused_line first script left (Some []) (Some text) told
+own_review first script text written left ran told is (inl (same, ended)) = (left, rw (same, ended) is)
+own_review first script text written left ran told is (inr (none, ended)) =
+    rw (none, ended) (None, (0, omega arith, omega arith, (tt, [], tt, refl)))
+
+-- what is so of what was written is so of what is told, but where there was no memory
+pub own_as : (P : List ℕ → Result Summary RunFault → Type 0) (text written : List ℕ) (ran told : Result Summary RunFault) → P written ran
+    → ((text ≡ written) × (told ≡ ran)) ⊎ ((text ≡ []) × (told ≡ Err OutOfMemory)) → ((told ≡ Err OutOfMemory) × (text ≡ [])) ⊎ P text told
+own_as P text written ran told is (inl (same, ended)) = inr (rw (same, ended) is)
+own_as P text written ran told is (inr (none, ended)) = inl (ended, none)

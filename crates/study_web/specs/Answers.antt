@@ -1,5 +1,5 @@
 -- What a page is answered.
-use Rattle.std.specs.Prelude.{◌≡◌, ◌⊎◌, ℕ, Bool, List, [], Option, Some, None, Result, Ok, Err}
+use Rattle.std.specs.Prelude.{◌≡◌, ◌⊎◌, ℕ, nat_le, min, Bool, ◌&&◌, List, [], ◌∷◌, ◌++◌, length, take, drop, Option, Some, None, Result, Ok, Err}
 use Rattle.study_board.specs.Position.{man_at}
 use Rattle.study_material.specs.declared.class.Class.{Class}
 use Rattle.study_notation.specs.declared.start.Start.{Start}
@@ -12,7 +12,7 @@ use Rattle.study_values.specs.declared.values.ProbeFault.{ProbeFault}
 use Rattle.study_script.specs.declared.running.Summary.{Summary}
 use Rattle.study_script.specs.declared.running.RunFault.{RunFault}
 use Rattle.study_script.specs.declared.running.RunFault.TheVariants as run_fault
-use Rattle.study_script.specs.Outcome.{Outcome, begun_state}
+use Rattle.study_script.specs.Outcome.{Outcome, begun_state, Shape as RunShape}
 use Rattle.study_script.specs.State.{Shelf}
 use Rattle.study_script.specs.Stores.{AreTrusted}
 use Rattle.study_report.specs.Outcome.{Outcome as ReportOutcome, Shape}
@@ -55,19 +55,31 @@ MayEnd May Stops (no_text.Stopped fault) = Stops fault
 abbrev pub IsNoMemory : RunFault → Type 0
 IsNoMemory fault = fault ≡ run_fault.OutOfMemory
 
+-- Why a run stops that reads bytes which are handed in and writes into memory: neither fails but for want of memory.
+abbrev pub IsOwn : RunFault → Type 0
+IsOwn run_fault.ReadDevice = ⊥
+IsOwn run_fault.WriteDevice = ⊥
+IsOwn fault = Unit {0}
+
+abbrev pub IsOwnEnd : Result Summary RunFault → Type 0
+IsOwnEnd (Ok summary) = Unit {0}
+IsOwnEnd (Err fault) = IsOwn fault
+
 -- the lines of a script are not read to their end: one is too long, there are too many, or there is no memory
 abbrev pub IsUnread : List ℕ → RunFault → Type 0
-IsUnread script fault = (left : Option (List ℕ)) × Shape script left (Err fault)
+IsUnread script fault = IsOwn fault × (left : Option (List ℕ)) × Shape script left (Err fault)
 
 abbrev pub IsNever : RunFault → Type 0
 IsNever fault = ⊥
 
 -- ---- each request
 
--- the replies to the script, over files of which those are right that it loads
+-- The replies to the script, over files of which those are right that it loads. Whatever the files are, it stops where it must, for one
+-- of its own faults, and counts its lines.
 abbrev pub IsRun : List Span → List ℕ → Bool → List ℕ → List ℕ → Ending → Type 0
 IsRun spans bytes by_pages script text ended =
-    (summary : Result Summary RunFault) × (ended ≡ ending_of summary)
+    (summary : Result Summary RunFault) × (ended ≡ ending_of summary) × IsOwnEnd summary
+    × ((left : Option (List ℕ)) × RunShape script left summary)
     × ((trusted : Class → Bool) → AreRightFiles trusted by_pages spans bytes → AreTrusted trusted script
     → (shelf : Shelf) × IsShelf spans bytes shelf × (left : Option (List ℕ))
     × Outcome (begun_state shelf by_pages) script left (Some []) (Some text) summary)
@@ -117,7 +129,7 @@ abbrev pub IsReviewed : List Span → List ℕ → List ℕ → List ℕ → End
 IsReviewed spans bytes script text Answered = ⊥
 IsReviewed spans bytes script text (Refused d) = IsOfFiles spans bytes d × (text ≡ denial_text d)
 IsReviewed spans bytes script text (Ran summary) = IsReviewedTo spans bytes script text (Ok summary)
-IsReviewed spans bytes script text (Stopped fault) = IsReviewedTo spans bytes script text (Err fault)
+IsReviewed spans bytes script text (Stopped fault) = IsOwn fault × IsReviewedTo spans bytes script text (Err fault)
 
 -- the printed pages of the script's studies
 abbrev pub IsFileOver : List ℕ → List ℕ → Result Summary RunFault → List Class → Shelf → Type 0
@@ -131,7 +143,8 @@ abbrev pub IsPrinted : List Span → List ℕ → List ℕ → List ℕ → Endi
 IsPrinted spans bytes script text Answered = ⊥
 IsPrinted spans bytes script text (Refused d) = IsOfFiles spans bytes d × (text ≡ denial_text d)
 IsPrinted spans bytes script text (Ran summary) = IsPrintedTo spans bytes script text (Ok summary)
-IsPrinted spans bytes script text (Stopped fault) = ((fault ≡ run_fault.OutOfMemory) × (text ≡ [])) ⊎ IsPrintedTo spans bytes script text (Err fault)
+IsPrinted spans bytes script text (Stopped fault) =
+    IsOwn fault × (((fault ≡ run_fault.OutOfMemory) × (text ≡ [])) ⊎ IsPrintedTo spans bytes script text (Err fault))
 
 -- there is no survey on a square without a man, or where the tables or their values cannot be read
 abbrev pub IsSurveyDenial : (Denial → Type 0) → Start → ℕ → Denial → Type 0
@@ -172,3 +185,22 @@ IsAnswerTo spans bytes by_pages script (passed start) text ended = IsPassedList 
 abbrev pub IsAnswer : List Span → List ℕ → Bool → List ℕ → Asks → List ℕ → Ending → Type 0
 IsAnswer spans bytes by_pages script (Ok asked) text ended = IsAnswerTo spans bytes by_pages script asked text ended
 IsAnswer spans bytes by_pages script (Err refusal) text ended = IsDenied (denial.Refused refusal) text ended
+
+-- ---- what a module hands back
+
+-- three numbers a span; what is left over is no span
+abbrev pub spans_of : List ℕ → List Span
+spans_of (c ∷ s ∷ l ∷ more) = record { class = c; start = s; length = l } ∷ spans_of more
+spans_of _ = []
+
+-- tables are read by so many pages, from 1 to 4,096, and for any other number whole
+abbrev pub is_paged : ℕ → Bool
+is_paged pages = nat_le 1 pages && nat_le pages 4096
+
+-- the text stands at the front, as much of it as there is room for, and its length is the answer
+abbrev pub IsHanded : List ℕ → List ℕ → List ℕ → ℕ → Type 0
+IsHanded text old new n = (n ≡ length text) × (new ≡ take (min (length text) (length old)) text ++ drop (min (length text) (length old)) old)
+
+-- nothing is handed back
+abbrev pub IsNothing : List ℕ → List ℕ → ℕ → Type 0
+IsNothing old new n = (n ≡ 0) × (new ≡ old)

@@ -2,7 +2,7 @@
 use Rattle.std.specs.Prelude.{◌≡◌, ◌≢◌, ◌⊎◌, ◌<◌, nat_le, ℕ, Bool, true, false, ◌&&◌, List, [], ◌∷◌, is_some, Option, Some, None, Ok, Err}
 use Rattle.std.specs.List.{list_all, Contains}
 use Rattle.study_material.specs.declared.class.Class.{Class}
-use Rattle.study_material.specs.Needs.{size, needs_of, IsNeeded}
+use Rattle.study_material.specs.Needs.{size, needs_of, IsNeeded, IsOrder}
 use Rattle.study_retro.specs.declared.builder.BuildFault.{BuildFault}
 use Rattle.study_retro.specs.declared.builder.BuildFault.TheVariants as build
 use Rattle.study_table.specs.Table.{Table, IsComplete, table_of}
@@ -28,31 +28,58 @@ abbrev pub of_build : BuildFault → MakeFault
 of_build (build.MissingTable c) = MissingTable c
 of_build build.DistanceTooLarge = DistanceTooLarge
 
--- what is wrong with the file of a class: it reads as no table, or as that of another class; or there is no memory after its header
+-- what is wrong with the file of a class: it reads as no table, or as that of another class; or there is no memory, for the table behind its header
+-- or at all
 abbrev pub IsFaultIn : Option (List ℕ) → Class → MakeFault → Type 0
-IsFaultIn (Some text) c (File d fault) =
-    (d ≡ c) × ((table_read text ≡ Err fault) ⊎ ((fault ≡ file.OutOfMemory) × HasHeader text) ⊎ (fault ≡ file.Device))
+IsFaultIn (Some text) c (File d fault) = (d ≡ c) × ((table_read text ≡ Err fault) ⊎ ((fault ≡ file.OutOfMemory) × HasHeader text))
+IsFaultIn (Some text) c OutOfMemory = Unit {0}
 IsFaultIn (Some text) c (OtherClass d e) = (d ≡ c) × (t : Table) × (table_read text ≡ Ok t) × (t.class ≡ e) × (e ≢ c)
 IsFaultIn file c fault = ⊥
 
--- the files of all that a class needs read as right tables, where they read as tables
+-- the file of a class, if there is one, reads as the class's own table
+abbrev pub IsSoundIn : Option (List ℕ) → Class → Type 0
+IsSoundIn None c = Unit {0}
+IsSoundIn (Some text) c = (t : Table) × (table_read text ≡ Ok t) × (t.class ≡ c)
+
+-- the fault of the first of these classes whose file has one; the file of c itself is not looked at
+abbrev pub IsFirstFault : List Span → List ℕ → Class → List Class → MakeFault → Type 0
+IsFirstFault spans bytes c [] fault = ⊥
+IsFirstFault spans bytes c (d ∷ ds) fault =
+    ((d ≢ c) × IsFaultIn (file_in spans bytes d) d fault)
+    ⊎ ((d ≢ c → IsSoundIn (file_in spans bytes d) d) × IsFirstFault spans bytes c ds fault)
+
+-- the same of all classes that c needs, in their order
+abbrev pub IsFileFault : List Span → List ℕ → Class → MakeFault → Type 0
+IsFileFault spans bytes c fault = (ds : List Class) × IsOrder c ds × IsFirstFault spans bytes c ds fault
+
+-- the files of all others that a class needs read as right tables, where they read as tables
 abbrev pub HasRightNeeds : List Span → List ℕ → Class → Type 0
-HasRightNeeds spans bytes c = (d : Class) → IsNeeded c d → IsHonestIn false (file_in spans bytes d)
+HasRightNeeds spans bytes c = (d : Class) → IsNeeded c d → d ≢ c → IsHonestIn false (file_in spans bytes d)
 
 -- the class, or one that it needs, has no file
 abbrev pub LacksFile : List Span → List ℕ → Class → Type 0
 LacksFile spans bytes c = (d : Class) × IsNeeded c d × (file_in spans bytes d ≡ None)
 
--- The file of a class that is needed has a fault; or there is none for a class that is needed, or for one that this needs; or a position of
--- the class is further from mate than a file can say, over right files; or there is no memory.
+-- the first of these classes that lacks a file
+abbrev pub IsFirstLacking : List Span → List ℕ → List Class → Class → Type 0
+IsFirstLacking spans bytes [] d = ⊥
+IsFirstLacking spans bytes (e ∷ es) d =
+    ((e ≡ d) × LacksFile spans bytes e) ⊎ ((LacksFile spans bytes e → ⊥) × IsFirstLacking spans bytes es d)
+
+-- The first fault of the files of the other classes that are needed, in their order; or the first need that has no file, or whose own needs have
+-- none; or a position of the class is further from mate than a file can say, over right files; or there is no memory.
 abbrev pub IsMakeFault : List Span → List ℕ → Class → MakeFault → Type 0
-IsMakeFault spans bytes c (File d fault) = IsNeeded c d × IsFaultIn (file_in spans bytes d) d (File d fault)
-IsMakeFault spans bytes c (OtherClass d e) = IsNeeded c d × IsFaultIn (file_in spans bytes d) d (OtherClass d e)
-IsMakeFault spans bytes c (MissingTable d) = Contains (needs_of c) d × LacksFile spans bytes d
+IsMakeFault spans bytes c (File d fault) = IsFileFault spans bytes c (File d fault)
+IsMakeFault spans bytes c (OtherClass d e) = IsFileFault spans bytes c (OtherClass d e)
+IsMakeFault spans bytes c (MissingTable d) = IsFirstLacking spans bytes (needs_of c) d
 IsMakeFault spans bytes c DistanceTooLarge = HasRightNeeds spans bytes c → HasFarPosition c
 IsMakeFault spans bytes c OutOfMemory = Unit {0}
 
 -- ---- while the tables that a class needs are read
+
+-- each table that is held has a file
+abbrev pub HaveFiles : List Span → List ℕ → List (Option Table) → Type 0
+HaveFiles spans bytes held = (d : Class) → is_some (table_of held d) ≡ true → is_some (file_in spans bytes d) ≡ true
 
 -- no class comes before a smaller one
 abbrev pub is_ascending : List Class → Bool

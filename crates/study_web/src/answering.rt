@@ -64,7 +64,7 @@ fn of_run<'f, 'a, A: Allocator>(
     ensures { IsRun spans.now bytes.now (is_some pages) script.now result.text.items result.ended }
 {
     let ended = replies_over(alloc, script, spans, bytes, saved, pages);
-    ran(ended.replies, ended.summary)
+    ran(ended.text, ended.summary)
 }
 
 /// The file of a class, or why it is not made.

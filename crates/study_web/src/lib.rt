@@ -8,6 +8,8 @@
 
 mod answering;
 mod denial;
+mod ended;
+mod export;
 mod laws;
 mod make;
 mod printed;
@@ -27,9 +29,11 @@ mod words;
 
 pub use answering::answer;
 pub use denial::Denial;
+pub use ended::Ended;
+pub use export::{HandedIn, answer_into};
 pub use laws::made_files_are_read_again;
 pub use make::{MakeFault, make_file};
-pub use replies::{Ended, replies_over};
+pub use replies::replies_over;
 pub use reply::{Ending, Reply};
 pub use saved::{Saved, SavedFile, none_saved};
 pub use spans::{Span, file_in};

@@ -1,5 +1,5 @@
 //! The file of a class's table, built from the files of the tables that it needs.
-ghost use Rattle.std.specs.Prelude.{◌≡◌, ℕ, List, true, false, is_some, Some, Ok, OnOk, IfOk, IfErr};
+ghost use Rattle.std.specs.Prelude.{◌≡◌, ◌≢◌, ℕ, List, true, false, is_some, Some, Ok, OnOk, IfOk, IfErr};
 ghost use Rattle.std.specs.List.{Contains};
 ghost use Rattle.study_material.specs.declared.class.Class.{Class as AClass};
 ghost use Rattle.study_material.specs.Needs.{needs_of, IsNeeded};
@@ -8,7 +8,8 @@ ghost use Rattle.study_table.specs.Sound.{IsRight};
 ghost use Rattle.study_prober.specs.WholeTables.{TablesAreRight};
 ghost use Rattle.study_tablefile.specs.Reading.{table_read};
 ghost use Rattle.study_web.specs.Spans.{file_in, IsHonestIn};
-ghost use Rattle.study_web.specs.Making.{IsRightFileOf, IsFaultIn, IsMakeFault, HasRightNeeds, IsSettled, IsTaken, is_ascending};
+ghost use Rattle.study_web.specs.Making.{IsRightFileOf, IsFaultIn, IsFirstFault, IsMakeFault, IsSoundIn, HasRightNeeds, HaveFiles};
+ghost use Rattle.study_web.specs.Making.{IsSettled, IsTaken, is_ascending};
 ghost use Rattle.study_web.specs.declared.spans.Span.{Span as ASpan};
 
 use crate::spans::{Span, file_in};
@@ -90,9 +91,11 @@ fn built<'a, A: Allocator>(
     ensures right { TablesAreRight tables.now.tables → IfOk result IsRight }
     ensures fault { (spans : List ASpan) (bytes : List ℕ) → (HasRightNeeds spans bytes class → TablesAreRight tables.now.tables)
         → ((d : AClass) → IsNeeded class d → IsSettled spans bytes class tables.now.tables d)
+        → HaveFiles spans bytes tables.now.tables
         → IfErr result (IsMakeFault spans bytes class) }
 {
     needs_come_first();
+    let _held = tables.tables().table(class);
     let room = BuildRoom::new(alloc, cells(class))?;
     let (table, _) = build(class, tables.tables(), room)?;
     Ok(table)
@@ -123,6 +126,7 @@ fn needed_tables<'a, A: Allocator>(
 ) -> Result<WholeTables<'a, A>, MakeFault>
     ensures right { HasRightNeeds spans.now bytes.now class → IfOk result (λ w. TablesAreRight w.tables) }
     ensures settled { (d : AClass) → IsNeeded class d → IfOk result (λ w. IsSettled spans.now bytes.now class w.tables d) }
+    ensures files { IfOk result (λ w. HaveFiles spans.now bytes.now w.tables) }
     ensures fault { IfErr result (IsMakeFault spans.now bytes.now class) }
 {
     needs_come_first();
@@ -146,7 +150,8 @@ fn hold_each<'a, A: Allocator>(
     requires settled { (d : AClass) → IsNeeded class d → (Contains needed.now d → ⊥) → IsSettled spans.now bytes.now class tables.old.tables d }
     ensures right { HasRightNeeds spans.now bytes.now class → TablesAreRight tables.old.tables → OnOk result (TablesAreRight tables.new.tables) }
     ensures settled { (d : AClass) → IsNeeded class d → OnOk result (IsSettled spans.now bytes.now class tables.new.tables d) }
-    ensures fault { IfErr result (IsMakeFault spans.now bytes.now class) }
+    ensures files { HaveFiles spans.now bytes.now tables.old.tables → OnOk result (HaveFiles spans.now bytes.now tables.new.tables) }
+    ensures fault { IfErr result (IsFirstFault spans.now bytes.now class needed.now) }
 {
     needs_come_first();
     match needed.split_first() {
@@ -159,7 +164,6 @@ fn hold_each<'a, A: Allocator>(
 }
 
 /// The same for one class that is needed. The class itself is among those that it needs, and is passed over.
-#[tactic(auto, using(crate::proofs::Faults::fault_raised))]
 fn hold_needed<'a, A: Allocator>(
     alloc: &'a A,
     tables: &mut WholeTables<'a, A>,
@@ -173,7 +177,9 @@ fn hold_needed<'a, A: Allocator>(
     ensures settled { ((d : AClass) → Contains (needs_of need) d → IsSettled spans.now bytes.now class tables.old.tables d)
         → OnOk result (IsSettled spans.now bytes.now class tables.new.tables need) }
     ensures keeps { (d : AClass) → is_some (table_of tables.old.tables d) ≡ true → OnOk result (is_some (table_of tables.new.tables d) ≡ true) }
-    ensures fault { IfErr result (IsMakeFault spans.now bytes.now class) }
+    ensures files { HaveFiles spans.now bytes.now tables.old.tables → OnOk result (HaveFiles spans.now bytes.now tables.new.tables) }
+    ensures sound { need ≢ class → OnOk result (IsSoundIn (file_in spans.now bytes.now need) need) }
+    ensures fault { IfErr result (λ fault. (need ≢ class) × IsFaultIn (file_in spans.now bytes.now need) need fault) }
 {
     needs_come_first();
     if need == class {
@@ -194,6 +200,8 @@ fn hold<'a, A: Allocator>(
         → OnOk result (TablesAreRight tables.new.tables) }
     ensures taken { OnOk result (IsTaken spans.now bytes.now class tables.old.tables tables.new.tables) }
     ensures keeps { (d : AClass) → is_some (table_of tables.old.tables d) ≡ true → OnOk result (is_some (table_of tables.new.tables d) ≡ true) }
+    ensures files { HaveFiles spans.now bytes.now tables.old.tables → OnOk result (HaveFiles spans.now bytes.now tables.new.tables) }
+    ensures sound { OnOk result (IsSoundIn (file_in spans.now bytes.now class) class) }
     ensures fault { IfErr result (IsFaultIn (file_in spans.now bytes.now class) class) }
 {
     let Some(file) = file_in(spans, bytes, class) else {
@@ -219,6 +227,18 @@ fn table_in<'a, A: Allocator>(
     match read_table(alloc, &mut reader) {
         Ok(table) if table.class() == class => Ok(table),
         Ok(table) => Err(MakeFault::OtherClass(class, table.class())),
-        Err(fault) => Err(MakeFault::File(class, fault)),
+        Err(fault) => Err(of_file(class, fault)),
+    }
+}
+
+/// Why the file of a class gives no table. It is a slice, which does not fail.
+fn of_file(class: Class, fault: FileFault) -> MakeFault
+    ensures device { fault ≡ FileFault.Device → result ≡ MakeFault.OutOfMemory }
+    ensures file { fault ≢ FileFault.Device → result ≡ MakeFault.File class fault }
+{
+    if fault == FileFault::Device {
+        MakeFault::OutOfMemory
+    } else {
+        MakeFault::File(class, fault)
     }
 }

@@ -1,16 +1,16 @@
 //! The printed pages of a script's studies.
-ghost use Rattle.std.specs.Prelude.{◌≤◌, true, IfSome, IfOk, IfErr};
+ghost use Rattle.std.specs.Prelude.{◌≡◌, ◌≤◌, ◌⊎◌, true, [], IfSome, IfOk, IfErr, Err};
 ghost use Rattle.study_material.specs.declared.class.Class.{Class as AClass};
-ghost use Rattle.study_web.specs.Answers.{IsFileOver};
+ghost use Rattle.study_web.specs.Answers.{IsFileOver, IsOwnEnd};
 ghost use Rattle.study_web.specs.Opened.{IsOfTables};
 ghost use Rattle.study_web.specs.Views.{OverStore};
 
 use crate::denial::Denial;
-use crate::script::Told;
+use crate::ended::{Ended, own_end};
 use crate::tables::open_tables;
 use std::alloc::Allocator;
 use study_print::{Unwatched, follow_pages_over};
-use study_script::{TableStore, Tables};
+use study_script::{RunFault, TableStore, Tables};
 
 /// The printed pages of a script's studies, its refused lines and the list of its entries, over all files of a store.
 pub fn printed_of<'a, S: TableStore, A: Allocator>(
@@ -18,10 +18,11 @@ pub fn printed_of<'a, S: TableStore, A: Allocator>(
     script: &[u8],
     store: &mut S,
     pages: Option<u16>,
-) -> Result<Told<'a, A>, Denial>
+) -> Result<Ended<'a, A>, Denial>
     requires { IfSome pages (λ n. (1 ≤ n) × (n ≤ 4096)) }
-    ensures file { ((c : AClass) → S.honest store.old true c) → IfOk result (λ told.
-        OverStore (S.headers store.old) (S.faults store.old) (IsFileOver script.now told.text.items told.summary)) }
+    ensures own { IfOk result (λ told. IsOwnEnd told.summary) }
+    ensures file { IfOk result (λ told. ((told.summary ≡ Err RunFault.OutOfMemory) × (told.text.items ≡ [])) ⊎ (((c : AClass) → S.honest store.old true c)
+        → OverStore (S.headers store.old) (S.faults store.old) (IsFileOver script.now told.text.items told.summary))) }
     ensures denied { IfErr result (IsOfTables (S.headers store.old) (S.faults store.old)) }
 {
     match open_tables(alloc, store, pages) {
@@ -37,7 +38,7 @@ pub fn printed_of<'a, S: TableStore, A: Allocator>(
                 Tables::Paged(tables),
                 store,
             );
-            Ok(Told { text, summary })
+            Ok(own_end(alloc, text, summary))
         }
     }
 }

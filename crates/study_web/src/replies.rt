@@ -1,23 +1,18 @@
 //! The replies to a script over the files that are handed in.
 ghost use Rattle.std.specs.Prelude.{◌≤◌, ℕ, Bool, List, [], Option, Some, IfSome, is_some};
 ghost use Rattle.study_material.specs.declared.class.Class.{Class as AClass};
-ghost use Rattle.study_script.specs.Outcome.{Outcome, begun_state};
+ghost use Rattle.study_script.specs.Outcome.{Outcome, Shape, begun_state};
 ghost use Rattle.study_script.specs.State.{Shelf};
 ghost use Rattle.study_script.specs.Stores.{AreTrusted};
+ghost use Rattle.study_web.specs.Answers.{IsOwnEnd};
 ghost use Rattle.study_web.specs.Store.{IsShelf, AreRightFiles};
 
+use crate::ended::{Ended, own_end};
 use crate::saved::Saved;
 use crate::spans::Span;
 use crate::store::SpanStore;
 use std::alloc::Allocator;
-use study_script::{RunFault, Settings, Summary, run};
-
-/// What a run wrote, and how it ended.
-#[derive(Drop)]
-pub struct Ended<'a, A: Allocator> {
-    pub replies: Vec<u8, &'a A>,
-    pub summary: Result<Summary, RunFault>,
-}
+use study_script::{Settings, run};
 
 /// Answers a script over the files that are handed in. What it saves is put into the cells, one for each class.
 ///
@@ -32,9 +27,11 @@ pub fn replies_over<'f, 'a, A: Allocator>(
     pages: Option<u16>,
 ) -> Ended<'a, A>
     requires { IfSome pages (λ n. (1 ≤ n) × (n ≤ 4096)) }
-    ensures { (trusted : AClass → Bool) → AreRightFiles trusted (is_some pages) spans.now bytes.now → AreTrusted trusted script.now
+    ensures own { IsOwnEnd result.summary }
+    ensures shape { (left : Option (List ℕ)) × Shape script.now left result.summary }
+    ensures outcome { (trusted : AClass → Bool) → AreRightFiles trusted (is_some pages) spans.now bytes.now → AreTrusted trusted script.now
         → (shelf : Shelf) × IsShelf spans.now bytes.now shelf × (left : Option (List ℕ))
-        × Outcome (begun_state shelf (is_some pages)) script.now left (Some []) (Some result.replies.items) result.summary }
+        × Outcome (begun_state shelf (is_some pages)) script.now left (Some []) (Some result.text.items) result.summary }
 {
     let mut store = SpanStore::new(alloc, spans, bytes, saved);
     let mut reader = script;
@@ -46,5 +43,5 @@ pub fn replies_over<'f, 'a, A: Allocator>(
         &mut store,
         Settings { pages },
     );
-    Ended { replies, summary }
+    own_end(alloc, replies, summary)
 }

@@ -11,11 +11,12 @@ ghost use Rattle.study_script.specs.Held.{document_seen, tables_honest, IsMarked
 ghost use Rattle.study_script.specs.State.{State, is_among, study};
 ghost use Rattle.study_view.specs.View.{IsViewOf};
 ghost use Rattle.study_view.specs.Words.{study_line};
-ghost use Rattle.study_web.specs.Answers.{MayEnd, IsNever, IsReviewOver, IsUnread, IsViewDenial};
+ghost use Rattle.study_web.specs.Answers.{MayEnd, IsNever, IsOwnEnd, IsReviewOver, IsUnread, IsViewDenial};
 ghost use Rattle.study_web.specs.Opened.{IsOfTables};
 ghost use Rattle.study_web.specs.Views.{IsDocumentView, IsLeft, IsUntoldOver, IsViewOver, LacksNode, LacksNodeOver, OverStore, IsViewUntold, StudyStopped};
 
 use crate::denial::Denial;
+use crate::ended::{Ended, own_end, own_fault};
 use crate::refusals::Refusals;
 use crate::reply::NoText;
 use crate::tables::open_tables;
@@ -26,18 +27,11 @@ use study_notation::{Start, write_fen};
 use study_prober::PagedTables;
 use study_reply::{Refusal, of_probe, put_line};
 use study_report::{Lines, follow, follow_over};
-use study_script::{Document, RunFault, Session, Summary, TableStore, Tables};
+use study_script::{Document, RunFault, Session, TableStore, Tables};
 use study_tablefile::PageSource;
 use study_text::write_text;
 use study_values::Values;
 use study_view::{ViewFault, write_view};
-
-/// What is told of a script, and how the run over it ended.
-#[derive(Drop)]
-pub struct Told<'a, A: Allocator> {
-    pub text: Vec<u8, &'a A>,
-    pub summary: Result<Summary, RunFault>,
-}
 
 /// The review of a script's studies, over all files of a store.
 pub fn review_of<'a, S: TableStore, A: Allocator>(
@@ -45,8 +39,9 @@ pub fn review_of<'a, S: TableStore, A: Allocator>(
     script: &[u8],
     store: &mut S,
     pages: Option<u16>,
-) -> Result<Told<'a, A>, Denial>
+) -> Result<Ended<'a, A>, Denial>
     requires { IfSome pages (λ n. (1 ≤ n) × (n ≤ 4096)) }
+    ensures own { IfOk result (λ told. IsOwnEnd told.summary) }
     ensures review { ((c : AClass) → S.honest store.old true c) → IfOk result (λ told.
         OverStore (S.headers store.old) (S.faults store.old) (IsReviewOver script.now told.text.items told.summary)) }
     ensures denied { IfErr result (IsOfTables (S.headers store.old) (S.faults store.old)) }
@@ -64,7 +59,7 @@ pub fn review_of<'a, S: TableStore, A: Allocator>(
                 Tables::Paged(tables),
                 store,
             );
-            Ok(Told { text, summary })
+            Ok(own_end(alloc, text, summary))
         }
     }
 }
@@ -193,9 +188,7 @@ fn left_by<'a, S: TableStore, A: Allocator>(
         &mut Refusals,
         &mut session,
     ) {
-        // The text in memory does not grow.
-        Err(RunFault::WriteDevice) => Err(RunFault::OutOfMemory),
-        Err(fault) => Err(fault),
+        Err(fault) => Err(own_fault(fault)),
         Ok(_) => {
             let Session {
                 document,

@@ -54,7 +54,8 @@ fn positions_in<'a, A: Allocator>(
     let mut list = Vec::new(alloc);
     for n in 0..100_000u32 {
         match line.read(&mut reader) {
-            Err(LineFault::Device) => return Err(RunFault::ReadDevice),
+            // a slice does not fail
+            Err(LineFault::Device) => return Err(RunFault::OutOfMemory),
             Err(LineFault::TooLong) => return Err(RunFault::LineTooLong(n + 1)),
             Ok(false) => return Ok(list),
             Ok(true) => {}
@@ -64,7 +65,7 @@ fn positions_in<'a, A: Allocator>(
         }
     }
     match read_byte(&mut reader) {
-        Err(_) => Err(RunFault::ReadDevice),
+        Err(_) => Err(RunFault::OutOfMemory),
         Ok(None) => Ok(list),
         Ok(Some(_)) => Err(RunFault::TooManyLines),
     }

@@ -5,7 +5,9 @@ use linked_list_allocator::LocalHeap;
 use std::alloc::{Allocator, Global};
 use std::test::Fail;
 use study_material::Class;
-use study_web::{Ended, RunFault, Span, make_file, none_saved, replies_over};
+use study_web::{
+    Ended, HandedIn, RunFault, Span, answer_into, make_file, none_saved, replies_over,
+};
 
 const LOADS: &[u8] = b"load KK
 load KRK
@@ -49,7 +51,7 @@ fn whole_and_by_pages(rt: HostRuntime) -> Result<(), Fail> {
             saved.as_slice(),
             pages,
         );
-        assert!(rt; ended.replies.as_slice() == REPLIES);
+        assert!(rt; ended.text.as_slice() == REPLIES);
     }
     Ok(())
 }
@@ -62,7 +64,7 @@ fn saves_are_given_back(rt: HostRuntime) -> Result<(), Fail> {
     let script = b"build KK\nsave KK\n".as_slice();
     let ended = replies_over(&alloc, script, &[], &[], saved.as_slice(), None);
     assert!(rt;
-        ended.replies.as_slice() == b"built KK cells 1280 win -\nsaved KK bytes 4192\n".as_slice()
+        ended.text.as_slice() == b"built KK cells 1280 win -\nsaved KK bytes 4192\n".as_slice()
     );
     let made = make_file(&alloc, Class::KK, &[], &[])?;
     let cell = saved.as_slice().first().ok_or("no cell")?;
@@ -87,11 +89,36 @@ fn memory_is_refused(rt: HostRuntime) -> Result<(), Fail> {
         let saved = Vec::new(&heap);
         let ended = replies_over(&heap, script, &[], &[], saved.as_slice(), None);
         if ended.summary.is_ok() {
-            assert!(rt; ended.replies.as_slice() == b"error NoPosition\n".as_slice());
+            assert!(rt; ended.text.as_slice() == b"error NoPosition\n".as_slice());
             assert!(rt; refused > 0);
             return Ok(());
         }
         refused = refused.saturating_add(1);
     }
     Err(Fail::from("no heap was large enough"))
+}
+
+/// The answer to a request of one line that is refused.
+const HANDED_BACK: &[u8] = b"ran 1 1\nerror NoPosition\n";
+
+/// The ending and the text are handed back, as much of both as there is room for; the length is that of both, and what lies behind is as it was.
+#[test]
+fn the_answer_is_handed_back(rt: HostRuntime) {
+    let alloc = rt.alloc();
+    let saved = Vec::new(&alloc);
+    let handed_in = HandedIn {
+        request: b"run",
+        script: b"moves root\n",
+        spans: &[],
+        bytes: &[],
+        pages: 0,
+    };
+    for room in [0usize, 5, 25, 30] {
+        let mut out = [7u8; 30];
+        let length = answer_into(&alloc, &handed_in, saved.as_slice(), &mut out[..room]);
+        assert!(rt; length == HANDED_BACK.len());
+        let (front, behind) = out.split_at(room.min(25));
+        assert!(rt; HANDED_BACK.starts_with(front), "{room}");
+        assert!(rt; behind.iter().all(|byte| *byte == 7), "{room}");
+    }
 }

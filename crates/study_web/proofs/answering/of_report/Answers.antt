@@ -1,5 +1,5 @@
 use Rattle.study_web.proofs.Printing.{printed_as, printed_denied, print_made}
-use Rattle.study_web.proofs.Shelves.{right_made, tables_made}
+use Rattle.study_web.proofs.Shelves.{tables_made}
 use Rattle.study_web.proofs.answering.of_report.Goals as goal
 
 pub returns-in-Ok : goal.returns-in-Ok
@@ -7,9 +7,8 @@ returns-in-Ok g c =
     let made = c.new-store.ensures in
     let told = c.in-Ok.told in
     printed_as c.args.spans.now c.args.bytes.now c.args.script.now told.text.items c.ran.result.text.items told.summary c.ran.result.ended
-    c.ran.ensures.text c.ran.ensures.ended
-    (λ right. print_made made.spans made.bytes made.written c.args.script.now told.text.items told.summary
-    (c.in-Ok.ensures.file (right_made made.spans made.bytes right)) right)
+    c.ran.ensures.text c.ran.ensures.ended c.in-Ok.ensures.own
+    (print_made made.spans made.bytes made.written c.args.script.now told.text.items told.summary c.in-Ok.ensures.file)
 
 pub returns-in-Err : goal.returns-in-Err
 returns-in-Err g c =

@@ -7,7 +7,7 @@ returns-in-Ok g c =
     let made = c.new-store.ensures in
     let told = c.in-Ok.told in
     reviewed_as c.args.spans.now c.args.bytes.now c.args.script.now told.text.items c.ran.result.text.items told.summary c.ran.result.ended
-    c.ran.ensures.text c.ran.ensures.ended
+    c.ran.ensures.text c.ran.ensures.ended c.in-Ok.ensures.own
     (λ right. review_made made.spans made.bytes made.written c.args.script.now told.text.items told.summary
     (c.in-Ok.ensures.review (right_made made.spans made.bytes right)) right)
 

@@ -2,5 +2,10 @@ use Rattle.study_web.proofs.answering.of_run.Goals as goal
 
 pub returns : goal.returns
 returns g c =
-    let ended = c.replies_over-ended in
-    (ended.result.summary, c.ran.ensures.ended, λ trusted right trusts. rw c.ran.ensures.text (ended.ensures trusted right trusts))
+    let ended = c.replies_over-ended in (
+      ended.result.summary,
+      c.ran.ensures.ended,
+      ended.ensures.own,
+      ended.ensures.shape,
+      λ trusted right trusts. rw c.ran.ensures.text (ended.ensures.outcome trusted right trusts),
+    )

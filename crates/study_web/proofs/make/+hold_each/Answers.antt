@@ -1,4 +1,5 @@
 use Rattle.std.proofs.Common.{◌≡◌, ◌∷◌, length, ap, rules, arith}
+use Rattle.study_web.proofs.Faults.{later_fault}
 use Rattle.study_web.proofs.Needed.{need_needed, rest_needed, rest_ascends, rest_settled}
 use Rattle.study_web.proofs.make.+hold_each.Goals as goal
 
@@ -25,3 +26,9 @@ hold_each-requires g t c κs within =
         ),
       ),
     )
+
+pub returns-in_ok-hold_needed-in-Some-clause-fault : goal.returns-in_ok-hold_needed-in-Some-clause-fault
+returns-in_ok-hold_needed-in-Some-clause-fault g t c =
+    let e : c.args.needed.now ≡ c.in-Some.need.now ∷ c.in-Some.rest.now = search rules in
+    later_fault c.hold_each.result c.args.spans.now c.args.bytes.now c.args.class c.in-Some.need.now c.in-Some.rest.now c.args.needed.now e
+    c.in_ok-hold_needed-in-Some.ensures.sound c.hold_each.ensures.fault

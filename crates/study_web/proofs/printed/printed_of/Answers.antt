@@ -1,21 +1,29 @@
-use Rattle.std.proofs.Common.{Bool, ℕ, List, Some, is_some, filter, refl, subst, sym, ◌∙◌}
+use Rattle.std.proofs.Common.{Bool, true, ℕ, List, Some, is_some, filter, refl, subst, sym, ◌∙◌}
 use Rattle.study_material.specs.declared.class.Class.{Class}
 use Rattle.study_material.specs.Class.{class_list}
 use Rattle.study_prober.specs.PagedTables.{held_of}
 use Rattle.study_print.specs.Pages.{IsFile}
 use Rattle.study_script.specs.State.{Shelf}
-use Rattle.study_web.specs.Views.{over_files}
+use Rattle.study_web.specs.Answers.{IsFileOver}
+use Rattle.study_web.specs.Views.{OverStore, over_files}
 use Rattle.study_web.proofs.Opening.{among_chosen}
+use Rattle.study_web.proofs.Unread.{own_as}
 use Rattle.study_web.proofs.printed.printed_of.Goals as goal
 
 pub returns-in-Ok-clause-file : goal.returns-in-Ok-clause-file
-returns-in-Ok-clause-file g c = λ right.
+returns-in-Ok-clause-file g c =
+    let run = c.follow_pages_over-summary in
+    let headers = g.S.TableStore.headers c.args.store.now in
+    let faults = g.S.TableStore.faults c.args.store.now in
+    own_as (λ text summary. ((d : Class) → g.S.TableStore.honest c.args.store.now true d)
+    → OverStore headers faults (IsFileOver c.args.script.now text summary))
+    c.own_end.result.text.items run.new.out.items run.result c.own_end.result.summary
+    (λ right.
     let chosen : Class → Bool = λ d. is_some (held_of c.in-Ok.tables.sources d) in
     let classes = filter chosen class_list in
     let store = c.open_tables.new.store in
     let shelf : Shelf = record { files = g.S.TableStore.files store; headers = g.S.TableStore.headers store; faults = g.S.TableStore.faults store } in
     let same = c.open_tables.ensures.faults in
-    let run = c.follow_pages_over-summary in
     let file = run.ensures.file (over_files classes shelf) (record {
       held = record {
         document = refl;
@@ -39,4 +47,5 @@ returns-in-Ok-clause-file g c = λ right.
         subst (λ (t : List ℕ). IsFile (over_files classes shelf) c.args.script.now (Some run.new.script.now) (Some t) (Some run.new.out.items) run.result)
             c.new-text.ensures.items file,
       ),
-    )
+    ))
+    c.own_end.ensures.ended

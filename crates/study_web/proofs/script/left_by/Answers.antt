@@ -1,6 +1,7 @@
-use Rattle.std.proofs.Common.{refl}
+use Rattle.std.proofs.Common.{Some, refl}
 use Rattle.study_script.specs.State.{Shelf}
 use Rattle.study_web.specs.Views.{over_files}
+use Rattle.study_web.proofs.Unread.{unread_as}
 use Rattle.study_web.proofs.script.left_by.Goals as goal
 
 pub returns-clause-left : goal.returns-clause-left
@@ -15,3 +16,8 @@ returns-clause-left g c = λ classes right held fails.
       };
     }) in
     (_, all.3.held, (all.0, all.1, refl, rw c.new-refused.ensures.items at all.2))
+
+pub returns-in-Err-clause-stops : goal.returns-in-Err-clause-stops
+returns-in-Err-clause-stops g c =
+    unread_as c.args.script.now c.in-Err.fault c.own_fault.result (Some c.follow.new.script.now, c.in-Err.ensures.shape) c.own_fault.ensures.own
+    c.own_fault.ensures.same

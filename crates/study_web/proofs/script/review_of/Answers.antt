@@ -5,6 +5,7 @@ use Rattle.study_prober.specs.PagedTables.{held_of}
 use Rattle.study_script.specs.State.{Shelf}
 use Rattle.study_web.specs.Views.{over_files}
 use Rattle.study_web.proofs.Opening.{among_chosen}
+use Rattle.study_web.proofs.Unread.{own_review}
 use Rattle.study_web.proofs.script.review_of.Goals as goal
 
 pub returns-in-Ok-clause-review : goal.returns-in-Ok-clause-review
@@ -32,5 +33,7 @@ returns-in-Ok-clause-review g c = λ right.
       λ d. rw (among_chosen chosen d) (c.in-Ok.ensures.held d),
       shelf,
       same,
-      (Some c.follow_over-summary.new.script.now, rw c.new-text.ensures.items at told),
+      own_review (over_files classes shelf) c.args.script.now c.own_end.result.text.items c.follow_over-summary.new.out.items
+          (Some c.follow_over-summary.new.script.now) c.follow_over-summary.result c.own_end.result.summary (rw c.new-text.ensures.items at told)
+          c.own_end.ensures.ended,
     )

@@ -1,9 +1,10 @@
 use Rattle.std.proofs.Common.{◌≡◌, [], Some, refl, sym, subst, arith, ◌∙◌}
-use Rattle.std.proofs.KnownBytes.{Consumes-nil, Consumes-kept}
-use Rattle.study_command.specs.Lines.{GaveFeeds, script_lines}
-use Rattle.study_command.proofs.LineTaken.{has_more, has_none, gave-more, gave-same}
-use Rattle.study_script.proofs.FirstLines.{Gone, gone_none, gone_long, gone_many, gone_more, gone_read}
+use Rattle.std.proofs.KnownBytes.{Consumes-nil}
+use Rattle.study_command.specs.Lines.{script_lines}
+use Rattle.study_command.proofs.LineTaken.{has_more, has_none, gave-more}
+use Rattle.study_script.proofs.FirstLines.{Gone, gone_none, gone_long, gone_many, gone_more}
 use Rattle.study_web.proofs.PositionsRead.{line_more, line_none, told_where_ok}
+use Rattle.study_web.proofs.Unread.{no_memory}
 use Rattle.study_web.proofs.setup.positions_in.Goals as goal
 
 pub loop-n-init : goal.loop-n-init
@@ -27,21 +28,14 @@ loop-n-preserved g c =
     )
 
 pub returns-in-Err-Device-clause-err : goal.returns-in-Err-Device-clause-err
-returns-in-Err-Device-clause-err g c =
-    let script = Some c.args.script.now in
-    let now = Some c.loop-n.reader.now in
-    let left = Some c.read.new.script.now in (
-      left,
-      gone_read left script now c.loop-n.n c.loop-n.invariant.2 (omega arith)
-          (gave-same script now left c.loop-n.n c.loop-n.invariant.1 (c.in-Err-Device.ensures.no_feed cc)),
-    )
+returns-in-Err-Device-clause-err g c = no_memory c.args.script.now
 
 pub returns-in-Err-TooLong-clause-err : goal.returns-in-Err-TooLong-clause-err
 returns-in-Err-TooLong-clause-err g c =
     let script = Some c.args.script.now in
     let now = Some c.loop-n.reader.now in
     let left = Some c.read.new.script.now in
-    (left, gone_long left script now c.loop-n.n c.loop-n.invariant.2 (c.in-Err-TooLong.ensures.long cc) c.loop-n-test.true)
+    (tt, left, gone_long left script now c.loop-n.n c.loop-n.invariant.2 (c.in-Err-TooLong.ensures.long cc) c.loop-n-test.true)
 
 pub returns-in-Ok-false-clause-ok : goal.returns-in-Ok-false-clause-ok
 returns-in-Ok-false-clause-ok g c =
@@ -63,12 +57,7 @@ returns-clause-err g c =
     let left = Some c.read_byte.new.script.now in
     let at : c.loop-n.n ≡ 100000 = omega arith in
     let gone = subst (λ k. Gone script now k) at c.loop-n.invariant.2 in
-    (left, gone_many left script now gone (has_more now left c.in-Ok-Some.field-0-0 some))
+    (tt, left, gone_many left script now gone (has_more now left c.in-Ok-Some.field-0-0 some))
 
 pub returns-in-Err-clause-err : goal.returns-in-Err-clause-err
-returns-in-Err-clause-err g c =
-    let script = Some c.args.script.now in
-    let now = Some c.loop-n.reader.now in
-    let left = Some c.read_byte.new.script.now in
-    let kept : GaveFeeds now left 0 = ([], Consumes-kept now now left [] (Consumes-nil now) c.in-Err.ensures.err, omega arith) in
-    (left, gone_read left script now c.loop-n.n c.loop-n.invariant.2 (omega arith) (gave-same script now left c.loop-n.n c.loop-n.invariant.1 kept))
+returns-in-Err-clause-err g c = no_memory c.args.script.now
