@@ -14,6 +14,10 @@ place='position k7/8/1K6/8/8/8/8/7R w - - 0 1\n'; study="${place}stipulate white
 marked="${place}stipulate White to win\nmark root win 1 - faults 0\n"
 unread() { printf '%s' "${place}error TableRead $1\nerror NoStudy\n"; }
 
+# A command line that is refused.
+(cd "$work" && timeout 60 "$program" --tables "" < /dev/null > out 2> err); expect "a folder without a name" 2 $? "" "$(cat "$work/out")" "" ""
+(cd "$work" && timeout 60 "$program" --pages 4097 < /dev/null > out 2> err); expect "too many pages" 2 $? "" "$(cat "$work/out")" "" ""
+
 # Saved by one run, loaded by others.
 run "built and saved" 0 "" "${kk}saved KK bytes 4192\n${krk}saved KRK bytes 82624\n" "build KK\nsave KK\nbuild KRK\nsave KRK\n" --tables "$tables"
 expect "sizes of files" "4192 82624" "$(echo $(stat -c %s "$tables/KK.dtm" "$tables/KRK.dtm"))" "" "" "" ""

@@ -1,8 +1,8 @@
 #!/usr/bin/env python3
 """Lists what the headline rests on, definition by definition, and counts its lines without imports,
-comments, empty lines and lines of closing brackets alone.
+comments, empty lines and lines of closing brackets alone; then what is read besides for the theorems of reports, pages and the board.
 
-It starts from the clauses that docs/THEOREM.md names, row by row (CALLS), and follows every name in them: to definitions of
+It starts from the clauses that docs/THEOREM.md names, row by row (CALLS, MORE), and follows every name in them: to definitions of
 specs/, to the types of the code (structs and enums), or, of a type that has one, to its view, which is what contracts see of it. With an argument
 it prints each name under its file; without one, a line a file."""
 import re
@@ -44,6 +44,12 @@ study_marks Bench::size size
 study_pgn write_pgn ok device memory
 study_script run outcome
 """
+# The theorems beside the headline, each read after those before it.
+MORE = {
+    "the report as lines": "study_report follow_script",
+    "the report as pages": "study_print follow_pages",
+    "the board": "study_web answer_into",
+}
 WORD = re.compile(r"[A-Za-z_][\w'\-]*")
 IMPORT = re.compile(r"\s*(?:ghost )?(?:pub )?use Rattle\.(study\w*)\.specs\.([\w.+]+?)(?:\.\{([^}]*)\}| as (\w+));?\s*$")
 ITEM = re.compile(r"(\s*)(?:abbrev |unfoldable |pub |mutual |opaque )*(?:record )?([A-Za-z_][\w'\-]*)\s*(?:[:{(]|$)")
@@ -209,8 +215,9 @@ def follow_signature(path, call):
                 visit_type(crate, word)
 
 
-def main():
-    for row in CALLS.split("\n"):
+def read(rows):
+    """Counts what these rows rest on, beside what was counted before."""
+    for row in rows.split("\n"):
         if row.strip():
             crate, call, *wanted = row.split()
             path, lines, imports = crate_sources(crate).clauses[call]
@@ -220,15 +227,29 @@ def main():
             follow(lines, imports)
             count("clauses", path, call, lines)
             follow_signature(path, call)
+
+
+def show(title, seen):
+    """Prints what was counted since `seen`, a line a file, and the sum of all."""
     sums, files = defaultdict(int), set()
     for (kind, path), (number, names) in counts.items():
         sums[kind] += number
         files.add(path)
-        if len(sys.argv) > 1:
-            print(f"{number:5}  {path}: {' '.join(names)}")
-        else:
-            print(f"{number:5}  {path}  ({kind})")
-    print(f"{sum(sums.values()):5}  in {len(files)} files: " + ", ".join(f"{number} of {kind}" for kind, number in sums.items()))
+        before, known = seen.get((kind, path), (0, []))
+        if number > before:
+            tail = ": " + " ".join(names[len(known):]) if len(sys.argv) > 1 else f"  ({kind})"
+            print(f"{number - before:5}  {path}{tail}")
+    total = sum(sums.values())
+    more = total - sum(number for number, _ in seen.values())
+    print(f"{total:5}  in {len(files)} files, {title}, {more} of them besides: " + ", ".join(f"{number} of {kind}" for kind, number in sums.items()))
+
+
+def main():
+    seen = {}
+    for title, rows in {"the headline": CALLS, **MORE}.items():
+        read(rows)
+        show(title, seen)
+        seen = {key: (number, list(names)) for key, (number, names) in counts.items()}
 
 
 main()

@@ -6,9 +6,12 @@ mod arrayvec;
 mod shim;
 mod study_board;
 mod study_index;
+mod study_levels;
 mod study_material;
 mod study_moves;
 mod study_retro;
+mod study_table;
+mod study_values;
 
 use shim::{Cells, Host};
 use std::hash::{DefaultHasher, Hash, Hasher};

@@ -60,3 +60,6 @@ impl<T, A> IndexMut<usize> for Cells<T, A> {
 pub fn never() -> ! {
     unsafe { std::hint::unreachable_unchecked() }
 }
+
+/// A device of bytes failed, of which tables in memory have none.
+pub struct DeviceFailed;

@@ -9,7 +9,7 @@ import pathlib
 import re
 import sys
 
-CRATES = ["study_board", "study_moves", "study_material", "study_index", "study_retro"]
+CRATES = ["study_board", "study_moves", "study_material", "study_values", "study_index", "study_table", "study_levels", "study_retro"]
 GHOST = re.compile(r"^\s*(requires|ensures|ghost)\b")
 
 
@@ -54,6 +54,7 @@ def as_plain(text, crate, is_root):
     text = text.replace("crate::", f"crate::{crate}::")
     for other in CRATES:
         text = re.sub(rf"(?<![:\w]){other}::", f"crate::{other}::", text)
+    text = text.replace("use study_text::DeviceFailed;", "use crate::shim::DeviceFailed;")
     text = text.replace("use arrayvec::", "use crate::arrayvec::").replace("unreachable!()", "crate::shim::never()")
     text = text.replace("use std::alloc::{AllocError, Allocator};", "use crate::shim::{AllocError, Allocator, Cells};")
     text = text.replace("use std::alloc::Allocator;", "use crate::shim::{Allocator, Cells};")
@@ -61,7 +62,7 @@ def as_plain(text, crate, is_root):
     text = text.replace("vec![in alloc; 0; count as usize]", "Ok(Cells::zeros(count as usize))")
     text = text.replace("Vec::with_capacity(alloc, ", "Cells::with_capacity(")
     if is_root:
-        text = re.sub(r"pub use (\w+)::", r"pub use self::\1::", text)
+        text = re.sub(r"pub use (?!crate::)(\w+)::", r"pub use self::\1::", text)
     return text
 
 
