@@ -1,44 +1,90 @@
 // @ts-check
-// Which table is built next: several at a time, in order. A table that needs another first says so, and waits until one more is made.
-// And which is read next.
+// Which table is built next: several at a time, in order, whoever wants them. A table that needs another first says so,
+// and waits until one more is made. How long that will take; and which table is read next.
 
+/** @typedef {{left: Set<string>, ok: () => void, no: (why: any) => void}} Want */
 /**
- * @param {string[]} names      in the order in which they can be built one after the other
  * @param {number} most      how many at a time
  * @param {(name: string) => Promise<boolean>} make      false where a table that it needs is not there yet
- * @param {(running: string[], made: number) => void} tell
- * @returns {Promise<void>}
+ * @param {(running: string[], waiting: string[], made: number) => void} tell      both lists are empty once all is made
  */
-export function buildEach(names, most, make, tell) {
-  const left = [...names], running = /** @type {Set<string>} */ (new Set()), tried = /** @type {Map<string, number>} */ (new Map());
-  let made = 0, fault = /** @type {any} */ (null);
-  return new Promise((ok, no) => {
-    /** @param {string} name */
-    function start(name) {
-      const before = made;
-      left.splice(left.indexOf(name), 1);
-      running.add(name);
-      make(name).catch(why => { fault = fault || why; return true; }).then(done => {
-        running.delete(name);
-        if (done) made++;
-        else { tried.set(name, before); left.push(name); left.sort((a, b) => names.indexOf(a) - names.indexOf(b)); }
-        go();
-      });
-    }
-    function go() {
-      if (!fault) for (const name of [...left]) if (running.size < most && tried.get(name) !== made) start(name);
-      tell([...running], made);
-      if (running.size) return;
-      if (fault) no(fault);
-      else if (left.length) no(new Error(`the table ${left[0]} could not be built`));
-      else ok();
+export function makeBuilds(most, make, tell) {
+  const running = /** @type {Set<string>} */ (new Set()), tried = /** @type {Map<string, number>} */ (new Map());
+  let waiting = /** @type {string[]} */ ([]), wants = /** @type {Want[]} */ ([]), made = 0, failed = false;
+  /** @param {string} name */
+  function start(name) {
+    const before = made;
+    waiting.splice(waiting.indexOf(name), 1);
+    running.add(name);
+    make(name).then(done => ended(name, done, before), why => { fail(why); ended(name, true, before); });
+  }
+  /**
+   * @param {string} name
+   * @param {boolean} done
+   * @param {number} before
+   */
+  function ended(name, done, before) {
+    running.delete(name);
+    if (!done) { tried.set(name, before); waiting.push(name); }
+    else {
+      made++;
+      for (const want of wants) if (want.left.delete(name) && !want.left.size) want.ok();
+      wants = wants.filter(want => want.left.size);
     }
     go();
-  });
+  }
+  /** @param {any} why */
+  function fail(why) {
+    const all = wants;
+    [waiting, wants, failed] = [[], [], true];
+    all.forEach(want => want.no(why));
+  }
+  function begin() { [made, failed] = [0, false]; tried.clear(); }
+  function go() {
+    if (failed && !running.size) begin();
+    if (!failed) for (const name of [...waiting]) if (running.size < most && tried.get(name) !== made) start(name);
+    if (!failed && !running.size && waiting.length) fail(new Error(`the table ${waiting[0]} could not be built`));
+    tell([...running], [...waiting], made);
+    if (!running.size) begin();
+  }
+  return {
+    /**
+     * Settles when all of these are made. What is asked last is begun first, since somebody waits for it now.
+     * @param {string[]} names      in the order in which they can be built one after the other
+     * @returns {Promise<void>}
+     */
+    want: names => new Promise((ok, no) => {
+      if (!names.length) return ok();
+      wants.push({ left: new Set(names), ok, no });
+      const fresh = names.filter(name => !running.has(name));
+      waiting = [...fresh, ...waiting.filter(name => !fresh.includes(name))];
+      if (!failed) go();
+    }),
+    isBusy: () => running.size > 0,
+    /** @param {string[]} names */
+    isComing: names => names.every(name => running.has(name) || waiting.includes(name)),
+  };
 }
 
 /**
- * The order in which files are read: the largest first, which takes longest; then the small ones, which are there at once; then the others by size.
+ * The seconds that builds still take: each of those that run, and those that wait one after the other where a place is
+ * free first.
+ * @param {number[]} running      what is left of each
+ * @param {number[]} waiting      what each takes
+ * @param {number} most
+ */
+export function secondsLeft(running, waiting, most) {
+  const places = [...running, ...Array(Math.max(0, most - running.length)).fill(0)];
+  for (const seconds of waiting) {
+    places.sort((x, y) => x - y);
+    places[0] += seconds;
+  }
+  return Math.max(0, ...places);
+}
+
+/**
+ * The order in which files are read: the largest first, which takes longest; then the small ones, which are there at
+ * once; then the others by size.
  * @param {string[]} names
  * @param {(name: string) => number} sizeOf
  * @param {number} small

@@ -145,9 +145,11 @@ async function judgement(d, build) {
   if (!Object.values(d.men).includes('K') || !Object.values(d.men).includes('k')) return { ...none, bad: 'each side needs exactly one king' };
   const check = await parts.core.answer('run', `position ${fen}\n`, 1);
   if (check.text.startsWith('error')) return { ...none, bad: reason(check.text.trim()) };
-  const names = await parts.shelf.classesOf([fen]);
-  if (build || Object.keys(d.men).length < 4) await parts.shelf.ready([fen]);
-  const lacking = await parts.shelf.lay(names);
+  let lacking = await parts.shelf.lacking([fen]);
+  if (lacking.length && (build || Object.keys(d.men).length < 4 || parts.shelf.isComing(lacking))) {
+    await parts.shelf.ready([fen]);
+    lacking = [];
+  }
   if (lacking.length) return { ...none, lacking };
   const view = await viewOf(`position ${fen}\nstipulate ${d.aim}\n`, 'root');
   if (typeof view === 'string') return { ...none, text: view };

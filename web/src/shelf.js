@@ -2,10 +2,11 @@
 // Tables: which a script needs, taken from where they are kept, or built in workers of their own.
 //
 // A table is taken only where its SHA-256 is that of the list: any page of file:// can write to the store.
+import { CLASSES } from './core_host.js';
 import { DIGESTS } from './digests.js';
+import { SECONDS } from './seconds.js';
 import { Stopped } from './engine.js';
-import { buildEach, readingOrder } from './schedule.js';
-import { material } from './fen.js';
+import { makeBuilds, readingOrder, secondsLeft } from './schedule.js';
 import { reason } from './words.js';
 import { joined } from './script.js';
 /** @typedef {import('./engine.js').Core} Core */
@@ -16,13 +17,15 @@ import { joined } from './script.js';
  * @param {string} digest
  */
 export const isListed = (name, digest) => DIGESTS[name] !== undefined && DIGESTS[name][1] === digest;
-const SMALL = 1000000;
+const SMALL = 1000000, MANY = 64;
+/** @param {string} name */
+const secondsOf = name => SECONDS[name] || 5;
 const STOPPED = 'Stopped. The tables that were built are kept';
 /** @param {string} name */
 const sizeOf = name => (DIGESTS[name] ? DIGESTS[name][0] : 5000000);
 
 /**
- * The words for a build that is under way.
+ * The words for builds that are under way.
  * @param {string[]} running
  * @param {number} made
  * @param {number} all
@@ -42,28 +45,38 @@ export function progressText(running, made, all, seconds, left) {
 export function makeShelf({ core, spawn, readers, store, tell }) {
   const known = /** @type {Map<string, string[]>} */ (new Map());
   const right = /** @type {Map<string, Blob>} */ (new Map());       // compared with the list in this visit: a blob never changes
-  let building = false, builders = /** @type {Core[]} */ ([]), stopped = false, rate = 250000, kept = true;
+  let builders = /** @type {Core[]} */ ([]), stops = 0, kept = true;
 
+  /** @param {string[]} fens */
+  async function ask(fens) {
+    const { text } = await core.answer('tables', joined(fens.map(fen => 'position ' + fen)), 1);
+    return text.split(/\s+/).filter(word => DIGESTS[word] !== undefined);
+  }
   /**
-   * The classes that positions need, in the order in which to build them.
+   * The classes that positions need, in the order in which to build them. Each position is asked for and kept by
+   * itself: one that is refused needs none, though another of the same men may.
    * @param {string[]} fens
    * @returns {Promise<string[]>}
    */
   async function classesOf(fens) {
-    const key = keyOf(fens), old = known.get(key);
-    if (old) return old;
-    const { text } = await core.answer('tables', joined([...new Map(fens.map(fen => [material(fen), fen])).values()].map(fen => 'position ' + fen)), 1);
-    const names = text.split(/\s+/).filter(word => DIGESTS[word] !== undefined);
-    known.set(key, names);
-    return names;
+    const fresh = [...new Set(fens)].filter(fen => !known.has(fen)), together = joined(fresh);
+    if (fresh.length > MANY) {
+      if (!known.has(together)) known.set(together, await ask(fresh));
+      return merged([...fens, together]);
+    }
+    await Promise.all(fresh.map(async fen => known.set(fen, await ask([fen]))));
+    return merged(fens);
   }
-  /** @param {string[]} fens */
-  const keyOf = fens => [...new Set(fens.map(material))].sort().join(' ');
+  /** @param {string[]} keys */
+  function merged(keys) {
+    const all = new Set(keys.flatMap(key => known.get(key) || []));
+    return CLASSES.filter(name => all.has(name));
+  }
   /**
    * The classes that positions need, as far as they were asked for before.
    * @param {string[]} fens
    */
-  const named = fens => known.get(keyOf(fens)) || [];
+  const named = fens => merged([...fens, joined([...new Set(fens)])]);
   const fetched = /** @type {Map<string, Promise<Uint8Array | null>>} */ (new Map());
   /**
    * Tables that will be wanted are read, and compared with the list, while the program starts.
@@ -95,103 +108,133 @@ export function makeShelf({ core, spawn, readers, store, tell }) {
     right.set(name, blob);
     return file.bytes;
   }
+  /** @type {WeakMap<Core, Map<string, Promise<boolean>>>} */
+  const laying = new WeakMap();
+  /**
+   * Puts a kept table into a core, once though several ask for it; false where it is not kept.
+   * @param {string} name
+   * @param {Core} into
+   */
+  function layOne(name, into) {
+    const now = laying.get(into) || new Map(), before = now.get(name);
+    laying.set(into, now);
+    const done = before || taken(name).then(async bytes => {
+      if (bytes && !into.holds(name)) await into.lay(name, bytes);
+      return bytes !== null;
+    }).finally(() => now.delete(name));
+    now.set(name, done);
+    return done;
+  }
   /**
    * Puts into a core the tables that are kept, and returns those that are missing.
    * @param {string[]} names
    * @param {Core} into
    */
   async function lay(names, into = core) {
-    const lacking = /** @type {string[]} */ ([]);
-    await Promise.all(readingOrder(names.filter(name => !into.holds(name)), sizeOf, SMALL).map(async name => {
-      const bytes = await taken(name);
-      if (!bytes) lacking.push(name);
-      else if (!into.holds(name)) await into.lay(name, bytes);
-    }));
+    const wanted = readingOrder(names.filter(name => !into.holds(name)), sizeOf, SMALL);
+    const there = await Promise.all(wanted.map(name => layOne(name, into))),
+          lacking = wanted.filter((_, i) => !there[i]);
     return names.filter(name => lacking.includes(name));
   }
-  let turn = /** @type {Promise<void>} */ (Promise.resolve()), stops = 0;
   /**
-   * Afterwards all tables of these positions are in the core; one request after the other. A stop ends the builders and the requests that wait.
+   * The tables of these positions that are not there; those that are kept are in the core afterwards.
+   * @param {string[]} fens
+   */
+  async function lacking(fens) {
+    const missing = await lay(await classesOf(fens));
+    fetched.clear();
+    return missing;
+  }
+  /**
+   * Afterwards all tables of these positions are in the core. What is there already is not waited for, whatever else is
+   * being built.
    * @param {string[]} fens
    * @returns {Promise<void>}
    */
-  function ready(fens) {
-    const before = stops, mine = turn.then(() => readyOnce(fens, before));
-    turn = mine.catch(() => {});
-    return mine;
+  async function ready(fens) {
+    const names = await classesOf(fens), missing = await lacking(fens);
+    if (!missing.length) return;
+    if (navigator.storage && navigator.storage.persist) navigator.storage.persist().catch(() => false);
+    for (const name of missing) needs.set(name, names);
+    await builds.want(missing);
+    await lay(names);
   }
+  const needs = /** @type {Map<string, string[]>} */ (new Map()),
+        began = /** @type {Map<string, number>} */ (new Map());
+  const most = Math.max(1, Math.min(3, (navigator.hardwareConcurrency || 2) - 1)),
+        builds = makeBuilds(most, build, told);
+  let first = 0, least = Infinity, ticking = 0, shown = /** @type {[string[], string[], number]} */ ([[], [], 0]),
+      pace = 1, spent = [0, 0];
+  /** @param {string} name */
+  const weight = name => pace * secondsOf(name);
   /**
-   * @param {string[]} fens
-   * @param {number} before
-   */
-  async function readyOnce(fens, before) {
-    const names = await classesOf(fens), lacking = await lay(names);
-    fetched.clear();
-    if (!lacking.length) return;
-    if (before !== stops) throw new Stopped(STOPPED);
-    stopped = false;
-    building = true;
-    await buildAll(lacking, names).finally(() => { building = false; builders = []; tell(null); });
-  }
-  /**
-   * @param {string[]} lacking
+   * How long tables will take, as words.
    * @param {string[]} names
    */
-  async function buildAll(lacking, names) {
-    if (navigator.storage && navigator.storage.persist) navigator.storage.persist().catch(() => false);
-    const most = Math.max(1, Math.min(3, (navigator.hardwareConcurrency || 2) - 1)), began = performance.now();
-    let running = /** @type {string[]} */ ([]), made = 0;
-    const done = new Set();
-    function told() {
-      const bytes = lacking.filter(name => !done.has(name)).reduce((sum, name) => sum + sizeOf(name), 0), seconds = (performance.now() - began) / 1000;
-      tell({
-        text: progressText(running, made, lacking.length, seconds, bytes / rate / Math.max(1, Math.min(most, running.length))),
-        done: made,
-        of: lacking.length
-      });
+  const estimate = names => {
+    const seconds = secondsLeft([], names.map(weight), most);
+    return seconds > 90 ? `about ${Math.round(seconds / 60)} minutes` :
+        seconds > 45 ? 'about a minute' :
+                       `about ${Math.max(5, Math.ceil(seconds / 5) * 5)} s`;
+  };
+  /**
+   * How the builds go; the time that is left is never said to be longer than before, but where more is wanted.
+   * @param {string[]} running
+   * @param {string[]} waiting
+   * @param {number} made
+   */
+  function told(running, waiting, made) {
+    const now = performance.now(), all = made + running.length + waiting.length,
+          before = shown[2] + shown[0].length + shown[1].length;
+    shown = [running, waiting, made];
+    if (!running.length) {
+      clearInterval(ticking);
+      [first, least, ticking] = [0, Infinity, 0];
+      return tell(null);
     }
-    const ticking = setInterval(told, 500);
-    try {
-      await buildEach(lacking, most, async name => {
-        const right = await build(name, names.filter(other => other !== name));
-        if (right) done.add(name);
-        return right;
-      }, (now, so) => { [running, made] = [now, so]; told(); });
-    } catch (fault) {
-      for (const builder of builders) builder.end();
-      throw stopped ? new Stopped(STOPPED) : fault;
-    } finally { clearInterval(ticking); }
+    first = first || now;
+    if (all > before) least = Infinity;
+    ticking = ticking || setInterval(() => told(...shown), 500);
+    const left = running.map(
+        name => Math.max(weight(name) / 20, weight(name) - (now - (began.get(name) || now)) / 1000));
+    least = Math.min(least, secondsLeft(left, waiting.map(weight), most));
+    tell({ text: progressText(running, made, all, (now - first) / 1000, least), done: made, of: all });
   }
   /**
    * Builds one table; false where one that it needs is not there yet.
    * @param {string} name
-   * @param {string[]} others
    */
-  async function build(name, others) {
-    const builder = spawn();
+  async function build(name) {
+    const builder = spawn(), before = stops;
     builders.push(builder);
     try {
-      await lay(others, builder);
-      const began = performance.now(), { bytes, ended } = await builder.ask('make ' + name, '', 0);
-      if (stopped) throw new Stopped('stopped');
+      await lay((needs.get(name) || []).filter(other => other !== name), builder);
+      if (before !== stops) throw new Stopped(STOPPED);
+      began.set(name, performance.now());
+      const { bytes, ended } = await builder.ask('make ' + name, '', 0);
+      if (before !== stops) throw new Stopped(STOPPED);
       const refusal = ended === 'done' ? '' : new TextDecoder().decode(bytes.slice(0, 200)).trim();
       if (/MissingTable/.test(refusal)) return false;
       if (ended !== 'done') throw new Error(`the table ${name} was not built: ${reason('error ' + (refusal || ended))}`);
-      rate = Math.max(50000, bytes.length > 1000000 ? bytes.length / ((performance.now() - began) / 1000) : rate);
+      spent = [spent[0] + (performance.now() - (began.get(name) || 0)) / 1000, spent[1] + secondsOf(name)];
+      if (spent[1] > 2) pace = spent[0] / spent[1];
       const blob = new Blob([bytes]), file = await readers.read(blob);
       if (!isListed(name, file.digest)) throw new Error(`the table ${name} is not the one of the list; the browser or the machine is faulty`);
+      right.set(name, blob);
       if (!await store.put(name, blob)) kept = false;
       await core.lay(name, file.bytes);
       return true;
+    } catch (fault) {
+      for (const other of builders) other.end();
+      throw before !== stops ? new Stopped(STOPPED) : fault;
     } finally {
       builder.end();
       builders = builders.filter(b => b !== builder);
     }
   }
   function stop() {
-    stopped = true;
     stops++;
-    for (const builder of builders) builder.end(new Stopped('stopped'));
+    for (const builder of builders) builder.end(new Stopped(STOPPED));
   }
   /**
    * Files that the user opens: those of the list are kept.
@@ -225,5 +268,19 @@ export function makeShelf({ core, spawn, readers, store, tell }) {
     const blob = new Blob([bytes]), { digest } = await readers.read(blob);
     if (isListed(name, digest) && !await store.put(name, blob)) kept = false;
   }
-  return { classesOf, named, fetchAhead, lay, ready, keep, stop, open, store, isBuilding: () => building, isKept: () => kept };
+  return {
+    classesOf,
+    named,
+    fetchAhead,
+    lay,
+    lacking,
+    ready,
+    estimate,
+    keep,
+    stop,
+    open,
+    store,
+    isBuilding: builds.isBusy,
+    isComing: builds.isComing
+  };
 }

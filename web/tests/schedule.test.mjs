@@ -1,28 +1,83 @@
-// The order of builds: over made-up needs, each table is built once, after what it needs, and never too many at a time.
+// The order of builds: over made-up needs, each table is built once, after what it needs, and never too many at a time; who wants a table does
+// not wait for those that others want. The time that is left; the order of reading.
 import test from 'node:test';
 import assert from 'node:assert/strict';
-import { buildEach, readingOrder } from '../src/schedule.js';
+import { makeBuilds, readingOrder, secondsLeft } from '../src/schedule.js';
 
 const NEEDS = { A: [], B: ['A'], C: ['A'], D: ['B', 'C'], E: ['D'], F: [] };
+const pause = ms => new Promise(on => setTimeout(on, ms));
 for (const most of [1, 2, 3, 9]) {
   test(`${most} at a time`, async () => {
     const there = new Set();
-    let running = 0, highest = 0;
-    await buildEach(Object.keys(NEEDS), most, async name => {
+    let running = 0, highest = 0, last = null;
+    const builds = makeBuilds(most, async name => {
       highest = Math.max(highest, ++running);
       const able = NEEDS[name].every(n => there.has(n));
-      await new Promise(on => setTimeout(on, able ? 3 + name.charCodeAt(0) % 5 : 1));
+      await pause(able ? 3 + name.charCodeAt(0) % 5 : 1);
       running--;
       if (able) { assert.ok(!there.has(name)); there.add(name); }
       return able;
-    }, () => {});
+    }, (now, waiting) => { last = [now, waiting]; });
+    await Promise.all([builds.want(['A', 'B', 'C', 'D']), builds.want(['A', 'C', 'D', 'E', 'F']), builds.want([])]);
     assert.equal(there.size, 6);
     assert.ok(highest <= most);
+    await pause(1);
+    assert.deepEqual(last, [[], []]);
+    assert.ok(!builds.isBusy());
   });
 }
+/** Builds that end when they are told to. */
+function held(most = 1) {
+  const begun = [], ends = new Map();
+  const builds = makeBuilds(most, name => new Promise((ok, no) => {
+    begun.push(name);
+    ends.set(name, [() => ok(true), no]);
+  }),
+      () => {});
+  return {
+    builds,
+    begun,
+    done: async name => {
+      ends.get(name)[0]();
+      await pause(0);
+    },
+    fail: async name => {
+      ends.get(name)[1](new Error(name));
+      await pause(0);
+    }
+  };
+}
+test('a small wish does not wait for the end of a large one, and what is asked last begins next', async () => {
+  const { builds, begun, done } = held(), told = [];
+  builds.want(['A', 'B', 'C', 'D']).then(() => told.push('large'));
+  builds.want(['A', 'X']).then(() => told.push('small'));
+  await done('A');
+  await done('X');
+  assert.deepEqual([begun, told], [['A', 'X', 'B'], ['small']]);
+  for (const name of ['B', 'C', 'D']) await done(name);
+  assert.deepEqual([begun, told], [['A', 'X', 'B', 'C', 'D'], ['small', 'large']]);
+});
+test('a fault ends all wishes; a later one begins anew once the other builds have ended', async () => {
+  const { builds, begun, done, fail } = held(2), first = assert.rejects(builds.want(['A', 'B', 'C']), /A/);
+  await fail('A');
+  await first;
+  const second = builds.want(['D']);
+  assert.deepEqual(begun, ['A', 'B']);
+  await done('B');
+  assert.deepEqual(begun, ['A', 'B', 'D']);
+  await done('D');
+  await second;
+});
 test('what cannot be built is told', async () => {
-  await assert.rejects(buildEach(['A', 'B'], 2, async name => name === 'A', () => {}), /B could not be built/);
-  await assert.rejects(buildEach(['A', 'B'], 2, async () => { throw new Error('a trap'); }, () => {}), /a trap/);
+  await assert.rejects(makeBuilds(2, async name => name === 'A', () => {}).want(['A', 'B']), /B could not be built/);
+  await assert.rejects(makeBuilds(2, async () => { throw new Error('a trap'); }, () => {}).want(['A', 'B']), /a trap/);
+});
+test('the seconds that are left', () => {
+  assert.equal(secondsLeft([], [], 3), 0);
+  assert.equal(secondsLeft([4, 1], [], 2), 4);
+  assert.equal(secondsLeft([4], [5, 2], 2), 6);      // 5 in the free place; 2 after the 4
+  assert.equal(secondsLeft([4, 1], [5, 2], 2), 6);      // 5 after the 1; 2 after the 4
+  assert.equal(secondsLeft([10], [10, 10], 1), 30);
 });
 test('the largest file is read first, then small ones, then the others', () => {
   const sizes = { A: 3, B: 50, C: 90, D: 1, E: 70, F: 50 };

@@ -9,6 +9,7 @@ import { readView } from '../src/replies.js';
 import { editsTo, fensOf, gameLines, gamesOf, joined, linesOf, oneGame, readScript, repliesOf, savedScript, supposed, toldBefore, toRun } from '../src/script.js';
 import { isListed, progressText } from '../src/shelf.js';
 import { DIGESTS } from '../src/digests.js';
+import { SECONDS } from '../src/seconds.js';
 
 const text = name => readFileSync(new URL('./data/' + name, import.meta.url), 'utf8');
 /** A gallery script with the replies that an independent program gives. */
@@ -155,5 +156,7 @@ test('the list of tables', () => {
   assert.equal(Object.keys(DIGESTS).length, 36);
   assert.ok(isListed('KK', DIGESTS.KK[1]));
   assert.ok(!isListed('KK', DIGESTS.KQK[1]) && !isListed('KKR', ''));
+  assert.equal(Object.keys(SECONDS).length, 36);
+  assert.ok(Object.keys(DIGESTS).every(name => SECONDS[name] > 0));
   assert.equal(progressText(['KRKP'], 10, 11, 12.4, 61), 'Building the table KRKP · 11 of 11 · 12 s, about 60 s left. It is done once, and kept.');
 });
