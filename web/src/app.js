@@ -2,7 +2,7 @@
 // What is done to the document, one action after the other.
 import { arrived, decided, factsOf, linesToRun, lookAround, repliesTo, viewAhead, viewOf } from './answers.js';
 import { advance, redo as redone, replace, undo as undone } from './past.js';
-import { editsTo, fensOf, joined, readScript, repliesOf, wordsOf } from './script.js';
+import { editsTo, fensOf, isEdit, joined, overLimit, readScript, repliesOf, wordsOf } from './script.js';
 import { nodeAt } from './replies.js';
 import { Stopped } from './engine.js';
 import { app, doc, parts, say } from './state.js';
@@ -51,11 +51,16 @@ function told(fault, where) {
  * @returns {Promise<Script>}
  */
 export async function evaluate(lines) {
+  const limit = overLimit(lines);
+  if (limit) throw notRun(limit);
   const { sent, texts } = await linesToRun(lines), { text, ended } = await repliesTo(joined(texts));
-  if (/^(LineTooLong|TooManyLines)/.test(ended)) throw new Stopped(`Refused: ${endedReason(ended)}. Nothing was changed`);
+  if (ended === 'TooManyLines') throw notRun(ended);
   if (ended !== 'done') throw new Error(endedReason(ended));
   return readScript(lines, sent, repliesOf(texts, text).slice(texts.length - sent.length));
 }
+
+/** @param {string} ended */
+const notRun = ended => new Stopped(`Refused: ${endedReason(ended)}. Nothing was changed`);
 
 const changing = /** @type {Set<Promise<any>>} */ (new Set());
 /** Settles when all that was asked for before is done. */
@@ -100,7 +105,8 @@ async function changed(make, where, note = '') {
   if (wanted.lines === now.lines) return look(wanted.at, wanted.path === 'made' ? undefined : wanted.path);
   viewAhead(now, wanted).catch(() => {});
   const next = await evaluate(wanted.lines);
-  const fresh = next.refused.find(r => !now.refused.some(o => o.text === r.text && o.reply === r.reply));
+  const known = (/** @type {import('./types.js').Refused} */ r) => now.refused.some(o => o.text === r.text && o.reply === r.reply);
+  const fresh = next.refused.find(r => isEdit(r.text) && !known(r));
   if (fresh && !wanted.lenient) {
     const subject = /^ *insert/.test(fresh.text) ? wordsOf(fresh.text)[2] : '';
     say(where, subject ? `${subject}: ${reason(fresh.reply)}.` : `Refused: ${brokenMove(fresh.reply) || reason(fresh.reply)}.`);

@@ -32,7 +32,8 @@ export const fensOf = lines => lines.filter(line => /^ *(position|shift) /.test(
 /** @param {string} line */
 export const isGame = line => /^ *pgn *$/.test(line);
 /**
- * The edits of a script and its `pgn` lines, with one more `pgn` at the end of each study that has none after its last edit.
+ * All lines of a script, as they are saved, with one more `pgn` at the end of each study that has none after its last
+ * edit.
  * @param {string[]} lines
  * @returns {Sent[]}
  */
@@ -40,19 +41,29 @@ export function toRun(lines) {
   const sent = /** @type {Sent[]} */ ([]);
   let begun = false, untold = false;
   lines.forEach((text, line) => {
-    const game = isGame(text) && begun, position = wordsOf(text)[0] === 'position';
-    if (!isEdit(text) && !game) return;
+    const position = wordsOf(text)[0] === 'position';
     if (position && untold) sent.push({ text: 'pgn', line: -1 });
     begun = begun || position;
-    untold = begun && !game;
-    sent.push({ text: game ? 'pgn' : text, line });
+    if (isEdit(text)) untold = begun;
+    else if (isGame(text)) untold = false;
+    sent.push({ text, line });
   });
   if (untold) sent.push({ text: 'pgn', line: -1 });
   return sent;
 }
+const MOST_BYTES = 1024, MOST_LINES = 100000;
+/**
+ * Why studybench would not read a script to its end, as its run would say it; else nothing.
+ * @param {string[]} lines
+ */
+export function overLimit(lines) {
+  const long = lines.findIndex(
+      line => line.length > MOST_BYTES / 3 && new TextEncoder().encode(line).length > MOST_BYTES);
+  return long >= 0 ? `LineTooLong ${long + 1}` : lines.length > MOST_LINES ? 'TooManyLines' : '';
+}
 
 /**
- * One reply for each line, that of an accepted `pgn` its whole text.
+ * One reply for each line: none for a remark, the whole text for a `pgn` that was accepted.
  * @param {string[]} lines
  * @param {string} text
  */
@@ -60,6 +71,7 @@ export function repliesOf(lines, text) {
   const rows = text.split('\n');
   let at = 0;
   return lines.map(line => {
+    if (isSilent(line)) return '';
     if (wordsOf(line)[0] !== 'pgn' || (rows[at] || '').startsWith('error ')) return rows[at++] || '';
     const from = at;
     for (let empty = 0; empty < 2 && at < rows.length;) if (rows[at++] === '') empty++;
@@ -76,7 +88,9 @@ export function repliesOf(lines, text) {
 export function readScript(lines, sent, replies) {
   const script = /** @type {Script} */ ({ lines, studies: [], refused: [] });
   const carried = /** @type {Carried} */ ({ aim: null, tags: {} });
-  sent.forEach((s, i) => take(script, carried, s, replies[i] || 'error NoReply'));
+  sent.forEach((s, i) => {
+    if (!isSilent(s.text) && !isTableLine(s.text)) take(script, carried, s, replies[i] || 'error NoReply');
+  });
   script.studies.forEach((study, i) => { study.end = script.studies[i + 1] ? script.studies[i + 1].from : lines.length; });
   return script;
 }
@@ -103,15 +117,14 @@ export function supposed(lines) {
 function take(script, carried, { text, line }, reply) {
   const [command, name] = wordsOf(text), study = script.studies[script.studies.length - 1];
   if (reply.startsWith('error ')) {
-    if (line >= 0 && command !== 'pgn') script.refused.push({ line, text, reply });
+    if (line >= 0) script.refused.push({ line, text, reply });
   } else if (command === 'position') {
     script.studies.push(begun(line, reply.slice(9), carried));
   } else if (study && command === 'pgn') {
     if (line >= 0 || !study.told) study.games.push(reply);
     Object.assign(study, { pgn: reply, verdict: openingOf(reply).verdict, told: true });
-  } else {
-    if (study) study.told = false;
-    if (study) study.last = Math.max(line, study.last);
+  } else if (isEdit(text)) {
+    if (study) Object.assign(study, { told: false, last: Math.max(line, study.last) });
     if (command === 'tag') carry(carried, study, name, text.trim().replace(/^tag +\w+ +/, ''), line);
     else if (command === 'stipulate') stipulated(carried, study, reply, line);
     else if (study && command === 'shift') study.fen = reply.slice(6);

@@ -6,7 +6,7 @@ import * as edits from '../src/edits.js';
 import { advance, begin, redo, undo } from '../src/past.js';
 import { fromPgn } from '../src/pgn.js';
 import { readView } from '../src/replies.js';
-import { editsTo, fensOf, gameLines, gamesOf, joined, linesOf, oneGame, readScript, repliesOf, savedScript, supposed, toldBefore, toRun } from '../src/script.js';
+import { editsTo, fensOf, gameLines, gamesOf, joined, linesOf, oneGame, overLimit, readScript, repliesOf, savedScript, supposed, toldBefore, toRun } from '../src/script.js';
 import { isListed, progressText } from '../src/shelf.js';
 import { DIGESTS } from '../src/digests.js';
 import { SECONDS } from '../src/seconds.js';
@@ -50,10 +50,31 @@ test('studies, verdicts and refused lines', () => {
   assert.equal(gallery('knnk_no_forced_mate').script.refused.length, 7);
   assert.ok(games('saavedra_1895') >= 1);
 });
-test('what is run has a game behind each study', () => {
-  const sent = toRun(['build KK', 'position A', '', 'stipulate white win', '# note', 'pgn', 'position B', 'insert root Kb2']).map(s => s.text);
-  assert.deepEqual(sent, ['position A', 'stipulate white win', 'pgn', 'position B', 'insert root Kb2', 'pgn']);
+test('what is run is the script as it is saved, with a game behind each study', () => {
+  const lines = [
+    'build KK', 'position A', '', 'stipulate white win', '# note', 'pgn', 'mark root', 'position B', 'insert root Kb2',
+    'mark 0'
+  ];
+  assert.deepEqual(toRun(lines).map(s => s.text), [...lines, 'pgn']);
+  assert.deepEqual(toRun(['position A', 'stipulate white win', 'position B']).map(s => s.text),
+      ['position A', 'stipulate white win', 'pgn', 'position B', 'pgn']);
   assert.deepEqual(fensOf([' position  8/8 w', 'shift 7/8 b', 'tag Event position 1']), ['8/8 w', '7/8 b']);
+});
+test('a remark has no reply, and a question that is refused is listed', () => {
+  const lines = ['# Réti', 'position A', '', 'stipulate white win', 'mark 0', 'insert root Kb2'], sent = toRun(lines);
+  const replies =
+      'position 8/8/8/8/8/8/8/8 w - - 0 1\nstipulate White to win\nerror NoSuchNode\ninsert 0 Kb2\n[Event "?"]\n\n{White to win: sound, draw} *\n\n';
+  const script = readScript(lines, sent, repliesOf(sent.map(s => s.text), replies));
+  assert.deepEqual(script.refused, [{ line: 4, text: 'mark 0', reply: 'error NoSuchNode' }]);
+  assert.deepEqual([script.studies[0].last, script.studies[0].verdict], [5, 'sound']);
+});
+test('what studybench would not read to its end', () => {
+  const bytes = n => '#' + 'a'.repeat(n - 1);
+  assert.equal(overLimit(['position A', bytes(1024), '']), '');
+  assert.equal(overLimit(['position A', bytes(1025)]), 'LineTooLong 2');
+  assert.equal(overLimit(['#' + 'é'.repeat(511), '#' + 'é'.repeat(512)]), 'LineTooLong 2');
+  assert.equal(overLimit(Array(100000).fill('#')), '');
+  assert.equal(overLimit(Array(100001).fill('#')), 'TooManyLines');
 });
 test('a script whose lines are all accepted is as it was supposed to be', () => {
   for (const name of ['saavedra_1895', 'reti_1921']) {
@@ -67,11 +88,14 @@ test('a study that is told more than once', () => {
   const lines = ['position A', 'stipulate white win', 'pgn', 'stipulate white mate 26', 'position B', 'stipulate white draw', 'insert root Kb2', 'pgn',
     'mark root'];
   const sent = toRun(lines);
-  assert.deepEqual(sent.map(s => s.text), [...lines.slice(0, 4), 'pgn', ...lines.slice(4, 8)]);
+  assert.deepEqual(sent.map(s => s.text), [...lines.slice(0, 4), 'pgn', ...lines.slice(4)]);
   assert.deepEqual(sent.filter(s => s.text === 'pgn').map(s => s.line), [2, -1, 7]);
   const game = text => `[Event "?"]\n\n{${text}, draw} *\n\n`;
-  const replies = ['position 8/8/8/8/8/8/8/8 w - - 0 1', 'stipulate White to win', game('White to win: wrong'), 'stipulate White to mate 26',
-    game('White to mate in 26: wrong'), 'position 8/8/8/8/8/8/8/8 w - - 0 1', 'stipulate White to draw', 'insert 0 Kb2', game('White to draw: sound')];
+  const replies = [
+    'position 8/8/8/8/8/8/8/8 w - - 0 1', 'stipulate White to win', game('White to win: wrong'),
+    'stipulate White to mate 26', game('White to mate in 26: wrong'), 'position 8/8/8/8/8/8/8/8 w - - 0 1',
+    'stipulate White to draw', 'insert 0 Kb2', game('White to draw: sound'), 'mark root draw - faults 0'
+  ];
   const script = readScript(lines, sent, replies);
   assert.deepEqual(script.studies.map(s => [s.verdict, s.games.length, toldBefore(s)]), [['wrong', 2, ['White to win: wrong']], ['sound', 1, []]]);
   assert.equal(gamesOf(script), replies.filter(r => r.startsWith('[')).join(''));
