@@ -1,7 +1,9 @@
 // @ts-check
-// What the user does, as a change of the script's lines. Each function gives the lines to be run; the program takes or refuses them.
+// What the user does, as a change of the script's lines. Each function gives the lines to be run; the program takes or
+// refuses them.
 import { aimWords } from './words.js';
 import { TAGS, isEdit, oneGame, wordsOf } from './script.js';
+import { squareName } from './fen.js';
 import { nodeAt, written } from './replies.js';
 /** @typedef {import('./types.js').Study} Study @typedef {import('./types.js').Change} Change @typedef {import('./types.js').TreeNode} TreeNode */
 
@@ -19,8 +21,19 @@ const spliced = (lines, at, gone, ...more) => [...lines.slice(0, at), ...more, .
  */
 const appended = (lines, study, ...more) => spliced(lines, study.last + 1, 0, ...more);
 
+/** @param {string} san */
+const plain = san => san.replace(/[+#!?=x]/g, '');
 /**
- * The moves one below the other, from a node on; what is there already is walked.
+ * Whether a text means a move of the tree: its own text, or both of its squares, as `c6c7` and `Kb6b7`.
+ * @param {TreeNode} node
+ * @param {string} text
+ */
+const isMove = (node, text) => plain(node.san) === plain(text) ||
+    (node.from >= 0 &&
+        squareName(node.from) + squareName(node.to) + node.promoted === plain(text).replace(/^[KQRBN]/, ''));
+/**
+ * The moves one below the other, from a node on; what is there already is walked. What stands in brackets begins where
+ * the move before it does.
  * @param {string[]} lines
  * @param {Study} study
  * @param {TreeNode} root
@@ -29,15 +42,17 @@ const appended = (lines, study, ...more) => spliced(lines, study.last + 1, 0, ..
  * @returns {Change}
  */
 export function insertMoves(lines, study, root, path, sans) {
-  let node = nodeAt(root, path), at = path;
-  const more = [];
+  const more = /** @type {string[]} */ ([]), made = /** @type {Map<string, string[]>} */ (new Map()),
+        outer = /** @type {[string, string][]} */ ([]);
+  let at = path, before = path;
   for (const san of sans) {
-    const plain = (/** @type {string} */ s) => s.replace(/[+#!?=x]/g, '');
-    const there = node ? node.children.findIndex(c => plain(c.san) === plain(san)) : -1;
-    const place = there >= 0 ? there : node ? node.children.length : 0;
-    if (there < 0) more.push(`insert ${at} ${san}`);
-    node = node && there >= 0 ? node.children[there] : null;
-    at = at === 'root' ? `${place}` : `${at}.${place}`;
+    if (san === '(') { outer.push([at, before]); at = before; continue; }
+    if (san === ')') { [at, before] = outer.pop() || [at, before]; continue; }
+    const node = nodeAt(root, at), old = node ? node.children : [], fresh = made.get(at) || [];
+    const there = old.findIndex(c => isMove(c, san)), again = fresh.findIndex(text => plain(text) === plain(san));
+    const place = there >= 0 ? there : old.length + (again >= 0 ? again : fresh.length);
+    if (there < 0 && again < 0) { more.push(`insert ${at} ${san}`); made.set(at, [...fresh, san]); }
+    [before, at] = [at, at === 'root' ? `${place}` : `${at}.${place}`];
   }
   return { lines: more.length ? appended(lines, study, ...more) : lines, path: at };
 }
@@ -92,11 +107,27 @@ export const stipulate = (lines, study, words) => ({ lines: setLine(lines, study
 export const unknown = name => (name === 'Date' ? '????.??.??' : '?');
 /** @param {string | undefined} text */
 export const isKnown = text => text !== undefined && !/^[?.]*$/.test(text);
+const MONTHS = 'jan feb mar apr may jun jul aug sep oct nov dec'.split(' ');
 /**
- * A year, or a year and a month, as PGN writes a date of which no more is known.
+ * A date as PGN writes it, of which year, month and day are known, or not all: `1895`, `1921-05`, `12 May 1921`, `May
+ * 1921`, `12.5.1921`. What is no date is left as it is.
  * @param {string} text
  */
-export const wholeDate = text => (/^\d{4}$/.test(text) ? text + '.??.??' : /^\d{4}\.\d\d$/.test(text) ? text + '.??' : text);
+export function wholeDate(text) {
+  const named = /^(?:(\d{1,2})\.?\s+)?([a-z]{3,9})\.?\s+(?:(\d{1,2}),?\s+)?(\d{4})$/i.exec(text);
+  const parts = named ?
+      [named[4], `${MONTHS.indexOf(named[2].slice(0, 3).toLowerCase()) + 1}`, named[1] || named[3] || ''] :
+      /^(\d{4})(?:[-./](\d{1,2}))?(?:[-./](\d{1,2}))?$/.exec(text)?.slice(1) ||
+          /^(\d{1,2})\.\s?(\d{1,2})\.\s?(\d{4})$/.exec(text)?.slice(1).reverse();
+  if (!parts) return text;
+  const [year, month = '', day = ''] = parts,
+                                 right = (/** @type {string} */ n, /** @type {number} */ most) => !n ||
+      (Number(n) >= 1 && Number(n) <= most);
+  if (!right(month, 12) || !right(day, 31)) return text;
+  return [year, month, day].map((n, i) => n && n.padStart(i ? 2 : 4, '0') || '??').join('.');
+}
+/** @param {string} text */
+export const isDate = text => /^([\d?]{4})\.(0[1-9]|1[0-2]|\?\?)\.(0[1-9]|[12]\d|3[01]|\?\?)$/.test(text);
 /**
  * Text without accents, as a tag can hold it.
  * @param {string} text

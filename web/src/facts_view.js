@@ -140,8 +140,12 @@ function defenceView(s, n, d) {
   if (!aim) return null;
   const wins = aim.goal !== 'draw' && winner(after, d.value) === aim.hero;
   const long = wins && n.children.length > 0 && d.value.n >= Math.max(...n.children.map(c => c.value.n));
-  const [sans, title] = d.count === 1 ? [[d.san, d.answer], `add ${d.san} with its only answer ${d.answer}`] : [[d.san], `add ${d.san}`];
-  return add(n.path, sans, [h('b', {}, d.san), h('sub', {}, valueSign(aim.hero, after, d.value)), long && '†'], title);
+  const [sans, what] = d.count === 1 ? [[d.san, d.answer], `add ${d.san} with its only answer ${d.answer}`] :
+                                       [[d.san], `add ${d.san}`];
+  const title = `${d.san}: ${valueText(after, d.value)}${long ? ', as long as the longest that is given' : ''}; ${
+      what}`;
+  return add(
+      n.path, sans, [h('b', {}, d.san), h('sub', {}, valueSign(aim.hero, after, d.value)), long && '†'], title, true);
 }
 /**
  * @param {Review} review

@@ -4,7 +4,7 @@ import { h } from './dom.js';
 import { gbr, numbered, other, sideOf } from './fen.js';
 import { app, change, go, parts, say } from './app.js';
 import { insert } from './board.js';
-import { isKnown, setTag, stipulate, wholeDate, withoutAccents } from './edits.js';
+import { isDate, isKnown, setTag, stipulate, wholeDate, withoutAccents } from './edits.js';
 import { nodeAt, written } from './replies.js';
 import { guess } from './setup.js';
 import { kept, promote, remove } from './node_view.js';
@@ -58,7 +58,6 @@ const tagView = (name, text) => [h('label', { for: 'tag' + name
                                  }, LABELS[name], LABELS[name] !== name && h('small', {}, ' ' + name)), h('input', {
                                    id: 'tag' + name,
                                    value: kept('tag' + name, isKnown(text) ? text : ''),
-                                   maxlength: 60,
                                    autocomplete: 'off',
                                    placeholder: name === 'Date' ? '2026.11.24' : '',
                                    onchange: (/** @type {any} */ e) => tagged(name, e.target.value.trim())
@@ -70,6 +69,11 @@ const tagView = (name, text) => [h('label', { for: 'tag' + name
  */
 async function tagged(name, typed) {
   const plain = withoutAccents(typed), text = name === 'Date' ? wholeDate(plain) : plain, before = app.history;
+  if (name === 'Date' && text && !isDate(text)) {
+    say('head', `${typed}: a date is a year, or a year, a month and a day, as 1921 or 1921.05.12.`);
+    Object.assign(app.say || {}, { field: 'tagDate', typed });
+    return parts.show();
+  }
   await change(now => (now.studies[now.at] ? setTag(now.lines, now.studies[now.at], name, text) : null), 'head');
   if (app.history === before && app.say) Object.assign(app.say, { field: 'tag' + name, typed });
   else if (plain !== typed) say('head', `Written without accents, as ${text}: the texts are plain letters.`, true);
@@ -173,12 +177,14 @@ function lineTo(n) {
  * @param {string[]} sans
  * @param {any} label
  * @param {string} [title]
+ * @param {boolean} [named]      whether the title is its name for a screen reader too
  */
-export const add = (path, sans, label, title) =>
+export const add = (path, sans, label, title, named = false) =>
     h('button', {
       type: 'button',
       class: 'chip add',
       title: title || `put ${sans.join(' ')} into the tree`,
+      'aria-label': named && title,
       'data-path': path,
       'data-sans': sans.join(' '),
       onclick: () => insert(path, sans)

@@ -1,11 +1,12 @@
 // @ts-check
 // Below the board: the way through the tree, and the legal moves of the node by what each leaves.
 import { button, h } from './dom.js';
-import { control, other, sideOf } from './fen.js';
+import { control, other, sideOf, squareName } from './fen.js';
 import { app, change, doc, go, node, parts, say } from './app.js';
 import { flip, insert } from './board.js';
 import { promoteNode, removeNode } from './edits.js';
 import { openSetup } from './setup.js';
+import { typedMoves as movesIn } from './typed.js';
 import { counted, markMeaning, moveName, valueSign, valueText } from './words.js';
 /** @typedef {import('./types.js').TreeNode} TreeNode @typedef {import('./types.js').Move} Move @typedef {import('./types.js').Study} Study */
 
@@ -48,11 +49,18 @@ export function navView(n) {
   button('Promote', 'this move one place up among its variations', () => promote(n), { id: 'promote', disabled: !up || up.children[0] === n }),
   button('Set up', 'change the position', () => openSetup(false), { id: 'setUp' })];
 }
+/**
+ * Both squares of a move that is written with them, as `c7c8Q`.
+ * @param {string | undefined} san
+ */
+const squares = san => (san || '').replace(/^[KQRBN]|[+#!?=x]/g, '');
 /** @param {string} text */
 async function typedMoves(text) {
-  const sans = text.replace(/\d+\.+/g, ' ').trim();
-  if (!sans) return;
-  await insert(doc().path, sans.split(/ +/));
+  const sans = movesIn(text), [first] = sans,
+        named = app.view &&
+      app.view.moves.find(m => squareName(m.from) + squareName(m.to) + m.promoted === squares(first));
+  if (!sans.length) return;
+  await insert(doc().path, named ? [named.san, ...sans.slice(1)] : sans);
   if (app.say) { Object.assign(app.say, { field: 'san', typed: text }); parts.show(); }
 }
 /** @param {string} path */
@@ -116,6 +124,13 @@ function chip(s, n, m) {
     mistake: s.aim && sideOf(n.fen) === s.aim.hero ? 'lets the aim go' : 'gives the aim back'
   }[m.mark];
   const title = [`${m.san}: ${valueText(after, m.value)}`, meaning, there && 'in the tree'].filter(Boolean).join('; ');
-  return h('button', { type: 'button', class: `chip m ${m.mark}${there ? ' in' : ''}`, 'data-san': m.san, title, onclick: () => insert(n.path, [m.san]) },
-    m.san, h('b', {}, sign), s.aim && h('sub', {}, valueSign(s.aim.hero, after, m.value)));
+  return h('button', {
+    type: 'button',
+    class: `chip m ${m.mark}${there ? ' in' : ''}`,
+    'data-san': m.san,
+    title,
+    'aria-label': title,
+    onclick: () => insert(n.path, [m.san])
+  },
+      m.san, h('b', {}, sign), s.aim && h('sub', {}, valueSign(s.aim.hero, after, m.value)));
 }

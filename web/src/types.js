@@ -14,6 +14,7 @@
  * @property {string} san
  * @property {number} from         squares count from a1, b1 .. h8; -1 at the root
  * @property {number} to
+ * @property {string} promoted     the letter of the man that a pawn becomes
  * @property {Value} value
  * @property {string} mark
  * @property {number} duals

@@ -10,6 +10,7 @@ import { editsTo, fensOf, gameLines, gamesOf, joined, linesOf, oneGame, overLimi
 import { isListed, progressText } from '../src/shelf.js';
 import { DIGESTS } from '../src/digests.js';
 import { SECONDS } from '../src/seconds.js';
+import { typedMove, typedMoves } from '../src/typed.js';
 
 const text = name => readFileSync(new URL('./data/' + name, import.meta.url), 'utf8');
 /** A gallery script with the replies that an independent program gives. */
@@ -104,7 +105,24 @@ test('a study that is told more than once', () => {
   assert.deepEqual(oneGame(['pgn', '# a', 'pgn', '']), ['# a', 'pgn', '']);
 });
 test('dates as PGN writes them', () => {
-  assert.deepEqual(['1895', '1895.05', '1895.05.01', 'May 1895', '?'].map(edits.wholeDate), ['1895.??.??', '1895.05.??', '1895.05.01', 'May 1895', '?']);
+  const dates = {
+    1895: '1895.??.??',
+    '1895.05': '1895.05.??',
+    '1895.05.01': '1895.05.01',
+    '1921-05': '1921.05.??',
+    '1921-5-2': '1921.05.02',
+    '12 May 1921': '1921.05.12',
+    'May 1895': '1895.05.??',
+    'September 3, 1950': '1950.09.03',
+    '12.5.1921': '1921.05.12',
+    '3. Sept 1950': '1950.09.03'
+  };
+  for (const [text, date] of Object.entries(dates)) assert.equal(edits.wholeDate(text), date, text);
+  assert.ok([...Object.values(dates), '????.??.??'].every(edits.isDate));
+  for (const text of ['?', 'spring 1921', '1921.13', '40 May 1921', '21', 'today']) {
+    assert.equal(edits.wholeDate(text), text);
+    assert.ok(!edits.isDate(text), text);
+  }
 });
 const view = readView(text('saavedra_1895.views').split(/^# view .*\n/m)[1]);
 const START = ['position 8/8/1KP5/3r4/8/8/8/k7 w - - 0 1', 'stipulate white win', 'tag White A', 'insert root c7', 'insert root Kb7', 'pgn'];
@@ -129,6 +147,40 @@ test('moves are put in below one another, and walked where they stand', () => {
   assert.equal(walked.lines, START);
   assert.equal(walked.path, '0.0');
   assert.deepEqual(edits.insertMoves(START, study, view.root, 'root', ['c7', 'Kb2']).lines.slice(5), ['insert 0 Kb2', 'pgn']);
+});
+test('moves by both squares, and variations in brackets', () => {
+  assert.equal(edits.insertMoves(START, study, view.root, 'root', ['c6c7', 'Rd5d6']).lines, START);
+  const added = edits.insertMoves(
+      START, study, view.root, 'root', ['c7', '(', 'Ka7', 'Rd7', '(', 'Rd8', ')', ')', 'Rd6+', 'Kb5']);
+  const last = view.root.children.length;
+  assert.deepEqual(added.lines.slice(5), [`insert root Ka7`, `insert ${last} Rd7`, `insert ${last} Rd8`, 'pgn']);
+  assert.equal(added.path, '0.0.0');
+});
+test('moves as books write them', () => {
+  const moves = {
+    'Kb6-b7': 'Kb6b7',
+    kb7: 'Kb7',
+    'Td6+': 'Rd6+',
+    'c7-c8D': 'c7c8=Q',
+    'c8(Q)': 'c8=Q',
+    Sf3: 'Nf3',
+    Lxe4: 'Bxe4',
+    Dd8: 'Qd8',
+    exd6: 'exd6',
+    bxc3: 'bxc3',
+    b4: 'b4',
+    Kb7: 'Kb7',
+    'c8=S': 'c8=N',
+    'O-O': 'O-O',
+    rd1: 'Rd1',
+    Nfe4: 'Nfe4',
+    'Kc2!?': 'Kc2!?'
+  };
+  for (const [typed, san] of Object.entries(moves)) assert.equal(typedMove(typed), san, typed);
+  assert.deepEqual(typedMoves('1. c7 (1.Kb7 Td6) 1... Rd6+ 2. Kb6-b5 dxc6 e.p.'),
+      ['c7', '(', 'Kb7', 'Rd6', ')', 'Rd6+', 'Kb6b5', 'dxc6']);
+  assert.deepEqual(typedMoves(' 3. '), []);
+  assert.deepEqual(typedMoves('zzz'), ['zzz']);
 });
 test('the newest move goes with its line, another by a line', () => {
   const at = path => ({ path, parent: { path: 'root' } });
