@@ -18,9 +18,9 @@ export * from './state.js';
  */
 export function opened(before) {
   const refused = doc().refused.length, place = before.studies.length ? 'This script has taken the place of the one before; Undo brings that back.' : '';
-  if (app.say || !(refused || place)) return;
+  if (app.say || !(refused || place || doc().note)) return;
   const lines = refused ? `${counted(refused, 'line')} of this script ${refused === 1 ? 'was' : 'were'} refused; they are listed below the study. ` : '';
-  say('board', lines + place, !refused);
+  say('board', lines + (doc().note && `${doc().note} `) + place, !refused && !doc().note);
   parts.show();
 }
 
@@ -114,8 +114,8 @@ async function changed(make, where, note = '') {
   }
   const at = Math.max(0, Math.min(wanted.at === undefined ? now.at : wanted.at, next.studies.length - 1)), made = next.studies[at] && next.studies[at].made;
   const path = wanted.path === 'made' ? (made ? made.path : 'root') : wanted.path === undefined ? now.path : wanted.path;
-  const name = wanted.name === undefined ? now.name : wanted.name;
-  await arrive(advance(app.history, { ...next, at, path, name }), note ? { where, text: note, good: false } : null);
+  const { name = now.name, note: lost = now.note } = wanted;
+  await arrive(advance(app.history, { ...next, at, path, name, note: lost }), note ? { where, text: note, good: false } : null);
 }
 /**
  * The move that a shift would break, by its name.

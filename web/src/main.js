@@ -46,9 +46,9 @@ parts.shelf = makeShelf({ core: parts.core, spawn, readers, store, tell: p => { 
 parts.show = show;
 parts.showFacts = showFacts;
 parts.showJudged = showJudged;
-parts.keep = ({ lines, at, path, name }) => {
+parts.keep = ({ lines, at, path, name, note }) => {
   const tables = parts.shelf.named(fensOf(lines));
-  $('unkept').hidden = remember('studyboard', JSON.stringify({ script: lines.join('\n'), at, path, name, tables }));
+  $('unkept').hidden = remember('studyboard', JSON.stringify({ script: lines.join('\n'), at, path, name, note, tables }));
 };
 /**
  * @param {string} key
@@ -183,10 +183,10 @@ document.addEventListener('keydown', e => {
 });
 
 // ---- the beginning
-/** @returns {{script: string, at: number, path: string, name: string, tables: string[]}} */
+/** @returns {{script: string, at: number, path: string, name: string, note: string, tables: string[]}} */
 function keptDoc() {
   const kept = recalled('studyboard') || '';
-  try { return JSON.parse(kept); } catch { return { script: kept, at: 0, path: 'root', name: '', tables: [] }; }
+  try { return JSON.parse(kept); } catch { return { script: kept, at: 0, path: 'root', name: '', note: '', tables: [] }; }
 }
 async function openHash() {
   const m = /[#&]script=([^&]*)/.exec(location.hash);
@@ -206,7 +206,7 @@ async function start() {
   if (lines.some(line => line.trim())) {
     showBoard();
     put('head', h('p', { class: 'note', role: 'status' }, 'Opening your study …'));
-    await change(() => ({ lines, at: kept.at, path: kept.path, name: kept.name || '', lenient: true }), 'board');
+    await change(() => ({ lines, at: kept.at, path: kept.path, name: kept.name || '', note: kept.note || '', lenient: true }), 'board');
     // Where the program did not run at all the script is shown as it is, and can be saved.
     app.history = { ...app.history, past: [], now: doc().lines.length ? doc() : { ...doc(), lines } };
   }

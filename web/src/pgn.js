@@ -2,10 +2,25 @@
 // A game text as lines of a script: tags, the stipulation of the comment that we write ourselves, moves with their variations.
 import { TAGS } from './script.js';
 import { isKnown, unknown, withoutAccents } from './edits.js';
+import { counted } from './words.js';
 
 /** @param {string} text */
 export const looksLikePgn = text => /^\s*\[\w+ "/.test(text.replace(/^\ufeff/, ''));
 
+const COMMENT = /\{[^}]*\}|;[^\n]*/g;
+/**
+ * The games that have a FEN.
+ * @param {string} text
+ */
+const gamesIn = text => text.replace(/\r\n?/g, '\n').split(/^(?=\[Event )/m).filter(game => tagsOf(game).FEN);
+/**
+ * @param {string} game
+ * @returns {Record<string, string>}
+ */
+const tagsOf = game => Object.fromEntries(
+    [...game.matchAll(/^\[(\w+) "((?:[^"\\]|\\.)*)"\]/gm)].map(m => [m[1], m[2].replace(/\\(.)/g, '$1')]));
+/** @param {string} game */
+const bodyOf = game => game.replace(/^\[\w+ ".*\]$/gm, '');
 /**
  * The lines of each game that has a FEN; none where there is none.
  * @param {string} text
@@ -13,10 +28,8 @@ export const looksLikePgn = text => /^\s*\[\w+ "/.test(text.replace(/^\ufeff/, '
  */
 export function fromPgn(text) {
   const lines = /** @type {string[]} */ ([]), used = new Set();
-  for (const game of text.replace(/\r\n?/g, '\n').split(/^(?=\[Event )/m)) {
-    const tags = Object.fromEntries([...game.matchAll(/^\[(\w+) "((?:[^"\\]|\\.)*)"\]/gm)].map(m => [m[1], m[2].replace(/\\(.)/g, '$1')]));
-    if (!tags.FEN) continue;
-    const body = game.replace(/^\[.*\]$/gm, '');
+  for (const game of gamesIn(text)) {
+    const tags = tagsOf(game), body = bodyOf(game);
     lines.push('position ' + tags.FEN, 'stipulate ' + aimOf(tags, body));
     for (const name of TAGS) {
       const value = withoutAccents(tags[name] || '').slice(0, 60).trim();
@@ -36,6 +49,37 @@ function aimOf(tags, body) {
   if (aim) return `${aim[1].toLowerCase()} ${aim[2]}${aim[3] ? ' ' + aim[3] : ''}`;
   if (tags.Result === '1/2-1/2') return `${/ b /.test(tags.FEN) ? 'black' : 'white'} draw`;
   return tags.Result === '0-1' ? 'black win' : 'white win';
+}
+// What the program writes of a study itself, so that it is there again.
+const VERDICT = '(?:(?:White|Black) to (?:win|draw|mate in \\d+): [^,{}]*, )?';
+const OWN = new RegExp(`^\\{${VERDICT}(?:draw|mate|(?:White|Black) mates in \\d+)(?:; dual \\d+)?\\}$`);
+const MADE = new Set([...TAGS, 'FEN', 'SetUp', 'Result']);
+/**
+ * What a script has no place for: comments, symbols and tags of the games that were read; nothing where all is kept.
+ * @param {string} text
+ */
+export function notKept(text) {
+  const lost = { comments: 0, symbols: 0, tags: 0, accents: 0, long: 0 };
+  for (const game of gamesIn(text)) {
+    const tags = tagsOf(game), body = bodyOf(game),
+          comments = (body.match(COMMENT) || []).map(c => c.replace(/\s+/g, ' '));
+    const own = comments.length > 0 && / to .*: /.test(comments[0]) && OWN.test(comments[0]),
+          signs = body.replace(COMMENT, ' ').match(/\$\d+|[!?]+(?=[\s)]|$)/g) || [];
+    lost.comments += comments.filter(c => !own || !OWN.test(c)).length;
+    lost.symbols += signs.filter(sign => !own || !/^\$[14]$/.test(sign)).length;
+    lost.tags += Object.keys(tags).filter(name => !MADE.has(name)).length;
+    for (const value of TAGS.map(name => (tags[name] || '').trim())) {
+      if (withoutAccents(value) !== value) lost.accents++;
+      if (withoutAccents(value).length > 60) lost.long++;
+    }
+  }
+  const words = [
+    [lost.comments, 'comment'], [lost.symbols, 'symbol'], [lost.tags, 'tag'], [lost.accents, 'accented text'],
+    [lost.long, 'end of a text of more than 60 letters', 'ends of texts of more than 60 letters']
+  ];
+  const list = words.filter(([n]) => n).map(([n, one,
+    many]) => counted(Number(n), String(one), many ? String(many) : undefined));
+  return list.length ? `Not kept of this PGN: ${list.join(', ')}.` : '';
 }
 /** @typedef {{san: string, kids: Kid[], path: string}} Kid */
 /** @param {string} body */

@@ -196,7 +196,8 @@ export async function takeOver(how) {
         lines: addStudy(d.more ? now.lines : [], fen, d.aim, d.more ? now.studies[now.studies.length - 1] : undefined),
         at: d.more ? now.studies.length : 0,
         path: 'root',
-        name: d.more ? now.name : ''
+        name: d.more ? now.name : '',
+        note: d.more ? now.note : ''
       };
     return how === 'shift' ? shiftTo(now.lines, s, fen, d.aim) : replacePosition(now.lines, s, fen, d.aim);
   }, 'fen');

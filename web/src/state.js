@@ -7,7 +7,7 @@ import { nodeAt } from './replies.js';
 
 export const PAGES = 1000;
 /** @type {Doc} */
-const blank = { lines: [], studies: [], refused: [], at: 0, path: 'root', name: '' };
+const blank = { lines: [], studies: [], refused: [], at: 0, path: 'root', name: '', note: '' };
 
 /**
  * @type {{history: import('./past.js').History<Doc>, view: import('./types.js').View | null, noView: string,

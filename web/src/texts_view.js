@@ -6,7 +6,7 @@ import { app, change, doc, goStudy, opened, parts, say } from './app.js';
 import { dropStudy, isKnown, tidy } from './edits.js';
 import { table } from './facts_view.js';
 import { told } from './head_view.js';
-import { fromPgn, looksLikePgn } from './pgn.js';
+import { fromPgn, looksLikePgn, notKept } from './pgn.js';
 import { linesOf, toldBefore } from './script.js';
 import { aimText, counted, reason } from './words.js';
 /** @typedef {import('./types.js').Study} Study */
@@ -17,7 +17,13 @@ let unrun = /** @type {{text: string, lines: string[]} | null} */ (null);
 /** @param {Study | undefined} s */
 export function textsView(s) {
   const many = doc().studies.length > 1;
-  return [doc().refused.length > 0 && refusedView(), many && [h('h2', {}, 'Studies of this script'), studiesView()], s && s.pgn && pgnView(s), scriptView(s)];
+  return [
+    doc().note &&
+        h('p', { class: 'note', id: 'notKept' },
+            `${doc().note} Save PGN writes ${doc().name || 'a file of another name'}${doc().name && '.pgn'}.`),
+    doc().refused.length > 0 && refusedView(), many && [h('h2', {}, 'Studies of this script'), studiesView()],
+    s && s.pgn && pgnView(s), scriptView(s)
+  ];
 }
 /** @param {Study} s */
 const pgnView = s => h('details', { open: open.pgn, id: 'pgnBox', ontoggle: (/** @type {any} */ e) => { open.pgn = e.target.open; } }, h('summary', {}, 'PGN'),
@@ -59,7 +65,7 @@ function scriptView(s) {
  * @param {string} name      of its file
  */
 export async function openText(text, where = 'script', name = '') {
-  const lines = looksLikePgn(text) ? fromPgn(text) : linesOf(text);
+  const pgn = looksLikePgn(text), lines = pgn ? fromPgn(text) : linesOf(text), note = pgn ? notKept(text) : '';
   if (!lines.length && text.trim()) {
     say(where, 'No game with a FEN was found in this text. Nothing was changed.');
     if (where === 'script') Object.assign(app.say || {}, { field: 'script', typed: text });
@@ -67,9 +73,10 @@ export async function openText(text, where = 'script', name = '') {
   }
   const same = where === 'script' && $('script') && lines.length > 0, before = doc();
   app.setup = null;
-  const file = name.replace(/\.\w+$/, '');
+  const stem = name.replace(/\.\w+$/, ''), file = stem && pgn ? stem.replace(/\.checked$/, '') + '.checked' : stem;
   await change(now => ({
     lines,
+    note: pgn || where !== 'script' ? note : now.note,
     name: where === 'script' ? now.name : file,
     at: same ? now.at : 0,
     path: same && lines.length === now.lines.length ? now.path : 'root',

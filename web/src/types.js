@@ -59,9 +59,11 @@
  *
  * @typedef {{line: number, text: string, reply: string}} Refused
  * @typedef {{lines: string[], studies: Study[], refused: Refused[]}} Script
- * @typedef {Script & {at: number, path: string, name: string}} Doc      with the study and the node that are looked at, and its file's name
+ * @typedef {Script & {at: number, path: string, name: string, note: string}} Doc
+ *   with the study and the node that are looked at, its file's name, and what was not kept of its file
  *
- * @typedef {{lines: string[], at?: number, path?: string, name?: string, lenient?: boolean}} Change
+ * @typedef {{lines: string[], at?: number, path?: string, name?: string, note?: string,
+ *   lenient?: boolean}} Change
  *   lines to run; then the study and the node to look at, where `made` is the node just made; `lenient` takes refused lines too
  *
  * @typedef {{text: string, ended: string}} Answer
