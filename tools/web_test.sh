@@ -3,8 +3,9 @@
 #
 #   tools/web_test.sh [--short] [TABLES]
 #
-# TABLES has the files of tables that tools/all_tables.sh builds; without it only what needs none is tried. --short: one study by mouse, and 20
-# scripts. STUDYBOARD names another page than web/out/studyboard.html; SHOTS a folder for pictures; STUDYBENCH the native program.
+# TABLES has the files of tables that tools/all_tables.sh builds; without it only what needs none is tried. --short: one
+# study by mouse, 20 scripts, and that nothing is lost; tables of two and three men are enough for it. STUDYBOARD names
+# another page than web/out/studyboard.html; SHOTS a folder for pictures; STUDYBENCH the native program.
 top=$(cd "$(dirname "$0")/.." && pwd); short=; [ "$1" = --short ] && { short=1; shift; }
 tables=${1:-}; page=${STUDYBOARD:-$top/web/out/studyboard.html}; python=${PYTHON:-/usr/bin/python3}; status=0
 say() { echo "tools/web_test.sh: $1"; }
@@ -28,8 +29,11 @@ cd "$top/web/tests/browser" || exit 1
 if [ -n "$short" ]; then
     try "$python" gallery.py "$tables" kpk_opposition
     try "$python" scripts.py "$tables" 20
+    try "$python" kept.py "$tables"
 else
     try "$python" page.py "$tables"
+    try "$python" kept.py "$tables"
+    try "$python" screen.py "$tables"
     try "$python" gallery.py "$tables"
     try "$python" monkey.py "$tables" 1 300
     try "$python" scripts.py "$tables" 200

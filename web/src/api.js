@@ -85,7 +85,7 @@ export function makeApi(spawn) {
      * Opens a script in the board; undo brings the old one back.
      * @param {string} script
      */
-    open: script => openText(script, 'board'),
+    open: async script => { await openText(script, 'board'); await idle(); },
     /** The script that is shown. */
     script: () => doc().lines.join('\n') + '\n',
     /** The lines of the study that is looked at, alone, and the path of its node. */

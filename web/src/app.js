@@ -5,7 +5,9 @@ import { advance, redo as redone, replace, undo as undone } from './past.js';
 import { editsTo, fensOf, isEdit, joined, overLimit, readScript, repliesOf, wordsOf } from './script.js';
 import { nodeAt } from './replies.js';
 import { Stopped } from './engine.js';
-import { app, doc, parts, say } from './state.js';
+import { freshId } from './keep.js';
+import { app, blank, doc, parts, say } from './state.js';
+import { unjudged } from './unmarked.js';
 import { counted, endedReason, moveName, reason } from './words.js';
 export { viewOf } from './answers.js';
 export * from './state.js';
@@ -17,7 +19,9 @@ export * from './state.js';
  * @param {Doc} before
  */
 export function opened(before) {
-  const refused = doc().refused.length, place = before.studies.length ? 'This script has taken the place of the one before; Undo brings that back.' : '';
+  const refused = doc().refused.length,
+        place = before.studies.length ? 'The document before is kept: Undo brings it back, and Documents lists it.' :
+                                        '';
   if (app.say || !(refused || place || doc().note)) return;
   const lines = refused ? `${counted(refused, 'line')} of this script ${refused === 1 ? 'was' : 'were'} refused; they are listed below the study. ` : '';
   say('board', lines + (doc().note && `${doc().note} `) + place, !refused && !doc().note);
@@ -51,16 +55,22 @@ function told(fault, where) {
  * @returns {Promise<Script>}
  */
 export async function evaluate(lines) {
-  const limit = overLimit(lines);
-  if (limit) throw notRun(limit);
+  readable(lines);
   const { sent, texts } = await linesToRun(lines), { text, ended } = await repliesTo(joined(texts));
   if (ended === 'TooManyLines') throw notRun(ended);
   if (ended !== 'done') throw new Error(endedReason(ended));
   return readScript(lines, sent, repliesOf(texts, text).slice(texts.length - sent.length));
 }
-
 /** @param {string} ended */
 const notRun = ended => new Stopped(`Refused: ${endedReason(ended)}. Nothing was changed`);
+/**
+ * A script that studybench would not read to its end is not taken.
+ * @param {string[]} lines
+ */
+function readable(lines) {
+  const limit = overLimit(lines);
+  if (limit) throw notRun(limit);
+}
 
 const changing = /** @type {Set<Promise<any>>} */ (new Set());
 /** Settles when all that was asked for before is done. */
@@ -74,8 +84,13 @@ export async function idle() {
  * @param {string} where
  * @returns {Promise<boolean>} whether it was done
  */
-export function change(make, where = 'board') {
-  const done = changeOnce(make, where);
+export const change = (make, where = 'board') => counting(changeOnce(make, where));
+/**
+ * What is under way, until it is done.
+ * @template T
+ * @param {Promise<T>} done
+ */
+export function counting(done) {
   changing.add(done);
   return done.finally(() => changing.delete(done));
 }
@@ -87,35 +102,74 @@ async function changeOnce(make, where) {
   const first = make(doc()), before = app.history;
   if (!first) return false;
   decided();
-  let note = '';
-  try { await parts.shelf.ready(fensOf(first.lines)); } catch (fault) {
-    if (!first.lenient) { told(fault, where); return false; }
-    note = /** @type {Error} */ (fault).message + '. Without its tables a study is not judged.';
-  }
-  await work(() => changed(make, where, note), where);
+  try {
+    const lacking = first.lines === doc().lines ? [] : await parts.shelf.lacking(fensOf(first.lines));
+    if (lacking.length && (first.lenient || !doc().judged)) {
+      await work(() => unmarked(make), where);
+      return app.history !== before;
+    }
+    if (lacking.length) await tablesFor(first.lines, lacking, where);
+  } catch (fault) { told(fault, where); return false; }
+  await work(() => changed(make, where), where);
   return app.history !== before;
+}
+/**
+ * What is asked for waits until its tables are built, and says so.
+ * @param {string[]} lines
+ * @param {string[]} lacking
+ * @param {string} where
+ */
+async function tablesFor(lines, lacking, where) {
+  say(where, `This waits for the ${lacking.length === 1 ? 'table' : 'tables'} ${lacking.join(' ')}.`, true);
+  parts.show();
+  await parts.shelf.ready(fensOf(lines));
+}
+/**
+ * Lines whose tables lack stand there at once, unmarked; they are judged when the tables are there.
+ * @param {(doc: Doc) => Change | null} make
+ */
+async function unmarked(make) {
+  const now = doc(), wanted = make(now);
+  if (!wanted) return;
+  readable(wanted.lines);
+  await arrive(advance(app.history, docAfter(now, wanted, unjudged(wanted.lines), false)));
+}
+/**
+ * @param {Doc} now
+ * @param {Change} wanted
+ * @param {Script} script
+ * @param {boolean} judged
+ * @returns {Doc}
+ */
+function docAfter(now, wanted, script, judged) {
+  const at = Math.max(0, Math.min(wanted.at === undefined ? now.at : wanted.at, script.studies.length - 1)),
+        made = script.studies[at] && script.studies[at].made;
+  const path = wanted.path === 'made' ? (made ? made.path : 'root') :
+      wanted.path === undefined       ? now.path :
+                                        wanted.path;
+  const { name = now.name, note = now.note, id = now.id || freshId() } = wanted;
+  return { ...script, at, path, name, note, id, judged };
 }
 /**
  * @param {(doc: Doc) => Change | null} make
  * @param {string} where
  */
-async function changed(make, where, note = '') {
+async function changed(make, where) {
   const now = doc(), wanted = make(now);
   if (!wanted) return;
   if (wanted.lines === now.lines) return look(wanted.at, wanted.path === 'made' ? undefined : wanted.path);
   viewAhead(now, wanted).catch(() => {});
-  const next = await evaluate(wanted.lines);
-  const known = (/** @type {import('./types.js').Refused} */ r) => now.refused.some(o => o.text === r.text && o.reply === r.reply);
-  const fresh = next.refused.find(r => isEdit(r.text) && !known(r));
-  if (fresh && !wanted.lenient) {
-    const subject = /^ *insert/.test(fresh.text) ? wordsOf(fresh.text)[2] : '';
-    say(where, subject ? `${subject}: ${reason(fresh.reply)}.` : `Refused: ${brokenMove(fresh.reply) || reason(fresh.reply)}.`);
+  const script = await evaluate(wanted.lines),
+        newly = script.refused.find(
+            r => isEdit(r.text) && !now.refused.some(o => o.text === r.text && o.reply === r.reply));
+  if (newly && !wanted.lenient && now.judged) {
+    const subject = /^ *insert/.test(newly.text) ? wordsOf(newly.text)[2] : '';
+    say(where,
+        subject ? `${subject}: ${reason(newly.reply)}.` :
+                  `Refused: ${brokenMove(newly.reply) || reason(newly.reply)}.`);
     return parts.show();
   }
-  const at = Math.max(0, Math.min(wanted.at === undefined ? now.at : wanted.at, next.studies.length - 1)), made = next.studies[at] && next.studies[at].made;
-  const path = wanted.path === 'made' ? (made ? made.path : 'root') : wanted.path === undefined ? now.path : wanted.path;
-  const { name = now.name, note: lost = now.note } = wanted;
-  await arrive(advance(app.history, { ...next, at, path, name, note: lost }), note ? { where, text: note, good: false } : null);
+  await arrive(advance(app.history, docAfter(now, wanted, script, true)));
 }
 /**
  * The move that a shift would break, by its name.
@@ -156,13 +210,56 @@ export const undo = () => step(undone);
 export const redo = () => step(redone);
 
 /**
+ * A state that the program has not read yet is read, if its tables are there; else it is shown as its lines have it.
+ * @param {import('./past.js').History<Doc>} history
+ */
+async function read(history) {
+  const now = history.now;
+  if (now.judged) return history;
+  const here = !(await parts.shelf.lacking(fensOf(now.lines))).length;
+  if (here) viewAhead({ ...now, studies: [] }, { lines: now.lines, at: now.at, path: now.path }).catch(() => {});
+  const script = here ? await evaluate(now.lines) : unjudged(now.lines);
+  return replace(
+      history, {...now, ...script, at: Math.max(0, Math.min(now.at, script.studies.length - 1)), judged: here });
+}
+/** The document whose builds were stopped or failed, and why: they are not begun again by each change. */
+let halted = { id: '', why: '' };
+/**
+ * Its tables are built, and then it is judged.
+ * @param {Doc} now
+ */
+function judgeLater({ lines, id }) {
+  const mine = () => doc().lines === lines && !doc().judged;
+  const failed = (/** @type {Error} */ fault) => {
+    halted = { id, why: `${fault.message}. Without its tables a study is not judged` };
+    if (!mine()) return;
+    app.noView = halted.why;
+    parts.show();
+  };
+  const built = async () => {
+    if (!mine()) return;
+    await arrive(app.history, app.say);
+    if (!doc().refused.length) return;
+    app.say = null;
+    opened(blank);
+  };
+  counting(parts.shelf.ready(fensOf(lines)).then(() => work(() => built().catch(failed)), failed));
+}
+/** A document that was not judged, since its tables lacked, is tried again. */
+export function judgeAgain() {
+  halted = { id: '', why: '' };
+  return work(() => arrive(app.history));
+}
+/**
  * A new state is shown once all is there that is shown of it; its facts come after.
- * @param {import('./past.js').History<Doc>} next
+ * @param {import('./past.js').History<Doc>} wanted
  * @param {Say | null} note
  */
-async function arrive(next, note = null) {
-  const s = next.now.studies[next.now.at], text = s ? joined(editsTo(next.now.lines, s)) : '', stamp = ++app.stamp;
-  let view = s ? await viewOf(text, next.now.path) : null;
+export async function arrive(wanted, note = null) {
+  const stamp = ++app.stamp;
+  let next = await read(wanted);
+  const s = next.now.studies[next.now.at], text = s ? joined(editsTo(next.now.lines, s)) : '', judged = next.now.judged;
+  let view = s && judged ? await viewOf(text, next.now.path) : null;
   if (typeof view === 'string' && next.now.path !== 'root') {
     next = replace(next, { ...next.now, path: 'root' });
     view = await viewOf(text, 'root');
@@ -172,13 +269,14 @@ async function arrive(next, note = null) {
     chosen: null,
     say: note,
     view: typeof view === 'string' ? null : view,
-    noView: typeof view === 'string' ? view : '',
+    noView: typeof view === 'string' ? view : judged || halted.id !== next.now.id ? '' : halted.why,
     review: null,
     noReview: ''
   });
   arrived();
   if (app.view && s && s.aim) factsOf(text, s.fen, stamp);
-  parts.keep(doc());
+  parts.keep();
   parts.show();
   if (app.view) lookAround(text, stamp);
+  if (!judged && !app.noView) judgeLater(next.now);
 }

@@ -112,6 +112,7 @@ export function showBoard() {
   $('board').replaceChildren(board);
   if (focused) board.focus({ preventScroll: true });
 }
+export const focusBoard = () => $('board').firstChild.focus({ preventScroll: true });
 export function flip() { app.flip = !app.flip; showBoard(); }
 
 // ---- fingers
@@ -139,7 +140,8 @@ function pressed(e) {
   const letter = menOf(shownFen())[s];
   const d = app.setup;
   if (d) {
-    const there = d.survey && d.man !== null && d.survey.some(t => t.to === s) ? d.men[d.man] : '';
+    const there = d.survey && d.man !== null ? d.men[d.man] :
+                                               '';  // while its squares are shown, a press moves this man
     if (letter) hold = { from: s, letter, at: [e.clientX, e.clientY] };
     else if (there) moveDraft(d.man, s, there, true);
     else placeAt(s);
@@ -280,7 +282,7 @@ export function setupKey(e) {
     return true;
   }
   if (/^[kqrbnpKQRBNP]$/.test(e.key) && d.cursor !== null) { placeAt(d.cursor, e.key); tell(`${manName(e.key)} ${squareName(d.cursor)}`); return true; }
-  if (/^(Delete|Backspace| |Enter)$/.test(e.key) && d.cursor !== null) {
+  if (/^(Delete|Backspace| )$/.test(e.key) && d.cursor !== null) {
     if (e.key === 'Delete' || e.key === 'Backspace') { removeAt(d.cursor); tell(`${squareName(d.cursor)} empty`); } else placeAt(d.cursor);
     return true;
   }

@@ -2,7 +2,7 @@
 // The head of a study - title, stipulation, tags - and its verdict with the faults, each with what mends it.
 import { h } from './dom.js';
 import { gbr, numbered, other, sideOf } from './fen.js';
-import { app, change, go, parts, say } from './app.js';
+import { app, change, go, judgeAgain, parts, say } from './app.js';
 import { insert } from './board.js';
 import { isDate, isKnown, setTag, stipulate, wholeDate, withoutAccents } from './edits.js';
 import { nodeAt, written } from './replies.js';
@@ -112,14 +112,33 @@ export function aimView(aim, done, id) {
 /** @param {Study} s */
 export function verdictView(s) {
   const view = app.view;
-  if (!view) return h('p', { class: 'say' }, `This study is not judged: ${app.noView || 'nothing was told'}.`, lackingTables());
+  if (!view) return notJudged();
   if (!s.aim || !view.verdict) return h('p', { class: 'say' }, 'No stipulation yet: choose who is to win or to draw.');
-  const heroic = written(view.root).some(n => n.parent && s.aim && sideOf(n.parent.fen) === s.aim.hero), faults = app.review ? app.review.faults : [];
-  const empty = app.review ? app.review.empty : !heroic;
+  const heroic = written(view.root).some(n => n.parent && s.aim && sideOf(n.parent.fen) === s.aim.hero),
+        empty = app.review ? app.review.empty : !heroic;
   return [
     h('p', {class: 'verdict'}, h('span', {class: 'stamp ' + view.verdict.split(' ')[0], id: 'stamp'}, view.verdict),
       h('span', {id: 'sentence'}, verdictSentence(view, empty))),
-    beforeView(s),
+    beforeView(s)
+  ];
+}
+/** Why there are no marks: tables are on their way, or something failed. */
+function notJudged() {
+  if (!app.noView)
+    return h('p', { class: 'note', role: 'status', id: 'unjudged' },
+        'Not judged yet: its tables are being built. The marks come then, and the board follows the moves.');
+  return h('p', { class: 'say', id: 'unjudged' }, `This study is not judged: ${app.noView}. `,
+      / table|ables /.test(app.noView) &&
+          h('button', { type: 'button', class: 'chip act', id: 'buildNow', onclick: judgeAgain }, 'Build the tables'));
+}
+/**
+ * The faults, each with what mends it.
+ * @param {Study} s
+ */
+export function mendView(s) {
+  const view = app.view, faults = app.review ? app.review.faults : [];
+  if (!view || !s.aim || !view.verdict) return null;
+  return [
     faults.length > 0 && h('ul', {class: 'faults'}, faults.slice(0, 40).map(f => h('li', {}, faultView(s, view.root, f)))), timeView(s, view.root),
     adviceView(s)
   ];
@@ -134,12 +153,6 @@ function beforeView(s) {
     before.length === 1 ? 'one more game' : `${before.length} more games`, ' of it: ', h('b', {}, before.join('; ')), '. Save PGN and Save report include ',
     before.length === 1 ? 'it.' : 'them.');
 }
-const lackingTables = () => / table /.test(app.noView) && [
-  ' ',
-  h('button',
-    {type: 'button', class: 'chip act', id: 'buildNow', onclick: () => change(now => ({lines: [...now.lines], lenient: true, path: 'root'}), 'head')},
-    'Build the tables')
-];
 /**
  * Names of moves that more than one node of the tree has.
  * @type {WeakMap<TreeNode, Set<string>>}

@@ -1,13 +1,15 @@
 // @ts-check
 // The beginning: workers, what was kept, the bar, files and keys.
-import { $, download, h, put } from './dom.js';
+import { $, download } from './dom.js';
 import { makeApi } from './api.js';
-import { PAGES, app, change, doc, go, goStudy, node, parts, redo, say, study, undo, work } from './app.js';
-import { closeChoice, flip, listen, setupKey, showBoard } from './board.js';
+import { PAGES, app, arrive, counting, doc, goStudy, judgeAgain, parts, say, study, work } from './app.js';
+import { listen, showBoard } from './board.js';
+import { firstDocument, holdLock, keep, local } from './documents.js';
+import { close, openDocuments } from './documents_view.js';
 import { makeCore } from './engine.js';
-import { endOf, remove } from './node_view.js';
-import { fensOf, gameLines, gamesOf, joined, linesOf, savedScript } from './script.js';
-import { closeSetup, judge, openSetup } from './setup.js';
+import { back, forth, listenToKeys } from './keys.js';
+import { fensOf, gameLines, gamesOf, joined, savedScript } from './script.js';
+import { begin, closeSetup, judge, openSetup } from './setup.js';
 import { makeReaders } from './readers.js';
 import { makeShelf } from './shelf.js';
 import { show, showFacts, showJudged, showProgress, watch } from './show.js';
@@ -46,17 +48,7 @@ parts.shelf = makeShelf({ core: parts.core, spawn, readers, store, tell: p => { 
 parts.show = show;
 parts.showFacts = showFacts;
 parts.showJudged = showJudged;
-parts.keep = ({ lines, at, path, name, note }) => {
-  const tables = parts.shelf.named(fensOf(lines));
-  $('unkept').hidden = remember('studyboard', JSON.stringify({ script: lines.join('\n'), at, path, name, note, tables }));
-};
-/**
- * @param {string} key
- * @param {string} text
- */
-function remember(key, text) { try { localStorage.setItem(key, text); return true; } catch { return false; } }
-/** @param {string} key */
-function recalled(key) { try { return localStorage.getItem(key); } catch { return null; } }
+parts.keep = keep;
 
 // ---- files
 /**
@@ -82,6 +74,7 @@ const openTables = files => work(async () => {
       !bad.length);
   show();
   if (app.setup) judge();
+  if (!doc().judged) judgeAgain();
 });
 /** Those that the script needs, else all that are kept, as downloads one after the other. */
 const saveTables = () => work(async () => {
@@ -105,6 +98,10 @@ const on = (id, act) => $(id).addEventListener('click', act);
 on('new', () => openSetup(true));
 on('more', () => openSetup(true, true));
 on('open', () => $('file').click());
+on('documentsButton', openDocuments);
+document.addEventListener('pointerdown', e => {
+  if (!(/** @type {Element} */ (e.target).closest('#documents, #documentsButton'))) close();
+});
 on('openTables', () => $('tableFiles').click());
 on('saveTables', saveTables);
 on('saveScript', () => work(async () => {
@@ -124,8 +121,8 @@ const saveReport = () => work(async () => {
   show();
 });
 on('saveReport', saveReport);
-on('undo', undo);
-on('redo', redo);
+on('undo', back);
+on('redo', forth);
 on('stop', () => parts.shelf.stop());
 on('theme', () => theme(!document.documentElement.classList.contains('dark')));
 on('before', () => goStudy(doc().at - 1));
@@ -139,7 +136,10 @@ $('studies').addEventListener('change', (/** @type {any} */ e) => {
 $('file').addEventListener('change', (/** @type {any} */ e) => { openFile(e.target.files[0]); e.target.value = ''; });
 $('tableFiles').addEventListener('change', (/** @type {any} */ e) => { const files = [...e.target.files]; e.target.value = ''; openTables(files); });
 /** @param {boolean} dark */
-function theme(dark, keep = true) { document.documentElement.classList.toggle('dark', dark); if (keep) remember('studyboardDark', dark ? '1' : ''); }
+function theme(dark, kept = true) {
+  document.documentElement.classList.toggle('dark', dark);
+  if (kept) try { local.setItem('studyboardDark', dark ? '1' : ''); } catch { /* for this visit */ }
+}
 document.addEventListener('dragover', e => { e.preventDefault(); document.body.classList.add('dropping'); });
 document.addEventListener('dragleave', () => document.body.classList.remove('dropping'));
 document.addEventListener('drop', e => {
@@ -149,45 +149,7 @@ document.addEventListener('drop', e => {
   if (tables.length) openTables(tables); else openFile(files[0]);
 });
 
-// ---- keys
-/** @param {number} d */
-function neighbour(d) {
-  const n = node(), row = n && n.parent ? n.parent.children : [], m = n ? row[row.indexOf(n) + d] : null;
-  if (m) go(m.path);
-}
-/** @type {Record<string, (n: import('./types.js').TreeNode) => any>} */
-const KEYS = {
-  ArrowLeft: n => n.parent && go(n.parent.path),
-  ArrowRight: n => n.children[0] && go(n.children[0].path),
-  ArrowUp: () => neighbour(-1),
-  ArrowDown: () => neighbour(1),
-  Home: () => go('root'),
-  End: n => go(endOf(n).path),
-  Delete: n => remove(n.path),
-  Backspace: n => remove(n.path),
-  m: () => $('san').focus(),
-  PageUp: () => goStudy(doc().at - 1),
-  PageDown: () => goStudy(doc().at + 1),
-};
-document.addEventListener('keydown', e => {
-  const target = /** @type {Element} */ (e.target), ctrl = e.ctrlKey || e.metaKey, n = node();
-  if (/INPUT|TEXTAREA|SELECT/.test(target.tagName)) return;
-  if (ctrl && /^[zy]$/i.test(e.key)) { e.preventDefault(); return void (e.key.toLowerCase() === 'y' || e.shiftKey ? redo() : undo()); }
-  if (setupKey(e)) return e.preventDefault();
-  if (e.key === 'Escape') { closeChoice(); app.chosen = null; return showBoard(); }
-  if (ctrl || e.altKey || target.closest('.choose')) return;
-  if (e.key === 'f') { e.preventDefault(); return flip(); }
-  if (app.setup || !n || !KEYS[e.key] || (/^Page/.test(e.key) && doc().studies.length < 2)) return;
-  e.preventDefault();
-  KEYS[e.key](n);
-});
-
 // ---- the beginning
-/** @returns {{script: string, at: number, path: string, name: string, note: string, tables: string[]}} */
-function keptDoc() {
-  const kept = recalled('studyboard') || '';
-  try { return JSON.parse(kept); } catch { return { script: kept, at: 0, path: 'root', name: '', note: '', tables: [] }; }
-}
 async function openHash() {
   const m = /[#&]script=([^&]*)/.exec(location.hash);
   if (!m) return false;
@@ -198,21 +160,23 @@ async function openHash() {
   return true;
 }
 async function start() {
-  const kept = keptDoc(), lines = linesOf(kept.script || '');
-  if (lines.length && Array.isArray(kept.tables)) parts.shelf.fetchAhead(kept.tables);
+  holdLock();
   listen();
+  listenToKeys();
   watch();
-  theme(recalled('studyboardDark') === null ? matchMedia('(prefers-color-scheme: dark)').matches : recalled('studyboardDark') === '1', false);
-  if (lines.some(line => line.trim())) {
+  const dark = local.getItem('studyboardDark');
+  theme(dark === null ? matchMedia('(prefers-color-scheme: dark)').matches : dark === '1', false);
+  const { kept, draft } = await firstDocument();
+  if (kept) {
     showBoard();
-    put('head', h('p', { class: 'note', role: 'status' }, 'Opening your study …'));
-    await change(() => ({ lines, at: kept.at, path: kept.path, name: kept.name || '', note: kept.note || '', lenient: true }), 'board');
+    await work(() => arrive(kept.history));
     // Where the program did not run at all the script is shown as it is, and can be saved.
-    app.history = { ...app.history, past: [], now: doc().lines.length ? doc() : { ...doc(), lines } };
+    if (!doc().id) app.history = { ...kept.history, now: { ...kept.history.now, judged: true } };
   }
+  if (draft) begin(draft);
   show();
   if (!await openHash() && !doc().lines.length && !app.setup) openSetup(true);
 }
 window.addEventListener('hashchange', openHash);
 /** @type {any} */ (window).studyboard = makeApi(spawn);
-start();
+counting(start());

@@ -1,5 +1,5 @@
 // @ts-check
-// Two studies for a first visit: one whose tables are built in a second or two, and one whose tables take some minutes.
+// Two studies for a first visit: one whose tables are built in a second or two, and one whose tables take about a minute.
 const moves = (/** @type {string} */ text) => text.trim().split(/\s*,\s*/).map(m => 'insert ' + m);
 
 export const PAWN = [

@@ -1,7 +1,10 @@
 // @ts-check
 // The set-up of men: a draft until it is taken over. The program says of each draft what is wrong with it, or what its value is.
+import { $ } from './dom.js';
 import { EMPTY, menOf, placement, sideOf, squareName, typedFen } from './fen.js';
 import { PAGES, app, change, doc, opened, parts, say, silent, study, viewOf, work } from './app.js';
+import { Stopped } from './engine.js';
+import { freshId } from './keep.js';
 import { addStudy, replacePosition, shiftTo } from './edits.js';
 import { readSurvey, refusalIn } from './replies.js';
 import { aimText, aimWords, counted, holds, movesTo, reason } from './words.js';
@@ -22,6 +25,10 @@ import { joined } from './script.js';
  * @property {Judged | null} judged
  * @property {string[]} passed
  * @property {{to: number, sign: string, text: string}[] | null} survey
+ * @property {string[]} waits      the tables that are being built for it
+ * @property {string} id      the document that it becomes, where that is a new one
+ * @property {string[]} past      states before, as a FEN and an aim with | between them
+ * @property {string[]} future      states that were taken back
  */
 
 /**
@@ -29,41 +36,88 @@ import { joined } from './script.js';
  * @param {boolean} more
  */
 export function openSetup(anew, more = false) {
-  const s = study(), blank = anew || !s, fen = blank ? `${EMPTY} w - - 0 1` : app.view ? app.view.fen : s.fen, fields = fen.split(' ');
-  const aim = blank || !s.aim ? 'white win' : aimWords(s.aim);
-  app.setup = {
-    men: menOf(fen),
-    mover: fields[1],
-    tail: fields.slice(2).join(' '),
-    aim,
-    tool: 'K',
-    man: null,
-    cursor: null,
+  const s = study(), blank = anew || !s, fen = blank ? `${EMPTY} w - - 0 1` : app.view ? app.view.fen : s.fen;
+  begin({
+    placed: `${fen}|${blank || !s.aim ? 'white win' : aimWords(s.aim)}`,
+    past: [],
+    future: [],
     anew: blank,
     more,
-    judged: null,
-    passed: [],
-    survey: null
-  };
+    id: freshId()
+  });
+}
+/**
+ * A set-up begins, or goes on as it was kept.
+ * @param {import('./types.js').KeptDraft} kept
+ */
+export function begin({ placed, past, future, anew, more, id }) {
+  const rest = { tool: 'K', man: null, cursor: null, judged: null, passed: [], survey: null, waits: [] };
+  app.setup = { ...rest, ...stateOf(placed), anew, more, id, past, future };
   app.chosen = null;
   silent();
   parts.show();
   judge();
 }
-export function closeSetup() { app.setup = null; silent(); parts.show(); }
+export function closeSetup() { app.setup = null; silent(); parts.keep(); parts.show(); }
+/** @param {string} placed */
+function stateOf(placed) {
+  const [fen, aim = ''] = placed.split('|'), [, mover, ...tail] = fen.split(' ');
+  return {
+    men: menOf(fen),
+    mover: mover === 'b' ? 'b' : 'w',
+    tail: tail.join(' ') || '- - 0 1',
+    aim: aim || 'white win'
+  };
+}
 export const draftFen = () => { const d = /** @type {Draft} */ (app.setup); return `${placement(d.men)} ${d.mover} ${d.tail}`; };
+/**
+ * The set-up at hand as it is kept; none where no man was put down.
+ * @returns {import('./types.js').KeptDraft | null}
+ */
+export function draftKept() {
+  const d = app.setup;
+  if (!d || !d.past.length && !(d.anew && Object.keys(d.men).length)) return null;
+  return {
+    placed: `${draftFen()}|${d.aim}`,
+    past: d.past.slice(-200),
+    future: d.future.slice(0, 200),
+    anew: d.anew,
+    more: d.more,
+    id: d.id
+  };
+}
 const noPassed = (/** @type {string} */ tail) => '- - ' + tail.split(' ').slice(2).join(' ');
 
 /** @param {Partial<Draft>} changes */
 export function drafted(changes) {
   const d = app.setup;
   if (!d) return;
+  const before = `${draftFen()}|${d.aim}`;
   Object.assign(d, changes, { judged: null, survey: null });
   if (changes.men && changes.tail === undefined) d.tail = noPassed(d.tail);
   if (changes.men && d.man !== null && !d.men[d.man]) d.man = null;
+  if (`${draftFen()}|${d.aim}` !== before) Object.assign(d, { past: [...d.past, before], future: [] });
+  redrafted();
+}
+function redrafted() {
   if (app.say && app.say.where === 'fen') silent();
+  parts.keep();
   parts.show();
   judge();
+}
+/**
+ * The set-up as it was before the last change, or after it again; a set-up that nothing was done to is left by it.
+ * @param {boolean} back
+ */
+export function stepDraft(back) {
+  const d = app.setup, list = d ? (back ? d.past : d.future) : [];
+  if (!d) return;
+  if (!list.length) return back && study() ? closeSetup() : undefined;
+  const now = `${draftFen()}|${d.aim}`,
+        moved = back ? { past: d.past.slice(0, -1), future: [now, ...d.future] } :
+                       { past: [...d.past, now], future: d.future.slice(1) };
+  Object.assign(d, stateOf(back ? list[list.length - 1] : list[0]), moved, { man: null, judged: null, survey: null });
+  redrafted();
 }
 /**
  * One king a side: the old one is removed.
@@ -109,7 +163,7 @@ export function moveDraft(from, to, letter, moved) {
   if (from !== null) delete rest[from];
   if (to === null) return drafted({ men: rest });
   if (from === to) {
-    if (moved) return parts.show();
+    if (moved || d.survey) return parts.show();
     return d.tool === letter || d.tool === 'x' ? drafted({ men: rest }) : placeAt(to);
   }
   const men = withMan(rest, to, letter);
@@ -125,11 +179,12 @@ export function typed(text) {
 }
 
 let judging = 0;
-/** What the program says of the draft. Tables of two and three men are built for it; larger ones when the user asks for them. */
+/** What the program says of the draft. Tables of two and three men are built for it; larger ones when the user asks. */
 export async function judge(build = false) {
   const mine = ++judging, d = app.setup;
   if (!d) return;
   const judged = await judgement(d, build).catch(fault => ({ bad: '', text: `The program did not answer: ${fault.message}.`, lacking: [], mate: 0 }));
+  d.waits = [];
   const passed = judged.bad ? [] : await passedSquares().catch(() => []);
   if (mine !== judging || app.setup !== d) return;
   Object.assign(d, { judged, passed });
@@ -147,8 +202,12 @@ async function judgement(d, build) {
   if (check.text.startsWith('error')) return { ...none, bad: reason(check.text.trim()) };
   let lacking = await parts.shelf.lacking([fen]);
   if (lacking.length && (build || Object.keys(d.men).length < 4 || parts.shelf.isComing(lacking))) {
-    await parts.shelf.ready([fen]);
-    lacking = [];
+    d.waits = lacking;
+    parts.showJudged();
+    lacking = await parts.shelf.ready([fen]).then(() => [], fault => {
+      if (fault instanceof Stopped) return lacking;
+      throw fault;
+    });
   }
   if (lacking.length) return { ...none, lacking };
   const view = await viewOf(`position ${fen}\nstipulate ${d.aim}\n`, 'root');
@@ -196,14 +255,22 @@ export async function takeOver(how) {
         lines: addStudy(d.more ? now.lines : [], fen, d.aim, d.more ? now.studies[now.studies.length - 1] : undefined),
         at: d.more ? now.studies.length : 0,
         path: 'root',
-        name: d.more ? now.name : '',
-        note: d.more ? now.note : ''
+        ...(d.more ? {} : { name: '', note: '', id: d.id })
       };
     return how === 'shift' ? shiftTo(now.lines, s, fen, d.aim) : replacePosition(now.lines, s, fen, d.aim);
   }, 'fen');
   if (!done) return;
   closeSetup();
+  $('board').firstChild.focus({ preventScroll: true });
   if (d.anew && !d.more) opened(before);
+}
+/** The squares of a survey are taken off the board again; whether some were shown. */
+export function hideSurvey() {
+  const d = app.setup;
+  if (!d || !d.survey) return false;
+  d.survey = null;
+  parts.showJudged();
+  return true;
 }
 /** The number of moves that an aim of mate begins with. */
 export const guess = () => {

@@ -18,12 +18,15 @@ export function setupView() {
       text, '', () => drafted({mover: m, tail: '- - ' + d.tail.split(' ').slice(2).join(' ')}),
       {id: 'mover' + m, class: d.mover === m ? 'on' : '', 'aria-pressed': `${d.mover === m}`, 'data-mover': m});
   return [
-    study() && h('p', {class: 'caption', id: 'setupFor'}, purpose(d)),
-    h('div', {class: 'palette', role: 'group', 'aria-label': 'Men'}, [...'KQRBNPxkqrbnp'].map(letter => toolView(d, letter)),
-      button('clear', 'take all men away', () => drafted({men: {}, tool: 'K'}), {id: 'clear', class: 'text'})),
-    h('div', {class: 'row'},
-      h('div', {class: 'group', role: 'group', 'aria-label': 'Side to move'}, mover('w', 'White to play'), mover('b', 'Black to play')),
-      h('span', {id: 'passedBox'}, passedView(d)), aimView(readAim(d.aim), words => drafted({aim: words}), 'draft')),
+    h('h2', { id: 'setupFor' }, study() ? purpose(d) : 'Set up the men'),
+    h('div', { class: 'palette', role: 'group', 'aria-label': 'Men' },
+        [...'KQRBNPxkqrbnp'].map(letter => toolView(d, letter)),
+        button('clear', 'take all men away', () => drafted({ men: {}, tool: 'K' }), { id: 'clear', class: 'text' })),
+    h('div', { class: 'row' },
+        h('div', { class: 'group', role: 'group', 'aria-label': 'Side to move' }, mover('w', 'White to play'),
+            mover('b', 'Black to play')),
+        h('span', { class: 'row aim' }, aimView(readAim(d.aim), words => drafted({ aim: words }), 'draft')),
+        h('span', { id: 'passedBox' }, passedView(d))),
     h('input', {
       class: 'fen',
       id: 'fen',
@@ -34,20 +37,19 @@ export function setupView() {
       spellcheck: 'false',
       onchange: (/** @type {any} */ e) => typed(e.target.value)
     }),
-    fromNode(d),
-    h('div', {id: 'judgedBox'}, judgedBox(d)),
-    h('p', {class: 'note keys'},
-      'Press a man, then squares; drag a man to move it, off the board to take it away. By keys: arrows on the board, then K Q R B N P for ' +
-      'White, k q r b n p for Black, Delete.')
+    h('div', { id: 'judgedBox' }, judgedBox(d)), fromNode(d),
+    h('p', { class: 'note keys' },
+        'Press a man, then squares; drag a man to move it, off the board to take it away. By keys: arrows on the ' +
+            'board, then K Q R B N P for White, k q r b n p for Black, Delete; Enter starts.')
   ];
 }
 /**
  * What the set-up is for, where there is a study already.
  * @param {Draft} d
  */
-const purpose = d => (!d.anew ? [h('b', {}, 'Another position'), ' for this study'] :
-                      d.more  ? [h('b', {}, 'One more study'), ' in this script'] :
-                                [h('b', {}, 'A new script'), '. The one at hand stays until you press Start.']);
+const purpose = d => (!d.anew ? 'Another position for this study' :
+        d.more                ? 'One more study in this script' :
+                                'A new script');
 /**
  * The position of the node that was looked at, as the start of a study of its own.
  * @param {Draft} d
@@ -108,17 +110,20 @@ function passedView(d) {
         ['-', ...d.passed].map(square => h('option', {value: square, selected: square === now}, square === '-' ? 'no square' : square))));
 }
 /** @param {Draft} d */
+function judgedText({ judged, men, waits }) {
+  if (!Object.keys(men).length) return 'Put the men on the board.';
+  if (!judged) return waits.length ? `Building its tables: ${waits.join(' ')} …` : '…';
+  if (judged.bad) return `Not a position yet: ${judged.bad}.`;
+  const { lacking } = judged;
+  return lacking.length ? `Its tables are not there yet: ${lacking.join(' ')} (${parts.shelf.estimate(lacking)}).` : judged.text;
+}
+/** @param {Draft} d */
 function judgedView(d) {
-  const judged = d.judged, count = Object.keys(d.men).length;
-  const text = !count ? 'Put the men on the board.' :
-      !judged         ? '…' :
-      judged.bad      ? `Not a position yet: ${judged.bad}.` :
-           judged.lacking.length ? `Its tables are not there yet: ${judged.lacking.join(' ')}.` :
-                                   judged.text;
+  const judged = d.judged, text = judgedText(d);
   return [
     h('p', {id: 'judged', class: judged && judged.text && !judged.bad ? 'judged' : 'note', role: 'status'}, text),
     judged && judged.lacking.length > 0 &&
-        h('p', {}, button('Build them now', 'some seconds to a minute for each; once for all', () => judge(true), {id: 'buildNow'}))
+        h('p', {}, button('Build them now', 'some seconds for each; once for all', () => judge(true), {id: 'buildNow'}))
   ];
 }
 /** @param {Draft} d */
@@ -138,7 +143,7 @@ function surveyView(d) {
     d.survey &&
         h('p', {class: 'note', role: 'status', id: 'stands'}, sign('dot'),
           ` by one first move: ${only.length ? only.slice(0, 12).join(', ') + (only.length > 12 ? ` and ${only.length - 12} more` : '') : 'nowhere'}; `,
-          sign('plain'), ` it holds on ${more}${only.length ? ' more' : ''}. A press on a dot puts the man there.`)
+          sign('plain'), ` it holds on ${more}${only.length ? ' more' : ''}. A press on a square puts this man there.`)
   ];
 }
 /**

@@ -207,6 +207,7 @@ export function makeShelf({ core, spawn, readers, store, tell }) {
   async function build(name) {
     const builder = spawn(), before = stops;
     builders.push(builder);
+    began.delete(name);
     try {
       await lay((needs.get(name) || []).filter(other => other !== name), builder);
       if (before !== stops) throw new Stopped(STOPPED);

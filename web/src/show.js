@@ -5,8 +5,9 @@ import { spokenMove } from './fen.js';
 import { foresee } from './answers.js';
 import { app, doc, node, study } from './app.js';
 import { showBoard, tell } from './board.js';
+import { listView, showDocuments } from './documents_view.js';
 import { reviewView } from './facts_view.js';
-import { headView, verdictView } from './head_view.js';
+import { headView, mendView, verdictView } from './head_view.js';
 import { hereView, navView } from './node_view.js';
 import { isKnown } from './edits.js';
 import { PAWN, SAAVEDRA } from './samples.js';
@@ -20,6 +21,7 @@ const late = /** @type {Set<() => void>} */ (new Set());
 export function watch() {
   listenToTree();
   document.addEventListener('pointerover', pointedAt);
+  addEventListener('scroll', () => { $('toast').hidden = true; }, { passive: true });
   for (const kind of ['pointerdown', 'pointerup', 'pointercancel'])
     document.addEventListener(kind, () => {
       pressing = kind === 'pointerdown';
@@ -89,18 +91,24 @@ export function show() {
   $('sayBoard').hidden = !said;
   $('sayBoard').className = said && said.good ? 'say good' : 'say';
   $('sayBoard').textContent = said ? said.text : '';
+  const anew = app.setup && app.setup.anew;
   put('setup', app.setup && setupView());
   put('nav', !app.setup && n && navView(n));
   put('here', !app.setup && s && n && hereView(s, n));
-  part('head', [s && JSON.stringify([s.fen, s.aim, s.tags, Object.keys(s.place)]), ...saying()], () => (s ? headView(s) : welcomeView()));
+  for (const id of ['head', 'verdict', 'mend']) $(id).hidden = Boolean(app.setup);
+  for (const id of ['tree', 'review', 'texts']) $(id).hidden = Boolean(anew && s);
+  part(
+      'head', [s && JSON.stringify([s.fen, s.aim, s.tags, Object.keys(s.place)]), ...saying()], () => s && headView(s));
+  put('welcome', (!s || anew) && welcomeView());
   if (isNew('tree', [s, app.view !== null])) showTree(s);
   markCurrent(n ? n.path : '');
   drawFacts();
   part('texts', [d.lines, d.studies, d.at, app.view !== null, ...saying()], () => textsView(s));
+  showDocuments();
   refocus(kept);
   speak();
   hint();
-  $('right').classList.toggle('behind', Boolean(app.setup && s));
+  $('right').classList.toggle('behind', Boolean(app.setup && s && !anew));
   document.title = s ? `${isKnown(s.tags.Event) ? s.tags.Event : 'Untitled'} · Study board` : 'Study board';
 }
 /**
@@ -112,7 +120,7 @@ function refocus([id, path, san]) {
   const again = id ? $(id) : path ? document.querySelector(`[data-path="${path}"]`) : san ? document.querySelector(`[data-san="${san}"]`) : null;
   if (again) again.focus({ preventScroll: true });
 }
-/** A refusal that is off the screen is shown at its foot too. */
+/** A refusal that is off the screen is shown below the bar too, until the page is scrolled. */
 function hint() {
   const alert = [...document.querySelectorAll('[role=alert]')].find(e => !(/** @type {HTMLElement} */ (e).hidden)),
         at = alert ? alert.getBoundingClientRect() : null;
@@ -122,6 +130,7 @@ function hint() {
 function drawFacts() {
   const s = study();
   part('verdict', [s, app.view !== null, app.noView, app.review], () => s && verdictView(s));
+  part('mend', [s, app.view !== null, app.review], () => s && mendView(s));
   part('review', [s, app.view !== null, app.review, app.noReview], () => s && reviewView(s));
 }
 export const showFacts = () => lately(drawFacts);
@@ -139,8 +148,8 @@ function speak() {
 }
 function showBar() {
   const d = doc(), many = d.studies.length > 1;
-  $('undo').disabled = !app.history.past.length;
-  $('redo').disabled = !app.history.future.length;
+  $('undo').disabled = app.setup ? !app.setup.past.length && !study() : !app.history.past.length;
+  $('redo').disabled = !(app.setup || app.history).future.length;
   $('studies').hidden = $('walk').hidden = !many;
   $('before').disabled = !d.at;
   $('after').disabled = d.at + 1 >= d.studies.length;
@@ -160,17 +169,24 @@ export function showProgress() {
   $('progressBar').value = p.done;
 }
 function welcomeView() {
-  const sample = (/** @type {string[]} */ lines) => () => openText(joined(lines), 'board');
-  return [
+  const sample = (/** @type {string[]} */ lines) => () => openText(joined(lines), 'board'), kept = listView(8);
+  const keptList = kept && [h('h2', {}, 'Kept in this browser'), kept];
+  return study() ? keptList : [
     h('h1', {}, 'Compose a study'),
     h('p', {},
-      'Two to four men, kings included. Set up the men, say what is to be done, and play the solution with its tries and defences on the ' +
-      'board. Each move is judged against all legal moves, by endgame tables that this page builds itself with a proved program.'),
-    h('p', {class: 'row'}, button('Show a sample: king and pawn', 'its tables are built in a few seconds', sample(PAWN), {id: 'sample', class: 'main'}),
-      button('Saavedra, 1895 (builds tables for some minutes)', 'eleven tables are built first, some minutes', sample(SAAVEDRA), {id: 'sample2'})),
-    h('p', {class: 'note'},
-      'Keys: ← → ↑ ↓ Home End walk the tree, Delete takes a move away, Ctrl-Z and Ctrl-Y undo and redo, f turns the board, m goes to the ' +
-      'field for a move. Nothing leaves this computer; the page works offline.'),
+        'Two to four men, kings included. Set up the men, say what is to be done, and play the solution with its ' +
+            'tries and defences on the board. Each move is judged against all legal moves, by endgame tables that this ' +
+            'page builds itself with a proved program.'),
+    h('p', { class: 'row' },
+        button('Show a sample: king and pawn', 'its tables are built in a few seconds', sample(PAWN),
+            { id: 'sample', class: 'main' }),
+        button('Saavedra, 1895 (builds tables for about a minute)', 'eleven tables are built first', sample(SAAVEDRA),
+            { id: 'sample2' })),
+    keptList,
+    h('p', { class: 'note keys' },
+        'Keys: ← → ↑ ↓ Home End walk the tree, Delete takes a move away, Ctrl-Z and Ctrl-Y undo and redo, f turns the ' +
+            'board, m goes to the field for a move, Escape leaves it. Nothing leaves this computer; the page works ' +
+            'offline.'),
     keyView()
   ];
 }

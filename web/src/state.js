@@ -7,7 +7,17 @@ import { nodeAt } from './replies.js';
 
 export const PAGES = 1000;
 /** @type {Doc} */
-const blank = { lines: [], studies: [], refused: [], at: 0, path: 'root', name: '', note: '' };
+export const blank = {
+  lines: [],
+  studies: [],
+  refused: [],
+  at: 0,
+  path: 'root',
+  name: '',
+  id: '',
+  note: '',
+  judged: true
+};
 
 /**
  * @type {{history: import('./past.js').History<Doc>, view: import('./types.js').View | null, noView: string,
@@ -30,7 +40,7 @@ export const app = {
 /**
  * The parts that main.js puts in.
  * @type {{core: import('./engine.js').Core, facts: import('./engine.js').Core, shelf: ReturnType<typeof import('./shelf.js').makeShelf>,
- *   show: () => void, showFacts: () => void, showJudged: () => void, keep: (doc: Doc) => void}}
+ *   show: () => void, showFacts: () => void, showJudged: () => void, keep: () => void}}
  */
 export const parts = /** @type {any} */ ({});
 

@@ -6,6 +6,7 @@ import { app, change, doc, goStudy, opened, parts, say } from './app.js';
 import { dropStudy, isKnown, tidy } from './edits.js';
 import { table } from './facts_view.js';
 import { told } from './head_view.js';
+import { freshId } from './keep.js';
 import { fromPgn, looksLikePgn, notKept } from './pgn.js';
 import { linesOf, toldBefore } from './script.js';
 import { aimText, counted, reason } from './words.js';
@@ -73,11 +74,12 @@ export async function openText(text, where = 'script', name = '') {
   }
   const same = where === 'script' && $('script') && lines.length > 0, before = doc();
   app.setup = null;
-  const stem = name.replace(/\.\w+$/, ''), file = stem && pgn ? stem.replace(/\.checked$/, '') + '.checked' : stem;
+  const stem = name.replace(/\.\w+$/, ''), file = stem && pgn ? stem.replace(/\.checked$/, '') + '.checked' : stem,
+        id = freshId();
   await change(now => ({
     lines,
     note: pgn || where !== 'script' ? note : now.note,
-    name: where === 'script' ? now.name : file,
+    ...(where === 'script' ? {} : { name: file, id }),
     at: same ? now.at : 0,
     path: same && lines.length === now.lines.length ? now.path : 'root',
     lenient: true

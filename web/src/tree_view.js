@@ -2,8 +2,10 @@
 // The solution, as it is printed: first children in a line, variations below the move that they replace.
 import { $, h, mend } from './dom.js';
 import { numbered, sideOf } from './fen.js';
-import { app, go } from './app.js';
+import { app, doc, go } from './app.js';
 import { written } from './replies.js';
+import { editsTo } from './script.js';
+import { bareTree } from './unmarked.js';
 import { counted, markMeaning, moveName, valueSign, valueText } from './words.js';
 /** @typedef {import('./types.js').TreeNode} TreeNode @typedef {import('./types.js').Study} Study */
 
@@ -54,13 +56,52 @@ function lineItems(s, from, numberedFirst) {
  * @param {TreeNode} n
  */
 const variationItem = (s, n) => ({ key: 'li ' + n.path, make: () => h('li', {}), kids: [...moveItems(s, n, true), ...lineItems(s, n, false)] });
+/** @typedef {import('./unmarked.js').Bare} Bare */
+/**
+ * Moves as the script has them, with no mark and no board: they lead nowhere yet.
+ * @param {Bare} from
+ * @param {number} ply      of the first one
+ * @param {boolean} numberedFirst
+ * @returns {any[]}
+ */
+function bareLine(from, ply, numberedFirst) {
+  const out = [];
+  let first = numberedFirst, n = from;
+  for (; n.children.length; n = n.children[0], ply++) {
+    out.push(bareMove(n.children[0], ply, first));
+    first = n.children.length > 1;
+    if (first)
+      out.push(
+          h('ul', {}, n.children.slice(1).map(c => h('li', {}, bareMove(c, ply, true), bareLine(c, ply + 1, false)))));
+  }
+  return out;
+}
+/**
+ * @param {Bare} n
+ * @param {number} ply
+ * @param {boolean} first
+ */
+const bareMove = (n, ply,
+    first) => [h('span', { class: 'mv m' },
+                   first || ply % 2 === 0 ? `${Math.floor(ply / 2)}${ply % 2 ? '...' : '.'}\u00a0` : '', n.san),
+    ' '];
+/**
+ * @param {Study} s
+ */
+function bareView(s) {
+  const lines = editsTo(doc().lines, s), root = bareTree(lines), fields = s.fen.split(' ');
+  const title = h('h2', { id: 'solution' }, 'Solution ', h('small', {}, 'not marked yet'));
+  const tree = h(
+      'div', { class: 'tree bare' }, bareLine(root, 2 * (Number(fields[5]) || 1) + (fields[1] === 'b' ? 1 : 0), true));
+  return root.children.length ? [{ key: 'bare ' + lines.join(' '), make: () => h('div', {}, title, tree) }] : [];
+}
 /**
  * Of a tree that stands there already only what has changed is drawn.
  * @param {Study | undefined} s
  */
 export function showTree(s) {
   const view = app.view, nodes = s && view ? written(view.root).length - 1 : 0;
-  if (!s || !view) return mend($('tree'), []);
+  if (!s || !view) return mend($('tree'), s ? bareView(s) : []);
   const title = () => h('h2', { id: 'solution' }, 'Solution ', nodes > 0 && h('small', {}, counted(nodes, 'move')));
   const none = () => h('p', { class: 'note' }, 'Play a move on the board, choose one below it, or type it.');
   const tree = () => h('div', { class: 'tree', role: 'group', 'aria-labelledby': 'solution' });

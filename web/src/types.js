@@ -59,12 +59,17 @@
  *
  * @typedef {{line: number, text: string, reply: string}} Refused
  * @typedef {{lines: string[], studies: Study[], refused: Refused[]}} Script
- * @typedef {Script & {at: number, path: string, name: string, note: string}} Doc
- *   with the study and the node that are looked at, its file's name, and what was not kept of its file
+ * @typedef {Script & {at: number, path: string, name: string, id: string, note: string, judged: boolean}} Doc
+ *   with the study and the node that are looked at, its file's name, the document that it is a state of, what was not
+ *   kept of its file, and whether the program has read it: else its studies are as if each line were accepted
  *
- * @typedef {{lines: string[], at?: number, path?: string, name?: string, note?: string,
+ * @typedef {{lines: string[], at?: number, path?: string, name?: string, id?: string, note?: string,
  *   lenient?: boolean}} Change
- *   lines to run; then the study and the node to look at, where `made` is the node just made; `lenient` takes refused lines too
+ *   lines to run; then the study and the node to look at, where `made` is the node just made; `lenient` takes refused
+ *   lines too
+ *
+ * @typedef {{placed: string, past: string[], future: string[], anew: boolean, more: boolean, id: string}} KeptDraft
+ *   a set-up that was not started: its FEN and its aim with | between them, and those before and after
  *
  * @typedef {{text: string, ended: string}} Answer
  * @typedef {{answer: (request: string, script: string, pages: number) => Promise<Answer>}} Engine

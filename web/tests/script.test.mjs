@@ -11,6 +11,7 @@ import { isListed, progressText } from '../src/shelf.js';
 import { DIGESTS } from '../src/digests.js';
 import { SECONDS } from '../src/seconds.js';
 import { typedMove, typedMoves } from '../src/typed.js';
+import { bareTree, unjudged } from '../src/unmarked.js';
 
 const text = name => readFileSync(new URL('./data/' + name, import.meta.url), 'utf8');
 /** A gallery script with the replies that an independent program gives. */
@@ -242,6 +243,20 @@ test('what is not kept of a PGN is counted', () => {
       'Not kept of this PGN: 1 comment, 1 symbol.');
   assert.equal(notKept(`[Event "${'x'.repeat(61)}"]\n[FEN "8/8/1KP5/3r4/8/8/8/k7 w - - 0 1"]\n\n*\n`),
     'Not kept of this PGN: 1 end of a text of more than 60 letters.');
+});
+test('a study before it is judged', () => {
+  const lines = [
+    'position A', 'tag Event B', 'stipulate white win', 'insert root c7', 'insert 0 Rd6+', 'insert root Kb7',
+    'insert root Kc7', 'insert 0 Rd1', 'promote 1', 'insert 9 Ka1', 'insert root Kc7'
+  ];
+  const tree = node => [node.path, node.san, ...node.children.map(tree)];
+  assert.deepEqual(tree(bareTree(lines)),
+    ['root', '', ['0', 'Kb7'], ['1', 'c7', ['1.0', 'Rd6+'], ['1.1', 'Rd1']], ['2', 'Kc7']]);
+  assert.deepEqual(
+      tree(bareTree([...lines, 'delete 0', 'delete 0.1'])), ['root', '', ['0', 'c7', ['0.0', 'Rd6+']], ['1', 'Kc7']]);
+  const { studies } = unjudged([...lines, 'pgn', 'position C']);
+  assert.deepEqual(studies.map(s => [s.fen, s.verdict, s.games, s.tags.Event, s.aim.goal]),
+      [['A', '', [], 'B', 'win'], ['C', '', [], 'B', 'win']]);
 });
 test('the list of tables', () => {
   assert.equal(Object.keys(DIGESTS).length, 36);

@@ -1,4 +1,5 @@
-"""Firefox opens the page from its file, shows the sample, plays a move and runs a script. Asks it through Marionette, which it has itself.
+"""Firefox opens the page from its file, shows the sample, plays a move, has it again after a reload and runs a script. Asks
+it through Marionette, which it has itself.
 
     firefox.py
 """
@@ -82,7 +83,19 @@ def main():
         })()""")
         assert fox.promise("document.getElementById('stamp').textContent") == "sound"
         fox.promise("(async () => { document.querySelector('.moves [data-san=\"Kh3\"]').click(); await studyboard.idle(); return 0; })()")
-        assert "Kh3" in fox.promise("studyboard.script()")
+        kept = fox.promise("studyboard.script()")
+        assert "Kh3" in kept
+        fox.ask("WebDriver:Refresh", {})
+        fox.promise("studyboard.idle().then(() => 0)")
+        assert fox.promise("studyboard.script()") == kept
+        rows = fox.promise("""(async () => {
+            document.getElementById('documentsButton').click();
+            while (document.getElementById('documents').hidden) await new Promise(on => setTimeout(on, 20));
+            const rows = [...document.querySelectorAll('#documents tbody tr')].map(row => row.innerText);
+            document.getElementById('closeDocuments').click();
+            return rows;
+        })()""")
+        assert len(rows) == 1 and "sound" in rows[0] and "open here" in rows[0], rows
         script = "load KK\\nload KRK\\nposition k7/8/1K6/8/8/8/8/7R w - - 0 1\\nstipulate white mate 1\\ninsert root Rh8\\nmark 0\\n"
         told = fox.promise(f"studyboard.run('{script}', 8)")
         assert told.endswith("insert 0 Rh8#\nmark 0 loss 0 only faults 0\n"), told

@@ -9,10 +9,9 @@ import os
 import re
 import sys
 import time
-import traceback
 from html.parser import HTMLParser
 
-from user import TOP, By, Keys, User
+from user import TOP, By, Keys, run
 
 TABLES = os.path.abspath(sys.argv[1])
 FEN = "8/8/8/6k1/8/8/1P5K/8 w - - 0 1"
@@ -144,7 +143,7 @@ def test_faults_and_their_repairs(user):
     user.set_up("8/k1P5/2K5/8/8/8/8/8 w - - 0 1", "white mate 2")
     user.play("c8=Q")
     user.until("document.querySelector('.faults')", 30, "the facts")
-    assert user.text("stamp") == "unsound 1" and "lets the aim go" in user.by("verdict").text
+    assert user.text("stamp") == "unsound 1" and "lets the aim go" in user.by("mend").text
     user.picture("fault")
     user.go("root")
     user.play("c8=R")
@@ -392,23 +391,4 @@ def test_without_memory64(user):
     assert user.text("stamp") == "sound"
 
 
-def main():
-    names = sys.argv[2:] or [name[5:] for name in globals() if name.startswith("test_")]
-    bad = 0
-    for name in names:
-        user, began = User(), time.time()
-        try:
-            globals()["test_" + name](user)
-            user.no_faults() if name != "no_request_is_made" else None
-            print(f"{name}: passed, {time.time() - began:.1f} s", flush=True)
-        except Exception as fault:
-            bad += 1
-            line = traceback.extract_tb(fault.__traceback__)[1]
-            print(f"{name}: FAILED, line {line.lineno}, {type(fault).__name__}: {str(fault)[:400]}", flush=True)
-            user.picture("failed_" + name)
-        user.end()
-    print(f"{len(names) - bad} of {len(names)} passed")
-    sys.exit(bool(bad))
-
-
-main()
+run(globals(), sys.argv[2:], lambda name, user: user.no_faults() if name != "no_request_is_made" else None)

@@ -1,7 +1,10 @@
 """A user at studyboard.html in headless Chromium, opened from its file: mouse, keys and files alone."""
 import base64
 import os
+import sys
+import tempfile
 import time
+import traceback
 
 from selenium import webdriver
 from selenium.webdriver.chrome.service import Service
@@ -47,6 +50,41 @@ class User:
             self.d.execute_cdp_cmd("Emulation.setTouchEmulationEnabled", {"enabled": True})
         self.phone = phone
         self.open()
+
+    def size(self, width, height):
+        """The page's own size, without the frame of the window."""
+        metrics = {"width": width, "height": height, "deviceScaleFactor": 1, "mobile": False}
+        self.d.execute_cdp_cmd("Emulation.setDeviceMetricsOverride", metrics)
+        self.until(f"innerWidth === {width} && innerHeight === {height}", 10)
+
+    def tab(self, fragment=""):
+        """One more page beside this one; its handle."""
+        self.d.switch_to.new_window("tab")
+        self.open(fragment)
+        return self.d.current_window_handle
+
+    def to(self, handle):
+        self.d.switch_to.window(handle)
+
+    def download(self, name):
+        """What a button saves: the name of the file, and its text."""
+        folder = tempfile.mkdtemp()
+        self.d.execute_cdp_cmd("Browser.setDownloadBehavior", {"behavior": "allow", "downloadPath": folder})
+        self.click(name)
+        for _ in range(500):
+            saved = [file for file in os.listdir(folder) if not file.endswith(".crdownload")]
+            if saved:
+                with open(os.path.join(folder, saved[0]), encoding="utf-8") as file:
+                    return saved[0], file.read()
+            time.sleep(0.02)
+        raise AssertionError("nothing was saved")
+
+    def open_file(self, name, text):
+        """A file is chosen; the page is not waited for."""
+        path = os.path.join(tempfile.mkdtemp(), name)
+        with open(path, "w", encoding="utf-8") as file:
+            file.write(text)
+        self.by("file").send_keys(path)
 
     def open(self, fragment=""):
         self.d.get("about:blank")
@@ -209,8 +247,35 @@ class User:
                 urls.append(message["params"]["request"]["url"])
         return [u for u in urls if not u.startswith(("data:", "blob:", "about:")) and os.path.basename(PAGE) not in u]
 
+    def seen(self, name):
+        """Whether an element stands whole in the window, without scrolling, and nothing lies over it."""
+        return self.js("""const e = document.getElementById(arguments[0]), r = e && e.getBoundingClientRect();
+            if (!r || !r.width || r.top < -1 || r.left < 0 || r.bottom > innerHeight + 1 || r.right > innerWidth)
+                return false;
+            const over = document.elementFromPoint(r.left + r.width / 2, r.top + r.height / 2);
+            return e.contains(over) || (over && over.contains(e));""", name)
+
     def end(self):
         self.d.quit()
 
 
-__all__ = ["User", "Keys", "By", "TOP", "men_of", "square_name"]
+def run(tests, names, more=lambda name, user: user.no_faults()):
+    """Tests by name, each in a new profile; a picture of each that fails. Ends the program."""
+    names, bad = names or [name[5:] for name in tests if name.startswith("test_")], 0
+    for name in names:
+        user, began = User(), time.time()
+        try:
+            tests["test_" + name](user)
+            more(name, user)
+            print(f"{name}: passed, {time.time() - began:.1f} s", flush=True)
+        except Exception as fault:
+            bad += 1
+            line = traceback.extract_tb(fault.__traceback__)[1]
+            print(f"{name}: FAILED, line {line.lineno}, {type(fault).__name__}: {str(fault)[:400]}", flush=True)
+            user.picture("failed_" + name)
+        user.end()
+    print(f"{len(names) - bad} of {len(names)} passed")
+    sys.exit(bool(bad))
+
+
+__all__ = ["User", "Keys", "By", "FILL", "TOP", "men_of", "run", "square_name"]

@@ -1,0 +1,126 @@
+// @ts-check
+// Which document this page works on: kept at each change, found again after a reload, and chosen from the list of all.
+import { $ } from './dom.js';
+import { app, arrive, doc, parts, say, work } from './app.js';
+import { freshId, makeKeeper } from './keep.js';
+import { begin as firstOf } from './past.js';
+import { fensOf } from './script.js';
+import { begin, draftKept } from './setup.js';
+import { blank } from './state.js';
+/** @typedef {import('./keep.js').Head} Head */
+
+/**
+ * Storage, or one that refuses each text where the browser has none for this page.
+ * @param {() => Storage} of
+ */
+function storage(of) {
+  try { of().getItem(''); return of(); } catch {
+    return /** @type {Storage} */ ({
+      length: 0,
+      key: () => null,
+      getItem: () => null,
+      setItem() { throw new Error('refused'); },
+      removeItem() {},
+      clear() {}
+    });
+  }
+}
+const local = storage(() => localStorage), session = storage(() => sessionStorage), page = freshId(),
+      SESSION = 'studyboard', LOCK = 'studyboard page ';
+const keeper = makeKeeper({ local, page });
+export const { list, headAt } = keeper;
+
+/** Each page holds a lock of its name for as long as it stands open. */
+export function holdLock() {
+  if (navigator.locks) navigator.locks.request(LOCK + page, () => new Promise(() => {})).catch(() => {});
+}
+/** The other pages that stand open now, as far as the browser tells. */
+export async function otherPages() {
+  const held = navigator.locks ? (await navigator.locks.query().catch(() => ({ held: [] }))).held || [] : [];
+  return new Set(held.map(lock => lock.name || '')
+                     .filter(name => name.startsWith(LOCK))
+                     .map(name => name.slice(LOCK.length))
+                     .filter(name => name !== page));
+}
+
+/** Keeps the document and the set-up as they are. */
+export function keep() {
+  const draft = draftKept(), own = ownDraft() === doc().id ? '' : ownDraft();
+  let kept = true;
+  if (doc().id) kept = keeper.keep(app.history, own ? null : draft, parts.shelf.named(fensOf(doc().lines)));
+  if (own && draft) kept = keeper.keep(firstOf({ ...blank, id: own }), draft, []) && kept;
+  else if (own && headAt(keeper.placeOf(own))) keeper.remove(keeper.placeOf(own));
+  $('unkept').hidden = kept;
+  try {
+    session.setItem(SESSION,
+        JSON.stringify({ id: doc().id && keeper.placeOf(doc().id), draft: own && draft ? keeper.placeOf(own) : '' }));
+  } catch { /* a new page then */ }
+}
+/** @returns {{id: string, draft: string} | null} */
+function pointer() {
+  try {
+    const { id, draft } = JSON.parse(session.getItem(SESSION) || '');
+    return { id: String(id || ''), draft: String(draft || '') };
+  } catch { return null; }
+}
+/**
+ * A document of an earlier version of this page, which had one place for all.
+ * @param {string} old
+ */
+function moved(old) {
+  const kept = local.getItem(old);
+  if (!kept) return;
+  let found = { script: kept, at: 0, path: 'root', name: '' };
+  try {
+    const { script, at, path, name } = JSON.parse(kept);
+    found = {
+      script: String(script || ''),
+      at: Number(at) || 0,
+      path: String(path || 'root'),
+      name: String(name || '')
+    };
+  } catch { /* the text itself */ }
+  const { script, ...rest } = found, id = freshId();
+  if (!script.trim() ||
+      keeper.keep(firstOf({...blank, ...rest, lines: script.split('\n'), id, judged: false }), null, []))
+    local.removeItem(old);
+  keeper.forget(id);
+}
+/**
+ * What this page begins with: what it had before a reload; in a browser that was just opened the document that was
+ * looked at last.
+ * @returns {Promise<{kept: ReturnType<typeof keeper.open>, draft: import('./types.js').KeptDraft | null}>}
+ */
+export async function firstDocument() {
+  moved(SESSION);
+  const before = pointer(), [last] = before ? [before.id && headAt(before.id)] : list();
+  if (last) parts.shelf.fetchAhead(last.tables);
+  const others = before ? null : await otherPages();
+  const kept = last && !(others && others.size) ? keeper.open(last.id, false) : null,
+        own = before && before.draft ? keeper.open(before.draft, false) : null;
+  return {
+    kept: kept && kept.history.now.lines.length ? kept : null,
+    draft: own ? own.head.draft : kept && kept.head.draft
+  };
+}
+/**
+ * A document of the list takes the place of the one at hand, which is kept; one that another page has open is copied.
+ * @param {string} id
+ */
+export const openKept = id => work(async () => {
+  const head = headAt(id), copy = Boolean(head && (await otherPages()).has(head.page)), kept = keeper.open(id, copy);
+  if (!kept) { say('board', 'This document is not kept any more.'); return parts.show(); }
+  app.setup = null;
+  const draft = kept.head.draft, empty = !kept.history.now.lines.length;
+  await arrive(empty ? firstOf(blank) : kept.history);
+  if (draft) begin(draft);
+  if (copy) say('board', 'It is open in another window; this is a copy of it.', true);
+  parts.show();
+});
+/** @param {string} id */
+export const forget = id => { keeper.remove(id); parts.show(); };
+/** The document that the set-up becomes, where that is a new one. */
+const ownDraft = () => (app.setup && app.setup.anew && !app.setup.more ? app.setup.id : '');
+/** @param {string} id */
+export const isHere = id => [doc().id, ownDraft()].some(own => own && keeper.placeOf(own) === id);
+export { local };

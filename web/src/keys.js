@@ -1,0 +1,77 @@
+// @ts-check
+// What keys do.
+import { $ } from './dom.js';
+import { app, doc, go, goStudy, node, redo, undo } from './app.js';
+import { closeChoice, flip, focusBoard, setupKey, showBoard } from './board.js';
+import { close } from './documents_view.js';
+import { endOf, remove } from './node_view.js';
+import { draftFen, hideSurvey, stepDraft } from './setup.js';
+
+/** @param {number} d */
+function neighbour(d) {
+  const n = node(), row = n && n.parent ? n.parent.children : [], m = n ? row[row.indexOf(n) + d] : null;
+  if (m) go(m.path);
+}
+/** @type {Record<string, (n: import('./types.js').TreeNode) => any>} */
+const KEYS = {
+  ArrowLeft: n => n.parent && go(n.parent.path),
+  ArrowRight: n => n.children[0] && go(n.children[0].path),
+  ArrowUp: () => neighbour(-1),
+  ArrowDown: () => neighbour(1),
+  Home: () => go('root'),
+  End: n => go(endOf(n).path),
+  Delete: n => remove(n.path),
+  m: () => $('san').focus(),
+  PageUp: () => goStudy(doc().at - 1),
+  PageDown: () => goStudy(doc().at + 1),
+};
+/** Of a set-up that is open the men that were put down, else the document. */
+export const back = () => (app.setup ? stepDraft(true) : undo());
+export const forth = () => (app.setup ? stepDraft(false) : redo());
+/**
+ * In a field Escape leaves it, and what was typed and not taken yet is dropped.
+ * @param {KeyboardEvent} e
+ * @param {any} field
+ */
+function inField(e, field) {
+  if (e.key === 'Escape') {
+    if (field.tagName === 'INPUT') field.value = field.defaultValue;
+    focusBoard();
+  }
+  if (e.key === 'Enter' && field.id === 'fen' && field.value === draftFen()) start(e);
+}
+/**
+ * Enter in a set-up is its first button.
+ * @param {KeyboardEvent} e
+ */
+function start(e) {
+  const button = $('start');
+  e.preventDefault();
+  if (button && !button.disabled) button.click();
+}
+/** Escape closes what is open, or lets go of a man. */
+function escaped() {
+  if (closeChoice() || hideSurvey()) return;
+  app.chosen = null;
+  showBoard();
+}
+
+/** @param {KeyboardEvent} e */
+function pressed(e) {
+  const target = /** @type {Element} */ (e.target), ctrl = e.ctrlKey || e.metaKey, n = node();
+  if (e.key === 'Escape' && close()) return;
+  if (/INPUT|TEXTAREA|SELECT/.test(target.tagName)) return inField(e, target);
+  if (ctrl && /^[zy]$/i.test(e.key)) {
+    e.preventDefault();
+    return void (e.key.toLowerCase() === 'y' || e.shiftKey ? forth() : back());
+  }
+  if (setupKey(e)) return e.preventDefault();
+  if (e.key === 'Escape') return escaped();
+  if (ctrl || e.altKey || target.closest('.choose, #documents')) return;
+  if (e.key === 'f') { e.preventDefault(); return flip(); }
+  if (e.key === 'Enter' && app.setup && !target.closest('button, summary, a')) return start(e);
+  if (app.setup || !n || !KEYS[e.key] || (/^Page/.test(e.key) && doc().studies.length < 2)) return;
+  e.preventDefault();
+  KEYS[e.key](n);
+}
+export const listenToKeys = () => document.addEventListener('keydown', pressed);

@@ -1,0 +1,304 @@
+"""Nothing that is made is lost: documents kept for each tab and file, with their undo; scripts that studybench takes as
+they are saved.
+
+    kept.py TABLES [NAME ..]
+
+TABLES has those of two and three men at least. STUDYBENCH names the native program; without it the module's own run
+stands for it.
+"""
+import os
+import re
+import subprocess
+import sys
+import tempfile
+
+from user import TOP, By, Keys, run
+
+TABLES = os.path.abspath(sys.argv[1])
+NATIVE = os.environ.get("STUDYBENCH", os.path.join(TOP, "crates", "studybench", "out", "studybench"))
+FEN = "8/8/8/6k1/8/8/1P5K/8 w - - 0 1"
+SMALL = "KK KQK KRK KBK KNK KPK".split()
+PGN = """[Event "Rigaer Tageblatt"]
+[Site "?"]
+[Date "1902.??.??"]
+[White "Réti, R."]
+[Black "?"]
+[Result "1-0"]
+[Annotator "an editor"]
+[Source "a book"]
+[SetUp "1"]
+[FEN "8/8/8/6k1/8/8/1P5K/8 w - - 0 1"]
+
+{A study for practice.} 1. Kg3! {The only move} (1. b4? $4 Kf6 {draws [%cal Gg5f6]}) 1... Kf5 2. Kf3 $1 1-0
+"""
+
+
+def script_of(name):
+    with open(os.path.join(TOP, "examples", name + ".script"), encoding="utf-8") as file:
+        return file.read()
+
+
+def documents(user):
+    """The rows of the list: title, verdict, where it is open."""
+    user.click("documentsButton")
+    user.until("!document.getElementById('documents').hidden")
+    rows = user.js("""return [...document.querySelectorAll('#documents tbody tr')].map(row => {
+        const cells = [...row.cells].map(cell => cell.innerText.trim());
+        return [cells[0].split('\\n')[0], cells[1], cells[0].split('\\n').slice(1).join(' ')];
+    })""")
+    user.keys(Keys.ESCAPE)
+    assert user.js("return document.getElementById('documents').hidden")
+    return rows
+
+
+def open_document(user, title):
+    user.click("documentsButton")
+    user.until("!document.getElementById('documents').hidden")
+    user.d.find_element(By.XPATH, f"//*[@id='documents']//button[@data-kept][contains(., '{title}')]").click()
+    user.settle()
+
+
+def reload(user):
+    user.d.refresh()
+    user.idle()
+
+
+def script(user):
+    return user.promise("studyboard.script()")
+
+
+def started(user, fen, title):
+    user.set_up(fen, "white win")
+    user.fill("tagEvent", title)
+
+
+def test_two_tabs_and_a_copied_one(user):
+    user.open_tables(TABLES, SMALL)
+    first = user.d.current_window_handle
+    started(user, FEN, "First")
+    second = user.tab()
+    assert user.has("start") and script(user).strip() == "", "a second tab begins with an empty board"
+    started(user, "8/3k4/8/3KP3/8/8/8/8 w - - 0 1", "Second")
+    two = script(user)
+    user.to(first)
+    user.play("Kg3")
+    one = script(user)
+    assert sorted(row[0] for row in documents(user)) == ["First", "Second"]
+    for handle, text in ((first, one), (second, two)):
+        user.to(handle)
+        reload(user)
+        assert script(user) == text
+    user.to(first)
+    old = set(user.d.window_handles)
+    user.js("window.open(location.href)")
+    user.to((set(user.d.window_handles) - old).pop())
+    user.until("window.studyboard", 30)
+    user.idle()
+    assert script(user) == one, "a tab that was copied has the document"
+    user.play("Kf6")
+    copied = script(user)
+    user.to(first)
+    user.click("undo")
+    user.settle()
+    user.play("b4")
+    ours = script(user)
+    assert copied != ours
+    rows = documents(user)
+    assert [row[0] for row in rows].count("First") == 2 and len(rows) == 3, rows
+    reload(user)
+    assert script(user) == ours
+    for handle in set(user.d.window_handles) - {first, second}:
+        user.to(handle)
+        reload(user)
+        assert script(user) == copied
+
+
+def test_another_document_and_a_closed_browser(user):
+    user.end()
+    profile = "--user-data-dir=" + tempfile.mkdtemp()
+    user.__init__(flags=(profile,))
+    user.open_tables(TABLES, SMALL)
+    started(user, FEN, "My own")
+    user.play("Kg3")
+    user.play("Kf5")
+    own = script(user)
+    user.open_file("other.script", "position 8/3k4/8/3KP3/8/8/8/8 w - - 0 1\nstipulate white draw\ntag Event Another\n")
+    user.until("document.getElementById('head').innerText.includes('Another')", 30)
+    user.settle()
+    assert "Undo brings it back" in user.text("sayBoard")
+    user.end()
+    user.__init__(flags=(profile,))
+    assert "Another" in user.text("head")
+    open_document(user, "My own")
+    assert script(user) == own and user.text("stamp") == "sound"
+    steps = [own]
+    while not user.js("return document.getElementById('undo').disabled"):
+        user.click("undo")
+        user.settle()
+        steps.append(script(user))
+    assert len(steps) == 4 and "insert" not in steps[2] and "tag Event" not in steps[3], steps
+    reload(user)
+    for text in reversed(steps[:-1]):
+        user.click("redo")
+        user.settle()
+        assert script(user) == text
+    assert user.text("stamp") == "sound"
+
+
+def test_a_file_whose_tables_lack(user):
+    """It stands there at once, unmarked, is kept, and is judged once the tables are built."""
+    user.open_tables(TABLES, SMALL)
+    started(user, FEN, "My own")
+    user.open_file("saavedra.script", script_of("saavedra_1895"))
+    user.until("document.getElementById('head').innerText.includes('Barbier and Saavedra')", 30)
+    user.until("!document.getElementById('progress').hidden", 30)
+    for _ in range(2):
+        assert "Not judged yet" in user.text("verdict") and not user.has("stamp")
+        assert "1. c7" in user.text("tree").replace("\u00a0", " ") and "8. Kb3" not in user.text("tree")
+        assert user.js("return document.querySelectorAll('#board use').length") == 4
+        user.picture("unmarked", whole=False)
+        user.d.refresh()
+        user.until("document.getElementById('head').innerText.includes('Barbier and Saavedra')", 30)
+    user.until("!document.getElementById('progress').hidden", 30)
+    user.click("stop")
+    user.until("document.getElementById('progress').hidden && document.getElementById('buildNow')", 30)
+    user.settle()
+    assert "Stopped" in user.text("verdict") and "1. c7" in user.text("tree").replace("\u00a0", " ")
+    user.fill("tagSite", "Glasgow")
+    assert "Glasgow" in user.text("head") and not user.has("stamp")
+    title = "Glasgow Weekly Citizen, Barbier and Saavedra and 1 more study"
+    assert sorted(row[:2] for row in documents(user)) == [[title, "not judged"], ["My own", "sound"]]
+    if os.path.exists(os.path.join(TABLES, "KRKP.dtm")):
+        user.open_tables(TABLES, "KQKR KRKR KRKB KRKN KRKP".split())
+        user.click("buildNow") if user.has("buildNow") else None
+        user.settle()
+        assert user.text("stamp") == "unsound 3" and "Glasgow" in user.text("head")
+
+
+def test_a_set_up_that_was_not_started(user):
+    user.open_tables(TABLES, SMALL)
+    started(user, FEN, "Behind")
+    behind = script(user)
+    user.click("new")
+    for man, square in (("K", "g2"), ("k", "h5"), ("P", "b2")):
+        user.click("man" + man)
+        user.press(square)
+    placed = "8/8/8/7k/8/8/1P4K1/8 w - - 0 1"
+    reload(user)
+    fen = "return document.getElementById('fen').value"
+    assert user.js(fen) == placed
+    assert ["Set-up: Kg2 Pb2 / Kh5", "–"] in [row[:2] for row in documents(user)]
+    user.d.find_element(By.CSS_SELECTOR, "#board svg").send_keys("")
+    user.control("z")
+    user.settle()
+    assert user.js(fen) == "8/8/8/7k/8/8/6K1/8 w - - 0 1"
+    assert script(user) == behind, "the study behind the set-up is as it was"
+    user.control("z")
+    user.control("y")
+    user.control("y")
+    user.settle()
+    assert user.js(fen) == placed
+    user.until("!document.getElementById('start').disabled", 30)
+    user.click("start")
+    user.settle()
+    assert script(user).startswith("position " + placed) and user.text("stamp") == "sound"
+    assert sorted(row[0] for row in documents(user)) == ["Behind", "Kg2 Pb2 / Kh5"]
+    user.click("setUp")
+    user.click("manQ")
+    user.press("a8")
+    reload(user)
+    assert user.js(fen).startswith("Q7/") and script(user).startswith("position " + placed)
+    user.click("cancel")
+    reload(user)
+    assert not user.has("fen")
+
+
+def replies(text):
+    """What studybench answers, and its exit status; the module's own run where there is no native program."""
+    told = subprocess.run([NATIVE], input=text.encode(), capture_output=True, check=False)
+    return told.stdout.decode(), told.returncode
+
+
+def test_studybench_takes_what_is_saved(user):
+    remark = "# " + "x" * 1022
+    text = (f"position {FEN}\nstipulate white win\n{remark}\n# Réti\ntag Event A\n"
+            "insert root Kg3\nmark 9\ninsert root Kz9\nmark 0\n")
+    user.open_tables(TABLES, SMALL)
+    user.promise("studyboard.open(a[0])", text)
+    assert user.text("stamp") == "sound" and user.text("refused") == "2 lines of the script were refused"
+    name, saved = user.download("saveScript")
+    assert name == "A.script" and remark in saved and saved.startswith("build KK\n")
+    told = replies(saved)[0] if os.access(NATIVE, os.X_OK) else user.promise("studyboard.run(a[0])", saved)
+    assert re.findall(r"^error.*", told, re.M) == ["error NoSuchNode", "error NotSan"]
+    assert re.findall(r"^\[Event [\s\S]*?\n\n[\s\S]*?\n\n", told, re.M) == [user.promise("studyboard.pgn()")]
+    before = script(user)
+    long, many = f"{text}{remark}x\n", text + "#\n" * 100000
+    for bad, words in ((long, "line 10 has more than 1024 characters"), (many, "more than 100,000 lines")):
+        user.promise("studyboard.open(a[0])", bad)
+        assert words in user.text("sayBoard") and script(user) == before
+        if os.access(NATIVE, os.X_OK):
+            assert replies(bad)[1] == 3
+
+
+def test_what_of_a_pgn_is_not_kept(user):
+    user.open_tables(TABLES, SMALL)
+    user.open_file("entries.pgn", PGN)
+    user.until("document.getElementById('stamp')", 30)
+    user.settle()
+    words = "Not kept of this PGN: 3 comments, 4 symbols, 2 tags, 1 accented text."
+    assert words in user.text("sayBoard") and words in user.text("notKept")
+    assert user.download("savePgn")[0] == "entries.checked.pgn"
+    reload(user)
+    assert words in user.text("notKept") and user.download("savePgn")[0] == "entries.checked.pgn"
+    own = user.promise("studyboard.pgn()")
+    user.open_file("own.pgn", own)
+    user.until("!document.getElementById('notKept')", 30)
+    user.settle()
+    assert user.promise("studyboard.pgn()") == own and "Not kept" not in user.text("sayBoard")
+
+
+def test_a_refused_position_of_the_same_men(user):
+    """After a right position a refused one of the same men, and the right one again: its tables are built and laid."""
+    fen = "document.getElementById('judged').textContent"
+    user.fill("fen", "8/8/8/8/8/1k6/1Q6/K7 b - - 0 1")
+    user.until(fen + ".includes('holds') || " + fen + ".includes('does not hold')", 60)
+    user.open()
+    for text, words in (("8/8/8/8/8/1k6/1Q6/K7 w - - 0 1", "in check"), ("8/8/8/8/8/1k6/7Q/K7 w - - 0 1", "holds")):
+        user.fill("fen", text)
+        user.until(f"{fen}.includes('{words}')", 60)
+    pair = (("4k3/8/8/8/8/8/8/4K2R", "holds"), ("7k/8/8/8/8/8/8/4K2R", "in check"), ("4k3/8/8/8/8/8/8/4K1R1", "holds"))
+    for placed, words in pair:
+        user.fill("fen", placed + " w - - 0 1")
+        user.until(f"{fen}.includes('{words}')", 60)
+    user.until("!document.getElementById('start').disabled", 30)
+    user.click("start")
+    user.settle()
+    assert user.text("stamp") == "sound"
+
+
+def test_removed_for_good(user):
+    user.open_tables(TABLES, SMALL)
+    started(user, FEN, "First")
+    started(user, FEN, "Second")
+    user.click("documentsButton")
+    button = "//*[@id='documents']//button[contains(., 'Remove')]"
+    for _ in range(2):
+        user.d.find_element(By.XPATH, button).click()
+    user.keys(Keys.ESCAPE)
+    assert [row[0] for row in documents(user)] == ["Second"]
+    assert "Second" in user.text("head")
+
+
+def test_storage_that_is_full(user):
+    user.open_tables(TABLES, SMALL)
+    user.js("""let text = 'x'.repeat(1 << 20);
+        for (let i = 0; text; i++)
+            try { localStorage.setItem('filled' + i, text); } catch { text = text.slice(text.length >> 1 || 1); }""")
+    started(user, FEN, "Not kept")
+    assert user.by("unkept").is_displayed() and user.text("stamp") == "sound"
+    user.js("for (const key of Object.keys(localStorage)) if (key.startsWith('filled')) localStorage.removeItem(key)")
+    user.play("Kg3")
+    assert not user.by("unkept").is_displayed()
+
+
+run(globals(), sys.argv[2:])
