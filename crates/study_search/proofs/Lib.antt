@@ -1,0 +1,8 @@
+mod Zugzwangs
+mod OnlyMoves
+mod OneMove
+mod ThemeImages
+mod AllFound
+mod LongestFound
+mod EachFound
+mod OneOfTwo

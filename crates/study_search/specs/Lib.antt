@@ -1,0 +1,8 @@
+pub mod Zugzwang
+pub mod OnlyMoves
+pub mod Listed
+pub mod Themes
+pub mod Finding
+pub mod Longest
+pub mod Laws
+pub mod Pairs

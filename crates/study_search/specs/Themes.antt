@@ -1,0 +1,50 @@
+-- The themes of positions, in chess's own terms: the side to move is the hero.
+use Rattle.std.specs.Prelude.{◌≡◌, ◌⊎◌, Bool, true, false, Option, Some, None}
+use Rattle.study_board.specs.declared.men.Kind.{Kind}
+use Rattle.study_board.specs.declared.men.Kind.TheVariants.{Rook, Bishop, Knight}
+use Rattle.study_board.specs.Position.{Position}
+use Rattle.study_moves.specs.declared.moves.Move.{Move}
+use Rattle.study_moves.specs.Rules.{after}
+use Rattle.study_moves.specs.Game.{IsLegal, IsWon}
+use Rattle.study_search.specs.declared.only_moves.Outcome.{Outcome}
+use Rattle.study_search.specs.declared.only_moves.Outcome.TheVariants.{Win, Draw}
+use Rattle.study_search.specs.declared.themes.Theme.{Theme}
+use Rattle.study_search.specs.declared.themes.Theme.TheVariants as theme
+use Rattle.study_search.specs.Zugzwang.{IsZugzwang}
+use Rattle.study_search.specs.OnlyMoves.{IsOnlyMove, IsKey, HasOnlyMoves}
+
+-- a rook, a bishop or a knight
+abbrev pub is_less_than_a_queen : Kind → Bool
+is_less_than_a_queen Rook = true
+is_less_than_a_queen Bishop = true
+is_less_than_a_queen Knight = true
+is_less_than_a_queen _ = false
+
+abbrev pub is_underpromoted : Option Kind → Bool
+is_underpromoted None = false
+is_underpromoted (Some kind) = is_less_than_a_queen kind
+
+-- just one move holds, and it promotes to a rook, a bishop or a knight
+abbrev pub Underpromotes : Outcome → Position → Type 0
+Underpromotes o p = (m : Move) × IsKey o p m × (is_underpromoted m.promoted ≡ true)
+
+-- just one move holds, and it leads to a mutual zugzwang
+abbrev pub LeadsIntoZugzwang : Outcome → Position → Type 0
+LeadsIntoZugzwang o p = (m : Move) × IsKey o p m × IsZugzwang (after p m)
+
+-- what is enough for the opponent to spoil the hero's outcome: a draw a win, and a win a draw
+abbrev pub spoiling : Outcome → Outcome
+spoiling Win = Draw
+spoiling Draw = Win
+
+-- with the opponent to move, one reply alone spoils the outcome, and it leads to a mutual zugzwang with the hero to move
+abbrev pub FailsIntoZugzwang : Outcome → Position → Type 0
+FailsIntoZugzwang o q = (r : Move) × IsOnlyMove (spoiling o) q r × IsZugzwang (after q r)
+
+abbrev pub HasTheme : Theme → Position → Type 0
+HasTheme theme.Zugzwang p = IsZugzwang p
+HasTheme (theme.OnlyMoves o n) p = HasOnlyMoves o n p
+HasTheme theme.Underpromotion p = Underpromotes Win p ⊎ Underpromotes Draw p
+HasTheme (theme.IntoZugzwang o) p = LeadsIntoZugzwang o p
+HasTheme (theme.ZugzwangTry o) p = LeadsIntoZugzwang o p × ((m : Move) × IsLegal p m × FailsIntoZugzwang o (after p m))
+HasTheme (theme.MateIn n) p = IsWon p n

@@ -1,0 +1,116 @@
+//! The positions of a class that have a theme, one after the other.
+ghost use Rattle.std.specs.Prelude.{◌≡◌, ◌≤◌, ◌<◌, ◌↔◌, true, false, IfOk, IfErr, IfSome, IsErrOf};
+ghost use Rattle.study_material.specs.declared.class.Class.{Class as AClass};
+ghost use Rattle.study_values.specs.Values.{IsNotDamage};
+ghost use Rattle.study_search.specs.OnlyMoves.{IsMost};
+ghost use Rattle.study_search.specs.Finding.{is_for, IsLookedFor, IsFound, IsNext};
+
+use crate::only_moves::{Outcome, has_only_moves};
+use crate::themes::{Theme, has_theme};
+use study_board::{Position, Side};
+use study_index::decode;
+use study_material::Class;
+use study_values::{ProbeFault, Values};
+
+/// What is looked for: the positions of a class that have a theme, with a side to move or with either.
+#[derive(Clone, Copy, Debug, PartialEq, Eq)]
+pub struct Search {
+    pub class: Class,
+    pub theme: Theme,
+    pub side: Option<Side>,
+}
+
+/// Whether positions with this side to move are looked for.
+pub fn is_for(wanted: Option<Side>, to_move: Side) -> bool
+    ensures { result ≡ is_for wanted to_move }
+{
+    match wanted {
+        None => true,
+        Some(side) => to_move == side,
+    }
+}
+
+/// Whether the position is looked for.
+fn is_looked_for<V: Values>(
+    p: &Position,
+    search: &Search,
+    values: &mut V,
+) -> Result<bool, ProbeFault>
+    ensures game { V.is_honest values.old → IfOk result (λ b. (b ≡ true) ↔ IsLookedFor search.now p.now) }
+    ensures no_table { (c : AClass) → IsErrOf result (ProbeFault.NoTable c) → V.held values.old c ≡ false }
+    ensures no_damage { V.is_honest values.old → IfErr result IsNotDamage }
+    ensures honest { V.is_honest values.old → V.is_honest values.new }
+    ensures tables { (c : AClass) → V.held values.new c ≡ V.held values.old c }
+{
+    let wanted = is_for(search.side, p.to_move());
+    if wanted {
+        return has_theme(p, search.theme, values);
+    }
+    Ok(false)
+}
+
+/// Whether the number is that of a position that is looked for.
+fn is_found<V: Values>(search: &Search, number: u32, values: &mut V) -> Result<bool, ProbeFault>
+    ensures game { V.is_honest values.old → IfOk result (λ b. (b ≡ true) ↔ IsFound search.now number) }
+    ensures no_table { (c : AClass) → IsErrOf result (ProbeFault.NoTable c) → V.held values.old c ≡ false }
+    ensures no_damage { V.is_honest values.old → IfErr result IsNotDamage }
+    ensures honest { V.is_honest values.old → V.is_honest values.new }
+    ensures tables { (c : AClass) → V.held values.new c ≡ V.held values.old c }
+{
+    match decode(search.class, number) {
+        None => Ok(false),
+        Some(p) => is_looked_for(&p, search, values),
+    }
+}
+
+/// The first number from `from` on and below `to` of a position that is looked for.
+pub fn next_found<V: Values>(
+    search: &Search,
+    from: u32,
+    to: u32,
+    values: &mut V,
+) -> Result<Option<u32>, ProbeFault>
+    ensures game { V.is_honest values.old → IfOk result (IsNext (IsFound search.now) from to) }
+    ensures within { IfOk result (λ next. IfSome next (λ n. (from ≤ n) × (n < to))) }
+    ensures no_table { (c : AClass) → IsErrOf result (ProbeFault.NoTable c) → V.held values.old c ≡ false }
+    ensures no_damage { V.is_honest values.old → IfErr result IsNotDamage }
+    ensures honest { V.is_honest values.old → V.is_honest values.new }
+    ensures tables { (c : AClass) → V.held values.new c ≡ V.held values.old c }
+{
+    for number in from..to {
+        match is_found(search, number, values) {
+            Err(fault) => return Err(fault),
+            Ok(true) => return Ok(Some(number)),
+            Ok(false) => {}
+        }
+    }
+    Ok(None)
+}
+
+/// How many only moves in a row the defender can make the hero find, up to a limit, if the hero has the outcome.
+pub fn most_only_moves<V: Values>(
+    p: &Position,
+    outcome: Outcome,
+    limit: u8,
+    values: &mut V,
+) -> Result<Option<u8>, ProbeFault>
+    ensures game { V.is_honest values.old → IfOk result (IsMost outcome p.now limit) }
+    ensures no_table { (c : AClass) → IsErrOf result (ProbeFault.NoTable c) → V.held values.old c ≡ false }
+    ensures no_damage { V.is_honest values.old → IfErr result IsNotDamage }
+    ensures honest { V.is_honest values.old → V.is_honest values.new }
+    ensures tables { (c : AClass) → V.held values.new c ≡ V.held values.old c }
+{
+    match has_only_moves(p, outcome, 0, values) {
+        Err(fault) => return Err(fault),
+        Ok(false) => return Ok(None),
+        Ok(true) => {}
+    }
+    for n in 0..limit {
+        match has_only_moves(p, outcome, n + 1, values) {
+            Err(fault) => return Err(fault),
+            Ok(false) => return Ok(Some(n)),
+            Ok(true) => {}
+        }
+    }
+    Ok(Some(limit))
+}

@@ -1,0 +1,45 @@
+//! Laws over the definitions: functions that do nothing.
+ghost use Rattle.study_search.specs.Zugzwang.{ZugzwangsAreMutual};
+ghost use Rattle.study_search.specs.Pairs.{OneOfTwoIsListed};
+ghost use Rattle.study_search.specs.Laws.{EachIsFoundOnce, OneOfTwoImagesIsFound, NextFoundsAreAll, FewerOnlyMoves};
+
+use study_moves::{bare_agrees, values_are_unique};
+
+/// Each position of the class that has the theme is found once, up to symmetry: none is missing.
+pub fn each_is_found_once()
+    ensures { EachIsFoundOnce }
+{
+    bare_agrees();
+}
+
+/// In a class whose sides have the same men one of the two colour images of each position is found, with White to move.
+pub fn one_of_two_images_is_found()
+    ensures { OneOfTwoImagesIsFound }
+{
+    bare_agrees();
+}
+
+/// What `next_found` finds when it is called again and again are the numbers of all positions that are looked for.
+pub fn next_founds_are_all()
+    ensures { NextFoundsAreAll }
+{}
+
+/// A mutual zugzwang is one with the other side to move, too.
+pub fn zugzwangs_are_mutual()
+    ensures { ZugzwangsAreMutual }
+{
+    bare_agrees();
+}
+
+/// Where the hero has to find so many only moves in a row he has to find fewer, too.
+pub fn fewer_only_moves()
+    ensures { FewerOnlyMoves }
+{}
+
+/// Where both sides have the same men, of the two placements of a mutual zugzwang with White to move one is listed.
+pub fn one_of_two_is_listed()
+    ensures { OneOfTwoIsListed }
+{
+    bare_agrees();
+    values_are_unique();
+}

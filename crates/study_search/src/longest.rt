@@ -1,0 +1,106 @@
+//! The longest mate of a side in a class.
+ghost use Rattle.std.specs.Prelude.{◌≡◌, ◌↔◌, ℕ, Some, false, IfOk, IfErr, IsErrOf};
+ghost use Rattle.study_material.specs.declared.class.Class.{Class as AClass};
+ghost use Rattle.study_moves.specs.Game.{IsWon};
+ghost use Rattle.study_values.specs.Values.{IsNotDamage};
+ghost use Rattle.study_search.specs.Longest.{longer, mate_by, MatesIn, MatesAt, IsLongest};
+
+use crate::finding::is_for;
+use study_board::{Position, Side};
+use study_index::decode;
+use study_material::Class;
+use study_moves::values_are_unique;
+use study_values::{ProbeFault, Value, Values, cells};
+
+/// The longer of two mates, of those that there are.
+fn longer(a: Option<u8>, b: Option<u8>) -> Option<u8>
+    ensures { result ≡ longer a b }
+{
+    match (a, b) {
+        (Some(x), Some(y)) => { if x < y { Some(y) } else { Some(x) } }
+        (Some(x), None) => Some(x),
+        (None, b) => b,
+    }
+}
+
+/// In how many plies the side to move mates, by the value.
+fn mate_by(value: Value) -> Option<u8>
+    ensures { result ≡ mate_by value }
+{
+    match value {
+        Value::Win(plies) => Some(plies),
+        Value::Loss(_) => None,
+        Value::Draw => None,
+    }
+}
+
+/// In how many plies the side to move mates, if it does.
+pub fn mate_of<V: Values>(p: &Position, values: &mut V) -> Result<Option<u8>, ProbeFault>
+    ensures game { V.is_honest values.old → IfOk result (λ mate. (k : ℕ) → (mate ≡ Some k) ↔ IsWon p.now k) }
+    ensures no_table { (c : AClass) → IsErrOf result (ProbeFault.NoTable c) → V.held values.old c ≡ false }
+    ensures no_damage { V.is_honest values.old → IfErr result IsNotDamage }
+    ensures honest { V.is_honest values.old → V.is_honest values.new }
+    ensures tables { (c : AClass) → V.held values.new c ≡ V.held values.old c }
+{
+    values_are_unique();
+    match values.value(p) {
+        Err(fault) => Err(fault),
+        Ok(value) => Ok(mate_by(value)),
+    }
+}
+
+/// In how many plies the side mates, if it is to move and does.
+fn mate_for<V: Values>(p: &Position, side: Side, values: &mut V) -> Result<Option<u8>, ProbeFault>
+    ensures game { V.is_honest values.old → IfOk result (λ mate. (k : ℕ) → (mate ≡ Some k) ↔ MatesIn side k p.now) }
+    ensures no_table { (c : AClass) → IsErrOf result (ProbeFault.NoTable c) → V.held values.old c ≡ false }
+    ensures no_damage { V.is_honest values.old → IfErr result IsNotDamage }
+    ensures honest { V.is_honest values.old → V.is_honest values.new }
+    ensures tables { (c : AClass) → V.held values.new c ≡ V.held values.old c }
+{
+    let wanted = is_for(Some(side), p.to_move());
+    if wanted {
+        return mate_of(p, values);
+    }
+    Ok(None)
+}
+
+/// In how many plies the side mates in the number's position, if it is to move there and does.
+fn mate_at<V: Values>(
+    class: Class,
+    side: Side,
+    number: u32,
+    values: &mut V,
+) -> Result<Option<u8>, ProbeFault>
+    ensures game { V.is_honest values.old → IfOk result (λ mate. (k : ℕ) → (mate ≡ Some k) ↔ MatesAt class side number k) }
+    ensures no_table { (c : AClass) → IsErrOf result (ProbeFault.NoTable c) → V.held values.old c ≡ false }
+    ensures no_damage { V.is_honest values.old → IfErr result IsNotDamage }
+    ensures honest { V.is_honest values.old → V.is_honest values.new }
+    ensures tables { (c : AClass) → V.held values.new c ≡ V.held values.old c }
+{
+    match decode(class, number) {
+        None => Ok(None),
+        Some(p) => mate_for(&p, side, values),
+    }
+}
+
+/// In how many plies the side mates at the latest, of the positions of the class with this side to move in which it does.
+pub fn longest_mate<V: Values>(
+    class: Class,
+    side: Side,
+    values: &mut V,
+) -> Result<Option<u8>, ProbeFault>
+    ensures game { V.is_honest values.old → IfOk result (IsLongest class side) }
+    ensures no_table { (c : AClass) → IsErrOf result (ProbeFault.NoTable c) → V.held values.old c ≡ false }
+    ensures no_damage { V.is_honest values.old → IfErr result IsNotDamage }
+    ensures honest { V.is_honest values.old → V.is_honest values.new }
+    ensures tables { (c : AClass) → V.held values.new c ≡ V.held values.old c }
+{
+    let mut longest = None;
+    for number in 0..cells(class) {
+        match mate_at(class, side, number, values) {
+            Err(fault) => return Err(fault),
+            Ok(mate) => longest = longer(longest, mate),
+        }
+    }
+    Ok(longest)
+}

@@ -1,0 +1,239 @@
+//! How many only moves in a row the defender can make the hero find, by the values of positions.
+ghost use Rattle.std.specs.Prelude.{◌≡◌, ◌≤◌, ◌↔◌, Some, true, false, length, IfOk, IfErr, IfSome, IsErrOf};
+ghost use Rattle.std.specs.List.{All};
+ghost use Rattle.study_material.specs.declared.class.Class.{Class as AClass};
+ghost use Rattle.study_moves.specs.declared.moves.Move.{Move as AMove};
+ghost use Rattle.study_moves.specs.Rules.{is_legal};
+ghost use Rattle.study_values.specs.Values.{IsNotDamage};
+ghost use Rattle.study_search.specs.OnlyMoves.{has_outcome, keeps_outcome, Has, Holds, IsOnlyMove, IsKey, HasOnlyMoves};
+ghost use Rattle.study_search.specs.Listed.{SomeLeads, IsOnlyAmong};
+
+use study_board::Position;
+use study_moves::{MAX_MOVES, Move, legal_moves, played, values_are_unique};
+use study_values::{ProbeFault, Value, Values};
+
+/// What the hero has, who is to move: he wins, or he draws.
+#[derive(Clone, Copy, Debug, PartialEq, Eq)]
+pub enum Outcome {
+    Win,
+    Draw,
+}
+
+/// Whether the side to move has the outcome, by its value.
+fn has_outcome(outcome: Outcome, value: Value) -> bool
+    ensures { result ≡ has_outcome outcome value }
+{
+    match value {
+        Value::Win(_) => outcome == Outcome::Win,
+        Value::Loss(_) => false,
+        Value::Draw => outcome == Outcome::Draw,
+    }
+}
+
+/// Whether the move that led here keeps the outcome, by the value for the opponent, who is to move.
+fn keeps_outcome(outcome: Outcome, value: Value) -> bool
+    ensures { result ≡ keeps_outcome outcome value }
+{
+    match value {
+        Value::Win(_) => false,
+        Value::Loss(_) => true,
+        Value::Draw => outcome == Outcome::Draw,
+    }
+}
+
+/// Whether the side to move has the outcome.
+pub(crate) fn has<V: Values>(
+    p: &Position,
+    outcome: Outcome,
+    values: &mut V,
+) -> Result<bool, ProbeFault>
+    ensures game { V.is_honest values.old → IfOk result (λ b. (b ≡ true) ↔ Has outcome p.now) }
+    ensures no_table { (c : AClass) → IsErrOf result (ProbeFault.NoTable c) → V.held values.old c ≡ false }
+    ensures no_damage { V.is_honest values.old → IfErr result IsNotDamage }
+    ensures honest { V.is_honest values.old → V.is_honest values.new }
+    ensures tables { (c : AClass) → V.held values.new c ≡ V.held values.old c }
+{
+    values_are_unique();
+    match values.value(p) {
+        Err(fault) => Err(fault),
+        Ok(value) => Ok(has_outcome(outcome, value)),
+    }
+}
+
+/// Whether the move that led here keeps the outcome.
+fn holds<V: Values>(q: &Position, outcome: Outcome, values: &mut V) -> Result<bool, ProbeFault>
+    ensures game { V.is_honest values.old → IfOk result (λ b. (b ≡ true) ↔ Holds outcome q.now) }
+    ensures no_table { (c : AClass) → IsErrOf result (ProbeFault.NoTable c) → V.held values.old c ≡ false }
+    ensures no_damage { V.is_honest values.old → IfErr result IsNotDamage }
+    ensures honest { V.is_honest values.old → V.is_honest values.new }
+    ensures tables { (c : AClass) → V.held values.new c ≡ V.held values.old c }
+{
+    values_are_unique();
+    match values.value(q) {
+        Err(fault) => Err(fault),
+        Ok(value) => Ok(keeps_outcome(outcome, value)),
+    }
+}
+
+/// Whether one of these moves holds.
+fn some_holds<V: Values>(
+    p: &Position,
+    outcome: Outcome,
+    moves: &[Move],
+    values: &mut V,
+) -> Result<bool, ProbeFault>
+    requires legal { All (λ m. is_legal p.now m ≡ true) moves.now }
+    ensures game { V.is_honest values.old → IfOk result (λ b. (b ≡ true) ↔ SomeLeads (Holds outcome) p.now moves.now) }
+    ensures no_table { (c : AClass) → IsErrOf result (ProbeFault.NoTable c) → V.held values.old c ≡ false }
+    ensures no_damage { V.is_honest values.old → IfErr result IsNotDamage }
+    ensures honest { V.is_honest values.old → V.is_honest values.new }
+    ensures tables { (c : AClass) → V.held values.new c ≡ V.held values.old c }
+{
+    match moves.split_first() {
+        None => Ok(false),
+        Some((m, rest)) => {
+            let next = played(p, *m);
+            match holds(&next, outcome, values) {
+                Err(fault) => Err(fault),
+                Ok(true) => Ok(true),
+                Ok(false) => some_holds(p, outcome, rest, values),
+            }
+        }
+    }
+}
+
+/// The one of these moves that holds, if just one does; it stops at the second.
+fn only_among<V: Values>(
+    p: &Position,
+    outcome: Outcome,
+    moves: &[Move],
+    values: &mut V,
+) -> Result<Option<Move>, ProbeFault>
+    requires legal { All (λ m. is_legal p.now m ≡ true) moves.now }
+    ensures game { V.is_honest values.old → IfOk result (λ only. (m : AMove) → (only ≡ Some m) ↔ IsOnlyAmong outcome p.now m moves.now) }
+    ensures legal { IfOk result (λ only. IfSome only (λ m. is_legal p.now m ≡ true)) }
+    ensures no_table { (c : AClass) → IsErrOf result (ProbeFault.NoTable c) → V.held values.old c ≡ false }
+    ensures no_damage { V.is_honest values.old → IfErr result IsNotDamage }
+    ensures honest { V.is_honest values.old → V.is_honest values.new }
+    ensures tables { (c : AClass) → V.held values.new c ≡ V.held values.old c }
+{
+    match moves.split_first() {
+        None => Ok(None),
+        Some((m, rest)) => {
+            let next = played(p, *m);
+            match holds(&next, outcome, values) {
+                Err(fault) => Err(fault),
+                Ok(false) => only_among(p, outcome, rest, values),
+                Ok(true) => match some_holds(p, outcome, rest, values) {
+                    Err(fault) => Err(fault),
+                    Ok(true) => Ok(None),
+                    Ok(false) => Ok(Some(*m)),
+                },
+            }
+        }
+    }
+}
+
+/// The legal move that holds, if just one does.
+pub fn only_move<V: Values>(
+    p: &Position,
+    outcome: Outcome,
+    values: &mut V,
+) -> Result<Option<Move>, ProbeFault>
+    ensures game { V.is_honest values.old → IfOk result (λ only. (m : AMove) → (only ≡ Some m) ↔ IsOnlyMove outcome p.now m) }
+    ensures legal { IfOk result (λ only. IfSome only (λ m. is_legal p.now m ≡ true)) }
+    ensures no_table { (c : AClass) → IsErrOf result (ProbeFault.NoTable c) → V.held values.old c ≡ false }
+    ensures no_damage { V.is_honest values.old → IfErr result IsNotDamage }
+    ensures honest { V.is_honest values.old → V.is_honest values.new }
+    ensures tables { (c : AClass) → V.held values.new c ≡ V.held values.old c }
+{
+    let moves = legal_moves(p);
+    only_among(p, outcome, moves.as_slice(), values)
+}
+
+/// The one move that keeps the outcome of the side to move, if it has this outcome and just one move does.
+pub fn key_move<V: Values>(
+    p: &Position,
+    outcome: Outcome,
+    values: &mut V,
+) -> Result<Option<Move>, ProbeFault>
+    ensures game { V.is_honest values.old → IfOk result (λ only. (m : AMove) → (only ≡ Some m) ↔ IsKey outcome p.now m) }
+    ensures legal { IfOk result (λ only. IfSome only (λ m. is_legal p.now m ≡ true)) }
+    ensures no_table { (c : AClass) → IsErrOf result (ProbeFault.NoTable c) → V.held values.old c ≡ false }
+    ensures no_damage { V.is_honest values.old → IfErr result IsNotDamage }
+    ensures honest { V.is_honest values.old → V.is_honest values.new }
+    ensures tables { (c : AClass) → V.held values.new c ≡ V.held values.old c }
+{
+    match has(p, outcome, values) {
+        Err(fault) => Err(fault),
+        Ok(false) => Ok(None),
+        Ok(true) => only_move(p, outcome, values),
+    }
+}
+
+/// Whether one of these replies leads to where the hero has to find n only moves in a row.
+#[cycle(line)]
+fn some_reply_leads<V: Values>(
+    q: &Position,
+    outcome: Outcome,
+    n: u8,
+    replies: &[Move],
+    values: &mut V,
+) -> Result<bool, ProbeFault>
+    requires legal { All (λ m. is_legal q.now m ≡ true) replies.now }
+    requires few { length replies.now ≤ MAX_MOVES }
+    ensures game { V.is_honest values.old → IfOk result (λ b. (b ≡ true) ↔ SomeLeads (HasOnlyMoves outcome n) q.now replies.now) }
+    ensures no_table { (c : AClass) → IsErrOf result (ProbeFault.NoTable c) → V.held values.old c ≡ false }
+    ensures no_damage { V.is_honest values.old → IfErr result IsNotDamage }
+    ensures honest { V.is_honest values.old → V.is_honest values.new }
+    ensures tables { (c : AClass) → V.held values.new c ≡ V.held values.old c }
+{
+    match replies.split_first() {
+        None => Ok(false),
+        Some((r, rest)) => {
+            let next = played(q, *r);
+            match has_only_moves(&next, outcome, n, values) {
+                Err(fault) => Err(fault),
+                Ok(true) => Ok(true),
+                Ok(false) => some_reply_leads(q, outcome, n, rest, values),
+            }
+        }
+    }
+}
+
+/// Whether the hero, who is to move, has the outcome, and the defender can make him find n only moves in a row to keep it.
+#[cycle(line)]
+pub fn has_only_moves<V: Values>(
+    p: &Position,
+    outcome: Outcome,
+    n: u8,
+    values: &mut V,
+) -> Result<bool, ProbeFault>
+    ensures game { V.is_honest values.old → IfOk result (λ b. (b ≡ true) ↔ HasOnlyMoves outcome n p.now) }
+    ensures no_table { (c : AClass) → IsErrOf result (ProbeFault.NoTable c) → V.held values.old c ≡ false }
+    ensures no_damage { V.is_honest values.old → IfErr result IsNotDamage }
+    ensures honest { V.is_honest values.old → V.is_honest values.new }
+    ensures tables { (c : AClass) → V.held values.new c ≡ V.held values.old c }
+{
+    match has(p, outcome, values) {
+        Err(fault) => Err(fault),
+        Ok(false) => Ok(false),
+        Ok(true) => {
+            if n == 0 {
+                return Ok(true);
+            }
+            match only_move(p, outcome, values) {
+                Err(fault) => Err(fault),
+                Ok(None) => Ok(false),
+                Ok(Some(m)) => {
+                    if n == 1 {
+                        return Ok(true);
+                    }
+                    let next = played(p, m);
+                    let replies = legal_moves(&next);
+                    some_reply_leads(&next, outcome, n - 1, replies.as_slice(), values)
+                }
+            }
+        }
+    }
+}

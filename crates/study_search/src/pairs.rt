@@ -1,0 +1,76 @@
+//! Which of the two placements of a mutual zugzwang is listed where both sides have the same men.
+ghost use Rattle.std.specs.Prelude.{◌≡◌, ◌↔◌, ◌≤◌, true, false, IfOk, IfErr, IsErrOf};
+ghost use Rattle.study_board.specs.Position.{IsValid};
+ghost use Rattle.study_material.specs.declared.class.Class.{Class as AClass};
+ghost use Rattle.study_moves.specs.Game.{IsDrawn};
+ghost use Rattle.study_values.specs.Index.{index_of};
+ghost use Rattle.study_values.specs.Values.{IsNotDamage};
+ghost use Rattle.study_search.specs.Zugzwang.{handed_on};
+ghost use Rattle.study_search.specs.Pairs.{ComesFirst, IsListedOfTwo};
+
+use crate::only_moves::{Outcome, has};
+use crate::zugzwang::handed_on;
+use study_board::{Position, Symmetry};
+use study_index::index;
+use study_values::{ProbeFault, Values};
+
+/// Whether the second of two positions is not drawn, and the number of the first is no higher.
+fn has_lower_number<V: Values>(
+    p: &Position,
+    q: &Position,
+    values: &mut V,
+) -> Result<bool, ProbeFault>
+    ensures game { V.is_honest values.old → IfOk result (λ b. (b ≡ true) ↔ (¬ (IsDrawn q.now) × (index_of p.now ≤ index_of q.now))) }
+    ensures no_table { (c : AClass) → IsErrOf result (ProbeFault.NoTable c) → V.held values.old c ≡ false }
+    ensures no_damage { V.is_honest values.old → IfErr result IsNotDamage }
+    ensures honest { V.is_honest values.old → V.is_honest values.new }
+    ensures tables { (c : AClass) → V.held values.new c ≡ V.held values.old c }
+{
+    match has(q, Outcome::Draw, values) {
+        Err(fault) => Err(fault),
+        Ok(true) => Ok(false),
+        Ok(false) => {
+            let own = index(p);
+            let other = index(q);
+            Ok(own <= other)
+        }
+    }
+}
+
+/// Whether the first of two positions is drawn, or has the lower number where neither is.
+fn comes_first<V: Values>(p: &Position, q: &Position, values: &mut V) -> Result<bool, ProbeFault>
+    ensures game { V.is_honest values.old → IfOk result (λ b. (b ≡ true) ↔ ComesFirst p.now q.now) }
+    ensures no_table { (c : AClass) → IsErrOf result (ProbeFault.NoTable c) → V.held values.old c ≡ false }
+    ensures no_damage { V.is_honest values.old → IfErr result IsNotDamage }
+    ensures honest { V.is_honest values.old → V.is_honest values.new }
+    ensures tables { (c : AClass) → V.held values.new c ≡ V.held values.old c }
+{
+    match has(p, Outcome::Draw, values) {
+        Err(fault) => Err(fault),
+        Ok(true) => Ok(true),
+        Ok(false) => has_lower_number(p, q, values),
+    }
+}
+
+/// Whether of a mutual zugzwang with White to move and its colour image with the other side to move this one is listed.
+pub fn is_listed_of_two<V: Values>(p: &Position, values: &mut V) -> Result<bool, ProbeFault>
+    ensures game { V.is_honest values.old → IsValid (handed_on p.now) → IfOk result (λ b. (b ≡ true) ↔ IsListedOfTwo p.now) }
+    ensures no_table { (c : AClass) → IsErrOf result (ProbeFault.NoTable c) → V.held values.old c ≡ false }
+    ensures no_damage { V.is_honest values.old → IfErr result IsNotDamage }
+    ensures honest { V.is_honest values.old → V.is_honest values.new }
+    ensures tables { (c : AClass) → V.held values.new c ≡ V.held values.old c }
+{
+    match handed_on(p) {
+        None => Ok(false),
+        Some(q) => {
+            let swapped = Symmetry {
+                files: false,
+                ranks: false,
+                diagonal: false,
+                colours: true,
+            };
+            let other = q.turned(&swapped);
+            comes_first(p, &other, values)
+        }
+    }
+}

@@ -1,0 +1,223 @@
+//! The themes of positions: mutual zugzwangs, only moves, underpromotions and long mates.
+ghost use Rattle.std.specs.Prelude.{◌≡◌, ◌↔◌, true, false, IfOk, IfErr, IsErrOf};
+ghost use Rattle.std.specs.List.{All};
+ghost use Rattle.study_material.specs.declared.class.Class.{Class as AClass};
+ghost use Rattle.study_moves.specs.Game.{IsWon};
+ghost use Rattle.study_moves.specs.Rules.{is_legal};
+ghost use Rattle.study_values.specs.Values.{IsNotDamage};
+ghost use Rattle.study_search.specs.Listed.{SomeLeads};
+ghost use Rattle.study_search.specs.Themes.{is_underpromoted, Underpromotes, LeadsIntoZugzwang, spoiling, FailsIntoZugzwang, HasTheme};
+
+use crate::longest::mate_of;
+use crate::only_moves::{Outcome, has_only_moves, key_move, only_move};
+use crate::zugzwang::is_zugzwang;
+use study_board::{Kind, Position};
+use study_moves::{Move, legal_moves, played};
+use study_values::{ProbeFault, Values};
+
+/// What a position can have. The side to move is the hero.
+#[derive(Clone, Copy, Debug, PartialEq, Eq)]
+pub enum Theme {
+    /// A mutual zugzwang, whoever is to move.
+    Zugzwang,
+    /// The hero has the outcome, and the defender can make him find so many only moves in a row.
+    OnlyMoves(Outcome, u8),
+    /// Just one move holds, and it promotes to a rook, a bishop or a knight.
+    Underpromotion,
+    /// The hero has the outcome, just one move keeps it, and it leads to a mutual zugzwang.
+    IntoZugzwang(Outcome),
+    /// The same, and another move fails by one reply alone, which leads to a mutual zugzwang with the hero to move.
+    ZugzwangTry(Outcome),
+    /// The hero mates in so many plies, and not in fewer.
+    MateIn(u8),
+}
+
+/// Whether the move promotes to a rook, a bishop or a knight.
+pub fn is_underpromotion(m: Move) -> bool
+    ensures { result ≡ is_underpromoted m.promoted }
+{
+    match m.promoted {
+        Some(Kind::Rook | Kind::Bishop | Kind::Knight) => true,
+        _ => false,
+    }
+}
+
+/// Whether just one move keeps the outcome, and it promotes to less than a queen.
+fn underpromotes<V: Values>(
+    p: &Position,
+    outcome: Outcome,
+    values: &mut V,
+) -> Result<bool, ProbeFault>
+    ensures game { V.is_honest values.old → IfOk result (λ b. (b ≡ true) ↔ Underpromotes outcome p.now) }
+    ensures no_table { (c : AClass) → IsErrOf result (ProbeFault.NoTable c) → V.held values.old c ≡ false }
+    ensures no_damage { V.is_honest values.old → IfErr result IsNotDamage }
+    ensures honest { V.is_honest values.old → V.is_honest values.new }
+    ensures tables { (c : AClass) → V.held values.new c ≡ V.held values.old c }
+{
+    match key_move(p, outcome, values) {
+        Err(fault) => Err(fault),
+        Ok(None) => Ok(false),
+        Ok(Some(m)) => Ok(is_underpromotion(m)),
+    }
+}
+
+fn draws_by_underpromotion<V: Values>(p: &Position, values: &mut V) -> Result<bool, ProbeFault>
+    ensures game { V.is_honest values.old → IfOk result (λ b. (b ≡ true) ↔ Underpromotes Outcome.Draw p.now) }
+    ensures no_table { (c : AClass) → IsErrOf result (ProbeFault.NoTable c) → V.held values.old c ≡ false }
+    ensures no_damage { V.is_honest values.old → IfErr result IsNotDamage }
+    ensures honest { V.is_honest values.old → V.is_honest values.new }
+    ensures tables { (c : AClass) → V.held values.new c ≡ V.held values.old c }
+{
+    underpromotes(p, Outcome::Draw, values)
+}
+
+/// Whether just one move holds, and it promotes to less than a queen.
+fn holds_by_underpromotion<V: Values>(p: &Position, values: &mut V) -> Result<bool, ProbeFault>
+    ensures game { V.is_honest values.old → IfOk result (λ b. (b ≡ true) ↔ HasTheme Theme.Underpromotion p.now) }
+    ensures no_table { (c : AClass) → IsErrOf result (ProbeFault.NoTable c) → V.held values.old c ≡ false }
+    ensures no_damage { V.is_honest values.old → IfErr result IsNotDamage }
+    ensures honest { V.is_honest values.old → V.is_honest values.new }
+    ensures tables { (c : AClass) → V.held values.new c ≡ V.held values.old c }
+{
+    match underpromotes(p, Outcome::Win, values) {
+        Err(fault) => Err(fault),
+        Ok(true) => Ok(true),
+        Ok(false) => draws_by_underpromotion(p, values),
+    }
+}
+
+/// Whether just one move keeps the outcome, and it leads to a mutual zugzwang.
+fn leads_into_zugzwang<V: Values>(
+    p: &Position,
+    outcome: Outcome,
+    values: &mut V,
+) -> Result<bool, ProbeFault>
+    ensures game { V.is_honest values.old → IfOk result (λ b. (b ≡ true) ↔ LeadsIntoZugzwang outcome p.now) }
+    ensures no_table { (c : AClass) → IsErrOf result (ProbeFault.NoTable c) → V.held values.old c ≡ false }
+    ensures no_damage { V.is_honest values.old → IfErr result IsNotDamage }
+    ensures honest { V.is_honest values.old → V.is_honest values.new }
+    ensures tables { (c : AClass) → V.held values.new c ≡ V.held values.old c }
+{
+    match key_move(p, outcome, values) {
+        Err(fault) => Err(fault),
+        Ok(None) => Ok(false),
+        Ok(Some(m)) => {
+            let next = played(p, m);
+            is_zugzwang(&next, values)
+        }
+    }
+}
+
+/// What is enough for the opponent to spoil the outcome.
+fn spoiling(outcome: Outcome) -> Outcome
+    ensures { result ≡ spoiling outcome }
+{
+    match outcome {
+        Outcome::Win => Outcome::Draw,
+        Outcome::Draw => Outcome::Win,
+    }
+}
+
+/// Whether the opponent, who is to move, has one reply alone that spoils the outcome, and it leads to a mutual zugzwang.
+fn fails_into_zugzwang<V: Values>(
+    q: &Position,
+    outcome: Outcome,
+    values: &mut V,
+) -> Result<bool, ProbeFault>
+    ensures game { V.is_honest values.old → IfOk result (λ b. (b ≡ true) ↔ FailsIntoZugzwang outcome q.now) }
+    ensures no_table { (c : AClass) → IsErrOf result (ProbeFault.NoTable c) → V.held values.old c ≡ false }
+    ensures no_damage { V.is_honest values.old → IfErr result IsNotDamage }
+    ensures honest { V.is_honest values.old → V.is_honest values.new }
+    ensures tables { (c : AClass) → V.held values.new c ≡ V.held values.old c }
+{
+    match only_move(q, spoiling(outcome), values) {
+        Err(fault) => Err(fault),
+        Ok(None) => Ok(false),
+        Ok(Some(r)) => {
+            let next = played(q, r);
+            is_zugzwang(&next, values)
+        }
+    }
+}
+
+/// Whether one of these moves fails by one reply alone, which leads to a mutual zugzwang with the hero to move.
+fn some_fails_into_zugzwang<V: Values>(
+    p: &Position,
+    outcome: Outcome,
+    moves: &[Move],
+    values: &mut V,
+) -> Result<bool, ProbeFault>
+    requires legal { All (λ m. is_legal p.now m ≡ true) moves.now }
+    ensures game { V.is_honest values.old → IfOk result (λ b. (b ≡ true) ↔ SomeLeads (FailsIntoZugzwang outcome) p.now moves.now) }
+    ensures no_table { (c : AClass) → IsErrOf result (ProbeFault.NoTable c) → V.held values.old c ≡ false }
+    ensures no_damage { V.is_honest values.old → IfErr result IsNotDamage }
+    ensures honest { V.is_honest values.old → V.is_honest values.new }
+    ensures tables { (c : AClass) → V.held values.new c ≡ V.held values.old c }
+{
+    match moves.split_first() {
+        None => Ok(false),
+        Some((m, rest)) => {
+            let next = played(p, *m);
+            match fails_into_zugzwang(&next, outcome, values) {
+                Err(fault) => Err(fault),
+                Ok(true) => Ok(true),
+                Ok(false) => some_fails_into_zugzwang(p, outcome, rest, values),
+            }
+        }
+    }
+}
+
+/// Whether the one move that keeps the outcome leads to a mutual zugzwang, and so does the one refutation of a try.
+fn has_zugzwang_try<V: Values>(
+    p: &Position,
+    outcome: Outcome,
+    values: &mut V,
+) -> Result<bool, ProbeFault>
+    ensures game { V.is_honest values.old → IfOk result (λ b. (b ≡ true) ↔ HasTheme (Theme.ZugzwangTry outcome) p.now) }
+    ensures no_table { (c : AClass) → IsErrOf result (ProbeFault.NoTable c) → V.held values.old c ≡ false }
+    ensures no_damage { V.is_honest values.old → IfErr result IsNotDamage }
+    ensures honest { V.is_honest values.old → V.is_honest values.new }
+    ensures tables { (c : AClass) → V.held values.new c ≡ V.held values.old c }
+{
+    match leads_into_zugzwang(p, outcome, values) {
+        Err(fault) => Err(fault),
+        Ok(false) => Ok(false),
+        Ok(true) => {
+            let moves = legal_moves(p);
+            some_fails_into_zugzwang(p, outcome, moves.as_slice(), values)
+        }
+    }
+}
+
+/// Whether the hero mates in so many plies, and not in fewer.
+fn mates_in<V: Values>(p: &Position, plies: u8, values: &mut V) -> Result<bool, ProbeFault>
+    ensures game { V.is_honest values.old → IfOk result (λ b. (b ≡ true) ↔ IsWon p.now plies) }
+    ensures no_table { (c : AClass) → IsErrOf result (ProbeFault.NoTable c) → V.held values.old c ≡ false }
+    ensures no_damage { V.is_honest values.old → IfErr result IsNotDamage }
+    ensures honest { V.is_honest values.old → V.is_honest values.new }
+    ensures tables { (c : AClass) → V.held values.new c ≡ V.held values.old c }
+{
+    match mate_of(p, values) {
+        Err(fault) => Err(fault),
+        Ok(None) => Ok(false),
+        Ok(Some(k)) => Ok(k == plies),
+    }
+}
+
+/// Whether the position has the theme.
+pub fn has_theme<V: Values>(p: &Position, theme: Theme, values: &mut V) -> Result<bool, ProbeFault>
+    ensures game { V.is_honest values.old → IfOk result (λ b. (b ≡ true) ↔ HasTheme theme p.now) }
+    ensures no_table { (c : AClass) → IsErrOf result (ProbeFault.NoTable c) → V.held values.old c ≡ false }
+    ensures no_damage { V.is_honest values.old → IfErr result IsNotDamage }
+    ensures honest { V.is_honest values.old → V.is_honest values.new }
+    ensures tables { (c : AClass) → V.held values.new c ≡ V.held values.old c }
+{
+    match theme {
+        Theme::Zugzwang => is_zugzwang(p, values),
+        Theme::OnlyMoves(outcome, n) => has_only_moves(p, outcome, n, values),
+        Theme::Underpromotion => holds_by_underpromotion(p, values),
+        Theme::IntoZugzwang(outcome) => leads_into_zugzwang(p, outcome, values),
+        Theme::ZugzwangTry(outcome) => has_zugzwang_try(p, outcome, values),
+        Theme::MateIn(plies) => mates_in(p, plies, values),
+    }
+}

@@ -1,0 +1,106 @@
+//! Mutual zugzwangs: with either side to move the men are a position, and the two who are to move score less than one
+//! point between them.
+ghost use Rattle.std.specs.Prelude.{◌≡◌, ◌<◌, ◌↔◌, true, false, IfOk, IfErr, IfSome, IfNone, IsErrOf};
+ghost use Rattle.study_board.specs.Position.{IsValid};
+ghost use Rattle.study_material.specs.declared.class.Class.{Class as AClass};
+ghost use Rattle.study_values.specs.Values.{IsNotDamage};
+ghost use Rattle.study_search.specs.Zugzwang.{half_points, handed_on, Scores, ScoresLessThan, ScoreLessThanAPoint, IsZugzwang};
+
+use crate::en_passant::has_legal_en_passant;
+use study_board::Position;
+use study_moves::values_are_unique;
+use study_values::{ProbeFault, Value, Values};
+
+/// What the side to move scores, in half points.
+pub fn half_points(value: Value) -> u8
+    ensures value { result ≡ half_points value }
+    ensures few { result < 3 }
+{
+    match value {
+        Value::Loss(_) => 0,
+        Value::Draw => 1,
+        Value::Win(_) => 2,
+    }
+}
+
+/// The same men with the other side to move and nothing passed, if that is a position.
+pub fn handed_on(p: &Position) -> Option<Position>
+    ensures none { IfNone result (¬ (IsValid (handed_on p.now))) }
+    ensures some { IfSome result (λ q. (q ≡ handed_on p.now) × IsValid q) }
+{
+    match Position::new(p.men(), p.to_move().other(), None) {
+        Ok(q) => Some(q),
+        Err(_) => None,
+    }
+}
+
+/// How many half points the side to move scores.
+fn score<V: Values>(p: &Position, values: &mut V) -> Result<u8, ProbeFault>
+    ensures game { V.is_honest values.old → IfOk result (Scores p.now) }
+    ensures few { IfOk result (λ k. k < 3) }
+    ensures no_table { (c : AClass) → IsErrOf result (ProbeFault.NoTable c) → V.held values.old c ≡ false }
+    ensures no_damage { V.is_honest values.old → IfErr result IsNotDamage }
+    ensures honest { V.is_honest values.old → V.is_honest values.new }
+    ensures tables { (c : AClass) → V.held values.new c ≡ V.held values.old c }
+{
+    match values.value(p) {
+        Err(fault) => Err(fault),
+        Ok(value) => Ok(half_points(value)),
+    }
+}
+
+fn scores_less_than<V: Values>(p: &Position, limit: u8, values: &mut V) -> Result<bool, ProbeFault>
+    ensures game { V.is_honest values.old → IfOk result (λ b. (b ≡ true) ↔ ScoresLessThan p.now limit) }
+    ensures no_table { (c : AClass) → IsErrOf result (ProbeFault.NoTable c) → V.held values.old c ≡ false }
+    ensures no_damage { V.is_honest values.old → IfErr result IsNotDamage }
+    ensures honest { V.is_honest values.old → V.is_honest values.new }
+    ensures tables { (c : AClass) → V.held values.new c ≡ V.held values.old c }
+{
+    values_are_unique();
+    match score(p, values) {
+        Err(fault) => Err(fault),
+        Ok(points) => Ok(points < limit),
+    }
+}
+
+/// Whether the two who are to move score less than a point between them. Where the first wins, the second is not evaluated.
+fn score_less_than_a_point<V: Values>(
+    p: &Position,
+    q: &Position,
+    values: &mut V,
+) -> Result<bool, ProbeFault>
+    ensures game { V.is_honest values.old → IfOk result (λ b. (b ≡ true) ↔ ScoreLessThanAPoint p.now q.now) }
+    ensures no_table { (c : AClass) → IsErrOf result (ProbeFault.NoTable c) → V.held values.old c ≡ false }
+    ensures no_damage { V.is_honest values.old → IfErr result IsNotDamage }
+    ensures honest { V.is_honest values.old → V.is_honest values.new }
+    ensures tables { (c : AClass) → V.held values.new c ≡ V.held values.old c }
+{
+    values_are_unique();
+    match score(p, values) {
+        Err(fault) => Err(fault),
+        Ok(points) => {
+            if points == 2 {
+                return Ok(false);
+            }
+            scores_less_than(q, 2 - points, values)
+        }
+    }
+}
+
+/// Whether the position is a mutual zugzwang, whoever is to move.
+pub fn is_zugzwang<V: Values>(p: &Position, values: &mut V) -> Result<bool, ProbeFault>
+    ensures game { V.is_honest values.old → IfOk result (λ b. (b ≡ true) ↔ IsZugzwang p.now) }
+    ensures no_table { (c : AClass) → IsErrOf result (ProbeFault.NoTable c) → V.held values.old c ≡ false }
+    ensures no_damage { V.is_honest values.old → IfErr result IsNotDamage }
+    ensures honest { V.is_honest values.old → V.is_honest values.new }
+    ensures tables { (c : AClass) → V.held values.new c ≡ V.held values.old c }
+{
+    let passing = has_legal_en_passant(p);
+    if passing {
+        return Ok(false);
+    }
+    match handed_on(p) {
+        None => Ok(false),
+        Some(q) => score_less_than_a_point(p, &q, values),
+    }
+}
