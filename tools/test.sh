@@ -10,14 +10,14 @@
 #
 # A program runs by `rt try` on its files stdin, args and data, and its output and exit status are compared with its files stdout and status, as in
 # the gate. studybench also answers the scripts of the gallery that need no table of four men. Tests run by `rt try --test`. What a slow machine cuts
-# is no failure: such lines end with 'not ended', are counted apart, and say nothing of the program. gallery and test_large walk classes of four men,
-# which only a compiled program does in time: the gate alone runs them.
+# is no failure: such lines end with 'not ended', are counted apart, and say nothing of the program. finding_lists, gallery and test_large walk classes
+# of four men, which only a compiled program does in time: the gate alone runs them.
 #
 # Exit status: 0 where nothing failed, 1 where something did, 2 where it could not be tried: no rt, no such crate, no room.
 say() { echo "tools/test.sh: $1" >&2; exit 2; }
 cd "$(dirname "$0")/.." || exit 2
 command -v rt > /dev/null || say "the Rattle toolchain's rt is not on PATH"
-large=" gallery test_large "; quick="test_rules test_web"; limit=${SECONDS_EACH:-120}; jobs=${JOBS:-$(nproc)}
+large=" finding_lists gallery test_large "; quick="test_rules test_web"; limit=${SECONDS_EACH:-120}; jobs=${JOBS:-$(nproc)}
 case $limit$jobs in *[!0-9]*) say "SECONDS_EACH and JOBS are numbers" ;; esac
 
 is_tests() { grep -qr '#\[test\]' "crates/$1/src"; }
