@@ -27,7 +27,8 @@ if left_by_the_gate "$top"; then
     cd "$room"
     "$kit/bin/rattle" build --crate-name study_speed src/main.rt "${words[@]}" --jobs 2 --toolchain "$kit/toolchain" --backend llvm \
         --incremental incremental -o study_speed.o > log 2>&1 || { tail -20 log; exit 1; }
-    "$kit/bin/rattle-link" --target x86_64-unknown-linux-gnu --toolchain "$kit/toolchain" -o "$top/tools/speed/out/study_speed" study_speed.o
+    "$kit/bin/rattle-link" --target x86_64-unknown-linux-gnu --toolchain "$kit/toolchain" -o "$top/tools/speed/out/study_speed" \
+        study_speed.o "$kit/c/libos_c.a" "$kit/c/liblibc_c.a" >> log
     exit
 fi
 
