@@ -1,0 +1,37 @@
+-- A game depends on no other.
+use Rattle.std.specs.Prelude.{◌≡◌, ℕ, List, [], ◌∷◌, ◌++◌, Option, Some, None}
+use Rattle.study_games.specs.declared.games.LineKind.{LineKind}
+use Rattle.study_games.specs.declared.games.LineKind.TheVariants.{Silent, Tag, EventTag, Moves}
+use Rattle.study_games.specs.Games.{Game, kind_of, lines_behind, one_more, unmarked, games_from, games_of}
+
+-- the number of the line behind so many lines, the first of which has number n
+abbrev pub number_behind : ℕ → List (List ℕ) → ℕ
+number_behind n [] = n
+number_behind n (line ∷ lines) = number_behind (one_more n) lines
+
+-- the last of these lines, the first of which has number n, is a line of moves
+abbrev pub EndsWithMoves : ℕ → List (List ℕ) → Type 0
+EndsWithMoves n [] = ⊥
+EndsWithMoves n (line ∷ []) = kind_of (unmarked n line) ≡ Moves
+EndsWithMoves n (line ∷ next ∷ lines) = EndsWithMoves (one_more n) (next ∷ lines)
+
+abbrev pub IsTag : LineKind → Type 0
+IsTag Tag = Unit {0}
+IsTag EventTag = Unit {0}
+IsTag other = ⊥
+
+-- the first of these lines, with number n, is a line of a tag
+abbrev pub BeginsWithTag : ℕ → List (List ℕ) → Type 0
+BeginsWithTag n [] = ⊥
+BeginsWithTag n (line ∷ lines) = IsTag (kind_of (unmarked n line))
+
+abbrev pub lines_of : List ℕ → List (List ℕ)
+lines_of text = lines_behind [] text
+
+-- where a text whose last line, a line of moves, is whole stands in front of one that begins with a line of a tag, the games of both are
+-- those of the first and those of the second, as far as its lines are counted on
+abbrev pub IsIsolated : Type 0
+IsIsolated =
+    (front b : List ℕ) → (a : List ℕ) → a ≡ front ++ 10 ∷ [] → EndsWithMoves 1 (lines_of a)
+    → BeginsWithTag (number_behind 1 (lines_of a)) (lines_of b)
+    → games_of (a ++ b) ≡ games_of a ++ games_from (number_behind 1 (lines_of a)) None (lines_of b)

@@ -1,0 +1,9 @@
+pub mod Bytes
+pub mod Tokens
+pub mod Symbols
+pub mod Words
+pub mod Games
+pub mod Header
+pub mod Characters
+pub mod Ascii
+pub mod Laws

@@ -1,0 +1,91 @@
+-- What a symbol says, and the SAN of one that stands for a move.
+use Rattle.std.specs.Prelude.{ℕ, ◌-◌, Bool, true, false, not, ◌&&◌, ◌||◌, ◌==◌, nat_le, List, [], ◌∷◌, length, take, slice_index, codes, Option, Some, None, if◌then◌else◌}
+use Rattle.std.specs.List.{list_all, flat_map}
+use Rattle.std.specs.Str.{bytes_eq}
+use Rattle.study_games.specs.Bytes.{is_digit, is_sign, is_high}
+use Rattle.study_games.specs.declared.symbols.Outcome.{Outcome}
+use Rattle.study_games.specs.declared.symbols.Outcome.TheVariants.{WhiteWins, BlackWins, Drawn}
+use Rattle.study_games.specs.declared.symbols.Said.{Said}
+use Rattle.study_games.specs.declared.symbols.Said.TheVariants.{Number, Result, NullMove, Aside, Move}
+
+-- ---- figurines: E2 99, and 94 to 99 for White's king, queen, rook, bishop, knight and pawn, 9A to 9F for Black's
+
+abbrev pub is_figurine : ℕ → ℕ → ℕ → Bool
+is_figurine a b c = a == 226 && (b == 153 && (nat_le 148 c && nat_le c 159))
+
+abbrev pub figurine_kind : ℕ → ℕ
+figurine_kind c = if nat_le 154 c then c - 154 else c - 148
+
+abbrev pub kind_letter : ℕ → ℕ
+kind_letter k = if k == 0 then 75 else (if k == 1 then 81 else (if k == 2 then 82 else (if k == 3 then 66 else (if k == 4 then 78 else 80))))
+
+abbrev pub has_figurine : List ℕ → Bool
+has_figurine (a ∷ b ∷ c ∷ bs) = is_figurine a b c || has_figurine (b ∷ c ∷ bs)
+has_figurine _ = false
+
+-- letters in place of figurines
+abbrev pub lettered : List ℕ → List ℕ
+lettered (a ∷ b ∷ c ∷ bs) = if is_figurine a b c then kind_letter (figurine_kind c) ∷ lettered bs else a ∷ lettered (b ∷ c ∷ bs)
+lettered bs = bs
+
+-- the letter of a figurine that stands in front, and what follows it
+abbrev pub figurine_at : List ℕ → Option (ℕ × List ℕ)
+figurine_at (a ∷ b ∷ c ∷ bs) = if is_figurine a b c then Some (kind_letter (figurine_kind c), bs) else None
+figurine_at _ = None
+
+-- ---- what is said
+
+unfoldable pub said_of : List ℕ → Said
+said_of symbol =
+    if list_all is_digit symbol then Number
+    else (if bytes_eq symbol (codes "1-0") then Result WhiteWins
+    else (if bytes_eq symbol (codes "0-1") then Result BlackWins
+    else (if bytes_eq symbol (codes "1/2-1/2") || bytes_eq symbol (codes "1/2") then Result Drawn
+    else (if bytes_eq symbol (codes "Z0") || (bytes_eq symbol (codes "null") || bytes_eq symbol (codes "pass")) then NullMove
+    else (if bytes_eq symbol (codes "e") || (bytes_eq symbol (codes "p") || bytes_eq symbol (codes "ep")) then Aside
+    else (if list_all is_high symbol && not (has_figurine symbol) then Aside
+    else Move))))))
+
+-- ---- the SAN
+
+-- what a SAN text does not end with
+abbrev pub is_tail : ℕ → Bool
+is_tail b = is_sign b || is_high b
+
+-- without such bytes at the end
+abbrev pub without_end : (ℕ → Bool) → List ℕ → List ℕ
+without_end p [] = []
+without_end p (b ∷ bs) = if list_all p (b ∷ bs) then [] else b ∷ without_end p bs
+
+abbrev pub without_tail : List ℕ → List ℕ
+without_tail text = without_end is_tail text
+
+-- without `ep` or `e` at the end
+unfoldable pub without_passing : List ℕ → List ℕ
+without_passing text =
+    if nat_le 2 (length text) && (slice_index text (length text - 2) == 101 && slice_index text (length text - 1) == 112) then take (length text - 2) text
+    else (if nat_le 1 (length text) && slice_index text (length text - 1) == 101 then take (length text - 1) text
+    else text)
+
+-- without a `P` in front
+abbrev pub without_pawn : List ℕ → List ℕ
+without_pawn [] = []
+without_pawn (b ∷ bs) = if b == 80 then bs else b ∷ bs
+
+abbrev pub begins_castling : List ℕ → Bool
+begins_castling [] = false
+begins_castling (b ∷ bs) = b == 79 || b == 48
+
+-- `x` for `:`, and `=` for `/`
+abbrev pub plain_byte : ℕ → ℕ
+plain_byte b = if b == 58 then 120 else (if b == 47 then 61 else b)
+
+-- a dash says nothing, but in castling
+abbrev pub plain_bytes : Bool → ℕ → List ℕ
+plain_bytes castling b = if not castling && b == 45 then [] else plain_byte b ∷ []
+
+abbrev pub spelled : List ℕ → List ℕ
+spelled text = flat_map (plain_bytes (begins_castling text)) text
+
+unfoldable pub san_in : List ℕ → List ℕ
+san_in symbol = spelled (without_pawn (without_passing (without_tail (lettered symbol))))

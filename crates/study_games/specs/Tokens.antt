@@ -1,0 +1,141 @@
+-- The tokens of a PGN text.
+use Rattle.std.specs.Prelude.{ℕ, ◌+◌, Bool, true, false, not, ◌&&◌, ◌||◌, ◌==◌, List, [], ◌∷◌, take, drop, length}
+use Rattle.std.specs.Prelude.{Option, Some, None, Result, Ok, Err, if◌then◌else◌}
+use Rattle.std.specs.List.{prefix_len}
+use Rattle.std.specs.Option.{option_map}
+use Rattle.study_games.specs.declared.token.TokenFault.{TokenFault}
+use Rattle.study_games.specs.declared.token.TokenFault.TheVariants.{OpenComment, TagForm, OpenString, Byte}
+use Rattle.study_games.specs.declared.token.Cut.{Cut}
+use Rattle.study_games.specs.declared.token.Token.{Token as Read}
+use Rattle.study_games.specs.declared.token.Token.TheVariants as read
+use Rattle.study_games.specs.Bytes.{is_blank, is_gap, is_letter, is_digit, is_name_byte, is_sign, begins_symbol, is_symbol_byte, is_glyph, is_feed, is_brace_end}
+
+-- blank: blanks, dots and escape lines, which say nothing; aside: a NAG or a glyph
+pub data Token : Type 0 where
+  blank aside opening closing star : Token
+  tag : (name value : List ℕ) → Token
+  comment rest sign symbol : (text : List ℕ) → Token
+
+-- a token and what follows it
+abbrev pub Lexed : Type 0
+Lexed = Result (Token × List ℕ) TokenFault
+
+-- the bytes that are such, from the front, and what follows them
+abbrev pub front : (ℕ → Bool) → List ℕ → List ℕ
+front p text = take (prefix_len p text) text
+
+abbrev pub behind : (ℕ → Bool) → List ℕ → List ℕ
+behind p text = drop (prefix_len p text) text
+
+-- ---- comments
+
+-- up to the first `}`; braces are not counted
+abbrev pub closed : List ℕ → List ℕ → Lexed
+closed text [] = Err OpenComment
+closed text (b ∷ bs) = Ok (comment text, bs)
+
+abbrev pub is_inside : ℕ → Bool
+is_inside b = not (is_brace_end b)
+
+unfoldable pub comment_at : List ℕ → Lexed
+comment_at text = closed (front is_inside text) (behind is_inside text)
+
+-- the rest of the line, without its line feed
+abbrev pub is_in_line : ℕ → Bool
+is_in_line b = not (is_feed b)
+
+-- ---- tag pairs
+
+-- after gaps, `]`
+abbrev pub begins_end : List ℕ → Bool
+begins_end [] = false
+begins_end (b ∷ bs) = b == 93
+
+unfoldable pub ends_tag : List ℕ → Bool
+ends_tag text = begins_end (behind is_gap text)
+
+-- where the value of a tag ends: at the first quotation mark with no backslash before it and with `]` behind it, in this line. The first
+-- byte of the text has place n; escaped: a backslash stands before it, and belongs to it
+abbrev pub value_end : ℕ → Bool → List ℕ → Option ℕ
+value_end n escaped [] = None
+value_end n escaped (b ∷ bs) =
+    if b == 10 then None
+    else (if not escaped && (b == 34 && ends_tag bs) then Some n
+    else value_end (n + 1) (not escaped && b == 92) bs)
+
+-- behind the value: its quotation mark, gaps and `]`
+abbrev pub without_first : List ℕ → List ℕ
+without_first [] = []
+without_first (b ∷ bs) = bs
+
+unfoldable pub behind_value : List ℕ → List ℕ
+behind_value text = without_first (behind is_gap (without_first text))
+
+abbrev pub valued : List ℕ → List ℕ → Option ℕ → Lexed
+valued name text None = Err OpenString
+valued name text (Some n) = Ok (tag name (take n text), behind_value (drop n text))
+
+-- behind the name: gaps and the quotation mark
+abbrev pub quoted : List ℕ → List ℕ → Lexed
+quoted name [] = Err TagForm
+quoted name (b ∷ bs) = if b == 34 then valued name bs (value_end 0 false bs) else Err TagForm
+
+-- the name: a letter, and letters, digits and `_`
+abbrev pub named : List ℕ → Lexed
+named [] = Err TagForm
+named (b ∷ bs) =
+    if is_letter b then quoted (front is_name_byte (b ∷ bs)) (behind is_gap (behind is_name_byte (b ∷ bs))) else Err TagForm
+
+-- behind `[`
+unfoldable pub tag_at : List ℕ → Lexed
+tag_at text = named (behind is_gap text)
+
+-- ---- the whole
+
+abbrev pub run_of : (List ℕ → Token) → (ℕ → Bool) → List ℕ → Lexed
+run_of token p text = Ok (token (front p text), behind p text)
+
+-- the token that begins with b; fresh: b is the first byte of its line
+unfoldable pub lexed : Bool → ℕ → List ℕ → Lexed
+lexed fresh b bs =
+    if fresh && b == 37 then Ok (blank, behind is_in_line bs)
+    else (if is_blank b || b == 46 then Ok (blank, bs)
+    else (if b == 123 then comment_at bs
+    else (if b == 59 then run_of rest is_in_line bs
+    else (if b == 91 then tag_at bs
+    else (if b == 40 then Ok (opening, bs)
+    else (if b == 41 then Ok (closing, bs)
+    else (if b == 42 then Ok (star, bs)
+    else (if b == 36 then Ok (aside, behind is_digit bs)
+    else (if is_glyph b then Ok (aside, behind is_glyph bs)
+    else (if is_sign b then run_of sign is_sign (b ∷ bs)
+    else (if begins_symbol b then run_of symbol is_symbol_byte (b ∷ bs)
+    else Err Byte)))))))))))
+
+-- a text that is not empty
+abbrev pub token_at : Bool → List ℕ → Option Lexed
+token_at fresh [] = None
+token_at fresh (b ∷ bs) = Some (lexed fresh b bs)
+
+-- the text begins with a line feed, so that what follows begins a line
+abbrev pub begins_feed : List ℕ → Bool
+begins_feed [] = false
+begins_feed (b ∷ bs) = b == 10
+
+-- ---- what a contract sees of a token that was read
+
+abbrev pub token_seen : Read → Token
+token_seen read.Blank = blank
+token_seen read.Aside = aside
+token_seen read.Open = opening
+token_seen read.Close = closing
+token_seen read.Star = star
+token_seen (read.Tag name value) = tag name.now value.now
+token_seen (read.Comment text) = comment text.now
+token_seen (read.Rest text) = rest text.now
+token_seen (read.Sign text) = sign text.now
+token_seen (read.Symbol text) = symbol text.now
+
+abbrev pub lexed_seen : Result Cut TokenFault → Lexed
+lexed_seen (Ok cut) = Ok (token_seen cut.token, cut.rest.now)
+lexed_seen (Err fault) = Err fault

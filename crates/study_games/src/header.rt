@@ -1,0 +1,145 @@
+//! The header of a game: its tags.
+ghost use Rattle.std.specs.Prelude.{◌≡◌, ◌++◌, ◌∷◌, [], Some, None, Ok, Err, length, IfOk};
+ghost use Rattle.std.specs.Option.{option_map};
+ghost use Rattle.study_games.specs.Header.{step_seen, step_at, tags_of, header_fault, value_of, escaped_at, unescaped};
+
+use crate::token::{Token, TokenFault, begins_feed, read_token};
+use std::alloc::{AllocError, Allocator};
+use study_text::Text;
+
+/// A tag that is none, and how many bytes of the game stand from its place on.
+#[derive(Clone, Copy, Debug, PartialEq, Eq)]
+pub struct HeaderFault {
+    pub why: TokenFault,
+    pub left: usize,
+}
+
+/// What the next token is to a header.
+#[derive(Clone, Copy)]
+pub enum HeaderStep<'t> {
+    /// A tag's name and value, or a blank or a comment; and what follows.
+    On(Option<(&'t [u8], &'t [u8])>, &'t [u8]),
+    NoTag(TokenFault),
+    End,
+}
+
+fn step_at(text: &[u8], fresh: bool) -> HeaderStep<'_>
+    ensures { step_seen result ≡ step_at fresh text.now }
+{
+    match read_token(text, fresh) {
+        None => HeaderStep::End,
+        Some(Ok(cut)) => match cut.token {
+            Token::Tag(name, value) => HeaderStep::On(Some((name, value)), cut.rest),
+            Token::Blank | Token::Comment(_) | Token::Rest(_) => HeaderStep::On(None, cut.rest),
+            _ => HeaderStep::End,
+        },
+        Some(Err(TokenFault::TagForm)) => HeaderStep::NoTag(TokenFault::TagForm),
+        Some(Err(TokenFault::OpenString)) => HeaderStep::NoTag(TokenFault::OpenString),
+        Some(Err(_)) => HeaderStep::End,
+    }
+}
+
+/// The first that is to be a tag in the header of a game, and is none.
+#[tactic(auto, unfolding(crate::specs::Header::header_fault), using(crate::proofs::Fuel::fault_more))]
+pub fn header_fault(game: &[u8]) -> Option<HeaderFault>
+    ensures { result ≡ header_fault game.now }
+{
+    let mut rest = game;
+    let mut fresh = true;
+    let mut fuel = game.len();
+    while fuel > 0 {
+        match step_at(rest, fresh) {
+            HeaderStep::On(_, behind) => {
+                fresh = begins_feed(rest);
+                rest = behind;
+            }
+            HeaderStep::NoTag(why) => {
+                return Some(HeaderFault {
+                    why,
+                    left: rest.len(),
+                });
+            }
+            HeaderStep::End => return None,
+        }
+        fuel -= 1;
+    }
+    None
+}
+
+/// How many tags the header of a game has.
+#[tactic(auto, unfolding(crate::specs::Header::tags_of), using(crate::proofs::Fuel::tags_more))]
+pub fn count_tags(game: &[u8]) -> usize
+    ensures { result ≡ length (tags_of game.now) }
+{
+    let mut rest = game;
+    let mut fresh = true;
+    let mut fuel = game.len();
+    let mut count: usize = 0;
+    while fuel > 0 {
+        let HeaderStep::On(pair, behind) = step_at(rest, fresh) else {
+            return count;
+        };
+        if pair.is_some() {
+            count += 1;
+        }
+        fresh = begins_feed(rest);
+        rest = behind;
+        fuel -= 1;
+    }
+    count
+}
+
+/// The value, with its backslashes, of the first tag in a game's header that has the name.
+#[tactic(auto, unfolding(crate::specs::Header::tags_of), using(crate::proofs::Fuel::tags_more))]
+pub fn tag_value<'t>(game: &'t [u8], name: &[u8]) -> Option<&'t [u8]>
+    ensures { option_map (λ value. value.now) result ≡ value_of name.now (tags_of game.now) }
+{
+    let mut rest = game;
+    let mut fresh = true;
+    let mut fuel = game.len();
+    while fuel > 0 {
+        let HeaderStep::On(pair, behind) = step_at(rest, fresh) else {
+            return None;
+        };
+        if let Some((found, value)) = pair {
+            if found == name {
+                return Some(value);
+            }
+        }
+        fresh = begins_feed(rest);
+        rest = behind;
+        fuel -= 1;
+    }
+    None
+}
+
+/// The byte with which the text begins behind a backslash that escapes it, and what follows it.
+fn read_escaped(text: &[u8]) -> Option<(u8, &[u8])>
+    ensures { option_map (λ found. (found.0, found.1.now)) result ≡ escaped_at text.now }
+{
+    match text {
+        [b'\\', c, rest @ ..] if *c == b'"' || *c == b'\\' => Some((*c, rest)),
+        _ => None,
+    }
+}
+
+/// The text that a tag's value stands for.
+pub fn unescape<'a, A: Allocator>(alloc: &'a A, value: &[u8]) -> Result<Text<'a, A>, AllocError>
+    ensures { IfOk result (λ text. text ≡ unescaped value.now) }
+{
+    let mut out = Text::new(alloc);
+    let mut rest = value;
+    while let [first, more @ ..] = rest {
+        match read_escaped(rest) {
+            Some((byte, behind)) => {
+                out.add(&[byte])?;
+                rest = behind;
+            }
+            None => {
+                out.add(&[*first])?;
+                rest = more;
+            }
+        }
+    }
+    Ok(out)
+}

@@ -1,0 +1,29 @@
+//! The text of PGN: its games, their tags and tokens, and what a symbol says.
+//!
+//! `Gathering` cuts a text into games, line by line; `count_tags`, `header_fault` and `tag_value` read the header of one; `read_token`
+//! gives the tokens of its moves one by one, `say` tells what a symbol says, and `san_in` the SAN of one that stands for a move.
+//! `unescape`, `spell_out` and `short_text` bring the value of a tag to the text that a script can hold.
+#![tactic(auto)]
+
+mod ascii;
+pub mod bytes;
+mod characters;
+mod games;
+mod gathering;
+mod header;
+mod laws;
+mod spelling;
+mod symbols;
+mod token;
+mod words;
+
+pub use ascii::{LONGEST_TAG, short_text, spell_out};
+pub use characters::is_utf8;
+pub use games::{LineKind, Seen, begins_game, kind_of, seen_then, unmarked};
+pub use gathering::{Game, Gathering, LARGEST_GAME};
+pub use header::{HeaderFault, count_tags, header_fault, tag_value, unescape};
+pub use laws::games_are_isolated;
+pub use spelling::{LONGEST_SYMBOL, san_in};
+pub use symbols::{Outcome, Said, is_figurine, say};
+pub use token::{Cut, Token, TokenFault, begins_feed, read_token};
+pub use words::{next_word, shortened, trim_end, trim_start};

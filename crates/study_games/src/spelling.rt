@@ -1,0 +1,160 @@
+//! The SAN of a symbol that stands for a move.
+ghost use Rattle.std.specs.Prelude.{◌≡◌, ◌≤◌, length, take, Some, None, MatchOption};
+ghost use Rattle.study_games.specs.Symbols.{figurine_kind, kind_letter, figurine_at, lettered, is_tail, without_tail, without_passing, without_pawn};
+ghost use Rattle.study_games.specs.Symbols.{begins_castling, plain_byte, spelled, san_in};
+
+use crate::bytes::{is_high, is_sign};
+use crate::symbols::is_figurine;
+use arrayvec::ArrayVec;
+
+/// The longest symbol that is read as a move.
+pub const LONGEST_SYMBOL: usize = 32;
+
+/// The letter of a figurine's kind, by the last byte of the figurine.
+fn kind_letter(c: u8) -> u8
+    requires { 148 ≤ c }
+    ensures { result ≡ kind_letter (figurine_kind c) }
+{
+    let kind = if c >= 154 { c - 154 } else { c - 148 };
+    if kind == 0 {
+        b'K'
+    } else if kind == 1 {
+        b'Q'
+    } else if kind == 2 {
+        b'R'
+    } else if kind == 3 {
+        b'B'
+    } else if kind == 4 {
+        b'N'
+    } else {
+        b'P'
+    }
+}
+
+/// The letter of a figurine that stands in front, and what follows it.
+fn read_figurine(text: &[u8]) -> Option<(u8, &[u8])>
+    ensures { MatchOption result (figurine_at text.now ≡ None) (λ found. figurine_at text.now ≡ Some (found.0, found.1.now)) }
+{
+    match text {
+        [a, b, c, rest @ ..] if is_figurine(*a, *b, *c) => Some((kind_letter(*c), rest)),
+        _ => None,
+    }
+}
+
+/// Letters in place of figurines.
+fn lettered(symbol: &[u8]) -> ArrayVec<u8, 32>
+    requires { length symbol.now ≤ 32 }
+    ensures { result.items ≡ lettered symbol.now }
+{
+    let mut out = ArrayVec::new();
+    let mut rest = symbol;
+    while let [first, more @ ..] = rest {
+        match read_figurine(rest) {
+            Some((letter, behind)) => {
+                out.push(letter);
+                rest = behind;
+            }
+            None => {
+                out.push(*first);
+                rest = more;
+            }
+        }
+    }
+    out
+}
+
+/// What a SAN text does not end with.
+fn is_tail(b: u8) -> bool
+    ensures { result ≡ is_tail b }
+{
+    is_sign(b) || is_high(b)
+}
+
+/// How much of a text stands before the signs and judgements at its end.
+fn len_without_tail(text: &[u8]) -> usize
+    ensures value { take result text.now ≡ without_tail text.now }
+    ensures within { result ≤ length text.now }
+{
+    let mut n = text.len();
+    while n > 0 && is_tail(text[n - 1]) {
+        n -= 1;
+    }
+    n
+}
+
+/// A text without `ep` or `e` at its end.
+#[tactic(auto, unfolding(crate::specs::Symbols::without_passing))]
+fn strip_passing(text: &[u8]) -> &[u8]
+    ensures value { result.now ≡ without_passing text.now }
+    ensures within { length result.now ≤ length text.now }
+{
+    let n = text.len();
+    if n >= 2 && text[n - 2] == b'e' && text[n - 1] == b'p' {
+        let (front, _) = text.split_at(n - 2);
+        front
+    } else if n >= 1 && text[n - 1] == b'e' {
+        let (front, _) = text.split_at(n - 1);
+        front
+    } else {
+        text
+    }
+}
+
+/// A text without a `P` in front.
+fn strip_pawn(text: &[u8]) -> &[u8]
+    ensures value { result.now ≡ without_pawn text.now }
+    ensures within { length result.now ≤ length text.now }
+{
+    match text {
+        [b'P', rest @ ..] => rest,
+        _ => text,
+    }
+}
+
+fn begins_castling(text: &[u8]) -> bool
+    ensures { result ≡ begins_castling text.now }
+{
+    matches!(text, [b'O' | b'0', ..])
+}
+
+/// A byte of a SAN text: `x` for `:`, `=` for `/`.
+fn plain_byte(b: u8) -> u8
+    ensures { result ≡ plain_byte b }
+{
+    if b == b':' {
+        b'x'
+    } else if b == b'/' {
+        b'='
+    } else {
+        b
+    }
+}
+
+/// The text with its other signs for `x` and `=`, and without the dashes of long notation.
+fn spelled(text: &[u8]) -> ArrayVec<u8, 32>
+    requires { length text.now ≤ 32 }
+    ensures { result.items ≡ spelled text.now }
+{
+    let castling = begins_castling(text);
+    let mut out = ArrayVec::new();
+    let mut rest = text;
+    while let [first, more @ ..] = rest {
+        if castling || *first != b'-' {
+            out.push(plain_byte(*first));
+        }
+        rest = more;
+    }
+    out
+}
+
+/// The SAN of a symbol that stands for a move.
+#[tactic(auto, unfolding(crate::specs::Symbols::san_in))]
+pub fn san_in(symbol: &[u8]) -> ArrayVec<u8, 32>
+    requires { length symbol.now ≤ 32 }
+    ensures { result.items ≡ san_in symbol.now }
+{
+    let letters = lettered(symbol);
+    let text = letters.as_slice();
+    let (front, _) = text.split_at(len_without_tail(text));
+    spelled(strip_pawn(strip_passing(front)))
+}

@@ -1,0 +1,86 @@
+//! What a symbol says.
+ghost use Rattle.std.specs.Prelude.{◌≡◌, length};
+ghost use Rattle.std.specs.List.{list_all};
+ghost use Rattle.study_games.specs.Bytes.{is_digit, is_high};
+ghost use Rattle.study_games.specs.Symbols.{is_figurine, has_figurine, said_of};
+
+use crate::bytes;
+
+/// How a game ends.
+#[derive(Clone, Copy, Debug, PartialEq, Eq)]
+pub enum Outcome {
+    WhiteWins,
+    BlackWins,
+    Drawn,
+}
+
+/// What a symbol says.
+#[derive(Clone, Copy, Debug, PartialEq, Eq)]
+pub enum Said {
+    /// The number of a move, which is not compared.
+    Number,
+    Result(Outcome),
+    NullMove,
+    /// `e.p.` and signs of judgement.
+    Aside,
+    Move,
+}
+
+fn are_digits(text: &[u8]) -> bool
+    ensures { result ≡ list_all is_digit text.now }
+{
+    text.iter().all(|b| bytes::is_digit(*b))
+}
+
+fn are_high(text: &[u8]) -> bool
+    ensures { result ≡ list_all is_high text.now }
+{
+    text.iter().all(|b| bytes::is_high(*b))
+}
+
+/// Whether three bytes are a king, queen, rook, bishop, knight or pawn in UTF-8.
+pub fn is_figurine(a: u8, b: u8, c: u8) -> bool
+    ensures { result ≡ is_figurine a b c }
+{
+    a == 0xe2 && b == 0x99 && 0x94 <= c && c <= 0x9f
+}
+
+fn has_figurine(text: &[u8]) -> bool
+    ensures { result ≡ has_figurine text.now }
+{
+    let mut rest = text;
+    while let [a, b, c, ..] = rest {
+        if is_figurine(*a, *b, *c) {
+            return true;
+        }
+        rest = &rest[1..];
+    }
+    false
+}
+
+/// What the symbol says.
+#[tactic(auto, unfolding(crate::specs::Symbols::said_of))]
+pub fn say(symbol: &[u8]) -> Said
+    ensures { result ≡ said_of symbol.now }
+{
+    if are_digits(symbol) {
+        Said::Number
+    } else if symbol == b"1-0".as_slice() {
+        Said::Result(Outcome::WhiteWins)
+    } else if symbol == b"0-1".as_slice() {
+        Said::Result(Outcome::BlackWins)
+    } else if symbol == b"1/2-1/2".as_slice() || symbol == b"1/2".as_slice() {
+        Said::Result(Outcome::Drawn)
+    } else if symbol == b"Z0".as_slice()
+        || symbol == b"null".as_slice()
+        || symbol == b"pass".as_slice()
+    {
+        Said::NullMove
+    } else if symbol == b"e".as_slice() || symbol == b"p".as_slice() || symbol == b"ep".as_slice() {
+        Said::Aside
+    } else if are_high(symbol) && !has_figurine(symbol) {
+        Said::Aside
+    } else {
+        Said::Move
+    }
+}

@@ -1,0 +1,322 @@
+//! The tokens of a PGN text, one by one.
+ghost use Rattle.std.specs.Prelude.{◌≡◌, ◌≤◌, ◌∷◌, Some, Ok, false, length, drop, IfSome};
+ghost use Rattle.std.specs.Option.{option_map};
+ghost use Rattle.std.specs.List.{prefix_len};
+ghost use Rattle.study_games.specs.Bytes.{is_gap, is_digit, is_name_byte, is_sign, is_symbol_byte, is_glyph};
+ghost use Rattle.study_games.specs.Tokens.{is_inside, is_in_line, ends_tag, value_end, behind_value, comment_at, tag_at, lexed, token_seen, lexed_seen};
+ghost use Rattle.study_games.specs.Tokens.{valued, quoted, named, run_of, token_at, begins_feed, aside, sign, symbol, rest};
+
+use crate::bytes::{
+    begins_symbol, is_blank, is_digit, is_gap, is_glyph, is_letter, is_name_byte, is_sign,
+    is_symbol_byte,
+};
+use thiserror::Error;
+
+/// A token of a PGN text. Texts are parts of it.
+#[derive(Clone, Copy, Debug)]
+pub enum Token<'t> {
+    /// Blanks, a dot, or an escape line.
+    Blank,
+    /// A NAG or a glyph as `!?`.
+    Aside,
+    Open,
+    Close,
+    Star,
+    /// A tag's name, and its value with its backslashes.
+    Tag(&'t [u8], &'t [u8]),
+    Comment(&'t [u8]),
+    /// A comment to the end of the line.
+    Rest(&'t [u8]),
+    Sign(&'t [u8]),
+    Symbol(&'t [u8]),
+}
+
+/// A token, and the text that follows it.
+#[derive(Clone, Copy, Debug)]
+pub struct Cut<'t> {
+    pub token: Token<'t>,
+    pub rest: &'t [u8],
+}
+
+/// Why no token begins here.
+#[derive(Clone, Copy, Debug, PartialEq, Eq, Error)]
+pub enum TokenFault {
+    #[error("a comment is not closed")]
+    OpenComment,
+    #[error("this is no tag pair")]
+    TagForm,
+    #[error("the value of a tag is not closed in its line")]
+    OpenString,
+    #[error("no token begins with this byte")]
+    Byte,
+}
+
+fn found<'t>(token: Token<'t>, rest: &'t [u8]) -> Result<Cut<'t>, TokenFault>
+    ensures { lexed_seen result ≡ Ok (token_seen token.entry, rest.now) }
+{
+    Ok(Cut { token, rest })
+}
+
+pub fn gap_len(text: &[u8]) -> usize
+    ensures value { result ≡ prefix_len is_gap text.now }
+    ensures within { result ≤ length text.now }
+{
+    text.iter().take_while(|b| is_gap(**b)).count()
+}
+
+pub fn name_len(text: &[u8]) -> usize
+    ensures value { result ≡ prefix_len is_name_byte text.now }
+    ensures within { result ≤ length text.now }
+{
+    text.iter().take_while(|b| is_name_byte(**b)).count()
+}
+
+fn digits_len(text: &[u8]) -> usize
+    ensures value { result ≡ prefix_len is_digit text.now }
+    ensures within { result ≤ length text.now }
+{
+    text.iter().take_while(|b| is_digit(**b)).count()
+}
+
+fn glyphs_len(text: &[u8]) -> usize
+    ensures value { result ≡ prefix_len is_glyph text.now }
+    ensures within { result ≤ length text.now }
+{
+    text.iter().take_while(|b| is_glyph(**b)).count()
+}
+
+fn signs_len(text: &[u8]) -> usize
+    ensures value { result ≡ prefix_len is_sign text.now }
+    ensures within { result ≤ length text.now }
+{
+    text.iter().take_while(|b| is_sign(**b)).count()
+}
+
+fn symbol_len(text: &[u8]) -> usize
+    ensures value { result ≡ prefix_len is_symbol_byte text.now }
+    ensures within { result ≤ length text.now }
+{
+    text.iter().take_while(|b| is_symbol_byte(**b)).count()
+}
+
+/// How much of the text is in its first line.
+fn line_len(text: &[u8]) -> usize
+    ensures value { result ≡ prefix_len is_in_line text.now }
+    ensures within { result ≤ length text.now }
+{
+    text.iter().take_while(|b| **b != b'\n').count()
+}
+
+/// How much of the text is in a comment in braces.
+fn comment_len(text: &[u8]) -> usize
+    ensures value { result ≡ prefix_len is_inside text.now }
+    ensures within { result ≤ length text.now }
+{
+    text.iter().take_while(|b| **b != b'}').count()
+}
+
+/// Whether `]` follows, after spaces and tabs.
+#[tactic(auto, unfolding(crate::specs::Tokens::ends_tag))]
+fn ends_tag(text: &[u8]) -> bool
+    ensures { result ≡ ends_tag text.now }
+{
+    let (_, behind) = text.split_at(gap_len(text));
+    matches!(behind, [b']', ..])
+}
+
+/// How long the value of a tag is, from behind its first quotation mark on: up to the first mark that no backslash escapes and
+/// behind which the tag ends, in this line.
+///
+/// Scid writes the marks inside a value as they are.
+fn value_len(text: &[u8]) -> Option<usize>
+    ensures value { result ≡ value_end 0 false text.now }
+    ensures within { IfSome result (λ n. n ≤ length text.now) }
+{
+    let mut escaped = false;
+    let mut n = 0;
+    let mut rest = text;
+    while let [b, behind @ ..] = rest {
+        let b = *b;
+        if b == b'\n' {
+            return None;
+        }
+        if !escaped && b == b'"' && ends_tag(behind) {
+            return Some(n);
+        }
+        escaped = !escaped && b == b'\\';
+        n += 1;
+        rest = behind;
+    }
+    None
+}
+
+/// What follows the quotation mark and the `]` behind a value.
+#[tactic(auto, unfolding(crate::specs::Tokens::behind_value))]
+fn behind_value(text: &[u8]) -> &[u8]
+    ensures { result.now ≡ behind_value text.now }
+{
+    let (_, behind) = match text {
+        [_, rest @ ..] => rest.split_at(gap_len(rest)),
+        [] => text.split_at(0),
+    };
+    match behind {
+        [_, rest @ ..] => rest,
+        [] => behind,
+    }
+}
+
+/// The value of a tag, and what follows the tag.
+fn read_value<'t>(name: &'t [u8], text: &'t [u8]) -> Result<Cut<'t>, TokenFault>
+    ensures { lexed_seen result ≡ valued name.now text.now (value_end 0 false text.now) }
+{
+    match value_len(text) {
+        None => Err(TokenFault::OpenString),
+        Some(n) => {
+            let (value, behind) = text.split_at(n);
+            found(Token::Tag(name, value), behind_value(behind))
+        }
+    }
+}
+
+fn read_quoted<'t>(name: &'t [u8], text: &'t [u8]) -> Result<Cut<'t>, TokenFault>
+    ensures { lexed_seen result ≡ quoted name.now text.now }
+{
+    match text {
+        [b'"', rest @ ..] => read_value(name, rest),
+        _ => Err(TokenFault::TagForm),
+    }
+}
+
+/// A tag, from its name on.
+fn read_named(text: &[u8]) -> Result<Cut<'_>, TokenFault>
+    ensures { lexed_seen result ≡ named text.now }
+{
+    match text {
+        [first, ..] if is_letter(*first) => {
+            let (name, behind) = text.split_at(name_len(text));
+            let (_, behind) = behind.split_at(gap_len(behind));
+            read_quoted(name, behind)
+        }
+        _ => Err(TokenFault::TagForm),
+    }
+}
+
+/// A tag, behind its `[`.
+#[tactic(auto, unfolding(crate::specs::Tokens::tag_at))]
+fn read_tag(text: &[u8]) -> Result<Cut<'_>, TokenFault>
+    ensures { lexed_seen result ≡ tag_at text.now }
+{
+    let (_, behind) = text.split_at(gap_len(text));
+    read_named(behind)
+}
+
+/// A comment, behind its `{`.
+#[tactic(auto, unfolding(crate::specs::Tokens::comment_at))]
+fn read_comment(text: &[u8]) -> Result<Cut<'_>, TokenFault>
+    ensures { lexed_seen result ≡ comment_at text.now }
+{
+    let (inside, behind) = text.split_at(comment_len(text));
+    match behind {
+        [_, rest @ ..] => found(Token::Comment(inside), rest),
+        [] => Err(TokenFault::OpenComment),
+    }
+}
+
+fn without_line(text: &[u8]) -> &[u8]
+    ensures { result.now ≡ drop (prefix_len is_in_line text.now) text.now }
+{
+    let (_, behind) = text.split_at(line_len(text));
+    behind
+}
+
+fn read_rest(text: &[u8]) -> Result<Cut<'_>, TokenFault>
+    ensures { lexed_seen result ≡ run_of rest is_in_line text.now }
+{
+    let (line, behind) = text.split_at(line_len(text));
+    found(Token::Rest(line), behind)
+}
+
+fn read_sign(text: &[u8]) -> Result<Cut<'_>, TokenFault>
+    ensures { lexed_seen result ≡ run_of sign is_sign text.now }
+{
+    let (signs, behind) = text.split_at(signs_len(text));
+    found(Token::Sign(signs), behind)
+}
+
+fn read_symbol(text: &[u8]) -> Result<Cut<'_>, TokenFault>
+    ensures { lexed_seen result ≡ run_of symbol is_symbol_byte text.now }
+{
+    let (bytes, behind) = text.split_at(symbol_len(text));
+    found(Token::Symbol(bytes), behind)
+}
+
+fn read_nag(text: &[u8]) -> Result<Cut<'_>, TokenFault>
+    ensures { lexed_seen result ≡ Ok (aside, drop (prefix_len is_digit text.now) text.now) }
+{
+    let (_, behind) = text.split_at(digits_len(text));
+    found(Token::Aside, behind)
+}
+
+fn read_glyphs(text: &[u8]) -> Result<Cut<'_>, TokenFault>
+    ensures { lexed_seen result ≡ Ok (aside, drop (prefix_len is_glyph text.now) text.now) }
+{
+    let (_, behind) = text.split_at(glyphs_len(text));
+    found(Token::Aside, behind)
+}
+
+/// The first token of a text, and what follows it; `fresh` tells that the text begins a line.
+pub fn read_token(text: &[u8], fresh: bool) -> Option<Result<Cut<'_>, TokenFault>>
+    ensures { option_map lexed_seen result ≡ token_at fresh text.now }
+{
+    match text {
+        [first, rest @ ..] => Some(read_begun(text, *first, rest, fresh)),
+        [] => None,
+    }
+}
+
+/// The token that begins with the byte, behind which the rest stands.
+#[tactic(auto, unfolding(crate::specs::Tokens::lexed))]
+fn read_begun<'t>(
+    text: &'t [u8],
+    first: u8,
+    rest: &'t [u8],
+    fresh: bool,
+) -> Result<Cut<'t>, TokenFault>
+    requires { text.now ≡ first ∷ rest.now }
+    ensures { lexed_seen result ≡ lexed fresh first rest.now }
+{
+    if fresh && first == b'%' {
+        found(Token::Blank, without_line(rest))
+    } else if is_blank(first) || first == b'.' {
+        found(Token::Blank, rest)
+    } else if first == b'{' {
+        read_comment(rest)
+    } else if first == b';' {
+        read_rest(rest)
+    } else if first == b'[' {
+        read_tag(rest)
+    } else if first == b'(' {
+        found(Token::Open, rest)
+    } else if first == b')' {
+        found(Token::Close, rest)
+    } else if first == b'*' {
+        found(Token::Star, rest)
+    } else if first == b'$' {
+        read_nag(rest)
+    } else if is_glyph(first) {
+        read_glyphs(rest)
+    } else if is_sign(first) {
+        read_sign(text)
+    } else if begins_symbol(first) {
+        read_symbol(text)
+    } else {
+        Err(TokenFault::Byte)
+    }
+}
+
+/// Whether the text begins with a line feed, so that what follows begins a line.
+pub fn begins_feed(text: &[u8]) -> bool
+    ensures { result ≡ begins_feed text.now }
+{
+    matches!(text, [b'\n', ..])
+}

@@ -1,0 +1,88 @@
+//! Words between blanks, and texts without the spaces at their ends.
+ghost use Rattle.std.specs.Prelude.{◌≡◌, ◌≤◌, ◌&&◌, ◌==◌, ◌-◌, nat_le, length, take, slice_index, Some, None};
+ghost use Rattle.std.specs.List.{prefix_len};
+ghost use Rattle.std.specs.Option.{option_map};
+ghost use Rattle.study_games.specs.Bytes.{is_blank};
+ghost use Rattle.study_games.specs.Symbols.{without_end};
+ghost use Rattle.study_games.specs.Words.{is_space, is_inked, first_word, without_spaces, begun_word};
+
+use crate::bytes::is_blank;
+
+fn blanks_len(text: &[u8]) -> usize
+    ensures value { result ≡ prefix_len is_blank text.now }
+    ensures within { result ≤ length text.now }
+{
+    text.iter().take_while(|b| is_blank(**b)).count()
+}
+
+fn word_len(text: &[u8]) -> usize
+    ensures value { result ≡ prefix_len is_inked text.now }
+    ensures within { result ≤ length text.now }
+{
+    text.iter().take_while(|b| !is_blank(**b)).count()
+}
+
+/// The word that the text begins with, and what follows it.
+fn cut_word(text: &[u8]) -> Option<(&[u8], &[u8])>
+    ensures { option_map (λ found. (found.0.now, found.1.now)) result ≡ begun_word text.now }
+{
+    if text.is_empty() {
+        return None;
+    }
+    Some(text.split_at(word_len(text)))
+}
+
+/// The first word of a text, and what follows it. Words stand between blanks.
+#[tactic(auto, unfolding(crate::specs::Words::first_word))]
+pub fn next_word(text: &[u8]) -> Option<(&[u8], &[u8])>
+    ensures { option_map (λ found. (found.0.now, found.1.now)) result ≡ first_word text.now }
+{
+    let (_, begun) = text.split_at(blanks_len(text));
+    cut_word(begun)
+}
+
+fn spaces_len(text: &[u8]) -> usize
+    ensures value { result ≡ prefix_len is_space text.now }
+    ensures within { result ≤ length text.now }
+{
+    text.iter().take_while(|b| **b == b' ').count()
+}
+
+/// How much of a text stands before the spaces at its end.
+fn len_without_end_spaces(text: &[u8]) -> usize
+    ensures value { take result text.now ≡ without_end is_space text.now }
+    ensures within { result ≤ length text.now }
+{
+    let mut n = text.len();
+    while n > 0 && text[n - 1] == b' ' {
+        n -= 1;
+    }
+    n
+}
+
+/// The text without the spaces at its end.
+pub fn trim_end(text: &[u8]) -> &[u8]
+    ensures { result.now ≡ without_end is_space text.now }
+{
+    let (front, _) = text.split_at(len_without_end_spaces(text));
+    front
+}
+
+/// The text without the spaces in front.
+pub fn trim_start(text: &[u8]) -> &[u8]
+    ensures { result.now ≡ without_spaces text.now }
+{
+    let (_, begun) = text.split_at(spaces_len(text));
+    begun
+}
+
+/// The text, and no more than so many bytes of it.
+pub fn shortened(text: &[u8], most: usize) -> &[u8]
+    ensures { result.now ≡ take most text.now }
+{
+    if text.len() <= most {
+        return text;
+    }
+    let (front, _) = text.split_at(most);
+    front
+}
