@@ -1,0 +1,4 @@
+pub mod Moved
+pub mod Played
+pub mod TokenByToken
+pub mod Counted

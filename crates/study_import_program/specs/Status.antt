@@ -1,0 +1,29 @@
+-- The exit status of the program, and what it tells where a run stops.
+use Rattle.std.specs.Prelude.{ℕ, Bool, true, false, ◌==◌, List, Result, Ok, Err, if◌then◌else◌, codes}
+use Rattle.clap.specs.declared.error.kind.ErrorKind.{ErrorKind}
+use Rattle.clap.specs.declared.error.kind.ErrorKind.TheVariants as word
+use Rattle.study_import.specs.declared.importer.Imported.{Imported}
+use Rattle.study_import_program.specs.declared.streaming.ImportFault.{ImportFault}
+use Rattle.study_import_program.specs.declared.streaming.ImportFault.TheVariants.{ReadDevice, WriteDevice, OutOfMemory}
+
+-- 0 where each game that was told is a study, 1 where some is not, 3 where the run stopped at a fault
+abbrev pub status_told : Result Imported ImportFault → ℕ
+status_told (Ok imported) = if imported.told == imported.studies then 0 else 1
+status_told (Err fault) = 3
+
+-- help or the version was asked for: 0 where it was printed; elsewhere the words were refused
+abbrev pub status_shown : Bool → ℕ
+status_shown true = 0
+status_shown false = 3
+
+abbrev pub status_unread : ErrorKind → Bool → ℕ
+status_unread word.OutOfMemory printed = 3
+status_unread word.DisplayHelp printed = status_shown printed
+status_unread word.DisplayVersion printed = status_shown printed
+status_unread _ printed = 2
+
+-- `studyimport: ReadDevice`
+abbrev pub stop_text : ImportFault → List ℕ
+stop_text ReadDevice = codes "studyimport: ReadDevice\n"
+stop_text WriteDevice = codes "studyimport: WriteDevice\n"
+stop_text OutOfMemory = codes "studyimport: OutOfMemory\n"
