@@ -179,14 +179,23 @@ def sweep():
     return bad
 
 
-def deep_script():
-    """A line of 256 plies, the deepest that there is, with a move beside each, and every command that goes through it."""
-    line, path = ["build KK", "position 8/8/8/k7/8/8/8/K7 w - - 0 1", "stipulate white draw"], []
+def deepest_line(nested):
+    """A line of 256 plies, the deepest that there is: the main line, or variations of which each begins beside the first move of the one before."""
+    lines, path = [], []
     for ply in range(256):
         step = (ply // 2 + 1) % 14
-        file = "abcdefgh"[step if step < 8 else 14 - step]
-        line.append(f"insert {'.'.join(path) or 'root'} K{file}{'51'[ply % 2 == 0]}")
-        path.append("0")
+        file, at = "abcdefgh"[step if step < 8 else 14 - step], ".".join(path) or "root"
+        if nested:
+            lines.append(f"insert {at} K{file}{'62'[ply % 2 == 0]}")
+        lines.append(f"insert {at} K{file}{'51'[ply % 2 == 0]}")
+        path.append("01"[nested])
+    return lines, path
+
+
+def deep_script():
+    """The deepest main line, with a move beside its last, and every command that goes through it."""
+    lines, path = deepest_line(False)
+    line = ["build KK", "position 8/8/8/k7/8/8/8/K7 w - - 0 1", "stipulate white draw", *lines]
     deep, above = ".".join(path), ".".join(path[:-1])
     line += [f"mark {deep}", f"moves {above}", f"fen {deep}", "stipulate white win", "stipulate black mate 100", "stipulate white draw",
              "shift 8/8/8/k7/8/8/8/K7 w - - 7 9", f"insert {above} Ka6", f"insert {above} Kb6", f"promote {above}.1",
@@ -279,6 +288,35 @@ def report():
                     bad += 1
                     print(f"WRONG studyreport {' '.join(more_words)}: {kind} {how} at {at}{' and on' if 'FAULT_ON' in more else ''}: {wrong}")
     print(f"studyreport: {total} faults in {total} runs: {ended} ended the run, {refused} refused a line; {bad} wrong")
+    return bad + sum(squeeze_report(nested, more_words) for nested in (False, True) for more_words in ([], ["--lines"]))
+
+
+def squeeze_report(nested, more_words):
+    """studyreport over the deepest trees, under limits of the stack and of the address space: never a signal."""
+    lines, _ = deepest_line(nested)
+    script = "\n".join(["position 8/8/8/k7/8/8/8/K7 w - - 0 1", "stipulate white draw", *lines, "pgn", ""]).encode()
+    words, bad, runs = ["--tables", f"{WORK}/tables", "--pages", "4", *more_words], 0, 0
+    name = f"studyreport {' '.join(more_words)} {'variations' if nested else 'a line'} of 256 plies"
+    whole = run(script, words)
+    if whole[1] != 0:
+        print(f"WRONG {name}: status {whole[1]}, {whole[2].strip()}")
+        return 1
+    answer = run(script, words, limit=(resource.RLIMIT_STACK, STACK))
+    if answer != whole:
+        print(f"WRONG {name}: with a stack of {STACK} bytes status {answer[1]}")
+        bad += 1
+    limit = 4096
+    while run(b"", words, limit=(resource.RLIMIT_AS, limit))[1] != 0:
+        limit += 4096
+    floor = limit
+    while answer != whole or runs == 0:
+        answer = run(script, words, limit=(resource.RLIMIT_AS, limit))
+        runs, limit = runs + 1, limit + 4096
+        ends = answer[1] == 3 and answer[2] == "studyreport: OutOfMemory\n"
+        if answer != whole and not ends and not (answer[1] == 1 and (b"OutOfMemory" in answer[0] or "OutOfMemory" in answer[2])):
+            bad += 1
+            print(f"WRONG {name}: with {limit - 4096} bytes of addresses status {answer[1]}, {answer[2].strip()}")
+    print(f"{name}: a stack of {STACK} bytes; {runs} limits of addresses from {floor} bytes, {bad} wrong")
     return bad
 
 
