@@ -36,7 +36,7 @@ use Rattle.study_review.specs.Nodes.{front_of, OnlyWhere, is_dual, is_try, is_de
 use Rattle.study_review.specs.Nodes.{AreAlso, AlsoLines, RefutedLines, MissingLines, IsPlay, IsEnd, EndLines, NodeLines, IsFaultOf, FaultLines}
 use Rattle.study_review.specs.Review.{study_line, stipulation_line, empty_line, written_order, LinesOfEach, ReviewsAreUnique}
 
-one-chosen : EachHasAtMostOneValue → (wanted : Value → Bool) (p : Position) (ms : List Move) (l k : List Continuation)
+pub one-chosen : EachHasAtMostOneValue → (wanted : Value → Bool) (p : Position) (ms : List Move) (l k : List Continuation)
     → AreChosen wanted p ms l → AreChosen wanted p ms k → l ≡ k
 one-chosen law wanted p ms l k h j = h.2 ∙ ap (chosen wanted ms) (one-list law p ms h.0 j.0 h.1 j.1) ∙ sym j.2
 
@@ -70,7 +70,7 @@ one-timed g line p (x ∷ xs) (y ∷ ys) (z ∷ zs) h j =
     ap (λ a. a ∷ ys) (alternative-is y z (h.0 ∙ sym j.0) (h.1 ∙ sym j.1) (one-told g line (after p x.played) y.time z.time h.2 j.2))
     ∙ ap (λ l. z ∷ l) (one-timed g line p xs ys zs h.3 j.3)
 
-one-alternatives : EachHasAtMostOneValue → (a : Aim) (d : ℕ) (line : List Position) (p : Position) (m : Move) (ys zs : List Alternative)
+pub one-alternatives : EachHasAtMostOneValue → (a : Aim) (d : ℕ) (line : List Position) (p : Position) (m : Move) (ys zs : List Alternative)
     → AreTimedAlternatives a d line p m ys → AreTimedAlternatives a d line p m zs → ys ≡ zs
 one-alternatives law a d line p m ys zs h j =
     one-timed a.goal line p j.0 ys zs
@@ -96,7 +96,7 @@ one-answered law a d p (x ∷ xs) (y ∷ ys) (z ∷ zs) h j =
     ap (λ a. a ∷ ys) (defence-is y z (h.0 ∙ sym j.0) (h.1 ∙ sym j.1) (h.2.2 ∙ ap (λ l. length l) same ∙ sym j.2.2) (h.2.3 ∙ ap the_only same ∙ sym j.2.3))
     ∙ ap (λ l. z ∷ l) (one-answered law a d p xs ys zs h.3 j.3)
 
-one-defences : EachHasAtMostOneValue → (a : Aim) (d : ℕ) (p : Position) (there : List Move) (ys zs : List Defence)
+pub one-defences : EachHasAtMostOneValue → (a : Aim) (d : ℕ) (p : Position) (there : List Move) (ys zs : List Defence)
     → AreDefences a d p there ys → AreDefences a d p there zs → ys ≡ zs
 one-defences law a d p there ys zs h j =
     one-answered law a d p j.0 ys zs
@@ -105,7 +105,7 @@ one-defences law a d p there ys zs h j =
 one-best : EachHasAtMostOneValue → (p : Position) (x y : Option Continuation) → IsBestMove p x → IsBestMove p y → x ≡ y
 one-best law p x y h j = h.2 ∙ ap first_best (one-chosen law (λ v. true) p (legal_list p) h.0 j.0 h.1 j.1) ∙ sym j.2
 
-one-play : EachHasAtMostOneValue → (n : ℕ) (p : Position) (xs ys : List Continuation) → IsBestPlay n p xs → IsBestPlay n p ys → xs ≡ ys
+pub one-play : EachHasAtMostOneValue → (n : ℕ) (p : Position) (xs ys : List Continuation) → IsBestPlay n p xs → IsBestPlay n p ys → xs ≡ ys
 one-play law zero p [] [] h j = refl
 one-play law zero p [] (y ∷ ys) h j = absurd j
 one-play law zero p (x ∷ xs) ys h j = absurd h
@@ -120,14 +120,14 @@ one-play law (suc n) p (x ∷ xs) (y ∷ ys) h j =
 
 -- ---- lines
 
-abbrev One : (List ℕ → Type 0) → Type 0
+abbrev pub One : (List ℕ → Type 0) → Type 0
 One Lines = (t u : List ℕ) → Lines t → Lines u → t ≡ u
 
-one-where : (b : Bool) (Lines : List ℕ → Type 0) → One Lines → One (OnlyWhere b Lines)
+pub one-where : (b : Bool) (Lines : List ℕ → Type 0) → One Lines → One (OnlyWhere b Lines)
 one-where true Lines f t u h j = f t u h j
 one-where false Lines f t u h j = h ∙ sym j
 
-one-match : (o : Option Move) (Lines : Move → List ℕ → Type 0) → ((m : Move) → One (Lines m)) → One (λ t. MatchOption o (t ≡ []) (λ m. Lines m t))
+pub one-match : (o : Option Move) (Lines : Move → List ℕ → Type 0) → ((m : Move) → One (Lines m)) → One (λ t. MatchOption o (t ≡ []) (λ m. Lines m t))
 one-match None Lines f t u h j = h ∙ sym j
 one-match (Some m) Lines f t u h j = f m t u h j
 
@@ -181,7 +181,7 @@ module _ (law : EachHasAtMostOneValue) (s : Study Mark) (path : List ℕ) where
       one-where (is_solution_move s path) _
       (one-match (played_by (spot_at s.tree path)) (λ m t. IsFaultOf s path m (mark_at s path) t) (λ m. fault-once m (mark_at s path)))
 
-one-each : (Lines : List ℕ → List ℕ → Type 0) → ((path : List ℕ) → One (Lines path)) → (paths : List (List ℕ)) → One (LinesOfEach Lines paths)
+pub one-each : (Lines : List ℕ → List ℕ → Type 0) → ((path : List ℕ) → One (Lines path)) → (paths : List (List ℕ)) → One (LinesOfEach Lines paths)
 one-each Lines f [] t u h j = h ∙ sym j
 one-each Lines f (x ∷ xs) t u h j =
     h.4 ∙ ap (λ (o : List ℕ). o ++ h.1) (f x h.0 j.0 h.2 j.2) ∙ ap (λ (r : List ℕ). j.0 ++ r) (one-each Lines f xs h.1 j.1 h.3 j.3) ∙ sym j.4

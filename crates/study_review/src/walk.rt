@@ -93,7 +93,8 @@ fn add_lines<'a, 'b, A: Allocator, B: Allocator, V: Values>(
     )
 }
 
-/// Goes to the child at this place, and writes its lines.
+/// Goes to the child at this place, and writes its lines. It is a call of its own, so that a ply of `add_below` takes little of the stack.
+#[inline(never)]
 fn enter<'a, 'b, A: Allocator, B: Allocator, V: Values>(
     alloc: &'a A,
     draft: &mut Draft<'a, A>,
